@@ -1,5 +1,5 @@
 #!/usr/bin/env python3
-"""Measures the wall time of a cycle of 1, 2 and 4 jobs of `contrib/parallel/nightly`, against
+"""Measures the wall time of a cycle of 1, 2 and 4 jobs of `nights/parallel/nightly`, against
 `xargs -P` with `sha512sum`, on 4 GiB in 4,000 files that it makes, from the page cache. Then it
 measures what a part costs beside its reading: the listing of the way, an inventory, its start.
 Prints the tables.
@@ -21,8 +21,8 @@ import measure
 from contents import make_object
 from measure import PROGRAM, write
 
-CONTRIB = os.path.abspath(os.path.join(measure.HERE, "..", "contrib"))
-NIGHTLY = os.path.join(CONTRIB, "parallel", "nightly")
+NIGHTS = os.path.abspath(os.path.join(measure.HERE, "..", "nights"))
+NIGHTLY = os.path.join(NIGHTS, "parallel", "nightly")
 HOW = {**os.environ, "OCFL_SCRUB": PROGRAM}
 SIZES = (4096, 4000, 3)
 IN_OBJECT = 20
@@ -126,9 +126,9 @@ def make_flat(folder, count):
 
 
 def start_of_a_part(folder, root):
-    """What `contrib/parallel/part` takes before the program begins."""
-    state, part = folder + "/state", os.path.join(CONTRIB, "parallel", "part")
-    timed([os.path.join(CONTRIB, "parallel", "begin"), "--create", "--parts", "2", "--state", state,
+    """What `nights/parallel/part` takes before the program begins."""
+    state, part = folder + "/state", os.path.join(NIGHTS, "parallel", "part")
+    timed([os.path.join(NIGHTS, "parallel", "begin"), "--create", "--parts", "2", "--state", state,
            root], env=HOW)
     return min(used([part, "--state", state, "--part", "1", root],
                     env={**HOW, "OCFL_SCRUB": "/bin/true"}) for _ in range(5))

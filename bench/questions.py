@@ -1,5 +1,5 @@
 #!/usr/bin/env python3
-"""Measures what `contrib/ocfl-scrub-reports` takes for a report of many lines, beside what reading
+"""Measures what `nights/ocfl-scrub-reports` takes for a report of many lines, beside what reading
 it takes: `gzip -dc REPORT | wc -l`.
 
 usage: questions.py [LINES]
@@ -18,7 +18,7 @@ import tempfile
 
 import measure
 
-COMMAND = os.path.abspath(os.path.join(measure.HERE, "..", "contrib", "ocfl-scrub-reports"))
+COMMAND = os.path.abspath(os.path.join(measure.HERE, "..", "nights", "ocfl-scrub-reports"))
 FOUND = "sha512 %s %s" % ("ab" * 64, "cd" * 64)
 # 2026-01-01T22:00:00Z
 NIGHT = 1767304800

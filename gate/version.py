@@ -12,9 +12,9 @@ NUMBER = r"\d+\.\d+\.\d+"
 PLACES = {
     "crates/ocfl_line/src/command.rt": r'const VERSION: &str = "',
     "crates/ocfl_tests/src/tests/line.rt": r'"ocfl-scrub ',
-    "contrib/man/ocfl-scrub.1": r"ocfl\\-scrub ",
-    "contrib/man/ocfl-scrub-reports.1": r"ocfl\\-scrub ",
-    "contrib/README.md": r"Program: ocfl-scrub ",
+    "nights/man/ocfl-scrub.1": r"ocfl\\-scrub ",
+    "nights/man/ocfl-scrub-reports.1": r"ocfl\\-scrub ",
+    "nights/README.md": r"Program: ocfl-scrub ",
     "README.md": r"ocfl-scrub_",
 }
 

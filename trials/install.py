@@ -12,7 +12,7 @@ import shutil
 import common
 from common import PROGRAM, TOP, digest, is_so, version
 from shared.clones import git, make_clone
-from shared.nights import CONTRIB, ITEMS, make_root, ran, read, tried, write
+from shared.nights import ITEMS, NIGHTS, make_root, ran, read, tried, write
 from shared.rules import codes_of_rules
 
 PACKAGES = {"man": "man-db", "groff": "groff", "systemd-analyze": "systemd", "flock": "util-linux",
@@ -147,7 +147,7 @@ def installing_again(clone, prefix, folder):
         is_so("the program is exchanged, not overwritten",
               os.stat(prefix + "/bin/ocfl-scrub").st_ino != before, True)
     is_so("nothing is left beside it", tree(prefix), INSTALLED)
-    write(clone + "/contrib/changed", "")
+    write(clone + "/nights/changed", "")
     is_so("install to HOME, with DESTDIR",
           ran([install], HOME="/home/her", DESTDIR=folder + "/package")[0], 0)
     is_so("below DESTDIR", tree(folder + "/package/home/her/.local"), INSTALLED)
@@ -260,7 +260,7 @@ def others_stay(install, prefix):
 
 def older_version(clone, install, prefix):
     """Files that only an earlier version had are removed, unless they were changed."""
-    older = [clone + "/contrib/older/two", clone + "/contrib/older/one"]
+    older = [clone + "/nights/older/two", clone + "/nights/older/one"]
     for path in older:
         write(path, "")
     ran([install, prefix])
@@ -279,7 +279,7 @@ def older_version(clone, install, prefix):
 # The manual page
 
 def manual(prefix):
-    page, others = TOP + "/contrib/man/ocfl-scrub.1", TOP + "/contrib/man/ocfl-scrub-reports.1"
+    page, others = TOP + "/nights/man/ocfl-scrub.1", TOP + "/nights/man/ocfl-scrub-reports.1"
     installed = prefix + "/share/man/man1/"
     for name, file in [("page", page), ("installed page", installed + "ocfl-scrub.1"),
                        ("second page", others),
@@ -305,7 +305,7 @@ def manual(prefix):
 
 def of_reports(text):
     """The page of the questions has each command, and each of their options."""
-    tool = CONTRIB + "/ocfl-scrub-reports"
+    tool = NIGHTS + "/ocfl-scrub-reports"
     commands = re.findall(r"(?m)^    ([a-z]+)\b", ran([tool, "--help"])[1])
     is_so("the commands of the second page", re.findall(r"(?m)^\.TP\n\.B ([a-z]+)$", text),
           commands)

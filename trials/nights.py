@@ -1,5 +1,5 @@
 #!/usr/bin/env python3
-"""Tries the nights of `contrib/nightly`: one call makes the night, the statements that are missing
+"""Tries the nights of `nights/nightly`: one call makes the night, the statements that are missing
 and their seals, and room; what it leaves for `tell`; and which words it takes.
 
 usage: nights.py [PART]...
@@ -14,7 +14,7 @@ import subprocess
 
 import common
 from common import PROGRAM, digest, is_so
-from shared.nights import (CONTRIB, ITEMS, REPORTS, WRONG_B, Nights, ask, make_root, ran, read,
+from shared.nights import (ITEMS, NIGHTS, REPORTS, WRONG_B, Nights, ask, make_root, ran, read,
                            tried_apart, write)
 
 # What seals a statement in these trials.
@@ -175,7 +175,7 @@ def one_at_a_time(folder):
 def words(folder):
     """What is not its own goes to the program as it is."""
     nights = made(folder)
-    nightly = CONTRIB + "/nightly"
+    nightly = NIGHTS + "/nightly"
     for name, given in [("no state", [nights.root]), ("no value", ["--state"]), ("none", []),
                         ("no command", ["--state", nights.state, nights.root, "--seal"]),
                         ("no number", ["--state", nights.state, nights.root, "--keep"]),
@@ -249,7 +249,7 @@ def for_tell(folder):
     is_so("no link is followed", (nights.night("--for-tell", INVOCATION_ID="four")[0], read(
         folder + "/secret")), (3, "secret\n"))
     is_so("without a folder it is said", ran(
-        [CONTRIB + "/nightly", "--for-tell", "--state", folder + "/none", nights.root])[0], 3)
+        [NIGHTS + "/nightly", "--for-tell", "--state", folder + "/none", nights.root])[0], 3)
 
 
 def killed_while_it_says(folder):

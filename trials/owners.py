@@ -12,7 +12,7 @@ import shutil
 
 import common
 from common import PROGRAM, is_so
-from shared.nights import CONTRIB, REPORTS, Nights, make_root, ran, read, tried_apart, write
+from shared.nights import NIGHTS, REPORTS, Nights, make_root, ran, read, tried_apart, write
 
 NOBODY = 65534
 SECRET = "E092\tsecret\t-\n"
@@ -25,8 +25,8 @@ class Other:
     def __init__(self, folder):
         for at in [folder, os.path.dirname(folder)]:
             os.chmod(at, 0o755)
-        self.folder, self.scripts = folder, folder + "/contrib"
-        shutil.copytree(CONTRIB, self.scripts)
+        self.folder, self.scripts = folder, folder + "/nights"
+        shutil.copytree(NIGHTS, self.scripts)
         self.program = shutil.copy(PROGRAM, folder + "/program")
         self.secret = folder + "/secret"
         write(self.secret, SECRET, 0o600)

@@ -1,5 +1,5 @@
 #!/usr/bin/env python3
-"""Runs the commands that README.md, contrib/README.md and the manual page show, in their order, and
+"""Runs the commands that README.md, nights/README.md and the manual page show, in their order, and
 compares what they print with what the page shows.
 
 usage: pages.py
@@ -18,7 +18,7 @@ import subprocess
 import common
 from common import TOP, is_so
 from shared.clones import make_clone
-from shared.nights import CONTRIB, read, tried
+from shared.nights import NIGHTS, read, tried
 from shared.pages import blocks_of_manual, blocks_of_markdown, commands_of, links_of
 from shared.states import tools
 
@@ -167,15 +167,15 @@ def installed(folder):
 
 
 def nightly(folder):
-    text = read(CONTRIB + "/README.md")
+    text = read(NIGHTS + "/README.md")
     session = installed(folder)
     session.call("./install", session.clone)
     session.at = session.folder + "/home"
-    follow(session, "contrib/README.md", blocks_of_markdown(text))
+    follow(session, "nights/README.md", blocks_of_markdown(text))
 
 
 def manual(folder):
-    text = read(CONTRIB + "/man/ocfl-scrub.1")
+    text = read(NIGHTS + "/man/ocfl-scrub.1")
     follow(installed(folder), "ocfl-scrub.1", blocks_of_manual(text))
 
 

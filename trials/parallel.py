@@ -1,5 +1,5 @@
 #!/usr/bin/env python3
-"""Tries the nights of all parts of `contrib/parallel`: 300 objects with damage of each kind, in 24
+"""Tries the nights of all parts of `nights/parallel`: 300 objects with damage of each kind, in 24
 parts with 4 at once. Nights are killed, parts are, and the joined report of each cycle is the audit.
 What a part costs beside its reading is measured.
 
@@ -17,7 +17,7 @@ import time
 
 import common
 from common import PROGRAM, is_so
-from shared.nights import CONTRIB, REPORTS, ran, read, tried_apart, write
+from shared.nights import NIGHTS, REPORTS, ran, read, tried_apart, write
 from shared.parallel import (Place, Together, audit, begun, findings, is_stated, make_root,
                              small_root, told_in)
 
@@ -103,7 +103,7 @@ def by_schedulers(folder):
     nights = Together(folder + "/state", small_root(folder, ["o17"], 60))
     status, out, _ = nights.by_hand("begin", "--create", "--parts", "40")
     is_so("begin", (status, len(out.split()) > 30), (0, True))
-    part = [CONTRIB + "/parallel/part", "--state", nights.state, nights.root, "--part"]
+    part = [NIGHTS + "/parallel/part", "--state", nights.state, nights.root, "--part"]
     before = resource.getrusage(resource.RUSAGE_CHILDREN)
     subprocess.run(["parallel", "-j", "4", *part], input=out.encode(), check=False)
     after = resource.getrusage(resource.RUSAGE_CHILDREN)
@@ -218,7 +218,7 @@ def cut_closing(folder):
         os.mkdir(there)
         nights, numbers = begun(there)
         ran(["strace", "-f", "--quiet=all", "-o", "/dev/null", "-e",
-             "inject=rename,renameat,renameat2,linkat:signal=KILL:when=%d" % call, CONTRIB
+             "inject=rename,renameat,renameat2,linkat:signal=KILL:when=%d" % call, NIGHTS
              + "/parallel/part", "--state", nights.state, "--part", "2", nights.root])
         nights.make([number for number in numbers if number != "2"])
         nights.end()
@@ -272,7 +272,7 @@ def usage(folder):
         status, out, said = nights.night(*words)
         is_so("usage: %s" % words, (status, out, bool(said)), (2, "", True))
     for name in ["nightly", "begin", "part", "end"]:
-        status, out, _ = ran([CONTRIB + "/parallel/" + name, "--help"])
+        status, out, _ = ran([NIGHTS + "/parallel/" + name, "--help"])
         is_so("help of " + name, (status, out.startswith("usage: parallel/" + name)), (0, True))
     is_so("no part was given out", os.path.exists(nights.path("parts")), False)
 

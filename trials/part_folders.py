@@ -1,6 +1,6 @@
 #!/usr/bin/env python3
 """Tries what nights of all parts say of what went wrong, by `begin`, `part` and `end` of
-`contrib/parallel`: parts that nobody ran or that were killed, broken folders, an interrupted
+`nights/parallel`: parts that nobody ran or that were killed, broken folders, an interrupted
 division, messages without room, links, the folder of another user.
 
 usage: part_folders.py [PART]...
@@ -15,7 +15,7 @@ import time
 
 import common
 from common import PROGRAM, is_so
-from shared.nights import CONTRIB, ran, read, tried_apart, write
+from shared.nights import NIGHTS, ran, read, tried_apart, write
 from shared.parallel import Together, audit, begun, findings, small_root, told_in
 
 
@@ -62,7 +62,7 @@ def killed(folder):
         large.truncate(1 << 36)
     nights.make(numbers[:-1])
     for _ in range(2):
-        part = subprocess.Popen([CONTRIB + "/parallel/part", "--state", nights.state, "--part", "4",
+        part = subprocess.Popen([NIGHTS + "/parallel/part", "--state", nights.state, "--part", "4",
                                  nights.root], env={**os.environ, "OCFL_SCRUB": PROGRAM})
         until = time.monotonic() + 60
         while not open_somewhere(file) and time.monotonic() < until:
@@ -157,7 +157,7 @@ def separators(folder):
 def interrupted(folder):
     """A division that was cut at any call leaves nothing that a night takes for whole."""
     nights = Together(folder + "/state", small_root(folder))
-    words = [CONTRIB + "/parallel/begin", "--create", "--parts", "4", "--state", nights.state,
+    words = [NIGHTS + "/parallel/begin", "--create", "--parts", "4", "--state", nights.state,
              nights.root]
     for call in range(1, 60, 4):
         shutil.rmtree(nights.state, ignore_errors=True)
@@ -216,12 +216,12 @@ def no_room(folder):
     nights, numbers = begun(folder, ["o01", "o07"])
     nights.make(numbers)
     found = findings(audit(nights.root))
-    end = [CONTRIB + "/parallel/end", "--state", nights.state]
+    end = [NIGHTS + "/parallel/end", "--state", nights.state]
     status, _, _ = ran(["sh", "-c", 'exec "$@" > /dev/full', "sh", *end])
     is_so("a full output", status, 3)
     os.mkdir(folder + "/disk")
     kept = folder + "/kept"
-    words = [CONTRIB + "/parallel/end", "--for-tell", "--state", folder + "/disk"]
+    words = [NIGHTS + "/parallel/end", "--for-tell", "--state", folder + "/disk"]
     status, out, said = ran(["unshare", "-m", "sh", "-c", SMALL, "sh", folder + "/disk",
                              nights.state, *words], DISK=folder + "/disk", KEPT=kept)
     if status == 99:
@@ -311,7 +311,7 @@ def other_folders(folder):
                                 ("in the root", nights.root + "/state", 2)]:
         before = common.snapshot(nights.root), common.snapshot(whole.state)
         for call in ["begin", "nightly", "part"]:
-            got = ran([CONTRIB + "/parallel/" + call, "--state", state, *(
+            got = ran([NIGHTS + "/parallel/" + call, "--state", state, *(
                 ["--part", "1"] if call == "part" else ["--create", "--parts", "4"]), nights.root])
             is_so("%s: %s" % (call, name), got[0], status)
         is_so(name + ": nothing is written", (common.snapshot(nights.root), common.snapshot(
@@ -325,7 +325,7 @@ def without_locks(folder):
                "inject=flock:error=ENOLCK"]
     for name in ["begin", "end"]:
         root = [nights.root] if name == "begin" else []
-        status, _, said = ran([*failing, CONTRIB + "/parallel/" + name, "--state", nights.state,
+        status, _, said = ran([*failing, NIGHTS + "/parallel/" + name, "--state", nights.state,
                                *root])
         is_so(name, (status, "cannot be locked" in said), (3, True))
 

@@ -1,5 +1,5 @@
 #!/usr/bin/env python3
-"""Tries the nights of `contrib/slurm` on a Slurm of its own whose arrays have at most ten tasks, for
+"""Tries the nights of `nights/slurm` on a Slurm of its own whose arrays have at most ten tasks, for
 14 parts: tasks that are queued again, that fail, that are made twice, that die at once; an array
 that is cancelled, a controller that is killed, a mail that is under way when its job is queued
 again. Then what `submit` does where Slurm refuses, with commands in its place.
@@ -14,7 +14,7 @@ import time
 
 import common
 from common import PROGRAM, is_so
-from shared.nights import CONTRIB, ran, read, tried, write
+from shared.nights import NIGHTS, ran, read, tried, write
 from shared.parallel import Together, audit, findings, is_stated, told_in
 from shared.slurm import Slurm
 
@@ -45,7 +45,7 @@ class Site:
         self.root = common.make_root(folder + "/root", {
             "o%02d" % number: {"v1/content/a": b"a"} for number in range(PARTS)})
         write(self.root + "/o05/v1/content/a", "damaged")
-        self.scripts = shutil.copytree(CONTRIB, folder + "/contrib")
+        self.scripts = shutil.copytree(NIGHTS, folder + "/nights")
         self.nights = Together(folder + "/state", self.root)
         write(folder + "/bin/mail", MAIL.replace("{folder}", folder), 0o755)
         write(folder + "/guided", GUIDED.replace("{folder}", folder).replace("{program}", PROGRAM),
@@ -225,7 +225,7 @@ def without_slurm(folder):
 
 
 def submitted(folder, nights, widest, *more):
-    return ran([CONTRIB + "/slurm/submit", "--create", "--parts", "1300", "--state", nights.state,
+    return ran([NIGHTS + "/slurm/submit", "--create", "--parts", "1300", "--state", nights.state,
                 *more, nights.root], PATH=folder + "/bin:" + os.environ["PATH"],
                WIDEST=str(widest), TAKEN=folder + "/taken")
 

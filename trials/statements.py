@@ -15,7 +15,7 @@ import xml.etree.ElementTree
 
 import common
 from common import TOP, digest, is_so
-from shared.states import (CONTRIB, GONE, LINES, REPORTS, State, ask, audited, is_finding, line,
+from shared.states import (GONE, LINES, NIGHTS, REPORTS, State, ask, audited, is_finding, line,
                            program, ran, read, tools, tried, write)
 
 PACKAGES = {"gzip": "gzip", "xmllint": "libxml2-utils", "strace": "strace", "openssl": "openssl"}
@@ -89,7 +89,7 @@ def table_of_codes():
     rules = read(TOP + "/docs/RULES.md").split("\n## Codes\n")[1].split("\n## ")[0]
     codes = set(re.findall(r"\b[ES]\d+\b", "".join(row.split("|")[1] for row in rules.splitlines()
                                                    if row.startswith("|"))))
-    table = read(CONTRIB + "/ocfl_scrub_reports/codes")
+    table = read(NIGHTS + "/ocfl_scrub_reports/codes")
     rows = [row.split("\t") for row in table.splitlines() if row[0] != "#"]
     is_so("codes of the table", sorted(row[0] for row in rows), sorted(codes))
     is_so("their weights", sorted({row[1] for row in rows}), ["-", "1", "2", "3", "4"])
@@ -257,14 +257,14 @@ def real_program(folder):
               "Findings: 1", "Findings E092: 1", "Program: ocfl-scrub " + common.version()]
     is_so("what it says of it", [row for row in wanted if "\n%s\n" % row not in text], [])
     clone = folder + "/clone"
-    shutil.copytree(CONTRIB, clone + "/contrib")
+    shutil.copytree(NIGHTS, clone + "/nights")
     built = clone + "/crates/ocfl_scrub_cli/out/ocfl_scrub_cli"
     os.makedirs(os.path.dirname(built))
     shutil.copy(common.PROGRAM, built)
     launcher = write(clone + "/ocfl-scrub", '#!/bin/sh\nexec %s "$@"\n' % built, 0o755)
     for number, given in enumerate(["", launcher]):
         os.remove(state.path + "/reports/statement-000001")
-        is_so("in a clone %d" % number, ran([clone + "/contrib/ocfl-scrub-reports", "statement",
+        is_so("in a clone %d" % number, ran([clone + "/nights/ocfl-scrub-reports", "statement",
                                              state.path, "1"], OCFL_SCRUB=given), (0, "", ""))
         is_so("it is not the launcher's digest", wanted[0] in
               state.has("reports/statement-000001"), True)
@@ -340,9 +340,9 @@ def make_keys(home):
 
 
 def told_seals(folder):
-    """The seals of contrib/README.md, and what checks them; those whose tool is not here are not
+    """The seals of nights/README.md, and what checks them; those whose tool is not here are not
     tried."""
-    page = read(TOP + "/contrib/README.md")
+    page = read(TOP + "/nights/README.md")
     command = "ocfl-scrub-reports statement --seal '(.*)' ~/audit 1"
     told = re.findall(r"^    %s\n    (.*)\n" % command, page, re.M)
     is_so("seals told", [seal.split()[0] for seal, _ in told], ["gpg", "minisign", "openssl"])

@@ -1,5 +1,5 @@
 #!/usr/bin/env python3
-"""Tries `ocfl-scrub-reports tell`, as the services run it after `contrib/nightly`: each night's
+"""Tries `ocfl-scrub-reports tell`, as the services run it after `nights/nightly`: each night's
 text, once, and of no other night.
 
 usage: telling.py [PART]...
@@ -12,7 +12,7 @@ import subprocess
 
 import common
 from common import PROGRAM, is_so
-from shared.nights import (CONTRIB, REPORTS, WRONG_B, Nights, make_root, ran, read, tried_apart,
+from shared.nights import (NIGHTS, REPORTS, WRONG_B, Nights, make_root, ran, read, tried_apart,
                            write)
 
 
@@ -31,13 +31,13 @@ def mailing(folder):
 def in_service(nights, number, program=PROGRAM, **environment):
     """A night and what tells of it, as the service runs both: the status, and what the journal and
     the mail have."""
-    unit = read(CONTRIB + "/systemd/ocfl-scrub@.service")
+    unit = read(NIGHTS + "/systemd/ocfl-scrub@.service")
     line = re.sub(r"\\\n", "", re.search(r"^ExecStart=((?:.*\\\n)*.*)$", unit, re.MULTILINE)[1])
     given = {"UNTIL": "23:59", "KEEP": "", "SEAL": "", "ROOT": nights.root,
              "OPTIONS": "" if os.path.exists(nights.path("checkpoint")) else "--create"}
     words = [re.sub(r"\$\{(\w+)\}", lambda found: given[found[1]], word)
              .replace("%S/ocfl-scrub/%i", nights.state)
-             .replace("/usr/local/share/ocfl-scrub", CONTRIB) for word in line.split()]
+             .replace("/usr/local/share/ocfl-scrub", NIGHTS) for word in line.split()]
     at = words.index("$OPTIONS")
     words[at:at + 1] = shlex.split(given["OPTIONS"])
     environment = {"INVOCATION_ID": "night%d" % number, "MAIL": "", "JOURNAL": "", **environment}
@@ -103,7 +103,7 @@ def of_this_night(folder):
     shutil.copytree(nights.state, folder + "/kept")
     shutil.rmtree(nights.state)
     os.mkdir(nights.state)
-    words = [CONTRIB + "/nightly", "--for-tell", "--state", nights.state, root]
+    words = [NIGHTS + "/nightly", "--for-tell", "--state", nights.state, root]
     is_so("an empty folder is not begun anew", (ran(words, INVOCATION_ID="night5")[0], "--create"
                                                 in (nights.has("tonight.night5") or "")), (3, True))
 
@@ -154,16 +154,16 @@ def as_the_user(folder):
     """Where root runs it, it reads as the user whose folder it is."""
     if os.geteuid() != 0:
         return
-    shutil.copytree(CONTRIB, folder + "/contrib")
+    shutil.copytree(NIGHTS, folder + "/nights")
     for where in [folder, os.path.dirname(folder)]:
         os.chmod(where, 0o755)
     os.makedirs(folder + "/state")
     write(folder + "/state/tonight.a", "secret\n", 0o600)
     os.chown(folder + "/state", 65534, 65534)
-    said = ran([folder + "/contrib/ocfl-scrub-reports", "tell", "archive", folder + "/state"],
+    said = ran([folder + "/nights/ocfl-scrub-reports", "tell", "archive", folder + "/state"],
                EXIT_CODE="exited", EXIT_STATUS="1", MAIL="")
     is_so("as the user", "secret" in said[2], False)
-    unit = read(CONTRIB + "/systemd/ocfl-scrub-tell@.service")
+    unit = read(NIGHTS + "/systemd/ocfl-scrub-tell@.service")
     is_so("the service too", re.findall(r"^(?:User=.*|ExecStart=.)", unit, re.MULTILINE),
           ["User=ocfl-scrub", "ExecStart=/"])
 
@@ -248,7 +248,7 @@ def not_begun(folder):
           ["ocfl-scrub: archive: the night did not begin (resources)"])
     is_so("a good night", ran(tell_words(nights), SERVICE_RESULT="success", **{
         **given, "EXIT_CODE": "exited", "EXIT_STATUS": "0"}), (0, "", ""))
-    unit = read(CONTRIB + "/systemd/ocfl-scrub@.service")
+    unit = read(NIGHTS + "/systemd/ocfl-scrub@.service")
     is_so("no night is left out without a word", re.findall("(?m)^Condition.*", unit), [])
 
 
@@ -278,8 +278,8 @@ def names(folder):
 
 def of_a_user(folder):
     """The unit of a user's own nights tells of each of them too, by the words of the same units."""
-    unit = read(CONTRIB + "/systemd/user/ocfl-scrub@.service").replace("\\\n", " ")
-    of_all = read(CONTRIB + "/systemd/ocfl-scrub@.service").replace("\\\n", " ")
+    unit = read(NIGHTS + "/systemd/user/ocfl-scrub@.service").replace("\\\n", " ")
+    of_all = read(NIGHTS + "/systemd/ocfl-scrub@.service").replace("\\\n", " ")
     at = {"%h/.local/state/ocfl-scrub/%i": "%S/ocfl-scrub/%i"}
     starts = [re.search("(?m)^ExecStart=(.*)$", text)[1].split() for text in [unit, of_all]]
     is_so("the same night", [at.get(word, word) for word in starts[0]], starts[1])

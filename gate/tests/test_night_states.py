@@ -1,4 +1,4 @@
-"""Tests what `contrib/ocfl_scrub_reports` takes from the folders of `ocfl-scrub night` and
+"""Tests what `nights/ocfl_scrub_reports` takes from the folders of `ocfl-scrub night` and
 `ocfl-scrub join`."""
 import contextlib
 import fcntl
@@ -15,7 +15,7 @@ from unittest import mock
 
 from gate.repository import TOP
 
-sys.path.insert(0, os.path.join(TOP, "contrib"))
+sys.path.insert(0, os.path.join(TOP, "nights"))
 
 from gate.tests.test_reports import Folder
 from ocfl_scrub_reports import command, night_state, opening, standing, status

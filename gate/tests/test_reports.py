@@ -1,4 +1,4 @@
-"""Tests how `contrib/ocfl_scrub_reports` reads reports: their grammar, whole blocks, compression,
+"""Tests how `nights/ocfl_scrub_reports` reads reports: their grammar, whole blocks, compression,
 and what is counted in them."""
 import contextlib
 import gzip
@@ -12,7 +12,7 @@ from unittest import mock
 
 from gate.repository import TOP
 
-sys.path.insert(0, os.path.join(TOP, "contrib"))
+sys.path.insert(0, os.path.join(TOP, "nights"))
 
 from ocfl_scrub_reports import command, counts, files, questions, report, standing, xml
 from ocfl_scrub_reports.weights import Known, Weights

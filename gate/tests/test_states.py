@@ -1,4 +1,4 @@
-"""Tests what `contrib/ocfl_scrub_reports` takes from a folder of state: its log, its lists, how the
+"""Tests what `nights/ocfl_scrub_reports` takes from a folder of state: its log, its lists, how the
 nights stand, and statements."""
 import json
 import os
@@ -7,7 +7,7 @@ import unittest
 
 from gate.repository import TOP
 
-sys.path.insert(0, os.path.join(TOP, "contrib"))
+sys.path.insert(0, os.path.join(TOP, "nights"))
 
 from gate.tests.test_reports import Folder
 from ocfl_scrub_reports import database, opening, standing, state, statement, status

@@ -4,9 +4,9 @@ import shutil
 import subprocess
 
 from common import PROGRAM, TOP
-from shared.nights import CONTRIB, ran, write
+from shared.nights import NIGHTS, ran, write
 
-# What the clone has beside `contrib`.
+# What the clone has beside `nights`.
 PARTS = ["CHANGELOG.md", "VERSION", "install", "package", "ocfl-scrub", "crates.txt", "samples"]
 
 
@@ -20,7 +20,7 @@ def make_clone(folder, parts=PARTS):
     os.makedirs(folder, exist_ok=True)
     for name in parts:
         copy(os.path.join(TOP, name), os.path.join(folder, name))
-    copy(CONTRIB, os.path.join(folder, "contrib"))
+    copy(NIGHTS, os.path.join(folder, "nights"))
     write(os.path.join(folder, ".gitignore"), "out/\n")
     git(folder, "init", "-q")
     git(folder, "add", "-A")

@@ -1,7 +1,7 @@
 """What the trials of the scripts share: storage roots, nights over them, and what they leave.
 
-The scripts are those of the folder that OCFL_SCRUB_CONTRIB names. Without it, they are those of
-`contrib` at the top of the repository.
+The scripts are those of the folder that OCFL_SCRUB_NIGHTS names. Without it, they are those of
+`nights` at the top of the repository.
 """
 import gzip
 import json
@@ -14,8 +14,8 @@ import traceback
 import common
 from common import PROGRAM, TOP, digest
 
-CONTRIB = os.path.abspath(os.environ.get("OCFL_SCRUB_CONTRIB") or os.path.join(TOP, "contrib"))
-REPORTS = CONTRIB + "/ocfl-scrub-reports"
+NIGHTS = os.path.abspath(os.environ.get("OCFL_SCRUB_NIGHTS") or os.path.join(TOP, "nights"))
+REPORTS = NIGHTS + "/ocfl-scrub-reports"
 ITEMS = ["ok\t.\t-\n", "ok\to\t-\n", "ok\to/v1/content/a\t3\n", "ok\to/v1/content/b\t0\n",
          "ok\to/v1/content/c\t3\n"]
 WRONG_B = "E092\to/v1/content/b\tsha256 %s %s\n" % (digest(b""), digest(b"b"))
@@ -81,7 +81,7 @@ class Nights:
     def words(self, *more):
         """A night's words; those of a first one if the folder has no checkpoint."""
         create = [] if os.path.exists(self.path("checkpoint")) else ["--create"]
-        return [CONTRIB + "/nightly", "--state", self.state, *create, *more, "--", self.root]
+        return [NIGHTS + "/nightly", "--state", self.state, *create, *more, "--", self.root]
 
     def night(self, *more, program=PROGRAM, **environment):
         """A night; without words that end it, of a whole cycle. Two nights in one second would be

@@ -1,8 +1,8 @@
 """What the trials of many processes share: a storage root with damage of each kind, and the folder
 of its parts.
 
-The scripts are those of the folder that OCFL_SCRUB_CONTRIB names. Without it, they are those of
-`contrib` at the top of the repository.
+The scripts are those of the folder that OCFL_SCRUB_NIGHTS names. Without it, they are those of
+`nights` at the top of the repository.
 """
 import glob
 import json
@@ -13,7 +13,7 @@ import subprocess
 
 import common
 from common import PROGRAM, TOP, is_so
-from shared.nights import CONTRIB, REPORTS, ran, read, write
+from shared.nights import NIGHTS, REPORTS, ran, read, write
 
 # A name that is not UTF-8 keeps a directory from being listed, for root too.
 ODD = b"\xff"
@@ -104,7 +104,7 @@ class Together:
         return read(self.path(name))
 
     def words(self, *more, jobs=4, parts=24):
-        return [CONTRIB + "/parallel/nightly", "--create", "--jobs", str(jobs), "--parts",
+        return [NIGHTS + "/parallel/nightly", "--create", "--jobs", str(jobs), "--parts",
                 str(parts), "--state", self.state, *more, self.root]
 
     def night(self, *more, jobs=4, parts=4, **environment):
@@ -119,7 +119,7 @@ class Together:
     def by_hand(self, name, *words, root=True, **environment):
         """A call of `begin`, `part` or `end`."""
         last = [self.root] if root and name != "end" else []
-        return ran([CONTRIB + "/parallel/" + name, "--state", self.state, *words, *last],
+        return ran([NIGHTS + "/parallel/" + name, "--state", self.state, *words, *last],
                    **environment)
 
     def given(self, *more):

@@ -1,8 +1,8 @@
 """What the trials of statements and of the status share: a folder of `ocfl-scrub night` as its
 checkpoint, its log and its reports say, written by hand.
 
-The scripts are those of the folder that OCFL_SCRUB_CONTRIB names. Without it, they are those of
-`contrib` at the top of the repository.
+The scripts are those of the folder that OCFL_SCRUB_NIGHTS names. Without it, they are those of
+`nights` at the top of the repository.
 """
 import calendar
 import gzip
@@ -17,8 +17,8 @@ import traceback
 import common
 from common import TOP, digest, is_so
 
-CONTRIB = os.path.abspath(os.environ.get("OCFL_SCRUB_CONTRIB") or os.path.join(TOP, "contrib"))
-REPORTS = CONTRIB + "/ocfl-scrub-reports"
+NIGHTS = os.path.abspath(os.environ.get("OCFL_SCRUB_NIGHTS") or os.path.join(TOP, "nights"))
+REPORTS = NIGHTS + "/ocfl-scrub-reports"
 VERSION = """#!/bin/sh
 printf 'ocfl-scrub 0.1.0\\ncommit 0123abcd\\nkit k\\nsha256 %s\\n' {digest}
 """

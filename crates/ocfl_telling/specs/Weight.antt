@@ -1,4 +1,4 @@
--- How grave a finding is, as the archive's own table for reports has it (`contrib/reports/codes`).
+-- How grave a finding is, as the table `nights/ocfl_scrub_reports/codes` has it.
 use Rattle.std.specs.Prelude.{Bool, true, false, Option, Some, None}
 use Rattle.ocfl_report.specs.Line.{Line}
 use Rattle.ocfl_report.specs.declared.code.Code.{Code}

@@ -12,7 +12,7 @@ use ocfl_telling::{
 use std::alloc::Global;
 use std::test::Fail;
 
-/// The weights of the table `contrib/reports/codes`, by code.
+/// The weights of the table `nights/ocfl_scrub_reports/codes`, by code.
 const WEIGHTS: [(&str, Option<Weight>); 8] = [
     ("ok\ta\t-\n", None),
     ("S07\ta\t-\n", None),

@@ -1,6 +1,6 @@
 """The registers of the repository, read from its sources: what each crate is for and what is proved
-of it, its public functions with the names of their clauses, the laws, the definitions, and what the
-trials try."""
+of it, its public functions with the names of their clauses, the laws, the definitions, on which
+faults tests were seen to fail, and what the trials try."""
 import ast
 import glob
 import os
@@ -19,6 +19,7 @@ BLOCK = re.compile(r"(?:unsafe )?impl(?:<.*?>)? |(?:pub )?trait ")
 OWNER = re.compile(r"(?:.*\bfor )?(?:pub )?(?:unsafe )?(?:trait |impl(?:<.*?>)? )?(\w+)")
 FUNCTION = re.compile(r"( *)(pub(?:\(crate\))? )?(?:const )?(?:unsafe )?fn (\w+)")
 CLAUSE = re.compile(r" *ensures (\w+) \{")
+TEST = re.compile(r"((?: *// .*\n)+) *#\[test\]\n(?: *#\[.*\n)* *fn (\w+)")
 DEFINITION = re.compile(r"(?:abbrev|unfoldable|record|data) (?:pub )?([\w'-]+)"
                         r"|pub (?:record|data) ([\w'-]+)")
 WIDTH = 100
@@ -156,6 +157,18 @@ def defined(text: str, place: str) -> Iterator[Entry]:
         says = [*says, line[2:].removeprefix(" ")] if line.startswith("--") else []
 
 
+def tests() -> Iterator[Entry]:
+    """The tests that say on which fault they were seen to fail, and the modules that do."""
+    top = os.path.join(folder_of(TESTS), "src")
+    for path in sorted(glob.glob(os.path.join(top, "**", "*.rt"), recursive=True)):
+        module = os.path.relpath(path, top)[:-len(".rt")].replace(os.sep, "::")
+        text = read(path)
+        head = [line[3:].strip() for line in text.split("\n") if line.startswith("//!")]
+        said = [("", joined(head)), *((name, joined([line.strip()[3:] for line in
+                 says.split("\n")])) for says, name in TEST.findall(text))]
+        yield from (Entry(module, name, it) for name, it in said if "Seen to fail" in it)
+
+
 def trials() -> Iterator[Entry]:
     """What each trial tries, as it says of itself."""
     for path in sorted(glob.glob(os.path.join(TOP, "trials", "*.py"))):
@@ -164,7 +177,8 @@ def trials() -> Iterator[Entry]:
 
 
 REGISTERS: dict[str, Callable[[], Iterator[Entry]]] = {
-    "crates": heads, "calls": calls, "laws": laws, "definitions": definitions, "trials": trials}
+    "crates": heads, "calls": calls, "laws": laws, "definitions": definitions,
+    "tests": tests, "trials": trials}
 
 
 def written(entry: Entry) -> list[str]:

@@ -1,8 +1,27 @@
 #!/usr/bin/env python3
-"""Uses each command of the program on folders that it makes, and compares what comes with what is
-written down here.
+"""Uses each command of the program on folders that it makes and on the samples, and compares what
+comes, statuses and texts, with what is written down here.
 
 usage: commands.py
+
+Tried, and what comes of it:
+
+- A cursor file in the root: named by its path, over a link, over dots, and by its bare name from
+  within the root and from within an object: a usage error, status 2; nothing is written.
+- A bare name from elsewhere; a folder whose name begins as the root's does: as others.
+- `/` as ROOT: audits, a check, a cursor file: E069, as of any folder without a declaration; each
+  file is inside it.
+- A checkpoint to be shown: whole, from a pipe, cut, changed, of another version, with other
+  lines, and longer than any: its lines, or status 4 with the reason; it stays as it is.
+- Names of ROOT and of the cursor file that end in a blank, a tab, a line feed or a no-break
+  space: as others; the name without its end is neither read nor made.
+
+Seen to fail on these faults, each planted alone:
+
+- The cursor file of a part's run may lie in the storage root.
+- A bare name of the cursor file is taken for one in `/`, so that it is written into the root; a
+  folder whose name begins as the root's does is taken for one inside it; white space at the end
+  of ROOT is dropped, or the slash that is all of it.
 """
 import os
 import subprocess

@@ -7,6 +7,23 @@ strace stops the program after the last look before the opening, which is that o
 is opened then is not what was looked at: content is S08, never `ok`, and at an object's own files
 the program stops. Where the file was only moved, and a link to it left in its place, what is opened
 is what was looked at, and it is read.
+
+Tried, and what comes of it:
+
+- A file exchanged between the look at it and its opening: for another one, a copy, an empty one,
+  a folder, nothing, or a link to a copy, a folder, itself, a device; content, and an object's own
+  files: S08; `stopped at`.
+- A file exchanged at that moment for a link to one of the same bytes and the same number on
+  another device: S08; `stopped at`. It mounts two devices; where it cannot, it leaves this out
+  and says so.
+- A file exchanged at that moment for a link to one of the same bytes that was given its number;
+  where no number is given again, it is another file's: S08; `stopped at`.
+- The file itself moved, and a link to it left in its place, at that moment: it is read: it is the
+  file of the look.
+
+Seen to fail on these faults, each planted alone:
+
+- A file is recognised by its number alone, whatever its device.
 """
 import os
 import subprocess

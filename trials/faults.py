@@ -5,6 +5,22 @@ usage: faults.py
 
 strace injects the errors. Where the opening or a read of a content file fails, its line is S08 and
 nothing else changes; elsewhere the program stops at that place, with a cursor that goes on.
+
+Tried, and what comes of it:
+
+- Each opening, read, listing and look of a run over three objects made to fail by `strace`:
+  openings with EIO, EACCES, EMFILE, ENOMEM and ENOENT, reads with EIO, ENOMEM and EISDIR,
+  listings with EIO, EACCES, ENOMEM and ENOTDIR, looks with EIO: content: S08 there, with the cost
+  of the blocks before it, and nothing else changed; elsewhere `stopped at` that place and status
+  3, with the items before it and a cursor that goes on; ENOMEM of an opening or a listing, also
+  of content: `out of memory`, the same.
+- Each of these calls interrupted once, and the first of each kind at each place 900 times in a
+  row: as without.
+- A read or a listing interrupted for ever: given up: S08, or `stopped at`.
+
+Seen to fail on these faults, each planted alone:
+
+- Memory that the system refuses as the file of separators is opened, is told as something else.
 """
 import os
 import re

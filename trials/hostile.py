@@ -5,6 +5,27 @@ names and paths at the limits and beyond, and files that grow or shrink while th
 usage: hostile.py
 
 Each audit ends, follows no link, and writes nothing below the root.
+
+Tried, and what comes of it:
+
+- Pipes, sockets, devices, links to a file, to a folder, to nothing, to themselves and in a loop,
+  in each part of a storage root: S04, none opened.
+- Pipes, sockets, devices and links that an inventory lists: S04, and missing.
+- A pipe or a link in place of a declaration, an inventory or a sidecar; a link in place of an
+  object, a version or its content: the lines of a file or directory that is not there.
+- Names with each character of ASCII, of 255 bytes, and with leading dots; names that are not
+  UTF-8: read as others; `stopped at` their directory.
+- Whole paths of 4,094 to 4,097 bytes: read up to 4,095; beyond, `stopped at` their directory.
+- Directories at depths 127 to 130, in content and in the hierarchy: S05 at depth 128.
+- An inventory of 300 keys and 300 other members, 300 runs over it, 300 objects, a path of 126
+  elements: as others.
+- A directory of 70,000 entries: as others.
+- A file that grows, shrinks or is emptied between two reads; one that is removed after its
+  listing or its opening: E092 with the digest of the bytes that were read; S08; its line.
+
+Seen to fail on these faults, each planted alone:
+
+- A directory of more than 65,536 entries is taken for one that is too large.
 """
 import json
 import os

@@ -4,6 +4,11 @@
 usage: install.py
 
 Where a tool is missing, that is a failure which names Debian's package.
+
+Seen to fail on these faults, each planted alone:
+
+- `--version` has another digest than that of the running file, or does not say that `BUILD` names
+  another.
 """
 import os
 import re

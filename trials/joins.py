@@ -4,6 +4,13 @@
 usage: joins.py [PART]...
 
 The state folders of the parts are made by hand: a checkpoint by its text, and a closed report.
+
+Tried, and what comes of it:
+
+- `ocfl-scrub join` over parts that are gone, open, copies of others, of another root or not
+  whole, that lost their report or have a cut checkpoint; another list of separators: each is
+  named, status 3, and nothing is joined.
+- Parts of which one lost whole lines of its report: not so yet: they are joined.
 """
 import os
 import shutil

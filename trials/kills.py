@@ -7,6 +7,15 @@ Over a cycle 200 runs are killed at random moments, and 200 more by strace at th
 call: at each call that stores the cursor, and at random ones. After each the cursor's file is a
 cursor, of before the run or of after it, and what the runs wrote that moved it, joined, is the
 audit.
+
+Tried, and what comes of it:
+
+- 200 runs of `run --cursor`, over a cycle of files of 0 to 5,000,000 bytes, each killed at a
+  random moment: the cursor file is that of before the run or of after it; what the runs that
+  moved it wrote, joined, is the audit; the lines of the others are repeated.
+- 200 more killed by `strace` at the entry of a system call: each one that stores a cursor, and
+  random others: the cursor file is that of before the run or of after it; what the runs that
+  moved it wrote, joined, is the audit; the lines of the others are repeated.
 """
 import os
 import random

@@ -2,6 +2,16 @@
 """Tries the launcher `ocfl-scrub` in a folder of its own, with a command `rt` that builds at once.
 
 usage: launcher.py
+
+Tried, and what comes of it:
+
+- The launcher: no toolchain or one of another logic, a build that fails or is stopped, links to
+  it, CDPATH, a folder that cannot be written, a newer source, an empty or a half-written program;
+  how far it is, on a terminal and elsewhere: it builds exactly where it has to, leaves no log,
+  and says last what is missing.
+- A look without proof: roots by a relative path, each status, one that takes too long, other
+  commands: report and status are handed on, standard error says that nothing was proved, and
+  nothing is built.
 """
 import os
 import pty

@@ -4,6 +4,16 @@
 usage: memory.py
 
 The peaks are those of resident memory, in MiB.
+
+Tried, and what comes of it:
+
+- A limit on address space from 4 to 164 MiB, with an inventory of 32 MiB: not loaded; or `out of
+  memory`, status 3, with whole items and a cursor that goes on; or all of it. At 40 MiB the
+  smaller object before it is reported.
+- Peak over 100,000 files in 1,000 objects, and over 1,000 in 10: the first is at most 8 MiB
+  higher.
+- Peak over one object of 100,000 files: at most a tenth above the figure in
+  [bench/README.md](../bench/README.md).
 """
 import json
 import os

@@ -6,6 +6,18 @@ usage: night_clock.py [PART]...
 
 The clock is that of `steps.c`, before the C library: each reading is some seconds after the one
 before. The ends were computed by Python's `zoneinfo`.
+
+Tried, and what comes of it:
+
+- `--until`, `--hours` and `--end`, across both changes of summer time too, and by clocks that are
+  set back, leap or stand: no run begins at or after the end.
+
+Seen to fail on these faults, each planted alone:
+
+- Status 3 is 0; status 2 is 0; nothing is said on standard error.
+- A failing output is taken for one that took all; a failing standard error stops a night; what is
+  said goes through a temporary file.
+- No end is kept; the zone is UTC; a clock before 2023 is refused.
 """
 import datetime
 import os

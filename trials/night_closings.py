@@ -3,6 +3,36 @@
 the last whole report, and which objects of a list are missing.
 
 usage: night_closings.py [PART]...
+
+Tried, and what comes of it:
+
+- Cycles of many nights that nothing disturbs: each finding is said once.
+- What is gone, new or repaired when a cycle closes, also after a cycle that lost lines, where the
+  last report was taken away, where the output failed, or where the night was killed between
+  closing and saying; lost objects with such names: each is said once, against the last whole
+  report, with its list in a file; nothing else is.
+- The report of before, or the closed one itself, cut, turned or with other bytes before they are
+  compared: status 3, the cycle is named, nothing is called gone; once it is a report again, what
+  is gone is said.
+- The same reports, and a further cycle closed meanwhile: what was gone is said once the report is
+  back.
+- The report of before without the lines of an object, which is then lost: not so yet: nothing is
+  said.
+- Lists of known findings, and of objects that must be there, that are missing, are folders or no
+  lists, or go away in the night: status 2 or 3; nothing is called complete that was not compared,
+  and the next night compares it.
+- A list of objects at the end of a first cycle: those that are missing are named, and no cycle
+  before.
+
+Seen to fail on these faults, each planted alone:
+
+- What is said goes out at the end, after the checkpoint that says so.
+- Status 3 is 0; status 2 is 0; nothing is said on standard error.
+- All is said twice; by `echo` of a shell; with `%0A` and `%1B` decoded.
+- Lists of what is gone are there before it is said; an object that never was is gone; what is
+  new, repaired or not shown has no line; lists of known and expected objects are ignored.
+- A report that cannot be read, or all before a missing one, are left out of comparisons; an
+  incomplete report is called whole.
 """
 import os
 import shutil

@@ -6,6 +6,33 @@ usage: night_faults.py [PART]...
 
 strace injects the errors. Whatever fails, the nights that follow close a report that is the audit,
 byte for byte, and each finding is said; a night that could not go on says why, with status 3.
+
+Tried, and what comes of it:
+
+- Each call of nights on their folder made to fail: those that change it with EIO, ENOSPC, EDQUOT,
+  EACCES and EROFS, once and from the second on, others with EIO, EACCES and ENOMEM; a lock that
+  the file system does not give: status 0, 1 or 3, and 3 says why; then the next nights close a
+  report that is the audit, byte for byte, and each finding is said.
+- Standard output a full device, a closed pipe, closed, failing, or with room for a part; standard
+  error full; no standard streams: status 3; what was not taken whole is said by the next night;
+  nothing of it gets into the folder. It mounts for that.
+- The device of the state folder full before a night and from one of its moments on; a limit on a
+  file's size; a full or missing folder for temporary files; the state folder read-only, removed
+  or moved under a night: status 3; then the next nights close a report that is the audit, byte
+  for byte, and each finding is said; nothing is made anew in silence. It mounts for that.
+- Two nights at once: status 75, and nothing is changed.
+- A night that gets SIGTERM, SIGINT or SIGHUP: it ends as by a kill, and the next one goes on.
+
+Seen to fail on these faults, each planted alone:
+
+- A write that fails is taken for one that did not.
+- No lock is taken; a lock that is not given is that of another night.
+- Closed standard streams are not taken.
+- Each night has `--create`, or `--force-root`.
+- Status 3 is 0; status 2 is 0; nothing is said on standard error.
+- A failing output is taken for one that took all; a failing standard error stops a night; what is
+  said goes through a temporary file.
+- A signal ends a night with status 3.
 """
 import os
 import resource

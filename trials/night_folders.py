@@ -3,6 +3,58 @@
 exchanged meanwhile, or that were changed between two nights, and over odd names.
 
 usage: night_folders.py [PART]...
+
+Tried, and what comes of it:
+
+- The root unmounted, or something else mounted in its place, between two runs of a night and
+  within one, in the night of a part too; ROOT a link that is pointed elsewhere: status 3, the
+  root is named, nothing is closed, and no line is said that is not so; then the next nights close
+  a report that is the audit, byte for byte, and each finding is said. It mounts for that. Of
+  parts: `night_parts.py`.
+- The state folder unmounted under a night: status 3, by the next night too; mounted again, the
+  next nights close a report that is the audit, byte for byte, and each finding is said. It mounts
+  for that.
+- An object, a folder of a root, an empty one or none as the root; another root, declaration or
+  part; a root that lost most of its names: status 3, and nothing is written. Of parts:
+  `night_parts.py`.
+- A folder of the nightly scripts; reports without a checkpoint; a state folder that is not
+  mounted; the folder of a whole root's nights for a part, and for `join`: status 3, and nothing
+  is written. Of parts: `night_parts.py`.
+- A checkpoint, a report, a lock, a log or a folder of another user: status 3, the file is named
+  with the system's reason. It needs root.
+- A checkpoint with another digit, cut, empty, zeros, of another version: status 4, and nothing is
+  written.
+- A report that lost its end or all of it: status 3, it is closed as incomplete, and the next
+  cycle is whole.
+- A report of the right length with another size in a line, another byte, or zeros: it is closed
+  as incomplete, which is said.
+- Links and pipes in place of each file of the folder: status 3, none is followed or opened.
+- Nights under the masks 000, 022 and 077: nothing of the state is open to others or can be
+  written by the group.
+- Copies beside the reports; a killed night and then one that is refused; a file `stop`: they
+  stay; the report is as whole as it was; no further run begins.
+- Objects, roots and state folders whose names have backslashes, line feeds, controls or quotes,
+  begin with `-`, or sort before `.`: the report is the audit, and what is said has no byte of a
+  name that a terminal takes as its own.
+- Folders with such names that cannot be listed: status 3, they are named as left out, all else is
+  in a report that is incomplete; the next cycle is the audit, and other parts go on. Of parts:
+  `night_parts.py`.
+
+Seen to fail on these faults, each planted alone:
+
+- A report is not cut.
+- The root is not looked at again after a run.
+- ROOT is not resolved; the folder above is taken where ROOT is no storage root.
+- Links are followed; modes are wide; the file `stop` is not looked for.
+- Each night has `--create`, or `--force-root`.
+- A folder of another root or part, a damaged checkpoint, a folder of scripts or reports without a
+  checkpoint are removed, and begun anew.
+- A report is emptied where the root is not there.
+- Status 3 is 0; status 2 is 0; nothing is said on standard error.
+- All is said twice; by `echo` of a shell; with `%0A` and `%1B` decoded.
+- A report that cannot be read, or all before a missing one, are left out of comparisons; an
+  incomplete report is called whole.
+- Copies are removed.
 """
 import os
 import re

@@ -7,6 +7,18 @@ A first night, one that goes on and one that takes up what a killed one left are
 strace at the entry of each call of the system that touches the state folder or standard output; and
 200 nights are killed at random moments. After each the nights that follow close a report that is
 the audit, byte for byte, and each finding was said by one of them or by the killed one.
+
+Tried, and what comes of it:
+
+- A first night, one that goes on, and those that take up what a killed one left within a run and
+  before, within and after a closing, each killed at the entry of each call that touches the state
+  folder or standard output; 200 nights killed at random moments: the nights that follow close a
+  report that is the audit, byte for byte, and each finding was said.
+
+Seen to fail on these faults, each planted alone:
+
+- What is said goes out at the end, after the checkpoint that says so.
+- A report is not cut.
 """
 import os
 import random

@@ -3,6 +3,36 @@
 to, and the joining of the parts' closed reports.
 
 usage: night_parts.py [PART]...
+
+Tried, and what comes of it:
+
+- The folder of parts as a state folder, with `--create`: status 3, nothing is made.
+- Parts of several lists, killed nights of parts: their reports, one after the other, are the
+  audit.
+- Parts that are missing, open, changed, of another root or another list, given to `join`; one
+  whose night runs: nothing is joined, status 3; status 75.
+- A joining killed at each call that touches its folder, and each of these made to fail with EIO
+  and ENOSPC: there is no joined report, or the whole one; the next joining makes it, and leaves
+  nothing beside it.
+- Copies and further folders beside those of the parts; a link in place of the report that a
+  joining makes; joinings under the masks 000 and 077: the joined report is the audit; the link is
+  not followed; nothing is open to others.
+- A link in place of the folder of the joined reports: status 3, nothing is written outside.
+- Another file in place of the joined report: status 3; it stays.
+
+Seen to fail on these faults, each planted alone:
+
+- A report is not cut.
+- A file is copied over the other, not renamed.
+- The root is not looked at again after a run.
+- Links are followed; modes are wide; the file `stop` is not looked for.
+- No lock is taken; a lock that is not given is that of another night.
+- A folder of another root or part, a damaged checkpoint, a folder of scripts or reports without a
+  checkpoint are removed, and begun anew.
+- Status 3 is 0; status 2 is 0; nothing is said on standard error.
+- All is said twice; by `echo` of a shell; with `%0A` and `%1B` decoded.
+- A joining takes all folders and whatever they have.
+- A part's report loses its first line; names of the top folder are kept for each part.
 """
 import os
 import shutil

@@ -5,6 +5,23 @@ and their seals, and room; what it leaves for `tell`; and which words it takes.
 usage: nights.py [PART]...
 
 What `ocfl-scrub night` itself keeps and says is tried by the trials `night_*.py`.
+
+Tried, and what comes of it:
+
+- A program that cannot say its version, a seal that fails, a whole night killed between the end
+  of its cycle and the statement: status 3 and why, or killed; the next night makes it.
+- What a seal's command leaves running: it holds neither the night nor its lock.
+- `--keep 1`, after a cycle that lost lines too; a copy beside the reports: the last two whole
+  reports stay, and the copy.
+- No folder for temporary files: the report is whole, and the statement is there after the next
+  night.
+- Another night holds the lock: status 75, and nothing is stated or removed.
+- Words that are missing, unknown or empty, and names that begin with `-`: status 2, or the night
+  of what they name.
+- `--for-tell` under the mask 000; a link in the place of the text; no room for it: the text is
+  for owner and group; status 3, and the link is not followed; the next night says it. It mounts
+  for that.
+- A night that is killed after it said something: `tell` sends it.
 """
 import gzip
 import os

@@ -5,6 +5,28 @@ usage: outputs.py
 
 After each failure whole items were written, the cursor's file is whole, and going on writes what
 is left of the audit.
+
+Tried, and what comes of it:
+
+- Standard output: a write of each line that fails with ENOSPC, EPIPE or EIO: `output failed`,
+  status 3; the items before it, and a cursor that goes on.
+- Standard output: a full device (each command and `--help`), a closed pipe, `head`, closed:
+  `output failed`, status 3; the items before it, and a cursor that goes on.
+- Standard output interrupted once, 899 times in a row, for ever: as without, twice; `output
+  failed`.
+- Standard error full or closed, at each status: the status is the same.
+- The cursor file: each call that stores it fails; a device that is full; a limit on a file's
+  size; its folder goes away: the report is whole, `cursor file failed`, status 3; the old file is
+  whole, nothing is left beside it, and the next run goes on.
+- The cursor file cannot be opened or read: `cursor file failed`, status 3; no report.
+- The calls that store the cursor file, by its path and by its bare name: the text is synced,
+  renamed, and its folder synced, in this order.
+
+Seen to fail on these faults, each planted alone:
+
+- The folder of the cursor file is not synced.
+- `--version` has another digest than that of the running file, or does not say that `BUILD` names
+  another.
 """
 import os
 import re

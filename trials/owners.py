@@ -6,6 +6,14 @@ a folder of one's own.
 usage: owners.py [PART]...
 
 What only root can try is skipped and named where another user runs it.
+
+Tried, and what comes of it. Each row was seen to fail on scripts that lacked it:
+
+- Links and files in the folder of another user, in the place of what root writes or reads there:
+  nothing of root's is written or shown; nights are refused, and leave nothing. It needs root;
+  another user leaves that out and says so.
+- Links in the place of what a night, a statement, a question or `status` reads or writes: status
+  3, and the link is named.
 """
 import os
 import shutil

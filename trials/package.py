@@ -6,6 +6,11 @@ usage: package.py
 It is installed by dpkg under a layer that this process lays over /usr, /etc and /var. Nobody else
 sees that layer, and all that is written into it goes away with it. That needs root. What cannot be
 tried is skipped and named.
+
+Tried, and what comes of it. Each row was seen to fail on scripts that lacked it:
+
+- An upgrade of the package within a cycle; removal and purge: the next night goes on; the state,
+  the settings and the user stay.
 """
 import ctypes
 import gzip

@@ -4,6 +4,21 @@ parts with 4 at once. Nights are killed, parts are, and the joined report of eac
 What a part costs beside its reading is measured.
 
 usage: parallel.py [PART]...
+
+Tried, and what comes of it:
+
+- 15 nights of 24 parts; parts and nights that SIGKILL and SIGTERM end: each joined report is
+  `audit`, byte for byte, and each finding was told.
+- A place that cannot be read: named with its part, status 3; the other parts end; mended, the
+  cycle is the audit.
+- Cycles that are not joined: damage, its repair, a loss and its return: `status` has each once,
+  as the last cycle has it; before, damage counted once a cycle and losses were forgotten.
+- A part that is killed at each renaming of its night: it is given out again until its cycle is
+  closed, and the cycle is joined; before, a part killed while it closed its cycle was never given
+  out again.
+- SIGTERM, SIGINT, SIGHUP: the part under way ends and is named; the next night goes on.
+- 40 parts by GNU parallel and by xargs: the joined report is the audit; `part` takes at most 20
+  ms of a processor.
 """
 import glob
 import os

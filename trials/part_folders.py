@@ -4,6 +4,27 @@
 division, messages without room, links, the folder of another user.
 
 usage: part_folders.py [PART]...
+
+Tried, and what comes of it. Each row was seen to fail on scripts that lacked it:
+
+- Parts that were given out and that nobody ran; the same without `end`: they are named once, with
+  status 3; `status` is not OK until they were run.
+- A part that is killed on each of its nights: it is told each time, and goes on once its run
+  comes to its end.
+- The folder of a part that is gone, is another's or another root's, has a damaged checkpoint or
+  none, or is a link: it is named, status 3; the other parts go on, and nothing is joined until it
+  is put back.
+- Separators that are gone, broken, out of order or cut short: named, status 3; never written
+  again.
+- A division that is killed at each fourth of its calls: it is made again as a whole.
+- A root that is not mounted: `begin` refuses it once, and what all parts say is there once; no
+  first night.
+- A full standard output; a full disk of the state: status 3, and the next `end` says all of it.
+  It mounts for that; where it cannot, it says so.
+- Links in the place of each file that is read or written; root in the folder of another user;
+  umask 0: none is followed; nothing is done; files are 0640.
+- A state folder in the root, and that of a whole root: refused, and nothing is written there.
+- Each call of `flock` made to fail with ENOLCK: status 3, the lock is named, and nobody waits.
 """
 import glob
 import os

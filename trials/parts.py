@@ -5,6 +5,19 @@ usage: parts.py [SEED]
 
 The roots are damaged at random. What is expected of a part or a branch is what of the audit's lines
 lies in it; this script computes that from the places in them.
+
+Tried, and what comes of it:
+
+- All parts of roots with nine kinds of damage, for separators from `split` and at random places;
+  each branch of an object; runs of parts, also killed ones; separators, cursors and reports that
+  are refused: joined, the parts' audits and their runs are the audit, byte for byte; each content
+  file is opened once, and nothing outside of a part but the way to it; what is refused ends with
+  its text and status, and moves no cursor.
+
+Seen to fail on these faults, each planted alone:
+
+- A report is given up after 1,000,000 lines.
+- A run of a part that stopped stores no cursor; a split whose output failed ends with status 0.
 """
 import os
 import random

@@ -4,6 +4,22 @@
 usage: progress.py
 
 Whatever is shown, the report is the same bytes, and where there is no terminal nothing is shown.
+`hours.c` is a clock that goes by hours.
+
+Seen to fail on these faults, each planted alone:
+
+- Progress is shown where there is no terminal, for `check`, or in spite of `--quiet` (of `audit`,
+  `run` and `cycle`).
+- Progress is not removed, at the end or before a line of the report on the same terminal.
+- Progress names another place, or more of it than fits; or it counts bytes twice, no files, or
+  files that are not content.
+- Progress shows a share where the cursor does not have the cost of an earlier cycle, or a wrong
+  one; or one of more than three digits.
+- Progress shows minutes where the last cycle's cost is reached; those of the whole cycle, or
+  those that have passed, in place of those left.
+- Progress does not name a directory that is listed.
+- `--quiet` is ignored for a branch or a part; a cursor is read from a pipe before the run reads
+  it.
 """
 import os
 import pty

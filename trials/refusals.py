@@ -4,6 +4,21 @@
 usage: refusals.py
 
 The calls that take memory are those of the C library: `refusals.c` stands before it.
+
+Tried, and what comes of it:
+
+- Each call that takes memory refused in turn, before the C library: audits, cycles, runs and a
+  check of each place with a line on five roots, a branch, a part and its runs, both kinds of
+  splits, a shown cursor and a shown checkpoint, and a cursor file inside the root: `out of
+  memory`, status 3, whole items and a cursor that goes on, or the same as without; nothing is
+  written inside the root. Where the run needed the memory, from its first listing to its last
+  line, the cursor file is that of one run more.
+
+Seen to fail on these faults, each planted alone:
+
+- A run that memory stopped hands back no text of its cursor.
+- Memory that is refused for the place of `--under`, for separators, for the ends of a part, or
+  for a split, is told as something else.
 """
 import json
 import os

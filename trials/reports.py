@@ -4,6 +4,12 @@
 usage: reports.py
 
 Where a tool is missing, that is a failure which names Debian's package.
+
+Tried, and what comes of it:
+
+- A report whose name begins with `-`: it is taken after `--`.
+- The log, a statement and a text given for a report; days, hours and forms that no date has:
+  status 3; status 2.
 """
 import gzip
 import json

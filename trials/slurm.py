@@ -5,6 +5,16 @@ that is cancelled, a controller that is killed, a mail that is under way when it
 again. Then what `submit` does where Slurm refuses, with commands in its place.
 
 usage: slurm.py [PART]...
+
+Tried, and what comes of it:
+
+- An array that is cancelled: the message names its parts, and `status` is not OK.
+- Tasks that die at once; one that fails: the message names its parts, and `status` is not OK.
+- A task that is queued again; a controller that is killed: the cycle is the audit.
+- 14 parts where an array has ten tasks; 1,300 parts, a Slurm without arrays, one that refuses a
+  job: several arrays; nothing is begun; status 3, and `status` is not OK. The last two use
+  commands in the place of Slurm's.
+- The job of the message queued again while its mail hangs: the mail is sent.
 """
 import os
 import re

@@ -3,6 +3,19 @@
 the figures for Prometheus.
 
 usage: standing.py
+
+Tried, and what comes of it. Each row was seen to fail on scripts that lacked it:
+
+- An object that is gone for three cycles, known, and back: `status` and each statement count it
+  until it is back, and `status` not while it is known.
+- Damaged files, one mended, one damaged otherwise: `recheck` says which.
+- Names that are markup, in the page of `ocfl-scrub-reports page`: they are shown as they are, in
+  Chromium too if it is there.
+- A place that reports did not come to which are not whole: its findings stay open, in the line,
+  the list and the figures.
+- Known findings; a finding that reaches two limits; expected objects that are missing; refused
+  nights; odd paths of the folder: not listed; said once; called so; no cycle 0; answered as
+  others.
 """
 import gzip
 import os

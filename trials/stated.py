@@ -3,6 +3,24 @@
 when, over which root; and what `verify` could check.
 
 usage: stated.py [PART]...
+
+Tried, and what comes of it. Each row was seen to fail on scripts that lacked it:
+
+- A program that is exchanged in the middle of a cycle: the statement names the one that made it,
+  and says that those of the runs are not known.
+- A night that has no line in the log, since it was killed: no file of the cycle was read before
+  its `Oldest verification`.
+- A report that lost the line of a finding: how many objects are without findings is not known.
+- A cycle that lost an object, or lacks an expected one: its PREMIS event is `fail`, and says so.
+- Ends of parts with `%`: they stand as in the file of separators.
+- The declaration's digest: it is that of what `sha256sum` says of the files.
+- Two folders of state of one root, one with a line feed in its path: each statement has its
+  folder; no two PREMIS events have one identifier.
+- A statement with lines more, fewer, twice or changed; without its JSON, its lists or its
+  separators: status 1 with the line; status 4 with the missing file and the lines that it would
+  show.
+- Copies of a statement beside it: they are no seals.
+- The statement before, changed: the one after it does not hold.
 """
 import os
 import re

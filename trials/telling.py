@@ -3,6 +3,18 @@
 text, once, and of no other night.
 
 usage: telling.py [PART]...
+
+Tried, and what comes of it. Each row was seen to fail on scripts that lacked it:
+
+- A night's text that nothing sends, or whose mail is killed or fails: the next night's message
+  has it, once.
+- A night's text that nothing sends, or whose mail is killed or fails: the next call of `tell`
+  sends it, once.
+- The text of a night that is under way: what tells of another night leaves it.
+- A text that was sent: nothing sends it again, and no journal is named that has nothing.
+- A night that systemd could not begin: told.
+- Names with line feeds, control bytes and backslashes: they make no header, no line and no
+  control byte.
 """
 import os
 import re

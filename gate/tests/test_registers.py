@@ -86,7 +86,8 @@ class Registers(unittest.TestCase):
             Entry("ocfl_cursor, Cursor", "IsOne", "two words")])
 
     def test_entries_with_all_words(self) -> None:
-        entries = [Entry("low, laws", "one", "A line."), Entry("low, laws", "two", "A cursor.\nMore."),
+        entries = [Entry("low, laws", "one", "A line."),
+                   Entry("low, laws", "two", "A cursor.\nMore."),
                    Entry("high, laws", "three", "A cursor.")]
         self.assertEqual(registers.shown(iter(entries), []),
                          "low, laws\n  one: A line.\n  two: A cursor.\n      More.\n\n"
@@ -105,5 +106,6 @@ class Registers(unittest.TestCase):
 
     def test_each_register_of_the_repository_has_its_words(self) -> None:
         for name, word in [("crates", "ocfl_walk"), ("calls", "perform_part"), ("laws", "headline"),
-                           ("definitions", "max_listed_depth"), ("trials", "kills.py")]:
+                           ("definitions", "max_listed_depth"), ("tests", "cursor::part"),
+                           ("trials", "kills.py")]:
             self.assertIn(word, registers.shown(registers.REGISTERS[name](), [word]))

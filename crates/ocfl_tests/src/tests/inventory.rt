@@ -223,6 +223,7 @@ fn three_hundred(alloc: Global, front: &str, back: &str) -> Result<String, Fail>
     Ok(text)
 }
 
+// Seen to fail if memory is refused from 300 paths, members, keys or algorithms of an inventory on.
 #[test]
 fn three_hundred_members_algorithms_and_keys(rt: HostRuntime) -> Result<(), Fail> {
     let alloc = rt.alloc();
@@ -277,6 +278,7 @@ fn names_three_hundred(rt: &impl Runtime, table: Option<Table>) -> Result<(), Fa
     Ok(())
 }
 
+// Seen to fail if memory is refused from 300 paths, members, keys or algorithms of an inventory on.
 #[test]
 fn three_hundred_paths_and_three_hundred_digests(rt: HostRuntime) -> Result<(), Fail> {
     let alloc = rt.alloc();

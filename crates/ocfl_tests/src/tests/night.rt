@@ -148,6 +148,7 @@ fn close_cycle(alloc: Global, folder: &mut MemState) -> Result<Vec<u8>, Fail> {
     Err("no report is closed".into())
 }
 
+// Seen to fail if a night makes no run where no end is given.
 #[test]
 fn three_nights_close_the_audit(rt: HostRuntime) -> Result<(), Fail> {
     let audit = lines_of(rt.alloc(), AUDIT)?;
@@ -169,6 +170,7 @@ fn three_nights_close_the_audit(rt: HostRuntime) -> Result<(), Fail> {
     Ok(())
 }
 
+// Seen to fail if a night makes no run where no end is given.
 #[test]
 fn one_night_makes_all_runs(rt: HostRuntime) -> Result<(), Fail> {
     let audit = lines_of(rt.alloc(), AUDIT)?;
@@ -590,6 +592,7 @@ fn nothing_is_kept_of_a_run_over_an_unmounted_root(rt: HostRuntime) -> Result<()
     Ok(())
 }
 
+// Seen to fail if a night does not ask whether it is to stop.
 #[test]
 fn a_night_that_is_asked_to_stop_begins_no_run(rt: HostRuntime) -> Result<(), Fail> {
     let alloc = rt.alloc();

@@ -244,6 +244,8 @@ fn lines_are_read(rt: HostRuntime) -> Result<(), Fail> {
     Ok(())
 }
 
+// Seen to fail if memory is refused for a detail of more than 1,024 bytes, in writing or in reading
+// a line.
 #[test]
 fn long_details_are_read_back(rt: HostRuntime) -> Result<(), Fail> {
     let alloc = rt.alloc();
@@ -364,6 +366,7 @@ fn texts_are_split_at_the_first(rt: HostRuntime) {
     assert_eq!(rt; split_once(b"", b' '), None);
 }
 
+// Seen to fail if output always fails.
 #[test]
 fn all_bytes_are_written(rt: HostRuntime) -> Result<(), Fail> {
     let alloc = rt.alloc();

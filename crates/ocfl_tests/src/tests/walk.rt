@@ -236,6 +236,7 @@ fn entered_around_a_missing_file(rt: HostRuntime) -> Result<(), Fail> {
     expect_after(&rt, &mut missing_and_there(alloc)?, &rows)
 }
 
+// Seen to fail if memory is refused for the 128th name of a place.
 #[test]
 fn deep_directories(rt: HostRuntime) -> Result<(), Fail> {
     for (count, code) in [(128, "S05"), (127, "E073")] {
@@ -260,6 +261,7 @@ fn lists_step_by_step(rt: HostRuntime) -> Result<(), Fail> {
     Ok(())
 }
 
+// Seen to fail if `item_at` or `Walk::start` is always out of memory.
 #[test]
 fn entering_lists_the_way(rt: HostRuntime) -> Result<(), Fail> {
     for (after, want, opened) in [

@@ -113,6 +113,8 @@ fn cursors_of_parts_are_read_back(rt: HostRuntime) -> Result<(), Fail> {
     Ok(())
 }
 
+// Seen to fail if memory is refused for a part's cursor of more than 262,144 bytes, or with an end
+// of more than 1,024.
 #[test]
 fn cursors_of_parts_may_be_long(rt: HostRuntime) -> Result<(), Fail> {
     let alloc = rt.alloc();

@@ -330,6 +330,7 @@ fn faults_of_the_system_are_told_apart(rt: HostRuntime) -> Result<(), Fail> {
     Ok(())
 }
 
+// Seen to fail if a file that is another once it is open is reported as out of memory.
 #[test]
 fn a_file_that_is_another_once_it_is_open_is_the_devices(rt: HostRuntime) -> Result<(), Fail> {
     let files = Fake::new(rt.alloc(), b"other\0", Call::Name, ErrorKind::Other, 0)?;
@@ -339,6 +340,7 @@ fn a_file_that_is_another_once_it_is_open_is_the_devices(rt: HostRuntime) -> Res
     Ok(())
 }
 
+// Seen to fail if a listing's error is taken for its end.
 #[test]
 fn strange_listings_are_the_devices(rt: HostRuntime) -> Result<(), Fail> {
     let alloc = rt.alloc();
@@ -361,6 +363,7 @@ fn strange_listings_are_the_devices(rt: HostRuntime) -> Result<(), Fail> {
     Ok(())
 }
 
+// Seen to fail if a listing's error is taken for its end.
 #[test]
 fn a_listing_that_fails_behind_its_names_is_no_listing(rt: HostRuntime) -> Result<(), Fail> {
     let alloc = rt.alloc();
@@ -380,6 +383,7 @@ fn a_listing_that_fails_behind_its_names_is_no_listing(rt: HostRuntime) -> Resul
     Ok(())
 }
 
+// Seen to fail if a listing is given up after 1,003 reads of its folder.
 #[test]
 fn a_listing_of_many_reads_is_whole(rt: HostRuntime) -> Result<(), Fail> {
     for count in [1_002u64, 1_003, 3_000] {

@@ -222,6 +222,8 @@ fn what_vanished_after_its_listing_is_absent(rt: HostRuntime) -> Result<(), Fail
     Ok(())
 }
 
+// Seen to fail if a folder's names with a leading dot are skipped; a slash at the end of ROOT is
+// mishandled.
 #[test]
 fn the_folder_may_be_a_link_or_end_in_a_slash(rt: HostRuntime) -> Result<(), Fail> {
     let (root, d) = (Place::root(rt.alloc()), place_of(rt.alloc(), "d")?);

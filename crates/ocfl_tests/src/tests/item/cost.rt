@@ -1,4 +1,7 @@
 //! What judging the items of a walk costs, and stores that answer oddly.
+//!
+//! Seen to fail if an `Absent` is taken for a file that is not there: inventory, sidecar,
+//! directory, content.
 use crate::tests::common::object::{FILE, INVENTORY};
 use crate::tests::common::odd_store::{Odd, Oddity};
 use crate::tests::common::roots::{first_fails, long_file_fails, right_object};

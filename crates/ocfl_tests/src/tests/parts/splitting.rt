@@ -170,6 +170,8 @@ fn failing_reports_are_told(rt: HostRuntime) -> Result<(), Fail> {
     Ok(())
 }
 
+// Seen to fail if memory is refused for a detail of more than 1,024 bytes, in writing or in reading
+// a line.
 #[test]
 fn report_lines_may_be_long(rt: HostRuntime) -> Result<(), Fail> {
     let alloc = rt.alloc();

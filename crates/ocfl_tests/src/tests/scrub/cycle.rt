@@ -121,6 +121,7 @@ fn inventories_of_three_runs(rt: HostRuntime) -> Result<(), Fail> {
     expect_opened(&rt, row, &store, "/inventory.json", want)
 }
 
+// Seen to fail if memory is refused from 300 paths, members, keys or algorithms of an inventory on.
 #[test]
 fn three_hundred_runs(rt: HostRuntime) -> Result<(), Fail> {
     let mut paths = String::new(rt.alloc());

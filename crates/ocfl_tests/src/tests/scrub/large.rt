@@ -33,6 +33,7 @@ fn numbered(
     Ok(text)
 }
 
+// Seen to fail if memory is refused for an item of more than 1,000 lines.
 #[test]
 fn head_of_two_thousand_lines(rt: HostRuntime) -> Result<(), Fail> {
     let alloc = rt.alloc();
@@ -46,6 +47,7 @@ fn head_of_two_thousand_lines(rt: HostRuntime) -> Result<(), Fail> {
     expect(&rt, row, &mut store, "o", lines.as_str(), 1, "")
 }
 
+// Seen to fail if memory is refused for an item of more than 1,000 lines.
 #[test]
 fn file_of_two_thousand_lines(rt: HostRuntime) -> Result<(), Fail> {
     let alloc = rt.alloc();
@@ -59,6 +61,7 @@ fn file_of_two_thousand_lines(rt: HostRuntime) -> Result<(), Fail> {
     expect(&rt, row, &mut store, FILE, lines.as_str(), 1, "")
 }
 
+// Seen to fail if memory is refused after 4,096 places in a row without lines.
 #[test]
 fn ten_thousand_places_without_lines(rt: HostRuntime) -> Result<(), Fail> {
     let inner = right_object(rt.alloc())?;
@@ -68,6 +71,7 @@ fn ten_thousand_places_without_lines(rt: HostRuntime) -> Result<(), Fail> {
     expect_audit(&rt, row, &mut Odd { inner, oddity }, text.as_str(), 0, "")
 }
 
+// Seen to fail if memory is refused for an inventory of more than 64 members.
 #[test]
 fn inventory_of_three_hundred_members(rt: HostRuntime) -> Result<(), Fail> {
     let alloc = rt.alloc();
@@ -96,6 +100,7 @@ pub(super) fn performed(
     Ok((String::from_utf8(out)?, said))
 }
 
+// Seen to fail if memory is refused after a cycle of more than 50 runs.
 #[test]
 fn command_of_two_hundred_runs(rt: HostRuntime) -> Result<(), Fail> {
     let alloc = rt.alloc();
@@ -114,6 +119,7 @@ fn command_of_two_hundred_runs(rt: HostRuntime) -> Result<(), Fail> {
     Ok(())
 }
 
+// Seen to fail if unreadable content is reported as out of memory.
 #[test]
 fn unread_content_is_no_lack_of_memory(rt: HostRuntime) -> Result<(), Fail> {
     let alloc = rt.alloc();
@@ -149,6 +155,7 @@ fn expect_calls(rt: &impl Runtime, row: &str, out: &Counting, lines: &str) {
     assert_eq!(rt; out.calls, items_in(lines), "{row}: {lines}");
 }
 
+// Seen to fail if an item's lines go out in pieces.
 #[test]
 fn lines_of_an_item_go_out_as_one_piece(rt: HostRuntime) -> Result<(), Fail> {
     let alloc = rt.alloc();
@@ -189,6 +196,7 @@ fn expect_pieces(rt: &impl Runtime, row: &str, out: &Counting, lines: &str, coun
     assert!(rt; out.kept.as_slice() == lines.as_bytes(), "{row}");
 }
 
+// Seen to fail if an item's lines go out in pieces of 4,096 bytes.
 #[test]
 fn long_items_go_out_as_one_piece(rt: HostRuntime) -> Result<(), Fail> {
     let alloc = rt.alloc();

@@ -24,6 +24,7 @@ fn long_path(alloc: Global, name: &str, count: usize) -> Result<String, Fail> {
     Ok(path)
 }
 
+// Seen to fail if memory is refused for a branch of more than 64 names.
 #[test]
 fn branches_and_parts_of_a_hundred_names(rt: HostRuntime) -> Result<(), Fail> {
     let alloc = rt.alloc();
@@ -62,6 +63,7 @@ fn put_deep_directory(alloc: Global, store: &mut MemTree) -> Result<String, Fail
     Ok(path)
 }
 
+// Seen to fail if memory is refused for a part with an end of more than 4,096 bytes.
 #[test]
 fn runs_of_a_part_with_long_ends(rt: HostRuntime) -> Result<(), Fail> {
     let alloc = rt.alloc();
@@ -93,6 +95,8 @@ fn runs_of_a_part_with_long_ends(rt: HostRuntime) -> Result<(), Fail> {
     Ok(())
 }
 
+// Seen to fail if memory is refused for a detail of more than 1,024 bytes, in writing or in reading
+// a line.
 #[test]
 fn details_of_many_bytes(rt: HostRuntime) -> Result<(), Fail> {
     let alloc = rt.alloc();
@@ -130,6 +134,7 @@ fn put_objects(alloc: Global, store: &mut MemTree, count: u64) -> Result<String,
     Ok(lines)
 }
 
+// Seen to fail if memory is refused after a cycle of more than 1,000 runs.
 #[test]
 fn command_of_eleven_hundred_runs(rt: HostRuntime) -> Result<(), Fail> {
     let alloc = rt.alloc();

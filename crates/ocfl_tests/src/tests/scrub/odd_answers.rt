@@ -1,4 +1,7 @@
 //! Stores that answer oddly, and large directories.
+//!
+//! Seen to fail if an `Absent` is taken for a file that is not there: inventory, sidecar,
+//! directory, content.
 use super::expected::{expect, expect_audit};
 use crate::tests::common::object::{
     DECLARATION, FILE, INVENTORY, LONG_SIDECAR, SHORT_SIDECAR, bare_root,

@@ -1,4 +1,6 @@
 //! The tree in memory: what it holds, what its builders refuse, and its calls that fail.
+//!
+//! Seen to fail if `MemTree::put_file` is always out of memory.
 use super::{lists, whole};
 use crate::tests::common::store::{change, place_of};
 use ocfl_memory::{BuildStop, MemTree, Point};

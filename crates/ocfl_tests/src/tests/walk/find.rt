@@ -1,4 +1,6 @@
 //! The items at single places, and what looking for them opens and lists.
+//!
+//! Seen to fail if `item_at` or `Walk::start` is always out of memory.
 use crate::tests::common::Runtime;
 use crate::tests::common::digests::lines_of;
 use crate::tests::common::object::bare_root;

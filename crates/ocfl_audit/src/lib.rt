@@ -1,5 +1,6 @@
-//! What an audit of a storage root is, what a run takes of it, what of it lies in a part, and what
-//! is proved of these: no code.
+//! What an audit of a storage root, a cut of it and a run are: zones, what is seen, the lines of
+//! each place, the audit, what openings show, cuts of two limits, runs, and parts. It has their
+//! laws and worked cases, and no code.
 #![tactic(auto)]
 
 pub mod laws;

@@ -1,5 +1,19 @@
 //! What reports say of one another: what is gone since the report before, what is found newly and
-//! what is repaired; and the reports of all parts as one.
+//! what is repaired; which objects of a list have no line; and the closed reports of all parts as
+//! one.
+//!
+//! # What is proved
+//!
+//! - `compare` writes exactly the changes between the two reports that its readers have
+//!   (`IsCompared`): objects and content files with a line there and none here, findings whose code
+//!   was not at the place, and places that are repaired. Otherwise it names the first bad line, and
+//!   of which report.
+//! - `find_expected` writes exactly which objects of a list have no line of an object in a report
+//!   (`IsSearched`), in the order of places, each once. `read_list` reads such a list from its
+//!   text, or names the first bad line.
+//! - `find_missing` names each part whose report cannot be joined, and why. `join_part` appends all
+//!   bytes of a part's report, if nothing is wrong with the part and the report has the length that
+//!   was closed. That its bytes are those that were closed is for its caller to see.
 #![tactic(auto)]
 
 mod comparing;

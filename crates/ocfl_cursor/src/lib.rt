@@ -1,4 +1,26 @@
-//! Cursors: where the next run begins, and what a run may spend and start.
+//! Cursors of the whole and of a part, which say where the next run begins, with their text and why
+//! other bytes are refused. What a run may spend and start, and the meter of that.
+//!
+//! # What is proved
+//!
+//! - Every `Cursor` keeps its rule by its type.
+//! - `encode` writes exactly the seven lines of the definition, and `cursor_lines` those that are
+//!   shown of a cursor. A text determines the cursor whose text it is.
+//! - `decode` answers a cursor only for bytes that are its text in version 2 or, for a cursor
+//!   without files, in version 1. It refuses only bytes that are not the text of any cursor, for
+//!   the first reason that applies.
+//! - `decode` asks for memory only after the front, the version and the digest line were found
+//!   right. `read_cursor` answers as `decode` of all the bytes of a reader that tells them.
+//! - A part's cursor has a text that names the part's two ends (`encode_part`). `decode_part`
+//!   answers a cursor only for bytes that are the text of a cursor for that part, and refuses
+//!   others for the first reason that applies. Neither reader takes the other's texts.
+//!   `read_part_cursor` answers as `decode_part` of all the bytes of a reader that tells them, up
+//!   to 67,108,864 bytes.
+//! - `read_shown` gives the lines that are shown of a stored cursor, of the whole or of any part.
+//!   It refuses other bytes by the kind that their first line names.
+//! - A meter starts a file only while less than the budget is spent and fewer files than their
+//!   limit are started. It adds exactly what is charged, and cannot overflow. It counts as one file
+//!   exactly what costs something.
 #![tactic(auto)]
 
 mod cursor;

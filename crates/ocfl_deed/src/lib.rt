@@ -1,4 +1,4 @@
-//! The deeds of the program, whoever asks for them.
+//! The deeds of the program, whoever asks for them: no code.
 #![tactic(auto)]
 
 mod deed;

@@ -1,4 +1,15 @@
 //! Digest algorithms, and what the digests of a file are.
+//!
+//! # What is proved
+//!
+//! - `hash_open` reads a file once to its end through a lent block of 65,536 bytes. It feeds each
+//!   piece, as it is in the block, to the hashers that are wanted. It is given no allocator.
+//! - Over a store that tells its tree the digests and the length are those of the whole file, and
+//!   the trail is that one opening. A stop says why it stopped and after how many bytes. No file
+//!   stays open, and no read asks for more than a block.
+//! - Over any store it returns after at most 2^62 bytes.
+//! - `read_bounded` gives all bytes of a file of at most `limit` bytes. It answers `Over` exactly
+//!   for longer files, of which it reads `limit + 1`.
 #![tactic(auto)]
 
 mod algorithm;

@@ -1,4 +1,4 @@
-//! What tells one storage root from another.
+//! What tells one storage root from another: its declarations, and the names in its top folder.
 #![tactic(auto)]
 
 mod declared;

@@ -1,4 +1,14 @@
-//! What declarations, sidecars and inventories say.
+//! What declarations, sidecars and inventories say, and the tables of inventories.
+//!
+//! # What is proved
+//!
+//! For all bytes and entries the answer is the one that the definitions give:
+//!
+//! - which version a directory declares, in whatever order its entries come (`declaration`);
+//! - the digest of a sidecar, exactly if its text is of the grammar (`sidecar`);
+//! - the lines about an inventory, in their order, and its table (`Table::read`);
+//! - the digests of each path (`named`) and the next path (`next_after`), both found by binary
+//!   search.
 #![tactic(auto)]
 
 mod block;

@@ -1,5 +1,15 @@
 //! What is met at one place of a storage root: its item, with the lines of an object's head, of a
 //! content place or of another entry; its listing; and what judging an item gives.
+//!
+//! # What is proved
+//!
+//! - Meeting a place gives its item, its listing if it is entered, and its table if it is an object
+//!   whose head does not stop. For it only this directory is listed, only this object's inventory
+//!   read, and no file opened but right in this directory (`visit_base`, `visit_entry`; `Meets`).
+//! - If nothing is seen at a place, it has an item only if the table has its path (`visit_path`).
+//!   `table_of_object` opens the inventory alone.
+//! - `judge` gives the lines and the cost of that item. A content file is opened once, if some
+//!   digest is named for it. If it cannot be read to its end, its line says so.
 #![tactic(auto)]
 
 mod base;

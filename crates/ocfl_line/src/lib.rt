@@ -1,4 +1,14 @@
 //! The command line of the program `ocfl-scrub`: what its words ask for.
+//!
+//! # What is proved
+//!
+//! If `asked` answers, `clap` finds no fault in the words, and the subcommand, its texts and its
+//! numbers are those that `clap` defines for them. The sizes of `--budget`, `--files` and `--slice`
+//! are read by a definition of its own: digits alone, or with a unit after them. So is the time of
+//! `--until`: two digits, a colon and two digits, 00:00 to 23:59. Which options go together is
+//! defined here too: `--parts` with `--part` and without `--under`, the two forms of `split`, at
+//! most one of `--hours`, `--until` and `--end`, and `--expected` without a part. `asked` answers a
+//! usage fault exactly if `clap` finds one of that kind, or if the words ask for nothing.
 #![tactic(auto)]
 
 mod asking;

@@ -1,5 +1,37 @@
-//! The steps of a night, which takes up what the last one left, ended or crashed, and closes the
-//! report of a cycle that has ended; and what holds of any nights.
+//! A night as one call, and its steps: looking at the root, taking up what the last night left,
+//! ended or crashed, one run and another look at the root, saying what was not said, and closing
+//! the report of a cycle that has ended. What nights keep true of a state folder whenever they
+//! crash, and what follows of any nights.
+//!
+//! # What is proved
+//!
+//! - A night is one call, `night`: it looks at the root, takes up what the last one left, ended or
+//!   crashed, says what was unsaid, makes runs, says what they wrote, and closes the report of a
+//!   cycle that has ended.
+//! - If each crash before it leaves a sound content, so does a crash at any moment of it. At no
+//!   moment does a checkpoint count more as said than before and what the output took since.
+//! - At its end all of the report is said, also what earlier nights left, unless its end is
+//!   `Refused` or `Troubled`.
+//! - A folder whose checkpoint is of another root or part stays as it was, whenever a crash comes,
+//!   and so does one of a root that declares no storage root, has another declaration, or lost more
+//!   than half of its names; with `force_root` the last two pass. A night that ends as `Refused`
+//!   has changed nothing.
+//! - The report has the lines of a run only if the files that declared the root were there, and the
+//!   same, after it (`slice`).
+//! - A checkpoint has the length, the lines and the digests of the report that it speaks of, and
+//!   its text is always read again. A report that is shorter than it says, or has another tail
+//!   after the last whole 4 MiB, is called so by the night that finds it, and is not closed as
+//!   whole. Before a report is closed as whole all of it is compared, so one with any other byte is
+//!   closed as incomplete.
+//! - A branch is left out only by a checkpoint that names it, with the place that the cursor stood
+//!   after (`leave_out`). The next run is made past it (`slice`), and a cycle that left one out is
+//!   not closed as whole.
+//! - The closed reports after a cycle that it says has ended are those up to that cycle. Before
+//!   there was one less, or as many if a crash came right after the last one was closed.
+//! - It begins at most as many runs as its clock gave times before the end.
+//! - All but the last holds of a state folder and a store that are as they tell, over a root with
+//!   no file of 2^62 bytes or more; what is said of another root or part needs no store that tells.
+//!   The last holds of a clock that tells its answers.
 #![tactic(auto)]
 
 mod checkpoint;

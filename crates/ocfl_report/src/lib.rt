@@ -1,4 +1,14 @@
-//! The lines of a report, their text, and output that says how much of it went out.
+//! The codes and lines of a report, their text, and output that says how much of it went out.
+//!
+//! # What is proved
+//!
+//! - A line and a place are appended exactly as the definitions say (`Line::put`, `put_place`). If
+//!   memory is refused, nothing is changed; that happens only if the output has too little room.
+//! - `read_place` answers a place exactly if the bytes are that place's text, and `Bad` exactly if
+//!   they are not the text of any place, unless memory runs out. `read_line` does the same for
+//!   lines.
+//! - Output that ends well sent all bytes. Output that stops sent exactly the first `gone` bytes,
+//!   fewer than all (`write_all_of`).
 #![tactic(auto)]
 
 mod code;

@@ -1,5 +1,6 @@
-//! The state folder of a fixity auditor: a checkpoint, the open cycle's report, and the reports of
-//! earlier cycles.
+//! The state folder of a fixity auditor: a checkpoint with its text, the open cycle's report, the
+//! reports of earlier cycles, and what a crash may leave of them. One is in memory, and loses what
+//! a power cut takes; one is in the file system. The digests of a report by pieces.
 #![tactic(auto)]
 
 mod checkpoint;

@@ -1,4 +1,16 @@
-//! Names and places in an OCFL storage root, and what lies there.
+//! Names and places in an OCFL storage root and their order, what a storage root holds, and what a
+//! store reports of each call.
+//!
+//! # What is proved
+//!
+//! - For a store that tells its tree, the trait `Tree` says what each call does. It says so of the
+//!   tree, the open file, the openings, the listings, which of both failed, the count of failures
+//!   and the largest read.
+//! - Any store lists each name once and at most 1,000,000 names, and never delivers more than the
+//!   buffer holds.
+//! - After any call that fails no file is open.
+//! - A text is refused exactly if it is not a name, and a path exactly if one of its elements is
+//!   not a name. Places compare by the bytes of their names, a beginning first.
 #![tactic(auto)]
 
 pub mod laws;

@@ -1,5 +1,5 @@
-"""The lists that pages have, compared with what they list: crates, libraries, trials, definitions,
-laws, edits and tests."""
+"""What pages list or name, compared with what is there: crates, libraries, trials, definitions,
+edits, tests, and the names of sources."""
 import glob
 import os
 import re
@@ -11,15 +11,16 @@ from gate.commands import fail
 from gate.repository import TESTS, TOP, crates, folder_of
 
 DEFINITION = re.compile(r"(?m)^(?:pub )?(?:abbrev|record|data|unfoldable) (?:pub )?(\w+)")
-LAW = re.compile(r"(?m)^pub(?:\(crate\))? fn (\w+)")
 TYPE = re.compile(r"(?m)^pub (?:struct|enum|trait|type) (\w+)")
 # The names in a cell of a table, without the modules before them.
 NAMED = re.compile(r"`(?:\w+::)*(\w+)`")
+# A name of several words, as functions, types and definitions have.
+CITED = re.compile(r"`(?:\w+::)*([A-Za-z]\w*(?:[a-z][A-Z]|_)\w+)`")
 
 
 def looked_at():
     """Says which lists differ from the tree, as one check."""
-    faults = [*of_crates(), *of_definitions(), *of_laws(), *of_planted()]
+    faults = [*of_crates(), *of_definitions(), *of_names(), *of_planted()]
     for fault in faults:
         fail(fault)
     return int(not faults), len(faults)
@@ -83,19 +84,14 @@ def undefined(page, crate, files, wanted):
             for name in wanted if name not in known]
 
 
-def of_laws():
-    """The table of laws."""
-    page, title = "docs/ASSURANCE.md", "Laws of the definitions"
-    modules = ["laws", "headline", "records", "parts", "handing", "scope_laws"]
-    there = [name for crate in crates() if crate != TESTS for module in modules
-             for name in laws_in(os.path.join(folder_of(crate), "src", module + ".rt"))]
-    listed = [name for row in rows(page, title) for name in NAMED.findall(row[1])
-              if name not in (*crates(), *modules)]
-    return differing("law", page, listed, there)
-
-
-def laws_in(file):
-    return LAW.findall(text_of(file)) if os.path.exists(file) else []
+def of_names():
+    """The names of functions, types and definitions that pages cite, and that no source has."""
+    files = [file for kind in ("src", "specs") for file in glob.glob(
+        os.path.join(TOP, "crates", "*", kind, "**", "*.*"), recursive=True)]
+    known = {word for file in ["crates.txt", *files] for word in re.findall(r"\w+", text_of(file))}
+    return ["%s: %s names it, and no source has it" % (name, page)
+            for page in ("README.md", "docs/ASSURANCE.md", "docs/MAP.md")
+            for name in sorted(set(CITED.findall(text_of(page))) - known)]
 
 
 def of_planted():

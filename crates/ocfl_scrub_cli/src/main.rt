@@ -1,5 +1,5 @@
-//! The program `ocfl-scrub`: its command line and files, nights over a state folder, joining, standard
-//! error with progress on a terminal, and the exit status.
+//! The program `ocfl-scrub`: its command line and files, nights over a state folder, joining,
+//! standard error with progress on a terminal, and the exit status.
 #![tactic(auto)]
 
 mod files;

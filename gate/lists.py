@@ -14,6 +14,8 @@ DEFINITION = re.compile(r"(?m)^(?:pub )?(?:abbrev|record|data|unfoldable) (?:pub
 TYPE = re.compile(r"(?m)^pub (?:struct|enum|trait|type) (\w+)")
 # The names in a cell of a table, without the modules before them.
 NAMED = re.compile(r"`(?:\w+::)*(\w+)`")
+# A crate, and files of its definitions.
+FILES = re.compile(r"`(ocfl_\w+)`: ((?:`\w+`(?:, )?)+)")
 # A name of several words, as functions, types and definitions have.
 CITED = re.compile(r"`(?:\w+::)*([A-Za-z]\w*(?:[a-z][A-Z]|_)\w+)`")
 
@@ -39,14 +41,10 @@ def of_crates():
     lines = crates().values()
     stands_on = {word for line in lines for word in line.split(":")[1].split()}
     trials = {os.path.basename(it) for it in glob.glob(os.path.join(TOP, "trials", "*.py"))}
-    named = re.findall(r"`([\w.]+)`", " ".join(row[0] for row in rows(
-        "docs/MAP.md", "Crates, lowest first")))
+    named = re.findall(r"`(\w+\.py)`", " ".join(row[1] for row in rows("docs/TRIED.md", "Trials")))
     trust = text_of("README.md").split("**Trusted**")[1].split(":")[1].split(".")[0]
     return (differing("crate", "README.md", first_names("README.md", "Crate by crate"), crates())
-            + differing("crate", "docs/MAP.md", [it for it in named if not it.endswith(".py")],
-                        crates())
-            + differing("trial", "docs/MAP.md", [it for it in named if it.endswith(".py")],
-                        trials - {"common.py"})
+            + differing("trial", "docs/TRIED.md", named, trials - {"common.py"})
             + differing("library", "README.md", NAMED.findall(trust), stands_on - set(crates())))
 
 
@@ -65,9 +63,9 @@ def of_definitions():
                    if not os.path.exists(specs_of(*crate, file))]
     there = ["%s %s" % (crate, file) for crate, files in cited for file in files.split()]
     faults += differing("definitions that `cycle` cites", page, listed, there)
-    for row in rows("docs/MAP.md", "Where each rule is defined"):
-        crate, *files = NAMED.findall(row[2])
-        faults += undefined("docs/MAP.md", crate, files, NAMED.findall(row[1]))
+    for crate, files in FILES.findall(text_of("docs/MAP.md")):
+        faults += ["%s %s: docs/MAP.md names it, and there is no such file" % (crate, file)
+                   for file in NAMED.findall(files) if not os.path.exists(specs_of(crate, file))]
     for row in rows("docs/TRIED.md", "Definitions, one by one"):
         crate, file, name = NAMED.findall(row[0])
         faults += undefined("docs/TRIED.md", crate, [file], [name])

@@ -1,5 +1,5 @@
 -- Chains of runs: what nights write of one cycle, each run from the cursor that the one before it
--- answered.
+-- answered, also around branches that are left out; and what a closed report is.
 use Rattle.std.specs.Prelude.{◌≡◌, ◌≢◌, ℕ, ◌+◌, List, [], ◌∷◌, ◌++◌, true, not, Option, Some, None, filter, flat_map}
 use Rattle.std.specs.Ordering.{is_lt}
 use Rattle.ocfl_tree.specs.Place.{Text, Place, place_cmp}

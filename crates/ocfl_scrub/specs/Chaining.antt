@@ -1,4 +1,5 @@
--- A cycle as the runs that it made, each from the cursor that the one before it answered.
+-- A cycle, of the whole or of a part, as the runs that it made, each from the cursor that the one
+-- before it answered.
 use Rattle.std.specs.Prelude.{◌≡◌, ◌≤◌, ◌⊎◌, List, [], ◌∷◌, ◌++◌, map, length}
 use Rattle.std.specs.List.{list_any}
 use Rattle.ocfl_audit.specs.Parts.{Part}

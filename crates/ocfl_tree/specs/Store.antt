@@ -1,4 +1,4 @@
--- What a store that tells its tree tells, and what a call did to that.
+-- What a store that tells its tree tells, what a call did to that, and what holds of such a store.
 use Rattle.std.specs.Prelude.{◌≡◌, ℕ, ◌+◌, List, [], ◌++◌, Bool, IsTrue, Option, None, filter, length}
 use Rattle.ocfl_tree.specs.Place.{Text, Place}
 use Rattle.ocfl_tree.specs.Ascending.{IsAmong}

@@ -1,12 +1,12 @@
 """What pages list or name, compared with what is there: crates, libraries, trials, definitions,
-edits, tests, and the names of sources."""
+edits, and the names of sources."""
 import glob
 import os
 import re
 import subprocess
 import sys
 
-from gate import collection, names
+from gate import collection
 from gate.commands import fail
 from gate.repository import TESTS, TOP, crates, folder_of
 
@@ -93,22 +93,11 @@ def of_names():
 
 
 def of_planted():
-    """The edits and the tests that the tables of planted faults name."""
-    page, tests = "docs/TRIED.md", set().union(*names.found())
-    edits = {collection.name_of(edit) for edit in collection.every_edit()}
-    tried = {collection.name_of(entry.edit) for entry in collection.listed()}
-    faults = ["%s: %s says that the gate tries it" % (name, page)
-              for row in rows(page, "Wrong readings of definitions")
-              for name in NAMED.findall(row[2]) if name not in tried]
-    faults += ["%s: %s has the edit, which is not there" % (name, page)
-               for row in rows(page, "Definitions, one by one")
-               for name in NAMED.findall(row[1]) if name not in edits]
-    for row in rows(page, "Wrong bodies that only tests refuse"):
-        for path in re.findall(r"`([\w:./]+)`", row[1]):
-            last = path.rsplit("::", 1)[-1]
-            if not (last in tests or os.path.exists(os.path.join(TOP, path))):
-                faults.append("%s: %s has the test, which is not there" % (path, page))
-    return faults
+    """The edits that the table of planted faults names."""
+    page, edits = "docs/TRIED.md", {collection.name_of(edit) for edit in collection.every_edit()}
+    return ["%s: %s has the edit, which is not there" % (name, page)
+            for row in rows(page, "Definitions, one by one")
+            for name in NAMED.findall(row[1]) if name not in edits]
 
 
 def rows(page, title):

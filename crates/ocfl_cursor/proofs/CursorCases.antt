@@ -18,16 +18,21 @@ place t = slice_split (λ b. b == 47) (codes t)
 abbrev third_cycle : Cursor
 third_cycle = record { cycle = 3; runs = 2; spent = 9; files = 3; state = behind (place "o/v1/content/c") }
 
+-- Seen to refuse: a cursor's digest leaves out the last line feed; leading zeros in a cursor; a
+-- cursor's files before what was spent; a cursor with files in version 1.
 text_of_a_cursor : cursor_text third_cycle ≡ codes
     "ocfl-scrub cursor 2\ncycle 3\nruns 2\nspent 9\nfiles 3\nafter o/v1/content/c\ndigest 894422823bd158b8102505a5075ffb65b0f4cfeb1067789d3830a518ec8f4b26\n"
 unfolding cursor_on_literals
 text_of_a_cursor = refl
 
 -- the first line has 20 bytes, and the last one 72
+-- Seen to refuse: a cursor's files before what was spent.
 cursor_as_shown : (cursor_lines third_cycle ≡ codes "cycle 3\nruns 2\nspent 9\nfiles 3\nafter o/v1/content/c\n") × (take 52 (drop 20 (cursor_text third_cycle)) ≡ cursor_lines third_cycle)
 unfolding cursor_on_literals
 cursor_as_shown = (refl, refl)
 
+-- Seen to refuse: a cursor's digest leaves out the last line feed; a cursor with files in
+-- version 1.
 text_of_a_new_cursor : cursor_text new_cursor ≡ codes "ocfl-scrub cursor 2\ncycle 1\nruns 0\nspent 0\nfiles 0\nstart\ndigest f5dddf8c1323ee2119db1954daab3d21b29adbdb93b23e9c366e50fbc8b52aa3\n"
 unfolding cursor_on_literals
 text_of_a_new_cursor = refl
@@ -132,7 +137,9 @@ record BreakTheRule : Type 0 where
   cycle_too_large : IsCursor (counted 18446744073709551616 1 0) → ⊥
   runs_too_large : IsCursor (counted 1 18446744073709551616 0) → ⊥
   spent_without_a_run : IsCursor (counted 1 0 1) → ⊥
+  -- Seen to refuse: a cursor may have spent one more than its runs can.
   more_spent_than_runs_can : IsCursor (counted 1 1 9223372036854775809) → ⊥
+  -- Seen to refuse: a cursor may have more files than it spent.
   more_files_than_spent : IsCursor (record (counted 1 1 9) { files = 10 }) → ⊥
   place_of_256_names : IsCursor (record new_cursor { state = behind (replicate 256 (1 ∷ [])) }) → ⊥
 
@@ -145,6 +152,7 @@ they_break_the_rule = search arith
 abbrev sealed : String → Text
 sealed body = codes body ++ digest_line (codes body)
 
+-- Seen to refuse: *version* before *not a cursor*.
 no_bytes_at_all : refusal [] ≡ not_cursor
 no_bytes_at_all = refl
 
@@ -162,6 +170,7 @@ abbrev cut_to : ℕ → Refusal
 cut_to n = refusal (take n whole)
 
 -- within the first line, in front of the version, and anywhere after it
+-- Seen to refuse: *version* before *not a cursor*; version 1 of a cursor is refused.
 cut_anywhere : map cut_to (upward 0 136) ≡ replicate 18 not_cursor ++ version ∷ replicate 117 damaged
 unfolding cursor_on_literals
 cut_anywhere = refl
@@ -225,10 +234,12 @@ digest_in_capitals : refusal (codes "ocfl-scrub cursor 1\ncycle 3\nruns 2\nspent
 unfolding cursor_on_literals
 digest_in_capitals = refl
 
+-- Seen to refuse: a third version of a cursor.
 version_of_the_future : refusal (codes "ocfl-scrub cursor 3\ncycle 3\nruns 2\nspent 9\nafter o/v1/content/c\n") ≡ version
 version_of_the_future = refl
 
 -- the version is looked at before the last line
+-- Seen to refuse: a third version of a cursor.
 sealed_version_of_the_future : refusal (sealed "ocfl-scrub cursor 3\ncycle 3\nruns 2\nspent 9\nafter o/v1/content/c\n") ≡ version
 unfolding cursor_on_literals
 sealed_version_of_the_future = refl
@@ -243,6 +254,7 @@ unfolding cursor_on_literals
 version_with_a_zero = refl
 
 -- bytes that are no cursor's text are then malformed
+-- Seen to refuse: version 1 of a cursor is refused.
 leading_zero : refusal (sealed "ocfl-scrub cursor 1\ncycle 03\nruns 2\nspent 9\nafter o/v1/content/c\n") ≡ malformed
 unfolding cursor_on_literals
 leading_zero = refl
@@ -272,6 +284,7 @@ unfolding cursor_on_literals
 version_one_with_files = refl
 
 -- 262,145 bytes that begin as a cursor
+-- Seen to refuse: a cursor may have 262,145 bytes.
 text_too_long : refusal (codes "ocfl-scrub cursor 1\n" ++ replicate 262125 49) ≡ not_cursor
 unfolding cursor_on_literals
 text_too_long = refl

@@ -89,9 +89,11 @@ files_and_digests_cases =
     reports_256 "two_wrong_digests" (listing (key "Y%" "[\"v1/content/f\"]" ∷ key "X y" "[\"v1/content/f\"]" ∷ [])) f_is_abc
     "ok\t.\t-\nE101\to\tv1/content/f\nE092\to/v1/content/f\tsha256 x y ba7816bf8f01cfea414140de5dae2223b00361a396177a9cb410ff61f20015ad\nE092\to/v1/content/f\tsha256 y%25 ba7816bf8f01cfea414140de5dae2223b00361a396177a9cb410ff61f20015ad\n" ∷
     -- as written, `B` stands before `a`
+    -- Seen to refuse: a table is not in order.
     reports_256 "wrong_digests_ascend_folded" (listing (key "B" "[\"v1/content/f\"]" ∷ key "a" "[\"v1/content/f\"]" ∷ [])) f_is_abc
     "ok\t.\t-\nE101\to\tv1/content/f\nE092\to/v1/content/f\tsha256 a ba7816bf8f01cfea414140de5dae2223b00361a396177a9cb410ff61f20015ad\nE092\to/v1/content/f\tsha256 b ba7816bf8f01cfea414140de5dae2223b00361a396177a9cb410ff61f20015ad\n" ∷
     -- one digest in either case of letters is one
+    -- Seen to refuse: a table keeps repeats.
     reports_256 "same_wrong_digest_twice" (listing (key "x" "[\"v1/content/f\"]" ∷ key "X" "[\"v1/content/f\"]" ∷ [])) f_is_abc
     "ok\t.\t-\nE096\to\tx\nE101\to\tv1/content/f\nE092\to/v1/content/f\tsha256 x ba7816bf8f01cfea414140de5dae2223b00361a396177a9cb410ff61f20015ad\n" ∷
     -- hashed, but no `ok`
@@ -182,6 +184,7 @@ cost_of_missing_and_right_files = ap (map (λ i. i.cost)) (audit_256 missing_and
 
 abbrev paths_without_file_cases : List Case
 paths_without_file_cases =
+    -- Seen to refuse: fixity before the manifest in missing lines.
     reports_256 "missing_and_right_files" missing_and_right_listing missing_and_right_content
     "ok\t.\t-\nok\to\t-\nE092\to/v1/content/a\tsha256 missing\nE093\to/v1/content/a\tsha1 missing\nok\to/v1/content/b\t3\n" ∷
     -- one line for a block and algorithm, however many digests

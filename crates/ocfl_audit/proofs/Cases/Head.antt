@@ -78,6 +78,7 @@ forms_of_sidecars : AllAre (
     reports "right_sidecar" (beside (right_digits ++ codes " inventory.json\n")) "ok\t.\t-\nok\to\t-\nok\to/v1/content/f\t3\n" ∷
     reports "sidecar_with_two_spaces" (beside (right_digits ++ codes "  inventory.json")) "ok\t.\t-\nok\to\t-\nok\to/v1/content/f\t3\n" ∷
     reports "sidecar_with_tabs_and_line_ends" (beside (right_digits ++ codes "\t \tinventory.json \t\r\n\n")) "ok\t.\t-\nok\to\t-\nok\to/v1/content/f\t3\n" ∷
+    -- Seen to refuse: a sidecar may have `*` before the name.
     reports "sidecar_with_star" (beside (right_digits ++ codes " *inventory.json\n")) "ok\t.\t-\nE061\to\tsha256\nok\to/v1/content/f\t3\n" ∷
     reports "sidecar_without_blank" (beside (right_digits ++ codes "inventory.json\n")) "ok\t.\t-\nE061\to\tsha256\nok\to/v1/content/f\t3\n" ∷
     reports "sidecar_with_blank_in_front" (beside (32 ∷ right_digits ++ codes " inventory.json\n")) "ok\t.\t-\nE061\to\tsha256\nok\to/v1/content/f\t3\n" ∷
@@ -97,6 +98,8 @@ unfolding audit_on_literals
 forms_of_sidecars = refl
 
 sidecars_and_inventories : AllAre (
+    -- Seen to refuse: the algorithm's own missing sidecar is reported also where no sidecar
+    -- is there.
     reports "no_sidecar" (object (listing lists_f) (folder "o/v1" ∷ folder "o/v1/content" ∷ f_is_abc)) "ok\t.\t-\nE058\to\t-\nok\to/v1/content/f\t3\n" ∷
     -- a directory of its name is none, and is not allowed
     reports "sidecar_is_a_directory" (object (listing []) (folder "o/inventory.json.sha256" ∷ [])) "ok\t.\t-\nE058\to\t-\nE001\to/inventory.json.sha256\t-\n" ∷
@@ -112,6 +115,7 @@ sidecars_and_inventories : AllAre (
     "ok\t.\t-\nE060\to\tsha256 0000000000000000000000000000000000000000000000000000000000000000 ba7816bf8f01cfea414140de5dae2223b00361a396177a9cb410ff61f20015ad\nE033\to\t-\n" ∷
     reports "both_sidecars_right" (object_beside (right_sidecar_256 (listing [])) (listing []) (bytes_at "o/inventory.json.sha512" (right_sidecar_512 (listing [])) ∷ [])) "ok\t.\t-\nok\to\t-\n" ∷
     reports "both_sidecars_without_form" (object_beside (codes "x") (listing []) (text_at "o/inventory.json.sha512" "y" ∷ [])) "ok\t.\t-\nE061\to\tsha256\nE061\to\tsha512\n" ∷
+    -- Seen to refuse: the sidecar for sha512 before that for sha256.
     reports "both_sidecars_wrong" (object_beside (replicate 64 48 ++ codes " inventory.json") (codes "abc")
     (bytes_at "o/inventory.json.sha512" (replicate 128 48 ++ codes " inventory.json") ∷ []))
     "ok\t.\t-\nE060\to\tsha256 0000000000000000000000000000000000000000000000000000000000000000 ba7816bf8f01cfea414140de5dae2223b00361a396177a9cb410ff61f20015ad\nE060\to\tsha512 00000000000000000000000000000000000000000000000000000000000000000000000000000000000000000000000000000000000000000000000000000000 ddaf35a193617abacc417349ae20413112e6fa4e89a97ea20a9eeee64b55d39a2192992a274fc1a836ba3c23a3feebbd454d4423643ce80e2a9ac94fa54ca49f\nE033\to\t-\n" ∷
@@ -122,10 +126,12 @@ sidecars_and_inventories = refl
 abbrev missing_sidecars_cases : List Case
 missing_sidecars_cases =
     -- the sidecar that is there is the other algorithm's
+    -- Seen to refuse: the algorithm's own missing sidecar is left out.
     reports_256 "sidecar_of_sha512_missing" (inventory "sha512" (codes "{}") (codes "{}")) [] "ok\t.\t-\nE058\to\tsha512\n" ∷
     reports_512 "sidecar_of_sha256_missing" (listing []) [] "ok\t.\t-\nE058\to\tsha256\n" ∷
     reports "other_sidecar_wrong_and_own_missing" (object_beside (codes "x") (inventory "sha512" (codes "{}") (codes "{}")) []) "ok\t.\t-\nE061\to\tsha256\nE058\to\tsha512\n" ∷
     -- before the lines of the keys
+    -- Seen to refuse: the algorithm's own missing sidecar is left out.
     reports_256 "missing_sidecar_before_content_directory" (codes "{\"digestAlgorithm\":\"sha512\",\"contentDirectory\":\"a/b\"}") [] "ok\t.\t-\nE058\to\tsha512\nE017\to\ta/b\n" ∷
     -- no algorithm, so none of its own is missing
     reports_512 "unknown_algorithm_has_no_sidecar" (codes "{\"digestAlgorithm\":\"SHA256\"}") [] "ok\t.\t-\nE025\to\tSHA256\n" ∷
@@ -180,6 +186,7 @@ values_in_json = quickly values_in_json_cases refl
 
 abbrev inventory_algorithms_cases : List Case
 inventory_algorithms_cases =
+    -- Seen to refuse: E036 is answered as S03.
     reports "empty_object_as_inventory"
     (object_beside (codes "44136fa355b3678a1146ad16f7e8649e94fb4fc21fe77e8310c060f61caaff8a inventory.json") (codes "{}") []) "ok\t.\t-\nE036\to\tdigestAlgorithm\n" ∷
     reports_256 "algorithm_is_a_number" (inventory_with (key "digestAlgorithm" "7" ∷ key "manifest" "{}" ∷ [])) [] "ok\t.\t-\nS03\to\tdigestAlgorithm\n" ∷
@@ -219,6 +226,7 @@ content_directories = quickly content_directories_cases refl
 
 -- ---- the manifest and the fixity block as values
 
+-- Seen to refuse: S07 is a finding.
 unsupported_fixity_is_no_finding : found (audit (sha256_object (listing_with lists_f (codes "{\"blake2b-512\":7}")) f_is_abc) []) ≡ false
 unfolding audit_on_literals
 unsupported_fixity_is_no_finding = refl
@@ -246,5 +254,6 @@ unfolding audit_on_literals
 manifests_and_fixity_blocks = quickly manifests_and_fixity_blocks_cases refl
 
 -- ascending of itself, in whatever order a reading has the keys; a supported one is left out
+-- Seen to refuse: unsupported algorithms are not in order.
 unsupported_keys_in_another_order : unsupported_in (member (codes "sha3") null (member (codes "md5") null (member (codes "blake2b-512") null no_members))) ≡ codes "blake2b-512" ∷ codes "sha3" ∷ []
 unsupported_keys_in_another_order = refl

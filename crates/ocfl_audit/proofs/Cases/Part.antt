@@ -27,6 +27,8 @@ part_from p = record { under = []; from = Some (place p); below = None }
 -- ---- three files
 
 -- the item at a separator belongs to the part that it begins
+-- Seen to refuse: the item at a separator is in neither part; the first part leaves out the
+-- storage root's item; a part without an end loses its last item.
 at_items : cut_at ("o/v1/content/a" ∷ "o/v1/content/b" ∷ []) (audit three_files []) ≡ codes "ok\t.\t-\nok\to\t-\n" ∷ codes "ok\to/v1/content/a\t3\n" ∷ codes
     "ok\to/v1/content/b\t0\nok\to/v1/content/c\t3\n" ∷ []
 at_items = rw items_of_three_files refl
@@ -35,12 +37,14 @@ costs_at_items : (costs_of (parts_of (map place ("o/v1/content/a" ∷ "o/v1/cont
     × (file_counts (parts_of (map place ("o/v1/content/a" ∷ "o/v1/content/b" ∷ []))) three_items ≡ 0 ∷ 1 ∷ 2 ∷ [])
 costs_at_items = (refl, refl)
 
+-- Seen to refuse: the first part leaves out the storage root's item.
 at_no_item : cut_at ("o/v1/content/aa" ∷ []) (audit three_files []) ≡ codes "ok\t.\t-\nok\to\t-\nok\to/v1/content/a\t3\n" ∷ codes "ok\to/v1/content/b\t0\nok\to/v1/content/c\t3\n" ∷ []
 at_no_item = rw items_of_three_files refl
 
 no_separators : cut_at [] (audit three_files []) ≡ text (audit three_files []) ∷ []
 no_separators = refl
 
+-- Seen to refuse: the item at a separator is in neither part.
 at_the_root : map (λ part. within part (audit three_files [])) (parts_of ([] ∷ [])) ≡ [] ∷ three_items ∷ []
 at_the_root = rw items_of_three_files refl
 
@@ -121,6 +125,7 @@ inside_an_object : cut_at ("o2/v1/content/f" ∷ []) (audit three_objects []) �
     "ok\to2/v1/content/f\t3\nok\to3\t-\nok\to3/v1/content/f\t3\n" ∷ []
 inside_an_object = rw items_of_three_objects refl
 
+-- Seen to refuse: a part without an end loses its last item.
 branch_of_an_object : text (within (branch (place "o2")) object_items) ≡ codes "ok\to2\t-\nok\to2/v1/content/f\t3\n"
 branch_of_an_object = refl
 
@@ -146,6 +151,7 @@ abbrev two_audits : List (Part × Unread)
 two_audits = (part_below "o/v1/content/b", first_unread) ∷ (part_from "o/v1/content/b", second_unread) ∷ []
 
 -- that `c` could not be read does not count, since it lies in the other part
+-- Seen to refuse: what one part could not read counts in all.
 unread_together : together two_audits ≡ (place "o/v1/content/a", 2) ∷ (place "o/v1/content/b", 0) ∷ []
 unread_together = refl
 

@@ -29,6 +29,7 @@ unfolding audit_on_literals
 empty_root_is_finding = refl
 
 root_declarations : AllAre (
+    -- Seen to refuse: files in the storage root are reported.
     reports "declared_root" (storage_root []) "ok\t.\t-\n" ∷
     reports "root_of_the_older_version" (text_at "0=ocfl_1.0" "ocfl_1.0\n" ∷ []) "ok\t.\t-\n" ∷
     reports "empty_root" [] "E069\t.\t-\n" ∷
@@ -46,6 +47,7 @@ root_declarations : AllAre (
     -- a name counts where a digit follows
     reports "declaration_without_digit" (text_at "0=ocfl_layout" "" ∷ text_at "0=ocfl_" "" ∷ []) "E069\t.\t-\n" ∷
     -- only files count
+    -- Seen to refuse: directories declare.
     reports "directory_and_link_declare_nothing" (folder "0=ocfl_1.0" ∷ link "0=ocfl_1.1" ∷ []) "E069\t.\t-\n" ∷
     -- files that are not understood; the storage root is no object
     reports "object_declarations_in_the_base" (storage_root (text_at "0=ocfl_object_1.0" "" ∷ text_at "0=ocfl_object_1.1" "ocfl_object_1.1\n" ∷ [])) "ok\t.\t-\n" ∷
@@ -61,6 +63,7 @@ base_and_hierarchies : AllAre (
     reports "extensions_as_file" (storage_root (text_at "extensions" "" ∷ [])) "ok\t.\t-\n" ∷
     reports "extensions_as_link" (storage_root (link "extensions" ∷ [])) "ok\t.\t-\nS04\textensions\t-\n" ∷
     -- nothing in them is looked at
+    -- Seen to refuse: `extensions` is entered.
     reports "inside_extensions" (storage_root
     (folder "extensions" ∷ text_at "extensions/f" "" ∷ link "extensions/l" ∷ folder "extensions/o" ∷ text_at "extensions/o/0=ocfl_object_1.1" "" ∷ [])) "ok\t.\t-\n" ∷
     -- nor whether they are empty
@@ -137,6 +140,7 @@ deep n = replicate n (codes "d")
 deepest_entered : (root : StorageRoot) → is_entered root (deep 127) ≡ is_dir root (deep 127) && is_listed_zone root (zone root (deep 127))
 deepest_entered root = refl
 
+-- Seen to refuse: directories at depth 128 are listed.
 too_deep_to_be_entered : (root : StorageRoot) → is_entered root (deep 128) ≡ false
 too_deep_to_be_entered root = refl
 
@@ -158,10 +162,12 @@ deepest_object root = by_directory (is_dir root (deep 127))
 deepest_empty_directory : hierarchy_notes [] (deep 127) (Some dir) ≡ plain E073 ∷ []
 deepest_empty_directory = refl
 
+-- Seen to refuse: directories at depth 128 are listed.
 directory_too_deep : (root : StorageRoot) → hierarchy_notes root (deep 128) (Some dir) ≡ plain S05 ∷ []
 directory_too_deep root = refl
 
 -- also in the audit, wherever one is seen in the hierarchy
+-- Seen to refuse: empty before too deep.
 seen_directory_too_deep : (root : StorageRoot) → zone root (deep 128) ≡ hierarchy → seen root (deep 128) ≡ Some dir → notes root None (deep 128) ≡ plain S05 ∷ []
 seen_directory_too_deep root where_it_lies is_seen = rw (where_it_lies, is_seen)
 
@@ -169,10 +175,12 @@ seen_directory_too_deep root where_it_lies is_seen = rw (where_it_lies, is_seen)
 deepest_file_and_link : (root : StorageRoot) (bytes : Text) → (hierarchy_notes root (deep 128) (Some (file bytes)) ≡ plain E072 ∷ []) × (hierarchy_notes root (deep 128) (Some other) ≡ plain S04 ∷ [])
 deepest_file_and_link root bytes = (refl, refl)
 
+-- Seen to refuse: empty before too deep.
 version_too_deep : (root : StorageRoot) → object_entry_notes root (deep 128) (codes "v1") (Some dir) ≡ plain S05 ∷ []
 version_too_deep root = refl
 
 -- what would not be listed is not too deep
+-- Seen to refuse: S05 before E001 at a stray directory.
 stray_directory_at_the_depth : (root : StorageRoot) → (object_entry_notes root (deep 128) (codes "junk") (Some dir) ≡ plain E001 ∷ [])
     × (object_entry_notes root (deep 128) (codes "logs") (Some dir) ≡ [])
 stray_directory_at_the_depth root = (refl, refl)

@@ -46,6 +46,7 @@ pub items_of_three_files : audit three_files [] ≡ three_items
 unfolding audit_on_literals
 items_of_three_files = audit_256 three_files_listing three_files_content []
 
+-- Seen to refuse: a file is started while one of the limits is not reached.
 budgets_of_five : (costs three_items (replicate 4 5) ≡ 5 ∷ 4 ∷ [])
     × (texts three_items (replicate 4 5) ≡ codes "ok\t.\t-\nok\to\t-\nok\to/v1/content/a\t3\nok\to/v1/content/b\t0\n" ∷ codes "ok\to/v1/content/c\t3\n" ∷ [])
 budgets_of_five = (refl, refl)
@@ -103,9 +104,12 @@ files_under items n limits = map total_files (runs items (replicate n limits))
 abbrev limits_of : ℕ → ℕ → Limits
 limits_of budget files = record { budget = budget; files = files }
 
+-- Seen to refuse: a file is started at the limit on files, or whatever that is; a file is
+-- started while one of the limits is not reached.
 one_file_a_run : (costs_under three_items 5 (limits_of 9 1) ≡ 4 ∷ 1 ∷ 4 ∷ []) × (files_under three_items 5 (limits_of 9 1) ≡ 1 ∷ 1 ∷ 1 ∷ [])
 one_file_a_run = (refl, refl)
 
+-- Seen to refuse: a file is started at the limit on files, or whatever that is.
 two_files_a_run : (costs_under three_items 5 (limits_of 9 2) ≡ 5 ∷ 4 ∷ []) × (files_under three_items 5 (limits_of 9 2) ≡ 2 ∷ 1 ∷ [])
 two_files_a_run = (refl, refl)
 
@@ -198,11 +202,13 @@ items_beside_an_unlisted_file : audit listed_and_unlisted [] ≡ unlisted_items
 unfolding audit_on_literals
 items_beside_an_unlisted_file = audit_256 listed_and_unlisted_listing listed_and_unlisted_content []
 
+-- Seen to refuse: free items wait for the budget.
 unlisted_file_behind_the_budget : (texts unlisted_items (4 ∷ 4 ∷ []) ≡ codes "ok\t.\t-\nok\to\t-\nok\to/v1/content/f\t3\nE023\to/v1/content/z\t-\n" ∷ [])
     × (costs unlisted_items (4 ∷ 4 ∷ []) ≡ 4 ∷ []) × (left unlisted_items (of_budget 4) ≡ [])
 unlisted_file_behind_the_budget = (refl, refl, refl)
 
 -- nor is it one of the files that a run may start
+-- Seen to refuse: free items wait for the limit on files.
 unlisted_file_behind_the_file_limit :
     (map text (runs unlisted_items (replicate 2 (limits_of 9 1))) ≡ codes "ok\t.\t-\nok\to\t-\nok\to/v1/content/f\t3\nE023\to/v1/content/z\t-\n" ∷ [])
     × (files_under unlisted_items 2 (limits_of 9 1) ≡ 1 ∷ []) × (left unlisted_items (limits_of 9 1) ≡ [])
@@ -243,6 +249,7 @@ behind_the_slash = refl
 -- ---- three objects
 
 -- a run goes on to the head of the next object
+-- Seen to refuse: free items wait for the budget.
 runs_over_three_objects : texts (audit three_objects []) (replicate 4 1) ≡ codes "ok\t.\t-\nok\to1\t-\nok\to1/v1/content/f\t3\nok\to2\t-\n" ∷ codes
     "ok\to2/v1/content/f\t3\nok\to3\t-\n" ∷ codes "ok\to3/v1/content/f\t3\n" ∷ []
 unfolding audit_on_literals

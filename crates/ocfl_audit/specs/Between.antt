@@ -19,7 +19,7 @@ shows_entries root hierarchy = true
 shows_entries root (inside o []) = true
 shows_entries root (inside o (n ∷ q)) = is_listed_in_object (table_at root o) (n ∷ q)
 
--- the storage root, and each such directory of at most 127 names above which all is entered
+-- the storage root, and each such directory at depth 127 at most above which all is entered
 abbrev pub is_looked_into : StorageRoot → Place → Bool
 is_looked_into root [] = true
 is_looked_into root (n ∷ d) =

@@ -32,7 +32,7 @@ pub data ShowsEntries (root : StorageRoot) (d : Place) : Type 0 where
   object_root : IsObjectRoot root d → ShowsEntries root d
   listed_in_object : (o q : Place) (n : Text) (t : Table) → zone root d ≡ inside o (n ∷ q) → table_at root o ≡ Some t → is_listed_within t (n ∷ q) ≡ true → ShowsEntries root d
 
--- a directory of at most 127 names that is seen, and whose entries are looked at
+-- a directory at depth 127 at most that is seen, and whose entries are looked at
 pub record IsLookedInto (root : StorageRoot) (d : Place) : Type 0 where
   pub is_seen : seen root d ≡ Some dir
   pub depth : length d ≤ max_listed_depth

@@ -298,7 +298,7 @@ pub fn ways_are_parts()
         (looked_between root None None) }
 {}
 
-/// The storage root is looked into, and so is each directory of at most 127 names that is seen and
+/// The storage root is looked into, and so is each directory at depth 127 at most that is seen and
 /// whose entries an audit looks at; no other is.
 pub fn directories_looked_into_are_exact()
     ensures { (root : StorageRoot) (d : Place) → (is_looked_into root d ≡ true)

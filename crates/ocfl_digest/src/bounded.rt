@@ -1,4 +1,4 @@
-//! Reading a whole file of at most so many bytes.
+//! Reading a whole file within a limit of bytes.
 ghost use Rattle.std.specs.Prelude.{◌≡◌, IsTrue, IfOk, MatchResult};
 ghost use Rattle.ocfl_tree.specs.StorageRoot.{StorageRoot};
 ghost use Rattle.ocfl_digest.specs.Bounded.{IsWithin, ReadsBounded, StopsReading};

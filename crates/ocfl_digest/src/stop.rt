@@ -38,7 +38,7 @@ pub struct ReadStop {
 }
 
 impl ReadStop {
-    /// A stop by a trouble of the store, after so many bytes.
+    /// A stop by a trouble of the store, after this number of bytes.
     pub(crate) fn after(bytes: u64, trouble: Trouble) -> ReadStop
         ensures { result ≡ record { bytes = bytes; cause = cause_of trouble } }
     {

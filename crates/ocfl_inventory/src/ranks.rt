@@ -19,7 +19,7 @@ fn mark(seen: &[u8; 256], other: &[u8; 256], marks: &mut [u8; 256]) {
     }
 }
 
-/// The spots where the paths of triples differ, of so many bytes after those that they share.
+/// The spots where the paths of triples differ, among the bytes after those that they share.
 fn marks(triples: &[Triple], shared: usize) -> [u8; 256] {
     let mut marks = [0; 256];
     let Some(first) = triples.first() else {

@@ -78,7 +78,7 @@ impl Triple {
         &self.path
     }
 
-    /// What follows so many bytes of the path.
+    /// What follows the first `count` bytes of the path.
     pub(crate) fn past(&self, count: usize) -> &[u8]
         ensures { result.now ≡ drop count (slashed self.now.path) }
     {
@@ -92,7 +92,7 @@ impl Triple {
     }
 }
 
-/// What follows so many bytes.
+/// What follows the first `count` bytes.
 fn past(text: &str, count: usize) -> &[u8]
     ensures { result.now ≡ drop count text.now }
 {
@@ -101,8 +101,8 @@ fn past(text: &str, count: usize) -> &[u8]
 }
 
 impl Triple {
-    /// Compares triples by their paths without so many bytes at the front, and then as named
-    /// digests go.
+    /// Compares triples by their paths without the first `count` bytes, and then as named digests
+    /// go.
     pub(crate) fn cmp_past(&self, other: &Triple, count: usize) -> Ordering
         ensures { result ≡ triple_cmp (behind count self.now) (behind count other.now) }
     {

@@ -53,7 +53,7 @@ is_dir_kind (Some kind.File) = false
 is_dir_kind (Some kind.Dir) = true
 is_dir_kind (Some kind.Other) = false
 
--- a directory of at most 127 names
+-- a directory at depth 127 at most
 abbrev pub is_listable : StorageRoot → Place → Bool
 is_listable root d = nat_le (length d) max_listed_depth && is_dir root d
 

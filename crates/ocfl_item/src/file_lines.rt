@@ -99,7 +99,7 @@ fn add_each_wrong(
     Ok(())
 }
 
-/// The lines, or, where there are none, that of a clean file of so many bytes.
+/// The lines, or, if there are none, that of a clean file of `count` bytes.
 fn or_clean_file(alloc: Global, lines: PlaceLines, count: u64) -> Result<Vec<Line>, AllocError>
     ensures { (bytes : Text) (ns : List Note) → count ≡ length bytes → HasLines lines ns
         → IfOk result (λ made. map line_of made.items

@@ -113,7 +113,7 @@ pub fn head_of(folder: &Folder, level: Level) -> Head
     head_by(declaration(&folder.entries, level))
 }
 
-/// Whether a name in a directory of so many names is that of the storage root's extensions.
+/// Whether a name in a directory at this depth is that of the storage root's extensions.
 pub(crate) fn names_extensions(depth: usize, name: &Name) -> bool
     ensures { result ≡ (nat_eq depth 0 && text_eq name.now (codes "extensions")) }
 {

@@ -44,7 +44,7 @@ fn is_declared(checkpoint: &Checkpoint, identity: &Identity) -> bool
     checkpoint.root.declared == identity.declared
 }
 
-/// Whether more than half of so many names are gone.
+/// Whether more than half of the names are gone.
 fn is_most_gone(before: u64, now: u64) -> bool
     ensures { IsTrue result ↔ (now + now < before) }
 {

@@ -19,7 +19,7 @@ fn cmp_bytes(byte: u8, other: u8) -> Ordering
     byte.cmp(&other)
 }
 
-/// Whether two texts share so many bytes at the front.
+/// Whether two texts share the first `count` bytes.
 fn shares(text: &[u8], other: &[u8], count: usize) -> bool
     ensures text { IsTrue result → count ≤ length text.now }
     ensures other { IsTrue result → count ≤ length other.now }

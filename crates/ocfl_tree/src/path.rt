@@ -128,7 +128,7 @@ pub(crate) fn behind(path: &str, names: usize) -> &str
     rest
 }
 
-/// The path of so many names at the front.
+/// The path of the first `names` names.
 pub(crate) fn front(path: &str, names: usize) -> &str
     requires { IsPlace (names_of path.now) }
     ensures { names_of result.now ≡ take names (names_of path.now) }

@@ -221,8 +221,8 @@ fn take_entry(listings: &mut Listings) -> Option<Entry>
     entry
 }
 
-/// Leaves what does not lie before a name in the listing of a directory of so many names, where
-/// that is the last listing.
+/// Drops the entries before a name from the listing of a directory at depth `names`, if that is the
+/// last listing.
 fn begin_at(listings: &mut Listings, names: usize, name: &Name)
     ensures { (p : Spot) → piles_at p listings.new.items
         ≡ cut_top names name.now (piles_at p listings.old.items) }

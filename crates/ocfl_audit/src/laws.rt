@@ -91,7 +91,7 @@ pub fn items_go_on()
         (filter (λ m. is_lt (text_cmp n m)) (names_below root d)) }
 {}
 
-/// Above each place at which something lies, a directory lies.
+/// Above each place at which there is something, there is a directory.
 #[tactic(auto, using(crate::proofs::WayLaws::is_closed))]
 pub fn directories_lie_above()
     ensures { (root : StorageRoot) (d : Place) (n : Text) (leaf : Leaf)
@@ -178,7 +178,7 @@ pub fn content_is_no_meta()
     ensures { (root : StorageRoot) (p : Place) → is_hashed root p ≡ true → is_meta root p ≡ false }
 {}
 
-/// The storage root's extensions are what lies at and below a directory `extensions` right in it.
+/// The storage root's extensions are what is at and below a directory `extensions` right in it.
 pub fn extensions_are_exact()
     ensures { (root : StorageRoot) (p : Place) → (is_in_extensions root p ≡ true) ↔ ((q : Place)
         × ((p ≡ codes "extensions" ∷ q) × (at root (codes "extensions" ∷ []) ≡ Some dir))) }
@@ -202,7 +202,7 @@ pub fn metadata_is_exact()
     ensures { (root : StorageRoot) (p : Place) → (is_meta root p ≡ true) ↔ IsMetadata root p }
 {}
 
-/// An opening of anything but metadata shows its place as content, and an unreadable file where it
+/// An opening of anything but metadata shows its place as content, and an unreadable file if it
 /// failed; one of metadata shows neither. More openings show more, in order.
 pub fn openings_show_content()
     ensures content { (root : StorageRoot) (o : Opening) → (IsMetadata root o.place → ⊥)
@@ -232,7 +232,7 @@ pub fn openings_show_inventories()
         → heads_of root (front ++ trail) ≡ heads_of root front ++ heads_of root trail }
 {}
 
-/// What a content file gave is what stands first for its place.
+/// What a content file gave is what comes first for its place.
 #[tactic(auto, using(crate::proofs::MetaLaws::given_first, crate::proofs::MetaLaws::given_behind))]
 pub fn first_reading_counts()
     ensures first { (unread : Unread) (p : Place) (n : ℕ)
@@ -250,8 +250,8 @@ pub fn named_paths_have_lines()
         → table_at root o ≡ Some t → IsAmong (paths_of t) q → notes root u p ≢ [] }
 {}
 
-/// What an audit looks into and reads on the way from one place to another adds up, and is all
-/// where both ends are open.
+/// What an audit looks into and reads on the way from one place to another adds up, and is all if
+/// both ends are open.
 #[tactic(auto, using(crate::proofs::BetweenLaws::looked_on, crate::proofs::BetweenLaws::read_on))]
 pub fn ways_add_up()
     ensures looked { (root : StorageRoot) (from to : Option Place) (b : Place) → IsBeyond from b
@@ -339,8 +339,8 @@ pub fn cut_is_the_greatest()
         → n ≡ cut_len l 0 0 items }
 {}
 
-/// A limit on files fits where it is at least their number, and whatever their number where it is
-/// 2^62 and the budget at most that.
+/// A limit on files fits if it is at least their number, and whatever their number if it is 2^62
+/// and the budget at most that.
 #[tactic(auto, using(crate::proofs::RunLaws::as_many_fit, crate::proofs::RunLaws::most_fit))]
 pub fn limits_on_files_fit()
     ensures as_many { (items : List Item) (limits : List Limits)
@@ -350,8 +350,7 @@ pub fn limits_on_files_fit()
         → FilesFit items limits }
 {}
 
-/// Each file costs something. Where the limits on files fit, cuts and runs are those of budgets
-/// alone.
+/// Each file costs something. If the limits on files fit, cuts and runs are those of budgets alone.
 #[tactic(auto, using(crate::proofs::RunLaws::files_cost, crate::proofs::RunLaws::same_cut, crate::proofs::RunLaws::same_runs, crate::proofs::RunLaws::same_budgets, crate::proofs::RunLaws::same_few_files))]
 pub fn budgets_alone()
     ensures cost { (items : List Item) → total_files items ≤ total_cost items }
@@ -365,8 +364,8 @@ pub fn budgets_alone()
         → runs items (map of_budget budgets) ≡ budget_runs items budgets }
 {}
 
-/// Where the limits on files fit, budgets that sum to the cost are enough: the runs, joined, are
-/// the whole, and no budget after these is used.
+/// If the limits on files fit, budgets that sum to the cost are enough: the runs, joined, are the
+/// whole, and no budget after these is used.
 #[tactic(auto, using(crate::proofs::RunLaws::limits_join, crate::proofs::RunLaws::limits_few))]
 pub fn runs_join()
     ensures whole { (limits : List Limits) (items : List Item) → 1 ≤ length limits
@@ -377,7 +376,7 @@ pub fn runs_join()
         → length (runs items limits) ≤ k }
 {}
 
-/// Limits that are each at least so large take all in at most one run more than the cost by the
+/// Limits that are each at least a given size take all in at most one run more than the cost by the
 /// budget and the files by their limit.
 pub fn large_limits_are_few()
     ensures whole { (b n : ℕ) (limits : List Limits) (items : List Item) → 1 ≤ b → 1 ≤ n
@@ -404,7 +403,7 @@ pub fn equal_budgets_are_few()
         → length (runs items (replicate n l)) ≡ 1 }
 {}
 
-/// One test of its place decides what lies in a part. So the items of the audit in a part are those
+/// One test of its place decides what is in a part. So the items of the audit in a part are those
 /// of its places.
 #[tactic(auto, using(crate::proofs::PartLaws::within_is, crate::proofs::PartLaws::places_within_is, crate::proofs::ApartLaws::unread_is, crate::proofs::PartLaws::within_by_places))]
 pub fn parts_are_filters()
@@ -426,7 +425,7 @@ pub fn branches_are_parts()
         → within (branch p) items ≡ items_under p items }
 {}
 
-/// Separators in strict order make one part more than they are, and each place lies in just one of
+/// Separators in strict order make one part more than they are, and each place is in just one of
 /// these parts.
 pub fn each_place_lies_in_one_part()
     ensures number { (separators : List Place)
@@ -488,7 +487,7 @@ pub fn parts_add_up()
         ≡ total_files (audit root unread) }
 {}
 
-/// What is above a place in a part is what of the items above it lies in the part.
+/// What is above a place in a part is those of the items above it that are in the part.
 #[tactic(auto, using(crate::proofs::PartLaws::part_goes_on))]
 pub fn parts_go_on()
     ensures { (part : Part) (last : Option Place) (items : List Item)
@@ -508,8 +507,8 @@ pub fn two_separators_enclose_a_branch()
     ensures no_name { (n : Text) → 255 ≤ length n → IsName (n ++ 1 ∷ []) → ⊥ }
 {}
 
-/// Limits that are each at least so large take a part in at most one run more than its own cost by
-/// the budget and its own files by their limit.
+/// Limits that are each at least a given size take a part in at most one run more than its own cost
+/// by the budget and its own files by their limit.
 pub fn parts_take_few_runs()
     ensures whole { (root : StorageRoot) (unread : Unread) (part : Part) (b n : ℕ)
         (limits : List Limits) → 1 ≤ b → 1 ≤ n → All (IsAtLeast b n) limits

@@ -17,8 +17,8 @@ pub fn a_report_is_as_itself()
     ensures { (left : List Place) (lines : List Line) → comparison_text left lines lines ≡ [] }
 {}
 
-/// An object is gone from a place exactly where the report before has a line of it there, and this
-/// one has no line there. So is a content file.
+/// An object is gone from a place exactly if the report before has a line of it there, and this one
+/// has no line there. So is a content file.
 #[tactic(auto, using(crate::proofs::ChangeLaws::object_gone_is, crate::proofs::ChangeLaws::file_gone_is))]
 pub fn what_is_gone_is_the_difference()
     ensures objects { (before now : List Line) → IsAmong (changes_at before now) object_gone
@@ -27,7 +27,7 @@ pub fn what_is_gone_is_the_difference()
         ↔ (now ≡ []) × (list_any tells_file before ≡ true) }
 {}
 
-/// Where the report before has no line, the findings of this one are new, and nothing else changed.
+/// If the report before has no line, the findings of this one are new, and nothing else changed.
 #[tactic(auto, using(crate::proofs::ChangeLaws::from_nothing))]
 pub fn nothing_is_gone_from_nothing()
     ensures { (now : List Line) → changes_at [] now ≡ map found (finding_codes now) }

@@ -102,8 +102,8 @@ pub fn what_a_meter_charged_fits_a_cursor()
         → c.runs + 1 < 2 ^ 64 → IsShortPlace s → IsCursor (after_run c m.spent m.files s) }
 {}
 
-/// Where a meter starts no further file, the budget is spent, or just as many files were started
-/// as may be.
+/// If a meter starts no further file, the budget is spent, or just as many files were started as
+/// may be.
 pub fn a_meter_stops_at_its_limits()
     ensures { (m : ModelMeter) → IsMeter m → (MayStart m → ⊥)
         → (m.limits.budget ≤ m.spent) ⊎ (m.files ≡ m.limits.files) }

@@ -5,7 +5,7 @@ ghost use Rattle.ocfl_digest.specs.Algorithm.{algorithm_name, algorithm_cmp, alg
 ghost use Rattle.ocfl_digest.specs.Algorithm.{supported};
 ghost use Rattle.ocfl_digest.specs.declared.algorithm.Algorithm.{Algorithm};
 
-/// The supported algorithms stand in the order of their names, and each is found by its name.
+/// The supported algorithms are in the order of their names, and each is found by its name.
 #[tactic(auto, using(crate::proofs::Names::named_by_name))]
 pub fn algorithms_are_named()
     ensures order { IsAscending algorithm_cmp supported }

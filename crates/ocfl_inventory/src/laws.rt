@@ -11,8 +11,8 @@ ghost use Rattle.ocfl_inventory.specs.declared.declaration.Level.{Level};
 ghost use Rattle.ocfl_inventory.specs.Note.{Note, lines_at};
 ghost use Rattle.ocfl_inventory.specs.Sidecar.{IsSidecar, sidecar_of};
 
-/// The computed digest of a sidecar is that of the grammar, and there is one exactly where the
-/// grammar holds.
+/// The computed digest of a sidecar is that of the grammar, and there is one exactly if the grammar
+/// holds.
 pub fn sidecar_meets_the_grammar()
     ensures { (b : Text) (a : Algorithm) (d : List ℕ)
         → (sidecar_of a b ≡ Some d) ↔ IsSidecar b a d }
@@ -24,7 +24,7 @@ pub fn declarations_have_no_order()
         → declared level (file_names entries) ≡ declared level (file_names others) }
 {}
 
-/// Each line of an item stands at the item's place.
+/// Each line of an item has the item's place.
 pub fn lines_stand_at_their_place()
     ensures { (p : Place) (ns : List Note) (l : Line) → IsAmong (lines_at p ns) l → l.place ≡ p }
 {}

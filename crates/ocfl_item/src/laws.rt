@@ -50,7 +50,7 @@ pub fn stops_name_the_call_that_failed()
         × (t.failed_listings ≡ s.failed_listings)))) }
 {}
 
-/// A storage root has short files exactly where each of its files has fewer than 2^62 bytes.
+/// A storage root has short files exactly if each of its files has fewer than 2^62 bytes.
 pub fn short_files_are_below_the_limit()
     ensures { (root : StorageRoot) → HasShortFiles root ↔ ((p : Place) (bytes : Text)
         → file_at root p ≡ Some bytes → length bytes < 4611686018427387904) }

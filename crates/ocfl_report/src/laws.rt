@@ -72,7 +72,7 @@ pub fn text_determines_the_lines()
 {}
 
 /// Each line is a finding but that of what is right and the note on an unsupported algorithm. Items
-/// are a finding exactly where a line of one of them is.
+/// are a finding exactly if a line of one of them is.
 #[tactic(auto, using(crate::proofs::FindingLaws::finding_codes))]
 pub fn findings_are_exact()
     ensures codes { (c : ModelCode)

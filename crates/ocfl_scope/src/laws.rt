@@ -41,7 +41,7 @@ pub fn all_numbers_give_all_parts()
         × (IsPartsText b separators × (map part_between ends ≡ parts_of separators)) }
 {}
 
-/// A part that is there is not found only where the reader failed or memory was refused.
+/// A part that is there is not found only if the reader failed or memory was refused.
 pub fn no_part_that_is_there_is_refused()
     ensures { (b : Text) (number : ℕ) (e : PartEnds) (why : ScopeStop) → IsPartOf b number e
         → PartStops (Some b) number why → (why ≡ stop.Memory)

@@ -9,10 +9,10 @@ ghost use Rattle.ocfl_scrub.specs.Cycling.{HeadlineOf, HeadlineOfPart};
 ghost use Rattle.ocfl_scrub.specs.declared.cycling.CycleEnd.{CycleEnd};
 
 /// The reports of a cycle's runs, joined, are the cuts of the audit by their limits; each run
-/// starts a file only while its cost is below its budget and its files are below its limit. Where
-/// the cycle has ended the reports are exactly the audit, each hashed file was opened once, in
-/// order, and it has ended within as many runs as the cost by the budget and the files by their
-/// limit, each rounded down, and one more. So too of a part, by what the audit has there.
+/// starts a file only while its cost is below its budget and its files are below its limit. If the
+/// cycle has ended the reports are exactly the audit, each hashed file was opened once, in order,
+/// and it has ended within as many runs as the cost by the budget and the files by their limit,
+/// each rounded down, and one more. So too of a part, by what the audit has there.
 pub fn a_cycle_keeps_the_headline()
     ensures whole { (call : Call) (limits : List Limits) (ran : CycleEnd)
         → CycleOfRuns call limits ran → IsUnfailing call

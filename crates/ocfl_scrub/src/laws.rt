@@ -109,15 +109,15 @@ pub fn statuses_say_how_a_command_ended()
     ensures no_other { (status : ℕ) (n : Note) → IsStatus status n → status ≤ 4 }
 {}
 
-/// Where the path is bad, the status is 4, the cursor is worn or its file failed, no call is made
-/// and nothing is written. Of no other text is that said.
+/// If the path is bad, the status is 4, the cursor is worn or its file failed, no call is made and
+/// nothing is written. Of no other text is that said.
 #[tactic(auto, using(crate::proofs::NoteLaws::nothing_done))]
 pub fn refusals_come_before_the_first_call()
     ensures { (status : ℕ) (n : Note) → IsStatus status n → IsSilent n ↔ ((n ≡ note.BadPath)
         ⊎ ((status ≡ 4) ⊎ ((n ≡ note.CursorWorn) ⊎ (n ≡ note.CursorFileFailed)))) }
 {}
 
-/// A run hands a cursor back with its summary and after each stop, and none where no run was made.
+/// A run hands a cursor back with its summary and after each stop, and none if no run was made.
 /// After memory ran out it hands one back or none. No other command hands one back.
 #[tactic(auto, using(crate::proofs::NoteLaws::cursor_kept, crate::proofs::NoteLaws::no_cursor_kept, crate::proofs::NoteLaws::of_a_run_alone))]
 pub fn a_run_that_was_made_hands_its_cursor_back()
@@ -263,8 +263,8 @@ pub fn a_run_goes_on_from_the_stored_cursor()
     text_determines_the_cursor();
 }
 
-/// The headline in other words. Where a cycle without failures has ended, its reports, joined, are
-/// the whole audit, and each hashed file was opened once, in order. As many runs as the cost by the
+/// The headline in other words. If a cycle without failures has ended, its reports, joined, are the
+/// whole audit, and each hashed file was opened once, in order. As many runs as the cost by the
 /// budget and the files by their limit, each rounded down, and one more, are enough, and no more
 /// are made.
 #[tactic(auto, using(crate::proofs::HeadlineLaws::whole_audit, crate::proofs::HeadlineLaws::part_of_it, crate::proofs::HeadlineLaws::each_file, crate::proofs::HeadlineLaws::few_runs, crate::proofs::HeadlineLaws::enough_runs))]

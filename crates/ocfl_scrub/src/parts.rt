@@ -150,9 +150,9 @@ pub fn a_run_of_a_part_looks_once()
         × IsAscending place_cmp (heads_of call.root trail)) }
 {}
 
-/// Each file that an audit, a run or a check opens lies right in a directory that the call listed,
-/// content files too, and also where the call stopped. Each such directory lies in the part or is
-/// on the way down to where the call began; of a check it is on the way to its place.
+/// Each file that an audit, a run or a check opens is right in a directory that the call listed,
+/// content files too, and also if the call stopped. Each such directory is in the part or on the
+/// way down to where the call began; of a check it is on the way to its place.
 pub fn openings_lie_where_it_was_listed()
     ensures audit { (call : Call) (part : Part) (last : Option Place) (finding : Bool) (end : End)
         → AuditEndsWithin call part last finding end
@@ -176,8 +176,8 @@ pub fn openings_lie_where_it_was_listed()
 
 /// Each run of a cycle lists each directory at most once and reads each inventory at most once, in
 /// order, and nothing is listed or read between two runs. So a cycle has at least as many runs as
-/// listings of the storage root. Where a call of the store failed, it was the last listing or the
-/// last opening of the last run that is counted, and no other listing of that run failed.
+/// listings of the storage root. If a call of the store failed, it was the last listing or the last
+/// opening of the last run that is counted, and no other listing of that run failed.
 pub fn each_run_of_a_cycle_looks_once()
     ensures listed { (call : Call) (part : Part) (limits : List Limits) (ran : CycleEnd)
         → CycleOfRunsWithin call part limits ran → (looks : List (List Place))

@@ -399,7 +399,7 @@ pub fn each_end_says_what_was_done()
         → CycleStops call last limits spent files finding count why }
 {}
 
-/// A run goes on above its cursor's place, or begins at the first item, and at the next cycle where
+/// A run goes on above its cursor's place, or begins at the first item, and at the next cycle if
 /// the cursor had ended. It counts itself, adds what it spent and started, and leaves the cursor
 /// after the last item that it took, or ended.
 pub fn a_run_leaves_its_cursor_after_what_it_took()
@@ -455,9 +455,9 @@ pub fn a_cycle_leaves_its_cursor_after_what_it_took()
         × ((last ≡ None → c.state ≡ start) × ((p : Place) → last ≡ Some p → c.state ≡ behind p))) }
 {}
 
-/// Where nothing failed, a run wrote the cut of the audit of files that can all be read, and
-/// counted that. It ended the cycle exactly if it left nothing. A cycle without failures made one
-/// run for each cut.
+/// If nothing failed, a run wrote the cut of the audit of files that can all be read, and counted
+/// that. It ended the cycle exactly if it left nothing. A cycle without failures made one run for
+/// each cut.
 pub fn a_run_without_failures_takes_the_audits_items()
     ensures ended { (root : StorageRoot) (s t : Store)
         (before written : List ℕ) (c : Cursor) (limits : Limits) (spent files : ℕ) (finding : Bool)
@@ -524,7 +524,7 @@ pub fn a_command_does_what_it_is_asked_for()
 {}
 
 /// An audit stops only for what a call answered. Unless the output failed, it reports what it
-/// wrote. Where it took nothing, it found nothing, and wrote nothing unless the output failed.
+/// wrote. If it took nothing, it found nothing, and wrote nothing unless the output failed.
 pub fn an_audit_reports_what_it_wrote()
     ensures unbroken { (old new : Option (List ℕ)) (ran : AuditEnd)
         → AuditsOnAnyStore (λ o. o) old new ran → ran.end ≢ end.Stopped fault.Broken }
@@ -589,7 +589,7 @@ pub fn a_cycle_is_counted_by_its_cursor()
 
 /// A check and an audit end with the status of what is said. If nothing is said, all lines went
 /// out, and the status says whether one of them is a finding. Unless the output failed, no line was
-/// cut short. Where no cursor was read, that is said, and the status is 3 or 4.
+/// cut short. If no cursor was read, that is said, and the status is 3 or 4.
 pub fn a_report_has_its_status()
     ensures status { (old new : Option (List ℕ)) (status : ℕ) (n : Note)
         → ReportsOnAnyStore (λ o. o) old new status n → IsStatus status n }
@@ -603,8 +603,8 @@ pub fn a_report_has_its_status()
         → IsStatus status n × ((3 ≤ status) × IsUnreadSaid n) }
 {}
 
-/// A command ends with the status of what is said, with the lines and the cursor that belong to
-/// it, and with no call where none is to be made.
+/// A command ends with the status of what is said, with the lines and the cursor that belong to it,
+/// and with no call if none is to be made.
 pub fn an_answer_fits_its_command()
     ensures status { (s t : Store) (old new : Option (List ℕ)) (known : Option (Option Text))
         (d : Deed) (said : Performed) → AnswersOnAnyStore (λ o. o) s t old new known d said

@@ -32,8 +32,8 @@ pub fn separators_are_directories()
         → IsAmong (separators_of root count) p → at root p ≡ Some dir }
 {}
 
-/// Below the storage root a level holds just the directories of the storage hierarchy with so many
-/// names, and the roots of objects with so many (OCFL 1.1, 4.3 Storage Hierarchies).
+/// Below the storage root a level holds just the directories of the storage hierarchy at its depth,
+/// and the roots of objects there (OCFL 1.1, 4.3 Storage Hierarchies).
 #[tactic(auto, using(crate::proofs::LevelZones::level_is))]
 pub fn levels_are_the_hierarchy()
     ensures { (root : StorageRoot) (n : ℕ) (p : Place) → IsAmong (level root (n + 1)) p
@@ -41,7 +41,7 @@ pub fn levels_are_the_hierarchy()
 {}
 
 /// Parts have about equally many directories: each has the quotient of an even division, or one
-/// more. There are as many as asked for, or one for each directory where these are fewer.
+/// more. There are as many as asked for, or one for each directory if these are fewer.
 #[tactic(auto, using(crate::proofs::Cuts::even_parts))]
 pub fn parts_are_even()
     ensures count { (root : StorageRoot) (count : ℕ) → length (separators_of root count)
@@ -63,8 +63,8 @@ pub fn directories_are_listed_once()
 {}
 
 /// A report is cut at the first places of the runs, but the first, that a budget makes of its items
-/// where there are enough of them. So the items of the parts are those of the runs. Each run but
-/// the last costs at least the budget, and passes it by less than its last file.
+/// if there are enough of them. So the items of the parts are those of the runs. Each run but the
+/// last costs at least the budget, and passes it by less than its last file.
 #[tactic(auto, using(crate::proofs::ReportedRuns::cuts_begin_runs))]
 pub fn a_report_is_cut_into_runs()
     ensures places { (lines : List Line) (l : Limits) (n : ℕ) → 1 ≤ l.budget

@@ -11,7 +11,7 @@ pub fn findings_have_weights()
     ensures { (c : ModelCode) → is_some (weight_of c) ≡ is_finding_code c }
 {}
 
-/// No finding is lost where they are ordered by weight.
+/// No finding is lost when they are ordered by weight.
 #[tactic(auto, using(crate::proofs::Weights::all_weighed))]
 pub fn all_findings_are_ordered()
     ensures { (ls : List ModelLine) → length (by_weight ls) ≡ length (findings ls) }

@@ -65,7 +65,7 @@ pub fn listing_is_complete()
 {}
 
 /// Each call of a store that tells its tree, in other words. A listing, an opening and a failure
-/// are added where the device was asked or failed, and nothing else changes. What is absent is not
+/// are added if the device was asked or failed, and nothing else changes. What is absent is not
 /// there.
 pub fn each_call_does_what_it_tells()
     ensures listed { (s t : Store) (p : Spot) (es : List Entry) → Lists s t p es

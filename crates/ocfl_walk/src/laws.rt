@@ -28,7 +28,7 @@ pub fn walks_add_up()
         → WalkFails root s u from why }
 {}
 
-/// On the way down to a place lie its beginnings, the root first, and the place. At most one
+/// On the way down to a place are its beginnings, the root first, and the place. At most one
 /// inventory is read there: that of the object that holds the place, if its head reaches it.
 pub fn the_way_down_is_exact()
     ensures above { (root : StorageRoot) (p o : Place) → IsAmong (holder root (Some p)) o
@@ -40,7 +40,7 @@ pub fn the_way_down_is_exact()
 {}
 
 /// On the way down to a place no call failed. Of files only metadata was opened, and of inventories
-/// only that of the object that holds the place, where its head reaches it. Of directories only the
+/// only that of the object that holds the place, if its head reaches it. Of directories only the
 /// beginnings of the place were listed, and the place: all that are entered, and the storage root
 /// first.
 pub fn the_way_down_opens_one_inventory()
@@ -65,7 +65,7 @@ pub fn the_way_down_opens_one_inventory()
         → GoesDown root s t p → t.failures ≡ s.failures }
 {}
 
-/// Above the place before a place lies what is not less than that: what is due there, and which
+/// Above the place before a place is what is not less than that: what is due there, and which
 /// directories are looked into and whose inventories are read from there on.
 #[tactic(auto, using(crate::proofs::BeforeLaws::due_from, crate::proofs::BeforeLaws::looked_from, crate::proofs::BeforeLaws::read_from))]
 pub fn before_a_place_lies_the_rest()

@@ -1,5 +1,5 @@
--- The audit by its places: which places have lines does not depend on what could be read; what
--- stands there does.
+-- The audit by its places: which places have lines does not depend on what could be read; what is
+-- said there does.
 use Rattle.std.specs.Prelude.{List, not, Option, Some, None, map, filter}
 use Rattle.std.specs.Ordering.{is_lt}
 use Rattle.ocfl_tree.specs.Place.{Place, place_cmp}

@@ -1,4 +1,4 @@
--- Parts of a storage root, so that many processes can share it: what lies in them, and what they
+-- Parts of a storage root, so that many processes can share it: what is in them, and what they
 -- cost.
 use Rattle.std.specs.Prelude.{ℕ, ◌&&◌, ◌||◌, List, [], ◌∷◌, ◌++◌, Bool, true, not, if◌then◌else◌, Option, Some, None, is_some, map, filter, flat_map}
 use Rattle.std.specs.Ordering.{is_lt}

@@ -1,4 +1,4 @@
--- What calls above the store did to a store that tells its tree: one record where they succeed, and
+-- What calls above the store did to a store that tells its tree: one record if they succeed, and
 -- one for a fault.
 use Rattle.std.specs.Prelude.{◌≡◌, ◌&&◌, ℕ, ◌+◌, List, [], ◌∷◌, ◌++◌, true, false, filter, length}
 use Rattle.ocfl_tree.specs.Place.{Text, Place}

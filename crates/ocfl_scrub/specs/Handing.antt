@@ -1,6 +1,6 @@
--- Calls of the program's function that run a part one after the other: each reads the bytes that the
--- one before handed back. And such calls on all parts of a storage root; also where calls stop, and
--- meet files that they cannot read.
+-- Calls of the program's function that run a part one after the other: each reads the bytes that
+-- the one before handed back. And such calls on all parts of a storage root; also if calls stop,
+-- and meet files that they cannot read.
 use Rattle.std.specs.Prelude.{◌≡◌, ℕ, List, [], ◌∷◌, ◌++◌, Bool, true, false, Option, Some, None, Vec, IsSome, flat_map, map, option_map, ⊤}
 use mathlib.Core.Logic.{inl, inr}
 use Rattle.std.specs.declared.alloc.Global.{Global}

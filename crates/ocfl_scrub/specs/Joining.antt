@@ -1,5 +1,5 @@
 -- Runs of a part made one after the other, by whatever processes, and the parts of a storage root
--- together; also where runs stop, and meet files that they cannot read.
+-- together; also if runs stop, and meet files that they cannot read.
 use Rattle.std.specs.Prelude.{◌≡◌, ◌≢◌, ℕ, List, [], ◌∷◌, ◌++◌, Bool, true, false, not, Option, Some, None, filter, flat_map, length}
 use Rattle.std.specs.Ordering.{is_lt}
 use Rattle.ocfl_tree.specs.Place.{Text, Place, place_cmp}

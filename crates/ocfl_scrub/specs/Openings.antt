@@ -1,4 +1,4 @@
--- Where the files lie that a call opens.
+-- Where the files are that a call opens.
 use Rattle.std.specs.Prelude.{◌≡◌, ◌⊎◌, List, ◌++◌, true, Option, Some}
 use Rattle.ocfl_tree.specs.Place.{Place}
 use Rattle.ocfl_tree.specs.Ascending.{IsAmong}

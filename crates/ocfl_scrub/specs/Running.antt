@@ -1,5 +1,5 @@
--- What one run does: of a part of a storage root it takes what lies above its cursor's place, as
--- far as its limits allow.
+-- What one run does: of a part of a storage root it takes what is above its cursor's place, as far
+-- as its limits allow.
 use Rattle.std.specs.Prelude.{◌≡◌, ◌≢◌, ◌↔◌, ◌<◌, ◌≤◌, ◌+◌, ◌^◌, ℕ, List, [], ◌∷◌, ◌++◌, Bool, false, Option, Some, None, length, ⊤}
 use Rattle.ocfl_tree.specs.Place.{Place}
 use Rattle.ocfl_tree.specs.StorageRoot.{StorageRoot}

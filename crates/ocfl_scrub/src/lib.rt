@@ -94,9 +94,9 @@
 //!   Each is listed once.
 //! - The inventories read are at most that of the object that holds the place where the call
 //!   begins, and those of the part from there on, each once.
-//! - Each file that is opened lies right in a directory that the call listed, content files too,
-//!   also where the call stops. So nothing of an object outside of the part is opened but of the
-//!   one that holds the place where the call begins (`openings_lie_where_it_was_listed`).
+//! - Each file that is opened is right in a directory that the call listed, content files too, also
+//!   if the call stops. So nothing of an object outside of the part is opened but of the one that
+//!   holds the place where the call begins (`openings_lie_where_it_was_listed`).
 //! - After a stop, what was listed and read is the first of these (`AuditStopsWithin`,
 //!   `RunStopsWithin`).
 //! - `cycle_part` is a chain of runs of the part (`CycleOfRunsWithin`), so what it lists and reads
@@ -114,7 +114,7 @@
 //! Two more let runs in that stopped, and files that could not be read (`AreOneCycle`):
 //!
 //! - The report of a run is the lines of the items that it took whole. If the output failed, a
-//!   beginning of the next item's lines may stand after it, and belongs to no report
+//!   beginning of the next item's lines may follow it, and belongs to no report
 //!   (`each_run_has_a_report`).
 //! - The reports of runs that each went on from the cursor of the one before, joined, are what the
 //!   audit has there up to the last cursor (`runs_that_stop_join`). Called unreadable are just the

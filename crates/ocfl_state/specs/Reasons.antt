@@ -1,4 +1,4 @@
--- What is answered where a call of the system failed, and the reason that is kept of it.
+-- What is answered if a call of the system failed, and the reason that is kept of it.
 use Rattle.std.specs.Prelude.{◌≡◌, ◌≢◌, ◌⊎◌, ◌↔◌, Option, Some, None}
 use Rattle.std.specs.IoError.{error_kind}
 use Rattle.std.specs.declared.io.ErrorKind.TheVariants.{StorageFull, QuotaExceeded, OutOfMemory}

@@ -1,4 +1,4 @@
--- What a storage root holds: places with what lies at each, the first where one stands twice.
+-- What a storage root holds: places with what is at each, the first if one is there twice.
 use Rattle.std.specs.Prelude.{ℕ, List, [], ◌∷◌, ◌++◌, Bool, true, false, if◌then◌else◌, Option, Some, None, filter_map, option_and_then}
 use Rattle.ocfl_tree.specs.Place.{Text, Place, text_cmp, place_eq, child_name}
 use Rattle.ocfl_tree.specs.Ascending.{ascending}

@@ -1,4 +1,4 @@
--- The place before a place: a walk that begins at the one stands after the other.
+-- The place before a place: a walk that begins at the one is after the other.
 use Rattle.std.specs.Prelude.{List, [], ◌∷◌, Option, Some, None, not, filter, option_map}
 use Rattle.std.specs.Ordering.{is_lt}
 use Rattle.ocfl_tree.specs.Place.{Place, place_cmp}

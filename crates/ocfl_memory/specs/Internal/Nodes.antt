@@ -1,4 +1,4 @@
--- How a tree in memory keeps what lies at its places.
+-- How a tree in memory keeps what is at its places.
 use Rattle.std.specs.Prelude.{◌≡◌, ℕ, List, [], ◌∷◌, Option, Some, None, slice_index_or, length, is_some, not, nat_le, if◌then◌else◌, ⊤}
 use Rattle.ocfl_tree.specs.Place.{Text, Place, child_name}
 use Rattle.ocfl_tree.specs.StorageRoot.{StorageRoot, Leaf, file, dir, other, lookup, is_dir_leaf, max_entries}

@@ -53,7 +53,7 @@ impl Cursor {
         }
     }
 
-    /// The cursor with these parts, or `None` where none has them: the cycle is 0, more than 2^63
+    /// The cursor with these parts, or `None` if none has them: the cycle is 0, more than 2^63
     /// is spent for each run, more files are started than is spent, or a place has more than 255
     /// names.
     pub fn from_parts(
@@ -89,7 +89,7 @@ impl Cursor {
     }
 
     /// The cursor after one more run, which has spent this much, started so many files, and ends in
-    /// this state. `None` where no cursor is so: the runs are counted out, or one of the limits of
+    /// this state. `None` if no cursor is so: the runs are counted out, or one of the limits of
     /// [`Cursor::from_parts`] is passed.
     pub fn after_run(&self, spent: u64, files: u64, state: State) -> Option<Cursor>
         ensures value { IfSome result

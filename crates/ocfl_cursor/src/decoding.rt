@@ -51,7 +51,7 @@ pub fn decode(alloc: Global, text: &[u8]) -> Result<Cursor, Refused>
     }
 }
 
-/// What follows the front of a text. `None` where it does not begin as a cursor's, or is too long.
+/// What follows the front of a text. `None` if it does not begin as a cursor's, or is too long.
 fn after_front(text: &[u8]) -> Option<&[u8]>
     ensures found { is_some result ≡ is_cursor_front text.now }
     ensures rest { IfSome result (λ rest. rest.now ≡ drop 18 text.now) }

@@ -30,7 +30,7 @@ impl Model for Budget {
 }
 
 impl Budget {
-    /// The budget of this number, or `None` where it is 0 or above 2^62.
+    /// The budget of this number, or `None` if it is 0 or above 2^62.
     pub fn new(most: u64) -> Option<Budget>
         ensures value { IfSome result (λ budget. budget ≡ most) }
         ensures range { IsSome result ↔ IsBudget most }
@@ -63,7 +63,7 @@ impl Model for FileLimit {
 }
 
 impl FileLimit {
-    /// The limit of this number, or `None` where it is 0 or above 2^62.
+    /// The limit of this number, or `None` if it is 0 or above 2^62.
     pub fn new(most: u64) -> Option<FileLimit>
         ensures value { IfSome result (λ limit. limit ≡ most) }
         ensures range { IsSome result ↔ IsFileLimit most }

@@ -31,7 +31,7 @@ pub fn stored_lines(
 }
 
 /// The part, if they name one, and the cursor whose lines these are. Other lines are `Malformed`,
-/// and where memory is refused the answer is `Memory`; it answers no other error.
+/// and if memory is refused the answer is `Memory`; it answers no other error.
 pub fn read_stored_lines(alloc: Global, lines: &[u8]) -> Result<(Option<PartEnds>, Cursor), Refused>
     ensures lines { IfOk result (λ read. AreStoredLines read.0 lines.now read.1) }
     ensures malformed { result ≡ Err Refused.Malformed

@@ -2,7 +2,7 @@
 ghost use Rattle.std.specs.Prelude.{◌≡◌, ◌≢◌, List, ℕ, [], ◌∷◌, ◌++◌, ◌==◌, count_by, IfSome};
 ghost use Rattle.std.specs.Prelude.{IsNone};
 
-/// What follows this beginning of the text. `None` where the text does not begin so.
+/// What follows this beginning of the text. `None` if the text does not begin so.
 pub(crate) fn after_prefix<'a>(prefix: &[u8], text: &'a [u8]) -> Option<&'a [u8]>
     ensures found { IfSome result (λ rest. text.now ≡ prefix.now ++ rest.now) }
     ensures missing { IsNone result → (rest : List ℕ) → text.now ≢ prefix.now ++ rest }
@@ -10,7 +10,7 @@ pub(crate) fn after_prefix<'a>(prefix: &[u8], text: &'a [u8]) -> Option<&'a [u8]
     text.strip_prefix(prefix)
 }
 
-/// What stands before the line feed that ends the text. `None` where none does.
+/// What stands before the line feed that ends the text. `None` if none does.
 pub(crate) fn before_line_feed(text: &[u8]) -> Option<&[u8]>
     ensures found { IfSome result (λ line. text.now ≡ line.now ++ 10 ∷ []) }
     ensures missing { IsNone result → (line : List ℕ) → text.now ≢ line ++ 10 ∷ [] }

@@ -22,7 +22,7 @@ pub enum Bounded {
 /// `Over` is answered exactly where the file has more. Each read asks for 4,096 bytes, or for one
 /// more than the limit leaves where that is less: no more than `limit + 1` bytes are read.
 ///
-/// `Device` where the device failed, `Absent` where no file is there, `Memory` where memory was
+/// `Device` if the device failed, `Absent` if no file is there, `Memory` if memory was
 /// refused to the store or to the vector. After every answer no file is open.
 pub fn read_bounded<T: Tree>(
     alloc: Global,

@@ -101,7 +101,7 @@ fn is_deep(text: &str) -> bool
     slashes(text.as_bytes()) >= MAX_ELEMENTS
 }
 
-/// The first element of a path and what is left after its slash, or none where there is no slash.
+/// The first element of a path and what is left after its slash, or none if there is no slash.
 fn split_first(text: &str) -> Option<(&str, &str)>
     ensures { MatchOption result (elements text.now ≡ text.now ∷ [])
         (λ r. elements text.now ≡ r.0.now ∷ elements r.1.now) }

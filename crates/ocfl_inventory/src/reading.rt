@@ -166,7 +166,7 @@ fn take_for(map: &mut Map<String, Value>, algorithm: Algorithm) -> Option<Value>
     take_member(map, algorithm.name())
 }
 
-/// The blocks of the supported algorithms, in the algorithms' order. `None` where one is not of the
+/// The blocks of the supported algorithms, in the algorithms' order. `None` if one is not of the
 /// form.
 fn supported_blocks(
     alloc: Global,

@@ -327,7 +327,7 @@ impl Table {
         clone_named(alloc, triples_at(&self.triples, place))
     }
 
-    /// The least path above the given one, or the least of all for none; `None` where there is no
+    /// The least path above the given one, or the least of all for none; `None` if there is no
     /// such path. Takes no memory.
     pub fn next_after(&self, after: Option<&Place>) -> Option<&Place>
         ensures path { option_map (λ p. p.now) result

@@ -279,7 +279,7 @@ pub(crate) fn add_inventory(
     add_read(alloc, lines, bytes, sidecars)
 }
 
-/// Appends the line of a clean head, where there is no line.
+/// Appends the line of a clean head, if there is no line.
 pub(crate) fn add_clean(lines: &mut PlaceLines) -> Result<(), AllocError>
     ensures place { OnOk result (lines.new.place ≡ lines.old.place) }
     ensures lines { (ns : List Note) → HasLines lines.old ns

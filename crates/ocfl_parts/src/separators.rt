@@ -77,7 +77,7 @@ impl Separators {
     }
 
     /// Where the part with this number, from 1, begins, and below which place it stays. The first
-    /// part has no beginning, and the last no end. `None` where there are fewer parts.
+    /// part has no beginning, and the last no end. `None` if there are fewer parts.
     pub fn ends(&self, number: usize) -> Option<(Option<&Place>, Option<&Place>)>
         ensures there { IsSome result ↔ (1 ≤ number) × (number ≤ length self.now + 1) }
         ensures start { IfSome result (λ ends.

@@ -23,7 +23,7 @@ pub fn put_parts(separators: &Separators, out: &mut Vec<u8>) -> Result<(), Alloc
     put
 }
 
-/// Appends the lines. Where memory is refused, the beginning of them stays after what was there.
+/// Appends the lines. If memory is refused, the beginning of them stays after what was there.
 fn put_lines(places: &[Place], out: &mut Vec<u8>) -> Result<(), AllocError>
     ensures ok { OnOk result (out.new.items ≡ out.old.items ++ parts_text places.now) }
     ensures begins { StartsWith out.new.items out.old.items }

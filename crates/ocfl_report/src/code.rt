@@ -173,7 +173,7 @@ const CODES: [Code; 37] = [
     Code::S08,
 ];
 
-/// The code that has this text, and `None` where no code has it.
+/// The code that has this text, and `None` if no code has it.
 pub(crate) fn read_code(text: &[u8]) -> Option<Code>
     ensures some { IfSome result (λ code. text.now ≡ code_text code) }
     ensures none { IsNone result → (code : ModelCode) → text.now ≡ code_text code → ⊥ }

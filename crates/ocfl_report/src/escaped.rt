@@ -20,7 +20,7 @@ pub(crate) const ESCAPED: AsciiSet = ascii_set!(CONTROLS.add(b'%'));
 /// Appends the text with each control, `%`, DEL and byte outside ASCII as `%` and two capital
 /// hexadecimal digits.
 ///
-/// Where memory is refused a beginning of that stands after what was there.
+/// If memory is refused a beginning of that stands after what was there.
 pub(crate) fn put_escaped(text: &[u8], out: &mut Vec<u8>) -> Result<(), AllocError>
     ensures ok { OnOk result (out.new.items ≡ out.old.items ++ escape text.now) }
     ensures begins { StartsWith out.new.items out.old.items }
@@ -48,7 +48,7 @@ pub(crate) fn is_escaped_form(bytes: &[u8], text: &[u8]) -> bool
     rest.is_empty()
 }
 
-/// The text whose escaped form the bytes are, and `None` where no text has that form.
+/// The text whose escaped form the bytes are, and `None` if no text has that form.
 pub(crate) fn read_escaped(alloc: Global, bytes: &[u8]) -> Result<Option<CowStr<'_>>, AllocError>
     ensures text { IfOk result
         (λ read. IfSome read (λ text. bytes.now ≡ escape (cow_str_bytes text))) }

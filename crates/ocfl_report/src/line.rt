@@ -44,7 +44,7 @@ impl Line {
         put
     }
 
-    // Where memory is refused a beginning of the line stands after what was there.
+    // If memory is refused a beginning of the line stands after what was there.
     fn put_fields(&self, out: &mut Vec<u8>) -> Result<(), AllocError>
         ensures ok { OnOk result (out.new.items ≡ out.old.items ++ line_text (line_of self.now)) }
         ensures begins { StartsWith out.new.items out.old.items }

@@ -49,7 +49,7 @@ pub fn put_place(place: &Place, out: &mut Vec<u8>) -> Result<(), AllocError>
     put
 }
 
-/// Appends the text of the place. Where memory is refused a beginning of it stands after what was
+/// Appends the text of the place. If memory is refused a beginning of it stands after what was
 /// there.
 #[tactic(auto, using(crate::proofs::PathTexts::root_text, crate::proofs::PathTexts::path_text))]
 pub(crate) fn put_text(place: &Place, out: &mut Vec<u8>) -> Result<(), AllocError>

@@ -46,7 +46,7 @@ pub fn find_part<R: Read>(alloc: Global, reader: &mut R, number: usize) -> Resul
     }
 }
 
-/// The ends of the part with this number, from 1. `None` where there are fewer parts.
+/// The ends of the part with this number, from 1. `None` if there are fewer parts.
 fn copy_ends(separators: &Separators, number: usize) -> Result<Option<PartEnds>, AllocError>
     ensures { IfOk result (λ found.
         option_map part_between found ≡ part_numbered separators.now number) }

@@ -64,7 +64,7 @@ fn cut(alloc: Global, level: &[Place], count: usize) -> Result<Separators, Alloc
 /// held: of a level, of the next, and of the widest above them where that is wider. Where there
 /// would be more, no deeper level is reached.
 ///
-/// `Store` where a directory could not be listed, with its place. `Memory` where memory was
+/// `Store` where a directory could not be listed, with its place. `Memory` if memory was
 /// refused.
 pub fn split<T: Tree>(alloc: Global, store: &mut T, count: usize) -> Result<Separators, Fault>
     ensures only { IfErr result (λ why. IsWayFault why) }

@@ -49,7 +49,7 @@ fn is_directory(folder: &Folder, entry: &Entry) -> bool
     }
 }
 
-/// Appends the directories among the entries. Gives false where there is no room for all of them;
+/// Appends the directories among the entries. Gives false if there is no room for all of them;
 /// then `next` has only some.
 fn add_among(next: &mut Vec<Place>, folder: &Folder, room: usize) -> Result<bool, AllocError>
     ensures added { IfOk result (λ fits. fits ≡ true → next.new.items
@@ -71,7 +71,7 @@ fn add_among(next: &mut Vec<Place>, folder: &Folder, room: usize) -> Result<bool
 }
 
 /// Lists a directory of the hierarchy and appends the directories of the hierarchy right below it,
-/// in order. Gives false where there is no room for all of them; then `next` has only some.
+/// in order. Gives false if there is no room for all of them; then `next` has only some.
 pub(crate) fn add_below<T: Tree>(
     store: &mut T,
     place: &Place,

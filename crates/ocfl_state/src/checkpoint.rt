@@ -22,7 +22,7 @@ pub struct Checkpoint {
     pub told: u64,
     /// The branches of the cycle that could not be read, in the order in which they were met.
     pub left: Vec<Left>,
-    /// The part that the nights read; `None` where they read the whole root.
+    /// The part that the nights read; `None` if they read the whole root.
     pub part: Option<PartEnds>,
     /// Where the next run begins, and what the runs of the cycle have spent.
     pub cursor: Cursor,

@@ -43,7 +43,7 @@ pub fn decode_checkpoint(alloc: Global, text: &[u8]) -> Result<Checkpoint, NotDe
     }
 }
 
-/// What follows the front of a text. `None` where it does not begin as a checkpoint's.
+/// What follows the front of a text. `None` if it does not begin as a checkpoint's.
 fn after_front(text: &[u8]) -> Option<&[u8]>
     ensures found { is_some result ≡ is_checkpoint_front text.now }
     ensures rest { IfSome result (λ rest. rest.now ≡ drop 22 text.now) }

@@ -20,7 +20,7 @@ use ocfl_report::{PlaceStop, read_decimal, read_place, split_once};
 use ocfl_tree::{Place, is_bytes};
 use std::alloc::Global;
 
-/// What follows this beginning of the text. `None` where the text does not begin so.
+/// What follows this beginning of the text. `None` if the text does not begin so.
 pub(crate) fn after_prefix<'a>(prefix: &[u8], text: &'a [u8]) -> Option<&'a [u8]>
     ensures found { IfSome result (λ rest. text.now ≡ prefix.now ++ rest.now) }
     ensures missing { IsNone result → (rest : List ℕ) → text.now ≢ prefix.now ++ rest }
@@ -28,7 +28,7 @@ pub(crate) fn after_prefix<'a>(prefix: &[u8], text: &'a [u8]) -> Option<&'a [u8]
     text.strip_prefix(prefix)
 }
 
-/// What stands in the line that begins so, and what follows the line. `None` where the text does
+/// What stands in the line that begins so, and what follows the line. `None` if the text does
 /// not begin with such a line.
 pub(crate) fn split_line<'a>(front: &[u8], text: &'a [u8]) -> Option<(&'a [u8], &'a [u8])>
     ensures found { IfSome result

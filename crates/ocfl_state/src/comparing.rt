@@ -161,7 +161,7 @@ fn digests_of_tail<S: StateFolder>(
 }
 
 /// The digests of the report as a summary has them, to be carried on. Only what follows the whole
-/// pieces is read, less than 4 MiB. `None` where the report is shorter than the summary says, or
+/// pieces is read, less than 4 MiB. `None` if the report is shorter than the summary says, or
 /// the digest of those bytes differs.
 ///
 /// A longer report is looked at up to the summary's length.

@@ -82,7 +82,7 @@ impl<R: Files<File = File> + AllocGlobal + Clone + Drop> Disk<R> {
         of_file(file, self.joined(file))
     }
 
-    /// What lies at a name, which may be a link. `None` where nothing does.
+    /// What lies at a name, which may be a link. `None` if nothing does.
     pub(crate) fn look(&self, file: StateFile) -> Result<Option<Metadata>, Reason> {
         let path = self.path_of(file)?;
         match fs::symlink_metadata(&self.rt, path.as_str()) {
@@ -126,7 +126,7 @@ impl<R: Files<File = File> + AllocGlobal + Clone + Drop> Disk<R> {
         }
     }
 
-    /// Opens a file that is there. `None` where it is not.
+    /// Opens a file that is there. `None` if it is not.
     pub(crate) fn open(
         &self,
         file: StateFile,

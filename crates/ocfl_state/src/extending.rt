@@ -19,7 +19,7 @@ fn is_as_long(long: u64, mark: &ReportMark) -> bool
 /// Appends bytes to the report, of which a checkpoint keeps a mark, and gives the mark of what it
 /// is then. Less than 4 MiB of the report are read.
 ///
-/// `Failed` where the report is not as the mark says, or another process appended to it meanwhile.
+/// `Failed` if the report is not as the mark says, or another process appended to it meanwhile.
 /// Until the next `sync` a crash leaves the bytes that were there, and any after these.
 pub fn append_marked<S: StateFolder>(
     folder: &mut S,

@@ -66,8 +66,8 @@ pub trait StateFolder {
     /// How often the disk has failed.
     ghost faults: { Self → ℕ };
 
-    /// The checkpoint's bytes, at most [`MOST_CHECKPOINT`]; `None` where there is no checkpoint.
-    /// `Failed` where what lies there is longer.
+    /// The checkpoint's bytes, at most [`MOST_CHECKPOINT`]; `None` if there is no checkpoint.
+    /// `Failed` if what lies there is longer.
     fn checkpoint(&mut self) -> Result<Option<Vec<u8>>, Trouble>
         ensures bound { IfOk result (λ found. IfSome found (λ bytes.
             length bytes.items ≤ most_checkpoint)) }
@@ -79,7 +79,7 @@ pub trait StateFolder {
             (faults self.old) (faults self.new) result };
 
     /// Puts a checkpoint in place of the one before, as a whole. After `Ok` it is on the disk.
-    /// `Failed` where it is longer than [`MOST_CHECKPOINT`]; then nothing is changed.
+    /// `Failed` if it is longer than [`MOST_CHECKPOINT`]; then nothing is changed.
     fn put_checkpoint(&mut self, bytes: &[u8]) -> Result<(), Trouble>
         ensures fits { OnOk result (length bytes.now ≤ most_checkpoint) }
         ensures put { IsTrue told → OnOk result
@@ -94,7 +94,7 @@ pub trait StateFolder {
         ensures cause { IsTrue told → HasCauseOr (IsLong bytes.now)
             (faults self.old) (faults self.new) result };
 
-    /// The length of the report, in bytes; 0 where there is no report.
+    /// The length of the report, in bytes; 0 if there is no report.
     fn length(&mut self) -> Result<u64, Trouble>
         ensures value { IsTrue told → IfOk result (λ n. n ≡ length (seen self.old).report) }
         ensures seen { IsTrue told → seen self.new ≡ seen self.old }

@@ -29,7 +29,7 @@ const NO_OFFSET: u64 = 1 << 63;
 /// link, a pipe or a folder in place of a file is opened. Files that are made have the mode 640,
 /// and folders 750, less the process's mask.
 ///
-/// `Full` is answered where the device or the quota is full, and `Memory` where memory ran out.
+/// `Full` is answered where the device or the quota is full, and `Memory` if memory ran out.
 /// Every other fault is `Failed`, also a checkpoint of more than 1 MiB. `reason` says why the last
 /// call failed that did.
 #[derive(Drop)]

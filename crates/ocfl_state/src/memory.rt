@@ -155,7 +155,7 @@ impl MemState {
         }
     }
 
-    /// Counts a call. `Failed` where it is the one that is made to fail.
+    /// Counts a call. `Failed` if it is the one that is made to fail.
     fn begin_call(&mut self) -> Result<(), Trouble>
         ensures now { self.new.now ≡ self.old.now }
         ensures past { self.new.past ≡ self.old.past }

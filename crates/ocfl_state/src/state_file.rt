@@ -70,7 +70,7 @@ pub struct Reason {
 }
 
 impl Reason {
-    /// The trouble that is answered: `Full` where the device or the quota is full, `Memory` where
+    /// The trouble that is answered: `Full` where the device or the quota is full, `Memory` if
     /// memory ran out, else `Failed`.
     pub fn trouble(&self) -> Trouble
         ensures { IsTroubleOf self.now result }

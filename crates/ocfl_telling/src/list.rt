@@ -188,7 +188,7 @@ fn begins_with(row: &[u8], word: &[u8]) -> bool
     }
 }
 
-/// What a line names, and `None` where it names nothing.
+/// What a line names, and `None` if it names nothing.
 fn read_entry(alloc: Global, row: &[u8]) -> Result<Option<Entry>, AllocError>
     ensures found { IfOk result (λ o. IfSome o (IsEntry row.now)) }
     ensures missing { IfOk result

@@ -18,7 +18,7 @@ pub enum Weight {
     Position,
 }
 
-/// How grave a line of this code is. `None` where it is no finding.
+/// How grave a line of this code is. `None` if it is no finding.
 pub fn weigh(code: Code) -> Option<Weight>
     ensures { result ≡ weight_of code }
 {

@@ -129,7 +129,7 @@ impl Place {
         })
     }
 
-    /// What leads on after the first so many names: the root where there are no more. The
+    /// What leads on after the first so many names: the root if there are no more. The
     /// only error is running out of memory.
     pub fn behind(&self, names: usize) -> Result<Place, AllocError>
         ensures { IfOk result (λ place. place ≡ drop names self.now) }
@@ -140,7 +140,7 @@ impl Place {
         })
     }
 
-    /// The place of the first so many names: the same place where there are no more. The only error
+    /// The place of the first so many names: the same place if there are no more. The only error
     /// is running out of memory.
     pub fn first(&self, names: usize) -> Result<Place, AllocError>
         ensures { IfOk result (λ place. place ≡ take names self.now) }

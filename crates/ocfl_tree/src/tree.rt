@@ -19,7 +19,7 @@ pub trait Tree {
 
     /// The entries of the directory at a place, each once, in any order, and at most 1,000,000.
     ///
-    /// `Device` where the device failed, `Absent` where no directory is there, `Memory` where
+    /// `Device` if the device failed, `Absent` if no directory is there, `Memory` if
     /// memory was refused. After any of them no file is open.
     fn list(&mut self, place: &Place) -> Result<Vec<Entry>, Trouble>
         ensures ordinary { IfOk result (λ entries. IsOrdinary entries.items) }
@@ -29,7 +29,7 @@ pub trait Tree {
 
     /// Opens the file at a place, and closes the one before.
     ///
-    /// `Device` where the device failed, `Absent` where no file is there, `Memory` where memory was
+    /// `Device` if the device failed, `Absent` if no file is there, `Memory` if memory was
     /// refused. After any of them no file is open.
     fn open(&mut self, place: &Place) -> Result<(), Trouble>
         ensures { IsTrue told → MatchResult result
@@ -39,7 +39,7 @@ pub trait Tree {
     /// Reads the next bytes of the open file into the front of the buffer, and gives how many.
     /// For a buffer that is not empty, 0 is the end of the file.
     ///
-    /// `Device` where the device failed, and `Absent` where no file is open. After any of them no
+    /// `Device` if the device failed, and `Absent` if no file is open. After any of them no
     /// file is open.
     fn read(&mut self, buffer: &mut [u8]) -> Result<usize, Trouble>
         ensures bound { IfOk result (λ count. count ≤ length buffer.new) }

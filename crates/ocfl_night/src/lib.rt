@@ -12,8 +12,8 @@
 //!   moment does a checkpoint count more as said than before and what the output took since.
 //! - At its end all of the report is said, also what earlier nights left, unless its end is
 //!   `Refused` or `Troubled`.
-//! - A folder whose checkpoint is of another root or part stays as it was, whenever a crash comes,
-//!   and so does one of a root that declares no storage root, has another declaration, or lost more
+//! - A folder whose checkpoint is of another root or part stays as it was, whenever a crash comes.
+//!   So does one of a root that declares no storage root, has another declaration, or lost more
 //!   than half of its names; with `force_root` the last two pass. A night that ends as `Refused`
 //!   has changed nothing.
 //! - The report has the lines of a run only if the files that declared the root were there, and the

@@ -209,7 +209,15 @@ def shown(entries: Iterator[Entry], words: list[str]) -> str:
     return "".join(line + "\n" for line in lines[0 if place == "" else 1:])
 
 
-def main(words: list[str], usage: str) -> None:
+def main(words: list[str], usage: str) -> int:
+    """Prints a register, or what of it has some words; gives the exit status."""
+    if words[:1] == ["--help"]:
+        print(usage)
+        return 0
     if not words or words[0] not in REGISTERS:
-        sys.exit(usage)
-    print(shown(REGISTERS[words[0]](), words[1:]), end="")
+        print(usage, file=sys.stderr)
+        return 2
+    text = shown(REGISTERS[words[0]](), words[1:])
+    print(text or "registers: nothing has these words", end="" if text else "\n",
+          file=sys.stdout if text else sys.stderr)
+    return 0 if text else 1

@@ -1,4 +1,6 @@
 """Tests the registers that are printed from sources."""
+import contextlib
+import io
 import unittest
 
 from gate import registers
@@ -103,6 +105,13 @@ class Registers(unittest.TestCase):
     def test_long_lines_are_broken(self) -> None:
         lines = registers.written(Entry("low", "name", "- " + "word " * 40 + "\n- " + "it " * 40))
         self.assertLessEqual(max(map(len, lines)), registers.WIDTH)
+
+    def test_statuses(self) -> None:
+        for words, status in [(["laws", "headline"], 0), (["--help"], 0), (["laws", "nosuchword"], 1),
+                              ([], 2), (["rules"], 2)]:
+            with contextlib.redirect_stdout(io.StringIO()), \
+                    contextlib.redirect_stderr(io.StringIO()):
+                self.assertEqual(registers.main(words, "usage"), status, words)
 
     def test_each_register_of_the_repository_has_its_words(self) -> None:
         for name, word in [("crates", "ocfl_walk"), ("calls", "perform_part"), ("laws", "headline"),

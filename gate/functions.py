@@ -2,9 +2,10 @@
 
 An edit turns the function in whose body it changes something, where it changes none beside it. So
 what refuses it is a clause of that function, or a proof that needs what it does. Where a public
-function only hands on what a private one does, an edit of that one counts for it too, if the list
+function only hands on what a private one does, an edit of that one counts for it too, if the edit
 names it after `for`, and if it leads there by private functions alone."""
 import collections
+import dataclasses
 import os
 import re
 
@@ -60,12 +61,12 @@ def needs_none(function):
 def turned_in(crate, functions, faults):
     """The public functions of a crate that edits of the gate turn."""
     found, named = set(), {function.name: function for function in functions if function.public}
-    for edit, others in collection.listed():
+    for edit in collection.listed():
         if edit.crate != crate:
             continue
         changed = changed_in(crate, edit, functions)
         found.update(changed if len(changed) == 1 else [])
-        for other in others:
+        for other in edit.callers:
             if other in named and any(leads(named[other], it, functions) for it in changed):
                 found.add(named[other])
             else:
@@ -75,16 +76,11 @@ def turned_in(crate, functions, faults):
 
 def changed_in(crate, edit, functions):
     """The functions in whose bodies an edit changes something."""
-    found, file = [], ""
-    with open(edit.file) as it:
-        lines = it.read().split("\n")
-    for line, after in zip(lines, [*lines[1:], ""]):
-        if line.startswith("file: "):
-            file = line[len("file: "):].strip()
-        if line.startswith("old: ") and file.startswith("src/"):
+    found = []
+    for file, old, new in map(dataclasses.astuple, edit.changes):
+        if file.startswith("src/"):
             with open(os.path.join(folder_of(crate), file)) as it:
                 text = it.read()
-            old, new = line[len("old: "):], after[len("new: "):]
             before = len(os.path.commonprefix([old, new]))
             # (what is only put in stands in front of what follows it)
             behind = min(len(os.path.commonprefix([old[::-1], new[::-1]])), len(old) - before)

@@ -94,7 +94,7 @@ def of_names():
 
 def of_planted():
     """The edits that the table of planted faults names."""
-    page, edits = "docs/TRIED.md", {collection.name_of(edit) for edit in collection.every_edit()}
+    page, edits = "docs/TRIED.md", {edit.name for edit in collection.every_edit()}
     return ["%s: %s has the edit, which is not there" % (name, page)
             for row in rows(page, "Definitions, one by one")
             for name in NAMED.findall(row[1]) if name not in edits]

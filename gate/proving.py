@@ -22,7 +22,7 @@ def main():
     rt = toolchain.load()
     whole = built_whole(toolchain.crates_of(rt, os.getcwd()))
     build(rt, whole)
-    fill(rt, [entry.edit for entry in collection.listed()], whole)
+    fill(rt, collection.listed(), whole)
     return rt.main(["ci"])
 
 

@@ -5,6 +5,7 @@ that function is checked and nowhere else, and edits of several functions that d
 another can be tried in one check: each must be refused at its own function. Any other edit is
 tried alone, and so is one that its round did not refuse."""
 import collections
+import dataclasses
 import os
 import re
 
@@ -31,7 +32,7 @@ def share(crate, edits):
 
 
 def fewest(turns):
-    """Rounds of edits that stand apart: packed in the order of the list, or first those that fit
+    """Rounds of edits that stand apart: packed in their order, or first those that fit
     with the fewest others, whichever makes fewer rounds."""
     others = [sum(not apart(turn, other) for other in turns) for turn in turns]
     crowded = sorted(range(len(turns)), key=lambda at: -others[at])
@@ -74,21 +75,13 @@ def holds(function, change):
 
 def changes_of(crate, edit):
     """The changes of an edit, or none where one does not fit the source as it is."""
-    found, file, old = [], "", ""
-    with open(edit.file) as it:
-        lines = it.read().split("\n")
-    for line in lines:
-        if line.startswith("file: "):
-            file = line[len("file: "):].strip()
-        elif line.startswith("old: "):
-            old = line[len("old: "):]
-        elif line.startswith("new:"):
-            new = line[len("new:"):].removeprefix(" ")
-            text = text_of(crate, file)
-            if not file.startswith("src/") or text.count(old) != 1:
-                return []
-            begin = text.index(old)
-            found.append(Change(file, begin, begin + len(old), new))
+    found = []
+    for file, old, new in map(dataclasses.astuple, edit.changes):
+        text = text_of(crate, file)
+        if not file.startswith("src/") or text.count(old) != 1:
+            return []
+        begin = text.index(old)
+        found.append(Change(file, begin, begin + len(old), new))
     found.sort(key=lambda it: (it.file, it.begin))
     after = zip(found, found[1:])
     return [] if any(a.file == b.file and b.begin < a.end for a, b in after) else found

@@ -92,15 +92,25 @@ def over(rt, crate):
         yield kept
 
 
-def alone(rt, crate, file):
+@contextlib.contextmanager
+def in_file(edit):
+    """Writes an edit into a file of its own, from which `rt` reads it."""
+    with tempfile.TemporaryDirectory() as room:
+        file = os.path.join(room, edit.name + ".edit")
+        with open(file, "w", encoding="utf-8") as it:
+            it.write(edit.text())
+        yield file
+
+
+def alone(rt, crate, edit):
     """Checks a crate with one edit. What is sooner done comes first: of an edit of definitions the
     laws alone, which say more of it, and of one of a body its function. Where these refuse nothing,
     the whole crate is checked."""
-    with over(rt, crate) as kept:
-        refused = by_laws(rt, crate, file, kept)
+    with over(rt, crate) as kept, in_file(edit) as file:
+        refused = by_laws(rt, crate, edit, kept)
         if refused:
             return True, "refused by a law: " + refused[:160]
-        refused = by_function(rt, crate, file, kept)
+        refused = by_function(rt, crate, edit, kept)
         if refused:
             return True, refused
         verdict, text = rt.must_fail(crate, file, ["--jobs", "1"], kept)
@@ -108,9 +118,9 @@ def alone(rt, crate, file):
     return verdict in (rt.REFUSED, rt.AT_LIMIT), text.split(": ", 1)[-1]
 
 
-def by_laws(rt, crate, file, kept):
+def by_laws(rt, crate, edit, kept):
     """What of the crate's laws refuses an edit of definitions, or nothing."""
-    texts, fault = rt.read_edit(file, crate.folder)
+    texts, fault = rt.edited(edit.text(), crate.folder)
     laws = functions.laws_of(crate.name)
     if fault or not laws or not all(path.startswith("specs/") for path in texts):
         return ""
@@ -120,9 +130,9 @@ def by_laws(rt, crate, file, kept):
     return refusal([line for line in lines if SAID.match(line)])
 
 
-def by_function(rt, crate, file, kept):
+def by_function(rt, crate, edit, kept):
     """What refuses an edit of one function's body there, or nothing."""
-    said = at_functions(rt, crate, turns_of(crate, [file]), ["--jobs", "1"], kept).get(file, [])
+    said = at_functions(rt, crate, turns_of(crate, [edit]), ["--jobs", "1"], kept).get(edit, [])
     why = refusal(said)
     gone = next((line for line in said if re.match(GONE, line)), "")
     if gone and not why:
@@ -130,22 +140,21 @@ def by_function(rt, crate, file, kept):
     return why and "refused: " + why[:160]
 
 
-def together(rt, crate, files, jobs="1", first=False):
+def together(rt, crate, edits, jobs="1", first=False):
     """Checks the functions that several edits turn, and then one by one the edits that were not
     refused so. The first check of a crate is of all of it, and keeps what it proves."""
     begun = contextlib.nullcontext(os.path.join(crate.folder, KEPT))
     with begun if first else over(rt, crate) as kept:
-        said = at_functions(rt, crate, turns_of(crate, files), ["--jobs", jobs], kept, first)
-    found = {file: refusal(lines) for file, lines in said.items()}
-    return [(True, "refused: " + found[file][:160]) if found.get(file) else alone(rt, crate, file)
-            for file in files]
+        said = at_functions(rt, crate, turns_of(crate, edits), ["--jobs", jobs], kept, first)
+    found = {edit: refusal(lines) for edit, lines in said.items()}
+    return [(True, "refused: " + found[edit][:160]) if found.get(edit) else alone(rt, crate, edit)
+            for edit in edits]
 
 
-def turns_of(crate, files):
+def turns_of(crate, edits):
     """What these edits make of one function each; one that does more than that is left out."""
     known = functions.functions_of(crate.name)
-    turns = [rounds.turn_of(crate.name, edit, known)
-             for edit in collection.every_edit() if edit.file in files]
+    turns = [rounds.turn_of(crate.name, edit, known) for edit in edits]
     return [turn for turn in turns if turn]
 
 
@@ -157,19 +166,19 @@ def only(paths):
 
 def at_functions(rt, crate, turns, flags, kept, whole=False):
     """What the prover says at the function of each of these edits that it does not prove, by the
-    files of the edits. The whole crate is checked where that is asked for, or where the prover does
-    not know a function by its path."""
+    edits. The whole crate is checked where that is asked for, or where the prover does not know a
+    function by its path."""
     if not turns:
         return {}
     texts = rounds.texts_of(crate.name, turns)
-    paths = {turn.edit.file: functions.path_of(turn.function) for turn in turns}
+    paths = {turn.edit: functions.path_of(turn.function) for turn in turns}
     lines = None if whole else told_by(rt, crate, texts, [*flags, *only(paths.values())], kept)
     if lines is None:
         lines = told_by(rt, crate, texts, flags, kept) or []
     told = rounds.by_function(crate.name, lines, functions.functions_of(crate.name))
     refused = {found[1] for found in map(REFUSED.match, lines) if found}
-    return {turn.edit.file: told[turn.function] for turn in turns
-            if crate.name + "::" + paths[turn.edit.file] in refused}
+    return {turn.edit: told[turn.function] for turn in turns
+            if crate.name + "::" + paths[turn.edit] in refused}
 
 
 def told_by(rt, crate, texts, flags, kept):
@@ -196,14 +205,15 @@ def refusal(told):
 
 
 def main():
-    folder, name, kind, jobs, *files = sys.argv[1:]
+    folder, name, kind, jobs, *names = sys.argv[1:]
     rt = toolchain.load()
     os.environ.pop(rt.rtlib.ALLOW_C, None)
     crate = toolchain.crates_of(rt, folder)[name]
+    edits = [collection.named(crate.name, it) for it in names]
     if kind == "seed":
-        told = together(rt, crate, files, jobs, first=True)
+        told = together(rt, crate, edits, jobs, first=True)
     elif kind == "edits":
-        told = together(rt, crate, files) if len(files) > 1 else [alone(rt, crate, files[0])]
+        told = together(rt, crate, edits) if len(edits) > 1 else [alone(rt, crate, edits[0])]
     else:
         does = {"library": library, "base": base, "proof": whole}[kind]
         told = [does(rt, crate, ["--jobs", jobs])]

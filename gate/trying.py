@@ -142,8 +142,8 @@ def step(folder, key, waits, given, jobs):
     crate, kind, edits = key
     if not all(went_well(it, given[it]) for it in waits):
         return said(key, not_tried(key, "not tried, since a step before it failed"))
-    files = [edit.file for edit in edits]
-    command = [sys.executable, "-B", "-m", "gate.step", folder, crate, kind, str(jobs), *files]
+    names = [edit.name for edit in edits]
+    command = [sys.executable, "-B", "-m", "gate.step", folder, crate, kind, str(jobs), *names]
     limit = EDIT_LIMIT * len(edits) + (0 if kind == "edits" else PROOF_LIMIT)
     how = {"cwd": TOP, "stdin": subprocess.DEVNULL, "stdout": subprocess.PIPE, "text": True}
     how["env"] = {**os.environ, "TMPDIR": folder}

@@ -261,7 +261,7 @@ def builds_anew(copy):
     for path in [copy.source, os.path.join(copy.top, "crates.txt"), stamp]:
         age(path)
     is_so("an older source", copy.called(["x"]), (7, "x\n", "", 3))
-    write(os.path.join(copy.crate, "edits/an.edit"), b"")
+    write(os.path.join(copy.crate, "edits/an.edits"), b"")
     is_so("edits are no sources", copy.called(["x"]), (7, "x\n", "", 3))
     write(copy.source, b"changed")
     is_so("a newer source", copy.called(["x"])[:2] + (copy.builds(),), (7, "x\n", 4))

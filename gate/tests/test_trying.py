@@ -15,7 +15,7 @@ from gate.repository import below, crates
 
 
 def listed(crate):
-    return [entry.edit for entry in every_listed() if entry.edit.crate == crate]
+    return [edit for edit in every_listed() if edit.crate == crate]
 
 
 class Rounds(unittest.TestCase):
@@ -231,13 +231,13 @@ class Prover(Rooms):
         super().setUp()
         self.flags, self.whole = [], []
         self.known = rounds.functions.functions_of("ocfl_digest")
-        self.files = [edit.file for edit in rounds.share("ocfl_digest", listed("ocfl_digest"))[0][0]]
-        self.turns = step.turns_of(self.crate(), self.files)
+        edits = rounds.share("ocfl_digest", listed("ocfl_digest"))[0][0]
+        self.turns = step.turns_of(self.crate(), edits)
         rtlib = types.SimpleNamespace(STALE=re.compile("stale"))
         self.rt = types.SimpleNamespace(REFUSED="refused", AT_LIMIT="limit", rtlib=rtlib,
                                         checked=self.checked, must_fail=self.must_fail,
                                         linked=lambda folder, to: None,
-                                        read_edit=lambda file, folder: ({"src/lib.rt": ""}, None),
+                                        edited=lambda text, folder: ({"src/lib.rt": ""}, None),
                                         unread=lambda line, changed: "cannot be read" in line)
 
     def checked(self, crate, texts, flags, kept):
@@ -249,7 +249,8 @@ class Prover(Rooms):
         return types.SimpleNamespace(returncode=self.status, stdout="\n".join([*lines, last, ""]))
 
     def must_fail(self, crate, file, flags, kept):
-        self.whole.append(file)
+        with open(file) as it:
+            self.whole.append(it.read())
         return "missed", "must-fail a/b: NOT REFUSED: the crate is still proved with this edit"
 
     def lines_of(self, path):
@@ -265,7 +266,7 @@ class Prover(Rooms):
         return step.functions.path_of(self.turns[at].function)
 
     def tried(self, **how):
-        return step.together(self.rt, self.crate(), [it.edit.file for it in self.turns], **how)
+        return step.together(self.rt, self.crate(), [it.edit for it in self.turns], **how)
 
     def test_round_is_of_what_it_turns(self):
         self.assertTrue(all(well for well, _ in self.tried()))
@@ -283,18 +284,17 @@ class Prover(Rooms):
             self.said, self.whole = {self.path(0): said}, []
             wells = [well for well, _ in self.tried()]
             self.assertEqual(wells, [False] + [True] * (len(self.turns) - 1), said)
-            self.assertEqual(self.whole, [self.turns[0].edit.file])
+            self.assertEqual(self.whole, [self.turns[0].edit.text()])
 
     def test_no_verdict_is_no_refusal(self):
         unread = {self.path(at): "cannot be read" for at in range(len(self.turns))}
         for status, notes in ((0, {}), (2, {}), (3, {}), (1, unread)):
             self.status, self.notes, self.whole = status, notes, []
             self.assertFalse(any(well for well, _ in self.tried()))
-            self.assertEqual(self.whole, [turn.edit.file for turn in self.turns])
+            self.assertEqual(self.whole, [turn.edit.text() for turn in self.turns])
 
     def test_gone_name_is_said(self):
         """Where a proof only lacks a name, the edit is tried alone, and that is said of it."""
-        file = self.turns[0].edit.file
         folder = rounds.folders_of(self.turns[0].function)[0]
         note = "%s/Answers.antt:1:1: error: `it` has no field `other`" % folder
         self.lines_of = lambda path: [note, "fn ocfl_digest::%s: not proved" % self.path(0)]
@@ -302,7 +302,7 @@ class Prover(Rooms):
         self.assertTrue(well)
         self.assertIn(step.NAMES_ALONE, text)
         self.assertEqual(self.flags[1], ["--jobs", "1", "--only", self.path(0)])
-        self.assertNotIn(file, self.whole)
+        self.assertNotIn(self.turns[0].edit.text(), self.whole)
 
     def test_paths_are_those_of_the_prover(self):
         function = rounds.functions.Function("<Trouble as From<AllocFailed<T>>>::from", "Trouble",

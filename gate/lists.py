@@ -1,17 +1,14 @@
-"""What pages list or name, compared with what is there: crates, libraries, trials, definitions,
-edits, and the names of sources."""
+"""What pages list or name, compared with what is there: crates, libraries, trials, definitions, and
+the names of sources."""
 import glob
 import os
 import re
 import subprocess
 import sys
 
-from gate import collection
 from gate.commands import fail
-from gate.repository import TESTS, TOP, crates, folder_of
+from gate.repository import TOP, crates, folder_of
 
-DEFINITION = re.compile(r"(?m)^(?:pub )?(?:abbrev|record|data|unfoldable) (?:pub )?(\w+)")
-TYPE = re.compile(r"(?m)^pub (?:struct|enum|trait|type) (\w+)")
 # The names in a cell of a table, without the modules before them.
 NAMED = re.compile(r"`(?:\w+::)*(\w+)`")
 # A crate, and files of its definitions.
@@ -22,7 +19,7 @@ CITED = re.compile(r"`(?:\w+::)*([A-Za-z]\w*(?:[a-z][A-Z]|_)\w+)`")
 
 def looked_at():
     """Says which lists differ from the tree, as one check."""
-    faults = [*of_crates(), *of_definitions(), *of_names(), *of_planted()]
+    faults = [*of_crates(), *of_definitions(), *of_names()]
     for fault in faults:
         fail(fault)
     return int(not faults), len(faults)
@@ -66,20 +63,7 @@ def of_definitions():
     for crate, files in FILES.findall(text_of("docs/MAP.md")):
         faults += ["%s %s: docs/MAP.md names it, and there is no such file" % (crate, file)
                    for file in NAMED.findall(files) if not os.path.exists(specs_of(crate, file))]
-    for row in rows("docs/TRIED.md", "Definitions, one by one"):
-        crate, file, name = NAMED.findall(row[0])
-        faults += undefined("docs/TRIED.md", crate, [file], [name])
     return faults
-
-
-def undefined(page, crate, files, wanted):
-    """The names that none of these files of a crate defines, and no source of it either."""
-    places = [it for it in (specs_of(crate, file) for file in files) if os.path.exists(it)]
-    sources = glob.glob(os.path.join(folder_of(crate), "src", "**", "*.rt"), recursive=True)
-    known = {name for it in places for name in DEFINITION.findall(text_of(it))}
-    known.update(name for it in sources for name in TYPE.findall(text_of(it)))
-    return ["%s %s: %s names %s, which is not defined there" % (crate, " ".join(files), page, name)
-            for name in wanted if name not in known]
 
 
 def of_names():
@@ -90,14 +74,6 @@ def of_names():
     return ["%s: %s names it, and no source has it" % (name, page)
             for page in ("README.md", "docs/ASSURANCE.md", "docs/MAP.md")
             for name in sorted(set(CITED.findall(text_of(page))) - known)]
-
-
-def of_planted():
-    """The edits that the table of planted faults names."""
-    page, edits = "docs/TRIED.md", {edit.name for edit in collection.every_edit()}
-    return ["%s: %s has the edit, which is not there" % (name, page)
-            for row in rows(page, "Definitions, one by one")
-            for name in NAMED.findall(row[1]) if name not in edits]
 
 
 def rows(page, title):

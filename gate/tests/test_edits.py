@@ -1,8 +1,9 @@
-"""Tests how files of edits are read, and what is said to be wrong with them."""
+"""Tests how files of edits are read, what is said to be wrong with them, and which definition an
+edit turns."""
 import unittest
 from unittest import mock
 
-from gate import collection, edit_files
+from gate import collection, edit_files, tried
 from gate.edit_files import Change, Edit
 
 TEXT = """# A comment.
@@ -81,6 +82,16 @@ class Collected(unittest.TestCase):
             for crate, name in (("b", "root_is_gone"), ("a", "is_gone")):
                 with self.assertRaises(SystemExit):
                     collection.named(crate, name)
+
+
+class Tried(unittest.TestCase):
+    def test_definition_is_the_first_that_changes(self):
+        """A use above all definitions is none."""
+        changes = ("use Rattle.std", ""), ("joined cuts =", ""), ("pub record IsCut", "")
+        edits = [Edit("ocfl_audit", "specs/Runs/a%d" % first, "It is.", tuple(
+            Change("specs/Runs.antt", *it) for it in changes[first:])) for first in range(3)]
+        self.assertEqual(tried.by_definition([*edits, FIRST]), {
+            ("specs/Runs.antt", "joined"): edits[:2], ("specs/Runs.antt", "IsCut"): edits[2:]})
 
 
 if __name__ == "__main__":

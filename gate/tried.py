@@ -1,0 +1,65 @@
+"""Prints which edits turn each definition, and what refused them.
+
+usage: ./test --tried [CRATE..]
+
+By some edits a definition says less or lets more through, by others it says more or lets less
+through. They were tried in the crate of the definition, some alone, others together with edits of
+other definitions, each of which a case, a clause or a function of its own refused. Those were tried
+against the modules that refused them, and not against the whole crate. What refused an edit is a
+worked case, a law, the contract of a function, or a lemma that one of these rests on. After `of a
+law` the laws alone were tried, and refused it.
+
+A lemma that refuses a weaker definition may only be where the fact is made, in its stronger form.
+Then the edit does not show that a law or a contract needs what was lost. This is said of the edits
+of which it is known.
+"""
+from __future__ import annotations
+
+import os
+import re
+import signal
+import sys
+
+from gate import collection
+from gate.edit_files import Edit
+from gate.repository import crates, folder_of
+
+DEFINITION = re.compile(r"(?m)^(?:pub )?(?:abbrev|record|data|unfoldable) (?:pub )?(\w+)")
+
+
+def tell(*chosen: str) -> None:
+    """Prints it for some crates or for all."""
+    for crate in set(chosen) - set(crates()):
+        sys.exit("test: there is no crate %s" % crate)
+    # (what reads it may stop early, as `head` does)
+    signal.signal(signal.SIGPIPE, signal.SIG_DFL)
+    print((__doc__ or "").split("CRATE..]\n\n")[1])
+    all_edits = collection.every_edit()
+    for crate in chosen or crates():
+        found = by_definition([edit for edit in all_edits if edit.crate == crate])
+        for (source, name), edits in found.items():
+            print("%s %s: %s" % (crate, os.path.splitext(source)[0][len("specs/"):], name))
+            for edit in edits:
+                print("    %s%s: %s%s" % (edit.name, " (gate)" * edit.in_gate, edit.says,
+                                          edit.refused_by and " Refused by %s." % edit.refused_by))
+
+
+def by_definition(edits: list[Edit]) -> dict[tuple[str, str], list[Edit]]:
+    """The edits of definitions, by source and the definition that each turns."""
+    found: dict[tuple[str, str], list[Edit]] = {}
+    for edit in edits:
+        if edit.source.startswith("specs/"):
+            found.setdefault((edit.source, definition_of(edit)), []).append(edit)
+    return found
+
+
+def definition_of(edit: Edit) -> str:
+    """The first definition of its source in which an edit changes something."""
+    with open(os.path.join(folder_of(edit.crate), edit.source), encoding="utf-8") as file:
+        text = file.read()
+    for change in edit.changes:
+        at = text.find(change.old) if change.file == edit.source else -1
+        names = DEFINITION.findall(text[:at + len(change.old)]) if at >= 0 else []
+        if names:
+            return names[-1]
+    return ""

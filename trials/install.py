@@ -51,15 +51,14 @@ share/ocfl-scrub/ocfl_scrub_reports/counts.py 644
 share/ocfl-scrub/ocfl_scrub_reports/database.py 644
 share/ocfl-scrub/ocfl_scrub_reports/files.py 644
 share/ocfl-scrub/ocfl_scrub_reports/finish.py 644
-share/ocfl-scrub/ocfl_scrub_reports/night_state.py 644
-share/ocfl-scrub/ocfl_scrub_reports/opening.py 644
+share/ocfl-scrub/ocfl_scrub_reports/log.py 644
 share/ocfl-scrub/ocfl_scrub_reports/page.py 644
 share/ocfl-scrub/ocfl_scrub_reports/premis.py 644
-share/ocfl-scrub/ocfl_scrub_reports/program.py 644
 share/ocfl-scrub/ocfl_scrub_reports/questions.py 644
 share/ocfl-scrub/ocfl_scrub_reports/recheck.py 644
 share/ocfl-scrub/ocfl_scrub_reports/report.py 644
 share/ocfl-scrub/ocfl_scrub_reports/seal.py 644
+share/ocfl-scrub/ocfl_scrub_reports/shared.py 644
 share/ocfl-scrub/ocfl_scrub_reports/standing.py 644
 share/ocfl-scrub/ocfl_scrub_reports/state.py 644
 share/ocfl-scrub/ocfl_scrub_reports/statement.py 644
@@ -67,7 +66,6 @@ share/ocfl-scrub/ocfl_scrub_reports/status.py 644
 share/ocfl-scrub/ocfl_scrub_reports/tell.py 644
 share/ocfl-scrub/ocfl_scrub_reports/verify.py 644
 share/ocfl-scrub/ocfl_scrub_reports/weights.py 644
-share/ocfl-scrub/ocfl_scrub_reports/xml.py 644
 share/ocfl-scrub/parallel/begin 755
 share/ocfl-scrub/parallel/dividing.py 644
 share/ocfl-scrub/parallel/end 755

@@ -100,7 +100,7 @@ def table_of_codes():
 
 # Statements
 
-TEXT = """ocfl-scrub statement 1
+TEXT = """ocfl-scrub statement 2
 
 Storage root: /srv/ocfl%09"\\%C3%BC%25|
 Declaration sums SHA-256: {declaration}
@@ -112,10 +112,12 @@ Last night: 2026-02-03T22:00:00Z
 Oldest verification: 2026-01-01T23:00:00Z
 Closed: 2026-02-03T23:00:00Z
 Nights: 2
+Nights cut: 0
 Runs: 2
 Lost lines: none
 Report: cycle-000002
 Whole: yes
+Places left out: 0
 Report lines: 13
 Broken lines: 0
 Report SHA-256: {digest}
@@ -199,12 +201,12 @@ def statement(folder):
 def as_json(text):
     """What a statement says, as its JSON form should."""
     rows = [row.split(": ", 1) for row in text.splitlines()[2:]]
-    numbers = {"Cycle", "Nights", "Runs", "Report lines", "Broken lines", "Objects",
+    numbers = {"Cycle", "Nights", "Nights cut", "Runs", "Places left out", "Report lines", "Broken lines", "Objects",
                "Objects without findings", "Content files", "Files found right",
                "Files not found right", "Bytes found right", "Findings", "Compared with cycle",
                "New findings", "Former findings", "Objects gone", "Files gone",
                "Expected objects missing", "Objects gone and not back", "Files gone and not back"}
-    made = {"form": "ocfl-scrub statement 1",
+    made = {"form": "ocfl-scrub statement 2",
             "findings_by_code": {name[9:]: int(value) for name, value in rows
                                  if name.startswith("Findings ")}}
     for name, value in rows:

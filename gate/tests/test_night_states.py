@@ -18,7 +18,7 @@ from gate.repository import TOP
 sys.path.insert(0, os.path.join(TOP, "nights"))
 
 from gate.tests.test_reports import Folder
-from ocfl_scrub_reports import command, night_state, opening, standing, status
+from ocfl_scrub_reports import command, standing, state, statement, status
 
 ZEROS = "0" * 64
 ONE = b"ok\t.\t-\nok\to\t-\nE092\to/a\tsha512 x y\nok\to/b\t3\nok\tp\t-\nok\tp/a\t1\nE072\tq\t-\n"
@@ -51,6 +51,13 @@ class Program:
         with open(os.path.join(self.path, name), "wb") as file:
             file.write(data)
 
+    @contextlib.contextmanager
+    def held(self):
+        """A night is under way."""
+        with open(self.path + "/lock", "rb+") as lock:
+            fcntl.flock(lock, fcntl.LOCK_EX)
+            yield
+
     def log(self, **row):
         self.rows.append(row)
         self.put("log", b"".join(json.dumps(it, sort_keys=True, separators=(",", ":")).encode()
@@ -79,14 +86,14 @@ class Program:
         if not self.has_slices:
             self.told(day, code)
 
-    def close(self, day, cycle, report, gone=b"", whole=True):
+    def close(self, day, cycle, report, gone=b"", whole=True, left=0):
         name = "reports/%s-%06d" % ("cycle" if whole else "incomplete", cycle)
         self.put(name, report)
         if gone:
             self.put("reports/gone-%06d" % cycle, gone)
         self.log(row="closing", time=at(night_of(day)) + 1800, night=at(night_of(day)), cycle=cycle,
                  report=os.path.join(self.path, name), whole=whole, findings=2, new=0, repaired=0,
-                 gone=gone.count(b"\n"), left=0)
+                 gone=gone.count(b"\n"), left=left)
 
 
 def nights_of(made):
@@ -199,8 +206,8 @@ class Questions(Asked):
                 file = made.path + "/reports/statement-%06d" % cycle
                 self.assertEqual(self.ask("verify", file)[0], 0)
                 self.assertEqual(stat.S_IMODE(os.stat(file).st_mode), 0o640)
-            with open(file) as statement:
-                texts.append(statement.read())
+            with open(file) as made_text:
+                texts.append(made_text.read())
         apart = "State folder|Statement before"
         self.assertEqual(*[[row for row in text.splitlines() if not re.match(apart, row)]
                            for text in texts])
@@ -247,8 +254,8 @@ class WithoutSlices(Asked):
                                  "Oldest verification: 2026-03-01T22:00:00Z"]),
                             (2, ["Runs: 1", "Nights: 1", "Compared with cycle: 1"])]:
             file = self.made.path + "/reports/statement-%06d" % cycle
-            with open(file) as statement:
-                text = statement.read()
+            with open(file) as made_text:
+                text = made_text.read()
             for row in rows:
                 self.assertIn("\n%s\n" % row, text)
             self.assertEqual(self.ask("verify", file)[0], 0)
@@ -271,14 +278,16 @@ class Log(Asked):
     def setUp(self):
         super().setUp()
         self.made = Program(self.at("state"))
-        self.state = opening.open_state(self.made.path)
+        self.opened = state.open_state(self.made.path)
 
     def kinds(self):
-        return [(it.kind, it.cycle, it.run) for it in self.state.entries() if it.kind != "stands"]
+        return [(it.kind, it.cycle, it.run) for it in self.opened.entries() if it.kind != "stands"]
 
     def test_a_night_that_was_cut(self):
         self.made.slice(1, 1, 1, 3, 9)
-        self.assertEqual(self.kinds(), [("0", 1, 1)])
+        with self.made.held():
+            self.assertEqual(self.kinds(), [("0", 1, 1)])
+        self.assertEqual(self.kinds(), [("0", 1, 1), ("cut", 1, 1)])
         self.made.night(2, 1, 2, 5, 18)
         self.assertEqual(self.kinds(), [("0", 1, 1), ("cut", 1, 1), ("0", 1, 2), ("told", 0, 0)])
         self.made.refuse(3)
@@ -288,11 +297,37 @@ class Log(Asked):
     def test_under_way(self):
         self.made.night(1, 1, 1, 3, 9, 3)
         self.made.slice(2, 1, 2, 3, 9)
-        out = self.ask("status", "--now", "2026-03-02T23:00:00Z", self.made.path)[1]
-        self.assertIn("status 3, under way;", out)
+        now = ["--now", "2026-03-02T23:00:00Z"]
+        with self.made.held():
+            self.assertIn("status 3, under way;", self.ask("status", *now, self.made.path)[1])
+        self.assertIn("a night was cut;", self.ask("status", *now, self.made.path)[1])
         self.made.slice(3, 1, 3, 3, 9)
         out = self.ask("status", "--now", "2026-03-03T23:00:00Z", self.made.path)[1]
         self.assertIn("a night was cut;", out)
+
+    def test_a_night_that_was_cut_after_a_closing(self):
+        """What the log has of it is the row of the closing."""
+        self.made.close(1, 1, ONE)
+        self.made.told(2)
+        self.assertEqual(self.kinds(), [("ended", 1, 0), ("cut", 1, 0), ("told", 0, 0)])
+        self.ask("statement", self.made.path, 1)
+        with open(self.made.path + "/reports/statement-000001") as made_text:
+            text = made_text.read()
+        for row in ["Nights: 1", "Nights cut: 1", "Runs: 0", "First night: " + night_of(1),
+                    "Oldest verification: " + night_of(1)]:
+            self.assertIn("\n%s\n" % row, text)
+        self.assertEqual(self.ask("premis", "--each", "object", self.made.path, 1)[0], 0)
+
+    def test_runs_that_no_row_tells_of(self):
+        """A night was killed before its row; the checkpoint has its runs."""
+        self.made.put("report", ONE)
+        self.assertIn("a night was cut;", self.status_after(self.made.refuse))
+        self.assertNotIn("a night was cut", self.status_after(
+            lambda day: self.made.night(day, 3, 1, 3, 9)))
+
+    def status_after(self, night):
+        night(2)
+        return self.ask("status", "--now", "2026-03-02T23:00:00Z", self.made.path)[1]
 
     def test_a_closing_that_no_row_tells_of(self):
         """A kill came after the report was closed: what is known of it is known."""
@@ -302,8 +337,8 @@ class Log(Asked):
         self.assertEqual(self.kinds(), expected)
         self.assertEqual(self.ask("statement", self.made.path, 1), (0, "", ""))
         file = self.made.path + "/reports/statement-000001"
-        with open(file) as statement:
-            self.assertIn("\nClosed: not known\n", statement.read())
+        with open(file) as made_text:
+            self.assertIn("\nClosed: not known\n", made_text.read())
         self.assertEqual(self.ask("verify", file)[0], 0)
         self.made.night(2, 2, 1, 2, 9)
         self.assertEqual(self.kinds()[1:], [("told", 0, 0), ("ended", 1, 1), ("0", 2, 1),
@@ -328,8 +363,8 @@ class Log(Asked):
         self.made.put("reports/gone-000001", GONE)
         self.assertEqual(self.ask("statement", self.made.path, 1), (0, "", ""))
         file = self.made.path + "/reports/statement-000001"
-        with open(file) as statement:
-            text = statement.read()
+        with open(file) as made_text:
+            text = made_text.read()
         for row in ["Closed: not known", "Compared with cycle: nothing", "Objects gone: 1",
                     "Files gone: 1"]:
             self.assertIn("\n%s\n" % row, text)
@@ -355,8 +390,8 @@ class Log(Asked):
         self.made.close(1, 1, ONE, whole=False)
         self.ask("statement", self.made.path, 1)
         file = self.made.path + "/reports/statement-000001"
-        with open(file) as statement:
-            text = statement.read()
+        with open(file) as made_text:
+            text = made_text.read()
         for row in ["Whole: no", "Lost lines: not known", "Objects without findings: not known",
                     "Compared with cycle: nothing", "Report: incomplete-000001"]:
             self.assertIn("\n%s\n" % row, text)
@@ -366,7 +401,7 @@ class Log(Asked):
         self.made.put("log", b'x\n[]\n{"row":"slice"\n{"row":7}\n{}\n' + b"[" * 100000
                       + b'\n{"row":"slice","time":99999999999999999999,"night":true,"cycle":-1}\n'
                       b'{"row":"night","status":"3","time":1}')
-        found = list(self.state.entries())
+        found = list(self.opened.entries())
         self.assertEqual([(it.kind, it.cycle, it.began) for it in found[:-1]],
                          [("0", 0, ""), ("told", 0, "1970-01-01T00:00:01Z")])
 
@@ -384,17 +419,89 @@ class Log(Asked):
         os.remove(self.made.path + "/reports/gone-000002")
         self.assertIn("gone=2;", self.ask("status", *NOW, self.made.path)[1])
         self.ask("statement", self.made.path, 2)
-        with open(self.made.path + "/reports/statement-000002") as statement:
-            self.assertIn("\nObjects gone: not known\n", statement.read())
+        with open(self.made.path + "/reports/statement-000002") as made_text:
+            self.assertIn("\nObjects gone: not known\n", made_text.read())
+
+
+class LeftOut(Asked):
+    """Places that nights left out of a cycle."""
+
+    def status_after(self, *places):
+        """The line for a monitor after a night that left out these places, and after the night
+        that closed the cycle."""
+        made = Program(self.at("state"), cycle=1)
+        made.slice(1, 1, 1, 3, 9)
+        self.leave(made, places)
+        made.told(1, 3)
+        first = self.ask("status", *NOW, made.path)[1]
+        made.slice(2, 1, 2, 7, 18, stands="ended")
+        made.close(2, 1, ONE, whole=False)
+        made.told(2, 3)
+        return first, self.ask("status", *NOW, made.path)[1]
+
+    @staticmethod
+    def leave(made, places):
+        for place in places:
+            made.log(row="left", time=at(night_of(1)), night=at(night_of(1)), cycle=1, place=place,
+                     stands="after o")
+
+    def test_they_are_named(self):
+        first, then = self.status_after("a|b", "c%0A")
+        self.assertIn("cycle 1 will not be whole: left out a?b, c%0A; ", first)
+        self.assertNotIn("the report of cycle", first)
+        self.assertIn("the report of cycle 1 is not whole: left out a?b, c%0A; ", then)
+
+    def test_three_are_named_at_most(self):
+        self.assertIn(": left out a, b, c, 2 more; ", self.status_after(*"abcde")[0])
+
+    def stated(self, *places, left=2):
+        made = Program(self.at("state"))
+        made.slice(1, 1, 1, 3, 9)
+        self.leave(made, places)
+        made.close(1, 1, ONE, whole=False, left=left)
+        made.told(1, 3)
+        self.assertEqual(self.ask("statement", made.path, 1), (0, "", ""))
+        file = made.path + "/reports/statement-000001"
+        self.assertEqual(self.ask("verify", file)[0], 0)
+        with open(file) as made_text, open(file + ".json") as same:
+            return made, made_text.read(), json.load(same)
+
+    def test_named(self):
+        made, text, same = self.stated("b%0A", "c/d")
+        self.assertIn("\nWhole: no\nPlaces left out: 2\nPlace left out 1: b%0A\n"
+                      "Place left out 2: c/d\nReport lines", text)
+        self.assertIn("\nLost lines: none\n", text)
+        self.assertEqual((same["places_left_out"], same["names_of_places_left_out"]),
+                         (2, ["b%0A", "c/d"]))
+        file = made.path + "/reports/statement-000001"
+        for old, new in [("left out 2: c/d", "left out 2: c"), ("left out 2:", "left out x*:"),
+                         ("Place left out 2: c/d\n", "")]:
+            with open(file, "w") as made_text:
+                made_text.write(text.replace(old, new))
+            self.assertEqual(self.ask("verify", file)[0], 1, old)
+
+    def test_counted(self):
+        """The rows that name them are lost."""
+        self.assertIn("\nPlaces left out: 2\nReport lines", self.stated()[1])
+
+    def test_of_the_open_cycle(self):
+        made = Program(self.at("state"))
+        with open(made.path + "/checkpoint") as file:
+            text = file.read().replace("left 0\n", "left 2\nleft b\nafter a\nleft d\nstart\n")
+        made.put("checkpoint", text.encode())
+        made.night(1, 3, 1, 3, 9, 3)
+        self.assertIn("; cycle 3 will not be whole: left out b, d;",
+                      self.ask("status", *NOW, made.path)[1])
+        self.assertIn("<td>b, d</td>", self.ask("page", *NOW, made.path)[1])
 
 
 class Checkpoint(Asked):
     def test_what_a_folder_is_bound_to(self):
         made = Program(self.at("state"), "/srv/a%25b%0A%C3%BC", "from a%01\nbelow end\n")
-        state = opening.open_state(made.path)
-        self.assertEqual(state.bound_to("path"), "/srv/a%b\n\u00fc")
-        self.assertEqual(state.ends(), {"from": "a%01", "below": "end"})
-        self.assertEqual(state.declaration(), {"Declaration sums SHA-256": "d" * 64})
+        folder = state.open_state(made.path)
+        self.assertEqual(folder.bound_to("root"), "/srv/a%b\n\u00fc")
+        self.assertEqual(folder.ends(), {"from": "a%01", "below": "end"})
+        self.assertEqual(folder.bound_to("declared"), "d" * 64)
 
     def test_one_that_the_program_refuses(self):
         """What a statement says of the root is what the program takes for a checkpoint."""
@@ -430,7 +537,7 @@ class OfScripts(Asked):
     def test_a_folder_of_the_program_is_none(self):
         made = nights_of(Program(self.at("state")))
         made.put("root", b"")
-        self.assertIs(type(opening.open_state(made.path)), night_state.NightState)
+        self.assertIs(type(state.open_state(made.path)), state.State)
 
 
 class Losses(Asked):
@@ -439,8 +546,8 @@ class Losses(Asked):
         known = self.put(b"object\tp\n", "known")
         self.assertEqual(self.ask("statement", "--known", known, made.path, 2), (0, "", ""))
         file = made.path + "/reports/statement-000002"
-        with open(file) as statement:
-            text = statement.read()
+        with open(file) as made_text:
+            text = made_text.read()
         self.assertIn("\nObjects gone and not back: 0\nFiles gone and not back: 1\nKnown losses: 1"
                       "\nList of known losses, SHA-256: %s\n" % hashlib.sha256(
                           b"object\tp\n").hexdigest(), text)
@@ -458,10 +565,10 @@ class Losses(Asked):
                                     (4, b"a", b"b")]:
             made.close(cycle, cycle, b"".join(b"ok\t%c\t-\n" % it for it in places),
                        b"".join(b"object\t%c\n" % it for it in gone))
-        state = opening.open_state(made.path)
+        folder = state.open_state(made.path)
         for held in (1, 2, 9):
             with mock.patch.object(standing, "HELD", held):
-                found = [sorted(standing.losses(state, upto)) for upto in (1, 2, 3, 4, None)]
+                found = [sorted(standing.losses(folder, upto)) for upto in (1, 2, 3, 4, None)]
             self.assertEqual(found, [[], [b"object\ta", b"object\tb", b"object\tc"],
                                      [b"object\tc"], [b"object\tb", b"object\tc"],
                                      [b"object\tb", b"object\tc"]])
@@ -535,8 +642,8 @@ class Joined(Asked):
 
     def test_status(self):
         self.nights(1, 1, 3)
-        state = opening.open_state(self.at("state"))
-        self.assertEqual(type(state), night_state.JoinedState)
+        folder = state.open_state(self.at("state"))
+        self.assertEqual(type(folder), state.JoinedState)
         given, out, _ = self.ask("status", "--now", "2026-03-02T05:00:00Z", self.at("state"))
         self.assertIn("last night 2026-03-01T22:00:00Z, status 3; cycle 1 is open;", out)
         self.assertEqual(given, 2)
@@ -584,8 +691,8 @@ class Joined(Asked):
         self.put(ONE, "state/reports/cycle-000001")
         self.assertEqual(self.ask("statement", self.at("state"), 1), (0, "", ""))
         file = self.at("state/reports/statement-000001")
-        with open(file) as statement:
-            text = statement.read()
+        with open(file) as made_text:
+            text = made_text.read()
         self.assertIn("\nRuns: 2\n", text)
         self.assertIn("\nNights: 1\n", text)
         self.assertEqual(self.ask("verify", file)[0], 0)
@@ -598,7 +705,7 @@ class Joined(Asked):
             ["2026-03-01T22:00:00Z", "2026-03-01T22:01:00Z"])
         database.close()
         self.nights(2, 2)
-        kinds = [(it.kind, it.cycle) for it in opening.open_state(self.at("state")).entries()]
+        kinds = [(it.kind, it.cycle) for it in state.open_state(self.at("state")).entries()]
         self.assertIn(("ended", 1), kinds)
 
     def closed(self, day, cycle, gone=b"", parts=(0, 1)):
@@ -615,8 +722,8 @@ class Joined(Asked):
         self.assertEqual(self.ask("statement", self.at("state"), cycle), (0, "", ""))
         file = self.at("state/reports/statement-%06d" % cycle)
         self.assertEqual(self.ask("verify", file)[:1], (0,))
-        with open(file) as statement:
-            return statement.read()
+        with open(file) as made_text:
+            return made_text.read()
 
     def test_closings_of_parts(self):
         """A cycle is closed once its last part is, and compared as all of them were."""
@@ -632,6 +739,25 @@ class Joined(Asked):
                     "Former findings: 1", "Objects gone: 1", "Files gone: 1",
                     "Report compared with, SHA-256: " + hashlib.sha256(ONE).hexdigest()]:
             self.assertIn("\n%s\n" % row, text)
+
+    def test_a_statement_of_the_form_before(self):
+        """It lacks lines of this form, and did not count what parts found gone where they were
+        compared with different cycles. It holds all the same."""
+        for day in (1, 2):
+            self.nights(day, day)
+            self.closed(day, day, GONE if day == 2 else b"")
+        text = re.sub("Nights cut: .*\n|Places left out: .*\n", "", self.stated(2)).replace(
+            "Compared with cycle: 1", "Compared with cycle: nothing").replace(
+            "gone: 1", "gone: not known")
+        text = re.sub("(SHA-256: )[0-9a-f]+(\nNew findings: )1\n(.*)1", r"\1no report\2not known"
+                      r"\n\3not known", text)
+        file = self.at("state/reports/statement-000002")
+        for form, expected in [("statement 1", 0), ("statement 2", 1)]:
+            made = text.replace("statement 2", form, 1)
+            self.put(made.encode(), "state/reports/statement-000002")
+            self.put(statement.as_json(made).encode(), "state/reports/statement-000002.json")
+            given, out, _ = self.ask("verify", file)
+            self.assertEqual((given, "lacks it" in out), (expected, expected == 1), out)
 
     def test_a_closing_of_a_part_that_no_row_tells_of(self):
         """What is gone is told of, though nobody knows when the cycle was closed."""
@@ -677,8 +803,7 @@ class Finishing(Asked):
 
     def test_while_a_night_runs(self):
         made = nights_of(Program(self.at("state")))
-        with open(made.path + "/lock", "rb+") as lock:
-            fcntl.flock(lock, fcntl.LOCK_EX)
+        with made.held():
             self.assertEqual(self.ask("finish", made.path)[0], 75)
 
 
@@ -705,8 +830,7 @@ class Telling(Asked):
         made = nights_of(Program(self.at("state")))
         for name in ("tonight.own", "tonight.other"):
             made.put(name, b"of %s\n" % name.encode())
-        with open(made.path + "/lock", "rb+") as lock:
-            fcntl.flock(lock, fcntl.LOCK_EX)
+        with made.held():
             said = self.tell(made, INVOCATION_ID="own", EXIT_STATUS="1")[2]
         self.assertEqual(said.splitlines()[1:], ["of tonight.own"])
         self.assertEqual(self.tell(made, EXIT_STATUS="0")[2].splitlines()[1:],
@@ -768,7 +892,7 @@ class Owners(Asked):
 
 class Words(Asked):
     def commands(self):
-        return sorted(command.Commands().all.choices)
+        return sorted(name for name, *_ in command.COMMANDS)
 
     def test_help_ends_with_an_example(self):
         for words in [[], *([name] for name in self.commands())]:

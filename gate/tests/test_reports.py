@@ -14,7 +14,7 @@ from gate.repository import TOP
 
 sys.path.insert(0, os.path.join(TOP, "nights"))
 
-from ocfl_scrub_reports import command, counts, files, questions, report, standing, xml
+from ocfl_scrub_reports import command, counts, files, premis, questions, report, shared, standing
 from ocfl_scrub_reports.weights import Known, Weights
 
 RIGHT = [b"ok\t.\t-", b"ok\to/v1/content/a\t13", b"E092\to/a b\tmd5 missing", b"S07\to\tx%25",
@@ -116,7 +116,7 @@ class Files(Folder):
         kept, path = self.put(b"kept", "kept"), os.path.join(self.folder, "new")
         os.symlink(kept, path)
         os.symlink(kept, path + ".new")
-        files.put(b"made", path)
+        shared.put(b"made", path)
         self.assertEqual([b"".join(files.chunks(it)) for it in (kept, path)], [b"kept", b"made"])
         self.assertFalse(os.path.islink(path))
 
@@ -200,7 +200,7 @@ class Words(unittest.TestCase):
                 command.limits(text)
 
     def test_xml(self):
-        self.assertEqual(xml.element("a", xml.element("b", xml.text("<&>\"\r\0")), c='"'),
+        self.assertEqual(premis.element("a", premis.element("b", premis.text("<&>\"\r\0")), c='"'),
                          '<a c="&quot;">\n  <b>&lt;&amp;&gt;&quot;&#13;\ufffd</b>\n</a>\n')
 
 

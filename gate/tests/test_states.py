@@ -10,7 +10,7 @@ from gate.repository import TOP
 sys.path.insert(0, os.path.join(TOP, "nights"))
 
 from gate.tests.test_reports import Folder
-from ocfl_scrub_reports import database, opening, standing, state, statement, status
+from ocfl_scrub_reports import database, log, standing, state, statement, status
 
 NIGHT = "2026-03-0%dT22:00:00Z"
 
@@ -18,8 +18,8 @@ NIGHT = "2026-03-0%dT22:00:00Z"
 def entry(day, kind, cycle=1, stands="after o", status=""):
     """An entry of the log, of a night that began on a day."""
     night = NIGHT % day
-    return state.Entry(night, kind, cycle, 1, 5, 9, "", 9, 1, 60, 100, "", stands, night,
-                       status=status)
+    return log.Entry(kind, night, night, cycle, 1, 5, 9, 9, 1, 60, 100, stands=stands,
+                     status=status)
 
 
 class Log(unittest.TestCase):
@@ -54,7 +54,7 @@ class Losses(Folder):
     def setUp(self):
         super().setUp()
         os.mkdir(self.folder + "/reports")
-        self.state = opening.open_state(self.folder)
+        self.state = state.open_state(self.folder)
 
     def report(self, name, *paths):
         self.put(b"".join(b"ok\t%s\t-\n" % it for it in paths), "reports/" + name)
@@ -83,10 +83,10 @@ class Text(unittest.TestCase):
         made = statement.Statement({"Cycle": "2", "Whole": "no", "Findings": "3", "Host": "7",
                                     "Findings S08": "1", "Findings E092": "2", "Part from": "a%01",
                                     "Storage root": "/a%\t"})
-        self.assertEqual(made.text(), "ocfl-scrub statement 1\n\nStorage root: /a%25%09\n"
+        self.assertEqual(made.text(), "ocfl-scrub statement 2\n\nStorage root: /a%25%09\n"
                          "Part from: a%01\nHost: 7\nCycle: 2\nWhole: no\nFindings: 3\n"
                          "Findings E092: 2\nFindings S08: 1\n")
         self.assertEqual(json.loads(statement.as_json(made.text())), {
-            "form": "ocfl-scrub statement 1", "storage_root": "/a%25%09", "part_from": "a%01",
+            "form": "ocfl-scrub statement 2", "storage_root": "/a%25%09", "part_from": "a%01",
             "host": "7", "cycle": 2, "whole": False, "findings": 3,
             "findings_by_code": {"E092": 2, "S08": 1}})

@@ -9,14 +9,14 @@ import tempfile
 from datetime import datetime
 from typing import Iterator
 
-from . import files
+from .log import Entry
 from .report import Reading
-from .state import Entry, State
+from .shared import Failed, refuse_links
+from .state import JoinedState, State
 
 TABLES = """
 create table run (began text, status, cycle integer, run integer, lines integer, cost integer,
-  said text, spent integer, files integer, seconds integer, bytes integer, digest text, stands text,
-  night text);
+  said text, spent integer, files integer, seconds integer, bytes integer, stands text, night text);
 create table line (cycle integer, number integer, code text, path text, detail text,
   primary key (cycle, number)) without rowid;
 create index run_lines on run (cycle, lines, began);
@@ -51,20 +51,19 @@ left join verified on verified.path = content.path
 where coalesce(verified.began, '') < :date
 order by content.path;
 """
+COLUMNS = ("began", "kind", "cycle", "run", "lines", "cost", "said", "spent", "files", "seconds",
+           "bytes", "stands", "night")
 DATE = re.compile(r"\d{4}-\d\d-\d\d(T\d\d:\d\d:\d\dZ)?")
 
 
 def make(state: State, path: str) -> None:
     """Puts all reports of the folder into a new database."""
     state.refuse_links()
-    files.refuse_links(*(report.path for report in state.closed()))
+    refuse_links(*(report.path for report in state.closed()))
     if os.path.lexists(path):
-        raise files.Failed(path + " is there already", 2)
+        raise Failed(path + " is there already", 2)
     if not state.has_log():
-        raise files.Failed("there is no log of nights in " + state.path, 2)
-    for report in state.closed():
-        for _ in files.chunks(report.path):
-            pass
+        raise Failed("there is no log of nights in " + state.path, 2)
     try:
         fill(state, path)
     except BaseException:
@@ -77,33 +76,25 @@ def fill(state: State, path: str) -> None:
     try:
         database.executescript("pragma journal_mode = off; pragma synchronous = off;" + TABLES)
         database.execute("begin")
-        database.executemany("insert into run values (%s)" % ", ".join("?" * 14),
-                             map(as_row, runs(state)))
+        database.executemany("insert into run values (%s)" % ", ".join("?" * len(COLUMNS)), (
+            [getattr(run, name) for name in COLUMNS] for run in runs(state)))
         for cycle, report in reports(state):
             database.executemany("insert into line values (?, ?, ?, ?, ?)", numbered(cycle, report))
         database.execute("create index line_path on line (path, cycle)")
         database.execute("commit")
     except sqlite3.Error as error:
-        raise files.Failed("%s could not be written: %s" % (path, error)) from error
+        raise Failed("%s could not be written: %s" % (path, error)) from error
     finally:
         database.close()
-
-
-def as_row(run: Entry) -> tuple[object, ...]:
-    """The columns of a run. The status of one that was not cut is a number."""
-    return tuple(files.bytes_of(value).decode("utf-8", "replace")
-                 if isinstance(value, str) else value for value in run.columns())
 
 
 def runs(state: State) -> Iterator[Entry]:
     """The runs of the log. Of a cycle that was joined of parts they come in the order of its
     report."""
-    joined = set(state.joined_cycles())
+    joined = {it.cycle for it in state.closed()} if isinstance(state, JoinedState) else set()
     for cycle in sorted(joined):
-        yield from (entry for entry in state.runs(cycle) if entry.is_run())
-    for entry in state.entries():
-        if entry.is_run() and entry.cycle not in joined:
-            yield entry
+        yield from state.runs(cycle)
+    yield from (it for it in state.entries() if it.is_run() and it.cycle not in joined)
 
 
 def reports(state: State) -> Iterator[tuple[int, str]]:
@@ -112,11 +103,7 @@ def reports(state: State) -> Iterator[tuple[int, str]]:
         yield report.cycle, report.path
     opened = state.open_report()
     if opened and os.path.getsize(opened):
-        cycle = 0
-        for entry in state.entries():
-            if entry.is_run() and entry.lines > 0:
-                cycle = entry.cycle + (entry.stands == "ended")
-        yield cycle, opened
+        yield next((it.cycle + (it.stands == "ended") for it in state.standing()), 0), opened
 
 
 def numbered(cycle: int, report: str) -> Iterator[tuple[int, int, str, str, str]]:
@@ -132,7 +119,7 @@ def numbered(cycle: int, report: str) -> Iterator[tuple[int, int, str, str, str]
 def show_unverified(date: str, state: State) -> None:
     """Writes the content files that no night has found right since a date."""
     if not is_date(date):
-        raise files.Failed(date + " is not a date like 2025-03-01", 2)
+        raise Failed(date + " is not a date like 2025-03-01", 2)
     with tempfile.TemporaryDirectory() as folder:
         make(state, folder + "/database")
         database = sqlite3.connect(folder + "/database")

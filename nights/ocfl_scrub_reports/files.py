@@ -7,28 +7,19 @@ import shutil
 import sys
 import tempfile
 import zlib
+from datetime import datetime, timezone
 from typing import IO, Iterable, Iterator
+
+from .shared import Failed
 
 BLOCK = 1 << 20
 # So little is inflated at once that no file makes much of it.
 PACKED = 1 << 15
 
 
-class Failed(Exception):
-    """Ends a command with a text and a status."""
-
-    def __init__(self, text: str, status: int = 3) -> None:
-        super().__init__(text)
-        self.text, self.status = text, status
-
-
 def say(text: str) -> None:
     """Writes a line to standard error."""
     print(text, file=sys.stderr, flush=True)
-
-
-def unreadable(path: str) -> Failed:
-    return Failed(path + " cannot be read")
 
 
 # Owners and links
@@ -59,26 +50,19 @@ def drop_to_owners_of(paths: Iterable[str]) -> None:
             drop_to_owner_of(os.path.dirname(path) or ".")
 
 
-def refuse_links(*paths: str) -> None:
-    """Fails if one of these is a link, wherever it leads: nothing in a state folder is one."""
-    for path in paths:
-        if os.path.islink(path):
-            raise Failed(path + " is a link, and no link in a state folder is followed")
-
-
 # Reading
 
 def chunks(path: str) -> Iterator[bytes]:
     """The bytes of a file, plain or compressed, as they are without compression."""
     if not os.path.isfile(path):
-        raise unreadable(path)
+        raise Failed(path + " cannot be read")
     try:
         with open(path, "rb", buffering=0) as file:
             is_packed = path.endswith(".gz") or file.read(2) == b"\x1f\x8b"
             file.seek(0)
             yield from inflated(file) if is_packed else iter(lambda: file.read(BLOCK), b"")
     except (OSError, EOFError, zlib.error) as error:
-        raise unreadable(path) from error
+        raise Failed(path + " cannot be read") from error
 
 
 def inflated(file: IO[bytes]) -> Iterator[bytes]:
@@ -147,33 +131,6 @@ def pour(file: IO[bytes], out: IO[bytes] | None = None) -> None:
     shutil.copyfileobj(file, out or sys.stdout.buffer, BLOCK)
 
 
-def create(path: str) -> IO[bytes]:
-    """Makes a new file for its owner and the group, in the place of what a kill left there. No link
-    is followed."""
-    if os.path.lexists(path):
-        os.remove(path)
-    return open(os.open(path, os.O_WRONLY | os.O_CREAT | os.O_EXCL, 0o640), "wb")
-
-
-def sync(file: IO[bytes]) -> None:
-    """Brings what was written to the disk."""
-    file.flush()
-    os.fsync(file.fileno())
-
-
-def sync_folder(path: str) -> None:
-    """Brings the names in a folder to the disk."""
-    number = os.open(path, os.O_RDONLY)
-    try:
-        os.fsync(number)
-    finally:
-        os.close(number)
-
-
-def put(data: bytes, path: str) -> None:
-    """Puts a file in its place, whole or not at all. What lies there is exchanged, and no link is
-    followed."""
-    with create(path + ".new") as file:
-        file.write(data)
-        sync(file)
-    os.replace(path + ".new", path)
+def time_text(seconds: int) -> str:
+    """A time in seconds since 1970, as statements have it."""
+    return datetime.fromtimestamp(seconds, timezone.utc).strftime("%Y-%m-%dT%H:%M:%SZ")

@@ -10,6 +10,7 @@ from typing import Iterator
 
 from . import files, statement
 from .seal import is_sealed
+from .shared import Failed, create, refuse_links, sync, sync_folder
 from .state import Closed, State, cycle_name
 
 HELD = 75
@@ -19,12 +20,12 @@ HELD = 75
 def held(state: State) -> Iterator[None]:
     """Holds the lock of a folder, as a night does."""
     path = state.at("lock")
-    files.refuse_links(path)
+    refuse_links(path)
     with open(os.open(path, os.O_RDWR | os.O_CREAT, 0o640), "rb+") as lock:
         try:
             fcntl.flock(lock, fcntl.LOCK_EX | fcntl.LOCK_NB)
         except BlockingIOError as error:
-            raise files.Failed("another night still runs in " + state.path, HELD) from error
+            raise Failed("another night still runs in " + state.path, HELD) from error
         yield
 
 
@@ -45,7 +46,7 @@ def make_statement(state: State, closed: Closed, seal: str | None, known: str | 
         return 0
     try:
         statement.write(state, closed.cycle, seal, known)
-    except (files.Failed, OSError) as error:
+    except (Failed, OSError) as error:
         files.say("The statement of cycle %d could not be made or sealed: %s" % (closed.cycle,
                                                                                  error))
         return 3
@@ -64,19 +65,20 @@ def tidy(state: State, keep: int | None) -> None:
         if it.cycle >= needed:
             continue
         if it.cycle not in kept and state.find("statement", it.cycle):
-            os.remove(it.path)
+            for path in filter(None, [it.path, state.find("checkpoint", it.cycle)]):
+                os.remove(path)
         elif not it.path.endswith(".gz"):
             pack(it.path)
 
 
 def pack(path: str) -> None:
     """Compresses a file. At any moment one of the two lies there whole."""
-    new = files.create(path + ".gz.new")
+    new = create(path + ".gz.new")
     with new, gzip.GzipFile(filename="", fileobj=new, mode="wb", mtime=0) as packed:
         for chunk in files.chunks(path):
             packed.write(chunk)
         packed.close()
-        files.sync(new)
+        sync(new)
     os.replace(path + ".gz.new", path + ".gz")
-    files.sync_folder(os.path.dirname(path))
+    sync_folder(os.path.dirname(path))
     os.remove(path)

@@ -8,7 +8,8 @@ from itertools import islice
 from typing import Iterable, Sequence
 
 from . import files, questions
-from .state import Closing, Entry, State, cycle_name
+from .log import Closing, Entry
+from .state import State, cycle_name
 from .statement import plain
 from .status import WORDS, Standing
 from .weights import Weights
@@ -127,8 +128,10 @@ def about_cycle(state: State, standing: Standing) -> str:
         facts.append(("of what the last one read", "%d of 100" % standing.done))
     if standing.left is not None:
         facts.append(("nights left", str(standing.left)))
+    if log.cycle in log.left_out:
+        facts.append(("left out", ", ".join(log.left_out[log.cycle])))
     parts = [not log.is_open or any(it.cycle == log.cycle for it in state.closed_of_part(part))
-             for part in state.parts()]
+             for part in state.folders()]
     return section("The open cycle" if log.is_open else "The last cycle",
                    table("How far it is", ("what", "how it is"), facts), strip(parts))
 

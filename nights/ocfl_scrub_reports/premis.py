@@ -3,6 +3,7 @@ from __future__ import annotations
 
 import json
 import os
+import re
 from bisect import bisect_left
 from dataclasses import dataclass, field
 from typing import Iterator
@@ -10,10 +11,10 @@ from urllib.parse import unquote_to_bytes
 
 from . import files
 from .report import Line, Reading, is_within
+from .shared import Failed
 from .state import State
-from .statement import Statement, programs_of
+from .statement import Statement
 from .weights import Weights
-from .xml import element, text
 
 HEAD = """<?xml version="1.0" encoding="UTF-8"?>
 <premis xmlns="http://www.loc.gov/premis/v3"
@@ -21,14 +22,11 @@ HEAD = """<?xml version="1.0" encoding="UTF-8"?>
 """
 VOCABULARY = "http://id.loc.gov/vocabulary/preservation/"
 LOSSES = ("Objects gone", "Files gone", "Expected objects missing")
-
-
-@dataclass
-class Run:
-    """A run of the cycle: how many lines the report had after it, when it began, its program."""
-    lines: int
-    began: str
-    program: str
+# What no document of XML 1.0 may hold.
+FORBIDDEN = re.compile("[\x00-\x08\x0b\x0c\x0e-\x1f\ud800-\udfff\ufffe\uffff]")
+# What is markup, and what other readers would make other characters of.
+WRITTEN = {ord("&"): "&amp;", ord("<"): "&lt;", ord(">"): "&gt;", ord('"'): "&quot;",
+           ord("\t"): "&#9;", ord("\n"): "&#10;", ord("\r"): "&#13;"}
 
 
 @dataclass
@@ -40,6 +38,20 @@ class Event:
     first: int
     of: bytes
     outcomes: list[tuple[str, bytes]] = field(default_factory=list)
+
+
+def element(name: str, *content: str, **attributes: str) -> str:
+    """An element whose content is XML already, on lines of its own if it has elements."""
+    given = "".join(' %s="%s"' % (key, text(value)) for key, value in attributes.items())
+    inner = "".join(content)
+    if "<" in inner:
+        inner = "\n" + re.sub("(?m)^(?=<| )", "  ", inner)
+    return "<%s%s>%s</%s>\n" % (name, given, inner, name)
+
+
+def text(value: str) -> str:
+    """A text as content of an element or of an attribute."""
+    return FORBIDDEN.sub("\ufffd", value).translate(WRITTEN)
 
 
 def term(name: str, kind: str, value: str, label: str) -> str:
@@ -67,31 +79,27 @@ class Events:
         self.state, self.cycle, self.each, self.with_ids = state, cycle, each, with_ids
         self.said = Statement.of(state, cycle)
         if each != "finding" and self.said["Whole"] != "yes":
-            raise files.Failed("the report of cycle %d is not whole: try --each finding" % cycle)
+            raise Failed("the report of cycle %d is not whole: try --each finding" % cycle)
         self.report = self.said.report_beside(state.reports)
-        self.root_folder = state.bound_to("path")
+        self.root_folder = state.bound_to("root")
         if with_ids and not os.path.isdir(files.bytes_of(self.root_folder)):
-            raise files.Failed("the storage root is not at %s, so no id can be read"
-                               % self.root_folder)
+            raise Failed("the storage root is not at %s, so no id can be read" % self.root_folder)
         self.root = "%s:%s" % (self.said["Host"], self.said["Storage root"])
-        self.runs = self.runs_of_cycle()
+        self.runs = [run for run in state.runs(cycle) if run.lines > 0]
+        if not self.runs:
+            raise Failed("no night of this cycle is logged")
         self.ends = [run.lines for run in self.runs]
+        # The log does not say which night wrote a line, so all programs are agents of each event.
+        self.programs = dict.fromkeys(
+            run.program or self.said["Program SHA-256"] for run in self.runs)
         self.objects, self.events = files.spool(), files.spool()
-        self.agents: dict[str, None] = {}
         self.weights = Weights()
         self.object = self.shown = b""
         self.identity: tuple[str, str] = ("", "")
 
-    def runs_of_cycle(self) -> list[Run]:
-        runs = [Run(run.lines, run.began, program or self.said["Program SHA-256"])
-                for run, program in programs_of(self.state, self.cycle) if run.lines > 0]
-        if not runs:
-            raise files.Failed("no night of this cycle is logged")
-        return runs
-
-    def run_of(self, line: int) -> int:
-        """The run that wrote a line."""
-        return min(bisect_left(self.ends, line), len(self.ends) - 1)
+    def time_of(self, line: int) -> str:
+        """When the run began that wrote a line."""
+        return self.runs[min(bisect_left(self.ends, line), len(self.ends) - 1)].began
 
     # Objects
 
@@ -126,23 +134,20 @@ class Events:
     # Events
 
     def event(self, event: Event, time: str | None = None) -> None:
-        """Writes an event. The log does not say which night wrote a line, so its agents are the
-        programs of all nights of the cycle."""
-        first = self.run_of(event.first)
-        programs = dict.fromkeys(run.program for run in self.runs)
-        self.agents.update(programs)
+        """Writes an event."""
         link = (("OCFL storage root", self.root) if event.of == b"."
                 else self.name_object(event.of))
         self.events.write(element(
             "event",
             identified("eventIdentifier", ("ocfl-scrub event", self.name() + event.identifier)),
             term("eventType", "eventType", "fix", "fixity check"),
-            element("eventDateTime", time or self.runs[first].began),
+            element("eventDateTime", time or self.time_of(event.first)),
             element("eventDetailInformation", element("eventDetail", text(
-                "%s; %s" % (event.detail, self.details())))),
+                "%s; cycle %d, report %s with SHA-256 %s" % (
+                    event.detail, self.cycle, self.said["Report"], self.said["Report SHA-256"])))),
             *(outcome(*it) for it in event.outcomes or [("pass", b"")]),
             identified("linkingAgentIdentifier",
-                       *(("SHA-256 of the program", program) for program in programs)),
+                       *(("SHA-256 of the program", program) for program in self.programs)),
             identified("linkingObjectIdentifier", link)).encode())
 
     def name(self) -> str:
@@ -150,10 +155,6 @@ class Events:
         one that was begun anew has its first cycle twice."""
         return ":".join([self.root, *map(self.said.__getitem__, ("State folder", "Closed",
                                                                  "Report"))])
-
-    def details(self) -> str:
-        return "cycle %d, report %s with SHA-256 %s" % (
-            self.cycle, self.said["Report"], self.said["Report SHA-256"])
 
     # What the lines of the report give
 
@@ -216,7 +217,7 @@ class Events:
         self.put_object(("OCFL storage root", self.root))
         for part in (objects, self.events):
             files.pour(part, out)
-        for program in self.agents or [self.said["Program SHA-256"]]:
+        for program in self.programs:
             out.write(self.agent(program).encode())
         out.write(b"</premis>\n")
         files.pour(out)
@@ -228,7 +229,7 @@ class Events:
         for number, line in enumerate(files.lines(path) if path else [], 1):
             kind, _, place = line.partition(b"\t")
             note = (b"missing: " if kind == b"expected" else b"gone: ") + place
-            event = Event(":gone:%d" % number, "Loss found by an audit", self.runs[-1].lines,
+            event = Event(":gone:%d" % number, "Loss found by an audit", 0,
                           b"." if kind == b"file" else place, [("fail", note)])
             self.event(event, self.said["Closed"])
 

@@ -6,7 +6,7 @@ import sys
 from itertools import groupby
 
 from . import files, standing
-from .program import find_program
+from .shared import Failed, find_program
 from .state import State
 from .weights import Known
 
@@ -15,9 +15,9 @@ def show(state: State, known: str | None) -> int:
     """Writes each open finding after `mended` or `open`, and what was not found there before after
     `new`. Gives 1 if something is open or new, 3 if a place could not be looked at, and else 0."""
     state.refuse_links()
-    root, leave_out, program = state.bound_to("path"), Known(known), find_program()
+    root, leave_out, program = state.bound_to("root"), Known(known), find_program()
     if not root:
-        raise files.Failed("%s is not bound to a storage root" % state.path)
+        raise Failed("%s is not bound to a storage root" % state.path)
     status = 0
     found = (line for line in standing.open_findings(state) if not leave_out.has(line))
     for place, lines in groupby(found, lambda line: line.split(b"\t", 2)[1]):

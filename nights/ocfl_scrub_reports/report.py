@@ -9,6 +9,7 @@ import re
 from typing import Callable, Iterator, NamedTuple
 
 from . import files
+from .shared import Failed
 
 CODE = rb"ok|E[0-9]{3}|S[0-9]{2}"
 ESCAPE = rb"%(?:[01][0-9A-F]|25|7F|[89A-F][0-9A-F])"
@@ -91,7 +92,7 @@ class Reading:
     def refuse_odd(self) -> None:
         """Fails if something that was read is no line of a report."""
         if self.odd:
-            raise files.Failed("%s: %d line(s) are no lines of a report, the first is line %d"
+            raise Failed("%s: %d line(s) are no lines of a report, the first is line %d"
                                % (self.path, self.odd, self.first_odd))
 
     def whole(self) -> Iterator[bytes]:

@@ -7,6 +7,7 @@ import subprocess
 import tempfile
 
 from . import files
+from .shared import Failed, put
 
 
 def is_sealed(path: str) -> bool:
@@ -31,16 +32,16 @@ def put_seal(path: str, command: str) -> None:
         done = subprocess.run(["sh", "-c", command, "seal", name], cwd=folder, check=False,
                               stdin=subprocess.DEVNULL, stdout=2)
         if done.returncode != 0:
-            raise files.Failed("the statement is not sealed: " + command)
+            raise Failed("the statement is not sealed: " + command)
         if bytes_in(os.path.join(folder, name)) != bytes_in(path):
-            raise files.Failed("the seal's command changed the statement")
+            raise Failed("the seal's command changed the statement")
         left = sorted(it for it in os.listdir(folder)
                       if it.startswith(name + ".") and os.path.isfile(os.path.join(folder, it)))
         if not left:
-            raise files.Failed("the seal's command left nothing beside the statement")
+            raise Failed("the seal's command left nothing beside the statement")
         for it in left:
-            files.put(bytes_in(os.path.join(folder, it)), os.path.join(os.path.dirname(path), it))
-    files.put("".join(it + "\n" for it in left).encode(), path + ".sealed")
+            put(bytes_in(os.path.join(folder, it)), os.path.join(os.path.dirname(path), it))
+    put("".join(it + "\n" for it in left).encode(), path + ".sealed")
 
 
 def bytes_in(path: str) -> bytes:

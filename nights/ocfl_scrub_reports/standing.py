@@ -8,7 +8,8 @@ from itertools import islice
 from typing import Iterable, Iterator, NamedTuple
 
 from . import files, report
-from .state import State
+from .shared import refuse_links
+from .state import State, numbered_in
 
 HELD = 100000
 LOSSES = (b"object\t", b"file\t")
@@ -72,7 +73,7 @@ def groups_of(state: State, upto: int | None = None) -> list[Group]:
     if upto is None:
         groups += [Group(OPEN if cycle is None else cycle, paths)
                    for cycle, paths in state.open_reports()]
-    files.refuse_links(*(path for group in groups for path in group.reports))
+    refuse_links(*(path for group in groups for path in group.reports))
     return groups
 
 
@@ -80,7 +81,7 @@ def losses(state: State, upto: int | None = None) -> Iterator[bytes]:
     """The objects and files that were gone when some cycle was closed and are not back, as lines of
     the lists, each once: up to a cycle, or up to now. What is back has a line in the last whole
     report or in one after it."""
-    lists = [it for it in state.lists_of_gone() if upto is None or it.cycle <= upto]
+    lists = [it for it in numbered_in(state.reports, "gone") if upto is None or it.cycle <= upto]
     groups = groups_of(state, upto)
     for at in reversed(range(len(lists))):
         lost = (line for line in files.lines(lists[at].path) if line.startswith(LOSSES))

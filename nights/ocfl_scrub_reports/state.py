@@ -1,74 +1,29 @@
-"""The folder of state of a storage root: what its log says, and which reports and lists lie in it.
-
-`night_state.py` knows what a folder keeps where, and how its log is written. No other module does:
-each question is asked of a `State`, and `opening.py` chooses which.
-"""
+"""The folder of state of `ocfl-scrub night`, and that of `ocfl-scrub join` with a folder for each
+part: what they are bound to, and which reports and lists lie in them."""
 from __future__ import annotations
 
+import fcntl
+import json
 import os
 import re
-from collections import Counter
-from dataclasses import dataclass
-from typing import Iterator
+import sqlite3
+import subprocess
+from dataclasses import dataclass, replace
+from typing import Any, Iterator
+from urllib.parse import unquote_to_bytes
 
 from . import files
+from .log import ALL_LINES, Entry, Joining, Telling, number, row_of, time_of
+from .shared import Failed, find_program, refuse_links
 
 NUMBERED = re.compile(r"([a-z]+)-([0-9]+)(\.gz)?")
+PART = re.compile("part-[0-9]{6,}")
 NOT_KNOWN = "not known"
-# Killed is worse than cut, and that than these.
-RANKS = {"": 0, "0": 0, "1": 1, "3": 2, "4": 3, "2": 4, "cut": 5}
-# How many lines a report has at most after a run of which the log does not say it.
-ALL_LINES = 1 << 62
-# What a run of the log has, in the order of its columns.
-COLUMNS = ("began", "kind", "cycle", "run", "lines", "cost", "said", "spent", "files", "seconds",
-           "bytes", "digest", "stands", "night")
-
-
-@dataclass
-class Closing:
-    """What the log says of a cycle that was closed. What was not compared or not asked is None."""
-    report: str = ""
-    is_whole: bool = False
-    compared: int | None = None
-    objects: int = 0
-    files: int = 0
-    expected: int | None = None
-    # What the log does not say: `expected`, if such objects were asked for; `kinds`, how many of
-    # what is gone are objects, which all then count as; `closed`, when; `lost`, how many lines.
-    unsaid: tuple[str, ...] = ()
-
-
-@dataclass(frozen=True)
-class Entry:
-    """What the log says at one moment. A run has its status as kind, or `cut`; of a night that was
-    refused the cycle is 0. Of other kinds are `told` and `ended`, and last `stands`, where the
-    cycle now stands, and `lost`, if its report lost lines."""
-    began: str
-    kind: str
-    cycle: int
-    run: int
-    lines: int
-    cost: int
-    said: str
-    spent: int
-    files: int
-    seconds: int
-    bytes: int
-    digest: str
-    stands: str
-    night: str
-    # Of `ended`: what was closed. Of `told`: the status of the night. Of a run: the SHA-256 of its
-    # program, and how many runs it stands for.
-    closing: Closing | None = None
-    status: str = ""
-    program: str = ""
-    runs: int = 1
-
-    def is_run(self) -> bool:
-        return self.kind.isdigit() or self.kind == "cut"
-
-    def columns(self) -> list[str | int]:
-        return [getattr(self, name) for name in COLUMNS]
+CHECKPOINT = b"ocfl-scrub checkpoint 1"
+# What lies in a folder of the scripts that made nights before the program did, and in one of the
+# program's.
+OF_SCRIPTS = ("cursor", "nights", "root", "parts-000001")
+OWN = ("checkpoint", "log")
 
 
 @dataclass(frozen=True)
@@ -79,33 +34,15 @@ class Closed:
     path: str
 
 
-def rank(status: str) -> int:
-    return RANKS.get(status, 6)
-
-
-def worst(status: str, other: str) -> str:
-    """The worse of two statuses of a night."""
-    return other if rank(other) > rank(status) else status
-
-
-def kinds_in(path: str | None) -> Counter[bytes]:
-    """How many lines of each kind a list of what is gone has."""
-    rows = files.lines(path) if path else iter(())
-    return Counter(row.partition(b"\t")[0] for row in rows if row)
-
-
 def cycle_name(kind: str, cycle: int) -> str:
     return "%s-%06d" % (kind, cycle)
 
 
 def find(folder: str, kind: str, cycle: int) -> str | None:
     """The file of a kind and a cycle in a folder of reports, plain or compressed."""
-    for end in ("", ".gz"):
-        path = os.path.join(folder, cycle_name(kind, cycle) + end)
-        files.refuse_links(path)
-        if os.path.isfile(path):
-            return path
-    return None
+    path = os.path.join(folder, cycle_name(kind, cycle))
+    refuse_links(path, path + ".gz")
+    return next((it for it in (path, path + ".gz") if os.path.isfile(it)), None)
 
 
 def numbered_in(folder: str, *kinds: str) -> list[Closed]:
@@ -117,7 +54,7 @@ def numbered_in(folder: str, *kinds: str) -> list[Closed]:
         named = NUMBERED.fullmatch(name)
         if named and named[1] in kinds:
             path, cycle = os.path.join(folder, name), int(named[2])
-            files.refuse_links(path)
+            refuse_links(path)
             found.setdefault((cycle, named[1]), Closed(cycle, named[1] == "cycle", path))
     return sorted(found.values(), key=lambda it: it.cycle)
 
@@ -127,10 +64,21 @@ def closed_in(folder: str) -> list[Closed]:
     return numbered_in(folder, "cycle", "incomplete")
 
 
+def is_held(folder: str) -> bool:
+    """Whether a night is under way in a folder."""
+    path = os.path.join(folder, "lock")
+    if os.path.islink(path) or not os.path.isfile(path):
+        return False
+    with open(path, "rb") as lock:
+        try:
+            fcntl.flock(lock, fcntl.LOCK_SH | fcntl.LOCK_NB)
+        except BlockingIOError:
+            return True
+    return False
+
+
 class State:
-    """A folder of state. Each kind of folder is a class that says what is its own."""
-    # What lies in it that may be no link.
-    NAMES: tuple[str, ...] = ("report", "reports")
+    """A folder of `ocfl-scrub night`."""
 
     def __init__(self, path: str) -> None:
         self.path = path
@@ -139,82 +87,229 @@ class State:
     def at(self, name: str) -> str:
         return os.path.join(self.path, name)
 
-    # What each kind says
+    def refuse_links(self) -> None:
+        refuse_links(*map(self.at, ("checkpoint", "report", "reports", "log", "lock", "stop")))
 
-    def entries(self) -> Iterator[Entry]:
-        """The log, in its order."""
-        raise NotImplementedError
+    def is_held(self) -> bool:
+        return is_held(self.path)
+
+    # The log
 
     def has_log(self) -> bool:
-        raise NotImplementedError
+        return os.path.isfile(self.at("log"))
+
+    def rows(self) -> Iterator[dict[str, Any]]:
+        log = self.at("log")
+        lines = files.lines(log) if os.path.isfile(log) else iter(())
+        return filter(None, map(row_of, lines))
+
+    def entries(self) -> Iterator[Entry]:
+        """What the log says, in its order."""
+        telling = Telling(self)
+        for row in self.rows():
+            yield from telling.take(row)
+        yield from telling.end_unless_held()
+        yield from telling.unlogged()
+        yield from self.standing()
+
+    def runs(self, cycle: int) -> Iterator[Entry]:
+        """The runs of a cycle in the order of its report, each with the program of its night."""
+        found, programs = [], {}
+        for it in self.entries():
+            if it.kind == "told":
+                programs[it.night] = it.program
+            elif it.cycle == cycle and it.is_run():
+                found.append(it)
+        return (replace(it, program=it.program or programs.get(it.night, "")) for it in found)
+
+    # The checkpoint
+
+    def checkpoint(self) -> dict[str, list[str]]:
+        """The lines of the checkpoint by their first words. Whether it is sound, the next night
+        says."""
+        path = self.at("checkpoint")
+        if not os.path.isfile(path):
+            return {}
+        rows = files.lines(path)
+        if next(rows, b"") != CHECKPOINT:
+            raise Failed(path + " is no checkpoint of this version")
+        made: dict[str, list[str]] = {}
+        for row in rows:
+            name, _, value = files.text_of(row).partition(" ")
+            made.setdefault(name, []).append(value)
+        return made
+
+    def standing(self) -> list[Entry]:
+        """Where the cycle stands by the checkpoint. A night that was cut may have no row."""
+        now = self.checkpoint()
+        numbers = {name: int(values[0]) for name, values in now.items() if values[0].isdecimal()}
+        if "cycle" not in numbers:
+            return []
+        stands = Entry("stands", cycle=numbers["cycle"], spent=numbers.get("spent", 0),
+                       files=numbers.get("files", 0), runs=numbers.get("runs", 0),
+                       stands="ended" if "ended" in now else "")
+        has_lost = now.get("whole") == ["no"] and not stands.stands
+        # The first of these lines is how many there are.
+        left = [Entry("left", cycle=stands.cycle, said=it) for it in now.get("left", [])[1:]]
+        return [stands, *[replace(stands, kind="lost")] * has_lost, *left]
+
+    def refuse_damage(self) -> None:
+        """Fails if the program refuses what says to which root the folder is bound."""
+        path = self.at("checkpoint")
+        done = subprocess.run([find_program(), "show", "--", path], stdout=subprocess.DEVNULL,
+                              stdin=subprocess.DEVNULL, check=False)
+        if done.returncode != 0:
+            raise Failed(path + " is refused by the program")
 
     def bound_to(self, name: str) -> str:
-        """What the folder is bound to: the `path` of the storage root, what it `declared`."""
-        raise NotImplementedError
-
-    def declaration(self) -> dict[str, str]:
-        """What a statement says of the root's declaration."""
-        raise NotImplementedError
+        """What the folder is bound to: the path of the `root`, what it `declared`."""
+        found = self.checkpoint().get(name, [""])[0]
+        return files.text_of(unquote_to_bytes(found)) if name == "root" else found
 
     def ends(self) -> dict[str, str]:
         """The ends of the part that the folder is about: `from` and `below`."""
-        raise NotImplementedError
+        lines = self.checkpoint()
+        return {name: lines[name][0] for name in ("from", "below") if name in lines}
 
-    def parts(self) -> list[str]:
-        """The folders of the parts of the open cycle, in the order of the parts."""
-        raise NotImplementedError
+    # Reports and lists
+
+    def find(self, kind: str, cycle: int) -> str | None:
+        return find(self.reports, kind, cycle)
+
+    def closed(self) -> list[Closed]:
+        return closed_in(self.reports)
+
+    def last_closed(self) -> int:
+        return max((it.cycle for it in self.closed()), default=0)
+
+    def open_report(self) -> str | None:
+        report = self.at("report")
+        return report if os.path.isfile(report) else None
+
+    def open_reports(self) -> list[tuple[int | None, list[str]]]:
+        """The reports that are in no closed one of the folder, by the cycle, those of the open
+        cycle last, with None."""
+        report = self.open_report()
+        return [(None, [report] if report else [])]
+
+    # Parts
+
+    def folders(self) -> list[State]:
+        """The folders of the parts, in their order."""
+        return []
+
+    def closed_of_part(self, part: State) -> list[Closed]:
+        """The closed reports of a part that are not joined yet."""
+        joined = self.last_closed()
+        return [it for it in part.closed() if it.cycle > joined]
 
     def waiting_part(self) -> tuple[str, int] | None:
         """Of parts: when the last night of the one began that waits longest for its next, and its
         number. None of those counts that are done with the open cycle."""
         return None
 
-    def refuse_damage(self) -> None:
-        """Fails if the program refuses what says to which root the folder is bound."""
 
-    # What holds of each kind
+class JoinedState(State):
+    """A folder of `ocfl-scrub join`. The nights of its parts that begin within half a day count as
+    one, whose status is the worst of theirs."""
+
+    def folders(self) -> list[State]:
+        names = sorted(filter(PART.fullmatch, os.listdir(self.path)), key=lambda it: int(it[5:]))
+        refuse_links(*map(self.at, names))
+        return [State(self.at(name)) for name in names]
 
     def refuse_links(self) -> None:
-        files.refuse_links(*map(self.at, self.NAMES))
+        super().refuse_links()
+        for part in self.folders():
+            part.refuse_links()
 
-    def find(self, kind: str, cycle: int) -> str | None:
-        return find(self.reports, kind, cycle)
+    def is_held(self) -> bool:
+        return any(part.is_held() for part in self.folders())
+
+    def has_log(self) -> bool:
+        return super().has_log() or any(part.has_log() for part in self.folders())
+
+    def bound_to(self, name: str) -> str:
+        return next(filter(None, (part.bound_to(name) for part in self.folders())), "")
+
+    def refuse_damage(self) -> None:
+        for part in self.folders()[:1]:
+            part.refuse_damage()
+
+    def entries(self) -> Iterator[Entry]:
+        joining = Joining(self)
+        for number_of_part, row in self.rows_by_time():
+            yield from joining.take(number_of_part, row)
+        yield from joining.end()
+        yield from self.standing()
+
+    def standing(self) -> list[Entry]:
+        """Where the last cycle stands in all parts together."""
+        found = [it for part in self.folders() for it in part.standing()]
+        cycle = max((it.cycle for it in found), default=0)
+        of_cycle = [it for it in found if it.cycle == cycle and it.kind == "stands"]
+        has_ended = cycle <= self.last_closed() or all(it.stands for it in of_cycle) and len(
+            of_cycle) == len(self.folders())
+        stands = [replace(it, stands="ended" if has_ended else "",
+                          spent=sum(one.spent for one in of_cycle),
+                          files=sum(one.files for one in of_cycle),
+                          runs=sum(one.runs for one in of_cycle)) for it in of_cycle[:1]]
+        return stands + [it for it in found if it.kind == "left"]
+
+    def rows_by_time(self) -> Iterator[tuple[int, dict[str, Any]]]:
+        """The rows of all logs by their time, each after the number of its part, which is 0 for
+        those of the folder itself. They can be more than memory has room for."""
+        database = sqlite3.connect("")
+        database.execute("create table row (time integer, part integer, line text)")
+        for number_of_part, part in enumerate([State(self.path), *self.folders()]):
+            database.executemany("insert into row values (?, ?, ?)", (
+                (min(number(row, "time"), 1 << 62), number_of_part, json.dumps(row))
+                for row in part.rows()))
+        for number_of_part, line in database.execute(
+                "select part, line from row order by time, part, rowid"):
+            yield number_of_part, json.loads(line)
+        database.close()
 
     def runs(self, cycle: int) -> Iterator[Entry]:
-        """The entries of a cycle in the order of its report."""
-        return (entry for entry in self.entries() if entry.cycle == cycle)
-
-    def joined_cycles(self) -> list[int]:
-        """The cycles whose reports were joined of parts."""
-        return []
-
-    def closed(self) -> list[Closed]:
-        return closed_in(self.reports)
-
-    def lists_of_gone(self) -> list[Closed]:
-        """The lists of what was gone, in the order of their cycles."""
-        return numbered_in(self.reports, "gone")
-
-    def open_report(self) -> str | None:
-        """The report of the open cycle, but of none that is made of parts."""
-        report = self.at("report")
-        return report if os.path.isfile(report) else None
+        """Those of all parts in the order of the joined report, with its numbers of lines."""
+        before = 0
+        for part in self.folders():
+            lines = 0
+            for entry in part.runs(cycle):
+                if entry.lines != ALL_LINES:
+                    lines = max(lines, entry.lines)
+                    entry = replace(entry, lines=before + entry.lines)
+                yield entry
+            before += lines
 
     def open_reports(self) -> list[tuple[int | None, list[str]]]:
-        """The reports that are in no closed one of the folder. Of parts these are, by cycle, the
-        closed ones that are not joined. The open ones come last, with None as their cycle."""
-        report = self.open_report()
-        if report:
-            return [(None, [report])]
-        unjoined: dict[int | None, list[str]] = {}
-        for part in self.parts():
+        unjoined: dict[int, list[str]] = {}
+        for part in self.folders():
+            refuse_links(part.reports)
             for it in self.closed_of_part(part):
                 unjoined.setdefault(it.cycle, []).append(it.path)
-        reports = [part + "/report" for part in self.parts()]
-        return [*sorted(unjoined.items(), key=lambda it: it[0] or 0),
-                (None, [it for it in reports if os.path.lexists(it)])]
+        opened = filter(None, (part.open_report() for part in self.folders()))
+        return [*sorted(unjoined.items()), (None, list(opened))]
 
-    def closed_of_part(self, part: str) -> list[Closed]:
-        """The closed reports of a part that are not joined yet."""
-        files.refuse_links(part, part + "/reports")
-        return closed_in(part + "/reports")
+    def waiting_part(self) -> tuple[str, int] | None:
+        joined, parts = self.last_closed(), self.folders()
+        ended = [max((it.cycle for it in self.closed_of_part(part)), default=joined)
+                 for part in parts]
+        return min(((max((time_of(row, "night") for row in part.rows()), default=""), at)
+                    for at, part in enumerate(parts, 1) if ended[at - 1] == min(ended)),
+                   default=None)
+
+
+def open_state(path: str) -> State:
+    """The folder of state at a path, by what lies in it. Fails if it is one of the scripts."""
+    def has(names: tuple[str, ...]) -> bool:
+        return any(os.path.lexists(os.path.join(path, name)) for name in names)
+
+    if has(("part-000001",)):
+        return JoinedState(path)
+    if has(OF_SCRIPTS) and not has(OWN):
+        raise Failed(path + " is a folder of the scripts of version 1.0.0, which made nights "
+                     "before the program did. Keep it for its reports, which `findings` and the "
+                     "like take by their names, and begin anew in another folder: "
+                     "ocfl-scrub night --create")
+    return State(path)

@@ -11,11 +11,36 @@ from datetime import datetime, timezone
 from typing import IO, Iterator, Optional, Tuple
 
 from . import files, standing
+from .log import Closing, Entry, rank, worst
 from .questions import gravest_first
-from .state import Closing, Entry, State, rank, worst
+from .shared import Failed
+from .state import State
 from .weights import Known, Weights
 
+# What would end the line for a monitor, or begin its figures.
+BREAKING = re.compile(r"[|\n]")
 WORDS = ("OK", "WARNING", "CRITICAL", "UNKNOWN")
+# What each figure for Prometheus is.
+HELP = {
+    "last_night_timestamp_seconds": "When the last night began.",
+    "last_night_age_seconds": "How long ago the last night began, as this was written.",
+    "last_night_status": "Status of the last night; 255 where it was cut.",
+    "last_night_run_seconds": "How long the runs of the last night took.",
+    "cycle": "The cycle of the last run.",
+    "cycle_read_bytes": "Bytes that the cycle has read.",
+    "cycle_read_files": "Files that the cycle has read.",
+    "closed_cycle": "The last closed cycle.",
+    "closed_cycle_cost": "What it read: bytes, and 1 for each file.",
+    "closed_cycle_whole": "1 where its report is whole.",
+    "cycle_progress_ratio": "How far the cycle is, by the last one.",
+    "nights_left": "Nights that the cycle still needs.",
+    "whole_cycle_timestamp_seconds": "When the last whole cycle ended.",
+    "gone_objects": "Objects that were gone and are not back.",
+    "gone_files": "Files that were gone and are not back.",
+    "expected_objects_missing": "Expected objects that the last closed cycle lacks.",
+    "known_findings": "Open findings that are known.",
+    "damaged": "Open findings of weight 1 that are not known.",
+    "open_findings": "Open findings that are not known."}
 # From which number on there is a warning, and an alarm; None stands for never.
 Limit = Tuple[Optional[int], Optional[int]]
 
@@ -40,13 +65,16 @@ class Log:
     is_open: bool = False
     spent: int = 0
     files: int = 0
+    # How many runs of the cycle no row tells of, and the places that each cycle leaves out.
+    unlogged: int = 0
+    left_out: dict[int, dict[str, None]] = field(default_factory=dict)
     cost: Counter[int] = field(default_factory=Counter)
+    runs: Counter[int] = field(default_factory=Counter)
     nights: dict[int, set[str]] = field(default_factory=dict)
     closed: Entry | None = None
     closing: Closing = field(default_factory=Closing)
     whole: Entry | None = None
     lost_in: int | None = None
-    waiting: tuple[str, int] | None = None
 
     def take(self, entry: Entry) -> None:
         """Goes on to the next entry."""
@@ -55,13 +83,14 @@ class Log:
         elif entry.kind == "ended":
             self.closed, self.closing = entry, entry.closing or Closing()
             self.is_open = False
-            if self.closing.is_whole:
-                self.whole = entry
+            self.whole = entry if self.closing.is_whole else self.whole
         elif entry.kind == "lost":
             self.lost_in = entry.cycle
+        elif entry.kind == "left":
+            self.left_out.setdefault(entry.cycle, {})[entry.said] = None
         elif entry.kind == "stands" and self.night:
-            self.cycle, self.spent, self.files = entry.cycle, entry.spent, entry.files
-            self.is_open = entry.stands != "ended"
+            self.stand(entry)
+            self.unlogged = entry.runs - self.runs[entry.cycle]
         elif entry.kind == "told":
             self.start_night(entry.night)
             self.status, self.is_under_way = entry.status or self.status, False
@@ -71,13 +100,15 @@ class Log:
         self.status = worst(self.status, entry.kind)
         # A night that was refused, or stopped, says nothing of any cycle.
         self.is_under_way = entry.cycle > 0 and entry.kind != "cut"
-        if entry.cycle == 0:
-            return
-        self.cycle = entry.cycle
-        self.cost[entry.cycle] += entry.cost
-        self.nights.setdefault(entry.cycle, set()).add(entry.night)
-        self.seconds += entry.seconds
-        self.spent, self.files = entry.spent, entry.files
+        if entry.cycle > 0:
+            self.cost[entry.cycle] += entry.cost
+            self.runs[entry.cycle] += entry.runs
+            self.nights.setdefault(entry.cycle, set()).add(entry.night)
+            self.seconds += entry.seconds
+            self.stand(entry)
+
+    def stand(self, entry: Entry) -> None:
+        self.cycle, self.spent, self.files = entry.cycle, entry.spent, entry.files
         self.is_open = entry.stands != "ended"
 
     def start_night(self, night: str) -> None:
@@ -123,7 +154,8 @@ def findings_of(state: State, known: Known, weights: Weights) -> Findings:
 class Standing:
     """How the nights stand at a time, as limits judge it."""
 
-    def __init__(self, log: Log, found: Findings, limits: dict[str, Limit], now: int) -> None:
+    def __init__(self, log: Log, found: Findings, limits: dict[str, Limit], now: int,
+                 waiting: tuple[str, int] | None) -> None:
         self.log, self.found, self.limits, self.now = log, found, limits, now
         self.age = now - seconds_of(log.night) if log.night else 0
         self.open = sum(found.count.values())
@@ -131,7 +163,7 @@ class Standing:
         self.gone = found.objects + found.files + self.expected
         self.level, self.reasons, self.are_said = 0, [], False  # type: int, list[str], bool
         self.done, self.left = self.reckon()
-        self.judge()
+        self.judge(waiting)
 
     def reckon(self) -> tuple[int | None, int | None]:
         """How far the open cycle is in hundredths of the cost of the last one, and how many nights
@@ -145,18 +177,18 @@ class Standing:
             return done, None
         return done, max(1, math.ceil((whole - log.spent) / rate))
 
-    def judge(self) -> None:
+    def judge(self, waiting: tuple[str, int] | None) -> None:
         log = self.log
         if not log.night:
             self.add(3, "no night has run")
             return
         self.compare("age", self.age / 3600, "the last night began %s ago" % span(self.age))
-        if log.waiting:
-            self.judge_part(*log.waiting)
+        if waiting:
+            self.judge_part(*waiting)
         # Until a night is over, that of the night before it counts as well.
         if log.is_under_way and rank(log.status_before) > rank(log.status):
             log.status = log.status_before
-        if "cut" in (log.status, log.status_before):
+        if "cut" in (log.status, log.status_before) or log.unlogged > 0:
             self.add(1, "a night was cut")
         if rank(log.status) > 1 and log.status != "cut":
             self.add(2, "the last night ended with status " + log.status)
@@ -176,12 +208,21 @@ class Standing:
     def judge_cycles(self) -> None:
         log = self.log
         if log.closed and not log.closing.is_whole:
-            self.add(1, "the report of cycle %d is not whole" % log.closed.cycle)
+            self.add(1, "the report of cycle %d is not whole%s" % (
+                log.closed.cycle, self.left_text(log.closed.cycle)))
+        if log.cycle is not None and log.is_open and log.cycle in log.left_out:
+            self.add(1, "cycle %d will not be whole%s" % (log.cycle, self.left_text(log.cycle)))
         if log.lost_in is not None and (not log.closed or log.lost_in != log.closed.cycle):
             self.add(1, "the report of cycle %d lost lines" % log.lost_in)
         if log.whole:
             self.compare("cycle_age", (self.now - seconds_of(log.whole.began)) / 86400,
                          "the last whole cycle ended on " + log.whole.began[:10])
+
+    def left_text(self, cycle: int) -> str:
+        """Which places a cycle left out, the first three by name."""
+        left = [BREAKING.sub("?", place) for place in self.log.left_out.get(cycle, ())]
+        more = ["%d more" % (len(left) - 3)] if len(left) > 3 else []
+        return ": left out " + ", ".join(left[:3] + more) if left else ""
 
     def judge_findings(self) -> None:
         """If a limit is reached, the findings are said first, and else last."""
@@ -225,7 +266,7 @@ class Standing:
 
     def line(self, root: str) -> str:
         """The line for a monitor. A bar would begin the figures."""
-        text = "OCFL-SCRUB %s - %s" % (WORDS[self.level], re.sub(r"[|\n]", "?", root))
+        text = "OCFL-SCRUB %s - %s" % (WORDS[self.level], BREAKING.sub("?", root))
         parts = [*self.reasons, *self.about_nights()]
         return text + ": " + "; ".join(parts) + self.figures()
 
@@ -256,60 +297,36 @@ class Standing:
 
     # Figures for Prometheus
 
-    def metrics(self) -> list[tuple[str, str, float]]:
-        """The name, the help and the value of each figure."""
-        log = self.log
+    def metrics(self) -> dict[str, float | None]:
+        """The value of each figure; None where it is not known."""
+        log, found = self.log, self.found
         if not log.night:
-            return [("last_night_timestamp_seconds", "When the last night began.", 0)]
-        of_nights = [
-            ("last_night_timestamp_seconds", "When the last night began.", seconds_of(log.night)),
-            ("last_night_age_seconds", "How long ago the last night began, as this was written.",
-             self.age),
-            ("last_night_status", "Status of the last night; 255 where it was cut.",
-             255 if log.status == "cut" else int(log.status)),
-            ("last_night_run_seconds", "How long the runs of the last night took.", log.seconds)]
-        return of_nights + self.of_cycles() + self.of_findings()
-
-    def of_cycles(self) -> list[tuple[str, str, float]]:
-        log = self.log
-        found: list[tuple[str, str, float]] = []
-        if log.cycle is not None:
-            found += [("cycle", "The cycle of the last run.", log.cycle),
-                      ("cycle_read_bytes", "Bytes that the cycle has read.", log.spent - log.files),
-                      ("cycle_read_files", "Files that the cycle has read.", log.files)]
-        if log.closed:
-            found += [("closed_cycle", "The last closed cycle.", log.closed.cycle),
-                      ("closed_cycle_cost", "What it read: bytes, and 1 for each file.",
-                       log.closed.spent),
-                      ("closed_cycle_whole", "1 where its report is whole.",
-                       int(log.closing.is_whole))]
-        if self.done is not None:
-            found.append(("cycle_progress_ratio", "How far the cycle is, by the last one.",
-                          self.done / 100))
-        if self.left is not None:
-            found.append(("nights_left", "Nights that the cycle still needs.", self.left))
-        if log.whole:
-            found.append(("whole_cycle_timestamp_seconds", "When the last whole cycle ended.",
-                          seconds_of(log.whole.began)))
-        return found
-
-    def of_findings(self) -> list[tuple[str, str, float]]:
-        found = self.found
-        return [
-            ("gone_objects", "Objects that were gone and are not back.", found.objects),
-            ("gone_files", "Files that were gone and are not back.", found.files),
-            ("expected_objects_missing", "Expected objects that the last closed cycle lacks.",
-             self.expected),
-            ("known_findings", "Open findings that are known.", found.known),
-            ("damaged", "Open findings of weight 1 that are not known.", found.damaged),
-            ("open_findings", "Open findings that are not known.", self.open)]
+            return {"last_night_timestamp_seconds": 0}
+        closed, whole, has_run = log.closed, log.whole, log.cycle is not None
+        return {
+            "last_night_timestamp_seconds": seconds_of(log.night),
+            "last_night_age_seconds": self.age,
+            "last_night_status": 255 if log.status == "cut" else int(log.status),
+            "last_night_run_seconds": log.seconds,
+            "cycle": log.cycle,
+            "cycle_read_bytes": log.spent - log.files if has_run else None,
+            "cycle_read_files": log.files if has_run else None,
+            "closed_cycle": closed.cycle if closed else None,
+            "closed_cycle_cost": closed.spent if closed else None,
+            "closed_cycle_whole": int(log.closing.is_whole) if closed else None,
+            "cycle_progress_ratio": None if self.done is None else self.done / 100,
+            "nights_left": self.left,
+            "whole_cycle_timestamp_seconds": seconds_of(whole.began) if whole else None,
+            "gone_objects": found.objects, "gone_files": found.files,
+            "expected_objects_missing": self.expected, "known_findings": found.known,
+            "damaged": found.damaged, "open_findings": self.open}
 
     def metrics_text(self, root: str, state: str) -> str:
         labels = 'root="%s",state="%s"' % (label(root), label(state))
         head = "# HELP ocfl_scrub_%s %s\n# TYPE ocfl_scrub_%s gauge\n"
-        text = "".join(head % (name, help_, name) + "ocfl_scrub_%s{%s} %s\n" % (
+        text = "".join(head % (name, HELP[name], name) + "ocfl_scrub_%s{%s} %s\n" % (
             name, labels, "%.6g" % value if value != int(value) else "%d" % value)
-                       for name, help_, value in self.metrics())
+                       for name, value in self.metrics().items() if value is not None)
         if self.log.night and self.found.count:
             name = "open_findings_by_code"
             text += head % (name, "The same by their codes.", name)
@@ -330,30 +347,30 @@ def put_metrics(text: str, path: str) -> None:
     """Exchanges the file of figures as a whole. The collector reads the names that end in `.prom`,
     so the new one has another ending until then."""
     try:
-        number, new = tempfile.mkstemp(prefix=os.path.basename(path) + ".",
-                                       dir=os.path.dirname(path) or ".")
-        try:
-            with open(number, "wb") as file:
+        with tempfile.NamedTemporaryFile(prefix=os.path.basename(path) + ".", delete=False,
+                                         dir=os.path.dirname(path) or ".") as file:
+            try:
                 file.write(files.bytes_of(text))
-            os.chmod(new, 0o644)
-            os.replace(new, path)
-        except OSError:
-            os.remove(new)
-            raise
+                file.flush()
+                os.chmod(file.name, 0o644)
+                os.replace(file.name, path)
+            except OSError:
+                os.remove(file.name)
+                raise
     except OSError as error:
-        raise files.Failed("status: %s could not be written" % path) from error
+        raise Failed("status: %s could not be written" % path) from error
 
 
 def standing_of(state: State, known: str | None, weights: Weights, limits: dict[str, Limit],
                 now: int) -> Standing:
     if not os.path.isdir(state.path):
-        raise files.Failed(state.path + " is no folder")
+        raise Failed(state.path + " is no folder")
     state.refuse_links()
-    leave_out = Known(known)
-    log = Log()
+    leave_out, log = Known(known), Log()
     for entry in state.entries() if state.has_log() else ():
         log.take(entry)
-    log.waiting = state.waiting_part()
+    if state.is_held():
+        log.unlogged = 0
     found = findings_of(state, leave_out, weights)
     closing = log.closing
     if log.closed and closing.objects + closing.files and not state.find("gone",
@@ -361,4 +378,4 @@ def standing_of(state: State, known: str | None, weights: Weights, limits: dict[
         # The list is not there, so the log alone knows of them.
         found.objects += closing.objects
         found.files += closing.files
-    return Standing(log, found, limits, now)
+    return Standing(log, found, limits, now, state.waiting_part())

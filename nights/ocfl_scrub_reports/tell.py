@@ -1,7 +1,6 @@
 """Sends what a night said, by mail or to standard error, which is the journal."""
 from __future__ import annotations
 
-import fcntl
 import glob
 import os
 import signal
@@ -11,6 +10,7 @@ from dataclasses import dataclass
 from typing import Mapping
 
 from . import files
+from .state import is_held
 from .statement import plain
 
 WORDS = {"0": "{}: a word on the night", "1": "findings in {}",
@@ -76,19 +76,6 @@ class Night:
         """The text was sent: the last one stays as `tonight`, until another one is sent."""
         for path in [*self.unsent, *filter(None, [self.own])]:
             os.replace(path, os.path.join(self.state, "tonight"))
-
-
-def is_held(state: str) -> bool:
-    """Whether a night is under way, whose text is not whole yet."""
-    path = os.path.join(state, "lock")
-    if os.path.islink(path) or not os.path.isfile(path):
-        return False
-    with open(path, "rb") as lock:
-        try:
-            fcntl.flock(lock, fcntl.LOCK_SH | fcntl.LOCK_NB)
-        except BlockingIOError:
-            return True
-    return False
 
 
 def has_text(path: str) -> bool:

@@ -5,8 +5,11 @@ import os
 
 from . import files
 from .counts import Count, of_changes
-from .state import cycle_name, find, kinds_in
-from .statement import FORM, NAMES, OF_CODE, OPTIONAL, Statement, as_json, of_known, plain
+from .log import kinds_in
+from .shared import Failed, refuse_links
+from .state import NOT_KNOWN, cycle_name, find
+from .statement import (ADDED, FORM, FORM_BEFORE, NAMES, OPTIONAL, Statement, as_json, kind_of,
+                        of_known, plain)
 
 GONE = {"Objects gone": b"object", "Files gone": b"file", "Expected objects missing": b"expected"}
 LIST_OF_GONE = "List of what is gone, SHA-256"
@@ -20,13 +23,14 @@ class Check:
 
     def __init__(self, path: str, report: str | None) -> None:
         self.path, self.folder = path, os.path.dirname(path)
-        self.rows = [files.text_of(row) for row in files.lines(path)]
-        if self.rows[0] != FORM:
-            raise files.Failed(path + " is no statement")
+        self.form, *self.rows = [files.text_of(row) for row in files.lines(path)]
+        if self.form not in (FORM, FORM_BEFORE):
+            raise Failed(path + " is no statement")
+        self.names = [it for it in NAMES if self.form == FORM or it not in ADDED]
         self.said = Statement.read(path)
         cycle = self.said.get("Cycle", "")
         if not cycle.isdecimal() or cycle.startswith("0"):
-            raise files.Failed(path + " names no cycle")
+            raise Failed(path + " names no cycle")
         self.cycle = int(cycle)
         self.report = report or self.said.report_beside(self.folder)
         self.facts: dict[str, str] = {}
@@ -78,6 +82,9 @@ class Check:
         return path
 
     def find_gone(self) -> None:
+        """What is gone. The statement of a joined cycle, in its form before, did not count it
+        where parts were compared with different cycles; it has the digest of its list all the
+        same."""
         path = self.listed("gone", LIST_OF_GONE, *GONE)
         if LIST_OF_GONE in self.lacking:
             return
@@ -85,6 +92,8 @@ class Check:
         count = kinds_in(path)
         for name, kind in GONE.items():
             said = self.said.get(name, "")
+            if said == NOT_KNOWN and self.form == FORM_BEFORE:
+                continue
             if count[kind] or said[:1].isdecimal() and (path or said.strip("0")):
                 self.facts[name] = str(count[kind])
 
@@ -92,32 +101,31 @@ class Check:
 
     def compare(self) -> None:
         seen: set[str] = set()
-        for number, row in enumerate(self.rows[1:], 2):
-            if row or number > 2:
+        for number, row in enumerate(self.rows):
+            if row or number > 0:
                 self.compare_row(row, seen)
-        lost = {name: ", and it is " + fact for name, fact in self.facts.items()}
-        for name in [*self.facts, *(it for it in NAMES if it not in self.facts)]:
-            if name not in seen and (name in lost or name not in OPTIONAL):
-                self.differences.append("%s: the statement lacks it%s" % (name,
-                                                                          lost.get(name, "")))
+        for name in [*self.facts, *(it for it in self.names if it not in self.facts)]:
+            if name not in seen and (name in self.facts or not (
+                    name in OPTIONAL or name.endswith("*"))):
+                fact = ", and it is " + self.facts[name] if name in self.facts else ""
+                self.differences.append("%s: the statement lacks it%s" % (name, fact))
         if self.has_json and not self.is_same_as_json():
             self.differences.append("%s does not say the same as %s" % (self.json, self.path))
 
     def compare_row(self, row: str, seen: set[str]) -> None:
         name, colon, value = row.partition(": ")
-        is_of_code = OF_CODE.fullmatch(name)
-        if not colon or not (name in NAMES or is_of_code):
-            self.differences.append("no statement has the line: " + shown(row))
+        if not colon or kind_of(name) not in self.names or name.endswith("*"):
+            self.differences.append("no statement has the line: " + plain("", row))
             return
         if name in seen:
             self.differences.append(name + ": stands there twice")
         seen.add(name)
-        if is_of_code:
+        if kind_of(name) == "Findings *":
             # What is counted has a fact: no line of the report has this code.
             self.facts.setdefault(name, "0")
         if self.facts.get(name, value) != value:
             self.differences.append("%s: the statement says %s, and it is %s"
-                                    % (name, shown(value), self.facts[name]))
+                                    % (name, plain("", value), self.facts[name]))
         if name in self.lacking:
             self.unchecked.setdefault(self.lacking[name], []).append(name)
         elif name not in self.facts and not self.has_json:
@@ -128,15 +136,10 @@ class Check:
         return b"".join(files.chunks(self.json)) == files.bytes_of(as_json(files.text_of(text)))
 
 
-def shown(text: str) -> str:
-    """A text of a statement, in printable ASCII."""
-    return plain("Part from", text)
-
-
 def show(path: str, report: str | None) -> int:
     """Says whether the statement holds. Gives 0 if all of it was checked and holds, 1 if something
     does not hold, and 4 if something could not be checked."""
-    files.refuse_links(path)
+    refuse_links(path)
     check = Check(path, report)
     check.find_facts()
     check.compare()

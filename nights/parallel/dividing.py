@@ -5,7 +5,8 @@ import os
 import subprocess
 import tempfile
 
-from folder import Failed, part, program, put, sync
+from folder import part
+from ocfl_scrub_reports.shared import Failed, find_program, put, sync_folder
 
 
 def divide(state: str, parts: str, words: list[str]) -> None:
@@ -17,29 +18,29 @@ def divide(state: str, parts: str, words: list[str]) -> None:
     try_night(state, data, words)
     for number in range(1, data.count(b"\n") + 2):
         os.makedirs("%s/%s" % (state, part(number)), 0o750, exist_ok=True)
-    sync(state)
-    put(state + "/parts", data)
+    sync_folder(state)
+    put(data, state + "/parts")
 
 
 def separators(parts: str, root: str) -> bytes:
     """Those of at most so many parts, or of a file."""
-    if not parts.isdecimal():
-        with open(parts, "rb") as file:
-            return file.read()
-    return said_by(["split", "--parts", parts, root])
+    if parts.isdecimal():
+        return said_by(["split", "--parts", parts, root])
+    with open(parts, "rb") as file:
+        return file.read()
 
 
 def try_night(state: str, data: bytes, words: list[str]) -> None:
     """Has the program try root, separators and options: a night that is over before it begins."""
     with tempfile.TemporaryDirectory(dir=state) as tried:
-        put(tried + "/parts", data)
+        put(data, tried + "/parts")
         said_by(["night", "--create", "--state", tried + "/state", "--parts", tried + "/parts",
                  "--part", str(data.count(b"\n") + 1), "--end", "1", *words])
 
 
 def said_by(words: list[str]) -> bytes:
     """What the program writes. If it refuses, it says why."""
-    done = subprocess.run([program(), *words], capture_output=True, check=False)
+    done = subprocess.run([find_program(), *words], capture_output=True, check=False)
     if done.returncode != 0:
         said = os.fsdecode(done.stderr).removeprefix("ocfl-scrub: ").strip()
         raise Failed(said, 2 if done.returncode == 2 else 3)

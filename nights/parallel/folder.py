@@ -1,4 +1,4 @@
-"""The folder of the parts of a storage root, which `begin`, `part`, `end` and `night` share."""
+"""The folder of the parts of a storage root, which `begin`, `part`, `end` and `nightly` share."""
 from __future__ import annotations
 
 import fcntl
@@ -6,21 +6,17 @@ import os
 import sys
 
 HERE = os.path.dirname(os.path.realpath(__file__))
+sys.path.insert(0, os.path.dirname(HERE))
+from ocfl_scrub_reports.shared import Failed, refuse_links, sync_folder
 
 
-class Failed(Exception):
-    """Ends a command with a text and a status."""
-
-    def __init__(self, text: str, status: int = 3) -> None:
-        super().__init__(text)
-        self.status = status
-
-
-def program() -> str:
-    """The program that the nights run: that of the environment, of the installation, or a clone."""
-    there = [os.environ.get("OCFL_SCRUB", ""), HERE + "/../../../bin/ocfl-scrub",
-             HERE + "/../../ocfl-scrub"]
-    return next((path for path in there if path and os.access(path, os.X_OK)), there[-1])
+def run_as(name: str, main: object) -> None:
+    """Does what a script does, and ends with its status."""
+    try:
+        sys.exit(main(sys.argv[1:]))  # type: ignore[operator]
+    except (Failed, OSError, ValueError) as error:
+        print("%s: %s" % (name, error), file=sys.stderr)
+        sys.exit(getattr(error, "status", 3))
 
 
 def taken(words: list[str], values: str, flags: str = "") -> tuple[dict[str, str], list[str]]:
@@ -43,6 +39,14 @@ def taken(words: list[str], values: str, flags: str = "") -> tuple[dict[str, str
 def given_on(found: dict[str, str], *names: str) -> list[str]:
     """The options of these names as words."""
     return [word for name in names if name in found for word in (name, found[name])]
+
+
+def number(found: dict[str, str], name: str, default: str = "0") -> float:
+    """The value of an option as a number."""
+    try:
+        return float(found.get(name, default))
+    except ValueError as error:
+        raise Failed("%s needs a number, and not %s" % (name, found[name]), 2) from error
 
 
 def use(state: str, words: list[str] | None = None, create: bool = False) -> str:
@@ -68,14 +72,7 @@ def use(state: str, words: list[str] | None = None, create: bool = False) -> str
     for name in ("checkpoint", "cursor", "nights"):
         if os.path.lexists(state + "/" + name):
             raise Failed("%s is no folder of parts: it has a file %s" % (state, name))
-    return refuse_links(state, "parts", "said", "log", "given", "reports")
-
-
-def refuse_links(state: str, *names: str) -> str:
-    for name in names:
-        if os.path.islink(state + "/" + name):
-            raise Failed("%s/%s is a link, and no link in a state folder is followed"
-                         % (state, name))
+    refuse_links(*(state + "/" + name for name in ("parts", "said", "log", "given", "reports")))
     return state
 
 
@@ -102,22 +99,5 @@ def note(state: str, number: int) -> int:
     """A new file for what a part says, or for 0 what is said of all of them."""
     import time
     file = opened("%s/said/%06d-%d.%d" % (state, number, time.time_ns(), os.getpid()))
-    sync(state + "/said")
+    sync_folder(state + "/said")
     return file
-
-
-def put(path: str, data: bytes) -> None:
-    """Puts a file in its place, whole or not at all."""
-    if os.path.lexists(path + ".new"):
-        os.remove(path + ".new")
-    with os.fdopen(opened(path + ".new"), "wb") as file:
-        file.write(data)
-    os.replace(path + ".new", path)
-    sync(os.path.dirname(path))
-
-
-def sync(folder: str) -> None:
-    """Brings the names in a folder to the disk."""
-    number = os.open(folder, os.O_RDONLY)
-    os.fsync(number)
-    os.close(number)

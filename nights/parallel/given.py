@@ -4,15 +4,24 @@ from __future__ import annotations
 import json
 import os
 import re
+import subprocess
 import time
 from typing import Iterable
 
-from folder import note, opened, part, put
+from folder import note, opened, part
+from ocfl_scrub_reports.files import time_text
+from ocfl_scrub_reports.shared import put
+from ocfl_scrub_reports.state import numbered_in
 
 # The row of a night that has come to its end.
 NIGHT = re.compile(rb'\{.*"row":"night".*"status":([0-9]+).*\}\n')
 CLOSING = re.compile(rb"\nphase closing\n(?:.*\n)*cycle ([0-9]+)\n")
-CLOSED = re.compile(r"(cycle|incomplete|gone)-([0-9]+)(\.gz)?")
+
+
+def run(words: list[str]) -> tuple[int, str]:
+    """The status of a command, and what it says."""
+    done = subprocess.run(words, stdout=subprocess.PIPE, stderr=subprocess.STDOUT, check=False)
+    return done.returncode, os.fsdecode(done.stdout).strip()
 
 
 def ranges(numbers: Iterable[int]) -> str:
@@ -32,23 +41,16 @@ def count_parts(state: str) -> int:
         return file.read().count(b"\n") + 1
 
 
-def lists(state: str, number: int) -> list[tuple[str, int, str]]:
-    """The closed reports and lists of a part: kind, cycle and path."""
-    folder = "%s/%s/reports" % (state, part(number))
-    found = map(CLOSED.fullmatch, os.listdir(folder) if os.path.isdir(folder) else [])
-    return [(it[1], int(it[2]), folder + "/" + it[0]) for it in found if it]
-
-
-def closed(state: str, number: int) -> dict[int, str]:
-    """The cycles that a part has closed: `cycle` if the report is whole, else `incomplete`. One
-    that a night was closing when it was killed is none: its next night ends that."""
-    path = "%s/%s/checkpoint" % (state, part(number))
+def closed(state: str, number: int) -> dict[int, bool]:
+    """The cycles that a part has closed, and whether their reports are whole. One that a night was
+    closing when it was killed is none: its next night ends that."""
+    folder = "%s/%s" % (state, part(number))
     closing = None
-    if os.path.isfile(path):
-        with open(path, "rb") as file:
+    if os.path.isfile(folder + "/checkpoint"):
+        with open(folder + "/checkpoint", "rb") as file:
             closing = CLOSING.search(file.read())
-    return {cycle: kind for kind, cycle, _ in lists(state, number)
-            if kind != "gone" and not (closing and cycle == int(closing[1]))}
+    return {it.cycle: it.is_whole for it in numbered_in(folder + "/reports", "incomplete", "cycle")
+            if not (closing and it.cycle == int(closing[1]))}
 
 
 def log(state: str, night: int, row: str, **more: object) -> None:
@@ -77,7 +79,8 @@ class Given:
 
     def __init__(self, state: str) -> None:
         self.state, self.path = state, state + "/given"
-        self.night, self.cycle, self.logs = int(time.time()), 0, {}  # type: int, int, dict[str, int]
+        self.night, self.cycle = int(time.time()), 0
+        self.logs: dict[str, int] = {}
         self.is_open = os.path.exists(self.path)
         if self.is_open:
             with open(self.path, "rb") as file:
@@ -85,7 +88,7 @@ class Given:
 
     def give(self, cycle: int, numbers: list[int]) -> None:
         logs = {str(number): size_of_log(self.state, number) for number in numbers}
-        put(self.path, json.dumps([int(time.time()), cycle, logs]).encode())
+        put(json.dumps([int(time.time()), cycle, logs]).encode(), self.path)
 
     def statuses(self, number: str) -> list[int]:
         """The statuses of the nights that a part has ended since."""
@@ -98,6 +101,5 @@ class Given:
     def not_run(self) -> str:
         """Names the parts that have ended no night since. Empty if there are none."""
         found = [int(number) for number in self.logs if not self.statuses(number)]
-        began = time.strftime("%Y-%m-%dT%H:%M:%SZ", time.gmtime(self.night))
-        return "No night has come to its end since %s in %s: it was not begun, refused or killed." % (
-            began, ranges(found)) if found else ""
+        return ("No night has come to its end since %s in %s: it was not begun, refused or killed."
+                % (time_text(self.night), ranges(found))) if found else ""

@@ -3,18 +3,17 @@ from __future__ import annotations
 
 import os
 import re
-import subprocess
 
-from folder import program, put
-from given import closed, count_parts, lists, ranges
+from folder import part
+from given import closed, count_parts, ranges, run
+from ocfl_scrub_reports.shared import find_program, put
+from ocfl_scrub_reports.state import cycle_name, find, numbered_in
 
 STATEMENT = re.compile("statement-([0-9]+)")
 
 
-def run(words: list[str]) -> tuple[int, str]:
-    """The status of a command, and what it says."""
-    done = subprocess.run(words, stdout=subprocess.PIPE, stderr=subprocess.STDOUT, check=False)
-    return done.returncode, os.fsdecode(done.stdout).strip()
+def reports_of(state: str, number: int) -> str:
+    return "%s/%s/reports" % (state, part(number))
 
 
 def join(state: str, cycle: int) -> str:
@@ -22,22 +21,19 @@ def join(state: str, cycle: int) -> str:
     what keeps them from it: that a report is not whole, on the night of that cycle alone."""
     parts = {number: closed(state, number) for number in range(1, count_parts(state) + 1)}
     last = min(max(it, default=0) for it in parts.values())
-    if last == 0 or any(os.path.lexists("%s/reports/cycle-%06d%s" % (state, last, end))
-                        for end in ("", ".gz")):
+    if last == 0 or find(state + "/reports", "cycle", last):
         return ""
     # It counts also if this cycle is not joined: the next one is compared with it.
-    gone = [path for number in parts for kind, of, path in sorted(lists(state, number))
-            if (kind, of) == ("gone", last)]
-    put("%s/reports/gone-%06d" % (state, last), b"".join(map(read, gone)))
-    lacking = [number for number, it in parts.items() if it.get(last) == "incomplete"]
+    gone = [find(reports_of(state, number), "gone", last) for number in parts]
+    put(b"".join(read(path) for path in gone if path),
+        "%s/reports/%s" % (state, cycle_name("gone", last)))
+    lacking = [number for number, it in parts.items() if it.get(last) is False]
     if lacking:
         return "" if last != cycle else (
             "The reports of cycle %d are not joined: that of %s is not whole." % (
                 last, ranges(lacking)))
-    status, text = run([program(), "join", "--parts", state + "/parts", "--state", state])
-    if status != 0:
-        return "The reports of cycle %d are not joined:\n%s" % (last, text)
-    return text
+    status, text = run([find_program(), "join", "--parts", state + "/parts", "--state", state])
+    return text if status == 0 else "The reports of cycle %d are not joined:\n%s" % (last, text)
 
 
 def read(path: str) -> bytes:
@@ -52,8 +48,9 @@ def make_room(state: str) -> None:
     names = os.listdir(folder) if os.path.isdir(folder) else []
     joined = max((int(it[1]) for it in map(STATEMENT.fullmatch, names) if it), default=0)
     for number in range(1, count_parts(state) + 1):
-        whole = [of for kind, of, _ in lists(state, number) if kind == "cycle"]
-        needed = min(sorted(whole)[-2:], default=0)
-        for _, of, path in lists(state, number):
-            if of < needed and of <= joined:
-                os.remove(path)
+        lists = numbered_in(reports_of(state, number), "cycle", "incomplete", "gone",
+                            "checkpoint")
+        needed = min(sorted(it.cycle for it in lists if it.is_whole)[-2:], default=0)
+        for it in lists:
+            if it.cycle < needed and it.cycle <= joined:
+                os.remove(it.path)

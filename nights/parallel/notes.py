@@ -15,7 +15,6 @@ class Notes:
         self.paths: list[str] = []
         # The numbers of the parts that said a text, which names the folder of none.
         self.texts: dict[bytes, list[int]] = {}
-        self.of_all = False
         folder = state + "/said"
         for name in sorted(os.listdir(folder) if os.path.isdir(folder) else []):
             self.take(folder + "/" + name, int(name.partition("-")[0]))
@@ -29,12 +28,11 @@ class Notes:
             text = file.read().replace(part(number).encode(), b"part-*")
         self.paths.append(path)
         if text:
-            self.of_all = self.of_all or number == 0
             self.texts.setdefault(text, []).append(number)
 
-    def numbers(self) -> set[str]:
-        """The parts that said something."""
-        return {str(number) for numbers in self.texts.values() for number in numbers if number}
+    def numbers(self) -> set[int]:
+        """The parts that said something; 0 for what was said of all."""
+        return {number for numbers in self.texts.values() for number in numbers}
 
     def text(self) -> bytes:
         """What all of them say, in the order of parts. What several say is there once."""

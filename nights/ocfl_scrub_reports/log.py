@@ -1,0 +1,320 @@
+"""What the log of a folder of state tells: its rows, a JSON object on each line, as entries. What a
+kill kept out of it is put in."""
+from __future__ import annotations
+
+import json
+import os
+from collections import Counter
+from dataclasses import dataclass, replace
+from typing import TYPE_CHECKING, Any, Iterator
+
+from . import files
+
+if TYPE_CHECKING:
+    from .state import JoinedState, State
+
+# Killed is worse than cut, and that than these.
+RANKS = {"": 0, "0": 0, "1": 1, "3": 2, "4": 3, "2": 4, "cut": 5}
+# How many lines a report has at most after a run of which the log does not say it.
+ALL_LINES = 1 << 62
+# The nights of parts that begin within so many seconds are one.
+ONE_NIGHT = 43200
+# The members of a row that an entry has by the same names.
+NUMBERS = ("cycle", "run", "lines", "cost", "spent", "files", "seconds", "bytes")
+WORDS = ("said", "stands", "program")
+
+
+@dataclass(frozen=True)
+class Closing:
+    """What the log says of a cycle that was closed. What was not compared or not asked is None."""
+    report: str = ""
+    is_whole: bool = False
+    compared: int | None = None
+    objects: int = 0
+    files: int = 0
+    expected: int | None = None
+    # How many places were left out.
+    left: int = 0
+    # What the log does not say: `expected`, if such objects were asked for; `kinds`, how many of
+    # what is gone are objects, which all then count as; `closed`, when; `lost`, how many lines.
+    unsaid: tuple[str, ...] = ()
+
+
+@dataclass(frozen=True)
+class Entry:
+    """What the log says at one moment. A run has its status as kind, or `cut`; of a night that was
+    refused the cycle is 0. Of other kinds are `left`, a place that is left out of its cycle, as
+    `said`, `told` and `ended`, and last `stands`, where the cycle now stands, and `lost`, if its
+    report lost lines."""
+    kind: str
+    began: str = ""
+    night: str = ""
+    cycle: int = 0
+    run: int = 0
+    lines: int = 0
+    cost: int = 0
+    spent: int = 0
+    files: int = 0
+    seconds: int = 0
+    bytes: int = 0
+    said: str = ""
+    stands: str = ""
+    # Of a run: the SHA-256 of its program, and how many runs it stands for.
+    program: str = ""
+    runs: int = 1
+    # Of `ended`: what was closed. Of `told`: the status of the night.
+    closing: Closing | None = None
+    status: str = ""
+
+    def is_run(self) -> bool:
+        return self.kind.isdigit() or self.kind == "cut"
+
+
+def rank(status: str) -> int:
+    return RANKS.get(status, 6)
+
+
+def worst(status: str, other: str) -> str:
+    """The worse of two statuses of a night."""
+    return other if rank(other) > rank(status) else status
+
+
+def kinds_in(path: str | None) -> Counter[bytes]:
+    """How many lines of each kind a list of what is gone has."""
+    rows = files.lines(path) if path else iter(())
+    return Counter(row.partition(b"\t")[0] for row in rows if row)
+
+
+# Rows
+
+def row_of(line: bytes) -> dict[str, Any] | None:
+    """The members of a row. What is no JSON object is none: a row that is being written, say."""
+    try:
+        row = json.loads(line)
+    except (ValueError, RecursionError):
+        return None
+    return row if isinstance(row, dict) else None
+
+
+def number(row: dict[str, Any], name: str) -> int:
+    value = row.get(name)
+    return value if type(value) is int and value >= 0 else 0
+
+
+def words(row: dict[str, Any], name: str) -> str:
+    """A text of a row, without what no bytes stand for."""
+    value = row.get(name)
+    return value.encode("utf-8", "replace").decode() if isinstance(value, str) else ""
+
+
+def time_of(row: dict[str, Any], name: str) -> str:
+    """A time of a row, which has it in seconds since 1970. Empty if no calendar has it."""
+    try:
+        return files.time_text(number(row, name))
+    except (ValueError, OverflowError, OSError):
+        return ""
+
+
+def entry_of(row: dict[str, Any], kind: str) -> Entry:
+    """The entry of a row. What the row does not have is 0, or empty."""
+    values: dict[str, Any] = {**{name: number(row, name) for name in NUMBERS},
+                              **{name: words(row, name) for name in WORDS}}
+    return Entry(kind, time_of(row, "time"), time_of(row, "night"), **values)
+
+
+class Telling:
+    """The entries of one log, as its rows come. What a kill kept out of the log is put in: that a
+    night was cut, and that a cycle was closed whose report lies there. Of a night without rows of
+    slices its own row counts as a run, which may have written any line."""
+
+    def __init__(self, state: State) -> None:
+        self.state = state
+        self.night = ""
+        self.is_over, self.has_slices = True, False
+        # The last run, the last cycle known to be closed, and the last one closed whole.
+        self.last: Entry | None = None
+        self.closed = 0
+        self.whole: int | None = None
+        # What the night closed: it comes after the night's runs.
+        self.closings: list[Entry] = []
+
+    def take(self, row: dict[str, Any]) -> Iterator[Entry]:
+        """What comes with the next row."""
+        night, kind = time_of(row, "night"), words(row, "row")
+        if night != self.night:
+            yield from self.end()
+            self.night, self.is_over, self.has_slices = night, True, False
+        if kind in ("slice", "left", "closing"):
+            self.is_over = False
+        if kind == "slice":
+            self.has_slices = True
+            yield from self.run(entry_of(row, str(number(row, "status"))))
+        elif kind == "left":
+            yield replace(entry_of(row, kind), said=words(row, "place"))
+        elif kind == "closing":
+            self.closings.append(self.ended(row))
+        elif kind == "refusal":
+            self.is_over = True
+            yield entry_of(row, str(number(row, "status")))
+        elif kind == "night":
+            yield from self.told(row)
+
+    def told(self, row: dict[str, Any]) -> Iterator[Entry]:
+        """The end of a night."""
+        status = str(number(row, "status"))
+        if number(row, "runs") and not self.has_slices:
+            yield from self.run(self.run_of(row, status))
+        self.is_over = True
+        yield from self.closings_so_far()
+        yield replace(entry_of(row, "told"), status=status)
+
+    def run_of(self, row: dict[str, Any], status: str) -> Entry:
+        """The runs of a night as one."""
+        closed = [it.cycle for it in self.closings]
+        cycle = max(closed, default=self.closed + 1)
+        before = self.last.spent if self.last and self.last.cycle == cycle else 0
+        return replace(
+            entry_of(row, status), began=self.night, cycle=cycle, lines=ALL_LINES,
+            runs=number(row, "runs"), spent=before + number(row, "cost"),
+            stands="ended" if closed else "")
+
+    def run(self, entry: Entry) -> Iterator[Entry]:
+        if self.last and entry.cycle > self.last.cycle:
+            yield from self.unlogged(entry.cycle)
+        self.last = entry
+        yield entry
+
+    def closings_so_far(self) -> Iterator[Entry]:
+        for entry in self.closings:
+            if self.last and self.last.cycle == entry.cycle:
+                entry = replace(entry, spent=self.last.spent, files=self.last.files)
+            self.closed = max(self.closed, entry.cycle)
+            yield entry
+        self.closings = []
+
+    def end(self) -> Iterator[Entry]:
+        """What is known once a night has no more rows. It was cut if none says its end."""
+        last = self.last if self.has_slices else next(
+            (Entry("cut", began=self.night, cycle=it.cycle, lines=ALL_LINES, stands="ended")
+             for it in self.closings), None)
+        yield from self.closings_so_far()
+        if last and not self.is_over:
+            self.is_over = True
+            yield replace(last, kind="cut", cost=0, seconds=0, night=self.night, runs=0)
+
+    def end_unless_held(self) -> Iterator[Entry]:
+        """What is known of the last night of the log, which may be under way."""
+        yield from self.closings_so_far() if self.state.is_held() else self.end()
+
+    def ended(self, row: dict[str, Any]) -> Entry:
+        entry = entry_of(row, "ended")
+        is_whole, left = row.get("whole") is True, number(row, "left")
+        listed, unsaid = self.state.find("gone", entry.cycle), ["expected"]
+        if not is_whole and not left:
+            unsaid.append("lost")
+        kinds = kinds_in(listed)
+        if number(row, "gone") and not listed:
+            unsaid.append("kinds")
+            kinds[b"object"] = number(row, "gone")
+        closing = with_losses(Closing(
+            os.path.basename(words(row, "report")), is_whole, left=left, unsaid=tuple(unsaid),
+            compared=None if "lost" in unsaid else self.whole), kinds)
+        self.whole = entry.cycle if is_whole else self.whole
+        return replace(entry, closing=closing)
+
+    def unlogged(self, below: int = ALL_LINES) -> Iterator[Entry]:
+        """That cycles below this one were closed of which no row says it, though their reports
+        show it."""
+        for it in self.state.closed() if self.last else ():
+            if self.last is None or not self.closed < it.cycle < below:
+                continue
+            self.closed = it.cycle
+            self.whole = it.cycle if it.is_whole else self.whole
+            name = os.path.basename(it.path).partition(".")[0]
+            unsaid = ("closed", "expected") + ("lost",) * (not it.is_whole)
+            closing = with_losses(Closing(name, it.is_whole, unsaid=unsaid),
+                                  kinds_in(self.state.find("gone", it.cycle)))
+            yield replace(self.last, kind="ended", cycle=it.cycle, cost=0, seconds=0,
+                          closing=closing)
+
+
+def with_losses(closing: Closing, kinds: Counter[bytes]) -> Closing:
+    """A closing with what is gone, which the list beside its report says without a row."""
+    return replace(closing, objects=kinds[b"object"], files=kinds[b"file"],
+                   expected=kinds[b"expected"] or None)
+
+
+class Joining:
+    """The entries of all parts as those of one log."""
+
+    def __init__(self, state: JoinedState) -> None:
+        self.of_all = Telling(state)
+        self.of_parts = {number_of_part: Telling(part)
+                         for number_of_part, part in enumerate(state.folders(), 1)}
+        self.first = -ONE_NIGHT
+        self.night, self.status = "", "0"
+        # The last run of each part, and what all have read in each cycle.
+        self.last: dict[int, Entry] = {}
+        self.spent: Counter[int] = Counter()
+        self.files: Counter[int] = Counter()
+        # What the parts closed, by the cycle.
+        self.closings: dict[int, list[Entry]] = {}
+
+    def take(self, number_of_part: int, row: dict[str, Any]) -> Iterator[Entry]:
+        """What comes with the next row of a part."""
+        if number(row, "night") - self.first >= ONE_NIGHT:
+            self.first, self.night, self.status = number(row, "night"), time_of(row, "night"), "0"
+        telling = self.of_parts.get(number_of_part, self.of_all)
+        for entry in telling.take(row):
+            yield from self.of_part(number_of_part, entry) if number_of_part else [entry]
+
+    def end(self) -> Iterator[Entry]:
+        """What is known once the logs have no more rows."""
+        for number_of_part, telling in self.of_parts.items():
+            for entry in telling.end_unless_held():
+                yield from self.of_part(number_of_part, entry)
+        yield from self.of_all.closings_so_far()
+        yield from self.unlogged()
+
+    def of_part(self, number_of_part: int, entry: Entry) -> Iterator[Entry]:
+        if entry.kind == "ended":
+            self.closings.setdefault(entry.cycle, []).append(entry)
+        elif entry.is_run() and entry.cycle > 0:
+            yield from self.run(number_of_part, entry)
+        else:
+            self.status = worst(self.status, entry.status)
+            yield replace(entry, status=self.status, night=self.night)
+
+    def run(self, number_of_part: int, entry: Entry) -> Iterator[Entry]:
+        """A run of a part, with what its cycle has read in all parts."""
+        last = self.of_all.last
+        if last and entry.cycle > last.cycle:
+            yield from self.unlogged(entry.cycle)
+        before = self.last.get(number_of_part)
+        is_same = before is not None and before.cycle == entry.cycle
+        self.spent[entry.cycle] += entry.spent - (before.spent if before and is_same else 0)
+        self.files[entry.cycle] += entry.files - (before.files if before and is_same else 0)
+        self.last[number_of_part] = entry
+        self.of_all.last = replace(entry, night=self.night, stands="",
+                                   spent=self.spent[entry.cycle], files=self.files[entry.cycle])
+        yield self.of_all.last
+
+    def unlogged(self, below: int = ALL_LINES) -> Iterator[Entry]:
+        """That the cycles below this one were joined, which only the logs of the parts tell of."""
+        for entry in self.of_all.unlogged(below):
+            yield self.joined(entry)
+
+    def joined(self, entry: Entry) -> Entry:
+        """A joined cycle was closed when the last of its parts was. It is compared with an earlier
+        one if each part is, and with that one."""
+        found = self.closings.pop(entry.cycle, []) + [
+            it for part in self.of_parts.values() for it in part.closings
+            if it.cycle == entry.cycle]
+        closings = [it.closing for it in found if it.closing and "closed" not in it.closing.unsaid]
+        if entry.closing is None or len(closings) < len(self.of_parts):
+            return entry
+        compared = {it.compared for it in closings}
+        return replace(entry, began=max(it.began for it in found), closing=replace(
+            entry.closing, compared=compared.pop() if len(compared) == 1 else None,
+            left=sum(it.left for it in closings),
+            unsaid=tuple(it for it in entry.closing.unsaid if it != "closed")))

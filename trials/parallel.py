@@ -17,6 +17,8 @@ Tried, and what comes of it:
   closed, and the cycle is joined; before, a part killed while it closed its cycle was never given
   out again.
 - SIGTERM, SIGINT, SIGHUP: the part under way ends and is named; the next night goes on.
+- Words that are wrong, also `--hours 0`: status 2, and nothing is written. A folder and a root that
+  begin with `-`: as others.
 - 40 parts by GNU parallel and by xargs: the joined report is the audit; `part` takes at most 20
   ms of a processor.
 """
@@ -283,17 +285,32 @@ def usage(folder):
     """Wrong words are refused before anything is written."""
     nights = Together(folder + "/state", small_root(folder))
     for words in [["--budget", "4x"], ["--until", "25:00"], ["--hours", "x"], ["--nothing"],
-                  ["--jobs", "x"], ["--state"]]:
+                  ["--hours", "0"], ["--hours", "inf"], ["--jobs", "x"], ["--jobs", "0"],
+                  ["--state"]]:
         status, out, said = nights.night(*words)
         is_so("usage: %s" % words, (status, out, bool(said)), (2, "", True))
     for name in ["nightly", "begin", "part", "end"]:
         status, out, _ = ran([NIGHTS + "/parallel/" + name, "--help"])
-        is_so("help of " + name, (status, out.startswith("usage: parallel/" + name)), (0, True))
+        is_so("help of " + name, (status, out.startswith("usage: parallel/" + name), out.rstrip()
+                                  .rsplit("\n", 1)[-1][:10]), (0, True, "  parallel"))
     is_so("no part was given out", os.path.exists(nights.path("parts")), False)
 
 
+def dashes(folder):
+    """The folder and the root may begin with `-`."""
+    os.rename(small_root(folder), folder + "/-root")
+    expected = audit(folder + "/-root")
+    words = [NIGHTS + "/parallel/nightly", "--create", "--jobs", "2", "--parts", "4", "--state",
+             "-state", "--", "-root"]
+    is_so("a night", ran(words, cwd=folder)[0], 0)
+    is_so("its report", read(folder + "/-state/reports/cycle-000001"), expected)
+    part = [NIGHTS + "/parallel/part", "--state", "-state", "--part", "1", "--", "-root"]
+    is_so("a part", ran(part, cwd=folder)[0], 0)
+    is_so("an end", ran([NIGHTS + "/parallel/end", "--state", "-state"], cwd=folder)[0], 0)
+
+
 PARTS = [cycles, one_message, by_schedulers, unread, unjoined, ends, signals, cut_closing,
-         two_at_once, room, seals, usage]
+         two_at_once, room, seals, usage, dashes]
 
 
 def tell(folder):

@@ -155,7 +155,14 @@ class Questions(Folder):
 
     def test_a_finding_beside_an_object_is_not_within_it(self):
         path = self.put(b"ok\to\t-\nE072\to2\t-\nok\tp\t-\nE023\tp/x\t-\n")
-        self.assertEqual(counts.Count(path, False).facts()["Objects without findings"], "1")
+        self.assertEqual(counts.Count(path, []).facts()["Objects without findings"], "1")
+
+    def test_an_object_of_which_a_place_was_left_out(self):
+        path = self.put(b"ok\to\t-\nok\to/x\t3\nok\to-\t-\nok\tp\t-\n")
+        for left, expected in [(["o/v1"], "2"), (["q", "p"], "2"), (["o%"], "3"),
+                               (None, "not known")]:
+            self.assertEqual(counts.Count(path, left).facts()["Objects without findings"],
+                             expected)
 
     def test_weights(self):
         weights = Weights()
@@ -165,12 +172,12 @@ class Questions(Folder):
     def test_counts(self):
         path = self.put(b"ok\t.\t-\nE072\ta\t-\nok\to\t-\nE023\to/x\t-\nS08\to/x\t-\nok\to/y\t3\n"
                         b"ok\to-\t-\nE092\to-/a\tmd5 missing\nE093\to-/a\tmd5 missing\nok\tp\t-\n")
-        facts = counts.Count(path, False).facts()
+        facts = counts.Count(path, []).facts()
         self.assertEqual([facts[name] for name in (
             "Report lines", "Objects", "Objects without findings", "Content files",
             "Files found right", "Findings", "Findings E023")],
             ["10", "3", "1", "3", "1", "5", "1"])
-        self.assertEqual(counts.Count(path, True).facts()["Objects without findings"], "not known")
+        self.assertEqual(counts.Count(path, None).facts()["Objects without findings"], "not known")
 
 
 class Standing(Folder):

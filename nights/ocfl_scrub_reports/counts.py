@@ -36,17 +36,18 @@ class Algorithms:
 
 
 class Count:
-    """What one reading of a report counts. If the report lost lines, nobody can say of any object
-    that it has no finding."""
+    """What one reading of a report counts. An object of which a place was left out is none without
+    findings. If nobody knows which places were, or the report lost lines, nobody can say it of any
+    object."""
 
-    def __init__(self, report: str, has_lost: bool) -> None:
+    def __init__(self, report: str, left: list[str] | None) -> None:
         self.objects = self.sound = self.content = self.right = self.bytes = 0
         self.codes: Counter[str] = Counter()
         # The findings themselves, as lines.
         self.found = files.spool()
         self.wrong = Algorithms()
         self.not_computed = Algorithms()
-        self.has_lost = has_lost
+        self.left = None if left is None else [files.bytes_of(place) for place in left]
         self.weights = Weights()
         self.object = self.file = b""
         self.is_sound = False
@@ -63,9 +64,10 @@ class Count:
     def line(self, code: bytes, path: bytes, detail: bytes) -> None:
         """A line of what is no content file that was found right."""
         if path != self.object and self.weights.is_of_object(code, path, detail):
-            self.object, self.is_sound = path, True
+            self.object = path
+            self.is_sound = not any(is_within(place, path) for place in self.left or ())
             self.objects += 1
-            self.sound += 1
+            self.sound += self.is_sound
         if code in OF_FILES and path != self.file:
             self.file = path
             self.content += 1
@@ -90,7 +92,7 @@ class Count:
         return {**{name: str(number) for name, number in numbers.items()},
                 "Report SHA-256": self.digest, "Algorithms of wrong digests": self.wrong.text(),
                 "Algorithms not computed": self.not_computed.text(),
-                "Objects without findings": NOT_KNOWN if self.has_lost else str(self.sound)}
+                "Objects without findings": NOT_KNOWN if self.left is None else str(self.sound)}
 
 
 def of_changes(found: IO[bytes], earlier: str | None) -> dict[str, str]:

@@ -92,6 +92,12 @@ class Statement(dict[str, str]):
             raise Failed("the report %s is not there, in %s" % (name, folder or "."))
         return path
 
+    def left(self) -> list[str] | None:
+        """The places that were left out; None if some are not known, or lines were lost."""
+        places = [value for name, value in self.items() if kind_of(name) == "Place left out *"]
+        is_known = self.get("Places left out", "0") == str(len(places))
+        return places if is_known and self.get("Lost lines") == "none" else None
+
     def text(self) -> str:
         # Codes by their letters, and places by their numbers.
         names = sorted(self, key=lambda it: (NAMES.index(kind_of(it)), re.sub(
@@ -257,7 +263,7 @@ def facts_of(state: State, number: int) -> Statement:
     report, compared = made.report_beside(state.reports), cycle.closing.compared
     gone, before = state.find("gone", number), state.find("statement", number - 1)
     made.update(of_folder(state))
-    count = Count(report, made["Lost lines"] != "none")
+    count = Count(report, made.left())
     made.update(count.facts())
     made.update(of_changes(count.found, state.find("cycle", compared) if compared else None))
     made["List of what is gone, SHA-256"] = files.digest_of(gone) if gone else "no list"

@@ -43,7 +43,7 @@ class Check:
     # What is so
 
     def find_facts(self) -> None:
-        count = Count(self.report, self.said.get("Lost lines") != "none")
+        count = Count(self.report, self.said.left())
         self.facts.update(count.facts())
         self.find_gone()
         self.find_before(count)

@@ -20,12 +20,15 @@ def run_as(name: str, main: object) -> None:
 
 
 def taken(words: list[str], values: str, flags: str = "") -> tuple[dict[str, str], list[str]]:
-    """The options of these names, and the other words. --state is one of them."""
+    """The options of these names, and the other words, of which those after `--` are no options.
+    --state is one of them."""
     found, rest, left = {}, [], iter(words)
     for word in left:
-        if word in ("--help", "-h"):
+        if word == "--":
+            rest += ["./" + it if it.startswith("-") else it for it in left]
+        elif word in ("--help", "-h"):
             raise SystemExit(print((sys.modules["__main__"].__doc__ or "").strip()))
-        if word in ("--state " + values).split():
+        elif word in ("--state " + values).split():
             found[word] = next(left, "")
         elif word in flags.split():
             found[word] = "yes"
@@ -33,6 +36,8 @@ def taken(words: list[str], values: str, flags: str = "") -> tuple[dict[str, str
             rest.append(word)
     if not all(found.values()) or not found.get("--state"):
         raise Failed("--state or a value is missing; try --help", 2)
+    if found["--state"].startswith("-"):
+        found["--state"] = "./" + found["--state"]
     return found, rest
 
 
@@ -41,12 +46,15 @@ def given_on(found: dict[str, str], *names: str) -> list[str]:
     return [word for name in names if name in found for word in (name, found[name])]
 
 
-def number(found: dict[str, str], name: str, default: str = "0") -> float:
-    """The value of an option as a number."""
+def number(found: dict[str, str], name: str, default: str) -> float:
+    """The value of an option, which is a number above 0."""
     try:
-        return float(found.get(name, default))
-    except ValueError as error:
-        raise Failed("%s needs a number, and not %s" % (name, found[name]), 2) from error
+        value = float(found.get(name, default))
+    except ValueError:
+        value = 0
+    if name in found and not 0 < value < 1e9:
+        raise Failed("%s needs a number above 0, and not %s" % (name, found[name]), 2)
+    return value
 
 
 def use(state: str, words: list[str] | None = None, create: bool = False) -> str:

@@ -7,7 +7,8 @@ from common import PROGRAM, TOP
 from shared.nights import NIGHTS, ran, write
 
 # What the clone has beside `nights`.
-PARTS = ["CHANGELOG.md", "VERSION", "install", "package", "ocfl-scrub", "crates.txt", "samples"]
+PARTS = ["CHANGELOG.md", "SECURITY.md", "VERSION", "install", "package", "ocfl-scrub", "crates.txt",
+         "samples", "docs"]
 
 
 def git(clone, *words):

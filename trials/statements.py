@@ -332,8 +332,8 @@ def make_keys(home):
     write(home + "/bin/curl", ASKING.format(home=home), 0o755)
     write(home + "/serial", "01\n")
     for words in [["gpg", "--batch", "--passphrase", "", "--quick-gen-key", "a@example.org"],
-                  ["minisign", "-G", "-W", "-s", home + "/minisign.key", "-p",
-                   home + "/minisign.pub"],
+                  re.search("`(minisign -G [^`]*)`", read(TOP + "/nights/README.md"))[1].replace(
+                      "~", home).split(),
                   ["openssl", "req", "-x509", "-newkey", "rsa:2048", "-nodes", "-subj", "/CN=ours",
                    "-addext", "extendedKeyUsage=critical,timeStamping", "-keyout",
                    home + "/tsa.key", "-out", home + "/tsa.pem"]]:

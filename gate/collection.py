@@ -22,10 +22,14 @@ def files_of(crate: str) -> list[str]:
             for folder, _, names in sorted(os.walk(top)) for name in sorted(names)]
 
 
+def is_named_right(path: str) -> bool:
+    return path.endswith(".edits")
+
+
 def edits_of(crate: str) -> list[Edit]:
     """Each edit of a crate, file by file."""
     found = []
-    for path in files_of(crate):
+    for path in filter(is_named_right, files_of(crate)):
         with open(os.path.join(folder_of(crate), "edits", path), encoding="utf-8") as file:
             found += edit_files.read(crate, os.path.splitext(path)[0], file.read())
     return found
@@ -96,7 +100,7 @@ def misplaced() -> list[str]:
     faults = []
     for crate in crates():
         faults += ["%s: edits/%s does not end in .edits" % (crate, path)
-                   for path in files_of(crate) if not path.endswith(".edits")]
+                   for path in files_of(crate) if not is_named_right(path)]
         if os.path.lexists(os.path.join(folder_of(crate), "must-fail")):
             faults.append("%s has a folder must-fail: its edits belong in edits" % crate)
     edits = every_edit()

@@ -74,6 +74,13 @@ class Collected(unittest.TestCase):
         self.assertEqual(misplaced(SECOND, elsewhere), [
             "a name/root_is_gone does not turn src/name.rt", "2 edits are named root_is_gone"])
 
+    def test_other_files_are_named_and_not_read(self):
+        with mock.patch.object(collection, "files_of",
+                               lambda crate: ["name/a.edit"] * (crate == "ocfl_tree")):
+            self.assertEqual(collection.every_edit(), [])
+            self.assertEqual(collection.misplaced(),
+                             ["ocfl_tree: edits/name/a.edit does not end in .edits"])
+
     def test_edits_are_found_by_name_and_by_path(self):
         with mock.patch.object(collection, "every_edit", lambda: [FIRST, SECOND]):
             self.assertEqual(collection.named("a", "root_is_gone"), SECOND)

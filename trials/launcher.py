@@ -273,6 +273,16 @@ def builds_anew(copy):
     is_so("no program", copy.called(["x"])[:2] + (copy.builds(),), (7, "x\n", 7))
 
 
+def below_edits(folder):
+    """A newer source is seen in a clone below a folder `edits`, too."""
+    copy = Copy(os.path.join(folder, "edits"))
+    copy.called(["x"])
+    age(os.path.join(copy.crate, "out/built"))
+    write(copy.source, b"changed")
+    is_so("a newer source, below a folder of edits",
+          copy.called(["x"])[:2] + (copy.builds(),), (7, "x\n", 2))
+
+
 def tell(folder):
     copy = Copy(folder)
     no_toolchain(copy)
@@ -282,6 +292,7 @@ def tell(folder):
     builds_once(copy)
     from_anywhere(folder, copy)
     builds_anew(copy)
+    below_edits(folder)
     on_a_terminal(copy)
 
 

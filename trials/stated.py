@@ -10,6 +10,9 @@ Tried, and what comes of it. Each row was seen to fail on scripts that lacked it
   and says that those of the runs are not known.
 - A night that has no line in the log, since it was killed: no file of the cycle was read before
   its `Oldest verification`.
+- A night that was killed: the statement counts it, and `status` calls it cut.
+- A folder that could not be listed: the statement counts it, and its object does not count as
+  without findings.
 - A report that lost the line of a finding: how many objects are without findings is not known.
 - A cycle that lost an object, or lacks an expected one: its PREMIS event is `fail`, and says so.
 - Ends of parts with `%`: they stand as in the file of separators.
@@ -78,6 +81,51 @@ def oldest(folder):
         "Oldest verification")
     is_so("the cycle may have begun when the one before was closed", oldest, closed)
     is_so("it is what was made", verified(file_of(nights, 2))[0], 0)
+
+
+def cut(folder):
+    """A night that was killed is counted, by its rows or by the runs of the checkpoint."""
+    nights = Nights(folder + "/state", make_root(folder + "/root"))
+    nights.part()
+    before = runs_of(nights)
+    for when in range(1, 40):
+        common.traced(["-e", "inject=fsync:signal=KILL:when=%d" % when],
+                      ["night", "--state", nights.state, "--slice", "1", nights.root])
+        if runs_of(nights) > before:
+            break
+    line = ask("status", nights.state)[1]
+    is_so("status", ("a night was cut;" in line, "under way" in line), (True, False))
+    nights.night()
+    is_so("the statement", (lines_of(nights, 1).get("Nights cut"), lines_of(nights, 1)["Whole"]),
+          ("1", "yes"))
+    is_so("it holds", verified(file_of(nights, 1))[0], 0)
+    nights.night()
+    is_so("the next cycle", lines_of(nights, 2).get("Nights cut"), "0")
+    is_so("status then", "a night was cut" in ask("status", nights.state)[1], False)
+
+
+def runs_of(nights):
+    return int(re.search("\nruns ([0-9]+)\n", nights.has("checkpoint"))[1])
+
+
+def left_out(folder):
+    """Places that could not be read are counted, and named if the log names them. An object of
+    which one was left out does not count as without findings."""
+    nights = Nights(folder + "/state", make_root(folder + "/root"))
+    bad = os.fsencode(nights.root) + b"/o/v1/content/d"
+    os.mkdir(bad)
+    write(os.fsdecode(bad + b"/\xff"), "")
+    is_so("a night", nights.night()[0], 3)
+    lines, named = lines_of(nights, 1), [row["place"] for row in nights.rows("left")]
+    is_so("what it says", [lines.get(name) for name in ["Whole", "Report", "Places left out"]],
+          ["no", "incomplete-000001", "1"])
+    is_so("which", [lines.get("Place left out 1"), *named[1:]], named or [None])
+    is_so("objects", [lines["Objects"], lines["Objects without findings"]],
+          ["1", "0" if named else "not known"])
+    is_so("it holds", verified(file_of(nights, 1))[0], 0)
+    shutil.rmtree(bad)
+    is_so("the next night", (nights.night()[0], lines_of(nights, 2).get("Places left out"),
+                             lines_of(nights, 2)["Objects without findings"]), (0, "0", "1"))
 
 
 def lost_lines(folder):
@@ -274,12 +322,12 @@ def copies_are_no_seals(folder):
           (0, False))
 
 
-PARTS = [programs, oldest, lost_lines, ends_of_parts, declaration, two_folders, checking, losses,
-         chained, no_list, copies_are_no_seals]
+PARTS = [programs, oldest, cut, left_out, lost_lines, ends_of_parts, declaration, two_folders,
+         checking, losses, chained, no_list, copies_are_no_seals]
 
 
 def tell(folder):
     tried_apart(PARTS, folder)
 
 
-common.trial(tell)
+common.trial(tell, needs=["strace"])

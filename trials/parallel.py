@@ -281,6 +281,24 @@ def seals(folder):
     is_stated("the statement", nights, 1)
 
 
+def by_a_service(folder):
+    """What CLUSTERS.md puts into the service of systemd, with settings that are left empty."""
+    nights = Together(folder + "/state", small_root(folder))
+    nights.night("--end", "1")
+    line = re.search(r"ExecStart=(/\S+/parallel/nightly(?:.*\\\n)*.*)", read(
+        NIGHTS + "/CLUSTERS.md"))[1].replace("\\\n", "")
+    given = {"${UNTIL}": ["23:59"], "${KEEP}": [""], "${SEAL}": [""], "$OPTIONS": [],
+             "${ROOT}": [nights.root], "%S/ocfl-scrub/%i": [nights.state]}
+    words = [word for it in line.split() for word in given.get(it, [it])]
+    words[0] = NIGHTS + "/parallel/nightly"
+    with open(nights.root + "/" + next(place for place in audit(nights.root).split() if "/v1/"
+                                       in place), "ab") as file:
+        file.write(b"x")
+    status, out, said = ran(words, INVOCATION_ID="one")
+    is_so("a night", (status, out, said), (1, "", ""))
+    is_so("its text", told_in(nights.has("tonight.one")), findings(audit(nights.root)))
+
+
 def usage(folder):
     """Wrong words are refused before anything is written."""
     nights = Together(folder + "/state", small_root(folder))
@@ -310,7 +328,7 @@ def dashes(folder):
 
 
 PARTS = [cycles, one_message, by_schedulers, unread, unjoined, ends, signals, cut_closing,
-         two_at_once, room, seals, usage, dashes]
+         two_at_once, room, seals, by_a_service, usage, dashes]
 
 
 def tell(folder):

@@ -20,19 +20,16 @@ ALGORITHM = re.compile(rb"[A-Za-z0-9/_-]{1,40}")
 MOST_ALGORITHMS = 20
 
 
-class Algorithms:
-    """How many lines name each algorithm: the first twenty that are met, and all others as one."""
+def add_algorithm(count: Counter[str], name: bytes) -> None:
+    """Counts a line that names an algorithm: the first twenty that are met, and all others as
+    one."""
+    is_one = ALGORITHM.fullmatch(name) and (name.decode() in count
+                                            or len(count) < MOST_ALGORITHMS)
+    count[name.decode() if is_one else "others"] += 1
 
-    def __init__(self) -> None:
-        self.count: Counter[str] = Counter()
 
-    def add(self, name: bytes) -> None:
-        is_one = ALGORITHM.fullmatch(name) and (
-            name.decode() in self.count or len(self.count) < MOST_ALGORITHMS)
-        self.count[name.decode() if is_one else "others"] += 1
-
-    def text(self) -> str:
-        return ", ".join("%s %d" % it for it in sorted(self.count.items())) or "none"
+def algorithms_text(count: Counter[str]) -> str:
+    return ", ".join("%s %d" % it for it in sorted(count.items())) or "none"
 
 
 class Count:
@@ -45,8 +42,9 @@ class Count:
         self.codes: Counter[str] = Counter()
         # The findings themselves, as lines.
         self.found = files.spool()
-        self.wrong = Algorithms()
-        self.not_computed = Algorithms()
+        # How many lines name each algorithm.
+        self.wrong: Counter[str] = Counter()
+        self.not_computed: Counter[str] = Counter()
         self.left = None if left is None else [files.bytes_of(place) for place in left]
         self.weights = Weights()
         self.object = self.file = b""
@@ -72,9 +70,9 @@ class Count:
             self.file = path
             self.content += 1
         if code == b"S07":
-            self.not_computed.add(detail)
+            add_algorithm(self.not_computed, detail)
         if code in OF_DIGESTS:
-            self.wrong.add(detail.partition(b" ")[0])
+            add_algorithm(self.wrong, detail.partition(b" ")[0])
         if code in (b"ok", b"S07"):
             return
         self.codes[code.decode()] += 1
@@ -90,8 +88,9 @@ class Count:
                    "Findings": sum(self.codes.values()),
                    **{"Findings " + code: self.codes[code] for code in sorted(self.codes)}}
         return {**{name: str(number) for name, number in numbers.items()},
-                "Report SHA-256": self.digest, "Algorithms of wrong digests": self.wrong.text(),
-                "Algorithms not computed": self.not_computed.text(),
+                "Report SHA-256": self.digest,
+                "Algorithms of wrong digests": algorithms_text(self.wrong),
+                "Algorithms not computed": algorithms_text(self.not_computed),
                 "Objects without findings": NOT_KNOWN if self.left is None else str(self.sound)}
 
 

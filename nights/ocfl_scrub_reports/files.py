@@ -100,6 +100,11 @@ def lines(path: str) -> Iterator[bytes]:
         yield from block[1:].removesuffix(b"\n").split(b"\n")
 
 
+def read(path: str) -> bytes:
+    """All of a file, as it is without compression."""
+    return b"".join(chunks(path))
+
+
 def digest_of(path: str) -> str:
     """The SHA-256 of a file, as it is without compression."""
     digest = hashlib.sha256()

@@ -5,6 +5,7 @@ import os
 import shutil
 import subprocess
 import tempfile
+from pathlib import Path
 
 from . import files
 from .shared import Failed, put
@@ -33,20 +34,13 @@ def put_seal(path: str, command: str) -> None:
                               stdin=subprocess.DEVNULL, stdout=2)
         if done.returncode != 0:
             raise Failed("the statement is not sealed: " + command)
-        if bytes_in(os.path.join(folder, name)) != bytes_in(path):
+        sealed = Path(folder, name)
+        if not sealed.is_file() or sealed.read_bytes() != Path(path).read_bytes():
             raise Failed("the seal's command changed the statement")
         left = sorted(it for it in os.listdir(folder)
                       if it.startswith(name + ".") and os.path.isfile(os.path.join(folder, it)))
         if not left:
             raise Failed("the seal's command left nothing beside the statement")
         for it in left:
-            put(bytes_in(os.path.join(folder, it)), os.path.join(os.path.dirname(path), it))
+            put(Path(folder, it).read_bytes(), os.path.join(os.path.dirname(path), it))
     put("".join(it + "\n" for it in left).encode(), path + ".sealed")
-
-
-def bytes_in(path: str) -> bytes:
-    try:
-        with open(path, "rb") as file:
-            return file.read()
-    except FileNotFoundError:
-        return b""

@@ -8,7 +8,7 @@ import tempfile
 from collections import Counter
 from dataclasses import dataclass, field
 from datetime import datetime, timezone
-from typing import IO, Iterator, Optional, Tuple
+from typing import IO, Callable, Iterator, Optional, Tuple
 
 from . import files, standing
 from .log import Closing, Entry, rank, worst
@@ -20,27 +20,6 @@ from .weights import Known, Weights
 # What would end the line for a monitor, or begin its figures.
 BREAKING = re.compile(r"[|\n]")
 WORDS = ("OK", "WARNING", "CRITICAL", "UNKNOWN")
-# What each figure for Prometheus is.
-HELP = {
-    "last_night_timestamp_seconds": "When the last night began.",
-    "last_night_age_seconds": "How long ago the last night began, as this was written.",
-    "last_night_status": "Status of the last night; 255 where it was cut.",
-    "last_night_run_seconds": "How long the runs of the last night took.",
-    "cycle": "The cycle of the last run.",
-    "cycle_read_bytes": "Bytes that the cycle has read.",
-    "cycle_read_files": "Files that the cycle has read.",
-    "closed_cycle": "The last closed cycle.",
-    "closed_cycle_cost": "What it read: bytes, and 1 for each file.",
-    "closed_cycle_whole": "1 where its report is whole.",
-    "cycle_progress_ratio": "How far the cycle is, by the last one.",
-    "nights_left": "Nights that the cycle still needs.",
-    "whole_cycle_timestamp_seconds": "When the last whole cycle ended.",
-    "gone_objects": "Objects that were gone and are not back.",
-    "gone_files": "Files that were gone and are not back.",
-    "expected_objects_missing": "Expected objects that the last closed cycle lacks.",
-    "known_findings": "Open findings that are known.",
-    "damaged": "Open findings of weight 1 that are not known.",
-    "open_findings": "Open findings that are not known."}
 # From which number on there is a warning, and an alarm; None stands for never.
 Limit = Tuple[Optional[int], Optional[int]]
 
@@ -297,42 +276,59 @@ class Standing:
 
     # Figures for Prometheus
 
-    def metrics(self) -> dict[str, float | None]:
-        """The value of each figure; None where it is not known."""
-        log, found = self.log, self.found
-        if not log.night:
-            return {"last_night_timestamp_seconds": 0}
-        closed, whole, has_run = log.closed, log.whole, log.cycle is not None
-        return {
-            "last_night_timestamp_seconds": seconds_of(log.night),
-            "last_night_age_seconds": self.age,
-            "last_night_status": 255 if log.status == "cut" else int(log.status),
-            "last_night_run_seconds": log.seconds,
-            "cycle": log.cycle,
-            "cycle_read_bytes": log.spent - log.files if has_run else None,
-            "cycle_read_files": log.files if has_run else None,
-            "closed_cycle": closed.cycle if closed else None,
-            "closed_cycle_cost": closed.spent if closed else None,
-            "closed_cycle_whole": int(log.closing.is_whole) if closed else None,
-            "cycle_progress_ratio": None if self.done is None else self.done / 100,
-            "nights_left": self.left,
-            "whole_cycle_timestamp_seconds": seconds_of(whole.began) if whole else None,
-            "gone_objects": found.objects, "gone_files": found.files,
-            "expected_objects_missing": self.expected, "known_findings": found.known,
-            "damaged": found.damaged, "open_findings": self.open}
-
     def metrics_text(self, root: str, state: str) -> str:
         labels = 'root="%s",state="%s"' % (label(root), label(state))
         head = "# HELP ocfl_scrub_%s %s\n# TYPE ocfl_scrub_%s gauge\n"
-        text = "".join(head % (name, HELP[name], name) + "ocfl_scrub_%s{%s} %s\n" % (
+        figures = [(name, more, value(self)) for name, more, value in FIGURES
+                   if self.log.night] or [(*FIGURES[0][:2], 0)]
+        text = "".join(head % (name, more, name) + "ocfl_scrub_%s{%s} %s\n" % (
             name, labels, "%.6g" % value if value != int(value) else "%d" % value)
-                       for name, value in self.metrics().items() if value is not None)
+                       for name, more, value in figures if value is not None)
         if self.log.night and self.found.count:
             name = "open_findings_by_code"
             text += head % (name, "The same by their codes.", name)
             text += "".join('ocfl_scrub_%s{%s,code="%s"} %d\n' % (
                 name, labels, code, self.found.count[code]) for code in sorted(self.found.count))
         return text
+
+
+def of_closed(value: Callable[[Standing, Entry], float]) -> Callable[[Standing], float | None]:
+    """A figure of the last closed cycle."""
+    return lambda it: value(it, it.log.closed) if it.log.closed else None
+
+
+# The figures for Prometheus: the name, what it is, and its value, None where that is not known.
+FIGURES: list[tuple[str, str, Callable[[Standing], float | None]]] = [
+    ("last_night_timestamp_seconds", "When the last night began.",
+     lambda it: seconds_of(it.log.night)),
+    ("last_night_age_seconds", "How long ago the last night began, as this was written.",
+     lambda it: it.age),
+    ("last_night_status", "Status of the last night; 255 where it was cut.",
+     lambda it: 255 if it.log.status == "cut" else int(it.log.status)),
+    ("last_night_run_seconds", "How long the runs of the last night took.",
+     lambda it: it.log.seconds),
+    ("cycle", "The cycle of the last run.", lambda it: it.log.cycle),
+    ("cycle_read_bytes", "Bytes that the cycle has read.",
+     lambda it: None if it.log.cycle is None else it.log.spent - it.log.files),
+    ("cycle_read_files", "Files that the cycle has read.",
+     lambda it: None if it.log.cycle is None else it.log.files),
+    ("closed_cycle", "The last closed cycle.", of_closed(lambda it, closed: closed.cycle)),
+    ("closed_cycle_cost", "What it read: bytes, and 1 for each file.",
+     of_closed(lambda it, closed: closed.spent)),
+    ("closed_cycle_whole", "1 where its report is whole.",
+     of_closed(lambda it, closed: it.log.closing.is_whole)),
+    ("cycle_progress_ratio", "How far the cycle is, by the last one.",
+     lambda it: None if it.done is None else it.done / 100),
+    ("nights_left", "Nights that the cycle still needs.", lambda it: it.left),
+    ("whole_cycle_timestamp_seconds", "When the last whole cycle ended.",
+     lambda it: seconds_of(it.log.whole.began) if it.log.whole else None),
+    ("gone_objects", "Objects that were gone and are not back.", lambda it: it.found.objects),
+    ("gone_files", "Files that were gone and are not back.", lambda it: it.found.files),
+    ("expected_objects_missing", "Expected objects that the last closed cycle lacks.",
+     lambda it: it.expected),
+    ("known_findings", "Open findings that are known.", lambda it: it.found.known),
+    ("damaged", "Open findings of weight 1 that are not known.", lambda it: it.found.damaged),
+    ("open_findings", "Open findings that are not known.", lambda it: it.open)]
 
 
 def label(text: str) -> str:

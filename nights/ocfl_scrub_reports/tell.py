@@ -60,9 +60,9 @@ class Night:
         return WORDS.get(self.status, stopped).replace("{}", self.shown)
 
     def text(self) -> bytes:
-        said = b"".join(map(bytes_in, self.unsent))
+        said = b"".join(map(files.read, self.unsent))
         if self.own:
-            said += bytes_in(self.own)
+            said += files.read(self.own)
         elif not self.has_begun:
             said += ("Nothing was audited. systemctl status ocfl-scrub@%s says why.\n"
                      % self.shown).encode()
@@ -80,10 +80,6 @@ class Night:
 
 def has_text(path: str) -> bool:
     return not os.path.islink(path) and os.path.isfile(path) and os.path.getsize(path) > 0
-
-
-def bytes_in(path: str) -> bytes:
-    return b"".join(files.chunks(path))
 
 
 def send(night: Night) -> int:

@@ -61,7 +61,7 @@ class Check:
             self.lacking[BEFORE] = cycle_name("statement", self.cycle - 1)
         self.find_changes(count)
         known = self.listed("known", LIST_OF_KNOWN, "Known losses")
-        self.facts.update(of_known(b"".join(files.chunks(known)) if known else b""))
+        self.facts.update(of_known(files.read(known) if known else b""))
 
     def find_changes(self, count: Count) -> None:
         """What changed since the report compared with."""
@@ -109,7 +109,8 @@ class Check:
                     name in OPTIONAL or name.endswith("*"))):
                 fact = ", and it is " + self.facts[name] if name in self.facts else ""
                 self.differences.append("%s: the statement lacks it%s" % (name, fact))
-        if self.has_json and not self.is_same_as_json():
+        same = as_json(files.text_of(files.read(self.path)))
+        if self.has_json and files.read(self.json) != files.bytes_of(same):
             self.differences.append("%s does not say the same as %s" % (self.json, self.path))
 
     def compare_row(self, row: str, seen: set[str]) -> None:
@@ -130,10 +131,6 @@ class Check:
             self.unchecked.setdefault(self.lacking[name], []).append(name)
         elif name not in self.facts and not self.has_json:
             self.unchecked.setdefault(os.path.basename(self.json), []).append(name)
-
-    def is_same_as_json(self) -> bool:
-        text = b"".join(files.chunks(self.path))
-        return b"".join(files.chunks(self.json)) == files.bytes_of(as_json(files.text_of(text)))
 
 
 def show(path: str, report: str | None) -> int:

@@ -29,13 +29,17 @@ def taken(words: list[str], values: str, flags: str = "") -> tuple[dict[str, str
         elif word in ("--help", "-h"):
             raise SystemExit(print((sys.modules["__main__"].__doc__ or "").strip()))
         elif word in ("--state " + values).split():
-            found[word] = next(left, "")
+            value = next(left, None)
+            if value is None:
+                raise Failed("the value of %s is missing; try --help" % word, 2)
+            # A setting of a unit that was left empty gives no option.
+            found.update({word: value} if value else {})
         elif word in flags.split():
             found[word] = "yes"
         else:
             rest.append(word)
-    if not all(found.values()) or not found.get("--state"):
-        raise Failed("--state or a value is missing; try --help", 2)
+    if "--state" not in found:
+        raise Failed("--state is missing; try --help", 2)
     if found["--state"].startswith("-"):
         found["--state"] = "./" + found["--state"]
     return found, rest

@@ -3,6 +3,7 @@ from __future__ import annotations
 
 import os
 import re
+from pathlib import Path
 
 from folder import part
 from given import closed, count_parts, ranges, run
@@ -25,7 +26,7 @@ def join(state: str, cycle: int) -> str:
         return ""
     # It counts also if this cycle is not joined: the next one is compared with it.
     gone = [find(reports_of(state, number), "gone", last) for number in parts]
-    put(b"".join(read(path) for path in gone if path),
+    put(b"".join(Path(path).read_bytes() for path in gone if path),
         "%s/reports/%s" % (state, cycle_name("gone", last)))
     lacking = [number for number, it in parts.items() if it.get(last) is False]
     if lacking:
@@ -34,11 +35,6 @@ def join(state: str, cycle: int) -> str:
                 last, ranges(lacking)))
     status, text = run([find_program(), "join", "--parts", state + "/parts", "--state", state])
     return text if status == 0 else "The reports of cycle %d are not joined:\n%s" % (last, text)
-
-
-def read(path: str) -> bytes:
-    with open(path, "rb") as file:
-        return file.read()
 
 
 def make_room(state: str) -> None:

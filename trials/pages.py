@@ -54,7 +54,7 @@ THEN = {
     "./nightly --create --state ~/audit --hours 1 /srv/ocfl": [
         "./nightly --state ~/audit --hours 1 /srv/ocfl",
         "sleep 1.1; ./nightly --state ~/audit --slice 1 --files 1 /srv/ocfl",
-        "mkdir -p /var/lib/node_exporter /var/lib/ocfl-scrub",
+        "mkdir -p /var/lib/node_exporter /var/lib/ocfl-scrub /srv/www/fixity",
         "cp -R ~/audit /var/lib/ocfl-scrub/archive"],
     "/usr/local/share/ocfl-scrub/nightly --create --state /var/lib/audit \\\n    --until 06:00 "
     "/srv/ocfl": [

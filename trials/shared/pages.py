@@ -10,7 +10,7 @@ COMMAND = re.compile(r"^\S.*\n(?:[ ]+.*\n)*", re.MULTILINE)
 # A command after `$ `, and what it prints, up to the next one.
 SHOWN = re.compile(r"^\$ (.*\n(?:[ ]+.*\n)*)((?:(?!\$ ).*\n)*)", re.MULTILINE)
 # The times and the user of a line for cron.
-CRON = re.compile(r"(?:[0-9*/,-]+ ){5}\S+ (?=/)")
+CRON = re.compile(r"(?:[0-9*/,-]+ ){5}\S+ (?=/|cd /)")
 LINK = re.compile(r"\[[^]]*\]\(([^):#]+)(?:#[^)]*)?\)")
 
 

@@ -28,6 +28,7 @@ import os
 import shutil
 import signal
 import subprocess
+import time
 
 import common
 from common import PROGRAM, digest, is_so
@@ -197,8 +198,7 @@ def words(folder):
                         ("no command", ["--state", nights.state, nights.root, "--seal"]),
                         ("no number", ["--state", nights.state, nights.root, "--keep"]),
                         ("no root", ["--state", nights.state]),
-                        ("an unknown word", [*nights.words()[1:3], "--what", nights.root]),
-                        ("a state within one word", ["--state=" + nights.state, nights.root])]:
+                        ("an unknown word", [*nights.words()[1:3], "--what", nights.root])]:
         status, out, said = ran([nightly, *given], cwd=folder)
         is_so("usage: " + name, (status, out, said != ""), (2, "", True))
     is_so("nothing is there", os.path.exists(nights.state), False)
@@ -208,6 +208,9 @@ def words(folder):
     status, out, _ = ran([nightly, "--create", "--for-tell", "--keep", "", "--seal", "", "--state",
                           nights.state, "--until", "23:59", nights.root])
     is_so("empty values", (status, out, nights.whole(1)), (0, "", "".join(ITEMS)))
+    time.sleep(1.1)
+    is_so("words with their values", (ran([nightly, "--state=" + nights.state, "--until=23:59",
+                                           nights.root])[0], nights.lines(2)["Whole"]), (0, "yes"))
     odd = folder + "/--seal"
     make_root(odd)
     at = ["--create", "--state", "state-2", "--", "--seal"]

@@ -324,7 +324,7 @@ def dashes(folder):
     is_so("its report", read(folder + "/-state/reports/cycle-000001"), expected)
     part = [NIGHTS + "/parallel/part", "--state", "-state", "--part", "1", "--", "-root"]
     is_so("a part", ran(part, cwd=folder)[0], 0)
-    is_so("an end", ran([NIGHTS + "/parallel/end", "--state", "-state"], cwd=folder)[0], 0)
+    is_so("an end", ran([NIGHTS + "/parallel/end", "--state=-state"], cwd=folder)[0], 0)
 
 
 PARTS = [cycles, one_message, by_schedulers, unread, unjoined, ends, signals, cut_closing,

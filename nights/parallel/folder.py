@@ -24,16 +24,17 @@ def taken(words: list[str], values: str, flags: str = "") -> tuple[dict[str, str
     --state is one of them."""
     found, rest, left = {}, [], iter(words)
     for word in left:
+        name, equals, value = word.partition("=")
         if word == "--":
             rest += ["./" + it if it.startswith("-") else it for it in left]
         elif word in ("--help", "-h"):
             raise SystemExit(print((sys.modules["__main__"].__doc__ or "").strip()))
-        elif word in ("--state " + values).split():
-            value = next(left, None)
-            if value is None:
+        elif name in ("--state " + values).split():
+            given: str | None = value if equals else next(left, None)
+            if given is None:
                 raise Failed("the value of %s is missing; try --help" % word, 2)
             # A setting of a unit that was left empty gives no option.
-            found.update({word: value} if value else {})
+            found.update({name: given} if given else {})
         elif word in flags.split():
             found[word] = "yes"
         else:

@@ -1,6 +1,8 @@
 //! Looking for the objects of a list in a report.
-ghost use Rattle.std.specs.Prelude.{◌≡◌, ◌++◌, All, map, IfErr, IfSome, OnOk};
+ghost use Rattle.std.specs.Prelude.{◌≡◌, ◌++◌, All, IsPermutation, map, IfErr, IfSome, OnOk};
+ghost use Rattle.std.specs.List.Sorted.{IsSorted};
 ghost use Rattle.ocfl_tree.specs.Name.{IsPlace};
+ghost use Rattle.ocfl_tree.specs.Place.{place_cmp};
 ghost use Rattle.ocfl_report.specs.Text.{line_text, lines_text};
 ghost use Rattle.ocfl_compare.specs.CompareStop.{ReportStops};
 ghost use Rattle.ocfl_compare.specs.Expected.{IsSearched};
@@ -33,6 +35,8 @@ pub fn find_expected<R: BufRead, W: Write>(
         IsSearched left.now listed.old.items bytes (W.contents out.old) (W.contents out.new))) }
     ensures refused { IfErr result (λ stop. IfSome (R.remaining report.old) (λ bytes.
         ReportStops bytes stop)) }
+    ensures permutation { IsPermutation listed.old.items listed.new.items }
+    ensures sorted { IsSorted place_cmp listed.new.items }
 {
     listed.sort_unstable();
     let mut text = Vec::new(alloc);

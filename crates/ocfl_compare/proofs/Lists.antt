@@ -1,5 +1,5 @@
 -- The lines of a list, one by one.
-use Rattle.std.proofs.Common.{◌≡◌, ◌≢◌, ◌⊎◌, inl, inr, ℕ, ◌+◌, ◌<◌, List, [], ◌∷◌, ◌++◌, Bool, true, false, Option, Some, None, IfSome, length, All, map, refl, sym, ap, subst, ◌∙◌, append_assoc, append-nil, length-append, arith}
+use Rattle.std.proofs.Common.{◌≡◌, ◌≢◌, ◌⊎◌, inl, inr, ℕ, ◌+◌, ◌-◌, ◌<◌, List, [], ◌∷◌, ◌++◌, Bool, true, false, Option, Some, None, IfSome, length, All, map, refl, sym, ap, subst, ◌∙◌, append_assoc, append-nil, length-append, arith}
 use Rattle.std.specs.Prelude.{⊤, cond, ◌==◌, ◌||◌, flat_map}
 use Rattle.std.specs.List.{slice_split, onto_first}
 use Rattle.std.specs.Io.BufRead.{take_through}
@@ -10,7 +10,7 @@ use Rattle.ocfl_tree.specs.Place.{Text, Place}
 use Rattle.ocfl_tree.specs.Name.{IsPlace}
 use Rattle.ocfl_report.specs.Text.{place_text}
 use Rattle.ocfl_report.proofs.PlaceTexts.{place_text_determines}
-use Rattle.ocfl_compare.specs.Listed.{is_trimmed, trim_onto, trimmed, path_of, path_in, list_lines, listed_paths, IsObjectPlace, IsList, IsBadListLine, ListStopsRightly}
+use Rattle.ocfl_compare.specs.Listed.{is_trimmed, trim_onto, trimmed, path_of, path_in, list_lines, listed_paths, IsObjectPlace, IsList, IsBadListLine, IsLongList, ListStopsRightly, max_lines}
 use Rattle.ocfl_compare.specs.declared.listing.ListStop.{ListStop}
 use Rattle.ocfl_compare.specs.declared.listing.ListStop.TheVariants.{Line, Long, Failed, Memory}
 
@@ -24,7 +24,7 @@ trim_last (c ∷ t) b e = ap (trim_onto c) (trim_last t b e)
 
 -- the first line of some bytes, the line feed aside, and what follows: further lines, or nothing
 abbrev AreLinesOf : Text → Text → Text → Type 0
-AreLinesOf b line after = (list_lines b ≡ line ∷ list_lines after) ⊎ ((after ≡ []) × (list_lines b ≡ line ∷ []))
+AreLinesOf b line after = (list_lines b ≡ line ∷ list_lines after) ⊎ ((after ≡ []) × ((list_lines b ≡ line ∷ []) × (line ≢ [])))
 
 record Splits (b text after : Text) : Type 0 where
   pub line : Text
@@ -34,9 +34,13 @@ record Splits (b text after : Text) : Type 0 where
 tail_same : (x y : ℕ) (b c : Text) → x ∷ b ≡ y ∷ c → b ≡ c
 tail_same x y b c e = cc
 
-onto : (x : ℕ) (b after line : Text) → AreLinesOf b line after → (onto_first x (list_lines b) ≡ (x ∷ line) ∷ list_lines after) ⊎ ((after ≡ []) × (onto_first x (list_lines b) ≡ (x ∷ line) ∷ []))
+filled : (x : ℕ) (t : Text) → x ∷ t ≡ [] → ⊥
+filled x t e = cc
+
+onto : (x : ℕ) (b after line : Text) → AreLinesOf b line after
+    → (onto_first x (list_lines b) ≡ (x ∷ line) ∷ list_lines after) ⊎ ((after ≡ []) × ((onto_first x (list_lines b) ≡ (x ∷ line) ∷ []) × (x ∷ line ≢ [])))
 onto x b after line (inl h) = inl (ap (onto_first x) h)
-onto x b after line (inr h) = inr (h.0, ap (onto_first x) h.1)
+onto x b after line (inr h) = inr (h.0, (ap (onto_first x) h.1.0, filled x line))
 
 first : (b after : Text) → b ≡ take_through 10 b ++ after → b ≢ [] → Splits b (take_through 10 b) after
 first [] after e some = absurd (some refl)
@@ -48,7 +52,7 @@ first (x ∷ []) after e some = by (x == 10) refl e
         or_true : (c : Bool) → cond (c || true) [] (x ∷ []) ≡ []
         or_true true = refl
         or_true false = refl
-    by false f g = record { line = x ∷ []; same = refl; lines = inr (sym (tail_same x x [] after g), ap (λ c. cond c ([] ∷ ([] ∷ [])) ((x ∷ []) ∷ [])) f) }
+    by false f g = record { line = x ∷ []; same = refl; lines = inr (sym (tail_same x x [] after g), (ap (λ c. cond c ([] ∷ ([] ∷ [])) ((x ∷ []) ∷ [])) f, filled x [])) }
 first (x ∷ y ∷ b) after e some = by (x == 10) refl e (λ g. first (y ∷ b) after g (λ h. cc))
   where
     by : (z : Bool) → (x == 10) ≡ z → x ∷ y ∷ b ≡ cond z (x ∷ []) (x ∷ take_through 10 (y ∷ b)) ++ after → (y ∷ b ≡ take_through 10 (y ∷ b) ++ after → Splits (y ∷ b) (take_through 10 (y ∷ b)) after)
@@ -67,14 +71,18 @@ first (x ∷ y ∷ b) after e some = by (x == 10) refl e (λ g. first (y ∷ b) 
         record {
           line = x ∷ rest.line;
           same = ap (trim_onto x) rest.same;
-          lines = subst (λ ls. (ls ≡ (x ∷ rest.line) ∷ list_lines after) ⊎ ((after ≡ []) × (ls ≡ (x ∷ rest.line) ∷ []))) (sym (ap (λ c. cond c ([] ∷ list_lines (y ∷ b)) (onto_first x (list_lines (y ∷ b)))) f)) (onto x (y ∷ b) after rest.line rest.lines);
+          lines = subst (λ ls. (ls ≡ (x ∷ rest.line) ∷ list_lines after) ⊎ ((after ≡ []) × ((ls ≡ (x ∷ rest.line) ∷ []) × (x ∷ rest.line ≢ [])))) (sym (ap (λ c. cond c ([] ∷ list_lines (y ∷ b)) (onto_first x (list_lines (y ∷ b)))) f)) (onto x (y ∷ b) after rest.line rest.lines);
         }
 
 -- ---- lines so far
 
+-- the last of these lines is not empty
+abbrev pub HasLast : List Text → Type 0
+HasLast done = (before : List Text) × ((line : Text) × ((done ≡ before ++ line ∷ []) × (line ≢ [])))
+
 -- these lines were read of all bytes, and what is left
 abbrev pub AreRead : Text → Text → List Text → Type 0
-AreRead b left done = (list_lines b ≡ done ++ list_lines left) ⊎ ((left ≡ []) × (list_lines b ≡ done))
+AreRead b left done = (list_lines b ≡ done ++ list_lines left) ⊎ ((left ≡ []) × ((list_lines b ≡ done) × HasLast done))
 
 pub record IsListed (b left : Text) (ps : List Place) (n : ℕ) : Type 0 where
   pub done : List Text
@@ -89,12 +97,12 @@ none_listed b ps n e f = record { done = []; read = inl refl; places = subst (Al
 lines_more : (b left after line : Text) (done : List Text) → left ≢ [] → AreRead b left done → AreLinesOf left line after → AreRead b after (done ++ line ∷ [])
 lines_more b left after line done some (inr h) k = absurd (some h.0)
 lines_more b left after line done some (inl h) (inl k) = inl (h ∙ ap (λ ls. done ++ ls) k ∙ sym (append_assoc done (line ∷ []) (list_lines after)))
-lines_more b left after line done some (inl h) (inr k) = inr (k.0, h ∙ ap (λ ls. done ++ ls) k.1)
+lines_more b left after line done some (inl h) (inr k) = inr (k.0, (h ∙ ap (λ ls. done ++ ls) k.1.0, (done, (line, (refl, k.1.1)))))
 
 line_stands : (b left after line : Text) (done : List Text) → left ≢ [] → AreRead b left done → AreLinesOf left line after → (rest : List Text) × (list_lines b ≡ done ++ line ∷ rest)
 line_stands b left after line done some (inr h) k = absurd (some h.0)
 line_stands b left after line done some (inl h) (inl k) = (list_lines after, h ∙ ap (λ ls. done ++ ls) k)
-line_stands b left after line done some (inl h) (inr k) = ([], h ∙ ap (λ ls. done ++ ls) k.1)
+line_stands b left after line done some (inl h) (inr k) = ([], h ∙ ap (λ ls. done ++ ls) k.1.0)
 
 map_more : (xs ys : List Place) → map place_text (xs ++ ys) ≡ map place_text xs ++ map place_text ys
 map_more [] ys = refl
@@ -140,7 +148,66 @@ all_listed b left ps n h e = record { places = h.places; is = by h.read }
   where
     by : AreRead b left h.done → listed_paths b ≡ map place_text ps
     by (inl k) = ap (flat_map path_in) (k ∙ ap (λ t. h.done ++ list_lines t) e) ∙ flat_map-append path_in h.done ([] ∷ []) ∙ append-nil (flat_map path_in h.done) ∙ h.paths
-    by (inr k) = ap (flat_map path_in) k.1 ∙ h.paths
+    by (inr k) = ap (flat_map path_in) k.1.0 ∙ h.paths
+
+-- ---- more lines than a list has
+
+-- a list that is not empty has a last element
+ended : (ls : List Text) (m : ℕ) → length ls ≡ m + 1 → (before : List Text) × ((line : Text) × ((ls ≡ before ++ line ∷ []) × (length before ≡ m)))
+ended [] m e = absurd (omega (arith, e))
+ended (l ∷ []) m e = ([], (l, (refl, omega (arith, e))))
+ended (l ∷ k ∷ ls) m e =
+    let shorter : length (k ∷ ls) ≡ (m - 1) + 1 = omega (arith, e) in
+    let h = ended (k ∷ ls) (m - 1) shorter in
+    let before : length h.0 ≡ m - 1 = h.1.1.1 in
+    let long = e in
+    (l ∷ h.0, (h.1.0, (ap (λ xs. l ∷ xs) h.1.1.0, omega (arith, before, long))))
+
+split_some : (b : Text) → list_lines b ≢ []
+split_some [] e = cc
+split_some (x ∷ b) e = by (x == 10) e
+  where
+    onto_some : (ls : List Text) → onto_first x ls ≢ []
+    onto_some [] f = cc
+    onto_some (l ∷ ls) f = cc
+
+    by : (z : Bool) → cond z ([] ∷ list_lines b) (onto_first x (list_lines b)) ≡ [] → ⊥
+    by true f = cc
+    by false f = onto_some (list_lines b) f
+
+last_same : (xs ys : List Text) (x y : Text) → xs ++ x ∷ [] ≡ ys ++ y ∷ [] → x ≡ y
+last_same [] [] x y e = cc
+last_same [] (v ∷ []) x y e = absurd (by e)
+  where
+    by : x ∷ [] ≡ v ∷ (y ∷ []) → ⊥
+    by g = cc
+last_same [] (v ∷ w ∷ ys) x y e = absurd (by e)
+  where
+    by : x ∷ [] ≡ v ∷ (w ∷ (ys ++ y ∷ [])) → ⊥
+    by g = cc
+last_same (u ∷ []) [] x y e = absurd (by e)
+  where
+    by : u ∷ (x ∷ []) ≡ y ∷ [] → ⊥
+    by g = cc
+last_same (u ∷ t ∷ xs) [] x y e = absurd (by e)
+  where
+    by : u ∷ (t ∷ (xs ++ x ∷ [])) ≡ y ∷ [] → ⊥
+    by g = cc
+last_same (u ∷ xs) (v ∷ ys) x y e = last_same xs ys x y (by e)
+  where
+    by : u ∷ (xs ++ x ∷ []) ≡ v ∷ (ys ++ y ∷ []) → xs ++ x ∷ [] ≡ ys ++ y ∷ []
+    by g = cc
+
+long : (b left : Text) (ps : List Place) (n m : ℕ) → IsListed b left ps n → n ≡ m + 2 → (before : List Text) × ((line : Text) × ((rest : List Text) × ((list_lines b ≡ before ++ line ∷ rest)
+    × ((length before ≡ m) × ((line ≢ []) ⊎ (rest ≢ []))))))
+long b left ps n m h e = by h.read
+  where
+    last : (before : List Text) × ((line : Text) × ((h.done ≡ before ++ line ∷ []) × (length before ≡ m)))
+    last = let counted = h.count in ended h.done m (omega (arith, e, counted))
+
+    by : AreRead b left h.done → (before : List Text) × ((line : Text) × ((rest : List Text) × ((list_lines b ≡ before ++ line ∷ rest) × ((length before ≡ m) × ((line ≢ []) ⊎ (rest ≢ []))))))
+    by (inl k) = (last.0, (last.1.0, (list_lines left, (k ∙ ap (λ ls. ls ++ list_lines left) last.1.1.0 ∙ append_assoc last.0 (last.1.0 ∷ []) (list_lines left), (last.1.1.1, inr (split_some left))))))
+    by (inr k) = (last.0, (last.1.0, ([], (k.1.0 ∙ last.1.1.0, (last.1.1.1, inl (λ z. k.1.1.1.1.1 (last_same k.1.1.0 last.0 k.1.1.1.0 last.1.0 (sym k.1.1.1.1.0 ∙ last.1.1.0) ∙ z)))))))
 
 -- ---- of a reader's bytes, where they are known
 
@@ -165,28 +232,35 @@ known_more (Some b) (Some left) (Some after) text bytes ps n h some line read e 
 pub known_bad : (all left after : Option Text) (text bytes : Text) (ps : List Place) (n : ℕ) (stop : ListStop) → KnownListed all left ps n → text ≢ [] → IfSome left (λ xs. text ≡ take_through 10 xs)
     → Consumes left after text → bytes ≡ text
     → ((m : ℕ) → stop ≡ Line m → (m ≡ n) × ((path_in bytes ≢ []) × ((p : Place) → IsObjectPlace p → path_in bytes ≢ place_text p ∷ [])))
-    → IfSome all (λ b. ListStopsRightly b stop)
-known_bad None left after text bytes ps n stop h some line read e bad = tt
-known_bad (Some b) None after text bytes ps n stop h some line read e bad = absurd h
-known_bad (Some b) (Some left) None text bytes ps n stop h some line read e bad = absurd read
-known_bad (Some b) (Some left) (Some after) text bytes ps n (Line m) h some line read e bad =
+    → stop ≢ Long → IfSome all (λ b. ListStopsRightly b stop)
+known_bad None left after text bytes ps n stop h some line read e bad short = tt
+known_bad (Some b) None after text bytes ps n stop h some line read e bad short = absurd h
+known_bad (Some b) (Some left) None text bytes ps n stop h some line read e bad short = absurd read
+known_bad (Some b) (Some left) (Some after) text bytes ps n (Line m) h some line read e bad short =
     let k = bad m refl in
     line_bad b left after text ps n h some line read m k.0 (λ z. k.1.0 (ap path_in e ∙ z)) (λ p o z. k.1.1 p o (ap path_in e ∙ z))
-known_bad (Some b) (Some left) (Some after) text bytes ps n Long h some line read e bad = tt
-known_bad (Some b) (Some left) (Some after) text bytes ps n Failed h some line read e bad = tt
-known_bad (Some b) (Some left) (Some after) text bytes ps n Memory h some line read e bad = tt
+known_bad (Some b) (Some left) (Some after) text bytes ps n Long h some line read e bad short = absurd (short refl)
+known_bad (Some b) (Some left) (Some after) text bytes ps n Failed h some line read e bad short = tt
+known_bad (Some b) (Some left) (Some after) text bytes ps n Memory h some line read e bad short = tt
+
+pub known_long : (all left : Option Text) (ps : List Place) (n : ℕ) → KnownListed all left ps n → n ≡ max_lines + 2 → IfSome all (λ b. ListStopsRightly b Long)
+known_long None left ps n h e = tt
+known_long (Some b) None ps n h e = absurd h
+known_long (Some b) (Some left) ps n h e =
+    let k = long b left ps n max_lines h e in
+    record { before = k.0; line = k.1.0; rest = k.1.1.0; is = k.1.1.1.0; many = k.1.1.1.1.0; some = k.1.1.1.1.1 }
 
 pub known_all : (all left : Option Text) (ps : List Place) (n : ℕ) → KnownListed all left ps n → IsAtEnd left → IfSome all (λ b. IsList b ps)
 known_all None left ps n h end = tt
 known_all (Some b) None ps n h end = absurd h
 known_all (Some b) (Some left) ps n h end = all_listed b left ps n h end
 
-pub known_other : (all : Option Text) (stop : ListStop) → (stop ≡ Long) ⊎ ((stop ≡ Failed) ⊎ (stop ≡ Memory)) → IfSome all (λ b. ListStopsRightly b stop)
+pub known_other : (all : Option Text) (stop : ListStop) → (stop ≡ Failed) ⊎ (stop ≡ Memory) → IfSome all (λ b. ListStopsRightly b stop)
 known_other None stop h = tt
 known_other (Some b) (Line n) (inl e) = cc
-known_other (Some b) (Line n) (inr (inl e)) = cc
-known_other (Some b) (Line n) (inr (inr e)) = cc
-known_other (Some b) Long h = tt
+known_other (Some b) (Line n) (inr e) = cc
+known_other (Some b) Long (inl e) = cc
+known_other (Some b) Long (inr e) = cc
 known_other (Some b) Failed h = tt
 known_other (Some b) Memory h = tt
 

@@ -1,5 +1,5 @@
 -- The text of a list of objects: a path a line, as in reports.
-use Rattle.std.specs.Prelude.{◌≡◌, ◌≢◌, ℕ, ◌+◌, ◌==◌, ◌||◌, List, [], ◌∷◌, ◌++◌, length, All, Bool, if◌then◌else◌, map, flat_map, ⊤}
+use Rattle.std.specs.Prelude.{◌≡◌, ◌≢◌, ◌⊎◌, ℕ, ◌+◌, ◌==◌, ◌||◌, List, [], ◌∷◌, ◌++◌, length, All, Bool, if◌then◌else◌, map, flat_map, ⊤}
 use Rattle.std.specs.List.{slice_split}
 use Rattle.ocfl_tree.specs.Place.{Text, Place}
 use Rattle.ocfl_tree.specs.Name.{IsPlace}
@@ -57,8 +57,21 @@ pub record IsBadListLine (b : Text) (n : ℕ) : Type 0 where
   pub some : path_in line ≢ []
   pub bad : (p : Place) → IsObjectPlace p → path_in line ≢ place_text p ∷ []
 
+-- a list has so many lines at most
+abbrev pub max_lines : ℕ
+max_lines = 10000000
+
+-- one more line comes after those, also one without a line feed
+pub record IsLongList (b : Text) : Type 0 where
+  pub before : List Text
+  pub line : Text
+  pub rest : List Text
+  pub is : list_lines b ≡ before ++ line ∷ rest
+  pub many : length before ≡ max_lines
+  pub some : (line ≢ []) ⊎ (rest ≢ [])
+
 abbrev pub ListStopsRightly : Text → ListStop → Type 0
 ListStopsRightly b (Line n) = IsBadListLine b n
-ListStopsRightly b Long = ⊤
+ListStopsRightly b Long = IsLongList b
 ListStopsRightly b Failed = ⊤
 ListStopsRightly b Memory = ⊤

@@ -69,6 +69,7 @@ fn take_path(
     ensures bad { IfErr result (λ stop. (n : ℕ) → stop ≡ ListStop.Line n → (n ≡ number)
         × ((path_in line.now ≢ []) × ((p : ModelPlace) → IsObjectPlace p
         → path_in line.now ≢ place_text p ∷ []))) }
+    ensures short { IfErr result (λ stop. stop ≢ ListStop.Long) }
 {
     let path = trim(line);
     if !is_path(path) {

@@ -1,10 +1,10 @@
 -- Bytes are appended between calls that change nothing, and the digests of the report go on.
-use Rattle.std.proofs.Common.{◌≡◌, inl, inr, ⊎_elim, ℕ, ◌^◌, ◌<◌, ◌≤◌, ◌++◌, length, take, refl, sym, ◌∙◌, ap, subst, arith}
-use Rattle.std.specs.Prelude.{Option, Some, IfSome}
+use Rattle.std.proofs.Common.{◌≡◌, ◌≢◌, ◌↔◌, true, false, inl, inr, ⊎_elim, ℕ, ◌^◌, ◌<◌, ◌≤◌, ◌++◌, length, take, refl, sym, ◌∙◌, ap, subst, arith}
+use Rattle.std.specs.Prelude.{Option, Some, None, IfSome, IsSome}
 use Rattle.std.proofs.lemmas.List.{take_all}
 use Rattle.ocfl_state.specs.Content.{Bytes, Content, with_report}
 use Rattle.ocfl_state.specs.Crash.{Outcomes, Same, MayTear, After, Passes}
-use Rattle.ocfl_state.specs.Pieces.{Carries, rest_of, summary_of}
+use Rattle.ocfl_state.specs.Pieces.{Carries, HasTail, rest_of, summary_of, tail_of}
 use Rattle.ocfl_state.specs.declared.checkpoint_parts.ReportMark.{ReportMark}
 use Rattle.ocfl_state.specs.declared.pieces.ReportDigests.{ReportDigests}
 
@@ -65,3 +65,15 @@ resumed_on mark report found digests same is carried =
 -- the report is as long as the range of its length allows
 pub in_range : (c d : Content) (bytes : Bytes) (long : ℕ) → c ≡ with_report (d.report ++ bytes) d → long ≡ length c.report → long < 2 ^ 64 → length (d.report ++ bytes) < 2 ^ 64
 in_range c d bytes long grown is short = omega (arith, is, short, ap (λ (x : Content). length x.report) grown)
+
+-- ---- why bytes are not appended
+
+-- a report is found to be another one only where its mark is another one
+pub another_mark : (mark : ReportMark) (report : Bytes) (found : Option ReportDigests) → found ≡ None → (IsSome found ↔ HasTail mark report) → mark ≢ summary_of report
+another_mark mark report found none fits same = lost ((subst (λ (o : Option ReportDigests). IsSome o ↔ HasTail mark report) none fits).1 tail)
+  where
+    lost : false ≡ true → ⊥
+    lost e = cc
+
+    tail : HasTail mark report
+    tail = subst (λ (m : ReportMark). HasTail m report) (sym same) (record { long = omega arith; tail = ap tail_of (sym (take_all (length report) report (omega arith))) })

@@ -1,5 +1,6 @@
 //! Appending to a report of which a checkpoint keeps the length, the lines and the digests.
-ghost use Rattle.std.specs.Prelude.{◌≡◌, ◌<◌, ◌↔◌, ◌^◌, ◌++◌, IsTrue, IfOk, OnOk, length};
+ghost use Rattle.std.specs.Prelude.{◌≡◌, ◌≢◌, ◌<◌, ◌↔◌, ◌^◌, ◌++◌, IsTrue, IfOk, OnOk, length};
+ghost use Rattle.ocfl_state.specs.Calls.{HasCauseOr};
 ghost use Rattle.ocfl_state.specs.Content.{with_report};
 ghost use Rattle.ocfl_state.specs.Crash.{MayTear, Passes};
 ghost use Rattle.ocfl_state.specs.Pieces.{summary_of};
@@ -33,6 +34,8 @@ pub fn append_marked<S: StateFolder>(
     ensures crash { IsTrue S.told → Passes S.may_leave S.moment S.left_since
         (MayTear (length (S.seen folder.old).report)
         (length ((S.seen folder.old).report ++ bytes.now))) folder.old folder.new }
+    ensures cause { IsTrue S.told → HasCauseOr (mark.now ≢ summary_of (S.seen folder.old).report)
+        (S.faults folder.old) (S.faults folder.new) result }
 {
     let Some(mut digests) = resume_digests(folder, mark)? else {
         return Err(Trouble::Failed);

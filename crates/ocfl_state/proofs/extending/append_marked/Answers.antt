@@ -1,6 +1,7 @@
-use Rattle.std.proofs.Common.{◌∙◌, ◌++◌, ap, subst, length}
+use Rattle.std.proofs.Common.{◌∙◌, ◌++◌, ap, arith, inr, length, subst, sym}
 use Rattle.ocfl_state.specs.Content.{Content, with_report}
 use Rattle.ocfl_state.specs.Crash.{MayTear, Passes}
+use Rattle.ocfl_state.specs.declared.checkpoint_parts.ReportMark.{ReportMark}
 use Rattle.ocfl_state.proofs.Marks.{then_torn, torn_then, resumed_on, in_range}
 use Rattle.ocfl_state.proofs.extending.append_marked.Goals as goal
 
@@ -51,3 +52,26 @@ returns-clause-crash g c = λ told.
     (then_torn (length report) (length (report ++ bytes)) (c.resume_digests.ensures.crash told)
     (subst (λ (s : Content). Passes S.may_leave S.moment S.left_since (MayTear (length s.report) (length (s.report ++ bytes))) c.resume_digests.new.folder c.append.new.self) (c.resume_digests.ensures.seen told) (c.append.ensures.crash told)))
     (c.length.ensures.crash told)
+
+pub returns-then-not-is_as_long-clause-cause : goal.returns-then-not-is_as_long-clause-cause
+returns-then-not-is_as_long-clause-cause g c = λ told.
+    let S = g.S.StateFolder in
+    let bytes = c.args.bytes.now in
+    let old = S.seen c.args.folder.now in
+    let first = (c.resume_digests.ensures.cause told).later in
+    let second = (c.append.ensures.cause told).later in
+    let third = (c.length.ensures.cause told).later in
+    let grown = c.in_ok-append.ensures.appended told ∙ ap (λ (s : Content). with_report (s.report ++ bytes) s) (c.resume_digests.ensures.seen told) in
+    let short = in_range (S.seen c.append.new.self) old bytes c.in_ok-length.field-0 grown (c.in_ok-length.ensures.value told) c.is_as_long.ensures.range in
+    record {
+      later = omega (arith, first, second, third);
+      failed = λ is. inr (λ same.
+          let carried = resumed_on c.args.mark.now old.report c.in_ok-digests.field-0 c.in-Some.digests same c.in-Some.is (c.in_ok-digests.ensures.carried told) in
+          let next = c.summary-next.ensures (old.report ++ bytes) (c.push.ensures old.report carried short) in
+          let long = c.in_ok-length.ensures.value told ∙ ap (λ (s : Content). length s.report) grown ∙ sym (ap (λ (m : ReportMark). m.bytes) next) in
+          let yes = c.is_as_long.ensures.value.1 long in
+          let no = c.if-not-is_as_long.true in
+          absurd (cc (yes, no)));
+      full = λ is. absurd (cc is);
+      not_taken = λ is. absurd (cc is);
+    }

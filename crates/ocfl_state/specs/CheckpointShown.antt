@@ -29,3 +29,11 @@ HiddenRightly b hidden.Memory = ⊤
 HiddenRightly b hidden.Long = max_shown < length b
 HiddenRightly b (hidden.Checkpoint r) = (is_checkpoint_front b ≡ true) × RefusedRightly b r
 HiddenRightly b (hidden.Cursor why) = (is_checkpoint_front b ≡ false) × UnshownRightly b why
+
+-- a text that is there is refused as what it begins as, and for nothing that a reader did
+abbrev pub IsOfText : NotShown → Type 0
+IsOfText hidden.Read = ⊥
+IsOfText hidden.Memory = ⊥
+IsOfText hidden.Long = ⊥
+IsOfText (hidden.Checkpoint r) = ⊤
+IsOfText (hidden.Cursor why) = ⊤

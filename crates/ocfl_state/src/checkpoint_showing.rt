@@ -3,6 +3,7 @@ ghost use Rattle.std.specs.Prelude.{◌≡◌, ◌⊎◌, take, IfOk, IfErr, IfS
 ghost use Rattle.ocfl_cursor.specs.Shown.{AreShown as AreCursorLines, UnshownRightly};
 ghost use Rattle.ocfl_state.specs.CheckpointRefusal.{RefusedRightly};
 ghost use Rattle.ocfl_state.specs.CheckpointShown.{AreShown, HiddenRightly, AreCheckpointLines};
+ghost use Rattle.ocfl_state.specs.CheckpointShown.{IsOfText};
 
 use crate::checkpoint_decoding::decode_checkpoint;
 use crate::checkpoint_encoding::checkpoint_lines;
@@ -35,6 +36,7 @@ pub enum NotShown {
 pub fn show_stored(alloc: Global, text: &[u8]) -> Result<Vec<u8>, NotShown>
     ensures lines { IfOk result (λ lines. AreShown text.now lines.items) }
     ensures refused { IfErr result (λ why. HiddenRightly text.now why) }
+    ensures of_text { IfErr result IsOfText }
 {
     if text.starts_with(FRONT) {
         match lines_of_checkpoint(alloc, text) {

@@ -1,2 +1,3 @@
+pub mod Askings
 pub mod Ordered
 pub mod Sums

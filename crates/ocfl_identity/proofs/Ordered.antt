@@ -1,6 +1,8 @@
 -- A sorted listing is the entries of the directory.
-use Rattle.std.proofs.Common.{◌≡◌, inl, inr, suc, ◌+◌, List, [], ◌∷◌, refl, sym, ◌∙◌, ap, subst, false, Option, Some, None, arith, All, IsPermutation}
-use Rattle.std.specs.Prelude.{filter_map, option_map, slice_index_or}
+use Rattle.std.proofs.Common.{◌≡◌, inl, inr, suc, ◌+◌, List, [], ◌∷◌, ◌++◌, refl, sym, ◌∙◌, ap, subst, Bool, true, false, Option, Some, None, arith, All, IsPermutation}
+use Rattle.std.specs.Prelude.{◌&&◌, cond, filter, filter_map, option_and_then, option_map, slice_index_or}
+use Rattle.sha2.specs.Sha256.{sha256}
+use Rattle.hex.specs.Hex.{encode_lower}
 use Rattle.std.specs.List.{AllByRecursion, IsDistinct, cons_option}
 use Rattle.std.specs.List.Sorted.{IsSorted}
 use Rattle.std.specs.Ordering.{is_lt, is_eq, ordering_reverse}
@@ -11,14 +13,18 @@ use Rattle.std.proofs.lemmas.List.Sorted.{All-permutation, IsPermutation-sym, Is
 use Rattle.std.proofs.lemmas.Map.Keys.{IsDistinct-IsPermutation}
 use Rattle.ocfl_tree.specs.Place.{Place, Text, child_name, text_cmp, text_eq}
 use Rattle.ocfl_tree.specs.Ascending.{IsAscending, IsAmong, IsBeforeAll}
-use Rattle.ocfl_tree.specs.StorageRoot.{StorageRoot, names_in}
-use Rattle.ocfl_tree.specs.Listing.{IsListing, IsOrdinary, entries_in, entry_at, kind_at}
+use Rattle.ocfl_tree.specs.StorageRoot.{StorageRoot, Leaf, file, dir, other, at, bytes_of, file_at, names_in}
+use Rattle.ocfl_tree.specs.Listing.{IsListing, IsOrdinary, entries_in, entry_at, kind_at, kind_of}
 use Rattle.ocfl_tree.specs.declared.store.Entry.{Entry}
 use Rattle.ocfl_tree.specs.declared.store.Kind.{Kind}
+use Rattle.ocfl_tree.specs.declared.store.Kind.TheVariants.{File, Other}
 use Rattle.ocfl_tree.proofs.Orders.{ascending_unique, ascends_ascending, below_from_greater, true_not_false}
 use Rattle.ocfl_tree.proofs.Places.{text_cmp_exact, text_cmp_total}
 use Rattle.ocfl_tree.proofs.Listings.{listing_permutes}
-use Rattle.ocfl_identity.specs.Identity.{names_of}
+use Rattle.ocfl_inventory.specs.Declaration.{is_declaration}
+use Rattle.ocfl_inventory.specs.Entries.{is_counted, is_file}
+use Rattle.ocfl_inventory.specs.declared.declaration.Level.TheVariants.{Root}
+use Rattle.ocfl_identity.specs.Identity.{before_lines, declarations_among, declared_by, digits_of, names_of, sum_line, sum_lines}
 
 -- ---- names that ascend are distinct, and so are they in any order
 
@@ -164,3 +170,55 @@ sorted_listing root d es fs ordinary h m sorted =
           λ i. among_moved (names_of es) _ n (of_name es _ there) (among_moved (names_of fs) (names_of es) n (of_name fs es (IsPermutation-sym es fs m)) i),
           λ i. among_moved (names_of es) (names_of fs) n (of_name es fs m) (among_moved _ (names_of es) n (of_name _ es here) i),
         ))
+
+-- ---- the declarations among the entries of a directory are there
+
+first_true : (b c : Bool) → (b && c) ≡ true → b ≡ true
+first_true true c e = refl
+first_true false c e = e
+
+kind_or : Option Entry → Kind
+kind_or None = Other
+kind_or (Some e) = e.kind
+
+counted_there : (root : StorageRoot) (e : Entry) → entry_at root [] e.name ≡ Some e → is_counted Root e ≡ true → (bytes : Text) × (file_at root (e.name ∷ []) ≡ Some bytes)
+unfolding kind_or
+counted_there root e mine counted = by (at root (e.name ∷ [])) refl
+  where
+    is_listed : Option Leaf → Bool
+    is_listed o = is_file (kind_or (option_map (λ k. record { name = e.name; kind = k }) (option_map kind_of o)))
+
+    listed : true ≡ is_listed (at root (e.name ∷ []))
+    listed = sym (first_true (is_file e.kind) (is_declaration Root e.name) counted) ∙ sym (ap (λ o. is_file (kind_or o)) mine)
+
+    by : (o : Option Leaf) → at root (e.name ∷ []) ≡ o → (bytes : Text) × (file_at root (e.name ∷ []) ≡ Some bytes)
+    by None a = absurd (true_not_false (listed ∙ ap is_listed a))
+    by (Some (file bytes)) a = (bytes, ap (option_and_then bytes_of) a)
+    by (Some dir) a = absurd (true_not_false (listed ∙ ap is_listed a))
+    by (Some other) a = absurd (true_not_false (listed ∙ ap is_listed a))
+
+lines_there : (root : StorageRoot) (es : List Entry) → Are root [] es → (lines : Text) × (sum_lines root (declarations_among es) ≡ Some lines)
+lines_there root [] h = ([], refl)
+lines_there root (e ∷ es) h = by (is_counted Root e) refl (lines_there root es h.1)
+  where
+    line : Text → Option Text
+    line bytes = option_map (λ digits. sum_line digits e.name) (digits_of (Some bytes))
+
+    by : (b : Bool) → is_counted Root e ≡ b → (lines : Text) × (sum_lines root (declarations_among es) ≡ Some lines)
+        → (lines : Text) × (sum_lines root (names_of (cond b (e ∷ filter (is_counted Root) es) (filter (is_counted Root) es))) ≡ Some lines)
+    by false c more = more
+    by true c more =
+        let there = counted_there root e h.0 c in (
+          sum_line (encode_lower (sha256 there.0)) e.name ++ more.0,
+          ap (λ o. before_lines (option_map (λ digits. sum_line digits e.name) (digits_of o)) (sum_lines root (declarations_among es))) there.1
+              ∙ ap (before_lines (line there.0)) more.1,
+        )
+
+pub declared_there : (root : StorageRoot) → declared_by root (declarations_among (entries_in root [])) ≡ None → ⊥
+declared_there root none = filled (sym (ap (option_map sha256) lines.1) ∙ none)
+  where
+    lines : (lines : Text) × (sum_lines root (declarations_among (entries_in root [])) ≡ Some lines)
+    lines = lines_there root (entries_in root []) (own root [] (names_in root []))
+
+    filled : {x : Text} → Some x ≡ None → ⊥
+    filled g = cc

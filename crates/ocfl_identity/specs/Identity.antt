@@ -1,13 +1,16 @@
 -- What tells one storage root from another: its declarations (OCFL 1.1, 4.2 Root Conformance
 -- Declaration), and the names in its top folder.
-use Rattle.std.specs.Prelude.{◌≡◌, List, [], ◌∷◌, ◌++◌, length, map, filter, flat_map, codes, Option, Some, None}
+use Rattle.std.specs.Prelude.{◌≡◌, ◌≤◌, ◌^◌, ℕ, true, false, List, [], ◌∷◌, ◌++◌, length, map, filter, flat_map, codes, Option, Some, None}
 use Rattle.std.specs.Option.{option_map}
 use Rattle.sha2.specs.Sha256.{sha256}
 use Rattle.hex.specs.Hex.{encode_lower}
-use Rattle.ocfl_tree.specs.Place.{Text}
+use Rattle.ocfl_tree.specs.Place.{Text, Place}
 use Rattle.ocfl_tree.specs.StorageRoot.{StorageRoot, file_at}
 use Rattle.ocfl_tree.specs.Listing.{entries_in}
+use Rattle.ocfl_tree.specs.Store.{Store, Did}
+use Rattle.ocfl_tree.specs.Calls.{opening}
 use Rattle.ocfl_tree.specs.declared.store.Entry.{Entry}
+use Rattle.ocfl_tree.specs.declared.store.Opening.{Opening}
 use Rattle.ocfl_inventory.specs.Entries.{is_counted}
 use Rattle.ocfl_inventory.specs.declared.declaration.Level.TheVariants.{Root}
 use Rattle.ocfl_identity.specs.declared.identity.Identity.{Identity}
@@ -50,3 +53,23 @@ pub record IsIdentityOf (root : StorageRoot) (id : Identity) : Type 0 where
   pub declared : declared_by root id.declarations.items ≡ Some id.declared
   pub count : id.count ≡ length (entries_in root [])
   pub names : id.names ≡ sha256 (ended_names (names_of (entries_in root [])))
+
+-- ---- what is asked of a store
+
+abbrev pub opened_then : Text → Option Text → List Opening → List Opening
+opened_then n None more = []
+opened_then n (Some bytes) more = opening (n ∷ []) (length bytes) false ∷ more
+
+-- the openings of the files with these names in the top folder, each read to its end, up to the
+-- first that is not there
+abbrev pub openings_of : StorageRoot → List Text → List Opening
+openings_of root [] = []
+openings_of root (n ∷ names) = opened_then n (file_at root (n ∷ [])) (openings_of root names)
+
+-- A place could not be read, where these directories are listed: the device failed in the listing
+-- of the top folder, or in the opening of a file, which was the last call; or the file has 2^62
+-- bytes or more.
+pub data IsUnread (root : StorageRoot) (s t : Store) (listed : List Place) (p : Place) : Type 0 where
+  in_listing : p ≡ [] → listed ≡ p ∷ [] → Did s t [] listed 1 → IsUnread root s t listed p
+  in_opening : (before : List Opening) (given : ℕ) → Did s t (before ++ opening p given true ∷ []) listed 1 → IsUnread root s t listed p
+  too_long : (bytes : Text) → file_at root p ≡ Some bytes → 2 ^ 62 ≤ length bytes → IsUnread root s t listed p

@@ -4,11 +4,13 @@ ghost use Rattle.std.specs.Prelude.{string_bytes};
 ghost use Rattle.std.specs.Option.{option_map};
 ghost use Rattle.sha2.specs.Hashers.{Holds256};
 ghost use Rattle.hex.specs.Hex.{encode_lower};
-ghost use Rattle.ocfl_tree.specs.Store.{IfTold};
+ghost use Rattle.ocfl_tree.specs.Place.{Place as ModelPlace};
+ghost use Rattle.ocfl_tree.specs.Store.{Did, IfTold};
 ghost use Rattle.ocfl_tree.specs.StorageRoot.{file_at};
 ghost use Rattle.ocfl_digest.specs.Digests.{digest_in};
 ghost use Rattle.ocfl_digest.specs.declared.algorithm.Algorithm.TheVariants.{Sha256 as OfSha256};
-ghost use Rattle.ocfl_identity.specs.Identity.{declared_by, digits_of, sum_line};
+ghost use Rattle.ocfl_identity.specs.Identity.{IsUnread, declared_by, digits_of, openings_of};
+ghost use Rattle.ocfl_identity.specs.Identity.{sum_line};
 
 use crate::identity::NoIdentity;
 use ocfl_digest::{Algorithm, Block, Cause, Digests, Wanted, hash_open};
@@ -41,6 +43,11 @@ fn sum_of_file<T: Tree>(
         → (T.state store.new).listings ≡ (T.state store.old).listings }
     ensures told { IfTold T.told (T.state store.old) (λ root. IfOk result
         (λ found. option_map string_bytes found ≡ digits_of (file_at root (name.now ∷ [])))) }
+    ensures opened { IfTold T.told (T.state store.old) (λ root. IfOk result (λ _.
+        Did (T.state store.old) (T.state store.new) (openings_of root (name.now ∷ [])) [] 0)) }
+    ensures unread { IfTold T.told (T.state store.old) (λ root. IfErr result (λ why.
+        (p : ModelPlace) → why ≡ NoIdentity.Unread p
+        → IsUnread root (T.state store.old) (T.state store.new) [] p)) }
 {
     let place = Place::root(alloc).child(name)?;
     let wanted = Wanted::none().with(Algorithm::Sha256);
@@ -79,6 +86,11 @@ pub(crate) fn hash_declarations<T: Tree>(
         → (T.state store.new).listings ≡ (T.state store.old).listings }
     ensures told { IfTold T.told (T.state store.old) (λ root. IfOk result
         (λ found. found ≡ declared_by root names.now)) }
+    ensures opened { IfTold T.told (T.state store.old) (λ root. IfOk result (λ _.
+        Did (T.state store.old) (T.state store.new) (openings_of root names.now) [] 0)) }
+    ensures unread { IfTold T.told (T.state store.old) (λ root. IfErr result (λ why.
+        (p : ModelPlace) → why ≡ NoIdentity.Unread p
+        → IsUnread root (T.state store.old) (T.state store.new) [] p)) }
 {
     let mut hasher = Sha256::new();
     for name in names {

@@ -1,9 +1,11 @@
 //! The identity of a storage root.
-ghost use Rattle.std.specs.Prelude.{◌≡◌, ◌≢◌, ◌↔◌, [], IsTrue, IfOk, Some, Err};
+ghost use Rattle.std.specs.Prelude.{◌≡◌, ◌≢◌, ◌↔◌, ◌∷◌, [], IsTrue, IfOk, IfErr, Some, Err};
+ghost use Rattle.ocfl_tree.specs.Place.{Place as ModelPlace};
 ghost use Rattle.ocfl_tree.specs.Listing.{entries_in};
-ghost use Rattle.ocfl_tree.specs.Store.{IfTold};
+ghost use Rattle.ocfl_tree.specs.Store.{Did, IfTold};
 ghost use Rattle.ocfl_identity.specs.declared.identity.NoIdentity.TheVariants.{Memory};
-ghost use Rattle.ocfl_identity.specs.Identity.{IsIdentityOf, declarations_among, declared_by};
+ghost use Rattle.ocfl_identity.specs.Identity.{IsIdentityOf, IsUnread, declarations_among};
+ghost use Rattle.ocfl_identity.specs.Identity.{declared_by, openings_of};
 
 use crate::declared::hash_declarations;
 use crate::gathered::{declarations, hash_names, sort};
@@ -57,6 +59,13 @@ pub fn look_at_root<T: Tree>(
     ensures declares { IfOk result (λ identity. identity.declarations.items ≢ []) }
     ensures undeclared { IfTold T.told (T.state store.old) (λ root.
         result ≡ Err NoIdentity.Undeclared → declarations_among (entries_in root []) ≡ []) }
+    // The top folder is listed once, and each declaration is opened once.
+    ensures opened { IfTold T.told (T.state store.old) (λ root. IfOk result (λ identity.
+        Did (T.state store.old) (T.state store.new)
+        (openings_of root identity.declarations.items) ([] ∷ []) 0)) }
+    ensures unread { IfTold T.told (T.state store.old) (λ root. IfErr result (λ why.
+        (p : ModelPlace) → why ≡ NoIdentity.Unread p
+        → IsUnread root (T.state store.old) (T.state store.new) ([] ∷ []) p)) }
 {
     let top = Place::root(alloc);
     let mut entries = match store.list(&top) {
@@ -80,6 +89,12 @@ fn identify<T: Tree>(
         → IfOk result (IsIdentityOf root)) }
     ensures declares { IfOk result (λ identity. identity.declarations.items ≢ []) }
     ensures undeclared { result ≡ Err NoIdentity.Undeclared → declarations_among entries.now ≡ [] }
+    ensures opened { IfTold T.told (T.state store.old) (λ root. IfOk result (λ identity.
+        Did (T.state store.old) (T.state store.new)
+        (openings_of root identity.declarations.items) [] 0)) }
+    ensures unread { IfTold T.told (T.state store.old) (λ root. entries.now ≡ entries_in root []
+        → IfErr result (λ why. (p : ModelPlace) → why ≡ NoIdentity.Unread p
+        → IsUnread root (T.state store.old) (T.state store.new) [] p)) }
 {
     let declarations = declarations(alloc, entries)?;
     if declarations.is_empty() {
@@ -108,6 +123,14 @@ pub fn is_still_declared<T: Tree>(
         → (T.state store.new).listings ≡ (T.state store.old).listings }
     ensures told { IfTold T.told (T.state store.old) (λ root. IfOk result (λ same. IsTrue same
         ↔ (declared_by root identity.now.declarations.items ≡ Some identity.now.declared))) }
+    ensures only { IfErr result (λ why. why ≢ NoIdentity.Undeclared) }
+    // Each declaration is opened once, up to the first that is gone.
+    ensures opened { IfTold T.told (T.state store.old) (λ root. IfOk result (λ _.
+        Did (T.state store.old) (T.state store.new)
+        (openings_of root identity.now.declarations.items) [] 0)) }
+    ensures unread { IfTold T.told (T.state store.old) (λ root. IfErr result (λ why.
+        (p : ModelPlace) → why ≡ NoIdentity.Unread p
+        → IsUnread root (T.state store.old) (T.state store.new) [] p)) }
 {
     match hash_declarations(alloc, store, &identity.declarations, block)? {
         Some(declared) => Ok(declared == identity.declared),

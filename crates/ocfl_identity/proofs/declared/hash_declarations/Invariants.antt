@@ -2,6 +2,7 @@ use Rattle.std.proofs.Common.{◌≡◌, IsTrue}
 use Rattle.sha2.specs.Hashers.{Holds256}
 use Rattle.ocfl_tree.specs.Place.{Text}
 use Rattle.ocfl_tree.specs.StorageRoot.{StorageRoot}
+use Rattle.ocfl_identity.proofs.Askings.{AreOpened}
 use Rattle.ocfl_identity.proofs.Sums.{AreBefore}
 use Rattle.ocfl_identity.proofs.declared.hash_declarations.Given as goal
 
@@ -12,4 +13,5 @@ invariant-loop-name g l = record {
   keeps : IsTrue g.T.Tree.told → (g.T.Tree.state l.store).tree ≡ (g.T.Tree.state l.fn.store).tree;
   unlisted : IsTrue g.T.Tree.told → (g.T.Tree.state l.store).listings ≡ (g.T.Tree.state l.fn.store).listings;
   told : IsTrue g.T.Tree.told → (root : StorageRoot) → (g.T.Tree.state l.fn.store).tree ≡ root → AreBefore root lines l.names l.name-index;
+  opened : IsTrue g.T.Tree.told → (root : StorageRoot) → (g.T.Tree.state l.fn.store).tree ≡ root → AreOpened root (g.T.Tree.state l.fn.store) (g.T.Tree.state l.store) l.names l.name-index;
 }

@@ -7,6 +7,7 @@ use Rattle.hex.specs.Hex.{encode_lower}
 use Rattle.ocfl_tree.specs.StorageRoot.{file_at}
 use Rattle.ocfl_digest.specs.declared.algorithm.Algorithm.TheVariants.{Sha256 as OfSha256}
 use Rattle.ocfl_identity.specs.Identity.{digits_of}
+use Rattle.ocfl_identity.proofs.Askings.{file_absent, file_hashed, file_unread}
 use Rattle.ocfl_identity.proofs.declared.sum_of_file.Goals as goal
 
 pub returns-in_err-sha256_digits-in-Ok-clause-keeps : goal.returns-in_err-sha256_digits-in-Ok-clause-keeps
@@ -28,3 +29,16 @@ returns-in_err-sha256_digits-in-Ok-clause-unlisted g c = λ told. (c.in-Ok.ensur
 
 pub returns-in_ok-sha256_digits-in-Ok-clause-unlisted : goal.returns-in_ok-sha256_digits-in-Ok-clause-unlisted
 returns-in_ok-sha256_digits-in-Ok-clause-unlisted g c = λ told. (c.in-Ok.ensures.hashes told _ refl).did.listings_are ∙ append-nil _
+
+pub returns-in_ok-sha256_digits-in-Ok-clause-opened : goal.returns-in_ok-sha256_digits-in-Ok-clause-opened
+returns-in_ok-sha256_digits-in-Ok-clause-opened g c = λ told root is.
+    let h = c.in-Ok.ensures.hashes told root is in
+    file_hashed root _ _ c.args.name.now _ _ h.bytes (c.in_ok-place.ensures ∙ ap (λ d. d ++ c.args.name.now ∷ []) c.root.ensures) h.is_file h.length_is h.did
+
+pub returns-in-Absent-clause-opened : goal.returns-in-Absent-clause-opened
+returns-in-Absent-clause-opened g c = λ told root is.
+    file_absent root _ _ c.args.name.now _ _ _ (c.in_ok-place.ensures ∙ ap (λ d. d ++ c.args.name.now ∷ []) c.root.ensures) c.in-Absent.is (c.in-Err.ensures.hashes told root is)
+
+pub returns-in-Device-clause-unread : goal.returns-in-Device-clause-unread
+returns-in-Device-clause-unread g c = λ told root is q e.
+    file_unread root _ _ c.in_ok-place.place q _ c.in-Err.stop.cause c.in-Device.is (cc e) (c.in-Err.ensures.hashes told root is)

@@ -1,6 +1,8 @@
 use Rattle.std.proofs.Common.{◌≡◌, ◌∙◌, [], subst}
 use Rattle.ocfl_tree.specs.Listing.{IsListing}
 use Rattle.ocfl_identity.specs.Identity.{declarations_among}
+use Rattle.std.proofs.lemmas.Result.{IfOk-weaker, IfErr-weaker}
+use Rattle.ocfl_identity.proofs.Askings.{opened_listed, unread_listed}
 use Rattle.ocfl_identity.proofs.Ordered.{sorted_listing}
 use Rattle.ocfl_identity.proofs.identity.look_at_root.Goals as goal
 
@@ -20,3 +22,17 @@ returns-clause-undeclared g c = λ told root is none.
     subst (λ es. declarations_among es ≡ [])
     (c.deref.ensures.value ∙ sorted_listing root [] c.in-Ok.entries.items c.sort.new.entries.items c.in-Ok.ensures.ordinary listing c.sort.ensures.permutation c.sort.ensures.sorted)
     (c.identify.ensures.undeclared none)
+
+pub returns-clause-opened : goal.returns-clause-opened
+returns-clause-opened g c = λ told root is.
+    let l = c.in-Ok.ensures.lists told in
+    IfOk-weaker c.identify.result _ _ (λ id h. opened_listed _ _ _ _ _ c.root-top.ensures l.did h) (c.identify.ensures.opened told root (l.did.tree ∙ is))
+
+pub returns-clause-unread : goal.returns-clause-unread
+returns-clause-unread g c = λ told root is.
+    let l = c.in-Ok.ensures.lists told in
+    let listing : IsListing root [] c.in-Ok.entries.items =
+    subst (λ r. IsListing r [] c.in-Ok.entries.items) is (subst (λ p. IsListing (g.T.Tree.state c.args.store.now).tree p c.in-Ok.entries.items) c.root-top.ensures l.entries) in
+    IfErr-weaker c.identify.result _ _ (λ why h p e. unread_listed root _ _ _ _ p c.root-top.ensures l.did (h p e))
+    (c.identify.ensures.unread told root (l.did.tree ∙ is)
+    (c.deref.ensures.value ∙ sorted_listing root [] c.in-Ok.entries.items c.sort.new.entries.items c.in-Ok.ensures.ordinary listing c.sort.ensures.permutation c.sort.ensures.sorted))

@@ -1,5 +1,5 @@
 -- A report is found whole where it has the tail that a checkpoint says.
-use Rattle.std.proofs.Common.{◌≡◌, ◌↔◌, ℕ, ◌-◌, ◌^◌, ◌<◌, ◌≤◌, [], length, take, drop, refl, sym, ◌∙◌, ap, subst, arith, length-append, true, false}
+use Rattle.std.proofs.Common.{◌≡◌, ◌↔◌, ℕ, ◌-◌, ◌^◌, ◌<◌, [], length, take, drop, refl, sym, ◌∙◌, ap, subst, arith, length-append, true, false}
 use Rattle.std.specs.Prelude.{Option, Some, None, IsSome, IfSome}
 use Rattle.std.proofs.lemmas.List.{length-take}
 use Rattle.std.proofs.Math.Seq.{take-append_seam}
@@ -15,8 +15,8 @@ use Rattle.ocfl_state.specs.declared.pieces.ReportDigests.{ReportDigests}
 pub front_carried : (report : Bytes) (most count : ℕ) (a b : ReportDigests) → most < 2 ^ 64
     → Carries a [] → PushesPart (take (most - 0) (drop 0 report)) count a b → Carries b (take most report)
 front_carried report most count a b short carried piece =
-    subst (λ n. Carries b (take n report)) same
-    (piece.pushed no_pieces 0 0 [] carried (omega (arith, short, length-take (most - 0) report)) (omega (arith, short, length-take (most - 0) report)))
+    let pushed = piece.pushed.1 no_pieces 0 0 [] carried.0 (omega (arith, short, length-take (most - 0) report)) (omega (arith, short, length-take (most - 0) report)) in
+    subst (λ n. Carries b (take n report)) same (pushed, omega (arith, carried.1, piece.pushed.0, carried.0.bytes, pushed.bytes))
   where
     same : most - 0 ≡ most
     same = omega arith

@@ -1,5 +1,5 @@
 -- Bytes are appended between calls that change nothing, and the digests of the report go on.
-use Rattle.std.proofs.Common.{◌≡◌, ◌≢◌, ◌↔◌, true, false, inl, inr, ⊎_elim, ℕ, ◌^◌, ◌<◌, ◌≤◌, ◌++◌, length, take, refl, sym, ◌∙◌, ap, subst, arith}
+use Rattle.std.proofs.Common.{◌≡◌, ◌≢◌, ◌↔◌, true, false, inl, inr, ⊎_elim, ℕ, ◌^◌, ◌<◌, ◌++◌, length, take, refl, sym, ap, subst, arith}
 use Rattle.std.specs.Prelude.{Option, Some, None, IfSome, IsSome}
 use Rattle.std.proofs.lemmas.List.{take_all}
 use Rattle.ocfl_state.specs.Content.{Bytes, Content, with_report}

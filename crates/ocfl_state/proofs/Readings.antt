@@ -5,7 +5,7 @@ use Rattle.std.proofs.lemmas.List.{take_all, drop-drop, length-take-le, length-t
 use Rattle.ocfl_state.specs.Content.{Bytes, Content}
 use Rattle.ocfl_state.specs.Crash.{Outcomes, Same, After, Passes}
 use Rattle.ocfl_state.specs.Calls.{IsReadOf}
-use Rattle.ocfl_state.specs.Pieces.{no_pieces, Carries, Pushes, PushesPart}
+use Rattle.ocfl_state.specs.Pieces.{no_pieces, CarriedFrom, Carries, Pushes, PushesPart}
 use Rattle.ocfl_state.proofs.PieceLaws.{take-more, pushes_nothing, pushes_both}
 use Rattle.ocfl_state.specs.declared.pieces.ReportDigests.{ReportDigests}
 
@@ -125,9 +125,10 @@ part_pushed report start count room buffer a b within read pushes = record {
     same = read.are ∙ ap (λ n. take n (drop start report)) long
 
 pub whole_carried : (report now : Bytes) (end count : ℕ) (a b : ReportDigests) → now ≡ report → end ≡ length report → end < 2 ^ 64
-    → Carries a [] → PushesPart (take (end - 0) (drop 0 now)) count a b → Carries b report
-whole_carried report now end count a b same all short carried piece =
-    subst (λ (xs : Bytes). Carries b xs) is (piece.pushed no_pieces 0 0 [] carried (omega (arith, short, length-take (end - 0) now)) (omega (arith, short, length-take (end - 0) now)))
+    → CarriedFrom no_pieces 0 0 a [] → a.untailed ≤ end → PushesPart (take (end - 0) (drop 0 now)) count a b → Carries b report
+whole_carried report now end count a b same all short carried tailed piece =
+    let pushed = subst (λ (xs : Bytes). CarriedFrom no_pieces 0 0 b xs) is (piece.pushed.1 no_pieces 0 0 [] carried (omega (arith, short, length-take (end - 0) now)) (omega (arith, short, length-take (end - 0) now))) in
+    (pushed, omega (arith, tailed, piece.pushed.0, pushed.bytes, all))
   where
     is : take (end - 0) now ≡ report
     is = ap (take (end - 0)) same ∙ take_all (end - 0) report (omega (arith, all))

@@ -38,14 +38,17 @@ length-rest n report le = omega (arith, le, length-take (n - piece_size * (n / p
 
 -- what is read is pushed after the whole pieces
 pub reads_rest : (summary : ReportMark) (report : Bytes) (count : ℕ) (old new : ReportDigests) → summary.bytes < 2 ^ 64
-    → CarriedFrom summary.pieces (summary.bytes / piece_size) 0 old [] → PushesPart (rest_at summary.bytes report) count old new → HasRead summary report new
-reads_rest summary report count old new short carried part =
-    part.pushed summary.pieces (summary.bytes / piece_size) 0 [] carried
-    (omega (arith, short, length-rest_at summary.bytes report))
-    (omega (arith, short, length-rest_at summary.bytes report))
+    → CarriedFrom summary.pieces (summary.bytes / piece_size) 0 old [] → old.untailed ≡ 0
+    → PushesPart (rest_at summary.bytes report) count old new → HasRead summary report new
+reads_rest summary report count old new short carried tailed part = (
+  part.pushed.1 summary.pieces (summary.bytes / piece_size) 0 [] carried
+      (omega (arith, short, length-rest_at summary.bytes report))
+      (omega (arith, short, length-rest_at summary.bytes report)),
+  omega (arith, tailed, part.pushed.0),
+)
 
 pub read_tail : (summary : ReportMark) (report : Bytes) (digests : ReportDigests) → HasRead summary report digests → Holds256 digests.tail (rest_at summary.bytes report)
-read_tail summary report digests read = subst (Holds256 digests.tail) (short_rest (rest_at summary.bytes report) (rest_is_short summary.bytes report)) read.tail
+read_tail summary report digests read = subst (Holds256 digests.tail) (short_rest (rest_at summary.bytes report) (rest_is_short summary.bytes report)) (read.0.tail read.1)
 
 pub tail_fits : (summary : ReportMark) (report : Bytes) (found : Option ReportDigests) → summary.bytes ≤ length report
     → (IsSome found ↔ (summary.tail ≡ sha256 (rest_at summary.bytes report))) → (IsSome found ↔ HasTail summary report)
@@ -60,13 +63,17 @@ tail_fits summary report found long fits = (
 pub resumed_carries : (summary : ReportMark) (report text : Bytes) (read digests : ReportDigests) → summary.bytes ≤ length report
     → HasRead summary report read → digests ≡ record read { lines = summary.lines }
     → summary ≡ summary_of text → rest_of text ≡ rest_of (take summary.bytes report) → Carries digests text
-resumed_carries summary report text read digests long has is same rest = subst (λ (d : ReportDigests). Carries d text) (sym is) (record {
-  bytes = omega (arith, has.bytes, length-rest summary.bytes report long, ap (λ (s : ReportMark). s.bytes) same);
-  lines = omega (arith, ap (λ (s : ReportMark). s.lines) same);
-  pieces = has.pieces ∙ value;
-  begun = subst (Holds256 read.begun) (λ i. before_piece (value i) ++ rest_is i) has.begun;
-  tail = subst (Holds256 read.tail) rest_is has.tail;
-})
+resumed_carries summary report text read digests long has is same rest = subst (λ (d : ReportDigests). Carries d text) (sym is) (
+  record {
+    bytes = omega (arith, has.0.bytes, length-rest summary.bytes report long, ap (λ (s : ReportMark). s.bytes) same);
+    lines = omega (arith, ap (λ (s : ReportMark). s.lines) same);
+    pieces = has.0.pieces ∙ value;
+    begun = subst (Holds256 read.begun) (λ i. before_piece (value i) ++ rest_is i) has.0.begun;
+    untailed = has.0.untailed;
+    tail = λ all. subst (Holds256 read.tail) rest_is (has.0.tail all);
+  },
+  has.1,
+)
   where
     short : length (rest_at summary.bytes report) < piece_size
     short = rest_is_short summary.bytes report

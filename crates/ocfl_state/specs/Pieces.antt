@@ -64,17 +64,23 @@ summary_of report = record {
   tail = tail_of report;
 }
 
--- The digests of a text that follows k whole pieces, which have this value and so many lines.
+-- there are all bytes of which no tail is kept
+abbrev pub IsTailed : ReportDigests → Type 0
+IsTailed digests = digests.untailed ≤ digests.bytes
+
+-- The digests of a text that follows k whole pieces, which have this value and so many lines. Of
+-- bytes in pieces that will be whole no tail is kept.
 pub record CarriedFrom (value : Bytes) (k before : ℕ) (digests : ReportDigests) (text : Bytes) : Type 0 where
   pub bytes : digests.bytes ≡ piece_size * k + length text
   pub lines : digests.lines ≡ before + lines_of text
   pub pieces : digests.pieces ≡ after_pieces value text
   pub begun : Holds256 digests.begun (before_piece (after_pieces value text) ++ rest_of text)
-  pub tail : Holds256 digests.tail (rest_of text)
+  pub untailed : digests.untailed % piece_size ≡ 0
+  pub tail : IsTailed digests → Holds256 digests.tail (rest_of text)
 
--- the digests of a whole report
+-- the digests of a whole report, with its tail
 abbrev pub Carries : ReportDigests → Bytes → Type 0
-Carries digests report = CarriedFrom no_pieces 0 0 digests report
+Carries digests report = CarriedFrom no_pieces 0 0 digests report × IsTailed digests
 
 -- a report that is as long as a summary says, with the tail of that
 pub record HasTail (summary : ReportMark) (report : Bytes) : Type 0 where
@@ -83,22 +89,23 @@ pub record HasTail (summary : ReportMark) (report : Bytes) : Type 0 where
 
 -- bytes are appended to any text, as long as there are less than 2 ^ 64 and as few lines
 abbrev pub Pushes : Bytes → ReportDigests → ReportDigests → Type 0
-Pushes bytes old new = (value : Bytes) (k lines : ℕ) (text : Bytes) → CarriedFrom value k lines old text
+Pushes bytes old new = (new.untailed ≡ old.untailed) × ((value : Bytes) (k lines : ℕ) (text : Bytes) → CarriedFrom value k lines old text
     → piece_size * k + length (text ++ bytes) < 2 ^ 64 → lines + length (text ++ bytes) < 2 ^ 64
-    → CarriedFrom value k lines new (text ++ bytes)
+    → CarriedFrom value k lines new (text ++ bytes))
 
 -- just these bytes are pushed, so many
 pub record PushesPart (part : Bytes) (count : ℕ) (old new : ReportDigests) : Type 0 where
   pub all : count ≡ length part
   pub pushed : Pushes part old new
 
--- bytes are counted, and both hashers take them
+-- bytes are counted, and both hashers take them, that of the tail only if one is kept
 pub record Feeds (bytes : Bytes) (old new : ReportDigests) : Type 0 where
   pub count : new.bytes ≡ (old.bytes + length bytes) % 2 ^ 64
   pub lines : new.lines ≡ (old.lines + lines_of bytes) % 2 ^ 64
   pub pieces : new.pieces ≡ old.pieces
   pub begun : (text : Bytes) → Holds256 old.begun text → Holds256 new.begun (text ++ bytes)
-  pub tail : (text : Bytes) → Holds256 old.tail text → Holds256 new.tail (text ++ bytes)
+  pub untailed : new.untailed ≡ old.untailed
+  pub tail : IsTailed old → (text : Bytes) → Holds256 old.tail text → Holds256 new.tail (text ++ bytes)
 
 -- the piece that was begun is a whole one
 pub record Turns (old new : ReportDigests) : Type 0 where
@@ -106,11 +113,12 @@ pub record Turns (old new : ReportDigests) : Type 0 where
   pub lines : new.lines ≡ old.lines
   pub pieces : (text : Bytes) → Holds256 old.begun text → new.pieces ≡ sha256 text
   pub begun : Holds256 new.begun (before_piece new.pieces)
+  pub untailed : new.untailed ≡ old.untailed
   pub tail : Holds256 new.tail []
 
 -- the digests of what follows the whole pieces of a summary, as far as the report goes
 abbrev pub HasRead : ReportMark → Bytes → ReportDigests → Type 0
-HasRead summary report digests = CarriedFrom summary.pieces (summary.bytes / piece_size) 0 digests (rest_at summary.bytes report)
+HasRead summary report digests = CarriedFrom summary.pieces (summary.bytes / piece_size) 0 digests (rest_at summary.bytes report) × IsTailed digests
 
 -- two texts with the same SHA-256
 pub record Collision : Type 0 where

@@ -106,7 +106,7 @@ pub fn digests_of_report<S: StateFolder>(folder: &mut S) -> Result<ReportDigests
         → HasCause (S.faults folder.old) (S.faults folder.new) result }
 {
     let end = folder.length()?;
-    let mut digests = ReportDigests::new();
+    let mut digests = ReportDigests::up_to(end);
     push_report(folder, 0, end, &mut digests)?;
     Ok(digests)
 }

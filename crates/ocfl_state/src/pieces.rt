@@ -5,7 +5,8 @@ ghost use Rattle.sha2.specs.Hashers.{Holds256};
 ghost use Rattle.ocfl_state.specs.Content.{Bytes};
 ghost use Rattle.sha2.specs.Sha256.{sha256};
 ghost use Rattle.ocfl_state.specs.Pieces.{piece_size, before_piece, lines_of, pieces_of, tail_of};
-ghost use Rattle.ocfl_state.specs.Pieces.{summary_of, CarriedFrom, Carries, Feeds, Turns, Pushes};
+ghost use Rattle.ocfl_state.specs.Pieces.{summary_of, no_pieces, CarriedFrom, Carries, Feeds};
+ghost use Rattle.ocfl_state.specs.Pieces.{IsTailed, Pushes, Turns};
 
 use crate::checkpoint_parts::ReportMark;
 use sha2::{Digest, Sha256};
@@ -23,7 +24,9 @@ pub struct ReportDigests {
     pub(crate) pieces: [u8; 32],
     /// Holds the chain, a line feed, and what follows the whole pieces.
     begun: Sha256,
-    /// Holds what follows the whole pieces.
+    /// Up to here no tail is kept, since these bytes will be in whole pieces.
+    untailed: u64,
+    /// Holds what follows the whole pieces, once there are those bytes.
     tail: Sha256,
 }
 
@@ -67,15 +70,28 @@ impl ReportDigests {
     #[tactic(auto, using(crate::proofs::PieceLaws::carried_after))]
     pub(crate) fn after(count: u64, value: &[u8; 32]) -> ReportDigests
         requires { count < 2 ^ 42 }
-        ensures { CarriedFrom value.now count 0 result [] }
+        ensures carried { CarriedFrom value.now count 0 result [] }
+        ensures tailed { result.untailed ≡ 0 }
     {
         ReportDigests {
             bytes: PIECE_LEN as u64 * count,
             lines: 0,
             pieces: *value,
             begun: piece_hasher(value),
+            untailed: 0,
             tail: Sha256::new(),
         }
+    }
+
+    /// Those of an empty report that will have this length. Until its whole pieces are there, each
+    /// byte is hashed once.
+    pub(crate) fn up_to(end: u64) -> ReportDigests
+        ensures carried { CarriedFrom no_pieces 0 0 result [] }
+        ensures tailed { result.untailed ≤ end }
+    {
+        let mut digests = ReportDigests::after(0, &[0; 32]);
+        digests.untailed = end - end % PIECE_LEN as u64;
+        digests
     }
 
     /// How many bytes are missing to the next whole piece.
@@ -95,12 +111,14 @@ impl ReportDigests {
         self.tail = Sha256::new();
     }
 
-    /// Counts bytes, and gives them to both hashers.
+    /// Counts bytes, and gives them to both hashers, or to one if no tail is kept of them.
     fn feed(&mut self, bytes: &[u8])
         ensures { Feeds bytes.now self.old self.new }
     {
         self.begun.update(bytes);
-        self.tail.update(bytes);
+        if self.bytes >= self.untailed {
+            self.tail.update(bytes);
+        }
         self.bytes = self.bytes.wrapping_add(bytes.len() as u64);
         self.lines = self.lines.wrapping_add(count_lines(bytes) as u64);
     }
@@ -164,7 +182,7 @@ impl ReportDigests {
     /// The digest of what follows the whole pieces.
     pub fn tail(&self) -> [u8; 32]
         ensures { (value : Bytes) (k lines : ℕ) (text : Bytes)
-            → CarriedFrom value k lines self.now text → result ≡ tail_of text }
+            → CarriedFrom value k lines self.now text → IsTailed self.now → result ≡ tail_of text }
     {
         let tail = &self.tail;
         digest_of(tail)

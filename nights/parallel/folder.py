@@ -30,11 +30,12 @@ def taken(words: list[str], values: str, flags: str = "") -> tuple[dict[str, str
         elif word in ("--help", "-h"):
             raise SystemExit(print((sys.modules["__main__"].__doc__ or "").strip()))
         elif name in ("--state " + values).split():
-            given: str | None = value if equals else next(left, None)
-            if given is None:
+            # No word has a NUL.
+            value = value if equals else next(left, "\0")
+            if value == "\0":
                 raise Failed("the value of %s is missing; try --help" % word, 2)
             # A setting of a unit that was left empty gives no option.
-            found.update({name: given} if given else {})
+            found.update({name: value} if value else {})
         elif word in flags.split():
             found[word] = "yes"
         else:

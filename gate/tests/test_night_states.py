@@ -274,6 +274,26 @@ class WithoutSlices(Asked):
                          "never\to/a\tE092\t1\n")
 
 
+class Brief(Asked):
+    """A night that has a row of its own is known by that, and one that was cut by its runs."""
+
+    def test_where_a_log_begins(self):
+        """The rows of earlier cycles are gone: the runs say which cycle it is."""
+        made = Program(self.at("state"))
+        for run in (1, 2):
+            made.slice(1, 3, run, 3, 9 * run)
+        made.told(1)
+        made.slice(2, 3, 3, 3, 27)
+        made.slice(3, 3, 4, 3, 36)
+        made.told(3)
+        folder = state.open_state(made.path)
+        self.assertEqual([(it.kind, it.cycle, it.runs, it.cost, it.spent, it.stands)
+                          for it in folder.entries(True) if it.is_run()],
+                         [("0", 3, 2, 18, 18, "after o"), ("0", 3, 1, 9, 27, "after o"),
+                          ("cut", 3, 0, 0, 27, "after o"), ("0", 3, 2, 18, 36, "after o")])
+        self.assertEqual(sum(it.runs for it in folder.entries() if it.is_run()), 4)
+
+
 class Log(Asked):
     def setUp(self):
         super().setUp()

@@ -6,7 +6,7 @@ import json
 import os
 from collections import Counter
 from dataclasses import dataclass, replace
-from typing import TYPE_CHECKING, Any, Iterator
+from typing import TYPE_CHECKING, Any, Iterable, Iterator
 
 from . import files
 
@@ -19,6 +19,8 @@ RANKS = {"": 0, "0": 0, "1": 1, "3": 2, "4": 3, "2": 4, "cut": 5}
 ALL_LINES = 1 << 62
 # The nights of parts that begin within so many seconds are one.
 ONE_NIGHT = 43200
+# What each row of a run has, as the program writes it, and what it says of its cycle.
+RUN, STANDS = b'"row":"slice"', ("cycle", "spent", "files", "stands")
 # The members of a row that an entry has by the same names.
 NUMBERS = ("cycle", "run", "lines", "cost", "spent", "files", "seconds", "bytes")
 WORDS = ("said", "stands", "program")
@@ -96,6 +98,28 @@ def row_of(line: bytes) -> dict[str, Any] | None:
     return row if isinstance(row, dict) else None
 
 
+def in_brief(lines: Iterable[bytes]) -> Iterator[dict[str, Any]]:
+    """The rows of a log, of which by far the most are of runs, without those of nights that have a
+    row of their own. That has what all of them read, and gets where the last one stands."""
+    held: list[bytes] = []
+    for line in lines:
+        if RUN in line:
+            held.append(line)
+            continue
+        row = row_of(line)
+        if not row:
+            continue
+        same = b'"night":%d,' % number(row, "night")
+        yield from filter(None, [row_of(it) for it in held if same not in it])
+        held = [it for it in held if same in it]
+        if held and row.get("row") == "night":
+            last = row_of(held[-1]) or {}
+            row = {**{name: last[name] for name in STANDS if name in last}, **row}
+            held = []
+        yield row
+    yield from filter(None, map(row_of, held))
+
+
 def number(row: dict[str, Any], name: str) -> int:
     value = row.get(name)
     return value if type(value) is int and value >= 0 else 0
@@ -130,7 +154,7 @@ class Telling:
     def __init__(self, state: State) -> None:
         self.state = state
         self.night = ""
-        self.is_over, self.has_slices = True, False
+        self.has_begun = self.has_ended = self.has_slices = False
         # The last run, the last cycle known to be closed, and the last one closed whole.
         self.last: Entry | None = None
         self.closed = 0
@@ -143,9 +167,9 @@ class Telling:
         night, kind = time_of(row, "night"), words(row, "row")
         if night != self.night:
             yield from self.end()
-            self.night, self.is_over, self.has_slices = night, True, False
-        if kind in ("slice", "left", "closing"):
-            self.is_over = False
+            self.night, self.has_begun, self.has_ended, self.has_slices = night, False, False, False
+        self.has_begun = self.has_begun or kind in ("slice", "left", "closing")
+        self.has_ended = self.has_ended or kind in ("refusal", "night")
         if kind == "slice":
             self.has_slices = True
             yield from self.run(entry_of(row, str(number(row, "status"))))
@@ -154,7 +178,6 @@ class Telling:
         elif kind == "closing":
             self.closings.append(self.ended(row))
         elif kind == "refusal":
-            self.is_over = True
             yield entry_of(row, str(number(row, "status")))
         elif kind == "night":
             yield from self.told(row)
@@ -164,19 +187,18 @@ class Telling:
         status = str(number(row, "status"))
         if number(row, "runs") and not self.has_slices:
             yield from self.run(self.run_of(row, status))
-        self.is_over = True
         yield from self.closings_so_far()
         yield replace(entry_of(row, "told"), status=status)
 
     def run_of(self, row: dict[str, Any], status: str) -> Entry:
         """The runs of a night as one."""
         closed = [it.cycle for it in self.closings]
-        cycle = max(closed, default=self.closed + 1)
+        cycle = number(row, "cycle") or max(closed, default=self.closed + 1)
         before = self.last.spent if self.last and self.last.cycle == cycle else 0
         return replace(
             entry_of(row, status), began=self.night, cycle=cycle, lines=ALL_LINES,
-            runs=number(row, "runs"), spent=before + number(row, "cost"),
-            stands="ended" if closed else "")
+            runs=number(row, "runs"), spent=number(row, "spent") or before + number(row, "cost"),
+            stands="ended" if closed else words(row, "stands"))
 
     def run(self, entry: Entry) -> Iterator[Entry]:
         if self.last and entry.cycle > self.last.cycle:
@@ -198,8 +220,8 @@ class Telling:
             (Entry("cut", began=self.night, cycle=it.cycle, lines=ALL_LINES, stands="ended")
              for it in self.closings), None)
         yield from self.closings_so_far()
-        if last and not self.is_over:
-            self.is_over = True
+        if last and self.has_begun and not self.has_ended:
+            self.has_ended = True
             yield replace(last, kind="cut", cost=0, seconds=0, night=self.night, runs=0)
 
     def end_unless_held(self) -> Iterator[Entry]:

@@ -8,7 +8,7 @@ from itertools import islice
 from typing import Iterable, Sequence
 
 from . import files, questions
-from .log import Closing, Entry
+from .log import Entry
 from .state import State, cycle_name
 from .statement import plain
 from .status import WORDS, Standing
@@ -172,7 +172,7 @@ def about_changes(state: State) -> str:
 
 
 def about_cycles(state: State) -> str:
-    ended: list[tuple[Entry, Closing]] = [(it, it.closing) for it in state.entries() if it.closing]
+    ended = [(it, it.closing) for it in state.entries(True) if it.closing]
     rows = [(it.cycle, it.began, size(it.spent - it.files), "yes" if closing.is_whole else "no",
              "%d objects, %d files" % (closing.objects, closing.files), cycle_name(
                  "statement", it.cycle) if state.find("statement", it.cycle) else "none")
@@ -190,8 +190,7 @@ def show(state: State, standing: Standing, weights: Weights, root: str, now: str
         "<h1>Fixity of %s</h1>\n<p class=\"level\">%s</p>\n<ul>%s</ul>\n<p>As of %s</p>\n" % (
             text(name), WORDS[standing.level], level, text(now)),
         about_cycle(state, standing), about_findings(standing, weights),
-        about_changes(state), about_nights(nights_of(state.entries() if state.has_log() else ())),
-        about_cycles(state) if state.has_log() else ""])
+        about_changes(state), about_nights(nights_of(state.entries(True))), about_cycles(state)])
     page = ('<!DOCTYPE html>\n<html lang="en">\n<head>\n<meta charset="utf-8">\n<meta name='
             '"viewport" content="width=device-width">\n<title>Fixity of %s</title>\n<style>%s'
             '</style>\n</head>\n<body>\n<main>\n%s</main>\n</body>\n</html>\n'

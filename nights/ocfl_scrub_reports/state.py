@@ -13,7 +13,7 @@ from typing import Any, Iterator
 from urllib.parse import unquote_to_bytes
 
 from . import files
-from .log import ALL_LINES, Entry, Joining, Telling, number, row_of, time_of
+from .log import ALL_LINES, Entry, Joining, Telling, in_brief, number, row_of, time_of
 from .shared import Failed, find_program, refuse_links
 
 NUMBERED = re.compile(r"([a-z]+)-([0-9]+)(\.gz)?")
@@ -98,24 +98,26 @@ class State:
     def has_log(self) -> bool:
         return os.path.isfile(self.at("log"))
 
-    def rows(self) -> Iterator[dict[str, Any]]:
+    def rows(self, is_brief: bool = False) -> Iterator[dict[str, Any]]:
+        """The rows of the log; in brief without those of runs, for nights that have ended."""
         log = self.at("log")
         lines = files.lines(log) if os.path.isfile(log) else iter(())
-        return filter(None, map(row_of, lines))
+        return in_brief(lines) if is_brief else filter(None, map(row_of, lines))
 
-    def entries(self) -> Iterator[Entry]:
-        """What the log says, in its order."""
+    def entries(self, is_brief: bool = False) -> Iterator[Entry]:
+        """What the log says, in its order; in brief with one run for those of a night that has
+        ended."""
         telling = Telling(self)
-        for row in self.rows():
+        for row in self.rows(is_brief):
             yield from telling.take(row)
         yield from telling.end_unless_held()
         yield from telling.unlogged()
         yield from self.standing()
 
-    def runs(self, cycle: int) -> Iterator[Entry]:
+    def runs(self, cycle: int, is_brief: bool = False) -> Iterator[Entry]:
         """The runs of a cycle in the order of its report, each with the program of its night."""
         found, programs = [], {}
-        for it in self.entries():
+        for it in self.entries(is_brief):
             if it.kind == "told":
                 programs[it.night] = it.program
             elif it.cycle == cycle and it.is_run():
@@ -236,9 +238,9 @@ class JoinedState(State):
         for part in self.folders()[:1]:
             part.refuse_damage()
 
-    def entries(self) -> Iterator[Entry]:
+    def entries(self, is_brief: bool = False) -> Iterator[Entry]:
         joining = Joining(self)
-        for number_of_part, row in self.rows_by_time():
+        for number_of_part, row in self.rows_by_time(is_brief):
             yield from joining.take(number_of_part, row)
         yield from joining.end()
         yield from self.standing()
@@ -256,7 +258,7 @@ class JoinedState(State):
                           runs=sum(one.runs for one in of_cycle)) for it in of_cycle[:1]]
         return stands + [it for it in found if it.kind == "left"]
 
-    def rows_by_time(self) -> Iterator[tuple[int, dict[str, Any]]]:
+    def rows_by_time(self, is_brief: bool) -> Iterator[tuple[int, dict[str, Any]]]:
         """The rows of all logs by their time, each after the number of its part, which is 0 for
         those of the folder itself. They can be more than memory has room for."""
         database = sqlite3.connect("")
@@ -264,18 +266,18 @@ class JoinedState(State):
         for number_of_part, part in enumerate([State(self.path), *self.folders()]):
             database.executemany("insert into row values (?, ?, ?)", (
                 (min(number(row, "time"), 1 << 62), number_of_part, json.dumps(row))
-                for row in part.rows()))
+                for row in part.rows(is_brief)))
         for number_of_part, line in database.execute(
                 "select part, line from row order by time, part, rowid"):
             yield number_of_part, json.loads(line)
         database.close()
 
-    def runs(self, cycle: int) -> Iterator[Entry]:
+    def runs(self, cycle: int, is_brief: bool = False) -> Iterator[Entry]:
         """Those of all parts in the order of the joined report, with its numbers of lines."""
         before = 0
         for part in self.folders():
             lines = 0
-            for entry in part.runs(cycle):
+            for entry in part.runs(cycle, is_brief):
                 if entry.lines != ALL_LINES:
                     lines = max(lines, entry.lines)
                     entry = replace(entry, lines=before + entry.lines)
@@ -295,7 +297,7 @@ class JoinedState(State):
         joined, parts = self.last_closed(), self.folders()
         ended = [max((it.cycle for it in self.closed_of_part(part)), default=joined)
                  for part in parts]
-        return min(((max((time_of(row, "night") for row in part.rows()), default=""), at)
+        return min(((max((time_of(row, "night") for row in part.rows(True)), default=""), at)
                     for at, part in enumerate(parts, 1) if ended[at - 1] == min(ended)),
                    default=None)
 

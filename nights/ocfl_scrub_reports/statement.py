@@ -168,7 +168,7 @@ class Cycle:
 def cycle_of(state: State, number: int) -> Cycle:
     """What the log says of a cycle."""
     cycle = Cycle(number)
-    for entry in state.entries():
+    for entry in state.entries(True):
         cycle.note(entry)
     if not cycle.closed:
         raise Failed("the log does not say that cycle %d was closed" % number)
@@ -210,7 +210,7 @@ def of_runs(state: State, cycle: Cycle) -> dict[str, str]:
     """A time that is older than no verification of the cycle, and the programs of the nights that
     ended. A night that was killed may have no row: the cycle may have begun as soon as the one
     before was closed."""
-    runs = list(state.runs(cycle.number))
+    runs = list(state.runs(cycle.number, True))
     cut = {it.night for it in runs if it.kind == "cut"}
     programs = dict.fromkeys(it.program for it in runs if it.night not in cut)
     oldest = min(filter(None, [cycle.begun_after, *(it.began for it in runs)]), default="")

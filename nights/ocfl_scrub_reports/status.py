@@ -363,7 +363,7 @@ def standing_of(state: State, known: str | None, weights: Weights, limits: dict[
         raise Failed(state.path + " is no folder")
     state.refuse_links()
     leave_out, log = Known(known), Log()
-    for entry in state.entries() if state.has_log() else ():
+    for entry in state.entries(True) if state.has_log() else ():
         log.take(entry)
     if state.is_held():
         log.unlogged = 0

@@ -21,7 +21,7 @@ def held(state: State) -> Iterator[None]:
     """Holds the lock of a folder, as a night does."""
     path = state.at("lock")
     refuse_links(path)
-    with open(os.open(path, os.O_RDWR | os.O_CREAT, 0o640), "rb+") as lock:
+    with open(os.open(path, os.O_RDWR | os.O_CREAT | os.O_NOFOLLOW, 0o640), "rb+") as lock:
         try:
             fcntl.flock(lock, fcntl.LOCK_EX | fcntl.LOCK_NB)
         except BlockingIOError as error:

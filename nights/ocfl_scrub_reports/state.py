@@ -65,13 +65,14 @@ def closed_in(folder: str) -> list[Closed]:
 
 
 def is_held(folder: str) -> bool:
-    """Whether a night is under way in a folder."""
-    path = os.path.join(folder, "lock")
-    if os.path.islink(path) or not os.path.isfile(path):
-        return False
-    with open(path, "rb") as lock:
+    """Whether a night is under way in a folder, as far as its user lets anybody know."""
+    try:
+        lock = os.open(os.path.join(folder, "lock"), os.O_RDONLY | os.O_NOFOLLOW | os.O_NONBLOCK)
+    except OSError as error:
+        return isinstance(error, PermissionError)
+    with open(lock, "rb") as file:
         try:
-            fcntl.flock(lock, fcntl.LOCK_SH | fcntl.LOCK_NB)
+            fcntl.flock(file, fcntl.LOCK_SH | fcntl.LOCK_NB)
         except BlockingIOError:
             return True
     return False

@@ -11,7 +11,7 @@ from typing import Iterator
 
 from .log import Entry
 from .report import Reading
-from .shared import Failed, refuse_links
+from .shared import Failed
 from .state import JoinedState, State
 
 TABLES = """
@@ -59,7 +59,6 @@ DATE = re.compile(r"\d{4}-\d\d-\d\d(T\d\d:\d\d:\d\dZ)?")
 def make(state: State, path: str) -> None:
     """Puts all reports of the folder into a new database."""
     state.refuse_links()
-    refuse_links(*(report.path for report in state.closed()))
     if os.path.lexists(path):
         raise Failed(path + " is there already", 2)
     if not state.has_log():

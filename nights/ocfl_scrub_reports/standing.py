@@ -8,7 +8,6 @@ from itertools import islice
 from typing import Iterable, Iterator, NamedTuple
 
 from . import files, report
-from .shared import refuse_links
 from .state import State, numbered_in
 
 HELD = 100000
@@ -73,7 +72,6 @@ def groups_of(state: State, upto: int | None = None) -> list[Group]:
     if upto is None:
         groups += [Group(OPEN if cycle is None else cycle, paths)
                    for cycle, paths in state.open_reports()]
-    refuse_links(*(path for group in groups for path in group.reports))
     return groups
 
 

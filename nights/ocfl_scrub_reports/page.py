@@ -36,25 +36,22 @@ code { overflow-wrap: anywhere; }
 
 @dataclass
 class Night:
-    """What one night read, and how long its runs took."""
-    began: str
+    """What one night read, how long its runs took, and its status, if it has ended."""
     bytes: int = 0
     seconds: int = 0
-    status: str = ""
+    status: str = "cut"
 
 
-def nights_of(entries: Iterable[Entry]) -> list[Night]:
+def nights_of(entries: Iterable[Entry]) -> list[tuple[str, Night]]:
+    """The last nights, by when they began."""
     found: dict[str, Night] = {}
     for entry in entries:
-        if not entry.is_run() and entry.kind != "told":
-            continue
-        night = found.setdefault(entry.night, Night(entry.night))
-        if entry.kind == "told":
-            night.status = entry.status
-        else:
-            night.bytes += entry.cost
-            night.seconds += entry.seconds
-    return list(found.values())[-NIGHTS:]
+        if entry.is_run() or entry.kind == "told":
+            night = found.setdefault(entry.night, Night())
+            night.bytes += entry.cost * entry.is_run()
+            night.seconds += entry.seconds * entry.is_run()
+            night.status = entry.status or night.status
+    return list(found.items())[-NIGHTS:]
 
 
 # Pieces of HTML. All texts are escaped here.
@@ -81,29 +78,28 @@ def section(name: str, *content: str) -> str:
     return "<section><h2>%s</h2>\n%s</section>\n" % (text(name), made) if made else ""
 
 
+def plot(title: str, height: int, drawn: Iterable[str]) -> str:
+    return '<p>%s</p>\n<svg viewBox="0 0 600 %d" role="img" aria-label="%s">%s</svg>\n' % (
+        text(title), height, text(title), "".join(drawn))
+
+
 def bars(title: str, values: Sequence[tuple[str, float, str]]) -> str:
     """A plot of bars: the name, the value and the shown value of each."""
     most = max((value for _, value, _ in values), default=0)
-    if most <= 0:
-        return ""
     width = 600 / max(len(values), 12)
-    drawn = "".join(
+    return plot(title, 100, (
         '<rect x="%.1f" y="%.1f" width="%.1f" height="%.1f"><title>%s: %s</title></rect>' % (
             at * width, 100 - 95 * value / most, width * 0.8, 95 * value / most, text(name),
-            text(shown)) for at, (name, value, shown) in enumerate(values))
-    return '<p>%s</p>\n<svg viewBox="0 0 600 100" role="img" aria-label="%s">%s</svg>\n' % (
-        text(title), text(title), drawn)
+            text(shown)) for at, (name, value, shown) in enumerate(values))) if most > 0 else ""
 
 
 def strip(done: Sequence[bool]) -> str:
     """A strip of parts, which shows which are done."""
-    if not done:
-        return ""
-    title, width = "%d of %d parts are done" % (sum(done), len(done)), 600 / len(done)
-    drawn = "".join('<rect class="%s" x="%.2f" width="%.2f" height="20"/>' % (
-        "done" if it else "open", at * width, width * 0.9) for at, it in enumerate(done))
-    return '<p>%s</p>\n<svg viewBox="0 0 600 20" role="img" aria-label="%s">%s</svg>\n' % (
-        title, title, drawn)
+    width = 600 / max(len(done), 1)
+    return plot("%d of %d parts are done" % (sum(done), len(done)), 20, (
+        '<rect class="%s" x="%.2f" width="%.2f" height="20"/>' % (
+            "done" if it else "open", at * width, width * 0.9)
+        for at, it in enumerate(done))) if done else ""
 
 
 def size(count: float) -> str:
@@ -136,12 +132,12 @@ def about_cycle(state: State, standing: Standing) -> str:
                    table("How far it is", ("what", "how it is"), facts), strip(parts))
 
 
-def about_nights(nights: list[Night]) -> str:
-    rows = [(it.began, size(it.bytes), "%.1f" % (it.seconds / 3600), it.status or "cut")
-            for it in reversed(nights)]
+def about_nights(nights: list[tuple[str, Night]]) -> str:
+    rows = [(began, size(it.bytes), "%.1f" % (it.seconds / 3600), it.status)
+            for began, it in reversed(nights)]
     return section("Nights", bars("Bytes that each night read", [
-        (it.began, it.bytes, size(it.bytes)) for it in nights]), bars("Hours of each night", [
-            (it.began, it.seconds, "%.1f h" % (it.seconds / 3600)) for it in nights]),
+        (began, it.bytes, size(it.bytes)) for began, it in nights]), bars("Hours of each night", [
+            (began, it.seconds, "%.1f h" % (it.seconds / 3600)) for began, it in nights]),
         table("The last nights", ("began", "read", "hours", "status"), rows))
 
 

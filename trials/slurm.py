@@ -224,8 +224,15 @@ def without_slurm(folder):
             continue
         is_so("arrays of less than %d" % widest, (status, said, read(taken).splitlines()),
               (0, "", [*arrays, "no array"]))
+    for number in range(70):
+        for name in ("parts-%d.1", "end-%d.out"):
+            write(nights.path("slurm/" + name % number), "")
+            os.utime(nights.path("slurm/" + name % number), (number, number))
     write(taken + ".full", "")
     status, out, said = submitted(folder, nights, 501)
+    names = os.listdir(nights.path("slurm"))
+    is_so("what is older than sixty nights is gone", [len(names), "parts-10.1" in names,
+                                                      "end-9.out" in names], [121, False, False])
     is_so("refused", (status, "Slurm did not take all jobs" in said, nights.level()), (3, True, 2))
     is_so("the parts are told", " in parts 1-1300: " in out, True)
     for words in [["--hours", "x"], ["--budget", "4x"], ["--at-once", "x"]]:

@@ -60,6 +60,9 @@ class Program:
 
     def log(self, **row):
         self.rows.append(row)
+        self.save()
+
+    def save(self):
         self.put("log", b"".join(json.dumps(it, sort_keys=True, separators=(",", ":")).encode()
                                  + b"\n" for it in self.rows))
 
@@ -330,7 +333,9 @@ class Log(Asked):
         self.made.close(1, 1, ONE)
         self.made.told(2)
         self.assertEqual(self.kinds(), [("ended", 1, 0), ("cut", 1, 0), ("told", 0, 0)])
-        self.ask("statement", self.made.path, 1)
+        self.made.rows.pop()
+        self.made.save()
+        self.assertEqual(self.ask("finish", self.made.path), (0, "", ""))
         with open(self.made.path + "/reports/statement-000001") as made_text:
             text = made_text.read()
         for row in ["Nights: 1", "Nights cut: 1", "Runs: 0", "First night: " + night_of(1),

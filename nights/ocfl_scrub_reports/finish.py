@@ -26,6 +26,7 @@ def held(state: State) -> Iterator[None]:
             fcntl.flock(lock, fcntl.LOCK_EX | fcntl.LOCK_NB)
         except BlockingIOError as error:
             raise Failed("another night still runs in " + state.path, HELD) from error
+        state.is_ours = True
         yield
 
 

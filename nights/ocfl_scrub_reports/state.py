@@ -84,6 +84,8 @@ class State:
     def __init__(self, path: str) -> None:
         self.path = path
         self.reports = self.at("reports")
+        # Whether this process holds the lock.
+        self.is_ours = False
 
     def at(self, name: str) -> str:
         return os.path.join(self.path, name)
@@ -92,7 +94,7 @@ class State:
         refuse_links(*map(self.at, ("checkpoint", "report", "reports", "log", "lock", "stop")))
 
     def is_held(self) -> bool:
-        return is_held(self.path)
+        return not self.is_ours and is_held(self.path)
 
     # The log
 

@@ -16,6 +16,8 @@ LIST_OF_GONE = "List of what is gone, SHA-256"
 LIST_OF_KNOWN = "List of known losses, SHA-256"
 BEFORE = "Statement before, SHA-256"
 COMPARED = "Report compared with, SHA-256"
+# What a line says of a digest if there was no file.
+NONE = ("", "no list", "no statement", "no report")
 
 
 class Check:
@@ -44,48 +46,34 @@ class Check:
 
     def find_facts(self) -> None:
         count = Count(self.report, self.said.left())
-        self.facts.update(count.facts())
-        self.find_gone()
-        self.find_before(count)
         is_whole = self.said.get("Report", "").startswith("cycle-")
-        self.facts["Report"] = cycle_name("cycle" if is_whole else "incomplete", self.cycle)
-        self.facts["Whole"] = "yes" if is_whole else "no"
-        self.facts["Cycle"] = str(self.cycle)
-
-    def find_before(self, count: Count) -> None:
-        """What was before: the statement of the cycle before, and the report compared with."""
-        before = find(self.folder, "statement", self.cycle - 1)
-        if before and self.said.get(BEFORE) != "no statement":
-            self.facts[BEFORE] = files.digest_of(before)
-        elif self.said.get(BEFORE, "no statement") != "no statement":
-            self.lacking[BEFORE] = cycle_name("statement", self.cycle - 1)
-        self.find_changes(count)
-        known = self.listed("known", LIST_OF_KNOWN, "Known losses")
+        report = cycle_name("cycle" if is_whole else "incomplete", self.cycle)
+        self.facts.update(count.facts(), Cycle=str(self.cycle), Report=report,
+                          Whole="yes" if is_whole else "no")
+        self.find_gone(self.beside("gone", self.cycle, LIST_OF_GONE, *GONE))
+        known = self.beside("known", self.cycle, LIST_OF_KNOWN, "Known losses")
         self.facts.update(of_known(files.read(known) if known else b""))
-
-    def find_changes(self, count: Count) -> None:
-        """What changed since the report compared with."""
+        before = self.beside("statement", self.cycle - 1, BEFORE)
+        if before and self.said.get(BEFORE) not in NONE:
+            self.facts[BEFORE] = files.digest_of(before)
         compared = self.said.get("Compared with cycle", "")
-        earlier = find(self.folder, "cycle", int(compared)) if compared.isdecimal() else None
-        if earlier and self.said.get("New findings", "").isdecimal():
+        earlier = self.beside("cycle", int(compared), COMPARED, "New findings",
+                              "Former findings") if compared.isdecimal() else None
+        if earlier and self.said.get(COMPARED) not in NONE:
             self.facts.update(of_changes(count.found, earlier))
-        elif compared.isdecimal() and self.said.get(COMPARED, "no report") != "no report":
-            self.lacking.update((name, cycle_name("cycle", int(compared)))
-                                for name in (COMPARED, "New findings", "Former findings"))
 
-    def listed(self, kind: str, digest: str, *others: str) -> str | None:
-        """The list of a kind beside the statement. If the statement names one that is not there,
+    def beside(self, kind: str, cycle: int, digest: str, *others: str) -> str | None:
+        """The file of a kind beside the statement. If the statement names one that is not there,
         these lines of it cannot be checked."""
-        path = find(self.folder, kind, self.cycle)
-        if path is None and self.said.get(digest, "no list") not in ("", "no list"):
-            self.lacking.update((name, cycle_name(kind, self.cycle)) for name in (digest, *others))
+        path = find(self.folder, kind, cycle)
+        if path is None and self.said.get(digest, "") not in NONE:
+            self.lacking.update((name, cycle_name(kind, cycle)) for name in (digest, *others))
         return path
 
-    def find_gone(self) -> None:
+    def find_gone(self, path: str | None) -> None:
         """What is gone. The statement of a joined cycle, in its form before, did not count it
         where parts were compared with different cycles; it has the digest of its list all the
         same."""
-        path = self.listed("gone", LIST_OF_GONE, *GONE)
         if LIST_OF_GONE in self.lacking:
             return
         self.facts[LIST_OF_GONE] = files.digest_of(path) if path else "no list"

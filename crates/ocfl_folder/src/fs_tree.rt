@@ -1,567 +1,216 @@
 //! A folder of the file system as a store.
-ghost use Rattle.std.specs.Prelude.{◌≡◌, ◌≢◌, ◌≤◌, ◌<◌, ◌↔◌, true, false, IfOk, Ok};
-ghost use Rattle.std.specs.Prelude.{◌-◌, OnOk, OnErr, IsNone, IfSome, MatchOption, length, Err};
-ghost use Rattle.std.specs.Fs.{IsDir, IsFile, file_type};
-ghost use Rattle.std.specs.IoError.{error_kind};
-ghost use Rattle.ocfl_folder.specs.declared.fs_tree.Fault.TheVariants.{Trouble as Lasting};
-ghost use Rattle.ocfl_tree.specs.declared.store.Trouble.TheVariants.{Absent, Memory};
+ghost use Rattle.std.specs.Prelude.{◌≡◌, ◌≢◌, ◌≤◌, ◌↔◌, IfOk, IfErr, OnOk, OnErr, IsSome, None};
+ghost use Rattle.std.specs.Prelude.{length, take, max, Err, IsTrue, Some, MatchResult};
+ghost use Rattle.std.specs.Option.{option_map};
 ghost use Rattle.ocfl_tree.specs.Listing.{IsOrdinary};
-ghost use Rattle.ocfl_tree.specs.Store.{empty_store};
-ghost use Rattle.ocfl_tree.specs.Path.{names_of};
-ghost use Rattle.ocfl_tree.specs.Place.{begins};
+ghost use Rattle.ocfl_tree.specs.Calls.{Lists, ListFails, Opens, OpenFails, Reads, ReadFails};
+ghost use Rattle.ocfl_tree.specs.Calls.{Closes};
+ghost use Rattle.ocfl_folder.specs.Faults.{IsKept};
+ghost use Rattle.ocfl_folder.specs.Noted.{with_rest, with_answer};
 
-use crate::listed::Listed;
-use crate::looks::{Looks, Node};
-use ocfl_tree::{Entry, Kind, Name, NameStop, Place, Tree, Trouble};
+use crate::answer::{Answer, ReadAnswer};
+use crate::entering::Entering;
+use crate::failure::Failure;
+use crate::reading::read_on;
+use crate::stand::Stand;
+use crate::system::System;
+use crate::whole_paths::WholePaths;
+use ocfl_tree::{Entry, Place, Tree, Trouble};
 use std::alloc::{AllocError, Global};
-use std::fs::{Metadata, OpenFile};
-use std::io::{ErrorKind, Read};
-use std::marker::Model;
-use std::rt::Files;
-use std::{fs, io};
+use std::io;
+use std::rt::{Env, Files};
 
-/// A folder of the file system. It does not tell its tree.
+/// A folder, by the calls of a system. It tells its tree if the system does.
 ///
-/// A link is listed as `Other`. None is followed, except for the folder itself and for one that
-/// replaced a directory or a file after that was looked at.
+/// It stands in the directory of the last place that it was asked for, and goes from there to that
+/// of the next one, name by name: up by `..`, and down after a look at the name. After each step it
+/// looks where it is, which must be the directory of that look, or that from which it came down. So
+/// no link is followed but one to the folder itself, which is found by its own path: where it has
+/// to go up to it, and after each call that failed. A file is looked at before it is opened and
+/// once it is open, and must be the same. A link is listed as `Other`.
 ///
 /// What is not found is `Absent`. Running out of memory is `Memory`, but never in a read. Every
 /// other fault is `Device`:
 ///
 /// - a file where a directory is asked for, or the other way round;
+/// - a directory that another one takes the place of, or one that is moved elsewhere while the
+///   folder stands in it or below;
 /// - a name that is not UTF-8, or that is listed twice;
 /// - more than 1,000,000 entries, or one that goes away while it is listed;
-/// - a file that is another once it is open;
-/// - a path that is longer than the system takes.
-///
-/// The directory that was found last is known until a listing or an opening fails. The names on the
-/// way to a place in it, or in one on the way there, are not looked at again; at any other place
-/// they are all looked at. A file in it is opened without another look where its listing kept one.
-/// A listing keeps at most 16,384 looks, and none if two of their names have the same hash. What is
-/// opened must be the file of the look, or the answer is `Device`.
+/// - a file that is another once it is open.
 #[derive(Drop)]
-pub struct FsTree<R: Files + AllocGlobal + Clone + Drop> {
-    rt: R,
-    root: String,
-    known: Option<Known>,
-    open: Option<R::File>,
-    /// How long the open file was when it was opened, less what was read of it. `None` once a read
-    /// met its end.
-    left: Option<u64>,
+pub struct FsTree<S: System + Drop> {
+    stand: Stand<S>,
+    opened: Option<S::File>,
+    reason: Option<io::Error>,
 }
 
-/// The directory that was found last, and what its listing saw of its files.
-#[derive(Drop)]
-struct Known {
-    dir: Place,
-    looks: Looks,
-}
-
-/// A file that was opened, and its length then.
-struct Opened<F> {
-    file: F,
-    length: u64,
-}
-
-/// Its value in clauses: whether a file is open.
-impl<R: Files + AllocGlobal + Clone + Drop> Model for FsTree<R> {
-    ghost use Rattle.std.specs.Prelude.{Bool, is_some};
-
-    ghost Value = { Bool };
-
-    ghost view = { λ a. is_some a.open };
-}
-
-/// How often an interrupted call is made at most.
-const TRIES: u64 = 1000;
-
-/// How many bytes of names a directory is asked for at once.
-const NAMES_LEN: usize = 8192;
-
-/// How many reads of names a listing makes at most: 1,000,000 entries, `.` and `..` at one name
-/// each, and the end.
-const MOST_READS: u64 = 1_000_003;
-
-/// Why one try of a call gave nothing.
-#[derive(Clone, Copy, Debug, PartialEq, Eq)]
-enum Fault {
-    Interrupted,
-    Trouble(Trouble),
-}
-
-impl From<AllocError> for Fault {
-    ghost from_gives = { λ _ e. e ≡ Lasting Memory };
-
-    fn from(_error: AllocError) -> Fault {
-        Fault::Trouble(Trouble::Memory)
-    }
-}
-
-impl From<Trouble> for Fault {
-    fn from(trouble: Trouble) -> Fault {
-        Fault::Trouble(trouble)
-    }
-}
-
-/// An invalid name is reported as a failure of the device.
-impl From<NameStop> for Fault {
-    fn from(stop: NameStop) -> Fault {
-        match stop {
-            NameStop::Bad => Fault::Trouble(Trouble::Device),
-            NameStop::Memory => Fault::Trouble(Trouble::Memory),
-        }
-    }
-}
-
-fn fault_of(error: &io::Error) -> Fault
-    ensures interrupted { (result ≡ Fault.Interrupted)
-        ↔ (error_kind error.now ≡ ErrorKind.Interrupted) }
-    ensures absent { (result ≡ Fault.Trouble Absent) ↔ (error_kind error.now ≡ ErrorKind.NotFound) }
-    ensures memory { (result ≡ Fault.Trouble Memory)
-        ↔ (error_kind error.now ≡ ErrorKind.OutOfMemory) }
-{
-    match error.kind() {
-        ErrorKind::Interrupted => Fault::Interrupted,
-        ErrorKind::NotFound => Fault::Trouble(Trouble::Absent),
-        ErrorKind::OutOfMemory => Fault::Trouble(Trouble::Memory),
-        _ => Fault::Trouble(Trouble::Device),
-    }
-}
-
-/// What a call gives where it is not interrupted too often.
-fn retried<T, F: Fn() -> Result<T, Fault>>(call: F) -> Result<T, Trouble>
-    requires { F.IsAlwaysCallable call }
-    ensures { IfOk result (λ value. F.post call (Ok value)) }
-{
-    for _ in 0..TRIES {
-        match call() {
-            Ok(value) => return Ok(value),
-            Err(Fault::Interrupted) => {}
-            Err(Fault::Trouble(trouble)) => return Err(trouble),
-        }
-    }
-    Err(Trouble::Device)
-}
-
-/// The fault of an entry that was listed, or of a file that is open: that it is not there is the
-/// device's.
-fn entry_fault_of(error: &io::Error) -> Fault
-    ensures { result ≢ Fault.Trouble Absent }
-{
-    match fault_of(error) {
-        Fault::Trouble(Trouble::Absent) => Fault::Trouble(Trouble::Device),
-        fault => fault,
-    }
-}
-
-fn kind_of(metadata: &Metadata) -> Kind
-    ensures dir { (result ≡ Kind.Dir) ↔ IsDir (file_type metadata.now) }
-    ensures file { result ≡ Kind.File → IsFile (file_type metadata.now) }
-    ensures other { result ≡ Kind.Other → IsFile (file_type metadata.now) → ⊥ }
-{
-    if metadata.is_dir() {
-        Kind::Dir
-    } else if metadata.is_file() {
-        Kind::File
-    } else {
-        Kind::Other
-    }
-}
-
-/// What was found, where it is of this kind: another is the device's fault.
-fn of_kind(found: Metadata, kind: Kind) -> Result<Metadata, Fault> {
-    if kind_of(&found) == kind {
-        Ok(found)
-    } else {
-        Err(Fault::Trouble(Trouble::Device))
-    }
-}
-
-/// Refuses what is no directory.
-fn expect_dir(found: Result<Metadata, Fault>) -> Result<(), Fault> {
-    of_kind(found?, Kind::Dir)?;
-    Ok(())
-}
-
-/// Appends a slash and a name to a path.
-fn push_name(path: &mut String, name: &str) -> Result<(), AllocError> {
-    path.push('/')?;
-    path.push_str(name)
-}
-
-/// Reads the next names of a directory, each ended by NUL, and gives how many bytes they have: 0 at
-/// its end.
-fn next_names<D: Read>(dir: &mut D, names: &mut [u8; NAMES_LEN]) -> Result<usize, Fault>
-    ensures { IfOk result (λ count. count ≤ 8192) }
-{
-    match dir.read(&mut names[..]) {
-        Ok(count) => Ok(count),
-        Err(error) => Err(entry_fault_of(&error)),
-    }
-}
-
-/// Whether these bytes are the name of an entry: neither the directory itself nor the one above.
-fn is_entry(name: &[u8]) -> bool {
-    !name.is_empty() && name != b".".as_slice() && name != b"..".as_slice()
-}
-
-/// What is left of a file after a read of so many bytes into a buffer with this room: `None` where
-/// the read met the file's end.
-fn left_after(left: u64, count: usize, room: usize) -> Option<u64>
-    ensures end { IsNone result ↔ ((count ≡ left) × (count < room)) }
-    ensures rest { IfSome result (λ rest. rest ≡ left - count) }
-{
-    if count as u64 == left && count < room {
-        None
-    } else {
-        Some(left.saturating_sub(count as u64))
-    }
-}
-
-/// Whether a directory is the known one or on the way there.
-fn is_known(known: &Option<Known>, dir: &str) -> bool
-    ensures { MatchOption known.now (result ≡ false)
-        (λ last. result ≡ begins (names_of dir.now) last.dir) }
-{
-    match known {
-        Some(last) => last.dir.starts_with_path(dir),
-        None => false,
-    }
-}
-
-/// The directory of a path, as one that is known.
-fn known_as(alloc: Global, path: &str) -> Option<Known> {
-    let path = String::from_str(alloc, path).ok()?;
-    let dir = Place::from_path(path)?;
-    let looks = Looks::new(alloc);
-    Some(Known { dir, looks })
-}
-
-impl<R: Files + AllocGlobal + Clone + Drop> FsTree<R> {
-    /// The folder at a path, which need not be there yet.
-    pub fn at(rt: R, root: &str) -> Result<FsTree<R>, AllocError>
-        ensures { IfOk result (λ store. store ≡ false) }
+impl<R: Files + AllocGlobal + Drop> FsTree<WholePaths<R>> {
+    /// The folder at a path, which need not be there yet. The process stays where it is: each call
+    /// of the system takes a whole path.
+    pub fn at(rt: R, root: &str) -> Result<FsTree<WholePaths<R>>, AllocError>
+        ensures { IfOk result (λ folder. folder.opened ≡ None) }
     {
-        let root = String::from_str(rt.alloc(), root)?;
-        Ok(FsTree {
-            rt,
-            root,
-            known: None,
-            open: None,
-            left: None,
-        })
-    }
-
-    /// What lies at a path, which may be a link.
-    fn look(&self, path: &str) -> Result<Metadata, Fault> {
-        match fs::symlink_metadata(&self.rt, path) {
-            Ok(metadata) => Ok(metadata),
-            Err(error) => Err(fault_of(&error)),
-        }
-    }
-
-    /// What the folder is, where a link leads to it too.
-    fn look_at_root(&self) -> Result<Metadata, Fault> {
-        match fs::metadata(&self.rt, self.root.as_str()) {
-            Ok(metadata) => Ok(metadata),
-            Err(error) => Err(fault_of(&error)),
-        }
-    }
-
-    /// Appends a name to the path of a directory, where a directory lies there too.
-    fn enter(&self, path: &mut String, name: &str) -> Result<(), Fault> {
-        push_name(path, name)?;
-        expect_dir(self.look(path.as_str()))
-    }
-
-    /// The path of the folder, where that is a directory.
-    fn start(&self) -> Result<String, Fault> {
-        let path = self.root.clone()?;
-        expect_dir(self.look_at_root())?;
-        Ok(path)
-    }
-
-    /// Looks at the folder, at each name on the way to a directory, and at that.
-    fn walk(&self, dir: &str) -> Result<(), Fault> {
-        let mut path = self.start()?;
-        // Unlike `split`, it gives no name for the empty path of the root.
-        for name in dir.split_terminator('/') {
-            self.enter(&mut path, name)?;
-        }
-        Ok(())
-    }
-
-    /// Looks at each name on the way to a directory that is not known, and at that.
-    fn pass(&self, dir: &str) -> Result<(), Fault> {
-        if is_known(&self.known, dir) {
-            Ok(())
-        } else {
-            self.walk(dir)
-        }
-    }
-
-    /// What lies at a place with this path, where its names lead there through directories.
-    fn look_at(&self, place: &Place, path: &str) -> Result<Metadata, Fault> {
-        match place.split_last() {
-            Some((dir, _)) => {
-                self.pass(dir)?;
-                self.look(path)
-            }
-            None => self.look_at_root(),
-        }
-    }
-
-    /// What lies at a place with this path, where it is of this kind.
-    fn look_for(&self, place: &Place, path: &str, kind: Kind) -> Result<Metadata, Fault> {
-        of_kind(self.look_at(place, path)?, kind)
-    }
-
-    /// The path of a place, made in one allocation.
-    fn path_of(&self, place: &Place) -> Result<String, AllocError> {
-        let room = self.root.len() + 1 + place.path().len();
-        let mut path = String::with_capacity(self.rt.alloc(), room)?;
-        path.push_str(self.root.as_str())?;
-        if !place.path().is_empty() {
-            push_name(&mut path, place.path())?;
-        }
-        Ok(path)
-    }
-
-    /// Where the file at a place was, if the listing of the known directory saw it.
-    fn seen(&self, place: &Place) -> Option<Node> {
-        let known = self.known.as_ref()?;
-        let (dir, name) = place.split_last()?;
-        if known.dir.path() == dir {
-            known.looks.node(name)
-        } else {
-            None
-        }
-    }
-
-    /// Where the file at a place with this path is, as it was looked at last.
-    fn node(&self, place: &Place, path: &str) -> Result<Node, Fault> {
-        match self.seen(place) {
-            Some(node) => Ok(node),
-            None => Ok(Node::of(&self.look_for(place, path, Kind::File)?)),
-        }
-    }
-
-    /// Knows a directory that was listed from now on, or none where memory for it is refused.
-    fn know(&mut self, place: &Place, looks: Looks)
-        ensures { self.new ≡ self.old }
-    {
-        self.known = match place.try_clone() {
-            Ok(dir) => Some(Known { dir, looks }),
-            Err(_) => None,
-        };
-    }
-
-    /// Knows the directory of a file whose names led there, where that is not known yet.
-    fn know_way(&mut self, place: &Place)
-        ensures { self.new ≡ self.old }
-    {
-        if let Some((dir, _)) = place.split_last() {
-            if !is_known(&self.known, dir) {
-                self.known = known_as(self.rt.alloc(), dir);
-            }
-        }
-    }
-
-    /// Opens the directory at a path. The system follows a link there only if the path ends in a
-    /// slash.
-    fn open_dir(&self, path: &str) -> Result<R::Dir, Fault> {
-        match self.rt.open_dir(path) {
-            Ok(dir) => Ok(dir),
-            Err(error) => Err(fault_of(&error)),
-        }
-    }
-
-    /// Opens the directory at a place with this path, where its names lead there through
-    /// directories. The folder itself may be a link.
-    fn dir(&self, place: &Place, path: &str) -> Result<R::Dir, Fault> {
-        match place.split_last() {
-            Some((dir, _)) => {
-                self.pass(dir)?;
-                self.open_dir(path)
-            }
-            None => {
-                // An empty path with a slash would be the root of the file system.
-                let mut root = self.start()?;
-                root.push('/')?;
-                self.open_dir(root.as_str())
-            }
-        }
-    }
-
-    /// What an entry of a directory is; that it went away is the device's fault.
-    fn look_at_entry(&self, path: &str) -> Result<Metadata, Fault> {
-        match fs::symlink_metadata(&self.rt, path) {
-            Ok(metadata) => Ok(metadata),
-            Err(error) => Err(entry_fault_of(&error)),
-        }
-    }
-
-    /// Adds an entry of the directory with a path, which is copied with its name into the other.
-    fn add_entry(
-        &self,
-        name: &[u8],
-        dir: &str,
-        path: &mut String,
-        listed: &mut Listed,
-    ) -> Result<(), Fault> {
-        let Ok(name) = str::from_utf8(name) else {
-            return Err(Fault::Trouble(Trouble::Device));
-        };
-        path.clear();
-        path.push_str(dir)?;
-        push_name(path, name)?;
-        let metadata = self.look_at_entry(path.as_str())?;
-        let name = Name::new(self.rt.alloc(), name)?;
-        let kind = kind_of(&metadata);
-        listed.add(Entry { name, kind }, Node::of(&metadata))?;
-        Ok(())
-    }
-
-    /// Adds the entries of these names.
-    fn add_entries(
-        &self,
-        names: &[u8],
-        dir: &str,
-        path: &mut String,
-        listed: &mut Listed,
-    ) -> Result<(), Fault> {
-        for name in names.split(|byte| *byte == 0) {
-            if is_entry(name) {
-                self.add_entry(name, dir, path, listed)?;
-            }
-        }
-        Ok(())
-    }
-
-    fn entries(&self, place: &Place) -> Result<Listed, Fault> {
-        let dir = self.path_of(place)?;
-        let mut opened = self.dir(place, dir.as_str())?;
-        let mut names = [0; NAMES_LEN];
-        let mut path = String::new(self.rt.alloc());
-        let mut listed = Listed::new(self.rt.alloc());
-        for _ in 0..MOST_READS {
-            let count = next_names(&mut opened, &mut names)?;
-            if count == 0 {
-                return Ok(listed);
-            }
-            self.add_entries(&names[..count], dir.as_str(), &mut path, &mut listed)?;
-        }
-        Err(Fault::Trouble(Trouble::Device))
-    }
-
-    /// The entries, where the call is not interrupted too often.
-    fn listed(&self, place: &Place) -> Result<(Vec<Entry>, Looks), Trouble>
-        ensures { IfOk result (λ listed. IsOrdinary listed.0.items) }
-    {
-        retried(|| self.entries(place))?.into_ordered()
-    }
-
-    /// Opens the file at a path.
-    fn open_path(&self, path: &str) -> Result<R::File, Fault> {
-        match fs::open(&self.rt, path) {
-            Ok(file) => Ok(file),
-            Err(error) => Err(fault_of(&error)),
-        }
-    }
-
-    /// The file at a place, where it is the one that was looked at last.
-    fn file(&self, place: &Place) -> Result<Opened<R::File>, Fault> {
-        let path = self.path_of(place)?;
-        let before = self.node(place, path.as_str())?;
-        let file = self.open_path(path.as_str())?;
-        match file.metadata() {
-            Ok(opened) if before.is_of(&opened) => {
-                let length = opened.len();
-                Ok(Opened { file, length })
-            }
-            Ok(_) => Err(Fault::Trouble(Trouble::Device)),
-            Err(error) => Err(entry_fault_of(&error)),
-        }
-    }
-
-    /// The file at a place, where the call is not interrupted too often.
-    fn opened(&self, place: &Place) -> Result<Opened<R::File>, Trouble> {
-        retried(|| self.file(place))
+        let alloc = rt.alloc();
+        Ok(FsTree::over(alloc, WholePaths::at(rt, root)?))
     }
 }
 
-impl<R: Files + AllocGlobal + Clone + Drop> Tree for FsTree<R> {
-    ghost told = { false };
+impl<R: Files + Env + AllocGlobal + Drop> FsTree<Entering<R>> {
+    /// The folder at a path from `/` on, which need not be there yet. The process goes into its
+    /// directories, so no path is too long, and a relative path means something else after each
+    /// call.
+    pub fn entering(rt: R, root: &str) -> Result<FsTree<Entering<R>>, AllocError>
+        ensures { IfOk result (λ folder. folder.opened ≡ None) }
+    {
+        let alloc = rt.alloc();
+        Ok(FsTree::over(alloc, Entering::at(rt, root)?))
+    }
+}
 
-    ghost state = { λ _. empty_store };
+impl<S: System + Drop> FsTree<S> {
+    /// The folder that the calls of a system show.
+    pub fn over(alloc: Global, system: S) -> FsTree<S>
+        ensures system { result.stand.system ≡ system }
+        ensures closed { result.opened ≡ None }
+    {
+        FsTree {
+            stand: Stand::new(alloc, system),
+            opened: None,
+            reason: None,
+        }
+    }
+
+    /// Why the last call failed that did: the error of the system, or one that says what was wrong.
+    pub fn reason(&self) -> Option<io::Error>
+        ensures { result ≡ self.now.reason }
+    {
+        self.reason
+    }
+
+    /// Keeps why a listing or an opening failed, and notes it.
+    fn fail(&mut self, place: &Place, failure: Failure, answer: Answer) -> Trouble
+        ensures closed { self.new.opened ≡ None }
+        ensures kept { IsKept self.new.reason result }
+        ensures trouble { result ≡ failure.trouble }
+        ensures device { IsTrue S.told → failure.trouble ≡ Trouble.Device
+            → (S.state self.new.stand.system).store
+            ≡ with_answer answer place.now (S.state self.old.stand.system).store }
+        ensures others { IsTrue S.told → failure.trouble ≢ Trouble.Device
+            → (S.state self.new.stand.system).store ≡ (S.state self.old.stand.system).store }
+    {
+        self.opened = None;
+        self.reason = Some(failure.error);
+        self.stand.forget();
+        if failure.trouble == Trouble::Device {
+            self.stand.note(place, answer);
+        }
+        failure.trouble
+    }
+}
+
+impl<S: System + Drop> Tree for FsTree<S> {
+    ghost told = { S.told };
+
+    ghost state = { λ folder.
+        with_rest (option_map S.rest folder.opened) (S.state folder.stand.system).store };
 
     fn list(&mut self, place: &Place) -> Result<Vec<Entry>, Trouble>
         ensures ordinary { IfOk result (λ entries. IsOrdinary entries.items) }
-        ensures ok { OnOk result (self.new ≡ self.old) }
-        ensures err { OnErr result (self.new ≡ false) }
+        ensures lists { IsTrue S.told → MatchResult result
+            (λ entries. Lists
+            (with_rest (option_map S.rest self.old.opened) (S.state self.old.stand.system).store)
+            (with_rest (option_map S.rest self.new.opened) (S.state self.new.stand.system).store)
+            place.now entries.items)
+            (ListFails
+            (with_rest (option_map S.rest self.old.opened) (S.state self.old.stand.system).store)
+            (with_rest (option_map S.rest self.new.opened) (S.state self.new.stand.system).store)
+            place.now) }
+        ensures ok { OnOk result (self.new.opened ≡ self.old.opened) }
+        ensures reason { OnOk result (self.new.reason ≡ self.old.reason) }
+        ensures err { OnErr result (self.new.opened ≡ None) }
+        ensures kept { IfErr result (λ trouble. IsKept self.new.reason trouble) }
     {
-        match self.listed(place) {
-            Ok((entries, looks)) => {
-                self.know(place, looks);
+        match self.stand.list(place) {
+            Ok(entries) => {
+                self.stand.note(place, Answer::Listed);
                 Ok(entries)
             }
-            Err(trouble) => {
-                self.known = None;
-                self.open = None;
-                Err(trouble)
-            }
+            Err(failure) => Err(self.fail(place, failure, Answer::NotListed)),
         }
     }
 
     fn open(&mut self, place: &Place) -> Result<(), Trouble>
-        ensures ok { OnOk result (self.new ≡ true) }
-        ensures err { OnErr result (self.new ≡ false) }
+        ensures opens { IsTrue S.told → MatchResult result
+            (λ _. Opens
+            (with_rest (option_map S.rest self.old.opened) (S.state self.old.stand.system).store)
+            (with_rest (option_map S.rest self.new.opened) (S.state self.new.stand.system).store)
+            place.now)
+            (OpenFails
+            (with_rest (option_map S.rest self.old.opened) (S.state self.old.stand.system).store)
+            (with_rest (option_map S.rest self.new.opened) (S.state self.new.stand.system).store)
+            place.now) }
+        ensures ok { OnOk result (IsSome self.new.opened) }
+        ensures reason { OnOk result (self.new.reason ≡ self.old.reason) }
+        ensures err { OnErr result (self.new.opened ≡ None) }
+        ensures kept { IfErr result (λ trouble. IsKept self.new.reason trouble) }
     {
-        self.open = None;
-        match self.opened(place) {
-            Ok(Opened { file, length }) => {
-                self.know_way(place);
-                self.open = Some(file);
-                self.left = Some(length);
+        self.opened = None;
+        match self.stand.open(place) {
+            Ok(file) => {
+                self.stand.note(place, Answer::Opened);
+                self.opened = Some(file);
                 Ok(())
             }
-            Err(trouble) => {
-                self.known = None;
-                Err(trouble)
-            }
+            Err(failure) => Err(self.fail(place, failure, Answer::NotOpened)),
         }
     }
 
     fn read(&mut self, buffer: &mut [u8]) -> Result<usize, Trouble>
         ensures bound { IfOk result (λ count. count ≤ length buffer.new) }
         ensures no_memory { result ≢ Err Trouble.Memory }
-        ensures absent { (result ≡ Err Trouble.Absent) ↔ (self.old ≡ false) }
-        ensures ok { OnOk result (self.new ≡ true) }
-        ensures err { OnErr result (self.new ≡ false) }
+        ensures largest { IsTrue S.told → (S.state self.new.stand.system).store.largest
+            ≡ max (S.state self.old.stand.system).store.largest (length buffer.new) }
+        ensures reads { IsTrue S.told → MatchResult result
+            (λ count. Reads
+            (with_rest (option_map S.rest self.old.opened) (S.state self.old.stand.system).store)
+            (with_rest (option_map S.rest self.new.opened) (S.state self.new.stand.system).store)
+            (take count buffer.new) (length buffer.new))
+            (ReadFails
+            (with_rest (option_map S.rest self.old.opened) (S.state self.old.stand.system).store)
+            (with_rest (option_map S.rest self.new.opened)
+            (S.state self.new.stand.system).store)) }
+        ensures absent { (result ≡ Err Trouble.Absent) ↔ (self.old.opened ≡ None) }
+        ensures ok { OnOk result (IsSome self.new.opened) }
+        ensures err { OnErr result (self.new.opened ≡ None) }
+        ensures kept { result ≡ Err Trouble.Device → IsSome self.new.reason }
     {
-        let Some(file) = &mut self.open else {
+        let room = buffer.len();
+        let Some(file) = &mut self.opened else {
+            self.stand.note_read(room, ReadAnswer::NoFile);
             return Err(Trouble::Absent);
         };
-        let Some(left) = self.left else {
-            return Ok(0);
-        };
-        for _ in 0..TRIES {
-            match file.read(buffer) {
-                Ok(count) => {
-                    self.left = left_after(left, count, buffer.len());
-                    return Ok(count);
-                }
-                Err(error) if error.kind() == ErrorKind::Interrupted => {}
-                Err(_) => break,
+        match read_on(&self.stand.system, file, buffer) {
+            Ok(count) => {
+                self.stand.note_read(room, ReadAnswer::Gave(count));
+                Ok(count)
+            }
+            Err(error) => {
+                self.stand.note_read(room, ReadAnswer::Failed);
+                self.reason = Some(error);
+                self.opened = None;
+                Err(Trouble::Device)
             }
         }
-        self.open = None;
-        Err(Trouble::Device)
     }
 
     fn close(&mut self)
-        ensures { self.new ≡ false }
+        ensures closes { IsTrue S.told → Closes
+            (with_rest (option_map S.rest self.old.opened) (S.state self.old.stand.system).store)
+            (with_rest (option_map S.rest self.new.opened) (S.state self.new.stand.system).store) }
+        ensures closed { self.new.opened ≡ None }
+        ensures reason { self.new.reason ≡ self.old.reason }
     {
-        self.open = None;
+        self.opened = None;
     }
 }

@@ -1,17 +1,18 @@
-//! The entries of a directory, and what was seen of its files.
-ghost use Rattle.std.specs.Prelude.{◌≤◌, IsTrue, IfOk, length};
+//! The entries of a directory.
+ghost use Rattle.std.specs.Prelude.{◌≡◌, ◌≤◌, ◌++◌, ◌∷◌, [], IsTrue, IfOk, IfErr, OnOk, length};
+ghost use Rattle.std.specs.List.Sorted.{IsPermutation};
 ghost use Rattle.ocfl_tree.specs.Listing.{AreApart, IsOrdinary};
 ghost use Rattle.ocfl_tree.specs.StorageRoot.{max_entries};
+ghost use Rattle.ocfl_folder.specs.Internal.Absence.{IsAbsent};
 
-use crate::looks::{Looks, Node};
-use ocfl_tree::{Entry, Kind, MAX_ENTRIES, Trouble};
+use crate::fault::{Fault, wrong};
+use ocfl_tree::{Entry, MAX_ENTRIES};
 use std::alloc::Global;
 
-/// At most 1,000,000 entries, and the looks that are kept at files among them.
+/// At most 1,000,000 entries.
 #[derive(Drop)]
 pub(crate) struct Listed {
     entries: Vec<Entry>,
-    looks: Looks,
     ghost few: { length entries.items ≤ max_entries },
 }
 
@@ -28,39 +29,38 @@ fn rise(entries: &[Entry]) -> bool
 }
 
 impl Listed {
-    pub(crate) fn new(alloc: Global) -> Listed {
+    pub(crate) fn new(alloc: Global) -> Listed
+        ensures { result.entries.items ≡ [] }
+    {
         Listed {
             entries: Vec::new(alloc),
-            looks: Looks::new(alloc),
         }
     }
 
-    /// Appends an entry, and keeps the look at a file. `Device` if there are [`MAX_ENTRIES`]
-    /// already, `Memory` if memory is refused.
-    pub(crate) fn add(&mut self, entry: Entry, node: Node) -> Result<(), Trouble> {
+    /// Appends an entry. The device fails if there are [`MAX_ENTRIES`] already.
+    pub(crate) fn add(&mut self, entry: Entry) -> Result<(), Fault>
+        ensures added { OnOk result
+            (self.new.entries.items ≡ self.old.entries.items ++ entry ∷ []) }
+        ensures present { IfErr result (λ fault. IsAbsent fault → ⊥) }
+    {
         if self.entries.len() >= MAX_ENTRIES {
-            return Err(Trouble::Device);
-        }
-        if entry.kind == Kind::File {
-            self.looks.add(entry.name.as_str(), node)?;
+            return Err(wrong("it holds more than 1,000,000 entries"));
         }
         self.entries.push(entry)?;
         Ok(())
     }
 
-    /// The entries and the looks in order. Refuses entries of which two have one name.
-    pub(crate) fn into_ordered(self) -> Result<(Vec<Entry>, Looks), Trouble>
-        ensures { IfOk result (λ listed. IsOrdinary listed.0.items) }
+    /// The entries in order. Refuses entries of which two have one name.
+    pub(crate) fn into_ordered(self) -> Result<Vec<Entry>, Fault>
+        ensures ordinary { IfOk result (λ entries. IsOrdinary entries.items) }
+        ensures present { IfErr result (λ fault. IsAbsent fault → ⊥) }
+        ensures same { IfOk result (λ entries. IsPermutation self.entries.items entries.items) }
     {
-        let Listed {
-            mut entries,
-            mut looks,
-        } = self;
+        let Listed { mut entries } = self;
         entries.sort()?;
         if !rise(&entries) {
-            return Err(Trouble::Device);
+            return Err(wrong("it holds a name twice"));
         }
-        looks.sort();
-        Ok((entries, looks))
+        Ok(entries)
     }
 }

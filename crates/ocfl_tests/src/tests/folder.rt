@@ -2,7 +2,7 @@
 use crate::tests::common::Runtime;
 use crate::tests::common::store::{change, place_of, put};
 use crate::tests::tree::{lists, sorted, whole};
-use ocfl_folder::FsTree;
+use ocfl_folder::{FsTree, WholePaths};
 use ocfl_memory::MemTree;
 use ocfl_tree::{Place, Tree, Trouble};
 use std::alloc::Global;
@@ -12,6 +12,7 @@ use std::test::Fail;
 
 mod exchange;
 mod fake;
+mod system;
 mod way;
 
 /// Bytes that do not repeat soon.
@@ -39,7 +40,7 @@ const LINKS: [(&str, &str); 3] = [
 ];
 
 /// Makes a folder with these entries and links, and with the file `big`.
-fn filled(rt: &HostRuntime, top: &str) -> Result<FsTree<HostRuntime>, Fail> {
+fn filled(rt: &HostRuntime, top: &str) -> Result<FsTree<WholePaths<HostRuntime>>, Fail> {
     let alloc = rt.alloc();
     if fs::exists(rt, top)? {
         fs::remove_dir_all(rt, top)?;

@@ -401,23 +401,25 @@ fn a_listing_of_many_reads_is_whole(rt: HostRuntime) -> Result<(), Fail> {
 /// Files that are opened one after the other, and how often each opening looks at something.
 const OPENED: [(&str, u32); 8] = [
     ("dir/a-dir/f", 1),
-    ("dir/f", 1),
-    ("f", 1),
-    ("dir/a-dir/g", 1),
-    // At another place all is looked at, and that is known from then on.
+    // Up, it looks where it is.
+    ("dir/f", 2),
+    // The folder itself is found by its own path.
+    ("f", 2),
+    // Down, it looks at each name, and where it is.
+    ("dir/a-dir/g", 5),
     ("dir/dir/f", 4),
     ("dir/dir/g", 1),
-    ("b-dir/f", 3),
+    ("b-dir/f", 4),
     ("b-dir/g", 1),
 ];
 
 #[test]
-fn a_known_directory_is_not_looked_at(rt: HostRuntime) -> Result<(), Fail> {
+fn each_step_is_looked_at(rt: HostRuntime) -> Result<(), Fail> {
     let files = Fake::new(rt.alloc(), b"a\0dir\0", Call::Name, ErrorKind::Other, 0)?;
     let looks = files.looks.clone()?;
     let mut store = FsTree::at(files, "top")?;
-    // A listing looks at each of two entries, and at the folder itself if that is listed.
-    for (path, want) in [("", 3), ("dir", 2), ("dir/dir", 2), ("dir/a-dir", 2)] {
+    // A listing looks at each of two entries.
+    for (path, want) in [("", 3), ("dir", 4), ("dir/dir", 4), ("dir/a-dir", 5)] {
         looks.set(0);
         store.list(&place_of(rt.alloc(), path)?)?;
         assert_eq!(rt; looks.get(), want, "{path}");
@@ -426,39 +428,6 @@ fn a_known_directory_is_not_looked_at(rt: HostRuntime) -> Result<(), Fail> {
         looks.set(0);
         store.open(&place_of(rt.alloc(), path)?)?;
         assert_eq!(rt; looks.get(), want, "{path}");
-    }
-    Ok(())
-}
-
-/// What is opened after the directory `dir`, with the names `a` and `dir`, was listed, how often
-/// each opening looks at something, and what it stops with.
-const LISTED: [(&str, &str, u32, Option<Trouble>); 9] = [
-    ("listed", "dir/a", 0, None),
-    ("listed, again", "dir/a", 0, None),
-    ("of no entry", "dir/b", 1, None),
-    ("in the folder above", "a", 1, None),
-    ("listed, after others", "dir/a", 0, None),
-    // No file is there, and a failure forgets what was seen.
-    ("a directory", "dir/dir", 1, Some(Trouble::Device)),
-    ("after a failure", "dir/a", 3, None),
-    ("in another directory", "b-dir/a", 3, None),
-    ("back in the first", "dir/a", 3, None),
-];
-
-#[test]
-fn a_listed_file_is_not_looked_at_again(rt: HostRuntime) -> Result<(), Fail> {
-    let files = Fake::new(rt.alloc(), b"dir\0a\0", Call::Name, ErrorKind::Other, 0)?;
-    let looks = files.looks.clone()?;
-    let mut store = FsTree::at(files, "top")?;
-    store.list(&place_of(rt.alloc(), "dir")?)?;
-    for (row, path, want, trouble) in LISTED {
-        looks.set(0);
-        let answer = store.open(&place_of(rt.alloc(), path)?);
-        assert_eq!(rt;
-            (looks.get(), answer.err()),
-            (want, trouble),
-            "{row}: {path}"
-        );
     }
     Ok(())
 }

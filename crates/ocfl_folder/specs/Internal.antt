@@ -1,0 +1,3 @@
+-- What private functions say: a reader of the public contracts needs none of it.
+pub mod Absence
+pub mod Covering

@@ -1,0 +1,4 @@
+pub mod System
+pub mod Noted
+pub mod Faults
+pub mod Internal

@@ -1,0 +1,88 @@
+//! The system, whose process goes into the directories of a folder.
+ghost use Rattle.std.specs.Prelude.{◌≡◌, ◌≤◌, [], None, IfOk, length, false};
+ghost use Rattle.ocfl_tree.specs.Store.{empty_store};
+
+use crate::answer::{Answer, ReadAnswer};
+use crate::dir_names::DirNames;
+use crate::node::Seen;
+use crate::opened::Opened;
+use crate::system::System;
+use ocfl_tree::Place;
+use std::alloc::AllocError;
+use std::rt::{Env, Files};
+use std::{fs, io};
+
+/// The folder at a path from `/` on, by last names alone: the process itself stands where the
+/// folder does.
+#[derive(Drop)]
+pub struct Entering<R: Files + Env + AllocGlobal + Drop> {
+    rt: R,
+    root: String,
+}
+
+impl<R: Files + Env + AllocGlobal + Drop> Entering<R> {
+    pub(crate) fn at(rt: R, root: &str) -> Result<Entering<R>, AllocError> {
+        let root = String::from_str(rt.alloc(), root)?;
+        Ok(Entering { rt, root })
+    }
+}
+
+/// It does not tell its tree: no clause says what the calls of the system do.
+impl<R: Files + Env + AllocGlobal + Drop> System for Entering<R> {
+    type File = Opened<R::File>;
+
+    type Names = DirNames<R::Dir>;
+
+    ghost told = { false };
+
+    ghost state = { λ _. record { store = empty_store; here = None } };
+
+    ghost rest = { λ _. [] };
+
+    ghost left = { λ _. [] };
+
+    fn start(&mut self) -> io::Result<()> {
+        self.rt.set_current_dir(self.root.as_str())
+    }
+
+    fn enter(&mut self, name: &str) -> io::Result<()> {
+        self.rt.set_current_dir(name)
+    }
+
+    fn leave(&mut self) -> io::Result<()> {
+        self.rt.set_current_dir("..")
+    }
+
+    fn look_here(&self) -> io::Result<Seen> {
+        self.look(".")
+    }
+
+    fn look(&self, name: &str) -> io::Result<Seen> {
+        Ok(Seen::of(&self.rt.symlink_metadata(name)?))
+    }
+
+    fn names(&self) -> io::Result<DirNames<R::Dir>> {
+        let dir = self.rt.open_dir(".")?;
+        Ok(DirNames::new(self.rt.alloc(), dir)?)
+    }
+
+    fn next_name(&self, names: &mut DirNames<R::Dir>, name: &mut Vec<u8>) -> io::Result<bool> {
+        names.next(name)
+    }
+
+    fn open(&self, name: &str) -> io::Result<Opened<R::File>> {
+        Ok(Opened::new(fs::open(&self.rt, name)?))
+    }
+
+    fn look_at(&self, file: &mut Opened<R::File>) -> io::Result<Seen> {
+        file.look()
+    }
+
+    fn read(&self, file: &mut Opened<R::File>, buffer: &mut [u8]) -> io::Result<usize> {
+        file.read(buffer)
+    }
+
+    fn note(&mut self, _place: &Place, _answer: Answer) {}
+
+    fn note_read(&mut self, _room: usize, _answer: ReadAnswer) {}
+}

@@ -1,0 +1,109 @@
+//! Why one try of a call gave nothing.
+ghost use Rattle.std.specs.Prelude.{◌≡◌, ◌≢◌, ◌↔◌, ◌∷◌, []};
+ghost use Rattle.std.specs.IoError.{error_kind};
+ghost use Rattle.ocfl_folder.specs.Internal.Absence.{IsAbsent};
+
+use crate::failure::Failure;
+use ocfl_tree::{NameStop, Trouble};
+use std::alloc::{AllocError, AllocFailed};
+use std::io::{self, ErrorKind};
+
+/// Why one try of a call gave nothing.
+#[derive(Clone, Copy)]
+pub(crate) enum Fault {
+    Interrupted,
+    Failed(Failure),
+}
+
+impl From<AllocError> for Fault {
+    ghost from_gives = { λ _ fault. IsAbsent fault → ⊥ };
+
+    fn from(_error: AllocError) -> Fault {
+        Fault::Failed(out_of_memory())
+    }
+}
+
+impl<T: Drop> From<AllocFailed<T>> for Fault {
+    ghost from_gives = { λ _ fault. IsAbsent fault → ⊥ };
+
+    fn from(_error: AllocFailed<T>) -> Fault {
+        Fault::Failed(out_of_memory())
+    }
+}
+
+/// An invalid name is reported as a failure of the device.
+impl From<NameStop> for Fault {
+    ghost from_gives = { λ _ fault. IsAbsent fault → ⊥ };
+
+    fn from(stop: NameStop) -> Fault {
+        match stop {
+            NameStop::Bad => wrong("it holds a name that is none"),
+            NameStop::Memory => Fault::Failed(out_of_memory()),
+        }
+    }
+}
+
+/// That memory was refused.
+pub(crate) fn out_of_memory() -> Failure
+    ensures { result.trouble ≡ Trouble.Memory }
+{
+    Failure {
+        trouble: Trouble::Memory,
+        error: io::Error::from(ErrorKind::OutOfMemory),
+    }
+}
+
+/// That the device failed, though no call of the system did. The words say what is wrong.
+pub(crate) fn wrong(words: &str) -> Fault
+    ensures { IsAbsent result → ⊥ }
+{
+    Fault::Failed(Failure {
+        trouble: Trouble::Device,
+        error: io::Error::new(ErrorKind::InvalidData, words),
+    })
+}
+
+/// That a call was interrupted too often.
+pub(crate) fn too_often() -> Failure
+    ensures { result.trouble ≡ Trouble.Device }
+{
+    Failure {
+        trouble: Trouble::Device,
+        error: io::Error::from(ErrorKind::Interrupted),
+    }
+}
+
+/// The fault of an error.
+pub(crate) fn fault_of(error: io::Error) -> Fault
+    ensures interrupted { (result ≡ Fault.Interrupted)
+        ↔ (error_kind error ≡ ErrorKind.Interrupted) }
+    ensures absent { IsAbsent result ↔ (error_kind error ≡ ErrorKind.NotFound) }
+{
+    let trouble = match error.kind() {
+        ErrorKind::Interrupted => return Fault::Interrupted,
+        ErrorKind::NotFound => Trouble::Absent,
+        ErrorKind::OutOfMemory => Trouble::Memory,
+        _ => Trouble::Device,
+    };
+    Fault::Failed(Failure { trouble, error })
+}
+
+/// The fault of an error at what was seen, or is open: that it is not there is the device's.
+pub(crate) fn entry_fault_of(error: io::Error) -> Fault
+    ensures interrupted { (result ≡ Fault.Interrupted)
+        ↔ (error_kind error ≡ ErrorKind.Interrupted) }
+    ensures present { IsAbsent result → ⊥ }
+{
+    match fault_of(error) {
+        Fault::Failed(
+            Failure {
+                trouble: Trouble::Absent,
+                ..
+            },
+        ) => Fault::Failed(Failure {
+            trouble: Trouble::Device,
+            error,
+        }),
+        fault => fault,
+    }
+}

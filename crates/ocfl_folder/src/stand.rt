@@ -1,0 +1,206 @@
+//! Where a folder stands.
+ghost use Rattle.std.specs.Prelude.{◌≡◌, ◌≢◌, IsTrue, IfOk, IfErr, OnOk, [], MatchResult, Some, None, List, ℕ};
+ghost use Rattle.ocfl_tree.specs.StorageRoot.{file, dir, at};
+ghost use Rattle.ocfl_tree.specs.Listing.{IsListing, IsOrdinary};
+ghost use Rattle.ocfl_tree.specs.declared.store.Trouble.TheVariants.{Absent};
+ghost use Rattle.ocfl_tree.specs.Place.{Place as Spot};
+ghost use Rattle.ocfl_tree.specs.Path.{names_of};
+ghost use Rattle.ocfl_folder.specs.Internal.Absence.{IsAbsent};
+ghost use Rattle.ocfl_folder.specs.Noted.{with_answer, with_read, with_room};
+
+use crate::answer::{Answer, ReadAnswer};
+use crate::failure::Failure;
+use crate::fault::{Fault, too_often, wrong};
+use crate::going::{descend, start, turn};
+use crate::node::Node;
+use crate::reading::{TRIES, list_here, open_here};
+use crate::system::System;
+use ocfl_tree::{Entry, Place};
+use std::alloc::Global;
+
+/// A system, and in which directory of the folder it stands, if that is known.
+#[derive(Drop)]
+pub(crate) struct Stand<S: System + Drop> {
+    alloc: Global,
+    pub(crate) system: S,
+    here: Option<Place>,
+    /// Which directory each name on the way here led to.
+    way: Vec<Node>,
+    ghost stands: { IsTrue S.told → (p : Spot) → here ≡ Some p → (S.state system).here ≡ Some p },
+}
+
+impl<S: System + Drop> Stand<S> {
+    pub(crate) fn new(alloc: Global, system: S) -> Stand<S>
+        ensures { result.system ≡ system }
+    {
+        Stand {
+            alloc,
+            system,
+            here: None,
+            way: Vec::new(alloc),
+        }
+    }
+
+    /// Where it stands is not known from now on.
+    pub(crate) fn forget(&mut self)
+        ensures { self.new.system ≡ self.old.system }
+    {
+        self.here = None;
+    }
+
+    /// Goes to a directory. Where that fails, it is not known where it stands.
+    fn go(&mut self, dir: &Place) -> Result<(), Fault>
+        ensures store { IsTrue S.told
+            → (S.state self.new.system).store ≡ (S.state self.old.system).store }
+        ensures here { IsTrue S.told → MatchResult result
+            (λ _. (S.state self.new.system).here ≡ Some dir.now)
+            (λ fault. IsAbsent fault
+            → at (S.state self.old.system).store.tree dir.now ≡ None) }
+    {
+        let names = dir.names()?;
+        let kept = match self.here.take() {
+            Some(from) => turn(&mut self.system, &mut self.way, &from.names()?, &names)?,
+            None => {
+                start(&mut self.system, &mut self.way)?;
+                0
+            }
+        };
+        descend(&mut self.system, &mut self.way, &names, kept)?;
+        self.here = Some(dir.try_clone()?);
+        Ok(())
+    }
+
+    /// Whether it is known to stand in the directory with this path, which is not the folder itself:
+    /// whether that is still where its own path leads is not known.
+    fn is_in(&self, path: &str) -> bool
+        ensures { IsTrue result → IsTrue S.told
+            → (S.state self.now.system).here ≡ Some (names_of path.now) }
+    {
+        match &self.here {
+            Some(here) => !path.is_empty() && here.path() == path,
+            None => false,
+        }
+    }
+
+    /// Goes to the folder itself, by its own path.
+    fn go_to_root(&mut self) -> Result<(), Fault>
+        ensures store { IsTrue S.told
+            → (S.state self.new.system).store ≡ (S.state self.old.system).store }
+        ensures here { IsTrue S.told → OnOk result ((S.state self.new.system).here ≡ Some []) }
+        ensures there { IsTrue S.told → IfErr result (λ fault. IsAbsent fault → ⊥) }
+    {
+        self.here = None;
+        start(&mut self.system, &mut self.way)?;
+        self.here = Some(Place::root(self.alloc));
+        Ok(())
+    }
+
+    /// Goes to the directory with this path, unless it stands there.
+    pub(crate) fn stand_in(&mut self, path: &str) -> Result<(), Fault>
+        ensures store { IsTrue S.told
+            → (S.state self.new.system).store ≡ (S.state self.old.system).store }
+        ensures here { IsTrue S.told → MatchResult result
+            (λ _. (S.state self.new.system).here ≡ Some (names_of path.now))
+            (λ fault. IsAbsent fault
+            → at (S.state self.old.system).store.tree (names_of path.now) ≡ None) }
+    {
+        if self.is_in(path) {
+            return Ok(());
+        }
+        if path.is_empty() {
+            return self.go_to_root();
+        }
+        match Place::from_path(String::from_str(self.alloc, path)?) {
+            Some(dir) => self.go(&dir),
+            None => Err(wrong("it is no path of names")),
+        }
+    }
+
+    /// The entries of a directory, in one try.
+    fn entries(&mut self, place: &Place) -> Result<Vec<Entry>, Fault>
+        ensures ordinary { IfOk result (λ entries. IsOrdinary entries.items) }
+        ensures store { IsTrue S.told
+            → (S.state self.new.system).store ≡ (S.state self.old.system).store }
+        ensures listed { IsTrue S.told → MatchResult result
+            (λ entries. IsListing (S.state self.old.system).store.tree place.now entries.items)
+            (λ fault. IsAbsent fault
+            → at (S.state self.old.system).store.tree place.now ≢ Some dir) }
+    {
+        self.stand_in(place.path())?;
+        list_here(&self.system, self.alloc)
+    }
+
+    /// The entries of a directory, if the calls are not interrupted too often.
+    pub(crate) fn list(&mut self, place: &Place) -> Result<Vec<Entry>, Failure>
+        ensures ordinary { IfOk result (λ entries. IsOrdinary entries.items) }
+        ensures store { IsTrue S.told
+            → (S.state self.new.system).store ≡ (S.state self.old.system).store }
+        ensures listed { IsTrue S.told → MatchResult result
+            (λ entries. IsListing (S.state self.old.system).store.tree place.now entries.items)
+            (λ failure. failure.trouble ≡ Absent
+            → at (S.state self.old.system).store.tree place.now ≢ Some dir) }
+    {
+        for _ in 0..TRIES {
+            match self.entries(place) {
+                Ok(entries) => return Ok(entries),
+                Err(Fault::Interrupted) => {}
+                Err(Fault::Failed(failure)) => return Err(failure),
+            }
+        }
+        Err(too_often())
+    }
+
+    /// The file at a place, in one try.
+    fn file(&mut self, place: &Place) -> Result<S::File, Fault>
+        ensures store { IsTrue S.told
+            → (S.state self.new.system).store ≡ (S.state self.old.system).store }
+        ensures opened { IsTrue S.told → MatchResult result
+            (λ opened. at (S.state self.old.system).store.tree place.now
+            ≡ Some (file (S.rest opened)))
+            (λ fault. IsAbsent fault → (bytes : List ℕ)
+            → at (S.state self.old.system).store.tree place.now ≢ Some (file bytes)) }
+    {
+        let Some((dir, name)) = place.split_last() else {
+            self.stand_in("")?;
+            return Err(wrong("it is a folder"));
+        };
+        self.stand_in(dir)?;
+        open_here(&self.system, name)
+    }
+
+    /// The file at a place, if the calls are not interrupted too often.
+    pub(crate) fn open(&mut self, place: &Place) -> Result<S::File, Failure>
+        ensures store { IsTrue S.told
+            → (S.state self.new.system).store ≡ (S.state self.old.system).store }
+        ensures opened { IsTrue S.told → MatchResult result
+            (λ opened. at (S.state self.old.system).store.tree place.now
+            ≡ Some (file (S.rest opened)))
+            (λ failure. failure.trouble ≡ Absent → (bytes : List ℕ)
+            → at (S.state self.old.system).store.tree place.now ≢ Some (file bytes)) }
+    {
+        for _ in 0..TRIES {
+            match self.file(place) {
+                Ok(file) => return Ok(file),
+                Err(Fault::Interrupted) => {}
+                Err(Fault::Failed(failure)) => return Err(failure),
+            }
+        }
+        Err(too_often())
+    }
+
+    /// Notes what became of a listing or an opening.
+    pub(crate) fn note(&mut self, place: &Place, answer: Answer)
+        ensures { IsTrue S.told → (S.state self.new.system).store
+            ≡ with_answer answer place.now (S.state self.old.system).store }
+    {
+        self.system.note(place, answer);
+    }
+
+    /// Notes what became of a read into a buffer with this room.
+    pub(crate) fn note_read(&mut self, room: usize, answer: ReadAnswer)
+        ensures { IsTrue S.told → (S.state self.new.system).store
+            ≡ with_read answer (with_room room (S.state self.old.system).store) }
+    {
+        self.system.note_read(room, answer);
+    }
+}

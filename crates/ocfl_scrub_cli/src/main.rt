@@ -11,6 +11,7 @@ mod showing;
 mod splits;
 mod tasks;
 mod version;
+mod whole;
 
 use clap::error::ErrorKind;
 use nights::{join_parts, make_night};
@@ -25,6 +26,7 @@ use std::time::Clock;
 use std::{env, io};
 use tasks::do_task;
 use version::print_build;
+use whole::whole_asked;
 
 /// Reads the words of the command line. Fails with the status where they cannot be read.
 fn read_words<R: Env + AllocGlobal + Eprint>(rt: &R) -> Result<Vec<String>, u8> {
@@ -61,6 +63,32 @@ where
     0
 }
 
+/// Says that paths are not known because the folder in which the program was started has none, and
+/// gives the status.
+fn say_no_path<R: Eprint>(rt: &R, error: &io::Error) -> u8 {
+    if error.kind() == io::ErrorKind::OutOfMemory {
+        return say_out_of_memory(rt);
+    }
+    let _ = eprintln!(rt;
+        "ocfl-scrub: the current folder has no path ({error}): give paths from / on"
+    );
+    STOPPED
+}
+
+/// Does what is asked for, and gives the exit status.
+fn do_asked<R>(rt: &R, asked: Asked, terminals: Terminals) -> u8
+where
+    R: Files<File = File> + Env + AllocGlobal + Clock + Print + Eprint,
+{
+    match whole_asked(rt, asked) {
+        Ok(Asked::Task(task)) => do_task(rt, &task, terminals),
+        Ok(Asked::Split(split)) => split_root(rt, &split),
+        Ok(Asked::Night(night)) => make_night(rt, night, terminals),
+        Ok(Asked::Join(join)) => join_parts(rt, &join),
+        Err(error) => say_no_path(rt, &error),
+    }
+}
+
 /// Runs the program, and gives its exit status.
 fn run_program<R>(rt: &R, terminals: Terminals) -> u8
 where
@@ -78,10 +106,7 @@ where
         }
     }
     match asked(rt.alloc(), words.as_slice()) {
-        Ok(Asked::Task(task)) => do_task(rt, &task, terminals),
-        Ok(Asked::Split(split)) => split_root(rt, &split),
-        Ok(Asked::Night(night)) => make_night(rt, night, terminals),
-        Ok(Asked::Join(join)) => join_parts(rt, &join),
+        Ok(asked) => do_asked(rt, asked, terminals),
         Err(LineStop::Usage(error)) => print_usage(rt, &error),
         Err(LineStop::Memory) => say_out_of_memory(rt),
     }

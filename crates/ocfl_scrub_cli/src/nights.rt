@@ -40,7 +40,7 @@ use ocfl_line::NightAsked;
 use ocfl_night::{Halt, NightEnd, Plan, Site, night, status_found, status_of};
 use ocfl_state::{FsState, StateFile};
 use ocfl_telling::Known;
-use std::alloc::AllocError;
+use std::alloc::{AllocError, Global};
 use std::cell::Cell;
 use std::fs::File;
 use std::io::{self, Printer};
@@ -76,6 +76,8 @@ struct Made {
     broken: u64,
     /// How many branches are left out of the cycle that it read.
     left: u64,
+    /// Why the last call over the storage root failed that did.
+    reason: Option<io::Error>,
 }
 
 /// The text, where there is one.
@@ -160,11 +162,11 @@ fn run_night<'a, R>(
     shown_on: Terminals,
 ) -> Result<Made, Failure>
 where
-    R: Files<File = File> + AllocGlobal + Clock + Print + Eprint,
+    R: Files<File = File> + Env + AllocGlobal + Clock + Print + Eprint,
 {
     let alloc = rt.alloc();
     let began = now.get();
-    let Ok(tree) = FsTree::at(rt, given.root.as_str()) else {
+    let Ok(tree) = FsTree::entering(rt, given.root.as_str()) else {
         return Err(Failure::from(AllocError));
     };
     let mut tree = Watched::over(rt, tree, shown_on.error, last_cost(began));
@@ -193,6 +195,7 @@ where
         findings: teller.findings(),
         broken: teller.broken(),
         left: now.get().left,
+        reason: tree.inner().reason(),
     })
 }
 
@@ -243,6 +246,14 @@ where
     earlier.max(status_told(rt, now))
 }
 
+/// The system's words on the last call over the storage root that failed.
+fn why_of(alloc: Global, reason: Option<io::Error>) -> Result<Option<String>, AllocError> {
+    match reason {
+        Some(error) => Ok(Some(format!(in alloc; "{error}")?)),
+        None => Ok(None),
+    }
+}
+
 /// Says how a night ended, and gives what was said.
 fn say_ending<'a, R>(
     rt: &'a R,
@@ -255,7 +266,8 @@ where
 {
     let alloc = rt.alloc();
     let words = words_of(alloc, folder.reason())?;
-    let said = ending_text(alloc, &made.end.end, text_of(&words), names)?;
+    let why = why_of(alloc, made.reason)?;
+    let said = ending_text(alloc, &made.end.end, text_of(&words), text_of(&why), names)?;
     if let Some(said) = &said {
         say_text(rt, said.as_str());
     }
@@ -281,7 +293,7 @@ fn is_partial(made: &Made) -> bool {
 /// Makes a night, and gives its status.
 fn make_in<R>(rt: &R, given: &Given, shown_on: Terminals) -> Result<u8, Failure>
 where
-    R: Files<File = File> + AllocGlobal + Clock + Print + Eprint,
+    R: Files<File = File> + Env + AllocGlobal + Clock + Print + Eprint,
 {
     let names = given.names();
     let mut folder = open_state(rt, names.state, names.root, given.asked.create)?;

@@ -105,6 +105,13 @@ impl<'a, R: AllocGlobal + Clock + Eprint, T: Drop> Watched<'a, R, T> {
         }
     }
 
+    /// The store itself.
+    pub(crate) fn inner(&self) -> &T
+        ensures { result.now ≡ self.now.store }
+    {
+        &self.store
+    }
+
     /// Counts the work at a place, and shows it where it is time to.
     fn reach(&mut self, place: &Place)
         ensures { self.new.store ≡ self.old.store }

@@ -1,9 +1,11 @@
 //! What the program says on standard error, and the statuses that go with it.
 
 use ocfl_parts::SplitStop;
+use ocfl_report::DisplayPlace;
 use ocfl_scope::ScopeStop;
 use ocfl_scrub::Note;
 use ocfl_state::NotDecoded;
+use std::io;
 use thiserror::Error;
 
 /// The exit status of a bad command line, path, part number, separators or report, and of a
@@ -38,6 +40,9 @@ pub(crate) enum Stop {
     /// What any command may stop for.
     #[error("{0}")]
     Stopped(Note),
+    /// The same, where a store failed for a reason.
+    #[error("{0}")]
+    Reasoned(Note, Option<io::Error>),
 }
 
 impl Stop {
@@ -48,7 +53,8 @@ impl Stop {
             Stop::TooLong => USAGE,
             Stop::Report(SplitStop::Line(_) | SplitStop::Many) => USAGE,
             Stop::Checkpoint(_) => REFUSED,
-            Stop::Report(_) | Stop::CheckpointFile | Stop::Stopped(_) => STOPPED,
+            Stop::Report(_) | Stop::CheckpointFile => STOPPED,
+            Stop::Stopped(_) | Stop::Reasoned(_, _) => STOPPED,
         }
     }
 }
@@ -61,6 +67,9 @@ pub(crate) fn say<R: Eprint>(rt: &R, line: &str) {
 /// Says why a command stopped, and gives its status.
 pub(crate) fn say_stop<R: Eprint>(rt: &R, stop: &Stop) -> u8 {
     let _ = eprintln!(rt; "ocfl-scrub: {stop}");
+    if let Stop::Reasoned(note, reason) = stop {
+        say_reason(rt, note, *reason);
+    }
     stop.status()
 }
 
@@ -68,6 +77,13 @@ pub(crate) fn say_stop<R: Eprint>(rt: &R, stop: &Stop) -> u8 {
 pub(crate) fn say_note<R: Eprint>(rt: &R, note: &Note) {
     if !matches!(note, Note::Nothing) {
         let _ = eprintln!(rt; "ocfl-scrub: {note}");
+    }
+}
+
+/// Says why a store did not answer at a place, where that is what a command stopped for.
+pub(crate) fn say_reason<R: Eprint>(rt: &R, note: &Note, reason: Option<io::Error>) {
+    if let (Note::StoppedAt(place), Some(error)) = (note, reason) {
+        let _ = eprintln!(rt; "ocfl-scrub: {}: {error}", DisplayPlace(place));
     }
 }
 

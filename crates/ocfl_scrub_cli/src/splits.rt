@@ -10,10 +10,13 @@ use ocfl_scrub::Note;
 use ocfl_split::split;
 use std::fs::File;
 use std::io::{self, BufReader};
-use std::rt::Files;
+use std::rt::{Env, Files};
 
 /// Makes the separators that are asked for.
-fn make_separators<R: Files + AllocGlobal>(rt: &R, asked: &Split) -> Result<Separators, Stop> {
+fn make_separators<R>(rt: &R, asked: &Split) -> Result<Separators, Stop>
+where
+    R: Files + Env + AllocGlobal,
+{
     match asked {
         Split::Listing { count, root } => split_by_listing(rt, *count, root.as_str()),
         Split::Report { budget, report } => {
@@ -25,12 +28,15 @@ fn make_separators<R: Files + AllocGlobal>(rt: &R, asked: &Split) -> Result<Sepa
 /// The separators by what is listed of a folder.
 fn split_by_listing<R>(rt: &R, count: usize, root: &str) -> Result<Separators, Stop>
 where
-    R: Files + AllocGlobal,
+    R: Files + Env + AllocGlobal,
 {
-    let Ok(mut store) = FsTree::at(rt, root) else {
+    let Ok(mut store) = FsTree::entering(rt, root) else {
         return Err(Stop::Stopped(Note::OutOfMemory));
     };
-    split(rt.alloc(), &mut store, count).map_err(|fault| Stop::Stopped(note_of(fault)))
+    match split(rt.alloc(), &mut store, count) {
+        Ok(separators) => Ok(separators),
+        Err(fault) => Err(Stop::Reasoned(note_of(fault), store.reason())),
+    }
 }
 
 /// What is said of a fault.
@@ -78,7 +84,10 @@ fn write_separators<R: AllocGlobal + Print>(rt: &R, separators: &Separators) -> 
 }
 
 /// Splits a storage root, and gives the exit status.
-pub(crate) fn split_root<R: Files + AllocGlobal + Print + Eprint>(rt: &R, asked: &Split) -> u8 {
+pub(crate) fn split_root<R>(rt: &R, asked: &Split) -> u8
+where
+    R: Files + Env + AllocGlobal + Print + Eprint,
+{
     let made = make_separators(rt, asked);
     match made.and_then(|separators| write_separators(rt, &separators)) {
         Ok(()) => 0,

@@ -2,7 +2,7 @@
 
 use crate::files::{lies_inside, open_if_there, put_in_place};
 use crate::progress::{Clearing, Terminals, Watched, clear};
-use crate::saying::{STOPPED, USAGE, say, say_note, say_out_of_memory, say_stop};
+use crate::saying::{STOPPED, USAGE, say, say_note, say_out_of_memory, say_reason, say_stop};
 use crate::scope::read_scope;
 use crate::showing::show_file;
 use ocfl_cursor::{State, read_cursor, read_part_cursor};
@@ -12,7 +12,7 @@ use ocfl_folder::FsTree;
 use ocfl_line::Task;
 use ocfl_scope::Scope;
 use ocfl_scrub::{Note, Performed, perform_part};
-use std::rt::Files;
+use std::rt::{Env, Files};
 use std::time::Clock;
 use std::{fs, io};
 
@@ -73,6 +73,13 @@ where
     }
 }
 
+/// What a deed ended with, and why the last call over its folder failed that did.
+#[derive(Drop)]
+struct Done {
+    performed: Performed,
+    reason: Option<io::Error>,
+}
+
 /// Does the deed over its folder. Fails with what is to be said where it cannot begin.
 fn perform_over_folder<R>(
     rt: &R,
@@ -80,11 +87,11 @@ fn perform_over_folder<R>(
     scope: &Scope,
     shown_on: Terminals,
     block: &mut Block,
-) -> Result<Performed, Note>
+) -> Result<Done, Note>
 where
-    R: Files + AllocGlobal + Clock + Print + Eprint,
+    R: Files + Env + AllocGlobal + Clock + Print + Eprint,
 {
-    let Ok(folder) = FsTree::at(rt, root_of(task)) else {
+    let Ok(folder) = FsTree::entering(rt, root_of(task)) else {
         return Err(Note::OutOfMemory);
     };
     let last_cost = if shown_on.error {
@@ -100,7 +107,7 @@ where
         out: io::writer(rt),
     };
     let alloc = rt.alloc();
-    Ok(perform_part(
+    let performed = perform_part(
         alloc,
         &mut store,
         &task.deed,
@@ -108,7 +115,9 @@ where
         reader.as_mut(),
         block,
         &mut out,
-    ))
+    );
+    let reason = store.inner().reason();
+    Ok(Done { performed, reason })
 }
 
 /// Puts the cursor in the place of its file, and gives the status with what is to be said.
@@ -124,31 +133,52 @@ where
     (performed.status, performed.note)
 }
 
+/// What is said of a deed, and its status.
+#[derive(Drop)]
+struct Ended {
+    status: u8,
+    note: Note,
+    reason: Option<io::Error>,
+}
+
 /// Does the deed, stores its cursor, and gives the status with what is to be said.
-fn perform_and_store<R>(rt: &R, task: &Task, scope: &Scope, shown_on: Terminals) -> (u8, Note)
+fn perform_and_store<R>(rt: &R, task: &Task, scope: &Scope, shown_on: Terminals) -> Ended
 where
-    R: Files + AllocGlobal + Clock + Print + Eprint,
+    R: Files + Env + AllocGlobal + Clock + Print + Eprint,
 {
-    let Ok(mut block) = Block::new(rt.alloc()) else {
-        return (STOPPED, Note::OutOfMemory);
+    let done = match Block::new(rt.alloc()) {
+        Ok(mut block) => perform_over_folder(rt, task, scope, shown_on, &mut block),
+        Err(_) => Err(Note::OutOfMemory),
     };
-    match perform_over_folder(rt, task, scope, shown_on, &mut block) {
-        Ok(performed) => store_cursor(rt, task, performed),
-        Err(note) => (STOPPED, note),
+    match done {
+        Ok(Done { performed, reason }) => {
+            let (status, note) = store_cursor(rt, task, performed);
+            Ended {
+                status,
+                note,
+                reason,
+            }
+        }
+        Err(note) => Ended {
+            status: STOPPED,
+            note,
+            reason: None,
+        },
     }
 }
 
 /// Does the deed, reports on standard error, and gives the status.
 fn perform_and_report<R>(rt: &R, task: &Task, scope: &Scope, shown_on: Terminals) -> u8
 where
-    R: Files + AllocGlobal + Clock + Print + Eprint,
+    R: Files + Env + AllocGlobal + Clock + Print + Eprint,
 {
-    let (status, note) = perform_and_store(rt, task, scope, shown_on);
+    let ended = perform_and_store(rt, task, scope, shown_on);
     if shown_on.error {
         clear(rt);
     }
-    say_note(rt, &note);
-    status
+    say_note(rt, &ended.note);
+    say_reason(rt, &ended.note, ended.reason);
+    ended.status
 }
 
 /// Refuses a cursor's file in the storage root: says so and gives the status.
@@ -172,7 +202,7 @@ fn refuse_cursor_inside<R: Files + AllocGlobal + Eprint>(rt: &R, task: &Task) ->
 /// Does what a task asks for, and gives the exit status.
 pub(crate) fn do_task<R>(rt: &R, task: &Task, terminals: Terminals) -> u8
 where
-    R: Files + AllocGlobal + Clock + Print + Eprint,
+    R: Files + Env + AllocGlobal + Clock + Print + Eprint,
 {
     if let (Deed::Show, Some(file)) = (&task.deed, &task.file) {
         return show_file(rt, file.as_str());

@@ -21,11 +21,12 @@ pub(crate) fn is_own(refusal: &Refusal) -> bool {
 }
 
 /// What is said of a night that ended so; nothing where it ended well. `words` are the system's on
-/// the last call on the folder that failed.
+/// the last call on the state folder that failed, and `why` on the last over the storage root.
 pub(crate) fn ending_text(
     alloc: Global,
     halt: &Halt,
     words: Option<&str>,
+    why: Option<&str>,
     names: Names<'_>,
 ) -> Result<Option<String>, AllocError> {
     match halt {
@@ -37,8 +38,8 @@ pub(crate) fn ending_text(
             names.root,
             names.state,
         )?)),
-        Halt::Stopped(fault) => Ok(Some(text_of_stop(alloc, stop_of(fault), None, names)?)),
-        Halt::Troubled(stop) => Ok(Some(text_of_trouble(alloc, stop, words, names)?)),
+        Halt::Stopped(fault) => Ok(Some(text_of_fault(alloc, fault, why, names)?)),
+        Halt::Troubled(stop) => Ok(Some(text_of_trouble(alloc, stop, words, why, names)?)),
     }
 }
 
@@ -100,6 +101,20 @@ fn stop_of(fault: &Fault) -> ocfl_telling::Stop<'_> {
     }
 }
 
+/// The line on a night whose run stopped.
+fn text_of_fault(
+    alloc: Global,
+    fault: &Fault,
+    why: Option<&str>,
+    names: Names<'_>,
+) -> Result<String, AllocError> {
+    let words = match fault {
+        Fault::Store(_) => why,
+        Fault::Output | Fault::Memory | Fault::Broken => None,
+    };
+    text_of_stop(alloc, stop_of(fault), words, names)
+}
+
 /// The line on a night that stopped.
 fn text_of_stop(
     alloc: Global,
@@ -115,12 +130,13 @@ fn text_of_trouble(
     alloc: Global,
     stop: &Stop,
     words: Option<&str>,
+    why: Option<&str>,
     names: Names<'_>,
 ) -> Result<String, AllocError> {
     match stop {
         Stop::Worn => refusal_text(alloc, ocfl_telling::Refusal::Worn, names.root, names.state),
         Stop::Output => text_of_stop(alloc, ocfl_telling::Stop::Output, None, names),
-        Stop::Unread(place) => text_of_stop(alloc, ocfl_telling::Stop::At(place), None, names),
+        Stop::Unread(place) => text_of_stop(alloc, ocfl_telling::Stop::At(place), why, names),
         Stop::Folder(Trouble::Memory) => {
             text_of_stop(alloc, ocfl_telling::Stop::Memory, None, names)
         }

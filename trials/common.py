@@ -6,6 +6,7 @@ top of the repository builds.
 import hashlib
 import json
 import os
+import re
 import shutil
 import signal
 import stat
@@ -20,8 +21,11 @@ from shared.packages import why_not
 TOP = os.path.dirname(os.path.dirname(os.path.abspath(__file__)))
 LIMIT = 60
 NEW = "cycle 1\nruns 0\nspent 0\nfiles 0\nstart\n"
+REASON = re.compile(r"(ocfl-scrub: stopped at (.*)\n)ocfl-scrub: \2: (.*)\n")
 passed = 0
 failed = []
+# why the last program stopped at a place, in the system's words
+reason = None
 
 
 def built():
@@ -96,6 +100,14 @@ def text_of(data):
     return data.decode("utf-8", "surrogateescape")
 
 
+def without_reason(said):
+    """What was said, without the line that has the system's words on a stop. They are kept."""
+    global reason
+    found = REASON.search(said)
+    reason = found[3] if found else None
+    return REASON.sub(r"\1", said)
+
+
 def end(process, limit=LIMIT):
     """Status, output and what was said; the status is `no end` where the limit passed."""
     try:
@@ -104,7 +116,7 @@ def end(process, limit=LIMIT):
         os.killpg(process.pid, signal.SIGKILL)
         out, said = process.communicate()
         return "no end", text_of(out or b""), text_of(said or b"")
-    return process.returncode, text_of(out or b""), text_of(said or b"")
+    return process.returncode, text_of(out or b""), without_reason(text_of(said or b""))
 
 
 def start(words, before=(), **how):

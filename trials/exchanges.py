@@ -1,12 +1,13 @@
 #!/usr/bin/env python3
-"""Exchanges a file while the program is between its look at it and its opening.
+"""Exchanges a file while the program is between its look at it and its opening, and a folder after
+each call of a run.
 
 usage: exchanges.py
 
-strace stops the program after the last look before the opening, which is that of the listing. What
-is opened then is not what was looked at: content is S08, never `ok`, and at an object's own files
-the program stops. Where the file was only moved, and a link to it left in its place, what is opened
-is what was looked at, and it is read.
+strace stops the program after the last look before the opening. What is opened then is not what was
+looked at: content is S08, never `ok`, and at an object's own files the program stops. Where the
+file was only moved, and a link to it left in its place, what is opened is what was looked at, and it
+is read. Of a folder that a link takes the place of, nothing that the link leads to is read.
 
 Tried, and what comes of it:
 
@@ -20,35 +21,25 @@ Tried, and what comes of it:
   where no number is given again, it is another file's: S08; `stopped at`.
 - The file itself moved, and a link to it left in its place, at that moment: it is read: it is the
   file of the look.
+- Each folder of a root exchanged for a link to another one, for another one itself, for a link to
+  where it was moved, or moved away, right after each call of an audit: nothing that a link leads
+  to is read; `stopped at`, S08, or the lines of what lies there.
 
 Seen to fail on these faults, each planted alone:
 
 - A file is recognised by its number alone, whatever its device.
+- After a step down the program does not look where it is.
 """
 import os
+import shutil
 import subprocess
 
 import common
-from common import is_so, line, make_root, note, traced, write
+from common import is_so, line, make_root, note, write
+from shared import calls
 
 ABC = {"v1/content/e": b"e", "v1/content/f": b"abc", "v1/content/g": b"g"}
 ITEMS = common.sound({"o": ABC})
-LOOKS = ["stat", "lstat", "newfstatat", "statx"]
-OPENS = ["openat", "open"]
-
-
-def last_look(root, path, log):
-    """The call that looks at a path last before it is opened, and how often it was made."""
-    traced(["-P", path], ["audit", root], log)
-    counts, last = {}, None
-    for text in common.read(log).decode(errors="replace").splitlines():
-        call = text.split("(")[0]
-        if call in OPENS:
-            break
-        if call in LOOKS:
-            counts[call] = counts.get(call, 0) + 1
-            last = call
-    return last, counts.get(last, 0)
 
 
 def for_a_link_to_itself_moved(path, other):
@@ -163,8 +154,9 @@ def exchanged(folder, place, exchange):
     made = os.path.join(folder, place.replace("/", "-"), exchange.__name__)
     root = make_root(os.path.join(made, "root"), {"o": ABC})
     path = os.path.join(root, place)
-    call, count = last_look(root, path, os.path.join(made, "log"))
-    with common.Stopped(["-P", path], str(call), ["audit", root], count) as stopped:
+    words = ["audit", root]
+    look = calls.last_look(path, calls.made(words, os.path.join(made, "log")))
+    with calls.stopped_at(look, words) as stopped:
         exchange(path, os.path.join(made, "other"))
     return stopped.ended
 
@@ -204,10 +196,89 @@ def moved(folder):
         is_so("%s moved behind a link" % place, got, (0, "".join(ITEMS), ""))
 
 
+TREE = {"p/q": {"v1/content/d/a": b"one", "v1/content/d/b": b"two", "v1/content/e": b"three"}}
+WHOLE = common.sound(TREE)
+FOLDERS = ["p", "p/q", "p/q/v1", "p/q/v1/content", "p/q/v1/content/d"]
+
+
+def becomes_a_link(path, other):
+    os.rename(path, other + "-moved")
+    os.symlink(other, path)
+
+
+def becomes_another(path, other):
+    os.rename(path, other + "-moved")
+    os.rename(other, path)
+
+
+def becomes_a_link_to_itself(path, other):
+    os.rename(path, other + "-moved")
+    os.symlink(other + "-moved", path)
+
+
+def goes_away(path, other):
+    os.rename(path, other + "-moved")
+
+
+def exchanged_folder(made, place, exchange, call):
+    """What comes of a run in which a folder is exchanged right after a call. What lies in the other
+    one has the same names and other bytes."""
+    root, other = made + "/root", made + "/other/" + place
+    make_root(root, TREE)
+    for object_place, files in TREE.items():
+        for path in files:
+            write("%s/other/%s/%s" % (made, object_place, path), b"outside")
+    with calls.stopped_at(call, ["audit", root]) as stopped:
+        exchange(root + "/" + place, other)
+    shutil.rmtree(made)
+    return stopped.ended
+
+
+OUTSIDE = common.digest(b"outside")
+# what may be said of a folder or a file that is gone, or is a link
+GONE = ("S04", "S08", "E092", "E063", "E058", "E023", "E072", "E073", "E024")
+
+
+def false_lines(place, exchange, got):
+    """What a run says that is not so, or that shows what was read outside of the root."""
+    status, out, said = got
+    lines = out.splitlines(keepends=True)
+    false = [it for it in lines if it not in WHOLE and not it.startswith(GONE)]
+    false += [it for it in lines if it.startswith("ok") and it not in WHOLE]
+    if status not in (0, 1, 3) or (status == 3) != said.startswith("ocfl-scrub: stopped at "):
+        false.append("status %s: %s" % (status, said))
+    outside = [it for it in lines if OUTSIDE in it]
+    if exchange is not becomes_another:
+        return false + outside
+    # what lies in the other folder is read as what lies there, and for nothing that was seen
+    front = place + "/"
+    seen = [it for it in lines if it.split("\t")[1].startswith(front) and it.startswith("ok")
+            and "content/" in it]
+    return false + (outside if seen else [])
+
+
+def each_moment(folder):
+    """A folder is exchanged after each call of a run, whatever that is for."""
+    root = make_root(folder + "/moments", TREE)
+    moments = [call for call in calls.made(["audit", root], folder + "/log")
+               if call.path == root or call.path.startswith(root + "/")]
+    is_so("so many moments", len(moments) > 60, True)
+    for exchange in [becomes_a_link, becomes_another, becomes_a_link_to_itself, goes_away]:
+        for place in FOLDERS:
+            false = []
+            for call in moments:
+                got = exchanged_folder(folder + "/moment", place, exchange, call)
+                false += [(call, it) for it in false_lines(place, exchange, got)]
+            name = "%s %s, after each of %d calls" % (
+                place, exchange.__name__.replace("_", " "), len(moments))
+            is_so(name, false, [])
+
+
 def tell(folder):
     moved(folder)
     each_exchange(folder)
     other_devices(folder)
+    each_moment(folder)
 
 
 common.trial(tell, needs=["strace"])

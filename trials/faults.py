@@ -17,6 +17,7 @@ Tried, and what comes of it:
 - Each of these calls interrupted once, and the first of each kind at each place 900 times in a
   row: as without.
 - A read or a listing interrupted for ever: given up: S08, or `stopped at`.
+- What is said beside a stop: the place and the system's words, on a line of their own.
 
 Seen to fail on these faults, each planted alone:
 
@@ -27,6 +28,7 @@ import re
 
 import common
 from common import is_so, line, note, ran, traced
+from shared import calls
 
 BLOCK = 65_536
 OBJECTS = {
@@ -35,13 +37,13 @@ OBJECTS = {
     "h/c": {"v1/content/last": b"last"},
 }
 UNLISTED = "b/v1/content/unlisted"
-CALLS = {"openat", "open", "read", "pread64", "getdents64", "stat", "lstat", "newfstatat", "statx",
-         "fstat"}
 # A listing that answers ENOENT counts as ended, which is how the C library takes it.
 ERRORS = {"openat": ["EIO", "EACCES", "EMFILE", "ENOMEM", "ENOENT"],
           "read": ["EIO", "ENOMEM", "EISDIR"],
           "getdents64": ["EIO", "EACCES", "ENOMEM", "ENOTDIR"]}
-LOOKS = {"stat", "lstat", "newfstatat", "statx", "fstat"}
+# how often an interrupted call is made
+TRIES = 1000
+WORDS_OF_ENOTDIR = "Not a directory (os error 20)"
 
 
 class Audit:
@@ -58,12 +60,37 @@ class Audit:
         at = [item.split("\t")[1] for item in self.items].index("b/v1/content/whole")
         self.items.insert(at, line("E023", UNLISTED))
         self.cost = sum(self.sizes.values()) + len(self.sizes)
+        # those of a run in which nothing fails
+        self.all_calls = []
 
-    def fails(self, rule, path):
-        """A run from the beginning in which a call on this path fails."""
+    def fails(self, call, error, count=1):
+        """A run from the beginning in which a call fails, and so many of its name with it."""
+        self.begin()
+        return traced(call.rule("error=" + error, count), self.run)
+
+    def begin(self):
         if os.path.exists(self.file):
             os.remove(self.file)
-        return traced([*calls_on(path), "-e", rule], self.run)
+
+    def calls(self, log):
+        """The calls of a run from the beginning on the root and on all in it."""
+        self.begin()
+        return [it for it in calls.made(self.run, log) if self.place_of(it) is not None]
+
+    def on(self, place, name):
+        """Those of all calls that have this name and are on this place."""
+        return [it for it in self.all_calls if it.name == name and self.place_of(it) == place]
+
+    def blocks_before(self, call):
+        """How many reads of its file there were before a read."""
+        reads = [it.number for it in self.all_calls if it[::2] == call[::2]]
+        return reads.index(call.number)
+
+    def place_of(self, call):
+        """The place that a call is about, as far as it is one of the root."""
+        if call.path != self.root and not call.path.startswith(self.root + "/"):
+            return None
+        return os.path.relpath(call.path, self.root)
 
     def before(self, place):
         """The items in front of a place."""
@@ -83,7 +110,10 @@ class Audit:
         is_so(name, got, (1, "".join(items), self.summary(self.sizes[place] - given)))
 
     def is_stopped(self, name, got, place, said=None):
-        """A stop there, after the items before it (an object's own files are its head's)."""
+        """A stop there, after the items before it (an object's own files are its head's); beside it
+        the system's words."""
+        has_words = common.reason is not None
+        is_so(name + ": the reason", has_words, said is None)
         head, last = os.path.split(place)
         front = head or "." if last.startswith(("0=", "inventory.json")) else place
         said = note(said or "stopped at " + place)
@@ -102,7 +132,10 @@ class Audit:
         status, out, said = got
         if status == 3:
             at = re.fullmatch(r"ocfl-scrub: stopped at (.*)\n", said)
-            is_near = bool(at) and (near(at[1], place) and at[1] not in self.sizes)
+            # on the way from one directory to another, the latter is what is told
+            above = os.path.dirname(at[1]) if at else ""
+            is_near = bool(at) and at[1] not in self.sizes and (
+                near(at[1], place) or bool(above) and near(above, place))
             is_so(name + ": where", (said, is_near), (said, True))
             is_so(name + ": whole items", "".join(self.items).startswith(out), True)
             self.goes_on(name, out)
@@ -111,11 +144,6 @@ class Audit:
             is_so(name + ": one unread file", (status, len(unread)), (1, 1))
             is_so(name + ": where", [near(place, it) for it in unread], [True])
             self.is_unread(name, got, unread[0], 0)
-
-
-def calls_on(path):
-    """What has strace see the calls on a path alone; directories are opened with a final slash."""
-    return ["-P", path, "-P", path + "/"] if os.path.isdir(path) else ["-P", path]
 
 
 def names_of(item):
@@ -129,38 +157,17 @@ def near(one, other):
         other + "/").startswith(one + "/")
 
 
-def places_of(root):
-    """All files and directories of the root."""
-    found = ["."]
-    for at, folders, files in os.walk(root):
-        found += [os.path.relpath(os.path.join(at, name), root) for name in folders + files]
-    return sorted(found)
-
-
-def calls_of(audit, path, log):
-    """How often each call is made on a path."""
-    if os.path.exists(audit.file):
-        os.remove(audit.file)
-    traced(calls_on(path), audit.run, log)
-    counts = {}
-    for text in common.read(log).decode(errors="replace").splitlines():
-        call = text.split("(")[0]
-        if call in CALLS:
-            counts[call] = counts.get(call, 0) + 1
-    return counts
-
-
-def error_at(audit, place, call, error, when):
+def error_at(audit, call, error, count=1):
     """One fault, and what has to come of it."""
-    path = audit.root if place == "." else os.path.join(audit.root, place)
-    name = "%s of %s %s on %s" % (error, call, when, place)
-    got = audit.fails("inject=%s:error=%s:when=%s" % (call, error, when), path)
-    if call in LOOKS:
+    place = audit.place_of(call)
+    name = "%s of %s %s on %s" % (error, call.name, call.number, place)
+    got = audit.fails(call, error, count)
+    if call.name in (*calls.LOOKS, "chdir"):
         audit.stops_or_is_unread(name, got, place)
-    elif error == "ENOMEM" and call != "read":
+    elif error == "ENOMEM" and call.name != "read":
         audit.is_stopped(name, got, place, "out of memory")
     elif place in audit.sizes:
-        given = (int(when.rstrip("+")) - 1) * BLOCK if call == "read" else 0
+        given = audit.blocks_before(call) * BLOCK if call.name == "read" else 0
         audit.is_unread(name, got, place, min(given, audit.sizes[place]))
     else:
         audit.is_stopped(name, got, place)
@@ -169,36 +176,44 @@ def error_at(audit, place, call, error, when):
 def each_call(audit, folder):
     """Each call on each place fails once with EIO, and openings and reads with other errors."""
     tried = interruptions = 0
-    for place in places_of(audit.root):
-        path = audit.root if place == "." else os.path.join(audit.root, place)
-        counts = calls_of(audit, path, os.path.join(folder, "log"))
-        for call, count in sorted(counts.items()):
-            errors = ERRORS.get(call, ["EIO"])
-            for number in range(1, count + 1):
-                for error in errors:
-                    error_at(audit, place, call, error, str(number))
-                    tried += 1
-                interruptions += interrupted(audit, place, path, call, number)
+    begun = set()
+    for call in audit.all_calls:
+        if call.name == "close":
+            continue
+        for error in ERRORS.get(call.name, ["EIO"]):
+            error_at(audit, call, error)
+            tried += 1
+        first = (call.name, call.path) not in begun
+        begun.add((call.name, call.path))
+        interruptions += interrupted(audit, call, first)
     print("faults.py: %d errors of calls, %d interruptions" % (tried, interruptions))
     is_so("openings and reads of all files are among them", tried > 300, True)
 
 
-def interrupted(audit, place, path, call, number):
+def interrupted(audit, call, first):
     """Interrupted once, and 900 times in a row, a call is made again; gives how many it tried."""
-    whens = [str(number)] + ["1..900"] * (number == 1)
-    for when in whens:
-        name = "EINTR of %s %s on %s" % (call, when, place)
-        audit.is_untouched(name, audit.fails("inject=%s:error=EINTR:when=%s" % (call, when), path))
-    return len(whens)
+    counts = [1, 900] if first else [1]
+    for count in counts:
+        name = "EINTR of %s %s on %s, %d times" % (call.name, call.number, call.path, count)
+        audit.is_untouched(name, audit.fails(call, "EINTR", count))
+    return len(counts)
 
 
 def always_interrupted(audit):
     """A read that is interrupted for ever is given up."""
     for place in ["a/v1/content/one", "b/v1/content/blocks", "a/inventory.json", "0=ocfl_1.1"]:
-        error_at(audit, place, "read", "EINTR", "1+")
-    error_at(audit, "b/v1/content/blocks", "read", "EINTR", "2+")
+        error_at(audit, audit.on(place, "read")[0], "EINTR", TRIES)
+    error_at(audit, audit.on("b/v1/content/blocks", "read")[1], "EINTR", TRIES)
     for place in [".", "a", "a/v2/content/deep"]:
-        error_at(audit, place, "getdents64", "EINTR", "1+")
+        error_at(audit, audit.on(place, "getdents64")[0], "EINTR", TRIES)
+
+
+def says_why(audit):
+    """Beside a stop stands a line with the place and the system's words."""
+    for place, words in [("a/v1", "Permission denied (os error 13)"), (".", WORDS_OF_ENOTDIR)]:
+        error = "EACCES" if place == "a/v1" else "ENOTDIR"
+        audit.fails(audit.on(place, "getdents64")[0], error)
+        is_so("why it stopped at %s" % place, common.reason, words)
 
 
 def separators_fail(audit, folder):
@@ -209,7 +224,7 @@ def separators_fail(audit, folder):
     for error, said in [("ENOMEM", "out of memory"), ("EACCES", "parts file failed"),
                         ("EIO", "parts file failed")]:
         rule = "inject=openat:error=%s:when=1" % error
-        is_so("separators with " + error, traced([*calls_on(parts), "-e", rule], words),
+        is_so("separators with " + error, traced(["-P", parts, "-e", rule], words),
               (3, "", note(said)))
 
 
@@ -217,8 +232,10 @@ def tell(folder):
     audit = Audit(folder)
     before = common.snapshot(audit.root)
     audit.is_untouched("without a fault", ran(audit.run))
+    audit.all_calls = audit.calls(os.path.join(folder, "log"))
     each_call(audit, folder)
     always_interrupted(audit)
+    says_why(audit)
     separators_fail(audit, folder)
     is_so("nothing was written below the root", common.snapshot(audit.root), before)
 

@@ -15,7 +15,8 @@ Tried, and what comes of it:
   object, a version or its content: the lines of a file or directory that is not there.
 - Names with each character of ASCII, of 255 bytes, and with leading dots; names that are not
   UTF-8: read as others; `stopped at` their directory.
-- Whole paths of 4,094 to 4,097 bytes: read up to 4,095; beyond, `stopped at` their directory.
+- Whole paths of 4,094 to 4,097 bytes, and some of the longest that there are, of more than 31,000
+  bytes and 94,000 characters in a report: audited, checked and resumed as others.
 - Directories at depths 127 to 130, in content and in the hierarchy: S05 at depth 128.
 - An inventory of 300 keys and 300 other members, 300 runs over it, 300 objects, a path of 126
   elements: as others.
@@ -34,6 +35,7 @@ import stat
 
 import common
 from common import digest, expect, is_so, line, make_object, make_root, put_inventory, ran, write
+from shared import calls
 
 ABC = {"v1/content/f": b"abc"}
 OK = [line("ok", "."), line("ok", "o"), line("ok", "o/v1/content/f", 3)]
@@ -203,39 +205,47 @@ def names(folder):
 
 
 def long_paths(folder):
-    """A whole path of 4,095 bytes is read; a directory with a longer one in it stops the audit."""
-    for name, sizes, end in [("fit", [-1, 0], None), ("too long", [0, 1], 3), ("all", [2], 3)]:
-        root = make_root(os.path.join(folder, "long", name), {"o": ABC})
-        path, room, here = long_way(root)
-        listed = {}
-        for size in sizes:
-            short = "s" * (room + size)
-            file = os.open(short, os.O_CREAT | os.O_WRONLY, 0o600, dir_fd=here)
-            os.write(file, b"abc")
-            os.close(file)
-            listed[path + "/" + short] = b"abc"
-        os.close(here)
-        make_object(os.path.join(root, "o"), {}, {**ABC, **listed})
-        if end is None:
-            items = [line("ok", "o/" + it, 3) for it in listed]
-            audits("paths that " + name, root, OK + items)
-        else:
-            audits("paths: " + name, root, OK, "stopped at o/" + path, end)
+    """Whole paths of 4,094 to 4,097 bytes, and the longest that there are: 127 names on the way, of
+    255 bytes each, which reports write with three characters for each."""
+    root = os.path.join(folder, "long", "as the system takes")
+    room = 4095 - len(root) - len("/o/v1/content/") - 1
+    way = ["n" * 200] * ((room - 10) // 201)
+    room -= 201 * len(way)
+    reads_all(root, way, ["s" * (room + size) for size in [0, 1, 2, 3]])
+    root = os.path.join(folder, "long", "as names allow")
+    reads_all(root, ["\u00e9" * 127 + "e"] * 123, ["\u00e9" * 127 + it for it in "ef"])
+    reads_all(os.path.join(folder, "long", "in ASCII"), ["n" * 255] * 123, ["s" * 255, "t"])
 
 
-def long_way(root):
-    """Makes directories, and gives their path, the bytes left for a name, and the last, open."""
+def reads_all(root, way, names):
+    """Files of these names behind these directories are audited, listed, checked and resumed."""
+    make_root(root, {"o": ABC})
     here = os.open(os.path.join(root, "o/v1/content"), os.O_RDONLY)
-    path = "v1/content"
-    room = 4095 - len(root) - len("/o/") - len(path) - 1
-    while room > 100:
-        name = "n" * min(200, room - 101)
-        path, room = path + "/" + name, room - len(name) - 1
+    for name in way:
         os.mkdir(name, dir_fd=here)
-        inner = os.open(name, os.O_RDONLY, dir_fd=here)
-        os.close(here)
-        here = inner
-    return path, room, here
+        here, above = os.open(name, os.O_RDONLY, dir_fd=here), here
+        os.close(above)
+    for name in [*names, "unlisted"]:
+        file = os.open(name, os.O_CREAT | os.O_WRONLY, 0o600, dir_fd=here)
+        os.write(file, b"abc")
+        os.close(file)
+    os.close(here)
+    front = "/".join(["v1/content", *way])
+    listed = {"%s/%s" % (front, name): b"abc" for name in names}
+    make_object(os.path.join(root, "o"), {}, {**ABC, **listed})
+    lines = {}
+    for name in sorted([*names, "unlisted"], key=os.fsencode):
+        place = "o/" + "/".join(map(escaped, [*front.split("/"), name]))
+        lines[place] = line("E023", place) if name == "unlisted" else line("ok", place, 3)
+    kind = os.path.basename(root)
+    print("hostile.py: paths of %d bytes, of up to %d in a report" % (
+        len(os.fsencode("/".join([root, "o", front, names[0]]))), max(map(len, lines))))
+    audits("paths " + kind, root, OK + list(lines.values()))
+    for place, item in lines.items():
+        status = 0 if item.startswith("ok") else 1
+        expect("a check of a path " + kind, ["check", root, place], status, [item], None)
+    run = ["run", "--cursor", root + "-cursor", "--budget", "1", root]
+    is_so("runs over paths " + kind, "".join(common.nights(run)), "".join([*OK, *lines.values()]))
 
 
 def deep(folder):
@@ -312,7 +322,9 @@ def changing(folder):
     ]:
         root = make_root(os.path.join(folder, name), {"o": {"v1/content/f": data}})
         path = os.path.join(root, "o/v1/content/f")
-        with common.Stopped(["-P", path], "read", ["audit", root]) as stopped:
+        words = ["audit", root]
+        read_first = calls.on(path, calls.made(words, folder + "/log"), ["read"])[0]
+        with calls.stopped_at(read_first, words) as stopped:
             with open(path, "r+b") as file:
                 file.seek(0, os.SEEK_END)
                 change(file)
@@ -329,8 +341,9 @@ def going(folder):
         ("once it is listed", "o/v1/content", "getdents64", 2, 1, unread),
     ]:
         root = make_root(os.path.join(folder, name), {"o": ABC})
-        rules = ["-P", os.path.join(root, where)]
-        with common.Stopped(rules, call, ["audit", root], when) as stopped:
+        words, path = ["audit", root], os.path.join(root, where)
+        at = calls.on(path, calls.made(words, folder + "/log"), [call])[when - 1]
+        with calls.stopped_at(at, words) as stopped:
             os.remove(os.path.join(root, "o/v1/content/f"))
         is_so("a file removed " + name, stopped.ended, (status, "".join(items), ""))
 

@@ -164,9 +164,9 @@ def unmounted(folder: str) -> None:
         case.tried("unmounted after fsync %d" % when, [], "fsync", when)
     for place in ["a/v1/content/2", "b/c/inventory.json", "d/v1/content/3", "e/v1/content/0",
                   "e/0=ocfl_object_1.1"]:
-        path = "%s/%s" % (case.nights.root, place)
-        case.tried("unmounted as %s is opened" % place, ["-P", path], "openat", 1)
-        case.tried("unmounted as %s is read" % place, ["-P", path], "read", 1)
+        for name, word in [("openat", "opened"), ("read", "read")]:
+            call = case.call_on(place, name)
+            case.tried("unmounted as %s is %s" % (place, word), [], name, call.number)
 
 
 def mounted_anew(folder: str) -> None:

@@ -288,13 +288,12 @@ def vanishing_file(folder):
     os.remove(case.file)
     got = ran(case.run)
     is_so("file that is gone begins a cycle", got[:2], (0, "".join(ITEMS[:3])))
-    content = os.path.join(case.root, "o/v1/content/")
-    with common.Stopped(["-P", content + "b"], "openat", case.run) as stopped:
+    with common.Stopped(["-P", "b"], "openat", case.run) as stopped:
         os.remove(case.file)
     is_so("file that vanishes", stopped.ended[:2], (0, ITEMS[3]))
     shown = "cycle 1\nruns 2\nspent 5\nfiles 2\nafter o/v1/content/b\n"
     is_so("file that vanishes: it is stored", shown_cursor(case.file), shown)
-    with common.Stopped(["-P", content + "c"], "openat", case.run) as stopped:
+    with common.Stopped(["-P", "c"], "openat", case.run) as stopped:
         os.rename(case.folder, case.folder + "-gone")
     is_so("folder that vanishes", stopped.ended, (3, ITEMS[4], note("cursor file failed")))
 

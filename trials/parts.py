@@ -28,6 +28,7 @@ from collections import Counter
 
 import common
 from common import digest, expect, is_so, line, make_root, ran, read, traced, write
+from shared import calls
 from shared.damage import DAMAGES, OBJECTS, directories_of, make_damaged
 from shared.kills import Cycle, exact_moments, random_moments
 from shared.places import (begins, lies_in, lines_of, parts_of, path_of, place_of, read_separators,
@@ -290,14 +291,13 @@ def sealed(lines):
 def opened(root, words):
     """What is opened below a root, in its order: the directories, and the files."""
     log = os.path.join(root.folder, "log")
-    status, _, said = traced(["-e", "trace=open,openat", "-e", "signal=none"], words, log)
+    status, _, said = traced([*calls.RULES, "-e", "signal=none"], words, log)
     is_so("%s: traced" % words, (status in (0, 1), said), (True, ""))
     folders, files = [], []
-    for path, flags in re.findall(r'open(?:at)?\([^"]*"([^"]*)", (\S+)', read(log).decode()):
-        if path.startswith(root.root + "/"):
-            below = path[len(root.root) + 1:].rstrip("/")
-            opens = folders if "O_DIRECTORY" in flags else files
-            opens.append(place_of(below or "."))
+    for call in calls.read_calls(log, os.getcwd()):
+        if call.name in calls.OPENS and (call.path + "/").startswith(root.root + "/"):
+            opens = folders if call.folder else files
+            opens.append(place_of(call.path[len(root.root) + 1:] or "."))
     return folders, files
 
 

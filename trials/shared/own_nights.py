@@ -8,6 +8,8 @@ from typing import Any, Callable, Iterable, Iterator, NamedTuple, Optional, Type
 
 import common
 from common import Stopped, is_so, ran
+from shared import calls
+from shared.calls import Call
 from shared.spaces import folder_at, mount, unmount
 
 # Each file costs its bytes and one; an object is a place and its files.
@@ -165,8 +167,15 @@ class Exchanged:
         with folder_at(self.nights.root, self.disk):
             common.traced(["-e", "trace=fsync,openat"], self.nights.words(*self.words),
                           self.folder + "/log")
-        calls = common.read(self.folder + "/log").decode(errors="replace")
-        return calls[:calls.rindex("/0=ocfl_1.1")].count("\nfsync(")
+        text = common.read(self.folder + "/log").decode(errors="replace")
+        return text[:text.rindex('"0=ocfl_1.1"')].count("\nfsync(")
+
+    def call_on(self, place: str, name: str) -> Call:
+        """The first call of this name on a place of the root."""
+        self.nights.again()
+        with folder_at(self.nights.root, self.disk):
+            made = calls.made(self.nights.words(*self.words), self.folder + "/log")
+        return calls.on("%s/%s" % (self.nights.root, place), made, [name])[0]
 
     def tried(self, name: str, rules: list[str], call: str, when: int, other: str = "") -> None:
         self.nights.again()

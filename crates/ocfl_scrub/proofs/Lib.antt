@@ -30,7 +30,11 @@ pub mod WayOrder
 pub mod WayListed
 pub mod Paying
 pub mod PayLaws
+pub mod AlikeLaws
+pub mod LookedLaws
 pub mod RunTurns
+pub mod KeptLaws
+pub mod KeptTurns
 pub mod RunLaws
 pub mod PerformLaws
 pub mod ScopeLaws
@@ -43,6 +47,7 @@ pub mod RecordLaws
 pub mod JoinLaws
 pub mod HeadlineLaws
 pub mod CycleRuns
+pub mod KeptRuns
 pub mod CallsJoined
 pub mod CallsMade
 mod OpeningLaws

@@ -1,9 +1,10 @@
 -- One turn of the loop of a run.
 use Rattle.std.proofs.Common.{◌≡◌, ℕ, ◌+◌, List, refl, sym, ◌∙◌, ap, subst, true, false, Bool, Some, None, Option}
-use Rattle.std.specs.Prelude.{◌||◌, IfSome}
+use Rattle.std.specs.Prelude.{◌≢◌, ◌||◌}
 use Rattle.ocfl_tree.specs.Place.{Place}
 use Rattle.ocfl_tree.specs.StorageRoot.{StorageRoot}
 use Rattle.ocfl_tree.specs.Store.{Store}
+use Rattle.ocfl_audit.specs.Due.{due}
 use Rattle.ocfl_audit.specs.Lines.{is_hashed}
 use Rattle.ocfl_audit.specs.Parts.{Part}
 use Rattle.ocfl_audit.specs.Runs.{Limits, files_of}
@@ -12,25 +13,26 @@ use Rattle.ocfl_cursor.specs.declared.limits.Limits.{Limits as MadeLimits}
 use Rattle.ocfl_walk.specs.Ends.{is_past}
 use Rattle.ocfl_walk.specs.WalkCalls.{GoesDown, FailsOut}
 use Rattle.ocfl_item.specs.Judging.{CostFits}
-use Rattle.ocfl_item.specs.Pending.{IsPending}
-use Rattle.ocfl_walk.specs.Walks.{IsLive, Stands, GivesOut}
-use Rattle.ocfl_item.specs.Ways.{IsWayFault}
+use Rattle.ocfl_walk.specs.Walks.{Stands, GivesOut}
 use Rattle.ocfl_item.specs.declared.fault.Fault.{Fault}
+use Rattle.ocfl_item.specs.declared.fault.Fault.TheVariants.{Output}
 use Rattle.ocfl_item.specs.declared.pending.Pending.{Pending}
 use Rattle.ocfl_walk.specs.declared.walk.Walk.{Walk}
 use Rattle.ocfl_scrub.specs.Call.{call_of}
+use Rattle.ocfl_scrub.specs.Passes.{IsAhead}
 use Rattle.ocfl_scrub.specs.Running.{limits_of, IsPaid, RunsWithin, RunStopsWithin}
 use Rattle.ocfl_scrub.specs.Starting.{end_of, entry, stand}
 use Rattle.ocfl_scrub.specs.Taking.{Takes, Misses}
 use Rattle.ocfl_scrub.specs.Written.{last_of}
+use Rattle.ocfl_scrub.specs.declared.kept.Met.{Met}
 use Rattle.ocfl_scrub.proofs.AuditsJoined.{audits_over}
 use Rattle.ocfl_scrub.proofs.MeterLaws.{paid_item}
 use Rattle.ocfl_scrub.proofs.Paying.{IsWithinBoth, Pays}
-use Rattle.ocfl_scrub.proofs.PayLaws.{pays_none, pays_over, pays_took, pays_missed, pays_lost, pays_up_to, pays_finish}
+use Rattle.ocfl_scrub.proofs.PayLaws.{pays_none, pays_took, pays_missed, pays_lost, pays_up_to, pays_finish}
 use Rattle.ocfl_scrub.proofs.RunLaws.{ended, spent_all, stopped}
 use Rattle.ocfl_scrub.proofs.BetweenLaws.{HasGoneOn, gone_self, gone_next}
-use Rattle.ocfl_scrub.proofs.PassLaws.{passes_none, passes_took, passes_missed, passes_lost, all_done, last_append}
-use Rattle.ocfl_scrub.proofs.LoopLaws.{IsUnderWay, GivesNext, GivesItem, gives_item, walked_over}
+use Rattle.ocfl_scrub.proofs.PassLaws.{passes_none, passes_took, passes_missed, passes_lost, all_done, due_beyond, last_append}
+use Rattle.ocfl_scrub.proofs.LoopLaws.{GivesItem}
 
 -- ---- on every store
 
@@ -50,82 +52,115 @@ charged_item limits m cost charged started hashed e h c may f g = paid_item (lim
 -- ---- on a store that tells its tree
 
 -- from s to t a walk went down to where a run of a part begins, the items from there on were taken
--- and paid for, and the walk stands after the last of them
-pub record HasPaid (root : StorageRoot) (part : Part) (s t : Store) (old new : Option (List ℕ)) (walk : Walk) (from last : Option Place) (l : Limits) (spent files : ℕ) (finding : Bool) : Type 0 where
+-- and paid for, and after the last of them it stood there
+pub record HasPaid (root : StorageRoot) (part : Part) (s t : Store) (old new : Option (List ℕ)) (from last : Option Place) (l : Limits) (spent files : ℕ) (finding : Bool) : Type 0 where
   pub begun : Store
   pub stood : Option Place
   pub down : GoesDown root s begun (entry part from)
-  pub stands : Stands root walk stood
   pub beyond : HasGoneOn (end_of part) (stand root part from) stood
   pub pays : Pays root (end_of part) begun t old new (stand root part from) stood l spent files finding
   pub last_is : last ≡ last_of from pays.passes.done
 
-pub nothing_paid : (root : StorageRoot) (part : Part) (s t : Store) (old : Option (List ℕ)) (walk : Walk) (from : Option Place) (l : Limits) (spent files : ℕ) → spent ≡ 0 → files ≡ 0
-    → GoesDown root s t (entry part from) × Stands root walk (stand root part from) → HasPaid root part s t old old walk from from l spent files false
+-- and the walk stands there still
+pub record HasStood (root : StorageRoot) (part : Part) (s t : Store) (old new : Option (List ℕ)) (walk : Walk) (from last : Option Place) (l : Limits) (spent files : ℕ) (finding : Bool) : Type 0 where
+  pub paid : HasPaid root part s t old new from last l spent files finding
+  pub stands : Stands root walk paid.stood
+
+-- or it has met the next item
+pub record HasMet (root : StorageRoot) (part : Part) (s t : Store) (old new : Option (List ℕ)) (walk : Walk) (q : Pending) (from last : Option Place) (l : Limits) (spent files : ℕ) (finding : Bool) : Type 0 where
+  pub there : Store
+  pub paid : HasPaid root part s there old new from last l spent files finding
+  pub item : GivesItem root (end_of part) there t paid.stood walk q
+
+nothing_paid : (root : StorageRoot) (part : Part) (s t : Store) (old : Option (List ℕ)) (from : Option Place) (l : Limits) (spent files : ℕ) → spent ≡ 0 → files ≡ 0
+    → GoesDown root s t (entry part from) → HasPaid root part s t old old from from l spent files false
 unfolding passes_none pays_none
-nothing_paid root part s t old walk from l spent files e f there = record {
+nothing_paid root part s t old from l spent files e f down = record {
   begun = t;
   stood = stand root part from;
-  down = there.0;
-  stands = there.1;
+  down = down;
   beyond = gone_self (end_of part) (stand root part from);
-  pays = pays_none root (end_of part) t old (stand root part from) l spent files (audits_over there.0.audits) e f;
+  pays = pays_none root (end_of part) t old (stand root part from) l spent files (audits_over down.audits) e f;
   last_is = refl;
 }
 
+pub stands_first : (root : StorageRoot) (part : Part) (s t : Store) (old : Option (List ℕ)) (walk : Walk) (from : Option Place) (l : Limits)
+    → GoesDown root s t (entry part from) × Stands root walk (stand root part from) → (h : HasStood root part s t old old walk from from l 0 0 false) × (h.paid.stood ≡ stand root part from)
+unfolding nothing_paid passes_none pays_none
+stands_first root part s t old walk from l there = (record { paid = nothing_paid root part s t old from l 0 0 refl refl there.0; stands = there.1 }, refl)
+
+pub met_first : (root : StorageRoot) (part : Part) (s t : Store) (old : Option (List ℕ)) (m : Met) (from : Option Place) (l : Limits) (spent files : ℕ) → spent ≡ 0 → files ≡ 0
+    → IsAhead root part from m s t → HasMet root part s t old old m.walk m.item from from l spent files false
+unfolding nothing_paid passes_none pays_none
+met_first root part s t old m from l spent files e f h = record {
+  there = h.begun;
+  paid = nothing_paid root part s h.begun old from l spent files e f h.down;
+  item = record { gives = h.gives; above = due_beyond root (stand root part from) m.item.place (due root (Some m.item.place)) h.gives.3; in_front = h.in_front };
+}
+
 module _ {root : StorageRoot} {s t : Store} {old mid : Option (List ℕ)} {walk : Walk} {from last : Option Place} {l : Limits} {spent files : ℕ} {finding : Bool} (part : Part)
-    (way : IsUnderWay walk old mid finding) (h : HasPaid root part s t old mid walk from last l spent files finding) (u : Store) where
-  module _ {o : Option Pending} (next : Walk) (gave : GivesNext root (end_of part) t u walk next o) where
-    -- nothing is left before the end
-    pub run_ended : o ≡ None → RunsWithin (call_of root s u old mid) part from last l spent files finding None
-    run_ended is =
-        let gives : GivesOut root t u h.stood (end_of part) next None = subst (GivesOut root t u h.stood (end_of part) next) is (gave (pays_over h.pays) way.live h.stood h.stands) in
-        let all = all_done root (end_of part) h.begun t u old mid (stand root part from) h.stood finding h.beyond h.pays.passes gives.1 in
-        ended root part s h.begun u old mid from h.stood last l spent files finding h.down
-        (pays_finish root (end_of part) h.begun t u old mid (stand root part from) h.stood l spent files finding h.beyond h.pays gives.0 gives.1) (h.last_is ∙ ap (last_of from) all)
-
-    module _ {q : Pending} (is : o ≡ Some q) (before : IfSome o (λ p. is_past (end_of part) p.place ≡ false)) where
-      item : GivesItem root (end_of part) t u h.stood next q
-      item = gives_item root (end_of part) t u walk next h.stood _ _ gave (pays_over h.pays) way.live h.stands is before
-
-      hashed_too : {P : Type 0} → (q.hashed ≡ true → P) → is_hashed root q.place ≡ true → P
-      hashed_too f e = f (item.gives.2.hashed ∙ e)
-
-      pub run_spent : q.hashed ≡ true → (IsWithinBoth l spent files → ⊥) → (p : Place) × RunsWithin (call_of root s u old mid) part from last l spent files finding (Some p)
-      unfolding pays_up_to
-      run_spent e k =
-          let up_to = pays_up_to root (end_of part) h.begun t u old mid (stand root part from) h.stood l spent files finding h.beyond h.pays q.place
-          item.above item.gives.3 item.in_front item.gives.0 (sym item.gives.2.hashed ∙ e) k in
-          (up_to.next, spent_all root part s h.begun u old mid from h.stood last l spent files finding h.down up_to h.last_is)
-
-      module _ (may : q.hashed ≡ true → IsWithinBoth l spent files) (v : Store) (new : Option (List ℕ)) where
-        pub run_took : (place : Place) (cost charged started : ℕ) (more either : Bool) → place ≡ q.place → charged ≡ spent + cost → started ≡ files + files_of cost → either ≡ (finding || more)
-            → (u.tree ≡ root → IsPending root q → Takes (call_of root u v mid new) q.place cost more) → HasPaid root part s v old new next from (Some place) l charged started either
-        unfolding passes_took pays_took
-        run_took place cost charged started more either e f g i takes = subst (λ p. HasPaid root part s v old new next from (Some p) l charged started either) (sym e) (record {
-          begun = h.begun;
-          stood = Some q.place;
-          down = h.down;
-          stands = item.gives.1;
-          beyond = gone_next (end_of part) (stand root part from) h.stood q.place h.beyond item.above item.in_front;
-          pays = pays_took root (end_of part) h.begun t u old mid (stand root part from) h.stood l spent files finding h.beyond h.pays q.place item.above
-              item.gives.3 item.in_front item.gives.0 v new (hashed_too may) cost charged started more either
-              (takes (walked_over item.gives.0) item.gives.2) f g i;
-          last_is = sym (last_append from h.pays.passes.done q.place);
-        })
-
-        pub run_missed : (why : Fault) → (u.tree ≡ root → IsPending root q → Misses (call_of root u v mid new) q.place why)
-            → RunStopsWithin (call_of root s v old new) part from last l spent files finding why
-        unfolding passes_missed pays_missed
-        run_missed why misses = stopped root part s h.begun v old new from h.stood last l spent files finding h.down why
-            (pays_missed root (end_of part) h.begun t u old mid (stand root part from) h.stood l spent files finding h.beyond h.pays q.place item.above
-            item.gives.3 item.in_front item.gives.0 v new (hashed_too may) why (misses (walked_over item.gives.0) item.gives.2))
-            h.last_is
+    (h : HasStood root part s t old mid walk from last l spent files finding) (u : Store) where
+  -- nothing is left before the end
+  pub run_ended : (next : Walk) → GivesOut root t u h.paid.stood (end_of part) next None → RunsWithin (call_of root s u old mid) part from last l spent files finding None
+  run_ended next gives =
+      let k = h.paid in
+      let all = all_done root (end_of part) k.begun t u old mid (stand root part from) k.stood finding k.beyond k.pays.passes gives.1 in
+      ended root part s k.begun u old mid from k.stood last l spent files finding k.down
+      (pays_finish root (end_of part) k.begun t u old mid (stand root part from) k.stood l spent files finding k.beyond k.pays gives.0 gives.1) (k.last_is ∙ ap (last_of from) all)
 
   -- the walk did not get to its next item
-  pub run_lost : (why : Fault) → (IsLive walk → IsWayFault why) → (t.tree ≡ root → IsLive walk → (p : Option Place) → Stands root walk p → FailsOut root t u p (end_of part) why)
-      → RunStopsWithin (call_of root s u old mid) part from last l spent files finding why
+  pub run_lost : (why : Fault) → why ≢ Output → FailsOut root t u h.paid.stood (end_of part) why → RunStopsWithin (call_of root s u old mid) part from last l spent files finding why
   unfolding passes_lost pays_lost
-  run_lost why only lost = stopped root part s h.begun u old mid from h.stood last l spent files finding h.down why
-      (pays_lost root (end_of part) h.begun t u old mid (stand root part from) h.stood l spent files finding h.beyond h.pays why (only way.live).0
-      (lost (pays_over h.pays) way.live h.stood h.stands)) h.last_is
+  run_lost why other lost =
+      let k = h.paid in
+      stopped root part s k.begun u old mid from k.stood last l spent files finding k.down why
+      (pays_lost root (end_of part) k.begun t u old mid (stand root part from) k.stood l spent files finding k.beyond k.pays why other lost) k.last_is
+
+  pub run_meets : (next : Walk) (q : Pending) → GivesOut root t u h.paid.stood (end_of part) next (Some q) → is_past (end_of part) q.place ≡ false
+      → HasMet root part s u old mid next q from last l spent files finding
+  run_meets next q gives before = record {
+    there = t;
+    paid = h.paid;
+    item = record { gives = gives; above = due_beyond root h.paid.stood q.place (due root (Some q.place)) gives.3; in_front = before };
+  }
+
+module _ {root : StorageRoot} {s u : Store} {old mid : Option (List ℕ)} {walk : Walk} {q : Pending} {from last : Option Place} {l : Limits} {spent files : ℕ} {finding : Bool} (part : Part)
+    (h : HasMet root part s u old mid walk q from last l spent files finding) where
+  hashed_too : {P : Type 0} → (q.hashed ≡ true → P) → is_hashed root q.place ≡ true → P
+  hashed_too f e = f (h.item.gives.2.hashed ∙ e)
+
+  pub run_spent : q.hashed ≡ true → (IsWithinBoth l spent files → ⊥) → (p : Place) × RunsWithin (call_of root s u old mid) part from last l spent files finding (Some p)
+  unfolding pays_up_to
+  run_spent e f =
+      let k = h.paid in
+      let up_to = pays_up_to root (end_of part) k.begun h.there u old mid (stand root part from) k.stood l spent files finding k.beyond k.pays q.place
+      h.item.above h.item.gives.3 h.item.in_front h.item.gives.0 (sym h.item.gives.2.hashed ∙ e) f in
+      (up_to.next, spent_all root part s k.begun u old mid from k.stood last l spent files finding k.down up_to k.last_is)
+
+  module _ (may : q.hashed ≡ true → IsWithinBoth l spent files) (v : Store) (new : Option (List ℕ)) where
+    pub run_took : (place : Place) (cost charged started : ℕ) (more either : Bool) → place ≡ q.place → charged ≡ spent + cost → started ≡ files + files_of cost → either ≡ (finding || more)
+        → Takes (call_of root u v mid new) q.place cost more → HasStood root part s v old new walk from (Some place) l charged started either
+    unfolding passes_took pays_took
+    run_took place cost charged started more either e f g i takes =
+        let k = h.paid in
+        subst (λ p. HasStood root part s v old new walk from (Some p) l charged started either) (sym e) (record {
+          paid = record {
+            begun = k.begun;
+            stood = Some q.place;
+            down = k.down;
+            beyond = gone_next (end_of part) (stand root part from) k.stood q.place k.beyond h.item.above h.item.in_front;
+            pays = pays_took root (end_of part) k.begun h.there u old mid (stand root part from) k.stood l spent files finding k.beyond k.pays q.place h.item.above
+                h.item.gives.3 h.item.in_front h.item.gives.0 v new (hashed_too may) cost charged started more either takes f g i;
+            last_is = sym (last_append from k.pays.passes.done q.place);
+          };
+          stands = h.item.gives.1;
+        })
+
+    pub run_missed : (why : Fault) → Misses (call_of root u v mid new) q.place why → RunStopsWithin (call_of root s v old new) part from last l spent files finding why
+    unfolding passes_missed pays_missed
+    run_missed why misses =
+        let k = h.paid in
+        stopped root part s k.begun v old new from k.stood last l spent files finding k.down why
+        (pays_missed root (end_of part) k.begun h.there u old mid (stand root part from) k.stood l spent files finding k.beyond k.pays q.place h.item.above
+        h.item.gives.3 h.item.in_front h.item.gives.0 v new (hashed_too may) why misses)
+        k.last_is

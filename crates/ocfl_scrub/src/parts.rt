@@ -27,6 +27,7 @@ ghost use Rattle.ocfl_scrub.specs.Running.{RunEnds, RunEndsWithin, RunsFromWithi
 ghost use Rattle.ocfl_scrub.specs.Joining.{AreOneCycle, AreRuns, IsPartCycle, IsWholeCycle};
 ghost use Rattle.ocfl_scrub.specs.Joining.{PartCycle, PartRun, Ran, cursor_after, left_by};
 ghost use Rattle.ocfl_scrub.specs.Joining.{opened_by, reports_of, unread_together, unstopped};
+ghost use Rattle.ocfl_scrub.specs.Keeping.{RunsOn};
 ghost use Rattle.ocfl_scrub.specs.WholeAudit.{AuditEnds, AuditEndsWithin};
 ghost use Rattle.ocfl_scrub.specs.declared.checking.End.{End};
 ghost use Rattle.ocfl_scrub.specs.declared.cycling.CycleEnd.{CycleEnd};
@@ -118,6 +119,16 @@ pub fn each_run_has_a_report()
     ensures { (root : StorageRoot) (s t : Store) (old new : Text) (part : Part) (c : Cursor)
         (limits : Limits) (ran : RunEnd)
         → RunsFromWithin (known_call root s t old new) part c limits ran → (r : PartRun)
+        × ((cut : Text) × ((r.limits ≡ limits) × ((r.ran ≡ ran)
+        × ((new ≡ old ++ (r.report ++ cut)) × ((ran.end ≢ run.Stopped fault.Output → cut ≡ [])
+        × Ran root part c r))))) }
+{}
+
+/// So has a run that goes on with the walk of the run before it, by what `run_on` says of it.
+pub fn each_run_that_goes_on_has_a_report()
+    ensures { (root : StorageRoot) (s t : Store) (old new : Text) (part : Part)
+        (met : Option Place) (c : Cursor) (limits : Limits) (ran : RunEnd)
+        → RunsOn (known_call root s t old new) part met c limits ran → (r : PartRun)
         × ((cut : Text) × ((r.limits ≡ limits) × ((r.ran ≡ ran)
         × ((new ≡ old ++ (r.report ++ cut)) × ((ran.end ≢ run.Stopped fault.Output → cut ≡ [])
         × Ran root part c r))))) }

@@ -1,17 +1,21 @@
 //! One run: the items of a part above the cursor's place, as far as the limits allow.
-ghost use Rattle.std.specs.Prelude.{◌≡◌, ◌≢◌, ◌≤◌, ◌^◌, true, false};
+ghost use Rattle.std.specs.Prelude.{◌≡◌, ◌≢◌, ◌≤◌, ◌^◌, true, false, None, Some};
 ghost use Rattle.std.specs.Prelude.{IfErr, IfOk};
 ghost use Rattle.ocfl_cursor.specs.Cursor.{IsShortPlace};
 ghost use Rattle.ocfl_cursor.specs.Meter.{IsMeter, MayStart};
 ghost use Rattle.ocfl_cursor.specs.State.{state_of};
+ghost use Rattle.ocfl_tree.specs.Place.{Place as Spot};
 ghost use Rattle.ocfl_scrub.specs.Call.{IsUnfailing, WhereTold};
+ghost use Rattle.ocfl_scrub.specs.Keeping.{IsReady, IsReadyIn, RunsOn, met_at, met_in};
+ghost use Rattle.ocfl_scrub.specs.Passes.{IsPass, PassesOn, PassesWith};
 ghost use Rattle.ocfl_scrub.specs.Taking.{WritesLines};
 ghost use Rattle.ocfl_scrub.specs.Beginning.{Begins, IsShort};
-ghost use Rattle.ocfl_scrub.specs.Running.{IsPaid, IsWorn, RunEndsWithin, RunsCleanly};
+ghost use Rattle.ocfl_scrub.specs.Running.{IsWorn, RunEndsWithin, RunsCleanly, place_in};
 ghost use Rattle.ocfl_scrub.specs.Running.{RunsCleanlyWithin, RunsFrom, RunsFromWithin};
 ghost use Rattle.ocfl_scrub.specs.Running.{RunsOnAnyStore, limits_of, state_after};
 ghost use Rattle.ocfl_scrub.specs.Starting.{part_of};
 
+use crate::kept::{KeptWalk, Met};
 use crate::part::{Part, set_out};
 use crate::taking::{either, take_item};
 use ocfl_cursor::{Cursor, Limits, Meter, State};
@@ -104,6 +108,45 @@ pub fn run_part<T: Tree, W: Write>(
         (λ call. IsUnfailing call → RunsCleanlyWithin call (part_of part.now) cursor
         (limits_of limits) result.spent result.files result.found result.end) }
 {
+    let mut kept = KeptWalk::none();
+    run_on(alloc, store, part, &mut kept, cursor, limits, block, out)
+}
+
+/// Does what [`run_part`] does, and keeps the walk for the next run of the part.
+///
+/// If the limits ended the run before from whose cursor this one goes on, it goes on with that
+/// run's walk: it lists no directory and reads no inventory on the way down to where it begins,
+/// nor any that was listed or read before. After a run that ended, stopped or was not made no walk
+/// is kept, and the next one begins a walk.
+pub fn run_on<T: Tree, W: Write>(
+    alloc: Global,
+    store: &mut T,
+    part: &Part,
+    kept: &mut KeptWalk,
+    cursor: Cursor,
+    limits: Limits,
+    block: &mut Block,
+    out: &mut W,
+) -> RunEnd
+    ensures any_store { RunsOnAnyStore W.contents store.old store.new out.old out.new
+        cursor limits result }
+    ensures told { WhereTold T.told T.state W.contents store.old store.new out.old out.new (λ call.
+        result.end ≢ RunStatus.Worn
+        → IsReady call.root (part_of part.now) (place_in cursor.state) kept.old
+        → RunsOn call (part_of part.now) (met_at kept.old) cursor (limits_of limits) result) }
+
+    ensures root { WhereTold T.told T.state W.contents store.old store.new out.old out.new (λ call.
+        IsReady call.root (part_of part.now) (place_in cursor.state) kept.old
+        → call.after.tree ≡ call.root) }
+
+    // The next run may go on with what is kept, and the walk is kept just where limits ended it.
+    ensures ready { WhereTold T.told T.state W.contents store.old store.new out.old out.new (λ call.
+        IsReady call.root (part_of part.now) (place_in cursor.state) kept.old
+        → IsReady call.root (part_of part.now) (place_in result.cursor.state) kept.new) }
+    ensures spent { result.end ≡ RunStatus.Spent → (p : Spot) × (met_at kept.new ≡ Some p) }
+    ensures unspent { result.end ≢ RunStatus.Spent → kept.new.met ≡ None }
+{
+    let met = kept.met.take();
     let (start, from) = match begin(cursor) {
         Ok(begun) => begun,
         Err(worn) => {
@@ -122,7 +165,9 @@ pub fn run_part<T: Tree, W: Write>(
         files,
         found,
         end,
-    } = pass_from(alloc, store, part, from, limits, block, out);
+        met,
+    } = make_pass(alloc, store, part, met, from, limits, block, out);
+    kept.met = met;
     let left = left_state(&end, last);
     match start.after_run(spent, files, left) {
         Some(cursor) => RunEnd {
@@ -183,9 +228,35 @@ struct Pass {
     files: u64,
     found: bool,
     end: RunStatus,
+    // The walk, and the item that the limits did not allow to start.
+    met: Option<Met>,
 }
 
-// Takes the items of a part above a place, as far as the limits allow.
+// Takes the items of a part above a place, as far as the limits allow, by the walk that met the
+// first of them, or by one that begins there.
+fn make_pass<T: Tree, W: Write>(
+    alloc: Global,
+    store: &mut T,
+    part: &Part,
+    met: Option<Met>,
+    from: Option<Place>,
+    limits: Limits,
+    block: &mut Block,
+    out: &mut W,
+) -> Pass
+    requires short { IsShort from }
+    ensures any_store { IsPass (W.contents out.old) (W.contents out.new) limits result }
+    ensures told { WhereTold T.told T.state W.contents store.old store.new out.old out.new (λ call.
+        IsReadyIn call.root (part_of part.now) from met
+        → PassesWith call (part_of part.now) (met_in met) from (limits_of limits) result) }
+{
+    match met {
+        Some(met) => pass_on(alloc, store, part, met, from, limits, block, out),
+        None => pass_from(alloc, store, part, from, limits, block, out),
+    }
+}
+
+// The same by a walk that begins there.
 fn pass_from<T: Tree, W: Write>(
     alloc: Global,
     store: &mut T,
@@ -196,44 +267,65 @@ fn pass_from<T: Tree, W: Write>(
     out: &mut W,
 ) -> Pass
     requires short { IsShort from }
-    ensures whole { result.end ≢ RunStatus.Stopped Fault.Broken }
-    ensures works { result.end ≢ RunStatus.Worn }
-    ensures short { IsShort result.last }
-    ensures paid { IsPaid (limits_of limits) result.spent result.files }
-    ensures fits { result.spent ≤ 2 ^ 63 }
-    ensures lines { result.end ≢ RunStatus.Stopped Fault.Output
-        → WritesLines (W.contents out.old) (W.contents out.new) result.found }
+    ensures any_store { IsPass (W.contents out.old) (W.contents out.new) limits result }
     ensures told { WhereTold T.told T.state W.contents store.old store.new out.old out.new (λ call.
-        RunEndsWithin call (part_of part.now) from result.last
-        (limits_of limits) result.spent result.files result.found result.end) }
+        PassesWith call (part_of part.now) None from (limits_of limits) result) }
 {
-    let mut meter = Meter::new(limits);
     let mut walk = match set_out(alloc, store, part, from.as_ref()) {
         Ok(walk) => walk,
-        Err(why) => return pass_end(&meter, from, false, RunStatus::Stopped(why)),
+        Err(why) => return no_pass(from, RunStatus::Stopped(why)),
     };
+    match walk.next_within(store, &part.end) {
+        Ok(Some(item)) => {
+            let met = Met { walk, item };
+            pass_on(alloc, store, part, met, from, limits, block, out)
+        }
+        Ok(None) => no_pass(from, RunStatus::Ended),
+        Err(why) => no_pass(from, RunStatus::Stopped(why)),
+    }
+}
+
+// The same by a walk that met the first of them.
+fn pass_on<T: Tree, W: Write>(
+    alloc: Global,
+    store: &mut T,
+    part: &Part,
+    met: Met,
+    from: Option<Place>,
+    limits: Limits,
+    block: &mut Block,
+    out: &mut W,
+) -> Pass
+    requires short { IsShort from }
+    ensures any_store { IsPass (W.contents out.old) (W.contents out.new) limits result }
+    ensures told { WhereTold T.told T.state W.contents store.old store.new out.old out.new (λ call.
+        PassesOn call (part_of part.now) met from (limits_of limits) result) }
+{
+    let mut walk = met.walk;
+    let mut item = met.item;
+    let mut meter = Meter::new(limits);
     let mut last = from;
     let mut found = false;
-    let end = loop {
-        let pending = match walk.next_within(store, &part.end) {
-            Ok(Some(pending)) => pending,
-            Ok(None) => break RunStatus::Ended,
-            Err(why) => break RunStatus::Stopped(why),
-        };
-        let paid = pays(&meter, &pending);
+    let (end, met) = loop {
+        let paid = pays(&meter, &item);
         if !paid {
-            break RunStatus::Spent;
+            break (RunStatus::Spent, Some(Met { walk, item }));
         }
-        match take_item(alloc, store, pending, block, out) {
+        match take_item(alloc, store, item, block, out) {
             Ok(taken) => {
                 meter.charge(taken.cost);
                 found = either(found, taken.found);
                 last = Some(taken.place);
             }
-            Err(why) => break RunStatus::Stopped(why),
+            Err(why) => break (RunStatus::Stopped(why), None),
         }
+        item = match walk.next_within(store, &part.end) {
+            Ok(Some(next)) => next,
+            Ok(None) => break (RunStatus::Ended, None),
+            Err(why) => break (RunStatus::Stopped(why), None),
+        };
     };
-    pass_end(&meter, last, found, end)
+    pass_end(&meter, last, found, end, met)
 }
 
 // Whether an item is free, or the limits allow to start it.
@@ -248,12 +340,38 @@ fn pays(meter: &Meter, pending: &Pending) -> bool
     }
 }
 
-fn pass_end(meter: &Meter, last: Option<Place>, found: bool, end: RunStatus) -> Pass
+// The end of a pass that met no item.
+fn no_pass(last: Option<Place>, end: RunStatus) -> Pass
+    ensures last { result.last ≡ last }
+    ensures spent { result.spent ≡ 0 }
+    ensures files { result.files ≡ 0 }
+    ensures found { result.found ≡ false }
+    ensures end { result.end ≡ end }
+    ensures met { result.met ≡ None }
+{
+    Pass {
+        last,
+        spent: 0,
+        files: 0,
+        found: false,
+        end,
+        met: None,
+    }
+}
+
+fn pass_end(
+    meter: &Meter,
+    last: Option<Place>,
+    found: bool,
+    end: RunStatus,
+    met: Option<Met>,
+) -> Pass
     ensures last { result.last ≡ last }
     ensures spent { result.spent ≡ meter.now.spent }
     ensures files { result.files ≡ meter.now.files }
     ensures found { result.found ≡ found }
     ensures end { result.end ≡ end }
+    ensures met { result.met ≡ met }
     ensures bound { IsMeter meter.now }
 {
     Pass {
@@ -262,5 +380,6 @@ fn pass_end(meter: &Meter, last: Option<Place>, found: bool, end: RunStatus) -> 
         files: meter.files(),
         found,
         end,
+        met,
     }
 }

@@ -1,28 +1,25 @@
-use Rattle.std.proofs.Common.{◌≡◌, false, true, rules}
-use Rattle.ocfl_scrub.specs.Running.{limits_of}
+use Rattle.ocfl_scrub.specs.Call.{call_of}
+use Rattle.ocfl_scrub.specs.Running.{limits_of, place_in}
 use Rattle.ocfl_scrub.specs.Starting.{part_of}
-use Rattle.ocfl_scrub.proofs.MeterLaws.{paid_within}
-use Rattle.ocfl_scrub.proofs.RunLaws.{run_counted, runs_from, clean_from}
+use Rattle.ocfl_scrub.proofs.KeptRuns.{begins_so, cleanly_so, ready_none}
 use Rattle.ocfl_scrub.proofs.running.run_part.Goals as goal
-
-pub unreachable-requires : goal.unreachable-requires
-unreachable-requires g c =
-    let b = c.in-Ok.ensures.begins in
-    let p = c.pass_from-last.ensures in
-    let e : false ≡ true = c.in-None.ensures.keeps.1 (run_counted _ _ _ _ _ b.keeps b.room p.fits p.paid c.left_state-left.ensures.short) in
-    cc
-
-pub returns-clause-any_store : goal.returns-clause-any_store
-returns-clause-any_store g c =
-    let overrun = paid_within (limits_of c.args.limits) _ _ c.pass_from-last.ensures.paid in
-    search (rules, overrun)
 
 pub returns-clause-told : goal.returns-clause-told
 returns-clause-told g c told root over short worked =
-    let ran = c.pass_from-last.ensures.told told root over short in
-    runs_from root (part_of c.args.part.now) _ _ _ _ _ _ _ _ _ _ _ _ _ c.in-Ok.ensures.begins ran _ _ c.in-Some.ensures.value c.left_state-left.ensures.state
+    let part = part_of c.args.part.now in
+    let kept = c.none-kept.result in
+    let call = call_of root (g.T.Tree.state c.args.store.now) (g.T.Tree.state c.run_on.new.store) (g.W.Write.contents c.args.out.now) (g.W.Write.contents c.run_on.new.out) in
+    begins_so call part kept c.args.cursor (limits_of c.args.limits) c.run_on.result c.none-kept.ensures
+    (c.run_on.ensures.told told root over short worked (ready_none root part (place_in c.args.cursor.state) kept c.none-kept.ensures))
 
 pub returns-clause-unfailing : goal.returns-clause-unfailing
 returns-clause-unfailing g c told root over short same =
-    let ran = c.pass_from-last.ensures.told told root over short in
-    clean_from root (part_of c.args.part.now) _ _ _ _ _ _ _ _ _ _ _ _ _ c.in-Ok.ensures.begins ran same
+    let part = part_of c.args.part.now in
+    let kept = c.none-kept.result in
+    let s = g.T.Tree.state c.args.store.now in
+    let t = g.T.Tree.state c.run_on.new.store in
+    let old = g.W.Write.contents c.args.out.now in
+    let new = g.W.Write.contents c.run_on.new.out in
+    cleanly_so root part s t old new c.args.cursor (limits_of c.args.limits) c.run_on.result same (λ made.
+    begins_so (call_of root s t old new) part kept c.args.cursor (limits_of c.args.limits) c.run_on.result c.none-kept.ensures
+    (c.run_on.ensures.told told root over short made (ready_none root part (place_in c.args.cursor.state) kept c.none-kept.ensures)))

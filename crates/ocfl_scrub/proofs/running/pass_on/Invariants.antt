@@ -1,23 +1,24 @@
-use Rattle.std.proofs.Common.{◌≡◌}
+use Rattle.std.proofs.Common.{◌≡◌, ◌≤◌, length}
 use Rattle.ocfl_walk.specs.Walks.{walk_size}
 use Rattle.ocfl_scrub.specs.Call.{WhereTold}
 use Rattle.ocfl_scrub.specs.Running.{limits_of, IsPaid}
 use Rattle.ocfl_scrub.specs.Beginning.{IsShort}
 use Rattle.ocfl_scrub.specs.Starting.{part_of}
-use Rattle.ocfl_scrub.proofs.RunTurns.{HasPaid}
+use Rattle.ocfl_scrub.proofs.KeptTurns.{IsOnWay}
 use Rattle.ocfl_scrub.proofs.LoopLaws.{IsUnderWay}
-use Rattle.ocfl_scrub.proofs.running.pass_from.Given as goal
+use Rattle.ocfl_scrub.proofs.running.pass_on.Given as goal
 
-abbrev pub invariant-loop-pending : goal.invariant-loop-pending
-invariant-loop-pending g l = record {
+abbrev pub invariant-loop-alloc : goal.invariant-loop-alloc
+invariant-loop-alloc g l = record {
   way : IsUnderWay l.walk (g.W.Write.contents l.fn.out) (g.W.Write.contents l.out) l.found;
   short : IsShort l.last;
+  near : length l.item.place ≤ 255;
   limits : l.meter.limits ≡ l.fn.limits;
   paid : IsPaid (limits_of l.fn.limits) l.meter.spent l.meter.files;
   told : WhereTold g.T.Tree.told g.T.Tree.state g.W.Write.contents l.fn.store l.store l.fn.out l.out (λ call.
-      HasPaid call.root (part_of l.fn.part) call.before call.after call.old call.new l.walk l.fn.from l.last
+      IsOnWay call.root (part_of l.fn.part) call.before call.after call.old call.new l.fn.met l.walk l.item l.fn.from l.last
       (limits_of l.fn.limits) l.meter.spent l.meter.files l.found);
 }
 
-abbrev pub decreases-loop-pending : goal.decreases-loop-pending
-decreases-loop-pending g l = walk_size l.walk
+abbrev pub decreases-loop-alloc : goal.decreases-loop-alloc
+decreases-loop-alloc g l = walk_size l.walk

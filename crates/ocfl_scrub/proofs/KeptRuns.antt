@@ -1,0 +1,275 @@
+-- A pass with a walk that is kept, or that begins, is a run.
+use Rattle.std.proofs.Common.{◌≡◌, ◌≢◌, ◌⊎◌, inl, inr, ◌^◌, ◌≤◌, ℕ, ◌++◌, List, [], refl, sym, ◌∙◌, ap, subst, true, false, Bool, Some, None, Option}
+use Rattle.std.specs.Prelude.{IfSome}
+use Rattle.ocfl_tree.specs.Place.{Place, Text}
+use Rattle.ocfl_tree.specs.StorageRoot.{StorageRoot}
+use Rattle.ocfl_tree.specs.Store.{Store}
+use Rattle.ocfl_audit.specs.Parts.{Part}
+use Rattle.ocfl_audit.specs.Runs.{Limits}
+use Rattle.ocfl_cursor.specs.Cursor.{Cursor, State}
+use Rattle.ocfl_cursor.specs.Moves.{after_run}
+use Rattle.ocfl_cursor.specs.declared.limits.Limits.{Limits as MadeLimits}
+use Rattle.ocfl_item.specs.Ways.{IsWayFault}
+use Rattle.ocfl_item.specs.declared.fault.Fault.{Fault}
+use Rattle.ocfl_item.specs.declared.fault.Fault.TheVariants as fault
+use Rattle.ocfl_item.specs.declared.pending.Pending.{Pending}
+use Rattle.ocfl_walk.specs.Ends.{is_past}
+use Rattle.ocfl_walk.specs.WalkCalls.{FailsOut, GoDownFails, GoesDown, Walks}
+use Rattle.ocfl_walk.specs.Walks.{GivesOut, IsLive, Stands}
+use Rattle.ocfl_walk.specs.declared.walk.Walk.{Walk}
+use Rattle.ocfl_scrub.specs.Beginning.{Begins, IsShort}
+use Rattle.ocfl_scrub.specs.Call.{Call, call_of, known_call}
+use Rattle.ocfl_scrub.specs.Keeping.{IsMet, IsReady, IsReadyIn, RunsOn, met_at, met_in}
+use Rattle.ocfl_scrub.specs.Passes.{EndsAt, IsAhead, IsPass, PassesFrom, PassesOn, PassesWith}
+use Rattle.ocfl_scrub.specs.Running.{IsPaid, RunEndsWithin, RunsCleanlyWithin, RunsFromWithin, RunsOnAnyStore, begun, limits_of, place_in, state_after}
+use Rattle.ocfl_scrub.specs.Starting.{end_of, entry, stand}
+use Rattle.ocfl_scrub.specs.Taking.{WritesLines}
+use Rattle.ocfl_scrub.specs.declared.kept.KeptWalk.{KeptWalk}
+use Rattle.ocfl_scrub.specs.declared.kept.Met.{Met}
+use Rattle.ocfl_scrub.specs.declared.running.Pass.{Pass}
+use Rattle.ocfl_scrub.specs.declared.running.RunEnd.{RunEnd}
+use Rattle.ocfl_scrub.specs.declared.running.RunStatus.{RunStatus}
+use Rattle.ocfl_scrub.specs.declared.running.RunStatus.TheVariants as status
+use Rattle.ocfl_scrub.proofs.AlikeLaws.{alike_same, alike_tree}
+use Rattle.ocfl_scrub.proofs.AuditsJoined.{audits_over}
+use Rattle.ocfl_scrub.proofs.CycleRuns.{HasReport, has_report}
+use Rattle.ocfl_scrub.proofs.KeptLaws.{ahead_of}
+use Rattle.ocfl_scrub.proofs.KeptTurns.{pass_is, pass_of}
+use Rattle.ocfl_scrub.proofs.LoopLaws.{GivesNext}
+use Rattle.ocfl_scrub.proofs.MeterLaws.{paid_within}
+use Rattle.ocfl_scrub.proofs.RunLaws.{not_run, runs_cleanly, runs_from}
+use Rattle.ocfl_scrub.proofs.RunTurns.{run_ended, run_lost, stands_first}
+
+-- ---- on every store
+
+module _ (old new : Option (List ℕ)) (limits : MadeLimits) (last : Option Place) (spent files : ℕ) (finding : Bool)
+    (short : IsShort last) (paid : IsPaid (limits_of limits) spent files) (fits : spent ≤ 2 ^ 63) where
+  pub spent_pass : (kept : Met) → WritesLines old new finding → IsPass old new limits (pass_of last spent files finding status.Spent (Some kept))
+  spent_pass kept lines = record {
+    whole = λ e. cc;
+    works = λ e. cc;
+    short = short;
+    paid = paid;
+    fits = fits;
+    lines = λ n. lines;
+    spent = λ e. (kept.item.place, refl);
+    unspent = λ n. absurd (n refl);
+  }
+
+  pub ended_pass : WritesLines old new finding → IsPass old new limits (pass_of last spent files finding status.Ended None)
+  ended_pass lines = record {
+    whole = λ e. cc;
+    works = λ e. cc;
+    short = short;
+    paid = paid;
+    fits = fits;
+    lines = λ n. lines;
+    spent = λ e. absurd (let two : status.Ended ≡ status.Spent = e in cc);
+    unspent = λ n. refl;
+  }
+
+  pub stopped_pass : (why : Fault) → why ≢ fault.Broken → (why ≢ fault.Output → WritesLines old new finding) → IsPass old new limits (pass_of last spent files finding (status.Stopped why) None)
+  stopped_pass why whole lines = record {
+    whole = λ e. whole (let two : status.Stopped why ≡ status.Stopped fault.Broken = e in cc);
+    works = λ e. cc;
+    short = short;
+    paid = paid;
+    fits = fits;
+    lines = λ n. lines (λ e. n (ap status.Stopped e));
+    spent = λ e. absurd (let two : status.Stopped why ≡ status.Spent = e in cc);
+    unspent = λ n. refl;
+  }
+
+-- an item that was not taken breaks no run
+pub missed_whole : (why : Fault) → (why ≡ fault.Memory) ⊎ (why ≡ fault.Output) → why ≢ fault.Broken
+missed_whole why (inl e) h = let two : fault.Memory ≡ fault.Broken = sym e ∙ h in cc
+missed_whole why (inr e) h = let two : fault.Output ≡ fault.Broken = sym e ∙ h in cc
+
+-- ---- as a pass says
+
+pub pass_as : (old new : Option (List ℕ)) (limits : MadeLimits) (pass : Pass) (last : Option Place) (spent files : ℕ) (finding : Bool) (end : RunStatus) (kept : Option Met) → pass.last ≡ last → pass.spent ≡ spent
+    → pass.files ≡ files → pass.found ≡ finding → pass.end ≡ end → pass.met ≡ kept → IsPass old new limits (pass_of last spent files finding end kept) → IsPass old new limits pass
+pass_as old new limits pass last spent files finding end kept e f g h i j is = subst (λ p. IsPass old new limits p) (pass_is pass last spent files finding end kept e f g h i j) is
+
+pub passes_as : (call : Call) (part : Part) (m : Met) (from : Option Place) (l : Limits) (pass : Pass) (last : Option Place) (spent files : ℕ) (finding : Bool) (end : RunStatus) (kept : Option Met) → pass.last ≡ last → pass.spent ≡ spent
+    → pass.files ≡ files → pass.found ≡ finding → pass.end ≡ end → pass.met ≡ kept → PassesOn call part m from l (pass_of last spent files finding end kept) → PassesOn call part m from l pass
+passes_as call part m from l pass last spent files finding end kept e f g h i j is = subst (λ p. PassesOn call part m from l p) (pass_is pass last spent files finding end kept e f g h i j) is
+
+pub ends_as : (call : Call) (part : Part) (from : Option Place) (l : Limits) (pass : Pass) (last : Option Place) (spent files : ℕ) (finding : Bool) (end : RunStatus) (kept : Option Met) → pass.last ≡ last → pass.spent ≡ spent
+    → pass.files ≡ files → pass.found ≡ finding → pass.end ≡ end → pass.met ≡ kept → EndsAt call part from l (pass_of last spent files finding end kept) → EndsAt call part from l pass
+ends_as call part from l pass last spent files finding end kept e f g h i j ends = subst (λ p. EndsAt call part from l p) (pass_is pass last spent files finding end kept e f g h i j) ends
+
+-- ---- a walk that begins
+
+module _ (root : StorageRoot) (part : Part) (s t u : Store) (old : Option (List ℕ)) (from : Option Place) (l : Limits) where
+  module _ (walk : Walk) (there : GoesDown root s t (entry part from) × Stands root walk (stand root part from)) where
+    pub begins_ended : (next : Walk) → GivesOut root t u (stand root part from) (end_of part) next None → EndsAt (call_of root s u old old) part from l (pass_of from 0 0 false status.Ended None)
+    begins_ended next gives =
+        let h = stands_first root part s t old walk from l there in
+        (run_ended part h.0 u next (subst (λ o. GivesOut root t u o (end_of part) next None) (sym h.1) gives), tt)
+
+    pub begins_lost : (why : Fault) → IsWayFault why → FailsOut root t u (stand root part from) (end_of part) why
+        → EndsAt (call_of root s u old old) part from l (pass_of from 0 0 false (status.Stopped why) None)
+    begins_lost why only lost =
+        let h = stands_first root part s t old walk from l there in
+        (run_lost part h.0 u why only.0 (subst (λ o. FailsOut root t u o (end_of part) why) (sym h.1) lost), tt)
+
+    pub begins_on : (v : Store) (new : Option (List ℕ)) (m : Met) (pass : Pass) → GivesOut root t u (stand root part from) (end_of part) m.walk (Some m.item)
+        → is_past (end_of part) m.item.place ≡ false → PassesOn (call_of root u v old new) part m from l pass → EndsAt (call_of root s v old new) part from l pass
+    begins_on v new m pass gives before h =
+        let ahead : IsAhead root part from m s u = record { begun = t; down = there.0; gives = gives; in_front = before } in
+        let x = h.ends s u refl refl ahead in
+        subst (λ (b : Store). EndsAt (call_of root s b old new) part from l pass) (alike_same x.1.0) x.1.1
+
+module _ (root : StorageRoot) (part : Part) (s t u : Store) (old : Option (List ℕ)) (from : Option Place) (l : Limits) (walk : Walk) (live : IsLive walk)
+    (there : GoesDown root s t (entry part from) × Stands root walk (stand root part from)) where
+  gives_there : (next : Walk) (o : Option Pending) → GivesNext root (end_of part) t u walk next o → GivesOut root t u (stand root part from) (end_of part) next o
+  gives_there next o gave = gave (audits_over there.0.audits) live (stand root part from) there.1
+
+  -- the walk gave nothing
+  pub begun_ended : (next : Walk) (o : Option Pending) → GivesNext root (end_of part) t u walk next o → o ≡ None → EndsAt (call_of root s u old old) part from l (pass_of from 0 0 false status.Ended None)
+  begun_ended next o gave is = begins_ended root part s t u old from l walk there next (subst (GivesOut root t u (stand root part from) (end_of part) next) is (gives_there next o gave))
+
+  -- it met an item, from which a pass goes on
+  pub begun_on : (m : Met) (o : Option Pending) → GivesNext root (end_of part) t u walk m.walk o → o ≡ Some m.item → IfSome o (λ p. is_past (end_of part) p.place ≡ false)
+      → (v : Store) (new : Option (List ℕ)) (pass : Pass) → (u.tree ≡ root → PassesOn (call_of root u v old new) part m from l pass) → EndsAt (call_of root s v old new) part from l pass
+  begun_on m o gave is before v new pass h =
+      let gives : GivesOut root t u (stand root part from) (end_of part) m.walk (Some m.item) = subst (GivesOut root t u (stand root part from) (end_of part) m.walk) is (gives_there m.walk o gave) in
+      begins_on root part s t u old from l walk there v new m pass gives (subst (λ x. IfSome x (λ p. is_past (end_of part) p.place ≡ false)) is before) (h (audits_over gives.0.audits))
+
+  -- it did not get to one
+  pub begun_lost : (why : Fault) → (IsLive walk → IsWayFault why) → (t.tree ≡ root → IsLive walk → (p : Option Place) → Stands root walk p → FailsOut root t u p (end_of part) why)
+      → EndsAt (call_of root s u old old) part from l (pass_of from 0 0 false (status.Stopped why) None)
+  begun_lost why only lost = begins_lost root part s t u old from l walk there why (only live) (lost (audits_over there.0.audits) live (stand root part from) there.1)
+
+-- no walk was begun
+pub begins_not : (root : StorageRoot) (part : Part) (s t : Store) (old : Option (List ℕ)) (from : Option Place) (l : Limits) (why : Fault) → IsWayFault why
+    → GoDownFails root s t (entry part from) why → EndsAt (call_of root s t old old) part from l (pass_of from 0 0 false (status.Stopped why) None)
+begins_not root part s t old from l why only fails = (not_run root part s t old from l why only fails, tt)
+
+-- ---- a walk that is kept
+
+module _ (root : StorageRoot) (part : Part) (s t : Store) (old new : Option (List ℕ)) (from : Option Place) (l : Limits) where
+  pub goes_on_from : (m : Met) (pass : Pass) → PassesOn (call_of root s t old new) part m from l pass → IsMet root part from m → PassesFrom (call_of root s t old new) part m.item.place from l pass
+  goes_on_from m pass h is =
+      let x = ahead_of root part from m s.rest s.largest is in
+      let y = h.ends x.0 x.1.0 x.1.1.0 x.1.1.1 x.1.1.2 in
+      record {
+        before = x.0;
+        begun = x.1.1.2.begun;
+        there = x.1.0;
+        behind = y.0;
+        down = x.1.1.2.down;
+        way = x.1.1.2.gives.0;
+        alike = y.1.0;
+        ends = y.1.1;
+        looks = h.looks is;
+      }
+
+  -- ---- what is left
+
+  pub ready_after : (o : Option Place) (pass : Pass) → PassesWith (call_of root s t old new) part o from l pass → IsReadyIn root part pass.last pass.met
+  ready_after None pass h = h.1
+  ready_after (Some p) pass h = h.ends.1
+
+  tree_by : (last : Option Place) (spent files : ℕ) (finding : Bool) (end : RunStatus) → RunEndsWithin (call_of root s t old new) part from last l spent files finding end → t.tree ≡ root
+  tree_by last spent files finding status.Ended h = h.looks.audits.did.tree ∙ h.looks.audits.over
+  tree_by last spent files finding status.Spent h = h.1.looks.audits.did.tree ∙ h.1.looks.audits.over
+  tree_by last spent files finding (status.Stopped why) h = h.looks.fails.did.tree ∙ h.looks.fails.over
+  tree_by last spent files finding status.Worn h = absurd h
+
+  pub tree_on : (o : Option Place) (pass : Pass) → s.tree ≡ root → PassesWith (call_of root s t old new) part o from l pass → t.tree ≡ root
+  tree_on None pass over h = tree_by pass.last pass.spent pass.files pass.found pass.end h.0
+  tree_on (Some p) pass over h = alike_tree h.alike ∙ over
+
+  -- ---- from the cursor that a run is given
+
+  pub runs_on : (o : Option Place) (pass : Pass) (c b : Cursor) → Begins c b from → PassesWith (call_of root s t old new) part o from l pass → (reached : Cursor) (state : State)
+      → reached ≡ after_run b pass.spent pass.files state → state ≡ state_after pass.end pass.last
+      → RunsOn (call_of root s t old new) part o c l (record { cursor = reached; spent = pass.spent; files = pass.files; found = pass.found; end = pass.end })
+  runs_on None pass c b begins h reached state e f = runs_from root part s t old new c b from pass.last l pass.spent pass.files pass.found pass.end begins h.0 reached state e f
+  runs_on (Some p) pass c b begins h reached state e f = record {
+    before = h.before;
+    begun = h.begun;
+    there = h.there;
+    behind = h.behind;
+    down = subst (λ x. GoesDown root h.before h.begun (entry part x)) begins.from_is h.down;
+    way = subst (λ x. Walks root h.begun h.there (stand root part x) (Some p)) begins.from_is h.way;
+    alike = h.alike;
+    runs = runs_from root part h.before h.behind old new c b from pass.last l pass.spent pass.files pass.found pass.end begins h.ends.0 reached state e f;
+    looks = h.looks;
+  }
+
+  -- the same with the walk that it is given
+  pub runs_kept : (kept : KeptWalk) (o : Option Met) → o ≡ kept.met → (pass : Pass) (c b : Cursor) → Begins c b from → PassesWith (call_of root s t old new) part (met_in o) from l pass → (reached : Cursor) (state : State)
+      → reached ≡ after_run b pass.spent pass.files state → state ≡ state_after pass.end pass.last
+      → RunsOn (call_of root s t old new) part (met_at kept) c l (record { cursor = reached; spent = pass.spent; files = pass.files; found = pass.found; end = pass.end })
+  runs_kept kept o is pass c b begins h reached state e f =
+      subst (λ x. RunsOn (call_of root s t old new) part (met_in x) c l (record { cursor = reached; spent = pass.spent; files = pass.files; found = pass.found; end = pass.end })) is
+      (runs_on (met_in o) pass c b begins h reached state e f)
+
+-- a walk is kept only where the cursor stands after the last item
+pub ready_at : (root : StorageRoot) (part : Part) (end : RunStatus) (last : Option Place) (o : Option Met) → (end ≢ status.Spent → o ≡ None) → IsReadyIn root part last o
+    → IsReadyIn root part (place_in (state_after end last)) o
+ready_at root part status.Spent None o none h = h
+ready_at root part status.Spent (Some p) o none h = h
+ready_at root part status.Ended last o none h = subst (λ x. IsReadyIn root part (place_in (state_after status.Ended last)) x) (sym (none (λ e. cc))) tt
+ready_at root part (status.Stopped why) last o none h = subst (λ x. IsReadyIn root part (place_in (state_after (status.Stopped why) last)) x) (sym (none (λ e. cc))) tt
+ready_at root part status.Worn last o none h = subst (λ x. IsReadyIn root part (place_in (state_after status.Worn last)) x) (sym (none (λ e. cc))) tt
+
+module _ (root : StorageRoot) (part : Part) where
+  -- the walk that a run is given goes on above where it begins
+  pub ready_given : (c b : Cursor) (from : Option Place) → Begins c b from → (kept : KeptWalk) (o : Option Met) → o ≡ kept.met → IsReady root part (place_in c.state) kept → IsReadyIn root part from o
+  ready_given c b from begins kept o is ready =
+      subst (λ x. IsReadyIn root part x o) (sym begins.from_is) (subst (λ x. IsReadyIn root part (place_in c.state) x) (sym is) ready)
+
+  -- and the one that it leaves goes on above where the cursor stands
+  pub ready_left : (c b : Cursor) (from : Option Place) → Begins c b from → (reached : Cursor) (spent files : ℕ) (state : State) (end : RunStatus) (last : Option Place) (o : Option Met) → reached ≡ after_run b spent files state → state ≡ state_after end last
+      → (end ≢ status.Spent → o ≡ None) → IsReadyIn root part last o → IsReadyIn root part (place_in reached.state) o
+  ready_left c b from begins reached spent files state end last o e f none h =
+      subst (λ (x : Cursor). IsReadyIn root part (place_in x.state) o) (sym e) (subst (λ x. IsReadyIn root part (place_in x) o) (sym f) (ready_at root part end last o none h))
+
+-- ---- on every store
+
+pub made_run : {S O : Type 0} (contents : O → Option (List ℕ)) (before after : S) (old new : O) (c b : Cursor) (from : Option Place) (limits : MadeLimits) (pass : Pass) → Begins c b from
+    → IsPass (contents old) (contents new) limits pass → (reached : Cursor) (state : State) → reached ≡ after_run b pass.spent pass.files state → state ≡ state_after pass.end pass.last
+    → RunsOnAnyStore contents before after old new c limits (record { cursor = reached; spent = pass.spent; files = pass.files; found = pass.found; end = pass.end })
+made_run contents before after old new c b from limits pass begins p reached state e f = record {
+  unbroken = p.whole;
+  worn = (λ x. absurd (p.works x), λ x. absurd (begins.unworn x));
+  worn_cursor = λ x. absurd (p.works x);
+  worn_figures = λ x. absurd (p.works x);
+  worn_silent = λ x. absurd (p.works x);
+  cursor = λ n. (pass.last, e ∙ ap (λ x. after_run x pass.spent pass.files state) begins.begun_is ∙ ap (λ x. after_run (begun c) pass.spent pass.files x) f);
+  paid = p.paid;
+  overrun = paid_within (limits_of limits) pass.spent pass.files p.paid;
+  lines = p.lines;
+}
+
+-- ---- a run with no walk before it
+
+pub ready_none : (root : StorageRoot) (part : Part) (from : Option Place) (kept : KeptWalk) → kept.met ≡ None → IsReady root part from kept
+ready_none root part from kept none = subst (IsReadyIn root part from) (sym none) tt
+
+pub begins_so : (call : Call) (part : Part) (kept : KeptWalk) (c : Cursor) (l : Limits) (ran : RunEnd) → kept.met ≡ None → RunsOn call part (met_at kept) c l ran → RunsFromWithin call part c l ran
+begins_so call part kept c l ran none h = subst (λ o. RunsOn call part (met_in o) c l ran) none h
+
+pub cleanly_so : (root : StorageRoot) (part : Part) (s t : Store) (old new : Option (List ℕ)) (c : Cursor) (l : Limits) (ran : RunEnd) → t.failures ≡ s.failures
+    → (ran.end ≢ status.Worn → RunsFromWithin (call_of root s t old new) part c l ran) → RunsCleanlyWithin (call_of root s t old new) part c l ran.spent ran.files ran.found ran.end
+cleanly_so root part s t old new c l ran same runs = by ran.end refl
+  where
+    clean : ran.end ≢ status.Worn → RunsCleanlyWithin (call_of root s t old new) part c l ran.spent ran.files ran.found ran.end
+    clean n = let h = runs n in runs_cleanly root part s t old new c h.last l ran.spent ran.files ran.found same ran.end h.run
+
+    by : (e : RunStatus) → ran.end ≡ e → RunsCleanlyWithin (call_of root s t old new) part c l ran.spent ran.files ran.found e
+    by status.Ended is = subst (RunsCleanlyWithin (call_of root s t old new) part c l ran.spent ran.files ran.found) is (clean (λ x. cc))
+    by status.Spent is = subst (RunsCleanlyWithin (call_of root s t old new) part c l ran.spent ran.files ran.found) is (clean (λ x. cc))
+    by (status.Stopped why) is = tt
+    by status.Worn is = tt
+
+-- ---- what it wrote
+
+pub goes_on_reported : (root : StorageRoot) (s t : Store) (old new : Text) (part : Part) (o : Option Place) (c : Cursor) (l : Limits) (ran : RunEnd)
+    → RunsOn (known_call root s t old new) part o c l ran → HasReport root old new part c l ran
+goes_on_reported root s t old new part None c l ran h = has_report root s t old new part c l ran h
+goes_on_reported root s t old new part (Some p) c l ran h = has_report root h.before h.behind old new part c l ran h.runs

@@ -1,0 +1,104 @@
+use Rattle.std.proofs.Common.{◌≡◌, ◌≤◌, ◌∙◌, ◌^◌, arith, length, refl, subst, sym}
+use Rattle.ocfl_tree.specs.Place.{Place}
+use Rattle.ocfl_scrub.specs.Call.{call_of}
+use Rattle.ocfl_scrub.specs.Running.{limits_of}
+use Rattle.ocfl_scrub.specs.Starting.{part_of}
+use Rattle.ocfl_scrub.specs.Taking.{WritesLines}
+use Rattle.ocfl_scrub.proofs.KeptRuns.{ended_pass, missed_whole, pass_as, passes_as, spent_pass, stopped_pass}
+use Rattle.ocfl_scrub.proofs.KeptTurns.{on_way_first, way_ended, way_lost, way_missed, way_next, way_spent}
+use Rattle.ocfl_scrub.proofs.LoopLaws.{goes_further, next_short, sets_out}
+use Rattle.ocfl_scrub.proofs.MeterLaws.{paid_start}
+use Rattle.ocfl_scrub.proofs.PassLaws.{lines_then}
+use Rattle.ocfl_scrub.proofs.RunTurns.{charged_item, not_within, within_both}
+use Rattle.ocfl_scrub.proofs.running.pass_on.Goals as goal
+use Rattle.ocfl_scrub.proofs.running.pass_on.Goals.{then-not-paid, else-not-paid+in-Err, else-not-paid+in-Ok+in-Ok-None, else-not-paid+in-Ok+in-Err-next_within}
+
+pub loop-alloc-init : goal.loop-alloc-init
+loop-alloc-init g c =
+    let meter = c.new-meter.ensures in
+    record {
+      way = sets_out _ _ c.args.met.live;
+      short = c.requires.short;
+      near = c.args.met.short;
+      limits = meter.limits;
+      paid = paid_start _ _ _ meter.spent meter.files;
+      told = λ told root over short. on_way_first root (part_of c.args.part.now) _ _ c.args.met c.args.from _ _ _ meter.spent meter.files over;
+    }
+
+pub invariant_of-end : goal.invariant_of-end
+invariant_of-end g c = record { live = c.loop-alloc.invariant.way.live; short = c.loop-alloc.invariant.near }
+
+pub loop-alloc-preserved : goal.loop-alloc-preserved
+loop-alloc-preserved g c =
+    let i = c.loop-alloc.invariant in
+    let given = c.in-Ok-Some in
+    let took = c.in-Ok.ensures in
+    let may = c.pays-paid.ensures.paid c.if-not-paid.false in
+    record {
+      way = goes_further _ i.way given.field-0-is given.ensures.goes_on _ _ _ took.lines c.either-found.ensures;
+      short = subst (λ (p : Place). length p ≤ 255) (sym took.place) i.near;
+      near = next_short _ i.way given.field-0-is given.ensures.goes_on c.in-Ok-Some.next.place refl;
+      limits = c.charge.ensures.limits ∙ i.limits;
+      paid = charged_item _ c.loop-alloc.meter _ _ _ _ i.limits i.paid took.cost may c.charge.ensures.spent c.charge.ensures.files;
+      told = λ told root over short.
+          way_next (part_of c.args.part.now) over (i.told told root over short) (λ h. within_both _ c.loop-alloc.meter i.limits (may h)) _ _ _ _ _ _ _ _ took.place c.charge.ensures.spent c.charge.ensures.files
+          c.either-found.ensures (λ u q. took.told told root u short q) _ i.way.live _ _ (given.ensures.told told root) _ given.field-0-is given.ensures.before;
+    }
+
+pub returns-clause-any_store : goal.returns-clause-any_store
+returns-clause-any_store g c =
+    let i = c.loop-alloc.invariant in
+    let e = c.pass_end.ensures in
+    let bound = e.bound.spent in
+    let budget = e.bound.budget.1 in
+    let fits : c.if-not-paid.meter.spent ≤ 2 ^ 63 = omega (arith, bound, budget) in
+    pass_as _ _ c.args.limits c.pass_end.result _ _ _ _ _ _ e.last e.spent e.files e.found e.end e.met
+    (elim c.if-not-paid.branch [
+      | then-not-paid w ↦ let small = rw w.meter-is at fits in
+          rw (w.out-is, w.last-is, w.meter-is, w.found-is, w.end-is)
+          (spent_pass _ _ c.args.limits _ _ _ _ i.short i.paid small _ i.way.lines)
+      | else-not-paid+in-Err w ↦ let small = rw w.meter-is at fits in
+          rw (w.out-is, w.last-is, w.meter-is, w.found-is, w.end-is)
+          (stopped_pass _ _ c.args.limits _ _ _ _ i.short i.paid small w.in-Err.why (missed_whole w.in-Err.why w.in-Err.ensures.only)
+          (λ n. rw (w.in-Err.ensures.unwritten n) i.way.lines))
+      | else-not-paid+in-Ok+in-Ok-None w ↦ let small = rw w.meter-is at fits in
+          let took = w.in-Ok.ensures in
+          let may = c.pays-paid.ensures.paid w.if-not-paid.false in
+          rw (w.out-is, w.last-is, w.meter-is, w.found-is, w.end-is)
+          (ended_pass _ _ c.args.limits _ _ _ _ (subst (λ (p : Place). length p ≤ 255) (sym took.place) i.near)
+          (charged_item _ c.loop-alloc.meter _ _ _ _ i.limits i.paid took.cost may w.charge.ensures.spent w.charge.ensures.files) small
+          (lines_then _ _ _ _ _ _ i.way.lines took.lines w.either-found.ensures))
+      | else-not-paid+in-Ok+in-Err-next_within w ↦ let small = rw w.meter-is at fits in
+          let took = w.in-Ok.ensures in
+          let may = c.pays-paid.ensures.paid w.if-not-paid.false in
+          rw (w.out-is, w.last-is, w.meter-is, w.found-is, w.end-is)
+          (stopped_pass _ _ c.args.limits _ _ _ _ (subst (λ (p : Place). length p ≤ 255) (sym took.place) i.near)
+          (charged_item _ c.loop-alloc.meter _ _ _ _ i.limits i.paid took.cost may w.charge.ensures.spent w.charge.ensures.files) small
+          w.in-Err-next_within.why (w.in-Err-next_within.ensures.only i.way.live).1
+          (λ n. lines_then _ _ _ _ _ _ i.way.lines took.lines w.either-found.ensures))
+    ])
+
+pub returns-clause-told : goal.returns-clause-told
+returns-clause-told g c told root over short =
+    let i = c.loop-alloc.invariant in
+    let e = c.pass_end.ensures in
+    let part = part_of c.args.part.now in
+    let way = i.told told root over short in
+    let call = call_of root (g.T.Tree.state c.args.store.now) (g.T.Tree.state c.if-not-paid.store) (g.W.Write.contents c.args.out.now) (g.W.Write.contents c.if-not-paid.out) in
+    passes_as call part c.args.met c.args.from (limits_of c.args.limits) c.pass_end.result _ _ _ _ _ _ e.last e.spent e.files e.found e.end e.met
+    (elim c.if-not-paid.branch [
+      | then-not-paid w ↦ let unpaid = c.pays-paid.ensures.unpaid w.if-not-paid.true in
+          rw (w.store-is, w.out-is, w.last-is, w.meter-is, w.found-is, w.end-is)
+          (way_spent part over way _ refl refl unpaid.0 (not_within _ c.loop-alloc.meter i.limits unpaid.1))
+      | else-not-paid+in-Err w ↦
+          rw (w.store-is, w.out-is, w.last-is, w.meter-is, w.found-is, w.end-is)
+          (way_missed part over way (λ h. within_both _ c.loop-alloc.meter i.limits (c.pays-paid.ensures.paid w.if-not-paid.false h)) _ _ w.in-Err.why (λ u q. w.in-Err.ensures.told told root u short q))
+      | else-not-paid+in-Ok+in-Ok-None w ↦
+          rw (w.store-is, w.out-is, w.last-is, w.meter-is, w.found-is, w.end-is)
+          (way_ended part over way (λ h. within_both _ c.loop-alloc.meter i.limits (c.pays-paid.ensures.paid w.if-not-paid.false h)) _ _ _ _ _ _ _ _ w.in-Ok.ensures.place w.charge.ensures.spent w.charge.ensures.files
+          w.either-found.ensures (λ u q. w.in-Ok.ensures.told told root u short q) _ i.way.live w.next_within.new.self w.in-Ok-None.field-0 (w.in-Ok-None.ensures.told told root) w.in-Ok-None.field-0-is)
+      | else-not-paid+in-Ok+in-Err-next_within w ↦
+          rw (w.store-is, w.out-is, w.last-is, w.meter-is, w.found-is, w.end-is)
+          (way_lost part over way (λ h. within_both _ c.loop-alloc.meter i.limits (c.pays-paid.ensures.paid w.if-not-paid.false h)) _ _ _ _ _ _ _ _ w.in-Ok.ensures.place w.charge.ensures.spent w.charge.ensures.files
+          w.either-found.ensures (λ u q. w.in-Ok.ensures.told told root u short q) _ i.way.live w.in-Err-next_within.why w.in-Err-next_within.ensures.only (w.in-Err-next_within.ensures.told told root))
+    ])

@@ -1,0 +1,39 @@
+//! The walk that one run leaves to the next.
+ghost use Rattle.std.specs.Prelude.{◌≡◌, ◌≤◌, None, length};
+ghost use Rattle.ocfl_walk.specs.Walks.{IsLive};
+
+use ocfl_walk::{Pending, Walk};
+
+/// A walk, and the item that it met and that was not taken.
+#[derive(Debug, Drop)]
+pub(crate) struct Met {
+    pub(crate) walk: Walk,
+    pub(crate) item: Pending,
+    ghost live: { IsLive walk },
+    ghost short: { length item.place ≤ 255 },
+}
+
+/// What a run keeps of its walk, so that the next one lists and reads nothing again.
+///
+/// It holds what a walk holds and one item, no file's bytes. It is of use for a run of the same
+/// part of the same root that goes on from the cursor that the run before answered.
+#[derive(Debug, Drop)]
+pub struct KeptWalk {
+    pub(crate) met: Option<Met>,
+}
+
+impl KeptWalk {
+    /// No walk: the next run begins one.
+    pub fn none() -> KeptWalk
+        ensures { result.met ≡ None }
+    {
+        KeptWalk { met: None }
+    }
+
+    /// Lets the walk go: the next run begins one.
+    pub fn forget(&mut self)
+        ensures { self.new.met ≡ None }
+    {
+        self.met = None;
+    }
+}

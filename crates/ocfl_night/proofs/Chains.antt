@@ -8,12 +8,9 @@ use Rattle.std.proofs.lemmas.List.Concat.{flat_map-append}
 use Rattle.ocfl_tree.specs.Place.{Text, Place}
 use Rattle.ocfl_tree.specs.StorageRoot.{StorageRoot}
 use Rattle.ocfl_audit.specs.Parts.{Part}
-use Rattle.ocfl_audit.specs.Runs.{Limits}
 use Rattle.ocfl_cursor.specs.Cursor.{Cursor, State, ended}
 use Rattle.ocfl_cursor.specs.Moves.{after_run}
-use Rattle.ocfl_tree.specs.Store.{Store}
-use Rattle.ocfl_scrub.specs.Call.{Call, call_of}
-use Rattle.ocfl_scrub.specs.Running.{place_in, begun, begun_in, state_after, RunEndsWithin, RunsFromWithin}
+use Rattle.ocfl_scrub.specs.Running.{place_in, begun, begun_in, state_after}
 use Rattle.ocfl_scrub.specs.Joining.{PartRun, Ran}
 use Rattle.ocfl_scrub.specs.declared.running.RunEnd.{RunEnd}
 use Rattle.ocfl_scrub.specs.declared.running.RunStatus.{RunStatus}
@@ -96,30 +93,6 @@ ended_cursor root part c r made is =
 
 pub next_cycle_begun : (c : Cursor) → c.state ≡ ended → (begun c).cycle ≡ c.cycle + 1
 next_cycle_begun c is = subst (λ (s : State). (begun_in c s).cycle ≡ c.cycle + 1) (sym is) refl
-
--- ---- the store's tree
-
-module _ (call : Call) (part : Part) where
-  tree_by : (from last : Option Place) (limits : Limits) (spent files : ℕ) (finding : Bool) (end : RunStatus) → RunEndsWithin call part from last limits spent files finding end → call.after.tree ≡ call.root
-  tree_by from last limits spent files finding status.Ended run = run.looks.audits.did.tree ∙ run.looks.audits.over
-  tree_by from last limits spent files finding status.Spent run = run.1.looks.audits.did.tree ∙ run.1.looks.audits.over
-  tree_by from last limits spent files finding (status.Stopped why) run = run.looks.fails.did.tree ∙ run.looks.fails.over
-  tree_by from last limits spent files finding status.Worn run = absurd run
-
-  -- a run leaves the store's tree as it was
-  pub tree_after : (c : Cursor) (limits : Limits) (ran : RunEnd) → RunsFromWithin call part c limits ran → call.after.tree ≡ call.root
-  tree_after c limits ran runs = tree_by (place_in c.state) runs.last limits ran.spent ran.files ran.found ran.end runs.run
-
--- whatever a run did, it leaves the store's tree as it was
-pub tree_kept : (root : StorageRoot) (s t : Store) (old new : Option (List ℕ)) (part : Part) (c : Cursor) (limits : Limits) (ran : RunEnd) → s.tree ≡ root → (ran.end ≡ status.Worn → t ≡ s)
-    → (ran.end ≢ status.Worn → RunsFromWithin (call_of root s t old new) part c limits ran) → t.tree ≡ root
-tree_kept root s t old new part c limits ran over worn runs = by ran.end refl
-  where
-    by : (e : RunStatus) → ran.end ≡ e → t.tree ≡ root
-    by status.Ended is = tree_after (call_of root s t old new) part c limits ran (runs (λ x. absurd (cc (is, x))))
-    by status.Spent is = tree_after (call_of root s t old new) part c limits ran (runs (λ x. absurd (cc (is, x))))
-    by (status.Stopped why) is = tree_after (call_of root s t old new) part c limits ran (runs (λ x. absurd (cc (is, x))))
-    by status.Worn is = ap (λ (x : Store). x.tree) (worn is) ∙ over
 
 -- ---- closed reports
 

@@ -2,6 +2,7 @@ pub mod Moments
 pub mod Chains
 pub mod Sound
 pub mod Heard
+pub mod KeptWalks
 pub mod AnyNights
 pub mod TakingUp
 pub mod Foreigners

@@ -7,6 +7,8 @@ use Rattle.ocfl_audit.specs.Parts.{Part}
 use Rattle.ocfl_cursor.specs.Cursor.{Cursor}
 use Rattle.ocfl_scrub.specs.Running.{place_in}
 use Rattle.ocfl_scrub.specs.Joining.{PartRun, Ran}
+use Rattle.ocfl_scrub.specs.Keeping.{IsReady as IsWalkReady}
+use Rattle.ocfl_scrub.specs.declared.kept.KeptWalk.{KeptWalk}
 use Rattle.ocfl_scrub.specs.declared.running.RunEnd.{RunEnd}
 use Rattle.ocfl_scrub.specs.declared.running.RunStatus.TheVariants as status
 use Rattle.ocfl_state.specs.Checkpoint.{Checkpoint, IsCheckpointText}
@@ -16,6 +18,7 @@ use Rattle.ocfl_state.specs.Pieces.{HasTail, summary_of}
 use Rattle.ocfl_state.specs.declared.checkpoint_parts.Left.{Left}
 use Rattle.ocfl_state.specs.declared.checkpoint_parts.ReportMark.{ReportMark}
 use Rattle.ocfl_state.specs.declared.checkpoint_parts.Phase.TheVariants.{Open, Closing}
+use Rattle.ocfl_night.specs.Chain.{part_after}
 use Rattle.ocfl_night.specs.Site.{no_report}
 use Rattle.ocfl_night.specs.declared.plan.Halt.{Halt}
 use Rattle.ocfl_night.specs.declared.plan.Halt.TheVariants as halt
@@ -117,6 +120,10 @@ pub record IsRun (part : Part) (c : Cursor) (root : StorageRoot) (lines : Text) 
   pub ran_is : run.ran ≡ ran
   pub made : Ran root part c run
   pub lines_are : lines ≡ run.report
+
+-- the walk that is kept goes on where the run from a checkpoint's cursor begins
+abbrev pub IsWalkAt : StorageRoot → Part → Checkpoint → KeptWalk → Type 0
+IsWalkAt root part k kept = IsWalkReady root (part_after part k.left) (place_in k.cursor.state) kept
 
 -- a folder stays as it was, whenever a crash comes
 pub record IsUntouched {F : Type 0} (seen : F → Content) (may_leave : F → Outcomes) (moment : F → ℕ) (left_since : F → ℕ → Outcomes) (old new : F) : Type 0 where

@@ -5,6 +5,7 @@ ghost use Rattle.std.specs.Io.KnownBytes.{Appends};
 ghost use Rattle.ocfl_audit.specs.Parts.{Part as ModelPart};
 ghost use Rattle.ocfl_tree.specs.Place.{Text};
 ghost use Rattle.ocfl_tree.specs.Listing.{entries_in};
+ghost use Rattle.ocfl_tree.specs.StorageRoot.{StorageRoot};
 ghost use Rattle.ocfl_tree.specs.Store.{IfTold};
 ghost use Rattle.ocfl_identity.specs.Identity.{declarations_among};
 ghost use Rattle.ocfl_item.specs.Judging.{HasShortFiles};
@@ -12,7 +13,7 @@ ghost use Rattle.ocfl_scrub.specs.Starting.{part_of};
 ghost use Rattle.ocfl_state.specs.Checkpoint.{Checkpoint as ModelCheckpoint};
 ghost use Rattle.ocfl_state.specs.Crash.{LeavesOnly};
 ghost use Rattle.ocfl_night.specs.Site.{IsAnothers, IsForeign, IsOtherThan, part_at};
-ghost use Rattle.ocfl_night.specs.Steps.{IsLost, IsNotBegun, IsUntouched};
+ghost use Rattle.ocfl_night.specs.Steps.{IsLost, IsNotBegun, IsUntouched, IsWalkAt};
 ghost use Rattle.ocfl_night.specs.Sound.{IsAllSaid, IsAt, IsHeard, IsHeardSince, IsKept, IsOneMore};
 ghost use Rattle.ocfl_night.specs.Sound.{IsReady, IsReadySince, IsSound, IsSoundAt};
 ghost use Rattle.ocfl_night.specs.Clock.{BeginsInTime};
@@ -36,7 +37,7 @@ use crate::stop::Stop;
 use ocfl_cursor::{FileLimit, Limits};
 use ocfl_digest::Block;
 use ocfl_identity::Identity;
-use ocfl_scrub::Part;
+use ocfl_scrub::{KeptWalk, Part};
 use ocfl_state::{Checkpoint, Phase, StateFolder};
 use ocfl_tree::{Place, Tree};
 use ocfl_walk::Fault;
@@ -280,6 +281,7 @@ fn pass_by<S: StateFolder>(
 fn go_on_after<S: StateFolder>(
     alloc: Global,
     folder: &mut S,
+    kept: &mut KeptWalk,
     made: Made,
     plan: &Plan,
     tally: &mut Tally,
@@ -293,6 +295,9 @@ fn go_on_after<S: StateFolder>(
     ensures closed { IsTrue S.told → OnOk result
         ((S.seen folder.new).closed ≡ (S.seen folder.old).closed) }
     ensures runs { tally.new.runs ≡ tally.old.runs }
+    ensures walk { (part : ModelPart) (root : StorageRoot)
+        → IsWalkAt root part made.checkpoint kept.old
+        → IfOk result (λ next. IsWalkAt root part next.0 kept.new) }
 {
     let Made {
         checkpoint,
@@ -300,7 +305,10 @@ fn go_on_after<S: StateFolder>(
         ..
     } = made;
     match place_or_pause(end) {
-        Ok(place) => pass_by(alloc, folder, checkpoint, place, plan, tally),
+        Ok(place) => {
+            kept.forget();
+            pass_by(alloc, folder, checkpoint, place, plan, tally)
+        }
         Err(pause) => {
             tally.forget_try();
             Ok((checkpoint, pause))
@@ -315,6 +323,7 @@ fn go_on<S: StateFolder, T: Tree, C: Clock>(
     tree: &mut T,
     part: &Part,
     identity: &Identity,
+    kept: &mut KeptWalk,
     checkpoint: Checkpoint,
     plan: &Plan,
     clock: &mut C,
@@ -322,19 +331,23 @@ fn go_on<S: StateFolder, T: Tree, C: Clock>(
     block: &mut Block,
 ) -> Result<(Checkpoint, Option<Pause>), Stop>
     ensures any_moment { IsTrue S.told → IfTold T.told (T.state tree.old) (λ root.
-        HasShortFiles root → (t : Text)
+        HasShortFiles root → IsWalkAt root (part_of part.now) checkpoint kept.old → (t : Text)
         → IsReady S.seen S.may_leave (part_of part.now) t checkpoint folder.old
         → LeavesOnly S.moment S.left_since folder.old folder.new
         (IsSoundAt (part_of part.now) t)) }
     ensures ready { IsTrue S.told → IfTold T.told (T.state tree.old) (λ root.
-        HasShortFiles root → (t : Text)
+        HasShortFiles root → IsWalkAt root (part_of part.now) checkpoint kept.old → (t : Text)
         → IsReady S.seen S.may_leave (part_of part.now) t checkpoint folder.old
         → IfOk result (λ next. IsReady S.seen S.may_leave (part_of part.now) t
         next.0 folder.new)) }
     ensures closed { IsTrue S.told → OnOk result
         ((S.seen folder.new).closed ≡ (S.seen folder.old).closed) }
     ensures root { IfTold T.told (T.state tree.old) (λ root. HasShortFiles root
+        → IsWalkAt root (part_of part.now) checkpoint kept.old
         → (T.state tree.new).tree ≡ root) }
+    ensures walk { IfTold T.told (T.state tree.old) (λ root. HasShortFiles root
+        → IsWalkAt root (part_of part.now) checkpoint kept.old
+        → IfOk result (λ next. IsWalkAt root (part_of part.now) next.0 kept.new)) }
     ensures clock { IsTrue C.told → BeginsInTime plan.now.end
         (C.answers clock.old) (C.answers clock.new) tally.old.runs tally.new.runs }
 {
@@ -347,10 +360,10 @@ fn go_on<S: StateFolder, T: Tree, C: Clock>(
     };
     tally.begin();
     let made = slice(
-        alloc, folder, tree, part, identity, checkpoint, limits, block,
+        alloc, folder, tree, part, identity, kept, checkpoint, limits, block,
     )?;
     tally.count(&made);
-    go_on_after(alloc, folder, made, plan, tally)
+    go_on_after(alloc, folder, kept, made, plan, tally)
 }
 
 /// Makes runs until the cycle has ended, or something halts the night.
@@ -381,10 +394,11 @@ fn runs<S: StateFolder, T: Tree, C: Clock>(
     ensures clock { IsTrue C.told → BeginsInTime plan.now.end
         (C.answers clock.old) (C.answers clock.new) tally.old.runs tally.new.runs }
 {
+    let mut kept = KeptWalk::none();
     let mut checkpoint = start;
     for _run in 0..u64::MAX {
         let (next, pause) = go_on(
-            alloc, folder, tree, part, identity, checkpoint, plan, clock, tally, block,
+            alloc, folder, tree, part, identity, &mut kept, checkpoint, plan, clock, tally, block,
         )?;
         checkpoint = next;
         if let Some(pause) = pause {

@@ -6,16 +6,19 @@ ghost use Rattle.ocfl_tree.specs.StorageRoot.{StorageRoot};
 ghost use Rattle.ocfl_tree.specs.Store.{IfTold};
 ghost use Rattle.ocfl_item.specs.Judging.{HasShortFiles};
 ghost use Rattle.ocfl_item.specs.declared.fault.Fault.TheVariants as fault;
+ghost use Rattle.ocfl_scrub.specs.Keeping.{IsReady as IsWalkReady};
+ghost use Rattle.ocfl_scrub.specs.Running.{place_in};
 ghost use Rattle.ocfl_scrub.specs.Starting.{part_of};
 ghost use Rattle.ocfl_scrub.specs.declared.running.RunStatus.TheVariants as run;
 ghost use Rattle.ocfl_state.specs.Content.{with_report};
 ghost use Rattle.ocfl_state.specs.Crash.{LeavesOnly, Only, Passes};
 ghost use Rattle.ocfl_state.specs.Pieces.{summary_of};
+ghost use Rattle.ocfl_state.specs.declared.checkpoint_parts.ReportMark.{ReportMark as ModelMark};
 ghost use Rattle.ocfl_state.specs.declared.checkpoint_parts.Phase.TheVariants.{Closing, Open};
 ghost use Rattle.ocfl_night.specs.Chain.{part_after};
 ghost use Rattle.ocfl_night.specs.Site.{IsStill};
 ghost use Rattle.ocfl_night.specs.Sound.{IsReady, IsSoundAt};
-ghost use Rattle.ocfl_night.specs.Steps.{IsNext, IsRun, KeepsFront};
+ghost use Rattle.ocfl_night.specs.Steps.{IsNext, IsRun, IsWalkAt, KeepsFront};
 
 use crate::checkpoint::{cursor_of, put_checkpoint, report_of};
 use crate::leaving::part_past;
@@ -25,8 +28,8 @@ use crate::stop::Stop;
 use ocfl_cursor::{Cursor, Limits};
 use ocfl_digest::Block;
 use ocfl_identity::Identity;
-use ocfl_scrub::parts::each_run_has_a_report;
-use ocfl_scrub::{Part, RunEnd, RunStatus, run_part};
+use ocfl_scrub::parts::each_run_that_goes_on_has_a_report;
+use ocfl_scrub::{KeptWalk, Part, RunEnd, RunStatus, run_on};
 use ocfl_state::{Checkpoint, Phase, ReportMark, StateFolder, Trouble};
 use ocfl_tree::{Place, Tree};
 use ocfl_walk::Fault;
@@ -44,25 +47,33 @@ fn lost(end: &RunStatus) -> Option<Stop>
     }
 }
 
-/// Makes a run, and looks at the root after it. Gives its lines too.
+/// Makes a run with the walk of the one before it, and looks at the root after it. Gives its lines
+/// too.
 fn make_run<T: Tree>(
     alloc: Global,
     tree: &mut T,
     part: &Part,
     identity: &Identity,
+    kept: &mut KeptWalk,
     cursor: Cursor,
     limits: Limits,
     block: &mut Block,
 ) -> Result<(RunEnd, Vec<u8>), NotKept>
     ensures run { IfTold T.told (T.state tree.old) (λ root. HasShortFiles root
+        → IsWalkReady root (part_of part.now) (place_in cursor.state) kept.old
         → IfOk result (λ r. IsRun (part_of part.now) cursor root r.1.items r.0)) }
+    ensures walk { IfTold T.told (T.state tree.old) (λ root. HasShortFiles root
+        → IsWalkReady root (part_of part.now) (place_in cursor.state) kept.old
+        → IfOk result (λ r. IsWalkReady root (part_of part.now) (place_in r.0.cursor.state)
+        kept.new)) }
     ensures root { IfTold T.told (T.state tree.old) (λ root. HasShortFiles root
+        → IsWalkReady root (part_of part.now) (place_in cursor.state) kept.old
         → (T.state tree.new).tree ≡ root) }
     ensures still { IsTrue T.told → OnOk result (IsStill identity.now (T.state tree.new).tree) }
 {
     let mut lines: Vec<u8> = Vec::new(alloc);
-    let ran = run_part(alloc, tree, part, cursor, limits, block, &mut lines);
-    each_run_has_a_report();
+    let ran = run_on(alloc, tree, part, kept, cursor, limits, block, &mut lines);
+    each_run_that_goes_on_has_a_report();
     if let Some(why) = lost(&ran.end) {
         return Err(NotKept::Troubled(why));
     }
@@ -163,7 +174,18 @@ fn after_run(mut checkpoint: Checkpoint, ran: RunEnd, report: ReportMark) -> Mad
     }
 }
 
-/// A slice of whose run nothing is kept.
+/// A slice of whose run nothing is kept, and why: `Err` if something is troubled.
+fn unkept(checkpoint: Checkpoint, why: NotKept) -> Result<Made, Stop>
+    ensures { IfOk result (λ made. made.checkpoint ≡ checkpoint) }
+{
+    match why {
+        NotKept::Troubled(why) => Err(why),
+        NotKept::RootChanged => Ok(unmade(checkpoint, SliceEnd::RootChanged)),
+        NotKept::Unread(place) => Ok(unmade(checkpoint, SliceEnd::Unread(place))),
+    }
+}
+
+/// A slice of which nothing is kept, and that ended so.
 fn unmade(checkpoint: Checkpoint, end: SliceEnd) -> Made
     ensures { result.checkpoint ≡ checkpoint }
 {
@@ -196,6 +218,8 @@ fn keep<S: StateFolder>(
         → IfOk result (λ made. IsReady S.seen S.may_leave part t made.checkpoint folder.new) }
     ensures closed { IsTrue S.told → OnOk result
         ((S.seen folder.new).closed ≡ (S.seen folder.old).closed) }
+    ensures next { IfOk result (λ made. (report : ModelMark)
+        × IsNext checkpoint ran report made.checkpoint) }
 {
     let mark = report_of(&checkpoint);
     let report = extend(folder, &mark, lines)?;
@@ -207,31 +231,41 @@ fn keep<S: StateFolder>(
 /// Makes one run from a checkpoint's cursor, past the branches that were left out, and the
 /// checkpoint after it. The root is looked at after the run: where it is gone, or another one,
 /// nothing of the run is kept.
+///
+/// The run goes on with the walk that the slice before it kept, where it was made from the
+/// checkpoint that one gave; after a slice that the limits did not end, none is kept.
 pub fn slice<S: StateFolder, T: Tree>(
     alloc: Global,
     folder: &mut S,
     tree: &mut T,
     part: &Part,
     identity: &Identity,
+    kept: &mut KeptWalk,
     checkpoint: Checkpoint,
     limits: Limits,
     block: &mut Block,
 ) -> Result<Made, Stop>
     requires { checkpoint.phase ≡ Open }
     ensures any_moment { IsTrue S.told → IfTold T.told (T.state tree.old) (λ root.
-        HasShortFiles root → (t : Text)
+        HasShortFiles root → IsWalkAt root (part_of part.now) checkpoint kept.old → (t : Text)
         → IsReady S.seen S.may_leave (part_of part.now) t checkpoint folder.old
         → LeavesOnly S.moment S.left_since folder.old folder.new
         (IsSoundAt (part_of part.now) t)) }
     ensures ready { IsTrue S.told → IfTold T.told (T.state tree.old) (λ root.
-        HasShortFiles root → (t : Text)
+        HasShortFiles root → IsWalkAt root (part_of part.now) checkpoint kept.old → (t : Text)
         → IsReady S.seen S.may_leave (part_of part.now) t checkpoint folder.old
         → IfOk result (λ made. IsReady S.seen S.may_leave (part_of part.now) t
         made.checkpoint folder.new)) }
     ensures closed { IsTrue S.told → OnOk result
         ((S.seen folder.new).closed ≡ (S.seen folder.old).closed) }
     ensures root { IfTold T.told (T.state tree.old) (λ root. HasShortFiles root
+        → IsWalkAt root (part_of part.now) checkpoint kept.old
         → (T.state tree.new).tree ≡ root) }
+
+    // The next slice may go on with the walk that is kept.
+    ensures walk { IfTold T.told (T.state tree.old) (λ root. HasShortFiles root
+        → IsWalkAt root (part_of part.now) checkpoint kept.old
+        → IfOk result (λ made. IsWalkAt root (part_of part.now) made.checkpoint kept.new)) }
 
     // Nothing is kept of a run after which the root is not the one of before.
     ensures still { IsTrue S.told → IsTrue T.told → (S.seen folder.new ≡ S.seen folder.old)
@@ -239,11 +273,12 @@ pub fn slice<S: StateFolder, T: Tree>(
 {
     let cursor = cursor_of(&checkpoint)?;
     let rest = part_past(alloc, part, checkpoint.left.as_slice())?;
-    let (ran, lines) = match make_run(alloc, tree, &rest, identity, cursor, limits, block) {
+    let (ran, lines) = match make_run(alloc, tree, &rest, identity, kept, cursor, limits, block) {
         Ok(made) => made,
-        Err(NotKept::Troubled(why)) => return Err(why),
-        Err(NotKept::RootChanged) => return Ok(unmade(checkpoint, SliceEnd::RootChanged)),
-        Err(NotKept::Unread(place)) => return Ok(unmade(checkpoint, SliceEnd::Unread(place))),
+        Err(why) => {
+            kept.forget();
+            return unkept(checkpoint, why);
+        }
     };
     keep(alloc, folder, checkpoint, ran, &lines)
 }

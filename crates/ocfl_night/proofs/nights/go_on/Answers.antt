@@ -7,11 +7,11 @@ use Rattle.ocfl_night.proofs.TakingUp.{ready_moments}
 use Rattle.ocfl_night.proofs.nights.go_on.Goals as goal
 
 pub returns-then-ne-clause-any_moment : goal.returns-then-ne-clause-any_moment
-returns-then-ne-clause-any_moment g c = λ told tells root over short t r.
+returns-then-ne-clause-any_moment g c = λ told tells root over short walk t r.
     ready_moments g.S.StateFolder.seen g.S.StateFolder.may_leave g.S.StateFolder.moment g.S.StateFolder.left_since (g.met.S.StateFolder.only_now told) (part_of c.args.part.now) t c.args.checkpoint c.args.folder.now r
 
 pub returns-in-Err-clause-any_moment : goal.returns-in-Err-clause-any_moment
-returns-in-Err-clause-any_moment g c = λ told tells root over short t r.
+returns-in-Err-clause-any_moment g c = λ told tells root over short walk t r.
     ready_moments g.S.StateFolder.seen g.S.StateFolder.may_leave g.S.StateFolder.moment g.S.StateFolder.left_since (g.met.S.StateFolder.only_now told) (part_of c.args.part.now) t c.args.checkpoint c.args.folder.now r
 
 pub returns-then-ne-clause-clock : goal.returns-then-ne-clause-clock
@@ -28,11 +28,16 @@ returns-clause-clock g c = λ told.
     fewer c.args.plan.now.end (g.C.Clock.answers c.args.clock.now) (g.C.Clock.answers c.allowed.new.clock) count (count + 1) c.go_on_after.new.tally.runs (c.in-Ok.ensures.more told count) (omega (arith, c.go_on_after.ensures.runs, c.count.ensures, c.begin.ensures))
 
 pub returns-clause-any_moment : goal.returns-clause-any_moment
-returns-clause-any_moment g c = λ told tells root over short t r.
+returns-clause-any_moment g c = λ told tells root over short walk t r.
     let part = part_of c.args.part.now in
     joined_moments (IsSoundAt part t) c.args.folder.now c.slice.new.folder c.go_on_after.new.folder
-    (c.slice.ensures.any_moment told tells root over short t r) (c.go_on_after.ensures.any_moment told part t (c.in_ok-made.ensures.ready told tells root over short t r))
+    (c.slice.ensures.any_moment told tells root over short walk t r) (c.go_on_after.ensures.any_moment told part t (c.in_ok-made.ensures.ready told tells root over short walk t r))
 
 pub returns-clause-ready : goal.returns-clause-ready
-returns-clause-ready g c = λ told tells root over short t r.
-    c.go_on_after.ensures.ready told (part_of c.args.part.now) t (c.in_ok-made.ensures.ready told tells root over short t r)
+returns-clause-ready g c = λ told tells root over short walk t r.
+    c.go_on_after.ensures.ready told (part_of c.args.part.now) t (c.in_ok-made.ensures.ready told tells root over short walk t r)
+
+pub returns-clause-walk : goal.returns-clause-walk
+returns-clause-walk g c = λ tells root over short walk.
+    let part = part_of c.args.part.now in
+    c.go_on_after.ensures.walk part root (c.in_ok-made.ensures.walk tells root over short walk)

@@ -7,6 +7,7 @@ use Rattle.ocfl_scrub.specs.Starting.{part_of}
 use Rattle.ocfl_state.specs.Crash.{LeavesOnly}
 use Rattle.ocfl_night.specs.Clock.{BeginsInTime}
 use Rattle.ocfl_night.specs.Sound.{IsReady, IsSoundAt}
+use Rattle.ocfl_night.specs.Steps.{IsWalkAt}
 use Rattle.ocfl_night.proofs.nights.runs.Given as goal
 
 abbrev pub invariant-loop-run : goal.invariant-loop-run
@@ -20,4 +21,5 @@ invariant-loop-run g l =
       closed : IsTrue g.S.StateFolder.told → (seen l.folder).closed ≡ (seen l.fn.folder).closed;
       clock : IsTrue g.C.Clock.told → BeginsInTime l.fn.plan.end (g.C.Clock.answers l.fn.clock) (g.C.Clock.answers l.clock) l.fn.tally.runs l.tally.runs;
       root : IfTold g.T.Tree.told (g.T.Tree.state l.fn.tree) (λ root. HasShortFiles root → (g.T.Tree.state l.tree).tree ≡ root);
+      walk : IfTold g.T.Tree.told (g.T.Tree.state l.fn.tree) (λ root. HasShortFiles root → IsWalkAt root part l.checkpoint l.kept);
     }

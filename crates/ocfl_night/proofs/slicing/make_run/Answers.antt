@@ -1,53 +1,36 @@
-use Rattle.std.proofs.Common.{◌∙◌, ap, Some, refl, sym, subst}
+use Rattle.std.proofs.Common.{◌∙◌, refl, sym, subst}
 use Rattle.ocfl_tree.specs.StorageRoot.{StorageRoot}
+use Rattle.ocfl_scrub.specs.Keeping.{met_at}
 use Rattle.ocfl_scrub.specs.Starting.{part_of}
 use Rattle.ocfl_scrub.specs.Running.{limits_of}
 use Rattle.ocfl_night.specs.Site.{IsStill}
-use Rattle.ocfl_night.proofs.Chains.{tree_kept}
 use Rattle.ocfl_night.proofs.Extending.{run_of}
 use Rattle.ocfl_night.proofs.slicing.make_run.Goals as goal
 
 pub returns-clause-run : goal.returns-clause-run
-returns-clause-run g c = λ tells root over short.
+returns-clause-run g c = λ tells root over short ready.
     let part = part_of c.args.part.now in
     let s = g.T.Tree.state c.args.tree.now in
-    let t = g.T.Tree.state c.run_part-ran.new.store in
+    let t = g.T.Tree.state c.run_on-ran.new.store in
     let old = c.new-lines.result.items in
-    let new = c.run_part-ran.new.out.items in
-    let runs = c.run_part-ran.ensures.told tells root over short c.in_default.ensures.made in
-    let law = c.each_run_has_a_report.ensures root s t old new part c.args.cursor (limits_of c.args.limits) c.run_part-ran.result runs in
-    run_of root part c.args.cursor (limits_of c.args.limits) c.run_part-ran.result old new law c.new-lines.ensures.items c.in_default.ensures.whole
+    let new = c.run_on-ran.new.out.items in
+    let runs = c.run_on-ran.ensures.told tells root over short c.in_default.ensures.made ready in
+    let law = c.each_run_that_goes_on_has_a_report.ensures root s t old new part (met_at c.args.kept.now) c.args.cursor (limits_of c.args.limits) c.run_on-ran.result runs in
+    run_of root part c.args.cursor (limits_of c.args.limits) c.run_on-ran.result old new law c.new-lines.ensures.items c.in_default.ensures.whole
+
+pub returns-clause-walk : goal.returns-clause-walk
+returns-clause-walk g c = λ tells root over short ready. c.run_on-ran.ensures.ready tells root over short ready
 
 pub returns-in-Some-clause-root : goal.returns-in-Some-clause-root
-returns-in-Some-clause-root g c = λ tells root over short.
-    let part = part_of c.args.part.now in
-    let s = g.T.Tree.state c.args.tree.now in
-    let t = g.T.Tree.state c.run_part-ran.new.store in
-    tree_kept root s t (Some c.new-lines.result.items) (Some c.run_part-ran.new.out.items) part c.args.cursor (limits_of c.args.limits) c.run_part-ran.result over
-    (λ worn. ap g.T.Tree.state (c.run_part-ran.ensures.any_store.worn_silent worn).0)
-    (λ made. c.run_part-ran.ensures.told tells root over short made)
+returns-in-Some-clause-root g c = λ tells root over short ready. c.run_on-ran.ensures.root tells root over short ready
 
 pub returns-in_err-look_again-clause-root : goal.returns-in_err-look_again-clause-root
-returns-in_err-look_again-clause-root g c = λ tells root over short.
-    let part = part_of c.args.part.now in
-    let s = g.T.Tree.state c.args.tree.now in
-    let t = g.T.Tree.state c.run_part-ran.new.store in
-    c.look_again.ensures.keeps tells ∙
-    tree_kept root s t (Some c.new-lines.result.items) (Some c.run_part-ran.new.out.items) part c.args.cursor (limits_of c.args.limits) c.run_part-ran.result over
-    (λ worn. ap g.T.Tree.state (c.run_part-ran.ensures.any_store.worn_silent worn).0)
-    (λ made. c.run_part-ran.ensures.told tells root over short made)
+returns-in_err-look_again-clause-root g c = λ tells root over short ready. c.look_again.ensures.keeps tells ∙ c.run_on-ran.ensures.root tells root over short ready
 
 pub returns-clause-root : goal.returns-clause-root
-returns-clause-root g c = λ tells root over short.
-    let part = part_of c.args.part.now in
-    let s = g.T.Tree.state c.args.tree.now in
-    let t = g.T.Tree.state c.run_part-ran.new.store in
-    c.look_again.ensures.keeps tells ∙
-    tree_kept root s t (Some c.new-lines.result.items) (Some c.run_part-ran.new.out.items) part c.args.cursor (limits_of c.args.limits) c.run_part-ran.result over
-    (λ worn. ap g.T.Tree.state (c.run_part-ran.ensures.any_store.worn_silent worn).0)
-    (λ made. c.run_part-ran.ensures.told tells root over short made)
+returns-clause-root g c = λ tells root over short ready. c.look_again.ensures.keeps tells ∙ c.run_on-ran.ensures.root tells root over short ready
 
 pub returns-clause-still : goal.returns-clause-still
 returns-clause-still g c = λ tells.
-    let t = (g.T.Tree.state c.run_part-ran.new.store).tree in
+    let t = (g.T.Tree.state c.run_on-ran.new.store).tree in
     subst (λ (x : StorageRoot). IsStill c.args.identity.now x) (sym (c.look_again.ensures.keeps tells)) (c.in_ok-look_again.ensures.still tells t refl)

@@ -1,0 +1,52 @@
+-- The walk that is kept from one slice to the next.
+use Rattle.std.proofs.Common.{◌≡◌, Err, List, None, Ok, Option, Result, subst, sym}
+use Rattle.std.specs.Prelude.{IfOk}
+use Rattle.ocfl_tree.specs.Place.{Place}
+use Rattle.ocfl_tree.specs.StorageRoot.{StorageRoot}
+use Rattle.ocfl_audit.specs.Parts.{Part}
+use Rattle.ocfl_cursor.specs.Cursor.{Cursor}
+use Rattle.ocfl_scrub.specs.Keeping.{IsReady, IsReadyIn}
+use Rattle.ocfl_scrub.specs.Running.{place_in}
+use Rattle.ocfl_scrub.specs.declared.kept.KeptWalk.{KeptWalk}
+use Rattle.ocfl_scrub.specs.declared.kept.Met.{Met}
+use Rattle.ocfl_scrub.specs.declared.running.RunEnd.{RunEnd}
+use Rattle.ocfl_state.specs.Checkpoint.{Checkpoint}
+use Rattle.ocfl_state.specs.declared.checkpoint_parts.Left.{Left}
+use Rattle.ocfl_state.specs.declared.checkpoint_parts.ReportMark.{ReportMark}
+use Rattle.ocfl_night.specs.Chain.{part_after}
+use Rattle.ocfl_night.specs.Steps.{IsNext, IsWalkAt}
+use Rattle.ocfl_night.specs.declared.slicing.Made.{Made}
+use Rattle.ocfl_night.specs.declared.stop.Stop.{Stop}
+
+-- where none is kept, the next run begins one
+pub walk_none : (root : StorageRoot) (part : Part) (k : Checkpoint) (kept : KeptWalk) → kept.met ≡ None → IsWalkAt root part k kept
+walk_none root part k kept none = subst (λ (o : Option Met). IsReadyIn root (part_after part k.left) (place_in k.cursor.state) o) (sym none) tt
+
+-- of the run that is made from a checkpoint
+pub walk_from : (root : StorageRoot) (kept : KeptWalk) (rest part : Part) (k : Checkpoint) (c : Cursor) → rest ≡ part_after part k.left → c ≡ k.cursor → IsWalkAt root part k kept
+    → IsReady root rest (place_in c.state) kept
+walk_from root kept rest part k c there same walk =
+    subst (λ (x : Cursor). IsReady root rest (place_in x.state) kept) (sym same) (subst (λ (y : Part). IsReady root y (place_in k.cursor.state) kept) (sym there) walk)
+
+-- and of the next one
+pub walk_next : (root : StorageRoot) (part : Part) (k next : Checkpoint) (ran : RunEnd) (report : ReportMark) → IsNext k ran report next → (kept : KeptWalk) (rest : Part) → rest ≡ part_after part k.left
+    → IsReady root rest (place_in ran.cursor.state) kept → IsWalkAt root part next kept
+walk_next root part k next ran report is kept rest there walk =
+    subst (λ (l : List Left). IsReady root (part_after part l) (place_in next.cursor.state) kept) (sym is.left_is)
+    (subst (λ (x : Cursor). IsReady root (part_after part k.left) (place_in x.state) kept) (sym is.cursor_is)
+    (subst (λ (y : Part). IsReady root y (place_in ran.cursor.state) kept) there walk))
+
+pub walk_made : (root : StorageRoot) (part : Part) (k : Checkpoint) (ran : RunEnd) (made : Result Made Stop) → IfOk made (λ m. (report : ReportMark) × IsNext k ran report m.checkpoint) → (kept : KeptWalk) (rest : Part) → rest ≡ part_after part k.left
+    → IsReady root rest (place_in ran.cursor.state) kept → IfOk made (λ m. IsWalkAt root part m.checkpoint kept)
+walk_made root part k ran (Ok m) h kept rest there walk = walk_next root part k m.checkpoint ran h.0 h.1 kept rest there walk
+walk_made root part k ran (Err e) h kept rest there walk = tt
+
+-- whatever comes, where none is kept
+module _ (root : StorageRoot) (part : Part) (kept : KeptWalk) (none : kept.met ≡ None) where
+  pub walk_any : {B E : Type 0} (next : Result (Checkpoint × B) E) → IfOk next (λ n. IsWalkAt root part n.0 kept)
+  walk_any (Ok n) = walk_none root part n.0 kept none
+  walk_any (Err e) = tt
+
+  pub walk_unmade : (made : Result Made Stop) → IfOk made (λ m. IsWalkAt root part m.checkpoint kept)
+  walk_unmade (Ok m) = walk_none root part m.checkpoint kept none
+  walk_unmade (Err e) = tt

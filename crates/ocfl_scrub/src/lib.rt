@@ -85,6 +85,11 @@
 //!
 //! - `audit_part` writes the text of the part's items (`AuditsWithin`). If none of them went out,
 //!   `last` says so.
+//! - `run_on` does what `run_part` does, and leaves its walk for the next run. If the limits ended
+//!   the run before, the next one lists only directories of the part above the item that they did
+//!   not allow to start, and reads only inventories above it (`LooksAbove`). A run that goes down
+//!   first would write the same by the same calls from that item on (`GoesOnFrom`), so the laws
+//!   of joining hold of it too (`each_run_that_goes_on_has_a_report`).
 //! - `run_part` takes the greatest cut that the limits allow of the part's items above the cursor's
 //!   place (`RunsWithin`). It ends the cycle exactly if no item of the part is left after the cut.
 //! - It begins with the part's first item if the cursor is at its start, has ended, or has a place

@@ -21,6 +21,7 @@ use std::io::Write;
 use std::test::Fail;
 
 mod lost;
+mod slices;
 
 /// The audit of the root of three files, whose costs are 4, 1 and 4.
 const AUDIT: &str =

@@ -8,6 +8,7 @@ mod expected;
 mod faults;
 mod head;
 mod inventory_lines;
+mod kept;
 mod large;
 mod long_parts;
 mod lying;

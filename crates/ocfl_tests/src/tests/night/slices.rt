@@ -1,0 +1,56 @@
+//! The slices of one night: they list and read nothing twice.
+use super::{closed_whole, ending, night_over, plan, site};
+use crate::tests::common::digests::lines_of;
+use crate::tests::common::roots::right_objects;
+use crate::tests::common::store::times_opened;
+use ocfl_memory::MemTree;
+use ocfl_state::MemState;
+use std::test::Fail;
+
+/// The audit of the root with the right objects `p`, `q` and `r`.
+const AUDIT: &str = "ok|.|-\nok|p|-\nok|p/v1/content/f|3\nok|q|-\nok|q/v1/content/f|3\n\
+                     ok|r|-\nok|r/v1/content/f|3\n";
+
+/// How often the directory that is listed most was listed, the storage root left out.
+fn most_listed(store: &MemTree) -> usize {
+    let listings = store.listings().iter();
+    let times = listings.filter(|place| place.depth() > 0).map(|place| {
+        let same = store.listings().iter();
+        same.filter(|other| *other == place).count()
+    });
+    times.max().unwrap_or(0)
+}
+
+/// A night of three slices lists the directories of objects once, and opens their files once. The
+/// root is listed twice, before the slices and by the walk. Its declaration is opened so too, and
+/// after each slice.
+#[test]
+fn slices_of_a_night_list_and_read_nothing_again(rt: HostRuntime) -> Result<(), Fail> {
+    let alloc = rt.alloc();
+    let mut store = right_objects(alloc, &["p", "q", "r"])?;
+    let (mut folder, mut said) = (MemState::new(alloc), Vec::new(alloc));
+    let all = plan(None, None, true)?;
+    let made = night_over(
+        alloc,
+        &mut folder,
+        &mut store,
+        &site(alloc)?,
+        &all,
+        &mut said,
+    )?;
+    assert_eq!(rt; (ending(&made.end), made.runs), ("cycle 1 ended", 3));
+    assert_eq!(rt;
+        closed_whole(&folder),
+        Some(lines_of(alloc, AUDIT)?.as_bytes())
+    );
+    assert_eq!(rt; most_listed(&store), 1);
+    let listings = store.listings().iter();
+    assert_eq!(rt; listings.filter(|place| place.depth() == 0).count(), 2);
+    for opening in store.openings() {
+        let path = opening.place.path();
+        let times = times_opened(alloc, &store, path)?;
+        let want = if opening.place.depth() > 1 { 1 } else { 5 };
+        assert_eq!(rt; times, want, "{path}");
+    }
+    Ok(())
+}

@@ -313,18 +313,18 @@ fn faults_of_the_system_are_told_apart(rt: HostRuntime) -> Result<(), Fail> {
         (ErrorKind::PermissionDenied, Trouble::Device),
         (ErrorKind::Other, Trouble::Device),
     ] {
-        for call in [Call::Metadata, Call::OpenDir] {
-            let answer = listed(Fake::new(alloc, names, call, kind, 1)?)?;
-            assert_eq!(rt; answer, Err(want), "{kind:?} of {call:?}");
-        }
+        let answer = listed(Fake::new(alloc, names, Call::Metadata, kind, 1)?)?;
+        assert_eq!(rt; answer, Err(want), "{kind:?} of a look");
         let answer = read(Fake::new(alloc, names, Call::OpenFile, kind, 1)?)?;
         assert_eq!(rt; answer, Err(want), "{kind:?} of an opening");
         let answer = read(Fake::new(alloc, names, Call::Read, kind, 1)?)?;
         assert_eq!(rt; answer, Err(Trouble::Device), "{kind:?} of a read");
-        // A file that is open is there.
-        let answer = read(Fake::new(alloc, names, Call::Opened, kind, 1)?)?;
+        // A directory in which it stands and a file that is open are there.
         let absent = want == Trouble::Absent;
         let want = if absent { Trouble::Device } else { want };
+        let answer = listed(Fake::new(alloc, names, Call::OpenDir, kind, 1)?)?;
+        assert_eq!(rt; answer, Err(want), "{kind:?} of a directory");
+        let answer = read(Fake::new(alloc, names, Call::Opened, kind, 1)?)?;
         assert_eq!(rt; answer, Err(want), "{kind:?} of an open file");
     }
     Ok(())

@@ -427,8 +427,11 @@ fn what_takes_the_place_of_a_folder_is_not_read(rt: HostRuntime) -> Result<(), F
     ] {
         for when in 1..MOST_CALLS {
             let row = format!(in alloc; "{event:?} before call {when}")?;
-            let (mut store, _) = folder(alloc, when, Some(event))?;
+            let (mut store, calls) = folder(alloc, when, Some(event))?;
             let met = walked(alloc, &mut store)?;
+            if calls.get() < when {
+                break; // so many calls are not made
+            }
             assert!(rt; !met.text.contains("outside"), "{row}: {}", met.text);
             // Whatever was read is what lies there, and the folder goes on.
             let again = walked(alloc, &mut store)?;
@@ -454,8 +457,11 @@ fn another_folder_in_the_place_of_one_is_found_out(rt: HostRuntime) -> Result<()
     for event in [Event::BecomesOther(5, 20), Event::BecomesOther(6, 25)] {
         for when in 1..MOST_CALLS {
             let row = format!(in alloc; "{event:?} before call {when}")?;
-            let (mut store, _) = folder(alloc, when, Some(event))?;
+            let (mut store, calls) = folder(alloc, when, Some(event))?;
             let met = walked(alloc, &mut store)?;
+            if calls.get() < when {
+                break; // so many calls are not made
+            }
             // One that lay there before the look is read; none is read for another.
             let both = met.text.contains("d/e/f=d/e/f;") && met.text.contains("d/e/f=outside;");
             assert!(rt; !both, "{row}: {}", met.text);
@@ -483,7 +489,10 @@ fn a_call_that_fails_is_told_and_leaves_the_rest(rt: HostRuntime) -> Result<(), 
             let row = format!(in alloc; "{kind:?} of call {when}")?;
             let (mut store, calls) = folder(alloc, when, Some(Event::Fails(kind)))?;
             let met = walked(alloc, &mut store)?;
-            let fails = kind != ErrorKind::Interrupted && calls.get() >= when;
+            if calls.get() < when {
+                break; // so many calls are not made
+            }
+            let fails = kind != ErrorKind::Interrupted;
             assert_eq!(rt; met.troubles, usize::from(fails), "{row}: {}", met.text);
             let reason = store.reason().map(|error| error.kind());
             assert_eq!(rt; reason, fails.then_some(kind), "{row}");

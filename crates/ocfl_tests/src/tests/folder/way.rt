@@ -169,16 +169,6 @@ fn a_directory_that_becomes_a_link_is_no_directory(rt: HostRuntime) -> Result<()
             "after {listed}"
         );
         becomes_a_directory(&rt, "way_becomes")?;
-        // What is not known is looked at name by name.
-        store.list(&place_of(rt.alloc(), listed)?)?;
-        becomes_a_link(&rt, "way_becomes")?;
-        let elsewhere = place_of(rt.alloc(), "d/g/f")?;
-        assert_eq!(rt;
-            store.open(&elsewhere),
-            Err(Trouble::Device),
-            "after {listed}"
-        );
-        becomes_a_directory(&rt, "way_becomes")?;
     }
     fs::remove_dir_all(&rt, "way_becomes")?;
     Ok(())

@@ -6,8 +6,8 @@ usage: exchanges.py
 
 strace stops the program after the last look before the opening. What is opened then is not what was
 looked at: content is S08, never `ok`, and at an object's own files the program stops. Where the
-file was only moved, and a link to it left in its place, what is opened is what was looked at, and it
-is read. Of a folder that a link takes the place of, nothing that the link leads to is read.
+file was only moved, and a link to it left in its place, what is opened is what was looked at, and
+it is read. Of a folder that a link takes the place of, nothing that the link leads to is read.
 
 Tried, and what comes of it:
 

@@ -1,5 +1,6 @@
 //! Listing the directory in which a system stands, and opening a file there.
-ghost use Rattle.std.specs.Prelude.{◌≡◌, ◌≢◌, ◌++◌, ◌∷◌, [], IsTrue, IfOk, OnOk, IfErr, MatchResult};
+ghost use Rattle.std.specs.Prelude.{◌≡◌, ◌≢◌, ◌++◌, ◌∷◌, [], IsTrue, IfOk, OnOk, IfErr};
+ghost use Rattle.std.specs.Prelude.{MatchResult};
 ghost use Rattle.std.specs.Prelude.{◌≤◌, ◌<◌, Some, None, length, take};
 ghost use Rattle.ocfl_tree.specs.StorageRoot.{file, at};
 ghost use Rattle.ocfl_tree.specs.Listing.{IsListing, IsOrdinary, kind_at};

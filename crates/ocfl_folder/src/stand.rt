@@ -1,5 +1,6 @@
 //! Where a folder stands.
-ghost use Rattle.std.specs.Prelude.{◌≡◌, ◌≢◌, IsTrue, IfOk, IfErr, OnOk, [], MatchResult, Some, None, List, ℕ};
+ghost use Rattle.std.specs.Prelude.{◌≡◌, ◌≢◌, IsTrue, IfOk, IfErr, OnOk, [], MatchResult, Some};
+ghost use Rattle.std.specs.Prelude.{None, List, ℕ};
 ghost use Rattle.ocfl_tree.specs.StorageRoot.{file, dir, at};
 ghost use Rattle.ocfl_tree.specs.Listing.{IsListing, IsOrdinary};
 ghost use Rattle.ocfl_tree.specs.declared.store.Trouble.TheVariants.{Absent};
@@ -70,8 +71,8 @@ impl<S: System + Drop> Stand<S> {
         Ok(())
     }
 
-    /// Whether it is known to stand in the directory with this path, which is not the folder itself:
-    /// whether that is still where its own path leads is not known.
+    /// Whether it is known to stand in the directory with this path. Of the folder itself it is not
+    /// known: its own path may lead elsewhere meanwhile.
     fn is_in(&self, path: &str) -> bool
         ensures { IsTrue result → IsTrue S.told
             → (S.state self.now.system).here ≡ Some (names_of path.now) }

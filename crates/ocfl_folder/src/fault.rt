@@ -37,7 +37,7 @@ impl From<NameStop> for Fault {
 
     fn from(stop: NameStop) -> Fault {
         match stop {
-            NameStop::Bad => wrong("it holds a name that is none"),
+            NameStop::Bad => wrong("it holds an invalid name"),
             NameStop::Memory => Fault::Failed(out_of_memory()),
         }
     }

@@ -1,6 +1,30 @@
 //! The audit of a storage root or of a part of it, runs and cycles within limits, the check of one
 //! place, and what a command does: its status, its note and the stored cursor.
 //!
+//! # Example
+//!
+//! ```
+//! use ocfl_digest::Block;
+//! use ocfl_folder::FsTree;
+//! use ocfl_scrub::{Note, audited};
+//! use std::fs;
+//! use std::test::Fail;
+//!
+//! #[test]
+//! fn a_storage_root_on_disk_is_audited(rt: HostRuntime) -> Result<(), Fail> {
+//!     fs::create_dir(&rt, "storage-root")?;
+//!     fs::write(&rt, "storage-root/0=ocfl_1.1", b"ocfl_1.1\n")?;
+//!     let mut store = FsTree::at(&rt, "storage-root")?;
+//!     let mut block = Block::new(rt.alloc())?;
+//!     let mut report = Vec::new(rt.alloc());
+//!     let (status, note) = audited(rt.alloc(), &mut store, &mut block, &mut report);
+//!     assert!(rt; status == 0 && matches!(note, Note::Nothing));
+//!     assert!(rt; report.as_slice() == b"ok\t.\t-\n".as_slice());
+//!     fs::remove_dir_all(&rt, "storage-root")?;
+//!     Ok(())
+//! }
+//! ```
+//!
 //! # What is proved of a check
 //!
 //! - `check` writes exactly the text of the lines of the place, and opens no file twice. `item` and

@@ -6,6 +6,7 @@ mod common;
 mod compare;
 mod cursor;
 mod digest;
+mod examples;
 mod folder;
 mod identity;
 mod inventory;

@@ -1,0 +1,4 @@
+//! An example of each crate that others may call. The head of its `src/lib.rt` shows the same text.
+mod of_digest;
+mod of_inventory;
+mod of_scrub;

@@ -12,11 +12,12 @@ ghost use Rattle.ocfl_audit.specs.Lines.{unnamed_notes, wrong_notes};
 ghost use Rattle.ocfl_item.specs.Internal.FileLines.{HasDigests, wrong_by};
 ghost use Rattle.ocfl_item.specs.Internal.Lines.{Adds, HasLines};
 
-use crate::lines::{PlaceLines, code_of, hex_of};
+use crate::digits::{hex_of, is_hex_of};
+use crate::lines::{PlaceLines, code_of};
 use ocfl_digest::Digests;
 use ocfl_inventory::Named;
 use ocfl_report::{Code, Line};
-use ocfl_tree::{Place, is_text};
+use ocfl_tree::Place;
 use std::alloc::{AllocError, Global};
 
 fn is_in_manifest(named: &[Named]) -> bool
@@ -51,10 +52,10 @@ fn add_unless_found(
     ensures { OnOk result (Adds lines.old lines.new
         (wrong_by (encode_lower found.now) (named_view named.now))) }
 {
-    let found = hex_of(alloc, found)?;
-    if is_text(&named.digest, &found) {
+    if is_hex_of(&named.digest, found) {
         return Ok(());
     }
+    let found = hex_of(alloc, found)?;
     lines.add_mismatch(
         alloc,
         code_of(named),

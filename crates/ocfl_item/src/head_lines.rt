@@ -26,7 +26,8 @@ ghost use Rattle.ocfl_item.specs.Internal.HeadLines.{named_notes};
 ghost use Rattle.ocfl_item.specs.Internal.Lines.{Adds, HasLines};
 
 use crate::declarations::is_exact;
-use crate::lines::{PlaceLines, hex_of};
+use crate::digits::hex_of;
+use crate::lines::PlaceLines;
 use ocfl_digest::{Algorithm, Bounded, Digests, Wanted, hash_bytes};
 use ocfl_inventory::{Level, Remark, Sum, Table, Version, read_inventory, sidecar};
 use ocfl_report::Code;

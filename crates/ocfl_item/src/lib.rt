@@ -15,6 +15,7 @@
 mod base;
 mod content;
 mod declarations;
+mod digits;
 mod fault;
 mod file_lines;
 mod folder;

@@ -1,6 +1,5 @@
 //! The lines of one place, as they are gathered.
 ghost use Rattle.std.specs.Prelude.{◌≡◌, ◌++◌, ◌∷◌, [], IfOk, List, OnOk, map, string_bytes};
-ghost use Rattle.hex.specs.Hex.{encode_lower};
 ghost use Rattle.ocfl_report.specs.Line.{line_of};
 ghost use Rattle.ocfl_inventory.specs.Note.{Note, lines_at, note, plain};
 ghost use Rattle.ocfl_inventory.specs.TripleView.{named_view};
@@ -94,13 +93,6 @@ impl PlaceLines {
         let detail = format!(in alloc; "{} {} {}", algorithm.name(), wanted, found)?;
         self.add(code, detail)
     }
-}
-
-/// A digest in hexadecimal digits.
-pub(crate) fn hex_of(alloc: Global, digest: &[u8]) -> Result<String, AllocError>
-    ensures { IfOk result (λ digits. string_bytes digits ≡ encode_lower digest.now) }
-{
-    hex::encode(alloc, digest)
 }
 
 /// The code of what is wrong with a named digest.

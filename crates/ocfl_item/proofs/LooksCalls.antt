@@ -1,10 +1,9 @@
 -- What calls did on the way down to a place.
-use Rattle.std.proofs.Common.{◌≡◌, ◌⊎◌, inl, inr, ℕ, List, [], ◌∷◌, ◌++◌, refl, sym, ◌∙◌, ap, subst, true, false, Bool, Option, Some, None, arith, append_assoc}
-use Rattle.std.proofs.lemmas.List.{append-nil}
+use Rattle.std.proofs.Common.{◌≡◌, ◌⊎◌, inl, inr, ℕ, List, [], ◌∷◌, ◌++◌, refl, sym, ◌∙◌, ap, subst, true, false, Bool, Option, Some, None, append_assoc}
 use Rattle.std.specs.Prelude.{cond, nat_lt, map, Ok}
 use Rattle.ocfl_tree.specs.Place.{Text, Place}
 use Rattle.ocfl_tree.specs.StorageRoot.{StorageRoot, Leaf, dir, at}
-use Rattle.ocfl_tree.specs.Store.{Store, Did}
+use Rattle.ocfl_tree.specs.Store.{Store}
 use Rattle.ocfl_tree.specs.Listing.{IsOrdinary}
 use Rattle.ocfl_tree.specs.Calls.{ListFails}
 use Rattle.ocfl_tree.specs.declared.store.Entry.{Entry}

@@ -1,5 +1,5 @@
 -- What the lines of one place say together, and its text.
-use Rattle.std.proofs.Common.{◌≡◌, ◌≢◌, ◌⊎◌, inl, inr, List, [], ◌∷◌, ◌++◌, ℕ, Bool, true, false, Option, Some, None, All, map, filter, refl, sym, ap, subst, ◌∙◌, append_assoc, append-nil}
+use Rattle.std.proofs.Common.{◌≡◌, ◌≢◌, inl, inr, List, [], ◌∷◌, ◌++◌, ℕ, Bool, true, false, Option, Some, None, All, map, refl, sym, ap, subst, ◌∙◌, append_assoc, append-nil}
 use Rattle.std.specs.Prelude.{cond, ◌&&◌, ◌||◌, not, flat_map}
 use Rattle.std.specs.List.{list_any}
 use Rattle.std.specs.declared.cmp.Ordering.{Ordering}
@@ -13,9 +13,9 @@ use Rattle.ocfl_report.specs.Text.{code_text}
 use Rattle.ocfl_report.specs.declared.code.Code.{Code}
 use Rattle.ocfl_report.specs.declared.line.Line.{Line as MadeLine}
 use Rattle.ocfl_compare.specs.Kinds.{is_empty, tells_object, tells_file}
-use Rattle.ocfl_compare.specs.Changes.{has_code, with_code, codes_from, finding_codes, new_codes, Change, object_gone, file_gone, found, repaired, missing, when, changes_at, missing_at, answer_at, row_text, change_word, changes_text, is_left}
+use Rattle.ocfl_compare.specs.Changes.{has_code, with_code, codes_from, new_codes, Change, object_gone, file_gone, found, repaired, missing, when, changes_at, missing_at, answer_at, row_text, change_word, changes_text, is_left}
 use Rattle.ocfl_compare.specs.Internal.Reading.{listed, HasRead, IsNotAbove, IsBelow, IsAt, GoesOn}
-use Rattle.ocfl_compare.specs.Internal.Telling.{IsTold, told_repaired, new_text, told_changes, told_missing, told_answer}
+use Rattle.ocfl_compare.specs.Internal.Telling.{IsTold, new_text, told_changes, told_missing, told_answer}
 use Rattle.ocfl_compare.specs.Internal.Turns.{AreTaken, said_text}
 use Rattle.ocfl_compare.specs.declared.question.Question.{Question}
 use Rattle.ocfl_compare.specs.declared.question.Question.TheVariants.{Changed, Expected}
@@ -57,6 +57,10 @@ told_more told after own l h absent object file findings = record {
 when_text : (p : Place) (b : Bool) (c : Change) → changes_text p (when b c) ≡ cond b (row_text (change_word c) p) []
 when_text p true c = append-nil (row_text (change_word c) p)
 when_text p false c = refl
+
+-- the row of a change, if it is one
+pub one_row : (p : Place) (is known : Bool) (c : Change) (start one : Text) → is ≡ known → one ≡ start ++ cond is (row_text (change_word c) p) [] → one ≡ start ++ changes_text p (when known c)
+one_row p is known c start one e f = f ∙ ap (λ t. start ++ t) (sym (when_text p is c)) ∙ ap (λ b. start ++ changes_text p (when b c)) e
 
 new_texts : (p : Place) (before now : List Code) → changes_text p (map found (new_codes before now)) ≡ flat_map (new_text p before) now
 new_texts p before [] = refl

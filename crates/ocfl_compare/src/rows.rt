@@ -3,10 +3,9 @@ ghost use Rattle.std.specs.Prelude.{◌≡◌, ◌&&◌, [], ◌++◌, List, OnO
 ghost use Rattle.std.specs.List.{list_any};
 ghost use Rattle.ocfl_tree.specs.Place.{Place as ModelPlace};
 ghost use Rattle.ocfl_report.specs.Line.{Line as ModelLine};
-ghost use Rattle.ocfl_compare.specs.Changes.{changes_text, file_gone, is_left as is_left_out};
-ghost use Rattle.ocfl_compare.specs.Changes.{object_gone, repaired, row_text, when};
+ghost use Rattle.ocfl_compare.specs.Changes.{changes_text, is_left as is_left_out, row_text};
 ghost use Rattle.ocfl_compare.specs.Internal.Telling.{IsTold, new_text, told_answer};
-ghost use Rattle.ocfl_compare.specs.Internal.Telling.{told_changes, told_missing, told_repaired};
+ghost use Rattle.ocfl_compare.specs.Internal.Telling.{told_changes, told_repaired};
 ghost use Rattle.ocfl_compare.specs.Internal.Turns.{said_text};
 
 use crate::question::Question;
@@ -54,21 +53,8 @@ fn put_answer(
 {
     match asked {
         Question::Changed => put_changes(place, before, now, rows),
-        Question::Expected => put_missing(place, before, now, rows),
+        Question::Expected => put_row_if(!now.object && before.object, "expected", place, rows),
     }
-}
-
-/// Appends a row for an object that has no line now.
-fn put_missing(
-    place: &Place,
-    listed: &Told,
-    now: &Told,
-    rows: &mut Vec<u8>,
-) -> Result<(), AllocError>
-    ensures { OnOk result (rows.new.items
-        ≡ rows.old.items ++ changes_text place.now (told_missing listed.now now.now)) }
-{
-    put_row_if(!now.object && listed.object, "expected", place, rows)
 }
 
 /// Appends a row for each change.
@@ -81,55 +67,23 @@ fn put_changes(
     ensures { OnOk result (rows.new.items
         ≡ rows.old.items ++ changes_text place.now (told_changes before.now now.now)) }
 {
-    put_gone_object(place, before, now, rows)?;
-    put_gone_file(place, before, now, rows)?;
+    put_row_if(is_gone(before.object, now), "object", place, rows)?;
+    put_row_if(is_gone(before.file, now), "file", place, rows)?;
     put_new(
         place,
         before.findings.as_slice(),
         now.findings.as_slice(),
         rows,
     )?;
-    put_repaired(place, before, now, rows)?;
+    put_row_if(is_repaired(before, now), "repaired", place, rows)?;
     Ok(())
 }
 
-/// Appends a row for an object that is gone.
-fn put_gone_object(
-    place: &Place,
-    before: &Told,
-    now: &Told,
-    rows: &mut Vec<u8>,
-) -> Result<(), AllocError>
-    ensures { OnOk result (rows.new.items ≡ rows.old.items
-        ++ changes_text place.now (when (now.now.absent && before.now.object) object_gone)) }
+/// Whether what was there before is gone.
+fn is_gone(was: bool, now: &Told) -> bool
+    ensures { result ≡ now.now.absent && was }
 {
-    put_row_if(now.absent && before.object, "object", place, rows)
-}
-
-/// Appends a row for a content file that is gone.
-fn put_gone_file(
-    place: &Place,
-    before: &Told,
-    now: &Told,
-    rows: &mut Vec<u8>,
-) -> Result<(), AllocError>
-    ensures { OnOk result (rows.new.items ≡ rows.old.items
-        ++ changes_text place.now (when (now.now.absent && before.now.file) file_gone)) }
-{
-    put_row_if(now.absent && before.file, "file", place, rows)
-}
-
-/// Appends a row for a place that is repaired.
-fn put_repaired(
-    place: &Place,
-    before: &Told,
-    now: &Told,
-    rows: &mut Vec<u8>,
-) -> Result<(), AllocError>
-    ensures { OnOk result (rows.new.items ≡ rows.old.items
-        ++ changes_text place.now (when (told_repaired before.now now.now) repaired)) }
-{
-    put_row_if(is_repaired(before, now), "repaired", place, rows)
+    now.absent && was
 }
 
 /// Whether there was a finding, and now there are lines and none of them is one.

@@ -1,14 +1,13 @@
 -- The laws of what changed.
-use Rattle.std.proofs.Common.{◌≡◌, ◌⊎◌, ◌↔◌, inl, inr, ℕ, List, [], ◌∷◌, ◌++◌, Bool, true, false, map, filter, refl, sym, ap, subst, ◌∙◌, append_assoc, append-nil}
+use Rattle.std.proofs.Common.{◌≡◌, ◌⊎◌, ◌↔◌, inl, inr, List, [], ◌∷◌, ◌++◌, Bool, true, false, map, refl, sym, ap, subst, ◌∙◌, append_assoc, append-nil}
 use Rattle.std.specs.Prelude.{cond, ◌&&◌, ◌||◌, not, flat_map}
 use Rattle.std.specs.List.{list_any}
-use Rattle.std.specs.Ordering.{is_eq}
-use Rattle.std.specs.Cmp.Lexicographic.{nat_list_cmp_total}
-use Rattle.std.specs.declared.cmp.Ordering.{Ordering}
-use Rattle.std.specs.declared.cmp.Ordering.TheVariants.{Less, Equal, Greater}
+use Rattle.std.proofs.Math.Bool.{or-true}
 use Rattle.ocfl_tree.specs.Ascending.{IsAmong}
-use Rattle.ocfl_tree.specs.Place.{Text, Place, text_cmp, text_eq}
-use Rattle.ocfl_tree.proofs.Orders.{not_below_itself, below_from_greater, among_left, among_right}
+use Rattle.ocfl_tree.specs.Place.{Place}
+use Rattle.ocfl_tree.proofs.Orders.{among_left, among_right}
+use Rattle.ocfl_tree.proofs.Places.{text_eq-same}
+use Rattle.ocfl_tree.proofs.Stores.{among_either}
 use Rattle.ocfl_report.specs.Line.{Line}
 use Rattle.ocfl_report.specs.Text.{code_text}
 use Rattle.ocfl_report.specs.declared.code.Code.{Code}
@@ -16,22 +15,10 @@ use Rattle.ocfl_compare.specs.Kinds.{is_empty, tells_object, tells_file}
 use Rattle.ocfl_compare.specs.Changes.{has_code, is_code, finding_codes, new_codes, Change, object_gone, file_gone, found, repaired, when, changes_at, changes_text, lines_at, is_left, said_at, places_of, comparison_text}
 use Rattle.ocfl_compare.specs.declared.question.Question.TheVariants.{Changed}
 
-text_itself : (t : Text) → text_eq t t ≡ true
-text_itself t = by (text_cmp t t) refl
-  where
-    by : (r : Ordering) → text_cmp t t ≡ r → is_eq r ≡ true
-    by Less e = absurd (not_below_itself nat_list_cmp_total t e)
-    by Equal e = refl
-    by Greater e = absurd (not_below_itself nat_list_cmp_total t (below_from_greater nat_list_cmp_total t t e))
-
-or_right : (b : Bool) → b || true ≡ true
-or_right true = refl
-or_right false = refl
-
 -- a code is among codes with it
 has_itself : (front cs : List Code) (c : Code) → has_code (front ++ c ∷ cs) c ≡ true
-has_itself [] cs c = ap (λ b. b || has_code cs c) (text_itself (code_text c))
-has_itself (d ∷ front) cs c = ap (λ b. is_code c d || b) (has_itself front cs c) ∙ or_right (is_code c d)
+has_itself [] cs c = ap (λ b. b || has_code cs c) (text_eq-same (code_text c))
+has_itself (d ∷ front) cs c = ap (λ b. is_code c d || b) (has_itself front cs c) ∙ or-true (is_code c d)
 
 none_new : (front cs : List Code) → new_codes (front ++ cs) cs ≡ []
 none_new front [] = refl
@@ -70,28 +57,45 @@ among_when true c d (inl e) = (refl, e)
 among_when true c d (inr i) = absurd i
 among_when false c d i = absurd i
 
-among_parts : (xs ys : List Change) (z : Change) → IsAmong (xs ++ ys) z → IsAmong xs z ⊎ IsAmong ys z
-among_parts [] ys z i = inr i
-among_parts (x ∷ xs) ys z (inl e) = inl (inl e)
-among_parts (x ∷ xs) ys z (inr i) = by (among_parts xs ys z i)
-  where
-    by : IsAmong xs z ⊎ IsAmong ys z → IsAmong (x ∷ xs) z ⊎ IsAmong ys z
-    by (inl j) = inl (inr j)
-    by (inr j) = inr j
+-- a change that is no code is among no codes
+none_found : (z : Change) → ((c : Code) → z ≡ found c → ⊥) → (cs : List Code) → IsAmong (map found cs) z → ⊥
+none_found z other [] i = i
+none_found z other (c ∷ cs) (inl e) = other c e
+none_found z other (c ∷ cs) (inr i) = none_found z other cs i
 
-no_object_found : (cs : List Code) → IsAmong (map found cs) object_gone → ⊥
-no_object_found [] i = i
-no_object_found (c ∷ cs) (inl e) = cc
-no_object_found (c ∷ cs) (inr i) = no_object_found cs i
+object_is_no_code : (c : Code) → object_gone ≡ found c → ⊥
+object_is_no_code c e = cc
 
-no_file_found : (cs : List Code) → IsAmong (map found cs) file_gone → ⊥
-no_file_found [] i = i
-no_file_found (c ∷ cs) (inl e) = cc
-no_file_found (c ∷ cs) (inr i) = no_file_found cs i
+object_is_no_file : object_gone ≡ file_gone → ⊥
+object_is_no_file e = cc
+
+object_is_no_repair : object_gone ≡ repaired → ⊥
+object_is_no_repair e = cc
+
+file_is_no_code : (c : Code) → file_gone ≡ found c → ⊥
+file_is_no_code c e = cc
+
+file_is_no_repair : file_gone ≡ repaired → ⊥
+file_is_no_repair e = cc
+
+left_of : {P Q : Type 0} → P ⊎ Q → (Q → ⊥) → P
+left_of (inl p) none = p
+left_of (inr q) none = absurd (none q)
+
+right_of : {P Q : Type 0} → P ⊎ Q → (P → ⊥) → Q
+right_of (inl p) none = absurd (none p)
+right_of (inr q) none = q
 
 none_left : (ls : List Line) (b : Bool) → is_empty ls && b ≡ true → (ls ≡ []) × (b ≡ true)
 none_left [] b e = (refl, e)
 none_left (l ∷ ls) b e = cc
+
+-- what is gone has lines there and none here
+gone_when : (tells : Line → Bool) (before now : List Line) (z : Change) → IsAmong (when (is_empty now && list_any tells before) z) z ↔ (now ≡ []) × (list_any tells before ≡ true)
+gone_when tells before now z = (
+  λ i. none_left now (list_any tells before) (among_when (is_empty now && list_any tells before) z z i).0,
+  λ k. subst (λ b. IsAmong (when b z) z) (sym (λ i. is_empty (k.0 i) && k.1 i)) (inl refl),
+)
 
 module _ (before now : List Line) where
   abbrev first : List Change
@@ -103,56 +107,43 @@ module _ (before now : List Line) where
   abbrev third : List Change
   third = map found (new_codes (finding_codes before) (finding_codes now))
 
+  abbrev mended : Bool
+  mended = not (is_empty now) && (is_empty (finding_codes now) && not (is_empty (finding_codes before)))
+
   abbrev fourth : List Change
-  fourth = when (not (is_empty now) && (is_empty (finding_codes now) && not (is_empty (finding_codes before)))) repaired
+  fourth = when mended repaired
+
+  -- what is neither a code nor a repair comes before them
+  none_later : (z : Change) → ((c : Code) → z ≡ found c → ⊥) → (z ≡ repaired → ⊥) → IsAmong (third ++ fourth) z → ⊥
+  none_later z no_code no_repair i =
+      none_found z no_code (new_codes (finding_codes before) (finding_codes now))
+      (left_of (among_either third fourth z i) (λ j. no_repair (among_when mended repaired z j).1))
 
   pub object_gone_is : IsAmong (changes_at before now) object_gone ↔ (now ≡ []) × (list_any tells_object before ≡ true)
-  object_gone_is = (λ i. in_first (among_parts first (second ++ (third ++ fourth)) object_gone i), λ k. among_left first (second ++ (third ++ fourth)) object_gone (there k))
+  object_gone_is =
+      let gone = gone_when tells_object before now object_gone in (
+        λ i. gone.0 (left_of (among_either first (second ++ (third ++ fourth)) object_gone i) not_later),
+        λ k. among_left first (second ++ (third ++ fourth)) object_gone (gone.1 k),
+      )
     where
-      there : (now ≡ []) × (list_any tells_object before ≡ true) → IsAmong first object_gone
-      there k = subst (λ b. IsAmong (when b object_gone) object_gone) (sym ((λ i. is_empty (k.0 i) && k.1 i))) (inl refl)
+      not_second : IsAmong second object_gone → ⊥
+      not_second i = object_is_no_file (among_when (is_empty now && list_any tells_file before) file_gone object_gone i).1
 
-      in_fourth : IsAmong third object_gone ⊎ IsAmong fourth object_gone → (now ≡ []) × (list_any tells_object before ≡ true)
-      in_fourth (inl i) = absurd (no_object_found (new_codes (finding_codes before) (finding_codes now)) i)
-      in_fourth (inr i) = let k = among_when (not (is_empty now) && (is_empty (finding_codes now) && not (is_empty (finding_codes before)))) repaired object_gone i in absurd (wrong k.1)
-        where
-          wrong : object_gone ≡ repaired → ⊥
-          wrong e = cc
-
-      in_second : IsAmong second object_gone ⊎ IsAmong (third ++ fourth) object_gone → (now ≡ []) × (list_any tells_object before ≡ true)
-      in_second (inl i) = let k = among_when (is_empty now && list_any tells_file before) file_gone object_gone i in absurd (wrong k.1)
-        where
-          wrong : object_gone ≡ file_gone → ⊥
-          wrong e = cc
-      in_second (inr i) = in_fourth (among_parts third fourth object_gone i)
-
-      in_first : IsAmong first object_gone ⊎ IsAmong (second ++ (third ++ fourth)) object_gone → (now ≡ []) × (list_any tells_object before ≡ true)
-      in_first (inl i) = none_left now (list_any tells_object before) (among_when (is_empty now && list_any tells_object before) object_gone object_gone i).0
-      in_first (inr i) = in_second (among_parts second (third ++ fourth) object_gone i)
+      not_later : IsAmong (second ++ (third ++ fourth)) object_gone → ⊥
+      not_later i = none_later object_gone object_is_no_code object_is_no_repair (right_of (among_either second (third ++ fourth) object_gone i) not_second)
 
   pub file_gone_is : IsAmong (changes_at before now) file_gone ↔ (now ≡ []) × (list_any tells_file before ≡ true)
-  file_gone_is = (λ i. in_first (among_parts first (second ++ (third ++ fourth)) file_gone i), λ k. among_right first (second ++ (third ++ fourth)) file_gone (among_left second (third ++ fourth) file_gone (there k)))
+  file_gone_is =
+      let gone = gone_when tells_file before now file_gone in (
+        λ i. gone.0 (in_second (right_of (among_either first (second ++ (third ++ fourth)) file_gone i) not_first)),
+        λ k. among_right first (second ++ (third ++ fourth)) file_gone (among_left second (third ++ fourth) file_gone (gone.1 k)),
+      )
     where
-      there : (now ≡ []) × (list_any tells_file before ≡ true) → IsAmong second file_gone
-      there k = subst (λ b. IsAmong (when b file_gone) file_gone) (sym ((λ i. is_empty (k.0 i) && k.1 i))) (inl refl)
+      not_first : IsAmong first file_gone → ⊥
+      not_first i = object_is_no_file (sym (among_when (is_empty now && list_any tells_object before) object_gone file_gone i).1)
 
-      in_fourth : IsAmong third file_gone ⊎ IsAmong fourth file_gone → (now ≡ []) × (list_any tells_file before ≡ true)
-      in_fourth (inl i) = absurd (no_file_found (new_codes (finding_codes before) (finding_codes now)) i)
-      in_fourth (inr i) = let k = among_when (not (is_empty now) && (is_empty (finding_codes now) && not (is_empty (finding_codes before)))) repaired file_gone i in absurd (wrong k.1)
-        where
-          wrong : file_gone ≡ repaired → ⊥
-          wrong e = cc
-
-      in_second : IsAmong second file_gone ⊎ IsAmong (third ++ fourth) file_gone → (now ≡ []) × (list_any tells_file before ≡ true)
-      in_second (inl i) = none_left now (list_any tells_file before) (among_when (is_empty now && list_any tells_file before) file_gone file_gone i).0
-      in_second (inr i) = in_fourth (among_parts third fourth file_gone i)
-
-      in_first : IsAmong first file_gone ⊎ IsAmong (second ++ (third ++ fourth)) file_gone → (now ≡ []) × (list_any tells_file before ≡ true)
-      in_first (inl i) = let k = among_when (is_empty now && list_any tells_object before) object_gone file_gone i in absurd (wrong k.1)
-        where
-          wrong : file_gone ≡ object_gone → ⊥
-          wrong e = cc
-      in_first (inr i) = in_second (among_parts second (third ++ fourth) file_gone i)
+      in_second : IsAmong (second ++ (third ++ fourth)) file_gone → IsAmong second file_gone
+      in_second i = left_of (among_either second (third ++ fourth) file_gone i) (none_later file_gone file_is_no_code file_is_no_repair)
 
 -- ---- from nothing
 

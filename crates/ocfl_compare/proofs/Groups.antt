@@ -1,13 +1,16 @@
 -- The lines of two reports, place by place, are those that a filter gives.
-use Rattle.std.proofs.Common.{◌≡◌, ◌≢◌, ◌⊎◌, ◌↔◌, inl, inr, List, [], ◌∷◌, ◌++◌, ℕ, Bool, true, false, All, map, filter, refl, sym, ap, subst, ◌∙◌, append-nil}
+use Rattle.std.proofs.Common.{◌≡◌, ◌≢◌, ◌⊎◌, inl, inr, List, [], ◌∷◌, ◌++◌, Bool, true, false, All, map, refl, sym, ap, subst, ◌∙◌, append-nil}
 use Rattle.std.specs.Prelude.{cond, flat_map}
-use Rattle.std.specs.Ordering.{is_eq, ordering_reverse}
+use Rattle.std.specs.Ordering.{is_eq}
 use Rattle.std.specs.declared.cmp.Ordering.{Ordering}
 use Rattle.std.specs.declared.cmp.Ordering.TheVariants.{Less, Equal, Greater}
+use Rattle.std.proofs.lemmas.List.{map-append}
 use Rattle.std.proofs.lemmas.List.Elements.{All-head, All-tail, filter-append}
-use Rattle.ocfl_tree.specs.Place.{Text, Place, place_cmp, place_eq}
-use Rattle.ocfl_tree.specs.Ascending.{ascending, IsBeforeAll, IsAscending, IsAmong}
+use Rattle.ocfl_tree.specs.Place.{Place, place_cmp, place_eq}
+use Rattle.ocfl_tree.specs.Ascending.{IsBeforeAll, IsAscending, IsAmong}
 use Rattle.ocfl_tree.proofs.Orders.{place_cmp_total, place_cmp_exact, not_below_itself, before_each, ascending_unique, ascends_ascending, among_ascending, among_left, among_right, among_map}
+use Rattle.ocfl_tree.proofs.Places.{place_eq-same}
+use Rattle.ocfl_tree.proofs.Stores.{among_either}
 use Rattle.ocfl_report.specs.Line.{Line}
 use Rattle.ocfl_compare.specs.Changes.{lines_at, places_of, said_at, changes_text, answer_at, is_left, answers_text}
 use Rattle.ocfl_compare.specs.declared.question.Question.{Question}
@@ -29,17 +32,9 @@ later_place p q e = by (place_cmp p q) refl
     by Equal f = absurd (not_below_itself place_cmp_total q (subst (λ x. place_cmp q x ≡ Less) (place_cmp_exact p q f) e))
     by Greater f = refl
 
-same_place : (p : Place) → place_eq p p ≡ true
-same_place p = by (place_cmp p p) refl
-  where
-    by : (r : Ordering) → place_cmp p p ≡ r → is_eq r ≡ true
-    by Less f = absurd (not_below_itself place_cmp_total p f)
-    by Equal f = refl
-    by Greater f = absurd (not_below_itself place_cmp_total p (place_cmp_total.antisymm p p ∙ ap ordering_reverse f))
-
 all_here : (p : Place) (ls : List Line) → All (λ l. p ≡ l.place) ls → lines_at p ls ≡ ls
 all_here p [] h = refl
-all_here p (l ∷ ls) h = by (place_eq p l.place) (ap (place_eq p) (sym (All-head (λ m. p ≡ m.place) l ls h)) ∙ same_place p) (all_here p ls (All-tail (λ m. p ≡ m.place) l ls h))
+all_here p (l ∷ ls) h = by (place_eq p l.place) (ap (place_eq p) (sym (All-head (λ m. p ≡ m.place) l ls h)) ∙ place_eq-same p) (all_here p ls (All-tail (λ m. p ≡ m.place) l ls h))
   where
     by : (b : Bool) → b ≡ true → lines_at p ls ≡ ls → cond b (l ∷ lines_at p ls) (lines_at p ls) ≡ l ∷ ls
     by true e rest = ap (λ xs. l ∷ xs) rest
@@ -79,19 +74,6 @@ module _ (lines : Group → List Line) (own : (g : Group) → IsGroup g → All 
 
 -- ---- their places
 
-among_split : (xs ys : List Place) (z : Place) → IsAmong (xs ++ ys) z → IsAmong xs z ⊎ IsAmong ys z
-among_split [] ys z i = inr i
-among_split (x ∷ xs) ys z (inl e) = inl (inl e)
-among_split (x ∷ xs) ys z (inr i) = by (among_split xs ys z i)
-  where
-    by : IsAmong xs z ⊎ IsAmong ys z → IsAmong (x ∷ xs) z ⊎ IsAmong ys z
-    by (inl j) = inl (inr j)
-    by (inr j) = inr j
-
-map_both : (xs ys : List Line) → map (λ l. l.place) (xs ++ ys) ≡ map (λ l. l.place) xs ++ map (λ l. l.place) ys
-map_both [] ys = refl
-map_both (x ∷ xs) ys = ap (λ zs. x.place ∷ zs) (map_both xs ys)
-
 here_only : (p z : Place) (ls : List Line) → All (λ l. p ≡ l.place) ls → IsAmong (map (λ l. l.place) ls) z → z ≡ p
 here_only p z [] h i = absurd i
 here_only p z (l ∷ ls) h (inl e) = e ∙ sym (All-head (λ m. p ≡ m.place) l ls h)
@@ -105,7 +87,7 @@ module _ (lines : Group → List Line) (own : (g : Group) → IsGroup g → All 
   from_lines : (gs : List Group) → All IsGroup gs → (z : Place) → IsAmong (map (λ l. l.place) (flat_map lines gs)) z → IsAmong (places gs) z
   from_lines [] h z i = absurd i
   from_lines (g ∷ gs) h z i =
-      by (among_split (map (λ l. l.place) (lines g)) (map (λ l. l.place) (flat_map lines gs)) z (subst (λ ps. IsAmong ps z) (map_both (lines g) (flat_map lines gs)) i)) (from_lines gs (All-tail IsGroup g gs h) z)
+      by (among_either (map (λ l. l.place) (lines g)) (map (λ l. l.place) (flat_map lines gs)) z (subst (λ ps. IsAmong ps z) (map-append (λ l. l.place) (lines g) (flat_map lines gs)) i)) (from_lines gs (All-tail IsGroup g gs h) z)
     where
       by : IsAmong (map (λ l. l.place) (lines g)) z ⊎ IsAmong (map (λ l. l.place) (flat_map lines gs)) z → (IsAmong (map (λ l. l.place) (flat_map lines gs)) z → IsAmong (places gs) z) → IsAmong (places (g ∷ gs)) z
       by (inl j) rest = inl (here_only g.place z (lines g) (own g (All-head IsGroup g gs h)) j)
@@ -114,11 +96,11 @@ module _ (lines : Group → List Line) (own : (g : Group) → IsGroup g → All 
   to_lines : (gs : List Group) → All IsGroup gs → (g : Group) → IsAmong gs g → lines g ≢ [] → IsAmong (map (λ l. l.place) (flat_map lines gs)) g.place
   to_lines [] h g i k = absurd i
   to_lines (f ∷ gs) h g (inl e) k =
-      subst (λ ps. IsAmong ps g.place) (sym (map_both (lines f) (flat_map lines gs)))
+      subst (λ ps. IsAmong ps g.place) (sym (map-append (λ l. l.place) (lines f) (flat_map lines gs)))
       (among_left (map (λ l. l.place) (lines f)) (map (λ l. l.place) (flat_map lines gs)) g.place
       (subst (λ x. IsAmong (map (λ l. l.place) (lines x)) g.place) e (here_some g.place (lines g) (own g (subst IsGroup (sym e) (All-head IsGroup f gs h))) k)))
   to_lines (f ∷ gs) h g (inr i) k =
-      subst (λ ps. IsAmong ps g.place) (sym (map_both (lines f) (flat_map lines gs)))
+      subst (λ ps. IsAmong ps g.place) (sym (map-append (λ l. l.place) (lines f) (flat_map lines gs)))
       (among_right (map (λ l. l.place) (lines f)) (map (λ l. l.place) (flat_map lines gs)) g.place (to_lines gs (All-tail IsGroup f gs h) g i k))
 
 among_all : (gs : List Group) → All IsGroup gs → (g : Group) → IsAmong gs g → IsGroup g
@@ -145,7 +127,7 @@ module _ (gs : List Group) (h : All IsGroup gs) (k : IsAscending place_cmp (plac
   is = flat_map (λ g. g.now) gs
 
   to_places : (z : Place) → IsAmong (map (λ l. l.place) (was ++ is)) z → IsAmong (places gs) z
-  to_places z i = by (among_split (map (λ l. l.place) was) (map (λ l. l.place) is) z (subst (λ ps. IsAmong ps z) (map_both was is) i))
+  to_places z i = by (among_either (map (λ l. l.place) was) (map (λ l. l.place) is) z (subst (λ ps. IsAmong ps z) (map-append (λ l. l.place) was is) i))
     where
       by : IsAmong (map (λ l. l.place) was) z ⊎ IsAmong (map (λ l. l.place) is) z → IsAmong (places gs) z
       by (inl j) = from_lines (λ g. g.before) before_own gs h z j
@@ -154,7 +136,7 @@ module _ (gs : List Group) (h : All IsGroup gs) (k : IsAscending place_cmp (plac
   of_places : (z : Place) → IsAmong (places gs) z → IsAmong (map (λ l. l.place) (was ++ is)) z
   of_places z i =
       let g = from_places gs z i in
-      subst (λ ps. IsAmong ps z) (sym (map_both was is)) (subst (λ x. IsAmong (map (λ l. l.place) was ++ map (λ l. l.place) is) x) (sym g.1.1) (by g.0 g.1.0 (among_all gs h g.0 g.1.0).some))
+      subst (λ ps. IsAmong ps z) (sym (map-append (λ l. l.place) was is)) (subst (λ x. IsAmong (map (λ l. l.place) was ++ map (λ l. l.place) is) x) (sym g.1.1) (by g.0 g.1.0 (among_all gs h g.0 g.1.0).some))
     where
       by : (g : Group) → IsAmong gs g → (g.before ≢ []) ⊎ (g.now ≢ []) → IsAmong (map (λ l. l.place) was ++ map (λ l. l.place) is) g.place
       by g j (inl s) = among_left (map (λ l. l.place) was) (map (λ l. l.place) is) g.place (to_lines (λ x. x.before) before_own gs h g j s)

@@ -1,30 +1,31 @@
 -- What is answered of a list of objects, as a report, is which of them are missing.
-use Rattle.std.proofs.Common.{◌≡◌, ◌≢◌, ◌⊎◌, ◌↔◌, inl, inr, ℕ, suc, ◌+◌, ◌<◌, List, [], ◌∷◌, ◌++◌, Bool, true, false, Option, Some, None, IfSome, All, length, get_or, map, filter, refl, sym, ap, subst, ◌∙◌, append_assoc, append-nil, add-one, arith}
+use Rattle.std.proofs.Common.{◌≡◌, inl, inr, ℕ, ◌+◌, List, [], ◌∷◌, ◌++◌, Bool, true, false, Option, Some, None, IfSome, All, map, filter, refl, sym, ap, subst, ◌∙◌, append_assoc, append-nil, add-one, arith}
 use Rattle.std.specs.Prelude.{cond, ◌&&◌, ◌||◌, not, flat_map, codes}
 use Rattle.std.specs.List.{list_any}
 use Rattle.std.specs.List.Sorted.{IsPermutation, IsSorted}
 use Rattle.std.specs.Io.KnownBytes.{Appends}
-use Rattle.std.specs.Ordering.{is_lt, is_eq}
+use Rattle.std.specs.Ordering.{is_lt}
 use Rattle.std.specs.Str.{IsUtf8}
-use Rattle.std.specs.declared.cmp.Ordering.{Ordering}
-use Rattle.std.specs.declared.cmp.Ordering.TheVariants.{Less, Equal, Greater}
-use Rattle.std.proofs.lemmas.List.Elements.{All-append, All-cons, All-nil, All-head, All-tail, All-weaker, filter-append}
+use Rattle.std.proofs.Math.Bool.{or-true}
+use Rattle.std.proofs.lemmas.List.{map-append}
+use Rattle.std.proofs.lemmas.List.Elements.{All-cons, All-nil, All-head, All-tail, All-weaker}
 use Rattle.std.proofs.lemmas.List.Concat.{flat_map-append}
 use Rattle.std.proofs.lemmas.List.Sorted.{list_any-IsPermutation}
 use Rattle.ocfl_tree.specs.Place.{Text, Place, place_cmp, place_eq}
 use Rattle.ocfl_tree.specs.Name.{IsPlace}
-use Rattle.ocfl_tree.specs.Ascending.{ascending, IsAscending, IsAmong}
-use Rattle.ocfl_tree.proofs.Orders.{place_cmp_total, place_cmp_exact, true_not_false, not_below_itself, below_from_greater, ascending_unique, ascends_ascending, ascends_filter, among_ascending, among_filter, among_from_filter, among_left, among_map}
+use Rattle.ocfl_tree.specs.Ascending.{ascending, IsAmong}
+use Rattle.ocfl_tree.proofs.Bools.{and_first, and_second, and_both}
+use Rattle.ocfl_tree.proofs.Places.{place_eq-Decides, place_eq-same}
+use Rattle.ocfl_tree.proofs.Orders.{place_cmp_total, place_cmp_exact, ascending_unique, ascends_ascending, ascends_filter, among_ascending, among_filter, among_from_filter, among_left}
 use Rattle.ocfl_report.specs.Line.{Line}
 use Rattle.ocfl_report.specs.Text.{code_text, place_text, escape, line_text, lines_text, IsLine}
 use Rattle.ocfl_report.proofs.Bytes.{utf8_bytes}
 use Rattle.ocfl_report.proofs.LineTexts.{first_lines, lines_text_determines}
-use Rattle.ocfl_report.specs.declared.code.Code.TheVariants.{Clean}
-use Rattle.ocfl_parts.specs.Splits.{HasText, IsNotLess, AreInOrder, AreLines, IsBadReportLine}
+use Rattle.ocfl_parts.specs.Splits.{HasText, AreInOrder, AreLines, IsBadReportLine}
 use Rattle.ocfl_compare.proofs.Reports.{not_greater}
 use Rattle.ocfl_compare.specs.Kinds.{is_empty, tells_object}
-use Rattle.ocfl_compare.specs.Changes.{lines_at, places_of, is_left, Change, missing, when, change_word, row_text, changes_text, said_at, missing_at, answers_text}
-use Rattle.ocfl_compare.specs.Compared.{IsReport, IsAnswered}
+use Rattle.ocfl_compare.specs.Changes.{lines_at, places_of, is_left, missing, when, row_text, changes_text, said_at, answers_text}
+use Rattle.ocfl_compare.specs.Compared.{IsAnswered}
 use Rattle.ocfl_compare.specs.CompareStop.{StopsRightly, ReportStops}
 use Rattle.ocfl_compare.specs.Expected.{is_missing, missing_objects, IsSearched}
 use Rattle.ocfl_compare.specs.Internal.Listing.{as_object}
@@ -37,37 +38,17 @@ use Rattle.ocfl_compare.specs.declared.stop.CompareStop.TheVariants.{Before, Now
 abbrev has : List Place → Place → Bool
 has ps p = list_any (place_eq p) ps
 
-eq_itself : (p : Place) → place_eq p p ≡ true
-eq_itself p = by (place_cmp p p) refl
-  where
-    by : (r : Ordering) → place_cmp p p ≡ r → is_eq r ≡ true
-    by Less f = absurd (not_below_itself place_cmp_total p f)
-    by Equal f = refl
-    by Greater f = absurd (not_below_itself place_cmp_total p (below_from_greater place_cmp_total p p f))
-
-eq_is : (p q : Place) → place_eq p q ≡ true → p ≡ q
-eq_is p q h = by (place_cmp p q) refl h
-  where
-    by : (r : Ordering) → place_cmp p q ≡ r → is_eq r ≡ true → p ≡ q
-    by Less e k = cc
-    by Equal e k = place_cmp_exact p q e
-    by Greater e k = cc
-
-or_right : (b : Bool) → b || true ≡ true
-or_right true = refl
-or_right false = refl
-
 has_among : (ps : List Place) (p : Place) → IsAmong ps p → has ps p ≡ true
 has_among [] p i = absurd i
-has_among (q ∷ ps) p (inl e) = ap (λ b. b || has ps p) (ap (place_eq p) (sym e) ∙ eq_itself p)
-has_among (q ∷ ps) p (inr i) = ap (λ b. place_eq p q || b) (has_among ps p i) ∙ or_right (place_eq p q)
+has_among (q ∷ ps) p (inl e) = ap (λ b. b || has ps p) (ap (place_eq p) (sym e) ∙ place_eq-same p)
+has_among (q ∷ ps) p (inr i) = ap (λ b. place_eq p q || b) (has_among ps p i) ∙ or-true (place_eq p q)
 
 among_has : (ps : List Place) (p : Place) → has ps p ≡ true → IsAmong ps p
 among_has [] p h = cc
 among_has (q ∷ ps) p h = by (place_eq p q) refl h (among_has ps p)
   where
     by : (b : Bool) → place_eq p q ≡ b → b || has ps p ≡ true → (has ps p ≡ true → IsAmong ps p) → IsAmong (q ∷ ps) p
-    by true e k rest = inl (eq_is p q e)
+    by true e k rest = inl ((place_eq-Decides p q).0 e)
     by false e k rest = inr (rest k)
 
 -- a permutation has the same elements
@@ -95,7 +76,7 @@ object_at p (q ∷ qs) = by (place_eq p q) refl (object_at p qs)
     by : (b : Bool) → place_eq p q ≡ b → list_any tells_object (lines_at p (map as_object qs)) ≡ has qs p && not (is_empty p)
         → list_any tells_object (cond b (as_object q ∷ lines_at p (map as_object qs)) (lines_at p (map as_object qs))) ≡ (b || has qs p) && not (is_empty p)
     by true e k =
-        (λ i. (not (is_empty (sym (eq_is p q e) i)) && true) || k i)
+        (λ i. (not (is_empty (sym ((place_eq-Decides p q).0 e) i)) && true) || k i)
         ∙ ap (λ b. b || (has qs p && not (is_empty p))) (with_true (not (is_empty p)))
         ∙ or_both (not (is_empty p)) (has qs p)
     by false e k = k
@@ -135,39 +116,24 @@ map_places : (qs : List Place) → map (λ l. l.place) (map as_object qs) ≡ qs
 map_places [] = refl
 map_places (q ∷ qs) = ap (λ ps. q ∷ ps) (map_places qs)
 
-map_both : (xs ys : List Line) → map (λ l. l.place) (xs ++ ys) ≡ map (λ l. l.place) xs ++ map (λ l. l.place) ys
-map_both [] ys = refl
-map_both (x ∷ xs) ys = ap (λ zs. x.place ∷ zs) (map_both xs ys)
-
-and_true : (a b : Bool) → a ≡ true → b ≡ true → a && b ≡ true
-and_true a b e f = ap (λ x. x && b) e ∙ f
-
-and_left : (a b : Bool) → a && b ≡ true → a ≡ true
-and_left true b h = refl
-and_left false b h = h
-
-and_right : (a b : Bool) → a && b ≡ true → b ≡ true
-and_right true b h = h
-and_right false b h = cc
-
 module _ (left ps qs : List Place) (ls : List Line) (perm : IsPermutation ps qs) where
   abbrev all_places : List Place
   all_places = map (λ l. l.place) (map as_object qs ++ ls)
 
   listed_among : (p : Place) → IsAmong qs p → IsAmong all_places p
-  listed_among p i = subst (λ xs. IsAmong xs p) (sym (map_both (map as_object qs) ls)) (among_left (map (λ l. l.place) (map as_object qs)) (map (λ l. l.place) ls) p (subst (λ xs. IsAmong xs p) (sym (map_places qs)) i))
+  listed_among p i = subst (λ xs. IsAmong xs p) (sym (map-append (λ l. l.place) (map as_object qs) ls)) (among_left (map (λ l. l.place) (map as_object qs)) (map (λ l. l.place) ls) p (subst (λ xs. IsAmong xs p) (sym (map_places qs)) i))
 
   to : (p : Place) → IsAmong (filter (wanted left qs ls) (ascending place_cmp all_places)) p → IsAmong (filter (is_missing left ls) (ascending place_cmp ps)) p
   to p i =
       let k = among_from_filter (wanted left qs ls) (ascending place_cmp all_places) p i in
-      let in_qs : IsAmong qs p = among_has qs p (and_left (has qs p) (is_missing left ls p) k.1) in
-      among_filter (is_missing left ls) (ascending place_cmp ps) p ((among_ascending place_cmp_exact ps p).0 (permuted ps qs perm p in_qs)) (and_right (has qs p) (is_missing left ls p) k.1)
+      let in_qs : IsAmong qs p = among_has qs p (and_first (has qs p) (is_missing left ls p) k.1) in
+      among_filter (is_missing left ls) (ascending place_cmp ps) p ((among_ascending place_cmp_exact ps p).0 (permuted ps qs perm p in_qs)) (and_second (has qs p) (is_missing left ls p) k.1)
 
   from : (p : Place) → IsAmong (filter (is_missing left ls) (ascending place_cmp ps)) p → IsAmong (filter (wanted left qs ls) (ascending place_cmp all_places)) p
   from p i =
       let k = among_from_filter (is_missing left ls) (ascending place_cmp ps) p i in
       let in_qs : IsAmong qs p = permuted_back ps qs perm p ((among_ascending place_cmp_exact ps p).1 k.0) in
-      among_filter (wanted left qs ls) (ascending place_cmp all_places) p ((among_ascending place_cmp_exact all_places p).0 (listed_among p in_qs)) (and_true (has qs p) (is_missing left ls p) (has_among qs p in_qs) k.1)
+      among_filter (wanted left qs ls) (ascending place_cmp all_places) p ((among_ascending place_cmp_exact all_places p).0 (listed_among p in_qs)) (and_both (has qs p) (is_missing left ls p) (has_among qs p in_qs) k.1)
 
   same : filter (wanted left qs ls) (places_of (map as_object qs) ls) ≡ missing_objects left ps ls
   same =

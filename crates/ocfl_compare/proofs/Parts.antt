@@ -1,19 +1,16 @@
 -- The parts that are missing, one by one.
-use Rattle.std.proofs.Common.{◌≡◌, ℕ, suc, ◌+◌, List, [], ◌∷◌, ◌++◌, Bool, true, false, Option, Some, None, refl, sym, ap, ◌∙◌, add-one}
-use Rattle.std.specs.Prelude.{cond, ◌==◌, ◌&&◌, not, nat_le, nat_lt, length}
-use Rattle.std.specs.Ordering.{is_eq}
-use Rattle.std.specs.declared.cmp.Ordering.{Ordering}
-use Rattle.std.specs.declared.cmp.Ordering.TheVariants.{Less, Equal, Greater}
+use Rattle.std.proofs.Common.{◌≡◌, ℕ, ◌+◌, List, ◌++◌, Bool, true, false, Option, Some, None, refl, sym, ap, ◌∙◌, add-one}
+use Rattle.std.specs.Prelude.{cond, ◌==◌, not}
 use Rattle.std.proofs.lemmas.Bool.{eqb-true}
-use Rattle.std.specs.FinMap.{IsAntisymmetric, slice_cmp-IsAntisymmetric, nat_cmp-IsAntisymmetric}
-use Rattle.ocfl_tree.proofs.Orders.{place_cmp_exact}
+use Rattle.ocfl_tree.proofs.Bools.{and_first, and_second}
+use Rattle.ocfl_tree.proofs.Places.{text_eq-Decides, place_eq-Decides}
 use Rattle.ocfl_parts.specs.Separators.{start_of_part, end_of_part}
-use Rattle.ocfl_tree.specs.Place.{Text, Place, text_cmp, text_eq, place_cmp, place_eq}
+use Rattle.ocfl_tree.specs.Place.{Text, Place, text_eq}
 use Rattle.ocfl_compare.specs.Joined.{same_end, has_ends, is_part, closed_fault, fault_of, part_at, named, missing_of}
 use Rattle.ocfl_compare.specs.declared.joining.ClosedPart.{ClosedPart}
 use Rattle.ocfl_compare.specs.declared.joining.MissingPart.{MissingPart}
 use Rattle.ocfl_compare.specs.declared.joining.PartFault.{PartFault}
-use Rattle.ocfl_compare.specs.declared.joining.PartFault.TheVariants.{NoPart, NotClosed, OtherRoot, OtherPart, OtherCycle, Incomplete}
+use Rattle.ocfl_compare.specs.declared.joining.PartFault.TheVariants.{NoPart, OtherRoot, OtherPart, OtherCycle, Incomplete}
 
 pub missing_step : (separators : List Place) (root : Text) (cycle : ℕ) (parts : List (Option ClosedPart)) (n : ℕ) (old new : List MissingPart) (fault : Option PartFault) (part : Option ClosedPart)
     → old ≡ missing_of separators root cycle parts n → new ≡ old ++ named (n + 1) fault → fault ≡ fault_of separators root cycle (n + 1) part → part ≡ part_at parts n
@@ -32,35 +29,11 @@ four_tests true true false d e = cc
 four_tests true false c d e = cc
 four_tests false b c d e = cc
 
-text_from_eq : (a b : Text) → text_eq a b ≡ true → a ≡ b
-text_from_eq a b h = by (text_cmp a b) refl h
-  where
-    by : (r : Ordering) → text_cmp a b ≡ r → is_eq r ≡ true → a ≡ b
-    by Less e k = cc
-    by Equal e k = slice_cmp-IsAntisymmetric nat_cmp-IsAntisymmetric a b e
-    by Greater e k = cc
-
-place_from_eq : (p q : Place) → place_eq p q ≡ true → p ≡ q
-place_from_eq p q h = by (place_cmp p q) refl h
-  where
-    by : (r : Ordering) → place_cmp p q ≡ r → is_eq r ≡ true → p ≡ q
-    by Less e k = cc
-    by Equal e k = place_cmp_exact p q e
-    by Greater e k = cc
-
 end_from_same : (a b : Option Place) → same_end a b ≡ true → a ≡ b
 end_from_same None None e = refl
 end_from_same None (Some q) e = cc
 end_from_same (Some p) None e = cc
-end_from_same (Some p) (Some q) e = ap Some (place_from_eq p q e)
-
-and_left : (a b : Bool) → a && b ≡ true → a ≡ true
-and_left true b h = refl
-and_left false b h = h
-
-and_right : (a b : Bool) → a && b ≡ true → b ≡ true
-and_right true b h = h
-and_right false b h = cc
+end_from_same (Some p) (Some q) e = ap Some ((place_eq-Decides p q).0 e)
 
 module _ (separators : List Place) (root : Text) (cycle number : ℕ) (part : ClosedPart) where
   abbrev right : Type 0
@@ -71,10 +44,10 @@ module _ (separators : List Place) (root : Text) (cycle number : ℕ) (part : Cl
       let k = four_tests (text_eq part.root.items root) (has_ends part (start_of_part separators number) (end_of_part separators number)) (part.cycle == cycle) part.whole e in
       let from = same_end part.from (start_of_part separators number) in
       let below = same_end part.below (end_of_part separators number) in (
-        text_from_eq part.root.items root k.0,
+        (text_eq-Decides part.root.items root).0 k.0,
         (
-          end_from_same part.from (start_of_part separators number) (and_left from below k.1.0),
-          (end_from_same part.below (end_of_part separators number) (and_right from below k.1.0), (eqb-true part.cycle cycle k.1.1.0, k.1.1.1)),
+          end_from_same part.from (start_of_part separators number) (and_first from below k.1.0),
+          (end_from_same part.below (end_of_part separators number) (and_second from below k.1.0), (eqb-true part.cycle cycle k.1.1.0, k.1.1.1)),
         ),
       )
 

@@ -1,5 +1,5 @@
 -- What the lines that were read say of a report.
-use Rattle.std.proofs.Common.{◌≡◌, ◌≢◌, ◌⊎◌, inl, inr, ℕ, ◌+◌, List, [], ◌∷◌, ◌++◌, Bool, true, false, Option, Some, None, IfSome, length, All, refl, sym, ap, subst, ◌∙◌, append_assoc, append-nil, length-append, arith}
+use Rattle.std.proofs.Common.{◌≡◌, ◌≢◌, ◌⊎◌, inl, inr, ℕ, ◌+◌, List, [], ◌∷◌, ◌++◌, true, false, Option, Some, None, IfSome, length, All, refl, sym, ap, subst, ◌∙◌, append-nil, length-append}
 use Rattle.std.specs.Io.BufRead.{take_through}
 use Rattle.std.specs.Io.KnownBytes.{Consumes, IsAtEnd}
 use Rattle.std.specs.Ordering.{is_gt, is_lt}
@@ -9,12 +9,12 @@ use Rattle.std.proofs.lemmas.List.Elements.{All-append, All-cons, All-nil, All-h
 use Rattle.ocfl_tree.specs.Place.{Text, Place, place_cmp}
 use Rattle.ocfl_tree.proofs.Orders.{place_cmp_total, true_not_false, not_less_itself, below_from_greater}
 use Rattle.ocfl_report.specs.Line.{Line, line_of}
-use Rattle.ocfl_report.specs.Text.{line_text, lines_text, IsLineText}
+use Rattle.ocfl_report.specs.Text.{lines_text, IsLineText}
 use Rattle.ocfl_report.specs.declared.line.Line.{Line as MadeLine}
 use Rattle.ocfl_parts.specs.Splits.{HasText, IsNotLess, AreInOrder, AreLines, IsBadReportLine}
 use Rattle.ocfl_report.proofs.LineTexts.{line_text_read}
 use Rattle.ocfl_parts.proofs.Reports.{line_is_first, more_read}
-use Rattle.ocfl_compare.specs.Internal.Reading.{listed, IsReading, HasRead, IsNotAbove, GoesOn, last_place, is_after, IsUnfit, IsNextLine, IsOpen, IsNextPlace, ReadStopsRightly}
+use Rattle.ocfl_compare.specs.Internal.Reading.{listed, IsReading, HasRead, GoesOn, last_place, is_after, IsUnfit, IsNextLine, IsOpen, IsNextPlace, ReadStopsRightly}
 use Rattle.ocfl_compare.specs.declared.reading.ReadStop.{ReadStop}
 use Rattle.ocfl_compare.specs.declared.reading.ReadStop.TheVariants.{Line as BadLine, Failed, Memory}
 

@@ -1,5 +1,5 @@
 -- What changed between the report before and this one, place by place.
-use Rattle.std.specs.Prelude.{ℕ, ◌&&◌, List, [], ◌∷◌, ◌++◌, Bool, true, false, not, if◌then◌else◌, map, filter, flat_map, codes}
+use Rattle.std.specs.Prelude.{◌&&◌, List, [], ◌∷◌, ◌++◌, Bool, not, if◌then◌else◌, map, filter, flat_map, codes}
 use Rattle.std.specs.List.{list_any}
 use Rattle.ocfl_tree.specs.Place.{Text, Place, place_cmp, place_eq, text_eq, begins}
 use Rattle.ocfl_tree.specs.Ascending.{ascending}

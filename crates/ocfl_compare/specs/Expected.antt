@@ -1,5 +1,5 @@
 -- Which objects of a list have no line in a report.
-use Rattle.std.specs.Prelude.{◌&&◌, List, [], Bool, not, Option, filter, flat_map, codes}
+use Rattle.std.specs.Prelude.{◌&&◌, List, Bool, not, Option, filter, flat_map, codes}
 use Rattle.std.specs.List.{list_any}
 use Rattle.std.specs.Io.KnownBytes.{Appends}
 use Rattle.ocfl_tree.specs.Place.{Text, Place, place_cmp}

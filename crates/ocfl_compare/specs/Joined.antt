@@ -1,5 +1,5 @@
 -- Which closed reports of parts are joined.
-use Rattle.std.specs.Prelude.{◌≡◌, ◌≢◌, ℕ, zero, suc, ◌+◌, ◌-◌, ◌==◌, ◌&&◌, nat_lt, nat_le, List, [], ◌∷◌, ◌++◌, length, Bool, true, false, not, if◌then◌else◌, Option, Some, None, slice_get, flat_map, map, ⊤}
+use Rattle.std.specs.Prelude.{ℕ, zero, suc, ◌+◌, ◌==◌, ◌&&◌, nat_lt, nat_le, List, [], ◌∷◌, ◌++◌, length, Bool, true, false, not, if◌then◌else◌, Option, Some, None, slice_get}
 use Rattle.ocfl_tree.specs.Place.{Text, Place, text_eq, place_eq}
 use Rattle.ocfl_parts.specs.Separators.{start_of_part, end_of_part}
 use Rattle.ocfl_compare.specs.declared.joining.ClosedPart.{ClosedPart}

@@ -53,6 +53,20 @@ module _ {F : Type 0} {may_leave : F → Outcomes} {moment : F → ℕ} {left_si
       back : (c : Content) → After Same (may_leave b) c → After (MayTear n m) (may_leave a) c
       back c (d, may, same) = let before = first.now d may in (before.0, before.1, subst (λ (x : Content). MayTear n m before.0 x) (sym same) before.2)
 
+  -- bytes were appended after such calls
+  pub appended : (bytes : Bytes) (s t : Content) {a b z : F} → Passes may_leave moment left_since Same a b → t ≡ s
+      → Passes may_leave moment left_since (MayTear (length t.report) (length (t.report ++ bytes))) b z
+      → Passes may_leave moment left_since (MayTear (length s.report) (length (s.report ++ bytes))) a z
+  appended bytes s t {a} {b} {z} first seen second =
+      then_torn (length s.report) (length (s.report ++ bytes)) first
+      (subst (λ (x : Content). Passes may_leave moment left_since (MayTear (length x.report) (length (x.report ++ bytes))) b z) seen second)
+
+  -- and such calls came after
+  pub appended_then : (bytes : Bytes) (s t : Content) {a b y z : F} → Passes may_leave moment left_since Same a b → t ≡ s
+      → Passes may_leave moment left_since (MayTear (length t.report) (length (t.report ++ bytes))) b y → Passes may_leave moment left_since Same y z
+      → Passes may_leave moment left_since (MayTear (length s.report) (length (s.report ++ bytes))) a z
+  appended_then bytes s t first seen second third = torn_then (length s.report) (length (s.report ++ bytes)) (appended bytes s t first seen second) third
+
 -- ---- the digests
 
 -- those that were resumed are carried on

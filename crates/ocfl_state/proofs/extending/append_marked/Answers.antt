@@ -1,37 +1,26 @@
-use Rattle.std.proofs.Common.{◌∙◌, ◌++◌, ap, arith, inr, length, subst, sym}
+use Rattle.std.proofs.Common.{◌∙◌, ◌++◌, ap, arith, inr, length, sym}
 use Rattle.ocfl_state.specs.Content.{Content, with_report}
-use Rattle.ocfl_state.specs.Crash.{MayTear, Passes}
 use Rattle.ocfl_state.specs.declared.checkpoint_parts.ReportMark.{ReportMark}
-use Rattle.ocfl_state.proofs.Marks.{then_torn, torn_then, resumed_on, in_range}
+use Rattle.ocfl_state.proofs.Marks.{appended, appended_then, resumed_on, in_range}
 use Rattle.ocfl_state.proofs.extending.append_marked.Goals as goal
 
 pub returns-in_err-append-clause-crash : goal.returns-in_err-append-clause-crash
 returns-in_err-append-clause-crash g c = λ told.
-    let S = g.S.StateFolder in
-    let bytes = c.args.bytes.now in
-    let report = (S.seen c.args.folder.now).report in
-    then_torn (length report) (length (report ++ bytes)) (c.resume_digests.ensures.crash told)
-    (subst (λ (s : Content). Passes S.may_leave S.moment S.left_since (MayTear (length s.report) (length (s.report ++ bytes))) c.resume_digests.new.folder c.append.new.self) (c.resume_digests.ensures.seen told) (c.append.ensures.crash told))
+    let seen = g.S.StateFolder.seen in
+    appended c.args.bytes.now (seen c.args.folder.now) (seen c.resume_digests.new.folder) (c.resume_digests.ensures.crash told) (c.resume_digests.ensures.seen told)
+    (c.append.ensures.crash told)
 
 pub returns-in_err-length-clause-crash : goal.returns-in_err-length-clause-crash
 returns-in_err-length-clause-crash g c = λ told.
-    let S = g.S.StateFolder in
-    let bytes = c.args.bytes.now in
-    let report = (S.seen c.args.folder.now).report in
-    torn_then (length report) (length (report ++ bytes))
-    (then_torn (length report) (length (report ++ bytes)) (c.resume_digests.ensures.crash told)
-    (subst (λ (s : Content). Passes S.may_leave S.moment S.left_since (MayTear (length s.report) (length (s.report ++ bytes))) c.resume_digests.new.folder c.append.new.self) (c.resume_digests.ensures.seen told) (c.append.ensures.crash told)))
-    (c.length.ensures.crash told)
+    let seen = g.S.StateFolder.seen in
+    appended_then c.args.bytes.now (seen c.args.folder.now) (seen c.resume_digests.new.folder) (c.resume_digests.ensures.crash told) (c.resume_digests.ensures.seen told)
+    (c.append.ensures.crash told) (c.length.ensures.crash told)
 
 pub returns-then-not-is_as_long-clause-crash : goal.returns-then-not-is_as_long-clause-crash
 returns-then-not-is_as_long-clause-crash g c = λ told.
-    let S = g.S.StateFolder in
-    let bytes = c.args.bytes.now in
-    let report = (S.seen c.args.folder.now).report in
-    torn_then (length report) (length (report ++ bytes))
-    (then_torn (length report) (length (report ++ bytes)) (c.resume_digests.ensures.crash told)
-    (subst (λ (s : Content). Passes S.may_leave S.moment S.left_since (MayTear (length s.report) (length (s.report ++ bytes))) c.resume_digests.new.folder c.append.new.self) (c.resume_digests.ensures.seen told) (c.append.ensures.crash told)))
-    (c.length.ensures.crash told)
+    let seen = g.S.StateFolder.seen in
+    appended_then c.args.bytes.now (seen c.args.folder.now) (seen c.resume_digests.new.folder) (c.resume_digests.ensures.crash told) (c.resume_digests.ensures.seen told)
+    (c.append.ensures.crash told) (c.length.ensures.crash told)
 
 pub returns-clause-marked : goal.returns-clause-marked
 returns-clause-marked g c = λ told same.
@@ -45,13 +34,9 @@ returns-clause-marked g c = λ told same.
 
 pub returns-clause-crash : goal.returns-clause-crash
 returns-clause-crash g c = λ told.
-    let S = g.S.StateFolder in
-    let bytes = c.args.bytes.now in
-    let report = (S.seen c.args.folder.now).report in
-    torn_then (length report) (length (report ++ bytes))
-    (then_torn (length report) (length (report ++ bytes)) (c.resume_digests.ensures.crash told)
-    (subst (λ (s : Content). Passes S.may_leave S.moment S.left_since (MayTear (length s.report) (length (s.report ++ bytes))) c.resume_digests.new.folder c.append.new.self) (c.resume_digests.ensures.seen told) (c.append.ensures.crash told)))
-    (c.length.ensures.crash told)
+    let seen = g.S.StateFolder.seen in
+    appended_then c.args.bytes.now (seen c.args.folder.now) (seen c.resume_digests.new.folder) (c.resume_digests.ensures.crash told) (c.resume_digests.ensures.seen told)
+    (c.append.ensures.crash told) (c.length.ensures.crash told)
 
 pub returns-then-not-is_as_long-clause-cause : goal.returns-then-not-is_as_long-clause-cause
 returns-then-not-is_as_long-clause-cause g c = λ told.

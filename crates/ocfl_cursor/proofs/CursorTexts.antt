@@ -1,12 +1,8 @@
 -- The text of a cursor determines the cursor, and is refused for no reason.
-use Rattle.std.proofs.Common.{◌≡◌, ◌⊎◌, inl, inr, ℕ, ◌+◌, ◌*◌, ◌^◌, ◌<◌, ◌≤◌, [], ◌∷◌, ◌++◌, ◌==◌, false, length, get_or, take, decimal, codes, refl, sym, ap, subst, ◌∙◌, append_assoc, length-append, arith}
+use Rattle.std.proofs.Common.{◌≡◌, ◌⊎◌, inl, inr, ℕ, ◌+◌, ◌^◌, ◌<◌, ◌≤◌, [], ◌∷◌, ◌++◌, ◌==◌, false, length, get_or, decimal, codes, refl, sym, ap, subst, ◌∙◌, append_assoc, length-append, arith}
 use Rattle.std.proofs.lemmas.Bool.{eqb-false}
-use Rattle.std.proofs.lemmas.List.{append_cancel_left, append_cancel_right, take_at}
+use Rattle.std.proofs.lemmas.List.{append_cancel_left, append_cancel_right}
 use Rattle.std.proofs.lemmas.Fmt.{length-decimal-le_wide}
-use Rattle.sha2.specs.Sha256.{sha256}
-use Rattle.sha2.proofs.Facts256.{length-sha256}
-use Rattle.hex.specs.Hex.{encode_lower, lower_digits}
-use Rattle.hex.proofs.HexLemmas.{length-encode_with}
 use Rattle.ocfl_tree.specs.Place.{Text}
 use Rattle.ocfl_report.specs.Text.{place_text}
 use Rattle.ocfl_report.proofs.PlaceTexts.{place_text_determines}
@@ -18,6 +14,7 @@ use Rattle.ocfl_cursor.specs.declared.form.Version.TheVariants.{One, Two}
 use Rattle.ocfl_report.proofs.Numbers.{wide}
 use Rattle.ocfl_cursor.proofs.Numbers.{number_line_determines}
 use Rattle.ocfl_cursor.proofs.Paths.{length-place_text}
+use Rattle.ocfl_cursor.proofs.Seals.{length-sealed, sealed_determines}
 
 -- ---- the first line
 
@@ -196,20 +193,6 @@ body_determines body c d h k = let w = written_body body c h in lines_determine 
 
 -- ---- the digest line
 
-pub length-digest_line : (body : Text) → length (digest_line body) ≡ 72
-length-digest_line body =
-    let digits : length (encode_lower (sha256 body)) ≡ 64 = length-encode_with lower_digits (sha256 body) ∙ ap (λ n. 2 * n) (length-sha256 body) in
-    omega (arith, length-append (codes "digest ") (encode_lower (sha256 body)), length-append (codes "digest " ++ encode_lower (sha256 body)) (10 ∷ []), digits)
-
-pub length-sealed : (body : Text) → length (body ++ digest_line body) ≡ length body + 72
-length-sealed body = omega (arith, length-append body (digest_line body), length-digest_line body)
-
--- what is sealed by its digest line is the same if the whole texts are
-pub sealed_determines : (a b : Text) → a ++ digest_line a ≡ b ++ digest_line b → a ≡ b
-sealed_determines a b e =
-    let lengths : length a ≡ length b = omega (arith, length-sealed a, length-sealed b, ap length e) in
-    sym (take_at a (digest_line a) (length b) lengths) ∙ ap (take (length b)) e ∙ take_at b (digest_line b) (length b) refl
-
 -- what a cursor's text seals
 abbrev Sealed : Text → Cursor → Type 0
 Sealed b c = (body : Text) × ((b ≡ body ++ digest_line body) × IsBodyOf body c)
@@ -233,7 +216,7 @@ IsTextOf-sealed text body c e h = record { keeps = h.keeps; is = by h.is }
 pub IsBodyOf-sealed : (text body : Text) (c : Cursor) → text ≡ body ++ digest_line body → IsTextOf text c → IsBodyOf body c
 IsBodyOf-sealed text body c e h =
     let s = sealed_body text c h in
-    subst (λ b. IsBodyOf b c) (sealed_determines s.0 body (sym s.1.0 ∙ e)) s.1.1
+    subst (λ b. IsBodyOf b c) (sealed_determines (codes "digest ") refl s.0 body (sym s.1.0 ∙ e)) s.1.1
 
 -- a text determines the cursor whose text it is
 pub text_determines : (b : Text) (c d : Cursor) → IsTextOf b c → IsTextOf b d → c ≡ d
@@ -290,7 +273,7 @@ pub length-text : (b : Text) (c : Cursor) → IsTextOf b c → length b < 196000
 length-text b c h =
     let s = sealed_body b c h in
     let w = written_body s.0 c s.1.1 in
-    omega (arith, ap length s.1.0, length-sealed s.0, length-written w.0 w.1.0 s.0 c w.1.1)
+    omega (arith, ap length s.1.0, length-sealed (codes "digest ") refl s.0, length-written w.0 w.1.0 s.0 c w.1.1)
 
 -- ---- the lines of the numbers, read one after the other
 

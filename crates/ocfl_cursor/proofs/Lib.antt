@@ -1,5 +1,6 @@
 pub mod Options
 pub mod Texts
+pub mod Seals
 pub mod Numbers
 pub mod Rules
 pub mod Paths

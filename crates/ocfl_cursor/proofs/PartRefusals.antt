@@ -1,5 +1,5 @@
 -- Why bytes are not the text of a part's cursor: what each answer tells.
-use Rattle.std.proofs.Common.{◌≡◌, ◌⊎◌, inl, inr, Result, Err, IfErr, ◌++◌, true, false, refl, sym, ap, subst, ◌∙◌}
+use Rattle.std.proofs.Common.{◌≡◌, ◌⊎◌, inl, inr, Result, Err, IfErr, ◌++◌, true, false, codes, refl, sym, ap, subst, ◌∙◌}
 use Rattle.std.proofs.lemmas.Bool.{false≢true}
 use Rattle.ocfl_tree.specs.Place.{Text}
 use Rattle.ocfl_cursor.specs.Cursor.{Cursor, cursor_text, digest_line, version_one_text}
@@ -12,7 +12,8 @@ use Rattle.ocfl_cursor.specs.Internal.Part.{IsPartBody}
 use Rattle.ocfl_cursor.specs.declared.ends.PartEnds.{PartEnds}
 use Rattle.ocfl_cursor.specs.declared.refused.PartRefused.{PartRefused}
 use Rattle.ocfl_cursor.specs.declared.refused.PartRefused.TheVariants.{NotCursor, Damaged, Malformed, OtherPart, Memory}
-use Rattle.ocfl_cursor.proofs.Refusals.{is_sealed-sealed, refused_not_cursor}
+use Rattle.ocfl_cursor.proofs.Refusals.{refused_not_cursor}
+use Rattle.ocfl_cursor.proofs.Seals.{is_sealed-sealed}
 use Rattle.ocfl_cursor.proofs.PartTexts.{IsPartBody-sealed, part_text_determines}
 
 -- ---- a part's cursor passes each test
@@ -21,7 +22,7 @@ pub front-part_text : (e : PartEnds) (b : Text) (c : Cursor) → IsPartText e b 
 front-part_text e b c h = ap is_part_front h.is
 
 pub seal-part_text : (e : PartEnds) (b : Text) (c : Cursor) → IsPartText e b c → is_sealed b ≡ true
-seal-part_text e b c h = is_sealed-sealed b (part_body e c) h.is
+seal-part_text e b c h = is_sealed-sealed (codes "digest ") refl b (part_body e c) h.is
 
 -- so it is refused for no reason but memory
 pub only_memory : (e : PartEnds) (b : Text) (c : Cursor) → IsPartText e b c → (r : PartRefused) → PartRefusedRightly e b r → r ≡ Memory
@@ -34,7 +35,7 @@ only_memory e b c h Memory k = refl
 -- ---- an answer that comes after the seal
 
 sealed_part : (b body : Text) → is_part_front b ≡ true → b ≡ body ++ digest_line body → IsSealedPart b
-sealed_part b body front e = record { front = front; seal = is_sealed-sealed b body e }
+sealed_part b body front e = record { front = front; seal = is_sealed-sealed (codes "digest ") refl b body e }
 
 refused_after_seal : (e : PartEnds) (b body : Text) (r : PartRefused) → is_part_front b ≡ true → b ≡ body ++ digest_line body → (r ≡ Malformed) ⊎ (r ≡ Memory)
     → (r ≡ Malformed → (f : PartEnds) (c : Cursor) → IsPartBody f body c → ⊥) → PartRefusedRightly e b r
@@ -54,7 +55,7 @@ part_unshown_after_seal : (b body : Text) (r : PartRefused) → is_part_front b 
     → (r ≡ Malformed → (f : PartEnds) (c : Cursor) → IsPartBody f body c → ⊥) → PartUnshownRightly b r
 part_unshown_after_seal b body r front is (inl m) none =
     subst (PartUnshownRightly b) (sym m) (record { sealed = sealed_part b body front is; no_cursor = λ f c h. none m f c (IsPartBody-sealed f b body c is h) })
-part_unshown_after_seal b body r front is (inr m) none = subst (PartUnshownRightly b) (sym m) (is_sealed-sealed b body is)
+part_unshown_after_seal b body r front is (inr m) none = subst (PartUnshownRightly b) (sym m) (is_sealed-sealed (codes "digest ") refl b body is)
 
 pub part_unshown : {A : Type 0} (b body : Text) (r : Result A PartRefused) (passed known : PartRefused) → r ≡ Err passed → passed ≡ known → is_part_front b ≡ true → b ≡ body ++ digest_line body
     → (known ≡ Malformed) ⊎ (known ≡ Memory) → (known ≡ Malformed → (f : PartEnds) (c : Cursor) → IsPartBody f body c → ⊥) → IfErr r (λ s. PartUnshownRightly b s)

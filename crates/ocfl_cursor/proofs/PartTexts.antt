@@ -17,7 +17,8 @@ use Rattle.ocfl_cursor.specs.Internal.Part.{IsPartBody}
 use Rattle.ocfl_cursor.specs.declared.ends.PartEnds.{PartEnds}
 use Rattle.ocfl_cursor.specs.declared.form.Version.TheVariants.{Two}
 use Rattle.ocfl_cursor.specs.Internal.Body.{AreLinesOf}
-use Rattle.ocfl_cursor.proofs.CursorTexts.{lines_determine, AreLinesOf-cursor, sealed_determines}
+use Rattle.ocfl_cursor.proofs.CursorTexts.{lines_determine, AreLinesOf-cursor}
+use Rattle.ocfl_cursor.proofs.Seals.{sealed_determines}
 
 -- ---- tests
 
@@ -203,7 +204,7 @@ part_body_determines e f body c d h k =
 -- ---- the whole text
 
 pub IsPartBody-sealed : (e : PartEnds) (text body : Text) (c : Cursor) → text ≡ body ++ digest_line body → IsPartText e text c → IsPartBody e body c
-IsPartBody-sealed e text body c f h = record { ends = h.ends; keeps = h.keeps; is = sealed_determines body (part_body e c) (sym f ∙ h.is) }
+IsPartBody-sealed e text body c f h = record { ends = h.ends; keeps = h.keeps; is = sealed_determines (codes "digest ") refl body (part_body e c) (sym f ∙ h.is) }
 
 pub IsPartText-sealed : (e : PartEnds) (text body : Text) (c : Cursor) → text ≡ body ++ digest_line body → IsPartBody e body c → IsPartText e text c
 IsPartText-sealed e text body c f h = record { ends = h.ends; keeps = h.keeps; is = f ∙ ap (λ b. b ++ digest_line b) h.is }

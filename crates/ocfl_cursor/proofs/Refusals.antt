@@ -1,17 +1,17 @@
 -- Why bytes are the text of no cursor: what each test tells.
-use Rattle.std.proofs.Common.{◌≡◌, ◌⊎◌, inl, inr, Result, Ok, Err, IfErr, ◌+◌, ◌-◌, ◌≤◌, ◌++◌, nat_eq, ◌&&◌, Bool, true, false, not, cond, length, take, drop, codes, sym, ap, ap₂, subst, ◌∙◌, arith}
+use Rattle.std.proofs.Common.{◌≡◌, ◌⊎◌, inl, inr, Result, Ok, Err, IfErr, ◌≤◌, ◌++◌, nat_eq, ◌&&◌, Bool, true, false, not, cond, length, drop, codes, refl, sym, ap, ap₂, subst, ◌∙◌, arith}
 use Rattle.std.specs.List.{starts_with}
 use Rattle.std.proofs.lemmas.Bool.{le-leb, false≢true}
-use Rattle.std.proofs.lemmas.List.{take_at, drop_at}
 use Rattle.ocfl_tree.specs.Place.{Text}
 use Rattle.ocfl_cursor.specs.Cursor.{Cursor, cursor_body, digest_line, cursor_text, version_one_body, version_one_text}
-use Rattle.ocfl_cursor.specs.Internal.Body.{first_line, IsBodyOf}
+use Rattle.ocfl_cursor.specs.Internal.Body.{IsBodyOf}
 use Rattle.ocfl_cursor.specs.Refusal.{Refusal, not_cursor, version, damaged, malformed, max_text, is_cursor_front, version_of, is_version, is_sealed, IsTextOf}
+use Rattle.ocfl_cursor.specs.Sealed.{first_line}
 use Rattle.ocfl_cursor.specs.Refused.{IsRefused, RefusedRightly}
 use Rattle.ocfl_cursor.specs.declared.refused.Refused.{Refused}
 use Rattle.ocfl_cursor.specs.declared.refused.Refused.TheVariants.{Malformed, Memory}
-use Rattle.ocfl_cursor.proofs.Texts.{same-text_eq}
-use Rattle.ocfl_cursor.proofs.CursorTexts.{length-sealed, length-text, IsBodyOf-sealed}
+use Rattle.ocfl_cursor.proofs.CursorTexts.{length-text, IsBodyOf-sealed}
+use Rattle.ocfl_cursor.proofs.Seals.{is_sealed-sealed}
 
 -- ---- a cursor's text passes each test
 
@@ -34,21 +34,12 @@ version-cursor_text b c h = by h.is
     by (inl e) = ap (λ t. is_version (version_of t)) e
     by (inr e) = ap (λ t. is_version (version_of t)) e.1
 
--- what is followed by its digest line is sealed
-pub is_sealed-sealed : (b body : Text) → b ≡ body ++ digest_line body → is_sealed b ≡ true
-is_sealed-sealed b body e =
-    let whole : length b ≡ length body + 72 = ap length e ∙ length-sealed body in
-    let at : length body ≡ length b - 72 = omega arith in
-    let front : take (length b - 72) b ≡ body = ap (take (length b - 72)) e ∙ take_at body (digest_line body) (length b - 72) at in
-    let back : drop (length b - 72) b ≡ digest_line body = ap (drop (length b - 72)) e ∙ drop_at body (digest_line body) (length b - 72) at in
-    ap₂ (λ r s. r && s) (le-leb 72 (length b) (omega arith)) (same-text_eq _ _ (back ∙ ap digest_line (sym front)))
-
 sealed-cursor_text : (b : Text) (c : Cursor) → IsTextOf b c → is_sealed b ≡ true
 sealed-cursor_text b c h = by h.is
   where
     by : (b ≡ cursor_text c) ⊎ ((c.files ≡ 0) × (b ≡ version_one_text c)) → is_sealed b ≡ true
-    by (inl e) = is_sealed-sealed b (cursor_body c) e
-    by (inr e) = is_sealed-sealed b (version_one_body c) e.1
+    by (inl e) = is_sealed-sealed (codes "digest ") refl b (cursor_body c) e
+    by (inr e) = is_sealed-sealed (codes "digest ") refl b (version_one_body c) e.1
 
 -- ---- so bytes that fail one are the text of no cursor
 
@@ -79,7 +70,7 @@ refused_damaged b front known e = record {
 
 pub refused_malformed : (b body : Text) → is_cursor_front b ≡ true → is_version (version_of b) ≡ true → b ≡ body ++ digest_line body → ((c : Cursor) → IsBodyOf body c → ⊥) → IsRefused b malformed
 refused_malformed b body front known e none =
-    let sealed = is_sealed-sealed b body e in
+    let sealed = is_sealed-sealed (codes "digest ") refl b body e in
     record {
       no_cursor = λ c h. none c (IsBodyOf-sealed b body c e h);
       reason = λ i. refusal_by (front i) (known i) (sealed i);

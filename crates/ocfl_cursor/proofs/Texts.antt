@@ -5,7 +5,7 @@ use Rattle.std.proofs.lemmas.Bool.{ne_eqb}
 use Rattle.std.proofs.lemmas.List.Sums.{take_while-cons}
 use Rattle.std.proofs.lemmas.List.Elements.{All-head, All-tail}
 use Rattle.ocfl_tree.specs.Place.{Text, text_eq}
-use Rattle.ocfl_cursor.specs.Internal.Body.{first_line}
+use Rattle.ocfl_cursor.specs.Sealed.{first_line}
 
 -- texts that pass the test are the same
 pub text_eq-same : (a b : Text) → text_eq a b ≡ true → a ≡ b

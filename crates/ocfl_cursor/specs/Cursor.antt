@@ -1,10 +1,9 @@
 -- A cursor, and its text: what one run leaves for the next.
 use Rattle.std.specs.Prelude.{ℕ, ◌*◌, ◌^◌, ◌<◌, ◌≤◌, [], ◌∷◌, ◌++◌, length, codes, decimal, ⊤}
-use Rattle.sha2.specs.Sha256.{sha256}
-use Rattle.hex.specs.Hex.{encode_lower}
 use Rattle.ocfl_tree.specs.Place.{Text, Place}
 use Rattle.ocfl_tree.specs.Name.{IsPlace}
 use Rattle.ocfl_report.specs.Text.{place_text}
+use Rattle.ocfl_cursor.specs.Sealed.{seal_line}
 
 -- where the next run begins: at the first item, after a place, or with the next cycle
 pub data State : Type 0 where
@@ -58,9 +57,8 @@ cursor_lines c = number_line (codes "cycle") c.cycle ++ number_line (codes "runs
 abbrev pub cursor_body : Cursor → Text
 cursor_body c = codes "ocfl-scrub cursor 2\n" ++ cursor_lines c
 
--- the SHA-256 of all bytes before it (FIPS 180-4, 6.2)
 abbrev pub digest_line : Text → Text
-digest_line body = codes "digest " ++ encode_lower (sha256 body) ++ 10 ∷ []
+digest_line body = seal_line (codes "digest ") body
 
 abbrev pub cursor_text : Cursor → Text
 cursor_text c = cursor_body c ++ digest_line (cursor_body c)

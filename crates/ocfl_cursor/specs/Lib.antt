@@ -1,3 +1,4 @@
+pub mod Sealed
 pub mod Cursor
 pub mod State
 pub mod Moves

@@ -1,8 +1,9 @@
 -- Why bytes are no cursor's text: the first that applies.
-use Rattle.std.specs.Prelude.{◌≡◌, ℕ, ◌-◌, ◌==◌, ◌&&◌, ◌||◌, ◌⊎◌, nat_eq, nat_le, Bool, not, length, take, drop, take_while, if◌then◌else◌, codes}
+use Rattle.std.specs.Prelude.{◌≡◌, ℕ, ◌&&◌, ◌||◌, ◌⊎◌, nat_eq, nat_le, Bool, not, length, drop, if◌then◌else◌, codes}
 use Rattle.std.specs.List.{starts_with}
 use Rattle.ocfl_tree.specs.Place.{Text, text_eq}
-use Rattle.ocfl_cursor.specs.Cursor.{Cursor, IsCursor, cursor_text, version_one_text, digest_line}
+use Rattle.ocfl_cursor.specs.Cursor.{Cursor, IsCursor, cursor_text, version_one_text}
+use Rattle.ocfl_cursor.specs.Sealed.{first_line, is_sealed_by}
 
 pub data Refusal : Type 0 where
   not_cursor : Refusal
@@ -18,7 +19,7 @@ is_cursor_front b = starts_with nat_eq b (codes "ocfl-scrub cursor ") && nat_le 
 
 -- what follows those 18 bytes, up to a line feed or the end
 abbrev pub version_of : Text → Text
-version_of b = take_while (λ c. not (c == 10)) (drop 18 b)
+version_of b = first_line (drop 18 b)
 
 -- the versions that are read
 abbrev pub is_version : Text → Bool
@@ -26,7 +27,7 @@ is_version v = text_eq v (codes "1") || text_eq v (codes "2")
 
 -- the last 72 bytes are the digest line of all before them
 abbrev pub is_sealed : Text → Bool
-is_sealed b = nat_le 72 (length b) && text_eq (drop (length b - 72) b) (digest_line (take (length b - 72) b))
+is_sealed b = is_sealed_by (codes "digest ") b
 
 -- of bytes that are the text of no cursor
 abbrev pub refusal : Text → Refusal

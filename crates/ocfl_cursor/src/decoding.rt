@@ -6,25 +6,26 @@ ghost use Rattle.ocfl_tree.specs.Place.{Place as ModelPlace};
 ghost use Rattle.ocfl_report.specs.Text.{place_text};
 ghost use Rattle.ocfl_cursor.specs.Cursor.{State as ModelState, Cursor as ModelCursor};
 ghost use Rattle.ocfl_cursor.specs.State.{state_of};
-ghost use Rattle.ocfl_cursor.specs.Internal.Body.{first_line, version_line, files_line, FilesFit};
+ghost use Rattle.ocfl_cursor.specs.Internal.Body.{version_line, files_line, FilesFit};
 ghost use Rattle.ocfl_cursor.specs.Internal.Body.{CountsFit, counts_text, IsStateLine};
 ghost use Rattle.ocfl_cursor.specs.Internal.Body.{AreLinesOf, IsBodyOf};
 ghost use Rattle.ocfl_cursor.specs.Refusal.{IsTextOf, is_cursor_front, is_version, refusal};
 ghost use Rattle.ocfl_cursor.specs.Refusal.{malformed};
 ghost use Rattle.ocfl_cursor.specs.Refused.{RefusedRightly};
+ghost use Rattle.ocfl_cursor.specs.Sealed.{first_line as first_line_of};
 ghost use Rattle.ocfl_cursor.specs.declared.form.Version.{Version as ModelVersion};
 
 use crate::cursor::Cursor;
 use crate::form::{
-    AFTER, CYCLE, ENDED, FILES, FIRST_LINE_ONE, FIRST_LINE_TWO, FRONT, MAX_TEXT, RUNS, SPENT,
-    START, VERSION_ONE, VERSION_TWO, Version,
+    AFTER, CYCLE, DIGEST, ENDED, FILES, FIRST_LINE_ONE, FIRST_LINE_TWO, FRONT, MAX_TEXT, RUNS,
+    SPENT, START, VERSION_ONE, VERSION_TWO, Version,
 };
 use crate::number::{read_number, read_small_number};
-use crate::pieces::{after_prefix, before_line_feed, count_slashes};
+use crate::pieces::{after_prefix, before_line_feed, count_slashes, first_line};
 use crate::refused::Refused;
 use crate::seal::sealed_body;
 use crate::state::{MAX_NAMES, State};
-use ocfl_report::{PlaceStop, read_place, split_once};
+use ocfl_report::{PlaceStop, read_place};
 use ocfl_tree::{Place, is_bytes};
 use std::alloc::Global;
 
@@ -45,7 +46,7 @@ pub fn decode(alloc: Global, text: &[u8]) -> Result<Cursor, Refused>
     if !begins_with_version(rest) {
         return Err(Refused::Version);
     }
-    match sealed_body(text) {
+    match sealed_body(DIGEST, text) {
         Some(body) => read_body(alloc, body),
         None => Err(Refused::Damaged),
     }
@@ -64,12 +65,9 @@ fn after_front(text: &[u8]) -> Option<&[u8]>
 
 /// Whether the text up to the first line feed, or all of it, is a known version.
 fn begins_with_version(text: &[u8]) -> bool
-    ensures { result ≡ is_version (first_line text.now) }
+    ensures { result ≡ is_version (first_line_of text.now) }
 {
-    match split_once(text, b'\n') {
-        Some((version, _)) => is_version(version),
-        None => is_version(text),
-    }
+    is_version(first_line(text))
 }
 
 /// Whether the text is a known version.

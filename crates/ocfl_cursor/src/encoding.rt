@@ -4,9 +4,9 @@ ghost use Rattle.ocfl_cursor.specs.Cursor.{IsCursor, state_text, cursor_lines, c
 ghost use Rattle.ocfl_cursor.specs.State.{state_of};
 
 use crate::cursor::Cursor;
-use crate::form::{AFTER, CYCLE, ENDED, FILES, FIRST_LINE_TWO, RUNS, SPENT, START};
+use crate::form::{AFTER, CYCLE, DIGEST, ENDED, FILES, FIRST_LINE_TWO, RUNS, SPENT, START};
 use crate::number::put_number;
-use crate::seal::digest_line;
+use crate::seal::sealed_text;
 use crate::state::State;
 use ocfl_report::put_place;
 use std::alloc::{AllocError, Global};
@@ -17,11 +17,7 @@ pub fn encode(alloc: Global, cursor: &Cursor) -> Result<Vec<u8>, AllocError>
     ensures keeps { IsCursor cursor.now }
 {
     let lines = cursor_lines(alloc, cursor)?;
-    let mut text = Vec::from_slice(alloc, FIRST_LINE_TWO)?;
-    text.extend_from_slice(&lines)?;
-    let last_line = digest_line(&text);
-    text.extend_from_slice(&last_line)?;
-    Ok(text)
+    sealed_text(alloc, DIGEST, FIRST_LINE_TWO, &lines)
 }
 
 /// The text of the cursor without its first line and its last: five lines, to be shown.

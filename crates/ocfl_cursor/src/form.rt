@@ -52,5 +52,8 @@ pub(crate) const BELOW: &[u8] = b"below ";
 
 pub(crate) const END: &[u8] = b"end";
 
+/// How the last line of each text begins, which seals the others.
+pub(crate) const DIGEST: [u8; 7] = *b"digest ";
+
 /// What stands before a path that has the text of the word.
 pub(crate) const NO_WORD: &[u8] = b"./";

@@ -14,7 +14,7 @@ ghost use Rattle.ocfl_cursor.specs.declared.ends.PartEnds.{PartEnds as ModelEnds
 use crate::cursor::Cursor;
 use crate::decoding::read_lines;
 use crate::ends::{PartEnds, is_same_part};
-use crate::form::{BELOW, END, FROM, NO_WORD, PART_FIRST_LINE, START, Version};
+use crate::form::{BELOW, DIGEST, END, FROM, NO_WORD, PART_FIRST_LINE, START, Version};
 use crate::pieces::after_prefix;
 use crate::refused::{PartRefused, Refused};
 use crate::seal::sealed_body;
@@ -33,7 +33,7 @@ pub fn decode_part(alloc: Global, text: &[u8], ends: &PartEnds) -> Result<Cursor
     if !text.starts_with(PART_FIRST_LINE) {
         return Err(PartRefused::NotCursor);
     }
-    let Some(body) = sealed_body(text) else {
+    let Some(body) = sealed_body(DIGEST, text) else {
         return Err(PartRefused::Damaged);
     };
     let (named, cursor) = read_part_body(alloc, body)?;

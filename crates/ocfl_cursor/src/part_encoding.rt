@@ -7,8 +7,8 @@ ghost use Rattle.ocfl_cursor.specs.Part.{part_text};
 use crate::cursor::Cursor;
 use crate::encoding::cursor_lines;
 use crate::ends::{PartEnds, every_part_has_ends};
-use crate::form::{BELOW, END, FROM, NO_WORD, PART_FIRST_LINE, START};
-use crate::seal::digest_line;
+use crate::form::{BELOW, DIGEST, END, FROM, NO_WORD, PART_FIRST_LINE, START};
+use crate::seal::sealed_text;
 use ocfl_report::put_place;
 use ocfl_tree::{Place, is_bytes};
 use std::alloc::{AllocError, Global};
@@ -24,18 +24,14 @@ pub fn encode_part(alloc: Global, ends: &PartEnds, cursor: &Cursor) -> Result<Ve
     ensures ends { AreEnds ends.now }
 {
     every_part_has_ends(ends);
-    let lines = cursor_lines(alloc, cursor)?;
-    let mut text = Vec::from_slice(alloc, PART_FIRST_LINE)?;
-    put_ends(alloc, ends, &mut text)?;
-    text.extend_from_slice(&lines)?;
-    let last_line = digest_line(&text);
-    text.extend_from_slice(&last_line)?;
-    Ok(text)
+    let lines = part_lines(alloc, ends, cursor)?;
+    sealed_text(alloc, DIGEST, PART_FIRST_LINE, &lines)
 }
 
 /// The text of a part's cursor without its first line and its last: seven lines, to be shown.
 pub fn part_lines(alloc: Global, ends: &PartEnds, cursor: &Cursor) -> Result<Vec<u8>, AllocError>
-    ensures { IfOk result (λ lines. lines.items ≡ part_lines ends.now cursor.now) }
+    ensures lines { IfOk result (λ lines. lines.items ≡ part_lines ends.now cursor.now) }
+    ensures keeps { IsCursor cursor.now }
 {
     let cursor = cursor_lines(alloc, cursor)?;
     let mut lines = Vec::new(alloc);

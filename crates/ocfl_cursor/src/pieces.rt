@@ -1,13 +1,26 @@
-//! Taking the text of a cursor apart: prefixes, lines and its digest line.
+//! Taking stored texts apart: prefixes and lines.
 ghost use Rattle.std.specs.Prelude.{◌≡◌, ◌≢◌, List, ℕ, [], ◌∷◌, ◌++◌, ◌==◌, count_by, IfSome};
 ghost use Rattle.std.specs.Prelude.{IsNone};
+ghost use Rattle.ocfl_cursor.specs.Sealed.{first_line as first_line_of};
+
+use ocfl_report::split_once;
 
 /// What follows this beginning of the text. `None` if the text does not begin so.
-pub(crate) fn after_prefix<'a>(prefix: &[u8], text: &'a [u8]) -> Option<&'a [u8]>
+pub fn after_prefix<'a>(prefix: &[u8], text: &'a [u8]) -> Option<&'a [u8]>
     ensures found { IfSome result (λ rest. text.now ≡ prefix.now ++ rest.now) }
     ensures missing { IsNone result → (rest : List ℕ) → text.now ≢ prefix.now ++ rest }
 {
     text.strip_prefix(prefix)
+}
+
+/// The text up to the first line feed, or all of it if it has none.
+pub fn first_line(text: &[u8]) -> &[u8]
+    ensures { result.now ≡ first_line_of text.now }
+{
+    match split_once(text, b'\n') {
+        Some((line, _)) => line,
+        None => text,
+    }
 }
 
 /// What stands before the line feed that ends the text. `None` if none does.

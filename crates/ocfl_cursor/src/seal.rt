@@ -1,37 +1,55 @@
-//! The digest line that ends a cursor's text.
-ghost use Rattle.std.specs.Prelude.{◌≡◌, ◌++◌, IfSome, is_some};
-ghost use Rattle.ocfl_cursor.specs.Cursor.{digest_line};
-ghost use Rattle.ocfl_cursor.specs.Refusal.{is_sealed};
+//! Sealing stored texts by their last lines, and what such a line seals.
+ghost use Rattle.std.specs.Prelude.{◌≡◌, ◌++◌, IfOk, IfSome, is_some};
+ghost use Rattle.ocfl_cursor.specs.Sealed.{is_sealed_by, seal_line as line_of_seal};
 
 use ocfl_tree::is_bytes;
 use sha2::{Digest, Sha256};
+use std::alloc::{AllocError, Global};
 
-/// How many bytes the digest line has.
-const DIGEST_LINE: usize = 72;
+/// How many bytes the last line has.
+const SEAL_LINE: usize = 72;
 
-/// The last line of a text: `digest `, the SHA-256 of all that stands before it, in lower-case
+/// The last line of a text: its front, the SHA-256 of all that stands before it, in lower-case
 /// hexadecimal digits, and a line feed.
-pub(crate) fn digest_line(body: &[u8]) -> [u8; DIGEST_LINE]
-    ensures { result ≡ digest_line body.now }
+fn seal_line(front: [u8; 7], body: &[u8]) -> [u8; SEAL_LINE]
+    ensures { result ≡ line_of_seal front body.now }
 {
     let mut digits = [0; 64];
     hex::encode_to_slice(Sha256::digest(body), &mut digits).unwrap();
-    let mut line = [b'\n'; DIGEST_LINE];
-    line[..7].copy_from_slice(b"digest ");
+    let mut line = [b'\n'; SEAL_LINE];
     line[7..71].copy_from_slice(&digits);
+    line[..7].copy_from_slice(&front);
     line
 }
 
-/// What stands before the last line, where that is the digest line of it.
-pub(crate) fn sealed_body(text: &[u8]) -> Option<&[u8]>
-    ensures found { IfSome result (λ body. text.now ≡ body.now ++ digest_line body.now) }
-    ensures sealed { is_some result ≡ is_sealed text.now }
+/// A text: its first line, with its line feed, then these lines, and a last one, which seals them.
+/// The last line begins with this front.
+pub fn sealed_text(
+    alloc: Global,
+    front: [u8; 7],
+    first_line: &[u8],
+    lines: &[u8],
+) -> Result<Vec<u8>, AllocError>
+    ensures { IfOk result (λ text. text.items ≡ (first_line.now ++ lines.now)
+        ++ line_of_seal front (first_line.now ++ lines.now)) }
 {
-    if text.len() < DIGEST_LINE {
+    let mut text = Vec::from_slice(alloc, first_line)?;
+    text.extend_from_slice(lines)?;
+    let last_line = seal_line(front, text.as_slice());
+    text.extend_from_slice(&last_line)?;
+    Ok(text)
+}
+
+/// What stands before the last line of a text, if that begins with this front and seals it.
+pub fn sealed_body(front: [u8; 7], text: &[u8]) -> Option<&[u8]>
+    ensures found { IfSome result (λ body. text.now ≡ body.now ++ line_of_seal front body.now) }
+    ensures sealed { is_some result ≡ is_sealed_by front text.now }
+{
+    if text.len() < SEAL_LINE {
         return None;
     }
-    let (body, last_line) = text.split_at(text.len() - DIGEST_LINE);
-    if is_bytes(last_line, &digest_line(body)) {
+    let (body, last_line) = text.split_at(text.len() - SEAL_LINE);
+    if is_bytes(last_line, &seal_line(front, body)) {
         Some(body)
     } else {
         None

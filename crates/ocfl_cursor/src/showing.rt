@@ -9,7 +9,7 @@ ghost use Rattle.ocfl_cursor.specs.Stop.{max_part_text};
 
 use crate::decoding::decode;
 use crate::encoding::cursor_lines;
-use crate::form::{MAX_PART_TEXT, PART_FIRST_LINE};
+use crate::form::{DIGEST, MAX_PART_TEXT, PART_FIRST_LINE};
 use crate::part_decoding::read_part_body;
 use crate::part_encoding::part_lines;
 use crate::reading::{CursorStop, read_limited};
@@ -85,7 +85,7 @@ fn lines_of_part(alloc: Global, text: &[u8]) -> Result<Vec<u8>, PartRefused>
     ensures lines { IfOk result (λ lines. ArePartTextLines text.now lines.items) }
     ensures refused { IfErr result (λ refused. PartUnshownRightly text.now refused) }
 {
-    let Some(body) = sealed_body(text) else {
+    let Some(body) = sealed_body(DIGEST, text) else {
         return Err(PartRefused::Damaged);
     };
     let (ends, cursor) = read_part_body(alloc, body)?;

@@ -178,13 +178,17 @@ other_digits digits digest lower d r e l f g h k =
 
 -- ---- what is read of words
 
-pub no_phase : (word : Text) (p : Phase) → text_eq word (codes "open") ≡ false → text_eq word (codes "closing") ≡ false → word ≡ phase_text p → ⊥
-no_phase word Open h k e = false≢true (sym h ∙ same-text_eq word (codes "open") e)
-no_phase word Closing h k e = false≢true (sym k ∙ same-text_eq word (codes "closing") e)
+-- a word that does not pass the test is another one
+pub another_word : (word other : Text) (is : Bool) → is ≡ text_eq word other → is ≡ false → word ≢ other
+another_word word other is e f same = false≢true (sym f ∙ e ∙ same-text_eq word other same)
 
-pub no_whole : (word : Text) (w : Bool) → text_eq word (codes "yes") ≡ false → text_eq word (codes "no") ≡ false → word ≡ yes_or_no w → ⊥
-no_whole word true h k e = false≢true (sym h ∙ same-text_eq word (codes "yes") e)
-no_whole word false h k e = false≢true (sym k ∙ same-text_eq word (codes "no") e)
+pub no_phase : (word : Text) (p : Phase) → (word ≢ codes "open") × (word ≢ codes "closing") → word ≢ phase_text p
+no_phase word Open others e = others.0 e
+no_phase word Closing others e = others.1 e
+
+pub no_whole : (word : Text) (w : Bool) → (word ≢ codes "yes") × (word ≢ codes "no") → word ≢ yes_or_no w
+no_whole word true others e = others.0 e
+no_whole word false others e = others.1 e
 
 -- ---- what is read of paths
 

@@ -1,25 +1,15 @@
 -- Why bytes are the text of no checkpoint: what each test tells.
-use Rattle.std.proofs.Common.{◌≡◌, ◌⊎◌, inl, inr, Result, Ok, Err, IfErr, ◌+◌, ◌-◌, ◌++◌, ◌&&◌, Bool, true, length, take, drop, codes, refl, sym, ap, ap₂, subst, ◌∙◌, arith}
-use Rattle.std.proofs.lemmas.Bool.{le-leb, false≢true}
-use Rattle.std.proofs.lemmas.List.{take_at, drop_at}
+use Rattle.std.proofs.Common.{◌≡◌, ◌⊎◌, inl, inr, Result, Ok, Err, IfErr, ◌++◌, Bool, true, drop, codes, refl, sym, ap, subst, ◌∙◌}
+use Rattle.std.proofs.lemmas.Bool.{false≢true}
 use Rattle.ocfl_tree.specs.Place.{Text, text_eq}
-use Rattle.ocfl_cursor.specs.Internal.Body.{first_line}
-use Rattle.ocfl_cursor.proofs.Texts.{same-text_eq}
+use Rattle.ocfl_cursor.specs.Sealed.{first_line}
+use Rattle.ocfl_cursor.proofs.Seals.{is_sealed-sealed}
 use Rattle.ocfl_state.specs.Checkpoint.{Checkpoint, checkpoint_body, sha256_line, IsCheckpointText}
 use Rattle.ocfl_state.specs.CheckpointLines.{IsBodyOf}
 use Rattle.ocfl_state.specs.CheckpointRefusal.{is_checkpoint_front, is_version_read, is_sealed, HasVersion, RefusedRightly}
 use Rattle.ocfl_state.specs.declared.checkpoint_refused.NotDecoded.{NotDecoded}
 use Rattle.ocfl_state.specs.declared.checkpoint_refused.NotDecoded.TheVariants.{NotCheckpoint, Version, Damaged, Malformed, Memory}
-use Rattle.ocfl_state.proofs.CheckpointTexts.{length-sealed, IsBodyOf-sealed}
-
--- what is followed by its last line is sealed
-pub is_sealed-sealed : (b body : Text) → b ≡ body ++ sha256_line body → is_sealed b ≡ true
-is_sealed-sealed b body e =
-    let whole : length b ≡ length body + 72 = ap length e ∙ length-sealed body in
-    let at : length body ≡ length b - 72 = omega arith in
-    let front : take (length b - 72) b ≡ body = ap (take (length b - 72)) e ∙ take_at body (sha256_line body) (length b - 72) at in
-    let back : drop (length b - 72) b ≡ sha256_line body = ap (drop (length b - 72)) e ∙ drop_at body (sha256_line body) (length b - 72) at in
-    ap₂ (λ r s. r && s) (le-leb 72 (length b) (omega arith)) (same-text_eq _ _ (back ∙ ap sha256_line (sym front)))
+use Rattle.ocfl_state.proofs.CheckpointTexts.{IsBodyOf-sealed}
 
 -- the version as what follows the front tells it
 pub version_from_rest : (b rest : Text) (r known : Bool) → rest ≡ drop 22 b → r ≡ text_eq (first_line rest) (codes "1") → r ≡ known → is_version_read b ≡ known
@@ -30,8 +20,8 @@ refused_rightly : (b body : Text) (e : NotDecoded) → HasVersion b → b ≡ bo
     → (e ≡ Malformed → (c : Checkpoint) → IsBodyOf body c → ⊥) → RefusedRightly b e
 refused_rightly b body e begins is (inl m) none =
     subst (RefusedRightly b) (sym m)
-    (record { sealed = record { begins = begins; seal = is_sealed-sealed b body is }; no_checkpoint = λ c h. none m c (IsBodyOf-sealed b body c is h) })
-refused_rightly b body e begins is (inr m) none = subst (RefusedRightly b) (sym m) (record { begins = begins; seal = is_sealed-sealed b body is })
+    (record { sealed = record { begins = begins; seal = is_sealed-sealed (codes "sha256 ") refl b body is }; no_checkpoint = λ c h. none m c (IsBodyOf-sealed b body c is h) })
+refused_rightly b body e begins is (inr m) none = subst (RefusedRightly b) (sym m) (record { begins = begins; seal = is_sealed-sealed (codes "sha256 ") refl b body is })
 
 -- the same of a result
 pub refused_after_seal : {A : Type 0} (b body : Text) (r : Result A NotDecoded) → HasVersion b → b ≡ body ++ sha256_line body → IfErr r (λ e. (e ≡ Malformed) ⊎ (e ≡ Memory))
@@ -50,6 +40,6 @@ version_of_text b c h = ap is_version_read h.is
 pub only_memory : (b : Text) (c : Checkpoint) → IsCheckpointText b c → (e : NotDecoded) → RefusedRightly b e → e ≡ Memory
 only_memory b c h NotCheckpoint k = absurd (false≢true (sym k ∙ front_of_text b c h))
 only_memory b c h Version k = absurd (false≢true (sym k.1 ∙ version_of_text b c h))
-only_memory b c h Damaged k = absurd (false≢true (sym k.1 ∙ is_sealed-sealed b (checkpoint_body c) h.is))
+only_memory b c h Damaged k = absurd (false≢true (sym k.1 ∙ is_sealed-sealed (codes "sha256 ") refl b (checkpoint_body c) h.is))
 only_memory b c h Malformed k = absurd (k.no_checkpoint c h)
 only_memory b c h Memory k = refl

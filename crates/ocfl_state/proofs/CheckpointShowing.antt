@@ -1,5 +1,5 @@
 -- What is shown of a checkpoint or a cursor.
-use Rattle.std.proofs.Common.{◌≡◌, ◌⊎◌, inl, inr, ◌<◌, ◌≤◌, Option, None, Some, IfSome, take, length, sym, ap, subst, ◌∙◌, arith, length-take}
+use Rattle.std.proofs.Common.{◌≡◌, ◌⊎◌, inl, inr, ◌<◌, ◌≤◌, Option, None, Some, IfSome, take, length, codes, refl, sym, ap, subst, ◌∙◌, arith, length-take}
 use Rattle.std.proofs.lemmas.List.{take_all}
 use Rattle.ocfl_state.specs.CheckpointShown.{AreShown, HiddenRightly}
 use Rattle.ocfl_state.specs.declared.checkpoint_showing.NotShown.{NotShown}
@@ -8,12 +8,13 @@ use Rattle.ocfl_tree.specs.Place.{Text}
 use Rattle.ocfl_cursor.specs.Shown.{AreShown as AreCursorLines, IsShownFrom}
 use Rattle.ocfl_state.specs.Checkpoint.{Checkpoint, IsCheckpointText}
 use Rattle.ocfl_state.specs.CheckpointRefusal.{IsSealedCheckpoint}
-use Rattle.ocfl_state.proofs.CheckpointRefusals.{is_sealed-sealed, front_of_text, version_of_text}
+use Rattle.ocfl_cursor.proofs.Seals.{is_sealed-sealed}
+use Rattle.ocfl_state.proofs.CheckpointRefusals.{front_of_text, version_of_text}
 use Rattle.ocfl_state.specs.Checkpoint.{checkpoint_body}
 
 -- the text of a checkpoint is sealed
 pub sealed_text : (b : Text) (c : Checkpoint) → IsCheckpointText b c → IsSealedCheckpoint b
-sealed_text b c h = record { begins = record { front = front_of_text b c h; version = version_of_text b c h }; seal = is_sealed-sealed b (checkpoint_body c) h.is }
+sealed_text b c h = record { begins = record { front = front_of_text b c h; version = version_of_text b c h }; seal = is_sealed-sealed (codes "sha256 ") refl b (checkpoint_body c) h.is }
 
 -- what is shown from known bytes is shown of them
 pub shown_of : (b lines : Text) → IsShownFrom (Some b) lines → AreCursorLines b lines

@@ -1,12 +1,9 @@
 -- The text of a checkpoint determines the checkpoint.
 use Rattle.std.proofs.Common.{◌≡◌, ℕ, ◌+◌, ◌*◌, ◌^◌, ◌<◌, ◌≤◌, List, [], ◌∷◌, ◌++◌, Bool, IfSome, All, length, take, codes, decimal, flat_map, refl, sym, ap, subst, ◌∙◌, append-nil, append_assoc, length-append, arith}
 use Rattle.std.proofs.lemmas.Grind.{flat_map-append}
-use Rattle.std.proofs.lemmas.List.{append_cancel_left, take_at}
+use Rattle.std.proofs.lemmas.List.{append_cancel_left}
 use Rattle.std.proofs.lemmas.List.Elements.{All-head, All-tail}
-use Rattle.sha2.specs.Sha256.{sha256}
-use Rattle.sha2.proofs.Facts256.{length-sha256}
-use Rattle.hex.specs.Hex.{encode_lower, lower_digits}
-use Rattle.hex.proofs.HexLemmas.{length-encode_with}
+use Rattle.hex.specs.Hex.{encode_lower}
 use Rattle.ocfl_tree.specs.Place.{Text}
 use Rattle.ocfl_tree.specs.Name.{IsPlace}
 use Rattle.ocfl_report.specs.Text.{place_text}
@@ -14,6 +11,7 @@ use Rattle.ocfl_report.proofs.PlaceTexts.{place_text_determines}
 use Rattle.ocfl_cursor.specs.Cursor.{IsCursor}
 use Rattle.ocfl_cursor.specs.Part.{AreEnds}
 use Rattle.ocfl_cursor.specs.Lines.{stored_lines, AreStoredLines}
+use Rattle.ocfl_cursor.proofs.Seals.{sealed_determines}
 use Rattle.ocfl_cursor.proofs.StoredLines.{stored_lines_determine}
 use Rattle.ocfl_state.specs.Checkpoint.{Checkpoint, IsDigest, IsRoot, AreNames, IsMark, IsLeft, IsCheckpoint, path_text, names_text, phase_text, yes_or_no, stood_text, left_text, checkpoint_body, sha256_line, IsCheckpointText}
 use Rattle.ocfl_state.specs.CheckpointLines.{field_line, sizes_text, standing_text, IsStanding, mark_text, account_text, IsAccount, body_text, OneLine, left_fields, ArePartsOf, IsBodyOf}
@@ -297,27 +295,13 @@ body_determines body c d h k =
 
 -- ---- the last line
 
-pub length-sha256_line : (body : Text) → length (sha256_line body) ≡ 72
-length-sha256_line body =
-    let digits : length (encode_lower (sha256 body)) ≡ 64 = length-encode_with lower_digits (sha256 body) ∙ ap (λ n. 2 * n) (length-sha256 body) in
-    omega (arith, length-append (codes "sha256 ") (encode_lower (sha256 body)), length-append (codes "sha256 " ++ encode_lower (sha256 body)) (10 ∷ []), digits)
-
-pub length-sealed : (body : Text) → length (body ++ sha256_line body) ≡ length body + 72
-length-sealed body = omega (arith, length-append body (sha256_line body), length-sha256_line body)
-
--- what is sealed is the same if the whole texts are
-pub sealed_determines : (a b : Text) → a ++ sha256_line a ≡ b ++ sha256_line b → a ≡ b
-sealed_determines a b e =
-    let lengths : length a ≡ length b = omega (arith, length-sealed a, length-sealed b, ap length e) in
-    sym (take_at a (sha256_line a) (length b) lengths) ∙ ap (take (length b)) e ∙ take_at b (sha256_line b) (length b) refl
-
 -- a sealed text is a checkpoint's if what it seals is the checkpoint's body
 pub IsCheckpointText-sealed : (text body : Text) (c : Checkpoint) → text ≡ body ++ sha256_line body → IsBodyOf body c → IsCheckpointText text c
 IsCheckpointText-sealed text body c e h = record { keeps = h.keeps; is = e ∙ ap (λ b. b ++ sha256_line b) h.is }
 
 -- and only then
 pub IsBodyOf-sealed : (text body : Text) (c : Checkpoint) → text ≡ body ++ sha256_line body → IsCheckpointText text c → IsBodyOf body c
-IsBodyOf-sealed text body c e h = record { keeps = h.keeps; is = sealed_determines body (checkpoint_body c) (sym e ∙ h.is) }
+IsBodyOf-sealed text body c e h = record { keeps = h.keeps; is = sealed_determines (codes "sha256 ") refl body (checkpoint_body c) (sym e ∙ h.is) }
 
 -- a text determines the checkpoint whose text it is
 pub text_determines : (b : Text) (c d : Checkpoint) → IsCheckpointText b c → IsCheckpointText b d → c ≡ d

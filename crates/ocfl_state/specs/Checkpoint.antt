@@ -1,12 +1,12 @@
 -- A checkpoint, and its text: what one night leaves for the next.
 use Rattle.std.specs.Prelude.{◌≡◌, ℕ, ◌^◌, ◌<◌, ◌≤◌, List, [], ◌∷◌, ◌++◌, All, Bool, true, false, Option, Some, None, IfSome, length, flat_map, codes, decimal}
-use Rattle.sha2.specs.Sha256.{sha256}
 use Rattle.hex.specs.Hex.{encode_lower, IsBytes}
 use Rattle.ocfl_tree.specs.Place.{Text, Place}
 use Rattle.ocfl_tree.specs.Name.{IsPlace}
 use Rattle.ocfl_report.specs.Text.{place_text}
 use Rattle.ocfl_cursor.specs.Cursor.{Cursor, IsCursor}
 use Rattle.ocfl_cursor.specs.Lines.{stored_lines}
+use Rattle.ocfl_cursor.specs.Sealed.{seal_line}
 use Rattle.ocfl_cursor.specs.Part.{AreEnds}
 use Rattle.ocfl_cursor.specs.declared.ends.PartEnds.{PartEnds}
 use Rattle.ocfl_state.specs.declared.checkpoint_parts.RootIdentity.{RootIdentity}
@@ -123,9 +123,8 @@ shown_text c = lines_then (checkpoint_lines c) (flat_map left_text c.left ++ sto
 abbrev pub checkpoint_body : Checkpoint → Text
 checkpoint_body c = codes "ocfl-scrub checkpoint 1\n" ++ shown_text c
 
--- the SHA-256 of all bytes before it (FIPS 180-4, 6.2)
 abbrev pub sha256_line : Text → Text
-sha256_line body = codes "sha256 " ++ encode_lower (sha256 body) ++ 10 ∷ []
+sha256_line body = seal_line (codes "sha256 ") body
 
 abbrev pub checkpoint_text : Checkpoint → Text
 checkpoint_text c = checkpoint_body c ++ sha256_line (checkpoint_body c)

@@ -1,8 +1,9 @@
 -- Why bytes are the text of no checkpoint: the first that applies.
-use Rattle.std.specs.Prelude.{◌≡◌, ◌-◌, ◌==◌, ◌&&◌, nat_eq, nat_le, Bool, true, false, not, length, take, drop, take_while, codes}
+use Rattle.std.specs.Prelude.{◌≡◌, nat_eq, Bool, true, false, drop, codes}
 use Rattle.std.specs.List.{starts_with}
 use Rattle.ocfl_tree.specs.Place.{Text, text_eq}
-use Rattle.ocfl_state.specs.Checkpoint.{Checkpoint, IsCheckpointText, sha256_line}
+use Rattle.ocfl_cursor.specs.Sealed.{first_line, is_sealed_by}
+use Rattle.ocfl_state.specs.Checkpoint.{Checkpoint, IsCheckpointText}
 use Rattle.ocfl_state.specs.declared.checkpoint_refused.NotDecoded.{NotDecoded}
 use Rattle.ocfl_state.specs.declared.checkpoint_refused.NotDecoded.TheVariants.{NotCheckpoint, Version, Damaged, Malformed, Memory}
 
@@ -11,14 +12,14 @@ is_checkpoint_front b = starts_with nat_eq b (codes "ocfl-scrub checkpoint ")
 
 -- what follows those 22 bytes, up to a line feed or the end
 abbrev pub version_of : Text → Text
-version_of b = take_while (λ c. not (c == 10)) (drop 22 b)
+version_of b = first_line (drop 22 b)
 
 abbrev pub is_version_read : Text → Bool
 is_version_read b = text_eq (version_of b) (codes "1")
 
 -- the last 72 bytes are the SHA-256 line of all before them
 abbrev pub is_sealed : Text → Bool
-is_sealed b = nat_le 72 (length b) && text_eq (drop (length b - 72) b) (sha256_line (take (length b - 72) b))
+is_sealed b = is_sealed_by (codes "sha256 ") b
 
 -- it begins as a checkpoint of the version that is read
 pub record HasVersion (b : Text) : Type 0 where

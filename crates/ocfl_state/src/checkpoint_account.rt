@@ -14,13 +14,13 @@ ghost use Rattle.ocfl_state.specs.declared.checkpoint_parts.Phase.{Phase as Mode
 ghost use Rattle.ocfl_state.specs.declared.checkpoint_parts.ReportMark.{ReportMark as ModelMark};
 
 use crate::checkpoint_fields::{
-    after_prefix, read_count, read_digest, read_names, read_phase, read_sizes, read_whole,
-    split_line,
+    read_count, read_digest, read_names, read_phase, read_sizes, read_whole, split_line,
 };
 use crate::checkpoint_form::{
     DECLARED, FIRST_LINE, LEFT, NAMES, PHASE, PIECES, REPORT, ROOT, TAIL, TOLD, WHOLE,
 };
 use crate::checkpoint_parts::{Phase, ReportMark, TopNames};
+use ocfl_cursor::after_prefix;
 
 /// What the lines from that of the declaration to that of the whole tell.
 #[derive(Clone, Copy)]

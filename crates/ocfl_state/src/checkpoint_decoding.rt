@@ -3,8 +3,8 @@ ghost use Rattle.std.specs.Prelude.{◌≡◌, ◌⊎◌, Option, Err, IfOk, IfE
 ghost use Rattle.std.specs.Prelude.{codes};
 ghost use Rattle.ocfl_tree.specs.Place.{text_eq};
 ghost use Rattle.ocfl_cursor.specs.Cursor.{Cursor as ModelCursor};
-ghost use Rattle.ocfl_cursor.specs.Internal.Body.{first_line};
 ghost use Rattle.ocfl_cursor.specs.Lines.{AreStoredLines};
+ghost use Rattle.ocfl_cursor.specs.Sealed.{first_line as first_line_of};
 ghost use Rattle.ocfl_cursor.specs.declared.ends.PartEnds.{PartEnds as ModelEnds};
 ghost use Rattle.ocfl_state.specs.Checkpoint.{Checkpoint as ModelCheckpoint, IsCheckpointText};
 ghost use Rattle.ocfl_state.specs.CheckpointLines.{ArePartsOf, IsBodyOf, IsStanding, IsAccount};
@@ -13,13 +13,11 @@ ghost use Rattle.ocfl_state.specs.CheckpointRefusal.{RefusedRightly, is_checkpoi
 use crate::checkpoint::Checkpoint;
 use crate::checkpoint_account::{Parts, split_body};
 use crate::checkpoint_fields::read_path;
-use crate::checkpoint_form::{FRONT, VERSION};
+use crate::checkpoint_form::{FRONT, SHA256, VERSION};
 use crate::checkpoint_left::read_all_left;
 use crate::checkpoint_parts::RootIdentity;
 use crate::checkpoint_refused::NotDecoded;
-use crate::checkpoint_seal::sealed_body;
-use ocfl_cursor::{Cursor, PartEnds, Refused, read_stored_lines};
-use ocfl_report::split_once;
+use ocfl_cursor::{Cursor, PartEnds, Refused, first_line, read_stored_lines, sealed_body};
 use ocfl_tree::is_bytes;
 use std::alloc::Global;
 
@@ -37,7 +35,7 @@ pub fn decode_checkpoint(alloc: Global, text: &[u8]) -> Result<Checkpoint, NotDe
     if !has_version(rest) {
         return Err(NotDecoded::Version);
     }
-    match sealed_body(text) {
+    match sealed_body(SHA256, text) {
         Some(body) => read_body(alloc, body),
         None => Err(NotDecoded::Damaged),
     }
@@ -57,12 +55,9 @@ fn after_front(text: &[u8]) -> Option<&[u8]>
 
 /// Whether the text up to the first line feed, or all of it, is the version that is read.
 fn has_version(text: &[u8]) -> bool
-    ensures { result ≡ text_eq (first_line text.now) (codes "1") }
+    ensures { result ≡ text_eq (first_line_of text.now) (codes "1") }
 {
-    match split_once(text, b'\n') {
-        Some((version, _)) => is_bytes(version, VERSION),
-        None => is_bytes(text, VERSION),
-    }
+    is_bytes(first_line(text), VERSION)
 }
 
 /// The checkpoint of which this is the text before its last line.

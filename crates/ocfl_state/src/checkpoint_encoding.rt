@@ -11,11 +11,10 @@ use crate::checkpoint::Checkpoint;
 use crate::checkpoint_fields::hex_digits;
 use crate::checkpoint_form::{
     AFTER, CLOSING, DECLARED, FIRST_LINE, LEFT, NAMES, NO, OPEN, PHASE, PIECES, REPORT, ROOT,
-    START, TAIL, TOLD, WHOLE, YES,
+    SHA256, START, TAIL, TOLD, WHOLE, YES,
 };
 use crate::checkpoint_parts::{Left, Phase, ReportMark, RootIdentity, TopNames};
-use crate::checkpoint_seal::sha256_line;
-use ocfl_cursor::stored_lines;
+use ocfl_cursor::{sealed_text, stored_lines};
 use ocfl_report::put_place;
 use ocfl_tree::Place;
 use std::alloc::{AllocError, Global};
@@ -26,11 +25,7 @@ pub fn encode_checkpoint(alloc: Global, checkpoint: &Checkpoint) -> Result<Vec<u
     ensures { IfOk result (λ text. text.items ≡ checkpoint_text checkpoint.now) }
 {
     let lines = checkpoint_lines(alloc, checkpoint)?;
-    let mut text = Vec::from_slice(alloc, FIRST_LINE)?;
-    text.extend_from_slice(&lines)?;
-    let last_line = sha256_line(&text);
-    text.extend_from_slice(&last_line)?;
-    Ok(text)
+    sealed_text(alloc, SHA256, FIRST_LINE, &lines)
 }
 
 /// The text of the checkpoint without its first line and its last, to be shown.

@@ -1,7 +1,6 @@
 //! Reading the fields of a checkpoint's lines.
-ghost use Rattle.std.specs.Prelude.{◌≡◌, ◌≢◌, ◌⊎◌, ◌^◌, ◌<◌, ℕ, All, List, ◌++◌, IfOk, IfErr};
-ghost use Rattle.std.specs.Prelude.{IfSome};
-ghost use Rattle.std.specs.Prelude.{IsNone, Bool, Err, Option, decimal};
+ghost use Rattle.std.specs.Prelude.{◌≡◌, ◌≢◌, ◌⊎◌, ◌^◌, ◌<◌, ℕ, All, List, IfOk, IfErr};
+ghost use Rattle.std.specs.Prelude.{IfSome, IsNone, Bool, Err, Option, decimal, if◌then◌else◌};
 ghost use Rattle.hex.specs.Hex.{encode_lower, IsBytes};
 ghost use Rattle.ocfl_tree.specs.Name.{IsPlace};
 ghost use Rattle.ocfl_tree.specs.Place.{Place as ModelPlace};
@@ -16,17 +15,10 @@ use crate::checkpoint_form::{AFTER, CLOSING, NO, OPEN, SLASH, START, YES};
 use crate::checkpoint_parts::{Phase, TopNames};
 use crate::checkpoint_refused::NotDecoded;
 use hex::FromHex;
+use ocfl_cursor::after_prefix;
 use ocfl_report::{PlaceStop, read_decimal, read_place, split_once};
 use ocfl_tree::{Place, is_bytes};
 use std::alloc::Global;
-
-/// What follows this beginning of the text. `None` if the text does not begin so.
-pub(crate) fn after_prefix<'a>(prefix: &[u8], text: &'a [u8]) -> Option<&'a [u8]>
-    ensures found { IfSome result (λ rest. text.now ≡ prefix.now ++ rest.now) }
-    ensures missing { IsNone result → (rest : List ℕ) → text.now ≢ prefix.now ++ rest }
-{
-    text.strip_prefix(prefix)
-}
 
 /// What stands in the line that begins so, and what follows the line. `None` if the text does
 /// not begin with such a line.
@@ -118,18 +110,31 @@ pub(crate) fn read_sizes(field: &[u8]) -> Option<(u64, u64)>
     Some((bytes, lines))
 }
 
+/// Whether the word is the first one, or the second. `None` if it is neither.
+fn is_first(word: &[u8], first: &[u8], second: &[u8]) -> Option<bool>
+    ensures found { IfSome result
+        (λ is. word.now ≡ (if is then first.now else second.now)) }
+    ensures missing { IsNone result → (word.now ≢ first.now) × (word.now ≢ second.now) }
+{
+    if is_bytes(word, first) {
+        return Some(true);
+    }
+    if is_bytes(word, second) {
+        return Some(false);
+    }
+    None
+}
+
 /// The phase of this word.
 pub(crate) fn read_phase(word: &[u8]) -> Option<Phase>
     ensures found { IfSome result (λ phase. word.now ≡ phase_text phase) }
     ensures missing { IsNone result → (phase : ModelPhase) → word.now ≢ phase_text phase }
 {
-    if is_bytes(word, OPEN) {
-        return Some(Phase::Open);
+    if is_first(word, OPEN, CLOSING)? {
+        Some(Phase::Open)
+    } else {
+        Some(Phase::Closing)
     }
-    if is_bytes(word, CLOSING) {
-        return Some(Phase::Closing);
-    }
-    None
 }
 
 /// Whether the word is `yes` or `no`.
@@ -137,13 +142,7 @@ pub(crate) fn read_whole(word: &[u8]) -> Option<bool>
     ensures found { IfSome result (λ whole. word.now ≡ yes_or_no whole) }
     ensures missing { IsNone result → (whole : Bool) → word.now ≢ yes_or_no whole }
 {
-    if is_bytes(word, YES) {
-        return Some(true);
-    }
-    if is_bytes(word, NO) {
-        return Some(false);
-    }
-    None
+    is_first(word, YES, NO)
 }
 
 /// The place that has this text.

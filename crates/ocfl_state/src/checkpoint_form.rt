@@ -9,6 +9,9 @@ pub(crate) const VERSION: &[u8] = b"1";
 // The first line.
 pub(crate) const FIRST_LINE: &[u8] = b"ocfl-scrub checkpoint 1\n";
 
+/// How the last line begins, which seals the others.
+pub(crate) const SHA256: [u8; 7] = *b"sha256 ";
+
 // How each line begins, in their order. The lines of each branch that was left out follow `LEFT`
 // with their number.
 pub(crate) const ROOT: &[u8] = b"root ";

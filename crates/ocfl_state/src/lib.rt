@@ -13,7 +13,6 @@ mod checkpoint_laws;
 mod checkpoint_left;
 mod checkpoint_parts;
 mod checkpoint_refused;
-mod checkpoint_seal;
 mod checkpoint_showing;
 mod comparing;
 mod disk;

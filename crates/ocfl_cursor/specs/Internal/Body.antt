@@ -1,13 +1,9 @@
 -- The parts of a cursor's text before its digest line, in either version.
-use Rattle.std.specs.Prelude.{◌≡◌, ◌⊎◌, ℕ, ◌^◌, ◌<◌, [], ◌∷◌, ◌++◌, ◌==◌, not, take_while, codes}
+use Rattle.std.specs.Prelude.{◌≡◌, ◌⊎◌, ℕ, ◌^◌, ◌<◌, [], ◌∷◌, ◌++◌, codes}
 use Rattle.ocfl_tree.specs.Place.{Text}
 use Rattle.ocfl_cursor.specs.Cursor.{State, Cursor, IsShortPlace, IsCursor, number_line, state_text, cursor_body, version_one_body}
 use Rattle.ocfl_cursor.specs.declared.form.Version.{Version}
 use Rattle.ocfl_cursor.specs.declared.form.Version.TheVariants.{One, Two}
-
--- the text up to the first line feed, or all of it
-abbrev pub first_line : Text → Text
-first_line t = take_while (λ c. not (c == 10)) t
 
 -- the first line of a version
 abbrev pub version_line : Version → Text

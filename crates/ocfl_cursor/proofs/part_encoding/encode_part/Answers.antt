@@ -1,11 +1,12 @@
-use Rattle.std.proofs.Common.{◌≡◌, ◌++◌, ap, ap₂, ◌∙◌}
-use Rattle.ocfl_cursor.specs.Cursor.{digest_line}
-use Rattle.ocfl_cursor.specs.Part.{ends_lines, part_body}
+use Rattle.std.proofs.Common.{◌++◌, codes, sym, ap, ◌∙◌, append_assoc}
+use Rattle.std.proofs.lemmas.Result.{IfOk-weaker}
+use Rattle.ocfl_cursor.specs.Cursor.{cursor_lines, digest_line}
+use Rattle.ocfl_cursor.specs.Part.{ends_lines}
 use Rattle.ocfl_cursor.proofs.part_encoding.encode_part.Goals as goal
 
 pub returns-clause-text : goal.returns-clause-text
 returns-clause-text c =
-    let ends = c.in_ok-put_ends.ensures ∙ ap (λ x. x ++ ends_lines c.args.ends.now) c.in_ok-text.ensures.items in
-    let body : c.extend_from_slice.new.self.items ≡ part_body c.args.ends.now c.args.cursor.now =
-    c.in_ok-extend_from_slice.ensures.items ∙ ap₂ (λ x y. x ++ y) ends (c.deref.ensures.value ∙ c.in_ok-lines.ensures.lines) in
-    c.in_ok-extend_from_slice-2.ensures.items ∙ ap₂ (λ x y. x ++ y) body (c.digest_line-last_line.ensures ∙ ap digest_line (c.deref-2.ensures.value ∙ body))
+    let front = codes "ocfl-scrub part cursor 1\n" in
+    let lines = ap (λ t. front ++ t) (c.deref.ensures.value ∙ c.in_ok-lines.ensures.lines) in
+    let body = lines ∙ sym (append_assoc front (ends_lines c.args.ends.now) (cursor_lines c.args.cursor.now)) in
+    IfOk-weaker c.sealed_text.result _ _ (λ text h. h ∙ ap (λ t. t ++ digest_line t) body) c.sealed_text.ensures

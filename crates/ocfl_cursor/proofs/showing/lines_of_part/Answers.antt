@@ -15,5 +15,5 @@ returns-in-Ok-clause-lines c = record {
   ends = c.in_ok-ends.ends;
   cursor = c.in_ok-ends.cursor;
   is_text = IsPartText-sealed c.in_ok-ends.ends c.args.text.now c.in-Some.body.now c.in_ok-ends.cursor c.in-Some.ensures.found c.in_ok-ends.ensures.part;
-  lines_are = c.in-Ok.ensures;
+  lines_are = c.in-Ok.ensures.lines;
 }

@@ -1,9 +1,11 @@
-use Rattle.std.proofs.Common.{◌≡◌, ◌++◌, ap, ap₂, ◌∙◌}
-use Rattle.ocfl_state.specs.Checkpoint.{checkpoint_body, sha256_line}
+use Rattle.std.proofs.Common.{◌++◌, codes, ap, ◌∙◌}
+use Rattle.std.proofs.lemmas.Result.{IfOk-weaker}
+use Rattle.ocfl_tree.specs.Place.{Text}
+use Rattle.ocfl_state.specs.Checkpoint.{sha256_line}
 use Rattle.ocfl_state.proofs.checkpoint_encoding.encode_checkpoint.Goals as goal
 
 pub returns : goal.returns
 returns c =
-    let body : c.extend_from_slice.new.self.items ≡ checkpoint_body c.args.checkpoint.now =
-    c.in_ok-extend_from_slice.ensures.items ∙ ap₂ (λ x y. x ++ y) c.in_ok-text.ensures.items (c.deref.ensures.value ∙ c.in_ok-lines.ensures) in
-    c.in_ok-extend_from_slice-2.ensures.items ∙ ap₂ (λ x y. x ++ y) body (c.sha256_line-last_line.ensures ∙ ap sha256_line (c.deref-2.ensures.value ∙ body))
+    let lines = c.deref.ensures.value ∙ c.in_ok-lines.ensures in
+    let body : Text → Text = λ t. codes "ocfl-scrub checkpoint 1\n" ++ t in
+    IfOk-weaker c.sealed_text.result _ _ (λ text h. h ∙ ap (λ t. body t ++ sha256_line (body t)) lines) c.sealed_text.ensures

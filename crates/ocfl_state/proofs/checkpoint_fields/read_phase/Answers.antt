@@ -1,14 +1,6 @@
-use Rattle.std.proofs.Common.{sym, ◌∙◌}
-use Rattle.ocfl_cursor.proofs.Texts.{text_eq-same}
+use Rattle.std.proofs.Common.{refl}
 use Rattle.ocfl_state.proofs.CheckpointFields.{no_phase}
 use Rattle.ocfl_state.proofs.checkpoint_fields.read_phase.Goals as goal
 
-pub returns-then-is_bytes-clause-found : goal.returns-then-is_bytes-clause-found
-returns-then-is_bytes-clause-found c = text_eq-same _ _ (sym c.is_bytes.ensures ∙ c.if-is_bytes.true)
-
-pub returns-then-is_bytes-2-clause-found : goal.returns-then-is_bytes-2-clause-found
-returns-then-is_bytes-2-clause-found c = text_eq-same _ _ (sym c.is_bytes-2.ensures ∙ c.if-is_bytes-2.true)
-
-pub returns-clause-missing : goal.returns-clause-missing
-returns-clause-missing c = λ _ p f.
-    no_phase c.args.word.now p (sym c.is_bytes.ensures ∙ c.if-is_bytes.false) (sym c.is_bytes-2.ensures ∙ c.if-is_bytes-2.false) f
+pub returns-in_err-is_first-clause-missing : goal.returns-in_err-is_first-clause-missing
+returns-in_err-is_first-clause-missing c = λ _ p f. no_phase c.args.word.now p (c.in_err-is_first.ensures.missing refl) f

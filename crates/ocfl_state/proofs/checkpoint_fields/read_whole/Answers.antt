@@ -1,14 +1,5 @@
-use Rattle.std.proofs.Common.{sym, ◌∙◌}
-use Rattle.ocfl_cursor.proofs.Texts.{text_eq-same}
 use Rattle.ocfl_state.proofs.CheckpointFields.{no_whole}
 use Rattle.ocfl_state.proofs.checkpoint_fields.read_whole.Goals as goal
 
-pub returns-then-is_bytes-clause-found : goal.returns-then-is_bytes-clause-found
-returns-then-is_bytes-clause-found c = text_eq-same _ _ (sym c.is_bytes.ensures ∙ c.if-is_bytes.true)
-
-pub returns-then-is_bytes-2-clause-found : goal.returns-then-is_bytes-2-clause-found
-returns-then-is_bytes-2-clause-found c = text_eq-same _ _ (sym c.is_bytes-2.ensures ∙ c.if-is_bytes-2.true)
-
 pub returns-clause-missing : goal.returns-clause-missing
-returns-clause-missing c = λ _ p f.
-    no_whole c.args.word.now p (sym c.is_bytes.ensures ∙ c.if-is_bytes.false) (sym c.is_bytes-2.ensures ∙ c.if-is_bytes-2.false) f
+returns-clause-missing c = λ none whole f. no_whole c.args.word.now whole (c.is_first.ensures.missing none) f

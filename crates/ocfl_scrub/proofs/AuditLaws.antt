@@ -26,12 +26,12 @@ use Rattle.ocfl_scrub.specs.Call.{call_of}
 use Rattle.ocfl_scrub.specs.Taking.{PartOf}
 use Rattle.ocfl_scrub.specs.Written.{places, last_of, StopsWithin}
 use Rattle.ocfl_scrub.specs.Running.{items_above_in}
-use Rattle.ocfl_scrub.specs.Starting.{extent_of, FilesLieIn, end_of, entry, stand, looked_in, read_in, LooksOver, StopsLooking}
+use Rattle.ocfl_scrub.specs.Starting.{items_in, FilesLieIn, end_of, entry, stand, looked_in, read_in, LooksOver, StopsLooking}
 use Rattle.ocfl_scrub.proofs.PartStarts.{above_in, due_starts, looked_all, read_all}
 use Rattle.ocfl_scrub.proofs.Passing.{due_in, Finishes, Halts}
 use Rattle.ocfl_scrub.proofs.LookLaws.{looks_over, stops_looking, stops_above}
 use Rattle.ocfl_scrub.proofs.WayListed.{halted_lie, taken_lie}
-use Rattle.ocfl_scrub.specs.WholeAudit.{items_in, AuditsWithin, AuditStopsWithin, AuditEndsWithin, AuditsAll, AuditStops, AuditEnds}
+use Rattle.ocfl_scrub.specs.WholeAudit.{AuditsWithin, AuditStopsWithin, AuditEndsWithin, AuditsAll, AuditStops, AuditEnds}
 use Rattle.ocfl_scrub.specs.declared.checking.End.{End}
 use Rattle.ocfl_scrub.specs.declared.checking.End.TheVariants.{Ended, Stopped}
 use Rattle.ocfl_scrub.proofs.AuditsJoined.{items_append, nothing_hashed}
@@ -87,7 +87,7 @@ module _ (root : StorageRoot) (part : Part) (s t u : Store) (old new : Option (L
       (subst (λ ls. Audits root t u all ls (before_end (end_of part) (read_between root (stand root part None) None)) h.trail) (looked_all root part None) h.audits) in
       record {
         trail = g.trail ++ h.trail;
-        looks = subst (λ ps. LooksOver (call_of root s u old new) (extent_of part) None None ps (g.trail ++ h.trail)) at_places (looks_over root part s t u old new None g None all h.trail
+        looks = subst (λ ps. LooksOver (call_of root s u old new) part None None ps (g.trail ++ h.trail)) at_places (looks_over root part s t u old new None g None all h.trail
             (taken_lie root part None g.listed g.all_listed None all [] (sym (append-nil all)) (λ p d b k. tt)) below);
         wrote = subst (λ is. Appends old new (text is)) items h.wrote;
         last_is = last_is ∙ ap (last_of None) at_places;
@@ -116,7 +116,7 @@ module _ (root : StorageRoot) (part : Part) (s t u : Store) (old new : Option (L
           last_is = last_is ∙ ap (last_of None) whole_places;
         };
         found_is = h.found_is;
-        looks = subst (λ ps. StopsLooking (call_of root s u old new) (extent_of part) None (ps ++ h.begun) (g.trail ++ h.trail) why) whole_places
+        looks = subst (λ ps. StopsLooking (call_of root s u old new) part None (ps ++ h.begun) (g.trail ++ h.trail) why) whole_places
             (stops_looking root part s t u old new None g why (h.done ++ h.begun) h.listed h.heads h.trail h.fails listed_front heads_front (halted_lie root part None g.listed g.all_listed h));
       }
 
@@ -147,41 +147,8 @@ unstarted root part s t old why only g = record {
 
 -- ---- the whole is one part
 
-module _ (root : StorageRoot) (s t : Store) (old new : Option (List ℕ)) (last : Option Place) (finding : Bool) where
-  all_places : (os : List Opening) → places (items_in root os whole) ≡ item_places root
-  all_places os = ap places (after_is_due root os None) ∙ places_of_items root os (due root None) ∙ due_all root
-
-  whole_audit : AuditsWithin (call_of root s t old new) whole last finding → AuditsAll (call_of root s t old new) last finding
-  whole_audit h = record {
-    trail = h.trail;
-    audits = subst (λ ps. Audits root s t ps (looked_between root None None) (read_between root None None) h.trail) (all_places h.trail)
-        (subst (λ xs. Audits root s t (places (items_in root h.trail whole)) (looked_between root None None) (xs ++ read_between root None None) h.trail)
-        (nothing_front h.looks.held h.looks.held_front)
-        (subst (λ xs. Audits root s t (places (items_in root h.trail whole)) (xs ++ looked_between root None None) (h.looks.held ++ read_between root None None)
-        h.trail) (nothing_front h.looks.down h.looks.down_front) h.looks.audits));
-    wrote = h.wrote;
-    last_is = h.last_is ∙ ap (last_of None) (all_places h.trail);
-    found_is = h.found_is;
-  }
-
-  whole_stop : (why : Fault) → AuditStopsWithin (call_of root s t old new) whole last finding why → AuditStops (call_of root s t old new) last finding why
-  whole_stop why h = record {
-    trail = h.trail;
-    stops = h.stops;
-    found_is = h.found_is;
-    listed = h.looks.listed;
-    heads = h.looks.heads;
-    fails = subst (λ xs. Fails root s t (places h.stops.whole ++ h.stops.begun) h.looks.listed (xs ++ h.looks.heads) h.trail why) (nothing_front h.looks.held h.looks.held_front)
-        (subst (λ xs. Fails root s t (places h.stops.whole ++ h.stops.begun) (xs ++ h.looks.listed) (h.looks.held ++ h.looks.heads) h.trail why)
-        (nothing_front h.looks.down h.looks.down_front) h.looks.fails);
-    listed_front = h.looks.listed_front;
-    heads_front = h.looks.heads_front;
-    files_lie = subst (λ xs. FilesLieIn root (places h.stops.whole ++ h.stops.begun) (xs ++ h.looks.listed)) (nothing_front h.looks.down h.looks.down_front) h.looks.files_lie;
-  }
-
-  pub whole_told : (end : End) → AuditEndsWithin (call_of root s t old new) whole last finding end → AuditEnds (call_of root s t old new) last finding end
-  whole_told Ended h = whole_audit h
-  whole_told (Stopped why) h = whole_stop why h
+pub all_places : (root : StorageRoot) (os : List Opening) → places (items_in root os whole) ≡ item_places root
+all_places root os = ap places (after_is_due root os None) ∙ places_of_items root os (due root None) ∙ due_all root
 
 -- ---- where no failure was counted
 

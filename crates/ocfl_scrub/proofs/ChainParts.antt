@@ -1,16 +1,15 @@
 -- A cycle's chain of runs taken apart: its runs one by one, the calls that they were, where they ended.
-use Rattle.std.proofs.Common.{◌≡◌, ◌⊎◌, inl, inr, ◌≤◌, List, [], ◌∷◌, ◌++◌, refl, ◌∙◌, subst, map, length}
+use Rattle.std.proofs.Common.{◌≡◌, ◌⊎◌, inl, inr, ◌≤◌, List, [], ◌∷◌, ◌++◌, refl, ◌∙◌, map, length}
 use Rattle.std.specs.Prelude.{⊤}
 use Rattle.std.specs.List.{list_any}
-use Rattle.ocfl_audit.specs.Parts.{Part, whole}
+use Rattle.ocfl_audit.specs.Parts.{Part}
 use Rattle.ocfl_audit.specs.Runs.{Limits}
 use Rattle.ocfl_cursor.specs.Cursor.{Cursor, new_cursor}
 use Rattle.ocfl_item.specs.declared.fault.Fault.{Fault}
 use Rattle.ocfl_item.specs.declared.fault.Fault.TheVariants as fault
 use Rattle.ocfl_scrub.specs.Call.{Call, call_of}
-use Rattle.ocfl_scrub.specs.Chaining.{MadeRun, AreChained, IsMadeOf, ChainEnds, CycleOfRunsWithin, CycleOfRuns}
+use Rattle.ocfl_scrub.specs.Chaining.{MadeRun, AreChained, IsMadeOf, ChainEnds, CycleOfRunsWithin}
 use Rattle.ocfl_scrub.specs.Running.{RunsFromWithin}
-use Rattle.ocfl_scrub.specs.Starting.{extent_of}
 use Rattle.ocfl_scrub.specs.declared.running.RunStatus.{RunStatus}
 use Rattle.ocfl_scrub.specs.declared.running.RunStatus.TheVariants as run
 use Rattle.ocfl_scrub.specs.declared.cycling.CycleEnd.{CycleEnd}
@@ -75,25 +74,25 @@ abbrev end_from : RunStatus → List MadeRun → RunStatus
 end_from so [] = so
 end_from so (r ∷ runs) = end_from r.ran.end runs
 
-chain_apart : (part : Part) (call : Call) (c to : Cursor) (so end : RunStatus) (runs : List MadeRun) → AreChained (extent_of part) call c so runs to end
+chain_apart : (part : Part) (call : Call) (c to : Cursor) (so end : RunStatus) (runs : List MadeRun) → AreChained part call c so runs to end
     → AreMade part c runs × (IsMadeOf call (calls_of runs) × (to ≡ last_cursor c runs))
 chain_apart part call c to so end [] h = (tt, ((h.0, h.1.0), h.1.1.0))
 chain_apart part call c to so end (r ∷ runs) h =
     let k = chain_apart part (call_of call.root r.call.after call.after r.call.new call.new) r.ran.cursor to r.ran.end end runs h.1.1.1 in ((h.1.1.0, k.0), ((h.1.0, k.1.0), k.1.1))
 
-ends_apart : (part : Part) (call : Call) (c to : Cursor) (so end : RunStatus) (r : MadeRun) (runs : List MadeRun) → AreChained (extent_of part) call c so (r ∷ runs) to end
+ends_apart : (part : Part) (call : Call) (c to : Cursor) (so end : RunStatus) (r : MadeRun) (runs : List MadeRun) → AreChained part call c so (r ∷ runs) to end
     → AreSpent (r ∷ runs) × (last_end (r ∷ runs) ≡ end)
 ends_apart part call c to so end r [] h = (tt, h.1.1.1.1.1.1)
 ends_apart part call c to so end r (q ∷ runs) h =
     let k = ends_apart part (call_of call.root r.call.after call.after r.call.new call.new) r.ran.cursor to r.ran.end end q runs h.1.1.1 in ((h.1.1.1.0, k.0), k.1)
 
-all_apart : (part : Part) (call : Call) (c to : Cursor) (end : RunStatus) (runs : List MadeRun) → AreChained (extent_of part) call c run.Spent runs to end
+all_apart : (part : Part) (call : Call) (c to : Cursor) (end : RunStatus) (runs : List MadeRun) → AreChained part call c run.Spent runs to end
     → AreSpent runs × (last_end runs ≡ end)
 all_apart part call c to end [] h = (tt, h.1.1.1)
 all_apart part call c to end (r ∷ runs) h = ends_apart part call c to run.Spent end r runs h
 
 chain_of : (part : Part) (call : Call) (c to : Cursor) (so : RunStatus) (runs : List MadeRun) → AreMade part c runs → IsMadeOf call (calls_of runs) → to ≡ last_cursor c runs
-    → SpentFrom so runs → AreChained (extent_of part) call c so runs to (end_from so runs)
+    → SpentFrom so runs → AreChained part call c so runs to (end_from so runs)
 chain_of part call c to so [] h m e s = (m.0, (m.1, (e, refl)))
 chain_of part call c to so (r ∷ runs) h m e s =
     (s.0, (m.0, (h.0, chain_of part (call_of call.root r.call.after call.after r.call.new call.new) r.ran.cursor to r.ran.end runs h.1 m.1 e s.1)))
@@ -160,7 +159,3 @@ put_together call part limits ran a = record {
   count_is = a.count_is;
   found_is = a.found_is;
 }
-
--- of a part that is the whole
-pub cycle_as_whole : (call : Call) (part : Part) (limits : List Limits) (ran : CycleEnd) → part ≡ whole → CycleOfRunsWithin call part limits ran → CycleOfRuns call limits ran
-cycle_as_whole call part limits ran e h = subst (λ x. CycleOfRunsWithin call x limits ran) e h

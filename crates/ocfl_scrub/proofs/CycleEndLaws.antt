@@ -26,7 +26,7 @@ use Rattle.ocfl_item.specs.declared.fault.Fault.{Fault}
 use Rattle.ocfl_scrub.specs.Call.{Call, call_of}
 use Rattle.ocfl_scrub.specs.Written.{places, last_of, Figures}
 use Rattle.ocfl_audit.specs.Parts.{Part, whole, within}
-use Rattle.ocfl_scrub.specs.WholeAudit.{items_in}
+use Rattle.ocfl_scrub.specs.Starting.{items_in}
 use Rattle.ocfl_scrub.specs.Starting.{due_within}
 use Rattle.ocfl_scrub.specs.Chaining.{IsMadeOf}
 use Rattle.ocfl_scrub.specs.Cycling.{enough, EachStartsBelow, Headline}

@@ -52,12 +52,3 @@ hashed_within root p h =
     let above = all_entered root p (in_sight (named_at root p) (seen root p) h) in
     let reached : is_reached root s.0 ≡ true = sym (all_beginnings_step (is_entered root) s.0 s.1.0) ∙ ap (λ x. list_all (is_entered root) (beginnings x)) (sym s.1.1) ∙ above in
     (s.0, (s.1.0, ((reached, reached_looked root s.0 reached), s.1.1)))
-
--- ---- where all is listed
-
-all_looked : (root : StorageRoot) (d : Place) → is_looked_into root d ≡ true → IsAmong (looked_between root None None) d
-unfolding looked_between
-all_looked root d h = is_directory root d h
-
-pub hashed_lies : (root : StorageRoot) (p : Place) → is_hashed root p ≡ true → LiesIn (looked_between root None None) p
-hashed_lies root p h = let k = hashed_within root p h in (k.0, (k.1.0, (all_looked root k.0 k.1.1.0.1, k.1.1.1)))

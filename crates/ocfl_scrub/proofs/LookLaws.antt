@@ -11,12 +11,12 @@ use Rattle.ocfl_item.specs.declared.fault.Fault.{Fault}
 use Rattle.ocfl_item.proofs.AuditingLaws.{audits_fail, audits_on}
 use Rattle.ocfl_walk.specs.WalkCalls.{GoesDown, GoDownFails}
 use Rattle.ocfl_scrub.specs.Call.{call_of}
-use Rattle.ocfl_scrub.specs.Starting.{extent_of, FilesLieIn, entry, looked_in, read_in, LooksOver, StopsLooking}
+use Rattle.ocfl_scrub.specs.Starting.{FilesLieIn, entry, looked_in, read_in, LooksOver, StopsLooking}
 
 module _ (root : StorageRoot) (part : Part) (s t u : Store) (old new : Option (List ℕ)) (from : Option Place) (g : GoesDown root s t (entry part from)) where
   pub looks_over : (to : Option Place) (done : List Place) (os : List Opening)
       → FilesLieIn root done (g.listed ++ looked_in root part from to) → Audits root t u done (looked_in root part from to) (read_in root part from to) os
-      → LooksOver (call_of root s u old new) (extent_of part) from to done (g.trail ++ os)
+      → LooksOver (call_of root s u old new) part from to done (g.trail ++ os)
   looks_over to done os files k = record {
     down = g.listed;
     held = g.heads;
@@ -28,7 +28,7 @@ module _ (root : StorageRoot) (part : Part) (s t u : Store) (old new : Option (L
 
   pub stops_looking : (why : Fault) (begun listed heads : List Place) (os : List Opening) → Fails root t u begun listed heads os why
       → IsFront listed (looked_in root part from None) → IsFront heads (read_in root part from None) → FilesLieIn root begun (g.listed ++ listed)
-      → StopsLooking (call_of root s u old new) (extent_of part) from begun (g.trail ++ os) why
+      → StopsLooking (call_of root s u old new) part from begun (g.trail ++ os) why
   stops_looking why begun listed heads os k listed_front heads_front files = record {
     down = g.listed;
     listed = listed;
@@ -44,7 +44,7 @@ module _ (root : StorageRoot) (part : Part) (s t u : Store) (old new : Option (L
 
 -- it did not come to where it begins
 pub stops_above : (root : StorageRoot) (part : Part) (s t : Store) (old new : Option (List ℕ)) (from : Option Place) (why : Fault)
-    (g : GoDownFails root s t (entry part from) why) → StopsLooking (call_of root s t old new) (extent_of part) from [] g.trail why
+    (g : GoDownFails root s t (entry part from) why) → StopsLooking (call_of root s t old new) part from [] g.trail why
 stops_above root part s t old new from why g =
     let no_directory : IsFront [] (looked_in root part from None) = (looked_in root part from None, refl) in
     let no_head : IsFront [] (read_in root part from None) = (read_in root part from None, refl) in

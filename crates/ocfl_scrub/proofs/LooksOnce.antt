@@ -10,7 +10,7 @@ use Rattle.ocfl_item.specs.Looking.{IsFront}
 use Rattle.ocfl_item.specs.declared.fault.Fault.{Fault}
 use Rattle.ocfl_scrub.specs.Call.{Call}
 use Rattle.ocfl_scrub.specs.Running.{RunEndsWithin}
-use Rattle.ocfl_scrub.specs.Starting.{extent_of, looked_in, read_in, LooksOver, StopsLooking}
+use Rattle.ocfl_scrub.specs.Starting.{looked_in, read_in, LooksOver, StopsLooking}
 use Rattle.ocfl_scrub.specs.WholeAudit.{AuditEndsWithin}
 use Rattle.ocfl_scrub.specs.declared.checking.End.{End}
 use Rattle.ocfl_scrub.specs.declared.checking.End.TheVariants as end
@@ -22,7 +22,7 @@ all_front : (xs : List Place) → IsFront xs xs
 all_front xs = ([], sym (append-nil xs))
 
 module _ (call : Call) (part : Part) (from : Option Place) where
-  module _ (to : Option Place) (audited : List Place) (trail : List Opening) (h : LooksOver call (extent_of part) from to audited trail) where
+  module _ (to : Option Place) (audited : List Place) (trail : List Opening) (h : LooksOver call part from to audited trail) where
     pub lists_once : IsAscending place_cmp (h.down ++ looked_in call.root part from to)
     lists_once = listed_once_in call.root part from to h.down (looked_in call.root part from to) h.down_front (all_front _)
 
@@ -35,7 +35,7 @@ module _ (call : Call) (part : Part) (from : Option Place) where
     looks_read : (os : List Opening) × ((call.after.openings ≡ call.before.openings ++ os) × IsAscending place_cmp (heads_of call.root os))
     looks_read = (trail, (h.audits.did.openings_are, subst (IsAscending place_cmp) (sym h.audits.heads_are) reads_once))
 
-  module _ (begun : List Place) (trail : List Opening) (why : Fault) (h : StopsLooking call (extent_of part) from begun trail why) where
+  module _ (begun : List Place) (trail : List Opening) (why : Fault) (h : StopsLooking call part from begun trail why) where
     pub stops_list_once : IsAscending place_cmp (h.down ++ h.listed)
     stops_list_once = listed_once_in call.root part from None h.down h.listed h.down_front h.listed_front
 

@@ -6,9 +6,9 @@ use Rattle.ocfl_tree.specs.StorageRoot.{StorageRoot}
 use Rattle.ocfl_tree.specs.declared.store.Opening.{Opening}
 use Rattle.ocfl_tree.proofs.Orders.{among_filter, among_from_filter, among_left, among_map}
 use Rattle.ocfl_tree.proofs.Stores.{among_either}
-use Rattle.ocfl_audit.specs.Due.{hashed_among, item_places}
+use Rattle.ocfl_audit.specs.Due.{hashed_among}
 use Rattle.ocfl_audit.specs.Lines.{is_hashed}
-use Rattle.ocfl_audit.specs.Parts.{Part, lies_in, places_within, whole}
+use Rattle.ocfl_audit.specs.Parts.{Part, lies_in, places_within}
 use Rattle.ocfl_audit.specs.Runs.{Limits}
 use Rattle.ocfl_audit.specs.Trail.{is_meta, content_openings, content_trail}
 use Rattle.ocfl_audit.specs.Between.{looked_between}
@@ -18,14 +18,12 @@ use Rattle.ocfl_item.specs.Looking.{IsFront, way_to}
 use Rattle.ocfl_item.specs.declared.fault.Fault.{Fault}
 use Rattle.ocfl_walk.specs.WalkCalls.{way_of}
 use Rattle.ocfl_walk.proofs.WayDownLaws.{on_way}
-use Rattle.ocfl_scrub.proofs.DirectoryLaws.{hashed_lies}
 use Rattle.ocfl_scrub.specs.Call.{Call}
 use Rattle.ocfl_scrub.specs.Checking.{CheckEnds}
 use Rattle.ocfl_scrub.specs.Openings.{OpensNear, OpensWithin}
-use Rattle.ocfl_scrub.specs.Running.{RunEnds, RunEndsWithin}
-use Rattle.ocfl_scrub.specs.Starting.{extent_of, FilesLieIn, LooksOver, StopsLooking, entry, looked_in}
-use Rattle.ocfl_scrub.specs.Written.{places}
-use Rattle.ocfl_scrub.specs.WholeAudit.{AuditEnds, AuditEndsWithin}
+use Rattle.ocfl_scrub.specs.Running.{RunEndsWithin}
+use Rattle.ocfl_scrub.specs.Starting.{FilesLieIn, LooksOver, StopsLooking, entry, looked_in}
+use Rattle.ocfl_scrub.specs.WholeAudit.{AuditEndsWithin}
 use Rattle.ocfl_scrub.specs.declared.checking.End.{End}
 use Rattle.ocfl_scrub.specs.declared.checking.End.TheVariants as end
 use Rattle.ocfl_scrub.specs.declared.running.RunStatus.{RunStatus}
@@ -69,7 +67,7 @@ module _ (call : Call) (part : Part) (from : Option Place) where
           let whole : IsAmong (places_within part (looked_between call.root from to)) d = subst (λ l. IsAmong l d) (sym k.1) (among_left listed k.0 d j) in
           inl (among_from_filter (lies_in part) (looked_between call.root from to) d (subst (λ l. IsAmong l d) (places_within_is part (looked_between call.root from to)) whole)).1
 
-  pub looks_near : (to : Option Place) (audited : List Place) (trail : List Opening) → LooksOver call (extent_of part) from to audited trail → OpensWithin part from call.before call.after
+  pub looks_near : (to : Option Place) (audited : List Place) (trail : List Opening) → LooksOver call part from to audited trail → OpensWithin part from call.before call.after
   looks_near to audited trail h = record {
     listed = h.down ++ looked_in call.root part from to;
     opens = record {
@@ -81,7 +79,7 @@ module _ (call : Call) (part : Part) (from : Option Place) where
     there = there_by h.down (looked_in call.root part from to) h.down_front to ([], sym (append-nil (looked_in call.root part from to)));
   }
 
-  pub stops_near : (begun : List Place) (trail : List Opening) (why : Fault) → StopsLooking call (extent_of part) from begun trail why → OpensWithin part from call.before call.after
+  pub stops_near : (begun : List Place) (trail : List Opening) (why : Fault) → StopsLooking call part from begun trail why → OpensWithin part from call.before call.after
   stops_near begun trail why h = record {
     listed = h.down ++ h.listed;
     opens = record {
@@ -95,26 +93,6 @@ module _ (call : Call) (part : Part) (from : Option Place) where
 
 -- ---- of an audit, a run and a check
 
-pub whole_audit_opens : (call : Call) (last : Option Place) (finding : Bool) (e : End) → AuditEnds call last finding e → (listed : List Place) × OpensNear call.before call.after listed
-whole_audit_opens call last finding end.Ended h = (
-  looked_between call.root None None,
-  record {
-    trail = h.trail;
-    openings_are = h.audits.did.openings_are;
-    listings_are = h.audits.did.listings_are;
-    near = all_near call.root (item_places call.root) (looked_between call.root None None) h.trail h.audits.opened h.audits.near (λ p i e. hashed_lies call.root p e);
-  },
-)
-whole_audit_opens call last finding (end.Stopped why) h = (
-  h.listed,
-  record {
-    trail = h.trail;
-    openings_are = h.fails.did.openings_are;
-    listings_are = h.fails.did.listings_are;
-    near = all_near call.root (places h.stops.whole ++ h.stops.begun) h.listed h.trail h.fails.opened h.fails.near h.files_lie;
-  },
-)
-
 pub audit_opens : (call : Call) (part : Part) (last : Option Place) (finding : Bool) (e : End) → AuditEndsWithin call part last finding e
     → OpensWithin part None call.before call.after
 audit_opens call part last finding end.Ended h = looks_near call part None None _ h.trail h.looks
@@ -126,10 +104,6 @@ run_opens call part from last limits spent files finding run.Ended h = looks_nea
 run_opens call part from last limits spent files finding run.Spent h = looks_near call part from (Some h.0) _ h.1.trail h.1.looks
 run_opens call part from last limits spent files finding (run.Stopped why) h = stops_near call part from _ h.trail why h.looks
 run_opens call part from last limits spent files finding run.Worn h = absurd h
-
-pub whole_run_opens : (call : Call) (from last : Option Place) (limits : Limits) (spent files : ℕ) (finding : Bool) (e : RunStatus)
-    → RunEnds call from last limits spent files finding e → (listed : List Place) × OpensNear call.before call.after listed
-whole_run_opens call from last limits spent files finding e h = let k = run_opens call whole from last limits spent files finding e h in (k.listed, k.opens)
 
 module _ (call : Call) (p : Place) where
   on_its_way : (listed : List Place) → IsFront listed (way_to p) → (d : Place) → IsAmong listed d → (q : Place) × (p ≡ d ++ q)

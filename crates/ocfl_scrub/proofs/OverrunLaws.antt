@@ -4,10 +4,10 @@ use Rattle.std.specs.Prelude.{cond, ◌==◌}
 use Rattle.ocfl_tree.specs.Place.{Place}
 use Rattle.ocfl_report.specs.Line.{Item}
 use Rattle.ocfl_audit.specs.Audit.{total_cost}
+use Rattle.ocfl_audit.specs.Parts.{Part}
 use Rattle.ocfl_audit.specs.Runs.{Limits, cut}
 use Rattle.ocfl_scrub.specs.Call.{Call}
-use Rattle.ocfl_scrub.specs.Running.{items_over, taken_over, RunsOver}
-use Rattle.ocfl_scrub.specs.Starting.{Extent}
+use Rattle.ocfl_scrub.specs.Running.{items_above_in, taken_in, RunsWithin}
 use Rattle.ocfl_audit.proofs.RunLaws.{cost_append}
 use Rattle.ocfl_scrub.proofs.CutLaws.{last_cost, no_cost, paid_passes}
 use Rattle.ocfl_scrub.proofs.PartLaws.{cut_paid}
@@ -24,11 +24,11 @@ last_is : (front : List Item) (last : Item) (behind : List Item) → 0 < last.co
 last_is [] last behind h k = ap (λ n. cond (n == 0) last.cost n) (no_cost behind k)
 last_is (i ∷ front) last behind h k = ap (λ n. cond (n == 0) i.cost n) (last_is front last behind h k) ∙ some_cost last.cost h i.cost
 
-pub less_than_the_last : (call : Call) (over : Extent) (from to next : Option Place) (limits : Limits) (spent files : ℕ) (finding : Bool)
-    (run : RunsOver call over from to limits spent files finding next) (front behind : List Item) (last : Item)
-    → taken_over call.root run.trail over from limits ≡ front ++ last ∷ behind → 0 < last.cost → total_cost behind ≡ 0 → spent < limits.budget + last.cost
-less_than_the_last call over from to next limits spent files finding run front behind last are h k =
-    let items : List Item = items_over call.root run.trail over from in
+pub less_than_the_last : (call : Call) (part : Part) (from to next : Option Place) (limits : Limits) (spent files : ℕ) (finding : Bool)
+    (run : RunsWithin call part from to limits spent files finding next) (front behind : List Item) (last : Item)
+    → taken_in call.root run.trail part from limits ≡ front ++ last ∷ behind → 0 < last.cost → total_cost behind ≡ 0 → spent < limits.budget + last.cost
+less_than_the_last call part from to next limits spent files finding run front behind last are h k =
+    let items : List Item = items_above_in call.root run.trail part from in
     let a : spent ≡ total_cost (cut items limits) = run.figures.spent_is in
     let e : total_cost (cut items limits) ≡ total_cost (front ++ last ∷ behind) = ap total_cost are in
     let f = cost_append front (last ∷ behind) in

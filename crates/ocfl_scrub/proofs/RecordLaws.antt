@@ -48,6 +48,7 @@ use Rattle.ocfl_scrub.specs.declared.cycling.CycleStatus.{CycleStatus}
 use Rattle.ocfl_scrub.specs.declared.cycling.CycleStatus.TheVariants as cycle
 use Rattle.ocfl_scrub.specs.declared.note.Note.{Note}
 use Rattle.ocfl_scrub.specs.declared.note.Note.TheVariants as note
+use Rattle.ocfl_scrub.proofs.AuditLaws.{all_places, nothing_front}
 use Rattle.ocfl_scrub.proofs.CycleEndLaws.{few_inventories, some_run}
 use Rattle.ocfl_scrub.proofs.PassLaws.{last_append}
 
@@ -108,18 +109,28 @@ pub audit_wrote : (root : StorageRoot) (s t : Store) (before written : List ℕ)
     → AuditsAll (known_call root s t before written) last finding → (trail : List Opening)
     × ((t.openings ≡ s.openings ++ trail)
     × ((t.failures ≡ s.failures + length (unread_of root trail)) × ((written ≡ before ++ text (audit root (unread_of root trail))) × (finding ≡ found (audit root (unread_of root trail))))))
-audit_wrote root s t before written last finding h = (h.trail, (h.audits.did.openings_are, (h.audits.did.failures_are, (h.wrote, h.found_is))))
+audit_wrote root s t before written last finding h = (h.trail, (h.looks.audits.did.openings_are, (h.looks.audits.did.failures_are, (h.wrote, h.found_is))))
 
 pub audit_opened : (call : Call) (last : Option Place) (finding : Bool) → AuditsAll call last finding → (trail : List Opening)
     × ((call.after.openings ≡ call.before.openings ++ trail)
     × ((content_trail call.root trail ≡ hashed_among call.root (item_places call.root)) × (heads_of call.root trail ≡ read_between call.root None None)))
-audit_opened call last finding h = (h.trail, (h.audits.did.openings_are, (h.audits.opened, h.audits.heads_are)))
+audit_opened call last finding h = (
+  h.trail,
+  (
+    h.looks.audits.did.openings_are,
+    (
+      h.looks.audits.opened ∙ ap (hashed_among call.root) (all_places call.root h.trail),
+      h.looks.audits.heads_are ∙ ap (λ l. l ++ read_between call.root None None) (nothing_front h.looks.held h.looks.held_front),
+    ),
+  ),
+)
 
 pub audit_listed : (call : Call) (last : Option Place) (finding : Bool) → AuditsAll call last finding → call.after.listings ≡ call.before.listings ++ looked_between call.root None None
-audit_listed call last finding h = h.audits.did.listings_are
+audit_listed call last finding h =
+    h.looks.audits.did.listings_are ∙ ap (λ l. call.before.listings ++ (l ++ looked_between call.root None None)) (nothing_front h.looks.down h.looks.down_front)
 
 pub audit_ended_at : (call : Call) (last : Option Place) (finding : Bool) (front : List Place) (p : Place) → AuditsAll call last finding → item_places call.root ≡ front ++ p ∷ [] → last ≡ Some p
-audit_ended_at call last finding front p h e = h.last_is ∙ ap (last_of None) e ∙ last_append None front p
+audit_ended_at call last finding front p h e = h.last_is ∙ ap (last_of None) (all_places call.root h.trail ∙ e) ∙ last_append None front p
 
 pub stopped_audit_wrote : (root : StorageRoot) (s t : Store) (before written : List ℕ) (last : Option Place) (finding : Bool) (why : Fault)
     → AuditStops (known_call root s t before written) last finding why → (trail : List Opening)
@@ -137,7 +148,7 @@ stopped_audit_wrote root s t before written last finding why h = (
       (
         h.stops.part_of.gone,
         (
-          h.fails.did.openings_are,
+          h.looks.fails.did.openings_are,
           (h.stops.items_are, ((h.stops.wrote ∙ ap (λ u. before ++ (text h.stops.whole ++ u)) h.stops.part_of.is), (h.stops.part_of.proper, (h.stops.part_of.none, h.found_is)))),
         ),
       ),
@@ -152,17 +163,26 @@ pub stopped_audit_opened : (call : Call) (last : Option Place) (finding : Bool) 
     × ((audit call.root (unread_of call.root trail) ≡ whole ++ others)
     × ((map (λ i. i.place) (take 1 others) ≡ begun ++ rest) × (content_trail call.root trail ≡ hashed_among call.root (map (λ i. i.place) whole ++ begun)))))))))
 stopped_audit_opened call last finding why h =
-    (h.trail, (h.stops.whole, (h.stops.others, (h.stops.begun, (h.stops.one.0, (h.fails.did.openings_are, (h.stops.items_are, (h.stops.one.1, h.fails.opened))))))))
+    (h.trail, (h.stops.whole, (h.stops.others, (h.stops.begun, (h.stops.one.0, (h.looks.fails.did.openings_are, (h.stops.items_are, (h.stops.one.1, h.looks.fails.opened))))))))
 
 pub stopped_audit_listed : (call : Call) (last : Option Place) (finding : Bool) (why : Fault) → AuditStops call last finding why → (listed : List Place)
     × ((rest : List Place) × ((call.after.listings ≡ call.before.listings ++ listed) × (looked_between call.root None None ≡ listed ++ rest)))
-stopped_audit_listed call last finding why h = (h.listed, (h.listed_front.0, (h.fails.did.listings_are, h.listed_front.1)))
+stopped_audit_listed call last finding why h = (
+  h.looks.listed,
+  (
+    h.looks.listed_front.0,
+    (h.looks.fails.did.listings_are ∙ ap (λ l. call.before.listings ++ (l ++ h.looks.listed)) (nothing_front h.looks.down h.looks.down_front), h.looks.listed_front.1),
+  ),
+)
 
 pub stopped_audit_read : (call : Call) (last : Option Place) (finding : Bool) (why : Fault) → AuditStops call last finding why → (trail : List Opening)
     × ((rest : List Place) × ((call.after.openings ≡ call.before.openings ++ trail)
     × ((call.after.failures ≡ call.before.failures + (length (unread_of call.root trail) + failures_by why)) × (read_between call.root None None ≡ heads_of call.root trail ++ rest))))
 stopped_audit_read call last finding why h =
-    (h.trail, (h.heads_front.0, (h.fails.did.openings_are, (h.fails.did.failures_are, (h.heads_front.1 ∙ ap (λ l. l ++ h.heads_front.0) (sym h.fails.heads_are))))))
+    let read : heads_of call.root h.trail ≡ h.looks.heads = h.looks.fails.heads_are ∙ ap (λ l. l ++ h.looks.heads) (nothing_front h.looks.held h.looks.held_front) in (
+      h.trail,
+      (h.looks.heads_front.0, (h.looks.fails.did.openings_are, (h.looks.fails.did.failures_are, (h.looks.heads_front.1 ∙ ap (λ l. l ++ h.looks.heads_front.0) (sym read))))),
+    )
 
 -- ---- a run
 

@@ -15,7 +15,7 @@ use Rattle.ocfl_audit.specs.Audit.{audit, after, total_cost, given_by}
 use Rattle.ocfl_audit.specs.Lines.{is_hashed}
 use Rattle.ocfl_audit.specs.Due.{items_at}
 use Rattle.ocfl_audit.specs.Between.{IsWithin, read_between}
-use Rattle.ocfl_audit.specs.Parts.{Part, whole, within}
+use Rattle.ocfl_audit.specs.Parts.{Part, within}
 use Rattle.ocfl_audit.specs.Trail.{unread_of}
 use Rattle.ocfl_audit.specs.Runs.{Limits, files_of, total_files, cut_len, cut, left}
 use Rattle.ocfl_cursor.specs.Cursor.{State, Cursor, IsShortPlace, IsCursor}
@@ -27,12 +27,11 @@ use Rattle.ocfl_walk.specs.WalkCalls.{GoesDown, GoDownFails}
 use Rattle.ocfl_walk.specs.Ends.{before_end}
 use Rattle.ocfl_item.specs.declared.fault.Fault.{Fault}
 use Rattle.ocfl_item.specs.declared.fault.Fault.TheVariants.{Output}
-use Rattle.ocfl_scrub.specs.Call.{Call, call_of}
+use Rattle.ocfl_scrub.specs.Call.{call_of}
 use Rattle.ocfl_scrub.specs.Taking.{PartOf}
 use Rattle.ocfl_scrub.specs.Written.{places, last_of, Figures}
-use Rattle.ocfl_scrub.specs.Running.{items_above_in, taken_in, rest_in, first_of, place_in, RunsWithin, RunStopsWithin, RunEndsWithin, RunsFromWithin, RunsFrom, RunsCleanWithin, RunsCleanlyWithin, IsPaid, begun, state_after}
-use Rattle.ocfl_scrub.specs.declared.running.RunEnd.{RunEnd}
-use Rattle.ocfl_scrub.specs.Starting.{extent_of, end_of, entry, stand, looked_in, read_in, LooksOver, StopsLooking}
+use Rattle.ocfl_scrub.specs.Running.{items_above_in, taken_in, rest_in, first_of, place_in, RunsWithin, RunStopsWithin, RunEndsWithin, RunsFromWithin, RunsCleanWithin, RunsCleanlyWithin, IsPaid, begun, state_after}
+use Rattle.ocfl_scrub.specs.Starting.{end_of, entry, stand, looked_in, read_in, LooksOver, StopsLooking}
 use Rattle.ocfl_scrub.specs.Beginning.{Begins}
 use Rattle.ocfl_scrub.proofs.Paying.{Paid, Counts, IsWithinBoth, PaysAll, PaysUpTo, PaysHalting}
 use Rattle.ocfl_scrub.specs.declared.running.RunStatus.{RunStatus}
@@ -118,7 +117,7 @@ module _ (root : StorageRoot) (part : Part) (s t u : Store) (old new : Option (L
             let at_places : places (taken_in root (g.trail ++ os) part from l) ≡ done = ap places taken_are ∙ places_of_items root os done in
             record {
               trail = g.trail ++ os;
-              looks = subst (λ ps. LooksOver (call_of root s u old new) (extent_of part) from next ps (g.trail ++ os)) (sym at_places) (looks_over root part s t u old new from g next done os
+              looks = subst (λ ps. LooksOver (call_of root s u old new) part from next ps (g.trail ++ os)) (sym at_places) (looks_over root part s t u old new from g next done os
                   (taken_lie root part from g.listed g.all_listed next done later due_are far) k);
               wrote = subst (λ is. Appends old new (text is)) (sym taken_are) wrote;
               figures = subst (λ is. Figures is spent files finding) (sym taken_are) (record { spent_is = counts.spent_is; files_is = counts.files_is; found_is = found_is });
@@ -181,7 +180,7 @@ module _ (root : StorageRoot) (part : Part) (s t u : Store) (old new : Option (L
           last_is = last_is ∙ ap (last_of from) whole_places;
         };
         figures = record { spent_is = h.counts.spent_is; files_is = h.counts.files_is; found_is = k.found_is };
-        looks = subst (λ ps. StopsLooking (call_of root s u old new) (extent_of part) from (ps ++ k.begun) trail why) whole_places
+        looks = subst (λ ps. StopsLooking (call_of root s u old new) part from (ps ++ k.begun) trail why) whole_places
             (stops_looking root part s t u old new from g why (k.done ++ k.begun) k.listed k.heads k.trail k.fails listed_front heads_front (halted_lie root part from g.listed g.all_listed k));
       }
 
@@ -266,7 +265,3 @@ module _ (root : StorageRoot) (part : Part) (s t : Store) (old new : Option (Lis
 
   pub clean_from : t.failures ≡ s.failures → RunsCleanlyWithin (call_of root s t old new) part c l spent files finding end
   clean_from same = runs_cleanly root part s t old new c last l spent files finding same end begun_there
-
--- of a part that is the whole
-pub run_as_whole : (call : Call) (part : Part) (c : Cursor) (l : Limits) (ran : RunEnd) → part ≡ whole → RunsFromWithin call part c l ran → RunsFrom call c l ran
-run_as_whole call part c l ran e h = subst (λ x. RunsFromWithin call x c l ran) e h

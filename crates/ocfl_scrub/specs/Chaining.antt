@@ -2,14 +2,13 @@
 -- before it answered.
 use Rattle.std.specs.Prelude.{◌≡◌, ◌≤◌, ◌⊎◌, List, [], ◌∷◌, ◌++◌, map, length}
 use Rattle.std.specs.List.{list_any}
-use Rattle.ocfl_audit.specs.Parts.{Part}
+use Rattle.ocfl_audit.specs.Parts.{Part, whole}
 use Rattle.ocfl_audit.specs.Runs.{Limits}
 use Rattle.ocfl_cursor.specs.Cursor.{Cursor, new_cursor}
 use Rattle.ocfl_item.specs.declared.fault.Fault.{Fault}
 use Rattle.ocfl_item.specs.declared.fault.Fault.TheVariants as fault
 use Rattle.ocfl_scrub.specs.Call.{Call, call_of}
-use Rattle.ocfl_scrub.specs.Running.{RunsFromOver}
-use Rattle.ocfl_scrub.specs.Starting.{Extent, entire, extent_of}
+use Rattle.ocfl_scrub.specs.Running.{RunsFromWithin}
 use Rattle.ocfl_scrub.specs.declared.running.RunEnd.{RunEnd}
 use Rattle.ocfl_scrub.specs.declared.running.RunStatus.{RunStatus}
 use Rattle.ocfl_scrub.specs.declared.running.RunStatus.TheVariants as run
@@ -32,9 +31,9 @@ IsMadeOf call (k ∷ calls) = (k ≡ call_of call.root call.before k.after call.
 -- a call was these runs and nothing besides, from a cursor to one: each began with the cursor, the
 -- store and the output that the one before it left, and only where its limits had left something.
 -- Without a run all is left
-abbrev pub AreChained : Extent → Call → Cursor → RunStatus → List MadeRun → Cursor → RunStatus → Type 0
-AreChained over call c so [] to end = (call.after ≡ call.before) × ((call.new ≡ call.old) × ((to ≡ c) × (so ≡ end)))
-AreChained over call c so (r ∷ runs) to end = (so ≡ run.Spent) × ((r.call ≡ call_of call.root call.before r.call.after call.old r.call.new) × (RunsFromOver r.call over c r.limits r.ran × AreChained over (call_of call.root r.call.after call.after r.call.new call.new) r.ran.cursor r.ran.end runs to end))
+abbrev pub AreChained : Part → Call → Cursor → RunStatus → List MadeRun → Cursor → RunStatus → Type 0
+AreChained part call c so [] to end = (call.after ≡ call.before) × ((call.new ≡ call.old) × ((to ≡ c) × (so ≡ end)))
+AreChained part call c so (r ∷ runs) to end = (so ≡ run.Spent) × ((r.call ≡ call_of call.root call.before r.call.after call.old r.call.new) × (RunsFromWithin r.call part c r.limits r.ran × AreChained part (call_of call.root r.call.after call.after r.call.new call.new) r.ran.cursor r.ran.end runs to end))
 
 -- memory ran out after a run, for the text of its cursor, and a further run was to come
 pub record IsBetweenRuns (runs : List MadeRun) (end : RunStatus) (unused : List Limits) (why : Fault) : Type 0 where
@@ -49,22 +48,19 @@ ChainEnds runs end unused status.Ended = end ≡ run.Ended
 ChainEnds runs end unused status.Spent = (end ≡ run.Spent) × (unused ≡ [])
 ChainEnds runs end unused (status.Stopped why) = (end ≡ run.Stopped why) ⊎ IsBetweenRuns runs end unused why
 
--- a cycle is these runs: the first from a new cursor, one for each of the first limits, none of them
--- after one that ended or stopped, and nothing between two
-pub record CycleOver (call : Call) (extent : Extent) (limits : List Limits) (ran : CycleEnd) : Type 0 where
+-- a cycle of a part is these runs: the first from a new cursor, one for each of the first limits, none
+-- of them after one that ended or stopped, and nothing between two
+pub record CycleOfRunsWithin (call : Call) (part : Part) (limits : List Limits) (ran : CycleEnd) : Type 0 where
   pub over : call.before.tree ≡ call.root
   pub runs : List MadeRun
   pub end : RunStatus
-  pub chained : AreChained extent call new_cursor run.Spent runs ran.cursor end
+  pub chained : AreChained part call new_cursor run.Spent runs ran.cursor end
   pub unused : List Limits
   pub limits_are : limits ≡ map (λ r. r.limits) runs ++ unused
   pub ends : ChainEnds runs end unused ran.end
   pub count_is : ran.runs ≡ length runs
   pub found_is : ran.found ≡ list_any (λ r. r.ran.found) runs
 
--- of a part, and of the whole
-abbrev pub CycleOfRunsWithin : Call → Part → List Limits → CycleEnd → Type 0
-CycleOfRunsWithin call part limits ran = CycleOver call (extent_of part) limits ran
-
+-- of the whole
 abbrev pub CycleOfRuns : Call → List Limits → CycleEnd → Type 0
-CycleOfRuns call limits ran = CycleOver call entire limits ran
+CycleOfRuns call limits ran = CycleOfRunsWithin call whole limits ran

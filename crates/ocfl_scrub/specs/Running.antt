@@ -7,7 +7,6 @@ use Rattle.ocfl_tree.specs.declared.store.Opening.{Opening}
 use Rattle.ocfl_report.specs.Line.{Item}
 use Rattle.ocfl_report.specs.Text.{text}
 use Rattle.ocfl_audit.specs.Audit.{audit, after}
-use Rattle.ocfl_audit.specs.Trail.{unread_of}
 use Rattle.ocfl_audit.specs.Parts.{Part, whole, within}
 use Rattle.ocfl_audit.specs.Runs.{Limits, sum_of, cut, left}
 use Rattle.ocfl_cursor.specs.Cursor.{State, start, behind, ended, Cursor}
@@ -18,7 +17,7 @@ use Rattle.ocfl_item.specs.declared.fault.Fault.{Fault}
 use Rattle.ocfl_item.specs.declared.fault.Fault.TheVariants as fault
 use Rattle.ocfl_scrub.specs.Call.{Call, Writes}
 use Rattle.ocfl_scrub.specs.Taking.{WritesLines}
-use Rattle.ocfl_scrub.specs.Starting.{Extent, entire, extent_of, LooksOver, StopsLooking}
+use Rattle.ocfl_scrub.specs.Starting.{items_in, LooksOver, StopsLooking}
 use Rattle.ocfl_scrub.specs.Written.{places, last_of, Figures, StopsWithin}
 use Rattle.ocfl_scrub.specs.declared.running.RunEnd.{RunEnd}
 use Rattle.ocfl_scrub.specs.declared.running.RunStatus.{RunStatus}
@@ -93,96 +92,63 @@ pub record RunsOnAnyStore {S O : Type 0} (contents : O → Option (List ℕ)) (b
 
 -- ---- of a store that tells its tree
 
--- the items above a place, where a trail shows what could not be read
-abbrev pub items_above : StorageRoot → List Opening → Option Place → List Item
-items_above root trail from = after (audit root (unread_of root trail)) from
+-- the items of a part above a place, where a trail shows what could not be read
+abbrev pub items_above_in : StorageRoot → List Opening → Part → Option Place → List Item
+items_above_in root trail part from = after (items_in root trail part) from
 
--- those of them that the limits allow
-abbrev pub taken : StorageRoot → List Opening → Option Place → Limits → List Item
-taken root trail from limits = cut (items_above root trail from) limits
+-- those of them that the limits allow, and those that they leave
+abbrev pub taken_in : StorageRoot → List Opening → Part → Option Place → Limits → List Item
+taken_in root trail part from limits = cut (items_above_in root trail part from) limits
+
+abbrev pub rest_in : StorageRoot → List Opening → Part → Option Place → Limits → List Item
+rest_in root trail part from limits = left (items_above_in root trail part from) limits
 
 abbrev pub first_of : List Item → Option Place
 first_of [] = None
 first_of (i ∷ items) = Some i.place
 
--- ---- by what a run is over
-
--- the items above a place that a run is over
-abbrev pub items_over : StorageRoot → List Opening → Extent → Option Place → List Item
-items_over root trail over from = after (over.items (audit root (unread_of root trail))) from
-
--- those of them that the limits allow
-abbrev pub taken_over : StorageRoot → List Opening → Extent → Option Place → Limits → List Item
-taken_over root trail over from limits = cut (items_over root trail over from) limits
-
--- a run took the cut of its limits. Each hashed file of it was opened once, in order, and it looked
--- up to the first item that is left
-pub record RunsOver (call : Call) (over : Extent) (from last : Option Place) (limits : Limits) (spent files : ℕ) (finding : Bool) (next : Option Place) : Type 0 where
+-- a run of a part took the cut of its limits. Each hashed file of it was opened once, in order, and
+-- it looked up to the first item that is left
+pub record RunsWithin (call : Call) (part : Part) (from last : Option Place) (limits : Limits) (spent files : ℕ) (finding : Bool) (next : Option Place) : Type 0 where
   pub trail : List Opening
-  pub looks : LooksOver call over from next (places (taken_over call.root trail over from limits)) trail
-  pub wrote : Writes call (text (taken_over call.root trail over from limits))
-  pub figures : Figures (taken_over call.root trail over from limits) spent files finding
-  pub last_is : last ≡ last_of from (places (taken_over call.root trail over from limits))
-  pub next_is : next ≡ first_of (left (items_over call.root trail over from) limits)
+  pub looks : LooksOver call part from next (places (taken_in call.root trail part from limits)) trail
+  pub wrote : Writes call (text (taken_in call.root trail part from limits))
+  pub figures : Figures (taken_in call.root trail part from limits) spent files finding
+  pub last_is : last ≡ last_of from (places (taken_in call.root trail part from limits))
+  pub next_is : next ≡ first_of (rest_in call.root trail part from limits)
 
--- a run stopped: the first items of the cut went out whole, and of the next at most a proper
--- beginning
-pub record RunStopsOver (call : Call) (over : Extent) (from last : Option Place) (limits : Limits) (spent files : ℕ) (finding : Bool) (why : Fault) : Type 0 where
+-- it stopped: the first items of the cut went out whole, and of the next at most a proper beginning
+pub record RunStopsWithin (call : Call) (part : Part) (from last : Option Place) (limits : Limits) (spent files : ℕ) (finding : Bool) (why : Fault) : Type 0 where
   pub trail : List Opening
-  pub stops : StopsWithin (taken_over call.root trail over from limits) call.old call.new from last why
+  pub stops : StopsWithin (taken_in call.root trail part from limits) call.old call.new from last why
   pub figures : Figures stops.whole spent files finding
-  pub looks : StopsLooking call over from (places stops.whole ++ stops.begun) trail why
-
-abbrev pub RunEndsOver : Call → Extent → Option Place → Option Place → Limits → ℕ → ℕ → Bool → RunStatus → Type 0
-RunEndsOver call over from last limits spent files finding status.Ended = RunsOver call over from last limits spent files finding None
-RunEndsOver call over from last limits spent files finding status.Spent = (next : Place) × RunsOver call over from last limits spent files finding (Some next)
-RunEndsOver call over from last limits spent files finding (status.Stopped why) = RunStopsOver call over from last limits spent files finding why
-RunEndsOver call over from last limits spent files finding status.Worn = ⊥
-
--- a run from one cursor led to another
-pub record RunsFromOver (call : Call) (over : Extent) (c : Cursor) (limits : Limits) (ran : RunEnd) : Type 0 where
-  pub last : Option Place
-  pub run : RunEndsOver call over (place_in c.state) last limits ran.spent ran.files ran.found ran.end
-  pub cursor_is : ran.cursor ≡ after_run (begun_in c c.state) ran.spent ran.files (state_after ran.end last)
-
--- ---- of a part
-
--- the items of a part above a place
-abbrev pub items_above_in : StorageRoot → List Opening → Part → Option Place → List Item
-items_above_in root trail part from = items_over root trail (extent_of part) from
-
--- those of them that the limits allow, and those that they leave
-abbrev pub taken_in : StorageRoot → List Opening → Part → Option Place → Limits → List Item
-taken_in root trail part from limits = taken_over root trail (extent_of part) from limits
-
-abbrev pub rest_in : StorageRoot → List Opening → Part → Option Place → Limits → List Item
-rest_in root trail part from limits = left (items_above_in root trail part from) limits
-
-abbrev pub RunsWithin : Call → Part → Option Place → Option Place → Limits → ℕ → ℕ → Bool → Option Place → Type 0
-RunsWithin call part from last limits spent files finding next = RunsOver call (extent_of part) from last limits spent files finding next
-
-abbrev pub RunStopsWithin : Call → Part → Option Place → Option Place → Limits → ℕ → ℕ → Bool → Fault → Type 0
-RunStopsWithin call part from last limits spent files finding why = RunStopsOver call (extent_of part) from last limits spent files finding why
+  pub looks : StopsLooking call part from (places stops.whole ++ stops.begun) trail why
 
 abbrev pub RunEndsWithin : Call → Part → Option Place → Option Place → Limits → ℕ → ℕ → Bool → RunStatus → Type 0
-RunEndsWithin call part from last limits spent files finding end = RunEndsOver call (extent_of part) from last limits spent files finding end
+RunEndsWithin call part from last limits spent files finding status.Ended = RunsWithin call part from last limits spent files finding None
+RunEndsWithin call part from last limits spent files finding status.Spent = (next : Place) × RunsWithin call part from last limits spent files finding (Some next)
+RunEndsWithin call part from last limits spent files finding (status.Stopped why) = RunStopsWithin call part from last limits spent files finding why
+RunEndsWithin call part from last limits spent files finding status.Worn = ⊥
 
-abbrev pub RunsFromWithin : Call → Part → Cursor → Limits → RunEnd → Type 0
-RunsFromWithin call part c limits ran = RunsFromOver call (extent_of part) c limits ran
+-- a run from one cursor led to another
+pub record RunsFromWithin (call : Call) (part : Part) (c : Cursor) (limits : Limits) (ran : RunEnd) : Type 0 where
+  pub last : Option Place
+  pub run : RunEndsWithin call part (place_in c.state) last limits ran.spent ran.files ran.found ran.end
+  pub cursor_is : ran.cursor ≡ after_run (begun_in c c.state) ran.spent ran.files (state_after ran.end last)
 
--- ---- of the whole
+-- ---- of the whole, which is one part
 
 abbrev pub Runs : Call → Option Place → Option Place → Limits → ℕ → ℕ → Bool → Option Place → Type 0
-Runs call from last limits spent files finding next = RunsOver call entire from last limits spent files finding next
+Runs call from last limits spent files finding next = RunsWithin call whole from last limits spent files finding next
 
 abbrev pub RunStops : Call → Option Place → Option Place → Limits → ℕ → ℕ → Bool → Fault → Type 0
-RunStops call from last limits spent files finding why = RunStopsOver call entire from last limits spent files finding why
+RunStops call from last limits spent files finding why = RunStopsWithin call whole from last limits spent files finding why
 
 abbrev pub RunEnds : Call → Option Place → Option Place → Limits → ℕ → ℕ → Bool → RunStatus → Type 0
-RunEnds call from last limits spent files finding end = RunEndsOver call entire from last limits spent files finding end
+RunEnds call from last limits spent files finding end = RunEndsWithin call whole from last limits spent files finding end
 
 abbrev pub RunsFrom : Call → Cursor → Limits → RunEnd → Type 0
-RunsFrom call c limits ran = RunsFromOver call entire c limits ran
+RunsFrom call c limits ran = RunsFromWithin call whole c limits ran
 
 -- ---- where no failure was counted
 

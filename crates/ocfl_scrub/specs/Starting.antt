@@ -7,10 +7,12 @@ use Rattle.ocfl_tree.specs.Ascending.{IsAmong}
 use Rattle.ocfl_tree.specs.StorageRoot.{StorageRoot}
 use Rattle.ocfl_tree.specs.declared.store.Opening.{Opening}
 use Rattle.ocfl_report.specs.Line.{Item}
+use Rattle.ocfl_audit.specs.Audit.{audit}
 use Rattle.ocfl_audit.specs.Due.{due}
 use Rattle.ocfl_audit.specs.Lines.{is_hashed}
 use Rattle.ocfl_audit.specs.Between.{looked_between, read_between}
 use Rattle.ocfl_audit.specs.Parts.{Part, within, places_within}
+use Rattle.ocfl_audit.specs.Trail.{unread_of}
 use Rattle.ocfl_item.specs.Looking.{IsFront}
 use Rattle.ocfl_item.specs.Auditing.{Audits, Fails, LiesIn}
 use Rattle.ocfl_item.specs.declared.fault.Fault.{Fault}
@@ -68,6 +70,10 @@ stand root part above = stand_by root (first_place part) above
 abbrev pub due_within : StorageRoot → Part → Option Place → List Place
 due_within root part from = places_within part (due root from)
 
+-- the items of a part, where a trail shows what could not be read
+abbrev pub items_in : StorageRoot → List Opening → Part → List Item
+items_in root trail part = within part (audit root (unread_of root trail))
+
 -- the directories of a part that are looked into between two places, and its objects whose
 -- inventories are read
 abbrev pub looked_in : StorageRoot → Part → Option Place → Option Place → List Place
@@ -76,50 +82,34 @@ looked_in root part from to = places_within part (looked_between root from to)
 abbrev pub read_in : StorageRoot → Part → Option Place → Option Place → List Place
 read_in root part from to = places_within part (read_between root from to)
 
--- ---- what a call is over
-
--- which items and which places of a storage root a call is over, and where its walk goes down to, by
--- the place above which items are taken
-pub record Extent : Type 0 where
-  pub items : List Item → List Item
-  pub places : List Place → List Place
-  pub goes_down_to : Option Place → Option Place
-
--- the whole: all, and the walk goes down to that place
-abbrev pub entire : Extent
-entire = record { items = λ items. items; places = λ places. places; goes_down_to = λ from. from }
-
--- a part: what lies in it
-abbrev pub extent_of : Part → Extent
-extent_of part = record { items = λ items. within part items; places = λ places. places_within part places; goes_down_to = λ from. entry part from }
+-- ---- what a call over a part looks at
 
 -- of these places each hashed file lies right in one of these directories
 abbrev pub FilesLieIn : StorageRoot → List Place → List Place → Type 0
 FilesLieIn root places dirs = (p : Place) → IsAmong places p → is_hashed root p ≡ true → LiesIn dirs p
 
--- such a call audited these places, the first of those above one, and came to another. Listed were
--- the first directories on the way down to where it began, and those that it is over between the
--- two places, in order: among them the directory of each file. Read were at most the inventory of
--- the object that holds the place gone down to, and those that it is over between the two places.
--- None of these is listed or read twice, since what is gone down to lies before what is above it (a
--- law of `parts`)
-pub record LooksOver (call : Call) (over : Extent) (from to : Option Place) (audited : List Place) (trail : List Opening) : Type 0 where
+-- it audited these places, the first of the part's above one, and came to another. Listed were the
+-- first directories on the way down to where it began, and those of the part between the two places,
+-- in order: among them the directory of each file. Read were at most the inventory of the object
+-- that holds the place gone down to, and those of the part between the two places. None of these is
+-- listed or read twice, since what is gone down to lies before what is above it (a law of `parts`).
+pub record LooksOver (call : Call) (part : Part) (from to : Option Place) (audited : List Place) (trail : List Opening) : Type 0 where
   pub down : List Place
   pub held : List Place
-  pub audits : Audits call.root call.before call.after audited (down ++ over.places (looked_between call.root from to)) (held ++ over.places (read_between call.root from to)) trail
-  pub down_front : IsFront down (way_of (over.goes_down_to from))
-  pub files_lie : FilesLieIn call.root audited (down ++ over.places (looked_between call.root from to))
-  pub held_front : IsFront held (holder call.root (over.goes_down_to from))
+  pub audits : Audits call.root call.before call.after audited (down ++ looked_in call.root part from to) (held ++ read_in call.root part from to) trail
+  pub down_front : IsFront down (way_of (entry part from))
+  pub files_lie : FilesLieIn call.root audited (down ++ looked_in call.root part from to)
+  pub held_front : IsFront held (holder call.root (entry part from))
 
--- such a call stopped, and had begun with these places: the directory of each file was listed
-pub record StopsLooking (call : Call) (over : Extent) (from : Option Place) (begun : List Place) (trail : List Opening) (why : Fault) : Type 0 where
+-- it stopped, and had begun with these places: the directory of each file was listed
+pub record StopsLooking (call : Call) (part : Part) (from : Option Place) (begun : List Place) (trail : List Opening) (why : Fault) : Type 0 where
   pub down : List Place
   pub listed : List Place
   pub held : List Place
   pub heads : List Place
   pub fails : Fails call.root call.before call.after begun (down ++ listed) (held ++ heads) trail why
-  pub down_front : IsFront down (way_of (over.goes_down_to from))
-  pub listed_front : IsFront listed (over.places (looked_between call.root from None))
-  pub held_front : IsFront held (holder call.root (over.goes_down_to from))
-  pub heads_front : IsFront heads (over.places (read_between call.root from None))
+  pub down_front : IsFront down (way_of (entry part from))
+  pub listed_front : IsFront listed (looked_in call.root part from None)
+  pub held_front : IsFront held (holder call.root (entry part from))
+  pub heads_front : IsFront heads (read_in call.root part from None)
   pub files_lie : FilesLieIn call.root begun (down ++ listed)

@@ -14,8 +14,7 @@ use Rattle.ocfl_item.specs.Auditing.{Audits, Fails}
 use Rattle.ocfl_item.specs.declared.fault.Fault.{Fault}
 use Rattle.ocfl_walk.specs.WalkCalls.{holder}
 use Rattle.ocfl_scrub.specs.Call.{Call, Writes}
-use Rattle.ocfl_scrub.specs.Starting.{entry, read_in}
-use Rattle.ocfl_scrub.specs.WholeAudit.{items_in}
+use Rattle.ocfl_scrub.specs.Starting.{entry, items_in, read_in}
 use Rattle.ocfl_scrub.specs.Written.{places, last_of, Figures, StopsWithin}
 use Rattle.ocfl_scrub.specs.Running.{state_at}
 use Rattle.ocfl_scrub.specs.Cycling.{enough}

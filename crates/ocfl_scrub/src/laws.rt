@@ -45,8 +45,8 @@ ghost use Rattle.ocfl_scrub.specs.Performing.{HandsBack, IsWithoutFile, RefusesR
 ghost use Rattle.ocfl_scrub.specs.Performing.{UnshownSaid};
 ghost use Rattle.ocfl_scrub.specs.Scoping.{IsBranchNote, IsBranchSaid, IsPartRunSaid};
 ghost use Rattle.ocfl_scrub.specs.Scoping.{IsPartUnreadNote};
-ghost use Rattle.ocfl_scrub.specs.Running.{IsPaid, Runs, RunsWithin, begun, limits_of, state_after};
-ghost use Rattle.ocfl_scrub.specs.Running.{taken, taken_in};
+ghost use Rattle.ocfl_scrub.specs.Running.{IsPaid, RunsWithin, begun, limits_of, state_after};
+ghost use Rattle.ocfl_scrub.specs.Running.{taken_in};
 ghost use Rattle.ocfl_scrub.specs.declared.checking.End.{End};
 ghost use Rattle.ocfl_scrub.specs.declared.cycling.CycleStatus.{CycleStatus};
 ghost use Rattle.ocfl_scrub.specs.declared.cycling.CycleStatus.TheVariants as cycle;
@@ -78,12 +78,7 @@ pub fn listed_and_read_ascend()
 
 /// What a run spends passes its budget by less than the cost of the last file that it takes.
 pub fn overrun_is_less_than_the_last_file()
-    ensures whole { (call : Call) (from to next : Option Place) (limits : Limits) (spent files : ℕ)
-        (finding : Bool) (run : Runs call from to limits spent files finding next)
-        (front behind : List Item) (last : Item)
-        → taken call.root run.trail from limits ≡ front ++ last ∷ behind → 0 < last.cost
-        → total_cost behind ≡ 0 → spent < limits.budget + last.cost }
-    ensures part { (call : Call) (part : Part) (from to next : Option Place) (limits : Limits)
+    ensures { (call : Call) (part : Part) (from to next : Option Place) (limits : Limits)
         (spent files : ℕ) (finding : Bool)
         (run : RunsWithin call part from to limits spent files finding next)
         (front behind : List Item) (last : Item)

@@ -23,12 +23,12 @@ ghost use Rattle.ocfl_scrub.specs.Call.{Call, known_call};
 ghost use Rattle.ocfl_scrub.specs.Chaining.{CycleOfRunsWithin, IsMadeOf};
 ghost use Rattle.ocfl_scrub.specs.Checking.{CheckEnds};
 ghost use Rattle.ocfl_scrub.specs.Openings.{OpensNear, OpensWithin};
-ghost use Rattle.ocfl_scrub.specs.Running.{RunEnds, RunEndsWithin, RunsFromWithin, place_in};
+ghost use Rattle.ocfl_scrub.specs.Running.{RunEndsWithin, RunsFromWithin, place_in};
 ghost use Rattle.ocfl_scrub.specs.Joining.{AreOneCycle, AreRuns, IsPartCycle, IsWholeCycle};
 ghost use Rattle.ocfl_scrub.specs.Joining.{PartCycle, PartRun, Ran, cursor_after, left_by};
 ghost use Rattle.ocfl_scrub.specs.Joining.{opened_by, reports_of, unread_together, unstopped};
 ghost use Rattle.ocfl_scrub.specs.Keeping.{RunsOn};
-ghost use Rattle.ocfl_scrub.specs.WholeAudit.{AuditEnds, AuditEndsWithin};
+ghost use Rattle.ocfl_scrub.specs.WholeAudit.{AuditEndsWithin};
 ghost use Rattle.ocfl_scrub.specs.declared.checking.End.{End};
 ghost use Rattle.ocfl_scrub.specs.declared.cycling.CycleEnd.{CycleEnd};
 ghost use Rattle.ocfl_scrub.specs.declared.cycling.CycleStatus.TheVariants as cycle;
@@ -168,17 +168,10 @@ pub fn openings_lie_where_it_was_listed()
     ensures audit { (call : Call) (part : Part) (last : Option Place) (finding : Bool) (end : End)
         → AuditEndsWithin call part last finding end
         → OpensWithin part None call.before call.after }
-    ensures whole { (call : Call) (last : Option Place) (finding : Bool) (end : End)
-        → AuditEnds call last finding end
-        → (listed : List Place) × OpensNear call.before call.after listed }
     ensures run { (call : Call) (part : Part) (from last : Option Place) (limits : Limits)
         (spent files : ℕ) (finding : Bool) (end : RunStatus)
         → RunEndsWithin call part from last limits spent files finding end
         → OpensWithin part from call.before call.after }
-    ensures whole_run { (call : Call) (from last : Option Place) (limits : Limits)
-        (spent files : ℕ) (finding : Bool) (end : RunStatus)
-        → RunEnds call from last limits spent files finding end
-        → (listed : List Place) × OpensNear call.before call.after listed }
     ensures check { (call : Call) (p : Place) (item finding : Bool) (end : End)
         → CheckEnds call p item finding end → (listed : List Place)
         × (OpensNear call.before call.after listed

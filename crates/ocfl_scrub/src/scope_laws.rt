@@ -18,7 +18,7 @@ ghost use Rattle.ocfl_scrub.specs.Call.{Call};
 ghost use Rattle.ocfl_scrub.specs.Performing.{HandsBack, IsSaid, Performs, RefusesRightly};
 ghost use Rattle.ocfl_scrub.specs.Scoping.{BranchAudited, HandsBackIn, IsSaidIn};
 ghost use Rattle.ocfl_scrub.specs.Scoping.{PartRefusesRightly, PerformsIn, RefusesRightlyIn};
-ghost use Rattle.ocfl_scrub.specs.WholeAudit.{items_in};
+ghost use Rattle.ocfl_scrub.specs.Starting.{items_in};
 ghost use Rattle.ocfl_scrub.specs.declared.note.Note.{Note};
 ghost use Rattle.ocfl_scrub.specs.declared.note.Note.TheVariants as note;
 

@@ -19,10 +19,6 @@ use Rattle.ocfl_memory.proofs.Listings.{length-names_in}
 use Rattle.ocfl_tree.proofs.Trees.{some_not_none, at_in_dir}
 use Rattle.ocfl_memory.proofs.Trees.{dir_from_leaf, front_last, parent-append, rooted_from_above, rooted_push, put_leaves, once_push, is_left, removal_leaves, rooted_left, once_left}
 
--- no file is open any more
-pub kept_closed : (nodes : StorageRoot) (os os' : List Opening) (o : Option OpenFile) → IsKept nodes os o → IsKept nodes os' None
-kept_closed nodes os os' o k = record { once = k.once; rooted = k.rooted; few = k.few; reading = tt }
-
 -- the refusal that was found is that of the tree
 pub refusal_found : (nodes : StorageRoot) (os : List Opening) (o : Option OpenFile) (p : Place) → IsKept nodes os o → kept_refusal nodes p ≡ put_refusal nodes p
 refusal_found nodes os o p k =

@@ -1,5 +1,5 @@
 -- What is kept at an index, and where it is looked up.
-use Rattle.std.proofs.Common.{◌≡◌, ℕ, ◌+◌, ◌<◌, List, [], ◌∷◌, ◌++◌, length, drop, get_or, set, Some, None, sym, ◌∙◌, ap, refl}
+use Rattle.std.proofs.Common.{◌≡◌, ℕ, ◌+◌, ◌<◌, List, [], ◌∷◌, ◌++◌, length, drop, get_or, set, Some, sym, ◌∙◌, ap, refl}
 use Rattle.std.proofs.lemmas.List.{get_or_default}
 use Rattle.ocfl_tree.specs.Place.{Text, Place, child_name}
 use Rattle.ocfl_tree.specs.StorageRoot.{StorageRoot, Leaf, dir}
@@ -18,10 +18,6 @@ kept_more root i e d h is = ap (λ es. kept_in es d) (drop_item root i e h is)
 pub kept_more_child : (root : StorageRoot) (i : ℕ) (e : Place × Leaf) (d : Place) (n : Text) → i < length root → e ≡ get_or root i e → child_name d e.0 ≡ Some n
     → kept_in (drop i root) d ≡ record { name = n; kind = kind_of e.1 } ∷ kept_in (drop (i + 1) root) d
 kept_more_child root i e d n h is some = kept_more root i e d h is ∙ ap (λ o. with_entry o e.1 (kept_in (drop (i + 1) root) d)) some
-
-pub kept_more_other : (root : StorageRoot) (i : ℕ) (e : Place × Leaf) (d : Place) → i < length root → e ≡ get_or root i e → child_name d e.0 ≡ None
-    → kept_in (drop i root) d ≡ kept_in (drop (i + 1) root) d
-kept_more_other root i e d h is none = kept_more root i e d h is ∙ ap (λ o. with_entry o e.1 (kept_in (drop (i + 1) root) d)) none
 
 pub set_last : {X : Type 0} (xs : List X) (x y : X) → set (xs ++ x ∷ []) (length xs) y ≡ xs ++ y ∷ []
 set_last [] x y = refl

@@ -1,5 +1,5 @@
 -- What the calls of a tree in memory do to what it tells.
-use Rattle.std.proofs.Common.{◌≡◌, ◌≢◌, ℕ, zero, suc, ◌+◌, ◌-◌, ◌<◌, ◌≤◌, true, false, List, [], ◌∷◌, ◌++◌, length, take, drop, Option, Some, None, sym, ◌∙◌, ap, subst, refl, arith, append-nil, length-append, length-drop}
+use Rattle.std.proofs.Common.{◌≡◌, ℕ, zero, suc, ◌+◌, ◌-◌, ◌<◌, ◌≤◌, true, false, List, [], ◌∷◌, ◌++◌, length, take, drop, Option, Some, None, sym, ◌∙◌, ap, subst, refl, arith, append-nil, length-append, length-drop}
 use Rattle.std.proofs.Math.Seq.{take-length}
 use Rattle.std.proofs.lemmas.List.{length-take-le, take-append-drop, drop-drop, nil_from_length}
 use Rattle.ocfl_tree.specs.Place.{Text, Place}
@@ -11,87 +11,47 @@ use Rattle.ocfl_memory.specs.MemTree.{fails, read_fails}
 use Rattle.ocfl_memory.specs.Internal.Nodes.{leaf_at, bytes_in, stands_at, kept_in}
 use Rattle.ocfl_memory.specs.declared.plan.Point.TheVariants as point
 use Rattle.ocfl_memory.specs.Internal.Kept.{rest_of, seen, IsOpen, IfOpen, IsKept}
-use Rattle.ocfl_tree.specs.Calls.{Lists, ListFails, Opens, OpenFails, Reads, ReadFails, Closes, Fails, opening, change_last, with_given, with_failure}
+use Rattle.ocfl_tree.specs.Ascending.{IsAmong}
+use Rattle.ocfl_tree.specs.Store.{Did, failed_openings}
+use Rattle.ocfl_tree.specs.Calls.{Lists, ListFails, Opens, OpenFails, Reads, ReadFails, opening, change_last, with_given, with_failure}
 use Rattle.ocfl_memory.specs.declared.mem_tree.OpenFile.{OpenFile}
 use Rattle.ocfl_tree.specs.declared.store.Entry.{Entry}
 use Rattle.ocfl_tree.specs.declared.store.Opening.{Opening}
-use Rattle.ocfl_tree.specs.declared.store.Trouble.{Trouble}
-use Rattle.ocfl_tree.specs.declared.store.Trouble.TheVariants.{Device, Absent, Memory}
+use Rattle.ocfl_tree.specs.declared.store.Trouble.TheVariants.{Device}
 use Rattle.ocfl_memory.proofs.Listings.{kept_is_listing}
 use Rattle.ocfl_tree.proofs.Lists.{change_last-append}
 use Rattle.ocfl_tree.proofs.Trees.{some_not_none}
 
 module _ (nodes : StorageRoot) (o : Option OpenFile) (os : List Opening) (ls us : List Place) (f l : ℕ) (g h : Faults) where
+  -- what was added, with the listings among it that failed
+  did_so : (o' : Option OpenFile) (os' : List Opening) (ls' us' : List Place) (f' : ℕ) (h : Faults) (xs : List Opening) (ys zs : List Place) (n : ℕ) → os' ≡ os ++ xs → ls' ≡ ls ++ ys
+      → us' ≡ us ++ zs → f' ≡ f + n → ((q : Place) → IsAmong zs q → IsAmong ys q) → n ≡ failed_openings xs + length zs
+      → Did (seen nodes o os ls us f l g).store (seen nodes o' os' ls' us' f' l h).store xs ys n
+  did_so o' os' ls' us' f' h xs ys zs n opened listed noted more among each = record {
+    tree = refl;
+    openings_are = opened;
+    listings_are = listed;
+    failures_are = more;
+    failed = zs;
+    failed_are = noted;
+    failed_among = among;
+    each_failed = each;
+  }
+
   pub lists_seen : (ls' : List Place) (p : Place) (es : List Entry) → IsKept nodes os o → stands_at nodes p ≡ Some dir → es ≡ kept_in nodes p → ls' ≡ ls ++ p ∷ []
       → Lists (seen nodes o os ls us f l g).store (seen nodes o os ls' us f l h).store p es
   lists_seen ls' p es k is same added = record {
     entries = rw same (kept_is_listing nodes p (k.rooted p ∙ is));
-    did = record {
-      tree = refl;
-      openings_are = sym (append-nil os);
-      listings_are = added;
-      failures_are = omega arith;
-      failed = [];
-      failed_are = sym (append-nil us);
-      failed_among = λ q i. absurd i;
-      each_failed = refl;
-    };
+    did = did_so o os ls' us f h [] (p ∷ []) [] 0 (sym (append-nil os)) added (sym (append-nil us)) (omega arith) (λ q i. absurd i) refl;
     rest = refl;
     largest = refl;
-  }
-
-  fails_seen : (os' xs : List Opening) (ls' ys : List Place) (e : Trouble) → e ≢ Device → os' ≡ os → ls' ≡ ls → Fails (seen nodes o os ls us f l g).store (seen nodes None os' ls' us f l h).store xs ys e
-  fails_seen os' xs ls' ys Device apart so sl = absurd (apart refl)
-  fails_seen os' xs ls' ys Absent apart so sl = record {
-    did = record {
-      tree = refl;
-      openings_are = so ∙ sym (append-nil os);
-      listings_are = sl ∙ sym (append-nil ls);
-      failures_are = omega arith;
-      failed = [];
-      failed_are = sym (append-nil us);
-      failed_among = λ q i. i;
-      each_failed = refl;
-    };
-    closed = refl;
-    largest = refl;
-  }
-  fails_seen os' xs ls' ys Memory apart so sl = record {
-    did = record {
-      tree = refl;
-      openings_are = so ∙ sym (append-nil os);
-      listings_are = sl ∙ sym (append-nil ls);
-      failures_are = omega arith;
-      failed = [];
-      failed_are = sym (append-nil us);
-      failed_among = λ q i. i;
-      each_failed = refl;
-    };
-    closed = refl;
-    largest = refl;
-  }
-
-  pub list_fails_seen : (ls' : List Place) (p : Place) (e : Trouble) → IsKept nodes os o → e ≢ Device → (e ≡ Absent → stands_at nodes p ≢ Some dir) → ls' ≡ ls
-      → ListFails (seen nodes o os ls us f l g).store (seen nodes None os ls' us f l h).store p e
-  list_fails_seen ls' p e k apart absent sl = record {
-    fails = fails_seen os [] ls' (p ∷ []) e apart refl sl;
-    absent = λ is there. absent is (sym (k.rooted p) ∙ there);
   }
 
   pub list_breaks : (ls' us' : List Place) (p : Place) → ls' ≡ ls ++ p ∷ [] → us' ≡ us ++ p ∷ []
       → ListFails (seen nodes o os ls us f l g).store (seen nodes None os ls' us' (f + 1) l h).store p Device
   list_breaks ls' us' p added noted = record {
     fails = record {
-      did = record {
-        tree = refl;
-        openings_are = sym (append-nil os);
-        listings_are = added;
-        failures_are = refl;
-        failed = p ∷ [];
-        failed_are = noted;
-        failed_among = λ q i. i;
-        each_failed = refl;
-      };
+      did = did_so None os ls' us' (f + 1) h [] (p ∷ []) (p ∷ []) 1 (sym (append-nil os)) added noted refl (λ q i. i) refl;
       closed = refl;
       largest = refl;
     };
@@ -104,70 +64,20 @@ module _ (nodes : StorageRoot) (o : Option OpenFile) (os : List Opening) (ls us 
     bytes = bytes_in (leaf_at nodes i);
     is_file = k.rooted p ∙ is;
     rest = refl;
-    did = record {
-      tree = refl;
-      openings_are = added;
-      listings_are = sym (append-nil ls);
-      failures_are = omega arith;
-      failed = [];
-      failed_are = sym (append-nil us);
-      failed_among = λ q i. i;
-      each_failed = refl;
-    };
+    did = did_so (Some (record { index = i; offset = 0 })) os' ls us f h (opening p 0 false ∷ []) [] [] 0 added (sym (append-nil ls)) (sym (append-nil us)) (omega arith) (λ q j. absurd j)
+        refl;
     largest = refl;
-  }
-
-  pub open_fails_seen : (os' : List Opening) (p : Place) (e : Trouble) → IsKept nodes os o → e ≢ Device → (e ≡ Absent → (bytes : Text) → stands_at nodes p ≢ Some (file bytes)) → os' ≡ os
-      → OpenFails (seen nodes o os ls us f l g).store (seen nodes None os' ls us f l h).store p e
-  open_fails_seen os' p e k apart absent so = record {
-    fails = fails_seen os' (opening p 0 true ∷ []) ls [] e apart so refl;
-    absent = λ is bytes there. absent is bytes (sym (k.rooted p) ∙ there);
   }
 
   pub open_breaks : (os' : List Opening) (p : Place) → os' ≡ os ++ opening p 0 true ∷ [] → OpenFails (seen nodes o os ls us f l g).store (seen nodes None os' ls us (f + 1) l h).store p Device
   open_breaks os' p added = record {
     fails = record {
-      did = record {
-        tree = refl;
-        openings_are = added;
-        listings_are = sym (append-nil ls);
-        failures_are = refl;
-        failed = [];
-        failed_are = sym (append-nil us);
-        failed_among = λ q i. i;
-        each_failed = refl;
-      };
+      did = did_so None os' ls us (f + 1) h (opening p 0 true ∷ []) [] [] 1 added (sym (append-nil ls)) (sym (append-nil us)) refl (λ q i. i) refl;
       closed = refl;
       largest = refl;
     };
     absent = λ is. absurd cc;
   }
-
-  pub closes_seen : Closes (seen nodes o os ls us f l g).store (seen nodes None os ls us f l h).store
-  closes_seen = record {
-    did = record {
-      tree = refl;
-      openings_are = sym (append-nil os);
-      listings_are = sym (append-nil ls);
-      failures_are = omega arith;
-      failed = [];
-      failed_are = sym (append-nil us);
-      failed_among = λ q i. i;
-      each_failed = refl;
-    };
-    closed = refl;
-    largest = refl;
-  }
-
--- the open file's index is one of a file that is open
-pub kept_open : (nodes : StorageRoot) (os : List Opening) (i : ℕ) (o : Option OpenFile) (os' : List Opening) (p : Place) → IsKept nodes os o → i < length nodes
-    → os' ≡ os ++ opening p 0 false ∷ [] → IsKept nodes os' (Some (record { index = i; offset = 0 }))
-kept_open nodes os i o os' p k h added = record {
-  once = k.once;
-  rooted = k.rooted;
-  few = k.few;
-  reading = record { within = omega arith; index = h; front = os; last = opening p 0 false; is_last = added; given = refl };
-}
 
 -- ---- reads
 

@@ -147,9 +147,6 @@ lookup_left [] p q = none (begins p q)
     none false = refl
 lookup_left (e ∷ root) p q = by (begins p e.0) (place_eq e.0 q) refl refl (lookup_left root p q)
   where
-    left : StorageRoot
-    left = filter (is_left p) root
-
     by : (b c : Bool) → begins p e.0 ≡ b → place_eq e.0 q ≡ c → lookup (filter (is_left p) root) q ≡ cond (begins p q) None (lookup root q)
         → lookup (cond (not b) (e ∷ filter (is_left p) root) (filter (is_left p) root)) q ≡ cond (begins p q) None (cond c (Some e.1) (lookup root q))
     by true true h k more =

@@ -15,6 +15,7 @@ use Rattle.ocfl_audit.specs.Lines.{is_empty, notes}
 use Rattle.ocfl_audit.proofs.AuditExists.{seen_candidate}
 use Rattle.ocfl_audit.proofs.BelowLaws.{less_from}
 use Rattle.ocfl_audit.proofs.BetweenLaws.{directories, from_directory, from_object, looked_seen, objects, read_seen}
+use Rattle.ocfl_walk.proofs.FilterLaws.{left_whole}
 use Rattle.ocfl_walk.specs.Before.{directory_of, last_place, place_before, places_from}
 
 -- ---- the last of an ascending list is its greatest
@@ -126,10 +127,6 @@ filter_same : (f g : Place → Bool) (xs : List Place) → ((x : Place) → IsAm
 filter_same f g [] h = refl
 filter_same f g (x ∷ xs) h = (λ i. cond (h x (inl refl) i) (x ∷ filter f xs) (filter f xs)) ∙ ap (λ ys. cond (g x) (x ∷ ys) ys) (filter_same f g xs (λ y i. h y (inr i)))
 
-filter_all : (f : Place → Bool) (xs : List Place) → ((x : Place) → IsAmong xs x → f x ≡ true) → xs ≡ filter f xs
-filter_all f [] h = refl
-filter_all f (x ∷ xs) h = ap (λ ys. x ∷ ys) (filter_all f xs (λ y i. h y (inr i))) ∙ ap (λ b. cond b (x ∷ filter f xs) (filter f xs)) (sym (h x (inl refl)))
-
 -- two tests of a list, the one or the other first
 filter_swap : (f g : Place → Bool) (xs : List Place) → filter f (filter g xs) ≡ filter g (filter f xs)
 filter_swap f g [] = refl
@@ -158,7 +155,7 @@ module _ (root : StorageRoot) (p : Place) where
           go false e = over (is_lt (place_cmp x p)) refl e
 
       by : (o : Option Place) → place_before root p ≡ o → places_after ps o ≡ places_from p ps
-      by None e = filter_all (λ q. not (is_lt (place_cmp q p))) ps (λ x i. ap not (none_before root p e x (may x i)))
+      by None e = sym (left_whole (λ q. not (is_lt (place_cmp q p))) ps (λ x i. ap not (none_before root p e x (may x i))))
       by (Some q) e = filter_same (λ x. is_lt (place_cmp q x)) (λ x. not (is_lt (place_cmp x p))) ps (λ x i. same q (just_before root p q e) x (may x i))
 
   from_up_to : (ps : List Place) (to : Option Place) → up_to (places_from p ps) to ≡ places_from p (up_to ps to)

@@ -1,8 +1,10 @@
 -- The turn that is chosen, and what a stand is once listings of which nothing is left are let go.
 use Rattle.std.proofs.Common.{◌≡◌, ◌≢◌, ◌⊎◌, inl, inr, List, [], ◌∷◌, refl, sym, ◌∙◌, ap, subst, true, false, Bool, Option, Some, None, Result, Ok, Err, arith}
-use Rattle.std.specs.Prelude.{cond, IfOk}
+use Rattle.std.specs.declared.alloc.Global.{Global}
+use Rattle.std.specs.Prelude.{cond, IfOk, Vec}
 use Rattle.std.specs.Ordering.{is_lt}
 use Rattle.std.specs.declared.cmp.Ordering.TheVariants.{Less}
+use Rattle.arrayvec.specs.ArrayVec.{ArrayVec}
 use Rattle.ocfl_tree.specs.Place.{Place, place_cmp}
 use Rattle.ocfl_tree.specs.StorageRoot.{StorageRoot}
 use Rattle.ocfl_tree.specs.Store.{Store}
@@ -28,6 +30,9 @@ use Rattle.ocfl_walk.proofs.DueTurns.{turn_comes}
 use Rattle.ocfl_walk.proofs.OrderlyLaws.{fit_of, orderly_trimmed, size_trimmed}
 use Rattle.ocfl_walk.proofs.WalkCallLaws.{fails_out_nothing, fails_to_nothing}
 use Rattle.ocfl_walk.proofs.TurnLaws.{standing_trimmed}
+
+abbrev Listings : Type 0
+Listings = ArrayVec (Vec Entry Global)
 
 not_base : (o p : Option Place) → turn.Base ≡ turn_of o p → ⊥
 not_base None None e = cc
@@ -92,25 +97,29 @@ trimmed_twice (p ∷ ps) = by p.0 p.1 (trimmed_twice ps)
     by d [] h = h
     by d (e ∷ es) h = refl
 
-module _ (ps qs : List Pile) (a : Option Around) (is : qs ≡ trimmed ps) where
-  pub trim_stays : trimmed qs ≡ qs
-  trim_stays = ap trimmed is ∙ trimmed_twice ps ∙ sym is
+pub trim_stays : (ps qs : List Pile) → qs ≡ trimmed ps → trimmed qs ≡ qs
+trim_stays ps qs is = ap trimmed is ∙ trimmed_twice ps ∙ sym is
 
+module _ (ps qs : List Pile) (a : Option Around) (is : qs ≡ trimmed ps) where
   pub mid_orderly : (last : Option Place) → IsOrderlyIf last ps a → IsOrderlyIf last qs a
   mid_orderly last h = subst (λ xs. IsOrderlyIf last xs a) (sym is) (orderly_trimmed last ps a h)
 
-  pub mid_size : (last : Option Place) → size_of last qs a ≡ size_of last ps a
+  mid_size : (last : Option Place) → size_of last qs a ≡ size_of last ps a
   mid_size last = ap (λ xs. size_of last xs a) is ∙ size_trimmed last ps a
 
-  pub mid_stands : (root : StorageRoot) (p : Place) → IsStanding root p ps a → IsStanding root p qs a
-  mid_stands root p h = subst (λ xs. IsStanding root p xs a) (sym is) (standing_trimmed root p ps a h)
+-- the same walk without the listings that are empty
+pub mid_at : (root : StorageRoot) (old : Stand) (mid : Listings) → piles_in old.last mid.items ≡ trimmed (piles_in old.last old.listings.items) → (last : Option Place) → StandsAt root old last
+    → StandsAt root (record { listings = mid; around = old.around; last = old.last }) last
+mid_at root old mid is None st = st
+mid_at root old mid is (Some p) st = (st.0, subst (λ xs. IsStanding root p xs old.around) (sym is) (standing_trimmed root p (piles_in old.last old.listings.items) old.around st.1))
 
-  pub chosen_turn : (root : StorageRoot) (last : Option Place) (p : Place) (t : Turn) → last ≡ Some p → IsOrderlyIf last ps a → IsStanding root p ps a
-      → t ≡ turn_of (next_of qs) (path_from p a) → TurnIs root p qs t
-  chosen_turn root last p t l o h e =
-      let fit = fit_of p ps a (subst (λ x. IsOrderlyIf x ps a) l o) in
-      subst (λ xs. TurnIs root p xs t) (sym is)
-      (turn_comes root p ps a t h fit (e ∙ ap (λ xs. turn_of (next_of xs) (path_from p a)) is) (λ b. not_base (next_of qs) (path_from p a) (sym b ∙ e)))
+-- what the turn that is chosen comes to
+pub chosen_turn : (ps : List Pile) (a : Option Around) → trimmed ps ≡ ps → (root : StorageRoot) (last : Option Place) (p : Place) (t : Turn) → last ≡ Some p → IsOrderlyIf last ps a
+    → IsStanding root p ps a → t ≡ turn_of (next_of ps) (path_from p a) → TurnIs root p ps t
+chosen_turn ps a trim root last p t l o h e =
+    let fit = fit_of p ps a (subst (λ x. IsOrderlyIf x ps a) l o) in
+    subst (λ xs. TurnIs root p xs t) trim
+    (turn_comes root p ps a t h fit (e ∙ ap (λ xs. turn_of (next_of xs) (path_from p a)) (sym trim)) (λ b. not_base (next_of ps) (path_from p a) (sym b ∙ e)))
 
 pub sizes : (old mid : Stand) → mid.last ≡ old.last → mid.around ≡ old.around → piles_in mid.last mid.listings.items ≡ trimmed (piles_in old.last old.listings.items) → stand_size mid ≡ stand_size old
 unfolding stand_size

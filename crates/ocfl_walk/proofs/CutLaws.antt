@@ -1,5 +1,6 @@
 -- What is left of the listings at a directory where a walk goes on with one of its names.
 use Rattle.std.proofs.Common.{◌≡◌, ◌⊎◌, inl, inr, ℕ, suc, ◌*◌, ◌-◌, ◌^◌, ◌<◌, ◌≤◌, List, [], ◌∷◌, ◌++◌, refl, sym, ◌∙◌, ap, subst, true, false, Bool, map, filter, Option, Some, None, not, length, arith}
+use Rattle.std.proofs.lemmas.Bool.{not-true}
 use Rattle.std.proofs.lemmas.List.{append-nil}
 use Rattle.std.proofs.Math.Nat.{mul-le-mul_left, mul_comm}
 use Rattle.std.specs.Prelude.{cond, flat_map, nat_le}
@@ -9,6 +10,7 @@ use Rattle.std.specs.declared.cmp.Ordering.TheVariants.{Less, Equal, Greater}
 use Rattle.ocfl_tree.specs.Place.{Place, Text, text_cmp, place_cmp, begins}
 use Rattle.ocfl_tree.specs.Ascending.{IsAmong, IsBeforeAll}
 use Rattle.ocfl_tree.specs.StorageRoot.{StorageRoot, Leaf, dir}
+use Rattle.ocfl_tree.specs.Listing.{kind_at}
 use Rattle.ocfl_tree.specs.declared.store.Entry.{Entry}
 use Rattle.ocfl_tree.proofs.Orders.{place_cmp_total, place_cmp_exact, true_not_false, not_below_itself, ascending_unique, among_filter, among_from_filter, ascends_filter}
 use Rattle.ocfl_audit.specs.Audit.{candidates}
@@ -17,6 +19,7 @@ use Rattle.ocfl_audit.specs.Walk.{seen_names}
 use Rattle.ocfl_audit.specs.Zone.{inside, seen, table_at, zone}
 use Rattle.ocfl_audit.proofs.AuditExists.{object_at, object_key, path_candidate, seen_candidate, zone_is}
 use Rattle.ocfl_audit.proofs.BelowLaws.{above, above_self, begins_front, begins_rest, cmp_behind, from_append, from_flat_map, less_from, equal_itself}
+use Rattle.ocfl_audit.proofs.Lists.{map_filter}
 use Rattle.ocfl_audit.proofs.NextLaws.{same_above, seen_ascend, seen_from, seen_to}
 use Rattle.ocfl_audit.proofs.StackLaws.{entry_seen, stack_pops}
 use Rattle.ocfl_audit.proofs.Trails.{filter_append}
@@ -24,13 +27,13 @@ use Rattle.ocfl_audit.proofs.WayLaws.{head_seen, is_closed}
 use Rattle.ocfl_item.specs.Around.{IsTableAround}
 use Rattle.ocfl_item.specs.declared.meeting.Around.{Around}
 use Rattle.ocfl_item.proofs.LooksZones.{inside_step}
-use Rattle.ocfl_walk.specs.Standing.{AreEntries, HaveEntries, Pile, entry_weight, frames_of, size_of, weigh}
+use Rattle.ocfl_item.proofs.NameLaws.{names_of}
+use Rattle.ocfl_walk.specs.Standing.{HaveEntries, Pile, entry_weight, frames_of, size_of, weigh, levels}
 use Rattle.ocfl_walk.specs.Internal.Standing.{IsChain, IsOrderly, IsTurn, cut_top, from_name, next_in, next_of, popped, popped_from, trimmed}
 use Rattle.ocfl_walk.proofs.BeforeLaws.{IsJustBefore, below_from, not_below}
 use Rattle.ocfl_walk.proofs.DueTurns.{turn_by}
-use Rattle.ocfl_walk.proofs.EndLaws.{not_false}
 use Rattle.ocfl_walk.proofs.EntrySteps.{begins_last}
-use Rattle.ocfl_walk.proofs.KeepLaws.{names_of}
+use Rattle.ocfl_walk.proofs.FilterLaws.{left_all, left_fewer, left_whole}
 use Rattle.ocfl_walk.proofs.OrderlyLaws.{chain_on, orderly_trimmed, size_trimmed}
 use Rattle.ocfl_walk.proofs.StandLaws.{object_zone}
 use Rattle.ocfl_walk.proofs.TurnLaws.{entries_trimmed, left_trimmed, listed_trimmed}
@@ -44,21 +47,10 @@ is_from_place p x = not (is_lt (place_cmp x p))
 -- ---- the names that are kept
 
 kept_names : (n : Text) (es : List Entry) → names_of (from_name n es) ≡ filter (is_from_name n) (names_of es)
-kept_names n [] = refl
-kept_names n (e ∷ es) = by (is_from_name n e.name) (kept_names n es)
-  where
-    by : (b : Bool) → names_of (from_name n es) ≡ filter (is_from_name n) (names_of es)
-        → names_of (cond b (e ∷ from_name n es) (from_name n es)) ≡ cond b (e.name ∷ filter (is_from_name n) (names_of es)) (filter (is_from_name n) (names_of es))
-    by true h = ap (λ xs. e.name ∷ xs) h
-    by false h = h
+kept_names n es = sym (map_filter (is_from_name n) (λ (e : Entry). e.name) es)
 
 kept_fewer : (n : Text) (es : List Entry) → length (from_name n es) ≤ length es
-kept_fewer n [] = omega arith
-kept_fewer n (e ∷ es) = by (is_from_name n e.name) (kept_fewer n es)
-  where
-    by : (b : Bool) → length (from_name n es) ≤ length es → length (cond b (e ∷ from_name n es) (from_name n es)) ≤ length (e ∷ es)
-    by true h = omega (arith, h)
-    by false h = omega (arith, h)
+kept_fewer n es = left_fewer (λ (e : Entry). is_from_name n e.name) es
 
 kept_before : (d p : Place) (n : Text) (ns : List Text) → IsBeforeAll place_cmp p (map (λ m. d ++ m ∷ []) ns) → IsBeforeAll place_cmp p (map (λ m. d ++ m ∷ []) (filter (is_from_name n) ns))
 kept_before d p n [] h = tt
@@ -97,11 +89,7 @@ module _ (xs : List Place) where
 
   -- so that all of it is not less
   chain_kept : (p : Place) (k : ℕ) (fs : List Frame) → IsChain p k fs → seen_left xs fs ≡ filter (is_from_place p) (seen_left xs fs)
-  chain_kept p k fs c = all (seen_left xs fs) (λ x i. ap not (not_below p x (chain_over p k fs c x i)))
-    where
-      all : (ys : List Place) → ((x : Place) → IsAmong ys x → is_from_place p x ≡ true) → ys ≡ filter (is_from_place p) ys
-      all [] h = refl
-      all (y ∷ ys) h = ap (λ zs. y ∷ zs) (all ys (λ x i. h x (inr i))) ∙ ap (λ b. cond b (y ∷ filter (is_from_place p) ys) (filter (is_from_place p) ys)) (sym (h y (inl refl)))
+  chain_kept p k fs c = sym (left_whole (is_from_place p) (seen_left xs fs) (λ x i. ap not (not_below p x (chain_over p k fs c x i))))
 
   -- ---- what the names from n on lead to is what is not less than d ++ n
 
@@ -170,7 +158,7 @@ module _ (k : ℕ) (n : Text) where
     where
       by : (b : Bool) → IsOrderly d (cond b ((x.0, from_name n x.1) ∷ ps) (x ∷ ps)) a
       by true = record {
-        chain = subst (λ ns. IsChain d 128 ((x.0, ns) ∷ frames_of ps)) (sym (kept_names n x.1))
+        chain = subst (λ ns. IsChain d levels ((x.0, ns) ∷ frames_of ps)) (sym (kept_names n x.1))
             (h.chain.0, h.chain.1, kept_before x.0 d n (names_of x.1) h.chain.2, ascends_filter text_cmp (is_from_name n) (names_of x.1) h.chain.3, h.chain.4);
         few = (let f = kept_fewer n x.1 in omega (arith, f, h.few.0), h.few.1);
         object = h.object;
@@ -183,7 +171,7 @@ module _ (k : ℕ) (n : Text) where
     where
       by : (b : Bool) → weigh w (cond b ((x.0, from_name n x.1) ∷ ps) (x ∷ ps)) ≤ weigh w (x ∷ ps)
       by true =
-          let v : ℕ = w ^ (128 - length ps) in
+          let v : ℕ = w ^ (levels - length ps) in
           let m : v * length (from_name n x.1) ≤ v * length x.1 = mul-le-mul_left v (kept_fewer n x.1) in
           let l = mul_comm v (length (from_name n x.1)) in
           let r = mul_comm v (length x.1) in
@@ -215,16 +203,8 @@ module _ (root : StorageRoot) (k : ℕ) (n : Text) where
   cut_entries [] h = h
   cut_entries (x ∷ ps) h = by (nat_le k (length ps))
     where
-      kept : (es : List Entry) → AreEntries root x.0 es → AreEntries root x.0 (from_name n es)
-      kept [] g = tt
-      kept (e ∷ es) g = go (is_from_name n e.name) (kept es g.1)
-        where
-          go : (b : Bool) → AreEntries root x.0 (from_name n es) → AreEntries root x.0 (cond b (e ∷ from_name n es) (from_name n es))
-          go true f = (g.0, f)
-          go false f = f
-
       by : (b : Bool) → HaveEntries root (cond b ((x.0, from_name n x.1) ∷ ps) (x ∷ ps))
-      by true = (kept x.1 h.0, h.1)
+      by true = (left_all (λ (e : Entry). is_from_name n e.name) (λ e. kind_at root x.0 e.name ≡ Some e.kind) x.1 h.0, h.1)
       by false = h
 
   pub listed_cut : (ps : List Pile) → IsListed root (frames_of ps) → IsListed root (frames_of (trimmed (cut_top k n ps)))
@@ -254,7 +234,7 @@ module _ (root : StorageRoot) (d : Place) (n : Text) (q : Place) (j : IsJustBefo
       to z i =
           let k = among_from_filter (is_from_place p) (filter (above d) xs) z i in
           let l = among_from_filter (above d) xs z k.0 in
-          among_filter (above q) xs z l.0 (ap is_lt (below_from q p z j.less (not_false (is_lt (place_cmp z p)) k.1)))
+          among_filter (above q) xs z l.0 (ap is_lt (below_from q p z j.less (not-true (is_lt (place_cmp z p)) k.1)))
 
       from : (z : Place) → IsAmong (filter (above q) xs) z → IsAmong (filter (is_from_place p) (filter (above d) xs)) z
       from z i =
@@ -320,7 +300,7 @@ module _ (root : StorageRoot) (d : Place) (n : Text) (q : Place) (j : IsJustBefo
   -- to p itself, where no entry is
   module _ (ps : List Pile) (a : Option Around) (h : IsOrderly p ps a) (st : IsStack root q (frames_of ps)) where
     ahead : (x : Place) → IsAmong xs x → place_cmp q x ≡ Less → place_cmp p x ≡ Less
-    ahead x i l = chain_over xs p 128 (frames_of ps) h.chain x (subst (λ ys. IsAmong ys x) (sym st) (among_filter (above q) xs x i (ap is_lt l)))
+    ahead x i l = chain_over xs p levels (frames_of ps) h.chain x (subst (λ ys. IsAmong ys x) (sym st) (among_filter (above q) xs x i (ap is_lt l)))
 
     pub turn_path : IsListed root (frames_of ps) → IsTurn root q p (frames_of ps)
     turn_path listed = turn_low p (ap is_lt (equal_itself place_cmp_total p)) (frames_of ps) j.less

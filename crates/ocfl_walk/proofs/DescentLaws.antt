@@ -101,8 +101,12 @@ module _ (root : StorageRoot) where
       → NamesFailed root s u why (calls_then s t u (failures_by why) h g)
   failed_then s t u why h g k = λ q e. let f = k q e in (f.0, failed_behind root s t u h.listings g.listings h.trail g.trail q (h.read refl) (listed_well s t h.trail h.listings 0 (omega arith) h.did) f.1)
 
+  -- directories were listed, and nothing was opened
+  abbrev pub lists_calls : (s t : Store) (listings : List Place) (f : ℕ) → s.tree ≡ root → Did s t [] listings f → Calls root s t f
+  lists_calls s t listings f over did = record { over = over; trail = []; listings = listings; did = did; read = λ e. refl; meta = refl; reached = refl }
+
   abbrev pub no_calls : (s t : Store) → s.tree ≡ root → Did s t [] [] 0 → Calls root s t 0
-  no_calls s t over did = record { over = over; trail = []; listings = []; did = did; read = λ e. refl; meta = refl; reached = refl }
+  no_calls s t over did = lists_calls s t [] 0 over did
 
   abbrev pub descends_on : (s t u : Store) (way more more' may left left' : List Place) (f : ℕ) → Descends root s t way more may left 0
       → Descends root t u more more' left left' f → Descends root s u way more' may left' f
@@ -140,7 +144,7 @@ module _ (root : StorageRoot) where
   -- one directory was listed
   abbrev pub descends_one : (s t : Store) (d : Place) (way may : List Place) → s.tree ≡ root → Did s t [] (d ∷ []) 0 → Descends root s t (d ∷ way) way may may 0
   descends_one s t d way may over did = record {
-    calls = record { over = over; trail = []; listings = d ∷ []; did = did; read = λ e. refl; meta = refl; reached = refl };
+    calls = lists_calls s t (d ∷ []) 0 over did;
     only = refl;
     listed = ([], sym (append-nil (d ∷ way)));
     heads = ([], sym (append-nil may));
@@ -168,7 +172,7 @@ module _ (root : StorageRoot) where
       (h.goes.listed.0 ++ way, ap (λ x. x ++ way) h.goes.listed.1 ∙ append_assoc h.goes.listings h.goes.listed.0 way ∙ ap (λ x. x ++ (h.goes.listed.0 ++ way)) (sym (append-nil h.goes.listings))) in
       record {
         goes = record {
-          calls = record { over = h.goes.over; trail = []; listings = h.goes.listings; did = h.goes.did; read = λ e. refl; meta = refl; reached = refl };
+          calls = lists_calls s t h.goes.listings (failures_by why) h.goes.over h.goes.did;
           only = refl;
           listed = listed;
           heads = (may, refl);

@@ -1,5 +1,6 @@
 -- One name further down, on the way to a place.
 use Rattle.std.proofs.Common.{◌≡◌, ℕ, List, [], ◌∷◌, ◌++◌, refl, sym, ◌∙◌, ap, subst, true, false, Bool, Option, Some, None}
+use Rattle.std.proofs.lemmas.Bool.{and_right, not-false}
 use Rattle.std.proofs.lemmas.List.{append-nil}
 use Rattle.std.specs.Prelude.{cond, ◌&&◌, ◌||◌, not, Ok, Err}
 use Rattle.ocfl_tree.specs.Place.{Text, Place}
@@ -22,21 +23,13 @@ use Rattle.ocfl_tree.proofs.Orders.{true_not_false}
 use Rattle.ocfl_audit.proofs.AuditExists.{append_one}
 use Rattle.ocfl_audit.proofs.StepLaws.{reached_step, listed_step}
 use Rattle.ocfl_item.proofs.LooksZones.{inside_on, inside_step, not_entered, out_of_zone, open_object, reach_on, entered_from, is_plain, plain_below, plain_extensions}
-use Rattle.ocfl_walk.proofs.DescentLaws.{both_inventories, calls_then, failed_then, descends_not, descends_one, descends_end, listing_fails, plain_table}
+use Rattle.ocfl_walk.proofs.DescentLaws.{both_inventories, calls_then, failed_then, descends_not, descends_one, descends_end, listing_fails, lists_calls, plain_table}
 use Rattle.ocfl_walk.proofs.ReachLaws.{comes_shut}
 use Rattle.ocfl_item.proofs.AuditingLaws.{near_none, near_within}
 
-is_not : (b : Bool) → false ≡ not b → b ≡ true
-is_not true h = refl
-is_not false h = absurd (true_not_false (sym h))
-
-and_false : (a b : Bool) → b ≡ false → a && b ≡ false
-and_false true b h = h
-and_false false b h = refl
-
 module _ (root : StorageRoot) where
   shut_out : (d : Place) (n : Text) → is_entered root (d ++ n ∷ []) ≡ false → is_reached root (d ++ n ∷ []) ≡ false
-  shut_out d n h = reached_step root d n ∙ and_false (is_reached root d) (is_entered root (d ++ n ∷ [])) h
+  shut_out d n h = reached_step root d n ∙ and_right (is_reached root d) (is_entered root (d ++ n ∷ [])) h
 
   -- where there is no object
   shut_plain : (d : Place) (n : Text) (r : Place) → is_entered root (d ++ n ∷ []) ≡ false → is_plain (zone root (d ++ n ∷ r)) ≡ true → IsShut root d n r None
@@ -91,7 +84,7 @@ module _ (root : StorageRoot) where
   -- where a name does not lead on
   pub shut_off : (d : Place) (n : Text) (r : Place) (x : Option Around) → IsPart root d x → LeadsOn root d n x false → IsShut root d n r x
   shut_off d n r None z h =
-      let e : is_extensions_name d n ≡ true = is_not (is_extensions_name d n) h in
+      let e : is_extensions_name d n ≡ true = not-false (is_extensions_name d n) (sym h) in
       shut_plain d n r (extensions_out d n e) (plain_extensions root d r n z e)
   shut_off d n r (Some a) p h = record { out = shut_out d n (out_of_zone root (d ++ n ∷ []) (zone_next d n a p false h)); table = table_below d n a p r }
 
@@ -135,7 +128,7 @@ module _ (root : StorageRoot) where
 
     abbrev came : Descends root s t (way_below d (n ∷ r)) rest (may_open None (zone root (d ++ n ∷ r))) ((d ++ n ∷ []) ∷ []) 0
     came = record {
-      calls = record { over = over; trail = []; listings = (d ++ n ∷ []) ∷ []; did = did; read = λ e. refl; meta = refl; reached = refl };
+      calls = lists_calls root s t ((d ++ n ∷ []) ∷ []) 0 over did;
       only = refl;
       listed = ([], sym (append-nil ((d ++ n ∷ []) ∷ rest)));
       heads = subst (IsFront ((d ++ n ∷ []) ∷ [])) (sym may_is) ([], refl);

@@ -1,5 +1,6 @@
 -- What lies past the end of a walk.
-use Rattle.std.proofs.Common.{◌≡◌, ◌≢◌, inl, inr, List, [], ◌∷◌, ◌++◌, refl, sym, ◌∙◌, ap, subst, true, false, Bool, Option, Some, None}
+use Rattle.std.proofs.Common.{◌≡◌, ◌≢◌, List, [], ◌∷◌, ◌++◌, refl, sym, ◌∙◌, ap, subst, true, false, Bool, Option, Some, None}
+use Rattle.std.proofs.lemmas.Bool.{not-true, or_right}
 use Rattle.std.proofs.lemmas.List.{append-nil}
 use Rattle.std.specs.Prelude.{cond, not, ◌&&◌, ◌||◌}
 use Rattle.std.specs.Ordering.{is_lt, is_eq, ordering_then}
@@ -19,6 +20,7 @@ use Rattle.ocfl_audit.specs.Stack.{NoneSeenBetween}
 use Rattle.ocfl_audit.proofs.BelowLaws.{less_from, begins_rest, text_cmp_total, text_cmp_exact}
 use Rattle.ocfl_audit.proofs.BetweenLaws.{between_on, directories, directories_ascend, from_between, from_directory, from_object, looked_seen, objects, objects_ascend, read_seen}
 use Rattle.ocfl_audit.proofs.Trails.{filter_append}
+use Rattle.ocfl_walk.proofs.FilterLaws.{left_whole, left_nothing}
 use Rattle.ocfl_walk.specs.Ends.{is_above_branch, is_at_bound, is_past, before_end}
 use Rattle.ocfl_walk.specs.declared.end.End.{End}
 
@@ -40,10 +42,6 @@ begins_between (m ∷ u) q r (c ∷ x) h k = by (text_cmp m c) refl (text_cmp c 
     by Equal e Greater f g i j = absurd cc
     by Greater e v f g i j = absurd cc
 
-pub not_false : (b : Bool) → not b ≡ true → b ≡ false
-not_false true h = absurd (true_not_false (sym h))
-not_false false h = refl
-
 branch_up : (u x y : Place) → is_above_branch u x ≡ true → place_cmp x y ≡ Less → is_above_branch u y ≡ true
 branch_up u x y h l = and_both (is_lt (place_cmp u y)) (not (begins u y)) (ap is_lt (place_cmp_total.trans u x y over l)) (ap not (apart (begins u y) refl))
   where
@@ -51,7 +49,7 @@ branch_up u x y h l = and_both (is_lt (place_cmp u y)) (not (begins u y)) (ap is
     over = less_from _ (and_first (is_lt (place_cmp u x)) (not (begins u x)) h)
 
     out : begins u x ≡ false
-    out = not_false (begins u x) (and_second (is_lt (place_cmp u x)) (not (begins u x)) h)
+    out = not-true (begins u x) (and_second (is_lt (place_cmp u x)) (not (begins u x)) h)
 
     apart : (b : Bool) → begins u y ≡ b → begins u y ≡ false
     apart false e = e
@@ -63,23 +61,16 @@ bound_up None x y h l = h
 bound_up (Some b) x y h l = by (place_cmp y b) refl
   where
     by : (r : Ordering) → place_cmp y b ≡ r → not (is_lt r) ≡ true
-    by Less e = absurd (true_not_false (sym (ap is_lt (place_cmp_total.trans x y b l e)) ∙ not_false (is_lt (place_cmp x b)) h))
+    by Less e = absurd (true_not_false (sym (ap is_lt (place_cmp_total.trans x y b l e)) ∙ not-true (is_lt (place_cmp x b)) h))
     by Equal e = refl
     by Greater e = refl
 
 pub past_up : (e : End) (x y : Place) → is_past e x ≡ true → place_cmp x y ≡ Less → is_past e y ≡ true
 past_up e x y h l = by (is_above_branch e.under x) refl (is_at_bound e.below x) refl h
   where
-    first : (b : Bool) → true || b ≡ true
-    first b = refl
-
-    second : (a b : Bool) → b ≡ true → a || b ≡ true
-    second true b k = refl
-    second false b k = k
-
     by : (a : Bool) → is_above_branch e.under x ≡ a → (b : Bool) → is_at_bound e.below x ≡ b → a || b ≡ true → is_past e y ≡ true
     by true f b g k = ap (λ a. a || is_at_bound e.below y) (branch_up e.under x y f l)
-    by false f true g k = second (is_above_branch e.under y) (is_at_bound e.below y) (bound_up e.below x y g l)
+    by false f true g k = or_right (is_above_branch e.under y) (is_at_bound e.below y) (bound_up e.below x y g l)
     by false f false g k = absurd (true_not_false (sym k))
 
 -- what is not above a place that is not past the end is not past it either
@@ -99,12 +90,10 @@ not_past_down e b y n u = by (is_past e y) refl
 
 module _ (e : End) where
   none_left : (xs : List Place) → ((y : Place) → IsAmong xs y → is_past e y ≡ true) → before_end e xs ≡ []
-  none_left [] h = refl
-  none_left (x ∷ xs) h = ap (λ b. cond (not b) (x ∷ before_end e xs) (before_end e xs)) (h x (inl refl)) ∙ none_left xs (λ y i. h y (inr i))
+  none_left xs h = left_nothing (λ z. not (is_past e z)) xs (λ y i. ap not (h y i))
 
   pub all_left : (xs : List Place) → ((y : Place) → IsAmong xs y → is_past e y ≡ false) → before_end e xs ≡ xs
-  all_left [] h = refl
-  all_left (x ∷ xs) h = ap (λ b. cond (not b) (x ∷ before_end e xs) (before_end e xs)) (h x (inl refl)) ∙ ap (λ ys. x ∷ ys) (all_left xs (λ y i. h y (inr i)))
+  all_left xs h = left_whole (λ z. not (is_past e z)) xs (λ y i. ap not (h y i))
 
   module _ (ps : List Place) where
     pub over : (from : Option Place) → ((y : Place) → IsAmong ps y → IsBeyond from y → is_past e y ≡ true) → before_end e (between ps from None) ≡ []

@@ -17,7 +17,6 @@ use Rattle.ocfl_item.specs.Looking.{way_to}
 use Rattle.ocfl_item.specs.Ways.{Enters, IsHead, Stops, way_below}
 use Rattle.ocfl_walk.specs.Standing.{IsStanding, Pile, StandsAt, folders_from, piles_in, piles_of, spot_of}
 use Rattle.ocfl_walk.specs.Internal.Standing.{IsOrderly, IsOrderlyIf, IsOrderlyStand}
-use Rattle.ocfl_walk.specs.WalkCalls.{holder_of}
 use Rattle.ocfl_walk.specs.Internal.Entering.{Comes, Descends, DescendFails, IsBrought, IsComing, ListsRoot, Starts, StartFails, may_open}
 use Rattle.ocfl_walk.specs.WalkCalls.{holder_of}
 use Rattle.ocfl_item.specs.declared.fault.Fault.{Fault}
@@ -30,7 +29,7 @@ use Rattle.ocfl_walk.specs.declared.stand.Stand.{Stand}
 use Rattle.ocfl_walk.proofs.PlacedLaws.{folders_none}
 use Rattle.ocfl_item.proofs.AuditingLaws.{near_none}
 use Rattle.ocfl_walk.proofs.ReachLaws.{comes_on, none_reached}
-use Rattle.ocfl_walk.proofs.DescentLaws.{descends_end, descent_fails_on, descent_memory, listing_fails, plain_table}
+use Rattle.ocfl_walk.proofs.DescentLaws.{descends_end, descent_fails_on, descent_memory, listing_fails, lists_calls, plain_table}
 use Rattle.ocfl_item.proofs.LooksCalls.{head_unknown, root_entered, way_is}
 use Rattle.ocfl_item.proofs.LooksZones.{declared_root, out_of_zone, plain_unknown}
 use Rattle.ocfl_audit.proofs.StackLaws.{stack_starts, start_stops}
@@ -86,7 +85,7 @@ module _ (root : StorageRoot) where
   module _ (s t : Store) (p : Place) (over : s.tree ≡ root) (did : Did s t [] ([] ∷ []) 0) where
     abbrev pub came : Descends root s t (way_to p) (way_below [] p) (holder_of (zone root p)) (holder_of (zone root p)) 0
     came = record {
-      calls = record { over = over; trail = []; listings = [] ∷ []; did = did; read = λ e. refl; meta = refl; reached = refl };
+      calls = lists_calls root s t ([] ∷ []) 0 over did;
       only = refl;
       listed = ([], way_is p ∙ sym (append-nil ([] ∷ way_below [] p)));
       heads = ([], sym (append-nil (holder_of (zone root p))));

@@ -1,5 +1,5 @@
 -- The first step of a walk that begins at a place.
-use Rattle.std.proofs.Common.{◌≡◌, ◌≢◌, ℕ, ◌<◌, ◌≤◌, [], ◌∷◌, ◌++◌, refl, sym, ◌∙◌, ap, subst, true, false, Option, Some, None, Result, Ok, Err, length, arith}
+use Rattle.std.proofs.Common.{◌≡◌, ◌≢◌, ◌<◌, ◌≤◌, [], ◌∷◌, ◌++◌, refl, sym, ◌∙◌, ap, subst, true, false, Option, Some, None, Result, Ok, Err, length, arith}
 use Rattle.std.specs.declared.alloc.Global.{Global}
 use Rattle.std.specs.Prelude.{IfOk, IfSome, Vec}
 use Rattle.std.specs.Ordering.{is_lt}
@@ -133,16 +133,13 @@ module _ (old : Stand) (d : Place) (n : Text) (mid : Listings) (there : old.last
       (cut_size (length d) n d (piles_in old.last old.listings.items) old.around))
 
   pub cut_trims : trimmed (piles_in old.last mid.items) ≡ piles_in old.last mid.items
-  cut_trims = trim_stays (cut_top (length d) n (piles_in old.last old.listings.items)) (piles_in old.last mid.items) old.around is
-
-  pub cut_begun : old.last ≢ None
-  cut_begun e = let two : Some d ≡ None = sym there ∙ e in cc
+  cut_trims = trim_stays (cut_top (length d) n (piles_in old.last old.listings.items)) (piles_in old.last mid.items) is
 
   pub cut_next : (o : Option Place) → IsBelowNext (d ++ n ∷ []) o → o ≡ next_of (piles_in old.last mid.items)
       → IfSome old.last (λ last. (place_cmp last (d ++ n ∷ []) ≡ Less) × IsAroundIf (d ++ n ∷ []) old.around × IsBelowNext (d ++ n ∷ []) (next_of (piles_in old.last mid.items)))
   cut_next o low same =
       subst (λ l. IfSome l (λ last. (place_cmp last (d ++ n ∷ []) ≡ Less) × IsAroundIf (d ++ n ∷ []) old.around × IsBelowNext (d ++ n ∷ []) (next_of (piles_in old.last mid.items)))) (sym there)
-      (above_self d n [], around_on d n old.around here.object, subst (IsBelowNext (d ++ n ∷ [])) same low)
+      (above_self d n [], around_on d n [] old.around here.object, subst (IsBelowNext (d ++ n ∷ [])) same low)
 
   pub missing_next : (x : Place) → x ≡ d ++ n ∷ [] → (o : Option Place) → IsBelowNext x o → o ≡ next_of (piles_at d mid.items)
       → IfSome old.last (λ last. (place_cmp last x ≡ Less) × IsAroundIf x old.around × IsBelowNext x (next_of (piles_in old.last mid.items)))
@@ -177,7 +174,7 @@ module _ (old : Stand) (d : Place) (n : Text) (mid : Listings) (there : old.last
       orderly_there =
           orderly_on d (d ++ n ∷ []) (piles_in old.last mid.items) old.around
           (subst (λ ps. IsOrderly d ps old.around) (sym is) (cut_trimmed (length d) n d (piles_in old.last old.listings.items) old.around here)) (above_self d n [])
-          (around_on d n old.around here.object) cut_trims (subst (IsBelowNext (d ++ n ∷ [])) same low)
+          (around_on d n [] old.around here.object) cut_trims (subst (IsBelowNext (d ++ n ∷ [])) same low)
 
       pub cut_unseen : seen root (d ++ n ∷ []) ≡ None
       cut_unseen = path_unseen root d n q j (piles_in old.last mid.items) old.around orderly_there stands
@@ -197,12 +194,6 @@ module _ (old : Stand) (d : Place) (n : Text) (mid : Listings) (there : old.last
     missing_turn x own o low same =
         subst (λ y. IsBelowNext y o → IsHeld root y (piles_in old.last mid.items) old.around × IsTurn root q y (frames_of (piles_in old.last mid.items)) × (seen root y ≡ None)) (sym own)
         (λ l. let e = same ∙ sym (ap (λ k. next_of (piles_in k mid.items)) there) in (cut_held_there o l e, cut_to_path o l e, cut_unseen o l e)) low
-
--- the listings once those before the name are let go
-pub mid_is : (p : Place) (old mid new : Listings) (k : ℕ) (d : Place) (n : Text) → ((q : Place) → piles_at q mid.items ≡ cut_top k n (piles_at q old.items))
-    → ((q : Place) → piles_at q new.items ≡ trimmed (piles_at q mid.items)) → k ≡ length d
-    → piles_at p new.items ≡ trimmed (cut_top (length d) n (piles_at p old.items))
-mid_is p old mid new k d n cuts trims deep = trims p ∙ ap trimmed (cuts p) ∙ ap (λ j. trimmed (cut_top j n (piles_at p old.items))) deep
 
 -- the directory after which a walk stands
 pub one_directory : (last : Option Place) (d c : Place) → last ≡ Some d → last ≡ Some c → d ≡ c

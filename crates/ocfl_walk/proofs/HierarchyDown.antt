@@ -12,7 +12,7 @@ use Rattle.ocfl_inventory.specs.declared.declaration.Declared.{Declared as MadeD
 use Rattle.ocfl_inventory.specs.declared.declaration.Declared.TheVariants as made
 use Rattle.ocfl_inventory.specs.declared.declaration.Version.{Version}
 use Rattle.ocfl_inventory.specs.declared.declaration.Level.TheVariants as level
-use Rattle.ocfl_audit.specs.Zone.{inside, table_at, zone, is_known}
+use Rattle.ocfl_audit.specs.Zone.{inside, table_at, zone, is_known, max_listed_depth}
 use Rattle.ocfl_item.specs.Ways.{InHierarchy, IsObject}
 use Rattle.ocfl_item.specs.Internal.Ways.{IsDeclared}
 use Rattle.ocfl_item.specs.Meeting.{IsFairFolder}
@@ -33,7 +33,7 @@ fair_object e f a k h = (
   h,
   record {
     holds = subst (λ p. begins p e ≡ true) (sym (k.0 ∙ h.place)) (begins_own e);
-    depth = subst (λ p. length p ≤ 127) (sym (k.0 ∙ h.place)) h.depth;
+    depth = subst (λ p. length p ≤ max_listed_depth) (sym (k.0 ∙ h.place)) h.depth;
     fit = k.1;
   },
 )

@@ -1,5 +1,5 @@
 -- What of a sorted listing lies above a name.
-use Rattle.std.proofs.Common.{◌≡◌, ◌≤◌, ◌-◌, List, [], ◌∷◌, ◌++◌, refl, sym, ◌∙◌, ap, subst, true, false, Bool, Option, Some, None, map, filter, length, arith}
+use Rattle.std.proofs.Common.{◌≡◌, ◌-◌, List, [], ◌∷◌, ◌++◌, refl, sym, ◌∙◌, ap, subst, true, false, Bool, Option, Some, None, filter, length}
 use Rattle.std.proofs.lemmas.List.{append-nil}
 use Rattle.std.specs.Prelude.{cond, slice_get}
 use Rattle.std.specs.Option.{option_to_list}
@@ -8,12 +8,10 @@ use Rattle.std.specs.declared.cmp.Ordering.TheVariants.{Less}
 use Rattle.ocfl_tree.specs.Place.{Text, text_cmp}
 use Rattle.ocfl_tree.specs.Ascending.{IsAscending, IsBeforeAll}
 use Rattle.ocfl_tree.specs.declared.store.Entry.{Entry}
+use Rattle.ocfl_item.proofs.NameLaws.{names_of}
 use Rattle.ocfl_walk.specs.Standing.{back}
 use Rattle.ocfl_walk.proofs.Backs.{back_push, last_split}
 use Rattle.ocfl_audit.proofs.BelowLaws.{text_cmp_total, less_from}
-
-abbrev pub names_of : List Entry → List Text
-names_of es = map (λ e. e.name) es
 
 abbrev pub left_above : Text → List Entry → List Entry
 left_above n es = filter (λ e. is_lt (text_cmp n e.name)) es
@@ -58,22 +56,3 @@ keep_drop n es ys (Some x) e last h a l =
       (subst (λ xs. IsAscending text_cmp (names_of xs)) two a).1,
       ap (λ b. cond b (x ∷ left_above n (back (λ x. x) ys)) (left_above n (back (λ x. x) ys))) (sym out) ∙ ap (left_above n) (sym two),
     )
-
--- ---- the names of what is left
-
-pub above_names : (n : Text) (es : List Entry) → names_of (left_above n es) ≡ filter (λ m. is_lt (text_cmp n m)) (names_of es)
-above_names n [] = refl
-above_names n (e ∷ es) = by (is_lt (text_cmp n e.name)) (above_names n es)
-  where
-    by : (b : Bool) → names_of (left_above n es) ≡ filter (λ m. is_lt (text_cmp n m)) (names_of es)
-        → names_of (cond b (e ∷ left_above n es) (left_above n es)) ≡ cond b (e.name ∷ filter (λ m. is_lt (text_cmp n m)) (names_of es)) (filter (λ m. is_lt (text_cmp n m)) (names_of es))
-    by true h = ap (λ xs. e.name ∷ xs) h
-    by false h = h
-
-pub above_fewer : (n : Text) (es : List Entry) → length (left_above n es) ≤ length es
-above_fewer n [] = omega arith
-above_fewer n (e ∷ es) = by (is_lt (text_cmp n e.name)) (above_fewer n es)
-  where
-    by : (b : Bool) → length (left_above n es) ≤ length es → length (cond b (e ∷ left_above n es) (left_above n es)) ≤ length (e ∷ es)
-    by true h = omega (arith, h)
-    by false h = omega (arith, h)

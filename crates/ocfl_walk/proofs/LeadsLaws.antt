@@ -18,9 +18,9 @@ use Rattle.ocfl_item.specs.declared.meeting.Around.{Around}
 use Rattle.ocfl_tree.proofs.Bools.{and_first, and_second}
 use Rattle.ocfl_audit.proofs.AuditExists.{zone_is}
 
-pub may_depth : (d : Place) (n : Text) (b : Bool) → nat_le (suc (length d)) max_listed_depth && b ≡ true → length (d ++ n ∷ []) ≤ 127
+pub may_depth : (d : Place) (n : Text) (b : Bool) → nat_le (suc (length d)) max_listed_depth && b ≡ true → length (d ++ n ∷ []) ≤ max_listed_depth
 may_depth d n b h =
-    let k : suc (length d) ≤ 127 = leb-true (suc (length d)) 127 (and_first (nat_le (suc (length d)) max_listed_depth) b h) in
+    let k : suc (length d) ≤ max_listed_depth = leb-true (suc (length d)) max_listed_depth (and_first (nat_le (suc (length d)) max_listed_depth) b h) in
     omega (arith, k, length-append d (n ∷ []))
 
 around_here : (d : Place) (x : Option Around) (a : Around) → x ≡ Some a → IsAroundIf d x → IsAround d a
@@ -32,9 +32,9 @@ not_deeper d x a is h =
     omega (arith, ap length r.1, length-append a.place r.0)
 
 -- an object that holds a directory holds what lies in it
-pub around_on : (d : Place) (n : Text) (x : Option Around) → IsAroundIf d x → IsAroundIf (d ++ n ∷ []) x
-around_on d n None h = tt
-around_on d n (Some a) h = record { holds = begins_on a.place d (d ++ n ∷ []) h.holds (begins_front d (n ∷ [])); depth = h.depth; fit = h.fit }
+pub around_on : (d : Place) (n : Text) (r : Place) (x : Option Around) → IsAroundIf d x → IsAroundIf (d ++ n ∷ r) x
+around_on d n r None h = tt
+around_on d n r (Some a) h = record { holds = begins_on a.place d (d ++ n ∷ r) h.holds (begins_front d (n ∷ r)); depth = h.depth; fit = h.fit }
 
 module _ (root : StorageRoot) (d : Place) (n : Text) (es : List Entry) (a : Around) (at : IsAt root d es) (s : Place)
     (z : zone root d ≡ inside a.place s) (t : table_at root a.place ≡ Some a.table) where

@@ -13,6 +13,7 @@ pub mod PathSteps
 pub mod MeetLaws
 pub mod ListingLaws
 pub mod StartLaws
+pub mod FilterLaws
 pub mod KeepLaws
 pub mod DescentLaws
 pub mod DownLaws

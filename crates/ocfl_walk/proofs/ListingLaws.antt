@@ -1,12 +1,12 @@
 -- A listing that is sorted backwards, and taken from its end.
-use Rattle.std.proofs.Common.{◌≡◌, inl, inr, ℕ, suc, ◌+◌, ◌≤◌, List, [], ◌∷◌, ◌++◌, refl, sym, ◌∙◌, ap, subst, true, false, Bool, Option, Some, None, arith, length, All, IsPermutation}
+use Rattle.std.proofs.Common.{◌≡◌, inl, inr, ℕ, suc, ◌+◌, ◌≤◌, List, [], ◌∷◌, ◌++◌, refl, sym, ◌∙◌, ap, subst, true, false, Bool, Option, Some, None, arith, length, IsPermutation}
 use Rattle.std.specs.Prelude.{cond, option_map, slice_index_or, ⊤}
 use Rattle.std.specs.List.{AllByRecursion, IsDistinct}
 use Rattle.std.specs.List.Sorted.{IsSorted}
 use Rattle.std.specs.Ordering.{is_lt}
 use Rattle.std.specs.declared.cmp.Ordering.{Ordering}
 use Rattle.std.specs.declared.cmp.Ordering.TheVariants.{Less, Equal, Greater}
-use Rattle.std.proofs.lemmas.List.Elements.{All-nil, All-cons}
+use Rattle.std.proofs.lemmas.List.Elements.{All-from_recursion, recursion_from_All}
 use Rattle.std.proofs.lemmas.List.Sorted.{All-permutation, IsPermutation-sym, length_permutation}
 use Rattle.ocfl_tree.specs.Place.{Place, Text, text_cmp, text_eq}
 use Rattle.ocfl_tree.specs.Ascending.{IsAscending, IsAmong, IsBeforeAll}
@@ -37,16 +37,8 @@ module _ (P : Entry → Type 0) where
   all_back : (es : List Entry) → AllByRecursion P es → AllByRecursion P (back (λ e. e) es)
   all_back es h = all_onto es [] h tt
 
-  to_all : (es : List Entry) → AllByRecursion P es → All P es
-  to_all [] h = All-nil P
-  to_all (e ∷ es) h = All-cons P e es h.0 (to_all es h.1)
-
-  from_all : (es : List Entry) → All P es → AllByRecursion P es
-  from_all [] h = tt
-  from_all (e ∷ es) h = (h 0 e (omega arith), from_all es (λ k d l. h (suc k) d (omega (arith, l))))
-
   all_moved : (es fs : List Entry) → IsPermutation es fs → AllByRecursion P es → AllByRecursion P fs
-  all_moved es fs moved h = from_all fs (All-permutation P es fs moved (to_all es h))
+  all_moved es fs moved h = recursion_from_All P fs (All-permutation P es fs moved (All-from_recursion P es h))
 
 length_onto : (es later : List Entry) → length (backward es later) ≡ length es + length later
 length_onto [] later = omega arith

@@ -6,7 +6,7 @@ use Rattle.ocfl_tree.specs.StorageRoot.{StorageRoot}
 use Rattle.ocfl_tree.specs.declared.store.Entry.{Entry}
 use Rattle.ocfl_inventory.specs.Table.{IsFit, Table}
 use Rattle.ocfl_audit.specs.Trail.{is_head}
-use Rattle.ocfl_audit.specs.Zone.{skipped, hierarchy, inside, zone, table_at, object_declared, is_declared}
+use Rattle.ocfl_audit.specs.Zone.{skipped, hierarchy, inside, zone, table_at, object_declared, is_declared, max_listed_depth}
 use Rattle.ocfl_audit.specs.Walk.{is_extensions, step_zone}
 use Rattle.ocfl_tree.specs.Listing.{IsOrdinary}
 use Rattle.ocfl_item.specs.declared.folder.Folder.{Folder}
@@ -38,7 +38,7 @@ table_met root d x entry None None m h = λ o s e.
     ap (table_at root) same ∙ h head
 table_met root d x entry (Some b) None m h = (m.part.0 ++ entry.name ∷ [], ap (zone root) m.is ∙ inside_on root d b.place m.part.0 (entry.name ∷ []) m.part.1, m.part.2)
 
-pub around_fair : (x : Place) (a : Option Around) (table : Option Table) → IsAroundIf x a → IfSome table (λ t. IsFit t × (length x ≤ 127)) → IsAroundIf x (around_of a x table)
+pub around_fair : (x : Place) (a : Option Around) (table : Option Table) → IsAroundIf x a → IfSome table (λ t. IsFit t × (length x ≤ max_listed_depth)) → IsAroundIf x (around_of a x table)
 around_fair x a None h k = h
 around_fair x a (Some t) h k = record { holds = begins_own x; depth = k.1; fit = k.0 }
 

@@ -9,8 +9,9 @@ use Rattle.std.specs.declared.cmp.Ordering.TheVariants.{Less, Equal, Greater}
 use Rattle.ocfl_tree.specs.Place.{Place, Text, text_cmp, place_cmp, begins}
 use Rattle.ocfl_tree.specs.Ascending.{IsBeforeAll}
 use Rattle.ocfl_tree.specs.declared.store.Entry.{Entry}
+use Rattle.ocfl_tree.specs.StorageRoot.{max_entries}
 use Rattle.ocfl_audit.specs.Stack.{Frame}
-use Rattle.ocfl_walk.specs.Standing.{Pile, back_onto, frames_of, size_of, weigh, entry_weight, paths_above}
+use Rattle.ocfl_walk.specs.Standing.{Pile, back_onto, frames_of, size_of, weigh, entry_weight, paths_above, levels}
 use Rattle.ocfl_walk.specs.Internal.Standing.{IsAroundIf, IsChain, IsFairPile, IsFitIf, IsOrderly, IsOrderlyIf, IsTaken, left_names, pushed, trimmed, trimmed_from}
 use Rattle.ocfl_item.specs.declared.folder.Folder.{Folder}
 use Rattle.ocfl_item.specs.declared.meeting.Around.{Around}
@@ -58,18 +59,18 @@ chain_trimmed p k (q ∷ ps) c = by q.0 q.1 c (chain_trimmed p k ps (chain_on p 
     by d [] h l = l
     by d (e ∷ es) h l = h
 
-few_trimmed : (ps : List Pile) → AllByRecursion (λ p. length p.1 ≤ 1000000) ps → AllByRecursion (λ p. length p.1 ≤ 1000000) (trimmed ps)
+few_trimmed : (ps : List Pile) → AllByRecursion (λ p. length p.1 ≤ max_entries) ps → AllByRecursion (λ p. length p.1 ≤ max_entries) (trimmed ps)
 few_trimmed [] h = h
 few_trimmed (q ∷ ps) h = by q.0 q.1 h.0 h.1 (few_trimmed ps h.1)
   where
-    by : (d : Place) (es : List Entry) → length es ≤ 1000000 → AllByRecursion (λ p. length p.1 ≤ 1000000) ps
-        → AllByRecursion (λ p. length p.1 ≤ 1000000) (trimmed ps) → AllByRecursion (λ p. length p.1 ≤ 1000000) (trimmed_from d es (trimmed ps) ps)
+    by : (d : Place) (es : List Entry) → length es ≤ max_entries → AllByRecursion (λ p. length p.1 ≤ max_entries) ps
+        → AllByRecursion (λ p. length p.1 ≤ max_entries) (trimmed ps) → AllByRecursion (λ p. length p.1 ≤ max_entries) (trimmed_from d es (trimmed ps) ps)
     by d [] k m l = l
     by d (e ∷ es) k m l = (k, m)
 
 pub orderly_trimmed : (last : Option Place) (ps : List Pile) (a : Option Around) → IsOrderlyIf last ps a → IsOrderlyIf last (trimmed ps) a
 orderly_trimmed None ps a h = (ap trimmed h.0, h.1)
-orderly_trimmed (Some p) ps a h = record { chain = chain_trimmed p 128 ps h.chain; few = few_trimmed ps h.few; object = h.object }
+orderly_trimmed (Some p) ps a h = record { chain = chain_trimmed p levels ps h.chain; few = few_trimmed ps h.few; object = h.object }
 
 weigh_trimmed : (w : ℕ) (ps : List Pile) → weigh w (trimmed ps) ≡ weigh w ps
 weigh_trimmed w [] = refl
@@ -90,9 +91,9 @@ fit_of last ps (Some a) h = h.object.fit
 
 -- ---- at an entry
 
-pub before_names : (d : Place) (n : Text) (ns : List Text) → IsBeforeAll text_cmp n ns → IsBeforeAll place_cmp (d ++ n ∷ []) (map (λ m. d ++ m ∷ []) ns)
-before_names d n [] h = tt
-before_names d n (m ∷ ns) h = (above_name d n m [] [] h.0, before_names d n ns h.1)
+pub before_below : (d r : Place) (n : Text) (ns : List Text) → IsBeforeAll text_cmp n ns → IsBeforeAll place_cmp (d ++ n ∷ r) (map (λ m. d ++ m ∷ []) ns)
+before_below d r n [] h = tt
+before_below d r n (m ∷ ns) h = (above_name d n m r [] h.0, before_below d r n ns h.1)
 
 pub own_names : (x : Place) (ns : List Text) → IsBeforeAll place_cmp x (map (λ n. x ++ n ∷ []) ns)
 own_names x [] = tt
@@ -102,8 +103,8 @@ pub begins_own : (x : Place) → begins x x ≡ true
 begins_own x = subst (λ y. begins x y ≡ true) (append-nil x) (begins_front x [])
 
 module _ (last : Place) (ps new : List Pile) (entry : Entry) (a : Option Around) (h : IsOrderly last ps a) (t : IsTaken ps new entry) where
-  pub old_chain : IsChain last 128 ((t.place, entry.name ∷ map (λ e. e.name) t.rest) ∷ frames_of t.others)
-  old_chain = subst (λ qs. IsChain last 128 (frames_of qs)) t.old_is h.chain
+  pub old_chain : IsChain last levels ((t.place, entry.name ∷ map (λ e. e.name) t.rest) ∷ frames_of t.others)
+  old_chain = subst (λ qs. IsChain last levels (frames_of qs)) t.old_is h.chain
 
   pub entry_after : place_cmp last (t.place ++ entry.name ∷ []) ≡ Less
   entry_after = old_chain.2.0
@@ -112,21 +113,21 @@ module _ (last : Place) (ps new : List Pile) (entry : Entry) (a : Option Around)
   pub entry_short : (x : Place) → x ≡ t.place ++ entry.name ∷ [] → length x ≤ 255
   entry_short x e = omega (arith, ap length e, length_one t.place entry.name, old_chain.1)
 
-  new_few : AllByRecursion (λ p. length p.1 ≤ 1000000) new
-  new_few = let f = subst (AllByRecursion (λ p. length p.1 ≤ 1000000)) t.old_is h.few in let n : length t.rest ≤ 1000000 = omega (arith, f.0) in subst
-      (AllByRecursion (λ p. length p.1 ≤ 1000000)) (sym t.new_is) (n, f.1)
+  new_few : AllByRecursion (λ p. length p.1 ≤ max_entries) new
+  new_few = let f = subst (AllByRecursion (λ p. length p.1 ≤ max_entries)) t.old_is h.few in let n : length t.rest ≤ max_entries = omega (arith, f.0) in subst
+      (AllByRecursion (λ p. length p.1 ≤ max_entries)) (sym t.new_is) (n, f.1)
 
   chain_at_entry : (k : ℕ) → length t.place < k → IsChain (t.place ++ entry.name ∷ []) k (frames_of new)
   chain_at_entry k l = subst (λ qs. IsChain (t.place ++ entry.name ∷ []) k (frames_of qs)) (sym t.new_is)
-      (begins_front t.place (entry.name ∷ []), l, before_names t.place entry.name (map (λ e. e.name) t.rest) old_chain.3.0, old_chain.3.1, old_chain.4)
+      (begins_front t.place (entry.name ∷ []), l, before_below t.place [] entry.name (map (λ e. e.name) t.rest) old_chain.3.0, old_chain.3.1, old_chain.4)
 
   pub orderly_entry : (x : Place) → x ≡ t.place ++ entry.name ∷ [] → (f : Option Folder) → IfSome f (λ g. IsFairPile x g) → (a' : Option Around) → IsAroundIf x a' → IsOrderly x (pushed f new) a'
-  orderly_entry x e None g a' h' = record { chain = subst (λ y. IsChain y 128 (frames_of new)) (sym e) (chain_at_entry 128 old_chain.1); few = new_few; object = h' }
+  orderly_entry x e None g a' h' = record { chain = subst (λ y. IsChain y levels (frames_of new)) (sym e) (chain_at_entry levels old_chain.1); few = new_few; object = h' }
   orderly_entry x e (Some f) g a' h' =
       let deeper : length t.place < length x = omega (arith, ap length e, length_one t.place entry.name) in
       let below : IsChain x (length x) (frames_of new) = subst (λ y. IsChain y (length x) (frames_of new)) (sym e) (chain_at_entry (length x) deeper) in
-      let own : IsChain x 128 ((x, left_names f) ∷ frames_of new) = (begins_own x, omega (arith, g.depth), own_names x (left_names f), g.ascends, below) in
-      record { chain = subst (λ d. IsChain x 128 ((d, left_names f) ∷ frames_of new)) (sym g.place) own; few = (g.few, new_few); object = h' }
+      let own : IsChain x levels ((x, left_names f) ∷ frames_of new) = (begins_own x, omega (arith, g.depth), own_names x (left_names f), g.ascends, below) in
+      record { chain = subst (λ d. IsChain x levels ((d, left_names f) ∷ frames_of new)) (sym g.place) own; few = (g.few, new_few); object = h' }
 
 -- ---- room for one more listing
 

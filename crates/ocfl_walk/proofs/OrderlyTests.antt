@@ -8,12 +8,15 @@ use Rattle.std.proofs.lemmas.Bool.{leb-true, le-leb, ltb-true, lt-ltb}
 use Rattle.ocfl_tree.specs.Place.{Place, text_cmp, place_cmp, begins}
 use Rattle.ocfl_tree.specs.Ascending.{IsAscending, IsBeforeAll}
 use Rattle.ocfl_tree.proofs.Orders.{true_not_false}
+use Rattle.ocfl_tree.specs.StorageRoot.{max_entries}
 use Rattle.ocfl_inventory.specs.Table.{paths_of, triple_cmp}
+use Rattle.ocfl_inventory.specs.ListedPath.{max_elements}
 use Rattle.ocfl_audit.specs.Lines.{is_empty}
 use Rattle.ocfl_audit.specs.Stack.{Frame}
 use Rattle.ocfl_audit.proofs.BelowLaws.{less_from}
+use Rattle.ocfl_audit.specs.Zone.{max_listed_depth}
 use Rattle.ocfl_walk.specs.Orderly.{is_around, is_ascending, is_before_all, is_chain, is_orderly, is_orderly_if}
-use Rattle.ocfl_walk.specs.Standing.{Pile, frames_of, piles_in}
+use Rattle.ocfl_walk.specs.Standing.{Pile, frames_of, piles_in, levels}
 use Rattle.ocfl_walk.specs.Internal.Standing.{IsAroundIf, IsChain, IsOrderlyIf, IsOrderlyStand}
 use Rattle.ocfl_item.specs.declared.meeting.Around.{Around}
 use Rattle.ocfl_walk.specs.declared.stand.Stand.{Stand}
@@ -73,13 +76,13 @@ around_from : (last : Place) (a : Option Around) → is_around last a ≡ true �
 around_from last None h = tt
 around_from last (Some a) h =
     let r1 = and_second (begins a.place last) _ h in
-    let r2 = and_second (nat_le (length a.place) 127) _ r1 in
-    let r3 = and_second (list_all (λ q. nat_le (length q) 128) (paths_of a.table)) _ r2 in
+    let r2 = and_second (nat_le (length a.place) max_listed_depth) _ r1 in
+    let r3 = and_second (list_all (λ q. nat_le (length q) max_elements) (paths_of a.table)) _ r2 in
     record {
       holds = and_first (begins a.place last) _ h;
-      depth = leb-true (length a.place) 127 (and_first (nat_le (length a.place) 127) _ r1);
+      depth = leb-true (length a.place) max_listed_depth (and_first (nat_le (length a.place) max_listed_depth) _ r1);
       fit = record {
-        short = all_from (λ q. length q) 128 (paths_of a.table) (and_first (list_all (λ q. nat_le (length q) 128) (paths_of a.table)) _ r2);
+        short = all_from (λ q. length q) max_elements (paths_of a.table) (and_first (list_all (λ q. nat_le (length q) max_elements) (paths_of a.table)) _ r2);
         ascends = ascending_from triple_cmp a.table.triples (and_first (is_ascending triple_cmp a.table.triples) _ r3);
         few = ltb-true (length a.table.triples) (2 ^ 64) (and_second (is_ascending triple_cmp a.table.triples) _ r3);
       };
@@ -88,8 +91,8 @@ around_from last (Some a) h =
 around_to : (last : Place) (a : Option Around) → IsAroundIf last a → is_around last a ≡ true
 around_to last None h = refl
 around_to last (Some a) h =
-    and_both _ _ h.holds (and_both _ _ (le-leb (length a.place) 127 h.depth)
-    (and_both _ _ (all_to (λ q. length q) 128 (paths_of a.table) h.fit.short)
+    and_both _ _ h.holds (and_both _ _ (le-leb (length a.place) max_listed_depth h.depth)
+    (and_both _ _ (all_to (λ q. length q) max_elements (paths_of a.table) h.fit.short)
     (and_both _ _ (ascending_to triple_cmp a.table.triples h.fit.ascends) (lt-ltb (length a.table.triples) (2 ^ 64) h.fit.few))))
 
 if_from : (last : Option Place) (ps : List Pile) (a : Option Around) → is_orderly_if last ps a ≡ true → IsOrderlyIf last ps a
@@ -103,16 +106,16 @@ if_from None ps a h = (none ps (and_first (is_empty ps) (is_none a) h), free a (
     free None k = refl
     free (Some a) k = absurd (true_not_false (sym k))
 if_from (Some last) ps a h =
-    let r1 = and_second (is_chain last 128 (frames_of ps)) _ h in
+    let r1 = and_second (is_chain last levels (frames_of ps)) _ h in
     record {
-      chain = chain_from last 128 (frames_of ps) (and_first (is_chain last 128 (frames_of ps)) _ h);
-      few = all_from (λ p. length p.1) 1000000 ps (and_first (list_all (λ p. nat_le (length p.1) 1000000) ps) _ r1);
-      object = around_from last a (and_second (list_all (λ p. nat_le (length p.1) 1000000) ps) _ r1);
+      chain = chain_from last levels (frames_of ps) (and_first (is_chain last levels (frames_of ps)) _ h);
+      few = all_from (λ p. length p.1) max_entries ps (and_first (list_all (λ p. nat_le (length p.1) max_entries) ps) _ r1);
+      object = around_from last a (and_second (list_all (λ p. nat_le (length p.1) max_entries) ps) _ r1);
     }
 
 if_to : (last : Option Place) (ps : List Pile) (a : Option Around) → IsOrderlyIf last ps a → is_orderly_if last ps a ≡ true
 if_to None ps a h = and_both (is_empty ps) (is_none a) (ap is_empty h.0) (ap is_none h.1)
-if_to (Some last) ps a h = and_both _ _ (chain_to last 128 (frames_of ps) h.chain) (and_both _ _ (all_to (λ p. length p.1) 1000000 ps h.few) (around_to last a h.object))
+if_to (Some last) ps a h = and_both _ _ (chain_to last levels (frames_of ps) h.chain) (and_both _ _ (all_to (λ p. length p.1) max_entries ps h.few) (around_to last a h.object))
 
 pub orderly_from : (s : Stand) → is_orderly s ≡ true → IsOrderlyStand s
 orderly_from s h = if_from s.last (piles_in s.last s.listings.items) s.around h

@@ -5,19 +5,20 @@ use Rattle.std.specs.Prelude.{cond, find, option_map}
 use Rattle.std.specs.List.{AllByRecursion}
 use Rattle.std.specs.Ordering.{is_lt}
 use Rattle.std.specs.declared.cmp.Ordering.TheVariants.{Less}
-use Rattle.ocfl_tree.specs.Place.{Place, Text, text_cmp, place_cmp, begins}
+use Rattle.ocfl_tree.specs.Place.{Place, place_cmp, begins}
 use Rattle.ocfl_tree.specs.Ascending.{IsAmong, IsBeforeAll}
 use Rattle.ocfl_tree.specs.declared.store.Entry.{Entry}
 use Rattle.ocfl_tree.proofs.Orders.{place_cmp_total, true_not_false}
 use Rattle.ocfl_inventory.specs.Table.{paths_of}
 use Rattle.ocfl_inventory.specs.NextPath as table
-use Rattle.ocfl_walk.specs.Standing.{Pile, frames_of, paths_above, size_of}
+use Rattle.ocfl_inventory.specs.ListedPath.{max_elements}
+use Rattle.ocfl_walk.specs.Standing.{Pile, frames_of, paths_above, size_of, levels}
 use Rattle.ocfl_walk.specs.Internal.Standing.{IsAroundIf, IsBelowNext, IsChain, IsOrderly, next_of, path_from, trimmed, trimmed_from}
 use Rattle.ocfl_item.specs.Around.{IsNamedIn}
 use Rattle.ocfl_item.specs.declared.meeting.Around.{Around}
 use Rattle.ocfl_audit.proofs.BelowLaws.{begins_front, begins_rest, cmp_behind, equal_itself, less_from}
 use Rattle.ocfl_walk.proofs.EndLaws.{begins_between}
-use Rattle.ocfl_walk.proofs.OrderlyLaws.{before_names}
+use Rattle.ocfl_walk.proofs.OrderlyLaws.{before_below}
 use Rattle.std.proofs.Math.Seq.{drop-append_seam}
 
 -- what was found passes the test, and is one of the list
@@ -109,24 +110,21 @@ module _ (last b : Place) (ps : List Pile) (a : Option Around) (h : IsOrderly la
   pub orderly_on : IsAroundIf b a → trimmed ps ≡ ps → IsBelowNext b (next_of ps) → IsOrderly b ps a
   orderly_on object t n = record { chain = chain ps t n h.chain; few = h.few; object = object }
     where
-      chain : (ps : List Pile) → trimmed ps ≡ ps → IsBelowNext b (next_of ps) → IsChain last 128 (frames_of ps) → IsChain b 128 (frames_of ps)
+      chain : (ps : List Pile) → trimmed ps ≡ ps → IsBelowNext b (next_of ps) → IsChain last levels (frames_of ps) → IsChain b levels (frames_of ps)
       chain [] t n c = tt
       chain (q ∷ ps) t n c = by q.0 q.1 t n c
         where
           by : (d : Place) (es : List Entry) → trimmed ((d, es) ∷ ps) ≡ (d, es) ∷ ps → IsBelowNext b (next_of ((d, es) ∷ ps))
-              → IsChain last 128 ((d, map (λ e. e.name) es) ∷ frames_of ps) → IsChain b 128 ((d, map (λ e. e.name) es) ∷ frames_of ps)
+              → IsChain last levels ((d, map (λ e. e.name) es) ∷ frames_of ps) → IsChain b levels ((d, map (λ e. e.name) es) ∷ frames_of ps)
           by d [] t n c = absurd (head_some ((d, []) ∷ ps) ps d t)
           by d (e ∷ es) t n c =
               let r = begins_rest d last c.0 in (
                 begins_between d r.0 (e.name ∷ []) b (subst (λ x. place_cmp x b ≡ Less) r.1 over) n,
                 c.1,
-                (n, above_all b (d ++ e.name ∷ []) (map (λ m. d ++ m ∷ []) (map (λ x. x.name) es)) n (names d e.name (map (λ x. x.name) es) c.3.0)),
+                (n, above_all b (d ++ e.name ∷ []) (map (λ m. d ++ m ∷ []) (map (λ x. x.name) es)) n (before_below d [] e.name (map (λ x. x.name) es) c.3.0)),
                 c.3,
                 c.4,
               )
-            where
-              names : (d : Place) (n : Text) (ns : List Text) → IsBeforeAll text_cmp n ns → IsBeforeAll place_cmp (d ++ n ∷ []) (map (λ m. d ++ m ∷ []) ns)
-              names d n ns g = before_names d n ns g
 
 -- ---- to a place that the table names
 
@@ -141,9 +139,9 @@ named_short x (Some o) h n =
     let s = fits (paths_of o.table) (drop (length o.place) x) h.fit.short n in
     omega (arith, l, s, h.depth)
   where
-    fits : (qs : List Place) (q : Place) → AllByRecursion (λ y. length y ≤ 128) qs → IsAmong qs q → length q ≤ 128
+    fits : (qs : List Place) (q : Place) → AllByRecursion (λ y. length y ≤ max_elements) qs → IsAmong qs q → length q ≤ max_elements
     fits [] q k i = absurd i
-    fits (y ∷ qs) q k (inl e) = subst (λ z. length z ≤ 128) (sym e) k.0
+    fits (y ∷ qs) q k (inl e) = subst (λ z. length z ≤ max_elements) (sym e) k.0
     fits (y ∷ qs) q k (inr i) = fits qs q k.1 i
 
 module _ (last b : Place) (ps : List Pile) (a : Option Around) (over : place_cmp last b ≡ Less) (object : IsAroundIf b a) (named : IsNamedIn b a) where

@@ -10,8 +10,8 @@ use Rattle.ocfl_tree.specs.Place.{Place, Text, begins}
 use Rattle.ocfl_tree.specs.declared.store.Entry.{Entry}
 use Rattle.ocfl_audit.specs.Stack.{Frame}
 use Rattle.ocfl_audit.proofs.BelowLaws.{begins_front, begins_rest}
-use Rattle.ocfl_walk.specs.Standing.{back, Pile, folders_from, frames_of, pile_of, piles_at, piles_of, spot_of}
-use Rattle.ocfl_walk.specs.Internal.Standing.{IsChain, cut_top, from_name, IsFairPile, IsOrderly, IsOrderlyIf, IsTaken, next_of, pushed, trimmed}
+use Rattle.ocfl_walk.specs.Standing.{back, Pile, folders_from, frames_of, pile_of, piles_at, piles_in, piles_of, spot_of, levels}
+use Rattle.ocfl_walk.specs.Internal.Standing.{IsChain, cut_top, from_name, IsFairPile, IsOrderly, IsOrderlyIf, IsTaken, left_of_folder, next_of, pushed, trimmed}
 use Rattle.ocfl_item.specs.declared.meeting.Around.{Around}
 use Rattle.ocfl_item.specs.declared.folder.Folder.{Folder}
 use Rattle.ocfl_walk.proofs.Backs.{next_of_last, piles_push, taken_at, trim_drops_by, trim_keeps_by}
@@ -25,7 +25,7 @@ push_from i p (w ∷ vs) v =
     ap (λ fs. record { place = take i p; entries = w } ∷ fs) (push_from (suc i) p vs v ∙ ap (λ k. folders_from (suc i) p vs ++ record { place = take k p; entries = v } ∷ []) e)
 
 -- a listing more
-pub folders_push : (p : Place) (vs ws : List (Vec Entry Global)) (v : Vec Entry Global) → ws ≡ vs ++ v ∷ []
+folders_push : (p : Place) (vs ws : List (Vec Entry Global)) (v : Vec Entry Global) → ws ≡ vs ++ v ∷ []
     → folders_from 0 p ws ≡ folders_from 0 p vs ++ record { place = take (length vs) p; entries = v } ∷ []
 folders_push p vs ws v e =
     let none : 0 + length vs ≡ length vs = omega arith in
@@ -121,11 +121,11 @@ taken_here p vs old new v w o h k e n =
 pub same_count : {A : Type 0} (vs old new : List A) (v w : A) → old ≡ vs ++ v ∷ [] → new ≡ vs ++ w ∷ [] → length new ≡ length old
 same_count vs old new v w h k = ap length k ∙ length-append vs (w ∷ []) ∙ sym (ap length h ∙ length-append vs (v ∷ []))
 
--- one more on top, at its own place
-pub pushed_at : (p : Place) (vs ws : List (Vec Entry Global)) (f : Folder) → ws ≡ vs ++ f.entries ∷ [] → f.place ≡ p → length p ≡ length vs → piles_at p ws ≡ pile_of f ∷ piles_at p vs
-pushed_at p vs ws f e place count =
+-- one more on top, of a directory on the way to p
+pub pushed_at : (p q : Place) (vs ws : List (Vec Entry Global)) (f : Folder) → ws ≡ vs ++ f.entries ∷ [] → p ≡ f.place ++ q → length vs ≡ length f.place → piles_at p ws ≡ pile_of f ∷ piles_at p vs
+pushed_at p q vs ws f e way depth =
     piles_push (folders_from 0 p vs) (folders_from 0 p ws) (record { place = take (length vs) p; entries = f.entries }) (folders_push p vs ws f.entries e)
-    ∙ ap (λ d. (d, back (λ x. x) f.entries.items) ∷ piles_at p vs) (ap (λ n. take n p) (sym count) ∙ take-length p ∙ sym place)
+    ∙ ap (λ d. (d, back (λ x. x) f.entries.items) ∷ piles_at p vs) ((λ i. take (depth i) (way i)) ∙ take-append_seam f.place q)
 
 -- ---- listings that are let go
 
@@ -187,7 +187,7 @@ some_count : (p : Place) (vs : List (Vec Entry Global)) (q : Pile) (ps : List Pi
 some_count p vs q ps is = let n = piles_count p vs in let m : length (piles_at p vs) ≡ length (q ∷ ps) = ap length is in omega (arith, n, m)
 
 -- the deepest listing is that of the last place, or of a directory above it
-pub top_here : (d : Place) (vs : List (Vec Entry Global)) (x : Pile) (rest : List Pile) → IsChain d 128 (frames_of (piles_at d vs)) → piles_at d vs ≡ x ∷ rest
+pub top_here : (d : Place) (vs : List (Vec Entry Global)) (x : Pile) (rest : List Pile) → IsChain d levels (frames_of (piles_at d vs)) → piles_at d vs ≡ x ∷ rest
     → (nat_le (length d) (length rest) ≡ true → x.0 ≡ d) × (nat_le (length d) (length rest) ≡ false → length x.0 < length d)
 top_here d vs x rest c is = (whole, (λ e. let m = leb-false (length d) (length rest) e in let l = ap length top ∙ length-take-le (length rest) d (omega (arith, m)) in omega (arith, l, m)))
   where
@@ -200,7 +200,7 @@ top_here d vs x rest c is = (whole, (λ e. let m = leb-false (length d) (length 
     whole : nat_le (length d) (length rest) ≡ true → x.0 ≡ d
     whole e =
         let l = leb-true (length d) (length rest) e in
-        let m = chain_deep d 128 vs c in
+        let m = chain_deep d levels vs c in
         let n = many in
         let same : length rest ≡ length d = omega (arith, l, m, n) in
         top ∙ ap (λ k. take k d) same ∙ take-length d
@@ -215,7 +215,7 @@ module _ (p x : Place) (old new : List (Vec Entry Global)) (entry : Entry) (a : 
   many = some_count p old (t.place, entry ∷ t.rest) t.others t.old_is
 
   deep : n ≤ length p
-  deep = let d = chain_deep p 128 old h.chain in let m = many in omega (arith, d, m)
+  deep = let d = chain_deep p levels old h.chain in let m = many in omega (arith, d, m)
 
   top : t.place ≡ take n p
   top = top_place p old n (t.place, entry ∷ t.rest) t.others many t.old_is
@@ -240,7 +240,7 @@ module _ (p x : Place) (old new : List (Vec Entry Global)) (entry : Entry) (a : 
       fits None k = tt
       fits (Some g) k = (k.place, entry_depth)
 
-  pub entry_room : (f : Option Folder) → IfSome f (λ g. IsFairPile x g) → IfSome f (λ _. length new < 128)
+  pub entry_room : (f : Option Folder) → IfSome f (λ g. IsFairPile x g) → IfSome f (λ _. length new < levels)
   entry_room None k = tt
   entry_room (Some g) k = let d = entry_depth in omega (arith, d, k.depth)
 
@@ -252,11 +252,11 @@ path_shared p b vs a h k = by (piles_at p vs) refl k.chain
     none [] e = refl
     none (v ∷ vs) e = absurd (omega (arith, e))
 
-    by : (ps : List Pile) → piles_at p vs ≡ ps → IsChain b 128 (frames_of ps) → piles_at b vs ≡ piles_at p vs
+    by : (ps : List Pile) → piles_at p vs ≡ ps → IsChain b levels (frames_of ps) → piles_at b vs ≡ piles_at p vs
     by [] e c = let n = piles_count p vs in let m : length (piles_at p vs) ≡ 0 = ap length e in none vs (omega (arith, n, m))
     by (q ∷ ps) e c =
         let many = some_count p vs q ps e in
-        let d = chain_deep p 128 vs h.chain in
+        let d = chain_deep p levels vs h.chain in
         ap piles_of (sym (folders_shared p b vs (length ps) many (omega (arith, d, many)) (subst (λ y. begins y b ≡ true) (top_place p vs (length ps) q ps many e) c.0)))
 
 -- a walk that has a next entry has begun
@@ -270,16 +270,12 @@ begun_if (Some p) ps a h n = (refl, h)
 
 -- ---- on the way down to a place
 
--- what is kept of the next listing
-abbrev pub kept_at : Option Place → List (Vec Entry Global) → Vec Entry Global → Folder
-kept_at last vs v = record { place = take (length vs) (spot_of last); entries = v }
-
-pub kept_place : (last : Option Place) (vs : List (Vec Entry Global)) (v : Vec Entry Global) (d q : Place) → last ≡ Some (d ++ q) → length vs ≡ length d → (kept_at last vs v).place ≡ d
-kept_place last vs v d q way depth = (λ i. take (depth i) (spot_of (way i))) ∙ take-append_seam d q
+-- what is left of the next listing is on top
+pub on_top : (last : Option Place) (old new : List (Vec Entry Global)) (f : Folder) (d q : Place) → last ≡ Some (d ++ q) → length old ≡ length d → f.place ≡ d
+    → ((p r : Place) → p ≡ f.place ++ r → length old ≡ length f.place → piles_at p new ≡ pile_of f ∷ piles_at p old) → piles_in last new ≡ (d, left_of_folder f) ∷ piles_in last old
+on_top last old new f d q way depth place push =
+    push (spot_of last) q (ap spot_of way ∙ ap (λ x. x ++ q) (sym place)) (depth ∙ ap length (sym place)) ∙ ap (λ x. (x, left_of_folder f) ∷ piles_in last old) place
 
 -- one listing and one name more
-pub deeper : (vs ws : List (Vec Entry Global)) (v : Vec Entry Global) (d : Place) (n : Text) (e : Place) → ws ≡ vs ++ v ∷ [] → length vs ≡ length d → e ≡ d ++ n ∷ [] → length ws ≡ length e
-deeper vs ws v d n e push depth is =
-    let w : length ws ≡ length vs + 1 = ap length push ∙ length-append vs (v ∷ []) in
-    let l : length e ≡ length d + 1 = ap length is ∙ length_one d n in
-    omega (arith, w, l, depth)
+pub deeper : (old new : List (Vec Entry Global)) (d : Place) (n : Text) (e : Place) → length new ≡ length old + 1 → length old ≡ length d → e ≡ d ++ n ∷ [] → length new ≡ length e
+deeper old new d n e more depth is = let l : length e ≡ length d + 1 = ap length is ∙ length_one d n in omega (arith, more, l, depth)

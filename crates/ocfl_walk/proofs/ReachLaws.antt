@@ -1,5 +1,6 @@
 -- The directories on a way that are entered.
 use Rattle.std.proofs.Common.{◌≡◌, ◌⊎◌, inl, inr, List, [], ◌∷◌, ◌++◌, refl, sym, ◌∙◌, ap, subst, true, false, Bool, length, arith}
+use Rattle.std.proofs.lemmas.Bool.{and_left}
 use Rattle.std.specs.Prelude.{◌&&◌, nat_le}
 use Rattle.std.specs.List.{list_all}
 use Rattle.ocfl_tree.specs.Place.{Text, Place}
@@ -20,20 +21,14 @@ use Rattle.ocfl_walk.specs.Internal.Entering.{Comes, Descends}
 use Rattle.ocfl_walk.proofs.DescentLaws.{descends_not, descends_on}
 
 module _ (root : StorageRoot) where
-  not_reached : (a : Bool) (b : Bool) → a ≡ false → a && b ≡ true → ⊥
-  not_reached true b h k = true_not_false h
-  not_reached false b h k = true_not_false (sym k)
-
-  still_out : (a : Bool) (b : Bool) → a ≡ false → a && b ≡ false
-  still_out true b h = absurd (true_not_false h)
-  still_out false b h = refl
-
   -- below a directory that is not entered none is
+  out_below : (d : Place) (n : Text) → is_reached root d ≡ false → is_reached root (d ++ n ∷ []) ≡ false
+  out_below d n h = reached_step root d n ∙ and_left (is_reached root d) (is_entered root (d ++ n ∷ [])) h
+
   pub none_reached : (d q : Place) → is_reached root d ≡ false → (e : Place) → IsAmong (way_below d q) e → is_reached root e ≡ true → ⊥
   none_reached d [] h e i k = i
-  none_reached d (n ∷ q) h e (inl f) k = not_reached (is_reached root d) (is_entered root (d ++ n ∷ [])) h (sym (reached_step root d n) ∙ ap (is_reached root) (sym f) ∙ k)
-  none_reached d (n ∷ q) h e (inr i) k =
-      none_reached (d ++ n ∷ []) q (reached_step root d n ∙ still_out (is_reached root d) (is_entered root (d ++ n ∷ [])) h) e i k
+  none_reached d (n ∷ q) h e (inl f) k = true_not_false (sym k ∙ ap (is_reached root) f ∙ out_below d n h)
+  none_reached d (n ∷ q) h e (inr i) k = none_reached (d ++ n ∷ []) q (out_below d n h) e i k
 
   module _ (d : Place) (n : Text) (r : Place) (out : is_reached root (d ++ n ∷ []) ≡ false) where
     -- it was not listed

@@ -19,7 +19,7 @@ use Rattle.ocfl_item.specs.Meeting.{IsItemAt, Meets}
 use Rattle.ocfl_item.specs.declared.folder.Folder.{Folder}
 use Rattle.ocfl_item.specs.declared.meeting.Around.{Around}
 use Rattle.ocfl_item.specs.declared.pending.Pending.{Pending}
-use Rattle.ocfl_walk.specs.Standing.{IsStanding, Pile, StandsAt, piles_at, piles_in, spot_of}
+use Rattle.ocfl_walk.specs.Standing.{IsStanding, Pile, StandsAt, piles_at, piles_in, spot_of, levels}
 use Rattle.ocfl_walk.specs.Internal.Standing.{IsAroundIf, IsBelowNext, IsFairPile, IsHeld, IsOrderly, IsOrderlyIf, IsOrderlyStand, IsTaken, IsTurn, TurnIs, next_of, path_from, popped, pushed, still, trimmed, is_turn_past, turn_before, turn_of}
 use Rattle.ocfl_walk.specs.Ends.{before_end, is_past}
 use Rattle.ocfl_walk.specs.Internal.Walking.{GoesOn, GoesTo, IsFairMet, IsMeeting, IsPileAt, Steps, StepsOut, step_from}
@@ -30,7 +30,7 @@ use Rattle.ocfl_walk.specs.declared.stand.Step.{Step}
 use Rattle.ocfl_walk.specs.declared.stand.Step.TheVariants as step
 use Rattle.ocfl_walk.specs.declared.stand.Turn.{Turn}
 use Rattle.ocfl_walk.specs.declared.stand.Turn.TheVariants as turn
-use Rattle.ocfl_walk.proofs.Chosen.{at_first, at_last, chosen_base, chosen_turn, ended_turn, mid_stands}
+use Rattle.ocfl_walk.proofs.Chosen.{at_first, at_last, chosen_base, chosen_turn, ended_turn}
 use Rattle.ocfl_walk.proofs.EndLaws.{all_past, due_past, looked_past, read_past}
 use Rattle.ocfl_walk.proofs.WalkCallLaws.{walks_out_nothing}
 use Rattle.ocfl_walk.proofs.DueTurns.{near_turn}
@@ -55,7 +55,7 @@ module _ (old : Stand) (orderly : IsOrderlyStand old) (first : old.last ≡ None
   nothing : (piles_at [] old.listings.items ≡ []) × (old.around ≡ None)
   nothing = subst (λ l. IsOrderlyIf l (piles_in l old.listings.items) old.around) first orderly
 
-  pub base_room : (f : Option Folder) → IfSome f (λ _. length old.listings.items < 128)
+  pub base_room : (f : Option Folder) → IfSome f (λ _. length old.listings.items < levels)
   base_room f = first_room old.listings.items f nothing.0
 
   module _ (new : Listings) (x : Place) (f : Option Folder) (top : x ≡ []) (fair : IfSome f (λ g. IsFairPile [] g)) (push : Pushes old.listings new f) where
@@ -112,7 +112,7 @@ module _ (old : Stand) (entry : Entry) (x : Place) (mid : Listings) (orderly : I
         (entry_met root l (piles_in old.last old.listings.items) (piles_in old.last mid.items) entry x old.around o st (taken (spot_of old.last)) own)
 
   module _ (count : length mid.items ≡ length old.listings.items) (m : Met) (fair : IsFairMet x m) where
-    pub entry_fits : IfSome m.folder (λ _. length mid.items < 128)
+    pub entry_fits : IfSome m.folder (λ _. length mid.items < levels)
     entry_fits = entry_room (spot_of old.last) x old.listings.items mid.items entry old.around there.1 (taken (spot_of old.last)) count own m.folder fair.folder
 
     module _ (new : Listings) (push : Pushes mid new m.folder) where
@@ -171,34 +171,31 @@ module _ (ps : List Pile) (a : Option Around) (x : Place) where
 
 -- what is so of each place after which a walk stands that has begun, and of what its turn comes to,
 -- is so of where it stands
-pub by_turn : (root : StorageRoot) (old : Stand) (mid : Listings) → piles_in old.last mid.items ≡ trimmed (piles_in old.last old.listings.items) → (t u : Turn)
+pub by_turn : (root : StorageRoot) (old : Stand) → trimmed (piles_in old.last old.listings.items) ≡ piles_in old.last old.listings.items → (t u : Turn)
     → t ≡ u → (u ≡ turn.Base → ⊥) → (old.last ≡ None → t ≡ turn.Base)
-    → ((p : Place) → old.last ≡ Some p → t ≡ turn_of (next_of (piles_in old.last mid.items)) (path_from p old.around)) → IsOrderlyStand old
+    → ((p : Place) → old.last ≡ Some p → t ≡ turn_of (next_of (piles_in old.last old.listings.items)) (path_from p old.around)) → IsOrderlyStand old
     → (X : Option Place → Type 0) (last : Option Place) → StandsAt root old last
-    → ((p : Place) → old.last ≡ Some p → IsStanding root p (piles_in old.last mid.items) old.around → TurnIs root p (piles_in old.last mid.items) u → X (Some p)) → X last
-by_turn root old mid is t u same some base next orderly X last st k =
+    → ((p : Place) → old.last ≡ Some p → IsStanding root p (piles_in old.last old.listings.items) old.around → TurnIs root p (piles_in old.last old.listings.items) u → X (Some p)) → X last
+by_turn root old trim t u same some base next orderly X last st k =
     at_last root old X last st (λ e. some (subst (λ y. y ≡ turn.Base) same (base e)))
-    (λ p e h. k p e (mid_stands (piles_in old.last old.listings.items) (piles_in old.last mid.items) old.around is root p h)
-    (subst (TurnIs root p (piles_in old.last mid.items)) same
-    (chosen_turn (piles_in old.last old.listings.items) (piles_in old.last mid.items) old.around is root old.last p t e orderly h (next p e))))
+    (λ p e h. k p e h (subst (TurnIs root p (piles_in old.last old.listings.items)) same (chosen_turn (piles_in old.last old.listings.items) old.around trim root old.last p t e orderly h (next p e))))
 
 -- ---- at the end
 
 -- what is left lies past the end, or nothing is left
-pub ends_here : (root : StorageRoot) (old : Stand) (mid : Listings) → piles_in old.last mid.items ≡ trimmed (piles_in old.last old.listings.items) → (t : Turn)
-    → (old.last ≡ None → t ≡ turn.Base) → ((p : Place) → old.last ≡ Some p → t ≡ turn_of (next_of (piles_in old.last mid.items)) (path_from p old.around)) → IsOrderlyStand old
-    → (e : End) → turn.End ≡ turn_before e t → (s : Store) → s.tree ≡ root → (last : Option Place) → StandsAt root old last
-    → StepsOut root s s last e (record { listings = mid; around = old.around; last = old.last }) step.End
-ends_here root old mid is t base next orderly e ended s over last st = by t refl (ended_turn e t ended)
+pub ends_here : (root : StorageRoot) (old : Stand) → trimmed (piles_in old.last old.listings.items) ≡ piles_in old.last old.listings.items → (t : Turn)
+    → (old.last ≡ None → t ≡ turn.Base) → ((p : Place) → old.last ≡ Some p → t ≡ turn_of (next_of (piles_in old.last old.listings.items)) (path_from p old.around)) → IsOrderlyStand old
+    → (e : End) → turn.End ≡ turn_before e t → (s : Store) → s.tree ≡ root → (last : Option Place) → StandsAt root old last → StepsOut root s s last e old step.End
+ends_here root old trim t base next orderly e ended s over last st = by t refl (ended_turn e t ended)
   where
     X : Option Place → Type 0
-    X l = StepsOut root s s l e (record { listings = mid; around = old.around; last = old.last }) step.End
+    X l = StepsOut root s s l e old step.End
 
     turned : (u : Turn) → t ≡ u → (u ≡ turn.Base → ⊥)
-        → ((p : Place) → old.last ≡ Some p → IsStanding root p (piles_in old.last mid.items) old.around → TurnIs root p (piles_in old.last mid.items) u → X (Some p)) → X last
-    turned u same some k = by_turn root old mid is t u same some base next orderly X last st k
+        → ((p : Place) → old.last ≡ Some p → IsStanding root p (piles_in old.last old.listings.items) old.around → TurnIs root p (piles_in old.last old.listings.items) u → X (Some p)) → X last
+    turned u same some k = by_turn root old trim t u same some base next orderly X last st k
 
-    past : (p x : Place) (fs : List Frame) → old.last ≡ Some p → IsStanding root p (piles_in old.last mid.items) old.around → is_past e x ≡ true → IsTurn root p x fs → X (Some p)
+    past : (p x : Place) (fs : List Frame) → old.last ≡ Some p → IsStanding root p (piles_in old.last old.listings.items) old.around → is_past e x ≡ true → IsTurn root p x fs → X (Some p)
     past p x fs l h f go = (walks_out_nothing root s (Some p) e over (looked_past e root p x go.none_seen f) (read_past e root p x go.none_seen f), due_past e root p x f go.some go.none, (l, h))
 
     by : (u : Turn) → t ≡ u → (t ≡ turn.End) ⊎ (is_turn_past e t ≡ true) → X last
@@ -207,10 +204,10 @@ ends_here root old mid is t base next orderly e ended s over last st = by t refl
         (λ p l h go. (walks_out_nothing root s (Some p) e over (ap (before_end e) (looked_end root p go.0)) (ap (before_end e) (read_end root p go.0)), ap (before_end e) go.1, (l, h)))
     by turn.Base same (inr f) =
         let top = ap (is_turn_past e) (sym same) ∙ f in
-        at_first root old X last st (chosen_base old.last (next_of (piles_in old.last mid.items)) old.around t base next same) (
+        at_first root old X last st (chosen_base old.last (next_of (piles_in old.last old.listings.items)) old.around t base next same) (
           walks_out_nothing root s None e over (all_past e root top (looked_between root None None)) (all_past e root top (read_between root None None)),
           all_past e root top (due root None),
-          chosen_base old.last (next_of (piles_in old.last mid.items)) old.around t base next same,
+          chosen_base old.last (next_of (piles_in old.last old.listings.items)) old.around t base next same,
         )
     by (turn.Entry x) same (inr f) = turned (turn.Entry x) same (λ g. cc) (λ p l h go. past p x _ l h (ap (is_turn_past e) (sym same) ∙ f) go)
     by (turn.Path x) same (inr f) = turned (turn.Path x) same (λ g. cc) (λ p l h go. past p x _ l h (ap (is_turn_past e) (sym same) ∙ f) go.0)

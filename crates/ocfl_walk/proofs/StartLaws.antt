@@ -6,13 +6,13 @@ use Rattle.std.specs.Prelude.{IfSome, Vec}
 use Rattle.ocfl_tree.specs.declared.store.Entry.{Entry}
 use Rattle.ocfl_tree.specs.Place.{Place, Text, begins, place_cmp}
 use Rattle.ocfl_tree.specs.Ascending.{IsAmong, IsBeforeAll}
-use Rattle.ocfl_tree.specs.StorageRoot.{StorageRoot}
+use Rattle.ocfl_tree.specs.StorageRoot.{StorageRoot, max_entries}
 use Rattle.ocfl_tree.specs.Store.{Store}
 use Rattle.ocfl_audit.specs.Due.{due}
 use Rattle.ocfl_audit.specs.Walk.{seen_names}
 use Rattle.ocfl_audit.specs.Stack.{IsStack, seen_left, seen_places}
-use Rattle.ocfl_walk.specs.Standing.{AreEntries, IsStanding, Pile, StandsAt, entry_weight, piles_at, piles_in, size_of, stand_size, weigh}
-use Rattle.ocfl_walk.specs.Internal.Standing.{IsFairPile, IsOrderly, IsOrderlyIf, left_names, left_of_folder, pushed}
+use Rattle.ocfl_walk.specs.Standing.{AreEntries, IsStanding, Pile, StandsAt, entry_weight, piles_at, piles_in, size_of, stand_size, weigh, levels}
+use Rattle.ocfl_walk.specs.Internal.Standing.{IsFairPile, IsOrderly, left_names, left_of_folder, pushed}
 use Rattle.ocfl_item.specs.Meeting.{IsItemAt, Meets}
 use Rattle.ocfl_walk.specs.Internal.Walking.{IsPileAt, Steps, step_from}
 use Rattle.ocfl_item.specs.declared.folder.Folder.{Folder}
@@ -30,10 +30,7 @@ use Rattle.ocfl_audit.proofs.BetweenLaws.{looked_first, read_first, root_unread}
 use Rattle.ocfl_walk.proofs.WalkCallLaws.{IsNear, meets_walks}
 use Rattle.ocfl_audit.proofs.WayLaws.{is_closed}
 
-pub not_begun : (l : Option Place) (ps : List Pile) (a : Option Around) → IsOrderlyIf l ps a → l ≡ None → (ps ≡ []) × (a ≡ None)
-not_begun l ps a h e = subst (λ x. IsOrderlyIf x ps a) e h
-
-pub first_room : (vs : List (Vec Entry Global)) (f : Option Folder) → piles_at [] vs ≡ [] → IfSome f (λ _. length vs < 128)
+pub first_room : (vs : List (Vec Entry Global)) (f : Option Folder) → piles_at [] vs ≡ [] → IfSome f (λ _. length vs < levels)
 first_room vs None e = tt
 first_room vs (Some f) e = let n : length (piles_at [] vs) ≡ 0 = ap length e in let m = piles_count [] vs in omega (arith, n, m)
 
@@ -60,8 +57,8 @@ orderly_first x f ps a e none alone h =
         let short : length g.place ≡ 0 = ap length k.place in
         record { chain = (ap (λ y. begins y []) k.place, omega (arith, short), above_root g.place (left_names g) k.place, k.ascends, tt); few = (k.few, tt); object = tt }
 
-module _ (w : ℕ) (big : 1000000 < w) where
-  weigh_first : (n v : ℕ) → 1 ≤ v → n ≤ 1000000 → n * v + 0 < v * w * w
+module _ (w : ℕ) (big : max_entries < w) where
+  weigh_first : (n v : ℕ) → 1 ≤ v → n ≤ max_entries → n * v + 0 < v * w * w
   weigh_first n v one few =
       let m = mul_room n 0 w v one (omega (arith, few, big)) in
       let u = mul_room 1 0 w (v * w) (at_least v one) (omega (arith, big)) in

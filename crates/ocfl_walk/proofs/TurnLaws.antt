@@ -74,11 +74,6 @@ least_first s (p ∷ q ∷ ps) h = let k = ascending_from q ps h.1 in by k.0 k.1
     both true xs ys e = refl
     both false xs ys e = e
 
-    again : (b : Bool) (xs ys : List Place) → first_of_list (cond b (q ∷ xs) xs) ≡ first_of_list ys → (b ≡ true → first_of_list ys ≡ Some q)
-        → first_of_list (cond b (q ∷ xs) xs) ≡ first_of_list (cond b (q ∷ ys) ys)
-    again true xs ys e f = refl
-    again false xs ys e f = e
-
     by : (rest : List Place) → ascending place_cmp (q ∷ ps) ≡ q ∷ rest → (r : Ordering) → place_cmp p q ≡ r → r ≢ Greater
         → first_of_list (filter (above s) (ascending place_cmp (q ∷ ps))) ≡ first_of_list (filter (above s) (q ∷ ps))
         → first_of_list (filter (above s) (ascending place_cmp (p ∷ q ∷ ps))) ≡ first_of_list (filter (above s) (p ∷ q ∷ ps))

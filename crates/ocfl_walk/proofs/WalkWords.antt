@@ -26,10 +26,6 @@ use Rattle.ocfl_walk.proofs.EndLaws.{all_kept}
 use Rattle.ocfl_walk.proofs.StandLaws.{after_on}
 use Rattle.ocfl_walk.proofs.WalkCallLaws.{fails_all, walks_all, walks_fail_out, walks_on, walks_out}
 
--- a walk that has begun
-pub has_begun : (root : StorageRoot) (walk : Walk) (last : Option Place) → walk.first ≡ None → Stands root walk last → StandsAt root walk.stand last
-has_begun root walk last e st = subst (λ f. StandsFrom root f walk.stand last) e st
-
 pub stands_now : (root : StorageRoot) (walk : Walk) (last : Option Place) → walk.first ≡ None → StandsAt root walk.stand last → Stands root walk last
 stands_now root walk last e st = subst (λ f. StandsFrom root f walk.stand last) (sym e) st
 
@@ -74,11 +70,6 @@ pub gives_by : (root : StorageRoot) (s t : Store) (last : Option Place) (e : End
     → NextTold root s t last e new.stand o → GivesOut root s t last e new o
 gives_by root s t last e new none None h = (h.0, h.1, (h.2.0, stands_now root new h.2.0 none h.2.1, h.2.2))
 gives_by root s t last e new none (Some p) h = (h.0, stands_now root new (Some p.place) none h.1, h.2.pending, h.2.due_are)
-
-pub told_by : (root : StorageRoot) (s t : Store) (last : Option Place) (e : End) (new : Walk) → new.first ≡ None → (r : Result (Option Pending) Fault)
-    → MatchResult r (λ o. NextTold root s t last e new.stand o) (λ why. FailsOut root s t last e why) → MatchResult r (λ o. GivesOut root s t last e new o) (λ why. FailsOut root s t last e why)
-told_by root s t last e new none (Ok o) h = gives_by root s t last e new none o h
-told_by root s t last e new none (Err why) h = h
 
 -- ---- of a walk that begins at a place
 

@@ -4,10 +4,13 @@ use Rattle.std.specs.List.{list_all}
 use Rattle.std.specs.Ordering.{is_lt}
 use Rattle.std.specs.declared.cmp.Ordering.{Ordering}
 use Rattle.ocfl_tree.specs.Place.{Place, text_cmp, place_cmp, begins}
+use Rattle.ocfl_tree.specs.StorageRoot.{max_entries}
 use Rattle.ocfl_inventory.specs.Table.{Table, paths_of, triple_cmp}
+use Rattle.ocfl_inventory.specs.ListedPath.{max_elements}
 use Rattle.ocfl_audit.specs.Lines.{is_empty}
 use Rattle.ocfl_audit.specs.Stack.{Frame}
-use Rattle.ocfl_walk.specs.Standing.{Pile, frames_of, piles_in}
+use Rattle.ocfl_audit.specs.Zone.{max_listed_depth}
+use Rattle.ocfl_walk.specs.Standing.{Pile, frames_of, piles_in, levels}
 use Rattle.ocfl_item.specs.declared.meeting.Around.{Around}
 use Rattle.ocfl_walk.specs.declared.stand.Stand.{Stand}
 
@@ -24,15 +27,15 @@ is_chain p k (f ∷ fs) =
     begins f.0 p && (nat_lt (length f.0) k && (is_before_all place_cmp p (map (λ n. f.0 ++ n ∷ []) f.1) && (is_ascending text_cmp f.1 && is_chain f.0 (length f.0) fs)))
 
 abbrev pub is_fit : Table → Bool
-is_fit t = list_all (λ q. nat_le (length q) 128) (paths_of t) && (is_ascending triple_cmp t.triples && nat_lt (length t.triples) (2 ^ 64))
+is_fit t = list_all (λ q. nat_le (length q) max_elements) (paths_of t) && (is_ascending triple_cmp t.triples && nat_lt (length t.triples) (2 ^ 64))
 
 abbrev pub is_around : Place → Option Around → Bool
 is_around last None = true
-is_around last (Some a) = begins a.place last && (nat_le (length a.place) 127 && is_fit a.table)
+is_around last (Some a) = begins a.place last && (nat_le (length a.place) max_listed_depth && is_fit a.table)
 
 abbrev pub is_orderly_if : Option Place → List Pile → Option Around → Bool
 is_orderly_if None ps around = is_empty ps && is_none around
-is_orderly_if (Some last) ps around = is_chain last 128 (frames_of ps) && (list_all (λ p. nat_le (length p.1) 1000000) ps && is_around last around)
+is_orderly_if (Some last) ps around = is_chain last levels (frames_of ps) && (list_all (λ p. nat_le (length p.1) max_entries) ps && is_around last around)
 
 -- each listing is of a directory on the way to the last place, of what is left of it all lies above
 -- that, and the table is one that may be read

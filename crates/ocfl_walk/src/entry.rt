@@ -18,7 +18,7 @@ ghost use Rattle.ocfl_walk.specs.Standing.{StandsAt, piles_in};
 ghost use Rattle.ocfl_walk.specs.Internal.Standing.{IsAroundIf, IsOrderly, IsOrderlyStand};
 
 use crate::listing::{keep_above, sorted};
-use crate::stand::Stand;
+use crate::stand::{Stand, push};
 use arrayvec::ArrayVec;
 use ocfl_inventory::declaration::declaration;
 use ocfl_inventory::{Declared, Level, is_version_name};
@@ -185,13 +185,13 @@ fn go_down<T: Tree>(
         (way_below folder.place names.now) may why)) }
 {
     let Some((name, rest)) = names.split_first() else {
-        stand.listings.push(sorted(folder).entries);
+        push(&mut stand.listings, sorted(folder));
         return Ok(());
     };
     let inner = down(alloc, store, &mut stand.around, &folder, name)?;
     let mut left = sorted(folder);
     keep_above(&mut left.entries, name);
-    stand.listings.push(left.entries);
+    push(&mut stand.listings, left);
     match inner {
         Some(inner) => go_down(alloc, store, stand, inner, rest),
         None => Ok(()),

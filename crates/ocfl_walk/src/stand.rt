@@ -1,7 +1,7 @@
 //! Where a walk stands, and its steps.
 ghost use Rattle.std.specs.Prelude.{◌≡◌, ◌≢◌, ◌<◌, ◌∷◌, ◌++◌, [], false, Option, Some, None};
 ghost use Rattle.std.specs.Prelude.{◌↔◌, IsTrue, IfOk, IfErr, IfSome, MatchOption, MatchResult};
-ghost use Rattle.std.specs.Prelude.{length, take};
+ghost use Rattle.std.specs.Prelude.{◌+◌, length, take};
 ghost use Rattle.std.specs.Ordering.{is_lt};
 ghost use Rattle.std.specs.declared.cmp.Ordering.TheVariants.{Less};
 ghost use Rattle.arrayvec.specs.ArrayVec.{array_vec_len};
@@ -13,8 +13,8 @@ ghost use Rattle.ocfl_audit.specs.Zone.{seen};
 ghost use Rattle.ocfl_item.specs.Ways.{IsWayFault};
 ghost use Rattle.ocfl_item.specs.Around.{IsMet, IsNamedIn, IsTableAround};
 ghost use Rattle.ocfl_item.specs.Meeting.{IsFairVisit, IsVisit, MeetFails, Meets};
-ghost use Rattle.ocfl_walk.specs.Standing.{StandsAt, frames_of, levels, piles_at, piles_in};
-ghost use Rattle.ocfl_walk.specs.Standing.{stand_size};
+ghost use Rattle.ocfl_walk.specs.Standing.{StandsAt, frames_of, levels, pile_of, piles_at};
+ghost use Rattle.ocfl_walk.specs.Standing.{piles_in, stand_size};
 ghost use Rattle.ocfl_walk.specs.Internal.Standing.{IsAroundIf, IsBelowNext, IsHeld};
 ghost use Rattle.ocfl_walk.specs.Internal.Standing.{IsOrderlyStand, IsTaken, IsTurn, around_of};
 ghost use Rattle.ocfl_walk.specs.Internal.Standing.{cut_top, next_of, path_from, popped, pushed};
@@ -223,7 +223,7 @@ fn take_entry(listings: &mut Listings) -> Option<Entry>
 
 /// Drops the entries before a name from the listing of a directory at depth `names`, if that is the
 /// last listing.
-fn begin_at(listings: &mut Listings, names: usize, name: &Name)
+fn drop_before(listings: &mut Listings, names: usize, name: &Name)
     ensures { (p : Spot) → piles_at p listings.new.items
         ≡ cut_top names name.now (piles_at p listings.old.items) }
 {
@@ -235,6 +235,15 @@ fn begin_at(listings: &mut Listings, names: usize, name: &Name)
     };
     keep_from(&mut entries, name);
     listings.push(entries);
+}
+
+/// Leaves what a walk takes that goes on with a name of a directory.
+fn begin_at(listings: &mut Listings, directory: &Place, name: &Name)
+    ensures { (p : Spot) → piles_at p listings.new.items
+        ≡ trimmed (cut_top (length directory.now) name.now (piles_at p listings.old.items)) }
+{
+    drop_before(listings, directory.depth(), name);
+    drop_empty(listings);
 }
 
 /// The next entry, unless it lies above a place.
@@ -335,6 +344,17 @@ fn step_of(item: Option<Pending>) -> Step
     }
 }
 
+/// Puts the listing of a directory on top, on the way to a place.
+pub(crate) fn push(listings: &mut Listings, folder: Folder)
+    requires { array_vec_len listings.old < levels }
+    ensures count { length listings.new.items ≡ length listings.old.items + 1 }
+    ensures piles { (p q : Spot) → p ≡ folder.place ++ q
+        → length listings.old.items ≡ length folder.place
+        → piles_at p listings.new.items ≡ pile_of folder ∷ piles_at p listings.old.items }
+{
+    listings.push(folder.entries);
+}
+
 /// Puts the listing of the last place on top, if there is one.
 fn push_if(listings: &mut Listings, folder: Option<Folder>)
     requires { IfSome folder (λ _. array_vec_len listings.old < levels) }
@@ -343,7 +363,7 @@ fn push_if(listings: &mut Listings, folder: Option<Folder>)
         → piles_at p listings.new.items ≡ pushed folder (piles_at p listings.old.items) }
 {
     if let Some(folder) = folder {
-        listings.push(folder.entries);
+        push(listings, folder);
     }
 }
 
@@ -454,8 +474,7 @@ impl Stand {
         if end.is_past(&place) {
             return Ok(Step::End);
         }
-        begin_at(&mut self.listings, directory.depth(), name);
-        drop_empty(&mut self.listings);
+        begin_at(&mut self.listings, directory, name);
         let entry = next_entry(&self.listings, directory)?;
         match unless_above(entry, &place) {
             Some(entry) => self.take_entry(alloc, store, entry),
@@ -476,6 +495,23 @@ impl Stand {
             result) }
     {
         drop_empty(&mut self.listings);
+        self.take_next(alloc, store, end)
+    }
+
+    /// Takes the next place, where it is not past the end. The last listing is not empty.
+    fn take_next<T: Tree>(&mut self, alloc: Global, store: &mut T, end: &End) -> Result<Step, Fault>
+        requires orderly { IsOrderlyStand self.old }
+        requires trim { trimmed (piles_in self.old.last self.old.listings.items)
+            ≡ piles_in self.old.last self.old.listings.items }
+        ensures orderly { IsOrderlyStand self.new }
+        ensures only { IfErr result (λ why. IsWayFault why) }
+        ensures goes_on { IfOk result (λ step. GoesOn self.old self.new step) }
+        ensures before { IfOk result (λ step. IsBefore end.now self.new step) }
+        ensures told { IfTold T.told (T.state store.old) (λ root.
+            (last : Option Spot) → StandsAt root self.old last
+            → StepsOutTo root (T.state store.old) (T.state store.new) last end.now self.new
+            result) }
+    {
         let turn = choose(&self.listings, &self.around, &self.last)?;
         match unless_past(alloc, turn, end) {
             Turn::Base => self.take_base(alloc, store),

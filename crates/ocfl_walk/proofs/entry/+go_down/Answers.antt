@@ -1,36 +1,38 @@
 use Rattle.std.proofs.Common.{◌≡◌, ◌∙◌, ◌<◌, sym, ap, subst, arith, rules, length, ◌++◌, Some}
 use Rattle.ocfl_item.specs.Ways.{IsAt}
 use Rattle.ocfl_item.specs.Around.{IsPart}
-use Rattle.ocfl_walk.specs.Standing.{folders_from, piles_in, spot_of}
+use Rattle.ocfl_item.specs.declared.folder.Folder.{Folder}
+use Rattle.ocfl_walk.specs.Standing.{piles_in}
 use Rattle.ocfl_walk.specs.Internal.Entering.{IsComing}
 use Rattle.std.proofs.lemmas.Result.{err_from_is_err_and}
 use Rattle.ocfl_walk.proofs.ReachLaws.{comes_end}
-use Rattle.ocfl_walk.proofs.BroughtLaws.{came_fails, came_on, came_stop, coming_next, coming_room, end_orderly, brought_end, orderly_at, stop_orderly}
+use Rattle.ocfl_walk.proofs.BroughtLaws.{came_fails, came_on, came_stop, coming_next, end_orderly, brought_end, orderly_at, stop_orderly}
 use Rattle.ocfl_audit.proofs.AuditExists.{append_one}
-use Rattle.ocfl_walk.proofs.PlacedLaws.{deeper, folders_count, folders_push, kept_at, kept_place}
+use Rattle.ocfl_walk.proofs.PlacedLaws.{deeper, on_top}
 use Rattle.ocfl_tree.proofs.Stores.{did_nothing}
 use Rattle.ocfl_walk.proofs.entry.+go_down.Goals as goal
+
+pub push-requires : goal.push-requires
+push-requires g t c = omega (arith, c.requires.depth, c.requires.coming.short)
+
+pub push-requires-2 : goal.push-requires-2
+push-requires-2 g t c = omega (arith, c.requires.depth, c.requires.coming.short)
 
 pub returns-in_default-clause-orderly : goal.returns-in_default-clause-orderly
 returns-in_default-clause-orderly g t c =
     let fair = c.sorted.ensures.fair c.requires.coming.ordinary in
-    end_orderly c.args.folder.place _ (folders_from 0 (spot_of c.args.stand.now.last) c.args.stand.now.listings.items)
-    (folders_from 0 (spot_of c.args.stand.now.last) c.push.new.self.items) c.args.stand.now.around c.requires.coming
-    (kept_at c.args.stand.now.last c.args.stand.now.listings.items c.sorted.result.entries)
-    (folders_push (spot_of c.args.stand.now.last) c.args.stand.now.listings.items c.push.new.self.items c.sorted.result.entries c.push.ensures.items)
-    (kept_place c.args.stand.now.last c.args.stand.now.listings.items c.sorted.result.entries c.args.folder.place c.args.names.now c.requires.way
-    c.requires.depth) c.args.names.now (rw c.in_default.is at c.split_first.ensures.cases) fair.0 fair.1
+    let top = on_top c.args.stand.now.last c.args.stand.now.listings.items c.push.new.listings.items c.sorted.result c.args.folder.place c.args.names.now
+    c.requires.way c.requires.depth c.sorted.ensures.place c.push.ensures.piles in
+    end_orderly c.requires.coming top c.args.names.now (rw c.in_default.is at c.split_first.ensures.cases) fair.0 fair.1
 
 pub returns-in_default-clause-told : goal.returns-in_default-clause-told
 returns-in_default-clause-told g t c = λ h root over at part.
-    let told = c.sorted.ensures.told root c.requires.coming.ordinary at.listing in (
-      comes_end root (g.T.Tree.state c.args.store.now) c.args.folder.place c.args.names.now _ (rw c.in_default.is at c.split_first.ensures.cases) over (did_nothing (g.T.Tree.state c.args.store.now)),
-      brought_end root c.args.folder.place _ (folders_from 0 (spot_of c.args.stand.now.last) c.args.stand.now.listings.items)
-          (folders_from 0 (spot_of c.args.stand.now.last) c.push.new.self.items)
-          (kept_at c.args.stand.now.last c.args.stand.now.listings.items c.sorted.result.entries)
-          (folders_push (spot_of c.args.stand.now.last) c.args.stand.now.listings.items c.push.new.self.items c.sorted.result.entries c.push.ensures.items)
-          (kept_place c.args.stand.now.last c.args.stand.now.listings.items c.sorted.result.entries c.args.folder.place c.args.names.now c.requires.way
-          c.requires.depth) at c.args.names.now c.args.stand.now.around (rw c.in_default.is at c.split_first.ensures.cases) told.0 told.1 part,
+    let told = c.sorted.ensures.told root c.requires.coming.ordinary at.listing in
+    let none = rw c.in_default.is at c.split_first.ensures.cases in
+    let top = on_top c.args.stand.now.last c.args.stand.now.listings.items c.push.new.listings.items c.sorted.result c.args.folder.place c.args.names.now
+    c.requires.way c.requires.depth c.sorted.ensures.place c.push.ensures.piles in (
+      comes_end root (g.T.Tree.state c.args.store.now) c.args.folder.place c.args.names.now _ none over (did_nothing (g.T.Tree.state c.args.store.now)),
+      brought_end at top c.args.names.now c.args.stand.now.around none told.0 told.1 part,
     )
 
 pub returns-in_err-inner-clause-told : goal.returns-in_err-inner-clause-told
@@ -40,36 +42,21 @@ returns-in_err-inner-clause-told g t c = λ h root over at part.
     rw (p.1, p.2) (came_fails root (g.T.Tree.state c.args.store.now) (g.T.Tree.state c.down.new.store) c.args.folder.place c.args.names.now c.in-Some.rest.now
     c.in-Some.name.now c.args.stand.now.around c.down.new.object _ parts.0 (c.in_err-inner.ensures.told h root over at part c.in-Some.rest.now))
 
-pub push-requires : goal.push-requires
-push-requires g t c =
-    let few = coming_room c.args.folder.place _ (folders_from 0 (spot_of c.args.stand.now.last) c.args.stand.now.listings.items) c.args.stand.now.around c.requires.coming in
-    let count = folders_count 0 (spot_of c.args.stand.now.last) c.args.stand.now.listings.items in
-    (omega arith, omega (arith, few, count))
-
-pub push-requires-2 : goal.push-requires-2
-push-requires-2 g t c =
-    let few = coming_room c.args.folder.place _ (folders_from 0 (spot_of c.args.stand.now.last) c.args.stand.now.listings.items) c.args.stand.now.around c.requires.coming in
-    let count = folders_count 0 (spot_of c.args.stand.now.last) c.args.stand.now.listings.items in
-    (omega arith, omega (arith, few, count))
-
 pub go_down-requires : goal.go_down-requires
 go_down-requires g t c =
     let parts = rw c.in-Some.is at c.split_first.ensures.cases in
     let fair = c.sorted-left.ensures.fair c.requires.coming.ordinary in
     let way = rw c.in-Some-inner.is at c.in_ok-inner.ensures.fair in
-    let coming : IsComing c.in-Some-inner.inner.place c.in-Some-inner.inner.entries.items (piles_in c.args.stand.now.last c.push-2.new.self.items) c.down.new.object =
-    coming_next c.args.folder.place _ (folders_from 0 (spot_of c.args.stand.now.last) c.args.stand.now.listings.items)
-    (folders_from 0 (spot_of c.args.stand.now.last) c.push-2.new.self.items) c.args.stand.now.around c.requires.coming
-    (kept_at c.args.stand.now.last c.args.stand.now.listings.items c.keep_above.new.entries)
-    (folders_push (spot_of c.args.stand.now.last) c.args.stand.now.listings.items c.push-2.new.self.items c.keep_above.new.entries c.push-2.ensures.items)
-    (kept_place c.args.stand.now.last c.args.stand.now.listings.items c.keep_above.new.entries c.args.folder.place c.args.names.now c.requires.way
-    c.requires.depth) c.in-Some.name.now _ c.keep_above.ensures fair.0 fair.1
-    c.in-Some-inner.inner c.down.new.object way.0 way.1 in
     let d = c.args.folder.place in
+    let left : Folder = record { place = c.sorted-left.result.place; entries = c.keep_above.new.entries } in
+    let top = on_top c.args.stand.now.last c.args.stand.now.listings.items c.push-2.new.listings.items left d c.args.names.now c.requires.way c.requires.depth
+    c.sorted-left.ensures.place c.push-2.ensures.piles in
+    let coming : IsComing c.in-Some-inner.inner.place c.in-Some-inner.inner.entries.items (piles_in c.args.stand.now.last c.push-2.new.listings.items) c.down.new.object =
+    coming_next c.requires.coming top c.in-Some.name.now _ c.keep_above.ensures fair.0 fair.1 c.in-Some-inner.inner c.down.new.object way.0 way.1 in
     let last : c.args.stand.now.last ≡ Some (c.in-Some-inner.inner.place ++ c.in-Some.rest.now) =
     c.requires.way ∙ ap (λ q. Some (d ++ q)) parts.0 ∙ sym (ap (λ e. Some (e ++ c.in-Some.rest.now)) way.0.place ∙ ap (λ q. Some q) (append_one d c.in-Some.rest.now c.in-Some.name.now)) in
-    let depth : length c.push-2.new.self.items ≡ length c.in-Some-inner.inner.place =
-    deeper c.args.stand.now.listings.items c.push-2.new.self.items c.keep_above.new.entries d c.in-Some.name.now c.in-Some-inner.inner.place c.push-2.ensures.items c.requires.depth way.0.place in
+    let depth : length c.push-2.new.listings.items ≡ length c.in-Some-inner.inner.place =
+    deeper c.args.stand.now.listings.items c.push-2.new.listings.items d c.in-Some.name.now c.in-Some-inner.inner.place c.push-2.ensures.count c.requires.depth way.0.place in
     let less : length c.in-Some.rest.now < length c.args.names.now = omega (arith, ap length parts.0) in
     search rules
 
@@ -78,15 +65,12 @@ returns-in-Some-inner-clause-told g t c = λ h root over at part.
     let parts = rw c.in-Some.is at c.split_first.ensures.cases in
     let told = c.sorted-left.ensures.told root c.requires.coming.ordinary at.listing in
     let leads = rw c.in-Some-inner.is at c.in_ok-inner.ensures.told h root over at part c.in-Some.rest.now in
-    came_on root c.args.folder.place _ (folders_from 0 (spot_of c.args.stand.now.last) c.args.stand.now.listings.items)
-    (folders_from 0 (spot_of c.args.stand.now.last) c.push-2.new.self.items)
-    (kept_at c.args.stand.now.last c.args.stand.now.listings.items c.keep_above.new.entries)
-    (folders_push (spot_of c.args.stand.now.last) c.args.stand.now.listings.items c.push-2.new.self.items c.keep_above.new.entries c.push-2.ensures.items)
-    (kept_place c.args.stand.now.last c.args.stand.now.listings.items c.keep_above.new.entries c.args.folder.place c.args.names.now c.requires.way
-    c.requires.depth) at c.in-Some.name.now _ c.keep_above.ensures told.0 told.1
-    (g.T.Tree.state c.args.store.now) (g.T.Tree.state c.down.new.store) c.in-Some.rest.now c.args.names.now parts.0 c.args.stand.now.around c.down.new.object
-    (g.T.Tree.state c.go_down.new.store) c.in-Some-inner.inner (folders_from 0 (spot_of c.go_down.new.stand.last) c.go_down.new.stand.listings.items)
-    c.go_down.new.stand.around leads c.go_down.result
+    let left : Folder = record { place = c.sorted-left.result.place; entries = c.keep_above.new.entries } in
+    let top = on_top c.args.stand.now.last c.args.stand.now.listings.items c.push-2.new.listings.items left c.args.folder.place c.args.names.now c.requires.way
+    c.requires.depth c.sorted-left.ensures.place c.push-2.ensures.piles in
+    came_on at top c.in-Some.name.now _ c.keep_above.ensures told.0 told.1 (g.T.Tree.state c.args.store.now) (g.T.Tree.state c.down.new.store) c.in-Some.rest.now
+    c.args.names.now parts.0 c.args.stand.now.around c.down.new.object (g.T.Tree.state c.go_down.new.store) c.in-Some-inner.inner
+    (piles_in c.go_down.new.stand.last c.go_down.new.stand.listings.items) c.go_down.new.stand.around leads c.go_down.result
     (c.go_down.ensures.told h root (leads.gives.0.goes.calls.did.tree ∙ over)
     (subst (λ e. IsAt root e c.in-Some-inner.inner.entries.items) (sym leads.gives.1.place) leads.gives.1.here)
     (subst (λ e. IsPart root e c.down.new.object) (sym leads.gives.1.place) leads.gives.1.part))
@@ -98,28 +82,23 @@ returns-in-Some-inner-clause-orderly g t c =
     orderly_at c.args.folder.place c.in-Some-inner.inner.place c.in-Some.rest.now c.args.names.now c.in-Some.name.now
     (piles_in c.go_down.new.stand.last c.go_down.new.stand.listings.items) c.go_down.new.stand.around c.go_down.result way.0.place parts.0 c.go_down.ensures.orderly
 
-pub returns-clause-orderly : goal.returns-clause-orderly
-returns-clause-orderly g t c =
+pub returns-in-None-clause-orderly : goal.returns-in-None-clause-orderly
+returns-in-None-clause-orderly g t c =
     let parts = rw c.in-Some.is at c.split_first.ensures.cases in
     let fair = c.sorted-left.ensures.fair c.requires.coming.ordinary in
     let same = rw c.in-None.is at c.in_ok-inner.ensures.fair in
-    stop_orderly c.args.folder.place _ (folders_from 0 (spot_of c.args.stand.now.last) c.args.stand.now.listings.items)
-    (folders_from 0 (spot_of c.args.stand.now.last) c.push-2.new.self.items) c.args.stand.now.around c.requires.coming
-    (kept_at c.args.stand.now.last c.args.stand.now.listings.items c.keep_above.new.entries)
-    (folders_push (spot_of c.args.stand.now.last) c.args.stand.now.listings.items c.push-2.new.self.items c.keep_above.new.entries c.push-2.ensures.items)
-    (kept_place c.args.stand.now.last c.args.stand.now.listings.items c.keep_above.new.entries c.args.folder.place c.args.names.now c.requires.way
-    c.requires.depth) c.in-Some.name.now _ c.keep_above.ensures fair.0 fair.1
-    c.in-Some.rest.now c.args.names.now c.down.new.object parts.0 same
+    let left : Folder = record { place = c.sorted-left.result.place; entries = c.keep_above.new.entries } in
+    let top = on_top c.args.stand.now.last c.args.stand.now.listings.items c.push-2.new.listings.items left c.args.folder.place c.args.names.now c.requires.way
+    c.requires.depth c.sorted-left.ensures.place c.push-2.ensures.piles in
+    stop_orderly c.requires.coming top c.in-Some.name.now _ c.keep_above.ensures fair.0 fair.1 c.in-Some.rest.now c.args.names.now c.down.new.object parts.0 same
 
-pub returns-clause-told : goal.returns-clause-told
-returns-clause-told g t c = λ h root over at part.
+pub returns-in-None-clause-told : goal.returns-in-None-clause-told
+returns-in-None-clause-told g t c = λ h root over at part.
     let parts = rw c.in-Some.is at c.split_first.ensures.cases in
     let told = c.sorted-left.ensures.told root c.requires.coming.ordinary at.listing in
     let leads = rw c.in-None.is at c.in_ok-inner.ensures.told h root over at part c.in-Some.rest.now in
-    came_stop root c.args.folder.place _ (folders_from 0 (spot_of c.args.stand.now.last) c.args.stand.now.listings.items)
-    (folders_from 0 (spot_of c.args.stand.now.last) c.push-2.new.self.items)
-    (kept_at c.args.stand.now.last c.args.stand.now.listings.items c.keep_above.new.entries)
-    (folders_push (spot_of c.args.stand.now.last) c.args.stand.now.listings.items c.push-2.new.self.items c.keep_above.new.entries c.push-2.ensures.items)
-    (kept_place c.args.stand.now.last c.args.stand.now.listings.items c.keep_above.new.entries c.args.folder.place c.args.names.now c.requires.way
-    c.requires.depth) at c.in-Some.name.now _ c.keep_above.ensures told.0 told.1
-    (g.T.Tree.state c.args.store.now) (g.T.Tree.state c.down.new.store) c.in-Some.rest.now c.args.names.now parts.0 c.args.stand.now.around c.down.new.object leads
+    let left : Folder = record { place = c.sorted-left.result.place; entries = c.keep_above.new.entries } in
+    let top = on_top c.args.stand.now.last c.args.stand.now.listings.items c.push-2.new.listings.items left c.args.folder.place c.args.names.now c.requires.way
+    c.requires.depth c.sorted-left.ensures.place c.push-2.ensures.piles in
+    came_stop at top c.in-Some.name.now _ c.keep_above.ensures told.0 told.1 (g.T.Tree.state c.args.store.now) (g.T.Tree.state c.down.new.store) c.in-Some.rest.now
+    c.args.names.now parts.0 c.args.stand.now.around c.down.new.object leads

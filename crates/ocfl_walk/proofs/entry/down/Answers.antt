@@ -1,4 +1,4 @@
-use Rattle.std.proofs.Common.{subst}
+use Rattle.std.proofs.Common.{[], subst}
 use Rattle.std.proofs.lemmas.Result.{err_from_is_err_and}
 use Rattle.ocfl_walk.specs.Internal.Entering.{LeadsOn}
 use Rattle.ocfl_walk.proofs.LeadsLaws.{around_on}
@@ -28,7 +28,7 @@ pub returns-in-None-clause-fair : goal.returns-in-None-clause-fair
 returns-in-None-clause-fair g c = c.into_directory.ensures.fair c.args.folder.now.place c.args.name.now (rw c.in-Some.is at c.in_ok-inner.ensures.fair)
 
 pub returns-in-Some-object-clause-fair : goal.returns-in-Some-object-clause-fair
-returns-in-Some-object-clause-fair g c = (rw c.in-Some.is at c.in_ok-inner.ensures.fair, around_on c.args.folder.now.place c.args.name.now c.args.object.now c.requires)
+returns-in-Some-object-clause-fair g c = (rw c.in-Some.is at c.in_ok-inner.ensures.fair, around_on c.args.folder.now.place c.args.name.now [] c.args.object.now c.requires)
 
 pub returns-in-Some-object-clause-told : goal.returns-in-Some-object-clause-told
 returns-in-Some-object-clause-told g c = λ h root over at part r.

@@ -6,7 +6,7 @@ use Rattle.ocfl_walk.specs.Standing.{IsStanding, piles_in, spot_of}
 use Rattle.ocfl_walk.specs.declared.stand.Stand.{Stand}
 use Rattle.ocfl_walk.proofs.Chosen.{no_memory}
 use Rattle.ocfl_walk.proofs.EndLaws.{not_past_down}
-use Rattle.ocfl_walk.proofs.FirstSteps.{cut_held, cut_in_order, cut_no_more, cut_trims, ends_at, entry_turn, goes_at_entry, goes_at_missing, mid_is, missing_next, missing_turn, one_directory, stays_before, steps_at}
+use Rattle.ocfl_walk.proofs.FirstSteps.{cut_held, cut_in_order, cut_no_more, cut_trims, ends_at, entry_turn, goes_at_entry, goes_at_missing, missing_next, missing_turn, one_directory, stays_before, steps_at}
 use Rattle.ocfl_walk.proofs.StandLaws.{steps_out_to}
 use Rattle.ocfl_walk.proofs.stand.Stand.step_to.Goals as goal
 
@@ -24,9 +24,8 @@ returns-then-is_past-clause-told g c = λ h root over d q st first.
 
 pub returns-in_err-entry-clause-orderly : goal.returns-in_err-entry-clause-orderly
 returns-in_err-entry-clause-orderly g c =
-    let is = mid_is (spot_of c.args.self.now.last) c.args.self.now.listings c.begin_at.new.listings c.drop_empty.new.listings c.depth.result
-    c.in-Some.directory c.args.name.now c.begin_at.ensures c.drop_empty.ensures c.depth.ensures in
-    cut_in_order c.args.self.now c.in-Some.directory c.args.name.now c.drop_empty.new.listings c.in-Some.is c.requires is
+    let is = c.begin_at.ensures (spot_of c.args.self.now.last) in
+    cut_in_order c.args.self.now c.in-Some.directory c.args.name.now c.begin_at.new.listings c.in-Some.is c.requires is
 
 pub returns-in_err-entry-clause-told : goal.returns-in_err-entry-clause-told
 returns-in_err-entry-clause-told g c = λ h root over d q st first.
@@ -35,45 +34,39 @@ returns-in_err-entry-clause-told g c = λ h root over d q st first.
 
 pub take_entry-requires-clause-orderly : goal.take_entry-requires-clause-orderly
 take_entry-requires-clause-orderly g c =
-    let is = mid_is (spot_of c.args.self.now.last) c.args.self.now.listings c.begin_at.new.listings c.drop_empty.new.listings c.depth.result
-    c.in-Some.directory c.args.name.now c.begin_at.ensures c.drop_empty.ensures c.depth.ensures in
-    cut_in_order c.args.self.now c.in-Some.directory c.args.name.now c.drop_empty.new.listings c.in-Some.is c.requires is
+    let is = c.begin_at.ensures (spot_of c.args.self.now.last) in
+    cut_in_order c.args.self.now c.in-Some.directory c.args.name.now c.begin_at.new.listings c.in-Some.is c.requires is
 
 pub take_missing-requires-clause-orderly : goal.take_missing-requires-clause-orderly
 take_missing-requires-clause-orderly g c =
-    let is = mid_is (spot_of c.args.self.now.last) c.args.self.now.listings c.begin_at.new.listings c.drop_empty.new.listings c.depth.result
-    c.in-Some.directory c.args.name.now c.begin_at.ensures c.drop_empty.ensures c.depth.ensures in
-    cut_in_order c.args.self.now c.in-Some.directory c.args.name.now c.drop_empty.new.listings c.in-Some.is c.requires is
+    let is = c.begin_at.ensures (spot_of c.args.self.now.last) in
+    cut_in_order c.args.self.now c.in-Some.directory c.args.name.now c.begin_at.new.listings c.in-Some.is c.requires is
 
 pub take_missing-requires-clause-next : goal.take_missing-requires-clause-next
 take_missing-requires-clause-next g c =
-    let is = mid_is (spot_of c.args.self.now.last) c.args.self.now.listings c.begin_at.new.listings c.drop_empty.new.listings c.depth.result
-    c.in-Some.directory c.args.name.now c.begin_at.ensures c.drop_empty.ensures c.depth.ensures in
-    missing_next c.args.self.now c.in-Some.directory c.args.name.now c.drop_empty.new.listings c.in-Some.is c.requires is c.in_ok-place.place
+    let is = c.begin_at.ensures (spot_of c.args.self.now.last) in
+    missing_next c.args.self.now c.in-Some.directory c.args.name.now c.begin_at.new.listings c.in-Some.is c.requires is c.in_ok-place.place
     c.in_ok-place.ensures c.in_ok-entry.entry c.in-None.ensures c.in_ok-entry.ensures
 
 pub take_missing-requires-clause-trim : goal.take_missing-requires-clause-trim
 take_missing-requires-clause-trim g c =
-    let is = mid_is (spot_of c.args.self.now.last) c.args.self.now.listings c.begin_at.new.listings c.drop_empty.new.listings c.depth.result
-    c.in-Some.directory c.args.name.now c.begin_at.ensures c.drop_empty.ensures c.depth.ensures in
-    cut_trims c.args.self.now c.in-Some.directory c.args.name.now c.drop_empty.new.listings c.in-Some.is c.requires is
+    let is = c.begin_at.ensures (spot_of c.args.self.now.last) in
+    cut_trims c.args.self.now c.in-Some.directory c.args.name.now c.begin_at.new.listings c.in-Some.is c.requires is
 
 pub returns-in-Some-unless_above-clause-goes_on : goal.returns-in-Some-unless_above-clause-goes_on
 returns-in-Some-unless_above-clause-goes_on g c =
-    let is = mid_is (spot_of c.args.self.now.last) c.args.self.now.listings c.begin_at.new.listings c.drop_empty.new.listings c.depth.result
-    c.in-Some.directory c.args.name.now c.begin_at.ensures c.drop_empty.ensures c.depth.ensures in
-    let mid : Stand = record { listings = c.drop_empty.new.listings; around = c.args.self.now.around; last = c.args.self.now.last } in
+    let is = c.begin_at.ensures (spot_of c.args.self.now.last) in
+    let mid : Stand = record { listings = c.begin_at.new.listings; around = c.args.self.now.around; last = c.args.self.now.last } in
     goes_at_entry c.args.self.now mid c.take_entry.new.self c.in-Some-unless_above.entry refl
-    (cut_no_more c.args.self.now c.in-Some.directory c.args.name.now c.drop_empty.new.listings c.in-Some.is c.requires is) c.take_entry.result
+    (cut_no_more c.args.self.now c.in-Some.directory c.args.name.now c.begin_at.new.listings c.in-Some.is c.requires is) c.take_entry.result
     c.take_entry.ensures.goes_on c.take_entry.ensures.there
 
 pub returns-in-Some-unless_above-clause-before : goal.returns-in-Some-unless_above-clause-before
 returns-in-Some-unless_above-clause-before g c =
-    let is = mid_is (spot_of c.args.self.now.last) c.args.self.now.listings c.begin_at.new.listings c.drop_empty.new.listings c.depth.result
-    c.in-Some.directory c.args.name.now c.begin_at.ensures c.drop_empty.ensures c.depth.ensures in
-    let mid : Stand = record { listings = c.drop_empty.new.listings; around = c.args.self.now.around; last = c.args.self.now.last } in
+    let is = c.begin_at.ensures (spot_of c.args.self.now.last) in
+    let mid : Stand = record { listings = c.begin_at.new.listings; around = c.args.self.now.around; last = c.args.self.now.last } in
     let goes = goes_at_entry c.args.self.now mid c.take_entry.new.self c.in-Some-unless_above.entry refl
-    (cut_no_more c.args.self.now c.in-Some.directory c.args.name.now c.drop_empty.new.listings c.in-Some.is c.requires is) c.take_entry.result
+    (cut_no_more c.args.self.now c.in-Some.directory c.args.name.now c.begin_at.new.listings c.in-Some.is c.requires is) c.take_entry.result
     c.take_entry.ensures.goes_on c.take_entry.ensures.there in
     let kept : is_past c.args.end.now c.in-Some-unless_above.entry ≡ false =
     not_past_down c.args.end.now c.in_ok-place.place c.in-Some-unless_above.entry (sym c.is_past.ensures ∙ c.if-is_past.false) c.in-Some-unless_above.ensures.1 in
@@ -81,14 +74,13 @@ returns-in-Some-unless_above-clause-before g c =
 
 pub returns-in-Some-unless_above-clause-told : goal.returns-in-Some-unless_above-clause-told
 returns-in-Some-unless_above-clause-told g c = λ h root over d q st first.
-    let is = mid_is (spot_of c.args.self.now.last) c.args.self.now.listings c.begin_at.new.listings c.drop_empty.new.listings c.depth.result
-    c.in-Some.directory c.args.name.now c.begin_at.ensures c.drop_empty.ensures c.depth.ensures in
+    let is = c.begin_at.ensures (spot_of c.args.self.now.last) in
     let same = one_directory c.args.self.now.last c.in-Some.directory d c.in-Some.is st.0 in
     let there = subst (λ y. IsStanding root y (piles_in c.args.self.now.last c.args.self.now.listings.items) c.args.self.now.around) (sym same) st.1 in
     let begins = subst (λ y. place_before root (y ++ c.args.name.now ∷ []) ≡ Some q) (sym same) first in
-    let turn = entry_turn c.args.self.now c.in-Some.directory c.args.name.now c.drop_empty.new.listings c.in-Some.is c.requires is root q begins there
+    let turn = entry_turn c.args.self.now c.in-Some.directory c.args.name.now c.begin_at.new.listings c.in-Some.is c.requires is root q begins there
     c.in-Some-unless_above.entry c.in_ok-place.place c.in_ok-place.ensures c.in_ok-entry.entry c.in_ok-entry.ensures c.in-Some-unless_above.ensures.0 c.in-Some-unless_above.ensures.1 in
-    let held = cut_held c.args.self.now c.in-Some.directory c.args.name.now c.drop_empty.new.listings c.in-Some.is c.requires is root q begins there in
+    let held = cut_held c.args.self.now c.in-Some.directory c.args.name.now c.begin_at.new.listings c.in-Some.is c.requires is root q begins there in
     let kept : is_past c.args.end.now c.in-Some-unless_above.entry ≡ false =
     not_past_down c.args.end.now c.in_ok-place.place c.in-Some-unless_above.entry (sym c.is_past.ensures ∙ c.if-is_past.false) c.in-Some-unless_above.ensures.1 in
     steps_at root (g.T.Tree.state c.args.store.now) (g.T.Tree.state c.take_entry.new.store) q c.in-Some-unless_above.entry c.args.end.now c.args.self.now
@@ -99,21 +91,19 @@ returns-in-Some-unless_above-clause-told g c = λ h root over d q st first.
 
 pub returns-in-None-clause-goes_on : goal.returns-in-None-clause-goes_on
 returns-in-None-clause-goes_on g c =
-    let is = mid_is (spot_of c.args.self.now.last) c.args.self.now.listings c.begin_at.new.listings c.drop_empty.new.listings c.depth.result
-    c.in-Some.directory c.args.name.now c.begin_at.ensures c.drop_empty.ensures c.depth.ensures in
-    let mid : Stand = record { listings = c.drop_empty.new.listings; around = c.args.self.now.around; last = c.args.self.now.last } in
+    let is = c.begin_at.ensures (spot_of c.args.self.now.last) in
+    let mid : Stand = record { listings = c.begin_at.new.listings; around = c.args.self.now.around; last = c.args.self.now.last } in
     goes_at_missing c.args.self.now mid c.take_missing.new.self c.in_ok-place.place refl
-    (cut_no_more c.args.self.now c.in-Some.directory c.args.name.now c.drop_empty.new.listings c.in-Some.is c.requires is) c.take_missing.result
+    (cut_no_more c.args.self.now c.in-Some.directory c.args.name.now c.begin_at.new.listings c.in-Some.is c.requires is) c.take_missing.result
     c.take_missing.ensures.goes_on c.take_missing.ensures.there
 
 pub returns-in-None-clause-told : goal.returns-in-None-clause-told
 returns-in-None-clause-told g c = λ h root over d q st first.
-    let is = mid_is (spot_of c.args.self.now.last) c.args.self.now.listings c.begin_at.new.listings c.drop_empty.new.listings c.depth.result
-    c.in-Some.directory c.args.name.now c.begin_at.ensures c.drop_empty.ensures c.depth.ensures in
+    let is = c.begin_at.ensures (spot_of c.args.self.now.last) in
     let same = one_directory c.args.self.now.last c.in-Some.directory d c.in-Some.is st.0 in
     let there = subst (λ y. IsStanding root y (piles_in c.args.self.now.last c.args.self.now.listings.items) c.args.self.now.around) (sym same) st.1 in
     let begins = subst (λ y. place_before root (y ++ c.args.name.now ∷ []) ≡ Some q) (sym same) first in
-    let turn = missing_turn c.args.self.now c.in-Some.directory c.args.name.now c.drop_empty.new.listings c.in-Some.is c.requires is root q begins
+    let turn = missing_turn c.args.self.now c.in-Some.directory c.args.name.now c.begin_at.new.listings c.in-Some.is c.requires is root q begins
     there c.in_ok-place.place c.in_ok-place.ensures c.in_ok-entry.entry c.in-None.ensures c.in_ok-entry.ensures in
     steps_at root (g.T.Tree.state c.args.store.now) (g.T.Tree.state c.args.store.now) q c.in_ok-place.place c.args.end.now c.args.self.now
     c.take_missing.new.self c.take_missing.result c.take_missing.ensures.there

@@ -27,12 +27,12 @@ use Rattle.ocfl_audit.proofs.DueLaws.{audit_by_places}
 use Rattle.ocfl_audit.proofs.Lists.{map_filter}
 use Rattle.ocfl_audit.proofs.PartLaws.{part_goes_on, within_is, places_within_is}
 use Rattle.ocfl_audit.proofs.RunLaws.{cost_append, files_append}
-use Rattle.ocfl_cursor.specs.Cursor.{ended, Cursor}
+use Rattle.ocfl_cursor.specs.Cursor.{State, start, behind, ended, Cursor}
 use Rattle.ocfl_item.specs.declared.fault.Fault.{Fault}
 use Rattle.ocfl_item.specs.declared.fault.Fault.TheVariants.{Output}
 use Rattle.ocfl_scrub.specs.Call.{Call, known_call}
 use Rattle.ocfl_scrub.specs.Joining.{PartRun, Ran, AreOneCycle, cursor_after, is_taken, left_by, unread_by, unread_together, is_stopped, unstopped, items_out, reports_of, PartCycle, IsWholeCycle}
-use Rattle.ocfl_scrub.specs.Running.{place_in, state_at, state_after, first_of, items_above_in, taken_in, rest_in, RunsWithin, RunStopsWithin, RunEndsWithin, RunsFromWithin}
+use Rattle.ocfl_scrub.specs.Running.{place_in, begun, begun_in, state_at, state_after, first_of, items_above_in, taken_in, rest_in, RunsWithin, RunStopsWithin, RunEndsWithin, RunsFromWithin}
 use Rattle.ocfl_scrub.specs.Starting.{due_within}
 use Rattle.ocfl_scrub.specs.Written.{places, last_of}
 use Rattle.ocfl_scrub.specs.declared.running.RunEnd.{RunEnd}
@@ -366,42 +366,51 @@ module _ (root : StorageRoot) (part : Part) where
         }
 
     -- it stopped, maybe in a further one
-    stopped_takes : (why : Fault) (h : RunStopsWithin call part from last r.limits r.ran.spent r.ran.files r.ran.found why) → r.report ≡ text h.stops.whole
-        → r.ran.end ≡ status.Stopped why → Takes c r
-    stopped_takes why h report e =
-        let k = h.stops in
-        let same = trail_is h.trail h.looks.fails.did.openings_are in
-        let above : List Item = items_above_in root h.trail part from in
-        let left_items : List Item = rest_in root h.trail part from r.limits in
-        let split : above ≡ k.whole ++ (k.others ++ left_items) =
-        sym (cut_and_left above r.limits) ∙ ap (λ is. is ++ left_items) k.items_are ∙ append_assoc k.whole k.others left_items in
-        let state : r.ran.cursor.state ≡ state_at last = state_is (status.Stopped why) e in
-        let first : places k.others ≡ k.begun ++ (k.one.0 ++ places (drop 1 k.others)) =
-        ap places (sym (take-append-drop 1 k.others)) ∙ map_append (λ i. i.place) (take 1 k.others) (drop 1 k.others)
-        ∙ ap (λ ps. ps ++ places (drop 1 k.others)) k.one.1 ∙ append_assoc k.begun k.one.0 (places (drop 1 k.others)) in
-        let rest : List Place = (k.one.0 ++ places (drop 1 k.others)) ++ places left_items in
-        let due_next : due_within root part last ≡ k.begun ++ rest =
-        ap (due_within root part) k.last_is ∙ sym (places_of_items root h.trail (due_within root part (last_of from (places k.whole))))
-        ∙ ap places (rest_is root part h.trail from k.whole (k.others ++ left_items) split) ∙ map_append (λ i. i.place) k.others left_items
-        ∙ ap (λ ps. ps ++ places left_items) first ∙ append_assoc k.begun (k.one.0 ++ places (drop 1 k.others)) (places left_items) in
-        record {
-          done = places k.whole;
-          last = last;
-          due_are = due_parts_are h.trail k.whole (k.others ++ left_items) split k.last_is same;
-          report = report ∙ ap text (out_is h.trail k.whole (k.others ++ left_items) split k.last_is same);
-          taken = λ p i. ap (λ s. is_taken s p) state ∙ taken_before h.trail k.whole (k.others ++ left_items) split k.last_is same p i;
-          among = λ p t i. not_begun (places k.whole) k.begun rest p due_next (sym (ap (λ s. is_taken s p) state) ∙ t)
-              (among_parts (places k.whole) k.begun p (opened_there r.opened (places k.whole ++ k.begun) p
-              (subst (λ os. content_trail root os ≡ hashed_among root (places k.whole ++ k.begun)) same h.looks.fails.opened) i));
-          ends = inl state;
-          goes_on = λ f. ap place_in state ∙ place_there last;
-          spends = λ f. absurd (spent_stopped why (sym f ∙ e));
-        }
-      where
-        not_begun : (ps begun rest : List Place) (p : Place) → due_within root part last ≡ begun ++ rest → is_taken (state_at last) p ≡ true → IsAmong ps p ⊎ IsAmong begun p → IsAmong ps p
-        not_begun ps begun rest p e t (inl j) = j
-        not_begun ps begun rest p e t (inr j) =
-            absurd (true_not_false (sym t ∙ due_not_taken last p (subst (λ qs. IsAmong qs p) (sym e) (among_left begun rest p j))))
+    module _ (why : Fault) (h : RunStopsWithin call part from last r.limits r.ran.spent r.ran.files r.ran.found why) where
+      abbrev unwritten : List Item
+      unwritten = h.stops.others ++ rest_in root h.trail part from r.limits
+
+      abbrev unbegun : List Place
+      unbegun = (h.stops.one.0 ++ places (drop 1 h.stops.others)) ++ places (rest_in root h.trail part from r.limits)
+
+      stop_split : items_above_in root h.trail part from ≡ h.stops.whole ++ unwritten
+      stop_split = sym (cut_and_left (items_above_in root h.trail part from) r.limits) ∙ ap (λ is. is ++ rest_in root h.trail part from r.limits) h.stops.items_are
+          ∙ append_assoc h.stops.whole h.stops.others (rest_in root h.trail part from r.limits)
+
+      next_first : places h.stops.others ≡ h.stops.begun ++ (h.stops.one.0 ++ places (drop 1 h.stops.others))
+      next_first = ap places (sym (take-append-drop 1 h.stops.others)) ∙ map_append (λ i. i.place) (take 1 h.stops.others) (drop 1 h.stops.others)
+          ∙ ap (λ ps. ps ++ places (drop 1 h.stops.others)) h.stops.one.1 ∙ append_assoc h.stops.begun h.stops.one.0 (places (drop 1 h.stops.others))
+
+      due_next : due_within root part last ≡ h.stops.begun ++ unbegun
+      due_next = ap (due_within root part) h.stops.last_is ∙ sym (places_of_items root h.trail (due_within root part (last_of from (places h.stops.whole))))
+          ∙ ap places (rest_is root part h.trail from h.stops.whole unwritten stop_split)
+          ∙ map_append (λ i. i.place) h.stops.others (rest_in root h.trail part from r.limits)
+          ∙ ap (λ ps. ps ++ places (rest_in root h.trail part from r.limits)) next_first
+          ∙ append_assoc h.stops.begun (h.stops.one.0 ++ places (drop 1 h.stops.others)) (places (rest_in root h.trail part from r.limits))
+
+      stopped_takes : r.report ≡ text h.stops.whole → r.ran.end ≡ status.Stopped why → Takes c r
+      stopped_takes report e =
+          let k = h.stops in
+          let same = trail_is h.trail h.looks.fails.did.openings_are in
+          let state : r.ran.cursor.state ≡ state_at last = state_is (status.Stopped why) e in
+          record {
+            done = places k.whole;
+            last = last;
+            due_are = due_parts_are h.trail k.whole unwritten stop_split k.last_is same;
+            report = report ∙ ap text (out_is h.trail k.whole unwritten stop_split k.last_is same);
+            taken = λ p i. ap (λ s. is_taken s p) state ∙ taken_before h.trail k.whole unwritten stop_split k.last_is same p i;
+            among = λ p t i. not_begun (places k.whole) k.begun unbegun p due_next (sym (ap (λ s. is_taken s p) state) ∙ t)
+                (among_parts (places k.whole) k.begun p (opened_there r.opened (places k.whole ++ k.begun) p
+                (subst (λ os. content_trail root os ≡ hashed_among root (places k.whole ++ k.begun)) same h.looks.fails.opened) i));
+            ends = inl state;
+            goes_on = λ f. ap place_in state ∙ place_there last;
+            spends = λ f. absurd (spent_stopped why (sym f ∙ e));
+          }
+        where
+          not_begun : (ps begun rest : List Place) (p : Place) → due_within root part last ≡ begun ++ rest → is_taken (state_at last) p ≡ true → IsAmong ps p ⊎ IsAmong begun p → IsAmong ps p
+          not_begun ps begun rest p e t (inl j) = j
+          not_begun ps begun rest p e t (inr j) =
+              absurd (true_not_false (sym t ∙ due_not_taken last p (subst (λ qs. IsAmong qs p) (sym e) (among_left begun rest p j))))
 
     run_takes : Takes c r
     run_takes = by r.ran.end refl w.runs.run w.report_is
@@ -412,6 +421,47 @@ module _ (root : StorageRoot) (part : Part) where
         by status.Spent e run report = spent_takes run.0 run.1 report e
         by (status.Stopped why) e run report = stopped_takes why run report e
         by status.Worn e run report = absurd run
+
+    -- each content file that it opened was due
+    abbrev AreDue : Type 0
+    AreDue = (p : Place) → IsAmong (content_trail root r.opened) p → IsAmong (due_within root part from) p
+
+    due_there : (os : List Opening) (ps rest : List Place) → due_within root part from ≡ ps ++ rest → os ≡ r.opened → content_trail root os ≡ hashed_among root ps → AreDue
+    due_there os ps rest split same opened p i =
+        let there = subst (λ qs. IsAmong qs p) (ap (content_trail root) (sym same) ∙ opened) i in
+        subst (λ qs. IsAmong qs p) (sym split) (among_left ps rest p (hashed_are_among root ps p there))
+
+    pub opens_due : AreDue
+    opens_due = by r.ran.end w.runs.run
+      where
+        took : (next : Option Place) → RunsWithin call part from last r.limits r.ran.spent r.ran.files r.ran.found next → AreDue
+        took next h =
+            let same = trail_is h.trail h.looks.audits.did.openings_are in
+            let out : List Item = taken_in root h.trail part from r.limits in
+            due_there h.trail (places out) (due_within root part last)
+            (due_parts_are h.trail out (rest_in root h.trail part from r.limits) (cut_split h.trail) h.last_is same) same h.looks.audits.opened
+
+        stopped : (why : Fault) → RunStopsWithin call part from last r.limits r.ran.spent r.ran.files r.ran.found why → AreDue
+        stopped why h =
+            let same = trail_is h.trail h.looks.fails.did.openings_are in
+            due_there h.trail (places h.stops.whole ++ h.stops.begun) (unbegun why h)
+            (due_parts_are h.trail h.stops.whole (unwritten why h) (stop_split why h) h.stops.last_is same
+            ∙ ap (λ ps. places h.stops.whole ++ ps) (due_next why h) ∙ sym (append_assoc (places h.stops.whole) h.stops.begun (unbegun why h))) same h.looks.fails.opened
+
+        by : (end : RunStatus) → RunEndsWithin call part from last r.limits r.ran.spent r.ran.files r.ran.found end → AreDue
+        by status.Ended run = took None run
+        by status.Spent run = took (Some run.0) run.1
+        by (status.Stopped why) run = stopped why run
+        by status.Worn run = absurd run
+
+    -- so nothing that its cursor had taken is opened again
+    pub opens_beyond : (p : Place) → IsAmong (content_trail root r.opened) p → is_taken (begun c).state p ≡ false
+    opens_beyond p i = by c.state refl (due_not_taken from p (opens_due p i))
+      where
+        by : (s : State) → c.state ≡ s → is_taken (state_at (place_in s)) p ≡ false → is_taken (begun_in c s).state p ≡ false
+        by start e h = ap (λ x. is_taken x p) e
+        by (behind q) e h = ap (λ x. is_taken x p) e ∙ h
+        by ended e h = refl
 
   -- ---- runs one after the other
 

@@ -1,7 +1,7 @@
 //! The laws of parts: what the runs of a part wrote, joined, and what the parts of a storage root
 //! wrote together.
 ghost use Rattle.std.specs.Prelude.{◌≡◌, ◌≢◌, ◌≤◌, ◌+◌, ◌++◌, ◌/◌, ℕ, Bool, List, [], ◌∷◌};
-ghost use Rattle.std.specs.Prelude.{Option, None, All};
+ghost use Rattle.std.specs.Prelude.{Option, None, All, false};
 ghost use Rattle.std.specs.Prelude.{filter, flat_map, length, map};
 ghost use Rattle.std.specs.List.{AllByRecursion};
 ghost use Rattle.ocfl_tree.specs.Place.{Place, Text, place_cmp};
@@ -15,7 +15,7 @@ ghost use Rattle.ocfl_audit.specs.Due.{hashed_among, item_places};
 ghost use Rattle.ocfl_audit.specs.Lines.{is_empty};
 ghost use Rattle.ocfl_audit.specs.Parts.{Part, parts_of, places_within, whole, within};
 ghost use Rattle.ocfl_audit.specs.Runs.{IsAtLeast, Limits, total_files};
-ghost use Rattle.ocfl_audit.specs.Trail.{heads_of};
+ghost use Rattle.ocfl_audit.specs.Trail.{content_trail, heads_of};
 ghost use Rattle.ocfl_cursor.specs.Cursor.{Cursor, ended};
 ghost use Rattle.ocfl_item.specs.Auditing.{FailedAt};
 ghost use Rattle.ocfl_item.specs.declared.fault.Fault.TheVariants as fault;
@@ -23,9 +23,9 @@ ghost use Rattle.ocfl_scrub.specs.Call.{Call, known_call};
 ghost use Rattle.ocfl_scrub.specs.Chaining.{CycleOfRunsWithin, IsMadeOf};
 ghost use Rattle.ocfl_scrub.specs.Checking.{CheckEnds};
 ghost use Rattle.ocfl_scrub.specs.Openings.{OpensNear, OpensWithin};
-ghost use Rattle.ocfl_scrub.specs.Running.{RunEndsWithin, RunsFromWithin, place_in};
+ghost use Rattle.ocfl_scrub.specs.Running.{RunEndsWithin, RunsFromWithin, begun, place_in};
 ghost use Rattle.ocfl_scrub.specs.Joining.{AreOneCycle, AreRuns, IsPartCycle, IsWholeCycle};
-ghost use Rattle.ocfl_scrub.specs.Joining.{PartCycle, PartRun, Ran, cursor_after, left_by};
+ghost use Rattle.ocfl_scrub.specs.Joining.{PartCycle, PartRun, Ran, cursor_after, is_taken, left_by};
 ghost use Rattle.ocfl_scrub.specs.Joining.{opened_by, reports_of, unread_together, unstopped};
 ghost use Rattle.ocfl_scrub.specs.Keeping.{RunsOn};
 ghost use Rattle.ocfl_scrub.specs.WholeAudit.{AuditEndsWithin};
@@ -132,6 +132,14 @@ pub fn each_run_that_goes_on_has_a_report()
         × ((cut : Text) × ((r.limits ≡ limits) × ((r.ran ≡ ran)
         × ((new ≡ old ++ (r.report ++ cut)) × ((ran.end ≢ run.Stopped fault.Output → cut ≡ [])
         × Ran root part c r))))) }
+{}
+
+/// What a cursor has taken is not read again in its cycle: each content file that a run opens comes
+/// after it, whether the run ends, stops, or is lost with its report.
+pub fn what_was_taken_is_not_read_again()
+    ensures { (root : StorageRoot) (part : Part) (c : Cursor) (r : PartRun) → Ran root part c r
+        → (p : Place) → IsAmong (content_trail root r.opened) p
+        → is_taken (begun c).state p ≡ false }
 {}
 
 /// The audit of a part lists each directory once and reads each inventory once, in order, whether

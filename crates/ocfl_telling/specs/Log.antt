@@ -8,6 +8,7 @@ use Rattle.ocfl_report.specs.Text.{escape, place_text}
 use Rattle.ocfl_telling.specs.declared.log.Stands.{Stands}
 use Rattle.ocfl_telling.specs.declared.log.Stands.TheVariants.{Start, After, Ended}
 use Rattle.ocfl_telling.specs.declared.log.SliceRow.{SliceRow}
+use Rattle.ocfl_telling.specs.declared.log.LeftRow.{LeftRow}
 use Rattle.ocfl_telling.specs.declared.log.ClosingRow.{ClosingRow}
 use Rattle.ocfl_telling.specs.declared.log.RefusalRow.{RefusalRow}
 use Rattle.ocfl_telling.specs.declared.log.NightRow.{NightRow}
@@ -41,6 +42,14 @@ slice_with r stands = object (counts (codes "bytes") r.bytes (counts (codes "cos
 
 abbrev pub slice_data : SliceRow → Data
 slice_data r = slice_with r (stands_text r.stands)
+
+-- a place that is left out, with its text
+abbrev pub left_with : LeftRow → Text → Data
+left_with r place = object (counts (codes "cycle") r.cycle (counts (codes "night") r.night
+    (says (codes "place") place (says (codes "row") (codes "left") (counts (codes "time") r.time no_members)))))
+
+abbrev pub left_data : LeftRow → Data
+left_data r = left_with r (place_text r.place.now)
 
 -- a closing, with the path of its report
 abbrev pub closing_with : ClosingRow → Text → Data

@@ -24,8 +24,8 @@ pub use gravest::{Gravest, Kept, SHOWN};
 pub use known::{Entry, Known, Reach};
 pub use list::{KnownStop, read_known};
 pub use log::{
-    ClosingRow, NightRow, RefusalRow, SliceRow, Stands, closing_line, night_line, refusal_line,
-    slice_line,
+    ClosingRow, LeftRow, NightRow, RefusalRow, SliceRow, Stands, closing_line, left_line,
+    night_line, refusal_line, slice_line,
 };
 pub use night::{Night, night_text};
 pub use refusal::{Refusal, refusal_text};

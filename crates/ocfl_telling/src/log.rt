@@ -7,10 +7,10 @@ ghost use Rattle.std.specs.Prelude.{◌≡◌, ◌≤◌, false, IfOk, string_by
 ghost use Rattle.serde_json.specs.Data.{Data, depth};
 ghost use Rattle.serde_json.specs.View.{view};
 ghost use Rattle.serde_json.specs.Written.{has_float};
-ghost use Rattle.ocfl_report.specs.Text.{escape};
+ghost use Rattle.ocfl_report.specs.Text.{escape, place_text};
 ghost use Rattle.ocfl_telling.specs.Log.{IsJsonLine, stands_text, slice_data, closing_data};
 ghost use Rattle.ocfl_telling.specs.Log.{refusal_data, night_data, slice_with, closing_with};
-ghost use Rattle.ocfl_telling.specs.Log.{refusal_with};
+ghost use Rattle.ocfl_telling.specs.Log.{left_data, left_with, refusal_with};
 
 use crate::shown::Shown;
 use ocfl_report::DisplayPlace;
@@ -56,6 +56,19 @@ pub struct SliceRow<'a> {
     pub seconds: u64,
     /// Where the cursor then stands.
     pub stands: Stands<'a>,
+}
+
+/// A place that is left out of a cycle.
+#[derive(Clone, Copy, Debug)]
+pub struct LeftRow<'a> {
+    /// When it was left out.
+    pub time: u64,
+    /// When the night that left it out began.
+    pub night: u64,
+    /// The number of the cycle.
+    pub cycle: u64,
+    /// The place. All that lies below it is left out too.
+    pub place: &'a Place,
 }
 
 /// The closing of a cycle.
@@ -140,6 +153,13 @@ fn stands_words(alloc: Global, stands: Stands<'_>) -> Result<String, AllocError>
     }
 }
 
+/// A place, as reports write it.
+fn place_words(alloc: Global, place: &Place) -> Result<String, AllocError>
+    ensures { IfOk result (λ text. string_bytes text ≡ place_text place.now) }
+{
+    format!(in alloc; "{}", DisplayPlace(place))
+}
+
 /// A text, escaped as in reports.
 fn escaped(alloc: Global, text: &str) -> Result<String, AllocError>
     ensures { IfOk result (λ written. string_bytes written ≡ escape text.now) }
@@ -174,6 +194,28 @@ pub fn slice_line(alloc: Global, row: &SliceRow<'_>) -> Result<String, AllocErro
 {
     let stands = stands_words(alloc, row.stands)?;
     let value = slice_value(alloc, row, stands.as_str())?;
+    line_of(alloc, &value)
+}
+
+/// What the line of a place that is left out says.
+fn left_value(alloc: Global, row: &LeftRow<'_>, place: &str) -> Result<Value, AllocError>
+    ensures { IfOk result (λ v. view v ≡ left_with row.now place.now) }
+{
+    json!(in alloc; {
+        "cycle": row.cycle,
+        "night": row.night,
+        "place": place,
+        "row": "left",
+        "time": row.time
+    })
+}
+
+/// The line of a place that is left out.
+pub fn left_line(alloc: Global, row: &LeftRow<'_>) -> Result<String, AllocError>
+    ensures { IfOk result (λ line. IsJsonLine (string_bytes line) (left_data row.now)) }
+{
+    let place = place_words(alloc, row.place)?;
+    let value = left_value(alloc, row, place.as_str())?;
     line_of(alloc, &value)
 }
 

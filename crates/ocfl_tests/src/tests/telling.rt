@@ -4,10 +4,10 @@ use crate::tests::common::store::place_of;
 use ocfl_report::{Line, read_line};
 use ocfl_telling::laws::{all_findings_are_ordered, findings_have_weights};
 use ocfl_telling::{
-    Closing, ClosingRow, Entry, Found, FoundStop, Gone, Gravest, Kind, Known, KnownStop, Night,
-    NightRow, Reach, Refusal, RefusalRow, SliceRow, Stands, Stop, Weight, closing_line,
-    closing_text, night_line, night_text, read_known, refusal_line, refusal_text, slice_line,
-    stop_text, weigh,
+    Closing, ClosingRow, Entry, Found, FoundStop, Gone, Gravest, Kind, Known, KnownStop, LeftRow,
+    Night, NightRow, Reach, Refusal, RefusalRow, SliceRow, Stands, Stop, Weight, closing_line,
+    closing_text, left_line, night_line, night_text, read_known, refusal_line, refusal_text,
+    slice_line, stop_text, weigh,
 };
 use std::alloc::Global;
 use std::test::Fail;
@@ -341,6 +341,7 @@ fn closings_say_what_changed(rt: HostRuntime) -> Result<(), Fail> {
 #[test]
 fn rows_are_json(rt: HostRuntime) -> Result<(), Fail> {
     expect_slice(&rt)?;
+    expect_left(&rt)?;
     expect_closing(&rt)?;
     expect_refusal(&rt)?;
     expect_night(&rt)
@@ -364,6 +365,19 @@ fn expect_slice(rt: &impl Runtime) -> Result<(), Fail> {
         stands: Stands::After(&place),
     };
     assert_eq!(rt; slice_line(alloc, &slice)?.as_str(), SLICE);
+    Ok(())
+}
+
+fn expect_left(rt: &impl Runtime) -> Result<(), Fail> {
+    let alloc = rt.alloc();
+    let place = place_of(alloc, "a/b\n")?;
+    let left = LeftRow {
+        time: 1,
+        night: 2,
+        cycle: 3,
+        place: &place,
+    };
+    assert_eq!(rt; left_line(alloc, &left)?.as_str(), LEFT);
     Ok(())
 }
 
@@ -415,6 +429,9 @@ const SLICE: &str =
     "{\"bytes\":8,\"cost\":4,\"cycle\":1,\"files\":6,\"lines\":7,\"night\":1700000000,\
 \"row\":\"slice\",\"run\":2,\"seconds\":9,\"spent\":5,\"stands\":\"after a\\\"\\\\/%0A\",\
 \"status\":3,\"time\":1700000001}\n";
+
+const LEFT: &str =
+    "{\"cycle\":3,\"night\":2,\"place\":\"a/b%0A\",\"row\":\"left\",\"time\":1}\n";
 
 const CLOSING: &str = "{\"cycle\":3,\"findings\":4,\"gone\":7,\"left\":8,\"new\":5,\"night\":2,\
 \"repaired\":6,\"report\":\"/s/%C2%9B\",\"row\":\"closing\",\"time\":1,\"whole\":true}\n";

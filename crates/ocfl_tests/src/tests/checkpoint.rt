@@ -64,6 +64,37 @@ ended
 /// The SHA-256 of the first line and these, by `sha256sum`.
 const PART_DIGEST: &str = "94cef0980813f810797b1826333cf15479200e84339b723bc7cfdd8c97c0ec3b";
 
+/// A line of the first checkpoint, or a part of one, and what makes the text malformed in its
+/// place.
+const MALFORMED: [(&str, &str); 26] = [
+    ("root /srv/ocfl", "root srv/ocfl"),
+    ("root /srv/ocfl", "root /."),
+    ("root /srv/ocfl", "root /srv//ocfl"),
+    ("root /srv/ocfl", "root /srv/ocfl/"),
+    ("root /srv/ocfl", "root "),
+    ("root /srv/ocfl\n", ""),
+    ("declared 1", "declared "),
+    ("declared 1", "declared g"),
+    ("names 3 a", "names 3 A"),
+    ("names 3 ", "names 03 "),
+    ("names 3 ", "names 18446744073709551616 "),
+    ("names 3 ", "names 3"),
+    ("phase open", "phase closed"),
+    ("phase open", "phase open "),
+    ("whole yes", "whole maybe"),
+    ("report 120 3", "report 120"),
+    ("report 120 3", "report 120  3"),
+    ("report 120 3", "report 3 120"),
+    ("told 60", "told 121"),
+    ("told 60", "told -1"),
+    ("left 0", "left 1"),
+    ("left 0\n", "left 0\nleft o\nstart\n"),
+    ("left 0\n", "left 1\nleft o\n"),
+    ("left 0\n", "left 1\nleft o\nended\n"),
+    ("cycle 1", "cycle 0"),
+    ("after o/v1/content/a\n", "after o/v1/content/a\n\n"),
+];
+
 /// The checkpoint after a first slice.
 fn checkpoint(alloc: Global) -> Result<Checkpoint, Fail> {
     let place = place_of(alloc, "o/v1/content/a")?;
@@ -151,8 +182,7 @@ fn sealed_refusal(alloc: Global, body: &str) -> Result<Option<NotDecoded>, Fail>
 fn expect_text(
     rt: &impl Runtime,
     checkpoint: &Checkpoint,
-    lines: &str,
-    digest: &str,
+    (lines, digest): (&str, &str),
 ) -> Result<(), Fail> {
     let alloc = rt.alloc();
     let wanted = format!(in alloc; "{FIRST}{lines}sha256 {digest}\n")?;
@@ -173,8 +203,8 @@ fn expect_text(
 #[test]
 fn checkpoints_have_these_texts(rt: HostRuntime) -> Result<(), Fail> {
     let alloc = rt.alloc();
-    expect_text(&rt, &checkpoint(alloc)?, LINES, DIGEST)?;
-    expect_text(&rt, &part_checkpoint(alloc)?, PART_LINES, PART_DIGEST)?;
+    expect_text(&rt, &checkpoint(alloc)?, (LINES, DIGEST))?;
+    expect_text(&rt, &part_checkpoint(alloc)?, (PART_LINES, PART_DIGEST))?;
     text_determines_the_checkpoint();
     no_checkpoint_is_refused();
     Ok(())
@@ -312,37 +342,6 @@ fn damaged_checkpoints_are_refused(rt: HostRuntime) -> Result<(), Fail> {
     }
     Ok(())
 }
-
-/// A line of the first checkpoint, or a part of one, and what makes the text malformed in its
-/// place.
-const MALFORMED: [(&str, &str); 26] = [
-    ("root /srv/ocfl", "root srv/ocfl"),
-    ("root /srv/ocfl", "root /."),
-    ("root /srv/ocfl", "root /srv//ocfl"),
-    ("root /srv/ocfl", "root /srv/ocfl/"),
-    ("root /srv/ocfl", "root "),
-    ("root /srv/ocfl\n", ""),
-    ("declared 1", "declared "),
-    ("declared 1", "declared g"),
-    ("names 3 a", "names 3 A"),
-    ("names 3 ", "names 03 "),
-    ("names 3 ", "names 18446744073709551616 "),
-    ("names 3 ", "names 3"),
-    ("phase open", "phase closed"),
-    ("phase open", "phase open "),
-    ("whole yes", "whole maybe"),
-    ("report 120 3", "report 120"),
-    ("report 120 3", "report 120  3"),
-    ("report 120 3", "report 3 120"),
-    ("told 60", "told 121"),
-    ("told 60", "told -1"),
-    ("left 0", "left 1"),
-    ("left 0\n", "left 0\nleft o\nstart\n"),
-    ("left 0\n", "left 1\nleft o\n"),
-    ("left 0\n", "left 1\nleft o\nended\n"),
-    ("cycle 1", "cycle 0"),
-    ("after o/v1/content/a\n", "after o/v1/content/a\n\n"),
-];
 
 #[test]
 fn other_lines_are_malformed(rt: HostRuntime) -> Result<(), Fail> {

@@ -1,11 +1,11 @@
 //! What reports say of one another, and the reports of all parts.
-use crate::tests::common::input::{Slow, Then, failures};
+use crate::tests::common::input::expect_failures;
 use crate::tests::common::output::Narrow;
 use crate::tests::common::store::place_of;
 use ocfl_compare::{CompareStop, compare};
 use ocfl_tree::Place;
 use std::alloc::Global;
-use std::io::BufReader;
+use std::io::{BufRead, BufReader};
 use std::test::Fail;
 
 mod expecting;
@@ -19,61 +19,68 @@ E092\to/v1/content/b\tsha256 missing\nok\tp\t-\nok\tp/v1/content/c\t0\n";
 const NOW: &str = "ok\t.\t-\nok\to\t-\nE092\to/v1/content/a\tsha512 aa bb\n\
 ok\to/v1/content/b\t4\n";
 
-/// What changed between two reports, but for places that were left out.
-fn changes(alloc: Global, before: &str, now: &str, left: &[Place]) -> Result<String, Fail> {
-    let mut first = before.as_bytes();
-    let mut second = now.as_bytes();
-    let mut out = Vec::new(alloc);
-    compare(alloc, &mut first, &mut second, left, &mut out)?;
-    Ok(String::from_utf8(out)?)
-}
+/// Two reports, and what changed between them.
+const NEW_FINDINGS: [(&str, &str, &str); 12] = [
+    ("ok\to\t-\n", "E060\to\tsha512 aa bb\n", "E060\to\n"),
+    (
+        "E101\to\ta\n",
+        "E060\to\tsha512 aa bb\nE101\to\tb\n",
+        "E060\to\n",
+    ),
+    ("E101\to\ta\n", "E101\to\tb\nE101\to\tc\n", ""),
+    (
+        "ok\to\t3\n",
+        "E092\to\tsha256 aa bb\nE092\to\tsha512 aa bb\n",
+        "E092\to\n",
+    ),
+    (
+        "ok\to\t3\n",
+        "E023\to\t-\nE093\to\tmd5 aa bb\n",
+        "E023\to\nE093\to\n",
+    ),
+    (
+        "E092\tn\tsha256 missing\n",
+        "E092\tn\tsha256 missing\nE092\to\tsha256 missing\n",
+        "E092\to\n",
+    ),
+    ("ok\to\t-\n", "S07\to\tblake2b\n", ""),
+    (
+        "E060\to\tsha512 aa bb\n",
+        "S07\to\tblake2b\n",
+        "repaired\to\n",
+    ),
+    ("E060\to\tsha512 aa bb\n", "ok\to\t-\n", "repaired\to\n"),
+    ("E072\to\t-\n", "", ""),
+    ("E092\to\tsha256 missing\n", "E023\to\t-\n", "E023\to\n"),
+    ("S07\to\tblake2b\n", "ok\to\t-\n", ""),
+];
 
-fn stop_of(alloc: Global, before: &str, now: &str) -> Option<CompareStop> {
-    let mut first = before.as_bytes();
-    let mut second = now.as_bytes();
-    let mut out = Vec::new(alloc);
-    compare(alloc, &mut first, &mut second, &[], &mut out).err()
-}
+/// Branches that were left out, and what changed elsewhere.
+const LEFT_OUT: [(&[&str], &str); 6] = [
+    (&["p"], "E092\to/v1/content/a\nrepaired\to/v1/content/b\n"),
+    (&["o"], "object\tp\nfile\tp/v1/content/c\n"),
+    (
+        &["o/v1/content/a"],
+        "repaired\to/v1/content/b\nobject\tp\nfile\tp/v1/content/c\n",
+    ),
+    (
+        &["p/v1"],
+        "E092\to/v1/content/a\nrepaired\to/v1/content/b\nobject\tp\n",
+    ),
+    (&["."], ""),
+    (&["p/v1", "o"], "object\tp\n"),
+];
 
-#[test]
-fn changes_stand_in_the_order_of_places(rt: HostRuntime) -> Result<(), Fail> {
-    let alloc = rt.alloc();
-    let text = changes(alloc, BEFORE, NOW, &[])?;
-    let wanted = "E092\to/v1/content/a\nrepaired\to/v1/content/b\nobject\tp\n\
-file\tp/v1/content/c\n";
-    assert_eq!(rt; text.as_str(), wanted);
-    let text = changes(alloc, NOW, BEFORE, &[])?;
-    assert_eq!(rt;
-        text.as_str(),
-        "repaired\to/v1/content/a\nE092\to/v1/content/b\n"
-    );
-    let text = changes(alloc, "", NOW, &[])?;
-    assert_eq!(rt; text.as_str(), "E092\to/v1/content/a\n");
-    let text = changes(alloc, NOW, "", &[])?;
-    let wanted = "object\to\nfile\to/v1/content/a\nfile\to/v1/content/b\n";
-    assert_eq!(rt; text.as_str(), wanted);
-    Ok(())
-}
-
-/// Objects whose names stand below that of the root, or mean something to a shell or a terminal.
-const ODD: &str = "ok\t.\t-\nok\t#hash\t-\nok\t#hash/v1/content/a\t1\nok\t(c)\t-\n\
-ok\t(c)/v1/content/a\t1\nok\t+b\t-\nok\t+b/v1/content/a\t1\nok\t-\t-\nok\t-/v1/content/a\t1\n\
-ok\t-b\t-\nok\t-b/v1/content/a\t1\nok\ta\\nb\t-\nok\ta%0Ab\t-\n";
-
-#[test]
-fn names_do_not_matter(rt: HostRuntime) -> Result<(), Fail> {
-    let alloc = rt.alloc();
-    // A line feed stands before a backslash.
-    assert_eq!(rt; stop_of(alloc, ODD, ""), Some(CompareStop::Before(13)));
-    let report =
-        "ok\t.\t-\nok\t#hash\t-\nok\t(c)\t-\nok\t+b\t-\nok\t-\t-\nok\t-b\t-\nok\t-b/v1\t1\n\
-ok\ta\t-\nok\ta/b\t-\nok\ta%0Ab\t-\nok\ta-b\t-\nok\ta\\nb\t-\nok\t~\t-\n";
-    assert_eq!(rt; changes(alloc, report, report, &[])?.as_str(), "");
-    let left = "ok\t.\t-\nok\t#hash\t-\nok\t(c)\t-\nok\t-\t-\nok\t-b\t-\nok\ta\t-\nok\ta-b\t-\n";
-    let wanted = "object\t+b\nfile\t-b/v1\nobject\ta/b\nobject\ta%0Ab\nobject\ta\\nb\nobject\t~\n";
-    assert_eq!(rt; changes(alloc, report, left, &[])?.as_str(), wanted);
-    Ok(())
-}
+/// Texts that are no report, and the number of the first bad line.
+const BAD_LINES: [(&str, u64); 7] = [
+    ("ok\ta\t-", 1),
+    ("\n", 1),
+    ("ok\ta\t-\nE999\tb\t-\n", 2),
+    ("ok\tb\t-\nok\ta\t-\n", 2),
+    ("ok\ta-b\t-\nok\ta/b\t-\n", 2),
+    ("ok\ta\t-\nok\ta\t-\nok\t%c3%a9\t-\n", 3),
+    ("ok\ta\t-\nok\tb\t-\nok\tc\t-\nok\t.\t-\n", 4),
+];
 
 /// Lines of the place `o`, and what is gone where this report has no line there.
 const KINDS: [(&str, &[&str]); 3] = [
@@ -139,6 +146,65 @@ const KINDS: [(&str, &[&str]); 3] = [
     ),
 ];
 
+/// What changed between two reports, but for places that were left out.
+fn changes(alloc: Global, before: &str, now: &str, left: &[Place]) -> Result<String, Fail> {
+    let mut first = before.as_bytes();
+    let mut second = now.as_bytes();
+    let mut out = Vec::new(alloc);
+    compare(alloc, &mut first, &mut second, left, &mut out)?;
+    Ok(String::from_utf8(out)?)
+}
+
+/// Why a comparison of what two readers give stops.
+fn stop_of(
+    alloc: Global,
+    before: &mut impl BufRead,
+    now: &mut impl BufRead,
+) -> Option<CompareStop> {
+    compare(alloc, before, now, &[], &mut Vec::new(alloc)).err()
+}
+
+#[test]
+fn changes_stand_in_the_order_of_places(rt: HostRuntime) -> Result<(), Fail> {
+    let alloc = rt.alloc();
+    let text = changes(alloc, BEFORE, NOW, &[])?;
+    let wanted = "E092\to/v1/content/a\nrepaired\to/v1/content/b\nobject\tp\n\
+file\tp/v1/content/c\n";
+    assert_eq!(rt; text.as_str(), wanted);
+    let text = changes(alloc, NOW, BEFORE, &[])?;
+    assert_eq!(rt;
+        text.as_str(),
+        "repaired\to/v1/content/a\nE092\to/v1/content/b\n"
+    );
+    let text = changes(alloc, "", NOW, &[])?;
+    assert_eq!(rt; text.as_str(), "E092\to/v1/content/a\n");
+    let text = changes(alloc, NOW, "", &[])?;
+    let wanted = "object\to\nfile\to/v1/content/a\nfile\to/v1/content/b\n";
+    assert_eq!(rt; text.as_str(), wanted);
+    Ok(())
+}
+
+/// Objects whose names are below that of the root, or mean something to a shell or a terminal.
+const ODD: &str = "ok\t.\t-\nok\t#hash\t-\nok\t#hash/v1/content/a\t1\nok\t(c)\t-\n\
+ok\t(c)/v1/content/a\t1\nok\t+b\t-\nok\t+b/v1/content/a\t1\nok\t-\t-\nok\t-/v1/content/a\t1\n\
+ok\t-b\t-\nok\t-b/v1/content/a\t1\nok\ta\\nb\t-\nok\ta%0Ab\t-\n";
+
+#[test]
+fn names_do_not_matter(rt: HostRuntime) -> Result<(), Fail> {
+    let alloc = rt.alloc();
+    // A line feed is before a backslash.
+    let stop = stop_of(alloc, &mut ODD.as_bytes(), &mut b"".as_slice());
+    assert_eq!(rt; stop, Some(CompareStop::Before(13)));
+    let report =
+        "ok\t.\t-\nok\t#hash\t-\nok\t(c)\t-\nok\t+b\t-\nok\t-\t-\nok\t-b\t-\nok\t-b/v1\t1\n\
+ok\ta\t-\nok\ta/b\t-\nok\ta%0Ab\t-\nok\ta-b\t-\nok\ta\\nb\t-\nok\t~\t-\n";
+    assert_eq!(rt; changes(alloc, report, report, &[])?.as_str(), "");
+    let left = "ok\t.\t-\nok\t#hash\t-\nok\t(c)\t-\nok\t-\t-\nok\t-b\t-\nok\ta\t-\nok\ta-b\t-\n";
+    let wanted = "object\t+b\nfile\t-b/v1\nobject\ta/b\nobject\ta%0Ab\nobject\ta\\nb\nobject\t~\n";
+    assert_eq!(rt; changes(alloc, report, left, &[])?.as_str(), wanted);
+    Ok(())
+}
+
 #[test]
 fn objects_and_content_files_can_be_gone(rt: HostRuntime) -> Result<(), Fail> {
     let alloc = rt.alloc();
@@ -161,40 +227,7 @@ fn objects_and_content_files_can_be_gone(rt: HostRuntime) -> Result<(), Fail> {
 #[test]
 fn a_finding_is_new_by_its_code_and_place(rt: HostRuntime) -> Result<(), Fail> {
     let alloc = rt.alloc();
-    for (before, now, wanted) in [
-        ("ok\to\t-\n", "E060\to\tsha512 aa bb\n", "E060\to\n"),
-        (
-            "E101\to\ta\n",
-            "E060\to\tsha512 aa bb\nE101\to\tb\n",
-            "E060\to\n",
-        ),
-        ("E101\to\ta\n", "E101\to\tb\nE101\to\tc\n", ""),
-        (
-            "ok\to\t3\n",
-            "E092\to\tsha256 aa bb\nE092\to\tsha512 aa bb\n",
-            "E092\to\n",
-        ),
-        (
-            "ok\to\t3\n",
-            "E023\to\t-\nE093\to\tmd5 aa bb\n",
-            "E023\to\nE093\to\n",
-        ),
-        (
-            "E092\tn\tsha256 missing\n",
-            "E092\tn\tsha256 missing\nE092\to\tsha256 missing\n",
-            "E092\to\n",
-        ),
-        ("ok\to\t-\n", "S07\to\tblake2b\n", ""),
-        (
-            "E060\to\tsha512 aa bb\n",
-            "S07\to\tblake2b\n",
-            "repaired\to\n",
-        ),
-        ("E060\to\tsha512 aa bb\n", "ok\to\t-\n", "repaired\to\n"),
-        ("E072\to\t-\n", "", ""),
-        ("E092\to\tsha256 missing\n", "E023\to\t-\n", "E023\to\n"),
-        ("S07\to\tblake2b\n", "ok\to\t-\n", ""),
-    ] {
+    for (before, now, wanted) in NEW_FINDINGS {
         let text = changes(alloc, before, now, &[])?;
         assert_eq!(rt; text.as_str(), wanted, "{before}{now}");
     }
@@ -202,55 +235,16 @@ fn a_finding_is_new_by_its_code_and_place(rt: HostRuntime) -> Result<(), Fail> {
 }
 
 #[test]
-fn branches_that_were_left_out_are_not_compared(rt: HostRuntime) -> Result<(), Fail> {
-    let alloc = rt.alloc();
-    for (left, wanted) in [
-        ("p", "E092\to/v1/content/a\nrepaired\to/v1/content/b\n"),
-        ("o", "object\tp\nfile\tp/v1/content/c\n"),
-        (
-            "o/v1/content/a",
-            "repaired\to/v1/content/b\nobject\tp\nfile\tp/v1/content/c\n",
-        ),
-        (
-            "p/v1",
-            "E092\to/v1/content/a\nrepaired\to/v1/content/b\nobject\tp\n",
-        ),
-        (".", ""),
-    ] {
-        let branch = place_of(alloc, left)?;
-        assert_eq!(rt;
-            changes(alloc, BEFORE, NOW, &[branch])?.as_str(),
-            wanted,
-            "{left}"
-        );
-    }
-    let branches = [place_of(alloc, "p/v1")?, place_of(alloc, "o")?];
-    assert_eq!(rt;
-        changes(alloc, BEFORE, NOW, &branches)?.as_str(),
-        "object\tp\n"
-    );
-    Ok(())
-}
-
-#[test]
 fn the_first_bad_line_is_named(rt: HostRuntime) -> Result<(), Fail> {
     let alloc = rt.alloc();
-    for (bad, number) in [
-        ("ok\ta\t-", 1u64),
-        ("\n", 1),
-        ("ok\ta\t-\nE999\tb\t-\n", 2),
-        ("ok\tb\t-\nok\ta\t-\n", 2),
-        ("ok\ta-b\t-\nok\ta/b\t-\n", 2),
-        ("ok\ta\t-\nok\ta\t-\nok\t%c3%a9\t-\n", 3),
-        ("ok\ta\t-\nok\tb\t-\nok\tc\t-\nok\t.\t-\n", 4),
-    ] {
+    for (bad, number) in BAD_LINES {
         assert_eq!(rt;
-            stop_of(alloc, bad, NOW),
+            stop_of(alloc, &mut bad.as_bytes(), &mut NOW.as_bytes()),
             Some(CompareStop::Before(number)),
             "{bad}"
         );
         assert_eq!(rt;
-            stop_of(alloc, BEFORE, bad),
+            stop_of(alloc, &mut BEFORE.as_bytes(), &mut bad.as_bytes()),
             Some(CompareStop::Now(number)),
             "{bad}"
         );
@@ -259,26 +253,32 @@ fn the_first_bad_line_is_named(rt: HostRuntime) -> Result<(), Fail> {
 }
 
 #[test]
+fn branches_that_were_left_out_are_not_compared(rt: HostRuntime) -> Result<(), Fail> {
+    let alloc = rt.alloc();
+    for (left, wanted) in LEFT_OUT {
+        let mut branches = Vec::new(alloc);
+        for path in left {
+            branches.push(place_of(alloc, path)?)?;
+        }
+        let text = changes(alloc, BEFORE, NOW, &branches)?;
+        assert_eq!(rt; text.as_str(), wanted, "{left:?}");
+    }
+    Ok(())
+}
+
+#[test]
 fn readers_and_writers_that_fail_are_told(rt: HostRuntime) -> Result<(), Fail> {
     let alloc = rt.alloc();
-    for (row, kind, before) in failures(CompareStop::BeforeFailed, CompareStop::Memory) {
-        let then = Then::Fails(kind);
-        let left = BEFORE.as_bytes();
-        let mut failing = BufReader::new(alloc, Slow { left, then })?;
-        let mut other = NOW.as_bytes();
-        let mut out = Vec::new(alloc);
-        let stop = compare(alloc, &mut failing, &mut other, &[], &mut out).err();
-        assert_eq!(rt; stop, Some(before), "{row}");
-    }
-    for (row, kind, now) in failures(CompareStop::NowFailed, CompareStop::Memory) {
-        let then = Then::Fails(kind);
-        let left = NOW.as_bytes();
-        let mut failing = BufReader::new(alloc, Slow { left, then })?;
-        let mut other = BEFORE.as_bytes();
-        let mut out = Vec::new(alloc);
-        let stop = compare(alloc, &mut other, &mut failing, &[], &mut out).err();
-        assert_eq!(rt; stop, Some(now), "{row}");
-    }
+    let stops = (CompareStop::BeforeFailed, CompareStop::Memory);
+    expect_failures(&rt, &[("before", BEFORE.as_bytes())], stops, |slow| {
+        let mut before = BufReader::new(alloc, slow)?;
+        Ok(stop_of(alloc, &mut before, &mut NOW.as_bytes()))
+    })?;
+    let stops = (CompareStop::NowFailed, CompareStop::Memory);
+    expect_failures(&rt, &[("now", NOW.as_bytes())], stops, |slow| {
+        let mut now = BufReader::new(alloc, slow)?;
+        Ok(stop_of(alloc, &mut BEFORE.as_bytes(), &mut now))
+    })?;
     let mut first = BEFORE.as_bytes();
     let mut second = NOW.as_bytes();
     let mut narrow = Narrow::new(alloc, 7);

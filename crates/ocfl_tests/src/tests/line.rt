@@ -95,6 +95,15 @@ fn usage_text(alloc: Global, line: &str) -> Result<String, Fail> {
     }
 }
 
+/// What each of these lines shows has this text in it.
+fn expect_in_usage(rt: &impl Runtime, rows: &[(&str, &str)]) -> Result<(), Fail> {
+    for (line, text) in rows {
+        let shown = usage_text(rt.alloc(), line)?;
+        assert!(rt; shown.contains(text), "{line}: {text}");
+    }
+    Ok(())
+}
+
 #[test]
 fn reads_a_cycle(rt: HostRuntime) -> Result<(), Fail> {
     for (row, line, budget, files, runs) in [
@@ -234,32 +243,32 @@ fn answers_with_help(rt: HostRuntime) -> Result<(), Fail> {
         usage_text(alloc, "--version")?.as_str(),
         "ocfl-scrub 1.0.0\n"
     );
-    for (line, part) in [
-        ("--help", "\nUsage: ocfl-scrub <COMMAND>\n"),
-        (
-            "--help",
-            "\n  show   Writes what a cursor file or a checkpoint says\n",
-        ),
-        ("--help", "\n  ocfl-scrub run --cursor root.cursor "),
-        (
-            "--help",
-            "\n  3  stopped, worn or the cursor file failed\n  4  cursor refused\n",
-        ),
-        (
-            "cycle --help",
-            "\nUsage: ocfl-scrub cycle [OPTIONS] --budget <N> --runs <COUNT> <ROOT>\n",
-        ),
-        (
-            "cycle --help",
-            "(powers of 1000), in capitals or small letters\n",
-        ),
-        (
-            "cycle --help",
-            "N as for the budget [default: 4611686018427387904]\n",
-        ),
-        ("cycle --help", "The most runs: 1 to 100000\n"),
-    ] {
-        assert!(rt; usage_text(alloc, line)?.contains(part), "{part}");
-    }
-    Ok(())
+    expect_in_usage(
+        &rt,
+        &[
+            ("--help", "\nUsage: ocfl-scrub <COMMAND>\n"),
+            (
+                "--help",
+                "\n  show   Writes what a cursor file or a checkpoint says\n",
+            ),
+            ("--help", "\n  ocfl-scrub run --cursor root.cursor "),
+            (
+                "--help",
+                "\n  3  stopped, worn or the cursor file failed\n  4  cursor refused\n",
+            ),
+            (
+                "cycle --help",
+                "\nUsage: ocfl-scrub cycle [OPTIONS] --budget <N> --runs <COUNT> <ROOT>\n",
+            ),
+            (
+                "cycle --help",
+                "(powers of 1000), in capitals or small letters\n",
+            ),
+            (
+                "cycle --help",
+                "N as for the budget [default: 4611686018427387904]\n",
+            ),
+            ("cycle --help", "The most runs: 1 to 100000\n"),
+        ],
+    )
 }

@@ -1,11 +1,11 @@
 //! Nights over a state folder and a storage root in memory.
 ghost use Rattle.std.specs.Prelude.{[], false};
-ghost use Rattle.ocfl_tree.specs.Store.{empty_store};
 
 mod left_out;
 
 use crate::tests::common::Runtime;
 use crate::tests::common::digests::lines_of;
+use crate::tests::common::odd_store::Unmounted;
 use crate::tests::common::output::Narrow;
 use crate::tests::common::roots::three_files;
 use crate::tests::common::store::{change, place_of};
@@ -14,7 +14,7 @@ use ocfl_digest::Block;
 use ocfl_memory::{MemTree, Point};
 use ocfl_night::{Clock, Halt, NightEnd, Plan, Refusal, Site, Stop, night};
 use ocfl_state::{MemState, StateFolder, decode_checkpoint};
-use ocfl_tree::{Entry, Place, Tree, Trouble};
+use ocfl_tree::Tree;
 use sha2::{Digest, Sha256};
 use std::alloc::Global;
 use std::io::Write;
@@ -101,6 +101,58 @@ fn night_over<T: Tree, W: Write>(
     Ok(night(alloc, folder, tree, site, plan, &mut clock, &mut block, out))
 }
 
+/// A state folder, and what the nights over it said.
+#[derive(Drop)]
+struct Nights {
+    folder: MemState,
+    said: Vec<u8>,
+}
+
+impl Nights {
+    fn new(alloc: Global) -> Nights {
+        Nights::after(MemState::new(alloc), alloc)
+    }
+
+    /// Nights over a folder of which nothing is said yet.
+    fn after(folder: MemState, alloc: Global) -> Nights {
+        let said = Vec::new(alloc);
+        Nights { folder, said }
+    }
+
+    /// A night over the root of three files.
+    fn make(&mut self, plan: &Plan) -> Result<NightEnd, Fail> {
+        let alloc = *self.said.allocator();
+        night_of(alloc, &mut self.folder, plan, &mut self.said)
+    }
+
+    /// A night over another root at the same path.
+    fn make_in<T: Tree>(&mut self, tree: &mut T, plan: &Plan) -> Result<NightEnd, Fail> {
+        let alloc = *self.said.allocator();
+        let here = site(alloc)?;
+        night_over(alloc, &mut self.folder, tree, &here, plan, &mut self.said)
+    }
+
+    /// Makes nights of one file each until a report is closed. Gives what they said.
+    fn close(&mut self) -> Result<Vec<u8>, Fail> {
+        let alloc = *self.said.allocator();
+        let rest = close_cycle(alloc, &mut self.folder)?;
+        self.said.extend_from_slice(&rest)?;
+        Ok(rest)
+    }
+}
+
+/// The only closed report is the audit, and each of its lines was said once.
+fn expect_audit(rt: &impl Runtime, row: &str, nights: &Nights) -> Result<(), Fail> {
+    let audit = lines_of(rt.alloc(), AUDIT)?;
+    assert_eq!(rt;
+        closed_whole(&nights.folder),
+        Some(audit.as_bytes()),
+        "{row}"
+    );
+    assert_eq!(rt; nights.said.as_slice(), audit.as_bytes(), "{row}");
+    Ok(())
+}
+
 /// How a night ended, in a word or two.
 fn ending(end: &Halt) -> &'static str {
     match end {
@@ -152,67 +204,47 @@ fn close_cycle(alloc: Global, folder: &mut MemState) -> Result<Vec<u8>, Fail> {
 // Seen to fail if a night makes no run where no end is given.
 #[test]
 fn three_nights_close_the_audit(rt: HostRuntime) -> Result<(), Fail> {
-    let audit = lines_of(rt.alloc(), AUDIT)?;
-    let mut folder = MemState::new(rt.alloc());
-    let mut said = Vec::new(rt.alloc());
+    let mut nights = Nights::new(rt.alloc());
     for want in ["spent", "spent", "cycle 1 ended"] {
-        let made = night_of(
-            rt.alloc(),
-            &mut folder,
-            &plan(Some(1), None, true)?,
-            &mut said,
-        )?;
+        let made = nights.make(&plan(Some(1), None, true)?)?;
         assert_eq!(rt; ending(&made.end), want);
         assert_eq!(rt; (made.runs, made.files, made.found), (1, 1, false));
     }
-    assert_eq!(rt; closed_whole(&folder), Some(audit.as_bytes()));
-    assert_eq!(rt; said.as_slice(), audit.as_bytes());
-    assert!(rt; folder.report().is_empty());
-    Ok(())
+    assert!(rt; nights.folder.report().is_empty());
+    expect_audit(&rt, "three nights", &nights)
 }
 
 // Seen to fail if a night makes no run where no end is given.
 #[test]
 fn one_night_makes_all_runs(rt: HostRuntime) -> Result<(), Fail> {
-    let audit = lines_of(rt.alloc(), AUDIT)?;
-    let mut folder = MemState::new(rt.alloc());
-    let mut said = Vec::new(rt.alloc());
-    let made = night_of(rt.alloc(), &mut folder, &plan(None, None, true)?, &mut said)?;
+    let mut nights = Nights::new(rt.alloc());
+    let made = nights.make(&plan(None, None, true)?)?;
     assert_eq!(rt; ending(&made.end), "cycle 1 ended");
     assert_eq!(rt; (made.runs, made.files, made.spent), (3, 3, 9));
-    assert_eq!(rt; closed_whole(&folder), Some(audit.as_bytes()));
-    let next = night_of(
-        rt.alloc(),
-        &mut folder,
-        &plan(None, None, false)?,
-        &mut said,
-    )?;
+    expect_audit(&rt, "one night", &nights)?;
+    let next = nights.make(&plan(None, None, false)?)?;
     assert_eq!(rt; ending(&next.end), "a cycle ended");
-    assert_eq!(rt; folder.closed().len(), 2);
-    assert_eq!(rt; folder.closed()[1].cycle, 2);
+    assert_eq!(rt; nights.folder.closed().len(), 2);
+    assert_eq!(rt; nights.folder.closed()[1].cycle, 2);
     Ok(())
 }
 
 #[test]
 fn a_folder_is_begun_in_only_if_asked(rt: HostRuntime) -> Result<(), Fail> {
-    let mut folder = MemState::new(rt.alloc());
-    let mut said = Vec::new(rt.alloc());
-    let made = night_of(
-        rt.alloc(),
-        &mut folder,
-        &plan(None, None, false)?,
-        &mut said,
-    )?;
+    let mut nights = Nights::new(rt.alloc());
+    let made = nights.make(&plan(None, None, false)?)?;
     assert_eq!(rt; ending(&made.end), "no checkpoint");
-    assert!(rt; folder.checkpoint_bytes().is_none() && folder.report().is_empty());
-    folder.append(b"x")?;
-    let made = night_of(rt.alloc(), &mut folder, &plan(None, None, true)?, &mut said)?;
+    assert!(rt; nights.folder.checkpoint_bytes().is_none());
+    assert!(rt; nights.folder.report().is_empty());
+    nights.folder.append(b"x")?;
+    let made = nights.make(&plan(None, None, true)?)?;
     assert_eq!(rt; ending(&made.end), "has reports");
-    assert!(rt; folder.checkpoint_bytes().is_none() && folder.report() == b"x".as_slice());
-    folder.close(1, true)?;
-    let made = night_of(rt.alloc(), &mut folder, &plan(None, None, true)?, &mut said)?;
+    assert!(rt; nights.folder.checkpoint_bytes().is_none());
+    assert!(rt; nights.folder.report() == b"x".as_slice());
+    nights.folder.close(1, true)?;
+    let made = nights.make(&plan(None, None, true)?)?;
     assert_eq!(rt; ending(&made.end), "has reports");
-    assert!(rt; said.is_empty());
+    assert!(rt; nights.said.is_empty());
     Ok(())
 }
 
@@ -223,14 +255,7 @@ fn no_run_begins_at_the_end(rt: HostRuntime) -> Result<(), Fail> {
         (5, "time up", 0),
         (6, "cycle 1 ended", 3),
     ] {
-        let mut folder = MemState::new(rt.alloc());
-        let mut said = Vec::new(rt.alloc());
-        let made = night_of(
-            rt.alloc(),
-            &mut folder,
-            &plan(None, Some(end), true)?,
-            &mut said,
-        )?;
+        let made = Nights::new(rt.alloc()).make(&plan(None, Some(end), true)?)?;
         assert_eq!(rt; (ending(&made.end), made.runs), (want, runs), "{end}");
     }
     Ok(())
@@ -242,23 +267,14 @@ fn what_the_output_refused_is_said_by_the_next_night(rt: HostRuntime) -> Result<
     for room in 0..first.len() {
         let mut folder = MemState::new(rt.alloc());
         let mut narrow = Narrow::new(rt.alloc(), room);
-        let made = night_of(
-            rt.alloc(),
-            &mut folder,
-            &plan(Some(1), None, true)?,
-            &mut narrow,
-        )?;
+        let one = plan(Some(1), None, true)?;
+        let made = night_of(rt.alloc(), &mut folder, &one, &mut narrow)?;
         assert_eq!(rt; ending(&made.end), "output", "{room}");
         assert_eq!(rt; folder.report(), first.as_bytes(), "{room}");
-        let mut said = Vec::new(rt.alloc());
-        let next = night_of(
-            rt.alloc(),
-            &mut folder,
-            &plan(Some(0), None, false)?,
-            &mut said,
-        )?;
+        let mut nights = Nights::after(folder, rt.alloc());
+        let next = nights.make(&plan(Some(0), None, false)?)?;
         assert_eq!(rt; (ending(&next.end), next.runs), ("spent", 0), "{room}");
-        assert_eq!(rt; said.as_slice(), first.as_bytes(), "{room}");
+        assert_eq!(rt; nights.said.as_slice(), first.as_bytes(), "{room}");
     }
     Ok(())
 }
@@ -266,28 +282,18 @@ fn what_the_output_refused_is_said_by_the_next_night(rt: HostRuntime) -> Result<
 #[test]
 fn a_run_that_stops_is_kept(rt: HostRuntime) -> Result<(), Fail> {
     let audit = lines_of(rt.alloc(), AUDIT)?;
-    let mut folder = MemState::new(rt.alloc());
-    let mut said = Vec::new(rt.alloc());
+    let mut nights = Nights::new(rt.alloc());
     let mut tree = three_files(rt.alloc())?;
     tree.fail_at(&place_of(rt.alloc(), "o/v1")?, Point::List)?;
     let mut strict = plan(None, None, true)?;
     strict.stop_at_faults = true;
-    let made = night_over(
-        rt.alloc(),
-        &mut folder,
-        &mut tree,
-        &site(rt.alloc())?,
-        &strict,
-        &mut said,
-    )?;
+    let made = nights.make_in(&mut tree, &strict)?;
     assert_eq!(rt; ending(&made.end), "stopped");
-    assert!(rt; audit.as_bytes().starts_with(folder.report()) && !folder.report().is_empty());
-    assert_eq!(rt; said.as_slice(), folder.report());
-    let rest = close_cycle(rt.alloc(), &mut folder)?;
-    said.extend_from_slice(&rest)?;
-    assert_eq!(rt; closed_whole(&folder), Some(audit.as_bytes()));
-    assert_eq!(rt; said.as_slice(), audit.as_bytes());
-    Ok(())
+    let kept = nights.folder.report();
+    assert!(rt; audit.as_bytes().starts_with(kept) && !kept.is_empty());
+    assert_eq!(rt; nights.said.as_slice(), kept);
+    let _ = nights.close()?;
+    expect_audit(&rt, "the rest", &nights)
 }
 
 /// Each folder that a crash after so many changes may leave closes the audit, and all of it is
@@ -323,52 +329,46 @@ fn expect_audit_after(
 #[test]
 fn no_crash_loses_or_repeats_a_line(rt: HostRuntime) -> Result<(), Fail> {
     let audit = lines_of(rt.alloc(), AUDIT)?;
-    let mut folder = MemState::new(rt.alloc());
-    let mut said = Vec::new(rt.alloc());
+    let mut nights = Nights::new(rt.alloc());
     let mut changes = 0;
     for _ in 0..3 {
-        let _ = night_of(
-            rt.alloc(),
-            &mut folder,
-            &plan(Some(1), None, true)?,
-            &mut said,
-        )?;
-        while changes <= folder.changes() {
-            expect_audit_after(&rt, &folder, changes, said.len(), audit.as_bytes())?;
+        let _ = nights.make(&plan(Some(1), None, true)?)?;
+        while changes <= nights.folder.changes() {
+            let heard = nights.said.len();
+            expect_audit_after(&rt, &nights.folder, changes, heard, audit.as_bytes())?;
             changes += 1;
         }
     }
-    assert_eq!(rt; closed_whole(&folder), Some(audit.as_bytes()));
     assert!(rt; changes > 20);
-    Ok(())
+    expect_audit(&rt, "no crash", &nights)
 }
 
 #[test]
 fn no_failing_call_loses_or_repeats_a_line(rt: HostRuntime) -> Result<(), Fail> {
     let audit = lines_of(rt.alloc(), AUDIT)?;
     for failing in 1..40 {
-        let mut folder = MemState::new(rt.alloc());
-        let mut said = Vec::new(rt.alloc());
-        folder.fail_call(failing);
-        let made = night_of(rt.alloc(), &mut folder, &plan(None, None, true)?, &mut said)?;
+        let mut nights = Nights::new(rt.alloc());
+        nights.folder.fail_call(failing);
+        let made = nights.make(&plan(None, None, true)?)?;
         if failing > 30 {
             assert_eq!(rt; ending(&made.end), "cycle 1 ended", "{failing}");
         }
-        expect_audit_after(&rt, &folder, folder.changes(), said.len(), audit.as_bytes())?;
-        let rest = close_cycle(rt.alloc(), &mut folder)?;
-        assert_eq!(rt; closed_whole(&folder), Some(audit.as_bytes()), "{failing}");
+        let (folder, heard) = (&nights.folder, nights.said.len());
+        expect_audit_after(&rt, folder, folder.changes(), heard, audit.as_bytes())?;
+        let rest = nights.close()?;
+        let closed = closed_whole(&nights.folder);
+        assert_eq!(rt; closed, Some(audit.as_bytes()), "{failing}");
         assert!(rt; audit.as_bytes().ends_with(&rest), "{failing}");
-        assert!(rt; said.len() + rest.len() >= audit.len(), "{failing}");
+        assert!(rt; nights.said.len() >= audit.len(), "{failing}");
     }
     Ok(())
 }
 
 /// A folder in which one night was made over the root of three files.
 fn after_one_night(alloc: Global) -> Result<MemState, Fail> {
-    let mut folder = MemState::new(alloc);
-    let mut said = Vec::new(alloc);
-    let _ = night_of(alloc, &mut folder, &plan(Some(1), None, true)?, &mut said)?;
-    Ok(folder)
+    let mut nights = Nights::new(alloc);
+    let _ = nights.make(&plan(Some(1), None, true)?)?;
+    Ok(nights.folder)
 }
 
 /// The plan that forces a root.
@@ -467,19 +467,14 @@ fn a_root_that_lost_its_names_is_refused(rt: HostRuntime) -> Result<(), Fail> {
         (&[("p/", ""), ("q/", "")][..], "spent"),
         (&[("p/", ""), ("q/", ""), ("r/", "")][..], "names gone"),
     ] {
-        let mut folder = MemState::new(alloc);
-        let mut said = Vec::new(alloc);
+        let mut nights = Nights::new(alloc);
         let mut full = three_files(alloc)?;
         change(alloc, &mut full, more)?;
-        let here = site(alloc)?;
-        let first = plan(Some(1), None, true)?;
-        let _ = night_over(alloc, &mut folder, &mut full, &here, &first, &mut said)?;
-        let made = night_of(alloc, &mut folder, &plan(Some(1), None, false)?, &mut said)?;
-        assert_eq!(rt; ending(&made.end), want);
-        let made = night_of(alloc, &mut folder, &forced()?, &mut said)?;
-        assert!(rt; made.runs == 1);
-        let made = night_of(alloc, &mut folder, &plan(Some(1), None, false)?, &mut said)?;
-        assert!(rt; ending(&made.end) != "names gone");
+        let _ = nights.make_in(&mut full, &plan(Some(1), None, true)?)?;
+        let next = plan(Some(1), None, false)?;
+        assert_eq!(rt; ending(&nights.make(&next)?.end), want);
+        assert!(rt; nights.make(&forced()?)?.runs == 1);
+        assert!(rt; ending(&nights.make(&next)?.end) != "names gone");
     }
     Ok(())
 }
@@ -487,18 +482,13 @@ fn a_root_that_lost_its_names_is_refused(rt: HostRuntime) -> Result<(), Fail> {
 #[test]
 fn a_forced_root_is_taken_for_the_one_of_before(rt: HostRuntime) -> Result<(), Fail> {
     let alloc = rt.alloc();
-    let mut folder = after_one_night(alloc)?;
-    let mut said = Vec::new(alloc);
-    let here = site(alloc)?;
+    let mut nights = Nights::after(after_one_night(alloc)?, alloc);
     let mut other = three_files(alloc)?;
     change(alloc, &mut other, &[("0=ocfl_1.0", "ocfl_1.0\n")])?;
-    let made = night_over(alloc, &mut folder, &mut other, &here, &forced()?, &mut said)?;
-    assert_eq!(rt; made.runs, 1);
     let next = plan(Some(1), None, false)?;
-    let made = night_over(alloc, &mut folder, &mut other, &here, &next, &mut said)?;
-    assert_eq!(rt; made.runs, 1);
-    let made = night_of(alloc, &mut folder, &next, &mut said)?;
-    assert_eq!(rt; ending(&made.end), "other declaration");
+    assert_eq!(rt; nights.make_in(&mut other, &forced()?)?.runs, 1);
+    assert_eq!(rt; nights.make_in(&mut other, &next)?.runs, 1);
+    assert_eq!(rt; ending(&nights.make(&next)?.end), "other declaration");
     Ok(())
 }
 
@@ -516,78 +506,38 @@ fn bytes_that_are_no_checkpoint_are_refused(rt: HostRuntime) -> Result<(), Fail>
         bytes[place] = byte;
         let mut folder = after_one_night(alloc)?;
         folder.put_checkpoint(&bytes)?;
-        let mut said = Vec::new(alloc);
-        let made = night_of(alloc, &mut folder, &plan(Some(1), None, true)?, &mut said)?;
+        let mut nights = Nights::after(folder, alloc);
+        let made = nights.make(&plan(Some(1), None, true)?)?;
         assert_eq!(rt; ending(&made.end), want, "{row}");
-        assert_eq!(rt; folder.checkpoint_bytes(), Some(bytes.as_slice()), "{row}");
-        assert_eq!(rt; folder.report(), right.report(), "{row}");
+        let kept = nights.folder.checkpoint_bytes();
+        assert_eq!(rt; kept, Some(bytes.as_slice()), "{row}");
+        assert_eq!(rt; nights.folder.report(), right.report(), "{row}");
     }
     Ok(())
-}
-
-/// A root that is unmounted after so many of its files were opened.
-#[derive(Drop)]
-struct Unmounted {
-    tree: MemTree,
-    empty: MemTree,
-    left: u64,
-}
-
-impl Tree for Unmounted {
-    ghost told = { false };
-
-    ghost state = { λ _. empty_store };
-
-    fn list(&mut self, place: &Place) -> Result<Vec<Entry>, Trouble> {
-        if self.left == 0 {
-            self.empty.list(place)
-        } else {
-            self.tree.list(place)
-        }
-    }
-
-    fn open(&mut self, place: &Place) -> Result<(), Trouble> {
-        if self.left == 0 {
-            return self.empty.open(place);
-        }
-        self.left -= 1;
-        self.tree.open(place)
-    }
-
-    fn read(&mut self, buffer: &mut [u8]) -> Result<usize, Trouble> {
-        self.tree.read(buffer)
-    }
-
-    fn close(&mut self) {
-        self.tree.close();
-    }
 }
 
 #[test]
 fn nothing_is_kept_of_a_run_over_an_unmounted_root(rt: HostRuntime) -> Result<(), Fail> {
     let alloc = rt.alloc();
     let audit = lines_of(alloc, AUDIT)?;
-    let here = site(alloc)?;
     let mut changed = 0;
     for left in 1..40 {
-        let mut folder = MemState::new(alloc);
-        let mut said = Vec::new(alloc);
+        let mut nights = Nights::new(alloc);
         let mut tree = Unmounted {
             tree: three_files(alloc)?,
             empty: MemTree::new(alloc),
             left,
         };
-        let all = plan(None, None, true)?;
-        let made = night_over(alloc, &mut folder, &mut tree, &here, &all, &mut said)?;
+        let made = nights.make_in(&mut tree, &plan(None, None, true)?)?;
+        let row = format!(in alloc; "{left}")?;
         if ending(&made.end) == "root changed" {
             changed += 1;
-            assert!(rt; audit.as_bytes().starts_with(folder.report()), "{left}");
-            assert_eq!(rt; said.as_slice(), folder.report(), "{left}");
+            let kept = nights.folder.report();
+            assert!(rt; audit.as_bytes().starts_with(kept), "{row}");
+            assert_eq!(rt; nights.said.as_slice(), kept, "{row}");
         }
-        let rest = close_cycle(alloc, &mut folder)?;
-        said.extend_from_slice(&rest)?;
-        assert_eq!(rt; closed_whole(&folder), Some(audit.as_bytes()), "{left}");
-        assert_eq!(rt; said.as_slice(), audit.as_bytes(), "{left}");
+        let _ = nights.close()?;
+        expect_audit(&rt, row.as_str(), &nights)?;
     }
     assert!(rt; changed > 3);
     Ok(())

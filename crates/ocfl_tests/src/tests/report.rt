@@ -250,7 +250,7 @@ fn lines_are_read(rt: HostRuntime) -> Result<(), Fail> {
 fn long_details_are_read_back(rt: HostRuntime) -> Result<(), Fail> {
     let alloc = rt.alloc();
     for size in [1_024usize, 1_025, 70_000] {
-        let detail = String::from_utf8(vec![in alloc; b'd'; size]?)?;
+        let detail = "d".repeat(alloc, size)?;
         let text = line_text(alloc, Code::E099, "o", detail.as_str())?;
         let wanted = format!(in alloc; "E099\to\t{detail}\n")?;
         assert!(rt; text.as_slice() == wanted.as_bytes(), "{size}");

@@ -102,12 +102,8 @@ fn places_are_in_order(rt: HostRuntime) -> Result<(), Fail> {
 
 /// A path of many names that ends in these bytes.
 fn long_path(alloc: Global, end: &str) -> Result<String, Fail> {
-    let mut path = String::new(alloc);
-    for _ in 0..40 {
-        path.push_str("v1/content/")?;
-    }
-    path.push_str(end)?;
-    Ok(path)
+    let way = "v1/content/".repeat(alloc, 40)?;
+    Ok(format!(in alloc; "{way}{end}")?)
 }
 
 #[test]

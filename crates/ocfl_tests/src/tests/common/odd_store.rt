@@ -96,3 +96,41 @@ impl Tree for Odd {
         self.inner.close();
     }
 }
+
+/// A root that is unmounted after `left` of its files were opened.
+#[derive(Drop)]
+pub struct Unmounted {
+    pub tree: MemTree,
+    pub empty: MemTree,
+    pub left: u64,
+}
+
+impl Tree for Unmounted {
+    ghost told = { false };
+
+    ghost state = { λ _. empty_store };
+
+    fn list(&mut self, place: &Place) -> Result<Vec<Entry>, Trouble> {
+        if self.left == 0 {
+            self.empty.list(place)
+        } else {
+            self.tree.list(place)
+        }
+    }
+
+    fn open(&mut self, place: &Place) -> Result<(), Trouble> {
+        if self.left == 0 {
+            return self.empty.open(place);
+        }
+        self.left -= 1;
+        self.tree.open(place)
+    }
+
+    fn read(&mut self, buffer: &mut [u8]) -> Result<usize, Trouble> {
+        self.tree.read(buffer)
+    }
+
+    fn close(&mut self) {
+        self.tree.close();
+    }
+}

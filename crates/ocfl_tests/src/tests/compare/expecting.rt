@@ -11,6 +11,22 @@ use std::test::Fail;
 /// A root with an object `o`, a file `b` in the hierarchy, and an empty directory `p`.
 const REPORT: &str = "ok\t.\t-\nE072\tb\t-\nok\to\t-\nok\to/v1/content/a\t3\nE073\tp\t-\n";
 
+/// A list of objects, and which of them the report lacks.
+const MISSING: [(&str, &str); 5] = [
+    ("", ""),
+    ("o\n", ""),
+    ("o\nz\na\nz/\n", "expected\ta\nexpected\tz\n"),
+    // No object is at a file, at an empty directory or at a content file.
+    (
+        "p\nb\no/v1/content/a\n",
+        "expected\tb\nexpected\to/v1/content/a\nexpected\tp\n",
+    ),
+    (
+        "a-b\na/b\n%0A\n",
+        "expected\t%0A\nexpected\ta/b\nexpected\ta-b\n",
+    ),
+];
+
 fn listed(alloc: Global, text: &str) -> Result<Vec<Place>, Fail> {
     let mut reader = text.as_bytes();
     Ok(read_list(alloc, &mut reader)?)
@@ -71,25 +87,9 @@ fn lists_are_read(rt: HostRuntime) -> Result<(), Fail> {
 #[test]
 fn objects_without_a_line_are_missing(rt: HostRuntime) -> Result<(), Fail> {
     let alloc = rt.alloc();
-    for (list, wanted) in [
-        ("", ""),
-        ("o\n", ""),
-        ("o\nz\na\nz/\n", "expected\ta\nexpected\tz\n"),
-        // No object is at a file, at an empty directory or at a content file.
-        (
-            "p\nb\no/v1/content/a\n",
-            "expected\tb\nexpected\to/v1/content/a\nexpected\tp\n",
-        ),
-        (
-            "a-b\na/b\n%0A\n",
-            "expected\t%0A\nexpected\ta/b\nexpected\ta-b\n",
-        ),
-    ] {
-        assert_eq!(rt;
-            missing(alloc, list, REPORT, &[])?.as_str(),
-            wanted,
-            "{list}"
-        );
+    for (list, wanted) in MISSING {
+        let text = missing(alloc, list, REPORT, &[])?;
+        assert_eq!(rt; text.as_str(), wanted, "{list}");
     }
     assert_eq!(rt; missing(alloc, "o\n", "", &[])?.as_str(), "expected\to\n");
     let left = [place_of(alloc, "x")?];

@@ -43,6 +43,52 @@ const PARTS: [(&str, &str, &str, &str, &str); 4] = [
     ),
 ];
 
+/// Lines of the ends of no part.
+const NO_ENDS: [(&str, &str); 16] = [
+    ("no end", ""),
+    ("no line `below`", "from b\n"),
+    ("below before from", "below d\nfrom b\n"),
+    ("both in one line", "from b below d\n"),
+    ("no blank and no place", "from\nbelow d\n"),
+    ("no place", "from \nbelow d\n"),
+    ("a mark that is not needed", "from ./b\nbelow d\n"),
+    (
+        "a mark before a word of the other line",
+        "from ./end\nbelow d\n",
+    ),
+    ("a mark before another word", "from b\nbelow ./start\n"),
+    ("two slashes after the mark", "from .//start\nbelow d\n"),
+    ("an escape that is not needed", "from %73tart\nbelow d\n"),
+    ("a slash at the end", "from b/\nbelow d\n"),
+    ("a slash alone", "from /\nbelow d\n"),
+    ("a word in place of a line", "start\nbelow d\n"),
+    ("the other word in place of a line", "from b\nend\n"),
+    ("an empty line at the end", "from b\nbelow d\n\n"),
+];
+
+/// Lines of version 1, and of no cursor.
+const NO_LINES: [(&str, &str); 7] = [
+    ("no line", ""),
+    (
+        "no files",
+        "cycle 3\nruns 2\nspent 9\nafter o/v1/content/c\n",
+    ),
+    ("cycle 0", "cycle 0\nruns 2\nspent 9\nfiles 3\nstart\n"),
+    ("no state", "cycle 3\nruns 2\nspent 9\nfiles 3\n"),
+    (
+        "no line feed at the end",
+        "cycle 3\nruns 2\nspent 9\nfiles 3\nstart",
+    ),
+    (
+        "a cycle with a leading zero",
+        "cycle 03\nruns 2\nspent 9\nfiles 3\nstart\n",
+    ),
+    (
+        "more files than their cost",
+        "cycle 3\nruns 2\nspent 9\nfiles 10\nstart\n",
+    ),
+];
+
 #[test]
 fn parts_are_named(rt: HostRuntime) -> Result<(), Fail> {
     let alloc = rt.alloc();
@@ -169,6 +215,17 @@ const NO_FIRST_LINES: [(&str, &str); 7] = [
     ("ends come first", "from b\n"),
 ];
 
+/// The bytes are refused to a part.
+fn expect_refused(
+    rt: &impl Runtime,
+    row: &str,
+    (bytes, ends): (&[u8], &PartEnds),
+    wanted: PartRefused,
+) {
+    let refused = decode_part(rt.alloc(), bytes, ends).err();
+    assert_eq!(rt; refused, Some(wanted), "{row}");
+}
+
 #[test]
 fn other_texts_are_no_part(rt: HostRuntime) -> Result<(), Fail> {
     let alloc = rt.alloc();
@@ -176,11 +233,11 @@ fn other_texts_are_no_part(rt: HostRuntime) -> Result<(), Fail> {
     let ends = ends_of(alloc, "b", "d")?;
     // The first line comes first, and then the seal.
     for (row, front) in NO_FIRST_LINES {
-        let unsealed = decode_part(alloc, front.as_bytes(), &ends).err();
-        assert_eq!(rt; unsealed, Some(PartRefused::NotCursor), "{row}");
+        expect_refused(&rt, row, (front.as_bytes(), &ends), PartRefused::NotCursor);
         let body = format!(in alloc; "{front}from b\nbelow d\n{LINES}")?;
-        let refused = part_refusal(alloc, body.as_str())?;
-        assert_eq!(rt; refused, Some(PartRefused::NotCursor), "{row}, sealed");
+        let text = sealed(alloc, body.as_str())?;
+        let row = format!(in alloc; "{row}, sealed")?;
+        expect_refused(&rt, row.as_str(), (&text, &ends), PartRefused::NotCursor);
     }
     Ok(())
 }
@@ -197,64 +254,16 @@ fn damaged_parts_are_refused(rt: HostRuntime) -> Result<(), Fail> {
         ("before the digest line", text.len() - 72),
         ("without the last byte", text.len() - 1),
     ] {
-        let refused = decode_part(alloc, &text[..end], &ends).err();
-        assert_eq!(rt; refused, Some(PartRefused::Damaged), "{row}");
+        expect_refused(&rt, row, (&text[..end], &ends), PartRefused::Damaged);
     }
     let mut changed = text;
     changed[FIRST.len() + 5] = b'c';
     // Damage is told before another part.
     for (row, ends) in [("its own part", &ends), ("another part", &other)] {
-        let refused = decode_part(alloc, &changed, ends).err();
-        assert_eq!(rt; refused, Some(PartRefused::Damaged), "{row}");
+        expect_refused(&rt, row, (&changed, ends), PartRefused::Damaged);
     }
     Ok(())
 }
-
-/// Lines of the ends of no part.
-const NO_ENDS: [(&str, &str); 16] = [
-    ("no end", ""),
-    ("no line `below`", "from b\n"),
-    ("below before from", "below d\nfrom b\n"),
-    ("both in one line", "from b below d\n"),
-    ("no blank and no place", "from\nbelow d\n"),
-    ("no place", "from \nbelow d\n"),
-    ("a mark that is not needed", "from ./b\nbelow d\n"),
-    (
-        "a mark before a word of the other line",
-        "from ./end\nbelow d\n",
-    ),
-    ("a mark before another word", "from b\nbelow ./start\n"),
-    ("two slashes after the mark", "from .//start\nbelow d\n"),
-    ("an escape that is not needed", "from %73tart\nbelow d\n"),
-    ("a slash at the end", "from b/\nbelow d\n"),
-    ("a slash alone", "from /\nbelow d\n"),
-    ("a word in place of a line", "start\nbelow d\n"),
-    ("the other word in place of a line", "from b\nend\n"),
-    ("an empty line at the end", "from b\nbelow d\n\n"),
-];
-
-/// Lines of version 1, and of no cursor.
-const NO_LINES: [(&str, &str); 7] = [
-    ("no line", ""),
-    (
-        "no files",
-        "cycle 3\nruns 2\nspent 9\nafter o/v1/content/c\n",
-    ),
-    ("cycle 0", "cycle 0\nruns 2\nspent 9\nfiles 3\nstart\n"),
-    ("no state", "cycle 3\nruns 2\nspent 9\nfiles 3\n"),
-    (
-        "no line feed at the end",
-        "cycle 3\nruns 2\nspent 9\nfiles 3\nstart",
-    ),
-    (
-        "a cycle with a leading zero",
-        "cycle 03\nruns 2\nspent 9\nfiles 3\nstart\n",
-    ),
-    (
-        "more files than their cost",
-        "cycle 3\nruns 2\nspent 9\nfiles 10\nstart\n",
-    ),
-];
 
 /// The sealed text of a part with these lines is malformed.
 fn expect_malformed(rt: &impl Runtime, row: &str, ends: &str, lines: &str) -> Result<(), Fail> {

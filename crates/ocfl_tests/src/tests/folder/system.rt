@@ -402,6 +402,18 @@ const ALL: &str = "z/f=z/f;d/h=d/h;d/e/g=d/e/g;d/e/f=d/e/f;a=a;";
 /// How many calls a walk over all makes at most.
 const MOST_CALLS: u64 = 120;
 
+/// The folder after a walk over all, before one of whose calls this happened, and what the walk
+/// met; `None` if it makes fewer calls.
+fn walked_when(
+    alloc: Global,
+    when: u64,
+    event: Event,
+) -> Result<Option<(FsTree<MemSystem>, Met)>, Fail> {
+    let (mut store, calls) = folder(alloc, when, Some(event))?;
+    let met = walked(alloc, &mut store)?;
+    Ok((calls.get() >= when).then_some((store, met)))
+}
+
 #[test]
 fn a_folder_stands_where_it_is_asked_to(rt: HostRuntime) -> Result<(), Fail> {
     let (mut store, calls) = folder(rt.alloc(), 0, None)?;
@@ -426,12 +438,10 @@ fn what_takes_the_place_of_a_folder_is_not_read(rt: HostRuntime) -> Result<(), F
         Event::IsMoved(7),
     ] {
         for when in 1..MOST_CALLS {
+            let Some((mut store, met)) = walked_when(alloc, when, event)? else {
+                break;
+            };
             let row = format!(in alloc; "{event:?} before call {when}")?;
-            let (mut store, calls) = folder(alloc, when, Some(event))?;
-            let met = walked(alloc, &mut store)?;
-            if calls.get() < when {
-                break; // so many calls are not made
-            }
             assert!(rt; !met.text.contains("outside"), "{row}: {}", met.text);
             // Whatever was read is what lies there, and the folder goes on.
             let again = walked(alloc, &mut store)?;
@@ -456,12 +466,10 @@ fn another_folder_in_the_place_of_one_is_found_out(rt: HostRuntime) -> Result<()
     let alloc = rt.alloc();
     for event in [Event::BecomesOther(5, 20), Event::BecomesOther(6, 25)] {
         for when in 1..MOST_CALLS {
+            let Some((mut store, met)) = walked_when(alloc, when, event)? else {
+                break;
+            };
             let row = format!(in alloc; "{event:?} before call {when}")?;
-            let (mut store, calls) = folder(alloc, when, Some(event))?;
-            let met = walked(alloc, &mut store)?;
-            if calls.get() < when {
-                break; // so many calls are not made
-            }
             // One that lay there before the look is read; none is read for another.
             let both = met.text.contains("d/e/f=d/e/f;") && met.text.contains("d/e/f=outside;");
             assert!(rt; !both, "{row}: {}", met.text);
@@ -486,12 +494,10 @@ fn a_call_that_fails_is_told_and_leaves_the_rest(rt: HostRuntime) -> Result<(), 
         ErrorKind::Interrupted,
     ] {
         for when in 1..MOST_CALLS {
+            let Some((mut store, met)) = walked_when(alloc, when, Event::Fails(kind))? else {
+                break;
+            };
             let row = format!(in alloc; "{kind:?} of call {when}")?;
-            let (mut store, calls) = folder(alloc, when, Some(Event::Fails(kind)))?;
-            let met = walked(alloc, &mut store)?;
-            if calls.get() < when {
-                break; // so many calls are not made
-            }
             let fails = kind != ErrorKind::Interrupted;
             assert_eq!(rt; met.troubles, usize::from(fails), "{row}: {}", met.text);
             let reason = store.reason().map(|error| error.kind());

@@ -1,6 +1,8 @@
 //! Branches and parts on the command line, and splitting.
 
-use super::{MOST, expect_split, expect_task, fault, limits, read, read_task, usage_text};
+use super::{
+    MOST, expect_in_usage, expect_split, expect_task, fault, limits, read, read_task, usage_text,
+};
 use crate::tests::common::Runtime;
 use clap::error::ErrorKind;
 use ocfl_deed::Deed;
@@ -247,24 +249,20 @@ fn refuses_other_counts_and_budgets(rt: HostRuntime) {
 #[test]
 fn shows_help_of_parts(rt: HostRuntime) -> Result<(), Fail> {
     let alloc = rt.alloc();
-    for (name, line, text) in [
-        (
-            "subcommand",
-            "--help",
-            "\n  split  Writes the separators of parts: ",
-        ),
-        ("branch", "audit --help", "\n      --under <PLACE>  "),
-        ("file", "run --help", "\n      --parts <FILE>   "),
-        ("number", "run --help", "\n      --part <K>       "),
-        (
-            "usage",
-            "split --help",
-            "\nUsage: ocfl-scrub split --parts <COUNT> <ROOT>\n       \
+    expect_in_usage(
+        &rt,
+        &[
+            ("--help", "\n  split  Writes the separators of parts: "),
+            ("audit --help", "\n      --under <PLACE>  "),
+            ("run --help", "\n      --parts <FILE>   "),
+            ("run --help", "\n      --part <K>       "),
+            (
+                "split --help",
+                "\nUsage: ocfl-scrub split --parts <COUNT> <ROOT>\n       \
              ocfl-scrub split --budget <N> --report <FILE>\n\n",
-        ),
-    ] {
-        assert!(rt; usage_text(alloc, line)?.contains(text), "{name}");
-    }
+            ),
+        ],
+    )?;
     for name in [
         "audit", "run", "cycle", "night", "check", "split", "join", "show",
     ] {

@@ -1,11 +1,20 @@
 //! Nights on the command line, and joining their reports.
 
-use super::{fault, read, usage_text, words_fault};
+use super::{expect_in_usage, fault, read, usage_text, words_fault};
 use clap::error::ErrorKind;
 use ocfl_cursor::Budget;
 use ocfl_line::{Asked, Chosen, JoinAsked, NightAsked, NightBounds, Until, asked};
 use std::alloc::{AllocError, Global};
 use std::test::Fail;
+
+/// Options of a night, and which value of theirs is no size.
+const NO_SIZES: [(&str, &str); 5] = [
+    ("--budget 10x", "'10x' for '--budget <N>'"),
+    ("--files 5Ki", "'5Ki' for '--files <N>'"),
+    ("--slice 1.5G", "'1.5G' for '--slice <N>'"),
+    ("--slice 0 --budget 1 --files 1", "'0' for '--slice <N>'"),
+    ("--slice 0 --until 24:00", "'0' for '--slice <N>'"),
+];
 
 /// A night without limits, ends and files, over the root `R` with the state folder `S`.
 fn plain(alloc: Global) -> Result<NightAsked, AllocError> {
@@ -262,16 +271,21 @@ const COMPLAINTS: &[(&str, &str)] = &[
     ),
 ];
 
+/// What a night with these options shows.
+fn night_usage(alloc: Global, options: &str) -> Result<String, Fail> {
+    let line = format!(in alloc; "night --state S {options} R")?;
+    usage_text(alloc, line.as_str())
+}
+
 #[test]
 fn says_what_is_wrong_with_a_night(rt: HostRuntime) -> Result<(), Fail> {
     let alloc = rt.alloc();
     for &(words, why) in COMPLAINTS {
-        let line = format!(in alloc; "night --state S {words} R")?;
         let wanted = format!(in alloc;
             "error: {why}\n\nUsage: ocfl-scrub night [OPTIONS] --state <DIR> <ROOT>\n\n\
              For more information, try '--help'.\n"
         )?;
-        let shown = usage_text(alloc, line.as_str())?;
+        let shown = night_usage(alloc, words)?;
         assert_eq!(rt; shown.as_str(), wanted.as_str(), "{words}");
     }
     Ok(())
@@ -280,16 +294,9 @@ fn says_what_is_wrong_with_a_night(rt: HostRuntime) -> Result<(), Fail> {
 #[test]
 fn says_which_size_of_a_night_is_none(rt: HostRuntime) -> Result<(), Fail> {
     let alloc = rt.alloc();
-    for (words, value) in [
-        ("--budget 10x", "'10x' for '--budget <N>'"),
-        ("--files 5Ki", "'5Ki' for '--files <N>'"),
-        ("--slice 1.5G", "'1.5G' for '--slice <N>'"),
-        ("--slice 0 --budget 1 --files 1", "'0' for '--slice <N>'"),
-        ("--slice 0 --until 24:00", "'0' for '--slice <N>'"),
-    ] {
-        let line = format!(in alloc; "night --state S {words} R")?;
+    for (words, value) in NO_SIZES {
+        let shown = night_usage(alloc, words)?;
         let wanted = format!(in alloc; "error: invalid value {value}: N is 1 to ")?;
-        let shown = usage_text(alloc, line.as_str())?;
         assert!(rt; shown.starts_with(wanted.as_str()), "{words}");
     }
     Ok(())
@@ -297,25 +304,22 @@ fn says_which_size_of_a_night_is_none(rt: HostRuntime) -> Result<(), Fail> {
 
 #[test]
 fn shows_help_of_nights(rt: HostRuntime) -> Result<(), Fail> {
-    for (line, text) in [
-        ("--help", "\n  night  Makes one night"),
-        ("--help", "\n  join   Joins the closed reports "),
-        ("--help", "\n  75 another night holds the lock"),
-        (
-            "night --help",
-            "\nUsage: ocfl-scrub night [OPTIONS] --state <DIR> <ROOT>\n",
-        ),
-        ("night --help", "\n      --until <HH:MM>    "),
-        ("night --help", "\n      --force-root       "),
-        (
-            "join --help",
-            "\nUsage: ocfl-scrub join --parts <FILE> --state <DIR>\n",
-        ),
-    ] {
-        assert!(rt;
-            usage_text(rt.alloc(), line)?.contains(text),
-            "{line}: {text}"
-        );
-    }
-    Ok(())
+    expect_in_usage(
+        &rt,
+        &[
+            ("--help", "\n  night  Makes one night"),
+            ("--help", "\n  join   Joins the closed reports "),
+            ("--help", "\n  75 another night holds the lock"),
+            (
+                "night --help",
+                "\nUsage: ocfl-scrub night [OPTIONS] --state <DIR> <ROOT>\n",
+            ),
+            ("night --help", "\n      --until <HH:MM>    "),
+            ("night --help", "\n      --force-root       "),
+            (
+                "join --help",
+                "\nUsage: ocfl-scrub join --parts <FILE> --state <DIR>\n",
+            ),
+        ],
+    )
 }

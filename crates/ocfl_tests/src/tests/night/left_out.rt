@@ -21,15 +21,12 @@ const NO_O: &str = "ok|.|-\nok|p|-\nok|p/v1/content/f|3\nok|q|-\nok|q/v1/content
 
 const NO_P: &str = "ok|.|-\nok|o|-\nok|o/v1/content/f|3\nok|q|-\nok|q/v1/content/f|3\n";
 
-/// The same without the file of `o`, without that of `p`, and without that of `q`.
-const NO_FILE_OF_O: &str =
-    "ok|.|-\nok|o|-\nok|p|-\nok|p/v1/content/f|3\nok|q|-\nok|q/v1/content/f|3\n";
-
-const NO_FILE_OF_P: &str =
-    "ok|.|-\nok|o|-\nok|o/v1/content/f|3\nok|p|-\nok|q|-\nok|q/v1/content/f|3\n";
-
-const NO_FILE_OF_Q: &str =
-    "ok|.|-\nok|o|-\nok|o/v1/content/f|3\nok|p|-\nok|p/v1/content/f|3\nok|q|-\n";
+/// The same without the file of each object.
+const NO_FILE: [&str; 3] = [
+    "ok|.|-\nok|o|-\nok|p|-\nok|p/v1/content/f|3\nok|q|-\nok|q/v1/content/f|3\n",
+    "ok|.|-\nok|o|-\nok|o/v1/content/f|3\nok|p|-\nok|q|-\nok|q/v1/content/f|3\n",
+    "ok|.|-\nok|o|-\nok|o/v1/content/f|3\nok|p|-\nok|p/v1/content/f|3\nok|q|-\n",
+];
 
 /// A root with three right objects, in which calls of this kind fail at these places.
 fn failing(alloc: Global, places: &[(&str, Point)]) -> Result<MemTree, Fail> {
@@ -51,6 +48,14 @@ fn night_in(
     night_over(alloc, folder, tree, &site(alloc)?, plan, &mut said)
 }
 
+/// A folder after a night that makes all runs, and its root, of which `o` cannot be listed.
+fn without_o(alloc: Global) -> Result<(MemState, MemTree), Fail> {
+    let mut folder = MemState::new(alloc);
+    let mut tree = failing(alloc, &[("o", Point::List)])?;
+    let _ = night_in(alloc, &mut folder, &mut tree, &plan(None, None, true)?)?;
+    Ok((folder, tree))
+}
+
 /// The paths of places, each with a line feed.
 fn paths_of(alloc: Global, places: &[Place]) -> Result<String, Fail> {
     let mut paths = String::new(alloc);
@@ -67,11 +72,51 @@ fn checkpoint_of(alloc: Global, folder: &MemState) -> Result<Checkpoint, Fail> {
     Ok(decode_checkpoint(alloc, text)?)
 }
 
-/// The only closed report, and whether it is whole.
-fn closed_one(folder: &MemState) -> Option<(&[u8], bool)> {
+/// The only closed report has these lines, and it is whole or not.
+fn expect_closed(
+    rt: &impl Runtime,
+    row: &str,
+    folder: &MemState,
+    (report, whole): (&str, bool),
+) -> Result<(), Fail> {
+    let lines = lines_of(rt.alloc(), report)?;
     match folder.closed() {
-        [closed] => Some((closed.report.as_slice(), closed.whole)),
-        _ => None,
+        [closed] => {
+            assert_eq!(rt; closed.report.as_slice(), lines.as_bytes(), "{row}");
+            assert_eq!(rt; closed.whole, whole, "{row}");
+            Ok(())
+        }
+        _ => Err("not one closed report".into()),
+    }
+}
+
+/// The night ended cycle 1, whose report has these lines, and left out these branches.
+fn expect_ended(
+    rt: &impl Runtime,
+    row: &str,
+    folder: &MemState,
+    made: &NightEnd,
+    (branches, report): (&str, &str),
+) -> Result<(), Fail> {
+    assert_eq!(rt; ending(&made.end), "cycle 1 ended", "{row}");
+    let left = paths_of(rt.alloc(), &made.left)?;
+    assert_eq!(rt; left.as_str(), branches, "{row}");
+    expect_closed(rt, row, folder, (report, false))
+}
+
+/// The only branch that a checkpoint leaves out, and the place after which it does.
+fn expect_one_left(
+    rt: &impl Runtime,
+    checkpoint: &Checkpoint,
+    paths: (&str, &str),
+) -> Result<(), Fail> {
+    match checkpoint.left.as_slice() {
+        [left] => {
+            let after = left.after.as_ref().ok_or("at the start")?;
+            assert_eq!(rt; (left.place.path(), after.path()), paths);
+            Ok(())
+        }
+        _ => Err("not one branch".into()),
     }
 }
 
@@ -87,18 +132,10 @@ fn a_listing_that_fails_costs_its_branch(rt: HostRuntime) -> Result<(), Fail> {
     assert_eq!(rt; folder.report(), front.as_bytes());
     let checkpoint = checkpoint_of(alloc, &folder)?;
     assert!(rt; checkpoint.whole);
-    match checkpoint.left.as_slice() {
-        [left] => {
-            let after = left.after.as_ref().ok_or("at the start")?;
-            assert_eq!(rt; (left.place.path(), after.path()), ("o", ""));
-        }
-        _ => return Err("not one branch".into()),
-    }
+    expect_one_left(&rt, &checkpoint, ("o", ""))?;
     let mut right = failing(alloc, &[])?;
     let made = night_in(alloc, &mut folder, &mut right, &plan(None, None, false)?)?;
-    assert_eq!(rt; (ending(&made.end), made.left.len()), ("cycle 1 ended", 0));
-    let all = lines_of(alloc, NO_O)?;
-    assert_eq!(rt; closed_one(&folder), Some((all.as_bytes(), false)));
+    expect_ended(&rt, "the end", &folder, &made, ("", NO_O))?;
     assert_eq!(rt; checkpoint_of(alloc, &folder)?.left.len(), 0);
     Ok(())
 }
@@ -106,9 +143,7 @@ fn a_listing_that_fails_costs_its_branch(rt: HostRuntime) -> Result<(), Fail> {
 #[test]
 fn the_next_cycle_tries_each_branch_again(rt: HostRuntime) -> Result<(), Fail> {
     let alloc = rt.alloc();
-    let mut folder = MemState::new(alloc);
-    let mut tree = failing(alloc, &[("o", Point::List)])?;
-    let _ = night_in(alloc, &mut folder, &mut tree, &plan(None, None, true)?)?;
+    let (mut folder, _) = without_o(alloc)?;
     let mut right = failing(alloc, &[])?;
     let made = night_in(alloc, &mut folder, &mut right, &plan(None, None, false)?)?;
     assert_eq!(rt; (ending(&made.end), made.left.len()), ("a cycle ended", 0));
@@ -129,21 +164,14 @@ fn each_fault_costs_the_branch_of_its_place(rt: HostRuntime) -> Result<(), Fail>
         ("o/inventory.json", Point::Read(1), "o\n", NO_O),
         ("o/inventory.json.sha256", Point::Open, "o\n", NO_O),
         ("p/inventory.json", Point::Open, "p\n", NO_P),
-        ("o/v1", Point::List, "o/v1\n", NO_FILE_OF_O),
-        ("o/v1/content", Point::List, "o/v1/content\n", NO_FILE_OF_O),
-        ("q/v1/content", Point::List, "q/v1/content\n", NO_FILE_OF_Q),
+        ("o/v1", Point::List, "o/v1\n", NO_FILE[0]),
+        ("o/v1/content", Point::List, "o/v1/content\n", NO_FILE[0]),
+        ("q/v1/content", Point::List, "q/v1/content\n", NO_FILE[2]),
     ] {
         let mut folder = MemState::new(alloc);
         let mut tree = failing(alloc, &[(path, point)])?;
         let made = night_in(alloc, &mut folder, &mut tree, &plan(None, None, true)?)?;
-        assert_eq!(rt; ending(&made.end), "cycle 1 ended", "{path}");
-        assert_eq!(rt; paths_of(alloc, &made.left)?.as_str(), left, "{path}");
-        let all = lines_of(alloc, report)?;
-        assert_eq!(rt;
-            closed_one(&folder),
-            Some((all.as_bytes(), false)),
-            "{path}"
-        );
+        expect_ended(&rt, path, &folder, &made, (left, report))?;
     }
     Ok(())
 }
@@ -153,13 +181,10 @@ fn two_branches_are_left_out_one_after_the_other(rt: HostRuntime) -> Result<(), 
     let alloc = rt.alloc();
     let mut folder = MemState::new(alloc);
     let places = [("o/v1", Point::List), ("p/inventory.json", Point::Open)];
+    let rest = "ok|.|-\nok|o|-\nok|q|-\nok|q/v1/content/f|3\n";
     let mut tree = failing(alloc, &places)?;
     let made = night_in(alloc, &mut folder, &mut tree, &plan(None, None, true)?)?;
-    assert_eq!(rt; ending(&made.end), "cycle 1 ended");
-    assert_eq!(rt; paths_of(alloc, &made.left)?.as_str(), "o/v1\np\n");
-    let all = lines_of(alloc, "ok|.|-\nok|o|-\nok|q|-\nok|q/v1/content/f|3\n")?;
-    assert_eq!(rt; closed_one(&folder), Some((all.as_bytes(), false)));
-    Ok(())
+    expect_ended(&rt, "two branches", &folder, &made, ("o/v1\np\n", rest))
 }
 
 #[test]
@@ -181,7 +206,6 @@ fn a_night_stops_at_faults_if_it_is_to(rt: HostRuntime) -> Result<(), Fail> {
 #[test]
 fn a_call_that_fails_once_costs_nothing(rt: HostRuntime) -> Result<(), Fail> {
     let alloc = rt.alloc();
-    let audit = lines_of(alloc, AUDIT)?;
     let mut passed = 0;
     for call in 1..60 {
         let mut folder = MemState::new(alloc);
@@ -190,11 +214,8 @@ fn a_call_that_fails_once_costs_nothing(rt: HostRuntime) -> Result<(), Fail> {
         let made = night_in(alloc, &mut folder, &mut tree, &plan(None, None, true)?)?;
         assert_eq!(rt; made.left.len(), 0, "{call}");
         if made.runs > 3 {
-            assert_eq!(rt;
-                closed_one(&folder),
-                Some((audit.as_bytes(), true)),
-                "{call}"
-            );
+            let row = format!(in alloc; "{call}")?;
+            expect_closed(&rt, row.as_str(), &folder, (AUDIT, true))?;
             passed += 1;
         }
     }
@@ -216,11 +237,8 @@ fn a_night_leaves_out_sixteen_branches(rt: HostRuntime) -> Result<(), Fail> {
     assert_eq!(rt; (ending(&made.end), made.left.len()), ("stopped", 16));
     assert_eq!(rt; checkpoint_of(alloc, &folder)?.left.len(), 16);
     let made = night_in(alloc, &mut folder, &mut tree, &plan(None, None, false)?)?;
-    assert_eq!(rt; ending(&made.end), "cycle 1 ended");
-    assert_eq!(rt; paths_of(alloc, &made.left)?.as_str(), "d26\n");
-    let all = lines_of(alloc, "ok|.|-\nok|z|-\nok|z/v1/content/f|3\n")?;
-    assert_eq!(rt; closed_one(&folder), Some((all.as_bytes(), false)));
-    Ok(())
+    let rest = "ok|.|-\nok|z|-\nok|z/v1/content/f|3\n";
+    expect_ended(&rt, "17 branches", &folder, &made, ("d26\n", rest))
 }
 
 #[test]
@@ -241,11 +259,8 @@ fn a_branch_whose_name_cannot_be_longer_stops_the_night(rt: HostRuntime) -> Resu
 #[test]
 fn a_crash_neither_loses_nor_repeats_a_line_around_a_branch(rt: HostRuntime) -> Result<(), Fail> {
     let alloc = rt.alloc();
-    let all = lines_of(alloc, NO_O)?;
-    let mut folder = MemState::new(alloc);
-    let mut tree = failing(alloc, &[("o", Point::List)])?;
+    let (folder, mut tree) = without_o(alloc)?;
     let more = plan(None, None, true)?;
-    let _ = night_in(alloc, &mut folder, &mut tree, &more)?;
     for changes in 0..=folder.changes() {
         for left in [0, 1, 9, usize::MAX] {
             let Some(mut crashed) = folder.crashed(changes, left, false)? else {
@@ -256,11 +271,8 @@ fn a_crash_neither_loses_nor_repeats_a_line_around_a_branch(rt: HostRuntime) -> 
                     let _ = night_in(alloc, &mut crashed, &mut tree, &more)?;
                 }
             }
-            assert_eq!(rt;
-                closed_one(&crashed),
-                Some((all.as_bytes(), false)),
-                "{changes} {left}"
-            );
+            let row = format!(in alloc; "{changes} {left}")?;
+            expect_closed(&rt, row.as_str(), &crashed, (NO_O, false))?;
         }
     }
     Ok(())
@@ -276,17 +288,9 @@ fn a_branch_is_left_out_where_the_cursor_stands(rt: HostRuntime) -> Result<(), F
     let next = leave_out(alloc, &mut folder, before, place_of(alloc, "p")?)?;
     let stored = checkpoint_of(alloc, &folder)?;
     for checkpoint in [&next, &stored] {
-        match checkpoint.left.as_slice() {
-            [left] => {
-                let after = left.after.as_ref().ok_or("at the start")?;
-                assert_eq!(rt; (left.place.path(), after.path()), ("p", "p"));
-            }
-            _ => return Err("not one branch".into()),
-        }
+        expect_one_left(&rt, checkpoint, ("p", "p"))?;
     }
     let made = night_in(alloc, &mut folder, &mut tree, &plan(None, None, false)?)?;
     assert_eq!(rt; ending(&made.end), "cycle 1 ended");
-    let all = lines_of(alloc, NO_FILE_OF_P)?;
-    assert_eq!(rt; closed_one(&folder), Some((all.as_bytes(), false)));
-    Ok(())
+    expect_closed(&rt, "the end", &folder, (NO_FILE[1], false))
 }

@@ -11,6 +11,26 @@ use std::test::Fail;
 const THREE_FILES: &str = "ok\t.\t-\nok\to\t-\nok\to/v1/content/a\t3\nok\to/v1/content/b\t0\n\
 ok\to/v1/content/c\t3\n";
 
+/// Lines of the place `b` between a file of cost 4 and `c` of cost 1, and where parts of cost 4 are
+/// then cut first.
+const COSTS: [(&str, &str); 15] = [
+    ("ok\tb\t0\n", "b\n"),
+    ("ok\tb\t3\n", "b\n"),
+    ("ok\tb\t4611686018427387903\n", "b\n"),
+    ("ok\tb\t4611686018427387904\n", "c\n"),
+    ("ok\tb\t18446744073709551616\n", "c\n"),
+    ("ok\tb\t-\n", "c\n"),
+    ("ok\tb\t\n", "c\n"),
+    ("ok\tb\t03\n", "c\n"),
+    ("ok\tb\t+3\n", "c\n"),
+    ("ok\tb\t3 \n", "c\n"),
+    ("S02\tb\t3\n", "c\n"),
+    ("E023\tb\t-\n", "c\n"),
+    ("S08\tb\t-\n", "c\n"),
+    ("E092\tb\tsha256 missing\n", "c\n"),
+    ("E092\tb\tsha256 missing\nE093\tb\tmd5 missing\n", "c\n"),
+];
+
 /// Splits a report and gives the separators' text.
 fn split_text(alloc: Global, budget: u64, report: &str) -> Result<String, Fail> {
     let mut reader = report.as_bytes();
@@ -45,24 +65,7 @@ fn parts_are_the_runs(rt: HostRuntime) -> Result<(), Fail> {
 #[test]
 fn only_content_files_that_are_right_cost(rt: HostRuntime) -> Result<(), Fail> {
     let alloc = rt.alloc();
-    // After a file of cost 4, each of these lines has the place `b`, and then `c` costs 1.
-    for (line, wanted) in [
-        ("ok\tb\t0\n", "b\n"),
-        ("ok\tb\t3\n", "b\n"),
-        ("ok\tb\t4611686018427387903\n", "b\n"),
-        ("ok\tb\t4611686018427387904\n", "c\n"),
-        ("ok\tb\t18446744073709551616\n", "c\n"),
-        ("ok\tb\t-\n", "c\n"),
-        ("ok\tb\t\n", "c\n"),
-        ("ok\tb\t03\n", "c\n"),
-        ("ok\tb\t+3\n", "c\n"),
-        ("ok\tb\t3 \n", "c\n"),
-        ("S02\tb\t3\n", "c\n"),
-        ("E023\tb\t-\n", "c\n"),
-        ("S08\tb\t-\n", "c\n"),
-        ("E092\tb\tsha256 missing\n", "c\n"),
-        ("E092\tb\tsha256 missing\nE093\tb\tmd5 missing\n", "c\n"),
-    ] {
+    for (line, wanted) in COSTS {
         let report = format!(in alloc; "ok\ta\t3\n{line}ok\tc\t0\n")?;
         let text = split_text(alloc, 4, report.as_str())?;
         let first = text.as_str().split_once('\n').map(|(first, _)| first);

@@ -33,14 +33,19 @@ fn numbered(
     Ok(text)
 }
 
+/// A storage root whose object lists 2,000 bad paths beside its file, and the lines of its head.
+fn two_thousand_bad_paths(alloc: Global) -> Result<(MemTree, String), Fail> {
+    let paths = numbered(alloc, 2_000, "\"/", "\"", ",")?;
+    let manifest = format!(in alloc; "\"ABC_SHA256\":[{paths},\"v1/content/f\"]")?;
+    let store = object_with(alloc, listing(alloc, manifest.as_str(), "")?.as_str())?;
+    Ok((store, numbered(alloc, 2_000, "E100|o|/", "\n", "")?))
+}
+
 // Seen to fail if memory is refused for an item of more than 1,000 lines.
 #[test]
 fn head_of_two_thousand_lines(rt: HostRuntime) -> Result<(), Fail> {
     let alloc = rt.alloc();
-    let paths = numbered(alloc, 2_000, "\"/", "\"", ",")?;
-    let manifest = format!(in alloc; "\"ABC_SHA256\":[{paths},\"v1/content/f\"]")?;
-    let lines = numbered(alloc, 2_000, "E100|o|/", "\n", "")?;
-    let mut store = object_with(alloc, listing(alloc, manifest.as_str(), "")?.as_str())?;
+    let (mut store, lines) = two_thousand_bad_paths(alloc)?;
     let text = format!(in alloc; "ok|.|-\n{lines}{FILE_IS_OK}")?;
     let row = "2,000 lines";
     expect_audit(&rt, row, &mut store, text.as_str(), 1, "")?;
@@ -200,15 +205,11 @@ fn expect_pieces(rt: &impl Runtime, row: &str, out: &Counting, lines: &str, coun
 #[test]
 fn long_items_go_out_as_one_piece(rt: HostRuntime) -> Result<(), Fail> {
     let alloc = rt.alloc();
-    let paths = numbered(alloc, 2_000, "\"/", "\"", ",")?;
-    let manifest = format!(in alloc; "\"ABC_SHA256\":[{paths},\"v1/content/f\"]")?;
-    let lines = numbered(alloc, 2_000, "E100|o|/", "\n", "")?;
+    let (mut store, lines) = two_thousand_bad_paths(alloc)?;
     let text = format!(in alloc; "ok|.|-\n{lines}{FILE_IS_OK}")?;
     let text = lines_of(alloc, text.as_str())?;
     assert!(rt; text.len() > 20_000);
-    let inventory = listing(alloc, manifest.as_str(), "")?;
     let mut block = Block::new(alloc)?;
-    let mut store = object_with(alloc, inventory.as_str())?;
     let mut out = Counting::new(alloc);
     let _ = audited(alloc, &mut store, &mut block, &mut out);
     expect_pieces(&rt, "an audit", &out, text.as_str(), 3);

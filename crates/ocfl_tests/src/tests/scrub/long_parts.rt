@@ -16,11 +16,8 @@ use std::test::Fail;
 
 /// A path of so many names, each of these letters.
 fn long_path(alloc: Global, name: &str, count: usize) -> Result<String, Fail> {
-    let mut path = String::from_str(alloc, name)?;
-    for _ in 1..count {
-        path.push('/')?;
-        path.push_str(name)?;
-    }
+    let mut path = format!(in alloc; "{name}/")?.repeat(alloc, count)?;
+    path.pop();
     Ok(path)
 }
 
@@ -57,7 +54,7 @@ fn branches_and_parts_of_a_hundred_names(rt: HostRuntime) -> Result<(), Fail> {
 
 /// A directory of the hierarchy whose path has more bytes than 65,536.
 fn put_deep_directory(alloc: Global, store: &mut MemTree) -> Result<String, Fail> {
-    let name = String::from_utf8(vec![in alloc; b'n'; 255]?)?;
+    let name = "n".repeat(alloc, 255)?;
     let path = long_path(alloc, name.as_str(), 120)?;
     put_dir(alloc, store, path.as_str())?;
     Ok(path)
@@ -101,11 +98,11 @@ fn runs_of_a_part_with_long_ends(rt: HostRuntime) -> Result<(), Fail> {
 fn details_of_many_bytes(rt: HostRuntime) -> Result<(), Fail> {
     let alloc = rt.alloc();
     for size in [1_025usize, 5_000, 70_000] {
-        let path = String::from_utf8(vec![in alloc; b'p'; size]?)?;
+        let row = format!(in alloc; "a detail of {size} bytes")?;
+        let path = "p".repeat(alloc, size)?;
         let manifest = format!(in alloc; "\"ABC_SHA256\":[\"/{path}\",\"v1/content/f\"]")?;
         let mut store = object_with(alloc, listing(alloc, manifest.as_str(), "")?.as_str())?;
         let text = format!(in alloc; "ok|.|-\nE100|o|/{path}\nok|o/v1/content/f|3\n")?;
-        let row = format!(in alloc; "a detail of {size} bytes")?;
         expect_audit(&rt, row.as_str(), &mut store, text.as_str(), 1, "")?;
     }
     Ok(())

@@ -47,7 +47,7 @@ def measured(title, root, files, against):
     peak = measure.peak_of(measure.audit_of(root))
     for (command, wanted), other in zip(against, others):
         shown = command.replace("|", "\\|")
-        row = (title, own * 1e6 / files, shown, own / other, measure.said(wanted), peak)
+        row = (title, own * 1e6 / files, shown, own / other, measure.at_most(wanted), peak)
         print("| %s | %.1f | `%s` | %.2f | %s | %.0f |" % row, flush=True)
         measure.note("audit", "%s, to %s" % (title, command), own / other, wanted)
 

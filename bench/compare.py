@@ -37,7 +37,7 @@ def in_turns(rounds, before, now):
     return pairs
 
 
-def say(title, before, now, ratio):
+def print_row(title, before, now, ratio):
     print("| %s | %.4f | %.4f | %.2f |" % (title, before, now, ratio), flush=True)
 
 
@@ -49,7 +49,7 @@ def audits(title, make, programs):
             turn()
         pairs = in_turns(ROUNDS, *turns)
         medians = [statistics.median(column) for column in zip(*pairs)]
-        say(title, *medians, statistics.median(now / before for before, now in pairs))
+        print_row(title, *medians, statistics.median(now / before for before, now in pairs))
 
     measure.with_root(make, measured)
 
@@ -70,7 +70,7 @@ def middles(programs):
 
         turns = [lambda program=program: ran(program) for program in programs]
         means = [statistics.mean(column) for column in zip(*in_turns(RUNS, *turns))]
-        say("a run in the middle of 10,000 objects", *means, means[1] / means[0])
+        print_row("a run in the middle of 10,000 objects", *means, means[1] / means[0])
     finally:
         shutil.rmtree(folder)
 

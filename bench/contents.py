@@ -53,7 +53,7 @@ def measured(title, root, tools, wanted):
                                lambda: measure.cpu_of(measure.audit_of(root)),
                                lambda: sum(measure.cpu_of(find + tool) for tool in tools))
     names = ", ".join("`%s`" % tool for tool in tools)
-    row = (title, own, names, other, own / other, measure.said(wanted))
+    row = (title, own, names, other, own / other, measure.at_most(wanted))
     print("| %s | %.2f | %s | %.2f | %.2f | %s |" % row, flush=True)
     measure.note("contents", title, own / other, wanted)
 

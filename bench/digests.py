@@ -102,7 +102,7 @@ def main():
         print("|---|---|---|---|---|---|")
         for name, ours, theirs, against, wanted in rows:
             mine, other = best(ours, theirs)
-            limit = measure.said(wanted)
+            limit = measure.at_most(wanted)
             measure.note("digests", name, mine / other, wanted)
             figures = f"{mine:.2f} | {against} | {other:.2f} | {mine / other:.2f}"
             print(f"| {name} | {figures} | {limit} |", flush=True)

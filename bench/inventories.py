@@ -150,7 +150,7 @@ def measured(title, wanted, programs, file):
     ratio = statistics.median(table[0] / alone[0] for alone, table, *_ in rounds)
     size = file.stat().st_size
     peaks = [max(row[which][1] for row in rounds) / size for which in (1, 0)]
-    said = "| %s | %.2f | %s | %.2f | %.2f |" % (title, ratio, measure.said(wanted), *peaks)
+    said = "| %s | %.2f | %s | %.2f | %.2f |" % (title, ratio, measure.at_most(wanted), *peaks)
     measure.note("inventories", title, ratio, wanted)
     for other in range(2, 1 + len(programs)):
         said += " %.2f |" % statistics.median(row[1][0] / row[other][0] for row in rounds)

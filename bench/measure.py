@@ -81,7 +81,7 @@ def head(*names):
     print("|%s" % ("---|" * len(names)), flush=True)
 
 
-def said(wanted):
+def at_most(wanted):
     return "at most %.2f" % wanted if wanted else ""
 
 

@@ -27,7 +27,7 @@ LINE = b"ok\ta/%016d/v1/content/a-file-with-a-name-of-usual-length\t1000\n"
 def row(name, own, against, other, wanted):
     ratio = own / other
     print("| %s | %.3f | %s | %.3f | %.2f | %s |" % (name, own, against, other, ratio,
-                                                     measure.said(wanted)), flush=True)
+                                                     measure.at_most(wanted)), flush=True)
     measure.note("nights", name, ratio, wanted)
 
 

@@ -24,7 +24,7 @@ SUM = "awk '{ s += $3 } END { print s }' "
 
 def row(name, own, other, wanted):
     ratio = own / other
-    print("| %s | %.2f | %.2f | %.2f | %s |" % (name, own, other, ratio, measure.said(wanted)),
+    print("| %s | %.2f | %.2f | %.2f | %s |" % (name, own, other, ratio, measure.at_most(wanted)),
           flush=True)
     measure.note("parts", name.replace("`", ""), ratio, wanted)
 

@@ -39,7 +39,7 @@ def calls(root):
     return {name: int(count) for count, name in rows if name != "total"}
 
 
-def say_calls(root):
+def print_calls(root):
     made = calls(root)
     most = sorted(made.items(), key=lambda entry: -entry[1])[:6]
     names = ", ".join("%s %.2f" % (name, count / ALL) for name, count in most)
@@ -58,7 +58,7 @@ def measured(root):
     own, *others = measure.bests(rounds, *(lambda it=it: measure.cpu_of(it) for it in commands))
     os.remove(list_file)
     for (name, _, wanted), other in zip(against, others):
-        each = (own * 1e6 / ALL, name, other * 1e6 / ALL, own / other, measure.said(wanted))
+        each = (own * 1e6 / ALL, name, other * 1e6 / ALL, own / other, measure.at_most(wanted))
         print("| 50,000 files of 1 KiB | %.1f | `%s` | %.1f | %.2f | %s |" % each, flush=True)
         measure.note("small", name.replace("\\", ""), own / other, wanted)
 
@@ -66,7 +66,7 @@ def measured(root):
 def main():
     measure.head("audit", "microseconds a file", "against", "microseconds a file", "ratio",
                  "wanted")
-    measure.with_root(small_files, measured, say_calls)
+    measure.with_root(small_files, measured, print_calls)
 
 
 if __name__ == "__main__":

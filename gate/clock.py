@@ -6,7 +6,7 @@ import threading
 import time
 
 from gate import minutes, toolchain
-from gate.commands import say
+from gate.commands import print_line
 from gate.repository import TESTS, crates
 
 TICKS = os.sysconf("SC_CLK_TCK")
@@ -43,18 +43,18 @@ class Clock:
         return sum(seconds for what, seconds in self.taken.values()
                    if what == (crate, of_edits)) / 60
 
-    def tell(self):
+    def print_minutes(self):
         """Says the minutes of each crate, as far as they were seen, and those of the whole."""
         taken = {crate: (self.minutes(crate, False), self.minutes(crate, True))
                  for crate in crates() if crate != TESTS}
         for crate, both in taken.items():
             if any(both):
-                say("%s: %.1f processor minutes of proofs, %.1f of edits" % (crate, *both))
+                print_line("%s: %.1f processor minutes of proofs, %.1f of edits" % (crate, *both))
         minutes.note(taken, crates())
         rt = toolchain.load()
         processors = rt.processors() if rt else os.cpu_count()
-        say("all of it took %.1f minutes on %d processors"
-            % ((time.monotonic() - self.began) / 60, processors))
+        print_line("all of it took %.1f minutes on %d processors"
+                   % ((time.monotonic() - self.began) / 60, processors))
 
 
 def processes():

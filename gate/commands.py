@@ -21,13 +21,13 @@ RUNNING = set()
 INTERRUPTED = threading.Event()
 
 
-def say(text):
+def print_line(text):
     print("test: " + text, flush=True)
 
 
 def fail(text):
     """Says what failed, also at the end, and gives the count of it."""
-    say(text)
+    print_line(text)
     FAILURES.append(text)
     return 0, 1
 

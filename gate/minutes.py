@@ -7,7 +7,7 @@ import os
 import statistics
 import subprocess
 
-from gate.commands import FAILURES, say
+from gate.commands import FAILURES, print_line
 from gate.repository import TOP
 
 FILE = os.path.join(TOP, "bench", "proof_minutes.tsv")
@@ -56,8 +56,8 @@ def note(taken, order):
     before = parsed(read()) if os.path.exists(FILE) else {}
     found = changed(before, {crate: both for crate, both in taken.items() if both[0] > 0})
     for crate in found.keys() & before.keys():
-        say("%s took %.1f minutes at %s, and %.1f now" % (
-            crate, sum(before[crate][:2]), before[crate][2], sum(found[crate])))
+        print_line("%s took %.1f minutes at %s, and %.1f now" % (
+                   crate, sum(before[crate][:2]), before[crate][2], sum(found[crate])))
     if found:
         now = {crate: (*minutes, commit_of(TOP)) for crate, minutes in found.items()}
         with open(FILE, "w") as file:

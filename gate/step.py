@@ -124,7 +124,7 @@ def by_laws(rt, crate, edit, kept):
     laws = functions.laws_of(crate.name)
     if fault or not laws or not all(path.startswith("specs/") for path in texts):
         return ""
-    lines = told_by(rt, crate, texts, ["--jobs", "1", *only(laws)], kept) or []
+    lines = lines_of_check(rt, crate, texts, ["--jobs", "1", *only(laws)], kept) or []
     if not any(NOT_PROVED.match(line) for line in lines):
         return ""
     return refusal([line for line in lines if SAID.match(line)])
@@ -172,16 +172,17 @@ def at_functions(rt, crate, turns, flags, kept, whole=False):
         return {}
     texts = rounds.texts_of(crate.name, turns)
     paths = {turn.edit: functions.path_of(turn.function) for turn in turns}
-    lines = None if whole else told_by(rt, crate, texts, [*flags, *only(paths.values())], kept)
+    some = [*flags, *only(paths.values())]
+    lines = None if whole else lines_of_check(rt, crate, texts, some, kept)
     if lines is None:
-        lines = told_by(rt, crate, texts, flags, kept) or []
+        lines = lines_of_check(rt, crate, texts, flags, kept) or []
     told = rounds.by_function(crate.name, lines, functions.functions_of(crate.name))
     refused = {found[1] for found in map(REFUSED.match, lines) if found}
     return {turn.edit: told[turn.function] for turn in turns
             if crate.name + "::" + paths[turn.edit] in refused}
 
 
-def told_by(rt, crate, texts, flags, kept):
+def lines_of_check(rt, crate, texts, flags, kept):
     """The lines of a check with these texts: none where the prover refused nothing, or gave no
     verdict on what it was asked for, and nothing at all where it could not be asked so."""
     ran = rt.checked(crate, texts, flags, kept)

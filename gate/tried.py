@@ -27,7 +27,7 @@ from gate.repository import crates, folder_of
 DEFINITION = re.compile(r"(?m)^(?:pub )?(?:abbrev|record|data|unfoldable) (?:pub )?(\w+)")
 
 
-def tell(*chosen: str) -> None:
+def print_tried(*chosen: str) -> None:
     """Prints it for some crates or for all."""
     for crate in set(chosen) - set(crates()):
         sys.exit("test: there is no crate %s" % crate)

@@ -17,7 +17,7 @@ import time
 
 from gate import rounds, toolchain
 from gate.step import KEPT, NAMES_ALONE
-from gate.commands import fail, say
+from gate.commands import fail, print_line
 from gate.repository import TOP, below, copy_to, crates
 
 # How long the proof of a crate may take, and the check of each edit, in seconds.
@@ -39,8 +39,8 @@ def try_edits(edits):
     began = time.monotonic()
     with tempfile.TemporaryDirectory(prefix="ocfl-scrub-edits-") as folder:
         copy_to(folder, below({edit.crate for edit in edits}), kept=True)
-        wells, faults = told(rt.in_lanes(tasks_of(rt, folder, edits)))
-    say("the edits took %.1f minutes" % ((time.monotonic() - began) / 60))
+        wells, faults = count_refused(rt.in_lanes(tasks_of(rt, folder, edits)))
+    print_line("the edits took %.1f minutes" % ((time.monotonic() - began) / 60))
     return wells, faults
 
 
@@ -93,7 +93,7 @@ class Kept:
         """Whether no file of it was changed since, lost or added."""
         well = self.rt.listing(self.place) == self.files
         text = "what was kept is as it was" if well else "what was kept was changed by a check"
-        return said(key, Step([(well, text)], 0))
+        return report_step(key, Step([(well, text)], 0))
 
 
 def tasks_beside(rt, folder, edits, whole):
@@ -141,7 +141,7 @@ def step(folder, key, waits, given, jobs):
     it went. Whatever edits gave, what waits for them goes on."""
     crate, kind, edits = key
     if not all(went_well(it, given[it]) for it in waits):
-        return said(key, not_tried(key, "not tried, since a step before it failed"))
+        return report_step(key, not_tried(key, "not tried, since a step before it failed"))
     names = [edit.name for edit in edits]
     command = [sys.executable, "-B", "-m", "gate.step", folder, crate, kind, str(jobs), *names]
     limit = EDIT_LIMIT * len(edits) + (0 if kind == "edits" else PROOF_LIMIT)
@@ -154,7 +154,7 @@ def step(folder, key, waits, given, jobs):
         result = not_tried(key, "no verdict after %d seconds" % limit)
     except (IndexError, ValueError, TypeError):
         result = not_tried(key, "no verdict: its process ended with %s" % ran.returncode)
-    return said(key, result)
+    return report_step(key, result)
 
 
 def went_well(key, gave):
@@ -168,7 +168,7 @@ def not_tried(key, why):
     return Step([(False, why)] * (len(key[2]) or 1), 0)
 
 
-def said(key, result):
+def report_step(key, result):
     """Says how each thing went that a step tried, and what the step took."""
     crate, kind, edits = key
     names = [edit.path for edit in edits] or [kind]
@@ -176,13 +176,14 @@ def said(key, result):
     with PRINTING:
         for name, (well, text) in zip(names, result.told):
             text = "%s %s%s: %s" % (crate, name, took, text)
-            say(text) if well else fail("FAILED " + text)
+            print_line(text) if well else fail("FAILED " + text)
         if not took:
-            say("%s: these %d edits took %d s together" % (crate, len(names), result.seconds))
+            print_line("%s: these %d edits took %d s together"
+                       % (crate, len(names), result.seconds))
     return result
 
 
-def told(given):
+def count_refused(given):
     """Says how many edits of each crate were refused, and what that took, and counts the checks:
     each edit, and each step that keeps what they are tried over."""
     for crate in crates():
@@ -192,11 +193,11 @@ def told(given):
                    for steps in (tried, [step for step in own.values() if step not in tried])]
         if tried:
             wells = [well for step in tried for well, _ in step.told]
-            say("%s: %d of %d edits refused in %.1f processor minutes, and %.1f of proofs"
-                % (crate, sum(wells), len(wells), *minutes))
+            print_line("%s: %d of %d edits refused in %.1f processor minutes, and %.1f of proofs"
+                       % (crate, sum(wells), len(wells), *minutes))
     for why in LITTLE:
         little = sum(why in text for step in given.values() for _, text in step.told)
         if little:
-            say("%d edits were refused %s" % (little, why))
+            print_line("%d edits were refused %s" % (little, why))
     wells = [well for key, step in given.items() if key[1] != "library" for well, _ in step.told]
     return wells.count(True), wells.count(False)

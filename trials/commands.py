@@ -27,7 +27,7 @@ import os
 import subprocess
 
 import common
-from common import checkpoint_text, digest, expect, is_so, line, nights, ran, read, write
+from common import checkpoint_text, digest, expect, check, line, nights, ran, read, write
 
 FILES = {"v1/content/a": b"abc", "v1/content/b": b"", "v1/content/c": b"abc"}
 ITEMS = common.sound({"o": FILES})
@@ -45,7 +45,7 @@ def runs(folder, root):
     expect("second run goes on", run, 0, ITEMS[3:], "cycle 1, run 2, cost 5, ended")
     run[4] = "1K"
     expect("next cycle", run, 0, ITEMS, "cycle 2, run 1, cost 9, ended")
-    is_so("nothing is left beside it", sorted(os.listdir(folder)), ["cursor"])
+    check("nothing is left beside it", sorted(os.listdir(folder)), ["cursor"])
     one = ["run", "--cursor", cursor, "--budget", "9", "--files", "1", root]
     expect("one file a run", one, 0, ITEMS[:3], "cycle 3, run 1, cost 4, open")
 
@@ -55,7 +55,7 @@ def cursor_bytes(folder, root):
     cursor = os.path.join(folder, "bytes")
     ran(["run", "--cursor", cursor, "--budget", "4", root])
     body = b"ocfl-scrub cursor 2\ncycle 1\nruns 1\nspent 4\nfiles 1\nafter o/v1/content/a\n"
-    is_so("bytes of a cursor", read(cursor), body + b"digest %s\n" % digest(body).encode())
+    check("bytes of a cursor", read(cursor), body + b"digest %s\n" % digest(body).encode())
     older = b"ocfl-scrub cursor 1\ncycle 7\nruns 1\nspent 4\nafter o/v1/content/a\n"
     write(cursor, older + b"digest %s\n" % digest(older).encode())
     run = ["run", "--cursor", cursor, "--budget", "9", root]
@@ -64,14 +64,14 @@ def cursor_bytes(folder, root):
     last += b"digest %s\n" % digest(last).encode()
     write(cursor, last)
     expect("worn", run, 3, [], "cursor worn")
-    is_so("a worn cursor stays", read(cursor), last)
+    check("a worn cursor stays", read(cursor), last)
 
 
 def three_nights(folder, root):
     run = ["run", "--cursor", os.path.join(folder, "nightly"), "--budget", "1", root]
     reports = nights(run)
-    is_so("three nights", [len(report.splitlines()) for report in reports], [3, 1, 1])
-    is_so("joined, they are the audit", (0, "".join(reports), ""), ran(["audit", root]))
+    check("three nights", [len(report.splitlines()) for report in reports], [3, 1, 1])
+    check("joined, they are the audit", (0, "".join(reports), ""), ran(["audit", root]))
 
 
 def cycles(root):
@@ -98,7 +98,7 @@ def refused_cursors(file, run):
         write(file, data)
         expect("refused: " + name, run + [file], 4, [], "cursor refused: " + why)
         expect("not shown: " + name, ["show", file], 4, [], "cursor refused: " + why)
-        is_so("untouched: " + name, read(file), data)
+        check("untouched: " + name, read(file), data)
 
 
 def checkpoints(folder):
@@ -109,7 +109,7 @@ def checkpoints(folder):
     write(file, text)
     expect("checkpoint shown", ["show", file], 0, [shown], None)
     piped = subprocess.run([common.PROGRAM, "show", "/dev/stdin"], input=text, capture_output=True)
-    is_so("checkpoint shown from a pipe", (piped.returncode, piped.stdout, piped.stderr),
+    check("checkpoint shown from a pipe", (piped.returncode, piped.stdout, piped.stderr),
           (0, shown.encode(), b""))
     for name, data, why in [
         ("its first words alone", b"ocfl-scrub checkpoint ", "version"),
@@ -124,7 +124,7 @@ def checkpoints(folder):
     ]:
         write(file, data)
         expect("checkpoint, " + name, ["show", file], 4, [], "checkpoint refused: " + why)
-        is_so("checkpoint, %s: untouched" % name, read(file), data)
+        check("checkpoint, %s: untouched" % name, read(file), data)
     write(file, text[:20])
     expect("less than its first words", ["show", file], 4, [], "cursor refused: not a cursor")
 
@@ -142,7 +142,7 @@ def cursor_files(folder, root):
     os.remove(file)
     os.symlink(os.path.join(root, "o/v1/content/a"), file + ".new")
     expect("link in the way", run + [file], 0, ITEMS[:3], OPEN)
-    is_so("what is linked", read(os.path.join(root, "o/v1/content/a")), b"abc")
+    check("what is linked", read(os.path.join(root, "o/v1/content/a")), b"abc")
     other = os.path.join(folder, "other")
     nowhere = ["run", "--budget", "4", "--cursor", other, os.path.join(folder, "no-root")]
     expect("root that is not there", nowhere, 3, [], "stopped at .")
@@ -164,9 +164,9 @@ def inside_the_root(folder, root):
     ]:
         for choice in [[], part]:
             got = ran(["run", "--budget", "4", root, "--cursor", file, *choice])
-            is_so("file in the root: %s %s" % (name, choice[2:]), (*got[:2], got[2] != ""),
+            check("file in the root: %s %s" % (name, choice[2:]), (*got[:2], got[2] != ""),
                   (2, "", True))
-    is_so("the root is as it was", common.snapshot(root), before)
+    check("the root is as it was", common.snapshot(root), before)
 
 
 def beside_the_root(folder, root):
@@ -174,19 +174,19 @@ def beside_the_root(folder, root):
     before = common.snapshot(root)
     run = ["run", "--cursor", "bare", "--budget", "1K"]
     status, out, said = ran(run + ["."], cwd=root)
-    is_so("a bare name within the root", (status, out, said != ""), (2, "", True))
+    check("a bare name within the root", (status, out, said != ""), (2, "", True))
     status, out, said = ran(run + ["../.."], cwd=os.path.join(root, "o/v1"))
-    is_so("a bare name within an object", (status, out, said != ""), (2, "", True))
-    is_so("a bare name: the root is as it was", common.snapshot(root), before)
+    check("a bare name within an object", (status, out, said != ""), (2, "", True))
+    check("a bare name: the root is as it was", common.snapshot(root), before)
     got = ran(run + [root], cwd=folder)
-    is_so("a bare name elsewhere", got[:2], (0, "".join(ITEMS)))
-    is_so("a bare name elsewhere: it lies there", "bare" in os.listdir(folder), True)
+    check("a bare name elsewhere", got[:2], (0, "".join(ITEMS)))
+    check("a bare name elsewhere: it lies there", "bare" in os.listdir(folder), True)
     for name in ["-state", "s", " "]:
         state = root + name
         os.mkdir(state)
         got = ran(["run", "--budget", "1K", root, "--cursor", os.path.join(state, "cursor")])
-        is_so("folder named as the root and %r" % name, got[:2], (0, "".join(ITEMS)))
-        is_so("folder named as the root and %r: stored" % name, os.listdir(state), ["cursor"])
+        check("folder named as the root and %r" % name, got[:2], (0, "".join(ITEMS)))
+        check("folder named as the root and %r: stored" % name, os.listdir(state), ["cursor"])
 
 
 def other_roots(folder):
@@ -196,18 +196,18 @@ def other_roots(folder):
     for words in [["audit", "/"], ["audit", "//"], ["check", "/", "."]]:
         expect("the root /: %s" % words, words, 1, [line("E069", ".")], None)
     status, out, said = ran(["run", "--cursor", file, "--budget", "1", "/"])
-    is_so("the root / holds each cursor's file", (status, out, said != ""), (2, "", True))
-    is_so("the root /: nothing is written", os.path.exists(file), False)
+    check("the root / holds each cursor's file", (status, out, said != ""), (2, "", True))
+    check("the root /: nothing is written", os.path.exists(file), False)
     for blank in [" ", "\t", "\n", "\u00a0"]:
         root = common.make_root(os.path.join(folder, "blank" + blank), {"o": FILES})
         expect("a root that ends in %r" % blank, ["audit", root], 0, ITEMS, None)
         expect("a check below %r" % blank, ["check", root, "o"], 0, ITEMS[1:2], None)
         named = os.path.join(folder, "file" + blank)
         got = ran(["run", "--cursor", named, "--budget", "1K", root])
-        is_so("a file that ends in %r" % blank, got[:2], (0, "".join(ITEMS)))
-        is_so("a file that ends in %r: it is there" % blank, os.path.exists(named), True)
+        check("a file that ends in %r" % blank, got[:2], (0, "".join(ITEMS)))
+        check("a file that ends in %r: it is there" % blank, os.path.exists(named), True)
     without = [os.path.join(folder, name) for name in ["blank", "file"]]
-    is_so("no name without its end is there", [it for it in without if os.path.exists(it)], [])
+    check("no name without its end is there", [it for it in without if os.path.exists(it)], [])
 
 
 def refused_parts(folder, root):
@@ -234,7 +234,7 @@ def refused_parts(folder, root):
     write(file, b"")
     expect("two parts of no separators", audit + ["2"], 2, [], "no such part")
     expect("a branch of no place", ["audit", "--under", "o//v1", root], 2, [], "bad path")
-    is_so("the cursor is as it was", read(cursor), b"no cursor")
+    check("the cursor is as it was", read(cursor), b"no cursor")
 
 
 def splits_by_report(folder):
@@ -297,21 +297,21 @@ def usages(root):
         ("no UTF-8", ["audit", b"\xff"]),
     ]:
         status, out, said = ran(words)
-        is_so("usage: " + name, (status, out, said != ""), (2, "", True))
+        check("usage: " + name, (status, out, said != ""), (2, "", True))
 
 
 def helps():
     status, out, said = ran(["--help"])
-    is_so("help", (status, "Usage: ocfl-scrub" in out, said), (0, True, ""))
+    check("help", (status, "Usage: ocfl-scrub" in out, said), (0, True, ""))
     for command in ["audit", "run", "cycle", "night", "check", "split", "join", "show"]:
-        is_so("help names " + command, "\n  " + command in out, True)
+        check("help names " + command, "\n  " + command in out, True)
         status, told, said = ran([command, "--help"])
         whole = "Usage: ocfl-scrub %s" % command in told
-        is_so("help of " + command, (status, whole, said), (0, True, ""))
+        check("help of " + command, (status, whole, said), (0, True, ""))
     status, out, said = ran(["--version"])
-    is_so("version", (status, out.startswith("ocfl-scrub "), said), (0, True, ""))
+    check("version", (status, out.startswith("ocfl-scrub "), said), (0, True, ""))
     own = "\nthis file has sha256 %s\n" % digest(read(common.PROGRAM))
-    is_so("version: the digest of the program", out.endswith(own), True)
+    check("version: the digest of the program", out.endswith(own), True)
 
 
 def findings(root):
@@ -321,7 +321,7 @@ def findings(root):
     os.rename(os.path.join(root, "o/inventory.json"), os.path.join(root, "o/kept"))
     os.mkdir(os.path.join(root, "o/inventory.json"))
     status, out, said = ran(["audit", root])
-    is_so("inventory that is a folder", (status, out.startswith(ITEMS[0])), (1, True))
+    check("inventory that is a folder", (status, out.startswith(ITEMS[0])), (1, True))
 
 
 def samples(folder):
@@ -330,9 +330,9 @@ def samples(folder):
         made = os.path.join(folder, name)
         script = os.path.join(common.TOP, "samples", name)
         done = subprocess.run([script, made], capture_output=True, env=TOLD, timeout=60)
-        is_so("samples/%s ends well" % name, (done.returncode, done.stderr), (0, b""))
+        check("samples/%s ends well" % name, (done.returncode, done.stderr), (0, b""))
         again = subprocess.run([script, made], capture_output=True, env=TOLD, timeout=60)
-        is_so("samples/%s replaces nothing" % name, again.returncode, 2)
+        check("samples/%s replaces nothing" % name, again.returncode, 2)
     digests = [digest(text, "sha512") for text in [b"Yours sincerely\n", b"Yours sincerly\n"]]
     lines = [
         line("ok", "."),
@@ -343,10 +343,10 @@ def samples(folder):
     ]
     expect("the sample", ["audit", os.path.join(folder, "make")], 1, lines, None)
     joined = read(os.path.join(folder, "nights", "report")).decode()
-    is_so("its nights", joined, "".join(lines))
+    check("its nights", joined, "".join(lines))
 
 
-def tell(folder):
+def check_all(folder):
     root = common.make_root(os.path.join(folder, "root"), {"o": FILES})
     for name in ["runs", "files", "beside", "others", "parts", "samples"]:
         os.mkdir(os.path.join(folder, name))
@@ -364,9 +364,9 @@ def tell(folder):
     splits_by_report(os.path.join(folder, "parts"))
     usages(root)
     helps()
-    is_so("nothing was written below the root", common.snapshot(root), before)
+    check("nothing was written below the root", common.snapshot(root), before)
     findings(root)
     samples(os.path.join(folder, "samples"))
 
 
-common.trial(tell)
+common.run_trial(check_all)

@@ -37,7 +37,7 @@ def built():
 PROGRAM = os.path.abspath(os.environ.get("OCFL_SCRUB") or built())
 
 
-def is_so(name, got, expected):
+def check(name, got, expected):
     """Counts whether what came is what is expected, and shows both where it is not."""
     global passed
     if got == expected:
@@ -48,9 +48,9 @@ def is_so(name, got, expected):
     return False
 
 
-def is_not_so_yet(name, got, expected, why):
+def check_known_fault(name, got, expected, why):
     """Counts a known fault, for the reason `why`: it passes as long as what came is not what is
-    expected, and fails when it is, so that whoever mends it calls `is_so` instead."""
+    expected, and fails when it is, so that whoever mends it calls `check` instead."""
     global passed
     if got != expected:
         passed += 1
@@ -66,7 +66,7 @@ def shown(value):
     return text if len(text) < 1500 else text[:700] + " .. " + text[-700:]
 
 
-def trial(tell, needs=()):
+def run_trial(check_all, needs=()):
     """Calls `tell` with a new folder, and ends with the names of the checks that failed and, as
     last line, the count.
 
@@ -84,14 +84,14 @@ def trial(tell, needs=()):
         sys.exit(1)
     folder = tempfile.mkdtemp(prefix="ocfl-scrub-trial-")
     try:
-        tell(folder)
+        check_all(folder)
     except Exception as error:
         traceback.print_exc(file=sys.stdout)
         failed.append("an exception: %r" % error)
     finally:
         shutil.rmtree(folder, ignore_errors=True)
-    for check in failed:
-        print("failed: %s: %s" % (name, " ".join(check.split())))
+    for each in failed:
+        print("failed: %s: %s" % (name, " ".join(each.split())))
     print("%d passed, %d failed" % (passed, len(failed)))
     sys.exit(1 if failed else 0)
 
@@ -143,7 +143,7 @@ def note(text):
 
 def expect(name, words, status, items, said):
     """The status, the items written, and what is said after the program's name."""
-    return is_so(name, ran(words), (status, "".join(items), note(said)))
+    return check(name, ran(words), (status, "".join(items), note(said)))
 
 
 def write(path, data):

@@ -35,7 +35,7 @@ import shutil
 import subprocess
 
 import common
-from common import is_so, line, make_root, note, write
+from common import check, line, make_root, note, write
 from shared import calls
 
 ABC = {"v1/content/e": b"e", "v1/content/f": b"abc", "v1/content/g": b"g"}
@@ -143,8 +143,8 @@ class Devices:
             if os.stat(other).st_ino == look.st_ino:
                 break
         found = os.stat(other)
-        is_so("%s: the number of the other file" % path, found.st_ino, look.st_ino)
-        is_so("%s: its device is another" % path, found.st_dev != look.st_dev, True)
+        check("%s: the number of the other file" % path, found.st_ino, look.st_ino)
+        check("%s: its device is another" % path, found.st_dev != look.st_dev, True)
         os.rename(path, moved)
         os.symlink(other, path)
 
@@ -165,7 +165,7 @@ def each_exchange(folder):
     for place in PLACES:
         for exchange in EXCHANGES:
             name = "%s exchanged %s" % (place, exchange.__name__.replace("_", " "))
-            is_so(name, exchanged(folder, place, exchange), after(place))
+            check(name, exchanged(folder, place, exchange), after(place))
 
 
 def other_devices(folder):
@@ -178,7 +178,7 @@ def other_devices(folder):
             write(os.path.join(devices.folders[0], "numbers", str(number)), b"")
         for place in PLACES:
             got = exchanged(devices.folders[0], place, devices.for_a_link_to_another_device)
-            is_so("%s exchanged for a link to another device" % place, got, after(place))
+            check("%s exchanged for a link to another device" % place, got, after(place))
 
 
 def after(place):
@@ -193,7 +193,7 @@ def moved(folder):
     """The file itself is read, over a link: its device and number are those of the look."""
     for place in PLACES:
         got = exchanged(folder, place, for_a_link_to_itself_moved)
-        is_so("%s moved behind a link" % place, got, (0, "".join(ITEMS), ""))
+        check("%s moved behind a link" % place, got, (0, "".join(ITEMS), ""))
 
 
 TREE = {"p/q": {"v1/content/d/a": b"one", "v1/content/d/b": b"two", "v1/content/e": b"three"}}
@@ -262,7 +262,7 @@ def each_moment(folder):
     root = make_root(folder + "/moments", TREE)
     moments = [call for call in calls.made(["audit", root], folder + "/log")
                if call.path == root or call.path.startswith(root + "/")]
-    is_so("so many moments", len(moments) > 60, True)
+    check("so many moments", len(moments) > 60, True)
     for exchange in [becomes_a_link, becomes_another, becomes_a_link_to_itself, goes_away]:
         for place in FOLDERS:
             false = []
@@ -271,14 +271,14 @@ def each_moment(folder):
                 false += [(call, it) for it in false_lines(place, exchange, got)]
             name = "%s %s, after each of %d calls" % (
                 place, exchange.__name__.replace("_", " "), len(moments))
-            is_so(name, false, [])
+            check(name, false, [])
 
 
-def tell(folder):
+def check_all(folder):
     moved(folder)
     each_exchange(folder)
     other_devices(folder)
     each_moment(folder)
 
 
-common.trial(tell, needs=["strace"])
+common.run_trial(check_all, needs=["strace"])

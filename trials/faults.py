@@ -27,7 +27,7 @@ import os
 import re
 
 import common
-from common import is_so, line, note, ran, traced
+from common import check, line, note, ran, traced
 from shared import calls
 
 BLOCK = 65_536
@@ -101,31 +101,31 @@ class Audit:
         return note("cycle 1, run 1, cost %d, ended" % (self.cost - less))
 
     def is_untouched(self, name, got):
-        is_so(name, got, (1, "".join(self.items), self.summary()))
+        check(name, got, (1, "".join(self.items), self.summary()))
 
     def is_unread(self, name, got, place, given):
         """S08 at this place alone, which costs what it gave and one."""
         items = [line("S08", place) if place == item.split("\t")[1] else item
                  for item in self.items]
-        is_so(name, got, (1, "".join(items), self.summary(self.sizes[place] - given)))
+        check(name, got, (1, "".join(items), self.summary(self.sizes[place] - given)))
 
     def is_stopped(self, name, got, place, said=None):
         """A stop there, after the items before it (an object's own files are its head's); beside it
         the system's words."""
         has_words = common.reason is not None
-        is_so(name + ": the reason", has_words, said is None)
+        check(name + ": the reason", has_words, said is None)
         head, last = os.path.split(place)
         front = head or "." if last.startswith(("0=", "inventory.json")) else place
         said = note(said or "stopped at " + place)
-        is_so(name, got, (3, "".join(self.before(front)), said))
+        check(name, got, (3, "".join(self.before(front)), said))
         self.goes_on(name, got[1])
 
     def goes_on(self, name, written):
         shown = common.shown_cursor(self.file)
-        is_so(name + ": a cursor", isinstance(shown, str), True)
+        check(name + ": a cursor", isinstance(shown, str), True)
         status, out, said = ran(self.run)
-        is_so(name + ": joined", written + out, "".join(self.items))
-        is_so(name + ": ended", (status in (0, 1), said.endswith(", ended\n")), (True, True))
+        check(name + ": joined", written + out, "".join(self.items))
+        check(name + ": ended", (status in (0, 1), said.endswith(", ended\n")), (True, True))
 
     def stops_or_is_unread(self, name, got, place):
         """What a look that failed may end in: it is made for a listing, or for an opening."""
@@ -136,13 +136,13 @@ class Audit:
             above = os.path.dirname(at[1]) if at else ""
             is_near = bool(at) and at[1] not in self.sizes and (
                 near(at[1], place) or bool(above) and near(above, place))
-            is_so(name + ": where", (said, is_near), (said, True))
-            is_so(name + ": whole items", "".join(self.items).startswith(out), True)
+            check(name + ": where", (said, is_near), (said, True))
+            check(name + ": whole items", "".join(self.items).startswith(out), True)
             self.goes_on(name, out)
         else:
             unread = [item.split("\t")[1] for item in out.splitlines() if item.startswith("S08")]
-            is_so(name + ": one unread file", (status, len(unread)), (1, 1))
-            is_so(name + ": where", [near(place, it) for it in unread], [True])
+            check(name + ": one unread file", (status, len(unread)), (1, 1))
+            check(name + ": where", [near(place, it) for it in unread], [True])
             self.is_unread(name, got, unread[0], 0)
 
 
@@ -187,7 +187,7 @@ def each_call(audit, folder):
         begun.add((call.name, call.path))
         interruptions += interrupted(audit, call, first)
     print("faults.py: %d errors of calls, %d interruptions" % (tried, interruptions))
-    is_so("openings and reads of all files are among them", tried > 300, True)
+    check("openings and reads of all files are among them", tried > 300, True)
 
 
 def interrupted(audit, call, first):
@@ -208,12 +208,12 @@ def always_interrupted(audit):
         error_at(audit, audit.on(place, "getdents64")[0], "EINTR", TRIES)
 
 
-def says_why(audit):
+def check_reason(audit):
     """Beside a stop stands a line with the place and the system's words."""
     for place, words in [("a/v1", "Permission denied (os error 13)"), (".", WORDS_OF_ENOTDIR)]:
         error = "EACCES" if place == "a/v1" else "ENOTDIR"
         audit.fails(audit.on(place, "getdents64")[0], error)
-        is_so("why it stopped at %s" % place, common.reason, words)
+        check("why it stopped at %s" % place, common.reason, words)
 
 
 def separators_fail(audit, folder):
@@ -224,20 +224,20 @@ def separators_fail(audit, folder):
     for error, said in [("ENOMEM", "out of memory"), ("EACCES", "parts file failed"),
                         ("EIO", "parts file failed")]:
         rule = "inject=openat:error=%s:when=1" % error
-        is_so("separators with " + error, traced(["-P", parts, "-e", rule], words),
+        check("separators with " + error, traced(["-P", parts, "-e", rule], words),
               (3, "", note(said)))
 
 
-def tell(folder):
+def check_all(folder):
     audit = Audit(folder)
     before = common.snapshot(audit.root)
     audit.is_untouched("without a fault", ran(audit.run))
     audit.all_calls = audit.calls(os.path.join(folder, "log"))
     each_call(audit, folder)
     always_interrupted(audit)
-    says_why(audit)
+    check_reason(audit)
     separators_fail(audit, folder)
-    is_so("nothing was written below the root", common.snapshot(audit.root), before)
+    check("nothing was written below the root", common.snapshot(audit.root), before)
 
 
-common.trial(tell, needs=["strace"])
+common.run_trial(check_all, needs=["strace"])

@@ -34,7 +34,7 @@ import socket
 import stat
 
 import common
-from common import digest, expect, is_so, line, make_object, make_root, put_inventory, ran, write
+from common import digest, expect, check, line, make_object, make_root, put_inventory, ran, write
 from shared import calls
 
 ABC = {"v1/content/f": b"abc"}
@@ -47,7 +47,7 @@ def audits(name, root, items, said=None, status=None):
     wrong = any(not item.startswith(("ok", "S07")) for item in items)
     status = (1 if wrong else 0) if status is None else status
     expect(name, ["audit", root], status, items, said)
-    is_so(name + ": the root is as it was", common.snapshot(root) == before, True)
+    check(name + ": the root is as it was", common.snapshot(root) == before, True)
 
 
 def put_others(folder, outside):
@@ -159,7 +159,7 @@ def roots(folder):
     os.symlink(root, link)
     for name in [root + "/", root + "//", root + "/.", os.path.join(root, "o", ".."), link]:
         expect("root as %s" % name[len(folder):], ["audit", name], 0, OK, None)
-    is_so("root as .", ran(["audit", "."], cwd=root), (0, "".join(OK), ""))
+    check("root as .", ran(["audit", "."], cwd=root), (0, "".join(OK), ""))
     expect("a file as the root", ["audit", os.path.join(root, "0=ocfl_1.1")], 3, [],
            "stopped at .")
     os.mkfifo(os.path.join(folder, "root-fifo"))
@@ -245,7 +245,7 @@ def reads_all(root, way, names):
         status = 0 if item.startswith("ok") else 1
         expect("a check of a path " + kind, ["check", root, place], status, [item], None)
     run = ["run", "--cursor", root + "-cursor", "--budget", "1", root]
-    is_so("runs over paths " + kind, "".join(common.nights(run)), "".join([*OK, *lines.values()]))
+    check("runs over paths " + kind, "".join(common.nights(run)), "".join([*OK, *lines.values()]))
 
 
 def deep(folder):
@@ -329,7 +329,7 @@ def changing(folder):
                 file.seek(0, os.SEEK_END)
                 change(file)
         wrong = line("E092", "o/v1/content/f", "sha256 %s %s" % (digest(data), digest(read)))
-        is_so("a file that " + name, stopped.ended, (1, "".join(OK[:2]) + wrong, ""))
+        check("a file that " + name, stopped.ended, (1, "".join(OK[:2]) + wrong, ""))
 
 
 def going(folder):
@@ -345,10 +345,10 @@ def going(folder):
         at = calls.on(path, calls.made(words, folder + "/log"), [call])[when - 1]
         with calls.stopped_at(at, words) as stopped:
             os.remove(os.path.join(root, "o/v1/content/f"))
-        is_so("a file removed " + name, stopped.ended, (status, "".join(items), ""))
+        check("a file removed " + name, stopped.ended, (status, "".join(items), ""))
 
 
-def tell(folder):
+def check_all(folder):
     outside = os.path.join(folder, "outside")
     write(os.path.join(outside, "file"), b"secret")
     others(folder, outside)
@@ -366,4 +366,4 @@ def tell(folder):
     going(folder)
 
 
-common.trial(tell, needs=["strace"])
+common.run_trial(check_all, needs=["strace"])

@@ -15,7 +15,7 @@ import re
 import shutil
 
 import common
-from common import PROGRAM, TOP, digest, is_so, version
+from common import PROGRAM, TOP, digest, check, version
 from shared.clones import git, make_clone
 from shared.nights import ITEMS, NIGHTS, make_root, ran, read, tried, write
 from shared.rules import codes_of_rules
@@ -28,7 +28,7 @@ def tools():
     """The tools that the trials need."""
     for tool, package in PACKAGES.items():
         where = "there" if shutil.which(tool) else "missing (Debian: %s)" % package
-        is_so("the tool " + tool, where, "there")
+        check("the tool " + tool, where, "there")
 
 
 # Installing
@@ -104,21 +104,21 @@ def tree(folder):
 def installing(folder):
     clone, prefix = make_clone(folder + "/clone"), folder + "/prefix"
     install = clone + "/install"
-    is_so("install --help", (ran([install, "--help"])[0::2]), (0, ""))
+    check("install --help", (ran([install, "--help"])[0::2]), (0, ""))
     for name, words in [("option", ["--what"]), ("two prefixes", ["/a", "/b"]),
                         ("space", ["/a b"])]:
-        is_so("install refuses: " + name, ran([install] + words)[0:2], (2, ""))
+        check("install refuses: " + name, ran([install] + words)[0:2], (2, ""))
     status, out, _ = ran([install, prefix])
-    is_so("install", (status, out.splitlines()[-1:]), (0, ["installed in %s/bin" % prefix]))
-    is_so("what is installed", tree(prefix), INSTALLED)
+    check("install", (status, out.splitlines()[-1:]), (0, ["installed in %s/bin" % prefix]))
+    check("what is installed", tree(prefix), INSTALLED)
     commit = git(clone, "rev-parse", "HEAD").strip()
     kit = ran(["rt", "version"])[1].strip() if shutil.which("rt") else "unknown"
     build = "ocfl-scrub %s\ncommit %s\nkit %s\nsha256 %s\n" % (
         version(), commit, kit, digest(common.read(PROGRAM)))
-    is_so("BUILD", read(prefix + "/share/ocfl-scrub/BUILD"), build)
+    check("BUILD", read(prefix + "/share/ocfl-scrub/BUILD"), build)
     versions(prefix, build)
     page = read(prefix + "/share/man/man1/ocfl-scrub.1")
-    is_so("the page's commit", ['"ocfl\\-scrub %s (%s)"' % (version(), commit[:7]) in page,
+    check("the page's commit", ['"ocfl\\-scrub %s (%s)"' % (version(), commit[:7]) in page,
                                 "Built from commit %s by %s." % (commit, kit) in page], [True,
                                                                                          True])
     installing_again(clone, prefix, folder)
@@ -128,16 +128,16 @@ def versions(prefix, build):
     """What `--version` prints beside its BUILD, beside that of another program, and without any."""
     show, notes = [prefix + "/bin/ocfl-scrub", "--version"], prefix + "/share/ocfl-scrub/BUILD"
     own = "this file has sha256 %s" % digest(common.read(PROGRAM))
-    is_so("--version with its BUILD", ran(show), (0, build + own + "\n", ""))
+    check("--version with its BUILD", ran(show), (0, build + own + "\n", ""))
     other = re.sub("(?m)^sha256 .*", "sha256 " + digest(b""), build)
     write(notes, other)
-    is_so("--version with another BUILD", ran(show),
+    check("--version with another BUILD", ran(show),
           (0, other + own + " (differs from BUILD)\n", ""))
     cut = build[:build.index("sha256 ")]
     write(notes, cut)
-    is_so("--version with a BUILD that has no digest", ran(show), (0, cut + own + "\n", ""))
+    check("--version with a BUILD that has no digest", ran(show), (0, cut + own + "\n", ""))
     os.remove(notes)
-    is_so("--version without BUILD", ran(show),
+    check("--version without BUILD", ran(show),
           (0, "ocfl-scrub %s\n%s\n" % (version(), own), ""))
     write(notes, build)
 
@@ -146,25 +146,25 @@ def installing_again(clone, prefix, folder):
     install = clone + "/install"
     with open(prefix + "/bin/ocfl-scrub", "rb") as held:
         before = os.fstat(held.fileno()).st_ino
-        is_so("install again", ran([install, prefix])[0], 0)
-        is_so("the program is exchanged, not overwritten",
+        check("install again", ran([install, prefix])[0], 0)
+        check("the program is exchanged, not overwritten",
               os.stat(prefix + "/bin/ocfl-scrub").st_ino != before, True)
-    is_so("nothing is left beside it", tree(prefix), INSTALLED)
+    check("nothing is left beside it", tree(prefix), INSTALLED)
     write(clone + "/nights/changed", "")
-    is_so("install to HOME, with DESTDIR",
+    check("install to HOME, with DESTDIR",
           ran([install], HOME="/home/her", DESTDIR=folder + "/package")[0], 0)
-    is_so("below DESTDIR", tree(folder + "/package/home/her/.local"), INSTALLED)
+    check("below DESTDIR", tree(folder + "/package/home/her/.local"), INSTALLED)
     package = folder + "/package/home/her/.local/share/ocfl-scrub/"
-    is_so("a changed clone is told", ", with changes\nkit" in read(package + "BUILD"), True)
+    check("a changed clone is told", ", with changes\nkit" in read(package + "BUILD"), True)
     unit = read(package + "systemd/ocfl-scrub@.service")
-    is_so("units know the PREFIX", "ExecStart=/home/her/.local/share/ocfl-scrub/nightly " in unit,
+    check("units know the PREFIX", "ExecStart=/home/her/.local/share/ocfl-scrub/nightly " in unit,
           True)
     write(folder + "/file", "")
     status, _, said = ran([install, folder + "/file"])
-    is_so("PREFIX that is a file", (status, "could not be made" in said), (3, True))
+    check("PREFIX that is a file", (status, "could not be made" in said), (3, True))
     shutil.rmtree(clone + "/crates/ocfl_scrub_cli/out")
     status, _, said = ran([install, folder + "/none"], PATH="/usr/bin:/bin")
-    is_so("neither built nor rt", (status, "the program is not built; nothing" in said,
+    check("neither built nor rt", (status, "the program is not built; nothing" in said,
                                    os.path.exists(folder + "/none")), (3, True, False))
 
 
@@ -183,22 +183,22 @@ def uninstalling(folder):
     clone, prefix = make_clone(folder + "/another"), folder + "/there"
     install = clone + "/install"
     refusals(install, prefix, folder)
-    is_so("install, to uninstall", ran([install, prefix])[0], 0)
+    check("install, to uninstall", ran([install, prefix])[0], 0)
     listed = dict(row.split()[::-1] for row in read(prefix + "/" + LIST).splitlines())
     made = everything(prefix)
-    is_so("the list names all but itself",
+    check("the list names all but itself",
           sorted(path + "/" * (it == "folder") for path, it in listed.items()),
           [path for path in made if path != LIST])
-    is_so("it has the digest of each", [path for path, it in listed.items() if it != "folder"
+    check("it has the digest of each", [path for path, it in listed.items() if it != "folder"
                                         and it != digest(common.read(prefix + "/" + path))], [])
     status, out, said = ran([install, prefix, "--uninstall"])
-    is_so("uninstall", (status, sorted(out.splitlines()), said),
+    check("uninstall", (status, sorted(out.splitlines()), said),
           (0, sorted("removed %s/%s" % (prefix, path) for path in made), ""))
-    is_so("nothing is left", everything(prefix), [])
+    check("nothing is left", everything(prefix), [])
     given = {"HOME": "/home/her", "DESTDIR": folder + "/below"}
     ran([install], **given)
-    is_so("uninstall from HOME, with DESTDIR", ran([install, "--uninstall"], **given)[0], 0)
-    is_so("what is left there", everything(folder + "/below"),
+    check("uninstall from HOME, with DESTDIR", ran([install, "--uninstall"], **given)[0], 0)
+    check("what is left there", everything(folder + "/below"),
           ["home/", "home/her/", "home/her/.local/"])
     others_stay(install, prefix)
     older_version(clone, install, prefix)
@@ -211,7 +211,7 @@ CODES = "ocfl_scrub_reports/codes"
 def refusals(install, prefix, folder):
     """What `--uninstall` refuses; it removes nothing then."""
     status, out, said = ran([install, "--uninstall", prefix])
-    is_so("nothing is installed", (status, out, "nothing is installed below" in said),
+    check("nothing is installed", (status, out, "nothing is installed below" in said),
           (3, "", True))
     ran([install, prefix])
     made, kept = everything(prefix), read(prefix + "/" + LIST)
@@ -221,13 +221,13 @@ def refusals(install, prefix, folder):
         write(prefix + "/" + LIST, kept + "%s %s\n" % (empty, path))
         for words in [["--uninstall", prefix], [prefix]]:
             status, out, said = ran([install, *words])
-            is_so("a list that names '%s'" % path, (status, out, "is damaged, so" in said),
+            check("a list that names '%s'" % path, (status, out, "is damaged, so" in said),
                   (3, "", True))
-    is_so("nothing was removed", [everything(prefix), os.path.exists(folder + "/outside")],
+    check("nothing was removed", [everything(prefix), os.path.exists(folder + "/outside")],
           [made, True])
     os.remove(prefix + "/" + LIST)
     status, out, said = ran([install, "--uninstall", prefix])
-    is_so("an installation without a list", (status, out, "install once more" in said),
+    check("an installation without a list", (status, out, "install once more" in said),
           (3, "", True))
     shutil.rmtree(prefix)
 
@@ -247,13 +247,13 @@ def others_stay(install, prefix):
     os.symlink("mine", share + "nightly")
     status, out, said = ran([install, "--uninstall", prefix])
     stay = [share + name for name in [CODES[:-6], CODES, "nightly"]] + [share[:-1]]
-    is_so("uninstall beside other files", (status, sorted(said.splitlines())), (0, sorted(
+    check("uninstall beside other files", (status, sorted(said.splitlines())), (0, sorted(
         "install: %s stays: %s" % (path, "it holds other files" if os.path.isdir(path)
                                    else "it was changed after it was installed")
         for path in stay)))
-    is_so("it reports nothing that stays", [path for path in stay if "removed %s\n" % path in out],
+    check("it reports nothing that stays", [path for path in stay if "removed %s\n" % path in out],
           [])
-    is_so("other files stay", everything(prefix), [
+    check("other files stay", everything(prefix), [
         "bin/", "bin/other", "share/", "share/man/", "share/ocfl-scrub/", "share/ocfl-scrub/audit/",
         "share/ocfl-scrub/audit/cursor", "share/ocfl-scrub/mine", "share/ocfl-scrub/nightly",
         "share/ocfl-scrub/ocfl_scrub_reports/", "share/ocfl-scrub/" + CODES,
@@ -271,12 +271,12 @@ def older_version(clone, install, prefix):
     there = prefix + "/share/ocfl-scrub/"
     write(there + "older/one", "changed")
     status, out, said = ran([install, prefix])
-    is_so("install over an older one",
+    check("install over an older one",
           (status, "removed %solder/two\n" % there in out, "older/one stays: it" in said),
           (0, True, True))
     os.remove(there + "older/one")
     ran([install, "--uninstall", prefix])
-    is_so("folders of the older one are known", everything(prefix), [])
+    check("folders of the older one are known", everything(prefix), [])
 
 
 # The manual page
@@ -289,20 +289,20 @@ def manual(prefix):
                        ("second page, installed", installed + "ocfl-scrub-reports.1")]:
         for words in [["man", "--warnings", "-l", "-E", "UTF-8", file],
                       ["groff", "-man", "-Tutf8", "-wall", file]]:
-            is_so("%s by %s" % (name, words[0]), ran(words)[0::2], (0, ""))
+            check("%s by %s" % (name, words[0]), ran(words)[0::2], (0, ""))
     said = ran(["man", "-M", prefix + "/share/man", "ocfl-scrub"])
-    is_so("man finds it", (said[0], "ocfl-scrub - audit" in re.sub(" +", " ", said[1])), (0, True))
+    check("man finds it", (said[0], "ocfl-scrub - audit" in re.sub(" +", " ", said[1])), (0, True))
     text = read(page)
-    is_so("no long line", [row for row in text.splitlines() if len(row) > 80], [])
+    check("no long line", [row for row in text.splitlines() if len(row) > 80], [])
     told = set(re.findall(r"^\.B (ok|[ES]\d+)$", text, re.MULTILINE))
-    is_so("each code is in the page", sorted(codes_of_rules() - told), [])
-    is_so("each code of the page is a rule's", sorted(told - codes_of_rules()), [])
+    check("each code is in the page", sorted(codes_of_rules() - told), [])
+    check("each code of the page is a rule's", sorted(told - codes_of_rules()), [])
     for command in ["audit", "run", "cycle", "night", "check", "split", "join", "show"]:
-        is_so("the page tells of " + command, "\n.BI %s\\~ " % command in text, True)
+        check("the page tells of " + command, "\n.BI %s\\~ " % command in text, True)
     shown = "".join(ran([PROGRAM, command, "--help"])[1]
                     for command in ["audit", "run", "cycle", "night", "split", "join"])
     options = {word.replace("-", "\\-") for word in re.findall(r"--[a-z-]+", shown)}
-    is_so("the page tells of each option", sorted(o for o in options if o not in text), [])
+    check("the page tells of each option", sorted(o for o in options if o not in text), [])
     of_reports(read(others))
 
 
@@ -310,12 +310,12 @@ def of_reports(text):
     """The page of the questions has each command, and each of their options."""
     tool = NIGHTS + "/ocfl-scrub-reports"
     commands = re.findall(r"(?m)^    ([a-z]+)\b", ran([tool, "--help"])[1])
-    is_so("the commands of the second page", re.findall(r"(?m)^\.TP\n\.B ([a-z]+)$", text),
+    check("the commands of the second page", re.findall(r"(?m)^\.TP\n\.B ([a-z]+)$", text),
           commands)
     shown = "".join(ran([tool, command, "--help"])[1] for command in commands)
     options = {word.replace("-", "\\-") for word in re.findall(r"--[a-z-]+", shown)}
-    is_so("its options", sorted(o for o in options - {"\\-\\-help"} if o not in text), [])
-    is_so("no long line in it", [row for row in text.splitlines() if len(row) > 80], [])
+    check("its options", sorted(o for o in options - {"\\-\\-help"} if o not in text), [])
+    check("no long line in it", [row for row in text.splitlines() if len(row) > 80], [])
 
 
 # systemd and cron
@@ -325,21 +325,21 @@ def units(prefix):
     names = ["ocfl-scrub@.service", "ocfl-scrub@.timer", "ocfl-scrub-tell@.service",
              "ocfl-scrub-tell-failed@.service"]
     for name in names:
-        is_so("systemd-analyze verify " + name,
+        check("systemd-analyze verify " + name,
               ran(["systemd-analyze", "verify", os.path.join(folder, name)],
                   MANPATH=prefix + "/share/man"), (0, "", ""))
-    is_so("two names of one unit", read(folder + "/" + names[2]), read(folder + "/" + names[3]))
+    check("two names of one unit", read(folder + "/" + names[2]), read(folder + "/" + names[3]))
     service = read(folder + "/ocfl-scrub@.service")
     wanted = ["ProtectSystem=strict", "StateDirectory=ocfl-scrub/%i", "SuccessExitStatus=1",
               "MemoryMax=2G", "IOSchedulingClass=idle", "Nice=19",
               "OnSuccess=ocfl-scrub-tell@%i.service",
               "OnFailure=ocfl-scrub-tell-failed@%i.service", "SystemCallErrorNumber=EPERM"]
-    is_so("what the service asks for", [w for w in wanted if "\n%s\n" % w not in service], [])
-    is_so("nothing runs outside of the sandbox, or as root", re.findall(
+    check("what the service asks for", [w for w in wanted if "\n%s\n" % w not in service], [])
+    check("nothing runs outside of the sandbox, or as root", re.findall(
         r"^Exec\w+=[-+!:@]*[+!].*", service + read(folder + "/" + names[2]), re.MULTILINE), [])
-    is_so("exposed by at most 0.5", ran(["systemd-analyze", "security", "--offline=true",
+    check("exposed by at most 0.5", ran(["systemd-analyze", "security", "--offline=true",
                                          "--threshold=5", os.path.join(folder, names[0])])[0], 0)
-    is_so("it ends by the clock", "--until ${UNTIL}" in service, True)
+    check("it ends by the clock", "--until ${UNTIL}" in service, True)
     user_units(prefix)
 
 
@@ -347,10 +347,10 @@ def user_units(prefix):
     """Those of a user's own nights lie where the user's service manager looks below a home."""
     folder = prefix + "/share/systemd/user"
     for name in ["ocfl-scrub@.service", "ocfl-scrub@.timer"]:
-        is_so("systemd-analyze verify user/" + name,
+        check("systemd-analyze verify user/" + name,
               ran(["systemd-analyze", "verify", os.path.join(folder, name)],
                   MANPATH=prefix + "/share/man"), (0, "", ""))
-    is_so("the same timer", read(folder + "/ocfl-scrub@.timer"),
+    check("the same timer", read(folder + "/ocfl-scrub@.timer"),
           read(prefix + "/share/ocfl-scrub/systemd/ocfl-scrub@.timer"))
 
 
@@ -361,20 +361,20 @@ def users_and_folders(folder, prefix):
     os.makedirs(root + "/etc")
     os.makedirs(root + "/var/lib")
     for _ in range(2):
-        is_so("the user", ran(["systemd-sysusers", "--root=" + root,
+        check("the user", ran(["systemd-sysusers", "--root=" + root,
                                where + "/sysusers.conf"])[0], 0)
         row = re.search("(?m)^ocfl-scrub:.*$", read(root + "/etc/passwd"))[0].split(":")
-        is_so("its home and shell", row[4:], ["Nights of ocfl-scrub", "/var/lib/ocfl-scrub",
+        check("its home and shell", row[4:], ["Nights of ocfl-scrub", "/var/lib/ocfl-scrub",
                                               "/usr/sbin/nologin"])
-        is_so("the folders", ran(["systemd-tmpfiles", "--root=" + root, "--create",
+        check("the folders", ran(["systemd-tmpfiles", "--root=" + root, "--create",
                                   where + "/tmpfiles.conf"])[0], 0)
         state, settings = root + "/var/lib/ocfl-scrub", root + "/etc/ocfl-scrub"
         look = os.stat(state)
-        is_so("whose the states are", (look.st_mode & 0o777, look.st_uid), (0o750, int(row[2])))
-        is_so("and the settings", (os.stat(settings).st_mode & 0o777, os.stat(settings).st_uid),
+        check("whose the states are", (look.st_mode & 0o777, look.st_uid), (0o750, int(row[2])))
+        check("and the settings", (os.stat(settings).st_mode & 0o777, os.stat(settings).st_uid),
               (0o755, 0))
         write(state + "/archive/checkpoint", "kept")
-    is_so("a state stays", read(state + "/archive/checkpoint"), "kept")
+    check("a state stays", read(state + "/archive/checkpoint"), "kept")
 
 
 def cron(folder, prefix):
@@ -388,17 +388,17 @@ def cron(folder, prefix):
             settings.update([line.split("=", 1)])
         else:
             command = line.split(None, 6)
-    is_so("when, and who", command[:6], ["0", "22", "*", "*", "*", "ocfl-scrub"])
+    check("when, and who", command[:6], ["0", "22", "*", "*", "*", "ocfl-scrub"])
     settings.update(STATE=folder + "/state", ROOT=folder + "/root")
-    is_so("it ends by the clock too", settings.get("UNTIL"), "06:00")
+    check("it ends by the clock too", settings.get("UNTIL"), "06:00")
     first = [prefix + "/share/ocfl-scrub/nightly", "--create", "--files", "1", "--state",
              folder + "/state", folder + "/root"]
-    is_so("the first night", ran(first), (0, "", ""))
-    is_so("the line for cron", ran(["sh", "-c", command[6]], **settings), (0, "", ""))
-    is_so("its report", read(folder + "/state/reports/cycle-000001"), "".join(ITEMS))
+    check("the first night", ran(first), (0, "", ""))
+    check("the line for cron", ran(["sh", "-c", command[6]], **settings), (0, "", ""))
+    check("its report", read(folder + "/state/reports/cycle-000001"), "".join(ITEMS))
 
 
-def tell(folder):
+def check_all(folder):
     prefix = folder + "/prefix"
     tools()
     tried(installing, folder)
@@ -410,4 +410,4 @@ def tell(folder):
     tried(cron, folder + "/cron", prefix)
 
 
-common.trial(tell)
+common.run_trial(check_all)

@@ -17,7 +17,7 @@ import shutil
 from typing import Any
 
 import common
-from common import digest, is_not_so_yet, is_so, ran
+from common import digest, check_known_fault, check, ran
 from shared.nights import tried_apart
 
 SEPARATORS = ["b", "d"]
@@ -83,17 +83,17 @@ class Parts:
 
     def refused(self, name: str, said: str) -> None:
         status, report, text = self.joined()
-        is_so(name, (status, report, said in text), (3, None, True))
+        check(name, (status, report, said in text), (3, None, True))
 
 
 def whole(folder: str) -> None:
     """The joined report has the lines of all parts in their order, and is made once."""
     parts = Parts(folder)
-    is_so("joined", parts.joined(), (0, "".join(REPORTS), ""))
+    check("joined", parts.joined(), (0, "".join(REPORTS), ""))
     before = common.snapshot(parts.folder + "/reports")
-    is_so("once more", parts.joined(), (0, "".join(REPORTS), ""))
-    is_so("it is made once", common.snapshot(parts.folder + "/reports"), before)
-    is_so("nothing is left beside it", os.listdir(parts.folder + "/reports"), ["cycle-000001"])
+    check("once more", parts.joined(), (0, "".join(REPORTS), ""))
+    check("it is made once", common.snapshot(parts.folder + "/reports"), before)
+    check("nothing is left beside it", os.listdir(parts.folder + "/reports"), ["cycle-000001"])
 
 
 def later_cycles(folder: str) -> None:
@@ -102,8 +102,8 @@ def later_cycles(folder: str) -> None:
     parts.put(1, cycle=3)
     parts.put(2, cycle=2)
     parts.put(3, cycle=3, state="after d")
-    is_so("joined", parts.joined(2), (0, "".join(REPORTS), ""))
-    is_so("no other cycle", os.listdir(parts.folder + "/reports"), ["cycle-000002"])
+    check("joined", parts.joined(2), (0, "".join(REPORTS), ""))
+    check("no other cycle", os.listdir(parts.folder + "/reports"), ["cycle-000002"])
 
 
 def refused(folder: str) -> None:
@@ -130,22 +130,22 @@ def refused(folder: str) -> None:
         parts.cut(separators)
         parts.refused("another list: %s" % separators, "part ")
     parts.cut(SEPARATORS)
-    is_so("as it was", parts.joined(), (0, "".join(REPORTS), ""))
+    check("as it was", parts.joined(), (0, "".join(REPORTS), ""))
 
 
 def lost_lines(folder: str) -> None:
     """A report that lost whole lines."""
     parts = Parts(folder)
     common.write(parts.path(2, "reports/cycle-000001"), b"ok\tb\t-\n")
-    is_not_so_yet("lost lines", parts.joined()[0:2], (3, None),
-                  "no checkpoint keeps the digests of a closed report")
+    check_known_fault("lost lines", parts.joined()[0:2], (3, None),
+                      "no checkpoint keeps the digests of a closed report")
 
 
 PARTS = [whole, later_cycles, refused, lost_lines]
 
 
-def tell(folder: str) -> None:
+def check_all(folder: str) -> None:
     tried_apart(PARTS, folder)
 
 
-common.trial(tell)
+common.run_trial(check_all)

@@ -22,7 +22,7 @@ import random
 import sys
 
 import common
-from common import is_so
+from common import check
 from shared.kills import Cycle, exact_moments, random_moments
 
 KILLS = 200
@@ -49,17 +49,17 @@ def kill_at_calls(folder, root, items):
     cycle = Cycle(folder, "exact", ["--budget", "150K", root], items)
     kills, moments = exact_moments(cycle, KILLS, DICE)
     print("kills.py: %d runs killed at calls, of %d moments" % (kills, moments))
-    is_so("so many moments", moments, KILLS)
+    check("so many moments", moments, KILLS)
 
 
-def tell(folder):
+def check_all(folder):
     for kill, name, sizes in [(kill_at_random, "large", SIZES + LARGE),
                               (kill_at_calls, "small", SIZES)]:
         objects = make_files(sizes)
         root = common.make_root(os.path.join(folder, name), objects)
         before = common.snapshot(root)
         kill(folder, root, common.sound(objects))
-        is_so("nothing was written below the root", common.snapshot(root) == before, True)
+        check("nothing was written below the root", common.snapshot(root) == before, True)
 
 
-common.trial(tell, needs=["strace"])
+common.run_trial(check_all, needs=["strace"])

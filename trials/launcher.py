@@ -22,7 +22,7 @@ import subprocess
 import time
 
 import common
-from common import is_so, write
+from common import check, write
 
 
 def read(path):
@@ -114,26 +114,26 @@ def no_toolchain(copy):
     """What is missing is the last thing said: a night passes on no more than that."""
     status, out, said, builds = copy.called(["audit"], PATH="/usr/bin:/bin")
     last = said.splitlines()[-1]
-    is_so("no toolchain", (status, out, builds), (3, "", 0))
-    is_so("no toolchain: the reason comes last",
+    check("no toolchain", (status, out, builds), (3, "", 0))
+    check("no toolchain: the reason comes last",
           [part in last for part in ["it is not built", "command rt is not found", "README.md"]],
           [True, True, True])
     for name, kit in [("another kit", "rattle-kit-13b logic 0123456789abcdef"),
                       ("a kit whose logic begins so", "rattle-kit-99 logic %s0" % LOGIC),
                       ("a kit without a name", "")]:
         status, out, said, builds = copy.called(["audit"], RT_KIT=kit)
-        is_so(name, (status, out, builds), (3, "", 0))
-        is_so(name + ": it is named, and so is what is wanted",
+        check(name, (status, out, builds), (3, "", 0))
+        check(name + ": it is named, and so is what is wanted",
               [len(said.splitlines()), kit in said, "logic %s:" % LOGIC in said,
                "README.md" in said], [1, True, True, True])
 
 
 def fails(copy):
     status, out, said, builds = copy.called(["audit"], RT_FAILS="1")
-    is_so("a build that fails", (status, out, builds, "fn x: not proved" in said),
+    check("a build that fails", (status, out, builds, "fn x: not proved" in said),
           (3, "", 0, True))
-    is_so("it shows nothing that was proved", "fn of" in said, False)
-    is_so("it leaves no log", os.listdir(copy.logs), [])
+    check("it shows nothing that was proved", "fn of" in said, False)
+    check("it leaves no log", os.listdir(copy.logs), [])
 
 
 def is_running(pid):
@@ -151,25 +151,25 @@ def stopped(copy):
             time.sleep(0.01)
         stop(process.pid, signal.SIGTERM)
         process.communicate(timeout=60)
-        is_so("a build of which %s is stopped" % name,
+        check("a build of which %s is stopped" % name,
               (process.returncode, os.listdir(copy.logs), is_running(read(copy.count + ".pid"))),
               (3, [], False))
 
 
 def builds_once(copy):
     status, out, said, builds = copy.called(["one", "two words"])
-    is_so("it builds, and hands on words and status", (status, out, builds),
+    check("it builds, and hands on words and status", (status, out, builds),
           (7, "one two words\n", 3))
-    is_so("it says so", [part in said for part in [
+    check("it says so", [part in said for part in [
         "it is not built.", MINUTES, copy.launcher + " --unproved audit ROOT", copy.logs,
         "README.md"]], [True] * 5)
-    is_so("where there is no terminal, each crate that is proved has its line",
+    check("where there is no terminal, each crate that is proved has its line",
           [line.split(": ")[1:] for line in said.splitlines() if " proved, " in line],
           [["%d of 3 crates proved, 0 min so far" % (at + 1), name]
            for at, name in enumerate(PROVED)])
-    is_so("it proves what the program stands on", read(copy.read), NEEDED.decode())
-    is_so("it leaves no log behind it", os.listdir(copy.logs), [])
-    is_so("it builds once", copy.called(["again"]), (7, "again\n", "", 3))
+    check("it proves what the program stands on", read(copy.read), NEEDED.decode())
+    check("it leaves no log behind it", os.listdir(copy.logs), [])
+    check("it builds once", copy.called(["again"]), (7, "again\n", "", 3))
 
 
 def on_a_terminal(copy):
@@ -185,12 +185,12 @@ def on_a_terminal(copy):
     out = process.communicate(timeout=60)[0]
     os.close(ours)
     lines = sent.decode().replace("\r\n", "\n").split("\n")
-    is_so("on a terminal", (process.returncode, out, len(lines)), (7, b"x\n", 4))
+    check("on a terminal", (process.returncode, out, len(lines)), (7, b"x\n", 4))
     shown = [part.rstrip() for part in lines[-1].split("\r")]
-    is_so("on a terminal: how far it is",
+    check("on a terminal: how far it is",
           "ocfl-scrub: 3 of 3 crates proved, 0 min so far" in shown, True)
-    is_so("on a terminal: it fits into a line", max(len(part) for part in shown) < 80, True)
-    is_so("on a terminal: nothing of it is left", shown[-2:], ["", ""])
+    check("on a terminal: it fits into a line", max(len(part) for part in shown) < 80, True)
+    check("on a terminal: nothing of it is left", shown[-2:], ["", ""])
 
 
 def read_some(terminal):
@@ -213,23 +213,23 @@ def unproved(folder, copy):
     ]:
         for status in [0, 1, 3]:
             done = copy.called(["--unproved", "audit", *words], cwd=cwd, RT_ENDS=str(status))
-            is_so("%s, status %d" % (name, status), done[:2] + done[3:],
+            check("%s, status %d" % (name, status), done[:2] + done[3:],
                   (status, "".join(word + "\n" for word in ["audit", *given]), before))
-            is_so("%s, status %d: what is said" % (name, status),
+            check("%s, status %d: what is said" % (name, status),
                   ["nothing is proved" in done[2], "ocfl-scrub: said by the program\n" in done[2],
                    "unproved program\n" in done[2], "no-answer" in done[2], "run=" in done[2]],
                   [True, True, True, False, False])
     status, _, said, _ = copy.called(["--unproved", "audit", root])
-    is_so("a look that takes too long", (status, "did not end in" in said), (3, True))
+    check("a look that takes too long", (status, "did not end in" in said), (3, True))
     status, _, said, _ = copy.called(["--unproved", "audit", root], RT_SAYS="it broke")
-    is_so("a look without an answer", (status, "it broke" in said), (3, True))
+    check("a look without an answer", (status, "it broke" in said), (3, True))
     for words in [[], ["audit"], ["audit", root, "--quiet"], ["check", root], ["audit", "gone"]]:
         status, out, said, _ = copy.called(["--unproved", *words])
-        is_so("--unproved %s" % words, (status, out, "--unproved takes audit" in said),
+        check("--unproved %s" % words, (status, out, "--unproved takes audit" in said),
               (2, "", True))
     said = copy.called(["--unproved", "audit", root], PATH="/usr/bin:/bin")[2]
-    is_so("a look without a toolchain", "command rt is not found" in said, True)
-    is_so("a look leaves nothing behind it", os.listdir(copy.logs), [])
+    check("a look without a toolchain", "command rt is not found" in said, True)
+    check("a look leaves nothing behind it", os.listdir(copy.logs), [])
 
 
 def from_anywhere(folder, copy):
@@ -247,12 +247,12 @@ def from_anywhere(folder, copy):
         ("by a link that is relative", near, "/"),
         ("by a link to a link", "./twice", links),
     ]:
-        is_so(name, copy.called(["x"], launcher, cwd), good)
-        is_so(name + ", with CDPATH", copy.called(["x"], launcher, cwd, CDPATH=folder), good)
+        check(name, copy.called(["x"], launcher, cwd), good)
+        check(name + ", with CDPATH", copy.called(["x"], launcher, cwd, CDPATH=folder), good)
     if os.geteuid() == 0:
         os.chmod(folder, 0o755)
         nobody = ["setpriv", "--reuid=65534", "--regid=65534", "--clear-groups"]
-        is_so("where nothing can be written", copy.called(["x"], before=nobody), good)
+        check("where nothing can be written", copy.called(["x"], before=nobody), good)
 
 
 def builds_anew(copy):
@@ -260,17 +260,17 @@ def builds_anew(copy):
     stamp = os.path.join(copy.crate, "out/built")
     for path in [copy.source, os.path.join(copy.top, "crates.txt"), stamp]:
         age(path)
-    is_so("an older source", copy.called(["x"]), (7, "x\n", "", 3))
+    check("an older source", copy.called(["x"]), (7, "x\n", "", 3))
     write(os.path.join(copy.crate, "edits/an.edits"), b"")
-    is_so("edits are no sources", copy.called(["x"]), (7, "x\n", "", 3))
+    check("edits are no sources", copy.called(["x"]), (7, "x\n", "", 3))
     write(copy.source, b"changed")
-    is_so("a newer source", copy.called(["x"])[:2] + (copy.builds(),), (7, "x\n", 4))
+    check("a newer source", copy.called(["x"])[:2] + (copy.builds(),), (7, "x\n", 4))
     for name, data in [("an empty program", b""), ("half a program", b"#!/bin/sh\nexit 0\n")]:
         write(copy.program, data)
         before = copy.builds()
-        is_so(name, copy.called(["x"])[:2] + (copy.builds(),), (7, "x\n", before + 1))
+        check(name, copy.called(["x"])[:2] + (copy.builds(),), (7, "x\n", before + 1))
     os.remove(copy.program)
-    is_so("no program", copy.called(["x"])[:2] + (copy.builds(),), (7, "x\n", 7))
+    check("no program", copy.called(["x"])[:2] + (copy.builds(),), (7, "x\n", 7))
 
 
 def below_edits(folder):
@@ -279,11 +279,11 @@ def below_edits(folder):
     copy.called(["x"])
     age(os.path.join(copy.crate, "out/built"))
     write(copy.source, b"changed")
-    is_so("a newer source, below a folder of edits",
+    check("a newer source, below a folder of edits",
           copy.called(["x"])[:2] + (copy.builds(),), (7, "x\n", 2))
 
 
-def tell(folder):
+def check_all(folder):
     copy = Copy(folder)
     no_toolchain(copy)
     fails(copy)
@@ -296,4 +296,4 @@ def tell(folder):
     on_a_terminal(copy)
 
 
-common.trial(tell)
+common.run_trial(check_all)

@@ -13,7 +13,7 @@ import os
 import sys
 
 import common
-from common import digest, is_so, line, make_object, ran, write
+from common import digest, check, line, make_object, ran, write
 
 
 def make_one(folder, place, number):
@@ -56,7 +56,7 @@ def make_all(root, count):
     return [line("ok", ".")] + [lines[place] for place in order]
 
 
-def tell(folder):
+def check_all(folder):
     count = int(sys.argv[1]) if len(sys.argv) > 1 else 1000
     root = os.path.join(folder, "root")
     expected = make_all(root, count)
@@ -66,12 +66,12 @@ def tell(folder):
     findings = sum(not it.startswith("ok") for it in expected)
     print("many_objects.py: %d objects, %d lines, %d findings" % (count, len(found), findings))
     wrong = [pair for pair in zip(found, expected) if pair[0] != pair[1]]
-    is_so("the lines", wrong[:3], [])
-    is_so("how many", len(found), len(expected))
-    is_so("the status", (status, said), (1 if findings else 0, ""))
-    is_so("nothing was written below the root", common.snapshot(root) == before, True)
+    check("the lines", wrong[:3], [])
+    check("how many", len(found), len(expected))
+    check("the status", (status, said), (1 if findings else 0, ""))
+    check("nothing was written below the root", common.snapshot(root) == before, True)
     cycle = ["cycle", "--budget", "1K", "--files", "100", "--runs", "100000", root]
-    is_so("a cycle writes the audit", ran(cycle)[:2], (status, "".join(expected)))
+    check("a cycle writes the audit", ran(cycle)[:2], (status, "".join(expected)))
 
 
-common.trial(tell)
+common.run_trial(check_all)

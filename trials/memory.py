@@ -23,7 +23,7 @@ import subprocess
 import time
 
 import common
-from common import PROGRAM, is_so, line, note, put_inventory, ran, shown_cursor, write
+from common import PROGRAM, check, line, note, put_inventory, ran, shown_cursor, write
 
 MIB = 1024 * 1024
 # A tenth more than bench/README.md gives for an audit of one object of 100,000 files, in MiB.
@@ -89,18 +89,18 @@ def many_objects(folder):
         root = make(os.path.join(folder, "objects"), objects, 100)
         status, count, peak = peak_of(["audit", root])
         shutil.rmtree(root)
-        is_so("%d objects of 100 files" % objects, (status, count), (0, 1 + 101 * objects))
+        check("%d objects of 100 files" % objects, (status, count), (0, 1 + 101 * objects))
         peaks.append(peak)
     print("memory.py: %.1f MiB over 10 objects of 100 files, %.1f over 1,000" % tuple(peaks))
-    is_so("8 MiB more at most", peaks[1] - peaks[0] <= 8, True)
+    check("8 MiB more at most", peaks[1] - peaks[0] <= 8, True)
 
 
 def one_inventory(folder):
     root = make(os.path.join(folder, "one"), 1, 100_000, 100)
     status, count, peak = peak_of(["audit", root])
     print("memory.py: %.1f MiB over one object of 100,000 files" % peak)
-    is_so("one object of 100,000 files", (status, count), (0, 100_002))
-    is_so("its peak is about that of bench/README.md", peak <= ONE_INVENTORY, True)
+    check("one object of 100,000 files", (status, count), (0, 100_002))
+    check("its peak is about that of bench/README.md", peak <= ONE_INVENTORY, True)
     shutil.rmtree(root)
 
 
@@ -125,7 +125,7 @@ def too_small(folder):
     root, items = small_and_large(folder)
     file = os.path.join(folder, "cursor")
     run = ["run", "--cursor", file, "--budget", "1G", root]
-    is_so("without a limit", ran(run)[:2], (0, "".join(items)))
+    check("without a limit", ran(run)[:2], (0, "".join(items)))
     stops = 0
     for size in range(4, 168, 8):
         name = "%d MiB of address space" % size
@@ -136,15 +136,15 @@ def too_small(folder):
             # the program was not loaded
             continue
         if status == 0:
-            is_so(name, out, "".join(items))
+            check(name, out, "".join(items))
             continue
         stops += 1
-        is_so(name, (status, said), (3, note("out of memory")))
-        is_so(name + ": whole items", "".join(items).startswith(out) and out[-1:] in "\n", True)
+        check(name, (status, said), (3, note("out of memory")))
+        check(name + ": whole items", "".join(items).startswith(out) and out[-1:] in "\n", True)
         if os.path.exists(file):
-            is_so(name + ": a cursor", isinstance(shown_cursor(file), str), True)
-            is_so(name + ": joined", out + ran(run)[1], "".join(items))
-    is_so("some limit was too small", stops > 0, True)
+            check(name + ": a cursor", isinstance(shown_cursor(file), str), True)
+            check(name + ": joined", out + ran(run)[1], "".join(items))
+    check("some limit was too small", stops > 0, True)
 
 
 def low_object_first(folder):
@@ -154,18 +154,18 @@ def low_object_first(folder):
     run = ["run", "--cursor", file, "--budget", "1G", root]
     status, out, said = ran(run, preexec_fn=limited(40 * MIB))
     items = "".join([line("ok", "."), line("ok", "a"), line("ok", "a/v1/content/f", 3)])
-    is_so("an inventory is too large", (status, out, said), (3, items, note("out of memory")))
+    check("an inventory is too large", (status, out, said), (3, items, note("out of memory")))
     shown = "cycle 1\nruns 1\nspent 4\nfiles 1\nafter a/v1/content/f\n"
-    is_so("the cursor is after the small object", shown_cursor(file), shown)
+    check("the cursor is after the small object", shown_cursor(file), shown)
     rest = line("ok", "b") + line("ok", "b/v1/content/f", 3)
-    is_so("with room it goes on", ran(run), (0, rest, note("cycle 1, run 2, cost 4, ended")))
+    check("with room it goes on", ran(run), (0, rest, note("cycle 1, run 2, cost 4, ended")))
 
 
-def tell(folder):
+def check_all(folder):
     many_objects(folder)
     one_inventory(folder)
     too_small(folder)
     low_object_first(folder)
 
 
-common.trial(tell)
+common.run_trial(check_all)

@@ -25,7 +25,7 @@ from typing import Any
 from zoneinfo import ZoneInfo
 
 import common
-from common import is_so, ran
+from common import check, ran
 from shared.nights import tried_apart
 from shared.own_nights import Got, Nights
 from shared.shims import compiled
@@ -69,11 +69,11 @@ class Clock:
         """A night from one time on ends at another: it begins runs until then and none after."""
         self.nights.again()
         status, out, note = self.night(start.timestamp(), *more, **how)
-        is_so(name, (status, out, note), (0, "", ""))
+        check(name, (status, out, note), (0, "", ""))
         late = self.last() - end.timestamp()
-        is_so(name + ": it ends in time", 0 <= late <= STEP * FEW, True)
+        check(name + ": it ends in time", 0 <= late <= STEP * FEW, True)
         runs = (end.timestamp() - start.timestamp()) / STEP / FEW
-        is_so(name + ": it made runs until then", self.spent() >= runs, True)
+        check(name + ": it made runs until then", self.spent() >= runs, True)
 
 
 def berlin(day: str, time: str, fold: int = 0) -> datetime.datetime:
@@ -126,9 +126,9 @@ def at_a_second(folder: str) -> None:
     clock.ends_at("an end", start, end, "--end", str(int(end.timestamp())))
     clock.nights.again()
     status, out, note = clock.night(end.timestamp(), "--end", str(int(end.timestamp())))
-    is_so("no run begins at the end", (status, out, clock.spent()), (0, "", 0))
+    check("no run begins at the end", (status, out, clock.spent()), (0, "", 0))
     status, out, note = clock.night(end.timestamp() + 9, "--end", str(int(end.timestamp())))
-    is_so("nor after it", (status, out, clock.spent()), (0, "", 0))
+    check("nor after it", (status, out, clock.spent()), (0, "", 0))
 
 
 def what_is_unsaid_is_said(folder: str) -> None:
@@ -139,7 +139,7 @@ def what_is_unsaid_is_said(folder: str) -> None:
     with open("/dev/full", "wb") as full:
         status = clock.nights.first(stdout=full)[0]
     status, out, _ = clock.night(end, "--end", str(end))
-    is_so("it is said", (status, out.count("E092\to/v1/content/0001\t")), (1, 1))
+    check("it is said", (status, out.count("E092\to/v1/content/0001\t")), (1, 1))
 
 
 def clocks_that_leap(folder: str) -> None:
@@ -155,7 +155,7 @@ def clocks_that_leap(folder: str) -> None:
                 break
             if name in ("far forward", "before 1970"):
                 clock.nights.first("--slice", "1", "--files", "1")
-        is_so(name, (status, out, clock.nights.whole(1)), (0, "", audit))
+        check(name, (status, out, clock.nights.whole(1)), (0, "", audit))
 
 
 def usage(folder: str) -> None:
@@ -166,16 +166,16 @@ def usage(folder: str) -> None:
                   ["--hours", "1", "--end", "1"], ["--slice", "0"], ["--budget", "0"],
                   ["--files", "0"], ["--budget", "10x"], ["--files", "+10"]]:
         status, out, note = clock.nights.first(*words)
-        is_so("usage: " + " ".join(words), (status, out, note != ""), (2, "", True))
-    is_so("nothing is there", os.path.exists(clock.nights.state), False)
+        check("usage: " + " ".join(words), (status, out, note != ""), (2, "", True))
+    check("nothing is there", os.path.exists(clock.nights.state), False)
 
 
 PARTS = [until_an_hour, at_most_a_day, for_hours, at_a_second, what_is_unsaid_is_said,
          clocks_that_leap, usage]
 
 
-def tell(folder: str) -> None:
+def check_all(folder: str) -> None:
     tried_apart(PARTS, folder)
 
 
-common.trial(tell)
+common.run_trial(check_all)

@@ -40,7 +40,7 @@ import signal
 from typing import Any
 
 import common
-from common import Stopped, is_not_so_yet, is_so, ran, traced
+from common import Stopped, check_known_fault, check, ran, traced
 from shared.nights import tried_apart
 from shared.own_nights import Audited, Got, Nights, make_root
 
@@ -54,7 +54,7 @@ def made(folder: str) -> Nights:
     """Nights over these objects, after a first cycle."""
     root = common.make_root(folder + "/root", {place: FILES for place in PLACES})
     nights = Nights(folder + "/state", root)
-    is_so("the first cycle", nights.first(), (0, "", ""))
+    check("the first cycle", nights.first(), (0, "", ""))
     return nights
 
 
@@ -62,7 +62,7 @@ def audit_of(nights: Nights) -> str:
     return ran(["audit", nights.root])[1]
 
 
-def lose(nights: Nights, place: str = "f") -> None:
+def remove_object(nights: Nights, place: str = "f") -> None:
     shutil.rmtree(nights.root + "/" + place)
 
 
@@ -70,22 +70,22 @@ def nothing_is_gone(folder: str) -> None:
     """Of a root that stays as it is nothing is called gone, new or repaired, whatever its names."""
     nights = made(folder)
     for cycle in (2, 3):
-        is_so("cycle %d" % cycle, nights.night("--budget", "1K"), (0, "", ""))
-        is_so("its lists", (nights.whole(cycle), nights.has("reports/gone-%06d" % cycle)),
+        check("cycle %d" % cycle, nights.night("--budget", "1K"), (0, "", ""))
+        check("its lists", (nights.whole(cycle), nights.has("reports/gone-%06d" % cycle)),
               (audit_of(nights), ""))
 
 
 def gone(folder: str) -> None:
     """A lost object and its files are named once, and their list is a file."""
     nights = made(folder)
-    lose(nights)
+    remove_object(nights)
     status, out, note = nights.night()
-    is_so("gone", (status, out.endswith(OF_F), out.count("\n"), note), (1, True, 4, ""))
-    is_so("the list", nights.has("reports/gone-000002"), OF_F)
-    is_so("it is said once", nights.night(), (0, "", ""))
+    check("gone", (status, out.endswith(OF_F), out.count("\n"), note), (1, True, 4, ""))
+    check("the list", nights.has("reports/gone-000002"), OF_F)
+    check("it is said once", nights.night(), (0, "", ""))
     os.remove(nights.root + "/i/v1/content/2")
     status, out, _ = nights.night()
-    is_so("a file that an inventory lists is no loss", (status, out.count("E092\ti/v1/content/2\t"),
+    check("a file that an inventory lists is no loss", (status, out.count("E092\ti/v1/content/2\t"),
                                                         nights.has("reports/gone-000004")),
           (1, 2, ""))
 
@@ -96,15 +96,15 @@ def new_and_repaired(folder: str) -> None:
     common.write(path, b"abd")
     status, out, _ = nights.night()
     finding = [line for line in audit_of(nights).splitlines(True) if line.startswith("E092\t")]
-    is_so("new", (status, "are new since cycle 1" in out, out.count(finding[0])), (1, True, 2))
+    check("new", (status, "are new since cycle 1" in out, out.count(finding[0])), (1, True, 2))
     status, out, _ = nights.night()
-    is_so("as before", (status, "are new since" in out, out.count(finding[0])),
+    check("as before", (status, "are new since" in out, out.count(finding[0])),
           (1, False, 1))
     common.write(path, b"abc")
     status, out, _ = nights.night()
-    is_so("repaired", (status, "are repaired in cycle 4" in out, out.count(finding[0])),
+    check("repaired", (status, "are repaired in cycle 4" in out, out.count(finding[0])),
           (0, True, 1))
-    is_so("and then", nights.night(), (0, "", ""))
+    check("and then", nights.night(), (0, "", ""))
 
 
 def many(folder: str) -> None:
@@ -114,17 +114,17 @@ def many(folder: str) -> None:
     for place in objects:
         common.write("%s/%s/v1/content/1" % (nights.root, place), b"abd")
     status, out, _ = nights.first()
-    is_so("findings", (status, out.count("E092\t"), "and 5 more, in %s/reports/cycle-000001\n"
+    check("findings", (status, out.count("E092\t"), "and 5 more, in %s/reports/cycle-000001\n"
                        % nights.state in out), (1, 20, True))
     for place in objects:
         shutil.rmtree("%s/%s" % (nights.root, place))
     common.make_object(nights.root + "/o", FILES)
     status, out, _ = nights.night("--force-root")
-    is_so("gone", (status, out.count("object\t") + out.count("file\t"), "and 55 more, in "
+    check("gone", (status, out.count("object\t") + out.count("file\t"), "and 55 more, in "
                    "%s/reports/gone-000002\n" % nights.state in out), (1, 20, True))
 
 
-def known(folder: str) -> None:
+def known_findings(folder: str) -> None:
     """Known findings are not said, and alone they give status 0."""
     nights = made(folder)
     for place in ["i", "f"]:
@@ -132,19 +132,19 @@ def known(folder: str) -> None:
     lines = [line for line in audit_of(nights).splitlines(True) if line.startswith("E092\t")]
     common.write(folder + "/known", "".join(lines).encode())
     status, out, _ = nights.night("--known", folder + "/known")
-    is_so("all known", (status, out), (0, ""))
+    check("all known", (status, out), (0, ""))
     common.write(folder + "/known", lines[0].encode())
     status, out, _ = nights.night("--known", folder + "/known")
-    is_so("one known", (status, lines[0] in out, lines[1] in out), (1, False, True))
+    check("one known", (status, lines[0] in out, lines[1] in out), (1, False, True))
     for name, path in [("none", folder + "/nothing"), ("a folder", folder),
                        ("no list", nights.root + "/0=ocfl_1.1")]:
         before = nights.kept()
         status, out, note = nights.night("--known", path)
-        is_so("a list that is " + name, (status, out, note != "", nights.kept()),
+        check("a list that is " + name, (status, out, note != "", nights.kept()),
               (2, "", True, before))
 
 
-def said_once(folder: str) -> None:
+def each_finding_once(folder: str) -> None:
     """Nights that nothing disturbs say each finding of a cycle once, in many nights too."""
     audited = Audited(make_root(folder + "/root"))
     nights = Nights(folder + "/state", audited.root)
@@ -154,8 +154,8 @@ def said_once(folder: str) -> None:
             said += nights.first("--files", "2", "--slice", "1")[1]
             if nights.whole(cycle) is not None:
                 break
-        is_so("cycle %d" % cycle, [said.count(line) for line in audited.findings], [1] * 5)
-        is_so("nothing else in cycle %d" % cycle, audited.false(said), [])
+        check("cycle %d" % cycle, [said.count(line) for line in audited.findings], [1] * 5)
+        check("nothing else in cycle %d" % cycle, audited.false_lines(said), [])
 
 
 ODD = ["-", "+b", " lead", "b\\cx", "n\nobject\tz", "\033[2J", "z\\nAll is well: 0 findings.\\c"]
@@ -168,14 +168,14 @@ def odd_names_gone(folder: str) -> None:
     nights.first()
     shown = [line.split("\t")[1] for line in audit_of(nights).splitlines()]
     for place in ODD:
-        lose(nights, place)
+        remove_object(nights, place)
     left = [line.split("\t")[1] for line in audit_of(nights).splitlines()]
     rows = ["%s\t%s\n" % ("file" if "/v1/" in it else "object", it) for it in shown
             if it not in left]
     status, out, note = nights.night("--force-root")
-    is_so("they are gone", (status, len(rows), nights.has("reports/gone-000002"), note),
+    check("they are gone", (status, len(rows), nights.has("reports/gone-000002"), note),
           (1, 3 * len(ODD), "".join(rows), ""))
-    is_so("what is said of them", (out.endswith("".join(rows[:20]) + out.splitlines(True)[-1]),
+    check("what is said of them", (out.endswith("".join(rows[:20]) + out.splitlines(True)[-1]),
                                    [it for it in out if it < " " and it not in "\t\n"]),
           (True, []))
 
@@ -187,13 +187,13 @@ def expected(folder: str) -> None:
     file = folder + "/expected"
     common.write(file, "".join(place + "\n" for place in [*PLACES, "lost", "z/1"]).encode())
     status, out, _ = nights.night("--expected", file)
-    is_so("missing", (status, out.endswith("expected\tlost\nexpected\tz/1\n")), (1, True))
+    check("missing", (status, out.endswith("expected\tlost\nexpected\tz/1\n")), (1, True))
     new = Nights(folder + "/new", nights.root)
     status, out, _ = new.first("--expected", file)
-    is_so("in a first cycle", (status, out.endswith("expected\tlost\nexpected\tz/1\n")), (1, True))
-    is_so("no cycle is named that there was not", "cycle 0" in out, False)
+    check("in a first cycle", (status, out.endswith("expected\tlost\nexpected\tz/1\n")), (1, True))
+    check("no cycle is named that there was not", "cycle 0" in out, False)
     common.write(file, "".join(place + "\n" for place in PLACES).encode())
-    is_so("none is missing", nights.night("--expected", file), (0, "", ""))
+    check("none is missing", nights.night("--expected", file), (0, "", ""))
 
 
 def lists_that_fail(folder: str) -> None:
@@ -202,11 +202,11 @@ def lists_that_fail(folder: str) -> None:
     for name, path in [("none", folder + "/nothing"), ("a folder", folder)]:
         before = nights.kept()
         status, out, note = nights.night("--expected", path)
-        is_so("a list that is " + name, (status in (2, 3), out, note != ""), (True, "", True))
+        check("a list that is " + name, (status in (2, 3), out, note != ""), (True, "", True))
         if status == 2:
-            is_so("nothing was run", nights.kept(), before)
+            check("nothing was run", nights.kept(), before)
         said = nights.night("--expected", "/dev/null")
-        is_so("an empty list", (said[0], said[1]), (0, ""))
+        check("an empty list", (said[0], said[1]), (0, ""))
     file = folder + "/expected"
     for name, change in [("removed", os.remove), ("a folder now", folder_instead),
                          ("no list now", lambda it: common.write(it, b"f\n/lost\n"))]:
@@ -215,12 +215,12 @@ def lists_that_fail(folder: str) -> None:
         with stopped:
             change(file)
         status, out, note = stopped.ended
-        is_so("a list that is %s meanwhile" % name, (status, file in note), (3, True))
+        check("a list that is %s meanwhile" % name, (status, file in note), (3, True))
         if os.path.isdir(file):
             os.rmdir(file)
         common.write(file, b"f\nlost\n")
         status, out, _ = nights.night("--expected", file, "--files", "1")
-        is_so("%s: the next night says it" % name, (status, out.count("expected\tlost\n")), (1, 1))
+        check("%s: the next night says it" % name, (status, out.count("expected\tlost\n")), (1, 1))
         nights.night()
 
 
@@ -231,24 +231,24 @@ def folder_instead(path: str) -> None:
 
 # Closings that are disturbed
 
-def is_said_later(name: str, nights: Nights, said: str, status: Any) -> None:
+def check_said_later(name: str, nights: Nights, said: str, status: Any) -> None:
     """What was lost is said by one of the nights, and its list is there."""
-    is_so(name, status, True)
+    check(name, status, True)
     _, out, _ = nights.night("--files", "1")
-    is_so(name + ": it is said", (OF_F in said + out, nights.has("reports/gone-000002")),
+    check(name + ": it is said", (OF_F in said + out, nights.has("reports/gone-000002")),
           (True, OF_F))
     _, out, _ = nights.night("--files", "1")
-    is_so(name + ": and not again", OF_F in out, False)
+    check(name + ": and not again", OF_F in out, False)
 
 
-def unsaid(folder: str) -> None:
+def disturbed_nights(folder: str) -> None:
     """What is gone is said by the next night where the output failed, or the night was killed."""
     nights = made(folder)
     shutil.copytree(nights.state, folder + "/kept")
-    lose(nights)
+    remove_object(nights)
     with open("/dev/full", "wb") as full:
         got: Got = nights.night(stdout=full)
-    is_said_later("the output failed", nights, "", got[0] == 3)
+    check_said_later("the output failed", nights, "", got[0] == 3)
     for call, most in [("fsync", 30), ("rename", 12), ("write", 20), ("unlink", 12)]:
         for when in range(1, most):
             nights.again()
@@ -258,7 +258,7 @@ def unsaid(folder: str) -> None:
             if status != -signal.SIGKILL:
                 break
             said += nights.night()[1] if nights.whole(2) is None else ""
-            is_said_later("killed at %s %d" % (call, when), nights, said, True)
+            check_said_later("killed at %s %d" % (call, when), nights, said, True)
 
 
 def after_an_incomplete_one(folder: str) -> None:
@@ -267,10 +267,10 @@ def after_an_incomplete_one(folder: str) -> None:
     nights.night("--files", "3")
     os.truncate(nights.path("report"), 3)
     status, out, note = nights.night()
-    is_so("not whole", (status, nights.closed()), (3, ["cycle-000001", "incomplete-000002"]))
-    lose(nights)
+    check("not whole", (status, nights.closed()), (3, ["cycle-000001", "incomplete-000002"]))
+    remove_object(nights)
     status, out, _ = nights.night()
-    is_so("gone", (status, OF_F in out, nights.has("reports/gone-000003")), (1, True, OF_F))
+    check("gone", (status, OF_F in out, nights.has("reports/gone-000003")), (1, True, OF_F))
 
 
 # Reports that were changed before they are compared
@@ -281,16 +281,16 @@ def lost_lines_before(folder: str) -> None:
     path = nights.path("reports/cycle-000001")
     lines = common.read(path).splitlines(True)
     common.write(path, b"".join(line for line in lines if not line.startswith(b"ok\tf")))
-    lose(nights)
+    remove_object(nights)
     status, out, note = nights.night()
-    is_not_so_yet("lost lines", (status, "cycle 1" in out + note), (3, True),
-                  "no checkpoint keeps the digests of a closed report")
+    check_known_fault("lost lines", (status, "cycle 1" in out + note), (3, True),
+                      "no checkpoint keeps the digests of a closed report")
 
 
 def is_not_compared(name: str, nights: Nights, got: Got, cycle: int) -> None:
     """A night says which reports it could not compare, and calls nothing gone."""
     status, out, note = got
-    is_so(name, (status, "the report of cycle %d" % cycle in note, "object\t" in out,
+    check(name, (status, "the report of cycle %d" % cycle in note, "object\t" in out,
                  nights.has("reports/gone-000002")), (3, True, False, None))
 
 
@@ -307,12 +307,12 @@ def no_report_before(folder: str) -> None:
         nights.again()
         shutil.copytree(folder + "/kept", nights.state)
         common.write(path, data)
-        lose(nights)
+        remove_object(nights)
         is_not_compared(name, nights, nights.night(), 2)
         is_not_compared(name + ", the next night", nights, nights.night("--files", "1"), 2)
         common.write(path, kept)
         status, out, _ = nights.night("--files", "1")
-        is_so(name + ": as it was", (status, OF_F in out, nights.has("reports/gone-000002")),
+        check(name + ": as it was", (status, OF_F in out, nights.has("reports/gone-000002")),
               (1, True, OF_F))
         common.make_object(nights.root + "/f", FILES)
 
@@ -323,12 +323,12 @@ def not_compared_for_long(folder: str) -> None:
     path = nights.path("reports/cycle-000001")
     kept = common.read(path)
     common.write(path, kept[:-5])
-    lose(nights)
+    remove_object(nights)
     for cycle in (2, 3):
         is_not_compared("cycle %d" % cycle, nights, nights.night(), 2)
     common.write(path, kept)
     said = nights.night()[1] + nights.night()[1]
-    is_so("what was lost is said", OF_F in said, True)
+    check("what was lost is said", OF_F in said, True)
 
 
 def older_report(folder: str) -> None:
@@ -336,9 +336,9 @@ def older_report(folder: str) -> None:
     nights = made(folder)
     nights.night()
     os.remove(nights.path("reports/cycle-000002"))
-    lose(nights)
+    remove_object(nights)
     status, out, note = nights.night()
-    is_so("gone", (status, OF_F in out, note), (1, True, ""))
+    check("gone", (status, OF_F in out, note), (1, True, ""))
 
 
 def changed_once_closed(folder: str) -> None:
@@ -346,25 +346,26 @@ def changed_once_closed(folder: str) -> None:
     and the night after says that it could not be compared."""
     nights = made(folder)
     common.write(nights.root + "/i/v1/content/1", b"abd")
-    lose(nights)
+    remove_object(nights)
     rules = ["-P", nights.path("reports/gone-000002.new"), "-e", "inject=fsync:signal=KILL"]
     status, said, _ = traced(rules, nights.words())
-    is_so("killed", (status, said.count("E092\ti/v1/content/1\t")), (-signal.SIGKILL, 1))
+    check("killed", (status, said.count("E092\ti/v1/content/1\t")), (-signal.SIGKILL, 1))
     path = nights.path("reports/cycle-000002")
     kept = common.read(path)
     common.write(path, kept[:-5])
     is_not_compared("changed", nights, nights.night("--files", "1"), 2)
     common.write(path, kept)
-    is_so("as it was", OF_F in nights.night("--files", "1")[1], True)
+    check("as it was", OF_F in nights.night("--files", "1")[1], True)
 
 
-PARTS = [nothing_is_gone, gone, new_and_repaired, many, known, said_once, odd_names_gone, expected,
-         lists_that_fail, unsaid, after_an_incomplete_one, lost_lines_before, no_report_before,
-         not_compared_for_long, older_report, changed_once_closed]
+PARTS = [nothing_is_gone, gone, new_and_repaired, many, known_findings, each_finding_once,
+         odd_names_gone, expected, lists_that_fail, disturbed_nights, after_an_incomplete_one,
+         lost_lines_before, no_report_before, not_compared_for_long, older_report,
+         changed_once_closed]
 
 
-def tell(folder: str) -> None:
+def check_all(folder: str) -> None:
     tried_apart(PARTS, folder)
 
 
-common.trial(tell, needs=["strace"])
+common.run_trial(check_all, needs=["strace"])

@@ -42,7 +42,7 @@ import subprocess
 from typing import Any
 
 import common
-from common import Stopped, end, is_so, ran, start, traced
+from common import Stopped, end, check, ran, start, traced
 from shared.nights import tried_apart
 from shared.own_nights import SLICE, Audited, Got, Moment, Nights, at_once, make_root, recorded
 from shared.spaces import can_mount, folder_at, memory_at, mount, unmount
@@ -60,7 +60,7 @@ def made(folder: str) -> tuple[Audited, Nights]:
     return audited, Nights(folder + "/state", audited.root)
 
 
-def is_told(got: Got) -> bool:
+def is_explained(got: Got) -> bool:
     """Whether a night ended well, or says why it did not."""
     status, out, note = got
     return status in (0, 1) or status == 3 and (out + note).strip() != ""
@@ -81,16 +81,16 @@ def fail_each(audited: Audited, nights: Nights, log: str, before: str) -> None:
         got = traced(moment.rule("error=" + error), own.words(*PLAN))
         faults = audited.faults_after(own, got[1])
         own.again()
-        return got[0], (is_told(got), faults)
+        return got[0], (is_explained(got), faults)
 
     nights.again(before)
     failing = errors_of(recorded(nights, log, *PLAN))
     results = at_once(fail, failing)
     for (moment, error), (_, found) in zip(failing, results):
-        is_so("%s of %s %d" % (error, *moment), found, (True, []))
+        check("%s of %s %d" % (error, *moment), found, (True, []))
     ended = sum(status == 3 for status, _ in results)
     print("night_faults.py: %d errors of calls, %d of them ended a night" % (len(results), ended))
-    is_so("most of them end it", ended * 2 > len(results) > 100, True)
+    check("most of them end it", ended * 2 > len(results) > 100, True)
 
 
 def each_call(folder: str) -> None:
@@ -106,7 +106,7 @@ def going_on(folder: str) -> None:
     appends = [moment for moment in moments if moment.call == "write"]
     nights.again()
     said = traced(appends[len(appends) * 2 // 3].rule("signal=KILL"), nights.words(*PLAN))[1]
-    audited.findings = audited.unsaid(said)
+    audited.findings = audited.not_said(said)
     shutil.copytree(nights.state, folder + "/kept")
     fail_each(audited, nights, folder + "/log", folder + "/kept")
 
@@ -123,10 +123,10 @@ def for_ever(folder: str) -> None:
         files = ["-P", own.path("report"), "-P", own.path("checkpoint.new")]
         rules = ["-e", "inject=%s:error=%s:when=2+" % rule]
         got = traced([*(files if rule[0] == "write" else []), *rules], own.words(*PLAN))
-        return is_told(got), audited.faults_after(own, got[1])
+        return is_explained(got), audited.faults_after(own, got[1])
 
     for (call, error), found in zip(failing, at_once(fail, failing)):
-        is_so("%s of %s from the second on" % (error, call), found, (True, []))
+        check("%s of %s from the second on" % (error, call), found, (True, []))
 
 
 def no_locks(folder: str) -> None:
@@ -135,33 +135,33 @@ def no_locks(folder: str) -> None:
     for call in ["flock", "fcntl"]:
         nights.again()
         got = traced(["-e", "inject=%s:error=ENOLCK" % call], nights.words(*PLAN))
-        is_so("ENOLCK of " + call, is_told(got), True)
-        is_so("then", audited.faults_after(nights, got[1]), [])
+        check("ENOLCK of " + call, is_explained(got), True)
+        check("then", audited.faults_after(nights, got[1]), [])
 
 
 # What nights say
 
-def unsaid_then_said(name: str, folder: str, **how: Any) -> None:
+def check_failed_output(name: str, folder: str, **how: Any) -> None:
     """A night whose output fails leaves what it found to the next one."""
     audited, nights = made(folder + "/" + name.replace(" ", "-"))
     status, out, note = nights.night(*PLAN, **how)
-    is_so(name, (status, "output failed" in note), (3, True))
-    is_so(name + ": the next night", audited.faults_after(nights, ""), [])
+    check(name, (status, "output failed" in note), (3, True))
+    check(name + ": the next night", audited.faults_after(nights, ""), [])
 
 
 def full_output(folder: str) -> None:
     with open("/dev/full", "wb") as full:
-        unsaid_then_said("a full device", folder, stdout=full)
+        check_failed_output("a full device", folder, stdout=full)
     reading, writing = os.pipe()
     os.close(reading)
-    unsaid_then_said("a closed pipe", folder, stdout=writing)
+    check_failed_output("a closed pipe", folder, stdout=writing)
     os.close(writing)
-    unsaid_then_said("no output", folder, stdout=None, preexec_fn=lambda: os.close(1))
+    check_failed_output("no output", folder, stdout=None, preexec_fn=lambda: os.close(1))
     for error in ERRORS:
         audited, nights = made(folder + "/" + error)
         got = traced(["-P", "/dev/null", "-e", "inject=write:error=%s:when=1" % error],
                      nights.words(*PLAN), stdout=subprocess.DEVNULL)
-        is_so(error + " of the output", (got[0], audited.faults_after(nights, "")), (3, []))
+        check(error + " of the output", (got[0], audited.faults_after(nights, "")), (3, []))
 
 
 def no_streams(folder: str) -> None:
@@ -170,8 +170,8 @@ def no_streams(folder: str) -> None:
     before = [os.path.join(folder, "root"), nights.state]
     status = nights.night(*PLAN, stdout=None, stderr=None,
                           preexec_fn=lambda: os.closerange(0, 3))[0]
-    is_so("no streams", (status, audited.faults_after(nights, "")), (3, []))
-    is_so("nothing else is there", sorted(os.listdir(folder)),
+    check("no streams", (status, audited.faults_after(nights, "")), (3, []))
+    check("nothing else is there", sorted(os.listdir(folder)),
           sorted(map(os.path.basename, before)))
 
 
@@ -180,8 +180,8 @@ def full_error(folder: str) -> None:
     audited, nights = made(folder)
     with open("/dev/full", "wb") as full:
         status, out, _ = nights.night(*PLAN, stderr=full)
-    is_so("a full standard error", (status, audited.unsaid(out)), (1, []))
-    is_so("then", audited.faults_after(nights, out), [])
+    check("a full standard error", (status, audited.not_said(out)), (1, []))
+    check("then", audited.faults_after(nights, out), [])
 
 
 def output_for_a_part(folder: str) -> None:
@@ -195,8 +195,8 @@ def output_for_a_part(folder: str) -> None:
             with open(folder + "/small/out", "ab") as out:
                 status = nights.night(*PLAN, stdout=out)[0]
             said = common.text_of(common.read(folder + "/small/out")[4096 - room:])
-            is_so("room for %d bytes" % room, status, 3)
-            is_so("room for %d bytes: then" % room, audited.faults_after(nights, said), [])
+            check("room for %d bytes" % room, status, 3)
+            check("room for %d bytes: then" % room, audited.faults_after(nights, said), [])
 
 
 # Room
@@ -219,17 +219,17 @@ def full_state(folder: str) -> None:
         nights = Nights(folder + "/disk/state", audited.root)
         filled(folder + "/disk/filler")
         got = nights.night(*PLAN)
-        is_so("full", (got[0], is_told(got)), (3, True))
+        check("full", (got[0], is_explained(got)), (3, True))
         os.remove(folder + "/disk/filler")
-        is_so("full: then", audited.faults_after(nights, got[1]), [])
+        check("full: then", audited.faults_after(nights, got[1]), [])
         for when in range(1, 12, 2):
             nights.again()
             stopped = Stopped([], "fsync", nights.words(*PLAN), when)
             with stopped:
                 filled(folder + "/disk/filler")
-            is_so("full after fsync %d" % when, is_told(stopped.ended), True)
+            check("full after fsync %d" % when, is_explained(stopped.ended), True)
             os.remove(folder + "/disk/filler")
-            is_so("full after fsync %d: then" % when,
+            check("full after fsync %d: then" % when,
                   audited.faults_after(nights, stopped.ended[1]), [])
 
 
@@ -244,9 +244,9 @@ def limited_size(folder: str) -> None:
     for most in [0, 100, 490, 520]:
         nights.again()
         got = nights.night(*PLAN, preexec_fn=lambda: limit_to(most))
-        is_so("at most %d bytes" % most, (got[0], nights.state in got[2],
+        check("at most %d bytes" % most, (got[0], nights.state in got[2],
                                           "File too large" in got[2]), (3, True, True))
-        is_so("at most %d bytes: then" % most, audited.faults_after(nights, got[1]), [])
+        check("at most %d bytes: then" % most, audited.faults_after(nights, got[1]), [])
 
 
 def full_tmp(folder: str) -> None:
@@ -258,9 +258,9 @@ def full_tmp(folder: str) -> None:
         for name, env in [("full", full), ("none", {**full, "TMPDIR": folder + "/nothing"})]:
             audited, nights = made(folder + "/" + name)
             status, out, note = nights.night(*PLAN, env=env)
-            is_so("a temporary folder that is %s" % name,
-                  (status, note, audited.unsaid(out)), (1, "", []))
-            is_so("%s: then" % name, audited.faults_after(nights, out), [])
+            check("a temporary folder that is %s" % name,
+                  (status, note, audited.not_said(out)), (1, "", []))
+            check("%s: then" % name, audited.faults_after(nights, out), [])
 
 
 def read_only(folder: str) -> None:
@@ -270,13 +270,13 @@ def read_only(folder: str) -> None:
     kept = nights.kept()
     with folder_at(nights.state, nights.state, "ro"):
         got = nights.night("--slice", SLICE)
-        is_so("read-only", (got[0], is_told(got), nights.kept()), (3, True, kept))
+        check("read-only", (got[0], is_explained(got), nights.kept()), (3, True, kept))
     stopped = Stopped([], "fsync", nights.words("--slice", SLICE), 4)
     with stopped:
         mount("-t", "tmpfs", "-o", "ro", "none", nights.state)
     unmount(nights.state)
-    is_so("while it runs", (stopped.ended[0], is_told(stopped.ended)), (3, True))
-    is_so("then", audited.faults_after(nights, said + stopped.ended[1]), [])
+    check("while it runs", (stopped.ended[0], is_explained(stopped.ended)), (3, True))
+    check("then", audited.faults_after(nights, said + stopped.ended[1]), [])
 
 
 # A state folder that is gone
@@ -289,18 +289,18 @@ def removed(folder: str) -> None:
         stopped = Stopped([], "fsync", nights.words(*PLAN), when)
         with stopped:
             shutil.rmtree(nights.state)
-        is_so("removed after fsync %d" % when, is_told(stopped.ended), True)
+        check("removed after fsync %d" % when, is_explained(stopped.ended), True)
         status, out, note = nights.night()
-        is_so("the next night, without --create", (status, out + note != "", nights.kept()),
+        check("the next night, without --create", (status, out + note != "", nights.kept()),
               (3, True, {"checkpoint": None, "report": None}))
         nights.again()
         stopped = Stopped([], "fsync", nights.words(*PLAN), when)
         with stopped:
             os.rename(nights.state, folder + "/moved")
-        is_so("moved after fsync %d" % when, is_told(stopped.ended), True)
+        check("moved after fsync %d" % when, is_explained(stopped.ended), True)
         nights.again()
         os.rename(folder + "/moved", nights.state)
-        is_so("moved back", audited.faults_after(nights, stopped.ended[1]), [])
+        check("moved back", audited.faults_after(nights, stopped.ended[1]), [])
 
 
 def two_at_once(folder: str) -> None:
@@ -313,10 +313,10 @@ def two_at_once(folder: str) -> None:
             before = common.snapshot(nights.state)
             status, out, note = nights.first()
             is_same = common.snapshot(nights.state) == before
-            is_so("two at once, %d" % when, (status, out, note != "", is_same),
+            check("two at once, %d" % when, (status, out, note != "", is_same),
                   (75, "", True, True))
-        is_so("the first one", stopped.ended[0] in (0, 1), True)
-        is_so("then", audited.faults_after(nights, stopped.ended[1]), [])
+        check("the first one", stopped.ended[0] in (0, 1), True)
+        check("then", audited.faults_after(nights, stopped.ended[1]), [])
 
 
 def killed_as_a_group(folder: str) -> None:
@@ -327,8 +327,8 @@ def killed_as_a_group(folder: str) -> None:
         process = start(nights.words(*PLAN))
         os.killpg(process.pid, number)
         status, out, _ = end(process)
-        is_so(number.name, status in (-number, 0, 1), True)
-        is_so(number.name + ": then", audited.faults_after(nights, out), [])
+        check(number.name, status in (-number, 0, 1), True)
+        check(number.name + ": then", audited.faults_after(nights, out), [])
 
 
 PARTS = [each_call, going_on, for_ever, no_locks, full_output, no_streams, full_error, removed,
@@ -336,8 +336,8 @@ PARTS = [each_call, going_on, for_ever, no_locks, full_output, no_streams, full_
 MOUNTING = [output_for_a_part, full_state, full_tmp, read_only]
 
 
-def tell(folder: str) -> None:
+def check_all(folder: str) -> None:
     tried_apart(PARTS + (MOUNTING if can_mount(MOUNTING) else []), folder)
 
 
-common.trial(tell, needs=["strace"])
+common.run_trial(check_all, needs=["strace"])

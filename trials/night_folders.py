@@ -63,7 +63,7 @@ import subprocess
 from typing import Any
 
 import common
-from common import Stopped, is_so, ran
+from common import Stopped, check, ran
 from shared.nights import tried_apart
 from shared.own_nights import SLICE, Audited, Exchanged, Got, Nights, make_root
 from shared.spaces import can_mount, folder_at, unmount
@@ -81,8 +81,8 @@ def made(folder: str) -> tuple[Audited, Nights]:
 def is_refused(name: str, got: Got, status: int, said: str, nights: Nights,
                kept: dict[str, Any]) -> None:
     """A night that was refused says so, and changed nothing that nights rest on."""
-    is_so(name, (got[0], said in got[1] + got[2]), (status, True))
-    is_so(name + ": nothing was written", nights.kept(), kept)
+    check(name, (got[0], said in got[1] + got[2]), (status, True))
+    check(name + ": nothing was written", nights.kept(), kept)
 
 
 NOTHING: dict[str, Any] = {"checkpoint": None, "report": None}
@@ -100,7 +100,7 @@ def no_storage_root(folder: str) -> None:
         nights = Nights("%s/state %s" % (folder, name), root)
         is_refused(name, nights.first("--slice", SLICE), 3, "", nights, NOTHING)
         nights.root = audited.root
-        is_so(name + ": the folder is still free", audited.faults_after(nights, ""), [])
+        check(name + ": the folder is still free", audited.faults_after(nights, ""), [])
         kept, nights.root = nights.kept(), root
         is_refused(name + " where a root was", nights.night(), 3, "", nights, kept)
 
@@ -120,7 +120,7 @@ def another_root(folder: str) -> None:
     os.remove(audited.root + "/0=ocfl_1.0")
     is_refused("no declaration", nights.night(), 3, MOUNTED, nights, kept)
     common.write(declaration, b"ocfl_1.1\n")
-    is_so("as before", audited.faults_after(nights, audited.report), [])
+    check("as before", audited.faults_after(nights, audited.report), [])
 
 
 def names_that_are_gone(folder: str) -> None:
@@ -131,7 +131,7 @@ def names_that_are_gone(folder: str) -> None:
     for place in ["b", "d", "e", "0 empty"]:
         os.rename(audited.root + "/" + place, folder + "/gone " + place)
     is_refused("gone", nights.night(), 3, "--force-root", nights, kept)
-    is_so("with a word", nights.night("--force-root", "--slice", SLICE)[0] in (0, 1), True)
+    check("with a word", nights.night("--force-root", "--slice", SLICE)[0] in (0, 1), True)
 
 
 def link_that_moves(folder: str) -> None:
@@ -150,8 +150,8 @@ def link_that_moves(folder: str) -> None:
         os.remove(folder + "/root")
         os.symlink("one", folder + "/root")
         audited = Audited(folder + "/one")
-        is_so("the night, %d" % when, stopped.ended[0] in (0, 1, 3), True)
-        is_so("then, %d" % when, audited.faults_after(nights, stopped.ended[1]), [])
+        check("the night, %d" % when, stopped.ended[0] in (0, 1, 3), True)
+        check("then, %d" % when, audited.faults_after(nights, stopped.ended[1]), [])
         os.remove(folder + "/root")
 
 
@@ -159,7 +159,7 @@ def unmounted(folder: str) -> None:
     """The root is unmounted between two slices, and within one."""
     case = Exchanged(folder)
     last = case.last_look()
-    is_so("so many moments", last > 15, True)
+    check("so many moments", last > 15, True)
     for when in range(4, last + 1, 2):
         case.tried("unmounted after fsync %d" % when, [], "fsync", when)
     for place in ["a/v1/content/2", "b/c/inventory.json", "d/v1/content/3", "e/v1/content/0",
@@ -195,13 +195,13 @@ def not_mounted(folder: str) -> None:
         with folder_at(folder + "/mounted", folder + "/disk"):
             said = nights.night(*PLAN, "--files", "3")[1]
         got = nights.night()
-        is_so(name + ", not mounted", (got[0], MOUNTED in got[1] + got[2],
+        check(name + ", not mounted", (got[0], MOUNTED in got[1] + got[2],
                                        os.listdir(folder + "/mounted")), (3, True, []))
         with folder_at(folder + "/mounted", folder + "/disk"):
-            is_so(name + ", mounted again", audited.faults_after(nights, said), [])
+            check(name + ", mounted again", audited.faults_after(nights, said), [])
             shutil.rmtree(folder + "/disk/state", ignore_errors=True)
     nights = Nights(folder + "/none/state", audited.root)
-    is_so("no folder above it", (nights.first()[0], os.path.exists(folder + "/none")), (3, False))
+    check("no folder above it", (nights.first()[0], os.path.exists(folder + "/none")), (3, False))
 
 
 def unmounted_state(folder: str) -> None:
@@ -218,10 +218,10 @@ def unmounted_state(folder: str) -> None:
             with stopped:
                 unmount(nights.state)
         status, out, note = stopped.ended
-        is_so("unmounted after fsync %d" % when, (status, nights.state in note), (3, True))
-        is_so("the next night, %d" % when, nights.night()[0], 3)
+        check("unmounted after fsync %d" % when, (status, nights.state in note), (3, True))
+        check("the next night, %d" % when, nights.night()[0], 3)
         with folder_at(nights.state, disk):
-            is_so("mounted again, %d" % when, audited.faults_after(nights, out), [])
+            check("mounted again, %d" % when, audited.faults_after(nights, out), [])
 
 
 def give(state: str, name: str) -> None:
@@ -247,13 +247,13 @@ def files_of_another(folder: str) -> None:
         status, out, note = common.end(subprocess.Popen(
             [copy, *nights.words("--slice", SLICE)], user=NOBODY, group=NOBODY, extra_groups=[],
             stdout=subprocess.PIPE, stderr=subprocess.PIPE))
-        is_so("another's %s" % name, (status, nights.state in note, name in note,
+        check("another's %s" % name, (status, nights.state in note, name in note,
                                       "Permission denied" in note), (3, True, True, True))
         said += out
         if name != "log":
-            is_so("another's %s: nothing was written" % name,
+            check("another's %s: nothing was written" % name,
                   {it: nights.has(it) for it in kept}, kept)
-    is_so("then", audited.faults_after(nights, said), [])
+    check("then", audited.faults_after(nights, said), [])
 
 
 def folder_of_scripts(folder: str) -> None:
@@ -265,8 +265,8 @@ def folder_of_scripts(folder: str) -> None:
         before = common.snapshot(nights.state)
         for more in [[], ["--create"]]:
             status, out, note = nights.night(*more)
-            is_so("with %s %s" % (name, more), (status, nights.state in out + note), (3, True))
-        is_so("with %s: nothing has changed" % name, common.snapshot(nights.state), before)
+            check("with %s %s" % (name, more), (status, nights.state in out + note), (3, True))
+        check("with %s: nothing has changed" % name, common.snapshot(nights.state), before)
 
 
 def no_checkpoint(folder: str) -> None:
@@ -311,7 +311,7 @@ def changed_checkpoint(folder: str) -> None:
         is_refused(name, nights.night(), 4, nights.path("checkpoint"), nights, kept)
         is_refused(name + ", with --create", nights.first(), 4, "", nights, kept)
     common.write(nights.path("checkpoint"), good)
-    is_so("as it was", audited.faults_after(nights, said), [])
+    check("as it was", audited.faults_after(nights, said), [])
 
 
 def after_a_change(name: str, folder: str, change: Any) -> tuple[Any, Any]:
@@ -336,7 +336,7 @@ def shorter_report(folder: str) -> None:
 
     for name, change in [("two bytes shorter", shorter), ("empty", lambda it: os.truncate(it, 0)),
                          ("gone", os.remove)]:
-        is_so(name, after_a_change(name, folder, change), INCOMPLETE)
+        check(name, after_a_change(name, folder, change), INCOMPLETE)
 
 
 def changed_report(folder: str) -> None:
@@ -353,7 +353,7 @@ def changed_report(folder: str) -> None:
                          ("its first byte", lambda it: exchanged(it, 0)),
                          ("its last byte", lambda it: exchanged(it, -1)),
                          ("zeros", lambda it: common.write(it, bytes(os.path.getsize(it))))]:
-        is_so(name, after_a_change(name, folder, change), INCOMPLETE)
+        check(name, after_a_change(name, folder, change), INCOMPLETE)
 
 
 def longer_report(folder: str) -> None:
@@ -363,7 +363,7 @@ def longer_report(folder: str) -> None:
         audited, nights = made("%s/%s" % (folder, name))
         said = nights.night(*PLAN, "--files", "3")[1]
         common.write(nights.path("report"), common.read(nights.path("report")) + more)
-        is_so(name, audited.faults_after(nights, said), [])
+        check(name, audited.faults_after(nights, said), [])
 
 
 def links_in_the_folder(folder: str) -> None:
@@ -380,12 +380,12 @@ def links_in_the_folder(folder: str) -> None:
                 os.rename(aside, folder + "/aside")
             (os.symlink(secret, aside) if kind == "link" else os.mkfifo(aside))
             status, out, note = nights.night(*PLAN)
-            is_so("a %s as %s" % (kind, name), (status, "secret\t" in out + note), (3, False))
-            is_so("what it led to", common.read(secret), b"E092\tsecret\t-\n")
+            check("a %s as %s" % (kind, name), (status, "secret\t" in out + note), (3, False))
+            check("what it led to", common.read(secret), b"E092\tsecret\t-\n")
             os.remove(aside)
             if os.path.lexists(folder + "/aside"):
                 os.rename(folder + "/aside", aside)
-            is_so("without it", audited.faults_after(nights, said), [])
+            check("without it", audited.faults_after(nights, said), [])
 
 
 def rights(folder: str) -> None:
@@ -401,7 +401,7 @@ def rights(folder: str) -> None:
             seen += modes(nights.state)
         finally:
             os.umask(before)
-        is_so("under the mask %03o" % mask, (len(seen) > 6, [it for it in seen if it[0] & 0o027]),
+        check("under the mask %03o" % mask, (len(seen) > 6, [it for it in seen if it[0] & 0o027]),
               (True, []))
 
 
@@ -419,12 +419,12 @@ def copies_beside(folder: str) -> None:
     os.makedirs(nights.path("parts-000001.bak"))
     for _ in range(2):
         status, out, note = nights.night()
-        is_so("a night", (status, "copy" in out + note), (1, False))
-    is_so("the copies", [name for name in ["reports/cycle-000001.bak", "report.bak",
+        check("a night", (status, "copy" in out + note), (1, False))
+    check("the copies", [name for name in ["reports/cycle-000001.bak", "report.bak",
                                            "checkpoint.old", "parts-000001.bak"]
                          if not os.path.exists(nights.path(name))], [])
-    is_so("the reports", [nights.whole(cycle) for cycle in (1, 2, 3)], [audited.report] * 3)
-    is_so("what was said", audited.unsaid(said), [])
+    check("the reports", [nights.whole(cycle) for cycle in (1, 2, 3)], [audited.report] * 3)
+    check("what was said", audited.not_said(said), [])
 
 
 def odd_folders(folder: str) -> None:
@@ -434,13 +434,13 @@ def odd_folders(folder: str) -> None:
         audited = Audited(make_root(where + "/root"))
         nights = Nights(where + "/state", audited.root)
         out = nights.night(*PLAN)
-        is_so("in " + name, (out[0], controls(out[1] + out[2])), (1, []))
-        is_so("in %s: then" % name, audited.faults_after(nights, out[1]), [])
+        check("in " + name, (out[0], controls(out[1] + out[2])), (1, []))
+        check("in %s: then" % name, audited.faults_after(nights, out[1]), [])
     for name in ["-", "--create", "-x"]:
         where = "%s/root %s" % (folder, name)
         make_root(where + "/" + name)
         got = ran(["night", "--create", "--state", "state", "--", name], cwd=where)
-        is_so("ROOT is " + name, (got[0], common.read(where + "/state/reports/cycle-000001")),
+        check("ROOT is " + name, (got[0], common.read(where + "/state/reports/cycle-000001")),
               (1, ran(["audit", "--", name], cwd=where)[1].encode()))
 
 
@@ -462,17 +462,17 @@ def odd_names(folder: str) -> None:
     for name in NAMES[::2]:
         common.write("%s/%s/v1/content/a" % (root, name), b"abd")
     audited, nights = Audited(root), Nights(folder + "/state", root)
-    is_so("findings", len(audited.findings) >= len(NAMES[::2]), True)
+    check("findings", len(audited.findings) >= len(NAMES[::2]), True)
     said = ""
     for _ in range(50):
         status, out, note = nights.night("--create", "--files", "4")
-        is_so("a night", (status in (0, 1), controls(out + note), note), (True, [], ""))
+        check("a night", (status in (0, 1), controls(out + note), note), (True, [], ""))
         said += out
         if nights.whole(1) is not None:
             break
-    is_so("each line is one of the report", audited.false(said), [])
-    is_so("and then", audited.faults_after(nights, said), [])
-    is_so("nothing is gone a cycle later", nights.has("reports/gone-000002"), "")
+    check("each line is one of the report", audited.false_lines(said), [])
+    check("and then", audited.faults_after(nights, said), [])
+    check("nothing is gone a cycle later", nights.has("reports/gone-000002"), "")
 
 
 def names_that_are_left_out(folder: str) -> None:
@@ -489,17 +489,17 @@ def names_that_are_left_out(folder: str) -> None:
         nights = Nights(where + "/state", root)
         shown = name.replace("\n", "%0A")
         status, out, note = nights.night(*PLAN)
-        is_so("a night, " + name, (
+        check("a night, " + name, (
             status, "left out: %s\n" % shown in note, controls(out + note),
             "\nAll is well" in out + note), (3, True, [], False))
-        is_so("what was found is said", out.count("E092\t!first/v1/content/a\t"), 1)
+        check("what was found is said", out.count("E092\t!first/v1/content/a\t"), 1)
         os.remove(bad)
         audited = Audited(root)
         rest = [line for line in audited.report.splitlines(True)
                 if line.split("\t")[1].split("/")[0] != shown]
-        is_so("its report", nights.has("reports/incomplete-000001"), "".join(rest))
+        check("its report", nights.has("reports/incomplete-000001"), "".join(rest))
         nights.night(*PLAN)
-        is_so("then", nights.whole(2), audited.report)
+        check("then", nights.whole(2), audited.report)
 
 
 # A night that is asked to stop
@@ -511,17 +511,17 @@ def stop_file(folder: str) -> None:
     common.write(nights.path("stop"), b"")
     shown = nights.shown()
     status, out, _ = nights.night("--slice", SLICE)
-    is_so("no run begins", (status in (0, 1), nights.shown()), (True, shown))
+    check("no run begins", (status in (0, 1), nights.shown()), (True, shown))
     said += out
     gone(nights.path("stop"))
     stopped = Stopped([], "fsync", nights.words("--slice", SLICE), 4)
     with stopped:
         common.write(nights.path("stop"), b"")
     said += stopped.ended[1]
-    is_so("none after the one that is made", (stopped.ended[0] in (0, 1), nights.closed()),
+    check("none after the one that is made", (stopped.ended[0] in (0, 1), nights.closed()),
           (True, []))
     gone(nights.path("stop"))
-    is_so("then", audited.faults_after(nights, said), [])
+    check("then", audited.faults_after(nights, said), [])
 
 
 def gone(path: str) -> None:
@@ -537,9 +537,9 @@ def cut_and_refused(folder: str) -> None:
     said = common.traced(rules, nights.words(*PLAN))[1]
     os.rename(nights.root, folder + "/away")
     got = nights.night("--slice", SLICE)
-    is_so("refused", (got[0], nights.root in got[1] + got[2]), (3, True))
+    check("refused", (got[0], nights.root in got[1] + got[2]), (3, True))
     os.rename(folder + "/away", nights.root)
-    is_so("then", audited.faults_after(nights, said), [])
+    check("then", audited.faults_after(nights, said), [])
 
 
 PARTS = [no_storage_root, another_root, names_that_are_gone, link_that_moves, folder_of_scripts,
@@ -550,11 +550,11 @@ MOUNTING = [unmounted, mounted_anew, not_mounted, unmounted_state]
 OF_ROOT = [files_of_another]
 
 
-def tell(folder: str) -> None:
+def check_all(folder: str) -> None:
     if os.getuid() != 0:
         print("not tried, since it takes root: files_of_another")
     parts = PARTS + (OF_ROOT if os.getuid() == 0 else [])
     tried_apart(parts + (MOUNTING if can_mount(MOUNTING) else []), folder)
 
 
-common.trial(tell, needs=["strace"])
+common.run_trial(check_all, needs=["strace"])

@@ -28,7 +28,7 @@ import sys
 import time
 
 import common
-from common import end, is_so, start, traced
+from common import end, check, start, traced
 from shared.own_nights import SLICE, Audited, Moment, Nights, at_once, make_root, recorded
 
 KILLS = 200
@@ -76,10 +76,10 @@ def at_each_call(audited: Audited, before: Before, log: str) -> None:
 
     results = at_once(kill, moments)
     for moment, (_, found) in zip(moments, results):
-        is_so("%s, killed at %s %d" % (before.name, *moment), found, (True, []))
+        check("%s, killed at %s %d" % (before.name, *moment), found, (True, []))
     kills = sum(is_killed for is_killed, _ in results)
     print("night_kills.py: %s: killed at %d calls" % (before.name, kills))
-    is_so(before.name + ": each call was reached", (kills, len(moments) > 20),
+    check(before.name + ": each call was reached", (kills, len(moments) > 20),
           (len(moments), True))
 
 
@@ -143,14 +143,14 @@ def at_random(audited: Audited, nights: Nights) -> None:
         seeds = [DICE.randrange(1 << 30) for _ in range(20)]
         for seed, (killed, most, *holds) in zip(seeds, at_once(cycles.cycle, seeds)):
             kills, tried = kills + killed, tried + most
-            is_so("after random kills by %d" % seed, holds, [True, []])
+            check("after random kills by %d" % seed, holds, [True, []])
     print("night_kills.py: %d of %d nights killed at random moments" % (kills, tried))
-    is_so("random kills", kills >= KILLS, True)
+    check("random kills", kills >= KILLS, True)
 
 
-def tell(folder: str) -> None:
+def check_all(folder: str) -> None:
     audited = Audited(make_root(folder + "/root"))
-    is_so("findings of the root", len(audited.findings), 5)
+    check("findings of the root", len(audited.findings), 5)
     before = common.snapshot(audited.root)
     nights = Nights(folder + "/state", audited.root)
     os.mkdir(folder + "/tmp")
@@ -158,8 +158,8 @@ def tell(folder: str) -> None:
     for each in befores(audited, nights, folder + "/log"):
         at_each_call(audited, each, folder + "/log")
     at_random(audited, nights)
-    is_so("nothing was written below the root", common.snapshot(audited.root), before)
-    is_so("no temporary file is left", os.listdir(folder + "/tmp"), [])
+    check("nothing was written below the root", common.snapshot(audited.root), before)
+    check("no temporary file is left", os.listdir(folder + "/tmp"), [])
 
 
-common.trial(tell, needs=["strace"])
+common.run_trial(check_all, needs=["strace"])

@@ -40,7 +40,7 @@ import signal
 from typing import Any
 
 import common
-from common import Stopped, is_so, ran, traced
+from common import Stopped, check, ran, traced
 from shared.nights import tried_apart
 from shared.own_nights import SLICE, Audited, Exchanged, Got, Nights, at_once, make_root, moments_of
 from shared.spaces import can_mount
@@ -76,7 +76,7 @@ class Parts:
         said = ""
         for number in range(1, self.count + 1):
             status, out, note = self.night(number, "--slice", SLICE)
-            is_so("a night of part %d" % number, (status in (0, 1), note), (True, ""))
+            check("a night of part %d" % number, (status in (0, 1), note), (True, ""))
             said += out
         return said
 
@@ -98,8 +98,8 @@ def each_part(folder: str) -> None:
         audited, parts = made("%s/%d" % (folder, number), separators)
         said = parts.all_nights()
         reports = [parts.state(it).whole(1) or "" for it in range(1, parts.count + 1)]
-        is_so("%s: the reports" % separators, "".join(reports), audited.report)
-        is_so("%s: what was said" % separators, audited.unsaid(said), [])
+        check("%s: the reports" % separators, "".join(reports), audited.report)
+        check("%s: what was said" % separators, audited.not_said(said), [])
 
 
 def whose(folder: str) -> None:
@@ -116,15 +116,15 @@ def whose(folder: str) -> None:
     parts.cut(SEPARATORS[:2] + ["c"])
     got["the same beginning, another end"] = parts.night(3)
     for name, (status, out, note) in got.items():
-        is_so(name, (status, nights.state in out + note, nights.kept()), (3, True, kept))
+        check(name, (status, nights.state in out + note, nights.kept()), (3, True, kept))
     parts.cut(SEPARATORS)
     whole = parts.state(9)
     whole.first("--slice", SLICE, "--files", "1")
     kept = whole.kept()
-    is_so("a part where the whole was", (parts.night(9, part=3)[0], whole.kept()), (3, kept))
+    check("a part where the whole was", (parts.night(9, part=3)[0], whole.kept()), (3, kept))
     said = parts.all_nights()
     reports = [parts.state(it).whole(1) or "" for it in range(1, parts.count + 1)]
-    is_so("then", ("".join(reports), audited.unsaid(said) != audited.findings),
+    check("then", ("".join(reports), audited.not_said(said) != audited.findings),
           (audited.report, True))
 
 
@@ -137,11 +137,11 @@ def words(folder: str) -> None:
             ["--parts", folder + "/none", "--part", "1"]]
     for row in rows:
         status, out, note = ran(["night", *state, *row, audited.root])
-        is_so("usage: %s" % row[1:], (status in (2, 3), out, note != ""), (True, "", True))
+        check("usage: %s" % row[1:], (status in (2, 3), out, note != ""), (True, "", True))
     common.write(parts.file, b"b\na\n")
     status, out, note = ran(["night", *state, "--parts", parts.file, "--part", "1", audited.root])
-    is_so("separators that do not ascend", (status in (2, 3), out), (True, ""))
-    is_so("no part was begun", Nights(parts.folder + "/x", "").kept(),
+    check("separators that do not ascend", (status in (2, 3), out), (True, ""))
+    check("no part was begun", Nights(parts.folder + "/x", "").kept(),
           {"checkpoint": None, "report": None})
 
 
@@ -162,8 +162,8 @@ def killed(folder: str) -> None:
         if not parts.state(number).closed():
             said += parts.night(number, "--slice", "4")[1]
     reports = [parts.state(it).whole(1) or "" for it in range(1, parts.count + 1)]
-    is_so("the reports", "".join(reports), audited.report)
-    is_so("what was said", audited.unsaid(said), [])
+    check("the reports", "".join(reports), audited.report)
+    check("what was said", audited.not_said(said), [])
 
 
 def wide_root(folder: str) -> None:
@@ -172,10 +172,10 @@ def wide_root(folder: str) -> None:
                                                for number in range(1200)})
     parts = Parts(folder, root, ["o0300", "o0600", "o0900"])
     for number in range(1, parts.count + 1):
-        is_so("a night", parts.night(number, "--files", "5")[0], 0)
+        check("a night", parts.night(number, "--files", "5")[0], 0)
         size = sum(len(common.read(os.path.join(where, name)))
                    for where, _, names in os.walk(parts.state(number).state) for name in names)
-        is_so("part %d is small" % number, size < 4000, True)
+        check("part %d is small" % number, size < 4000, True)
 
 
 def a_part_with_a_branch_left_out(folder: str) -> None:
@@ -189,17 +189,17 @@ def a_part_with_a_branch_left_out(folder: str) -> None:
         common.write(os.fsdecode(bad), b"")
         parts = Parts(where, root, ["~"])
         status, _, note = parts.night(1, "--slice", SLICE)
-        is_so("a night, " + name, (
+        check("a night, " + name, (
             status, "left out: %s\n" % name.replace("\n", "%0A") in note), (3, True))
-        is_so("the other part, beside " + name, (parts.night(2)[0], parts.state(2).whole(1)),
+        check("the other part, beside " + name, (parts.night(2)[0], parts.state(2).whole(1)),
               (0, "ok\t~z\t-\nok\t~z/v1/content/a\t3\n"))
-        is_so("it is not joined, " + name, parts.joined()[0], 3)
+        check("it is not joined, " + name, parts.joined()[0], 3)
         os.remove(bad)
         for number in (1, 2):
             parts.night(number)
         report = "".join(parts.state(it).whole(2) or "" for it in (1, 2))
-        is_so("then, " + name, report, ran(["audit", root])[1])
-        is_so("and joined, " + name, parts.joined()[0], 0)
+        check("then, " + name, report, ran(["audit", root])[1])
+        check("and joined, " + name, parts.joined()[0], 0)
 
 
 def unmounted(folder: str) -> None:
@@ -216,19 +216,19 @@ def joins(folder: str) -> None:
         audited, parts = made("%s/%d" % (folder, number), separators)
         parts.all_nights()
         status, out, note = parts.joined()
-        is_so("joined %d" % number, (status, parts.report()), (0, audited.report))
+        check("joined %d" % number, (status, parts.report()), (0, audited.report))
         before = common.snapshot(parts.folder + "/reports")
         parts.joined()
-        is_so("once more", common.snapshot(parts.folder + "/reports"), before)
+        check("once more", common.snapshot(parts.folder + "/reports"), before)
         parts.all_nights()
         parts.joined()
-        is_so("the next cycle", (parts.report(1), parts.report(2)),
+        check("the next cycle", (parts.report(1), parts.report(2)),
               (audited.report, audited.report))
 
 
 def is_not_joined(name: str, parts: Parts, said: str) -> None:
     status, out, note = parts.joined()
-    is_so(name, (status, said in out + note, parts.report()), (3, True, None))
+    check(name, (status, said in out + note, parts.report()), (3, True, None))
     shutil.rmtree(parts.folder + "/reports", ignore_errors=True)
 
 
@@ -268,7 +268,7 @@ def no_joins(folder: str) -> None:
     parts.cut(SEPARATORS[:-1])
     is_not_joined("another list", parts, "")
     parts.cut(SEPARATORS)
-    is_so("as it was", (parts.joined()[0], parts.report()), (0, audited.report))
+    check("as it was", (parts.joined()[0], parts.report()), (0, audited.report))
 
 
 def other_folders(folder: str) -> None:
@@ -280,7 +280,7 @@ def other_folders(folder: str) -> None:
     whole.first()
     before = common.snapshot(whole.state)
     status, out, note = ran(["join", "--parts", parts.file, "--state", whole.state])
-    is_so("a folder of nights", (status, "part 1" in note, common.snapshot(whole.state)),
+    check("a folder of nights", (status, "part 1" in note, common.snapshot(whole.state)),
           (3, True, before))
     shutil.copytree(parts.state(3).state, folder + "/kept")
     parts.state(3).again(whole.state)
@@ -289,9 +289,9 @@ def other_folders(folder: str) -> None:
     above = Nights(parts.folder, audited.root)
     before = common.snapshot(parts.folder)
     got = above.night()
-    is_so("a folder of parts", (got[0], common.snapshot(parts.folder)), (3, before))
+    check("a folder of parts", (got[0], common.snapshot(parts.folder)), (3, before))
     got = above.first()
-    is_so("a folder of parts, with --create",
+    check("a folder of parts, with --create",
                   (got[0], common.snapshot(parts.folder) == before), (3, True))
 
 
@@ -302,9 +302,9 @@ def no_other_report(folder: str) -> None:
     for name, data in [("no report", b"junk\n"), ("half of it", audited.report[:200].encode()),
                        ("of another root", b"ok\t.\t-\n")]:
         common.write(parts.folder + "/reports/cycle-000001", data)
-        is_so(name, parts.joined()[0], 3)
+        check(name, parts.joined()[0], 3)
     os.remove(parts.folder + "/reports/cycle-000001")
-    is_so("none", (parts.joined()[0], parts.report()), (0, audited.report))
+    check("none", (parts.joined()[0], parts.report()), (0, audited.report))
 
 
 def joined_after(audited: Audited, parts: Parts, number: int, rule: list[str]) -> tuple:
@@ -337,10 +337,10 @@ def join_at_each_call(folder: str) -> None:
         return joined_after(audited, parts, number, rule[0].rule(rule[1]))
 
     for (moment, what), found in zip(rules, at_once(disturb, rules)):
-        is_so("%s of %s %d" % (what, *moment), found,
+        check("%s of %s %d" % (what, *moment), found,
               (True, True, (0, "", ""), audited.report, ["cycle-000001"]))
     print("night_parts.py: %d calls of a joining" % len(moments))
-    is_so("so many calls", len(moments) > 20, True)
+    check("so many calls", len(moments) > 20, True)
 
 
 def join_beside_others(folder: str) -> None:
@@ -354,20 +354,20 @@ def join_beside_others(folder: str) -> None:
     stopped = Stopped([], "fsync", parts.words(3), 4)
     with stopped:
         status, out, note = parts.joined()
-        is_so("a night of a part runs", (status, parts.state(3).state in note, parts.report()),
+        check("a night of a part runs", (status, parts.state(3).state in note, parts.report()),
               (75, True, None))
     common.write(folder + "/secret", b"secret")
     os.makedirs(reports)
     os.symlink(folder + "/secret", reports + "/cycle-000001.new")
-    is_so("joined", (parts.joined(), parts.report()), ((0, "", ""), audited.report))
-    is_so("what the link led to", common.read(folder + "/secret"), b"secret")
-    is_so("the copies", sorted(os.listdir(parts.folder))[-3:],
+    check("joined", (parts.joined(), parts.report()), ((0, "", ""), audited.report))
+    check("what the link led to", common.read(folder + "/secret"), b"secret")
+    check("the copies", sorted(os.listdir(parts.folder))[-3:],
           ["part-000009", "part-1", "reports"])
     shutil.rmtree(reports)
     os.mkdir(folder + "/outside")
     os.symlink(folder + "/outside", reports)
     status = parts.joined()[0]
-    is_so("a link in place of the reports", (status, os.listdir(folder + "/outside")),
+    check("a link in place of the reports", (status, os.listdir(folder + "/outside")),
                   (3, []))
 
 
@@ -382,7 +382,7 @@ def join_under_masks(folder: str) -> None:
         finally:
             os.umask(before)
         made_there = [parts.folder + "/reports", parts.folder + "/reports/cycle-000001"]
-        is_so("under the mask %03o" % mask, [os.stat(it).st_mode & 0o027 for it in made_there],
+        check("under the mask %03o" % mask, [os.stat(it).st_mode & 0o027 for it in made_there],
               [0, 0])
         shutil.rmtree(parts.folder + "/reports")
 
@@ -392,9 +392,9 @@ JOINING = [joins, no_joins, other_folders, no_other_report, join_at_each_call, j
            join_under_masks]
 
 
-def tell(folder: str) -> None:
+def check_all(folder: str) -> None:
     mounting = [unmounted] if can_mount([unmounted]) else []
     tried_apart(PARTS + JOINING + mounting, folder)
 
 
-common.trial(tell, needs=["strace"])
+common.run_trial(check_all, needs=["strace"])

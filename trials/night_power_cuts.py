@@ -24,7 +24,7 @@ import sys
 from typing import Iterator
 
 import common
-from common import is_so, traced
+from common import check, traced
 from shared import power
 from shared.own_nights import SLICE, Audited, Moment, Nights, at_once, make_root, moments_of
 from shared.power import Machine, Tree
@@ -76,7 +76,7 @@ class Cuts:
             return faults
 
         for (name, image, _), faults in zip(cuts, at_once(take_up, cuts)):
-            is_so("%s: %s" % (name, sizes_of(image)), faults, [])
+            check("%s: %s" % (name, sizes_of(image)), faults, [])
 
 
 def with_a_torn_log(machine: Machine, image: Tree) -> Tree:
@@ -95,7 +95,7 @@ def sizes_of(tree: Tree) -> str:
 
 def is_rebuilt(name: str, machine: Machine, nights: Nights) -> None:
     """What the calls of a record made is what is there."""
-    is_so(name, machine.shown(), power.read_tree(nights.state))
+    check(name, machine.shown(), power.read_tree(nights.state))
 
 
 def whole_nights(cuts: Cuts) -> None:
@@ -114,7 +114,7 @@ def whole_nights(cuts: Cuts) -> None:
         machine.begin()
         found += list(cuts.after(machine, calls))
     print("night_power_cuts.py: %d folders after power cuts of whole nights" % len(found))
-    is_so("so many folders", len(found) > 100, True)
+    check("so many folders", len(found) > 100, True)
     cuts.tried([("power cut %d of whole nights" % count, image, said)
                 for count, (image, said) in enumerate(found, 1)])
 
@@ -155,12 +155,12 @@ def nights_after_kills(cuts: Cuts) -> None:
           % (len(found), count))
 
 
-def tell(folder: str) -> None:
+def check_all(folder: str) -> None:
     audited = Audited(make_root(folder + "/root"))
-    is_so("findings of the root", len(audited.findings), 5)
+    check("findings of the root", len(audited.findings), 5)
     cuts = Cuts(audited, Nights(folder + "/state", audited.root), folder + "/record")
     whole_nights(cuts)
     nights_after_kills(cuts)
 
 
-common.trial(tell, needs=["strace"])
+common.run_trial(check_all, needs=["strace"])

@@ -11,7 +11,7 @@ import shutil
 import time
 
 import common
-from common import PROGRAM, digest, is_so
+from common import PROGRAM, digest, check
 from shared.nights import ask, ran, read, tried_apart, write
 
 OBJECTS = {"a/o": {"v1/content/a": b"abc", "v1/content/b": b""},
@@ -58,30 +58,30 @@ def statements(folder):
     """A statement of each cycle, whose lines are what the files are."""
     nights = Nights(folder)
     write(nights.root + "/a/o/v1/content/b", "x")
-    is_so("a night with a finding", nights.night()[0], 1)
-    is_so("finished", ask("finish", nights.state), (0, "", ""))
+    check("a night with a finding", nights.night()[0], 1)
+    check("finished", ask("finish", nights.state), (0, "", ""))
     lines = nights.lines(1)
     report = common.read(nights.path("reports/cycle-000001"))
-    is_so("what it says", [lines.get(name) for name in [
+    check("what it says", [lines.get(name) for name in [
         "Storage root", "Declaration sums SHA-256", "State folder", "Cycle", "Whole",
         "Report SHA-256", "Objects", "Objects without findings", "Content files",
         "Files found right", "Files not found right", "Findings", "Algorithms of wrong digests",
         "Nights", "Compared with cycle", "Program SHA-256"]],
           [nights.root, sums_of(nights.root), nights.state, "1", "yes", digest(report), "3", "2",
            "4", "3", "1", "1", "sha256 1", "1", "nothing", digest(common.read(PROGRAM))])
-    is_so("it holds", nights.holds(1), 0)
+    check("it holds", nights.holds(1), 0)
     write(nights.root + "/a/o/v1/content/b", "")
     shutil.rmtree(nights.root + "/b/p")
     nights.night()
-    is_so("finished again", ask("finish", nights.state), (0, "", ""))
+    check("finished again", ask("finish", nights.state), (0, "", ""))
     lines = nights.lines(2)
-    is_so("what is gone and new", [lines.get(name) for name in [
+    check("what is gone and new", [lines.get(name) for name in [
         "Compared with cycle", "Report compared with, SHA-256", "New findings", "Former findings",
         "Objects gone", "Files gone", "Objects gone and not back", "Files gone and not back"]],
           ["1", digest(report), lines["Findings"], "1", "1", "1", "1", "1"])
-    is_so("both hold", [nights.holds(1), nights.holds(2)], [0, 0])
+    check("both hold", [nights.holds(1), nights.holds(2)], [0, 0])
     write(nights.path("reports/statement-000001"), "changed\n")
-    is_so("the chain", nights.holds(2), 1)
+    check("the chain", nights.holds(2), 1)
 
 
 def questions(folder):
@@ -90,28 +90,28 @@ def questions(folder):
     write(nights.root + "/a/o/v1/content/b", "x")
     nights.night()
     given, listed, line = nights.status("--age", "-,-")
-    is_so("a finding is open", (given, [row.split("\t")[:2] for row in listed], re.findall(
+    check("a finding is open", (given, [row.split("\t")[:2] for row in listed], re.findall(
         "cycle 1 has ended; last whole cycle 1 on", line) != []),
           (2, [["E092", "a/o/v1/content/b"]], True))
     shutil.rmtree(nights.root + "/b")
     nights.night()
-    is_so("what is gone", [row for row in nights.status()[1] if row[0] not in "ES"],
+    check("what is gone", [row for row in nights.status()[1] if row[0] not in "ES"],
           ["object\tb/p", "file\tb/p/v1/content/c"])
     ask("finish", nights.state)
     for each, count in [("cycle", 1), ("object", 4), ("finding", 3)]:
         given, events, said = ask("premis", "--each", each, nights.state, "2")
-        is_so("events of each " + each, (given, events.count("<event>"), said), (0, count, ""))
-    is_so("not verified", [row.split("\t")[1:] for row in ask(
+        check("events of each " + each, (given, events.count("<event>"), said), (0, count, ""))
+    check("not verified", [row.split("\t")[1:] for row in ask(
         "unverified", "2999-01-01", nights.state)[1].splitlines()],
           [["a/o/v1/content/a", "ok", "2"], ["a/o/v1/content/b", "E092", "2"],
            ["b/p/v1/content/c", "ok", "1"], ["c/q/v1/content/d", "ok", "2"]])
     write(nights.root + "/a/o/v1/content/b", "")
     given, out, _ = ask("recheck", nights.state)
-    is_so("mended", (given, out.split("\t")[:3]), (0, ["mended", "E092", "a/o/v1/content/b"]))
-    is_so("a page", "Fixity of " in ask("page", nights.state)[1], True)
+    check("mended", (given, out.split("\t")[:3]), (0, ["mended", "E092", "a/o/v1/content/b"]))
+    check("a page", "Fixity of " in ask("page", nights.state)[1], True)
     common.make_object(nights.root + "/b/p", OBJECTS["b/p"])
     nights.night()
-    is_so("all is well", nights.status("--age", "-,-")[:2], (0, []))
+    check("all is well", nights.status("--age", "-,-")[:2], (0, []))
 
 
 def parts(folder):
@@ -123,25 +123,25 @@ def parts(folder):
     for number in range(1, 4):
         done = ran([PROGRAM, "night", "--state", nights.path("part-%06d" % number), "--create",
                     "--parts", separators, "--part", str(number), nights.root])
-        is_so("part %d" % number, done[0], 0)
-    is_so("joined", ran([PROGRAM, "join", "--parts", separators, "--state", nights.state])[0], 0)
-    is_so("finished", ask("finish", nights.state), (0, "", ""))
+        check("part %d" % number, done[0], 0)
+    check("joined", ran([PROGRAM, "join", "--parts", separators, "--state", nights.state])[0], 0)
+    check("finished", ask("finish", nights.state), (0, "", ""))
     lines = nights.lines(1)
-    is_so("what it says", [lines.get(name) for name in [
+    check("what it says", [lines.get(name) for name in [
         "Storage root", "Objects", "Files found right", "Report SHA-256"]],
           [nights.root, "3", "4", digest(ran([PROGRAM, "audit", nights.root])[1].encode())])
-    is_so("it holds", nights.holds(1), 0)
-    is_so("as JSON", json.loads(read(nights.path(
+    check("it holds", nights.holds(1), 0)
+    check("as JSON", json.loads(read(nights.path(
         "reports/statement-000001.json")))["objects"], 3)
-    is_so("how it is going", nights.status("--age", "-,-")[:2], (0, []))
-    is_so("events", ask("premis", "--each", "object", nights.state, "1")[1].count("<event>"), 3)
+    check("how it is going", nights.status("--age", "-,-")[:2], (0, []))
+    check("events", ask("premis", "--each", "object", nights.state, "1")[1].count("<event>"), 3)
 
 
 PARTS = [statements, questions, parts]
 
 
-def tell(folder):
+def check_all(folder):
     tried_apart(PARTS, folder)
 
 
-common.trial(tell)
+common.run_trial(check_all)

@@ -31,7 +31,7 @@ import subprocess
 import time
 
 import common
-from common import PROGRAM, digest, is_so
+from common import PROGRAM, digest, check
 from shared.nights import (ITEMS, NIGHTS, REPORTS, WRONG_B, Nights, ask, make_root, ran, read,
                            tried_apart, write)
 
@@ -46,49 +46,49 @@ def made(folder):
 def plain_nights(folder):
     """Nights go on where the one before ended; a good one says nothing."""
     nights = made(folder)
-    is_so("first night", nights.part(), (0, "", ""))
-    is_so("its report", nights.has("report"), "".join(ITEMS[:3]))
-    is_so("second night", nights.night(), (0, "", ""))
-    is_so("the cycle's report", nights.whole(1), "".join(ITEMS))
-    is_so("what lies there", sorted(os.listdir(nights.state)),
+    check("first night", nights.part(), (0, "", ""))
+    check("its report", nights.has("report"), "".join(ITEMS[:3]))
+    check("second night", nights.night(), (0, "", ""))
+    check("the cycle's report", nights.whole(1), "".join(ITEMS))
+    check("what lies there", sorted(os.listdir(nights.state)),
           ["checkpoint", "lock", "log", "reports"])
-    is_so("and beside the report", sorted(os.listdir(nights.path("reports"))),
+    check("and beside the report", sorted(os.listdir(nights.path("reports"))),
           ["cycle-000001", "gone-000001", "statement-000001", "statement-000001.json"])
-    is_so("the log", [row["row"] for row in nights.rows()], ["night", "closing", "night"])
+    check("the log", [row["row"] for row in nights.rows()], ["night", "closing", "night"])
     write(nights.root + "/o/v1/content/b", "b")
     status, out, said = nights.night()
-    is_so("a finding", (status, WRONG_B in out, said), (1, True, ""))
+    check("a finding", (status, WRONG_B in out, said), (1, True, ""))
     os.rename(nights.root, folder + "/away")
     status, out, said = nights.night()
-    is_so("not mounted", (status, out, nights.root in said), (3, "", True))
+    check("not mounted", (status, out, nights.root in said), (3, "", True))
 
 
-def is_stated(name, nights, report):
+def check_statement(name, nights, report):
     """The cycle of this report has a statement, and that holds."""
     file = "reports/statement-" + report.split("-")[1]
-    is_so(name, ask("verify", nights.path(file)),
+    check(name, ask("verify", nights.path(file)),
           (0, "%s is what %s says\n" % (nights.path("reports/" + report), file[8:]), ""))
 
 
 def statements(folder):
     """Each cycle that ends has a statement beside its report, with or without a seal."""
     nights = made(folder)
-    is_so("a whole cycle", nights.night(), (0, "", ""))
-    is_stated("its statement", nights, "cycle-000001")
+    check("a whole cycle", nights.night(), (0, "", ""))
+    check_statement("its statement", nights, "cycle-000001")
     first = nights.has("reports/statement-000001") or ""
-    is_so("half a cycle", nights.part(), (0, "", ""))
-    is_so("has none", nights.has("reports/statement-000002"), None)
+    check("half a cycle", nights.part(), (0, "", ""))
+    check("has none", nights.has("reports/statement-000002"), None)
     write(nights.path("report"), "".join(nights.has("report").splitlines(True)[1:]))
-    is_so("the rest of it", nights.night()[0], 3)
-    is_stated("a statement of what is not whole", nights, "incomplete-000002")
-    is_so("says so", nights.lines(2).get("Whole"), "no")
-    is_so("sealed", nights.night(*SEAL), (0, "", ""))
-    is_stated("under its seal", nights, "cycle-000003")
-    is_so("the seal", sorted(it for it in os.listdir(nights.path("reports")) if "3." in it),
+    check("the rest of it", nights.night()[0], 3)
+    check_statement("a statement of what is not whole", nights, "incomplete-000002")
+    check("says so", nights.lines(2).get("Whole"), "no")
+    check("sealed", nights.night(*SEAL), (0, "", ""))
+    check_statement("under its seal", nights, "cycle-000003")
+    check("the seal", sorted(it for it in os.listdir(nights.path("reports")) if "3." in it),
           ["statement-000003.json", "statement-000003.rev", "statement-000003.sealed"])
-    is_so("the earlier ones too", [nights.has("reports/statement-%06d.rev" % cycle) is not None
+    check("the earlier ones too", [nights.has("reports/statement-%06d.rev" % cycle) is not None
                                    for cycle in (1, 2)], [True, True])
-    is_so("the first one stays", (nights.has("reports/statement-000001"), "\nCycle: 1\n" in first),
+    check("the first one stays", (nights.has("reports/statement-000001"), "\nCycle: 1\n" in first),
           (first, True))
 
 
@@ -96,8 +96,8 @@ def a_seal_that_lingers(folder):
     """What the seal's command leaves running holds neither the night nor its lock."""
     nights = made(folder)
     seal = 'sleep 60 > /dev/null 2>&1 & echo $! > %s/pid; rev "$1" > "$1.rev"' % folder
-    is_so("sealed", nights.night("--seal", seal), (0, "", ""))
-    is_so("the next night", nights.part(), (0, "", ""))
+    check("sealed", nights.night("--seal", seal), (0, "", ""))
+    check("the next night", nights.part(), (0, "", ""))
     os.kill(int(read(folder + "/pid")), signal.SIGKILL)
 
 
@@ -109,19 +109,19 @@ def statements_that_fail(folder):
     write(mute, '#!/bin/sh\n[ "$1" != --version ] || exit 9\nexec %s "$@"\n' % PROGRAM, 0o755)
     said = "The statement of cycle %d could not be made or sealed: "
     status, _, text = nights.night(program=mute)
-    is_so("none", (status, said % 1 in text, "%s does not say its version\n" % mute in text),
+    check("none", (status, said % 1 in text, "%s does not say its version\n" % mute in text),
           (3, True, True))
-    is_so("its cycle is closed", nights.whole(1), "".join(ITEMS))
-    is_so("the next night makes it", nights.part(), (0, "", ""))
-    is_stated("it holds", nights, "cycle-000001")
+    check("its cycle is closed", nights.whole(1), "".join(ITEMS))
+    check("the next night makes it", nights.part(), (0, "", ""))
+    check_statement("it holds", nights, "cycle-000001")
     status, _, text = nights.night("--seal", "false")
-    is_so("a seal that fails", (status, said % 2 in text), (3, True))
-    is_stated("its statement", nights, "cycle-000002")
-    is_so("the next night seals it", (nights.part(), nights.night(*SEAL)[0], nights.has(
+    check("a seal that fails", (status, said % 2 in text), (3, True))
+    check_statement("its statement", nights, "cycle-000002")
+    check("the next night seals it", (nights.part(), nights.night(*SEAL)[0], nights.has(
         "reports/statement-000002.rev") is None), ((0, "", ""), 0, False))
     nights.night(program=mute)
-    is_so("by hand", ask("statement", nights.state, "4"), (0, "", ""))
-    is_stated("made by hand", nights, "cycle-000004")
+    check("by hand", ask("statement", nights.state, "4"), (0, "", ""))
+    check_statement("made by hand", nights, "cycle-000004")
 
 
 def killed_before_the_statement(folder):
@@ -132,14 +132,14 @@ def killed_before_the_statement(folder):
           0o755)
     night = subprocess.Popen(nights.words(), start_new_session=True,
                              env={**os.environ, "OCFL_SCRUB": killing})
-    is_so("killed", (night.wait(timeout=120), nights.whole(1), nights.has(
+    check("killed", (night.wait(timeout=120), nights.whole(1), nights.has(
         "reports/statement-000001")), (-9, "".join(ITEMS), None))
-    is_so("the next night", nights.part(), (0, "", ""))
-    is_stated("makes it", nights, "cycle-000001")
+    check("the next night", nights.part(), (0, "", ""))
+    check_statement("makes it", nights, "cycle-000001")
     nights.night()
     os.rename(nights.path("reports"), folder + "/away")
-    is_so("reports that were moved away", nights.part()[0] in (0, 3), True)
-    is_so("have none", os.path.exists(nights.path("reports/statement-000002")), False)
+    check("reports that were moved away", nights.part()[0] in (0, 3), True)
+    check("have none", os.path.exists(nights.path("reports/statement-000002")), False)
 
 
 def room(folder):
@@ -148,31 +148,31 @@ def room(folder):
     nights = made(folder)
     for _ in range(3):
         nights.night("--keep", "1")
-    is_so("the last two whole ones", nights.reports(), ["cycle-000002", "cycle-000003"])
+    check("the last two whole ones", nights.reports(), ["cycle-000002", "cycle-000003"])
     write(nights.path("reports/cycle-000001.bak"), "a copy\n")
     nights.part()
     write(nights.path("report"), "")
-    is_so("one that is not whole", nights.night("--keep", "1")[0], 3)
-    is_so("what it is compared with stays", nights.reports(),
+    check("one that is not whole", nights.night("--keep", "1")[0], 3)
+    check("what it is compared with stays", nights.reports(),
           ["cycle-000001.bak", "cycle-000002", "cycle-000003", "incomplete-000004"])
     nights.night()
-    is_so("without --keep they are compressed", nights.reports(),
+    check("without --keep they are compressed", nights.reports(),
           ["cycle-000001.bak", "cycle-000002.gz", "cycle-000003", "cycle-000005",
            "incomplete-000004"])
     with gzip.open(nights.path("reports/cycle-000002.gz")) as packed:
-        is_so("whole", packed.read().decode(), "".join(ITEMS))
+        check("whole", packed.read().decode(), "".join(ITEMS))
     # The report that the first of them was compared with is gone by --keep: status 4.
-    is_so("each has its statement", [nights.holds(cycle) for cycle in (2, 3, 4, 5)], [4, 0, 0, 0])
+    check("each has its statement", [nights.holds(cycle) for cycle in (2, 3, 4, 5)], [4, 0, 0, 0])
 
 
 def no_room(folder):
     """No room for temporary files: the night is made, and its statement by the next one."""
     nights = made(folder)
     given = {"TMPDIR": folder + "/none", "TEMP": folder + "/none", "TMP": folder + "/none"}
-    is_so("no folder for them", nights.night(**given)[0] in (0, 3), True)
-    is_so("the report", nights.whole(1), "".join(ITEMS))
-    is_so("the next night", nights.part(), (0, "", ""))
-    is_stated("states it", nights, "cycle-000001")
+    check("no folder for them", nights.night(**given)[0] in (0, 3), True)
+    check("the report", nights.whole(1), "".join(ITEMS))
+    check("the next night", nights.part(), (0, "", ""))
+    check_statement("states it", nights, "cycle-000001")
 
 
 def one_at_a_time(folder):
@@ -183,9 +183,9 @@ def one_at_a_time(folder):
     holding = "exec flock '%s' sh -c 'echo held; read word'" % nights.path("lock")
     held = subprocess.Popen(["sh", "-c", holding], stdin=subprocess.PIPE, stdout=subprocess.PIPE)
     held.stdout.readline()
-    is_so("locked", nights.night(*SEAL, "--keep", "1")[0], 75)
+    check("locked", nights.night(*SEAL, "--keep", "1")[0], 75)
     held.communicate(b"\n")
-    is_so("nothing has changed", sorted(os.listdir(nights.path("reports"))), before)
+    check("nothing has changed", sorted(os.listdir(nights.path("reports"))), before)
 
 
 # Words
@@ -200,25 +200,25 @@ def words(folder):
                         ("no root", ["--state", nights.state]),
                         ("an unknown word", [*nights.words()[1:3], "--what", nights.root])]:
         status, out, said = ran([nightly, *given], cwd=folder)
-        is_so("usage: " + name, (status, out, said != ""), (2, "", True))
-    is_so("nothing is there", os.path.exists(nights.state), False)
+        check("usage: " + name, (status, out, said != ""), (2, "", True))
+    check("nothing is there", os.path.exists(nights.state), False)
     status, out, said = ran([nightly, "--state", "x", "--help"])
-    is_so("help", (status, out.startswith("usage: nightly "), "\nexample:\n  nightly " in out,
+    check("help", (status, out.startswith("usage: nightly "), "\nexample:\n  nightly " in out,
                    said), (0, True, True, ""))
     status, out, _ = ran([nightly, "--create", "--for-tell", "--keep", "", "--seal", "", "--state",
                           nights.state, "--until", "23:59", nights.root])
-    is_so("empty values", (status, out, nights.whole(1)), (0, "", "".join(ITEMS)))
+    check("empty values", (status, out, nights.whole(1)), (0, "", "".join(ITEMS)))
     time.sleep(1.1)
-    is_so("words with their values", (ran([nightly, "--state=" + nights.state, "--until=23:59",
+    check("words with their values", (ran([nightly, "--state=" + nights.state, "--until=23:59",
                                            nights.root])[0], nights.lines(2)["Whole"]), (0, "yes"))
     odd = folder + "/--seal"
     make_root(odd)
     at = ["--create", "--state", "state-2", "--", "--seal"]
-    is_so("names like options", (ran([nightly, *at], cwd=folder)[0], read(
+    check("names like options", (ran([nightly, *at], cwd=folder)[0], read(
         folder + "/state-2/reports/statement-000001") is None), (0, False))
     os.symlink(nightly, folder + "/link")
     status, _, said = ran([folder + "/link", "--state", nights.state, nights.root])
-    is_so("by a link it finds nothing beside it", (status == 0, said != ""), (False, True))
+    check("by a link it finds nothing beside it", (status == 0, said != ""), (False, True))
 
 
 def lists(folder):
@@ -228,16 +228,16 @@ def lists(folder):
     write(folder + "/known", WRONG_B)
     write(folder + "/expected", "o\np\n")
     status, out, _ = nights.night("--known", folder + "/known", "--expected", folder + "/expected")
-    is_so("known and expected", (status, "E092" in out, out.endswith("expected\tp\n")),
+    check("known and expected", (status, "E092" in out, out.endswith("expected\tp\n")),
           (1, False, True))
-    is_so("in the statement", nights.lines(1).get("Expected objects missing"), "1")
+    check("in the statement", nights.lines(1).get("Expected objects missing"), "1")
     shutil.copytree(nights.root + "/o", nights.root + "/q")
     nights.night()
     shutil.rmtree(nights.root + "/q")
     write(folder + "/known", WRONG_B.replace("o/", "q/"))
     status, out, _ = nights.night("--known", folder + "/known")
-    is_so("what is gone is no finding", (status, "object\tq\n" in out), (1, True))
-    is_so("and is stated", [nights.lines(3).get(name) for name in [
+    check("what is gone is no finding", (status, "object\tq\n" in out), (1, True))
+    check("and is stated", [nights.lines(3).get(name) for name in [
         "Objects gone", "Objects gone and not back", "Known losses"]], ["1", "1", None])
 
 
@@ -254,21 +254,21 @@ def for_tell(folder):
     finally:
         os.umask(before)
     text = nights.has("tonight.one") or ""
-    is_so("left", (said, text.count(WRONG_B)), ((1, "", ""), 1))
-    is_so("who may read it", os.stat(nights.path("tonight.one")).st_mode & 0o7777, 0o640)
+    check("left", (said, text.count(WRONG_B)), ((1, "", ""), 1))
+    check("who may read it", os.stat(nights.path("tonight.one")).st_mode & 0o7777, 0o640)
     os.rename(nights.root, folder + "/away")
-    is_so("a reason too", (nights.night("--for-tell", INVOCATION_ID="two"), nights.root in (
+    check("a reason too", (nights.night("--for-tell", INVOCATION_ID="two"), nights.root in (
         nights.has("tonight.two") or "")), ((3, "", ""), True))
     os.rename(folder + "/away", nights.root)
     write(nights.root + "/o/v1/content/b", "")
     nights.night()
-    is_so("a good night leaves none", (nights.part(INVOCATION_ID="three"), nights.has(
+    check("a good night leaves none", (nights.part(INVOCATION_ID="three"), nights.has(
         "tonight.three")), ((0, "", ""), None))
     write(folder + "/secret", "secret\n")
     os.symlink(folder + "/secret", nights.path("tonight.four"))
-    is_so("no link is followed", (nights.night("--for-tell", INVOCATION_ID="four")[0], read(
+    check("no link is followed", (nights.night("--for-tell", INVOCATION_ID="four")[0], read(
         folder + "/secret")), (3, "secret\n"))
-    is_so("without a folder it is said", ran(
+    check("without a folder it is said", ran(
         [NIGHTS + "/nightly", "--for-tell", "--state", folder + "/none", nights.root])[0], 3)
 
 
@@ -282,11 +282,11 @@ def killed_while_it_says(folder):
           % (PROGRAM, PROGRAM), 0o755)
     night = subprocess.Popen(nights.words("--for-tell"), start_new_session=True,
                              env={**os.environ, "OCFL_SCRUB": killing, "INVOCATION_ID": "one"})
-    is_so("killed", night.wait(timeout=120), -9)
+    check("killed", night.wait(timeout=120), -9)
     given = {"INVOCATION_ID": "one", "MAIL": "", "EXIT_CODE": "killed", "EXIT_STATUS": "KILL"}
     tell = [REPORTS, "tell", "archive", nights.state]
-    is_so("told", (ran(tell, **given)[2].count(WRONG_B), nights.has("tonight.one")), (1, None))
-    is_so("and stated by the next night", (nights.part()[0], nights.holds(1)), (0, 0))
+    check("told", (ran(tell, **given)[2].count(WRONG_B), nights.has("tonight.one")), (1, None))
+    check("and stated by the next night", (nights.part()[0], nights.holds(1)), (0, 0))
 
 
 def full_state(folder):
@@ -306,8 +306,8 @@ head -c 9M /dev/zero > '%s/filler' 2> /dev/null
                                                                   ""]])
     script = script.replace("cat '%s'" % folder, "cat '%s'" % small.state)
     ran(["unshare", "-rm", "sh", "-c", script, "sh", *small.words("--for-tell")])
-    is_so("full", read(folder + "/first"), "3\n")
-    is_so("then it is left for `tell`", (read(folder + "/left") or "").count(WRONG_B), 1)
+    check("full", read(folder + "/first"), "3\n")
+    check("then it is left for `tell`", (read(folder + "/left") or "").count(WRONG_B), 1)
 
 
 PARTS = [plain_nights, statements, a_seal_that_lingers, statements_that_fail,
@@ -315,8 +315,8 @@ PARTS = [plain_nights, statements, a_seal_that_lingers, statements_that_fail,
          killed_while_it_says, full_state]
 
 
-def tell(folder):
+def check_all(folder):
     tried_apart(PARTS, folder)
 
 
-common.trial(tell)
+common.run_trial(check_all)

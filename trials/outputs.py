@@ -35,7 +35,7 @@ import signal
 import subprocess
 
 import common
-from common import NEW, end, is_so, note, ran, read, shown_cursor, start, traced, write
+from common import NEW, end, check, note, ran, read, shown_cursor, start, traced, write
 
 FILES = {"v1/content/a": b"abc", "v1/content/b": b"", "v1/content/c": b"abc"}
 ITEMS = common.sound({"o": FILES})
@@ -58,26 +58,26 @@ class Case:
     def goes_on(self, name, written):
         """The next run writes what is left, and nothing lies beside the cursor's file."""
         status, out, said = ran(self.run)
-        is_so(name + ": joined, it is the audit", (status, written + out), (0, "".join(ITEMS)))
+        check(name + ": joined, it is the audit", (status, written + out), (0, "".join(ITEMS)))
         left = [it for it in os.listdir(self.folder) if it not in ("cursor", "out")]
-        is_so(name + ": nothing is left beside the file", left, [])
+        check(name + ": nothing is left beside the file", left, [])
 
 
 def full_output(folder):
     case = Case(folder, "full")
     with open("/dev/full", "wb") as full:
         status, _, said = ran(case.run, stdout=full)
-    is_so("full device", (status, said), (3, FAILED))
-    is_so("full device: cursor", shown_cursor(case.file), STOPPED)
+    check("full device", (status, said), (3, FAILED))
+    check("full device: cursor", shown_cursor(case.file), STOPPED)
     case.goes_on("full device", "")
     for words in [["audit", case.root], ["check", case.root, "o"], ["show", case.file],
                   ["cycle", "--budget", "1", "--runs", "9", case.root]]:
         with open("/dev/full", "wb") as full:
             status, _, said = ran(words, stdout=full)
-        is_so("full device: " + words[0], (status, said), (3, FAILED))
+        check("full device: " + words[0], (status, said), (3, FAILED))
     with open("/dev/full", "wb") as full:
         status, _, said = ran(["--help"], stdout=full)
-    is_so("full device: help", (status, said), (3, FAILED))
+    check("full device: help", (status, said), (3, FAILED))
 
 
 def closed_pipe(folder):
@@ -86,8 +86,8 @@ def closed_pipe(folder):
     os.close(reading)
     process = start(case.run, stdout=writing)
     os.close(writing)
-    is_so("closed pipe", end(process), (3, "", FAILED))
-    is_so("closed pipe: cursor", shown_cursor(case.file), STOPPED)
+    check("closed pipe", end(process), (3, "", FAILED))
+    check("closed pipe: cursor", shown_cursor(case.file), STOPPED)
     case.goes_on("closed pipe", "")
 
 
@@ -99,7 +99,7 @@ def head(folder):
     shell = ["sh", "-c", "{ %s; } | head -n 1" % words, common.PROGRAM, root]
     done = subprocess.run(shell, capture_output=True, timeout=60)
     said = FAILED + "status 3\n"
-    is_so("a head of the report", (done.stdout.decode(), done.stderr.decode()), (ITEMS[0], said))
+    check("a head of the report", (done.stdout.decode(), done.stderr.decode()), (ITEMS[0], said))
 
 
 def failing_write(folder):
@@ -113,9 +113,9 @@ def failing_write(folder):
                 rule = "inject=write:error=%s:when=%d+" % (error, number + 1)
                 how = {"log": "/dev/null", "stdout": out}
                 status, _, said = traced(["-P", case.out, "-e", rule], case.run, **how)
-            is_so(name, (status, said), (3, FAILED))
+            check(name, (status, said), (3, FAILED))
             written = read(case.out).decode()
-            is_so(name + ": whole items", written, "".join(ITEMS[:number]))
+            check(name + ": whole items", written, "".join(ITEMS[:number]))
             case.goes_on(name, written)
 
 
@@ -126,14 +126,14 @@ def interrupted_write(folder):
         with open(case.out, "ab") as out:
             rules = ["-P", case.out, "-e", "inject=write:error=EINTR:when=" + when]
             status, _, said = traced(rules, case.run, stdout=out)
-        is_so(name, (status, said), (0, note(SUMMARY)))
-        is_so(name + ": all is there", read(case.out).decode(), "".join(ITEMS))
+        check(name, (status, said), (0, note(SUMMARY)))
+        check(name + ": all is there", read(case.out).decode(), "".join(ITEMS))
     case = Case(folder, "always interrupted")
     write(case.out, b"")
     with open(case.out, "ab") as out:
         rules = ["-P", case.out, "-e", "inject=write:error=EINTR:when=2+"]
         status, _, said = traced(rules, case.run, stdout=out)
-    is_so("always interrupted", (status, said), (3, FAILED))
+    check("always interrupted", (status, said), (3, FAILED))
     case.goes_on("always interrupted", read(case.out).decode())
 
 
@@ -145,20 +145,20 @@ def closed(numbers):
 def closed_streams(folder):
     case = Case(folder, "no output")
     status, _, said = ran(case.run, preexec_fn=closed([1]))
-    is_so("closed output", (status, said), (3, FAILED))
-    is_so("closed output: cursor", shown_cursor(case.file), STOPPED)
+    check("closed output", (status, said), (3, FAILED))
+    check("closed output: cursor", shown_cursor(case.file), STOPPED)
     case.goes_on("closed output", "")
     case = Case(folder, "no error")
-    is_so("closed error", ran(case.run, preexec_fn=closed([2])), (0, "".join(ITEMS), ""))
+    check("closed error", ran(case.run, preexec_fn=closed([2])), (0, "".join(ITEMS), ""))
     whole = shown_cursor(case.file)
-    is_so("closed error: cursor", whole, "cycle 1\nruns 1\nspent 9\nfiles 3\nended\n")
+    check("closed error: cursor", whole, "cycle 1\nruns 1\nspent 9\nfiles 3\nended\n")
     case = Case(folder, "nothing open")
     status, _, _ = ran(case.run, preexec_fn=closed([0, 1, 2]))
-    is_so("all closed", (status, shown_cursor(case.file)), (3, STOPPED))
+    check("all closed", (status, shown_cursor(case.file)), (3, STOPPED))
     case.goes_on("all closed", "")
 
 
-def unsaid(folder):
+def without_standard_error(folder):
     """Statuses where standard error is a full device, or closed."""
     case = Case(folder, "unsaid")
     bad = write(os.path.join(folder, "bad"), b"no cursor")
@@ -176,9 +176,9 @@ def unsaid(folder):
     ]:
         with open("/dev/full", "wb") as full:
             got = ran(words, stderr=full)[0]
-        is_so("status %d with a full standard error" % status, got, status)
+        check("status %d with a full standard error" % status, got, status)
         got = ran(words, preexec_fn=closed([2]))[0]
-        is_so("status %d with a closed standard error" % status, got, status)
+        check("status %d with a closed standard error" % status, got, status)
 
 
 def full_file(folder):
@@ -192,12 +192,12 @@ def full_file(folder):
         case.run[4] = "1"
         write(case.file, b"")
         os.remove(case.file)
-        is_so("first file on a small device", ran(case.run)[0], 0)
+        check("first file on a small device", ran(case.run)[0], 0)
         before = read(case.file)
         got = ran(case.run)
-        is_so("full device for the file", got, (3, ITEMS[3], note("cursor file failed")))
-        is_so("full device for the file: it is whole", read(case.file), before)
-        is_so("full device for the file: nothing beside it", os.listdir(case.folder), ["cursor"])
+        check("full device for the file", got, (3, ITEMS[3], note("cursor file failed")))
+        check("full device for the file: it is whole", read(case.file), before)
+        check("full device for the file: nothing beside it", os.listdir(case.folder), ["cursor"])
     finally:
         subprocess.run(["umount", case.folder], check=True)
 
@@ -213,9 +213,9 @@ def limited_file(folder):
     ran(case.run)
     before = read(case.file)
     got = ran(case.run, preexec_fn=no_size)
-    is_so("file that may not grow", got, (3, ITEMS[3], note("cursor file failed")))
-    is_so("file that may not grow: it is whole", read(case.file), before)
-    is_so("file that may not grow: nothing beside it", os.listdir(case.folder), ["cursor"])
+    check("file that may not grow", got, (3, ITEMS[3], note("cursor file failed")))
+    check("file that may not grow: it is whole", read(case.file), before)
+    check("file that may not grow: nothing beside it", os.listdir(case.folder), ["cursor"])
 
 
 def failing_file(folder):
@@ -232,12 +232,12 @@ def failing_file(folder):
         before = read(case.file)
         rules = ["-P", case.file + ".new", "-e", "inject=%s:error=%s" % (call, error)]
         got = traced(rules, case.run)
-        is_so(name, got, (3, ITEMS[3], note("cursor file failed")))
-        is_so(name + ": the file is whole", read(case.file), before)
+        check(name, got, (3, ITEMS[3], note("cursor file failed")))
+        check(name + ": the file is whole", read(case.file), before)
         case.run[4] = "9"
         status, out, _ = ran(case.run)
-        is_so(name + ": goes on", (status, out), (0, "".join(ITEMS[3:])))
-        is_so(name + ": nothing beside it", os.listdir(case.folder), ["cursor"])
+        check(name + ": goes on", (status, out), (0, "".join(ITEMS[3:])))
+        check(name + ": nothing beside it", os.listdir(case.folder), ["cursor"])
 
 
 def synced_file(folder):
@@ -248,12 +248,12 @@ def synced_file(folder):
     for number, words in [(1, case.run), (2, case.run), (3, ["run", "--cursor", "cursor"])]:
         how = {"cwd": case.folder} if number == 3 else {}
         got = traced(["-y", "-e", calls], words[:3] + case.run[3:], log, **how)
-        is_so("run %d that is synced" % number, got[0], 0)
+        check("run %d that is synced" % number, got[0], 0)
         made = [re.match(r"([a-z]+)", it)[1] for it in read(log).decode().splitlines()]
         of = re.findall(r"^f[a-z]*sync\(\d+<(.*?)>\)", read(log).decode(), re.MULTILINE)
         kinds = ["sync" if it.endswith("sync") else it[:6] for it in made]
-        is_so("run %d: synced, renamed, synced" % number, kinds, ["sync", "rename", "sync"])
-        is_so("run %d: the text, and its folder" % number, of, [case.file + ".new", case.folder])
+        check("run %d: synced, renamed, synced" % number, kinds, ["sync", "rename", "sync"])
+        check("run %d: the text, and its folder" % number, of, [case.file + ".new", case.folder])
 
 
 def unread_file(folder):
@@ -265,8 +265,8 @@ def unread_file(folder):
         before = read(case.file)
         rules = ["-P", case.file, "-e", "inject=%s:error=%s" % (call, error)]
         got = traced(rules, case.run)
-        is_so(name, got, (3, "", note("cursor file failed")))
-        is_so(name + ": it is whole", read(case.file), before)
+        check(name, got, (3, "", note("cursor file failed")))
+        check(name + ": it is whole", read(case.file), before)
 
 
 def unread_program():
@@ -276,7 +276,7 @@ def unread_program():
         path = "/proc/self/exe" if call == "openat" else common.PROGRAM
         rules = ["-P", path, "-e", "inject=%s:error=%s" % (call, error)]
         status, out, stderr = traced(rules, ["--version"])
-        is_so("%s of the program's %s" % (error, call), (status, out.splitlines()[-1], stderr),
+        check("%s of the program's %s" % (error, call), (status, out.splitlines()[-1], stderr),
               (0, said, ""))
 
 
@@ -287,18 +287,18 @@ def vanishing_file(folder):
     ran(case.run)
     os.remove(case.file)
     got = ran(case.run)
-    is_so("file that is gone begins a cycle", got[:2], (0, "".join(ITEMS[:3])))
+    check("file that is gone begins a cycle", got[:2], (0, "".join(ITEMS[:3])))
     with common.Stopped(["-P", "b"], "openat", case.run) as stopped:
         os.remove(case.file)
-    is_so("file that vanishes", stopped.ended[:2], (0, ITEMS[3]))
+    check("file that vanishes", stopped.ended[:2], (0, ITEMS[3]))
     shown = "cycle 1\nruns 2\nspent 5\nfiles 2\nafter o/v1/content/b\n"
-    is_so("file that vanishes: it is stored", shown_cursor(case.file), shown)
+    check("file that vanishes: it is stored", shown_cursor(case.file), shown)
     with common.Stopped(["-P", "c"], "openat", case.run) as stopped:
         os.rename(case.folder, case.folder + "-gone")
-    is_so("folder that vanishes", stopped.ended, (3, ITEMS[4], note("cursor file failed")))
+    check("folder that vanishes", stopped.ended, (3, ITEMS[4], note("cursor file failed")))
 
 
-def tell(folder):
+def check_all(folder):
     root = common.make_root(os.path.join(folder, "root"), {"o": FILES})
     before = common.snapshot(root)
     full_output(folder)
@@ -307,7 +307,7 @@ def tell(folder):
     failing_write(folder)
     interrupted_write(folder)
     closed_streams(folder)
-    unsaid(folder)
+    without_standard_error(folder)
     full_file(folder)
     limited_file(folder)
     failing_file(folder)
@@ -315,7 +315,7 @@ def tell(folder):
     unread_file(folder)
     vanishing_file(folder)
     unread_program()
-    is_so("nothing was written below the root", common.snapshot(root), before)
+    check("nothing was written below the root", common.snapshot(root), before)
 
 
-common.trial(tell, needs=["strace"])
+common.run_trial(check_all, needs=["strace"])

@@ -19,7 +19,7 @@ import os
 import shutil
 
 import common
-from common import PROGRAM, is_so
+from common import PROGRAM, check
 from shared.nights import NIGHTS, REPORTS, Nights, make_root, ran, read, tried_apart, write
 
 NOBODY = 65534
@@ -65,7 +65,7 @@ class Other:
         os.chown(path, NOBODY, NOBODY, follow_symlinks=False)
 
     def is_safe(self, name):
-        is_so("the file of root after " + name, (read(self.secret), os.stat(self.secret).st_uid),
+        check("the file of root after " + name, (read(self.secret), os.stat(self.secret).st_uid),
               (SECRET, 0))
 
     def owners(self):
@@ -80,7 +80,7 @@ def writing(folder):
     """Links in the place of what scripts write."""
     other = Other(folder)
     state, root = other.nights.state, other.nights.root
-    is_so("a night of the user", sorted(os.listdir(state + "/reports"))[0], "cycle-000001")
+    check("a night of the user", sorted(os.listdir(state + "/reports"))[0], "cycle-000001")
     for name in ["statement-000001", "statement-000001.json"]:
         os.remove(other.nights.path("reports/" + name))
         for end in ["", ".new"]:
@@ -89,14 +89,14 @@ def writing(folder):
         other.is_safe("a statement in the place of " + name)
         for end in ["", ".new"]:
             os.remove(other.nights.path("reports/" + name + end))
-    is_so("a statement as root", (other.asks("statement", state, "1")[0], os.stat(
+    check("a statement as root", (other.asks("statement", state, "1")[0], os.stat(
         other.nights.path("reports/statement-000001")).st_uid), (0, NOBODY))
     before = common.snapshot(state)
     for words in [["--state", state, root], ["--for-tell", "--state", state, root]]:
         status, out, said = other.calls("nightly", *words)
-        is_so("a night as root", (status, out, "is another user's" in said), (3, "", True))
-    is_so("nothing in the folder has changed", common.snapshot(state) == before, True)
-    is_so("all of it is the user's", other.owners(), {NOBODY})
+        check("a night as root", (status, out, "is another user's" in said), (3, "", True))
+    check("nothing in the folder has changed", common.snapshot(state) == before, True)
+    check("all of it is the user's", other.owners(), {NOBODY})
     for name in ["checkpoint.new", "log", "report", "tonight"]:
         other.link(name)
     other.calls("nightly", "--state", state, root)
@@ -121,17 +121,17 @@ def reading(folder):
                       ["unverified", "2030-01-01", state],
                       ["database", state, folder + "/tmp/db"]]:
             said = other.asks(*words)
-            is_so("%s with a link as %s" % (words[0], name), [
+            check("%s with a link as %s" % (words[0], name), [
                 "secret" in text.replace(other.secret, "") for text in said[1:]], [False, False])
             if os.path.exists(folder + "/tmp/db"):
-                is_so("the database has nothing of it", b"secret" in common.read(
+                check("the database has nothing of it", b"secret" in common.read(
                     folder + "/tmp/db"), False)
                 os.remove(folder + "/tmp/db")
         os.remove(other.nights.path(name))
         if kept is not None:
             write(other.nights.path(name), kept)
             os.chown(other.nights.path(name), NOBODY, NOBODY)
-    is_so("without links root has its answers", [other.asks(*words)[0] for words in [
+    check("without links root has its answers", [other.asks(*words)[0] for words in [
         ["status", "--age", "-,-", state], ["totals", report],
         ["verify", other.nights.path("reports/statement-000001")]]], [0, 0, 0])
 
@@ -149,7 +149,7 @@ def links_of_ones_own(folder):
         os.remove(nights.path(name))
         os.symlink(secret, nights.path(name))
         status, out, _ = ran([REPORTS, "status", "--list", nights.state])
-        is_so("status with a link as " + name, (status, "secret\t" in out, nights.path(
+        check("status with a link as " + name, (status, "secret\t" in out, nights.path(
             name) + " is a link" in out), (3, False, True))
         os.remove(nights.path(name))
         write(nights.path(name), kept)
@@ -160,31 +160,31 @@ def links_of_ones_own(folder):
         os.symlink(secret, nights.path(name))
         for words in [nights.words(), [REPORTS, "finish", nights.state]]:
             status, _, said = ran(words)
-            is_so("%s with a link as %s" % (os.path.basename(words[0]), name),
+            check("%s with a link as %s" % (os.path.basename(words[0]), name),
                   (status, said != ""), (3, True))
         os.remove(nights.path(name))
         if os.path.exists(kept):
             os.rename(kept, nights.path(name))
-    is_so("what the links led to", read(secret), SECRET)
+    check("what the links led to", read(secret), SECRET)
     os.rename(report, folder + "/report")
     os.symlink(folder + "/report", report)
-    is_so("verify", ran([REPORTS, "verify", statement])[0], 3)
+    check("verify", ran([REPORTS, "verify", statement])[0], 3)
     os.remove(statement)
-    is_so("a statement", ran([REPORTS, "statement", nights.state, "1"])[0:2], (3, ""))
+    check("a statement", ran([REPORTS, "statement", nights.state, "1"])[0:2], (3, ""))
     os.remove(report)
     os.rename(folder + "/report", report)
     os.symlink(secret, statement + ".new")
-    is_so("a new statement", ran([REPORTS, "statement", nights.state, "1"])[0:2], (0, ""))
-    is_so("what the link led to", (read(secret), os.path.islink(statement)), (SECRET, False))
+    check("a new statement", ran([REPORTS, "statement", nights.state, "1"])[0:2], (0, ""))
+    check("what the link led to", (read(secret), os.path.islink(statement)), (SECRET, False))
 
 
 PARTS = [links_of_ones_own] + ([writing, reading] if os.geteuid() == 0 else [])
 
 
-def tell(folder):
+def check_all(folder):
     if os.geteuid() != 0:
         print("owners.py: skipped: what root calls: this is not root")
     tried_apart(PARTS, folder)
 
 
-common.trial(tell)
+common.run_trial(check_all)

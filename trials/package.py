@@ -23,7 +23,7 @@ import tarfile
 import time
 
 import common
-from common import PROGRAM, TOP, digest, is_so, version
+from common import PROGRAM, TOP, digest, check, version
 from shared.clones import git, make_clone
 from shared.nights import ITEMS, make_root, ran, read, tried, write
 
@@ -56,20 +56,20 @@ def building(folder):
     made, again = folder + "/made/", folder + "/again/"
     os.mkdir(again)
     status, out, said = ran([clone + "/package", made], **CLEAN)
-    is_so("package", (status, said), (0, ""))
+    check("package", (status, said), (0, ""))
     words = ["sh", "-c", 'umask 077 && cd / && "$0" "$1"', other + "/package", again]
     if os.geteuid() == 0:
         ran(["chown", "-R", "65534:65534", folder + "/another", again])
         words = ["setpriv", "--reuid=65534", "--regid=65534", "--clear-groups", *words]
-    is_so("the same again", ran(words, TZ="Asia/Tokyo", LC_ALL="C.UTF-8", **CLEAN),
+    check("the same again", ran(words, TZ="Asia/Tokyo", LC_ALL="C.UTF-8", **CLEAN),
           (status, out, ""))
     files = [NAME + ".deb", NAME + ".tar.gz"]
-    is_so("what is made", sorted(os.listdir(made)), files)
+    check("what is made", sorted(os.listdir(made)), files)
     digests = ["%s  %s" % (digest(common.read(made + name)), name) for name in files]
-    is_so("its digests", out.splitlines()[:2], digests)
-    is_so("the same bytes", [digest(common.read(again + name)) for name in files],
+    check("its digests", out.splitlines()[:2], digests)
+    check("the same bytes", [digest(common.read(again + name)) for name in files],
           [row.split()[0] for row in digests])
-    is_so("it has no time of its own", times(made + files[1]),
+    check("it has no time of its own", times(made + files[1]),
           {int(git(clone, "log", "-1", "--format=%ct"))})
     refusals(other, again)
     return made + NAME
@@ -77,16 +77,16 @@ def building(folder):
 
 def refusals(clone, folder):
     for words in [["--what"], ["/a", "/b"]]:
-        is_so("package refuses %s" % words, ran([clone + "/package", *words])[:2], (2, ""))
+        check("package refuses %s" % words, ran([clone + "/package", *words])[:2], (2, ""))
     shutil.rmtree(folder)
     ran(["chown", "-R", "%d:%d" % (os.getuid(), os.getgid()), clone])
     write(clone + "/VERSION", "9.9.9\n")
     for name, why in [("a version that is not in CHANGELOG", "no section of 9.9.9"),
                       ("a program of another version", "is not ocfl-scrub 9.9.9")]:
         status, out, said = ran([clone + "/package", folder])
-        is_so(name, (status, out, why in said), (3, "", True))
+        check(name, (status, out, why in said), (3, "", True))
         write(clone + "/CHANGELOG.md", "## 9.9.9, 2026-01-01\n\n- It is new.\n")
-    is_so("nothing is made", os.listdir(folder), [])
+    check("nothing is made", os.listdir(folder), [])
 
 
 def times(archive):
@@ -108,14 +108,14 @@ def holding(folder, made):
     and what a package of Debian has."""
     data = subprocess.run(["dpkg-deb", "--fsys-tarfile", made + ".deb"], capture_output=True)
     held = members(data.stdout)
-    is_so("the tarball holds the same", members(common.read(made + ".tar.gz")), held)
-    is_so("owners", {it[1:3] for it in held.values()}, {("root", "root")})
+    check("the tarball holds the same", members(common.read(made + ".tar.gz")), held)
+    check("owners", {it[1:3] for it in held.values()}, {("root", "root")})
     ran([folder + "/clone/install", "/usr"], DESTDIR=folder + "/installed", **CLEAN)
     for path, mode, data in installed(folder + "/installed"):
         got = held.pop(path, ("", "", "", b""))
         got = got[0], gzip.decompress(got[3]) if path.endswith(".gz") else got[3]
-        is_so("in the package: " + path, got, (mode, data))
-    is_so("and beside them", {path: it[3] if it[0] == "777" else it[0]
+        check("in the package: " + path, got, (mode, data))
+    check("and beside them", {path: it[3] if it[0] == "777" else it[0]
                               for path, it in held.items()}, {
         DOCUMENTS + "BUILD": "../../ocfl-scrub/BUILD",
         DOCUMENTS + "README.md": "../../ocfl-scrub/README.md",
@@ -125,12 +125,12 @@ def holding(folder, made):
         DOCUMENTS + "copyright": "644", "usr/share/lintian/overrides/ocfl-scrub": "644"})
     texts = [gzip.decompress(held[DOCUMENTS + name][3]).decode()
              for name in ["changelog.Debian.gz", "changelog.gz"]]
-    is_so("what changed", [texts[0].split("\n")[0], texts[1]],
+    check("what changed", [texts[0].split("\n")[0], texts[1]],
           ["ocfl-scrub (%s) unstable; urgency=medium" % version(), read(TOP + "/CHANGELOG.md")])
-    is_so("the pages", [held[DOCUMENTS + name + ".md"][3] for name in PAGES], [
+    check("the pages", [held[DOCUMENTS + name + ".md"][3] for name in PAGES], [
         common.read(TOP + ("/" if name == "SECURITY" else "/docs/") + name + ".md")
         for name in PAGES])
-    is_so("no licence", b"has not granted a licence yet" in held[DOCUMENTS + "copyright"][3], True)
+    check("no licence", b"has not granted a licence yet" in held[DOCUMENTS + "copyright"][3], True)
 
 
 def installed(folder):
@@ -152,24 +152,24 @@ def control(made):
     fields = dict(row.split(": ", 1) for row in ran(["dpkg-deb", "-f", made + ".deb"])[1]
                   .splitlines() if not row.startswith(" "))
     floor = re.search(r"glibc ([\d.]+) or later", read(TOP + "/README.md"))[1]
-    is_so("control", [fields[name] for name in ["Package", "Version", "Architecture", "Depends"]],
+    check("control", [fields[name] for name in ["Package", "Version", "Architecture", "Depends"]],
           ["ocfl-scrub", version(), "amd64", "libc6 (>= %s), python3 (>= 3.9)" % floor])
     symbols = ran(["readelf", "-W", "--dyn-syms", PROGRAM])[1]
     asked = [tuple(map(int, it.split("."))) for it in re.findall(r"@GLIBC_([\d.]+)", symbols)]
-    is_so("the floor is what its symbols ask for", ".".join(map(str, max(asked))), floor)
+    check("the floor is what its symbols ask for", ".".join(map(str, max(asked))), floor)
 
 
 def unpacked(folder, made):
     """A night from the tarball, unpacked anywhere."""
     there = folder + "/unpacked"
     os.mkdir(there)
-    is_so("unpack", ran(["tar", "-xzf", made + ".tar.gz", "-C", there]), (0, "", ""))
+    check("unpack", ran(["tar", "-xzf", made + ".tar.gz", "-C", there]), (0, "", ""))
     make_root(folder + "/root")
     given = {**CLEAN, "TMPDIR": folder}
     done = subprocess.run([there + "/" + SHARE + "nightly", "--create", "--state",
                            folder + "/alone", folder + "/root"], env=given, capture_output=True)
-    is_so("a night from the tarball", (done.returncode, done.stderr), (0, b""))
-    is_so("its report", read(folder + "/alone/reports/cycle-000001"), "".join(ITEMS))
+    check("a night from the tarball", (done.returncode, done.stderr), (0, b""))
+    check("its report", read(folder + "/alone/reports/cycle-000001"), "".join(ITEMS))
 
 
 # What is installed
@@ -247,7 +247,7 @@ class Service:
     def __init__(self, root):
         for words in [["systemd-sysusers"], ["systemd-tmpfiles", "--create", "/" + MOVED[
                 SHARE + "systemd/tmpfiles.conf"]]]:
-            is_so(words[0], ran(words)[0], 0)
+            check(words[0], ran(words)[0], 0)
         text = read("/" + SHARE + "systemd/archive.conf").replace("ROOT=/srv/ocfl", "ROOT=" + root)
         write(self.SETTINGS, text)
         self.root = root
@@ -294,29 +294,29 @@ def installing(folder, made, paths):
     if os.path.exists("/var/lib/man-db/auto-update"):
         os.remove("/var/lib/man-db/auto-update")
     dpkg("--purge", "ocfl-scrub")
-    is_so("install an older one", dpkg("--install", older(folder, made)), (0, ""))
+    check("install an older one", dpkg("--install", older(folder, made)), (0, ""))
     service = Service(folder + "/root")
-    is_so("a night of the older one", service.first(), (0, "", ""))
-    is_so("its cycle is open", service.has("report"), "".join(ITEMS[:3]))
-    is_so("upgrade", dpkg("--install", made + ".deb"), (0, ""))
-    is_so("what only the older one had", os.path.exists("/%solder.sh" % SHARE), False)
-    is_so("dpkg finds each file as it was made", ran(["dpkg", "--verify", "ocfl-scrub"]),
+    check("a night of the older one", service.first(), (0, "", ""))
+    check("its cycle is open", service.has("report"), "".join(ITEMS[:3]))
+    check("upgrade", dpkg("--install", made + ".deb"), (0, ""))
+    check("what only the older one had", os.path.exists("/%solder.sh" % SHARE), False)
+    check("dpkg finds each file as it was made", ran(["dpkg", "--verify", "ocfl-scrub"]),
           (0, "", ""))
-    is_so("the next night goes on", service.night(), (0, "", ""))
-    is_so("the report of the cycle", service.has("reports/cycle-000001"), "".join(ITEMS))
-    is_so("its statement names the program that made it", digest(common.read(PROGRAM))
+    check("the next night goes on", service.night(), (0, "", ""))
+    check("the report of the cycle", service.has("reports/cycle-000001"), "".join(ITEMS))
+    check("its statement names the program that made it", digest(common.read(PROGRAM))
           in service.has("reports/statement-000001"), True)
     using(service)
     units()
     kept = service.kept()
-    is_so("the user is there", b"\nocfl-scrub:" in common.read("/etc/passwd"), True)
+    check("the user is there", b"\nocfl-scrub:" in common.read("/etc/passwd"), True)
     for words in [["--remove"], ["--purge"]]:
-        is_so(words[0], dpkg(*words, "ocfl-scrub"), (0, ""))
-        is_so("what is left after " + words[0], [it for it in paths if os.path.lexists("/" + it)],
+        check(words[0], dpkg(*words, "ocfl-scrub"), (0, ""))
+        check("what is left after " + words[0], [it for it in paths if os.path.lexists("/" + it)],
               [])
-        is_so("state and settings stay after " + words[0], service.kept(), kept)
-        is_so("the user stays too", b"\nocfl-scrub:" in common.read("/etc/passwd"), True)
-    is_so("dpkg knows it no more", ran(["dpkg", "--status", "ocfl-scrub"])[0], 1)
+        check("state and settings stay after " + words[0], service.kept(), kept)
+        check("the user stays too", b"\nocfl-scrub:" in common.read("/etc/passwd"), True)
+    check("dpkg knows it no more", ran(["dpkg", "--status", "ocfl-scrub"])[0], 1)
 
 
 def using(service):
@@ -324,28 +324,28 @@ def using(service):
     build = "ocfl-scrub %s\n" % version() + "".join(
         read("/" + SHARE + "BUILD").splitlines(True)[1:])
     own = "this file has sha256 %s\n" % digest(common.read(PROGRAM))
-    is_so("--version", service.calls("ocfl-scrub", "--version"), (0, build + own, ""))
-    is_so("BUILD has the digest of the program", "\nsha256 %s\n" % digest(common.read(PROGRAM))
+    check("--version", service.calls("ocfl-scrub", "--version"), (0, build + own, ""))
+    check("BUILD has the digest of the program", "\nsha256 %s\n" % digest(common.read(PROGRAM))
           in build, True)
     asks = "ocfl-scrub-reports"
-    is_so("statement", service.calls(asks, "statement", service.STATE, "1"), (0, "", ""))
+    check("statement", service.calls(asks, "statement", service.STATE, "1"), (0, "", ""))
     text = service.has("reports/statement-000001") or ""
-    is_so("its program", ["Program: ocfl-scrub " + version() in text, "not known" in
+    check("its program", ["Program: ocfl-scrub " + version() in text, "not known" in
                           re.findall("(?m)^Program commit: (.*)$", text)], [True, False])
     status, out, _ = service.calls(asks, "status", service.STATE)
-    is_so("status", (status, out[:13]), (0, "OCFL-SCRUB OK"))
-    is_so("tell", service.calls("/" + SHARE + asks, "tell", "archive", service.STATE), (0, "", ""))
-    is_so("it has no right to write elsewhere", service.calls("touch", "/" + SHARE + "x")[0], 1)
+    check("status", (status, out[:13]), (0, "OCFL-SCRUB OK"))
+    check("tell", service.calls("/" + SHARE + asks, "tell", "archive", service.STATE), (0, "", ""))
+    check("it has no right to write elsewhere", service.calls("touch", "/" + SHARE + "x")[0], 1)
 
 
 def units():
     names = sorted(name for name in os.listdir("/" + UNITS) if name.startswith("ocfl-scrub"))
-    is_so("units", names, ["ocfl-scrub-tell-failed@.service", "ocfl-scrub-tell@.service",
+    check("units", names, ["ocfl-scrub-tell-failed@.service", "ocfl-scrub-tell@.service",
                            "ocfl-scrub@.service", "ocfl-scrub@.timer"])
     if not shutil.which("systemd-analyze"):
         return skip("the units", "there is no systemd-analyze")
     given = ["systemd-analyze", "verify", *["/" + UNITS + name for name in names]]
-    return is_so("systemd-analyze verify", ran(given), (0, "", ""))
+    return check("systemd-analyze verify", ran(given), (0, "", ""))
 
 
 def traces(paths):
@@ -367,10 +367,10 @@ def begin_lintian(made):
 
 def end_lintian(started):
     if started:
-        is_so("lintian", (started.communicate()[0], started.returncode), ("", 0))
+        check("lintian", (started.communicate()[0], started.returncode), ("", 0))
 
 
-def tell(folder):
+def check_all(folder):
     if not shutil.which("dpkg-deb"):
         return skip("the package", "there is no dpkg")
     os.chmod(folder, 0o755)
@@ -387,8 +387,8 @@ def tell(folder):
             skip("installing the package", why)
         else:
             tried(installing, folder, made, paths)
-    is_so("the system is as it was", traces(paths), before)
+    check("the system is as it was", traces(paths), before)
     return end_lintian(lintian)
 
 
-common.trial(tell)
+common.run_trial(check_all)

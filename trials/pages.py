@@ -16,7 +16,7 @@ import re
 import subprocess
 
 import common
-from common import TOP, is_so
+from common import TOP, check
 from shared.clones import make_clone
 from shared.nights import NIGHTS, read, tried
 from shared.pages import blocks_of_manual, blocks_of_markdown, commands_of, links_of
@@ -127,11 +127,11 @@ class Session:
         is_apart = OTHER.search(SYSTEM.sub("", re.sub(r" #.*", "", command))) is None
         status, got = self.call(command) if is_apart else ("not run", "")
         if status not in ends[0]:
-            is_so(name, (status, got), ends[0])
+            check(name, (status, got), ends[0])
         elif shown is None:
-            is_so(name, True, True)
+            check(name, True, True)
         else:
-            is_so(name, shown if fits(shown, got) else got, shown)
+            check(name, shown if fits(shown, got) else got, shown)
         for more in THEN.get(command.strip(), []):
             self.call(more)
 
@@ -185,16 +185,16 @@ def links():
     lost = ["%s: %s" % (os.path.relpath(page, TOP), link) for page in sorted(pages)
             for link in links_of(read(page))
             if not os.path.exists(os.path.join(os.path.dirname(page), link))]
-    is_so("links that lead nowhere", lost, [])
+    check("links that lead nowhere", lost, [])
 
 
-def tell(folder):
+def check_all(folder):
     tools(PACKAGES)
     for part in [readme, nightly, manual]:
         os.mkdir(os.path.join(folder, part.__name__))
         tried(part, os.path.join(folder, part.__name__))
-    is_so("what is not run, and no page has", sorted({*NOT_RUN, *NO_COMMANDS} - used), [])
+    check("what is not run, and no page has", sorted({*NOT_RUN, *NO_COMMANDS} - used), [])
     tried(links)
 
 
-common.trial(tell, needs=["parallel"])
+common.run_trial(check_all, needs=["parallel"])

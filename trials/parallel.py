@@ -33,10 +33,10 @@ import subprocess
 import time
 
 import common
-from common import PROGRAM, is_so
+from common import PROGRAM, check
 from shared.nights import NIGHTS, REPORTS, ran, read, tried_apart, write
-from shared.parallel import (Place, Together, audit, begun, findings, is_stated, make_root,
-                             small_root, told_in)
+from shared.parallel import (Place, Together, audit, begun, findings, check_statement, make_root,
+                             small_root, lines_in_message)
 
 
 def processes(session):
@@ -84,16 +84,17 @@ def cycles(folder):
         if event:
             time.sleep(chance.uniform(0, 1))
             struck += strike(night, event[0], getattr(signal, "SIG" + event[1]), chance)
-        told |= told_in(night.communicate(timeout=240)[0].decode())
+        told |= lines_in_message(night.communicate(timeout=240)[0].decode())
         while any(KINDS["part"](words) for words in processes(night.pid).values()):
             time.sleep(0.05)
-    told |= told_in("".join(nights.night("--slice", "4K", jobs=4, parts=24)[1] for _ in range(2)))
-    is_so("signals came", struck > 5, True)
+    for _ in range(2):
+        told |= lines_in_message(nights.night("--slice", "4K", jobs=4, parts=24)[1])
+    check("signals came", struck > 5, True)
     joined = sorted(glob.glob(nights.path("reports/cycle-*")))
-    is_so("cycles were joined", len(joined) > 1, True)
-    is_so("each is the audit", [path for path in joined if read(path) != whole], [])
-    is_so("each finding was told", sorted(findings(whole) - told)[:3], [])
-    is_stated("the first statement", nights, 1)
+    check("cycles were joined", len(joined) > 1, True)
+    check("each is the audit", [path for path in joined if read(path) != whole], [])
+    check("each finding was told", sorted(findings(whole) - told)[:3], [])
+    check_statement("the first statement", nights, 1)
 
 
 def one_message(folder):
@@ -103,36 +104,36 @@ def one_message(folder):
     wrong = [line for line in audit(nights.root).splitlines(True) if line in findings(
         audit(nights.root))]
     lines = [line for line in out.splitlines(True) if line.count("\t") == 2]
-    is_so("a night", (status, said, lines), (1, "", wrong))
+    check("a night", (status, said, lines), (1, "", wrong))
     nights.is_audit("the cycle")
-    is_so("nothing is left to be said", (nights.end(), os.listdir(nights.path("said"))),
+    check("nothing is left to be said", (nights.end(), os.listdir(nights.path("said"))),
           ((0, "", ""), []))
     write(nights.root + "/o01/v1/content/a", "abc")
     write(nights.root + "/o07/v1/content/a", "abc")
     status, out, _ = nights.night()
-    is_so("what is repaired", (status, out.count("repaired") > 0), (0, True))
+    check("what is repaired", (status, out.count("repaired") > 0), (0, True))
     nights.is_audit("the second cycle", 2)
-    is_so("a night without a word", nights.night(), (0, "", ""))
+    check("a night without a word", nights.night(), (0, "", ""))
 
 
 def by_schedulers(folder):
     """GNU parallel and xargs start the same parts, and each costs little beside its reading."""
     nights = Together(folder + "/state", small_root(folder, ["o17"], 60))
     status, out, _ = nights.by_hand("begin", "--create", "--parts", "40")
-    is_so("begin", (status, len(out.split()) > 30), (0, True))
+    check("begin", (status, len(out.split()) > 30), (0, True))
     part = [NIGHTS + "/parallel/part", "--state", nights.state, nights.root, "--part"]
     before = resource.getrusage(resource.RUSAGE_CHILDREN)
     subprocess.run(["parallel", "-j", "4", *part], input=out.encode(), check=False)
     after = resource.getrusage(resource.RUSAGE_CHILDREN)
     spent = after.ru_utime + after.ru_stime - before.ru_utime - before.ru_stime
     print("GNU parallel: %.0f ms of a processor for a part" % (1000 * spent / len(out.split())))
-    is_so("the end", nights.end()[0], 1)
+    check("the end", nights.end()[0], 1)
     nights.is_audit("by GNU parallel")
     out = nights.by_hand("begin")[1]
     subprocess.run(["xargs", "-P", "4", "-n", "1", *part], input=out.encode(), check=False)
-    is_so("the end too", nights.end()[0], 1)
+    check("the end too", nights.end()[0], 1)
     nights.is_audit("by xargs", 2)
-    is_so("a start costs at most 20 ms", cost_of_start(nights) <= 20, True)
+    check("a start costs at most 20 ms", cost_of_start(nights) <= 20, True)
 
 
 def cost_of_start(nights):
@@ -153,12 +154,12 @@ def unread(folder):
     place = Place(nights.root, "o03/v1/content")
     place.spoil()
     status, out, _ = nights.night()
-    is_so("it is named", (status, "o03/v1/content" in out, nights.level()), (3, True, 2))
-    is_so("the others have ended", [len(glob.glob(nights.part(number, "reports/cycle-*")))
+    check("it is named", (status, "o03/v1/content" in out, nights.level()), (3, True, 2))
+    check("the others have ended", [len(glob.glob(nights.part(number, "reports/cycle-*")))
                                     for number in range(1, 5)], [1, 0, 1, 1])
-    is_so("it is not joined", nights.has("reports/cycle-000001"), None)
+    check("it is not joined", nights.has("reports/cycle-000001"), None)
     place.mend()
-    is_so("mended", nights.night(), (0, "", ""))
+    check("mended", nights.night(), (0, "", ""))
     nights.is_audit("then it is the audit", 2)
 
 
@@ -174,34 +175,34 @@ def unjoined(folder):
         words = [REPORTS, "status", nights.state]
         return re.findall(r"\b(?:findings|damaged|gone)=([0-9]+)", ran(words)[1])
 
-    is_so("before", counted(), ["1", "1", "0"])
+    check("before", counted(), ["1", "1", "0"])
     shutil.rmtree(nights.root + "/o05")
-    is_so("a cycle that is not joined", (nights.night()[0], counted()), (3, ["1", "1", "3"]))
-    is_so("a second one", (nights.night()[0], counted()), (3, ["1", "1", "3"]))
+    check("a cycle that is not joined", (nights.night()[0], counted()), (3, ["1", "1", "3"]))
+    check("a second one", (nights.night()[0], counted()), (3, ["1", "1", "3"]))
     write(nights.root + "/o01/v1/content/a", "abc")
-    is_so("repaired in a third one", (nights.night()[0], counted()), (3, ["0", "0", "3"]))
-    is_so("it has ended", "cycle 4 has ended" in ran([REPORTS, "status", nights.state])[1], True)
+    check("repaired in a third one", (nights.night()[0], counted()), (3, ["0", "0", "3"]))
+    check("it has ended", "cycle 4 has ended" in ran([REPORTS, "status", nights.state])[1], True)
     place.mend()
     nights.night()
     nights.is_audit("joined", 5)
-    is_stated("its statement", nights, 5)
-    is_so("gone still", (counted(), "\nObjects gone and not back: 1\n" in nights.has(
+    check_statement("its statement", nights, 5)
+    check("gone still", (counted(), "\nObjects gone and not back: 1\n" in nights.has(
         "reports/statement-000005")), (["0", "0", "3"], True))
-    is_so("of a part", sorted(map(os.path.basename, glob.glob(nights.part(1, "reports/cycle-*")))),
+    check("of a part", sorted(map(os.path.basename, glob.glob(nights.part(1, "reports/cycle-*")))),
           ["cycle-000004", "cycle-000005"])
     shutil.copytree(nights.root + "/o06", nights.root + "/o05")
     nights.night()
-    is_so("back", counted()[2], "0")
+    check("back", counted()[2], "0")
 
 
 def ends(folder):
     """An end by the clock is one for all parts, and a part after it counts as run."""
     nights = Together(folder + "/state", small_root(folder))
-    is_so("over before it begins", nights.night("--end", "5"), (0, "", ""))
-    is_so("each part has its row", [len(nights.rows(number)) for number in range(1, 5)], [1] * 4)
-    is_so("by hours", nights.night("--hours", "0.0001", "--budget", "1")[0], 0)
+    check("over before it begins", nights.night("--end", "5"), (0, "", ""))
+    check("each part has its row", [len(nights.rows(number)) for number in range(1, 5)], [1] * 4)
+    check("by hours", nights.night("--hours", "0.0001", "--budget", "1")[0], 0)
     for zone, until in [("UTC", "23:59"), ("Europe/Berlin", "02:30")]:
-        is_so("until " + until, nights.night("--until", until, TZ=zone)[0], 0)
+        check("until " + until, nights.night("--until", until, TZ=zone)[0], 0)
     nights.is_audit("a cycle")
 
 
@@ -220,10 +221,10 @@ def signals(folder):
             time.sleep(0.02)
         os.kill(night.pid, getattr(signal, "SIG" + name))
         said = night.communicate(timeout=60)[0].decode()
-        is_so("SIG" + name, (night.returncode, "No night has come to its end" in said
+        check("SIG" + name, (night.returncode, "No night has come to its end" in said
                              and " in part 4: " in said, nights.level()), (3, True, 2))
         write(nights.root + "/o08/v1/content/a", "abc")
-        is_so("the next night", nights.night()[0], 0)
+        check("the next night", nights.night()[0], 0)
         nights.is_audit("after SIG" + name)
 
 
@@ -240,7 +241,7 @@ def cut_closing(folder):
         nights.make([number for number in numbers if number != "2"])
         nights.end()
         nights.make(nights.given())
-        is_so("after call %d" % call, nights.end()[0], 0)
+        check("after call %d" % call, nights.end()[0], 0)
         if not nights.is_audit("joined after call %d" % call):
             break
 
@@ -250,8 +251,8 @@ def two_at_once(folder):
     nights = Together(folder + "/state", small_root(folder))
     nights.night("--end", "5")
     status, out, said = ran(["flock", nights.path("lock.nightly"), *nights.words()])
-    is_so("75", (status, out, "another night still runs" in said), (75, "", True))
-    is_so("no part made a night", [len(nights.rows(number)) for number in range(1, 5)], [1] * 4)
+    check("75", (status, out, "another night still runs" in said), (75, "", True))
+    check("no part made a night", [len(nights.rows(number)) for number in range(1, 5)], [1] * 4)
 
 
 def room(folder):
@@ -259,15 +260,15 @@ def room(folder):
     nights = Together(folder + "/state", small_root(folder, ["o01"]))
     for _ in range(4):
         nights.night()
-    is_so("of a part", sorted(map(os.path.basename, glob.glob(nights.part(1, "reports/cycle-*")))),
+    check("of a part", sorted(map(os.path.basename, glob.glob(nights.part(1, "reports/cycle-*")))),
           ["cycle-000003", "cycle-000004"])
-    is_so("joined", len(glob.glob(nights.path("reports/cycle-*"))), 4)
-    is_so("kept", (nights.night("--keep", "2")[0], len(glob.glob(nights.path("reports/cycle-*")))),
+    check("joined", len(glob.glob(nights.path("reports/cycle-*"))), 4)
+    check("kept", (nights.night("--keep", "2")[0], len(glob.glob(nights.path("reports/cycle-*")))),
           (1, 2))
     shutil.rmtree(nights.root + "/o05")
     nights.night()
     gone = nights.has("reports/gone-000006")
-    is_so("what is gone is listed of all", sorted(gone.splitlines()), [
+    check("what is gone is listed of all", sorted(gone.splitlines()), [
         "file\to05/v1/content/a", "file\to05/v1/content/b", "object\to05"])
 
 
@@ -275,10 +276,10 @@ def seals(folder):
     """The joined report has its statement and its seal; one that fails is said."""
     nights = Together(folder + "/state", small_root(folder))
     status, out, _ = nights.night("--seal", "false")
-    is_so("a seal that fails", (status, "could not be made or sealed" in out), (3, True))
-    is_so("is made by the next night", nights.night("--seal", 'rev "$1" > "$1.rev"')[0], 0)
-    is_so("it lies there", os.path.exists(nights.path("reports/statement-000001.rev")), True)
-    is_stated("the statement", nights, 1)
+    check("a seal that fails", (status, "could not be made or sealed" in out), (3, True))
+    check("is made by the next night", nights.night("--seal", 'rev "$1" > "$1.rev"')[0], 0)
+    check("it lies there", os.path.exists(nights.path("reports/statement-000001.rev")), True)
+    check_statement("the statement", nights, 1)
 
 
 def by_a_service(folder):
@@ -295,8 +296,8 @@ def by_a_service(folder):
                                        in place), "ab") as file:
         file.write(b"x")
     status, out, said = ran(words, INVOCATION_ID="one")
-    is_so("a night", (status, out, said), (1, "", ""))
-    is_so("its text", told_in(nights.has("tonight.one")), findings(audit(nights.root)))
+    check("a night", (status, out, said), (1, "", ""))
+    check("its text", lines_in_message(nights.has("tonight.one")), findings(audit(nights.root)))
 
 
 def usage(folder):
@@ -306,12 +307,12 @@ def usage(folder):
                   ["--hours", "0"], ["--hours", "inf"], ["--jobs", "x"], ["--jobs", "0"],
                   ["--state"]]:
         status, out, said = nights.night(*words)
-        is_so("usage: %s" % words, (status, out, bool(said)), (2, "", True))
+        check("usage: %s" % words, (status, out, bool(said)), (2, "", True))
     for name in ["nightly", "begin", "part", "end"]:
         status, out, _ = ran([NIGHTS + "/parallel/" + name, "--help"])
-        is_so("help of " + name, (status, out.startswith("usage: parallel/" + name), out.rstrip()
+        check("help of " + name, (status, out.startswith("usage: parallel/" + name), out.rstrip()
                                   .rsplit("\n", 1)[-1][:10]), (0, True, "  parallel"))
-    is_so("no part was given out", os.path.exists(nights.path("parts")), False)
+    check("no part was given out", os.path.exists(nights.path("parts")), False)
 
 
 def dashes(folder):
@@ -320,22 +321,22 @@ def dashes(folder):
     expected = audit(folder + "/-root")
     words = [NIGHTS + "/parallel/nightly", "--create", "--jobs", "2", "--parts", "4", "--state",
              "-state", "--", "-root"]
-    is_so("a night", ran(words, cwd=folder)[0], 0)
-    is_so("its report", read(folder + "/-state/reports/cycle-000001"), expected)
+    check("a night", ran(words, cwd=folder)[0], 0)
+    check("its report", read(folder + "/-state/reports/cycle-000001"), expected)
     part = [NIGHTS + "/parallel/part", "--state", "-state", "--part", "1", "--", "-root"]
-    is_so("a part", ran(part, cwd=folder)[0], 0)
-    is_so("an end", ran([NIGHTS + "/parallel/end", "--state=-state"], cwd=folder)[0], 0)
+    check("a part", ran(part, cwd=folder)[0], 0)
+    check("an end", ran([NIGHTS + "/parallel/end", "--state=-state"], cwd=folder)[0], 0)
 
 
 PARTS = [cycles, one_message, by_schedulers, unread, unjoined, ends, signals, cut_closing,
          two_at_once, room, seals, by_a_service, usage, dashes]
 
 
-def tell(folder):
+def check_all(folder):
     # What started the trial may ignore these, and then so would each night that it starts.
     for number in (signal.SIGINT, signal.SIGHUP, signal.SIGTERM):
         signal.signal(number, signal.SIG_DFL)
     tried_apart(PARTS, folder)
 
 
-common.trial(tell, needs=["parallel", "strace"])
+common.run_trial(check_all, needs=["parallel", "strace"])

@@ -35,22 +35,22 @@ import subprocess
 import time
 
 import common
-from common import PROGRAM, is_so
+from common import PROGRAM, check
 from shared.nights import NIGHTS, ran, read, tried_apart, write
-from shared.parallel import Together, audit, begun, findings, small_root, told_in
+from shared.parallel import Together, audit, begun, findings, small_root, lines_in_message
 
 
 def nobody_ran(folder):
     """Parts that were given out and that nobody ran are named once, and `status` says so."""
     nights, numbers = begun(folder)
-    is_so("four parts", numbers, ["1", "2", "3", "4"])
+    check("four parts", numbers, ["1", "2", "3", "4"])
     nights.make(["1", "4"])
     status, out, said = nights.end()
-    is_so("the others are named", (status, said, " in parts 2-3: " in out), (3, "", True))
-    is_so("status", nights.level(), 2)
-    is_so("it is said once", (nights.end(), nights.level()), ((0, "", ""), 2))
+    check("the others are named", (status, said, " in parts 2-3: " in out), (3, "", True))
+    check("status", nights.level(), 2)
+    check("it is said once", (nights.end(), nights.level()), ((0, "", ""), 2))
     nights.make(nights.given())
-    is_so("then all are run", (nights.end(), nights.level()), ((0, "", ""), 0))
+    check("then all are run", (nights.end(), nights.level()), ((0, "", ""), 0))
     nights.is_audit("and joined")
 
 
@@ -60,8 +60,8 @@ def nobody_ended(folder):
     nights.make(numbers[:2])
     nights.make(nights.given())
     status, out, _ = nights.end()
-    is_so("it is said", (status, "Nothing ended" in out, " in parts 3-4: " in out), (3, True, True))
-    is_so("and the finding", told_in(out), findings(audit(nights.root)))
+    check("it is said", (status, "Nothing ended" in out, " in parts 3-4: " in out), (3, True, True))
+    check("and the finding", lines_in_message(out), findings(audit(nights.root)))
 
 
 def open_somewhere(path):
@@ -91,11 +91,11 @@ def killed(folder):
         part.send_signal(signal.SIGKILL)
         part.wait()
         status, out, _ = nights.end()
-        is_so("killed", (status, " in part 4: " in out, nights.level()), (3, True, 2))
-        is_so("it alone is given out", nights.given(), ["4"])
+        check("killed", (status, " in part 4: " in out, nights.level()), (3, True, 2))
+        check("it alone is given out", nights.given(), ["4"])
     write(file, "abc")
     nights.make(["4"])
-    is_so("then it is audited", nights.end(), (0, "", ""))
+    check("then it is audited", nights.end(), (0, "", ""))
     nights.is_audit("joined")
 
 
@@ -116,18 +116,18 @@ def broken(folder):
             nights.by_hand("part", "--part", number)
         status, out, _ = nights.end()
         # A monitor gets UNKNOWN for a link.
-        is_so(name, (status, " in part 2: " in out, nights.level()),
+        check(name, (status, " in part 2: " in out, nights.level()),
               (3, True, 3 if name == "a link" else 2))
-        is_so(name + ": which is named", out.count("part-000002") > 0, True)
-        is_so(name + ": the others", [nights.rows(number)[-1]["status"] for number in (1, 3, 4)],
+        check(name + ": which is named", out.count("part-000002") > 0, True)
+        check(name + ": the others", [nights.rows(number)[-1]["status"] for number in (1, 3, 4)],
               [0, 0, 0])
-        is_so(name + ": nothing is joined", nights.has("reports/cycle-000002"), None)
+        check(name + ": nothing is joined", nights.has("reports/cycle-000002"), None)
         if os.path.islink(own):
             os.remove(own)
         shutil.rmtree(own, ignore_errors=True)
         shutil.move(kept, own)
         nights.make(nights.given())
-        is_so(name + ": put back", nights.end(), (0, "", ""))
+        check(name + ": put back", nights.end(), (0, "", ""))
         nights.is_audit(name + ": joined", 2)
 
 
@@ -166,13 +166,13 @@ def separators(folder):
         for number in out.split():
             nights.by_hand("part", "--part", number)
         status, out, _ = nights.end()
-        is_so(name, (status, nights.path("parts") in out or "bad parts" in out, nights.level()),
+        check(name, (status, nights.path("parts") in out or "bad parts" in out, nights.level()),
               (3, True, 2))
-        is_so(name + ": it stays", read(nights.path("parts")), before)
+        check(name + ": it stays", read(nights.path("parts")), before)
     write(nights.path("parts"), kept)
     nights.make(nights.given())
-    is_so("put back", nights.end()[0], 0)
-    is_so("joined", nights.has("reports/cycle-000002"), audit(nights.root))
+    check("put back", nights.end()[0], 0)
+    check("joined", nights.has("reports/cycle-000002"), audit(nights.root))
 
 
 def interrupted(folder):
@@ -187,8 +187,8 @@ def interrupted(folder):
         if ran([*killed_at, *words])[0] == 0:
             break
         numbers = nights.given()
-        is_so("parts after call %d" % call, (numbers, nights.count()), (["1", "2", "3", "4"], 4))
-    is_so("it was cut", call > 8, True)
+        check("parts after call %d" % call, (numbers, nights.count()), (["1", "2", "3", "4"], 4))
+    check("it was cut", call > 8, True)
     for number in ("1", "2", "3", "4"):
         nights.by_hand("part", "--part", number)
     nights.end()
@@ -201,24 +201,24 @@ def begin_refused(folder):
     os.rename(nights.root, nights.root + ".away")
     os.mkdir(nights.root)
     status, out, said = nights.by_hand("begin")
-    is_so("refused", (status, out, "is its file system mounted?" in said), (3, "", True))
-    is_so("status before the end", nights.level(), 2)
+    check("refused", (status, out, "is its file system mounted?" in said), (3, "", True))
+    check("status before the end", nights.level(), 2)
     status, out, _ = nights.end()
-    is_so("the end says why", (status, out.count("is its file system mounted?")), (3, 1))
-    is_so("status after it", nights.level(), 2)
+    check("the end says why", (status, out.count("is its file system mounted?")), (3, 1))
+    check("status after it", nights.level(), 2)
     for number in numbers:
         nights.by_hand("part", "--part", number)
     status, out, _ = nights.end()
-    is_so("what all say is there once", (status, out.count("is its file system mounted?"),
+    check("what all say is there once", (status, out.count("is its file system mounted?"),
                                          "In parts 1-4:" in out), (1, 1, True))
     other = Together(folder + "/other", nights.root)
     status, out, said = other.by_hand("begin", "--create", "--parts", "4")
-    is_so("no first night", (status, os.path.exists(other.path("parts"))), (3, False))
+    check("no first night", (status, os.path.exists(other.path("parts"))), (3, False))
     shutil.rmtree(nights.root)
     os.rename(nights.root + ".away", nights.root)
-    is_so("a state folder that is away", Together(folder + "/none", nights.root).by_hand(
+    check("a state folder that is away", Together(folder + "/none", nights.root).by_hand(
         "begin")[0:2], (3, ""))
-    is_so("is not made", os.path.exists(folder + "/none"), False)
+    check("is not made", os.path.exists(folder + "/none"), False)
 
 
 # Leaves so many KiB on a small disk that has the state.
@@ -239,7 +239,7 @@ def no_room(folder):
     found = findings(audit(nights.root))
     end = [NIGHTS + "/parallel/end", "--state", nights.state]
     status, _, _ = ran(["sh", "-c", 'exec "$@" > /dev/full', "sh", *end])
-    is_so("a full output", status, 3)
+    check("a full output", status, 3)
     os.mkdir(folder + "/disk")
     kept = folder + "/kept"
     words = [NIGHTS + "/parallel/end", "--for-tell", "--state", folder + "/disk"]
@@ -248,10 +248,10 @@ def no_room(folder):
     if status == 99:
         print("not tried: nothing can be mounted here")
     else:
-        is_so("a full disk", (status, bool(said)), (3, True))
+        check("a full disk", (status, bool(said)), (3, True))
         status, out, _ = Together(kept, nights.root).end()
-        is_so("then said", told_in(out), found)
-    is_so("said at last", told_in(nights.end()[1]), found)
+        check("then said", lines_in_message(out), found)
+    check("said at last", lines_in_message(nights.end()[1]), found)
 
 
 def for_tell(folder):
@@ -259,11 +259,11 @@ def for_tell(folder):
     nights, numbers = begun(folder, ["o08"])
     nights.make(numbers)
     for _ in range(2):
-        is_so("left", nights.by_hand("end", "--for-tell", INVOCATION_ID="x")[1:], ("", ""))
+        check("left", nights.by_hand("end", "--for-tell", INVOCATION_ID="x")[1:], ("", ""))
     nights.make(nights.given()[:1])
     nights.by_hand("end", "--for-tell", INVOCATION_ID="x")
     text = nights.has("tonight.x")
-    is_so("all of it", (told_in(text) == findings(audit(nights.root)), "No night" in text),
+    check("all of it", (lines_in_message(text) == findings(audit(nights.root)), "No night" in text),
           (True, True))
 
 
@@ -277,13 +277,13 @@ def files_are_ones_own(folder):
     modes = {line.split("O_CREAT")[1].split(", ")[1].split(")")[0]
              for line in read(made).splitlines() if "O_CREAT" in line and ", 0" in line
              and nights.state in line}
-    is_so("files are made 0640", modes - {"0640", "0600"}, set())
+    check("files are made 0640", modes - {"0640", "0600"}, set())
     for where, folders, names in os.walk(nights.state):
         for name in [*names, *folders]:
             look = os.lstat(os.path.join(where, name))
             wanted = (0o750, 0o700) if stat.S_ISDIR(look.st_mode) else (0o640, 0o600)
-            is_so("%s/%s" % (where, name), stat.S_IMODE(look.st_mode) in wanted, True)
-    is_so("the folder", stat.S_IMODE(os.stat(nights.state).st_mode), 0o750)
+            check("%s/%s" % (where, name), stat.S_IMODE(look.st_mode) in wanted, True)
+    check("the folder", stat.S_IMODE(os.stat(nights.state).st_mode), 0o750)
 
 
 def links(folder):
@@ -300,9 +300,9 @@ def links(folder):
         os.symlink(secret, nights.path(name))
         for call in ["begin", "end"]:
             status, out, said = nights.by_hand(call)
-            is_so("%s with a link as %s" % (call, name), (status, "secret\n" in out + said),
+            check("%s with a link as %s" % (call, name), (status, "secret\n" in out + said),
                   (3, False) if call == "end" or name != "said/000001-9.9" else (0, False))
-        is_so("as it was: " + name, read(secret), "secret\n")
+        check("as it was: " + name, read(secret), "secret\n")
         os.remove(nights.path(name))
         if there:
             os.rename(folder + "/kept", nights.path(name))
@@ -319,8 +319,8 @@ def another_user(folder):
     before = common.snapshot(nights.state)
     for name, words in [("nightly", []), ("begin", []), ("part", ["--part", "1"]), ("end", [])]:
         status, out, said = nights.by_hand(name, *words)
-        is_so(name, (status, out, "belongs to the user" in said), (3, "", True))
-    is_so("nothing has changed", common.snapshot(nights.state) == before, True)
+        check(name, (status, out, "belongs to the user" in said), (3, "", True))
+    check("nothing has changed", common.snapshot(nights.state) == before, True)
 
 
 def other_folders(folder):
@@ -334,8 +334,8 @@ def other_folders(folder):
         for call in ["begin", "nightly", "part"]:
             got = ran([NIGHTS + "/parallel/" + call, "--state", state, *(
                 ["--part", "1"] if call == "part" else ["--create", "--parts", "4"]), nights.root])
-            is_so("%s: %s" % (call, name), got[0], status)
-        is_so(name + ": nothing is written", (common.snapshot(nights.root), common.snapshot(
+            check("%s: %s" % (call, name), got[0], status)
+        check(name + ": nothing is written", (common.snapshot(nights.root), common.snapshot(
             whole.state)) == before, True)
 
 
@@ -348,7 +348,7 @@ def without_locks(folder):
         root = [nights.root] if name == "begin" else []
         status, _, said = ran([*failing, NIGHTS + "/parallel/" + name, "--state", nights.state,
                                *root])
-        is_so(name, (status, "cannot be locked" in said), (3, True))
+        check(name, (status, "cannot be locked" in said), (3, True))
 
 
 def by_cost(folder):
@@ -357,8 +357,8 @@ def by_cost(folder):
     write(folder + "/report", audit(nights.root))
     write(folder + "/parts", ran([PROGRAM, "split", "--budget", "12", "--report", folder
                                   + "/report"])[1])
-    is_so("a night", nights.night(parts=folder + "/parts")[0], 0)
-    is_so("these parts", nights.has("parts"), read(folder + "/parts"))
+    check("a night", nights.night(parts=folder + "/parts")[0], 0)
+    check("these parts", nights.has("parts"), read(folder + "/parts"))
     nights.is_audit("the cycle")
 
 
@@ -366,8 +366,8 @@ PARTS = [nobody_ran, nobody_ended, killed, broken, separators, interrupted, begi
          for_tell, files_are_ones_own, links, another_user, other_folders, without_locks, by_cost]
 
 
-def tell(folder):
+def check_all(folder):
     tried_apart(PARTS, folder)
 
 
-common.trial(tell, needs=["parallel", "strace"])
+common.run_trial(check_all, needs=["parallel", "strace"])

@@ -27,7 +27,7 @@ import sys
 from collections import Counter
 
 import common
-from common import digest, expect, is_so, line, make_root, ran, read, traced, write
+from common import digest, expect, check, line, make_root, ran, read, traced, write
 from shared import calls
 from shared.damage import DAMAGES, OBJECTS, directories_of, make_damaged
 from shared.kills import Cycle, exact_moments, random_moments
@@ -65,7 +65,7 @@ class Root:
         self.root = root
         status, self.report, said = ran(["audit", root])
         self.lines = lines_of(self.report)
-        is_so("audit of " + name, (status, said), (status_of(self.lines), ""))
+        check("audit of " + name, (status, said), (status_of(self.lines), ""))
 
     def write(self, separators):
         """Writes a file of separators."""
@@ -98,8 +98,8 @@ def audits_of_parts(root, name, separators):
         lines = within(root.lines, *ends)
         got = ran(["audit", *part_words(file, number), root.root])
         reports.append(got[1])
-        is_so("%s: audit of part %d" % (name, number), got, (status_of(lines), joined(lines), ""))
-    is_so(name + ": the audits joined", "".join(reports), root.report)
+        check("%s: audit of part %d" % (name, number), got, (status_of(lines), joined(lines), ""))
+    check(name + ": the audits joined", "".join(reports), root.report)
 
 
 def runs_of_parts(root, name, separators):
@@ -114,12 +114,12 @@ def runs_of_parts(root, name, separators):
         nights = common.nights(run)
         reports += nights
         at = "%s: runs of part %d" % (name, number)
-        is_so(at, "".join(nights), joined(lines))
-        is_so(at + ": its cursor has ended", common.shown_cursor(cursor)[-6:], "ended\n")
+        check(at, "".join(nights), joined(lines))
+        check(at + ": its cursor has ended", common.shown_cursor(cursor)[-6:], "ended\n")
         cost, files = root.cost(lines)
         bound = cost // budget + (files // most if most else 0) + 1
-        is_so(at + ": how many", len(nights) <= bound, True)
-    is_so(name + ": the runs joined", "".join(reports), root.report)
+        check(at + ": how many", len(nights) <= bound, True)
+    check(name + ": the runs joined", "".join(reports), root.report)
 
 
 def by_listing(root, count):
@@ -127,18 +127,18 @@ def by_listing(root, count):
     widest. Each part has as many of them, or one more."""
     status, out, said = ran(["split", "--parts", str(count), root.root])
     name = "split in %d" % count
-    is_so(name, (status, said), (0, ""))
+    check(name, (status, said), (0, ""))
     separators = read_separators(out)
-    is_so(name + ": their text", separators_text(separators), out)
-    is_so(name + ": ascending", separators, sorted(set(separators)))
+    check(name + ": their text", separators_text(separators), out)
+    check(name + ": ascending", separators, sorted(set(separators)))
     levels = directories_of(root.root)
     widest = max(reversed(levels), key=len)
     level = next((it for it in levels if len(it) >= count), widest)
-    is_so(name + ": of one level", set(separators) - set(level), set())
-    is_so(name + ": how many", len(separators), min(count, len(level)) - 1)
+    check(name + ": of one level", set(separators) - set(level), set())
+    check(name + ": how many", len(separators), min(count, len(level)) - 1)
     ends = [0, *[level.index(it) for it in separators if it in level], len(level)]
     sizes = [end - start for start, end in zip(ends, ends[1:])]
-    is_so(name + ": at equal distances", max(sizes) - min(sizes) <= 1, True)
+    check(name + ": at equal distances", max(sizes) - min(sizes) <= 1, True)
     return separators
 
 
@@ -195,10 +195,10 @@ def all_parts(folder):
             audits_of_parts(root, name, separators)
             runs_of_parts(root, name, separators)
         branches(root)
-        is_so("nothing was written below the root", common.snapshot(made) == before, True)
+        check("nothing was written below the root", common.snapshot(made) == before, True)
     wanted = {"ok", "E001", "E015", "E023", "E024", "E060", "E063", "E072", "E073", "E092", "E093",
               "S04"}
-    is_so("the damages have their codes", wanted - codes, set())
+    check("the damages have their codes", wanted - codes, set())
 
 
 def audits_branch(root, name, under):
@@ -271,7 +271,7 @@ def next_cycle(root, items, file, cursor):
     ends = "from o/v1/content/b\nbelow end\n"
     shown = ends + "cycle 1\nruns 1\nspent 1\nfiles 1\nafter o/v1/content/b\n"
     expect("a part's cursor shown", ["show", cursor], 0, shown, None)
-    is_so("bytes of a part's cursor", read(cursor), sealed(shown))
+    check("bytes of a part's cursor", read(cursor), sealed(shown))
     expect("a part's second run", second, 0, items[4:], "cycle 1, run 2, cost 4, ended")
     expect("a part's next cycle", second, 0, items[3:4], "cycle 2, run 1, cost 1, open")
     write(cursor, sealed(ends + "cycle 1\nruns 1\nspent 0\nfiles 0\nafter o\n"))
@@ -292,7 +292,7 @@ def opened(root, words):
     """What is opened below a root, in its order: the directories, and the files."""
     log = os.path.join(root.folder, "log")
     status, _, said = traced([*calls.RULES, "-e", "signal=none"], words, log)
-    is_so("%s: traced" % words, (status in (0, 1), said), (True, ""))
+    check("%s: traced" % words, (status in (0, 1), said), (True, ""))
     folders, files = [], []
     for call in calls.read_calls(log, os.getcwd()):
         if call.name in calls.OPENS and (call.path + "/").startswith(root.root + "/"):
@@ -322,15 +322,15 @@ def opens_what_it_takes(root, name, words, start, taken):
     """Nothing is opened twice, and nothing outside. Gives the content that is opened."""
     folders, files = opened(root, ["audit", *words, root.root])
     twice = [it for it, count in Counter(folders + files).items() if count > 1]
-    is_so(name + ": opened twice", twice, [])
-    is_so(name + ": opened outside", outside(folders, files, start, taken), [])
+    check(name + ": opened twice", twice, [])
+    check(name + ": opened outside", outside(folders, files, start, taken), [])
     return list(filter(is_content, files))
 
 
 def openings(folder):
     """All parts together open the content that an audit opens, and each just what it takes."""
     if shutil.which("strace") is None:
-        is_so("there is strace, of the package strace", False, True)
+        check("there is strace, of the package strace", False, True)
         return
     objects = {name: {"v1/content/f": b"abc", "v2/content/g/h": b"de"}
                for name in ["o1", "o2", "h/o3", "o4"]}
@@ -339,7 +339,7 @@ def openings(folder):
     os.remove(os.path.join(root.root, "o4/v1/content/f"))
     root.lines = lines_of(ran(["audit", root.root])[1])
     whole = list(filter(is_content, opened(root, ["audit", root.root])[1]))
-    is_so("content opened", len(whole), 7)
+    check("content opened", len(whole), 7)
     lists = [["o2"], ["o2/v1/content/f"], ["."], [], ["o2/v1/content/f/x", "o3"]]
     lists = [list(map(place_of, it)) for it in lists] + [at_random(root) for _ in range(3)]
     for separators in lists:
@@ -348,12 +348,12 @@ def openings(folder):
             name = "part %d of %s" % (number, list(map(text_of, separators)))
             content += opens_what_it_takes(root, name, part_words(file, number), start,
                                            lambda it: lies_in(it, start, below))
-        is_so("content opened by parts of %s" % separators, content, whole)
+        check("content opened by parts of %s" % separators, content, whole)
     for under in ["o2", "o2/v2", "o2/v1/content/f", "h"]:
         place = place_of(under)
         content = opens_what_it_takes(root, "under " + under, ["--under", under], place,
                                       lambda it: begins(place, it))
-        is_so("content opened under " + under, content,
+        check("content opened under " + under, content,
               [it for it in whole if begins(place, it)])
 
 
@@ -380,7 +380,7 @@ def faulty_separators(folder):
         for words in [["audit", root], [*run[:5], root]]:
             words += part_words(unread, 1)
             expect("%s of separators: %s" % (name, words[0]), words, 3, [], "parts file failed")
-    is_so("no cursor is made", os.path.exists(cursor), False)
+    check("no cursor is made", os.path.exists(cursor), False)
     write(file, many[:-7])
     last = ["audit", *part_words(file, 100_001), root]
     expect("part 100,001", last, 0, common.sound({"o": FILES})[1:], None)
@@ -402,7 +402,7 @@ def missing_parts(folder):
                   ["--part", "1", "--under", "o"], ["--under", "o", "--under", "o"]]:
         for before in [["audit", root], run]:
             status, out, said = ran(before + words)
-            is_so("usage: %s %s" % (before[0], words), (status, out, said != ""), (2, "", True))
+            check("usage: %s %s" % (before[0], words), (status, out, said != ""), (2, "", True))
     for words in [[*run, "--under", "o"], ["cycle", "--budget", "1", "--runs", "1", root,
                                            *part_words(file, 1)],
                   ["check", root, "o", *part_words(file, 1)], ["split"], ["split", root],
@@ -411,8 +411,8 @@ def missing_parts(folder):
                   ["split", "--report", file], ["split", "--budget", "0", "--report", file],
                   ["split", "--budget", "1", "--report", file, root]]:
         status, out, said = ran(words)
-        is_so("usage: %s" % words, (status, out, said != ""), (2, "", True))
-    is_so("no cursor of them", os.path.exists(cursor), False)
+        check("usage: %s" % words, (status, out, said != ""), (2, "", True))
+    check("no cursor of them", os.path.exists(cursor), False)
 
 
 def other_cursors(folder):
@@ -441,11 +441,11 @@ def other_cursors(folder):
         stored = read(cursor)
         words = run + other + ["--cursor", cursor]
         expect("cursor of " + name, words, 4, [], "cursor refused: " + why)
-        is_so("cursor of %s: untouched" % name, read(cursor), stored)
+        check("cursor of %s: untouched" % name, read(cursor), stored)
     cursor = root.cursor()
     ran(run + part_words(both, 2) + ["--cursor", cursor])
     got = ran(run + part_words(both, 2) + ["--cursor", cursor])
-    is_so("the same ends", got[0], 0)
+    check("the same ends", got[0], 0)
     moved = root.cursor("moved")
     ran(run + part_words(at_b, 1) + ["--cursor", moved])
     expect("the same part of more separators", run + part_words(both, 1) + ["--cursor", moved], 0,
@@ -471,7 +471,7 @@ def damaged_cursors(root, file, run):
         write(cursor, data)
         expect("a part's cursor, " + name, words, 4, [], "cursor refused: " + why)
         expect("not shown, " + name, ["show", cursor], 4, [], "cursor refused: " + why)
-        is_so("untouched, " + name, read(cursor), data)
+        check("untouched, " + name, read(cursor), data)
     for start, below in [("./start", "./end"), ("a", "end"), ("start", "b"), ("start", "end")]:
         lines = "from %s\nbelow %s\ncycle 7\nruns 2\nspent 5\nfiles 1\nended\n" % (start, below)
         write(cursor, sealed(lines))
@@ -525,7 +525,7 @@ def closed_directory(folder):
         ("a split that lists it", ["split", made, "--parts", "100"], (3, "", "stopped at d")),
     ]:
         expected = (*got[:2], common.note(got[2]))
-        is_so("a closed directory: " + name, ran(words, before), expected)
+        check("a closed directory: " + name, ran(words, before), expected)
     os.chmod(closed, 0o755)
     common.PROGRAM = program
     nowhere = ["split", "--parts", "2", os.path.join(folder, "nowhere")]
@@ -568,7 +568,7 @@ def failed_output(folder):
     for words in [["split", "--parts", "3", root], ["split", "--budget", "1", "--report", file]]:
         with open("/dev/full", "wb") as full:
             got = ran(words, stdout=full)
-        is_so("output of %s fails" % words[:2], got, (3, "", common.note("output failed")))
+        check("output of %s fails" % words[:2], got, (3, "", common.note("output failed")))
 
 
 def faulty_reports(folder):
@@ -603,7 +603,7 @@ def faulty_reports(folder):
     expect("separators that are too long", split, 2, [], "too many parts")
 
 
-def tell(folder):
+def check_all(folder):
     all_parts(folder)
     branches_beside_others(folder)
     worked(folder)
@@ -619,4 +619,4 @@ def tell(folder):
     faulty_reports(folder)
 
 
-common.trial(tell)
+common.run_trial(check_all)

@@ -29,7 +29,7 @@ import subprocess
 import threading
 
 import common
-from common import end, is_so, note, ran, start
+from common import end, check, note, ran, start
 from shared.shims import compiled
 
 # More than the program reads from one showing to the next.
@@ -106,11 +106,11 @@ def on_standard_error(folder, root, report):
                         (cycle, note(CYCLE))]:
         terminal = Terminal()
         status, out, _ = terminal.ran(words, stderr=True)
-        is_so(words[0] + ": the report", (status, out), (0, report))
+        check(words[0] + ": the report", (status, out), (0, report))
         # Two files of content were opened by then, behind four others.
-        is_so(words[0] + ": progress", shown_on(terminal), ["2 files, 255 MiB, at " + SHOWN])
-        is_so(words[0] + ": what is left on the terminal", terminal.text(), said)
-        is_so(words[0] + ": it fits into a line", widest(terminal) <= 79, True)
+        check(words[0] + ": progress", shown_on(terminal), ["2 files, 255 MiB, at " + SHOWN])
+        check(words[0] + ": what is left on the terminal", terminal.text(), said)
+        check(words[0] + ": it fits into a line", widest(terminal) <= 79, True)
 
 
 def without_proc(root, report):
@@ -120,8 +120,8 @@ def without_proc(root, report):
     hidden = ["unshare", "-m", "sh", "-c", 'mount -t tmpfs none /proc && exec "$@"', "sh"]
     terminal = Terminal()
     status, out, _ = terminal.ran(["audit", root], hidden, stderr=True)
-    is_so("without /proc: the report", (status, out), (0, report))
-    is_so("without /proc: progress", shown_on(terminal), ["2 files, 255 MiB, at " + SHOWN])
+    check("without /proc: the report", (status, out), (0, report))
+    check("without /proc: progress", shown_on(terminal), ["2 files, 255 MiB, at " + SHOWN])
 
 
 def note_left_out(what):
@@ -148,21 +148,21 @@ def in_the_next_cycle(folder, root, report):
         for cycle, share in [(1, ""), (2, "85 % of the last cycle, 1 min left, ")]:
             terminal = Terminal()
             status, out, _ = terminal.ran(run, stderr=True)
-            is_so("%s, cycle %d: the report" % (name, cycle), (status, out), (0, report))
+            check("%s, cycle %d: the report" % (name, cycle), (status, out), (0, report))
             done = "2 files, 255 MiB, %sat " % share
-            is_so("%s, cycle %d: progress" % (name, cycle), shown_on(terminal),
+            check("%s, cycle %d: progress" % (name, cycle), shown_on(terminal),
                   [done + LARGE_PLACE[-min(40, 79 - len(done)):]])
-            is_so("%s, cycle %d: it fits into a line" % (name, cycle), widest(terminal) <= 79,
+            check("%s, cycle %d: it fits into a line" % (name, cycle), widest(terminal) <= 79,
                   True)
 
 
 def in_an_open_cycle(folder, root):
     """What an earlier run of the same cycle cost tells nothing of the whole."""
     run = ["run", "--cursor", os.path.join(folder, "open"), "--budget", "1", root]
-    is_so("a run that leaves its cycle open", ran(run)[0], 0)
+    check("a run that leaves its cycle open", ran(run)[0], 0)
     terminal = Terminal()
-    is_so("the run that goes on", terminal.ran(run, stderr=True)[0], 0)
-    is_so("the run that goes on: progress", shown_on(terminal), ["1 files, 255 MiB, at " + SHOWN])
+    check("the run that goes on", terminal.ran(run, stderr=True)[0], 0)
+    check("the run that goes on: progress", shown_on(terminal), ["1 files, 255 MiB, at " + SHOWN])
 
 
 def cursor_that_cost(folder, cost):
@@ -177,11 +177,11 @@ def shares_of_a_cycle(folder, root):
     for cost, share in [(255 << 20, "100 %"), (200 << 20, "127 %"), (1, "999 %")]:
         terminal = Terminal()
         run = ["run", "--cursor", cursor_that_cost(folder, cost), "--budget", "1G", root]
-        is_so("a last cycle of %d" % cost, terminal.ran(run, stderr=True)[0], 0)
+        check("a last cycle of %d" % cost, terminal.ran(run, stderr=True)[0], 0)
         done = "2 files, 255 MiB, %s of the last cycle, at " % share
-        is_so("a last cycle of %d: progress" % cost, shown_on(terminal),
+        check("a last cycle of %d: progress" % cost, shown_on(terminal),
               [done + LARGE_PLACE[-min(40, 79 - len(done)):]])
-        is_so("a last cycle of %d: it fits into a line" % cost, widest(terminal) <= 79, True)
+        check("a last cycle of %d: it fits into a line" % cost, widest(terminal) <= 79, True)
 
 
 def minutes_that_are_left(folder, root):
@@ -193,9 +193,9 @@ def minutes_that_are_left(folder, root):
         cursor = cursor_that_cost(folder, (511 << 19) * 200 // (2 * share + 1))
         terminal = Terminal()
         run = ["run", "--cursor", cursor, "--budget", "1G", root]
-        is_so("%d %%: the run" % share, terminal.ran(run, how={"env": hours}, stderr=True)[0], 0)
+        check("%d %%: the run" % share, terminal.ran(run, how={"env": hours}, stderr=True)[0], 0)
         shown = re.findall(r"MiB, (.*) at ", "".join(shown_on(terminal)))
-        is_so("%d %%: the minutes left" % share, shown,
+        check("%d %%: the minutes left" % share, shown,
               ["%d %% of the last cycle, %d min left," % (share, minutes)])
 
 
@@ -208,9 +208,9 @@ def at_a_directory(folder):
     # A pipe has no room for all of its lines.
     with open(os.devnull, "wb") as null:
         status = terminal.ran(["audit", root], how={"stdout": null}, stderr=True)[0]
-    is_so("many directories", status, 1)
+    check("many directories", status, 1)
     # 8,192 calls are the work of 256 MiB: the first two list the root and open its declaration.
-    is_so("many directories: progress", shown_on(terminal), ["0 files, 0 MiB, at d8189"])
+    check("many directories: progress", shown_on(terminal), ["0 files, 0 MiB, at d8189"])
 
 
 def from_a_pipe(folder, root, report):
@@ -231,9 +231,9 @@ def from_a_pipe(folder, root, report):
     threading.Thread(target=give, daemon=True).start()
     terminal = Terminal()
     run = ["run", "--cursor", file, "--budget", "1G", root]
-    is_so("a cursor from a pipe", terminal.ran(run, stderr=True)[:2], (0, report))
-    is_so("a cursor from a pipe: progress", shown_on(terminal), ["2 files, 255 MiB, at " + SHOWN])
-    is_so("a cursor from a pipe: what is said", terminal.text(),
+    check("a cursor from a pipe", terminal.ran(run, stderr=True)[:2], (0, report))
+    check("a cursor from a pipe: progress", shown_on(terminal), ["2 files, 255 MiB, at " + SHOWN])
+    check("a cursor from a pipe: what is said", terminal.text(),
           note(SUMMARY.replace("cycle 1", "cycle 2")))
 
 
@@ -248,10 +248,10 @@ def over_many_objects(folder):
     cursor = os.path.join(folder, "cursor of many")
     terminal = Terminal()
     run = ["run", "--cursor", cursor, "--budget", "1G", root]
-    is_so("many objects, and a stray file", terminal.ran(run, stderr=True)[0], 0)
+    check("many objects, and a stray file", terminal.ran(run, stderr=True)[0], 0)
     counted = int(re.search(r"files (\d+)", common.shown_cursor(cursor))[1])
     # The last file of the last object comes behind the line, and the listings took a MiB of it.
-    is_so("many objects: progress", shown_on(terminal),
+    check("many objects: progress", shown_on(terminal),
           ["%d files, 254 MiB, at g/v1/content/large" % (counted - 1)])
 
 
@@ -269,39 +269,39 @@ def quietly(folder, root, report):
     ]:
         terminal = Terminal()
         got = terminal.ran([words[0], "--quiet", *words[1:]], stderr=True)[:2]
-        is_so("quiet %s: the report" % words[:2], got, (0, report))
+        check("quiet %s: the report" % words[:2], got, (0, report))
         shown = terminal.sent.decode().replace("\r\n", "\n")
-        is_so("quiet %s: no more is shown than is said" % words[:2], shown, said)
+        check("quiet %s: no more is shown than is said" % words[:2], shown, said)
     terminal = Terminal()
     checked = common.line("ok", LARGE_PLACE, LARGE)
     status, out, _ = terminal.ran(["check", root, LARGE_PLACE], stderr=True)
-    is_so("check: the line", (status, out), (0, checked))
-    is_so("check: nothing is shown", terminal.sent, b"")
-    is_so("no terminal", ran(["audit", root]), (0, report, ""))
+    check("check: the line", (status, out), (0, checked))
+    check("check: nothing is shown", terminal.sent, b"")
+    check("no terminal", ran(["audit", root]), (0, report, ""))
     with open(os.devnull, "wb") as null:
-        is_so("no terminal, but a device", ran(["audit", root], stderr=null)[:2], (0, report))
+        check("no terminal, but a device", ran(["audit", root], stderr=null)[:2], (0, report))
     said = os.path.join(folder, "said")
     with open(said, "wb") as file:
-        is_so("no terminal, but a file", ran(["audit", root], stderr=file)[:2], (0, report))
-    is_so("no terminal, but a file: nothing is shown", common.read(said), b"")
+        check("no terminal, but a file", ran(["audit", root], stderr=file)[:2], (0, report))
+    check("no terminal, but a file: nothing is shown", common.read(said), b"")
     process = start(["audit", root], stderr=subprocess.STDOUT)
-    is_so("one pipe for both", end(process)[:2], (0, report))
+    check("one pipe for both", end(process)[:2], (0, report))
 
 
 def on_one_terminal(folder, root, report):
     terminal = Terminal()
     status, _, _ = terminal.ran(["audit", root], stdout=True, stderr=True)
-    is_so("both on one terminal", (status, terminal.text()), (0, report))
-    is_so("both on one terminal: progress is shown", b" MiB, at " in terminal.sent, True)
+    check("both on one terminal", (status, terminal.text()), (0, report))
+    check("both on one terminal: progress is shown", b" MiB, at " in terminal.sent, True)
     terminal = Terminal()
     _, _, said = terminal.ran(["audit", root], stdout=True)
-    is_so("report on a terminal alone", (terminal.text(), said), (report, ""))
+    check("report on a terminal alone", (terminal.text(), said), (report, ""))
 
 
-def tell(folder):
+def check_all(folder):
     root = make(folder)
     status, report, said = ran(["audit", root])
-    is_so("without a terminal", (status, said, report.count("\n")), (0, "", 5))
+    check("without a terminal", (status, said, report.count("\n")), (0, "", 5))
     for tells in [on_standard_error, quietly, on_one_terminal, in_the_next_cycle, from_a_pipe]:
         tells(folder, root, report)
     without_proc(root, report)
@@ -311,4 +311,4 @@ def tell(folder):
     at_a_directory(folder)
 
 
-common.trial(tell)
+common.run_trial(check_all)

@@ -25,7 +25,7 @@ import os
 import subprocess
 
 import common
-from common import (PROGRAM, checkpoint_text, digest, is_so, make_object, make_root, note,
+from common import (PROGRAM, checkpoint_text, digest, check, make_object, make_root, note,
                     put_inventory, shown_cursor, sound, write)
 from shared.shims import compiled
 
@@ -86,10 +86,10 @@ def commands_without_a_cursor(refusing, name, root, items):
     for what, words, written, summary, least in tried:
         found = int(any(not item.startswith("ok") for item in written))
         without = found, "".join(written), summary
-        each_is_told(refusing, "%s, %s" % (name, what), words, written, without, least)
+        check_each_refusal(refusing, "%s, %s" % (name, what), words, written, without, least)
 
 
-def each_is_told(refusing, name, words, written, without, least):
+def check_each_refusal(refusing, name, words, written, without, least):
     """After each refusal whole pieces were written and the program stopped for memory, or all is
     as without. There are more refusals than `least`."""
     odd, calls = [], 0
@@ -97,8 +97,8 @@ def each_is_told(refusing, name, words, written, without, least):
         stops = status == 3 and said == OUT_OF_MEMORY and out in beginnings(written)
         if not stops and (status, out, said) != without:
             odd.append((calls, status, out, said))
-    is_so("%s: each of %d refusals" % (name, calls), odd, [])
-    is_so("%s: there are refusals" % name, calls > least, True)
+    check("%s: each of %d refusals" % (name, calls), odd, [])
+    check("%s: there are refusals" % name, calls > least, True)
 
 
 def parts_and_splits(refusing, folder):
@@ -115,7 +115,7 @@ def parts_and_splits(refusing, folder):
         ("a split by listing", ["split", "--parts", "3", root], ["o2\no3\n"]),
         ("a split by a report", by_report, ["o2/v1/content/f\no3/v1/content/f\n"]),
     ]:
-        each_is_told(refusing, name, words, written, (0, "".join(written), ""), 10)
+        check_each_refusal(refusing, name, words, written, (0, "".join(written), ""), 10)
     runs_with_a_cursor(refusing, folder, "a part", root, part)
 
 
@@ -153,9 +153,9 @@ def runs_with_a_cursor(refusing, folder, name, root, choice=()):
             odd.append((calls, status, out, said, rest))
         if kept and calls in inside:
             stays.append((calls, status, out, said))
-    is_so("%s, run: each of %d refusals" % (name, calls), odd, [])
-    is_so("%s, run: the file moves at %d refusals in the run" % (name, len(inside)), stays, [])
-    is_so("%s, run: there are refusals in the run" % name, 20 < len(inside) < calls, True)
+    check("%s, run: each of %d refusals" % (name, calls), odd, [])
+    check("%s, run: the file moves at %d refusals in the run" % (name, len(inside)), stays, [])
+    check("%s, run: there are refusals in the run" % name, 20 < len(inside) < calls, True)
 
 
 def refused_before_it_writes(refusing, folder, root):
@@ -169,7 +169,7 @@ def refused_before_it_writes(refusing, folder, root):
             for each in (file, file + ".new"):
                 if os.path.exists(each):
                     os.remove(each)
-    is_so("nothing is written into the root", odd, [])
+    check("nothing is written into the root", odd, [])
 
 
 def shown(refusing, folder, root):
@@ -179,12 +179,12 @@ def shown(refusing, folder, root):
     checkpoint = write(os.path.join(folder, "checkpoint"), checkpoint_text())
     for name, shown in [("cursor", file), ("checkpoint", checkpoint)]:
         text = shown_cursor(shown)
-        is_so("a %s is shown" % name, isinstance(text, str), True)
+        check("a %s is shown" % name, isinstance(text, str), True)
         odd = []
         for call, (status, out, said) in refusing.each(["show", shown]):
             if (status, out, said) not in [(0, text, ""), (3, "", OUT_OF_MEMORY)]:
                 odd.append((call, status, out, said))
-        is_so("a %s that is shown" % name, odd, [])
+        check("a %s that is shown" % name, odd, [])
 
 
 ABC, NOTHING = b"abc", b""
@@ -232,4 +232,4 @@ def main(folder):
 
 
 if __name__ == "__main__":
-    common.trial(main)
+    common.run_trial(main)

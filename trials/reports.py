@@ -20,7 +20,7 @@ import shutil
 import time
 
 import common
-from common import PROGRAM, TOP, is_so
+from common import PROGRAM, TOP, check
 from shared.nights import REPORTS, Nights, ask, is_found, ran, read, text_of, tried, write
 from shared.rules import codes_of_rules
 from shared.states import State
@@ -32,7 +32,7 @@ def tools():
     """The tools that the trials need."""
     for tool, package in PACKAGES.items():
         where = "there" if shutil.which(tool) else "missing (Debian: %s)" % package
-        is_so("the tool " + tool, where, "there")
+        check("the tool " + tool, where, "there")
 
 
 # Questions to reports
@@ -71,22 +71,22 @@ def simple_questions(folder):
     totals = "".join("%s\t%d\n" % row for row in sorted(counts.items()))
     sizes = [int(line[2]) for line in lines if line[0] == "ok" and line[2] != "-"]
     for file in [folder + "/plain", folder + "/packed.gz"]:
-        is_so("findings", ask("findings", file), (0, text_of(found), ""))
-        is_so("totals", ask("totals", file), (0, totals, ""))
-        is_so("bytes", ask("bytes", file),
+        check("findings", ask("findings", file), (0, text_of(found), ""))
+        check("totals", ask("totals", file), (0, totals, ""))
+        check("bytes", ask("bytes", file),
               (0, "%d files, %d bytes\n" % (len(sizes), sum(sizes)), ""))
         status, out, said = ask("json", file)
-        is_so("json", (status, [json.loads(line) for line in out.splitlines()], said),
+        check("json", (status, [json.loads(line) for line in out.splitlines()], said),
               (0, [as_json(line) for line in lines], ""))
     write(folder + "/cut.gz", gzip.compress(text_of(lines).encode())[:-9])
     for name in ["findings", "totals", "bytes", "json"]:
         for file in ["cut.gz", "none"]:
             status, out, said = ask(name, folder + "/plain", folder + "/" + file)
-            is_so("%s of %s" % (name, file), (status, out, "/%s cannot be read" % file in said),
+            check("%s of %s" % (name, file), (status, out, "/%s cannot be read" % file in said),
                   (3, "", True))
     no_reports(folder)
     two = ask("bytes", folder + "/plain", folder + "/packed.gz")[1]
-    is_so("two reports", two, "%d files, %d bytes\n" % (2 * len(sizes), 2 * sum(sizes)))
+    check("two reports", two, "%d files, %d bytes\n" % (2 * len(sizes), 2 * sum(sizes)))
     commands(folder)
     return lines
 
@@ -100,23 +100,23 @@ def commands(folder):
     options."""
     for name in NAMES:
         status, out, said = ask(name)
-        is_so("usage of " + name, (status, out, said.startswith("usage: ocfl-scrub-reports %s "
+        check("usage of " + name, (status, out, said.startswith("usage: ocfl-scrub-reports %s "
                                                                 % name)),
               (3 if name == "status" else 2, "", True))
         status, out, said = ask(name, "--help")
-        is_so("help of " + name, (status, out.startswith("usage: ocfl-scrub-reports %s " % name),
+        check("help of " + name, (status, out.startswith("usage: ocfl-scrub-reports %s " % name),
                                   out.splitlines()[-2][:9], out.splitlines()[-1].startswith(
                                       "  ocfl-scrub-reports %s " % name), said),
               (0, True, "example:", True, ""))
     for words in [["--help"], ["-h"]]:
         status, out, said = ask(*words)
-        is_so("help", (status, [name for name in NAMES if name not in out], said), (0, [], ""))
+        check("help", (status, [name for name in NAMES if name not in out], said), (0, [], ""))
     for words in [[], ["what"], ["--what"]]:
         status, out, said = ran([REPORTS, *words])
-        is_so("usage: %s" % words, (status, out, said.startswith("usage: ")), (2, "", True))
+        check("usage: %s" % words, (status, out, said.startswith("usage: ")), (2, "", True))
     shutil.copy(folder + "/plain", folder + "/-plain")
     status, out, said = ran([REPORTS, "totals", "--", "-plain"], cwd=folder)
-    is_so("a name like an option", (status, out, said), (0, ask("totals", folder + "/plain")[1],
+    check("a name like an option", (status, out, said), (0, ask("totals", folder + "/plain")[1],
                                                          ""))
 
 
@@ -130,7 +130,7 @@ def no_reports(folder):
         for words in [["findings"], ["findings", "--by-weight"], ["totals"], ["bytes"],
                       ["json"], ["changed", folder + "/plain"]]:
             status, out, said = ask(*words, file)
-            is_so("%s of %s" % (words[0], os.path.basename(file)),
+            check("%s of %s" % (words[0], os.path.basename(file)),
                   (status, out, said != ""), (3, "", True))
 
 
@@ -154,8 +154,8 @@ def changes(folder):
     lines = [("-",) + line for line in older if line not in newer]
     lines += [("+",) + line for line in newer if line not in older]
     lines.sort(key=lambda line: (line[2], -ord(line[0]), line[1], line[3]))
-    is_so("changed", ask("changed", folder + "/older", folder + "/newer"), (0, text_of(lines), ""))
-    is_so("unchanged", ask("changed", folder + "/older", folder + "/older"), (0, "", ""))
+    check("changed", ask("changed", folder + "/older", folder + "/newer"), (0, text_of(lines), ""))
+    check("unchanged", ask("changed", folder + "/older", folder + "/older"), (0, "", ""))
 
 
 # Two cycles and half of a third; of each when its nights began, and its lines.
@@ -213,11 +213,11 @@ def unverified(folder):
                           if last[0] == "never" or last[0] < date)
             expected = "".join("%s\t%s\t%s\t%s\n" % (began, path, code, cycle)
                                for path, began, code, cycle in late)
-            is_so("not verified since %s, %d cycles" % (date, count),
+            check("not verified since %s, %d cycles" % (date, count),
                   ask("unverified", date, state), (0, expected, ""))
     for date in ["'; drop", "2026-13-45", "2025-02-29", "2025-01-01T25:00:00Z", "2025", "2025-1-1",
                  "2025-01-01T10:00", "--", "2025-01-01Z"]:
-        is_so("no date: " + date, ask("unverified", date, state)[0:2], (2, ""))
+        check("no date: " + date, ask("unverified", date, state)[0:2], (2, ""))
     database(folder, state)
 
 
@@ -235,26 +235,26 @@ def unverified_objects(folder):
     nights.night()
     status, out, said = ask("unverified", date, nights.state)
     lines = [line.split("\t") for line in out.splitlines()]
-    is_so("files that no night found right since", (status, [line[1] for line in lines], said), (
+    check("files that no night found right since", (status, [line[1] for line in lines], said), (
         0, ["%s/v1/content/%d" % (name, number) for name in "ABCD" for number in range(3)], ""))
-    is_so("their last lines", [line[2:] for line in lines[::3]],
+    check("their last lines", [line[2:] for line in lines[::3]],
           [["ok", "1"], ["ok", "1"], ["E072", "2"], ["E092", "2"]])
 
 
 def database(folder, state):
     file = folder + "/audit.db"
     shutil.copy(state + "/reports/cycle-000001.gz", state + "/reports/cycle-000001.bak")
-    is_so("database", ask("database", state, file), (0, "", ""))
+    check("database", ask("database", state, file), (0, "", ""))
     count = "select cycle, count(*) from line group by cycle"
-    is_so("its lines", ran(["sqlite3", file, count])[1],
+    check("its lines", ran(["sqlite3", file, count])[1],
           "".join("%d|%d\n" % (n, len(c[1])) for n, c in enumerate(CYCLES, 1)))
     damaged = "select began, path, detail from dated where code = 'E092' order by began"
-    is_so("damaged, by time", ran(["sqlite3", file, damaged])[1],
+    check("damaged, by time", ran(["sqlite3", file, damaged])[1],
           "2025-02-01T22:00:00Z|o/v1/content/a|sha256 x y\n"
           "2025-03-01T22:00:00Z|o/v1/content/a|sha256 x y\n")
-    is_so("quotes", ran(["sqlite3", file, "select path, detail from line where code = 'E025'"])[1],
+    check("quotes", ran(["sqlite3", file, "select path, detail from line where code = 'E025'"])[1],
           '"p|"a\n')
-    is_so("not over another", ask("database", state, file)[0], 2)
+    check("not over another", ask("database", state, file)[0], 2)
 
 
 # The grammar of report lines
@@ -305,15 +305,15 @@ def grammar():
 
 def lines_have_the_grammar(lines):
     rules = grammar()
-    is_so("lines of the grammar", [line for line in lines if not rules["line"].fullmatch(line)], [])
+    check("lines of the grammar", [line for line in lines if not rules["line"].fullmatch(line)], [])
     bad = ["ok\t.\t-", "ok\t.\n", "OK\t.\t-\n", "E92\to\t-\n", "S008\to\t-\n", "ok\t/o\t-\n",
            "ok\to//p\t-\n", "ok\to%2f\t-\n", "ok\to%41\t-\n", "ok\t\xe9\t-\n", "ok\to\t-\t-\n"]
-    is_so("no lines of it", [line for line in bad if rules["line"].fullmatch(line)], [])
+    check("no lines of it", [line for line in bad if rules["line"].fullmatch(line)], [])
     for name, text in [("compared", "sha512/256 ab c 0f"), ("lost", "md5 missing"),
                        ("bytes", "10")]:
-        is_so("grammar: " + name, bool(rules[name].fullmatch(text)), True)
+        check("grammar: " + name, bool(rules[name].fullmatch(text)), True)
     for name, text in [("compared", "md5 a 0F"), ("lost", "md5 MISSING"), ("bytes", "01")]:
-        is_so("not " + name, bool(rules[name].fullmatch(text)), False)
+        check("not " + name, bool(rules[name].fullmatch(text)), False)
 
 
 # The gallery
@@ -321,16 +321,16 @@ def lines_have_the_grammar(lines):
 def gallery(folder):
     page = read(TOP + "/docs/GALLERY.md")
     maker = TOP + "/samples/gallery"
-    is_so("the page is that of the script", ran([maker, "--page"])[1] == page, True)
-    is_so("gallery", ran([maker, folder + "/root"]), (0, "", ""))
-    is_so("not over another", ran([maker, folder + "/root"])[0:2], (2, ""))
+    check("the page is that of the script", ran([maker, "--page"])[1] == page, True)
+    check("gallery", ran([maker, folder + "/root"]), (0, "", ""))
+    check("not over another", ran([maker, folder + "/root"])[0:2], (2, ""))
     lines = re.findall(r"^    ((?:ok|[ES]\d+)\t.*\n)", page, re.MULTILINE)
     status, out, said = ran([PROGRAM, "audit", folder + "/root"])
-    is_so("its audit", (status, out.splitlines(True), said), (1, lines, ""))
+    check("its audit", (status, out.splitlines(True), said), (1, lines, ""))
     apart = {"E069", "E076", "S08"}
-    is_so("codes", sorted(codes_of_rules() - {line.split("\t")[0] for line in lines}),
+    check("codes", sorted(codes_of_rules() - {line.split("\t")[0] for line in lines}),
           sorted(apart))
-    is_so("each code left out is told", [c for c in apart if "`%s`" % c not in page], [])
+    check("each code left out is told", [c for c in apart if "`%s`" % c not in page], [])
     small_roots(folder, page)
     return lines
 
@@ -342,10 +342,10 @@ def small_roots(folder, page):
     block = page.split("```console\n")[1].split("```")[0]
     for part in re.findall(r"\$ (.*)\n((?:[^$].*\n)*)", block):
         got = ran(["sh", "-c", part[0]], cwd=folder, PATH=folder + "/bin:" + os.environ["PATH"])
-        is_so("as shown: " + part[0], got[1:], (part[1], ""))
+        check("as shown: " + part[0], got[1:], (part[1], ""))
 
 
-def tell(folder):
+def check_all(folder):
     tools()
     for part in [changes, unverified, unverified_objects]:
         os.mkdir(os.path.join(folder, part.__name__))
@@ -355,4 +355,4 @@ def tell(folder):
     tried(lines_have_the_grammar, lines)
 
 
-common.trial(tell)
+common.run_trial(check_all)

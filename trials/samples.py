@@ -8,7 +8,7 @@ import os
 import re
 
 import common
-from common import TOP, is_so
+from common import TOP, check
 from shared.nights import ran, tried
 from shared.validity import faults
 
@@ -26,17 +26,17 @@ NO_OBJECTS = {"S05_too_deep"}
 
 def made(folder, name):
     root = os.path.join(folder, name)
-    is_so("samples/" + name, ran([os.path.join(TOP, "samples", name), root]), (0, "", ""))
+    check("samples/" + name, ran([os.path.join(TOP, "samples", name), root]), (0, "", ""))
     return root
 
 
 def sample(folder):
     """The sample has one fault, and none once the damaged file has its letter again."""
     root = made(folder, "make")
-    is_so("its declaration", common.read(root + "/0=ocfl_1.1"), b"ocfl_1.1\n")
-    is_so("the damaged object", faults(root + "/letters"), {"E092"})
+    check("its declaration", common.read(root + "/0=ocfl_1.1"), b"ocfl_1.1\n")
+    check("the damaged object", faults(root + "/letters"), {"E092"})
     common.write(root + "/letters/v1/content/damaged.txt", b"Yours sincerely\n")
-    is_so("the object before", faults(root + "/letters"), set())
+    check("the object before", faults(root + "/letters"), set())
 
 
 def gallery(folder):
@@ -45,12 +45,12 @@ def gallery(folder):
     names = sorted(entry.name for entry in os.scandir(root) if entry.is_dir())
     for name in [name for name in names if name not in NO_OBJECTS]:
         shown = OTHERWISE.get(name, set(re.findall(r"E\d{3}", name)))
-        is_so("faults of " + name, faults(os.path.join(root, name)), shown)
+        check("faults of " + name, faults(os.path.join(root, name)), shown)
 
 
-def tell(folder):
+def check_all(folder):
     tried(sample, folder)
     tried(gallery, folder)
 
 
-common.trial(tell)
+common.run_trial(check_all)

@@ -23,9 +23,9 @@ import subprocess
 import time
 
 import common
-from common import PROGRAM, is_so
+from common import PROGRAM, check
 from shared.nights import NIGHTS, ran, read, tried, write
-from shared.parallel import Together, audit, findings, is_stated, told_in
+from shared.parallel import Together, audit, findings, check_statement, lines_in_message
 from shared.slurm import Slurm
 
 PARTS = 14
@@ -70,7 +70,7 @@ class Site:
         """A night, as the kinds and numbers of its jobs."""
         status, out, said = ran(self.words(*more), **{
             **self.slurm.how, "OCFL_SCRUB": self.folder + "/guided", **environment})
-        is_so("submit", (status, said), (0, ""))
+        check("submit", (status, said), (0, ""))
         self.jobs = [tuple(line.split()) for line in out.splitlines()]
         return self.jobs
 
@@ -98,26 +98,26 @@ class Site:
         left = self.slurm.left()
         if left:
             print("cancelled: %s" % left)
-            self.slurm.said(["scancel", *{row.split()[0].split("_")[0] for row in left}])
+            self.slurm.output_of(["scancel", *{row.split()[0].split("_")[0] for row in left}])
             self.slurm.wait(lambda: not self.slurm.left(), "the queue")
 
-    def said(self):
+    def message(self):
         return "".join(read("%s/slurm/end-%s.out" % (self.nights.state, number)) or ""
                        for number in self.numbers("end"))
 
-    def is_told(self, name, parts):
+    def check_unmade(self, name, parts):
         """These parts are told as ones that made no night, and the night is no good one."""
-        is_so(name, (" in %s: " % parts in self.said(), self.nights.level()), (True, 2))
+        check(name, (" in %s: " % parts in self.message(), self.nights.level()), (True, 2))
 
 
 def cancelled(site):
     """An array that is cancelled before it begins."""
     site.submit("--", "--begin=now+30", "--hold")
-    site.slurm.said(["scancel", *site.numbers("part")])
-    site.slurm.said(["scontrol", "update", "JobId=" + site.numbers("end")[0], "StartTime=now"])
-    site.slurm.said(["scontrol", "release", *site.numbers("end")])
+    site.slurm.output_of(["scancel", *site.numbers("part")])
+    site.slurm.output_of(["scontrol", "update", "JobId=" + site.numbers("end")[0], "StartTime=now"])
+    site.slurm.output_of(["scontrol", "release", *site.numbers("end")])
     site.finish()
-    site.is_told("an array that is cancelled", "parts 1-14")
+    site.check_unmade("an array that is cancelled", "parts 1-14")
 
 
 def dying(site):
@@ -126,7 +126,7 @@ def dying(site):
     site.submit()
     site.finish()
     os.rename(site.folder + "/part", site.scripts + "/parallel/part")
-    site.is_told("tasks that die at once", "parts 1-14")
+    site.check_unmade("tasks that die at once", "parts 1-14")
 
 
 def requeued(site):
@@ -142,13 +142,13 @@ def requeued(site):
     site.unmark("held", "4")
     site.finish()
     out = read(site.nights.path("slurm/part-2.out"))
-    is_so("the task that was queued again", re.findall(r"part 2 .*started (\d) time", out)[-2:],
+    check("the task that was queued again", re.findall(r"part 2 .*started (\d) time", out)[-2:],
           ["1", "2"])
-    is_so("its part", site.nights.rows(2)[-1]["status"], 0)
-    site.is_told("the one that failed", "part 5")
-    is_so("findings fail no task", site.slurm.states(array).get(array + "_6", [None])[0],
+    check("its part", site.nights.rows(2)[-1]["status"], 0)
+    site.check_unmade("the one that failed", "part 5")
+    check("findings fail no task", site.slurm.states(array).get(array + "_6", [None])[0],
           "COMPLETED")
-    is_so("nothing is joined", site.nights.has("reports/cycle-000001"), None)
+    check("nothing is joined", site.nights.has("reports/cycle-000001"), None)
     site.unmark("fails", "5")
 
 
@@ -168,22 +168,22 @@ def killed_controller(site):
             site.submit()
             site.finish()
     site.nights.is_audit("the cycle")
-    is_stated("its statement", site.nights, 1)
-    is_so("at the end no part waits", site.nights.level() in (0, 1), True)
+    check_statement("its statement", site.nights, 1)
+    check("at the end no part waits", site.nights.level() in (0, 1), True)
 
 
-def told_again(site):
+def requeued_message(site):
     """More parts than an array has tasks are all audited; the job of the message is queued again
     while its mail is under way, and then the mail is sent."""
     site.submit("--at-once", "4", MAIL="her@example.org",
                 PATH=site.folder + "/bin:" + site.slurm.how["PATH"])
-    is_so("several arrays", len(site.numbers("part")), 2)
+    check("several arrays", len(site.numbers("part")), 2)
     site.slurm.wait(lambda: os.path.exists(site.folder + "/hung"), "the mail", 90)
     subprocess.run(["scontrol", "requeue", *site.numbers("end")], env=site.slurm.how, check=True)
     site.finish()
     site.nights.is_audit("the next cycle", 2)
     mailed = read(site.folder + "/mailed") or ""
-    is_so("the mail", [line for line in mailed.splitlines(True) if line.count("\t") == 2],
+    check("the mail", [line for line in mailed.splitlines(True) if line.count("\t") == 2],
           sorted(findings(audit(site.root))))
 
 
@@ -219,10 +219,10 @@ def without_slurm(folder):
             os.remove(taken)
         status, out, said = submitted(folder, nights, widest)
         if arrays is None:
-            is_so("no arrays", (status, out, "MaxArraySize" in said, os.path.exists(nights.state)),
+            check("no arrays", (status, out, "MaxArraySize" in said, os.path.exists(nights.state)),
                   (3, "", True, False))
             continue
-        is_so("arrays of less than %d" % widest, (status, said, read(taken).splitlines()),
+        check("arrays of less than %d" % widest, (status, said, read(taken).splitlines()),
               (0, "", [*arrays, "no array"]))
     for number in range(70):
         for name in ("parts-%d.1", "end-%d.out"):
@@ -231,14 +231,14 @@ def without_slurm(folder):
     write(taken + ".full", "")
     status, out, said = submitted(folder, nights, 501)
     names = os.listdir(nights.path("slurm"))
-    is_so("what is older than sixty nights is gone", [len(names), "parts-10.1" in names,
+    check("what is older than sixty nights is gone", [len(names), "parts-10.1" in names,
                                                       "end-9.out" in names], [121, False, False])
-    is_so("refused", (status, "Slurm did not take all jobs" in said, nights.level()), (3, True, 2))
-    is_so("the parts are told", " in parts 1-1300: " in out, True)
+    check("refused", (status, "Slurm did not take all jobs" in said, nights.level()), (3, True, 2))
+    check("the parts are told", " in parts 1-1300: " in out, True)
     for words in [["--hours", "x"], ["--budget", "4x"], ["--at-once", "x"]]:
         new = Together(folder + "/new", root)
         status, _, _ = submitted(folder, new, 501, *words)
-        is_so("usage: %s" % words, (status, os.path.exists(new.path("parts"))), (2, False))
+        check("usage: %s" % words, (status, os.path.exists(new.path("parts"))), (2, False))
 
 
 def submitted(folder, nights, widest, *more):
@@ -247,14 +247,14 @@ def submitted(folder, nights, widest, *more):
                WIDEST=str(widest), TAKEN=folder + "/taken")
 
 
-def tell(folder):
+def check_all(folder):
     with Slurm(more="MaxArraySize=11\n") as slurm:
         os.mkdir(folder + "/site")
         site = Site(folder + "/site", slurm)
-        for part in (cancelled, dying, requeued, killed_controller, told_again):
+        for part in (cancelled, dying, requeued, killed_controller, requeued_message):
             tried(part, site)
     os.mkdir(folder + "/none")
     tried(without_slurm, folder + "/none")
 
 
-common.trial(tell, needs=["slurmctld"])
+common.run_trial(check_all, needs=["slurmctld"])

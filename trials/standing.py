@@ -25,7 +25,7 @@ import shutil
 import xml.etree.ElementTree
 
 import common
-from common import is_so
+from common import check
 from shared.nights import REPORTS, Nights, make_root
 from shared.states import LINES, State, is_finding, line, ran, read, tools, tried, write
 
@@ -56,12 +56,12 @@ def statuses(folder):
     found = "4 open finding(s), 1 of weight 1 (E007 1, E023 1, E072 1, S08 1)"
     figures = ["age=25200s;93600;180000;0", "findings=4;1;;0", "damaged=1;1;1;0", "gone=0;1;;0",
                "progress=30%;;;0;100"]
-    is_so("standing", status(state), (
+    check("standing", status(state), (
         2, "OCFL-SCRUB CRITICAL - " + (calm % (found + "; "))[:-2], figures))
     listed = ran([REPORTS, "status", "--list", state.path])[1].splitlines(True)[1:]
-    is_so("the gravest first", listed, [LINES[11], LINES[5], LINES[10], LINES[1]])
+    check("the gravest first", listed, [LINES[11], LINES[5], LINES[10], LINES[1]])
     quiet = ["--damaged", "2,3", "--findings", "5,6"]
-    is_so("below the limits", status(state, *quiet)[0:2],
+    check("below the limits", status(state, *quiet)[0:2],
           (0, "OCFL-SCRUB OK - " + calm % "" + found))
     for words, level in [(["--damaged", "1,2", "--findings", "-,-"], 1),
                          (["--damaged", "-,1", "--findings", "-,-"], 2),
@@ -71,25 +71,25 @@ def statuses(folder):
                          (quiet + ["--age", "1,7"], 2), (quiet + ["--age", "-,-"], 0),
                          (quiet + ["--cycle-age", "6,7"], 0), (quiet + ["--cycle-age", "5,7"], 1),
                          (quiet + ["--cycle-age", "5,5"], 2)]:
-        is_so("limits " + " ".join(words), status(state, *words)[0], level)
+        check("limits " + " ".join(words), status(state, *words)[0], level)
     for now, level in [("2026-03-10T23:59:59Z", 0), ("2026-03-11T00:00:00Z", 1),
                        ("2026-03-11T23:59:59Z", 1), ("2026-03-12T00:00:00Z", 2)]:
-        is_so("a night that never ran, at " + now, status(state, *quiet, now=now)[0], level)
+        check("a night that never ran, at " + now, status(state, *quiet, now=now)[0], level)
     known = write(folder + "/known", "S08\to3-4/\nE072\n")
     given, text, after = status(state, "--known", known)
-    is_so("known findings", (given, ": 3 open finding(s) (E007 1, E023 1, E072 1), 1 known; "
+    check("known findings", (given, ": 3 open finding(s) (E007 1, E023 1, E072 1), 1 known; "
                              in text, after[1:3]),
           (1, True, ["findings=3;1;;0", "damaged=0;1;1;0"]))
     for words in [[], ["--what", "x"], ["--age", "1", "x"], ["--age", "1,2,3", "x"],
                   ["--age", ",1", "x"], ["--gone", "1,-2", "x"], ["--list", "x", "y"], ["--known"]]:
-        is_so("usage of status: " + " ".join(words), ran([REPORTS, "status"] + words)[0:2],
+        check("usage of status: " + " ".join(words), ran([REPORTS, "status"] + words)[0:2],
               (3, ""))
     for name, words in [("folder", [folder + "/none"]),
                         ("known", ["--known", "/none", state.path])]:
         given, out, _ = ran([REPORTS, "status"] + words)
-        is_so("no " + name, (given, out[:21]), (3, "OCFL-SCRUB UNKNOWN - "))
+        check("no " + name, (given, out[:21]), (3, "OCFL-SCRUB UNKNOWN - "))
     empty = State(folder + "/empty")
-    is_so("no night", status(empty)[0:2], (3, "OCFL-SCRUB UNKNOWN - /srv/ocfl: no night has run"))
+    check("no night", status(empty)[0:2], (3, "OCFL-SCRUB UNKNOWN - /srv/ocfl: no night has run"))
 
 
 def troubled(folder):
@@ -101,7 +101,7 @@ def troubled(folder):
         state = standing(folder + "/" + name.replace(" ", "-"))
         act(state)
         given = status(state, *quiet, now=now)
-        is_so(name, (given[0], text in given[1]), (level, True))
+        check(name, (given[0], text in given[1]), (level, True))
 
     def night(code):
         return lambda state: state.night("2026-03-10T22:00:00Z", 2, 0, code, said="stopped at o")
@@ -117,7 +117,8 @@ def troubled(folder):
         state.night("2026-03-10T22:00:00Z", 2, 9)
 
     after("a refused night and a good one", refused_and_made, 0, "status 0; cycle 2 is open")
-    after("lost lines", lambda state: state.stand("after o", whole="no"), 1, "cycle 2 lost lines")
+    after("lost lines", lambda state: state.put_checkpoint("after o", whole="no"), 1,
+          "cycle 2 lost lines")
 
     def closes(gone="", whole=True):
         def close(state):
@@ -185,10 +186,10 @@ def open_findings(folder):
         write(state.path + "/report", "".join(newer) + chance.choice(["", "E0", "E092\to/v1/co"]))
         out = ran([REPORTS, "status", "--list", state.path])[1]
         listed = out.splitlines(True)[1:]
-        if not is_so("open findings %d" % number, sorted(listed), sorted(expected)):
+        if not check("open findings %d" % number, sorted(listed), sorted(expected)):
             break
         newest = [text for text in newer if is_finding(text)]
-        is_so("those of the open report first, each report in its order", listed,
+        check("those of the open report first, each report in its order", listed,
               newest + [text for text in older if text in expected and text not in newest])
 
 
@@ -196,7 +197,7 @@ def metrics(folder):
     state = standing(folder, 'a"b\\c')
     file = folder + "/prom/ocfl.prom"
     os.makedirs(folder + "/prom")
-    is_so("metrics", status(state, "--prometheus", file)[0], 2)
+    check("metrics", status(state, "--prometheus", file)[0], 2)
     labels = '{root="a\\"b\\\\c",state="%s"}' % state.path
     wanted = {"last_night_timestamp_seconds": "1773093600", "last_night_age_seconds": "25200",
               "last_night_status": "0", "last_night_run_seconds": "60", "cycle": "2",
@@ -210,24 +211,24 @@ def metrics(folder):
     rows += ['ocfl_scrub_open_findings_by_code%s,code="%s"} 1' % (labels[:-1], code)
              for code in ["E007", "E023", "E072", "S08"]]
     text = read(file)
-    is_so("their values", [row for row in text.splitlines() if row[0] != "#"], rows)
+    check("their values", [row for row in text.splitlines() if row[0] != "#"], rows)
     names = re.findall(r"^# HELP (\w+) \S.*\n# TYPE \1 gauge\n(?=\1\{)", text, re.M)
-    is_so("each has its help and its type", len(names), len(wanted) + 1)
-    is_so("who may read them", os.stat(file).st_mode & 0o777, 0o644)
-    is_so("nothing lies beside them", os.listdir(folder + "/prom"), ["ocfl.prom"])
+    check("each has its help and its type", len(names), len(wanted) + 1)
+    check("who may read them", os.stat(file).st_mode & 0o777, 0o644)
+    check("nothing lies beside them", os.listdir(folder + "/prom"), ["ocfl.prom"])
     # A reader that came before has the old file, and never half of one.
     with open(file, "rb") as held:
         status(state, "--prometheus", file, "--gone", "-,-")
-        is_so("they are exchanged", os.fstat(held.fileno()).st_nlink, 0)
-    is_so("no folder", status(state, "--prometheus", folder + "/none/x.prom")[0], 3)
+        check("they are exchanged", os.fstat(held.fileno()).st_nlink, 0)
+    check("no folder", status(state, "--prometheus", folder + "/none/x.prom")[0], 3)
     empty = State(folder + "/empty")
-    is_so("no night", status(empty, "--prometheus", file)[0], 3)
-    is_so("its time", "last_night_timestamp_seconds{root=\"/srv/ocfl\",state=\"%s\"} 0\n"
+    check("no night", status(empty, "--prometheus", file)[0], 3)
+    check("its time", "last_night_timestamp_seconds{root=\"/srv/ocfl\",state=\"%s\"} 0\n"
           % empty.path in read(file), True)
     log = common.read(state.path + "/log")
     before = common.snapshot(state.path)
     status(state)
-    is_so("nothing is changed", (common.snapshot(state.path) == before,
+    check("nothing is changed", (common.snapshot(state.path) == before,
                                  common.read(state.path + "/log") == log), (True, True))
 
 
@@ -273,34 +274,34 @@ def not_whole(folder):
             ("found by the open one", [("cycle", without), ("incomplete", without)],
              start + [line("ok", "b"), DAMAGED], [DAMAGED])]:
         state = closed(folder + "/" + name.replace(" ", "-"), reports, opened)
-        is_so("open findings: " + name, listed(state), expected)
+        check("open findings: " + name, listed(state), expected)
         file = folder + "/figures.prom"
         status(state, "--prometheus", file)
         figures = re.findall(r"ocfl_scrub_(damaged|open_findings)\{.*\} (\d+)", read(file))
-        is_so("their figures: " + name, figures, [("damaged", str(len(expected))), (
+        check("their figures: " + name, figures, [("damaged", str(len(expected))), (
             "open_findings", str(len(expected)))])
     write(state.path + "/reports/cycle-000009.bak", "".join(whole))
     write(state.path + "/reports/incomplete-x", "".join(whole))
-    is_so("a copy is no report", listed(state), [DAMAGED])
+    check("a copy is no report", listed(state), [DAMAGED])
 
 
 def is_known(folder):
     """Known findings are left out of the list, and counted."""
     state = closed(folder + "/state", [("cycle", [line("ok", "."), DAMAGED, AGAIN])])
     known = write(folder + "/known", DAMAGED)
-    is_so("known findings are not listed", listed(state, "--known", known), [AGAIN])
+    check("known findings are not listed", listed(state, "--known", known), [AGAIN])
     write(known, "E092\t./\n")
-    is_so("all are known", listed(state, "--known", known), [])
-    is_so("they are counted", "0 open finding(s), 2 known" in status(state, "--known", known)[1],
+    check("all are known", listed(state, "--known", known), [])
+    check("they are counted", "0 open finding(s), 2 known" in status(state, "--known", known)[1],
           True)
-    is_so("without a file of known ones", listed(state), [DAMAGED, AGAIN])
+    check("without a file of known ones", listed(state), [DAMAGED, AGAIN])
 
 
 def once(folder):
     """A number of findings stands there once."""
     state = closed(folder + "/state", [("cycle", [line("ok", "."), DAMAGED])])
-    is_so("one finding", status(state)[1].count("open finding"), 1)
-    is_so("and below the limits", status(state, "--findings", "-,-", "--damaged", "-,-")[1].count(
+    check("one finding", status(state)[1].count("open finding"), 1)
+    check("and below the limits", status(state, "--findings", "-,-", "--damaged", "-,-")[1].count(
         "open finding"), 1)
 
 
@@ -311,9 +312,9 @@ def refused(folder):
     nights.part()
     os.rename(nights.root, nights.root + ".away")
     os.mkdir(nights.root)
-    is_so("refused", nights.night()[0], 3)
+    check("refused", nights.night()[0], 3)
     given, out, _ = ran(call)
-    is_so("in the first cycle", (given, re.findall("cycle [0-9]* (?:is open|has ended)", out)),
+    check("in the first cycle", (given, re.findall("cycle [0-9]* (?:is open|has ended)", out)),
           (2, ["cycle 1 is open"]))
     os.rmdir(nights.root)
     os.rename(nights.root + ".away", nights.root)
@@ -322,9 +323,9 @@ def refused(folder):
     os.mkdir(nights.root)
     nights.night()
     given, out, _ = ran([*call, "--prometheus", folder + "/x.prom"])
-    is_so("after it", (given, re.findall("cycle [0-9]* (?:is open|has ended)|of 100", out)),
+    check("after it", (given, re.findall("cycle [0-9]* (?:is open|has ended)|of 100", out)),
           (2, ["cycle 1 has ended"]))
-    is_so("its figure", re.findall(r"ocfl_scrub_cycle\{.*\} (\d+)", read(folder + "/x.prom")),
+    check("its figure", re.findall(r"ocfl_scrub_cycle\{.*\} (\d+)", read(folder + "/x.prom")),
           ["1"])
 
 
@@ -334,7 +335,7 @@ def missing(folder):
     expected = write(folder + "/expected", "o\nx\ny\n")
     nights.night("--expected", expected)
     given, out, _ = ran([REPORTS, "status", nights.state])
-    is_so("two expected objects", (given, "2 expected object" in out, "0 object" in out,
+    check("two expected objects", (given, "2 expected object" in out, "0 object" in out,
                                    " gone=2;" in out), (1, True, False, True))
 
 
@@ -348,20 +349,20 @@ def mended(folder):
     nights.night()
     found = listed(nights)
     call = [REPORTS, "recheck", nights.state]
-    is_so("nothing is mended", ran(call), (1, "".join("open\t" + text for text in found), ""))
+    check("nothing is mended", ran(call), (1, "".join("open\t" + text for text in found), ""))
     write(files[0], "a")
-    is_so("one is", ran(call), (1, "mended\t%sopen\t%s" % tuple(found), ""))
+    check("one is", ran(call), (1, "mended\t%sopen\t%s" % tuple(found), ""))
     write(files[1], "y")
     given, out, _ = ran(call)
-    is_so("damaged otherwise", (given, [row.split("\t")[:2] for row in out.splitlines()]), (
+    check("damaged otherwise", (given, [row.split("\t")[:2] for row in out.splitlines()]), (
         1, [["mended", "E092"], ["mended", "E092"], ["new", "E092"]]))
     known = write(folder + "/known", "E092\tb/\n")
-    is_so("known", ran([*call, "--known", known]), (0, "mended\t" + found[0], ""))
+    check("known", ran([*call, "--known", known]), (0, "mended\t" + found[0], ""))
     write(files[1], "b")
-    is_so("all are mended", ran(call)[0], 0)
+    check("all are mended", ran(call)[0], 0)
     os.rename(nights.root, nights.root + ".away")
     given, out, said = ran(call)
-    is_so("no root", (given, out, "a/v1/content/f could not be looked at" in said), (3, "", True))
+    check("no root", (given, out, "a/v1/content/f could not be looked at" in said), (3, "", True))
 
 
 def losses(folder):
@@ -376,26 +377,26 @@ def losses(folder):
             r"ocfl_scrub_gone_(?:objects|files)\{.*\} (\d+)", read(folder + "/x.prom"))
 
     nights.night()
-    is_so("nothing is gone", gone(), (0, ["0"], [], ["0", "0"]))
+    check("nothing is gone", gone(), (0, ["0"], [], ["0", "0"]))
     os.rename(nights.root + "/b", folder + "/b")
     lost = ["object\tb", "file\tb/v1/content/f"]
     for cycle in ["2", "3", "4"]:
         nights.night()
-        is_so("gone after cycle " + cycle, gone(), (1, ["2"], lost, ["1", "1"]))
+        check("gone after cycle " + cycle, gone(), (1, ["2"], lost, ["1", "1"]))
     text = nights.has("reports/statement-000004")
-    is_so("in a later statement", re.findall("(?m)^(?:Objects|Files) gone.*", text), [
+    check("in a later statement", re.findall("(?m)^(?:Objects|Files) gone.*", text), [
         "Objects gone: 0", "Files gone: 0", "Objects gone and not back: 1",
         "Files gone and not back: 1"])
     known = write(folder + "/known", "object\tb\n")
-    is_so("an object that is known", gone("--known", known), (1, ["1"], lost[1:], ["0", "1"]))
+    check("an object that is known", gone("--known", known), (1, ["1"], lost[1:], ["0", "1"]))
     write(known, "object\tb\nfile\tb/\n")
-    is_so("all of it is known", gone("--known", known), (0, ["0"], [], ["0", "0"]))
+    check("all of it is known", gone("--known", known), (0, ["0"], [], ["0", "0"]))
     os.rename(folder + "/b", nights.root + "/b")
     nights.part()
     nights.night()
-    is_so("back", gone(), (0, ["0"], [], ["0", "0"]))
+    check("back", gone(), (0, ["0"], [], ["0", "0"]))
     text = nights.has("reports/statement-000005")
-    is_so("in its statement", re.findall("(?m)^Objects gone and.*", text),
+    check("in its statement", re.findall("(?m)^Objects gone and.*", text),
           ["Objects gone and not back: 0"])
 
 
@@ -408,10 +409,10 @@ def in_a_browser(file, folder):
     call = ["chromium", "--headless", "--no-sandbox", "--disable-gpu", "--user-data-dir=" + folder
             + "/profile", "--window-size=1000,2000"]
     out = ran([*call, "--dump-dom", "file://" + file])[1]
-    is_so("in a browser", ["CRITICAL" in out, "&lt;b&gt;&amp;amp;&lt;script&gt;" in out,
+    check("in a browser", ["CRITICAL" in out, "&lt;b&gt;&amp;amp;&lt;script&gt;" in out,
                            "<script" in out, out.count("<rect")], [True, True, False, 12])
     ran([*call, "--screenshot=" + picture, "file://" + file])
-    is_so("a picture of it", common.read(picture)[:4], b"\x89PNG")
+    check("a picture of it", common.read(picture)[:4], b"\x89PNG")
 
 
 def page(folder):
@@ -422,22 +423,22 @@ def page(folder):
     write(state.path + "/reports/cycle-000001", "".join([*LINES, bad]))
     write(state.path + "/reports/gone-000001", "object\t<i>\n")
     given, out, said = ran([REPORTS, "page", "--now", "2026-03-10T05:00:00Z", state.path])
-    is_so("page", (given, said, out.isascii(), out.startswith("<!DOCTYPE html>")),
+    check("page", (given, said, out.isascii(), out.startswith("<!DOCTYPE html>")),
           (0, "", True, True))
     root = xml.etree.ElementTree.fromstring(re.sub(
         "<meta[^>]*>", "", out).replace("<!DOCTYPE html>", ""))
     texts = [text for element in root.iter() for text in [element.text] if text]
-    is_so("what it shows", [text in texts for text in [
+    check("what it shows", [text in texts for text in [
         "CRITICAL", "5 open finding(s), 2 of weight 1 (E007 1, E023 1, E072 1, E092 1, S08 1)",
         "<b>&amp;<script>alert(1)</script>", "<i>", "30 of 100", "2026-03-09T22:00:00Z"]],
           [True] * 6)
-    is_so("no script, nothing from elsewhere", re.findall("<script|src=|href=|url\\(|http", out),
+    check("no script, nothing from elsewhere", re.findall("<script|src=|href=|url\\(|http", out),
           [])
-    is_so("a plot of each night", len(list(root.iter("rect"))), 12)
+    check("a plot of each night", len(list(root.iter("rect"))), 12)
     in_a_browser(write(folder + "/index.html", out), folder)
-    is_so("no folder", ran([REPORTS, "page", folder + "/none"])[0:2], (3, ""))
+    check("no folder", ran([REPORTS, "page", folder + "/none"])[0:2], (3, ""))
     empty = State(folder + "/empty")
-    is_so("no night", ran([REPORTS, "page", empty.path])[0], 0)
+    check("no night", ran([REPORTS, "page", empty.path])[0], 0)
 
 
 def strange_paths(folder):
@@ -445,10 +446,10 @@ def strange_paths(folder):
     for number, name in enumerate(["a\nb", "a\\nb", "a\tb |"]):
         state = closed("%s/%d/%s" % (folder, number, name), [("cycle", [line("ok", "."), DAMAGED])])
         given, out, said = ran([REPORTS, "status", "--age", "-,-", "--list", state.path])
-        is_so("a folder named %r" % name, (given, out.split("\n", 1)[1], said), (2, DAMAGED, ""))
+        check("a folder named %r" % name, (given, out.split("\n", 1)[1], said), (2, DAMAGED, ""))
 
 
-def tell(folder):
+def check_all(folder):
     tools({"gzip": "gzip"})
     for part in [statuses, troubled, open_findings, metrics, not_whole, is_known, once,
                  refused, missing, losses, mended, page, strange_paths]:
@@ -456,4 +457,4 @@ def tell(folder):
         tried(part, os.path.join(folder, part.__name__))
 
 
-common.trial(tell)
+common.run_trial(check_all)

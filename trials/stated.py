@@ -30,7 +30,7 @@ import re
 import shutil
 
 import common
-from common import PROGRAM, digest, is_so
+from common import PROGRAM, digest, check
 from shared.nights import Nights, ask, make_root, read, tried_apart, write
 
 
@@ -58,12 +58,12 @@ def programs(folder):
     nights.part()
     nights.night(program=another)
     lines = lines_of(nights, 1)
-    is_so("the program", (lines.get("Program SHA-256"), lines.get("Programs of its runs, SHA-256")),
+    check("the program", (lines.get("Program SHA-256"), lines.get("Programs of its runs, SHA-256")),
           (digest(common.read(another)),
            "%s %s" % (digest(common.read(PROGRAM)), digest(common.read(another)))))
-    is_so("it is what was made", verified(file_of(nights, 1))[0], 0)
+    check("it is what was made", verified(file_of(nights, 1))[0], 0)
     links = re.findall("linkingAgentIdentifierValue>(.*?)<", ask("premis", nights.state, "1")[1])
-    is_so("its events", [digest(common.read(another)) in link for link in links], [False, True])
+    check("its events", [digest(common.read(another)) in link for link in links], [False, True])
 
 
 # Nights
@@ -79,8 +79,8 @@ def oldest(folder):
     nights.night()
     closed, oldest = lines_of(nights, 1).get("Closed"), lines_of(nights, 2).get(
         "Oldest verification")
-    is_so("the cycle may have begun when the one before was closed", oldest, closed)
-    is_so("it is what was made", verified(file_of(nights, 2))[0], 0)
+    check("the cycle may have begun when the one before was closed", oldest, closed)
+    check("it is what was made", verified(file_of(nights, 2))[0], 0)
 
 
 def cut(folder):
@@ -94,14 +94,14 @@ def cut(folder):
         if runs_of(nights) > before:
             break
     line = ask("status", nights.state)[1]
-    is_so("status", ("a night was cut;" in line, "under way" in line), (True, False))
+    check("status", ("a night was cut;" in line, "under way" in line), (True, False))
     nights.night()
-    is_so("the statement", (lines_of(nights, 1).get("Nights cut"), lines_of(nights, 1)["Whole"]),
+    check("the statement", (lines_of(nights, 1).get("Nights cut"), lines_of(nights, 1)["Whole"]),
           ("1", "yes"))
-    is_so("it holds", verified(file_of(nights, 1))[0], 0)
+    check("it holds", verified(file_of(nights, 1))[0], 0)
     nights.night()
-    is_so("the next cycle", lines_of(nights, 2).get("Nights cut"), "0")
-    is_so("status then", "a night was cut" in ask("status", nights.state)[1], False)
+    check("the next cycle", lines_of(nights, 2).get("Nights cut"), "0")
+    check("status then", "a night was cut" in ask("status", nights.state)[1], False)
 
 
 def runs_of(nights):
@@ -115,16 +115,16 @@ def left_out(folder):
     bad = os.fsencode(nights.root) + b"/o/v1/content/d"
     os.mkdir(bad)
     write(os.fsdecode(bad + b"/\xff"), "")
-    is_so("a night", nights.night()[0], 3)
+    check("a night", nights.night()[0], 3)
     lines, named = lines_of(nights, 1), [row["place"] for row in nights.rows("left")]
-    is_so("what it says", [lines.get(name) for name in ["Whole", "Report", "Places left out"]],
+    check("what it says", [lines.get(name) for name in ["Whole", "Report", "Places left out"]],
           ["no", "incomplete-000001", "1"])
-    is_so("which", [lines.get("Place left out 1"), *named[1:]], named or [None])
-    is_so("objects", [lines["Objects"], lines["Objects without findings"]],
+    check("which", [lines.get("Place left out 1"), *named[1:]], named or [None])
+    check("objects", [lines["Objects"], lines["Objects without findings"]],
           ["1", "0" if named else "not known"])
-    is_so("it holds", verified(file_of(nights, 1))[0], 0)
+    check("it holds", verified(file_of(nights, 1))[0], 0)
     shutil.rmtree(bad)
-    is_so("the next night", (nights.night()[0], lines_of(nights, 2).get("Places left out"),
+    check("the next night", (nights.night()[0], lines_of(nights, 2).get("Places left out"),
                              lines_of(nights, 2)["Objects without findings"]), (0, "0", "1"))
 
 
@@ -137,9 +137,9 @@ def lost_lines(folder):
     write(nights.path("report"), "".join(row for row in kept if not row.startswith("E092")))
     nights.night()
     lines = lines_of(nights, 1)
-    is_so("a cycle that lost a finding", [lines.get(name) for name in [
+    check("a cycle that lost a finding", [lines.get(name) for name in [
         "Whole", "Findings", "Objects without findings"]], ["no", "0", "not known"])
-    is_so("it is what was made", verified(file_of(nights, 1))[0], 0)
+    check("it is what was made", verified(file_of(nights, 1))[0], 0)
 
 
 def ends_of_parts(folder):
@@ -149,9 +149,9 @@ def ends_of_parts(folder):
     write(parts, "o/v1/content/a%01\no/v1/content/c%25\n")
     nights.night("--parts", parts, "--part", "2")
     lines = lines_of(nights, 1)
-    is_so("the ends of a part", [lines.get("Part from"), lines.get("Part below")],
+    check("the ends of a part", [lines.get("Part from"), lines.get("Part below")],
           ["o/v1/content/a%01", "o/v1/content/c%25"])
-    is_so("they hold", verified(file_of(nights, 1))[0], 0)
+    check("they hold", verified(file_of(nights, 1))[0], 0)
 
 
 # Roots
@@ -161,7 +161,7 @@ def declaration(folder):
     nights = Nights(folder + "/state", make_root(folder + "/root"))
     nights.night()
     sums = "%s  0=ocfl_1.1\n" % digest(common.read(nights.root + "/0=ocfl_1.1"))
-    is_so("the digest of the declaration", lines_of(nights, 1).get("Declaration sums SHA-256"),
+    check("the digest of the declaration", lines_of(nights, 1).get("Declaration sums SHA-256"),
           digest(sums.encode()))
 
 
@@ -177,16 +177,16 @@ def two_folders(folder):
         for words in [[], ["--each", "object"]]:
             status, events, _ = ask("premis", *words, nights.state, "1")
             found = re.findall("<eventIdentifierValue>(.*?)<", events, re.S)
-            is_so("events of " + name, (status, len(found)), (0, 1))
+            check("events of " + name, (status, len(found)), (0, 1))
             ids += found
-        is_so("its folder", lines_of(nights, 1).get("State folder"),
+        check("its folder", lines_of(nights, 1).get("State folder"),
               nights.state.replace("\n", "%0A"))
-        is_so("the statement holds", verified(file_of(nights, 1))[0], 0)
+        check("the statement holds", verified(file_of(nights, 1))[0], 0)
     nights = Nights(folder + "/one", folder + "/root")
     shutil.rmtree(nights.state)
     nights.night()
     ids += re.findall("<eventIdentifierValue>(.*?)<", ask("premis", nights.state, "1")[1])
-    is_so("no two events have one identifier", (len(ids), len(set(ids))), (5, 5))
+    check("no two events have one identifier", (len(ids), len(set(ids))), (5, 5))
 
 
 # What is checked
@@ -217,15 +217,15 @@ def checking(folder):
     def copied(names):
         return away(nights, there, names).replace("000002", "000003")
 
-    is_so("all of it", verified(copied(names))[0], 0)
+    check("all of it", verified(copied(names))[0], 0)
     status, out, _ = verified(copied(names[:3]))
-    is_so("no list of what is gone", (status, "gone-000003" in out, "Objects gone" in out),
+    check("no list of what is gone", (status, "gone-000003" in out, "Objects gone" in out),
           (4, True, True))
     status, out, _ = verified(copied(names[:2] + names[3:]))
-    is_so("no JSON", (status, "statement-000003.json" in out, re.findall(
+    check("no JSON", (status, "statement-000003.json" in out, re.findall(
         "Host|Storage root|First night|Runs|Program SHA-256", out)), (4, True, [
             "Storage root", "Host", "First night", "Runs", "Program SHA-256"]))
-    is_so("with a report that is named", verified(copied(names[:1]), nights.path(
+    check("with a report that is named", verified(copied(names[:1]), nights.path(
         "reports/cycle-000003"))[0], 4)
     forged(nights, copied, names)
 
@@ -234,15 +234,15 @@ def losses(folder):
     """The event of a cycle that no longer found something is no pass."""
     nights = Nights(folder + "/state", make_root(folder + "/root"))
     nights.night()
-    is_so("nothing is lost", outcomes(nights, 1), ["pass"])
+    check("nothing is lost", outcomes(nights, 1), ["pass"])
     shutil.copytree(nights.root + "/o", nights.root + "/p")
     nights.night()
     shutil.rmtree(nights.root + "/p")
     nights.night()
-    is_so("an object is lost", outcomes(nights, 3), ["fail"])
+    check("an object is lost", outcomes(nights, 3), ["fail"])
     write(folder + "/expected", "o\nq\n")
     nights.night("--expected", folder + "/expected")
-    is_so("an expected object is missing", outcomes(nights, 4), ["fail"])
+    check("an expected object is missing", outcomes(nights, 4), ["fail"])
 
 
 def outcomes(nights, cycle):
@@ -262,18 +262,18 @@ def forged(nights, copied, names):
         file = copied(names[:2] + names[3:])
         write(file, changed)
         status, out, _ = verified(file)
-        is_so(name + " is refused", status in (1, 3) and (status == 3 or out != ""), True)
+        check(name + " is refused", status in (1, 3) and (status == 3 or out != ""), True)
     file = copied(names[:2] + names[3:])
     write(file, text + "Certified\033[2J: yes\n")
-    is_so("a line that it does not know is shown", [part in verified(file)[1] for part in [
+    check("a line that it does not know is shown", [part in verified(file)[1] for part in [
         "Certified", "\033"]], [True, False])
     file = copied(names[:2] + names[3:])
     write(file, re.sub("(?m)^Host: .*", "Host: elsewhere", text))
     status, out, _ = verified(file)
-    is_so("a host that nothing vouches for", (status, "Host" in out), (4, True))
+    check("a host that nothing vouches for", (status, "Host" in out), (4, True))
     file = copied(names)
     write(file + ".json", "{}\n")
-    is_so("another JSON", verified(file)[0], 1)
+    check("another JSON", verified(file)[0], 1)
 
 
 def chained(folder):
@@ -283,12 +283,12 @@ def chained(folder):
         nights.night()
     first = file_of(nights, 1)
     name = "Statement before, SHA-256"
-    is_so("the statement before", [lines_of(nights, cycle).get(name) for cycle in [1, 2]],
+    check("the statement before", [lines_of(nights, cycle).get(name) for cycle in [1, 2]],
           ["no statement", digest(common.read(first))])
-    is_so("both hold", [verified(file_of(nights, cycle))[0] for cycle in [1, 2]], [0, 0])
+    check("both hold", [verified(file_of(nights, cycle))[0] for cycle in [1, 2]], [0, 0])
     write(first, read(first).replace("Host: ", "Host: x"))
     status, out, _ = verified(file_of(nights, 2))
-    is_so("the one before was changed", (status, name + ": the statement says" in out), (1, True))
+    check("the one before was changed", (status, name + ": the statement says" in out), (1, True))
 
 
 def no_list(folder):
@@ -299,7 +299,7 @@ def no_list(folder):
     text = read(file)
     write(file, text.replace("Objects gone: not known", "Objects gone: 2"))
     os.remove(file + ".json")
-    is_so("gone without a list", "Objects gone: the statement says 2" in verified(file)[1], True)
+    check("gone without a list", "Objects gone: the statement says 2" in verified(file)[1], True)
 
 
 # Seals
@@ -312,13 +312,13 @@ def copies_are_no_seals(folder):
     seal = ["--seal", 'rev "$1" > "$1.rev"', nights.state, "1"]
     for name in ["bak", "orig", "json.bak"]:
         shutil.copy(file, file + "." + name)
-    is_so("sealed beside copies", (ask("statement", *seal)[0], os.path.exists(file + ".rev")),
+    check("sealed beside copies", (ask("statement", *seal)[0], os.path.exists(file + ".rev")),
           (0, True))
     os.remove(file + ".rev")
-    is_so("sealed again where the seal is gone", (ask("statement", *seal)[0],
+    check("sealed again where the seal is gone", (ask("statement", *seal)[0],
                                                   os.path.exists(file + ".rev")), (0, True))
     seal[1] = 'echo x > "$1.other"'
-    is_so("sealed once", (ask("statement", *seal)[0], os.path.exists(file + ".other")),
+    check("sealed once", (ask("statement", *seal)[0], os.path.exists(file + ".other")),
           (0, False))
 
 
@@ -326,8 +326,8 @@ PARTS = [programs, oldest, cut, left_out, lost_lines, ends_of_parts, declaration
          checking, losses, chained, no_list, copies_are_no_seals]
 
 
-def tell(folder):
+def check_all(folder):
     tried_apart(PARTS, folder)
 
 
-common.trial(tell, needs=["strace"])
+common.run_trial(check_all, needs=["strace"])

@@ -14,7 +14,7 @@ import shutil
 import xml.etree.ElementTree
 
 import common
-from common import TOP, digest, is_so
+from common import TOP, digest, check
 from shared.states import (GONE, LINES, NIGHTS, REPORTS, State, ask, audited, is_finding, line,
                            program, ran, read, tools, tried, write)
 
@@ -33,26 +33,26 @@ FOUND = [line("ok", "."), line("E072", "a b"), line("E072", "a-b"), line("ok", "
 def findings(folder):
     report = write(folder + "/report", "".join(FOUND))
     found = [text for text in FOUND if is_finding(text)]
-    is_so("findings", ask("findings", report), (0, "".join(found), ""))
+    check("findings", ask("findings", report), (0, "".join(found), ""))
     one = [text for text in found if text.split("\t")[0] in ("E092", "E999", "S08")]
     two = [text for text in found if text.startswith("E063")]
     three = [text for text in found if text.startswith("E023")]
     grave = one + two + three + [text for text in found if text.startswith("E072")]
-    is_so("by weight", ask("findings", "--by-weight", report), (0, "".join(grave), ""))
+    check("by weight", ask("findings", "--by-weight", report), (0, "".join(grave), ""))
     older = write(folder + "/older.gz", gzip.compress("".join(
         [line("E092", "o2/v1/content/1", "sha256 x y"), line("E063", "P"), line("E063", "p", "x"),
          line("E072", "a b"), line("ok", "q")]).encode()))
     new = [text for text in found if text not in (FOUND[1], FOUND[7])]
-    is_so("new", ask("findings", "--new", older, report), (0, "".join(new), ""))
-    is_so("new by weight", ask("findings", "--by-weight", "--new", older, report),
+    check("new", ask("findings", "--new", older, report), (0, "".join(new), ""))
+    check("new by weight", ask("findings", "--by-weight", "--new", older, report),
           (0, "".join(text for text in grave if text in new), ""))
-    is_so("none is new", ask("findings", "--new", report, report), (0, "", ""))
+    check("none is new", ask("findings", "--new", report, report), (0, "", ""))
     known_findings(folder, report, found, older)
     for words in [["--new"], ["--new", older], ["--what", report], ["--by-weight"]]:
-        is_so("usage of findings", ask("findings", *words)[0:2], (2, ""))
+        check("usage of findings", ask("findings", *words)[0:2], (2, ""))
     for words in [["--new", folder + "/none", report], ["--known", folder + "/none", report]]:
         status, out, said = ask("findings", *words)
-        is_so("no file", (status, out, "/none cannot be read" in said), (3, "", True))
+        check("no file", (status, out, "/none cannot be read" in said), (3, "", True))
 
 
 def known_findings(folder, report, found, older):
@@ -65,10 +65,10 @@ def known_findings(folder, report, found, older):
              ("remarks", ["# E063\tp", "", "E063\tp"], [found[4]])]
     for name, lines, gone in cases:
         known = write(folder + "/known", "".join(text.rstrip("\n") + "\n" for text in lines))
-        is_so("known: " + name, ask("findings", "--known", known, report),
+        check("known: " + name, ask("findings", "--known", known, report),
               (0, "".join(text for text in found if text not in gone), ""))
     known = write(folder + "/known", "E072\t./\n")
-    is_so("known, new and by weight", ask("findings", "--known", known, "--new", older,
+    check("known, new and by weight", ask("findings", "--known", known, "--new", older,
                                           "--by-weight", report)[1].splitlines()[0],
           FOUND[6].rstrip("\n"))
 
@@ -78,9 +78,9 @@ def many_findings(folder):
     old = [line("E072", "a/%05d" % number) for number in range(40000)]
     older = write(folder + "/older", "".join(old))
     newer = write(folder + "/newer", "".join(old + [line("E092", "b", "md5 missing")]))
-    is_so("the one that is new", ask("findings", "--new", older, newer),
+    check("the one that is new", ask("findings", "--new", older, newer),
           (0, line("E092", "b", "md5 missing"), ""))
-    is_so("the gravest", ask("findings", "--by-weight", newer)[1].splitlines()[0],
+    check("the gravest", ask("findings", "--by-weight", newer)[1].splitlines()[0],
           "E092\tb\tmd5 missing")
 
 
@@ -91,11 +91,11 @@ def table_of_codes():
                                                    if row.startswith("|"))))
     table = read(NIGHTS + "/ocfl_scrub_reports/codes")
     rows = [row.split("\t") for row in table.splitlines() if row[0] != "#"]
-    is_so("codes of the table", sorted(row[0] for row in rows), sorted(codes))
-    is_so("their weights", sorted({row[1] for row in rows}), ["-", "1", "2", "3", "4"])
+    check("codes of the table", sorted(row[0] for row in rows), sorted(codes))
+    check("their weights", sorted({row[1] for row in rows}), ["-", "1", "2", "3", "4"])
     apart = {"E001", "E015", "E023", "E024", "E069", "E072", "E073", "E076", "E080", "E092", "E093",
              "S04", "S05", "S08"}
-    is_so("codes of no object's head", {row[0] for row in rows if row[2] == "place"}, apart)
+    check("codes of no object's head", {row[0] for row in rows if row[2] == "place"}, apart)
 
 
 # Statements
@@ -172,37 +172,38 @@ def text_of(made, state):
 def statement(folder):
     state, made = audited(folder)
     text = text_of(made, state)
-    is_so("statement", ask("statement", state.path, 2, OCFL_SCRUB=made), (0, "", ""))
-    is_so("its text", state.has("reports/statement-000002"), text)
-    is_so("the same as JSON", json.loads(state.has("reports/statement-000002.json")), as_json(text))
-    is_so("what lies there", sorted(os.listdir(state.path + "/reports")),
+    check("statement", ask("statement", state.path, 2, OCFL_SCRUB=made), (0, "", ""))
+    check("its text", state.has("reports/statement-000002"), text)
+    check("the same as JSON", json.loads(state.has("reports/statement-000002.json")), as_json(text))
+    check("what lies there", sorted(os.listdir(state.path + "/reports")),
           ["cycle-000001.gz", "cycle-000002", "gone-000001", "gone-000002", "statement-000002",
            "statement-000002.json"])
-    is_so("who may read it", os.stat(state.path + "/reports/statement-000002").st_mode & 0o777,
+    check("who may read it", os.stat(state.path + "/reports/statement-000002").st_mode & 0o777,
           0o640)
-    is_so("of a compressed report", ask("statement", state.path, 1, OCFL_SCRUB=made), (0, "", ""))
+    check("of a compressed report", ask("statement", state.path, 1, OCFL_SCRUB=made), (0, "", ""))
     first = state.has("reports/statement-000001")
-    is_so("what it says", [text in first for text in [
+    check("what it says", [text in first for text in [
         "\nCycle: 1\n", "\nNights: 1\n", "\nRuns: 1\n", "\nReport lines: 1\n",
         "\nCompared with cycle: nothing\n", "\nObjects gone: not known\n",
         "\nExpected objects missing: not known\n", "\nFindings: 0\nAlgo",
         "\nReport SHA-256: %s\n" % digest(LINES[0].encode())]], [True] * 9)
     write(state.path + "/reports/statement-000002", "kept\n")
-    is_so("again", ask("statement", state.path, 2, OCFL_SCRUB=made), (0, "", ""))
-    is_so("it stays", state.has("reports/statement-000002"), "kept\n")
+    check("again", ask("statement", state.path, 2, OCFL_SCRUB=made), (0, "", ""))
+    check("it stays", state.has("reports/statement-000002"), "kept\n")
     for cycle in [3, 4]:
         status, out, said = ask("statement", state.path, cycle, OCFL_SCRUB=made)
-        is_so("cycle %d" % cycle, (status, out, "that cycle %d was closed" % cycle in said),
+        check("cycle %d" % cycle, (status, out, "that cycle %d was closed" % cycle in said),
               (3, "", True))
     for words in [[state.path], [state.path, "x"], [state.path, "01"], ["--seal", state.path, 1]]:
-        is_so("usage of statement", ask("statement", *words)[0:2], (2, ""))
+        check("usage of statement", ask("statement", *words)[0:2], (2, ""))
 
 
 def as_json(text):
     """What a statement says, as its JSON form should."""
     rows = [row.split(": ", 1) for row in text.splitlines()[2:]]
-    numbers = {"Cycle", "Nights", "Nights cut", "Runs", "Places left out", "Report lines", "Broken lines", "Objects",
-               "Objects without findings", "Content files", "Files found right",
+    numbers = {"Cycle", "Nights", "Nights cut", "Runs", "Places left out", "Report lines",
+               "Broken lines", "Objects", "Objects without findings", "Content files",
+               "Files found right",
                "Files not found right", "Bytes found right", "Findings", "Compared with cycle",
                "New findings", "Former findings", "Objects gone", "Files gone",
                "Expected objects missing", "Objects gone and not back", "Files gone and not back"}
@@ -226,20 +227,20 @@ def incomplete_statement(folder):
             LINES[0], line("ok", "01"), line("ok", "1"), "ok\to\n", LINES[2],
             line("E072", "o-x")]})
     made = program(folder, "0" * 64)
-    is_so("incomplete", ask("statement", state.path, 1, OCFL_SCRUB=made), (0, "", ""))
+    check("incomplete", ask("statement", state.path, 1, OCFL_SCRUB=made), (0, "", ""))
     text = state.has("reports/statement-000001")
     wanted = ["Lost lines: not known", "Whole: no",
               "Report: incomplete-000001", "Broken lines: 1", "Report lines: 6", "Nights: 2",
               "Runs: 3", "First night: 2026-01-01T22:00:00Z", "Last night: 2026-01-02T22:00:00Z",
               "Objects: 3", "Objects without findings: not known", "Findings: 1",
               "Program commit: not known", "Program SHA-256: " + digest(common.read(made))]
-    is_so("what it says", [row for row in wanted if "\n%s\n" % row not in text], [])
-    is_so("as JSON", json.loads(state.has("reports/statement-000001.json"))["whole"], False)
-    is_so("it is so", ask("verify", state.path + "/reports/statement-000001")[0], 0)
+    check("what it says", [row for row in wanted if "\n%s\n" % row not in text], [])
+    check("as JSON", json.loads(state.has("reports/statement-000001.json"))["whole"], False)
+    check("it is so", ask("verify", state.path + "/reports/statement-000001")[0], 0)
     os.remove(state.path + "/reports/incomplete-000001")
     os.remove(state.path + "/reports/statement-000001")
     status, _, said = ask("statement", state.path, 1, OCFL_SCRUB=made)
-    is_so("no report", (status, "incomplete-000001 is not there" in said,
+    check("no report", (status, "incomplete-000001 is not there" in said,
                         os.path.exists(state.path + "/reports/statement-000001")),
           (3, True, False))
 
@@ -252,12 +253,12 @@ def real_program(folder):
     write(folder + "/root/p/v1/content/c", "xyz")
     report = ran([common.PROGRAM, "audit", folder + "/root"])[1]
     state.night("2026-01-01T22:00:00Z", 1, 9, 1, closes={"lines": [report]})
-    is_so("of the program", ask("statement", state.path, 1, OCFL_SCRUB=common.PROGRAM), (0, "", ""))
+    check("of the program", ask("statement", state.path, 1, OCFL_SCRUB=common.PROGRAM), (0, "", ""))
     text = state.has("reports/statement-000001")
     wanted = ["Program SHA-256: " + digest(common.read(common.PROGRAM)), "Objects: 2",
               "Objects without findings: 1", "Files found right: 2", "Bytes found right: 3",
               "Findings: 1", "Findings E092: 1", "Program: ocfl-scrub " + common.version()]
-    is_so("what it says of it", [row for row in wanted if "\n%s\n" % row not in text], [])
+    check("what it says of it", [row for row in wanted if "\n%s\n" % row not in text], [])
     clone = folder + "/clone"
     shutil.copytree(NIGHTS, clone + "/nights")
     built = clone + "/crates/ocfl_scrub_cli/out/ocfl_scrub_cli"
@@ -266,9 +267,9 @@ def real_program(folder):
     launcher = write(clone + "/ocfl-scrub", '#!/bin/sh\nexec %s "$@"\n' % built, 0o755)
     for number, given in enumerate(["", launcher]):
         os.remove(state.path + "/reports/statement-000001")
-        is_so("in a clone %d" % number, ran([clone + "/nights/ocfl-scrub-reports", "statement",
+        check("in a clone %d" % number, ran([clone + "/nights/ocfl-scrub-reports", "statement",
                                              state.path, "1"], OCFL_SCRUB=given), (0, "", ""))
-        is_so("it is not the launcher's digest", wanted[0] in
+        check("it is not the launcher's digest", wanted[0] in
               state.has("reports/statement-000001"), True)
 
 
@@ -279,14 +280,14 @@ def seals(folder):
     text = text_of(made, state)
     reports = state.path + "/reports/"
     asked = ["--seal", 'rev "$1" > "$1.asc" && ls > "$1.names"', state.path, 2]
-    is_so("sealed", ask("statement", *asked, OCFL_SCRUB=made), (0, "", ""))
-    is_so("the seal", (state.has("reports/statement-000002"),
+    check("sealed", ask("statement", *asked, OCFL_SCRUB=made), (0, "", ""))
+    check("the seal", (state.has("reports/statement-000002"),
                        state.has("reports/statement-000002.asc")),
           (text, "".join(row[::-1] + "\n" for row in text.splitlines())))
-    is_so("the statement lay alone", state.has("reports/statement-000002.names"),
+    check("the statement lay alone", state.has("reports/statement-000002.names"),
           "statement-000002\nstatement-000002.asc\nstatement-000002.names\n")
     asked[1] = 'echo again > "$1.again"'
-    is_so("once", (ask("statement", *asked, OCFL_SCRUB=made), os.path.exists(
+    check("once", (ask("statement", *asked, OCFL_SCRUB=made), os.path.exists(
         reports + "statement-000002.again")), ((0, "", ""), False))
     for name in ["asc", "names"]:
         os.remove(reports + "statement-000002." + name)
@@ -296,13 +297,13 @@ def seals(folder):
             ("changes it", 'echo x >> "$1"; cp "$1" "$1.asc"', "changed the statement")]:
         asked[1] = command
         status, _, said = ask("statement", *asked, OCFL_SCRUB=made)
-        is_so("a seal that " + name, (status, reason in said, state.has("reports/statement-000002"),
+        check("a seal that " + name, (status, reason in said, state.has("reports/statement-000002"),
                                       sorted(os.listdir(reports))[4:]),
               (3, True, text, ["statement-000002", "statement-000002.json"]))
     asked[1] = 'echo mended > "$1.asc"'
-    is_so("made up for", (ask("statement", *asked, OCFL_SCRUB=made)[0],
+    check("made up for", (ask("statement", *asked, OCFL_SCRUB=made)[0],
                           state.has("reports/statement-000002.asc")), (0, "mended\n"))
-    told_seals(folder)
+    documented_seals(folder)
 
 
 # An authority of our own in the place of that of the page, and what asks it in the place of curl.
@@ -338,35 +339,35 @@ def make_keys(home):
                    "-addext", "extendedKeyUsage=critical,timeStamping", "-keyout",
                    home + "/tsa.key", "-out", home + "/tsa.pem"]]:
         if shutil.which(words[0]):
-            is_so("a key of " + words[0], ran(words, HOME=home)[0], 0)
+            check("a key of " + words[0], ran(words, HOME=home)[0], 0)
 
 
-def told_seals(folder):
+def documented_seals(folder):
     """The seals of nights/README.md, and what checks them; those whose tool is not here are not
     tried."""
     page = read(TOP + "/nights/README.md")
     command = "ocfl-scrub-reports statement --seal '(.*)' ~/audit 1"
     told = re.findall(r"^    %s\n    (.*)\n" % command, page, re.M)
-    is_so("seals told", [seal.split()[0] for seal, _ in told], ["gpg", "minisign", "openssl"])
+    check("seals told", [seal.split()[0] for seal, _ in told], ["gpg", "minisign", "openssl"])
     home = folder + "/home"
     make_keys(home)
-    for seal, check in told:
+    for seal, command in told:
         tool = seal.split()[0]
         if not shutil.which(tool):
             continue
         state, made = audited(folder + "/" + tool)
         os.rename(state.path, home + "/audit")
         given = {"HOME": home, "OCFL_SCRUB": made, "PATH": home + "/bin:" + os.environ["PATH"]}
-        is_so("sealed by " + tool, ask("statement", "--seal", seal, home + "/audit", 1, **given)[0],
+        check("sealed by " + tool, ask("statement", "--seal", seal, home + "/audit", 1, **given)[0],
               0)
-        checked = ["sh", "-c", "cd %s/audit/reports && %s" % (home, check)]
-        is_so("seen by " + tool, ran(checked, HOME=home)[0], 0)
+        checked = ["sh", "-c", "cd %s/audit/reports && %s" % (home, command)]
+        check("seen by " + tool, ran(checked, HOME=home)[0], 0)
         for name in ["statement-000001", "statement-000001.asc"]:
             file = home + "/audit/reports/" + name
             if os.path.exists(file):
                 kept = read(file)
                 write(file, kept.replace("Cycle: 1", "Cycle: 7"))
-                is_so("%s changed, by %s" % (name, tool), ran(checked, HOME=home)[0] != 0, True)
+                check("%s changed, by %s" % (name, tool), ran(checked, HOME=home)[0] != 0, True)
                 write(file, kept)
         shutil.rmtree(home + "/audit")
 
@@ -380,10 +381,10 @@ def verifying(folder):
     file = state.path + "/reports/statement-000002"
     report = state.path + "/reports/cycle-000002"
     holds = (0, "%s is what statement-000002 says\n" % report, "")
-    is_so("it holds", ask("verify", file), holds)
+    check("it holds", ask("verify", file), holds)
     with open(report, "rb") as plain:
         write(folder + "/other.gz", gzip.compress(plain.read()))
-    is_so("of another copy", ask("verify", file, folder + "/other.gz")[0], 0)
+    check("of another copy", ask("verify", file, folder + "/other.gz")[0], 0)
     counted = ["Report lines", "Broken lines", "Report SHA-256", "Objects", "Findings S08",
                "Content files",
                "Objects without findings", "Files found right", "Bytes found right", "Findings",
@@ -394,22 +395,22 @@ def verifying(folder):
         new = {"yes": "no"}.get(old, old[:-1] + ("1" if old[-1] != "1" else "2"))
         write(file, text.replace("\n%s: %s\n" % (name, old), "\n%s: %s\n" % (name, new)))
         status, out, _ = ask("verify", file)
-        is_so("changed: " + name, (status, out.splitlines()), (1, [
+        check("changed: " + name, (status, out.splitlines()), (1, [
             "%s: the statement says %s, and it is %s" % (name, new, old),
             "%s.json does not say the same as %s" % (file, file)]))
         write(file, text.replace("\n%s: %s\n" % (name, old), "\n"))
-        is_so("missing: " + name, "%s: the statement lacks it, and it is %s" % (name, old) in
+        check("missing: " + name, "%s: the statement lacks it, and it is %s" % (name, old) in
               ask("verify", file)[1], True)
     write(file, text.replace("Findings E007: 1", "Findings E007: 1\nFindings E033: 1"))
-    is_so("a code that is not there", "Findings E033: the statement says 1, and it is 0" in
+    check("a code that is not there", "Findings E033: the statement says 1, and it is 0" in
           ask("verify", file)[1], True)
     write(file, text.replace("Host: ", "Host: x"))
-    is_so("JSON says another host", ask("verify", file)[0], 1)
+    check("JSON says another host", ask("verify", file)[0], 1)
     write(file, text)
     changed_reports(file, report)
     for words, status in [([], 2), ([file, file, file], 2), (["--what"], 2),
                           ([folder + "/none"], 3), ([report], 3), ([file, folder + "/none"], 3)]:
-        is_so("verify %d" % status, ask("verify", *words)[0:2], (status, ""))
+        check("verify %d" % status, ask("verify", *words)[0:2], (status, ""))
 
 
 def changed_reports(file, report):
@@ -420,7 +421,7 @@ def changed_reports(file, report):
                            text.encode() for text in [LINES[1], LINES[0]] + LINES[2:]))]:
         write(report, data)
         status, out, _ = ask("verify", file)
-        is_so("report: " + name, (status, "Report SHA-256: the statement says" in out), (1, True))
+        check("report: " + name, (status, "Report SHA-256: the statement says" in out), (1, True))
     write(report, kept)
 
 
@@ -435,7 +436,7 @@ def premis_of(state, *words):
     if given:
         return given, said
     file = write(state.path + "/premis.xml", out)
-    is_so("valid PREMIS " + " ".join(words), ran(
+    check("valid PREMIS " + " ".join(words), ran(
         ["xmllint", "--noout", "--schema", TOP + "/trials/premis-3.xsd", file])[0], 0)
     tree = xml.etree.ElementTree.fromstring(out)
     objects = {tuple(value.text for value in entry) for entry in
@@ -445,13 +446,13 @@ def premis_of(state, *words):
         outcomes = [tuple(part.text for part in outcome.iter() if part.text.strip())
                     for outcome in event.findall("p:eventOutcomeInformation", NAMES)]
         link = tuple(part.text for part in event.find("p:linkingObjectIdentifier", NAMES))
-        is_so("the link leads to an object", link in objects, True)
+        check("the link leads to an object", link in objects, True)
         identifier = event.find("p:eventIdentifier", NAMES)[1].text
         events.append((identifier[identifier.index("cycle-"):],
                        event.find("p:eventDateTime", NAMES).text, outcomes, link))
     agents = [part.text for part in tree.iter("{%s}agentIdentifierValue" % NAMES["p"])]
     links = {part.text for part in tree.iter("{%s}linkingAgentIdentifierValue" % NAMES["p"])}
-    is_so("the agent", (len(agents), links), (1, set(agents)))
+    check("the agent", (len(agents), links), (1, set(agents)))
     return events
 
 
@@ -473,12 +474,12 @@ def premis(folder):
                        ("o3", b'["id"]'), ("o3-4", b'{"id": 7}')]:
         write(root + "/%s/inventory.json" % name, data)
     state.root = root
-    state.stand("after o")
-    is_so("no statement", premis_of(state)[0], 3)
+    state.put_checkpoint("after o")
+    check("no statement", premis_of(state)[0], 3)
     ask("statement", state.path, 2, OCFL_SCRUB=made)
     name = ("OCFL storage root", "%s:%s" % (os.uname().nodename, root))
     first, last = "2026-02-01T22:00:00Z", "2026-02-03T22:00:00Z"
-    is_so("one for the cycle", premis_of(state), [
+    check("one for the cycle", premis_of(state), [
         ("cycle-000002", last, [("fail", "4 findings in 13 lines; Objects gone: 1; Files gone: 2; "
                                  "Expected objects missing: 1")], name)])
 
@@ -492,26 +493,26 @@ def premis(folder):
             ("cycle-000002:finding:6", first, [fail(LINES[5])], path("o2")),
             ("cycle-000002:finding:11", first, [fail(LINES[10])], path("o3-4")),
             ("cycle-000002:finding:12", first, [fail(LINES[11])], path("o3-4"))]
-    is_so("one for each finding", premis_of(state, "--each", "finding"), each + lost(name))
+    check("one for each finding", premis_of(state, "--each", "finding"), each + lost(name))
     whole = [("cycle-000002:object:3", first, [("pass",)], path("o")),
              ("cycle-000002:object:6", first, [fail(LINES[5])], path("o2")),
              ("cycle-000002:object:9", first, [("pass",)], path("o3")),
              ("cycle-000002:object:10", first, [fail(LINES[10]), fail(LINES[11])], path("o3-4"))]
-    is_so("one for each object", premis_of(state, "--each", "object"),
+    check("one for each object", premis_of(state, "--each", "object"),
           each[:1] + whole + lost(name))
     with_id = whole[0][:3] + (("OCFL object id", identity.replace("\x01", "\ufffd")),)
-    is_so("with ids", premis_of(state, "--ids", "--each", "object"),
+    check("with ids", premis_of(state, "--ids", "--each", "object"),
           each[:1] + [with_id] + whole[1:] + lost(name))
     strange_paths(folder, state, root, made)
     for words in [[], [state.path], ["--each", "x", state.path, 2], [state.path, "0"]]:
-        is_so("usage of premis", ask("premis", *words)[0:2], (2, ""))
+        check("usage of premis", ask("premis", *words)[0:2], (2, ""))
     shutil.rmtree(root)
-    is_so("no root", premis_of(state, "--ids")[0], 3)
+    check("no root", premis_of(state, "--ids")[0], 3)
     file = state.path + "/reports/statement-000002"
     write(file, text.replace("Whole: yes", "Whole: no"))
     for words in [[], ["--each", "object"]]:
-        is_so("of a report that is not whole", premis_of(state, *words)[0], 3)
-    is_so("findings of it", len(premis_of(state, "--each", "finding")), 8)
+        check("of a report that is not whole", premis_of(state, *words)[0], 3)
+    check("findings of it", len(premis_of(state, "--each", "finding")), 8)
 
 
 def strange_paths(folder, state, root, made):
@@ -524,7 +525,7 @@ def strange_paths(folder, state, root, made):
     kept = common.read(state.path + "/reports/cycle-000002")
     write(state.path + "/reports/cycle-000002", "".join(line("ok", path) for path in shown))
     ids = [event[3][1] for event in premis_of(state, "--ids", "--each", "object")[:-4]]
-    is_so("ids of strange paths", ids, ["id %d" % number for number in range(len(paths))])
+    check("ids of strange paths", ids, ["id %d" % number for number in range(len(paths))])
     write(state.path + "/reports/cycle-000002", kept)
 
 
@@ -556,16 +557,16 @@ def takes_little(folder):
         began = used()
         traced = ["strace", "-f", "--quiet=all", "-y", "-e", "trace=open,openat", "-o", calls]
         given, out, said = ran(traced + limited, OCFL_SCRUB=made)
-        is_so("%s within 100 MB" % name, (given, said), (2 if name == "status" else 0, ""))
+        check("%s within 100 MB" % name, (given, said), (2 if name == "status" else 0, ""))
         opened = [row for row in read(calls).splitlines() if row.endswith("<%s>" % report)]
-        is_so("%s opens the report once" % name, len(opened), 1)
-        is_so("%s takes less than a minute" % name, used() - began < 60, True)
+        check("%s opens the report once" % name, len(opened), 1)
+        check("%s takes less than a minute" % name, used() - began < 60, True)
     text = state.has("reports/statement-000002")
-    is_so("it counts all", ["Report lines: 1000001\n" in text, "Findings E072: 250000\n" in text],
+    check("it counts all", ["Report lines: 1000001\n" in text, "Findings E072: 250000\n" in text],
           [True, True])
 
 
-def tell(folder):
+def check_all(folder):
     tools(PACKAGES)
     tried(table_of_codes)
     for part in [findings, many_findings, statement, incomplete_statement, real_program, seals,
@@ -574,4 +575,4 @@ def tell(folder):
         tried(part, os.path.join(folder, part.__name__))
 
 
-common.trial(tell, needs=["strace"])
+common.run_trial(check_all, needs=["strace"])

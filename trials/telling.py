@@ -23,12 +23,12 @@ import shutil
 import subprocess
 
 import common
-from common import PROGRAM, is_so
+from common import PROGRAM, check
 from shared.nights import (NIGHTS, REPORTS, WRONG_B, Nights, make_root, ran, read, tried_apart,
                            write)
 
 
-def tell_words(nights):
+def words_of_tell(nights):
     return [REPORTS, "tell", "archive", nights.state]
 
 
@@ -55,7 +55,7 @@ def in_service(nights, number, program=PROGRAM, **environment):
     environment = {"INVOCATION_ID": "night%d" % number, "MAIL": "", "JOURNAL": "", **environment}
     os.makedirs(nights.state, exist_ok=True)
     status, out, said = ran(words, OCFL_SCRUB=program, **environment)
-    told = ran(tell_words(nights), EXIT_CODE="exited", EXIT_STATUS=str(status), **environment)
+    told = ran(words_of_tell(nights), EXIT_CODE="exited", EXIT_STATUS=str(status), **environment)
     return status, out + said + told[1] + told[2]
 
 
@@ -63,22 +63,22 @@ def by_hand(folder):
     nights = Nights(folder + "/state", "")
     write(nights.path("tonight.a"), "1 finding\n")
     mail = mailing(folder)
-    tell = tell_words(nights)
-    is_so("told of 1", ran(tell, EXIT_CODE="exited", EXIT_STATUS="1", **mail), (0, "", ""))
-    is_so("mail", read(folder + "/mailed"),
+    tell = words_of_tell(nights)
+    check("told of 1", ran(tell, EXIT_CODE="exited", EXIT_STATUS="1", **mail), (0, "", ""))
+    check("mail", read(folder + "/mailed"),
           "-s ocfl-scrub: findings in archive her@example.org\n1 finding\n")
     write(nights.path("tonight.b"), "2 findings\n")
     status, _, said = ran(tell, EXIT_CODE="exited", EXIT_STATUS="3", MAIL="")
-    is_so("told of 3", (status, said.splitlines()),
+    check("told of 3", (status, said.splitlines()),
           (0, ["ocfl-scrub: archive: the night stopped with status 3", "2 findings"]))
-    is_so("what was sent last", nights.has("tonight"), "2 findings\n")
+    check("what was sent last", nights.has("tonight"), "2 findings\n")
     status, _, said = ran(tell, EXIT_CODE="killed", EXIT_STATUS="KILL", SERVICE_RESULT="oom-kill",
                           MAIL="")
-    is_so("told of a kill", said.splitlines()[:1],
+    check("told of a kill", said.splitlines()[:1],
           ["ocfl-scrub: archive: the night was killed (KILL, oom-kill)"])
     os.remove(folder + "/mailed")
-    is_so("told of 0", ran(tell, EXIT_CODE="exited", EXIT_STATUS="0", **mail), (0, "", ""))
-    is_so("no mail", read(folder + "/mailed"), None)
+    check("told of 0", ran(tell, EXIT_CODE="exited", EXIT_STATUS="0", **mail), (0, "", ""))
+    check("no mail", read(folder + "/mailed"), None)
 
 
 def once(folder):
@@ -86,13 +86,13 @@ def once(folder):
     nights = Nights(folder + "/state", make_root(folder + "/root"))
     write(nights.root + "/o/v1/content/b", "b")
     status, said = in_service(nights, 1)
-    is_so("in the journal once", (status, said.count(WRONG_B)), (1, 1))
+    check("in the journal once", (status, said.count(WRONG_B)), (1, 1))
     mail = mailing(folder)
     status, said = in_service(nights, 2, **mail)
-    is_so("by mail", (read(folder + "/mailed") or "").count(WRONG_B), 1)
-    is_so("and not in the journal", (status, said), (1, ""))
+    check("by mail", (read(folder + "/mailed") or "").count(WRONG_B), 1)
+    check("and not in the journal", (status, said), (1, ""))
     status, said = in_service(nights, 3, JOURNAL="yes", **mail)
-    is_so("in both where asked", ((read(folder + "/mailed") or "").count(WRONG_B),
+    check("in both where asked", ((read(folder + "/mailed") or "").count(WRONG_B),
                                   said.count(WRONG_B)), (1, 1))
 
 
@@ -103,20 +103,20 @@ def of_this_night(folder):
     in_service(nights, 1)
     root, nights.root = nights.root, ""
     status, said = in_service(nights, 2)
-    is_so("no root", (status in (2, 3), "E092" in said), (True, False))
+    check("no root", (status in (2, 3), "E092" in said), (True, False))
     nights.root = root
     write(folder + "/no_program", "#!/none\n", 0o755)
     status, said = in_service(nights, 3, program=folder + "/no_program", PATH="/none")
-    is_so("nothing can be run", "E092" in said, False)
+    check("nothing can be run", "E092" in said, False)
     os.rename(root, root + ".away")
     status, said = in_service(nights, 4)
-    is_so("not mounted", (status, "E092" in said, said.count(root)), (3, False, 1))
+    check("not mounted", (status, "E092" in said, said.count(root)), (3, False, 1))
     os.rename(root + ".away", root)
     shutil.copytree(nights.state, folder + "/kept")
     shutil.rmtree(nights.state)
     os.mkdir(nights.state)
     words = [NIGHTS + "/nightly", "--for-tell", "--state", nights.state, root]
-    is_so("an empty folder is not begun anew", (ran(words, INVOCATION_ID="night5")[0], "--create"
+    check("an empty folder is not begun anew", (ran(words, INVOCATION_ID="night5")[0], "--create"
                                                 in (nights.has("tonight.night5") or "")), (3, True))
 
 
@@ -127,8 +127,8 @@ def a_word_of_a_good_night(folder):
     in_service(nights, 1)
     write(nights.root + "/o/v1/content/b", "")
     status, said = in_service(nights, 2)
-    is_so("told", (status, "a word on the night" in said, "repaired" in said), (0, True, True))
-    is_so("silent again", in_service(nights, 3), (0, ""))
+    check("told", (status, "a word on the night" in said, "repaired" in said), (0, True, True))
+    check("silent again", in_service(nights, 3), (0, ""))
 
 
 def under_way(folder):
@@ -139,9 +139,10 @@ def under_way(folder):
     holding = "exec flock '%s' sh -c 'echo held; read word'" % nights.path("lock")
     held = subprocess.Popen(["sh", "-c", holding], stdin=subprocess.PIPE, stdout=subprocess.PIPE)
     held.stdout.readline()
-    is_so("not yet", (told(nights, 1, 0), nights.has("tonight.other")), ((0, ""), "half a text\n"))
+    check("not yet", (run_tell(nights, 1, 0), nights.has("tonight.other")),
+          ((0, ""), "half a text\n"))
     held.communicate(b"\n")
-    is_so("then", told(nights, 1, 0)[1].count("half a text"), 1)
+    check("then", run_tell(nights, 1, 0)[1].count("half a text"), 1)
 
 
 def links(folder):
@@ -152,13 +153,14 @@ def links(folder):
     for name in ["tonight", "tonight.night1"]:
         os.symlink(folder + "/secret", nights.path(name))
     for environment in [{}, {"INVOCATION_ID": "night1"}]:
-        said = ran(tell_words(nights), EXIT_CODE="exited", EXIT_STATUS="1", MAIL="", **environment)
-        is_so("not shown", ["secret" in text for text in said[1:]], [False, False])
+        said = ran(words_of_tell(nights), EXIT_CODE="exited", EXIT_STATUS="1", MAIL="",
+                   **environment)
+        check("not shown", ["secret" in text for text in said[1:]], [False, False])
     write(nights.root + "/o/v1/content/b", "b")
     in_service(nights, 1)
-    is_so("not written", read(folder + "/secret"), "secret\n")
+    check("not written", read(folder + "/secret"), "secret\n")
     in_service(nights, 2)
-    is_so("nor as the last text", (read(folder + "/secret"), os.path.islink(
+    check("nor as the last text", (read(folder + "/secret"), os.path.islink(
         nights.path("tonight"))), ("secret\n", False))
 
 
@@ -174,9 +176,9 @@ def as_the_user(folder):
     os.chown(folder + "/state", 65534, 65534)
     said = ran([folder + "/nights/ocfl-scrub-reports", "tell", "archive", folder + "/state"],
                EXIT_CODE="exited", EXIT_STATUS="1", MAIL="")
-    is_so("as the user", "secret" in said[2], False)
+    check("as the user", "secret" in said[2], False)
     unit = read(NIGHTS + "/systemd/ocfl-scrub-tell@.service")
-    is_so("the service too", re.findall(r"^(?:User=.*|ExecStart=.)", unit, re.MULTILINE),
+    check("the service too", re.findall(r"^(?:User=.*|ExecStart=.)", unit, re.MULTILINE),
           ["User=ocfl-scrub", "ExecStart=/"])
 
 
@@ -192,9 +194,9 @@ def night_alone(nights, number):
     return nights.night("--for-tell", INVOCATION_ID="night%d" % number)[0]
 
 
-def told(nights, number, status, **environment):
+def run_tell(nights, number, status, **environment):
     """What tells of a night: its status, and what it says."""
-    done = ran(tell_words(nights), EXIT_CODE="exited", EXIT_STATUS=str(status),
+    done = ran(words_of_tell(nights), EXIT_CODE="exited", EXIT_STATUS=str(status),
                INVOCATION_ID="night%d" % number, **{"MAIL": "", "JOURNAL": "", **environment})
     return done[0], done[1] + done[2]
 
@@ -207,21 +209,22 @@ def not_sent(folder):
         there = "%s/%s" % (folder, name)
         nights = Nights(there + "/state", make_root(there + "/root"))
         write(nights.root + "/o/v1/content/b", "b")
-        is_so(name + ": found", night_alone(nights, 1), 1)
+        check(name + ": found", night_alone(nights, 1), 1)
         if body:
-            given = told(nights, 1, 1, **given_up(there, body))
-            is_so(name + ": not sent", given[0] != 0, True)
+            given = run_tell(nights, 1, 1, **given_up(there, body))
+            check(name + ": not sent", given[0] != 0, True)
         if name == "failed":
-            is_so("the journal has what no mail had", given[1].count(WRONG_B), 1)
+            check("the journal has what no mail had", given[1].count(WRONG_B), 1)
         write(nights.root + "/o/v1/content/b", "")
         status = night_alone(nights, 2)
         mail = mailing(there)
-        is_so(name + ": sent", (told(nights, 2, status, **mail)[0], (read(there + "/mailed") or ""
-                                                                    ).count(WRONG_B)), (0, 2))
+        told = run_tell(nights, 2, status, **mail)[0]
+        mailed = read(there + "/mailed") or ""
+        check(name + ": sent", (told, mailed.count(WRONG_B)), (0, 2))
         os.remove(there + "/mailed")
         status = night_alone(nights, 3)
-        told(nights, 3, status, **mail)
-        is_so(name + ": once", (status, read(there + "/mailed")), (0, None))
+        run_tell(nights, 3, status, **mail)
+        check(name + ": once", (status, read(there + "/mailed")), (0, None))
 
 
 def sent(folder):
@@ -229,14 +232,14 @@ def sent(folder):
     nights = Nights(folder + "/state", make_root(folder + "/root"))
     write(nights.root + "/o/v1/content/b", "b")
     mail = mailing(folder)
-    is_so("sent", told(nights, 1, night_alone(nights, 1), **mail)[0], 0)
-    is_so("by mail", (read(folder + "/mailed") or "").count(WRONG_B), 1)
+    check("sent", run_tell(nights, 1, night_alone(nights, 1), **mail)[0], 0)
+    check("by mail", (read(folder + "/mailed") or "").count(WRONG_B), 1)
     os.remove(folder + "/mailed")
     os.makedirs(nights.root + "/extensions")
     nights.part()
-    is_so("not by the next night", (told(nights, 2, 0, **mail), read(folder + "/mailed")),
+    check("not by the next night", (run_tell(nights, 2, 0, **mail), read(folder + "/mailed")),
           ((0, ""), None))
-    is_so("the last text is still there", (nights.has("tonight") or "").count(WRONG_B), 1)
+    check("the last text is still there", (nights.has("tonight") or "").count(WRONG_B), 1)
 
 
 def no_text(folder):
@@ -244,9 +247,9 @@ def no_text(folder):
     nights = Nights(folder + "/state", make_root(folder + "/root"))
     write(nights.root + "/o/v1/content/b", "b")
     night_alone(nights, 1)
-    told(nights, 1, 1)
-    said = told(nights, 1, 1)[1]
-    is_so("a second call", ("sent already" in said, "The journal has the text" in said),
+    run_tell(nights, 1, 1)
+    said = run_tell(nights, 1, 1)[1]
+    check("a second call", ("sent already" in said, "The journal has the text" in said),
           (True, False))
 
 
@@ -255,13 +258,13 @@ def not_begun(folder):
     nights = Nights(folder + "/state", make_root(folder + "/root"))
     nights.night()
     given = {"EXIT_CODE": "", "EXIT_STATUS": "", "INVOCATION_ID": "night1", "MAIL": ""}
-    said = ran(tell_words(nights), SERVICE_RESULT="resources", **given)[2]
-    is_so("a night that did not begin", said.splitlines()[:1],
+    said = ran(words_of_tell(nights), SERVICE_RESULT="resources", **given)[2]
+    check("a night that did not begin", said.splitlines()[:1],
           ["ocfl-scrub: archive: the night did not begin (resources)"])
-    is_so("a good night", ran(tell_words(nights), SERVICE_RESULT="success", **{
+    check("a good night", ran(words_of_tell(nights), SERVICE_RESULT="success", **{
         **given, "EXIT_CODE": "exited", "EXIT_STATUS": "0"}), (0, "", ""))
     unit = read(NIGHTS + "/systemd/ocfl-scrub@.service")
-    is_so("no night is left out without a word", re.findall("(?m)^Condition.*", unit), [])
+    check("no night is left out without a word", re.findall("(?m)^Condition.*", unit), [])
 
 
 def names(folder):
@@ -279,12 +282,12 @@ def names(folder):
             write(nights.path("tonight.a"), text)
             words = [REPORTS, "tell", "--", name, nights.state]
             ran(words, EXIT_CODE="exited", EXIT_STATUS="1", **mail)
-            is_so("the subject of %r" % name, read(folder + "/subject"),
+            check("the subject of %r" % name, read(folder + "/subject"),
                   "ocfl-scrub: findings in %s\n" % shown)
-            is_so("no such byte in its text", [part in (read(folder + "/body") or "") for part in [
+            check("no such byte in its text", [part in (read(folder + "/body") or "") for part in [
                 "\nBcc", "\r", "\033", "\u009b", "\nSubject"]], [False] * 5)
             said = ran(words, EXIT_CODE="exited", EXIT_STATUS="1", MAIL="")[2]
-            is_so("nor in the journal", said.splitlines()[:1],
+            check("nor in the journal", said.splitlines()[:1],
                   ["ocfl-scrub: findings in " + shown])
 
 
@@ -294,9 +297,9 @@ def of_a_user(folder):
     of_all = read(NIGHTS + "/systemd/ocfl-scrub@.service").replace("\\\n", " ")
     at = {"%h/.local/state/ocfl-scrub/%i": "%S/ocfl-scrub/%i"}
     starts = [re.search("(?m)^ExecStart=(.*)$", text)[1].split() for text in [unit, of_all]]
-    is_so("the same night", [at.get(word, word) for word in starts[0]], starts[1])
+    check("the same night", [at.get(word, word) for word in starts[0]], starts[1])
     after = re.search("(?m)^ExecStopPost=(.*)$", unit)[1].split()
-    is_so("and then it is told", after, [
+    check("and then it is told", after, [
         "/usr/local/share/ocfl-scrub/ocfl-scrub-reports", "tell", "--", "%i",
         "%h/.local/state/ocfl-scrub/%i"])
 
@@ -305,8 +308,8 @@ PARTS = [by_hand, once, of_this_night, a_word_of_a_good_night, under_way, links,
          not_sent, sent, no_text, not_begun, names, of_a_user]
 
 
-def tell(folder):
+def check_all(folder):
     tried_apart(PARTS, folder)
 
 
-common.trial(tell)
+common.run_trial(check_all)

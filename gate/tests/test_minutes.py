@@ -61,7 +61,7 @@ class Files(unittest.TestCase):
         self.addCleanup(commands.FAILURES.__setitem__, slice(None), failures)
         commands.FAILURES.clear()
 
-    def told(self, taken):
+    def minutes_after(self, taken):
         """The file after a gate whose processes took so many seconds, by their crates and by
         whether they checked an edit."""
         gate = clock.Clock()
@@ -69,22 +69,23 @@ class Files(unittest.TestCase):
         with mock.patch.object(minutes, "FILE", self.file), \
                 mock.patch.object(minutes, "commit_of", lambda folder: "1234567"), \
                 contextlib.redirect_stdout(io.StringIO()):
-            gate.tell()
+            gate.print_minutes()
         with contextlib.suppress(OSError), open(self.file) as file:
             return file.read()
 
     def test_whole_gate_writes_it(self):
         taken = [(("ocfl_tree", False), 60.0), (("ocfl_tree", True), 30.0),
                  (("ocfl_report", False), 90.0), (("ocfl_tree", True), 60.0), (None, 5.0)]
-        self.assertEqual(self.told(taken), minutes.HEAD + "\nocfl_tree\t1.0\t1.5\t1234567\n"
+        self.assertEqual(self.minutes_after(taken),
+                         minutes.HEAD + "\nocfl_tree\t1.0\t1.5\t1234567\n"
                          "ocfl_report\t1.5\t0.0\t1234567\n")
 
     def test_what_was_kept_has_no_row(self):
-        self.assertIsNone(self.told([(("ocfl_tree", True), 30.0)]))
+        self.assertIsNone(self.minutes_after([(("ocfl_tree", True), 30.0)]))
 
     def test_failed_gate_writes_nothing(self):
         commands.FAILURES.append("an edit")
-        self.assertIsNone(self.told([(("ocfl_tree", False), 60.0)]))
+        self.assertIsNone(self.minutes_after([(("ocfl_tree", False), 60.0)]))
 
 
 if __name__ == "__main__":

@@ -52,7 +52,7 @@ class Program:
             file.write(data)
 
     @contextlib.contextmanager
-    def held(self):
+    def under_way(self):
         """A night is under way."""
         with open(self.path + "/lock", "rb+") as lock:
             fcntl.flock(lock, fcntl.LOCK_EX)
@@ -74,20 +74,20 @@ class Program:
                  status=code, cost=cost, spent=spent, files=1, lines=lines, bytes=100, seconds=60,
                  stands=stands)
 
-    def told(self, day, code=0):
+    def log_night(self, day, code=0):
         self.log(row="night", time=at(night_of(day)) + 3600, night=at(night_of(day)), status=code,
                  runs=len(self.costs), cost=sum(self.costs), seconds=3600, findings=0)
         self.costs = []
 
     def night(self, day, cycle, run, lines, spent, code=0, stands="after o", cost=9):
         self.slice(day, cycle, run, lines, spent, code, stands, cost)
-        self.told(day, code)
+        self.log_night(day, code)
 
     def refuse(self, day, code=3):
         self.log(row="refusal", time=at(night_of(day)), night=at(night_of(day)), status=code,
                  said="is its file system mounted?")
         if not self.has_slices:
-            self.told(day, code)
+            self.log_night(day, code)
 
     def close(self, day, cycle, report, gone=b"", whole=True, left=0):
         name = "reports/%s-%06d" % ("cycle" if whole else "incomplete", cycle)
@@ -104,10 +104,10 @@ def nights_of(made):
     made.slice(1, 1, 1, 3, 9, 1)
     made.slice(1, 1, 2, 7, 18, 1, "ended")
     made.close(1, 1, ONE)
-    made.told(1, 1)
+    made.log_night(1, 1)
     made.slice(2, 2, 1, 7, 18, 1, "ended", 18)
     made.close(2, 2, TWO, GONE)
-    made.told(2, 1)
+    made.log_night(2, 1)
     made.refuse(3)
     made.night(4, 3, 1, 2, 6, cost=6)
     made.put("report", b"ok\t.\t-\nok\to\t-\n")
@@ -271,7 +271,7 @@ class WithoutSlices(Asked):
             made.slice(day, 1, day, 3, 9)
             if day == 3:
                 made.close(day, 1, ONE)
-            made.told(day)
+            made.log_night(day)
         self.assertEqual(self.ask("unverified", "2026-03-02", made.path)[1].count("2026-03-01"), 2)
         self.assertEqual(self.ask("unverified", "2026-03-01", made.path)[1],
                          "never\to/a\tE092\t1\n")
@@ -285,10 +285,10 @@ class Brief(Asked):
         made = Program(self.at("state"))
         for run in (1, 2):
             made.slice(1, 3, run, 3, 9 * run)
-        made.told(1)
+        made.log_night(1)
         made.slice(2, 3, 3, 3, 27)
         made.slice(3, 3, 4, 3, 36)
-        made.told(3)
+        made.log_night(3)
         folder = state.open_state(made.path)
         self.assertEqual([(it.kind, it.cycle, it.runs, it.cost, it.spent, it.stands)
                           for it in folder.entries(True) if it.is_run()],
@@ -308,7 +308,7 @@ class Log(Asked):
 
     def test_a_night_that_was_cut(self):
         self.made.slice(1, 1, 1, 3, 9)
-        with self.made.held():
+        with self.made.under_way():
             self.assertEqual(self.kinds(), [("0", 1, 1)])
         self.assertEqual(self.kinds(), [("0", 1, 1), ("cut", 1, 1)])
         self.made.night(2, 1, 2, 5, 18)
@@ -321,7 +321,7 @@ class Log(Asked):
         self.made.night(1, 1, 1, 3, 9, 3)
         self.made.slice(2, 1, 2, 3, 9)
         now = ["--now", "2026-03-02T23:00:00Z"]
-        with self.made.held():
+        with self.made.under_way():
             self.assertIn("status 3, under way;", self.ask("status", *now, self.made.path)[1])
         self.assertIn("a night was cut;", self.ask("status", *now, self.made.path)[1])
         self.made.slice(3, 1, 3, 3, 9)
@@ -331,7 +331,7 @@ class Log(Asked):
     def test_a_night_that_was_cut_after_a_closing(self):
         """What the log has of it is the row of the closing."""
         self.made.close(1, 1, ONE)
-        self.made.told(2)
+        self.made.log_night(2)
         self.assertEqual(self.kinds(), [("ended", 1, 0), ("cut", 1, 0), ("told", 0, 0)])
         self.made.rows.pop()
         self.made.save()
@@ -374,7 +374,7 @@ class Log(Asked):
         made = Program(self.at("mute"), has_slices=False)
         for day in (1, 2):
             made.slice(day, day, 1, 7, 9)
-            made.told(day)
+            made.log_night(day)
             made.put("reports/cycle-%06d" % day, ONE)
         for cycle in (1, 2):
             self.assertEqual(self.ask("statement", made.path, cycle), (0, "", ""))
@@ -457,11 +457,11 @@ class LeftOut(Asked):
         made = Program(self.at("state"), cycle=1)
         made.slice(1, 1, 1, 3, 9)
         self.leave(made, places)
-        made.told(1, 3)
+        made.log_night(1, 3)
         first = self.ask("status", *NOW, made.path)[1]
         made.slice(2, 1, 2, 7, 18, stands="ended")
         made.close(2, 1, ONE, whole=False)
-        made.told(2, 3)
+        made.log_night(2, 3)
         return first, self.ask("status", *NOW, made.path)[1]
 
     @staticmethod
@@ -479,12 +479,12 @@ class LeftOut(Asked):
     def test_three_are_named_at_most(self):
         self.assertIn(": left out a, b, c, 2 more; ", self.status_after(*"abcde")[0])
 
-    def stated(self, *places, left=2):
+    def check_statement(self, *places, left=2):
         made = Program(self.at("state"))
         made.slice(1, 1, 1, 3, 9)
         self.leave(made, places)
         made.close(1, 1, ONE, whole=False, left=left)
-        made.told(1, 3)
+        made.log_night(1, 3)
         self.assertEqual(self.ask("statement", made.path, 1), (0, "", ""))
         file = made.path + "/reports/statement-000001"
         self.assertEqual(self.ask("verify", file)[0], 0)
@@ -492,7 +492,7 @@ class LeftOut(Asked):
             return made, made_text.read(), json.load(same)
 
     def test_named(self):
-        made, text, same = self.stated("b%0A", "c/d")
+        made, text, same = self.check_statement("b%0A", "c/d")
         self.assertIn("\nWhole: no\nPlaces left out: 2\nPlace left out 1: b%0A\n"
                       "Place left out 2: c/d\nReport lines", text)
         self.assertIn("\nLost lines: none\n", text)
@@ -507,7 +507,7 @@ class LeftOut(Asked):
 
     def test_counted(self):
         """The rows that name them are lost."""
-        self.assertIn("\nPlaces left out: 2\nReport lines", self.stated()[1])
+        self.assertIn("\nPlaces left out: 2\nReport lines", self.check_statement()[1])
 
     def test_of_the_open_cycle(self):
         made = Program(self.at("state"))
@@ -738,11 +738,11 @@ class Joined(Asked):
         for number in parts:
             self.parts[number].close(day, cycle, TWO, gone if number == 0 else b"")
             self.parts[number].rows[-1]["time"] += 3600 * number
-            self.parts[number].told(day)
+            self.parts[number].log_night(day)
         self.put(TWO if gone else ONE, "state/reports/cycle-%06d" % cycle)
         self.put(gone, "state/reports/gone-%06d" % cycle)
 
-    def stated(self, cycle):
+    def check_statement(self, cycle):
         """The statement of a cycle, which holds."""
         self.assertEqual(self.ask("statement", self.at("state"), cycle), (0, "", ""))
         file = self.at("state/reports/statement-%06d" % cycle)
@@ -755,11 +755,11 @@ class Joined(Asked):
         for day in (1, 2):
             self.nights(day, day)
             self.closed(day, day, GONE if day == 2 else b"")
-        text = self.stated(1)
+        text = self.check_statement(1)
         for row in ["Closed: 2026-03-01T23:30:00Z", "Compared with cycle: nothing",
                     "Objects gone: not known"]:
             self.assertIn("\n%s\n" % row, text)
-        text = self.stated(2)
+        text = self.check_statement(2)
         for row in ["Closed: 2026-03-02T23:30:00Z", "Compared with cycle: 1", "New findings: 1",
                     "Former findings: 1", "Objects gone: 1", "Files gone: 1",
                     "Report compared with, SHA-256: " + hashlib.sha256(ONE).hexdigest()]:
@@ -771,7 +771,8 @@ class Joined(Asked):
         for day in (1, 2):
             self.nights(day, day)
             self.closed(day, day, GONE if day == 2 else b"")
-        text = re.sub("Nights cut: .*\n|Places left out: .*\n", "", self.stated(2)).replace(
+        text = self.check_statement(2)
+        text = re.sub("Nights cut: .*\n|Places left out: .*\n", "", text).replace(
             "Compared with cycle: 1", "Compared with cycle: nothing").replace(
             "gone: 1", "gone: not known")
         text = re.sub("(SHA-256: )[0-9a-f]+(\nNew findings: )1\n(.*)1", r"\1no report\2not known"
@@ -789,7 +790,7 @@ class Joined(Asked):
         for day in (1, 2):
             self.nights(day, day)
             self.closed(day, day, GONE if day == 2 else b"", (0,) if day == 2 else (0, 1))
-        text = self.stated(2)
+        text = self.check_statement(2)
         for row in ["Closed: not known", "Compared with cycle: nothing", "Objects gone: 1",
                     "Files gone: 1"]:
             self.assertIn("\n%s\n" % row, text)
@@ -801,7 +802,7 @@ class Finishing(Asked):
         for day in (5, 6):
             made.slice(day, day - 2, 1, 7, 18, 1, "ended")
             made.close(day, day - 2, TWO, whole=day == 5)
-            made.told(day)
+            made.log_night(day)
         seal = ["--seal", 'rev "$1" > "$1.rev"']
         self.assertEqual(self.ask("finish", *seal, made.path), (0, "", ""))
         names = os.listdir(made.path + "/reports")
@@ -828,12 +829,12 @@ class Finishing(Asked):
 
     def test_while_a_night_runs(self):
         made = nights_of(Program(self.at("state")))
-        with made.held():
+        with made.under_way():
             self.assertEqual(self.ask("finish", made.path)[0], 75)
 
 
 class Telling(Asked):
-    def tell(self, made, **given):
+    def run_tell(self, made, **given):
         given = {"MAIL": "", "JOURNAL": "", "EXIT_CODE": "exited", **given}
         with mock.patch.dict(os.environ, given):
             return self.ask("tell", "archive", made.path)
@@ -845,27 +846,27 @@ class Telling(Asked):
             os.utime(os.path.join(made.path, name), (at_, at_))
         os.symlink(self.put(b"secret\n", "secret"), made.path + "/tonight.link")
         given = {"INVOCATION_ID": "c", "EXIT_STATUS": "0"}
-        self.assertEqual(self.tell(made, **given), (0, "", "ocfl-scrub: archive: a word on the "
+        self.assertEqual(self.run_tell(made, **given), (0, "", "ocfl-scrub: archive: a word on the "
                          "night\ntext of tonight.b\ntext of tonight.a\ntext of tonight.c\n"))
         self.assertEqual(sorted(it for it in os.listdir(made.path) if it.startswith("ton")),
                          ["tonight", "tonight.d.new", "tonight.link"])
-        self.assertEqual(self.tell(made, **given), (0, "", ""))
+        self.assertEqual(self.run_tell(made, **given), (0, "", ""))
 
     def test_what_a_night_still_writes_is_not_sent(self):
         made = nights_of(Program(self.at("state")))
         for name in ("tonight.own", "tonight.other"):
             made.put(name, b"of %s\n" % name.encode())
-        with made.held():
-            said = self.tell(made, INVOCATION_ID="own", EXIT_STATUS="1")[2]
+        with made.under_way():
+            said = self.run_tell(made, INVOCATION_ID="own", EXIT_STATUS="1")[2]
         self.assertEqual(said.splitlines()[1:], ["of tonight.own"])
-        self.assertEqual(self.tell(made, EXIT_STATUS="0")[2].splitlines()[1:],
+        self.assertEqual(self.run_tell(made, EXIT_STATUS="0")[2].splitlines()[1:],
                          ["of tonight.other"])
 
     def test_what_could_not_be_sent_stays(self):
         made = nights_of(Program(self.at("state")))
         made.put("tonight.a", b"text\n")
         given = {"INVOCATION_ID": "b", "EXIT_STATUS": "1", "MAIL": "me", "PATH": "/none"}
-        status_, _, said = self.tell(made, **given)
+        status_, _, said = self.run_tell(made, **given)
         self.assertEqual((status_, "text\n" in said), (3, True))
         self.assertTrue(os.path.exists(made.path + "/tonight.a"))
 

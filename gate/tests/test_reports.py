@@ -36,7 +36,7 @@ class Folder(unittest.TestCase):
             file.write(data)
         return path
 
-    def said(self, does, *given):
+    def output_of(self, does, *given):
         """What a function writes to standard output."""
         out = io.TextIOWrapper(io.BytesIO(), write_through=True)
         with contextlib.redirect_stdout(out):
@@ -130,7 +130,7 @@ class Questions(Folder):
         paths = [self.put(b"".join(it + b"\n" for it in lines), name)
                  for name, lines in (("newer", newer), ("older", older))]
         with mock.patch.object(questions, "HELD", 7):
-            found = self.said(questions.show_findings, paths[:1], paths[1])
+            found = self.output_of(questions.show_findings, paths[:1], paths[1])
         self.assertEqual(found.splitlines(), [it for it in newer if it not in older])
 
     def test_lacking_with_few_in_memory(self):
@@ -224,5 +224,5 @@ class Changes(Folder):
         rows.sort(key=lambda it: (it.split(b"\t")[2], it[:1] != b"-", it))
         for parts in (1, 3, 128):
             with mock.patch.object(questions, "PARTS", parts):
-                found = self.said(questions.show_changed, *paths)
+                found = self.output_of(questions.show_changed, *paths)
             self.assertEqual(found.splitlines(), rows)

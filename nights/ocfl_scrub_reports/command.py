@@ -327,8 +327,8 @@ def main(words: Sequence[str] | None = None) -> int:
         sys.stdout.flush()
         return int(code)
     except Failed as error:
-        files.say(str(error))
+        files.print_error(str(error))
         return error.status
     except (OSError, ValueError, sqlite3.Error) as error:
-        files.say("%s: %s" % (PROGRAM, error))
+        files.print_error("%s: %s" % (PROGRAM, error))
         return 3

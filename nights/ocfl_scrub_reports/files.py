@@ -17,7 +17,7 @@ BLOCK = 1 << 20
 PACKED = 1 << 15
 
 
-def say(text: str) -> None:
+def print_error(text: str) -> None:
     """Writes a line to standard error."""
     print(text, file=sys.stderr, flush=True)
 

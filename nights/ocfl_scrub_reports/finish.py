@@ -17,7 +17,7 @@ HELD = 75
 
 
 @contextmanager
-def held(state: State) -> Iterator[None]:
+def hold_lock(state: State) -> Iterator[None]:
     """Holds the lock of a folder, as a night does."""
     path = state.at("lock")
     refuse_links(path)
@@ -35,7 +35,7 @@ def finish(state: State, seal: str | None, known: str | None, keep: int | None) 
     and removes those that are not to be kept. Gives 3 if a statement could not be made or
     sealed."""
     state.refuse_links()
-    with held(state):
+    with hold_lock(state):
         status = max([make_statement(state, it, seal, known) for it in state.closed()], default=0)
         tidy(state, keep)
     return status
@@ -48,8 +48,8 @@ def make_statement(state: State, closed: Closed, seal: str | None, known: str | 
     try:
         statement.write(state, closed.cycle, seal, known)
     except (Failed, OSError) as error:
-        files.say("The statement of cycle %d could not be made or sealed: %s" % (closed.cycle,
-                                                                                 error))
+        files.print_error("The statement of cycle %d could not be made or sealed: %s"
+                          % (closed.cycle, error))
         return 3
     return 0
 

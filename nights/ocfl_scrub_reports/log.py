@@ -180,9 +180,9 @@ class Telling:
         elif kind == "refusal":
             yield entry_of(row, str(number(row, "status")))
         elif kind == "night":
-            yield from self.told(row)
+            yield from self.end_night(row)
 
-    def told(self, row: dict[str, Any]) -> Iterator[Entry]:
+    def end_night(self, row: dict[str, Any]) -> Iterator[Entry]:
         """The end of a night."""
         status = str(number(row, "status"))
         if number(row, "runs") and not self.has_slices:

@@ -23,13 +23,13 @@ def show(state: State, known: str | None) -> int:
     for place, lines in groupby(found, lambda line: line.split(b"\t", 2)[1]):
         now = look(program, root, place)
         if now is None:
-            files.say("%s could not be looked at" % place.decode())
+            files.print_error("%s could not be looked at" % place.decode())
             status = 3
             continue
         before = list(lines)
-        tell("mended", [it for it in before if it not in now])
-        bad = tell("open", [it for it in before if it in now])
-        bad += tell("new", [it for it in leave_out.without(now) if it not in before])
+        print_after("mended", [it for it in before if it not in now])
+        bad = print_after("open", [it for it in before if it in now])
+        bad += print_after("new", [it for it in leave_out.without(now) if it not in before])
         status = max(status, int(bad > 0))
     return status
 
@@ -43,7 +43,7 @@ def look(program: str, root: str, place: bytes) -> list[bytes] | None:
     return found if done.returncode in (0, 1) else None
 
 
-def tell(word: str, lines: list[bytes]) -> int:
+def print_after(word: str, lines: list[bytes]) -> int:
     """Writes these lines after a word, and gives how many there are."""
     for line in lines:
         sys.stdout.write("%s\t%s\n" % (word, line.decode()))

@@ -68,7 +68,7 @@ class Log:
         elif entry.kind == "left":
             self.left_out.setdefault(entry.cycle, {})[entry.said] = None
         elif entry.kind == "stands" and self.night:
-            self.stand(entry)
+            self.move_to(entry)
             self.unlogged = entry.runs - self.runs[entry.cycle]
         elif entry.kind == "told":
             self.start_night(entry.night)
@@ -84,9 +84,9 @@ class Log:
             self.runs[entry.cycle] += entry.runs
             self.nights.setdefault(entry.cycle, set()).add(entry.night)
             self.seconds += entry.seconds
-            self.stand(entry)
+            self.move_to(entry)
 
-    def stand(self, entry: Entry) -> None:
+    def move_to(self, entry: Entry) -> None:
         self.cycle, self.spent, self.files = entry.cycle, entry.spent, entry.files
         self.is_open = entry.stands != "ended"
 

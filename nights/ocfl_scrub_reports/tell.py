@@ -91,7 +91,7 @@ def send(night: Night) -> int:
     subject, text, to = "ocfl-scrub: " + subject, night.text(), night.given.get("MAIL", "")
     is_sent = not to or mail(subject, text, to)
     if not is_sent:
-        files.say("tell: the mail to %s could not be sent" % plain("", to))
+        files.print_error("tell: the mail to %s could not be sent" % plain("", to))
     if not to or not is_sent or night.given.get("JOURNAL") == "yes":
         sys.stderr.buffer.write(subject.encode() + b"\n" + text)
         sys.stderr.flush()

@@ -25,7 +25,7 @@ def divide(state: str, parts: str, words: list[str]) -> None:
 def separators(parts: str, root: str) -> bytes:
     """Those of at most so many parts, or of a file."""
     if parts.isdecimal():
-        return said_by(["split", "--parts", parts, root])
+        return output_of(["split", "--parts", parts, root])
     with open(parts, "rb") as file:
         return file.read()
 
@@ -34,11 +34,11 @@ def try_night(state: str, data: bytes, words: list[str]) -> None:
     """Has the program try root, separators and options: a night that is over before it begins."""
     with tempfile.TemporaryDirectory(dir=state) as tried:
         put(data, tried + "/parts")
-        said_by(["night", "--create", "--state", tried + "/state", "--parts", tried + "/parts",
-                 "--part", str(data.count(b"\n") + 1), "--end", "1", *words])
+        output_of(["night", "--create", "--state", tried + "/state", "--parts", tried + "/parts",
+                   "--part", str(data.count(b"\n") + 1), "--end", "1", *words])
 
 
-def said_by(words: list[str]) -> bytes:
+def output_of(words: list[str]) -> bytes:
     """What the program writes. If it refuses, it says why."""
     done = subprocess.run([find_program(), *words], capture_output=True, check=False)
     if done.returncode != 0:

@@ -21,12 +21,12 @@ def change(folder, files, dice):
     write(a_file(folder, files, dice), dice.randbytes(dice.randrange(1, 300)))
 
 
-def lose(folder, files, dice):
+def remove_content(folder, files, dice):
     """Content that is gone."""
     os.remove(a_file(folder, files, dice))
 
 
-def lose_version(folder, files, dice):
+def remove_version(folder, files, dice):
     """A version directory that is gone, which the inventory names."""
     shutil.rmtree(os.path.join(folder, "v1"))
 
@@ -69,8 +69,8 @@ def fixity(folder, files, dice):
     write(os.path.join(folder, changed), b"other")
 
 
-DAMAGES = [change, lose, lose_version, stray, undeclared, without_inventory, other_sidecar, linked,
-           fixity]
+DAMAGES = [change, remove_content, remove_version, stray, undeclared, without_inventory,
+           other_sidecar, linked, fixity]
 
 
 def make_damaged(root, damages, dice):

@@ -6,7 +6,7 @@ import signal
 import time
 
 import common
-from common import end, is_so, ran, read, start, traced
+from common import end, check, ran, read, start, traced
 
 
 class Cycle:
@@ -33,7 +33,7 @@ class Cycle:
         if not os.path.exists(self.file):
             return 0
         shown = common.shown_cursor(self.file)
-        is_so("a cursor", isinstance(shown, str), True)
+        check("a cursor", isinstance(shown, str), True)
         last = shown.splitlines()[-1]
         return 0 if last in ("start", "ended") else self.places.index(last[len("after "):]) + 1
 
@@ -46,10 +46,10 @@ class Cycle:
             # it may have been killed after any item
             ends = range(before, len(self.items) + 1)
             beginnings = ["".join(self.items[before:end]) for end in ends]
-            is_so(name, written in beginnings, True)
+            check(name, written in beginnings, True)
             return False
         after = len(self.items) if self.has_ended() else self.behind()
-        is_so(name + ", after the run", written, "".join(self.items[before:after]))
+        check(name + ", after the run", written, "".join(self.items[before:after]))
         return True
 
 
@@ -82,9 +82,9 @@ def random_moments(cycle, least, dice):
         else:
             joined += ran(cycle.run)[1]
         if joined and cycle.has_ended():
-            is_so("joined after random kills, run %d" % runs, joined, "".join(cycle.items))
+            check("joined after random kills, run %d" % runs, joined, "".join(cycle.items))
             joined = ""
-    is_so("random kills", kills >= least, True)
+    check("random kills", kills >= least, True)
     return kills, runs
 
 
@@ -136,10 +136,10 @@ def exact_moment(cycle, stored, moment):
         joined += written
     if not cycle.has_ended():
         joined += "".join(common.nights(cycle.run))
-    is_so(name + ": joined", joined, "".join(cycle.items))
+    check(name + ": joined", joined, "".join(cycle.items))
     # a cycle that was ended by the killed run may leave what it wrote beside the file
     left = set(os.listdir(cycle.folder)) - {"cursor.new"}
-    is_so(name + ": what is left", left, {"cursor"})
+    check(name + ": what is left", left, {"cursor"})
     return status == -signal.SIGKILL
 
 
@@ -148,5 +148,5 @@ def exact_moments(cycle, most, dice):
     calls, cursors = calls_of(cycle)
     moments = moments_of(calls, most, dice)
     kills = sum(exact_moment(cycle, cursors[moment[0]], moment) for moment in moments)
-    is_so("kills at calls", kills, len(moments))
+    check("kills at calls", kills, len(moments))
     return kills, len(moments)

@@ -7,7 +7,7 @@ from multiprocessing.pool import ThreadPool
 from typing import Any, Callable, Iterable, Iterator, NamedTuple, Optional, TypeVar
 
 import common
-from common import Stopped, is_so, ran
+from common import Stopped, check, ran
 from shared import calls
 from shared.calls import Call
 from shared.spaces import folder_at, mount, unmount
@@ -111,12 +111,12 @@ class Audited:
         self.report = ran(["audit", *part, root])[1]
         self.findings = [line for line in self.report.splitlines(True) if is_finding(line)]
 
-    def unsaid(self, said: str) -> list[str]:
+    def not_said(self, said: str) -> list[str]:
         """The findings that no night said."""
         lines = said.splitlines(True)
         return [line for line in self.findings if line not in lines]
 
-    def false(self, said: str) -> list[str]:
+    def false_lines(self, said: str) -> list[str]:
         """The lines that were said and are no findings."""
         return [line for line in said.splitlines(True)
                 if "\t" in line and line not in self.findings]
@@ -149,7 +149,7 @@ class Audited:
         else:
             faults.append("the first cycle is not closed")
         faults += self.faults_of(nights)
-        return faults + ["unsaid: " + line for line in self.unsaid(said)]
+        return faults + ["unsaid: " + line for line in self.not_said(said)]
 
 
 class Exchanged:
@@ -189,11 +189,11 @@ class Exchanged:
             if other:
                 unmount(self.nights.root)
         status, out, note = stopped.ended
-        is_so(name, (status, self.nights.root in out + note), (3, True))
-        is_so(name + ": nothing is closed, nothing is said that is not so",
-              (self.nights.closed(), audited.false(out)), ([], []))
+        check(name, (status, self.nights.root in out + note), (3, True))
+        check(name + ": nothing is closed, nothing is said that is not so",
+              (self.nights.closed(), audited.false_lines(out)), ([], []))
         with folder_at(self.nights.root, self.disk):
-            is_so(name + ": then", audited.faults_after(self.nights, out), [])
+            check(name + ": then", audited.faults_after(self.nights, out), [])
 
 
 # What lies in a state folder; beside a checkpoint what a killed night wrote of the next one.

@@ -12,7 +12,7 @@ import shutil
 import subprocess
 
 import common
-from common import PROGRAM, TOP, is_so
+from common import PROGRAM, TOP, check
 from shared.nights import NIGHTS, REPORTS, ran, read, write
 
 # A name that is not UTF-8 keeps a directory from being listed, for root too.
@@ -83,7 +83,7 @@ def findings(report):
     return {line for line in report.splitlines(True) if line.split("\t")[0] not in ("ok", "S07")}
 
 
-def told_in(said):
+def lines_in_message(said):
     """The report lines that a message has."""
     return {line for line in said.splitlines(True) if line.count("\t") == 2}
 
@@ -125,12 +125,12 @@ class Together:
     def given(self, *more):
         """The numbers of the parts that `begin` gives out."""
         status, out, said = self.by_hand("begin", "--create", "--parts", "4", *more)
-        is_so("begin", (status, said), (0, ""))
+        check("begin", (status, said), (0, ""))
         return out.split()
 
     def make(self, numbers, *more):
         for number in numbers:
-            is_so("part " + number, self.by_hand("part", "--part", number, *more)[0] in (0, 1),
+            check("part " + number, self.by_hand("part", "--part", number, *more)[0] in (0, 1),
                   True)
 
     def end(self, *words):
@@ -150,7 +150,7 @@ class Together:
 
     def is_audit(self, name, cycle=1):
         """The joined report is what `audit` writes, byte for byte."""
-        return is_so(name, self.has("reports/cycle-%06d" % cycle), audit(self.root))
+        return check(name, self.has("reports/cycle-%06d" % cycle), audit(self.root))
 
 
 def begun(folder, damaged=()):
@@ -159,13 +159,13 @@ def begun(folder, damaged=()):
     return nights, nights.given()
 
 
-def is_stated(name, nights, cycle):
+def check_statement(name, nights, cycle):
     """The statement of a joined report holds."""
     statement = nights.path("reports/statement-%06d" % cycle)
     said = ran([REPORTS, "verify", statement])
-    return is_so(name, (said[0] in (0, 4), "does not hold" in said[1] + said[2],
+    return check(name, (said[0] in (0, 4), "does not hold" in said[1] + said[2],
                         "\nWhole: yes\n" in (read(statement) or "")), (True, False, True))
 
 
-__all__ = ["Place", "Together", "audit", "begun", "findings", "is_stated", "make_root",
-           "small_root", "told_in"]
+__all__ = ["Place", "Together", "audit", "begun", "check_statement", "findings",
+           "lines_in_message", "make_root", "small_root"]

@@ -112,7 +112,7 @@ class Slurm:
                 host=host, user=user, port=port, other=other, folder=self.folder, cpus=cpus,
                 loopback="CommunicationParameters=NoInAddrAny,NoCtldInAddrAny\n" if alone else "")
                 + more)
-        version = self.said(["slurmd", "-V"]).split()[-1:]
+        version = self.output_of(["slurmd", "-V"]).split()[-1:]
         is_older = not version or tuple(map(int, version[0].split(".")[:2])) < (23, 11)
         with open(self.folder + "/cgroup.conf", "w") as file:
             file.write("CgroupPlugin=%s\n" % ("cgroup/v1" if is_older else "disabled"))
@@ -128,7 +128,8 @@ class Slurm:
             self.wait(lambda: os.path.exists(self.folder + "/munge.sock"), "munged")
             self.start_controller()
             self.start("slurmd", ["-D", "-f", self.folder + "/slurm.conf", "-N", "n1"])
-            self.wait(lambda: self.said(["sinfo", "-h", "-o", "%t"]).strip() == "idle", "the node")
+            state = ["sinfo", "-h", "-o", "%t"]
+            self.wait(lambda: self.output_of(state).strip() == "idle", "the node")
         except BaseException:
             self.__exit__()
             raise
@@ -143,15 +144,15 @@ class Slurm:
 
     def start_controller(self):
         self.start("slurmctld", ["-D", "-f", self.folder + "/slurm.conf"])
-        self.wait(lambda: "is UP" in self.said(["scontrol", "ping"]), "slurmctld")
+        self.wait(lambda: "is UP" in self.output_of(["scontrol", "ping"]), "slurmctld")
 
     def kill_controller(self):
         self.daemons["slurmctld"].kill()
         self.daemons["slurmctld"].wait()
 
-    def wait(self, is_so, what, limit=60):
+    def wait(self, holds, what, limit=60):
         until = time.monotonic() + limit
-        while not is_so():
+        while not holds():
             if time.monotonic() > until:
                 raise TimeoutError("%s is not ready:\n%s" % (what, self.logs()))
             time.sleep(0.1)
@@ -166,7 +167,7 @@ class Slurm:
                         text += "%s:\n%s" % (path, "".join(file.readlines()[-8:]))
         return text
 
-    def said(self, words, **more):
+    def output_of(self, words, **more):
         """What a command of Slurm prints, with the environment that leads it here."""
         done = subprocess.run(words, capture_output=True, text=True, stdin=subprocess.DEVNULL,
                               env={**self.how, **more}, timeout=60)
@@ -174,20 +175,20 @@ class Slurm:
 
     def states(self, job):
         """The states of a job, or of the tasks of an array, by number or by task."""
-        rows = self.said(["squeue", "-h", "-a", "-t", "all", "-r", "-j", str(job),
-                          "-o", "%i %T %r"]).splitlines()
+        rows = self.output_of(["squeue", "-h", "-a", "-t", "all", "-r", "-j", str(job),
+                               "-o", "%i %T %r"]).splitlines()
         return {row.split()[0]: row.split()[1:] for row in rows}
 
     def left(self):
         """The jobs that have not ended."""
-        return self.said(["squeue", "-h", "-r", "-o", "%i %T"]).splitlines()
+        return self.output_of(["squeue", "-h", "-r", "-o", "%i %T"]).splitlines()
 
     def __exit__(self, *_):
         if {"slurmctld", "slurmd"} <= set(self.daemons):
             try:
-                jobs = self.said(["squeue", "-h", "-o", "%A"]).split()
+                jobs = self.output_of(["squeue", "-h", "-o", "%A"]).split()
                 if jobs:
-                    self.said(["scancel", *jobs])
+                    self.output_of(["scancel", *jobs])
                     self.wait(lambda: not self.left(), "the queue", 30)
             except (subprocess.TimeoutExpired, TimeoutError):
                 pass

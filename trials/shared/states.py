@@ -15,7 +15,7 @@ import time
 import traceback
 
 import common
-from common import TOP, digest, is_so
+from common import TOP, digest, check
 
 NIGHTS = os.path.abspath(os.environ.get("OCFL_SCRUB_NIGHTS") or os.path.join(TOP, "nights"))
 REPORTS = NIGHTS + "/ocfl-scrub-reports"
@@ -61,7 +61,7 @@ def tools(packages):
     """The tools that the trials need."""
     for tool, package in packages.items():
         where = "there" if shutil.which(tool) else "missing (Debian: %s)" % package
-        is_so("the tool " + tool, where, "there")
+        check("the tool " + tool, where, "there")
 
 
 def is_finding(text):
@@ -86,9 +86,9 @@ class State:
         self.root, self.declaration = root, declaration
         self.cycle, self.runs, self.spent, self.files = 1, 0, 0, 0
         write(path + "/lock", "")
-        self.stand("start")
+        self.put_checkpoint("start")
 
-    def stand(self, line, whole="yes"):
+    def put_checkpoint(self, line, whole="yes"):
         """Puts the checkpoint of where the cycle stands."""
         text = common.checkpoint_text(
             root=escaped(self.root), declared=self.declaration, whole=whole, cycle=str(self.cycle),
@@ -113,14 +113,14 @@ class State:
                      said=said)
         self.row(row="night", time=seconds(began) + 60, night=seconds(began), status=status,
                  runs=runs, cost=cost, seconds=60, findings=0)
-        self.stand("after o" if closes is None else "ended")
+        self.put_checkpoint("after o" if closes is None else "ended")
 
     def refuse(self, began, status=3):
         """A night that was refused."""
         spent, files = self.spent, self.files
         self.night(began, self.cycle, 0, status, runs=0, said="is its file system mounted?")
         self.spent, self.files = spent, files
-        self.stand("after o")
+        self.put_checkpoint("after o")
 
     def close(self, began, cycle, lines=None, gone="", whole=True, packed=False, at=None):
         name = "reports/%s-%06d" % ("cycle" if whole else "incomplete", cycle)

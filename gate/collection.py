@@ -104,7 +104,7 @@ def misplaced() -> list[str]:
         if os.path.lexists(os.path.join(folder_of(crate), "must-fail")):
             faults.append("%s has a folder must-fail: its edits belong in edits" % crate)
     edits = every_edit()
-    faults += ["%s %s does not turn %s" % (edit.crate, edit.path, edit.source) for edit in edits
+    faults += ["%s %s does not change %s" % (edit.crate, edit.path, edit.source) for edit in edits
                if edit.source not in [change.file for change in edit.changes]]
     times = collections.Counter(edit.name for edit in edits)
     return faults + ["%d edits are named %s" % (times[it], it) for it in times if times[it] > 1]

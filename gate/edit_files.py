@@ -65,7 +65,7 @@ class Edit:
 
 
 def source_of(place: str) -> str:
-    """The source that a file of edits turns, by its path below `edits` without the ending."""
+    """The source that a file of edits changes, by its path below `edits` without the ending."""
     top = place.split("/")[0]
     path = place if top in ENDINGS else "src/" + place
     return path + ENDINGS[path.split("/")[0]]

@@ -1,6 +1,6 @@
-"""Which public functions no edit of the gate turns, read from sources as `rt fmt` lays them out.
+"""Which public functions no edit of the gate changes, read from sources as `rt fmt` lays them out.
 
-An edit turns the function in whose body it changes something, where it changes none beside it. So
+An edit changes a function if what it changes is in the body of that one and of no other. So
 what refuses it is a clause of that function, or a proof that needs what it does. Where a public
 function only hands on what a private one does, an edit of that one counts for it too, if the edit
 names it after `for`, and if it leads there by private functions alone."""
@@ -24,20 +24,20 @@ FIELD = re.compile(r"&?(?:mut )?self(\.\w+)+(\.as_(str|slice)\(\))?")
 Function = collections.namedtuple("Function", "name owner public file begin end body")
 
 
-def turned():
-    """Says which public functions no edit of the gate turns though one should, as one check."""
+def unedited():
+    """Says which public functions no edit of the gate changes though one should, as one check."""
     faults, excepted = [], exceptions()
     for crate in crates():
         if crate in WITHOUT_CONTRACTS:
             continue
         functions = functions_of(crate)
-        reached = turned_in(crate, functions, faults)
+        reached = edited_in(crate, functions, faults)
         for function in functions:
             name = "%s %s" % (crate, function.name)
             if not function.public or needs_none(function):
                 continue
             if (name in excepted) == (function in reached):
-                faults.append("%s: it %s" % (name, "is an exception, and an edit turns it"
+                faults.append("%s: it %s" % (name, "is an exception, and an edit changes it"
                                              if function in reached else "has no edit"))
             excepted.discard(name)
     faults += ["%s: it is an exception, and no public function" % name for name in sorted(excepted)]
@@ -54,12 +54,12 @@ def exceptions():
 
 
 def needs_none(function):
-    """Whether there is nothing to turn: a law has no body, and a field is read as it is."""
+    """Whether there is nothing to change: a law has no body, and a field is read as it is."""
     return not function.body.strip() or bool(FIELD.fullmatch(function.body.strip()))
 
 
-def turned_in(crate, functions, faults):
-    """The public functions of a crate that edits of the gate turn."""
+def edited_in(crate, functions, faults):
+    """The public functions of a crate that edits of the gate change."""
     found, named = set(), {function.name: function for function in functions if function.public}
     for edit in collection.listed():
         if edit.crate != crate:
@@ -70,7 +70,7 @@ def turned_in(crate, functions, faults):
             if other in named and any(leads(named[other], it, functions) for it in changed):
                 found.add(named[other])
             else:
-                faults.append("%s %s: it turns nothing that %s calls" % (crate, edit.path, other))
+                faults.append("%s %s: it changes nothing that %s calls" % (crate, edit.path, other))
     return found
 
 
@@ -196,7 +196,8 @@ def body_of(lines, at, indent):
 def function_of(start, head, shown, place):
     """A function with its whole name: that of its type before it, and of its trait."""
     name, owner, trait = start[3], "", ""
-    of_impl = re.match(r"(?:unsafe )?impl(?:<(?:[^<>{]|<[^<>{]*>)*>)? (?:([^{]+?) for )?(\w+)", head)
+    of_impl = re.match(
+        r"(?:unsafe )?impl(?:<(?:[^<>{]|<[^<>{]*>)*>)? (?:([^{]+?) for )?(\w+)", head)
     if of_impl:
         trait, owner = of_impl[1] or "", of_impl[2]
         name = "<%s as %s>::%s" % (owner, trait, name) if trait else "%s::%s" % (owner, name)

@@ -14,45 +14,45 @@ from gate.repository import folder_of
 
 # The most edits of one round, so that rounds can be shared among processors.
 MOST = 16
-# A change: its file, where it begins and ends there, and what then stands there.
+# A change: its file, where it begins and ends there, and what is then there.
 Change = collections.namedtuple("Change", "file begin end new")
 # An edit of one function's body: the function as it is and as the edit makes it, and the changes.
-Turn = collections.namedtuple("Turn", "edit function turned changes")
+BodyEdit = collections.namedtuple("BodyEdit", "edit function edited changes")
 
 
 def share(crate, edits):
     """Shares out the edits of a crate: the rounds, the largest first, and those that must be tried
     alone."""
     known = functions.functions_of(crate)
-    turns = [turn_of(crate, edit, known) for edit in edits]
-    alone = [edit for edit, turn in zip(edits, turns) if turn is None]
-    rounds = fewest([turn for turn in turns if turn])
-    rounds = sorted(([turn.edit for turn in it] for it in rounds), key=len, reverse=True)
+    bodies = [body_edit_of(crate, edit, known) for edit in edits]
+    alone = [edit for edit, body in zip(edits, bodies) if body is None]
+    rounds = fewest([body for body in bodies if body])
+    rounds = sorted(([body.edit for body in it] for it in rounds), key=len, reverse=True)
     return [it for it in rounds if len(it) > 1], alone + [it[0] for it in rounds if len(it) == 1]
 
 
-def fewest(turns):
-    """Rounds of edits that stand apart: packed in their order, or first those that fit
+def fewest(bodies):
+    """Rounds of edits that are apart: packed in their order, or first those that fit
     with the fewest others, whichever makes fewer rounds."""
-    others = [sum(not apart(turn, other) for other in turns) for turn in turns]
-    crowded = sorted(range(len(turns)), key=lambda at: -others[at])
-    return min(packed(turns), packed([turns[at] for at in crowded]), key=len)
+    others = [sum(not apart(body, other) for other in bodies) for body in bodies]
+    crowded = sorted(range(len(bodies)), key=lambda at: -others[at])
+    return min(packed(bodies), packed([bodies[at] for at in crowded]), key=len)
 
 
-def packed(turns):
+def packed(bodies):
     """Puts each edit into the first round that it fits into."""
     rounds = []
-    for turn in turns:
-        fitting = (it for it in rounds if len(it) < MOST and all(apart(turn, at) for at in it))
+    for body in bodies:
+        fitting = (it for it in rounds if len(it) < MOST and all(apart(body, at) for at in it))
         found = next(fitting, None)
         if found is None:
             rounds.append(found := [])
-        found.append(turn)
+        found.append(body)
     return rounds
 
 
-def turn_of(crate, edit, known):
-    """What an edit makes of the one function in whose body it stands, or nothing."""
+def body_edit_of(crate, edit, known):
+    """What an edit makes of the one function in whose body it is, or nothing."""
     changes = changes_of(crate, edit)
     if not changes:
         return None
@@ -64,11 +64,11 @@ def turn_of(crate, edit, known):
         return None
     for change in sorted(changes, key=lambda it: -it.begin):
         body = body[:change.begin - begin] + change.new + body[change.end - begin:]
-    return Turn(edit, function, function._replace(body=body), changes)
+    return BodyEdit(edit, function, function._replace(body=body), changes)
 
 
 def holds(function, change):
-    """Whether a change stands in the body of a function."""
+    """Whether a change is in the body of a function."""
     begin = function.end - len(function.body)
     return function.file == change.file and begin <= change.begin and change.end <= function.end
 
@@ -96,18 +96,18 @@ def text_of(crate, file):
 
 
 def apart(one, other):
-    """Whether two edits turn different functions, of which neither calls the other."""
+    """Whether two edits change different functions, of which neither calls the other."""
     if one.function == other.function:
         return False
-    bodies = [(one.function, other.function), (one.turned, other.function),
-              (other.function, one.function), (other.turned, one.function)]
+    bodies = [(one.function, other.function), (one.edited, other.function),
+              (other.function, one.function), (other.edited, one.function)]
     return not any(functions.calls(caller, callee) for caller, callee in bodies)
 
 
-def texts_of(crate, turns):
+def texts_of(crate, bodies):
     """The sources with all changes of a round, by their names."""
     texts = {}
-    changes = [change for turn in turns for change in turn.changes]
+    changes = [change for body in bodies for change in body.changes]
     for change in sorted(changes, key=lambda it: -it.begin):
         text = texts.get(change.file) or text_of(crate, change.file)
         texts[change.file] = text[:change.begin] + change.new + text[change.end:]

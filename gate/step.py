@@ -132,7 +132,8 @@ def by_laws(rt, crate, edit, kept):
 
 def by_function(rt, crate, edit, kept):
     """What refuses an edit of one function's body there, or nothing."""
-    said = at_functions(rt, crate, turns_of(crate, [edit]), ["--jobs", "1"], kept).get(edit, [])
+    bodies = body_edits_of(crate, [edit])
+    said = at_functions(rt, crate, bodies, ["--jobs", "1"], kept).get(edit, [])
     why = refusal(said)
     gone = next((line for line in said if re.match(GONE, line)), "")
     if gone and not why:
@@ -141,21 +142,21 @@ def by_function(rt, crate, edit, kept):
 
 
 def together(rt, crate, edits, jobs="1", first=False):
-    """Checks the functions that several edits turn, and then one by one the edits that were not
+    """Checks the functions that several edits change, and then one by one the edits that were not
     refused so. The first check of a crate is of all of it, and keeps what it proves."""
     begun = contextlib.nullcontext(os.path.join(crate.folder, KEPT))
     with begun if first else over(rt, crate) as kept:
-        said = at_functions(rt, crate, turns_of(crate, edits), ["--jobs", jobs], kept, first)
+        said = at_functions(rt, crate, body_edits_of(crate, edits), ["--jobs", jobs], kept, first)
     found = {edit: refusal(lines) for edit, lines in said.items()}
     return [(True, "refused: " + found[edit][:160]) if found.get(edit) else alone(rt, crate, edit)
             for edit in edits]
 
 
-def turns_of(crate, edits):
+def body_edits_of(crate, edits):
     """What these edits make of one function each; one that does more than that is left out."""
     known = functions.functions_of(crate.name)
-    turns = [rounds.turn_of(crate.name, edit, known) for edit in edits]
-    return [turn for turn in turns if turn]
+    bodies = [rounds.body_edit_of(crate.name, edit, known) for edit in edits]
+    return [body for body in bodies if body]
 
 
 def only(paths):
@@ -164,22 +165,22 @@ def only(paths):
     return [word for path in paths for word in ("--only", path)]
 
 
-def at_functions(rt, crate, turns, flags, kept, whole=False):
+def at_functions(rt, crate, bodies, flags, kept, whole=False):
     """What the prover says at the function of each of these edits that it does not prove, by the
     edits. The whole crate is checked where that is asked for, or where the prover does not know a
     function by its path."""
-    if not turns:
+    if not bodies:
         return {}
-    texts = rounds.texts_of(crate.name, turns)
-    paths = {turn.edit: functions.path_of(turn.function) for turn in turns}
+    texts = rounds.texts_of(crate.name, bodies)
+    paths = {body.edit: functions.path_of(body.function) for body in bodies}
     some = [*flags, *only(paths.values())]
     lines = None if whole else lines_of_check(rt, crate, texts, some, kept)
     if lines is None:
         lines = lines_of_check(rt, crate, texts, flags, kept) or []
     told = rounds.by_function(crate.name, lines, functions.functions_of(crate.name))
     refused = {found[1] for found in map(REFUSED.match, lines) if found}
-    return {turn.edit: told[turn.function] for turn in turns
-            if crate.name + "::" + paths[turn.edit] in refused}
+    return {body.edit: told[body.function] for body in bodies
+            if crate.name + "::" + paths[body.edit] in refused}
 
 
 def lines_of_check(rt, crate, texts, flags, kept):

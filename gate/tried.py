@@ -1,4 +1,4 @@
-"""Prints which edits turn each definition, and what refused them.
+"""Prints which edits change each definition, and what refused them.
 
 usage: ./test --tried [CRATE..]
 
@@ -45,7 +45,7 @@ def print_tried(*chosen: str) -> None:
 
 
 def by_definition(edits: list[Edit]) -> dict[tuple[str, str], list[Edit]]:
-    """The edits of definitions, by source and the definition that each turns."""
+    """The edits of definitions, by source and the definition that each changes."""
     found: dict[tuple[str, str], list[Edit]] = {}
     for edit in edits:
         if edit.source.startswith("specs/"):

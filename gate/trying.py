@@ -1,9 +1,9 @@
 """Tries edits over kept work: each crate is proved once, and its edits are then checked over links
-to what that proof kept, so that what they do not turn is not checked again.
+to what that proof kept, so that what they do not change is not checked again.
 
 In the gate that proof is the one that `rt ci` makes, and the edits of a crate wait for it in the
 queue of `rt ci`. Elsewhere it is one over what earlier checks kept. Where those kept nothing of a
-crate, its largest round of edits comes before that proof: what the round does not turn is proved
+crate, its largest round of edits comes before that proof: what the round does not change is proved
 and kept by it, and the proof adds the rest."""
 import collections
 import functools

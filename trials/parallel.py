@@ -1,7 +1,7 @@
 #!/usr/bin/env python3
 """Tries the nights of all parts of `nights/parallel`: 300 objects with damage of each kind, in 24
-parts with 4 at once. Nights are killed, parts are, and the joined report of each cycle is the audit.
-What a part costs beside its reading is measured.
+parts with 4 at once. Nights are killed, parts are, and the joined report of each cycle is the
+audit. What a part costs beside its reading is measured.
 
 usage: parallel.py [PART]...
 

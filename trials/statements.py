@@ -157,8 +157,8 @@ Not said: {not_said}
 
 NOT_LOOKED_AT = "versions, states and ids of inventories; inventories of versions; logs and " \
     "extensions; files of objects whose inventory cannot be used"
-NOT_SAID = "whether bytes came from the medium or from a cache; whether the clock was right; what " \
-    "became of a file after it was read"
+NOT_SAID = "whether bytes came from the medium or from a cache; whether the clock was right; " \
+    "what became of a file after it was read"
 
 
 def text_of(made, state):

@@ -1,5 +1,5 @@
 """Tests how files of edits are read, what is said to be wrong with them, and which definition an
-edit turns."""
+edit changes."""
 import unittest
 from unittest import mock
 
@@ -72,7 +72,7 @@ class Collected(unittest.TestCase):
         self.assertEqual(misplaced(FIRST, SECOND), [])
         elsewhere = Edit("a", "name/root_is_gone", "It is.", SECOND.changes)
         self.assertEqual(misplaced(SECOND, elsewhere), [
-            "a name/root_is_gone does not turn src/name.rt", "2 edits are named root_is_gone"])
+            "a name/root_is_gone does not change src/name.rt", "2 edits are named root_is_gone"])
 
     def test_other_files_are_named_and_not_read(self):
         with mock.patch.object(collection, "files_of",

@@ -107,8 +107,8 @@ class Registers(unittest.TestCase):
         self.assertLessEqual(max(map(len, lines)), registers.WIDTH)
 
     def test_statuses(self) -> None:
-        for words, status in [(["laws", "headline"], 0), (["--help"], 0), (["laws", "nosuchword"], 1),
-                              ([], 2), (["rules"], 2)]:
+        for words, status in [(["laws", "headline"], 0), (["--help"], 0),
+                              (["laws", "nosuchword"], 1), ([], 2), (["rules"], 2)]:
             with contextlib.redirect_stdout(io.StringIO()), \
                     contextlib.redirect_stderr(io.StringIO()):
                 self.assertEqual(registers.main(words, "usage"), status, words)

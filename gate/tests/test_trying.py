@@ -31,21 +31,21 @@ class Rounds(unittest.TestCase):
         shared, _ = rounds.share("ocfl_digest", listed("ocfl_digest"))
         self.assertTrue(shared)
         for it in shared:
-            turns = [rounds.turn_of("ocfl_digest", edit, known) for edit in it]
+            bodies = [rounds.body_edit_of("ocfl_digest", edit, known) for edit in it]
             self.assertLessEqual(len(it), rounds.MOST)
-            self.assertEqual(len({turn.function for turn in turns}), len(turns))
+            self.assertEqual(len({body.function for body in bodies}), len(bodies))
             self.assertTrue(all(rounds.apart(one, other)
-                                for at, one in enumerate(turns) for other in turns[:at]))
+                                for at, one in enumerate(bodies) for other in bodies[:at]))
 
     def test_rounds_are_few(self):
         """Of four functions in a chain of calls, the list has the ends first, which leaves the
         two between them apart."""
         function = collections.namedtuple("Function", "name owner body")
         called = {"one": "two()", "two": "three()", "three": "four()", "four": ""}
-        turns = [rounds.Turn(name, it, it, []) for name in ["one", "four", "two", "three"]
+        bodies = [rounds.BodyEdit(name, it, it, []) for name in ["one", "four", "two", "three"]
                  for it in [function(name, "", called[name])]]
-        self.assertEqual(len(rounds.packed(turns)), 3)
-        self.assertEqual(len(rounds.fewest(turns)), 2)
+        self.assertEqual(len(rounds.packed(bodies)), 3)
+        self.assertEqual(len(rounds.fewest(bodies)), 2)
 
 
 class Crate:
@@ -75,7 +75,7 @@ class Rooms(unittest.TestCase):
         for name in below(["ocfl_digest", "ocfl_parts"]):
             if name.startswith("ocfl_"):
                 self.made[name] = Crate(name, self.room.name, self.made)
-        self.rt = types.SimpleNamespace(need=lambda crate: 1, listing=listing, in_lanes=in_turn,
+        self.rt = types.SimpleNamespace(need=lambda crate: 1, listing=listing, in_lanes=one_by_one,
                                         rtlib=types.SimpleNamespace(
                                             crates_below=lambda folder: self.made.values()))
 
@@ -91,10 +91,11 @@ class Rooms(unittest.TestCase):
 
 def listing(folder):
     """The sizes of the files of a folder, in the place of what `rt` looks at."""
-    return {name: os.path.getsize(os.path.join(folder, name)) for name in sorted(os.listdir(folder))}
+    return {name: os.path.getsize(os.path.join(folder, name))
+            for name in sorted(os.listdir(folder))}
 
 
-def in_turn(tasks):
+def one_by_one(tasks):
     """Takes steps one after the other, as the queue of `rt` may."""
     given = {}
     for key, (waits, _, _, call) in tasks.items():
@@ -232,7 +233,7 @@ class Prover(Rooms):
         self.flags, self.whole = [], []
         self.known = rounds.functions.functions_of("ocfl_digest")
         edits = rounds.share("ocfl_digest", listed("ocfl_digest"))[0][0]
-        self.turns = step.turns_of(self.crate(), edits)
+        self.bodies = step.body_edits_of(self.crate(), edits)
         rtlib = types.SimpleNamespace(STALE=re.compile("stale"))
         self.rt = types.SimpleNamespace(REFUSED="refused", AT_LIMIT="limit", rtlib=rtlib,
                                         checked=self.checked, must_fail=self.must_fail,
@@ -258,19 +259,20 @@ class Prover(Rooms):
         function = next(it for it in self.known if step.functions.path_of(it) == path)
         said = self.said.get(path, "no proof: `search` did not prove `returns`")
         at = "note: %s:%d:1: " % (function.file, rounds.span_of("ocfl_digest", function)[0])
-        return [at + self.notes.get(path, "it is not proved"), "fn ocfl_digest::%s: %s" % (path, said)]
+        return [at + self.notes.get(path, "it is not proved"),
+                "fn ocfl_digest::%s: %s" % (path, said)]
 
     status, said, notes = 1, {}, {}
 
     def path(self, at):
-        return step.functions.path_of(self.turns[at].function)
+        return step.functions.path_of(self.bodies[at].function)
 
     def tried(self, **how):
-        return step.together(self.rt, self.crate(), [it.edit for it in self.turns], **how)
+        return step.together(self.rt, self.crate(), [it.edit for it in self.bodies], **how)
 
-    def test_round_is_of_what_it_turns(self):
+    def test_round_is_of_what_it_changes(self):
         self.assertTrue(all(well for well, _ in self.tried()))
-        paths = [step.functions.path_of(turn.function) for turn in self.turns]
+        paths = [step.functions.path_of(body.function) for body in self.bodies]
         self.assertEqual(self.flags, [["--jobs", "1", *step.only(paths)]])
 
     def test_first_check_is_of_the_whole_crate(self):
@@ -283,26 +285,26 @@ class Prover(Rooms):
         for said in ("proved", "no proof: it calls `ocfl_digest::a`, which is not proved"):
             self.said, self.whole = {self.path(0): said}, []
             wells = [well for well, _ in self.tried()]
-            self.assertEqual(wells, [False] + [True] * (len(self.turns) - 1), said)
-            self.assertEqual(self.whole, [self.turns[0].edit.text()])
+            self.assertEqual(wells, [False] + [True] * (len(self.bodies) - 1), said)
+            self.assertEqual(self.whole, [self.bodies[0].edit.text()])
 
     def test_no_verdict_is_no_refusal(self):
-        unread = {self.path(at): "cannot be read" for at in range(len(self.turns))}
+        unread = {self.path(at): "cannot be read" for at in range(len(self.bodies))}
         for status, notes in ((0, {}), (2, {}), (3, {}), (1, unread)):
             self.status, self.notes, self.whole = status, notes, []
             self.assertFalse(any(well for well, _ in self.tried()))
-            self.assertEqual(self.whole, [turn.edit.text() for turn in self.turns])
+            self.assertEqual(self.whole, [body.edit.text() for body in self.bodies])
 
     def test_gone_name_is_said(self):
         """Where a proof only lacks a name, the edit is tried alone, and that is said of it."""
-        folder = rounds.folders_of(self.turns[0].function)[0]
+        folder = rounds.folders_of(self.bodies[0].function)[0]
         note = "%s/Answers.antt:1:1: error: `it` has no field `other`" % folder
         self.lines_of = lambda path: [note, "fn ocfl_digest::%s: not proved" % self.path(0)]
         (well, text), *_ = self.tried()
         self.assertTrue(well)
         self.assertIn(step.NAMES_ALONE, text)
         self.assertEqual(self.flags[1], ["--jobs", "1", "--only", self.path(0)])
-        self.assertNotIn(self.turns[0].edit.text(), self.whole)
+        self.assertNotIn(self.bodies[0].edit.text(), self.whole)
 
     def test_paths_are_those_of_the_prover(self):
         function = rounds.functions.Function("<Trouble as From<AllocFailed<T>>>::from", "Trouble",

@@ -29,7 +29,7 @@ abbrev pub ComesTo : TimeZone → ℕ → ℕ → Type 0
 ComesTo zone of_day second = Comes of_day (clock_at zone second) (clock_at zone (second + 1))
 
 -- the next time after now that the clock shows this time of day, or has just leapt over it; a day
--- from now where that is later
+-- from now if that is later
 pub record IsNextTime (zone : TimeZone) (of_day now end : ℕ) : Type 0 where
   pub later : now < end
   pub soon : end ≤ now + 86400

@@ -59,10 +59,10 @@ fn comes(of_day: u64, before: u64, after: u64) -> bool
 
 /// When the clock of the zone next shows this time of day (hour 0 to 23, minute 0 to 59), in
 /// seconds since the Unix epoch, as `now` is. A time that the clock leaps over has come once it has
-/// leapt; of a time that it shows twice this is the next one. At most a day after `now`, also where
+/// leapt; of a time that it shows twice this is the next one. At most a day after `now`, even if
 /// the clock is set back meanwhile and comes to that time an hour later.
 ///
-/// `None` only where a day after `now` lies beyond the years that `jiff` knows, after 9999.
+/// `None` only if a day after `now` is beyond the years that `jiff` knows, after 9999.
 pub fn next_time(zone: &TimeZone<'_>, now: u64, hour: u8, minute: u8) -> Option<u64>
     ensures next { IfSome result
         (IsNextTime (plain_zone zone.now) (second_of_day hour minute) now) }

@@ -11,7 +11,7 @@ pub enum Deed {
     Run(Limits),
     /// A cycle from its beginning: the limits of each run, and the most runs, 1 to 100,000.
     Cycle(Limits, usize),
-    /// The place with this path, as it stands in the command line, is checked.
+    /// The place with this path, as the command line gives it, is checked.
     Check(String),
     /// A cursor is shown.
     Show,

@@ -9,7 +9,7 @@ use Rattle.ocfl_digest.specs.declared.algorithm.Algorithm.TheVariants.{Md5, Sha1
 use Rattle.ocfl_digest.specs.declared.digests.Digests.{Digests}
 use Rattle.ocfl_digest.specs.declared.wanted.Wanted.{Wanted}
 
--- a digest is there exactly where it is wanted
+-- a digest is there exactly if it is wanted
 pub ended : (digest : Text → List ℕ) (wanted : Bool) (bytes : Text) (o : Option (List ℕ)) → IsFed (λ d m. d ≡ digest m) wanted bytes o → o ≡ (if wanted then Some (digest bytes) else None)
 ended digest true bytes None h = absurd cc
 ended digest false bytes None h = refl

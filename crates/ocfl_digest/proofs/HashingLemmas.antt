@@ -20,7 +20,7 @@ use Rattle.ocfl_digest.specs.declared.wanted.Wanted.{Wanted}
 use Rattle.ocfl_tree.proofs.Reading.{reading_opens, reading_reads, reading_fails, reading_ends, file_at-at, file_at-none, same_some}
 use Rattle.ocfl_tree.proofs.Stores.{did_closed}
 
--- the largest read so far, where n bytes were given in reads that ask for 65,536
+-- the largest read so far, if n bytes were given in reads that ask for 65,536
 abbrev pub AsksBlocks : Store → Store → ℕ → Type 0
 AsksBlocks s t n = t.largest ≡ max s.largest (min 65536 (65536 * n))
 
@@ -51,7 +51,7 @@ hashing_opens told s t p w h opens fed = record {
 abbrev pub room_after : ℕ → ℕ
 room_after n = min (2 ^ 62 - n) 65536
 
--- the next read asks for 65,536 bytes, or for less where more were asked before
+-- the next read asks for 65,536 bytes, or for less if more were asked before
 asks_more : (n room a b c : ℕ) → room ≡ room_after n → b ≡ max a (min 65536 (65536 * n)) → c ≡ max b room → n < 2 ^ 62 → c ≡ max a 65536
 asks_more n room a b c is before now short = omega arith
 

@@ -8,7 +8,7 @@ use crate::pieces::read_piece;
 use ocfl_tree::{Place, Tree, Trouble};
 use std::alloc::Global;
 
-/// What a file holds, where that is no more than a limit.
+/// What a file holds, if that is no more than a limit.
 #[derive(Debug, Drop, PartialEq, Eq)]
 pub enum Bounded {
     /// All of its bytes.
@@ -19,8 +19,8 @@ pub enum Bounded {
 
 /// The bytes of the file at a place, if they are at most `limit`, by one opening.
 ///
-/// `Over` is answered exactly where the file has more. Each read asks for 4,096 bytes, or for one
-/// more than the limit leaves where that is less: no more than `limit + 1` bytes are read.
+/// `Over` is answered exactly if the file has more. Each read asks for 4,096 bytes, or for one
+/// more than the limit leaves if that is less: no more than `limit + 1` bytes are read.
 ///
 /// `Device` if the device failed, `Absent` if no file is there, `Memory` if memory was
 /// refused to the store or to the vector. After every answer no file is open.

@@ -25,7 +25,7 @@ fn as_bytes<const N: usize>(digest: &Option<[u8; N]>) -> Option<&[u8]>
 }
 
 impl Digests {
-    /// The digest under an algorithm, where that was wanted: 16 bytes under `md5`, 20 under `sha1`,
+    /// The digest under an algorithm, if that was wanted: 16 bytes under `md5`, 20 under `sha1`,
     /// 32 under `sha256` and `sha512/256`, and 64 under `sha512`.
     pub fn get(&self, algorithm: Algorithm) -> Option<&[u8]>
         ensures { option_copied result ≡ digest_in self.now algorithm }

@@ -20,11 +20,11 @@ const TOO_LONG: u64 = 1 << 62;
 /// opening (RFC 1321, section 3; FIPS 180-4, sections 6.1, 6.2, 6.4 and 6.7).
 ///
 /// It reads into the lent block, and takes no memory. Each read asks for 65,536 bytes, or for what
-/// is missing to 2^62 bytes where that is less.
+/// is missing to 2^62 bytes if that is less.
 ///
 /// A stop says how many bytes the file gave before. `Device` if the device failed, `Absent`
 /// if no file is there, `Memory` if the store was refused memory to open the file, and
-/// `TooLong` once the file gave 2^62 bytes, even where it ends there. After every answer no file is
+/// `TooLong` once the file gave 2^62 bytes, even if it ends there. After every answer no file is
 /// open.
 pub fn hash_open<T: Tree>(
     store: &mut T,

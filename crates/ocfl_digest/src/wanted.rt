@@ -29,7 +29,7 @@ impl Wanted {
         }
     }
 
-    /// The set with one more algorithm, or the same set where that one is in it.
+    /// The set with one more algorithm, or the same set if that one is in it.
     pub fn with(self, algorithm: Algorithm) -> Wanted
         ensures added { wants result algorithm ≡ true }
         ensures others { (a : Algorithm) → a ≢ algorithm → wants result a ≡ wants self a }

@@ -66,7 +66,7 @@ abbrev pub openings_of : StorageRoot → List Text → List Opening
 openings_of root [] = []
 openings_of root (n ∷ names) = opened_then n (file_at root (n ∷ [])) (openings_of root names)
 
--- A place could not be read, where these directories are listed: the device failed in the listing
+-- A place could not be read, if these directories are listed: the device failed in the listing
 -- of the top folder, or in the opening of a file, which was the last call; or the file has 2^62
 -- bytes or more.
 pub data IsUnread (root : StorageRoot) (s t : Store) (listed : List Place) (p : Place) : Type 0 where

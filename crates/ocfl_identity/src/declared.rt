@@ -18,7 +18,7 @@ use ocfl_tree::{Name, Place, Tree};
 use sha2::{Digest, Sha256};
 use std::alloc::{AllocError, Global};
 
-/// The digest under `sha256` in hexadecimal digits, where it was wanted.
+/// The digest under `sha256` in hexadecimal digits, if it was wanted.
 fn sha256_digits(alloc: Global, digests: &Digests) -> Result<Option<String>, AllocError>
     ensures { IfOk result (λ found. option_map string_bytes found
         ≡ option_map encode_lower (digest_in digests.now OfSha256)) }

@@ -135,7 +135,7 @@ others_joined l0 l1 l2 l3 a b c d h1 h2 h3 =
     let k3 : l3 ≡ l0 ++ a ++ b ++ c = h3 ∙ ap (λ x. x ++ c) k2 in
     ap (λ x. x ++ d) k3 ∙ sym (four_joined l0 a b c d)
 
--- the lines of what is listed, where what is listed is known
+-- the lines of what is listed, if what is listed is known
 pub lines_of_listed : (i : Inventory) (l : Listed) → AreListed i.content i.manifest i.fixity l → all_repeated i.manifest i.fixity ++ other_notes i.content l i.unsupported ≡ inventory_notes i
 lines_of_listed i l h =
     let repeats = map (note E096) (repeated_digests i.manifest) in
@@ -158,7 +158,7 @@ ascending_permuted es fs p = ascending_unique triple_total triple_exact (ascendi
 pub all_gathered : (in_manifest sorted in_fixity found : List Triple) → IsPermutation in_manifest sorted → IsPermutation (sorted ++ in_fixity) found → IsPermutation (in_manifest ++ in_fixity) found
 all_gathered in_manifest sorted in_fixity found h k = IsPermutation-trans _ _ _ (IsPermutation-append_left in_fixity in_manifest sorted h) k
 
--- the table of what was gathered, where the content directory is as it was handed on
+-- the table of what was gathered, if the content directory is as it was handed on
 pub table_gathered : (i : Inventory) (content : Text) (found : List Triple) (t : Table) → content ≡ i.content → IsPermutation (all_triples content i.algorithm i.manifest i.fixity) found
     → t ≡ record { algorithm = i.algorithm; content = i.content; triples = ascending triple_cmp found } → t ≡ table_from i
 table_gathered i content found t same gathered is =

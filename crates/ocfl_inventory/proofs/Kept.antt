@@ -1,4 +1,4 @@
--- A path is kept where it is that of a place, and does not lie elsewhere.
+-- A path is kept if it is that of a place, and is not elsewhere.
 use Rattle.std.proofs.Common.{◌≡◌, ◌↔◌, ℕ, [], ◌∷◌, ◌++◌, Bool, true, false, refl, sym, ◌∙◌, ap, cond, length, take, drop, codes, arith, Option, Some, None, MatchOption, IfSome, IsNone, IsUtf8}
 use Rattle.std.specs.Prelude.{◌-◌, ◌==◌, ◌||◌, ◌&&◌, nat_eq, nat_lt, nat_le, not, is_some}
 use Rattle.std.specs.List.{list_any, list_all, starts_with, ends_with}

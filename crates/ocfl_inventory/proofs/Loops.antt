@@ -16,7 +16,7 @@ appended_all h xs i first old end so_far = so_far ∙ ap (λ ys. first ++ h ys) 
 pub mapped_more : {A N : Type 0} (g : A → N) (xs : List A) (i : ℕ) (d : A) (n : N) → i < length xs → n ≡ g (get_or xs i d) → map g (take (i + 1) xs) ≡ map g (take i xs) ++ n ∷ []
 mapped_more g xs i d n h same = map_more g xs i d h ∙ ap (λ m. map g (take i xs) ++ m ∷ []) (sym same)
 
--- the same, where elements are seen by a view
+-- the same, if elements are seen by a view
 pub seen_more : {A B N : Type 0} (g : B → N) (view : A → B) (xs : List A) (i : ℕ) (d : A) (n : N) → i < length xs → n ≡ g (view (get_or xs i d))
     → map g (map view (take (i + 1) xs)) ≡ map g (map view (take i xs)) ++ n ∷ []
 seen_more g view xs i d n h same = ap (map g) (map_more view xs i d h) ∙ map_push g (map view (take i xs)) (view (get_or xs i d)) ∙ ap (λ m. map g (map view (take i xs)) ++ m ∷ []) (sym same)

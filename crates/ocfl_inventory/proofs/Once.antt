@@ -97,7 +97,7 @@ module _ {A : Type 0} {cmp : A → A → Ordering} (o : IsTotalOrder cmp) (exact
       by Equal e f g = absurd (true_not_false g)
       by Greater e f g = below_from_greater o y x e
 
-  -- what stands below the least is below all
+  -- what is below the least is below all
   below_far : (k x : A) (xs : List A) → cmp k x ≡ Less → IsUnder cmp x xs → (z : A) → IsAmong (x ∷ xs) z → cmp k z ≡ Less
   below_far k x xs h up z (inl e) = ap (cmp k) e ∙ h
   below_far k x xs h up z (inr i) = by (cmp z x) refl (under_each cmp x xs up z i)

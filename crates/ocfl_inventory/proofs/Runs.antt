@@ -1,4 +1,4 @@
--- Sorted lists: what stands beside its like, and each element once.
+-- Sorted lists: what is beside its like, and each element once.
 use Rattle.std.proofs.Common.{◌≡◌, inl, inr, List, [], ◌∷◌, refl, sym, ◌∙◌, ap, subst, true, false, Bool, cond, ℕ, ◌+◌, ◌≤◌, arith}
 use Rattle.std.specs.Prelude.{count_by}
 use Rattle.std.specs.Ordering.{is_lt}

@@ -140,7 +140,7 @@ module _ (n : ℕ) (b : Text) (d : List ℕ) (a : Algorithm) (digits_are : sidec
       let h4 : decoded (take n b) ≡ Some d = ap decoded digits_is ∙ (decoded_some s.digits d).1 s.is_digest in
       ap (λ t. cond t (decoded (take n b)) None) (and_both _ _ h1 (and_both _ _ h2 h3)) ∙ h4
 
--- the computation answers a digest exactly where the grammar holds
+-- the computation answers a digest exactly if the grammar holds
 pub sidecar_is : (b : Text) (a : Algorithm) (d : List ℕ) → (sidecar_of a b ≡ Some d) ↔ IsSidecar b a d
 sidecar_is b a d = by (sidecar_digits a) refl
   where

@@ -25,7 +25,7 @@ stopped_remarks (Ok x) stops.Memory read h f = absurd h
 stopped_remarks (Ok x) (stops.Because r) read h f = h ∙ ap reading_notes (sym f)
 stopped_remarks (Err x) e read h f = tt
 
--- what is given is what is taken of a reading that stopped, where nothing is
+-- what is given is what is taken of a reading that stopped, if nothing is
 stopped_part : {A B E : Type 0} (given : InventoryReading → Option B) (taken : Reading A → Option B) (o : Result InventoryReading E) (e : Stop) (read : Reading A)
     → ((n : Note) → taken (Err n) ≡ None) → IfOk o (λ r. SaysAlone e (map remark_view r.remarks.items)) → IfOk o (λ r. given r ≡ None) → Fails e read
     → IfOk o (λ r. given r ≡ taken read)

@@ -12,7 +12,7 @@ use Rattle.ocfl_inventory.specs.Reading.{Reading, Block, Inventory, inventory_of
 use Rattle.ocfl_tree.specs.Path.{elements, slashed}
 use Rattle.ocfl_inventory.specs.ListedPath.{path_fault, is_kept}
 
--- each element that stands twice or more, once, ascending
+-- each element that occurs twice or more, once, ascending
 abbrev pub repeated : {A : Type 0} → (A → A → Ordering) → (A → A → Bool) → List A → List A
 repeated cmp eq xs = filter (λ x. nat_le 2 (count_by (eq x) xs)) (ascending cmp xs)
 
@@ -27,7 +27,7 @@ repeated_digests b = repeated text_cmp text_eq (folded_keys b)
 abbrev pub listed : Block → List Text
 listed b = flat_map (λ e. e.1) b
 
--- the line of a path text, where it is bad
+-- the line of a path text, if it is bad
 abbrev pub fault_note : Text → Text → Option Note
 fault_note content t = option_map (λ c. note c t) (path_fault content t)
 

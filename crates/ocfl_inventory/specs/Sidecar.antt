@@ -20,7 +20,7 @@ is_blank c = c == 32 || c == 9
 abbrev pub is_tail : ℕ → Bool
 is_tail c = is_blank c || c == 13 || c == 10
 
--- how many digits a sidecar's digest has, and none where the algorithm has no sidecar
+-- how many digits a sidecar's digest has, and none if the algorithm has no sidecar
 abbrev pub sidecar_digits : Algorithm → Option ℕ
 sidecar_digits Md5 = None
 sidecar_digits Sha1 = None

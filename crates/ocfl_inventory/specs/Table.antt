@@ -64,7 +64,7 @@ abbrev pub table_from_reading : Reading Inventory → Option Table
 table_from_reading (Ok i) = Some (table_from i)
 table_from_reading (Err n) = None
 
--- the table of an inventory's bytes, and none where a line stops
+-- the table of an inventory's bytes, and none if a line stops
 abbrev pub table_of : Text → Option Table
 table_of bytes = table_from_reading (inventory_of bytes)
 
@@ -72,7 +72,7 @@ table_of bytes = table_from_reading (inventory_of bytes)
 abbrev pub named : Table → Place → List Named
 named t q = filter_map (λ e. if place_eq e.path q then Some e.named else None) t.triples
 
--- the paths that a table names, ascending; a path stands as often as it has digests
+-- the paths that a table names, ascending; a path occurs as often as it has digests
 abbrev pub paths_of : Table → List Place
 paths_of t = map (λ e. e.path) t.triples
 

@@ -44,7 +44,7 @@ fn beginnings(alloc: Global, triples: &[Triple]) -> Result<Vec<Place>, AllocErro
     Ok(found)
 }
 
-/// The paths of sorted triples that conflict, in order, each once. In order a path stands just
+/// The paths of sorted triples that conflict, in order, each once. In order a path comes just
 /// before those that it begins, so that only neighbours are compared.
 pub(crate) fn conflicts(alloc: Global, triples: &[Triple]) -> Result<Vec<Place>, AllocError>
     requires { IsSorted triple_cmp triples.now }

@@ -11,7 +11,7 @@ ghost use Rattle.ocfl_inventory.specs.Entries.{file_names, PointsAtOne};
 
 use ocfl_tree::{Entry, Kind, is_bytes};
 
-/// Where a declaration stands: in the storage root, or in an object root.
+/// Where a declaration is: in the storage root, or in an object root.
 #[derive(Clone, Copy, Debug, PartialEq, Eq)]
 pub enum Level {
     Root,
@@ -73,7 +73,7 @@ pub fn declaration_bytes(level: Level, version: Version) -> &'static [u8]
     }
 }
 
-/// What of a name follows the prefix of declarations' names, known version or not; none where
+/// What of a name follows the prefix of declarations' names, known version or not; none if
 /// the name lacks that.
 pub fn version_in_name(level: Level, name: &str) -> Option<&str>
     ensures { MatchOption result ((rest : Text) → name.now ≢ level_prefix level ++ rest)
@@ -155,7 +155,7 @@ fn version_of(level: Level, entry: &Entry) -> Option<Version>
 /// What the files among the entries of a directory declare (OCFL 1.1, 4.2 Root Conformance
 /// Declaration and 3.2 Object Conformance Declaration).
 ///
-/// The entries may stand in any order. A file counts whose name is `0=ocfl_` (in the storage root)
+/// The entries may be in any order. A file counts whose name is `0=ocfl_` (in the storage root)
 /// or `0=ocfl_object_` (in an object root) and then begins with an ASCII digit; known are `1.0` and
 /// `1.1`. Takes no memory.
 pub fn declaration(entries: &[Entry], level: Level) -> Declared

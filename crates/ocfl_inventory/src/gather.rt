@@ -72,7 +72,7 @@ fn small(mut text: String) -> String
     text
 }
 
-/// Appends the path that a value lists, with its digest, or its text where it is bad.
+/// Appends the path that a value lists, with its digest, or its text if it is bad.
 fn gather_value(
     alloc: Global,
     source: &Source,

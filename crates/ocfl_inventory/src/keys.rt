@@ -115,7 +115,7 @@ fn twins<'t>(alloc: Global, keys: &[Key<'t>]) -> Result<Vec<Key<'t>>, AllocError
     Ok(found)
 }
 
-/// The keys that stand twice or more, once, in order.
+/// The keys that occur twice or more, once, in order.
 pub(crate) fn repeated<'t>(
     alloc: Global,
     mut keys: Vec<Key<'t>>,

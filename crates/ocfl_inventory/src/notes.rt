@@ -98,7 +98,7 @@ fn keys<'t>(alloc: Global, block: &'t [Listing]) -> Result<Vec<Key<'t>>, AllocEr
     Ok(found)
 }
 
-/// The keys that stand twice or more in a block, once, in order.
+/// The keys that occur twice or more in a block, once, in order.
 fn repeated_keys<'t>(alloc: Global, block: &'t [Listing]) -> Result<Vec<Key<'t>>, AllocError>
     ensures { IfOk result (λ v. v.items ≡ repeated_digests (block_view block.now)) }
 {

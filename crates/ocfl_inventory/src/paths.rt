@@ -128,7 +128,7 @@ fn has_slash_at_end(text: &str) -> bool
     text.as_bytes().starts_with(b"/") || text.as_bytes().ends_with(b"/")
 }
 
-/// Whether a path lies elsewhere than those that are kept, whatever its elements are.
+/// Whether a path is elsewhere than those that are kept, whatever its elements are.
 fn is_elsewhere(content: &str, text: &str) -> bool
     ensures { result ≡ (not (is_content_place content.now (elements text.now)) || nat_lt
         max_elements (length (elements text.now))) }

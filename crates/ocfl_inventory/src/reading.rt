@@ -256,7 +256,7 @@ pub(crate) fn read_behind_algorithm(
     })
 }
 
-/// The digest algorithm that the members of an inventory name, where they name one of an inventory.
+/// The digest algorithm that the members of an inventory name, if they name one of an inventory.
 fn stated_algorithm(
     alloc: Global,
     map: &Map<String, Value>,
@@ -272,8 +272,8 @@ fn stated_algorithm(
 
 /// The digest algorithm that the bytes of an inventory name (OCFL 1.1, 3.5.1 Basic Structure).
 ///
-/// The bytes are those of an `inventory.json`. `None` is answered where they are no JSON object in
-/// UTF-8 (RFC 8259), and where `digestAlgorithm` is missing, is no text, or is neither `sha256` nor
+/// The bytes are those of an `inventory.json`. `None` is answered if they are no JSON object in
+/// UTF-8 (RFC 8259), and if `digestAlgorithm` is missing, is no text, or is neither `sha256` nor
 /// `sha512`. The error is running out of memory.
 pub fn algorithm_of(alloc: Global, bytes: &[u8]) -> Result<Option<Algorithm>, AllocError>
     ensures { IfOk result (λ a. a ≡ result_ok (algorithm_stated bytes.now)) }

@@ -47,7 +47,7 @@ fn is_tail(byte: u8) -> bool
     is_blank(byte) || byte == b'\r' || byte == b'\n'
 }
 
-/// How many spaces and tabs stand in front.
+/// How many spaces and tabs are in front.
 fn blanks(bytes: &[u8]) -> usize
     ensures value { result ≡ length (leading is_blank_byte bytes.now) }
     ensures bound { result ≤ length bytes.now }
@@ -93,7 +93,7 @@ fn is_after_digits(rest: &[u8]) -> bool
     is_name_and_tail(name)
 }
 
-/// The digits of a sidecar that has so many, where all else of it is of the form.
+/// The digits of a sidecar that has `count` of them, if all else of it is of the form.
 #[tactic(auto, using(crate::proofs::Sidecars::too_short))]
 fn digits(bytes: &[u8], count: usize) -> Option<&[u8]>
     ensures value { MatchOption result (sidecar_of_len count bytes.now ≡ None)

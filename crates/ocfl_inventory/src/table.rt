@@ -117,7 +117,7 @@ fn clone_named(alloc: Global, triples: &[Triple]) -> Result<Vec<Named>, AllocErr
     Ok(found)
 }
 
-/// The table of sorted triples, which may stand more than once.
+/// The table of sorted triples, which may occur more than once.
 fn make_table(algorithm: Algorithm, content: String, mut triples: Vec<Triple>) -> Table
     requires { IsSorted triple_cmp triples.items }
     ensures few { length result.triples < 2 ^ 64 }
@@ -192,11 +192,11 @@ fn to_lines(alloc: Global, remarks: Vec<Remark>) -> Result<Vec<Line>, AllocError
 /// What one parse of the bytes of an `inventory.json` gives.
 #[derive(Debug, Drop)]
 pub struct InventoryReading {
-    /// The digest algorithm that it names, `sha256` or `sha512`, where it names one of these.
+    /// The digest algorithm that it names, `sha256` or `sha512`, if it names one of these.
     pub algorithm: Option<Algorithm>,
     /// What the lines about it say.
     pub remarks: Vec<Remark>,
-    /// Its table, where nothing stops.
+    /// Its table, if nothing stops.
     pub table: Option<Table>,
 }
 
@@ -276,7 +276,7 @@ fn reading_of_members(
 /// form (S03); `fixity` of a wrong form (S03). Else there is a table, and the lines are, in this
 /// order: digests that several keys have (E096, E097), bad paths (E100, E099, S06), paths that
 /// conflict (E101), and algorithms of fixity that are not computed (S07). The algorithm is that of
-/// `algorithm_of`, also where a later key stops. The error is running out of memory.
+/// `algorithm_of`, even if a later key stops. The error is running out of memory.
 pub fn read_inventory(alloc: Global, bytes: &[u8]) -> Result<InventoryReading, AllocError>
     ensures algorithm { IfOk result (λ r. r.algorithm ≡ result_ok (algorithm_of bytes.now)) }
     ensures remarks { IfOk result (λ r. map remark_view r.remarks.items ≡ notes_of bytes.now) }
@@ -310,7 +310,7 @@ impl Table {
         self.algorithm
     }
 
-    /// The name of the content directory (OCFL 1.1, 3.3.1 Content Directory), `content` where the
+    /// The name of the content directory (OCFL 1.1, 3.3.1 Content Directory), `content` if the
     /// inventory names none.
     pub fn content_directory(&self) -> &str
         ensures { result.now ≡ self.now.content }

@@ -27,7 +27,7 @@ refusal_found nodes os o p k =
     let many = length-names_in nodes (parent p) k.once in
     λ i. cond (is_some (sym here i)) (Some Exists) (cond (not (is_dir_leaf (sym above i))) (Some NoParent) (cond (leb 1000000 (sym many i)) (Some Full) None))
 
--- what is known where nothing is refused
+-- what is known if nothing is refused
 record IsFree (nodes : StorageRoot) (p : Place) : Type 0 where
   d : Place
   n : Text
@@ -136,7 +136,7 @@ removes nodes new p o os ls us f l faults h is = rw is (record {
   changes = record { closed = refl; openings_are = refl; listings_are = refl; failed_are = refl; failures_are = refl; largest = refl };
 })
 
--- where nothing was refused, there was no reason to
+-- if nothing was refused, there was no reason to
 pub not_refused : (o : Option BuildStop) → MatchOption o ⊤ (λ stop. ◌≡◌ {A = Result (Unit {0}) BuildStop} (Ok tt) (Err stop)) → o ≡ None
 not_refused None h = refl
 not_refused (Some stop) h = absurd cc

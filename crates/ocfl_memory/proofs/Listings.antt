@@ -32,7 +32,7 @@ kind_in-kept_in (e ∷ root) d n = by (child_name d e.0) refl (kind_in-kept_in r
     by None is more = more ∙ ap (option_map kind_of) (sym (lookup_other root e (d ++ n ∷ []) (λ same. some_not_none n (sym (sym is ∙ ap (child_name d) same ∙ child_name-append d n)))))
     by (Some m) is more = here m (text_eq m n) refl (append-child_name d e.0 m is) more
 
--- where each place stands once, each name does
+-- if each place occurs once, so does each name
 pub apart_kept : (root : StorageRoot) (d : Place) → AreOnce root → AreApart (kept_in root d)
 apart_kept [] d h = tt
 apart_kept (e ∷ root) d h = by (child_name d e.0) refl (apart_kept root d h.1)

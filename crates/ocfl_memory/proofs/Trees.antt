@@ -29,7 +29,7 @@ pub stands_at-append : (root : StorageRoot) (d : Place) (n : Text) → stands_at
 stands_at-append root [] n = refl
 stands_at-append root (m ∷ d) n = refl
 
--- each place that is kept lies in a directory
+-- each place that is kept is in a directory
 abbrev pub IsRooted : StorageRoot → Type 0
 IsRooted root = (p : Place) → at root p ≡ stands_at root p
 

@@ -5,7 +5,7 @@ use Rattle.ocfl_memory.specs.declared.plan.Point.{Point}
 use Rattle.ocfl_memory.specs.declared.plan.Point.TheVariants as point
 
 pub record Faults : Type 0 where
-  -- the most bytes that a read gives, where that is set
+  -- the most bytes that a read gives, if that is set
   pub step : Option ℕ
   -- which of the following calls fails, counted from 1
   pub call : Option ℕ

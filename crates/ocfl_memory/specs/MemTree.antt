@@ -42,7 +42,7 @@ FailsWhereStruck struck result = IsTrue struck → IsErr result × (result ≢ E
 abbrev pub last_opening : Store → Option Opening
 last_opening s = slice_get s.openings (length s.openings - 1)
 
--- the same of a read, where a file is open: that of the last opening
+-- the same of a read, if a file is open: that of the last opening
 abbrev pub read_fails : Held → Bool
 read_fails h = option_map_or (λ o. fails h o.place (point.Read o.given)) (last_opening h.store) false
 

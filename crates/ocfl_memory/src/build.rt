@@ -3,13 +3,13 @@
 /// Why a tree in memory is not changed.
 #[derive(Clone, Copy, Debug, PartialEq, Eq)]
 pub enum BuildStop {
-    /// Something lies at the place.
+    /// Something is at the place.
     Exists,
-    /// No directory lies right above the place.
+    /// No directory is right above the place.
     NoParent,
     /// That directory has 1,000,000 entries.
     Full,
-    /// Nothing lies at the place, or it is the root.
+    /// Nothing is at the place, or it is the root.
     Absent,
     /// Memory was refused.
     Memory,

@@ -121,7 +121,7 @@ impl MemTree {
     }
 
     /// Takes a place away with all below it, and closes the open file.
-    /// The only refusal is `Absent`, where nothing lies there, and for the root.
+    /// The only refusal is `Absent`, if nothing is there, and for the root.
     pub fn remove(&mut self, place: &Place) -> Result<(), BuildStop>
         ensures ok { OnOk result (Removes self.old.store self.new.store place.now) }
         ensures faults { self.new.faults ≡ self.old.faults }

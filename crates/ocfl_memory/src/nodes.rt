@@ -17,7 +17,7 @@ use ocfl_tree::{Entry, Kind, MAX_ENTRIES, Name, Place, Trouble};
 use std::alloc::{AllocError, Global};
 use std::marker::Model;
 
-/// What lies at a place, as it is kept.
+/// What is at a place, as it is kept.
 #[derive(Debug, Drop)]
 pub(crate) enum Node {
     File(Vec<u8>),
@@ -25,7 +25,7 @@ pub(crate) enum Node {
     Other,
 }
 
-/// What lies at a place.
+/// What is at a place.
 #[derive(Debug, Drop)]
 pub(crate) struct Stored {
     node: Node,
@@ -70,7 +70,7 @@ impl Stored {
     }
 }
 
-/// The index of what lies at the place with this path.
+/// The index of what is at the place with this path.
 pub(crate) fn position(nodes: &[(Place, Stored)], path: &str) -> Option<usize>
     ensures { MatchOption result (lookup nodes.now (names_of path.now) ≡ None)
         (λ i. (i < length nodes.now) × (lookup nodes.now (names_of path.now)
@@ -84,7 +84,7 @@ pub(crate) fn position(nodes: &[(Place, Stored)], path: &str) -> Option<usize>
     None
 }
 
-/// Whether a directory lies at the place with this path.
+/// Whether a directory is at the place with this path.
 pub(crate) fn is_dir(nodes: &[(Place, Stored)], path: &str) -> bool
     ensures { IsTrue result ↔ (stands_at nodes.now (names_of path.now) ≡ Some dir) }
 {
@@ -97,7 +97,7 @@ pub(crate) fn is_dir(nodes: &[(Place, Stored)], path: &str) -> bool
     }
 }
 
-/// The name of a place that lies right below the directory with this path.
+/// The name of a place that is right below the directory with this path.
 fn child<'a>(dir: &str, place: &'a Place) -> Option<&'a str>
     ensures { MatchOption result (child_name (names_of dir.now) place.now ≡ None)
         (λ name. (child_name (names_of dir.now) place.now ≡ Some name.now) × IsName name.now) }
@@ -200,7 +200,7 @@ pub(crate) fn give(bytes: &[u8], count: usize, buffer: &mut [u8])
     buffer[..count].copy_from_slice(&bytes[..count]);
 }
 
-/// Puts what lies there at a place.
+/// Puts what is there at a place.
 pub(crate) fn put(
     nodes: &mut Vec<(Place, Stored)>,
     place: &Place,
@@ -230,7 +230,7 @@ pub(crate) fn put(
     }
 }
 
-/// The path of the directory that a place lies in, and for the root its own.
+/// The path of the directory that a place is in, and for the root its own.
 fn parent(place: &Place) -> &str
     ensures { names_of result.now ≡ parent place.now }
 {
@@ -240,7 +240,7 @@ fn parent(place: &Place) -> &str
     }
 }
 
-/// Whether something lies at a place.
+/// Whether something is at a place.
 pub(crate) fn stands(nodes: &[(Place, Stored)], place: &Place) -> bool
     ensures { result ≡ is_some (stands_at nodes.now place.now) }
 {

@@ -42,7 +42,7 @@ code_text_printable c = All-from_test IsPrintable is_printable IsPrintable-from_
 
 -- ---- the table of all codes
 
--- where a code stands in the table
+-- where a code is in the table
 abbrev place_in_table : Code → ℕ
 place_in_table Clean = 0
 place_in_table E001 = 1
@@ -82,7 +82,7 @@ place_in_table S06 = 34
 place_in_table S07 = 35
 place_in_table S08 = 36
 
--- it stands there
+-- it is there
 in_table : (c : Code) → get_or CODES (place_in_table c) Clean ≡ c
 in_table Clean = refl
 in_table _ = refl

@@ -9,7 +9,7 @@ use Rattle.ocfl_report.proofs.Bytes.{IsByte, All-from_test, IsPrintable, is_prin
 
 -- ---- reading back
 
--- where a reader of escaped text stands: at a byte, after a `%`, or after a `%` and a digit
+-- where a reader of escaped text is: at a byte, after a `%`, or after a `%` and a digit
 pub data Reading : Type 0 where
   at_byte : Reading
   at_digit : Reading

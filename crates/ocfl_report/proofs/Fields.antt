@@ -1,10 +1,10 @@
--- The fields of a line: what stands between its tabs, and before its line feed.
+-- The fields of a line: what is between its tabs, and before its line feed.
 use Rattle.std.proofs.Common.{◌≡◌, ◌≢◌, [], ◌∷◌, ◌++◌, All, sym, ap, subst, ◌∙◌, append_assoc}
 use Rattle.std.proofs.lemmas.List.{append_cancel_right}
 use Rattle.ocfl_tree.specs.Place.{Text}
 use Rattle.ocfl_report.proofs.Separators.{separator_is_there, second_is_there}
 
--- what stands before the line feed of a line with these fields
+-- what is before the line feed of a line with these fields
 line_of_fields : (bytes line code place detail : Text) → bytes ≡ line ++ 10 ∷ [] → bytes ≡ code ++ 9 ∷ place ++ 9 ∷ detail ++ 10 ∷ [] → line ≡ code ++ 9 ∷ (place ++ 9 ∷ detail)
 line_of_fields bytes line code place detail e f =
     append_cancel_right line (code ++ 9 ∷ place ++ 9 ∷ detail) (10 ∷ []) (sym e ∙ f) ∙ append_assoc code (9 ∷ place) (9 ∷ detail)

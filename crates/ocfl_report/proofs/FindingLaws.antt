@@ -52,10 +52,10 @@ finding_codes c = (to c, back)
     back (inl e) = ap is_finding_code e
     back (inr e) = ap is_finding_code e
 
--- an item is one where one of its lines is
+-- an item is one if one of its lines is
 pub finding_items : (i : Item) → (has_finding i ≡ true) ↔ Any (λ l. is_finding_code l.code ≡ true) i.lines
 finding_items i = (Any-from_list_any (λ l. is_finding_code l.code) i.lines, list_any-from_Any (λ l. is_finding_code l.code) i.lines)
 
--- and items where one of them is
+-- and items if one of them is
 pub finding_lists : (items : List Item) → (found items ≡ true) ↔ Any (λ i. has_finding i ≡ true) items
 finding_lists items = (Any-from_list_any has_finding items, list_any-from_Any has_finding items)

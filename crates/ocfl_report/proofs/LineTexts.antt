@@ -24,7 +24,7 @@ no_tab t h = All-weaker IsPrintable (λ b. b ≢ 9) (λ b k. omega (arith, k)) t
 no_line_feed : (t : Text) → All IsPrintable t → All (λ b. b ≢ 10) t
 no_line_feed t h = All-weaker IsPrintable (λ b. b ≢ 10) (λ b k. omega (arith, k)) t h
 
--- where two texts are equal, so are the lines that they begin with, and so is what follows these
+-- if two texts are equal, so are the lines that they begin with, and so is what follows these
 pub first_lines : (l m : Line) (r s : Text) → IsLine l → IsLine m → line_text l ++ r ≡ line_text m ++ s → (l ≡ m) × (r ≡ s)
 first_lines l m r s h k e =
     let whole = sym (line_text-append l r) ∙ e ∙ line_text-append m s in
@@ -60,7 +60,7 @@ text_is_lines_text (i ∷ items) = ap (λ t. lines_text i.lines ++ t) (text_is_l
 three_fields : (code place detail : Text) → code ++ 9 ∷ place ++ 9 ∷ detail ++ 10 ∷ [] ≡ code ++ 9 ∷ (place ++ 9 ∷ (detail ++ 10 ∷ []))
 three_fields code place detail = simp append_assoc
 
--- what stands between the tabs of a line's text is its code, its place and its detail
+-- what is between the tabs of a line's text is its code, its place and its detail
 pub fields_of : (bytes code place detail : Text) (l : Line) → IsLine l → All (λ b. b ≢ 9) code → All (λ b. b ≢ 9) place → bytes ≡ code ++ 9 ∷ place ++ 9 ∷ detail ++ 10 ∷ [] → bytes ≡ line_text l
     → (code ≡ code_text l.code) × ((place ≡ place_text l.place) × (detail ≡ escape l.detail))
 fields_of bytes code place detail l h k m e f =
@@ -69,7 +69,7 @@ fields_of bytes code place detail l h k m e f =
     let places = first_parts 9 place (place_text l.place) _ _ m (no_tab _ (place_text_printable l.place h.place)) codes.1 in
     (codes.0, (places.0, append_cancel_right detail (escape l.detail) (10 ∷ []) places.1))
 
--- a line that has a text may stand in a report
+-- a line that has a text may be in a report
 pub IsLine-from_text : (bytes : Text) (l : Line) → IsLineText bytes l → IsLine l
 IsLine-from_text bytes l h = record { place = h.place; detail = utf8_bytes l.detail h.detail }
 

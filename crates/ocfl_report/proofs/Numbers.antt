@@ -57,7 +57,7 @@ read_is_decimal ds (Ok n) plain h =
 
 -- ---- the digits of a number
 
--- plain, and not `0` where the number is not 0
+-- plain, and not `0` if the number is not 0
 abbrev IsPlainOf : ℕ → Text → Type 0
 IsPlainOf m ds = IsPlain ds × (0 < m → 48 < get_or ds 0 0)
 
@@ -96,7 +96,7 @@ pub IfSome-result_ok : {X E : Type 0} (r : Result X E) (o : Option X) (P : X →
 IfSome-result_ok (Ok x) o P e h = subst (λ p. IfSome p P) (sym e) h
 IfSome-result_ok (Err d) o P e h = subst (λ p. IfSome p P) (sym e) tt
 
--- a value is there where one is known
+-- a value is there if one is known
 pub IsNone-not_some : {X : Type 0} (o : Option X) (x : X) → o ≡ Some x → IsNone o → ⊥
 IsNone-not_some None x e h = cc
 IsNone-not_some (Some y) x e h = cc

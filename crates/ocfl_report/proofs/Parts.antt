@@ -13,7 +13,7 @@ within_both xs i n h k =
     let rest = ap length (take_rest xs i) ∙ length-drop i xs in
     omega (arith, rest)
 
--- what holds anyway holds where a call was refused
+-- what holds anyway holds if a call was refused
 pub on_err : {T E P : Type 0} (r : Result T E) → P → OnErr r P
 on_err (Ok x) p = tt
 on_err (Err e) p = p

@@ -9,7 +9,7 @@ use Rattle.ocfl_report.proofs.Bytes.{IsPrintable, name_bytes, All-from_test, is_
 use Rattle.ocfl_report.proofs.Separators.{slice_split-join_with_byte, All-join_with_byte}
 use Rattle.ocfl_report.proofs.Escapes.{unescape, unescape-escape, IsNoSlash, escape_no_slash, escape_printable}
 
--- the names that a text gives, where it is not the root's
+-- the names that a text gives, if it is not the root's
 abbrev pub names_of : Text → Place
 names_of t = map unescape (slice_split (λ b. b == 47) t)
 

@@ -6,7 +6,7 @@ use Rattle.std.proofs.lemmas.List.{get_or_at}
 use Rattle.std.proofs.lemmas.List.Elements.{All-nil, All-cons, All-head, All-tail, All-append, All-get_or}
 use Rattle.ocfl_tree.specs.Place.{Text}
 
--- where two texts are equal, so are their parts up to the first separator, and so is what follows
+-- if two texts are equal, so are their parts up to the first separator, and so is what follows
 -- it
 pub first_parts : (c : ℕ) (xs ys r s : Text) → All (λ b. b ≢ c) xs → All (λ b. b ≢ c) ys → xs ++ c ∷ r ≡ ys ++ c ∷ s → (xs ≡ ys) × (r ≡ s)
 first_parts c [] [] r s h k e = (refl, cc)
@@ -23,7 +23,7 @@ pub separated_not_empty : (c : ℕ) (xs r : Text) → xs ++ c ∷ r ≢ []
 separated_not_empty c [] r e = cc
 separated_not_empty c (x ∷ xs) r e = cc
 
--- texts in a row determine what they are of, where none is empty and each is told apart from what
+-- texts in a row determine what they are of, if none is empty and each is told apart from what
 -- follows it
 module _ {A : Type 0} (Is : A → Type 0) (line : A → Text)
     (first : (x y : A) (r s : Text) → Is x → Is y → line x ++ r ≡ line y ++ s → (x ≡ y) × (r ≡ s)) (some : (x : A) (r : Text) → line x ++ r ≢ []) where

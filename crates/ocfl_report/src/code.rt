@@ -75,7 +75,7 @@ pub enum Code {
     S03,
     /// What is neither a file nor a directory.
     S04,
-    /// A directory that lies too deep to be listed.
+    /// A directory that is too deep to be listed.
     S05,
     /// A listed path that cannot be one of a content file.
     S06,

@@ -1,4 +1,4 @@
-//! Escaped text, after RFC 3986, 2.1, with this report's own set of bytes that stand as they are.
+//! Escaped text, after RFC 3986, 2.1, with this report's own set of bytes that stay as they are.
 ghost use Rattle.std.specs.Prelude.{◌≡◌, ◌+◌, ◌<◌, ◌≤◌, ◌++◌, ◌↔◌, IsTrue, OnOk, OnErr, length};
 ghost use Rattle.std.specs.Prelude.{vec_len, vec_capacity, IfOk, IfSome, IsNone};
 ghost use Rattle.std.specs.Cow.{cow_str_bytes};
@@ -20,7 +20,7 @@ pub(crate) const ESCAPED: AsciiSet = ascii_set!(CONTROLS.add(b'%'));
 /// Appends the text with each control, `%`, DEL and byte outside ASCII as `%` and two capital
 /// hexadecimal digits.
 ///
-/// If memory is refused a beginning of that stands after what was there.
+/// If memory is refused a beginning of that is left after what was there.
 pub(crate) fn put_escaped(text: &[u8], out: &mut Vec<u8>) -> Result<(), AllocError>
     ensures ok { OnOk result (out.new.items ≡ out.old.items ++ escape text.now) }
     ensures begins { StartsWith out.new.items out.old.items }

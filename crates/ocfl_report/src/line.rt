@@ -13,7 +13,7 @@ pub struct Line {
     pub code: Code,
     /// Of which place it says it.
     pub place: Place,
-    /// What else it says, not yet escaped: `-` where the code says all.
+    /// What else it says, not yet escaped: `-` if the code says all.
     pub detail: String,
 }
 
@@ -26,9 +26,9 @@ impl Line {
 
     /// Appends the line as a report has it: code, place and detail with tabs between them, and a
     /// line feed. The place is written as by [`put_place`](crate::put_place), and the detail is
-    /// escaped whole by the same rule: spaces and slashes in it stand as they are.
+    /// escaped whole by the same rule: spaces and slashes in it stay as they are.
     ///
-    /// The only error is running out of memory, which happens only where `out` has too little room.
+    /// The only error is running out of memory, which happens only if `out` has too little room.
     /// Then `out` is as it was.
     pub fn put(&self, out: &mut Vec<u8>) -> Result<(), AllocError>
         ensures ok { OnOk result (out.new.items ≡ out.old.items ++ line_text (line_of self.now)) }
@@ -44,7 +44,7 @@ impl Line {
         put
     }
 
-    // If memory is refused a beginning of the line stands after what was there.
+    // If memory is refused a beginning of the line is left after what was there.
     fn put_fields(&self, out: &mut Vec<u8>) -> Result<(), AllocError>
         ensures ok { OnOk result (out.new.items ≡ out.old.items ++ line_text (line_of self.now)) }
         ensures begins { StartsWith out.new.items out.old.items }

@@ -4,7 +4,7 @@ ghost use Rattle.std.specs.Io.KnownBytes.{Appends};
 
 use std::io::{ErrorKind, Write};
 
-/// So many interruptions in a row stop the output.
+/// How many interruptions in a row stop the output.
 const MAX_INTERRUPTIONS: u32 = 1_000;
 
 /// The output stopped before all of it went out.

@@ -30,10 +30,10 @@ impl From<AllocError> for PlaceStop {
 }
 
 /// Appends the place as a report has it: its names with `/` between them, and `.` for the root. In
-/// a name each control, `%`, DEL and byte outside ASCII stands as `%` and two capital hexadecimal
-/// digits (RFC 3986, 2.1); all else stands as it is, spaces too.
+/// a name each control, `%`, DEL and byte outside ASCII becomes `%` and two capital hexadecimal
+/// digits (RFC 3986, 2.1); all else stays as it is, spaces too.
 ///
-/// The only error is running out of memory, which happens only where `out` has too little room.
+/// The only error is running out of memory, which happens only if `out` has too little room.
 /// Then `out` is as it was.
 pub fn put_place(place: &Place, out: &mut Vec<u8>) -> Result<(), AllocError>
     ensures ok { OnOk result (out.new.items ≡ out.old.items ++ place_text place.now) }
@@ -49,7 +49,7 @@ pub fn put_place(place: &Place, out: &mut Vec<u8>) -> Result<(), AllocError>
     put
 }
 
-/// Appends the text of the place. If memory is refused a beginning of it stands after what was
+/// Appends the text of the place. If memory is refused a beginning of it is left after what was
 /// there.
 #[tactic(auto, using(crate::proofs::PathTexts::root_text, crate::proofs::PathTexts::path_text))]
 pub(crate) fn put_text(place: &Place, out: &mut Vec<u8>) -> Result<(), AllocError>
@@ -71,7 +71,7 @@ pub(crate) fn put_text(place: &Place, out: &mut Vec<u8>) -> Result<(), AllocErro
 /// The place whose text the bytes are, as [`put_place`] writes it.
 ///
 /// Each place has one text. Any other text is [`PlaceStop::Bad`]: one with an empty name, with `.`
-/// or `..` in a path, with small hexadecimal digits, with the escape of a byte that stands as it
+/// or `..` in a path, with small hexadecimal digits, with the escape of a byte that stays as it
 /// is, or with a name that is no UTF-8.
 pub fn read_place(alloc: Global, bytes: &[u8]) -> Result<Place, PlaceStop>
     ensures ok { IfOk result (λ place. bytes.now ≡ place_text place) }

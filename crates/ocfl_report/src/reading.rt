@@ -33,7 +33,7 @@ impl From<AllocError> for LineStop {
 ///
 /// Each line has one text. Any other text is [`LineStop::Bad`]: one without its line feed, with
 /// a code that is not known, with more or fewer tabs than two, with small hexadecimal digits, or
-/// with the escape of a byte that stands as it is.
+/// with the escape of a byte that stays as it is.
 pub fn read_line(alloc: Global, bytes: &[u8]) -> Result<Line, LineStop>
     ensures ok { IfOk result (λ line. IsLineText bytes.now (line_of line)) }
     ensures bad { result ≡ Err LineStop.Bad
@@ -61,7 +61,7 @@ pub fn read_line(alloc: Global, bytes: &[u8]) -> Result<Line, LineStop>
     })
 }
 
-/// What stands between the tabs of a line, and before its line feed.
+/// What is between the tabs of a line, and before its line feed.
 #[derive(Clone, Copy)]
 struct Fields<'a> {
     code: &'a [u8],

@@ -16,7 +16,7 @@ use Rattle.ocfl_tree.proofs.Stores.{listed_well, listing_failed}
 none_more : (a b : ℕ) → b ≡ a + 0 → b ≡ a
 none_more a b e = omega (arith, e)
 
--- what stands after a call that did nothing and left no file open
+-- what is after a call that did nothing and left no file open
 abbrev IsClosed : Store → Store → Type 0
 IsClosed s t = (t.tree ≡ s.tree)
     × ((t.openings ≡ s.openings) × ((t.listings ≡ s.listings) × ((t.failures ≡ s.failures) × ((t.rest ≡ None) × (t.largest ≡ s.largest)))))

@@ -19,7 +19,7 @@ use Rattle.ocfl_tree.proofs.Paths.{Lacks, lone_element, elements-append}
 
 -- ---- the elements of a text are texts
 
--- a text without a slash, or what stands around its first one
+-- a text without a slash, or what is around its first one
 abbrev IsCut : Text → Type 0
 IsCut t = Lacks t ⊎ ((x : Text) × (y : Text) × (t ≡ x ++ 47 ∷ y) × Lacks x)
 

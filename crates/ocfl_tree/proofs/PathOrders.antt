@@ -43,9 +43,9 @@ slash_is c h = find (eqb_tells c 47)
 
 -- ---- two paths by their first bytes
 
--- `of` compares two places name by name: it goes on where the names are equal, and answers `less`
--- or `greater` where they
--- are not, so `differ` for two bytes that are not the same; where one place ends first it answers
+-- `of` compares two places name by name: it goes on if the names are equal, and answers `less`
+-- or `greater` if they
+-- are not, so `differ` for two bytes that are not the same; if one place ends first it answers
 -- `short` or `long`
 record ByNames {R : Type 0} (of : Place → Place → R) (less greater short long : R) (differ : ℕ → ℕ → R) : Type 0 where
   step : Ordering → R → R

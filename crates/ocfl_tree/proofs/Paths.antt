@@ -47,7 +47,7 @@ slashed_names (c ∷ t) = slashed_elements (c ∷ t)
 pub names_once : (t u : Text) → names_of t ≡ names_of u → t ≡ u
 names_once t u e = sym (slashed_names t) ∙ ap slashed e ∙ slashed_names u
 
--- places are equal where their paths are
+-- places are equal if their paths are
 pub names_eq : (t u : Text) → pointwise nat_eq t u ≡ pointwise (pointwise nat_eq) (names_of t) (names_of u)
 names_eq t u = by (pointwise nat_eq t u) refl
   where
@@ -191,7 +191,7 @@ names_child t n h = names_joined t n ∙ ap (λ ns. names_of t ++ ns) (names_of_
 pub place_child : (t n w : Text) → w ≡ joined t n → IsPlace (names_of t) → IsName n → IsPlace (names_of w)
 place_child t n w e h k = place_joined t n w e h (subst IsPlace (sym (names_of_name n k)) (All-cons IsName n [] k (All-nil IsName)))
 
--- ---- so many names at the front, and what follows them
+-- ---- the first n names, and what follows them
 
 pub place_behind : (t u : Text) (i : ℕ) → names_of u ≡ drop i (names_of t) → IsPlace (names_of t) → IsPlace (names_of u)
 place_behind t u i e h = subst IsPlace (sym e) (All-drop IsName i (names_of t) h)

@@ -31,7 +31,7 @@ among_both xs ys xs' ys' h k z i = by (among_either xs xs' z i)
 failed_append : (os os' : List Opening) → failed_openings (os ++ os') ≡ failed_openings os + failed_openings os'
 failed_append os os' = ap length (filter-append (λ o. o.failed) os os') ∙ length-append (filter (λ o. o.failed) os) (filter (λ o. o.failed) os')
 
--- no listing failed where there are no more failures than openings that failed
+-- no listing failed if there are no more failures than openings that failed
 pub listed_well : (s t : Store) (os : List Opening) (ls : List Place) (f : ℕ) → f ≤ failed_openings os → Did s t os ls f → t.failed_listings ≡ s.failed_listings
 listed_well s t os ls f few h =
     let all = h.each_failed in
@@ -73,7 +73,7 @@ did_both s t u os os' ls ls' f f' h k =
           omega (arith, those, these, failed_append os os', length-append h.failed k.failed);
     }
 
--- where nothing was done
+-- if nothing was done
 pub did_nothing : (s : Store) → Did s s [] [] 0
 did_nothing s = record {
   tree = refl;

@@ -18,13 +18,13 @@ failures_of Device = 1
 failures_of Absent = 0
 failures_of Memory = 0
 
--- the list where the device failed, and else nothing
+-- the list if the device failed, and else nothing
 abbrev pub if_device : {A : Type 0} → Trouble → List A → List A
 if_device Device xs = xs
 if_device Absent xs = []
 if_device Memory xs = []
 
--- a trouble adds to the lists only where the device failed, and leaves no file open
+-- a trouble adds to the lists only if the device failed, and leaves no file open
 pub record Fails (s t : Store) (openings : List Opening) (listings : List Place) (trouble : Trouble) : Type 0 where
   pub did : Did s t (if_device trouble openings) (if_device trouble listings) (failures_of trouble)
   pub closed : t.rest ≡ None

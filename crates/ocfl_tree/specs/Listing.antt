@@ -28,7 +28,7 @@ abbrev pub kind_in : List Entry → Text → Option Kind
 kind_in [] n = None
 kind_in (e ∷ es) n = if text_eq e.name n then Some e.kind else kind_in es n
 
--- no name stands twice
+-- no name occurs twice
 abbrev pub AreApart : List Entry → Type 0
 AreApart [] = ⊤
 AreApart (e ∷ es) = (kind_in es e.name ≡ None) × AreApart es

@@ -27,13 +27,13 @@ place_cmp = slice_cmp text_cmp
 abbrev pub place_eq : Place → Place → Bool
 place_eq p q = is_eq (place_cmp p q)
 
--- whether p is d or lies below it
+-- whether p is d or is below it
 abbrev pub begins : Place → Place → Bool
 begins [] p = true
 begins (n ∷ d) [] = false
 begins (n ∷ d) (m ∷ p) = text_eq n m && begins d p
 
--- the name that leads from d to p, where p lies right below d
+-- the name that leads from d to p, if p is right below d
 abbrev pub child_name : Place → Place → Option Text
 child_name [] [] = None
 child_name [] (n ∷ []) = Some n

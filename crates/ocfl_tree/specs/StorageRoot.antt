@@ -22,13 +22,13 @@ is_dir_leaf (Some (file bytes)) = false
 is_dir_leaf (Some dir) = true
 is_dir_leaf (Some other) = false
 
--- what lies below front at a name and the names below it: each but the last must lead to a
+-- what is below front at a name and the names below it: each but the last must lead to a
 -- directory
 abbrev pub at_below : StorageRoot → Place → Text → Place → Option Leaf
 at_below root front n [] = lookup root (front ++ n ∷ [])
 at_below root front n (m ∷ p) = if is_dir_leaf (lookup root (front ++ n ∷ [])) then at_below root (front ++ n ∷ []) m p else None
 
--- what lies at a place; the storage root is a directory
+-- what is at a place; the storage root is a directory
 abbrev pub at : StorageRoot → Place → Option Leaf
 at root [] = Some dir
 at root (n ∷ p) = at_below root [] n p

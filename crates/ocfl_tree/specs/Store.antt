@@ -31,7 +31,7 @@ IfTold told s Holds = IsTrue told → (root : StorageRoot) → s.tree ≡ root �
 abbrev pub failed_openings : List Opening → ℕ
 failed_openings os = length (filter (λ o. o.failed) os)
 
--- from s to t the tree stayed, and these openings, listings and so many failures were added; each
+-- from s to t the tree stayed, and these openings, listings and failures were added; each
 -- failure is that of an opening or of a listing, which says so
 pub record Did (s t : Store) (openings : List Opening) (listings : List Place) (failures : ℕ) : Type 0 where
   pub tree : t.tree ≡ s.tree

@@ -48,7 +48,7 @@ fn has_name_bytes(text: &str) -> bool
 }
 
 impl Name {
-    /// The name of this text. `Bad` exactly where the text is no name.
+    /// The name of this text. `Bad` exactly if the text is no name.
     pub fn new(alloc: Global, text: &str) -> Result<Name, NameStop>
         ensures named { IfOk result (λ name. name ≡ text.now) }
         ensures ok { OnOk result (IsName text.now) }
@@ -81,7 +81,7 @@ impl Name {
         self.text.as_str()
     }
 
-    /// The same name again. The only error is running out of memory.
+    /// A copy of the name. The only error is running out of memory.
     pub fn try_clone(&self) -> Result<Name, AllocError>
         ensures { IfOk result (λ name. name ≡ self.now) }
     {

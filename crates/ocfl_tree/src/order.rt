@@ -56,7 +56,7 @@ fn cmp_rest(text: &[u8], other: &[u8]) -> Ordering
     text.len().cmp(&other.len())
 }
 
-/// Compares two texts by what stands between their slashes, element by element, a beginning before
+/// Compares two texts by what is between their slashes, element by element, a beginning before
 /// its extensions. Paths in one directory share many bytes, which are passed by in long steps.
 #[tactic(auto, using(crate::proofs::PathOrders::path_cmp_is))]
 pub fn cmp_elements(text: &[u8], other: &[u8]) -> Ordering

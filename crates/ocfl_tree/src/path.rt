@@ -83,7 +83,7 @@ pub(crate) fn push(path: &mut String, name: &str) -> Result<(), AllocError>
     path.push_str(name)
 }
 
-/// The path of the directory that a place lies in, and the place's name there.
+/// The path of the directory that a place is in, and the place's name there.
 pub(crate) fn split_last(path: &str) -> Option<(&str, &str)>
     requires { IsPlace (names_of path.now) }
     ensures { MatchOption result (names_of path.now ≡ [])
@@ -113,7 +113,7 @@ fn split_first(path: &str) -> Option<(&str, &str)>
     }
 }
 
-/// What follows so many names of a path.
+/// What follows the first `names` names of a path.
 pub(crate) fn behind(path: &str, names: usize) -> &str
     requires { IsPlace (names_of path.now) }
     ensures { names_of result.now ≡ drop names (names_of path.now) }

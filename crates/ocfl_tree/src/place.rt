@@ -48,7 +48,7 @@ impl Place {
     }
 
     /// The place with this path: its names with `/` between them, and nothing for the storage root.
-    /// It takes no memory. `None` exactly where a text between the slashes is no name.
+    /// It takes no memory. `None` exactly if a text between the slashes is no name.
     pub fn from_path(path: String) -> Option<Place>
         ensures some { IfSome result (λ place. place ≡ names_of (string_bytes path)) }
         ensures none { IsNone result ↔ (IsPlace (names_of (string_bytes path)) → ⊥) }
@@ -93,7 +93,7 @@ impl Place {
         path::count(self.path.as_str())
     }
 
-    /// Whether the place is the base or lies below it.
+    /// Whether the place is the base or is below it.
     pub fn starts_with(&self, base: &Place) -> bool
         ensures { result ≡ begins base.now self.now }
     {
@@ -129,7 +129,7 @@ impl Place {
         })
     }
 
-    /// What leads on after the first so many names: the root if there are no more. The
+    /// What leads on after the first `names` names: the root if there are no more. The
     /// only error is running out of memory.
     pub fn behind(&self, names: usize) -> Result<Place, AllocError>
         ensures { IfOk result (λ place. place ≡ drop names self.now) }
@@ -140,7 +140,7 @@ impl Place {
         })
     }
 
-    /// The place of the first so many names: the same place if there are no more. The only error
+    /// The place of the first `names` names: the same place if there are no more. The only error
     /// is running out of memory.
     pub fn first(&self, names: usize) -> Result<Place, AllocError>
         ensures { IfOk result (λ place. place ≡ take names self.now) }
@@ -151,7 +151,7 @@ impl Place {
         })
     }
 
-    /// The path of the directory that the place lies in and its name there, and none for the
+    /// The path of the directory that the place is in and its name there, and none for the
     /// storage root.
     pub fn split_last(&self) -> Option<(&str, &str)>
         ensures { MatchOption result (self.now ≡ [])
@@ -160,7 +160,7 @@ impl Place {
         path::split_last(self.path.as_str())
     }
 
-    /// The same place again. The only error is running out of memory.
+    /// A copy of the place. The only error is running out of memory.
     pub fn try_clone(&self) -> Result<Place, AllocError>
         ensures { IfOk result (λ place. place ≡ self.now) }
     {

@@ -9,7 +9,7 @@ use Rattle.ocfl_digest.specs.declared.algorithm.Algorithm.TheVariants.{Md5, Sha1
 use Rattle.ocfl_digest.specs.declared.hashers.Hashers.{Hashers}
 use Rattle.ocfl_digest.specs.declared.wanted.Wanted.{Wanted}
 
--- there is a hasher exactly where it is wanted, and it holds these bytes
+-- there is a hasher exactly if it is wanted, and it holds these bytes
 abbrev pub IsFed : {H : Type 0} → (H → List ℕ → Type 0) → Bool → Text → Option H → Type 0
 IsFed holds wanted bytes None = wanted ≡ false
 IsFed holds wanted bytes (Some h) = (wanted ≡ true) × holds h bytes

@@ -52,23 +52,23 @@ abbrev pub fixity_view : Option (BTreeMap (String Global) Value) → Members
 fixity_view None = no_members
 fixity_view (Some m) = members_view m.entries
 
--- what stands at the key of an algorithm
+-- what is at the key of an algorithm
 abbrev pub value_for : Algorithm → Members → Option Data
 value_for a ms = get_member (algorithm_name a) ms
 
--- what stands at the keys of some algorithms
+-- what is at the keys of some algorithms
 abbrev pub values_for : List Algorithm → Members → List (Option Data × Algorithm)
 values_for algorithms ms = map (λ a. (value_for a ms, a)) algorithms
 
 abbrev pub supported_view : List Supported → List (Algorithm × Block)
 supported_view = map (λ s. (s.algorithm, block_view s.block.items))
 
--- the block of one algorithm after those before it, and none where it is not of the form
+-- the block of one algorithm after those before it, and none if it is not of the form
 abbrev pub with_block : List (Algorithm × Block) → Option Data → Algorithm → Option (List (Algorithm × Block))
 with_block front None a = Some front
 with_block front (Some d) a = option_map (λ b. front ++ (a, b) ∷ []) (block_of d)
 
--- the blocks of the algorithms after those before them, and none where one is not of the form
+-- the blocks of the algorithms after those before them, and none if one is not of the form
 abbrev pub with_blocks : List (Algorithm × Block) → List (Option Data × Algorithm) → Option (List (Algorithm × Block))
 with_blocks front [] = Some front
 with_blocks front (e ∷ more) = option_and_then (λ blocks. with_blocks blocks more) (with_block front e.0 e.1)

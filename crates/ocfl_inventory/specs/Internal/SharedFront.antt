@@ -10,6 +10,6 @@ pub record IsBelow (front : Text) (t : Triple) : Type 0 where
   pub whole : slashed t.path ≡ front ++ rest
   pub known : names_of (slashed t.path) ≡ t.path
 
--- a triple without so many bytes at the front of its path
+-- a triple without the first n bytes of its path
 abbrev pub behind : ℕ → Triple → Triple
 behind n t = record { path = elements (drop n (slashed t.path)); named = t.named }

@@ -25,7 +25,7 @@ abbrev pub IfOpen : StorageRoot → List Opening → Option OpenFile → Type 0
 IfOpen nodes openings None = ⊤
 IfOpen nodes openings (Some o) = IsOpen nodes openings o
 
--- each place stands once and in a directory, no directory is overfull, and the open file is one of
+-- each place occurs once and in a directory, no directory is overfull, and the open file is one of
 -- them
 pub record IsKept (nodes : StorageRoot) (openings : List Opening) (reader : Option OpenFile) : Type 0 where
   pub once : AreOnce nodes

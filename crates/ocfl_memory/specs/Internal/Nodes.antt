@@ -20,11 +20,11 @@ bytes_in (file bytes) = bytes
 bytes_in dir = []
 bytes_in other = []
 
--- what lies at the place that is kept at an index
+-- what is at the place that is kept at an index
 abbrev pub leaf_at : StorageRoot → ℕ → Leaf
 leaf_at root i = (slice_index_or root i ([], dir)).1
 
--- what lies at a place where each place's directory is kept
+-- what is at a place if each place's directory is kept
 abbrev pub stands_at : StorageRoot → Place → Option Leaf
 stands_at root [] = Some dir
 stands_at root (n ∷ p) = lookup root (n ∷ p)
@@ -38,7 +38,7 @@ abbrev pub kept_in : StorageRoot → Place → List Entry
 kept_in [] d = []
 kept_in (e ∷ root) d = with_entry (child_name d e.0) e.1 (kept_in root d)
 
--- each place stands once
+-- each place occurs once
 abbrev pub AreOnce : StorageRoot → Type 0
 AreOnce [] = ⊤
 AreOnce (e ∷ root) = (lookup root e.0 ≡ None) × AreOnce root

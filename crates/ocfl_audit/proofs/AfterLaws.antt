@@ -18,7 +18,7 @@ less_from_test Less e = refl
 less_from_test Equal e = cc
 less_from_test Greater e = cc
 
--- what lies above a place that has p below it is above p too
+-- what is above a place that has p below it is above p too
 all_above : (p q : Place) (items : List Item) → place_cmp p q ≡ Less → IsBeforeAll place_cmp q (places items) → after items (Some p) ≡ items
 all_above p q [] l h = refl
 all_above p q (i ∷ items) l h =

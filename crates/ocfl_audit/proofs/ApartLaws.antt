@@ -77,9 +77,9 @@ module _ (z : Place) where
     given_out : (u : Unread) → lies_in part z ≡ false → given_by (unread_in part u) z ≡ None
     given_out u h = ap (λ v. given_by v z) (unread_is part u) ∙ given_out_kept u h
 
-  -- ---- of several parts, of which the place lies in one
+  -- ---- of several parts, of which the place is in one
 
-  -- what the audit of each part in which the place lies could not read there is what this says
+  -- what the audit of each part in which the place is could not read there is what this says
   abbrev AgreeHere : Unread → List (Part × Unread) → Type 0
   AgreeHere unread parts = AllByRecursion (λ e. lies_in e.0 z ≡ true → given_by e.1 z ≡ given_by unread z) parts
 
@@ -120,7 +120,7 @@ module _ (z : Place) where
             (sym (given_right (unread_in e.0 e.1) (together parts) (given_out e.0 e.1 f))) parts (more k),
       )
 
--- ---- items where what was read agrees
+-- ---- items if what was read agrees
 
 item_read : StorageRoot → Place → Option ℕ → Item
 item_read root p g = record { place = p; lines = lines_at p (notes root g p); cost = cost root g p }

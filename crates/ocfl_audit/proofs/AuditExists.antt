@@ -54,7 +54,7 @@ at_below_lookup root front n (m ∷ p) leaf h = by (is_dir_leaf (lookup root (fr
 pub at_lookup : (root : StorageRoot) (n : Text) (p : Place) (leaf : Leaf) → at root (n ∷ p) ≡ Some leaf → lookup root (n ∷ p) ≡ Some leaf
 at_lookup root n p leaf h = at_below_lookup root [] n p leaf h
 
--- a place at which something lies is a candidate
+-- a place at which there is something is a candidate
 at_candidate : (root : StorageRoot) (p : Place) (leaf : Leaf) → at root p ≡ Some leaf → IsAmong (candidates root) p
 at_candidate root [] leaf h = among_left ([] ∷ map (λ e. e.0) root) _ [] (inl refl)
 at_candidate root (n ∷ p) leaf h = among_left ([] ∷ map (λ e. e.0) root) _ (n ∷ p) (inr (among_keys root (n ∷ p) leaf (at_lookup root n p leaf h)))
@@ -155,7 +155,7 @@ path_candidate root o q t h key path = among_right ([] ∷ map (λ e. e.0) root)
 pub missing_named : (ns : List Named) → missing_notes ns ≢ [] → ns ≢ []
 missing_named ns h e = h (ap missing_notes e)
 
--- lines within an object stand at a place of the tree, or at one that the table names
+-- lines within an object are at a place of the tree, or at one that the table names
 within_candidate : (root : StorageRoot) (p o q : Place) (t : Table) → table_at root o ≡ Some t → p ≡ o ++ q → IsAmong (map (λ e. e.0) root) o
     → (leaf : Option Leaf) → seen root p ≡ leaf → (u : Option ℕ) → within_notes root p u leaf t q ≢ [] → IsAmong (candidates root) p
 within_candidate root p o q t h whole key (Some leaf) e u some = seen_candidate root p leaf e

@@ -62,7 +62,7 @@ begins_rest (n ∷ d) (m ∷ p) h = by (text_eq n m) refl h (begins_rest d p)
     by true e g k = both (sym (text_from_test n m e)) (k g)
     by false e g k = absurd (true_not_false (sym g))
 
--- what lies below d by the name n
+-- what is below d by the name n
 pub begins_name : (d : Place) (n : Text) (p : Place) → begins (d ++ n ∷ []) p ≡ true → (r : Place) × (p ≡ d ++ n ∷ r)
 begins_name d n p h = let k = begins_rest (d ++ n ∷ []) p h in (k.0, k.1 ∙ append_one d k.0 n)
 
@@ -164,7 +164,7 @@ module _ (ps : List Place) (ascends : IsAscending place_cmp ps) (d : Place) wher
   parts_ascend ns names = ascends_flat_map text_cmp place_cmp (λ n. under ps (d ++ n ∷ [])) ns names (λ n. ascends_filter place_cmp (begins (d ++ n ∷ [])) ps ascends) parts_apart
 
   module _ (ns : List Text) (names : IsAscending text_cmp ns) (cover : (n : Text) (r : Place) → IsAmong ps (d ++ n ∷ r) → IsAmong ns n) where
-    -- a place below d lies in one of the parts
+    -- a place below d is in one of the parts
     in_parts : (n : Text) (r : Place) → IsAmong ps (d ++ n ∷ r) → IsAmong (flat_map (λ m. under ps (d ++ m ∷ [])) ns) (d ++ n ∷ r)
     in_parts n r i = among_flat_map (λ m. under ps (d ++ m ∷ [])) ns n (d ++ n ∷ r) (cover n r i) (in_part n r i)
 

@@ -1,4 +1,4 @@
--- What lies between two places adds up, and between a place and the next that is seen lies at most
+-- What is between two places adds up, and between a place and the next that is seen is at most
 -- that one.
 use Rattle.std.proofs.Common.{◌≡◌, ◌≢◌, ◌⊎◌, inl, inr, List, [], ◌∷◌, ◌++◌, refl, sym, ◌∙◌, ap, subst, true, false, Bool, map, filter, Option, Some, None}
 use Rattle.std.specs.Prelude.{cond, ◌&&◌, not, nat_le, length}
@@ -22,7 +22,7 @@ use Rattle.ocfl_audit.proofs.AuditExists.{seen_candidate, object_key, zone_is}
 use Rattle.ocfl_audit.proofs.BelowLaws.{less_from, from_append, ascends_append}
 use Rattle.ocfl_audit.proofs.WayLaws.{head_seen, is_closed}
 
--- ---- what lies between two places, by order alone
+-- ---- what is between two places, by order alone
 
 not_true : (b : Bool) → not b ≡ true → b ≡ false
 not_true true h = absurd (true_not_false (sym h))
@@ -70,7 +70,7 @@ module _ (ps : List Place) where
         (ascends_append place_cmp (between ps from (Some b)) (between ps (Some b) to) (between_ascends from (Some b)) (between_ascends (Some b) to) apart) (between_ascends from to)
         (λ z. (to_whole z, to_parts z))
       where
-        -- what is not past b lies before what is above b
+        -- what is not past b is before what is above b
         before : (x y : Place) → is_lt (place_cmp b x) ≡ false → place_cmp b y ≡ Less → place_cmp x y ≡ Less
         before x y n k = by (place_cmp x b) refl
           where
@@ -114,7 +114,7 @@ module _ (ps : List Place) where
             by m f t true e = among_right (between ps from (Some b)) (between ps (Some b) to) z (among_between (Some b) to z m (less_from _ e) t)
             by m f t false e = among_left (between ps from (Some b)) (between ps (Some b) to) z (among_between from (Some b) z m f e)
 
-    -- on to b, where nothing lies before it but past from
+    -- on to b, if nothing is before it but past from
     pub between_step : (from : Option Place) (b : Place) (test : Bool) → IsBeyond from b → (test ≡ true → IsAmong ps b) → (test ≡ false → IsAmong ps b → ⊥)
         → ((y : Place) → IsAmong ps y → IsBeyond from y → place_cmp y b ≡ Less → ⊥)
         → between ps from (Some b) ≡ on test b

@@ -74,7 +74,7 @@ nothing_above (m ∷ q) = refl
 equal_from : (n m : Text) (r : Ordering) → text_cmp m n ≡ r → text_eq n m ≡ is_eq (ordering_reverse r)
 equal_from n m r e = ap is_eq (text_cmp_total.antisymm n m ∙ ap ordering_reverse e)
 
--- a place lies between the two separators just where it begins with the first
+-- a place is between the two separators exactly if it begins with the first
 pub enclosed_is : (d : Place) (n : Text) (q : Place) → IsPlace q → lies_in (enclosed d n) q ≡ begins (d ++ n ∷ []) q
 enclosed_is [] n [] h = refl
 enclosed_is [] n (m ∷ q) h = by (text_cmp m n) refl
@@ -121,7 +121,7 @@ enclosed_items d n items h = within_is (enclosed d n) items ∙ alike items h
         ap (λ b. cond b (i ∷ filter (λ i. lies_in (enclosed d n) i.place) xs) (filter (λ i. lies_in (enclosed d n) i.place) xs)) (enclosed_is d n i.place (All-head (λ i. IsPlace i.place) i xs k))
         ∙ ap (λ l. cond (begins (d ++ n ∷ []) i.place) (i ∷ l) l) (alike xs (All-tail (λ i. IsPlace i.place) i xs k))
 
--- ---- the second separator is a name, where it is not too long
+-- ---- the second separator is a name, if it is not too long
 
 one_is_text : IsUtf8 (1 ∷ [])
 one_is_text = IsUtf8-from_ascii (1 ∷ []) low

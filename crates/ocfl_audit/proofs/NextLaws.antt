@@ -169,7 +169,7 @@ module _ (root : StorageRoot) (closed : IsClosed root) where
       all [] = refl
       all (x ∷ xs) = ap (λ l. x ∷ l) (all xs)
 
-  -- an entry of a listing is the next place that is seen, and what lies below comes then
+  -- an entry of a listing is the next place that is seen, and what is below comes then
   pub listing_step : (d : Place) (n : Text) (ns : List Text) (fs : List Frame) (leaf : Leaf) → seen root (d ++ n ∷ []) ≡ Some leaf
       → seen_left (seen_places root) ((d, n ∷ ns) ∷ fs) ≡ (d ++ n ∷ []) ∷ seen_left (seen_places root) ((d ++ n ∷ [], seen_names root (d ++ n ∷ [])) ∷ (d, ns) ∷ fs)
   listing_step d n ns fs leaf h =
@@ -195,7 +195,7 @@ module _ (root : StorageRoot) (closed : IsClosed root) where
       let one : zone root (p ++ n ∷ []) ≡ inside o (q ++ n ∷ []) = zone_step root p n ∙ ap (λ b. cond b skipped (step_zone root p n (zone root p))) plain ∙ ap (step_zone root p n) h in
       ap (zone root) (sym (append_one p s n)) ∙ zone_longer (p ++ n ∷ []) o (q ++ n ∷ []) s one ∙ ap (inside o) (append_one q s n)
 
-  -- what lies between last and a place below o: last is within o, or below it
+  -- what is between last and a place below o: last is within o, or below it
   between : (o q last : Place) → place_cmp last (o ++ q) ≡ Less → (begins o last ≡ true) ⊎ (place_cmp last o ≡ Less)
   between [] q last h = inl refl
   between (a ∷ o) q [] h = inr refl

@@ -59,7 +59,7 @@ module _ (root : StorageRoot) where
       by true true e f g = absurd (no g)
       by false b e f g = absurd (no g)
 
-  -- below an object lies no other
+  -- below an object there is no other
   no_inner : (front s : Place) (n : Text) (q x : Place) → s ≢ [] → is_declared (object_declared root (front ++ s)) ≡ true → object_zone root front (s ++ n ∷ q) ≡ inside x [] → ⊥
   no_inner front [] n q x some d h = some refl
   no_inner front (m ∷ s) n q x some d h = by (is_declared (object_declared root (front ++ m ∷ []))) refl h (no_inner (front ++ m ∷ []) s n q x)

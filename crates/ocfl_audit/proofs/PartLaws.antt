@@ -1,4 +1,4 @@
--- What lies in a part, consecutive parts joined, and what is left of a part above a place.
+-- What is in a part, consecutive parts joined, and what is left of a part above a place.
 use Rattle.std.proofs.Common.{◌≡◌, ℕ, ◌+◌, ◌≤◌, ◌/◌, List, [], ◌∷◌, ◌++◌, refl, sym, ◌∙◌, ap, true, false, Bool, map, filter, Option, Some, None, append-nil, arith, All, length}
 use Rattle.std.specs.Prelude.{cond, flat_map, not, ◌&&◌}
 use Rattle.std.proofs.lemmas.List.Elements.{filter-append}
@@ -62,7 +62,7 @@ and_turn : (a b : Bool) → (a && b) ≡ (b && a)
 and_turn true b = sym (and_true b)
 and_turn false b = sym (and_false b)
 
--- ---- what lies in a part, by the one test
+-- ---- what is in a part, by the one test
 
 pub kept_is : {A : Type 0} (part : Part) (place_of : A → Place) (xs : List A) → kept part place_of xs ≡ filter (λ x. lies_in part (place_of x)) xs
 kept_is {A} part place_of xs = by part.under part.from part.below
@@ -219,7 +219,7 @@ module _ (root : StorageRoot) (unread : Unread) (ps : List Place) (up : IsAscend
   pub files_add_up : sum_of (file_counts (parts_of ps) (audit root unread)) ≡ total_files (audit root unread)
   files_add_up = files_sum (λ part. within part (audit root unread)) (parts_of ps) ∙ ap total_files (items_join root ps up unread)
 
--- ---- a place lies in one part
+-- ---- a place is in one part
 
 more_from : (a : Option Place) (ps : List Place) → length (parts_from a ps) ≡ length ps + 1
 more_from a [] = refl

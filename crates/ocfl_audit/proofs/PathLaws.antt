@@ -114,7 +114,7 @@ free_unnamed ns leaf e = ap (λ x. cost_of x None leaf) e
 hashed_named : (ns : List Named) (leaf : Option Leaf) → nat_lt 0 (cost_of ns None leaf) ≡ true → ns ≢ []
 hashed_named ns leaf h e = true_not_false (sym h ∙ ap (nat_lt 0) (free_unnamed ns leaf e))
 
--- a place with a named digest is a content path of the table of the object that it lies in
+-- a place with a named digest is a content path of the table of the object that it is in
 pub record IsPath (root : StorageRoot) (p : Place) : Type 0 where
   pub object : Place
   pub table : Table

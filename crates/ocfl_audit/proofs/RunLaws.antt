@@ -50,7 +50,7 @@ left_test l s f c h = by (c == 0) refl h
 -- ---- the cut is the greatest
 
 module _ (l : Limits) where
-  -- StaysWithin, where s has been spent before and f files started
+  -- StaysWithin, if s has been spent before and f files started
   abbrev Within : ℕ → ℕ → List Item → ℕ → Type 0
   Within s f items n = (k : ℕ) (i : Item) → k < n → slice_get items k ≡ Some i → 0 < i.cost → (s + total_cost (take k items) < l.budget) × (f + total_files (take k items) < l.files)
 
@@ -165,7 +165,7 @@ pub files_cost : (items : List Item) → total_files items ≤ total_cost items
 files_cost [] = zero-le
 files_cost (i ∷ items) = let m = files_cost items in let k = files_of_cost i.cost in omega (arith, m, k)
 
--- ---- where the files fit, the runs are those of budgets alone
+-- ---- if the files fit, the runs are those of budgets alone
 
 and_true : (p q : Bool) → q ≡ true → (p && q) ≡ p
 and_true true q e = e
@@ -325,7 +325,7 @@ left_has_cost items b = by (budget_left items b) refl
         no : x ∷ xs ≡ [] → ⊥
         no q = cc
 
--- where something is left, the cut has spent its budget, and so the rest costs no more than the
+-- if something is left, the cut has spent its budget, and so the rest costs no more than the
 -- later budgets
 rest_fits : (items : List Item) (b m : ℕ) → total_cost items ≤ b + m → HasCost (budget_left items b) → (budget_left items b ≡ []) ⊎ (total_cost (budget_left items b) ≤ m)
 rest_fits items b m h (inl e) = inl e
@@ -341,7 +341,7 @@ joined_nothing : (bs : List ℕ) → joined (budget_runs_after bs []) ≡ []
 joined_nothing [] = refl
 joined_nothing (b ∷ bs) = refl
 
--- where the budgets sum to the cost, the runs take all
+-- if the budgets sum to the cost, the runs take all
 joined_after : (bs : List ℕ) (items : List Item) → HasCost items → total_cost items ≤ sum_of bs → joined (budget_runs_after bs items) ≡ items
 joined_after [] [] c h = refl
 joined_after [] (i ∷ items) (inl e) h = absurd (no e)
@@ -374,7 +374,7 @@ cancel : (xs ys zs : List Item) → xs ++ ys ≡ xs ++ zs → ys ≡ zs
 cancel [] ys zs e = e
 cancel (x ∷ xs) ys zs e = cancel xs ys zs (let f : xs ++ ys ≡ xs ++ zs = cc in f)
 
--- where the first budgets take all, no later one is used
+-- if the first budgets take all, no later one is used
 after_short : (k : ℕ) (bs : List ℕ) (items : List Item) → joined (budget_runs_after (take k bs) items) ≡ items → budget_runs_after bs items ≡ budget_runs_after (take k bs) items
 after_short zero [] items e = refl
 after_short (suc k) [] items e = refl
@@ -398,7 +398,7 @@ take_count zero bs = omega arith
 take_count (suc k) [] = omega arith
 take_count (suc k) (b ∷ bs) = let e = take_count k bs in omega (arith, e)
 
--- where the first k budgets sum to the cost, at most k runs take all
+-- if the first k budgets sum to the cost, at most k runs take all
 pub few_runs : (k : ℕ) (bs : List ℕ) (items : List Item) → 1 ≤ k → k ≤ length bs → total_cost items ≤ sum_of (take k bs) → (joined (budget_runs items bs) ≡ items) × (length (budget_runs items bs) ≤ k)
 few_runs zero bs items l m h = absurd (omega (arith, l))
 few_runs (suc k) [] items l m h = absurd (omega (arith, m))

@@ -38,7 +38,7 @@ pub and_true : (a : Bool) → a && true ≡ a
 and_true true = refl
 and_true false = refl
 
--- each proper beginning of a longer place passes where those of d do and d does
+-- each proper beginning of a longer place passes if those of d do and d does
 pub all_beginnings_step : (test : Place → Bool) (d : Place) (n : Text) → list_all test (beginnings (d ++ n ∷ [])) ≡ list_all test (beginnings d) && test d
 all_beginnings_step test [] n = and_true (test [])
 all_beginnings_step test (m ∷ d) n =

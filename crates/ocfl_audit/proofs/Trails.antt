@@ -27,7 +27,7 @@ unread_behind root front trail h = ap (λ os. map (λ o. (o.place, o.given)) (fi
 pub none_unread : (root : StorageRoot) (trail : List Opening) → content_trail root trail ≡ [] → unread_of root trail ≡ []
 none_unread root trail h = ap (λ os. map (λ o. (o.place, o.given)) (filter (λ o. o.failed) os)) (none_mapped (content_openings root trail) h)
 
--- where nothing is content, all is metadata
+-- if nothing is content, all is metadata
 pub all_meta : (root : StorageRoot) (trail : List Opening) → content_trail root trail ≡ [] → AllByRecursion (λ o. is_meta root o.place ≡ true) trail
 all_meta root [] h = tt
 all_meta root (o ∷ trail) h = by (is_meta root o.place) refl h (all_meta root trail)

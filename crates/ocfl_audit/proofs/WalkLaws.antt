@@ -228,7 +228,7 @@ module _ (root : StorageRoot) (closed : IsClosed root) (unread : Unread) where
       append_none [] = refl
       append_none (x ∷ xs) = ap (λ l. x ∷ l) (append_none xs)
 
-  -- the next name: its item, and then what lies below it
+  -- the next name: its item, and then what is below it
   pub stack_step : (d : Place) (n : Text) (ns : List Text) (fs : List Frame) → left_of (audit root unread) ((d, n ∷ ns) ∷ fs)
       ≡ item_at root unread (d ++ n ∷ []) ++ left_of (audit root unread) ((d ++ n ∷ [], names_below root (d ++ n ∷ [])) ∷ (d, ns) ∷ fs)
   stack_step d n ns fs =

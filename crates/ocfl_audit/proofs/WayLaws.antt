@@ -1,4 +1,4 @@
--- The way down to each item: every name on it is seen by a listing, or stands in a table.
+-- The way down to each item: every name on it is seen by a listing, or is in a table.
 use Rattle.std.proofs.Common.{◌≡◌, ◌≢◌, ◌⊎◌, inl, inr, ℕ, ◌+◌, ◌≤◌, List, [], ◌∷◌, ◌++◌, refl, sym, ◌∙◌, ap, subst, true, false, Bool, map, Option, Some, None, arith, length, append_assoc}
 use Rattle.std.proofs.lemmas.Bool.{leb-true, le-leb}
 use Rattle.std.proofs.lemmas.List.{length-append}
@@ -29,7 +29,7 @@ all_beginnings_append test (m ∷ d) r =
     ∙ ap (λ b. b && list_all (λ q. test (m ∷ (d ++ q))) (beginnings r)) (sym (all_map (λ q. m ∷ q) test (beginnings d))))
     ∙ sym (and_assoc (test []) (list_all test (map (λ q. m ∷ q) (beginnings d))) (list_all (λ q. test (m ∷ (d ++ q))) (beginnings r)))
 
--- what lies on an entered way is entered
+-- what is on an entered way is entered
 pub reached_front : (root : StorageRoot) (d : Place) (n : Text) (r : Place) → list_all (is_entered root) (beginnings (d ++ n ∷ r)) ≡ true → is_reached root d ≡ true
 reached_front root d n r h =
     let both : list_all (is_entered root) (beginnings d) && list_all (λ q. is_entered root (d ++ q)) (beginnings (n ∷ r)) ≡ true = sym (all_beginnings_append (is_entered root) d (n ∷ r)) ∙ h in
@@ -68,11 +68,11 @@ entry_from_key d n (e ∷ root) (inr i) = by (child_name d e.0) (entry_from_key 
     by None k = k
     by (Some w) k = inr k
 
--- what lies in a directory is named there
+-- what is in a directory is named there
 pub entry_named : (root : StorageRoot) (d : Place) (n : Text) (leaf : Leaf) → at root (d ++ n ∷ []) ≡ Some leaf → IsAmong (names_in root d) n
 entry_named root d n leaf h = (among_ascending text_cmp_exact (filter_map (λ e. child_name d e.0) root) n).0 (entry_from_key d n root (at_key root (d ++ n ∷ []) leaf (not_empty d n) h))
 
--- ---- what lies one name further
+-- ---- what is one name further
 
 at_below_step : (root : StorageRoot) (front : Place) (m : Text) (p : Place) (n : Text)
     → at_below root front m (p ++ n ∷ []) ≡ (if is_dir_leaf (at_below root front m p) then lookup root (front ++ m ∷ p ++ n ∷ []) else None)
@@ -94,7 +94,7 @@ dir_from (Some (file bytes)) h = absurd (true_not_false (sym h))
 dir_from (Some dir) h = refl
 dir_from (Some other) h = absurd (true_not_false (sym h))
 
--- above each place lies a directory
+-- above each place there is a directory
 pub is_closed : (root : StorageRoot) → IsClosed root
 is_closed root d n leaf h = by (is_dir_leaf (at root d)) refl (sym (at_step root d n) ∙ h)
   where
@@ -186,7 +186,7 @@ module _ (root : StorageRoot) (closed : IsClosed root) where
           (λ b r g. open_ b r (sym (append_one front rest n) ∙ g)) d
           (farther (beyond (object_beyond (front ++ n ∷ []) rest o q f)))
 
-  -- ---- zones of what lies above
+  -- ---- zones of what is above
 
   zone_open : (p o q b r : Place) → zone root p ≡ inside o q → p ≡ b ++ r → zone root b ≡ object_zone root [] b
   zone_open p o q b r h e = by (not (is_known (root_declared root))) (ap (zone root) (sym e) ∙ h)
@@ -237,7 +237,7 @@ module _ (root : StorageRoot) (closed : IsClosed root) where
           (n ∷ q, (sym (append_one front q n) ∙ ap (λ x. x ++ q) a, ap (λ b. cond b (inside (front ++ n ∷ []) q) (object_zone root (front ++ n ∷ []) q)) e ∙ ap (λ x. inside x q) a))
       by false e f k = later e (k f)
 
-  -- the zone of what lies above within the object
+  -- the zone of what is above within the object
   pub zone_part : (p o q s : Place) → zone root p ≡ inside o (q ++ s) → zone root (o ++ q) ≡ inside o q
   zone_part p o q s h =
       let is = zone_is root p o (q ++ s) h in

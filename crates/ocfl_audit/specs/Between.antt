@@ -11,7 +11,7 @@ use Rattle.ocfl_audit.specs.Audit.{candidates}
 use Rattle.ocfl_audit.specs.Due.{places_after}
 use Rattle.ocfl_audit.specs.Trail.{reads_inventory}
 
--- a directory of the storage hierarchy, an object's root, also where its head stops, since its
+-- a directory of the storage hierarchy, an object's root, even if its head stops, since its
 -- entries declare it, or a directory of an object that is listed
 abbrev pub shows_entries : StorageRoot → Zone → Bool
 shows_entries root skipped = false
@@ -25,7 +25,7 @@ is_looked_into root [] = true
 is_looked_into root (n ∷ d) =
     list_all (is_entered root) (beginnings (n ∷ d)) && (nat_le (length (n ∷ d)) max_listed_depth && (is_dir root (n ∷ d) && shows_entries root (zone root (n ∷ d))))
 
--- z lies above a place, and not past one, where these are given
+-- z is above a place, and not past one, if these are given
 abbrev pub IsBeyond : Option Place → Place → Type 0
 IsBeyond None z = ⊤
 IsBeyond (Some a) z = place_cmp a z ≡ Less
@@ -34,7 +34,7 @@ abbrev pub IsWithin : Option Place → Place → Type 0
 IsWithin None z = ⊤
 IsWithin (Some b) z = is_lt (place_cmp b z) ≡ false
 
--- the places above from and not past to, all where these are not given
+-- the places above from and not past to, all if these are not given
 abbrev pub up_to : List Place → Option Place → List Place
 up_to ps None = ps
 up_to ps (Some b) = filter (λ p. not (is_lt (place_cmp b p))) ps

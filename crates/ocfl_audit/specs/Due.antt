@@ -24,7 +24,7 @@ places_after ps (Some p) = filter (λ q. is_lt (place_cmp p q)) ps
 unfoldable pub due : StorageRoot → Option Place → List Place
 due root last = places_after (item_places root) last
 
--- the items of places, where a trail shows what could not be read
+-- the items of places, if a trail shows what could not be read
 unfoldable pub items_at : StorageRoot → List Opening → List Place → List Item
 items_at root trail places = map (item_of root (unread_of root trail)) places
 

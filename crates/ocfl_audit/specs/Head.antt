@@ -24,7 +24,7 @@ use Rattle.ocfl_audit.specs.Zone.{inventory_name, inventory_limit}
 abbrev pub digest_of : Algorithm → Text → Text
 digest_of a m = encode_lower (digest_bytes_of a m)
 
--- x where the test holds, and else nothing
+-- x if the test holds, and else nothing
 abbrev pub on : {A : Type 0} → Bool → A → List A
 on b x = if b then x ∷ [] else []
 
@@ -85,7 +85,7 @@ other_sidecar_notes root o a = on (is_sidecar_missing root o a && not (are_sidec
 
 -- ---- the head
 
--- the missing sidecar stands before all lines but those that leave no algorithm
+-- the missing sidecar is before all lines but those that leave no algorithm
 abbrev pub inventory_part : StorageRoot → Place → Text → Reading Algorithm → List Note
 inventory_part root o bytes (Err n) = n ∷ []
 inventory_part root o bytes (Ok a) = other_sidecar_notes root o a ++ notes_of bytes

@@ -24,7 +24,7 @@ is_empty (x ∷ xs) = false
 
 -- ---- the entries of listed directories
 
--- a directory that would be listed: too deep, or with no entries, where if_empty says what that is
+-- a directory that would be listed: too deep, or with no entries, if if_empty says what that is
 abbrev pub listed_dir_notes : StorageRoot → Place → List Note → List Note
 listed_dir_notes root p if_empty =
     if nat_lt max_listed_depth (length p) then plain S05 ∷ []
@@ -109,7 +109,7 @@ within_notes root p u leaf t (n ∷ []) = object_entry_notes root p n leaf
 within_notes root p u leaf t (v ∷ n ∷ []) = version_entry_notes root t p n leaf
 within_notes root p u leaf t (v ∷ c ∷ n ∷ q) = content_notes root p (named t (v ∷ c ∷ n ∷ q)) u leaf
 
--- where the head stops, nothing below it has lines
+-- if the head stops, nothing below it has lines
 abbrev pub object_notes : StorageRoot → Place → Option ℕ → Option Table → Place → List Note
 object_notes root p u None q = []
 object_notes root p u (Some t) q = within_notes root p u (seen root p) t q

@@ -9,7 +9,7 @@ use Rattle.ocfl_audit.specs.Lines.{is_empty}
 use Rattle.ocfl_audit.specs.Audit.{Unread, audit, total_cost}
 use Rattle.ocfl_audit.specs.Runs.{total_files}
 
--- the places at `under` and below it, not less than `from` and less than `below`, where these are
+-- the places at `under` and below it, not less than `from` and less than `below`, if these are
 -- given; no item need be at any of them
 pub record Part : Type 0 where
   pub under : Place
@@ -24,19 +24,19 @@ whole = record { under = []; from = None; below = None }
 abbrev pub branch : Place → Part
 branch p = record { under = p; from = None; below = None }
 
--- ---- what lies in a part
+-- ---- what is in a part
 
--- not less than an end, where there is one
+-- not less than an end, if there is one
 abbrev pub is_from : Option Place → Place → Bool
 is_from None p = true
 is_from (Some a) p = not (is_lt (place_cmp p a))
 
--- less than an end, where there is one
+-- less than an end, if there is one
 abbrev pub is_below : Option Place → Place → Bool
 is_below None p = true
 is_below (Some b) p = is_lt (place_cmp p b)
 
--- whether a place lies in a part
+-- whether a place is in a part
 abbrev pub lies_in : Part → Place → Bool
 lies_in part p = begins part.under p && (is_from part.from p && is_below part.below p)
 
@@ -44,7 +44,7 @@ lies_in part p = begins part.under p && (is_from part.from p && is_below part.be
 abbrev pub is_whole : Part → Bool
 is_whole part = is_empty part.under && not (is_some part.from || is_some part.below)
 
--- those whose place lies in a part, in their order; the whole has all
+-- those whose place is in a part, in their order; the whole has all
 abbrev pub kept : {A : Type 0} → Part → (A → Place) → List A → List A
 kept part place_of xs = if is_whole part then xs else filter (λ x. lies_in part (place_of x)) xs
 

@@ -21,7 +21,7 @@ total_files (i ∷ items) = files_of i.cost + total_files items
 abbrev pub may_take : Limits → ℕ → ℕ → ℕ → Bool
 may_take limits spent files cost = cost == 0 || (nat_lt spent limits.budget && nat_lt files limits.files)
 
--- how many items a run takes, where so much has been spent and so many files started
+-- how many items a run takes that has spent this much and started this many files
 abbrev pub cut_len : Limits → ℕ → ℕ → List Item → ℕ
 cut_len limits spent files [] = 0
 cut_len limits spent files (i ∷ items) = if may_take limits spent files i.cost then suc (cut_len limits (spent + i.cost) (files + files_of i.cost) items) else 0
@@ -45,7 +45,7 @@ pub record IsCut (items : List Item) (limits : Limits) (n : ℕ) : Type 0 where
   pub greatest : (m : ℕ) → m ≤ length items → StaysWithin items limits m → m ≤ n
 
 -- the cuts of the successive limits, until nothing is left. A cycle makes its first run on any
--- items, and a further one only where items are left
+-- items, and a further one only if items are left
 abbrev pub runs_after : List Limits → List Item → List (List Item)
 runs_after [] items = []
 runs_after (l ∷ limits) [] = []
@@ -59,7 +59,7 @@ runs items (l ∷ limits) = cut items l ∷ runs_after limits (left items l)
 abbrev pub joined : List (List Item) → List Item
 joined cuts = flat_map (λ c. c) cuts
 
--- at least this budget and so many files
+-- at least the budget b and n files
 pub record IsAtLeast (b n : ℕ) (limits : Limits) : Type 0 where
   pub budget : b ≤ limits.budget
   pub files : n ≤ limits.files
@@ -82,7 +82,7 @@ abbrev pub sum_of : List ℕ → ℕ
 sum_of [] = 0
 sum_of (b ∷ bs) = b + sum_of bs
 
--- how many items a run takes that looks at its budget alone, where so much has been spent
+-- how many items a run takes that looks at its budget alone and has spent this much
 abbrev pub budget_len : ℕ → ℕ → List Item → ℕ
 budget_len budget spent [] = 0
 budget_len budget spent (i ∷ items) = if i.cost == 0 || nat_lt spent budget then suc (budget_len budget (spent + i.cost) items) else 0

@@ -54,13 +54,13 @@ listed_at root d [] fs = (d, seen_names root d) ∷ fs
 listed_at root d (n ∷ q) fs = listed_at root (d ++ n ∷ []) q ((d, filter (λ m. is_lt (text_cmp n m)) (seen_names root d)) ∷ fs)
 
 -- why a place above last may have lines: it is seen, the table of the object that holds last names
--- it, or it lies in an object that is seen above last
+-- it, or it is in an object that is seen above last
 pub data Ahead (root : StorageRoot) (last p : Place) : Type 0 where
   in_sight : (leaf : Leaf) → seen root p ≡ Some leaf → Ahead root last p
   in_table : (o s q : Place) (t : Table) → zone root last ≡ inside o s → table_at root o ≡ Some t → IsAmong (paths_of t) q → p ≡ o ++ q → Ahead root last p
   in_later : (o q : Place) → seen root o ≡ Some dir → place_cmp last o ≡ Less → p ≡ o ++ q → Ahead root last p
 
--- no place that is seen lies between last and x
+-- no place that is seen is between last and x
 abbrev pub NoneSeenBetween : StorageRoot → Place → Place → Type 0
 NoneSeenBetween root last x = (p : Place) (leaf : Leaf) → seen root p ≡ Some leaf → place_cmp last p ≡ Less → place_cmp p x ≡ Less → ⊥
 
@@ -95,7 +95,7 @@ IsListed root (f ∷ fs) = ((n : Text) → IsAmong (names_left f) n → IsAmong 
 abbrev pub Next : Type 0
 Next = Place × List Frame
 
--- the next entry of a stack; after it its own listing is on top, empty where it is not entered
+-- the next entry of a stack; after it its own listing is on top, empty if it is not entered
 abbrev pub entry_of : StorageRoot → Place → List Text → List Frame → Option Next → Option Next
 entry_of root d [] fs later = later
 entry_of root d (n ∷ ns) fs later = Some (d ++ n ∷ [], (d ++ n ∷ [], seen_names root (d ++ n ∷ [])) ∷ (d, ns) ∷ fs)

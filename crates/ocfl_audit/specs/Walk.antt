@@ -28,7 +28,7 @@ is_reached root d = list_all (is_entered root) (beginnings d) && is_entered root
 abbrev pub seen_names : StorageRoot → Place → List Text
 seen_names root d = if is_reached root d then names_in root d else []
 
--- the name that leads from d on to p, where p lies below
+-- the name that leads from d on to p, if p is below
 abbrev pub next_name : Place → Place → Option Text
 next_name [] [] = None
 next_name [] (n ∷ p) = Some n
@@ -68,13 +68,13 @@ walk_after zero root unread d q = []
 walk_after (suc k) root unread d [] = flat_map (λ n. walk k root unread (d ++ n ∷ [])) (names_below root d)
 walk_after (suc k) root unread d (n ∷ q) = walk_after k root unread (d ++ n ∷ []) q ++ flat_map (λ m. walk k root unread (d ++ m ∷ [])) (filter (λ m. is_lt (text_cmp n m)) (names_below root d))
 
--- ---- what a folder keeps: above each place lies a directory
+-- ---- what a folder keeps: above each place there is a directory
 abbrev pub IsClosed : StorageRoot → Type 0
 IsClosed root = (d : Place) (n : Text) (leaf : Leaf) → at root (d ++ n ∷ []) ≡ Some leaf → at root d ≡ Some dir
 
 -- ---- one name further
 
--- the zone under d by the name n, where d is not the root or n leads to no extensions
+-- the zone under d by the name n, if d is not the root or n leads to no extensions
 abbrev pub step_zone : StorageRoot → Place → Text → Zone → Zone
 step_zone root d n skipped = skipped
 step_zone root d n hierarchy = if is_declared (object_declared root (d ++ n ∷ [])) then inside (d ++ n ∷ []) [] else hierarchy

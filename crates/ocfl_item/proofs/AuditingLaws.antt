@@ -28,7 +28,7 @@ read_behind root os os' h k = filter_append (λ o. o.failed && is_meta root o.pl
 
 -- ---- where a call failed
 
--- what was done before does not matter, where neither metadata nor a listing failed
+-- what was done before does not matter, if neither metadata nor a listing failed
 pub failed_behind : (root : StorageRoot) (s t u : Store) (ls ls' : List Place) (os os' : List Opening) (q : Place) → IsMetadataRead root os → t.failed_listings ≡ s.failed_listings
     → FailedAt root t u ls' os' q → FailedAt root s u (ls ++ ls') (os ++ os') q
 failed_behind root s t u ls ls' os os' q h well (in_listing before e failed k) =
@@ -66,7 +66,7 @@ failed_split root (o ∷ os) = by o.failed refl (is_meta root o.place) (failed_s
     by false e true k = k
     by false e false k = k ∙ ap (λ n. length (metas os) + n) (sym (ap (λ c. count (cond c (o ∷ failed contents) (failed contents))) e))
 
--- where no metadata failed, each failure is that of a content file
+-- if no metadata failed, each failure is that of a content file
 pub content_failed : (root : StorageRoot) (os : List Opening) → IsMetadataRead root os → length (unread_of root os) ≤ failed_openings os
 content_failed root os h = let all = failed_split root os in let none : length (filter (λ o. o.failed && is_meta root o.place) os) ≡ 0 = ap length h in omega (arith, all, none)
 
@@ -107,7 +107,7 @@ pub hashed_append : (root : StorageRoot) (ps qs : List Place) → hashed_among r
 unfolding hashed_among
 hashed_append root ps qs = filter_append (is_hashed root) ps qs
 
--- ---- where metadata lies
+-- ---- where metadata is
 
 pub near_none : (root : StorageRoot) (ds : List Place) → LieIn root ds []
 near_none root ds o i meta = absurd i
@@ -138,7 +138,7 @@ one_of o [] p i = absurd i
 one_of o (n ∷ ns) p (inl e) = (n, e)
 one_of o (n ∷ ns) p (inr i) = one_of o ns p i
 
--- files of o lie in o
+-- files of o are in o
 pub files_near : (root : StorageRoot) (o : Place) (names : List Text) (trail : List Opening) → IsFront (places_of trail) (files_there root o names) → LieIn root (o ∷ []) trail
 files_near root o names trail h x i meta =
     let place : IsAmong (places_of trail) x.place = among_map (λ y. y.place) trail x i in
@@ -175,7 +175,7 @@ module _ (root : StorageRoot) (s t u : Store) where
     store = λ q e. let w = k.store q e in (w.0, failed_behind root s t u ls ls' os os' q h.read (audits_well root s t ps ls hs os h) w.1);
   }
 
--- where nothing was done
+-- if nothing was done
 pub audits_nothing : (root : StorageRoot) (s : Store) → s.tree ≡ root → Audits root s s [] [] [] []
 unfolding hashed_among
 audits_nothing root s over = record { over = over; did = did_nothing s; read = refl; opened = refl; heads_are = refl; near = near_none root [] }
@@ -193,7 +193,7 @@ fails_nothing root s why over none not =
       store = λ q e. absurd (not q e);
     }
 
--- where only metadata was read
+-- if only metadata was read
 pub audits_meta : (root : StorageRoot) (s t : Store) (ls hs : List Place) (os : List Opening) → s.tree ≡ root → Did s t os ls 0 → IsMetadataRead root os
     → content_trail root os ≡ [] → heads_of root os ≡ hs → LieIn root ls os → Audits root s t [] ls hs os
 unfolding hashed_among

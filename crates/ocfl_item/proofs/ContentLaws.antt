@@ -79,7 +79,7 @@ pub record IsHashedFile (root : StorageRoot) (p : Place) : Type 0 where
   pub whole : cost root None p ≡ length bytes + 1
   pub part : (given : ℕ) → cost root (Some given) p ≡ given + 1
 
--- what is seen lies there
+-- what is seen is there
 there : (root : StorageRoot) (p : Place) (leaf : Leaf) → seen root p ≡ Some leaf → at root p ≡ Some leaf
 there root p leaf h = by (list_all (is_entered root) (beginnings p)) h
   where

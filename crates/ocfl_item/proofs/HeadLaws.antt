@@ -136,7 +136,7 @@ named_have_sidecars bytes a is = subst (λ o. IfSome o (λ x. is_some (sidecar_d
     by (Ok a) e = stated_has_sidecar bytes a e
     by (Err n) e = tt
 
--- the digest of an algorithm is there, where it is wanted for each sidecar that is
+-- the digest of an algorithm is there, if it is wanted for each sidecar that is
 pub digest_wanted : (w : Wanted) (bytes : Text) (digests : Digests) (file : Option Bounded) (a : Algorithm)
     → AreDigests w bytes digests → (is_some file ≡ true → wants w a ≡ true) → HasDigestFor file a bytes digests
 digest_wanted w bytes digests file a are wanted there =

@@ -64,7 +64,7 @@ module _ (root : StorageRoot) (o : Place) where
       → ReadsFile root s t o inventory_name inventory_limit (Ok f) → FilesStop root t u o both why → FilesStop root s u o (inventory_files root o) why
   sidecars_stop s t u f why e h k = subst (λ ns. FilesStop root s u o (inventory_name ∷ ns) why) (sym e) (later_stops root o s t u inventory_name both inventory_limit f why h k)
 
-  -- what adding an inventory's lines gives, where its bytes were read: its table, and the lines
+  -- what adding an inventory's lines gives, if its bytes were read: its table, and the lines
   abbrev ReadsWhole : Store → Store → PlaceLines → PlaceLines → Text → Result (Option Table) Fault → Type 0
   ReadsWhole s t old new bytes r =
       MatchResult r (λ table. ReadsFiles root s t o both × (table ≡ table_of bytes)

@@ -60,7 +60,7 @@ module _ (root : StorageRoot) (o : Place) (z : zone root o ≡ inside o []) wher
       by false = heads_none ns h
       by true = λ i. inventory_of (inside_on root o o [] (inventory_name ∷ []) z i) ++ heads_none ns h i
 
-  -- the head of an object of known version reads its inventory where it has one
+  -- the head of an object of known version reads its inventory if it has one
   reads_is : (d : Declared) → object_declared root o ≡ d → reads_inventory root o ≡ is_some (cond (is_known d) (file_at root (o ++ inventory_name ∷ [])) None)
   reads_is d e = ap (λ b. b && is_some (inventory_at root o)) (ap is_head z) ∙ ap (λ x. is_some (cond (is_known x) (file_at root (o ++ inventory_name ∷ [])) None)) e
 
@@ -102,7 +102,7 @@ module _ (root : StorageRoot) (o : Place) (z : zone root o ≡ inside o []) wher
       subst (λ l. IsFront l (on (reads_inventory root o) o)) (sym (heads_are root trail))
       (subst (IsFront (heads_at root (places_of trail))) (heads_one [] refl ∙ sym (ap (λ b. on b o) (reads_known version))) front)
 
-  -- among the files of a head its inventory, where it has one
+  -- among the files of a head its inventory, if it has one
   pub heads_exact : heads_at root (files_there root o (head_files root o (object_declared root o))) ≡ on (reads_inventory root o) o
   heads_exact = by (object_declared root o) refl
     where

@@ -168,7 +168,7 @@ module _ (root : StorageRoot) (p : Place) (hashed : is_hashed root p ≡ true) w
   part_judges s t n lines over did are costs =
       opens_judges s t n true (Some n) lines over (did_part s t n did) (ap (λ u. given_by u p) (one_unread n) ∙ ap (λ b. cond b (Some n) None) (place_same p)) are costs
 
-  -- a file that is there and short enough stops only by the device, or where memory was refused
+  -- a file that is there and short enough stops only by the device, or if memory was refused
   by_device : HasShortFiles root → (s t : Store) (n : ℕ) (cause : Cause) → StopsHashing root s t p n cause → cause ≢ Memory → Did s t (opening p n true ∷ []) [] 1
   by_device short s t n cause stops kept = go cause stops.fits stops.did kept
     where
@@ -227,7 +227,7 @@ module _ (root : StorageRoot) (s t : Store) (made : Pending) (over : s.tree ≡ 
       (ap (lines_at made.place) (f.lines (Some n) ∙ file_part f.bytes (named_at root made.place) n f.digests ∙ ap (λ xs. unnamed_notes xs ++ plain S08 ∷ []) (sym names)) ∙ sym are)
       (f.part n)
 
-  -- where memory was refused the file was not opened
+  -- if memory was refused the file was not opened
   refused : (n : ℕ) → StopsHashing root s t made.place n Memory → JudgeFails root s t made.place
   refused n h = nothing_judged root s t made.place over h.did
 

@@ -76,7 +76,7 @@ kind_file (Some other) h = absurd (no h)
     no : Some File ≡ Some Other → ⊥
     no e = cc
 
--- ---- what lies at a name of a listed directory
+-- ---- what is at a name of a listed directory
 
 module _ (root : StorageRoot) (d : Place) (n : Text) (es : List Entry) (h : IsListing root d es) where
   pub nothing_there : None ≡ kind_in es n → at root (d ++ n ∷ []) ≡ None
@@ -196,7 +196,7 @@ file_among (e ∷ es) z h = by (text_eq e.name z) refl h (file_among es z)
         subst (λ b. IsAmong (cond b (e.name ∷ file_names es) (file_names es)) z) (ap is_file here) (inl (sym (text_from_test e.name z f)))
     by false f g k = keep (is_file e.kind) (k g)
 
--- no text stands twice
+-- no text occurs twice
 abbrev Once : List Text → Type 0
 Once [] = ⊤
 Once (x ∷ xs) = (IsAmong xs x → ⊥) × Once xs

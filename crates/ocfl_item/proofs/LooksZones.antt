@@ -54,7 +54,7 @@ pub declared_object : (root : StorageRoot) (d : Place) (es : List Entry) → is_
     → object_declared root d ≡ declared level.Object (file_names es)
 declared_object root d es l ordinary h = listable_object root d l ∙ sym (declared_listing root d es ordinary h level.Object)
 
--- below what is not listed no object lies
+-- below what is not listed there is no object
 undeclared_below : (root : StorageRoot) (e : Place) → is_listable root e ≡ false → (b : Place) → is_declared (object_declared root (e ++ b)) ≡ false
 undeclared_below root e h b = false_from (is_declared (object_declared root (e ++ b))) (λ d. true_not_false (sym (open_ d) ∙ h))
   where
@@ -112,7 +112,7 @@ plain_extensions root [] r n z h = by (is_dir root (n ∷ [])) refl
     by false e = plain_below root [] r n z e
 plain_extensions root (m ∷ d) r n z h = absurd (true_not_false (sym h))
 
--- nor where the root's version is not known
+-- nor if the root's version is not known
 pub plain_unknown : (root : StorageRoot) (p : Place) → is_known (root_declared root) ≡ false → is_plain (zone root p) ≡ true
 plain_unknown root p h = ap (λ b. is_plain (cond (not b || is_in_extensions root p) skipped (object_zone root [] p))) h
 

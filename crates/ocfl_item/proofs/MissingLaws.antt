@@ -22,7 +22,7 @@ use Rattle.ocfl_item.specs.declared.lines.PlaceLines.{PlaceLines}
 use Rattle.ocfl_inventory.specs.declared.triple.Named.{Named as MadeNamed}
 use Rattle.ocfl_item.proofs.NamedLaws.{algorithm_cmp_total}
 
--- the lines of named digests, where the one before them had its own
+-- the lines of named digests, if the one before them had its own
 abbrev pub notes_behind : Option Named → List Named → List Note
 notes_behind before [] = []
 notes_behind before (n ∷ ns) = on (not (is_repeated before n)) (missing_note n) ++ notes_behind (Some n) ns

@@ -41,7 +41,7 @@ path_of_named t q some = by t.triples some
         go true f m k = inl (sym (place_from_test e.path q f))
         go false f m k = inr (k m)
 
--- where digests are named the table names the place
+-- if digests are named the table names the place
 pub named_in_table : (p : Place) (around : Option Around) (a : Around) → around ≡ Some a → named a.table (drop (length a.place) p) ≢ [] → (o : Option Pending) → IfSome o (λ _. IsNamedIn p around)
 named_in_table p around a is some None = tt
 named_in_table p around a is some (Some m) = subst (IsNamedIn p) (sym is) (path_of_named a.table (drop (length a.place) p) some)
@@ -50,7 +50,7 @@ module _ (root : StorageRoot) (p : Place) where
   inside_named : (o q : Place) (x : Option Table) → zone root p ≡ inside o q → table_at root o ≡ x → named_at root p ≡ named_of q x
   inside_named o q x z e = ap (named_in root) z ∙ ap (λ y. elim y as (λ _. List Named) [ None ↦ [] | Some t ↦ named t q ]) e
 
-  -- no digest is named where there is no table
+  -- no digest is named if there is no table
   pub untabled : IsTableAround root p None → named_at root p ≡ []
   untabled h = by (zone root p) refl
     where
@@ -77,7 +77,7 @@ module _ (root : StorageRoot) (p : Place) where
         ∙ ap (λ y. elim y as (λ _. Option (Table × Place)) [ None ↦ None | Some t ↦ Some (t, k.version ∷ k.content ∷ k.name ∷ k.rest) ]) h.2
         ∙ ap (λ q. Some (a.table, q)) (sym (inner ∙ shape))
 
-  -- where nothing is seen only named digests have lines
+  -- if nothing is seen only named digests have lines
   pub unseen_notes : seen root p ≡ None → named_at root p ≡ [] → notes root None p ≡ []
   unseen_notes h none = notes_at root None p not_base ∙ by (zone root p) refl
     where

@@ -25,7 +25,7 @@ hidden root e h = by (list_all (is_entered root) (beginnings e)) (is_entered roo
     by true b k = ap (λ x. cond x (names_in root e) []) k
     by false b k = refl
 
--- where neither a place nor a directory of the hierarchy or an object is
+-- if there is neither a place nor a directory of the hierarchy or an object
 module _ (root : StorageRoot) (e : Place) (some : e ≢ []) where
   looked_false : (way short there shows : Bool) → (short && there ≡ false) → way && (short && (there && shows)) ≡ false
   looked_false true true true shows h = absurd (true_not_false h)

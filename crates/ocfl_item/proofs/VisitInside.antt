@@ -1,4 +1,4 @@
--- Entries within an object whose head does not stop, by how many names they lie below it.
+-- Entries within an object whose head does not stop, by how many names they are below it.
 use Rattle.std.proofs.Common.{◌≡◌, ℕ, zero, suc, ◌-◌, ◌+◌, ◌≤◌, [], ◌∷◌, ◌++◌, sym, ◌∙◌, ap, true, Some, Option, subst, arith, length, drop, append_assoc}
 use Rattle.std.specs.Prelude.{option_map}
 use Rattle.std.specs.List.{list_all}
@@ -81,6 +81,6 @@ module _ (root : StorageRoot) (d e : Place) (a : Around) (entry : Entry) (m : Is
       deep (v ∷ []) k z l = absurd (omega (arith, k))
       deep (v ∷ c ∷ s) k z l = ap (is_listed_zone root) z ∙ ap (λ x. is_listed_in_object x (v ∷ c ∷ (s ++ entry.name ∷ []))) m.part.2 ∙ l
 
--- an entry that is met within an object, where that object is the one at hand
+-- an entry that is met within an object, if that object is the one at hand
 pub met_within : (root : StorageRoot) (d e : Place) (around : Option Around) (a : Around) (entry : Entry) → around ≡ Some a → IsMet root d around entry e → IsMet root d (Some a) entry e
 met_within root d e around a entry is met = subst (λ x. IsMet root d x entry e) is met

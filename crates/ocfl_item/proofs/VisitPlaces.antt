@@ -1,4 +1,4 @@
--- Entries of the storage hierarchy: what lies outside objects, and objects.
+-- Entries of the storage hierarchy: what is outside objects, and objects.
 use Rattle.std.proofs.Common.{◌≡◌, ◌≢◌, suc, ◌+◌, ◌-◌, ◌<◌, ◌≤◌, List, [], ◌∷◌, ◌++◌, refl, sym, ◌∙◌, ap, subst, true, false, Bool, Option, Some, None, arith, length}
 use Rattle.std.specs.Prelude.{cond, nat_eq, nat_le, option_map, codes, ◌&&◌, Result, Ok, Err, IfErr, IfOk}
 use Rattle.std.specs.List.{list_all}
@@ -128,7 +128,7 @@ module _ (root : StorageRoot) (e d : Place) (n : Text) (is : e ≡ d ++ n ∷ []
       by [] g = ap (λ b. b && is_dir root (n ∷ [])) (ap (λ k. nat_eq (k - 1) 0 && text_eq n (codes "extensions")) (sym (ap length g)) ∙ h)
       by (m ∷ d) g = refl
 
-  -- what is no directory lies in the hierarchy
+  -- what is no directory is in the hierarchy
   zone_no_dir : is_dir root e ≡ false → zone root e ≡ hierarchy
   zone_no_dir h = zone_passed (no_extensions h) ∙ ap (λ x. cond (is_declared x) (inside e []) hierarchy) (undeclared_no_dir root e h)
 

@@ -15,12 +15,12 @@ abbrev pub IsTableAround : StorageRoot → Place → Option Around → Type 0
 IsTableAround root p None = (o s : Place) → zone root p ≡ inside o s → table_at root o ≡ None
 IsTableAround root p (Some a) = (s : Place) × (zone root p ≡ inside a.place s) × (table_at root a.place ≡ Some a.table)
 
--- which part of the root a directory that is entered lies in
+-- which part of the root a directory that is entered is in
 abbrev pub IsPart : StorageRoot → Place → Option Around → Type 0
 IsPart root d None = zone root d ≡ hierarchy
 IsPart root d (Some a) = (s : Place) × (zone root d ≡ inside a.place s) × (table_at root a.place ≡ Some a.table)
 
--- an entry that is next, and the part of the root that its directory lies in
+-- an entry that is next, and the part of the root that its directory is in
 pub record IsMet (root : StorageRoot) (d : Place) (around : Option Around) (entry : Entry) (e : Place) : Type 0 where
   pub is : e ≡ d ++ entry.name ∷ []
   pub reached : is_reached root d ≡ true

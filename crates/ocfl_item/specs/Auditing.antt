@@ -18,7 +18,7 @@ use Rattle.ocfl_item.specs.declared.fault.Fault.TheVariants as fault
 abbrev pub IsMetadataRead : StorageRoot → List Opening → Type 0
 IsMetadataRead root trail = filter (λ o. o.failed && is_meta root o.place) trail ≡ []
 
--- a place lies right in one of these directories
+-- a place is right in one of these directories
 abbrev pub LiesIn : List Place → Place → Type 0
 LiesIn dirs p = (d : Place) × ((n : Text) × (IsAmong dirs d × (p ≡ d ++ n ∷ [])))
 

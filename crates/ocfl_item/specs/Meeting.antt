@@ -23,7 +23,7 @@ use Rattle.ocfl_item.specs.declared.visit.Visit.{Visit}
 
 -- from s to t just what is looked into and read at one place was listed and read: this directory,
 -- and the inventory of this object; no file was opened twice, none but right in this directory, and
--- none where neither an object nor the storage root is
+-- none if there is neither an object nor the storage root
 pub record Meets (root : StorageRoot) (s t : Store) (e : Place) : Type 0 where
   pub over : s.tree ≡ root
   pub trail : List Opening

@@ -7,7 +7,7 @@ use Rattle.ocfl_inventory.specs.TripleView.{named_view}
 use Rattle.ocfl_item.specs.declared.pending.Pending.{Pending}
 use Rattle.ocfl_audit.specs.Lines.{notes, named_at, is_hashed}
 
--- this is an item, its lines known where its file is not hashed
+-- this is an item, its lines known if its file is not hashed
 pub record IsPending (root : StorageRoot) (p : Pending) : Type 0 where
   pub some : notes root None p.place ≢ []
   pub hashed : p.hashed ≡ is_hashed root p.place

@@ -57,7 +57,7 @@ is_dir_kind (Some kind.Other) = false
 abbrev pub is_listable : StorageRoot → Place → Bool
 is_listable root d = nat_le (length d) max_listed_depth && is_dir root d
 
--- a name in the storage root that leads to no object where it is a directory's (OCFL 1.1, 4.4
+-- a name in the storage root that leads to no object if it is a directory's (OCFL 1.1, 4.4
 -- Storage Root Extensions)
 abbrev pub is_extensions_name : Place → Text → Bool
 is_extensions_name [] n = text_eq n (codes "extensions")

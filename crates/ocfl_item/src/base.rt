@@ -1,4 +1,4 @@
-//! The storage root: its lines, and its listing where it is entered.
+//! The storage root: its lines, and its listing if it is entered.
 ghost use Rattle.std.specs.Prelude.{◌≡◌, ◌∷◌, [], false, IfOk, IfErr};
 ghost use Rattle.ocfl_tree.specs.StorageRoot.{StorageRoot};
 ghost use Rattle.ocfl_inventory.specs.Note.{plain};

@@ -62,7 +62,7 @@ fn is_hashed(named: &[Named], sight: Sight) -> bool
 }
 
 /// The item at a content place, from the digests that the object's table names for it and from what
-/// is seen there; none where the place has no lines.
+/// is seen there; none if the place has no lines.
 pub(crate) fn content_item(
     alloc: Global,
     place: Place,

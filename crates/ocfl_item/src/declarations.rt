@@ -1,4 +1,4 @@
-//! The line of what a directory declares, where that is not one declaration of a known version; and
+//! The line of what a directory declares, if that is not one declaration of a known version; and
 //! whether a declaration has the bytes that it must have.
 ghost use Rattle.std.specs.Prelude.{◌≡◌, ◌≤◌, ◌++◌, ◌∷◌, [], false, length, IfOk, OnOk};
 ghost use Rattle.ocfl_tree.specs.Place.{Place as ModelPlace, Text, text_eq};

@@ -18,7 +18,7 @@ use ocfl_tree::{Entry, Kind, Name, Place, Tree, Trouble, is_text};
 use std::alloc::Global;
 use std::default::MadeWith;
 
-/// The places of directories that are listed have at most so many names.
+/// The most names that the place of a listed directory may have.
 pub(crate) const MAX_LISTED_DEPTH: usize = 127;
 
 /// A directory that was listed.
@@ -59,7 +59,7 @@ pub(crate) fn kind_of(entries: &[Entry], name: &str) -> Option<Kind>
     None
 }
 
-/// The fault where a store did not answer at a place.
+/// The fault if a store did not answer at a place.
 pub(crate) fn fault_at(place: Place, trouble: Trouble) -> Fault
     ensures { result ≡ fault_by place trouble }
 {

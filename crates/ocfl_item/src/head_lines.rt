@@ -34,7 +34,7 @@ use ocfl_report::Code;
 use ocfl_tree::is_bytes;
 use std::alloc::{AllocError, Global};
 
-/// What was read of the sidecars of an inventory, where they are there.
+/// What was read of the sidecars of an inventory, if they are there.
 #[derive(Drop)]
 pub(crate) struct Sidecars {
     /// That of `sha256`.
@@ -105,7 +105,7 @@ fn add_unless_equal(
     }
 }
 
-/// The digest that a sidecar names, where it is of the form.
+/// The digest that a sidecar names, if it is of the form.
 fn sum_of(algorithm: Algorithm, file: &Bounded) -> Option<Sum>
     ensures { (text : Text) → IsBoundedTo side_limit text file.now
         → option_map sum_view result ≡ sidecar_of algorithm text }
@@ -204,7 +204,7 @@ fn has_other(algorithm: Algorithm, sidecars: &Sidecars) -> bool
     }
 }
 
-/// Appends the line of a sidecar that is missing while the other is there, where an algorithm is
+/// Appends the line of a sidecar that is missing while the other is there, if an algorithm is
 /// named.
 fn add_missing_sidecar(
     alloc: Global,

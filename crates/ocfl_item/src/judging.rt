@@ -58,7 +58,7 @@ fn judged(
 /// The lines of an item, and its cost. An item is judged once, so it is handed over.
 ///
 /// A hashed file is opened once, read to its end, and costs one more than the bytes that it gave;
-/// where it cannot be read on, a line says so. Every other item costs 0, and the store is not
+/// if it cannot be read on, a line says so. Every other item costs 0, and the store is not
 /// asked. The only fault is running out of memory.
 pub fn judge<T: Tree>(
     alloc: Global,

@@ -1,4 +1,4 @@
-//! What is met at a place below the storage root, by the part of the root that it lies in.
+//! What is met at a place below the storage root, by the part of the root that it is in.
 ghost use Rattle.std.specs.Prelude.{◌≡◌, None, IfErr, IfOk, IfSome, drop, length, map};
 ghost use Rattle.ocfl_tree.specs.Place.{Place as ModelPlace};
 ghost use Rattle.ocfl_tree.specs.StorageRoot.{StorageRoot};
@@ -20,7 +20,7 @@ use ocfl_inventory::{Named, Table};
 use ocfl_tree::{Entry, Place, Tree};
 use std::alloc::{AllocError, Global};
 
-/// The object that a place lies in, where its head does not stop.
+/// The object that a place is in, if its head does not stop.
 #[derive(Debug, Drop)]
 pub struct Around {
     pub place: Place,
@@ -38,7 +38,7 @@ impl Around {
     }
 }
 
-/// What is met at an entry, by the part of the storage root that it lies in.
+/// What is met at an entry, by the part of the storage root that it is in.
 pub fn visit_entry<T: Tree>(
     alloc: Global,
     store: &mut T,

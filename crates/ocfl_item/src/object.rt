@@ -43,7 +43,7 @@ use std::alloc::{AllocError, Global};
 /// An inventory of more bytes is not read.
 pub(crate) const INVENTORY_LIMIT: usize = 268_435_456;
 
-/// The name of the file of this name, where one is listed.
+/// The name of the file of this name, if one is listed.
 fn file_named<'f>(entries: &'f [Entry], name: &str) -> Option<&'f Name>
     ensures { MatchOption result (is_file_kind (kind_in entries.now name.now) ≡ false)
         (λ n. (n.now ≡ name.now) × (is_file_kind (kind_in entries.now name.now) ≡ true)) }
@@ -59,7 +59,7 @@ fn file_named<'f>(entries: &'f [Entry], name: &str) -> Option<&'f Name>
     None
 }
 
-/// The place of the file of this name, where one is listed.
+/// The place of the file of this name, if one is listed.
 fn place_of_file(folder: &Folder, name: &str) -> Result<Option<Place>, AllocError>
     ensures { IfOk result (λ o. MatchOption o
         (is_file_kind (kind_in folder.now.entries.items name.now) ≡ false)
@@ -72,7 +72,7 @@ fn place_of_file(folder: &Folder, name: &str) -> Result<Option<Place>, AllocErro
     Ok(Some(folder.place.child(name)?))
 }
 
-/// What a file of a directory holds within a limit, where it is there.
+/// What a file of a directory holds within a limit, if it is there.
 pub(crate) fn read_file<T: Tree>(
     alloc: Global,
     store: &mut T,
@@ -96,7 +96,7 @@ pub(crate) fn read_file<T: Tree>(
     }
 }
 
-/// What the sidecar of an algorithm holds, where it is there.
+/// What the sidecar of an algorithm holds, if it is there.
 fn read_sidecar<T: Tree>(
     alloc: Global,
     store: &mut T,
@@ -191,7 +191,7 @@ fn add_inventory_file<T: Tree>(
     }
 }
 
-/// Appends the line of an object's declaration, where that is not exact.
+/// Appends the line of an object's declaration, if that is not exact.
 fn add_declaration_file<T: Tree>(
     alloc: Global,
     store: &mut T,
@@ -218,7 +218,7 @@ fn add_declaration_file<T: Tree>(
     Ok(())
 }
 
-/// The lines of an object of known version, and its table where they do not stop.
+/// The lines of an object of known version, and its table if they do not stop.
 fn known_head<T: Tree>(
     alloc: Global,
     store: &mut T,
@@ -244,8 +244,8 @@ fn known_head<T: Tree>(
     Ok((lines, table))
 }
 
-/// The lines of an object as a whole, and its table where they do not stop (OCFL 1.1, 3 OCFL
-/// Object). The inventory is read and parsed once for both, and the sidecars are opened only where
+/// The lines of an object as a whole, and its table if they do not stop (OCFL 1.1, 3 OCFL
+/// Object). The inventory is read and parsed once for both, and the sidecars are opened only if
 /// it is there within its limit.
 pub(crate) fn head_lines<T: Tree>(
     alloc: Global,
@@ -271,7 +271,7 @@ pub(crate) fn head_lines<T: Tree>(
     Ok((lines, None))
 }
 
-/// The table of an inventory, where nothing stops.
+/// The table of an inventory, if nothing stops.
 fn read_table(alloc: Global, bytes: &[u8]) -> Result<Option<Table>, AllocError>
     ensures table { IfOk result (λ o. o ≡ table_of bytes.now) }
     ensures fit { IfOk result (λ o. IfSome o (λ t. IsFit t)) }
@@ -280,7 +280,7 @@ fn read_table(alloc: Global, bytes: &[u8]) -> Result<Option<Table>, AllocError>
     Ok(read.table)
 }
 
-/// The table of an object, where its head does not stop. No file but the inventory is opened for
+/// The table of an object, if its head does not stop. No file but the inventory is opened for
 /// it.
 pub fn table_of_object<T: Tree>(
     alloc: Global,

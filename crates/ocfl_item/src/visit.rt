@@ -97,7 +97,7 @@ fn visit_listed<T: Tree>(alloc: Global, store: &mut T, place: Place) -> Result<V
     Ok(Visit::of_folder(None, folder))
 }
 
-/// An object: its head, and what is below where that does not stop.
+/// An object: its head, and what is below if that does not stop.
 fn visit_object<T: Tree>(
     alloc: Global,
     store: &mut T,

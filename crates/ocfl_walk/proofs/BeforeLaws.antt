@@ -44,7 +44,7 @@ last_some ps x i = by (last_place ps) refl
     by None e = absurd (last_none ps e x i)
     by (Some q) e = (q, e)
 
--- ---- what lies above the place before p
+-- ---- what is above the place before p
 
 pub not_below : (b c : Place) → place_cmp b c ≡ Less → is_lt (place_cmp c b) ≡ false
 not_below b c l = by (place_cmp c b) refl
@@ -54,7 +54,7 @@ not_below b c l = by (place_cmp c b) refl
     by Equal e = refl
     by Greater e = refl
 
--- a lies below all that is not less than what it lies below
+-- a is below all that is not less than what it is below
 pub below_from : (a p x : Place) → place_cmp a p ≡ Less → is_lt (place_cmp x p) ≡ false → place_cmp a x ≡ Less
 below_from a p x l n = by (place_cmp x p) refl
   where
@@ -106,7 +106,7 @@ module _ (root : StorageRoot) (p : Place) where
   pub some_before : place_cmp [] p ≡ Less → (q : Place) × (place_before root p ≡ Some q)
   some_before l = let k = last_some (lesser_places root p) [] (to_lesser [] (inl refl) (ap is_lt l)) in (k.0, before_last ∙ k.1)
 
--- the storage root's place comes before all that lie in it
+-- the storage root's place comes before all that are in it
 pub root_first : (d : Place) (n : Text) → place_cmp [] (d ++ n ∷ []) ≡ Less
 root_first [] n = refl
 root_first (m ∷ d) n = refl

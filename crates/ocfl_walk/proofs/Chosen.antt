@@ -134,7 +134,7 @@ goes_from old mid new l z (Ok s) g = by s g
     by step.Nothing g = (g.0, g.1, subst (λ x. IsBeyond x g.0) l g.2, omega (arith, z, g.3))
     by step.End g = tt
 
--- where the last place is there, the walk stands at it
+-- if the last place is there, the walk stands at it
 pub at_last : (root : StorageRoot) (old : Stand) (X : Option Place → Type 0) (last : Option Place) → StandsAt root old last → (old.last ≡ None → ⊥)
     → ((p : Place) → old.last ≡ Some p → IsStanding root p (piles_in old.last old.listings.items) old.around → X (Some p)) → X last
 at_last root old X None st n k = absurd (n st)

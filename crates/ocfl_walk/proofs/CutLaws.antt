@@ -61,7 +61,7 @@ kept_before d p n (m ∷ ns) h = by (is_from_name n m) (kept_before d p n ns h.1
     by true k = (h.0, k)
     by false k = k
 
--- ---- what a chain leads to lies above its place
+-- ---- what a chain leads to is above its place
 
 longer : (p y r : Place) → place_cmp p y ≡ Less → place_cmp p (y ++ r) ≡ Less
 longer p y [] l = ap (place_cmp p) (append-nil y) ∙ l
@@ -297,7 +297,7 @@ module _ (root : StorageRoot) (d : Place) (n : Text) (q : Place) (j : IsJustBefo
           subst (λ y. IsTurn root q y ((y, seen_names root y) ∷ (c, names_of es) ∷ frames_of ps)) is
           (turn_low (c ++ f.name ∷ []) (subst (λ y. is_lt (place_cmp p y) ≡ false) (sym is) low) _ k.0 k.1.1 ((λ m i. i), ((λ m i. listed.0 m (inr i)), listed.1)))
 
-  -- to p itself, where no entry is
+  -- to p itself, if no entry is there
   module _ (ps : List Pile) (a : Option Around) (h : IsOrderly p ps a) (st : IsStack root q (frames_of ps)) where
     ahead : (x : Place) → IsAmong xs x → place_cmp q x ≡ Less → place_cmp p x ≡ Less
     ahead x i l = chain_over xs p levels (frames_of ps) h.chain x (subst (λ ys. IsAmong ys x) (sym st) (among_filter (above q) xs x i (ap is_lt l)))

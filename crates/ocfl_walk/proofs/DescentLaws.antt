@@ -44,7 +44,7 @@ front_within e true xs h = h
 front_within e false [] h = (e ∷ [], refl)
 front_within e false (x ∷ xs) h = absurd cc
 
--- and only where its head reads its inventory
+-- and only if its head reads its inventory
 own_reached : (root : StorageRoot) (o : Place) (xs : List Place) → IsFront xs (on (reads_inventory root o) o) → xs ≡ filter (reads_inventory root) xs
 own_reached root o xs h = by (reads_inventory root o) refl xs h
   where
@@ -183,7 +183,7 @@ module _ (root : StorageRoot) where
 
   -- ---- an object's inventory
 
-  -- which lies right in it
+  -- which is right in it
   one_near : (o : Place) (x : Opening) (z : Zone) → zone root x.place ≡ z → IsFront (inventory_of z ++ []) (on (reads_inventory root o) o) → 1 ≡ length (inventory_of z ++ [])
       → LiesIn (o ∷ []) x.place
   one_near o x skipped e h one = absurd (omega (arith, one))
@@ -263,6 +263,6 @@ module _ (root : StorageRoot) where
 
   -- ---- what is shut
 
-  -- where there is no object there is no table
+  -- if there is no object there is no table
   pub plain_table : (p : Place) → is_plain (zone root p) ≡ true → IsTableAround root p None
   plain_table p h o s z = absurd (true_not_false (sym h ∙ ap is_plain z))

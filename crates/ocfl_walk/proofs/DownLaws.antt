@@ -31,7 +31,7 @@ module _ (root : StorageRoot) where
   shut_out : (d : Place) (n : Text) → is_entered root (d ++ n ∷ []) ≡ false → is_reached root (d ++ n ∷ []) ≡ false
   shut_out d n h = reached_step root d n ∙ and_right (is_reached root d) (is_entered root (d ++ n ∷ [])) h
 
-  -- where there is no object
+  -- if there is no object
   shut_plain : (d : Place) (n : Text) (r : Place) → is_entered root (d ++ n ∷ []) ≡ false → is_plain (zone root (d ++ n ∷ r)) ≡ true → IsShut root d n r None
   shut_plain d n r h plain = record { out = shut_out d n h; table = plain_table root (d ++ n ∷ r) plain }
 
@@ -81,14 +81,14 @@ module _ (root : StorageRoot) where
 
   -- ---- what is shut
 
-  -- where a name does not lead on
+  -- if a name does not lead on
   pub shut_off : (d : Place) (n : Text) (r : Place) (x : Option Around) → IsPart root d x → LeadsOn root d n x false → IsShut root d n r x
   shut_off d n r None z h =
       let e : is_extensions_name d n ≡ true = not-false (is_extensions_name d n) (sym h) in
       shut_plain d n r (extensions_out d n e) (plain_extensions root d r n z e)
   shut_off d n r (Some a) p h = record { out = shut_out d n (out_of_zone root (d ++ n ∷ []) (zone_next d n a p false h)); table = table_below d n a p r }
 
-  -- where no directory of it is listed
+  -- if no directory of it is listed
   pub shut_unlisted : (d : Place) (n : Text) (r : Place) (x : Option Around) → IsPart root d x → is_listable root (d ++ n ∷ []) ≡ false → IsShut root d n r x
   shut_unlisted d n r None z h = shut_plain d n r (not_entered root (d ++ n ∷ []) h) (plain_below root d r n z h)
   shut_unlisted d n r (Some a) p h = record { out = shut_out d n (not_entered root (d ++ n ∷ []) h); table = table_below d n a p r }

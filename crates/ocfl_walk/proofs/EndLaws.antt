@@ -24,9 +24,9 @@ use Rattle.ocfl_walk.proofs.FilterLaws.{left_whole, left_nothing}
 use Rattle.ocfl_walk.specs.Ends.{is_above_branch, is_at_bound, is_past, before_end}
 use Rattle.ocfl_walk.specs.declared.end.End.{End}
 
--- ---- what lies above a place past the end is past it
+-- ---- what is above a place past the end is past it
 
--- what lies between two places that begin with a place begins with it
+-- what is between two places that begin with a place begins with it
 pub begins_between : (u q r x : Place) → place_cmp (u ++ q) x ≡ Less → place_cmp x (u ++ r) ≡ Less → begins u x ≡ true
 begins_between [] q r x h k = refl
 begins_between (m ∷ u) q r [] h k = absurd cc
@@ -118,7 +118,7 @@ module _ (e : End) where
     unfolding read_between
     read_out from b l n = split (objects root) from b (objects_ascend root) l n
 
-    -- ---- where the next place is past the end, all that is left is
+    -- ---- if the next place is past the end, all that is left is
 
     module _ (last x : Place) (none : NoneSeenBetween root last x) (past : is_past e x ≡ true) where
       ahead : (y : Place) → seen root y ≡ Some dir → place_cmp last y ≡ Less → is_past e y ≡ true

@@ -95,7 +95,7 @@ module _ (root : StorageRoot) where
     abbrev pub comes_first : Comes root s t (way_to p) (way_below [] p) (holder_of (zone root p)) (holder_of (zone root p))
     comes_first = record { goes = came; all = λ e i k. subst (λ w. IsAmong w e) (way_is p) i }
 
-    -- where nothing below the storage root is entered
+    -- if nothing below the storage root is entered
     pub start_listed : is_known (root_declared root) ≡ false → Starts root s t p
     start_listed none = record {
       comes = record {
@@ -122,7 +122,7 @@ module _ (root : StorageRoot) where
           descent_fails_on root s t u (way_to p) (way_below [] p) (holder_of (zone root p)) (holder_of (zone root p)) why came
           (subst (λ x. DescendFails root t u (way_below [] x) (holder_of (zone root x)) why) same (subst (λ e. DescendFails root t u (way_below e q) (holder_of (zone root (e ++ q))) why) root_is h))
 
-  -- where the root's version is not known
+  -- if the root's version is not known
   standing_nothing : (p : Place) → is_known (root_declared root) ≡ false → IsStanding root p [] None
   standing_nothing p h = record {
     stack = sym (start_stops root (seen_places root) [] p [] (unknown_out h)) ∙ stack_starts root (is_closed root) p;
@@ -134,7 +134,7 @@ module _ (root : StorageRoot) where
   pub stands_nothing : (p : Place) (fs : List Folder) → fs ≡ [] → is_known (root_declared root) ≡ false → IsStanding root p (piles_of fs) None
   stands_nothing p fs none h = subst (λ x. IsStanding root p (piles_of x) None) (sym none) (standing_nothing p h)
 
-  -- and where it is
+  -- and if it is
   pub stands_brought : (p d q : Place) (fs : List Folder) (new : List Pile) (a : Option Around) → fs ≡ [] → d ≡ [] → q ≡ p → IsBrought root d q (piles_of fs) new a → IsStanding root p new a
   stands_brought p d q fs new a none root_is same h =
       let k : IsBrought root [] p [] new a = subst (λ x. IsBrought root [] x [] new a) same

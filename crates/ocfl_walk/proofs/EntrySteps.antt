@@ -75,7 +75,7 @@ module _ (root : StorageRoot) where
       by true e j = refl
       by false e j = absurd j
 
-  -- which object holds the entry, where the directory is on the way to the last place
+  -- which object holds the entry, if the directory is on the way to the last place
   part_is : (last d : Place) (n : Text) (a : Option Around) → IsTableAround root last a → begins d last ≡ true → is_reached root d ≡ true
       → place_cmp last (d ++ n ∷ []) ≡ Less → IsPart root d (still a (d ++ n ∷ []))
   part_is last d n a h b r l = by (zone root d) refl (reached_entered d r)

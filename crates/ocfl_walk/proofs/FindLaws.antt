@@ -151,7 +151,7 @@ module _ (root : StorageRoot) where
   pub finds_nothing : (s : Store) (way may : List Place) → s.tree ≡ root → Finds root s s way may 0
   finds_nothing s way may over = record { calls = no_calls root s s over (did_nothing s); once = none_once; closed = λ e. refl; listed = (way, refl); heads = (may, refl); near = near_none root [] }
 
-  -- where the one place on the way is not entered
+  -- if the one place on the way is not entered
   pub finds_none : (s : Store) (p : Place) (may : List Place) → s.tree ≡ root → is_reached root p ≡ false → FindsAll root s s (p ∷ []) may
   finds_none s p may over out = record { finds = finds_nothing s (p ∷ []) may over; all = λ e i k. absurd (none e i k) }
     where

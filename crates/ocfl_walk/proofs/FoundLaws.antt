@@ -46,7 +46,7 @@ unfolding hashed_among
 none_hashed root = refl
 
 module _ (root : StorageRoot) where
-  -- where no content was opened none was unreadable
+  -- if no content was opened none was unreadable
   pub none_unread : (trail : List Opening) → content_trail root trail ≡ [] → length (unread_of root trail) ≡ 0
   none_unread trail h = ap (λ os. length {A = Place × ℕ} (map (λ o. (o.place, o.given)) (filter (λ o. o.failed) os))) (none_mapped (λ o. o.place) (content_openings root trail) h)
 
@@ -84,7 +84,7 @@ module _ (root : StorageRoot) where
         once = once;
       }
 
-    -- of the object that holds it the inventory is read only where its head reads it
+    -- of the object that holds it the inventory is read only if its head reads it
     held : (may : List Place) (f : ℕ) (h : Finds root s t (way_to p) may f) → IsFront (heads_of root h.calls.trail) (filter (reads_inventory root) may)
     held may f h = front_kept (reads_inventory root) (heads_of root h.calls.trail) may h.calls.reached h.heads
 
@@ -130,7 +130,7 @@ module _ (root : StorageRoot) where
     skipped_notes : (q : Place) → q ≢ [] → is_known (root_declared root) ≡ false → notes root None q ≡ []
     skipped_notes q some h = notes_at root None q some ∙ ap (λ b. notes_in root q None (cond (not b || is_in_extensions root q) skipped (object_zone root [] q))) h
 
-    -- where the root's version is not known nothing else has lines
+    -- if the root's version is not known nothing else has lines
     pub answered_unknown : p ≢ [] → is_known (root_declared root) ≡ false → GoesDown root s t (Some p) × IsItemAt root p None
     answered_unknown some none = (start_goes_down s t p (start_listed root s t p over did none), skipped_notes p some none)
 

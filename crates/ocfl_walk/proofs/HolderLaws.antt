@@ -1,4 +1,4 @@
--- Whose inventory is read on the way down to a place, and which directories lie on it.
+-- Whose inventory is read on the way down to a place, and which directories are on it.
 use Rattle.std.proofs.Common.{◌≡◌, Bool, true, false, cond, [], ◌∷◌, ◌++◌, None, Some, inl, inr, filter, refl, ap, sym, ◌∙◌}
 use Rattle.ocfl_tree.specs.Place.{Place}
 use Rattle.ocfl_tree.specs.Ascending.{IsAmong}

@@ -40,7 +40,7 @@ keep_end n es last = subst (λ xs. back (λ x. x) xs ≡ left_above n (back (λ 
 first_of : (x e : Entry) (xs es : List Entry) → x ∷ xs ≡ e ∷ es → x ≡ e
 first_of x e xs es h = cc
 
--- the last entry is taken off, and does not lie above the name
+-- the last entry is taken off, and is not above the name
 pub keep_drop : (n : Text) (es ys : List Entry) (o : Option Entry) (e : Entry) → Some e ≡ slice_get es (length es - 1) → es ≡ ys ++ option_to_list o
     → IsAscending text_cmp (names_of (back (λ x. x) es)) → is_lt (text_cmp n e.name) ≡ false
     → IsAscending text_cmp (names_of (back (λ x. x) ys)) × (left_above n (back (λ x. x) ys) ≡ left_above n (back (λ x. x) es))

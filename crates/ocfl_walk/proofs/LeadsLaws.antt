@@ -1,4 +1,4 @@
--- Which names lead on, by how deep a directory lies in its object.
+-- Which names lead on, by how deep a directory is in its object.
 use Rattle.std.proofs.Common.{◌≡◌, ◌≢◌, suc, ◌+◌, ◌-◌, ◌≤◌, List, [], ◌∷◌, ◌++◌, refl, sym, ◌∙◌, ap, subst, true, Bool, Option, None, Some, arith, length}
 use Rattle.std.proofs.lemmas.Bool.{leb-true}
 use Rattle.std.proofs.lemmas.List.{length-append}

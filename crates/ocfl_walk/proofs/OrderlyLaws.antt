@@ -17,7 +17,7 @@ use Rattle.ocfl_item.specs.declared.folder.Folder.{Folder}
 use Rattle.ocfl_item.specs.declared.meeting.Around.{Around}
 use Rattle.ocfl_audit.proofs.BelowLaws.{above_self, above_name, begins_front, begins_rest}
 
--- what is not longer than d and lies above it lies above all below d
+-- what is not longer than d and is above it is above all below d
 above_longer : (d y r : Place) → place_cmp d y ≡ Less → length y ≤ length d → place_cmp (d ++ r) y ≡ Less
 above_longer [] [] r h l = absurd cc
 above_longer [] (m ∷ y) r h l = absurd (omega (arith, l))
@@ -109,7 +109,7 @@ module _ (last : Place) (ps new : List Pile) (entry : Entry) (a : Option Around)
   pub entry_after : place_cmp last (t.place ++ entry.name ∷ []) ≡ Less
   entry_after = old_chain.2.0
 
-  -- an entry lies in a directory of at most 127 names
+  -- an entry is in a directory of at most 127 names
   pub entry_short : (x : Place) → x ≡ t.place ++ entry.name ∷ [] → length x ≤ 255
   entry_short x e = omega (arith, ap length e, length_one t.place entry.name, old_chain.1)
 

@@ -160,7 +160,7 @@ module _ (last b : Place) (ps : List Pile) (a : Option Around) (over : place_cmp
   unfolding size_of
   size_named = let f = named_fewer in omega (arith, f)
 
--- the table's next path lies above the last place and in the object, and is one of the table's
+-- the table's next path is above the last place and in the object, and is one of the table's
 pub path_ahead : (last b : Place) (a : Option Around) → IsAroundIf last a → path_from last a ≡ Some b → (place_cmp last b ≡ Less) × IsAroundIf b a × IsNamedIn b a
 path_ahead last b None k e = absurd cc
 path_ahead last b (Some o) k e =

@@ -1,4 +1,4 @@
--- Listings with their places: the one at an index is that of so many names of a place.
+-- Listings with their places: the one at index n is that of n names of a place.
 use Rattle.std.specs.declared.alloc.Global.{Global}
 use Rattle.std.proofs.Common.{◌≡◌, ℕ, zero, suc, ◌+◌, ◌-◌, ◌<◌, ◌≤◌, List, [], ◌∷◌, ◌++◌, refl, sym, ◌∙◌, ap, subst, true, false, Bool, Option, Some, None, length, take, drop, arith, vec_len}
 use Rattle.std.proofs.lemmas.Bool.{leb-true, leb-false, le-leb}
@@ -63,7 +63,7 @@ take_within (suc k) zero p l = absurd (omega (arith, l))
 take_within (suc k) (suc n) [] l = refl
 take_within (suc k) (suc n) (x ∷ p) l = ap (λ q. x ∷ q) (take_within k n p (omega (arith, l)))
 
--- where the deepest listing lies on the way to both places, all do
+-- if the deepest listing is on the way to both places, all do
 pub folders_shared : (p q : Place) (vs : List (Vec Entry Global)) (n : ℕ) → length vs ≡ suc n → n ≤ length p → begins (take n p) q ≡ true → folders_from 0 p vs ≡ folders_from 0 q vs
 folders_shared p q vs n count deep h = folders_same 0 p q vs (λ k l. same k (omega (arith, l, count)))
   where
@@ -85,7 +85,7 @@ next_at p vs above xs v es o same split items last =
     next_of_last (folders_from 0 p above) (folders_from 0 p vs) (record { place = take (length above) p; entries = v }) o
     (folders_push p above vs v (sym same ∙ split)) (subst (λ ys. o ≡ slice_get ys (length ys - 1)) items last)
 
--- ---- whether the next entry lies at a place
+-- ---- whether the next entry is at a place
 
 module _ (last x d : Place) (n m : Text) (k : ℕ) (is : x ≡ d ++ n ∷ []) (o : Option Place) (next : o ≡ Some (take k last ++ m ∷ [])) where
   depth : length x ≡ length d + 1
@@ -138,7 +138,7 @@ pub trim_drops_at : (p : Place) (vs old : List (Vec Entry Global)) (v : Vec Entr
     → trimmed (piles_at p vs) ≡ trimmed (piles_at p old)
 trim_drops_at p vs old v b h e n = trim_drops_by (folders_from 0 p vs) (folders_from 0 p old) (record { place = take (length vs) p; entries = v }) b (folders_push p vs old v h) e n
 
--- ---- what lies before a name in the deepest listing
+-- ---- what is before a name in the deepest listing
 
 pub begins_later : (p : Place) (vs : List (Vec Entry Global)) (k : ℕ) (n : Text) → length vs ≤ k → piles_at p vs ≡ cut_top k n (piles_at p vs)
 begins_later p vs k n l = by (piles_at p vs) (piles_count p vs)

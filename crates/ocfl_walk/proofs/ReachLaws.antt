@@ -58,7 +58,7 @@ module _ (root : StorageRoot) where
       and_both way _ (and_first way (is_entered root (n ∷ d)) h)
       (and_both short _ (and_first short (there && zone_is) entered) (and_both there _ (and_first there zone_is rest) (shows (zone root (n ∷ d)) (and_second there zone_is rest))))
 
-  -- a place that is met is listed where it is looked into
+  -- a place that is met is listed if it is looked into
   pub own_listed : (e : Place) (listings : List Place) → listings ≡ on (is_looked_into root e) e → AreAllListed root (e ∷ []) listings
   own_listed e listings is x (inl f) k =
       let looked : is_looked_into root e ≡ true = reached_looked e (ap (is_reached root) (sym f) ∙ k) in

@@ -40,7 +40,7 @@ after_on (Some a) x y h k = place_cmp_total.trans a x y h k
 -- ---- the stack after a step
 
 module _ (root : StorageRoot) where
-  -- at an entry, its listing on top where it is entered
+  -- at an entry, its listing on top if it is entered
   pub entry_stands : (last x : Place) (ps new : List Pile) (entry : Entry) (f : Option Folder) (a a' : Option Around) → HaveEntries root ps → IsTurn root last x ((x, seen_names root x) ∷ popped ps)
       → IsTaken ps new entry → IsPileAt root x f → IsTableAround root x a' → IsStanding root x (pushed f new) a'
   entry_stands last x ps new entry f a a' h t k m z = by f m

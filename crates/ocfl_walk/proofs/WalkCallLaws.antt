@@ -20,7 +20,7 @@ use Rattle.ocfl_item.specs.Meeting.{Meets, MeetFails}
 use Rattle.ocfl_item.specs.declared.fault.Fault.{Fault}
 use Rattle.ocfl_item.specs.declared.fault.Fault.TheVariants as fault
 
--- from one place to the next just what lies at that one is looked into and read
+-- from one place to the next just what is at that one is looked into and read
 pub record IsNear (root : StorageRoot) (from : Option Place) (x : Place) : Type 0 where
   pub beyond : IsBeyond from x
   pub looked : looked_between root from (Some x) ≡ on (is_looked_into root x) x
@@ -105,7 +105,7 @@ module _ (root : StorageRoot) (s t u : Store) (from : Option Place) (b : Place) 
         (before_end e (read_between root from None)) (read_out e root from b beyond before) w.heads_front;
   }
 
--- where nothing is left before the end nothing is done
+-- if nothing is left before the end nothing is done
 pub walks_out_nothing : (root : StorageRoot) (s : Store) (from : Option Place) (e : End) → s.tree ≡ root → before_end e (looked_between root from None) ≡ []
     → before_end e (read_between root from None) ≡ [] → WalksOut root s s from e
 walks_out_nothing root s from e over looked read = record {

@@ -12,7 +12,7 @@ last_place [] = None
 last_place (p ∷ []) = Some p
 last_place (p ∷ q ∷ ps) = last_place (q ∷ ps)
 
--- the greatest place below p that may have lines, and none below the storage root's: what lies
+-- the greatest place below p that may have lines, and none below the storage root's: what is
 -- above it is what is not less than p
 unfoldable pub place_before : StorageRoot → Place → Option Place
 place_before root p = last_place (filter (λ q. is_lt (place_cmp q p)) (ascending place_cmp (candidates root)))
@@ -21,7 +21,7 @@ place_before root p = last_place (filter (λ q. is_lt (place_cmp q p)) (ascendin
 abbrev pub places_from : Place → List Place → List Place
 places_from p qs = filter (λ q. not (is_lt (place_cmp q p))) qs
 
--- the directory that a place lies in, and none for the storage root
+-- the directory that a place is in, and none for the storage root
 abbrev pub directory_of : Place → Option Place
 directory_of [] = None
 directory_of (n ∷ []) = Some []

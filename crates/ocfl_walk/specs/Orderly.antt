@@ -37,7 +37,7 @@ abbrev pub is_orderly_if : Option Place → List Pile → Option Around → Bool
 is_orderly_if None ps around = is_empty ps && is_none around
 is_orderly_if (Some last) ps around = is_chain last levels (frames_of ps) && (list_all (λ p. nat_le (length p.1) max_entries) ps && is_around last around)
 
--- each listing is of a directory on the way to the last place, of what is left of it all lies above
+-- each listing is of a directory on the way to the last place, of what is left of it all is above
 -- that, and the table is one that may be read
 abbrev pub is_orderly : Stand → Bool
 is_orderly s = is_orderly_if s.last (piles_in s.last s.listings.items) s.around

@@ -20,7 +20,7 @@ use Rattle.ocfl_walk.specs.declared.stand.Stand.{Stand}
 abbrev pub levels : ℕ
 levels = max_listed_depth + 1
 
--- ---- what is kept: the next entry stands last in a listing, the deepest listing last
+-- ---- what is kept: the next entry is last in a listing, the deepest listing last
 
 abbrev pub back_onto : {A B : Type 0} → (A → B) → List A → List B → List B
 back_onto f [] ys = ys
@@ -47,7 +47,7 @@ frame_of p = (p.0, map (λ e. e.name) p.1)
 abbrev pub frames_of : List Pile → List Frame
 frames_of ps = map frame_of ps
 
--- the place after which a walk stands; the storage root's where it has not begun
+-- the place after which a walk stands; the storage root's if it has not begun
 abbrev pub spot_of : Option Place → Place
 spot_of None = []
 spot_of (Some p) = p
@@ -65,7 +65,7 @@ piles_in last vs = piles_at (spot_of last) vs
 
 -- ---- a number that each step of the walk lowers
 
--- a listing weighs so much for each entry that is left that all below an entry weighs less
+-- a listing weighs enough for each entry that is left that all below an entry weighs less
 abbrev pub weigh : ℕ → List Pile → ℕ
 weigh w [] = 0
 weigh w (p ∷ ps) = length p.1 * w ^ (levels - length ps) + weigh w ps

@@ -60,7 +60,7 @@ abbrev pub way_of : Option Place → List Place
 way_of None = []
 way_of (Some p) = way_to p
 
--- that object, where its head reaches its inventory
+-- that object, if its head reaches its inventory
 abbrev pub holder : StorageRoot → Option Place → List Place
 holder root None = []
 holder root (Some p) = filter (reads_inventory root) (holder_of (zone root p))
@@ -74,7 +74,7 @@ abbrev pub AreAllListed : StorageRoot → List Place → List Place → Type 0
 AreAllListed root dirs listed = (d : Place) → IsAmong dirs d → is_reached root d ≡ true → IsAmong listed d
 
 -- the first directories on the way to a place were listed, the storage root at least and all that
--- are entered, and of inventories at most that of the object that holds it was read, where its head
+-- are entered, and of inventories at most that of the object that holds it was read, if its head
 -- reaches it
 pub record GoesDown (root : StorageRoot) (s t : Store) (p : Option Place) : Type 0 where
   pub trail : List Opening

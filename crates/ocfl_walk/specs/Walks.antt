@@ -61,7 +61,7 @@ GoesOn old new (Some p) = (last_of new ≡ Some p.place) × IsBeyond (last_of ol
 abbrev pub HasEnded : StorageRoot → Walk → Type 0
 HasEnded root walk = (x : Option Place) × Stands root walk x × (due root x ≡ [])
 
--- the first of what is due, or none where nothing is, then and from then on
+-- the first of what is due, or none if nothing is, then and from then on
 abbrev pub Gives : StorageRoot → Store → Store → Option Place → Walk → Option Pending → Type 0
 Gives root s t last new None = Walks root s t last None × (due root last ≡ []) × HasEnded root new
 Gives root s t last new (Some p) =

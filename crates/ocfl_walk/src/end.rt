@@ -5,7 +5,7 @@ ghost use Rattle.ocfl_walk.specs.Ends.{is_past};
 use ocfl_tree::Place;
 use std::alloc::Global;
 
-/// Where a walk ends: at the first place that lies above a branch, or is not less than a bound.
+/// Where a walk ends: at the first place that is above a branch, or is not less than a bound.
 #[derive(Debug, Drop)]
 pub struct End {
     /// The branch: this place and all that begin with it.
@@ -25,7 +25,7 @@ impl End {
         }
     }
 
-    /// Whether a place lies past the end.
+    /// Whether a place is past the end.
     pub fn is_past(&self, place: &Place) -> bool
         ensures { result ≡ is_past self.now place.now }
     {

@@ -1,4 +1,4 @@
-//! Where a walk begins: the listings on the way to a place, of each what lies above that place.
+//! Where a walk begins: the listings on the way to a place, of each what is above that place.
 ghost use Rattle.std.specs.Prelude.{◌≡◌, ◌∷◌, ◌++◌, [], length, None, Some};
 ghost use Rattle.std.specs.Prelude.{IfOk, IfErr, IfSome, MatchOption, MatchResult};
 ghost use Rattle.ocfl_tree.specs.StorageRoot.{StorageRoot};
@@ -28,7 +28,7 @@ use ocfl_item::{
 use ocfl_tree::{Name, Place, Tree, is_text};
 use std::alloc::{AllocError, Global};
 
-/// The listing of a directory in a directory, where it may be listed.
+/// The listing of a directory in a directory, if it may be listed.
 fn listed<T: Tree>(store: &mut T, folder: &Folder, name: &Name) -> Result<Option<Folder>, Fault>
     ensures only { IfErr result (λ why. IsWayFault why) }
     ensures fair { IfOk result (λ next. IfSome next
@@ -49,7 +49,7 @@ fn listed<T: Tree>(store: &mut T, folder: &Folder, name: &Name) -> Result<Option
     Ok(Some(list(store, place)?))
 }
 
-/// The storage root, listed, where its version is known.
+/// The storage root, listed, if its version is known.
 pub(crate) fn known_root<T: Tree>(alloc: Global, store: &mut T) -> Result<Option<Folder>, Fault>
     ensures only { IfErr result (λ why. IsWayFault why) }
     ensures fair { IfOk result (λ next. IfSome next (λ base. IsFairFolder [] base)) }
@@ -63,7 +63,7 @@ pub(crate) fn known_root<T: Tree>(alloc: Global, store: &mut T) -> Result<Option
     Ok(Some(base))
 }
 
-/// An object with its table, where its head does not stop.
+/// An object with its table, if its head does not stop.
 fn opened<T: Tree>(alloc: Global, store: &mut T, folder: &Folder) -> Result<Option<Around>, Fault>
     ensures only { IfErr result (λ why. IsWayFault why) }
     ensures kept { IfOk result (λ next. IfSome next
@@ -79,7 +79,7 @@ fn opened<T: Tree>(alloc: Global, store: &mut T, folder: &Folder) -> Result<Opti
     Ok(Some(Around { place, table }))
 }
 
-/// What lies below a directory of the storage hierarchy, or below an object, that was listed, where
+/// What is below a directory of the storage hierarchy, or below an object, that was listed, if
 /// it is entered.
 fn into_directory<T: Tree>(
     alloc: Global,
@@ -128,7 +128,7 @@ fn leads_on(object: &Option<Around>, folder: &Folder, name: &Name) -> bool
     }
 }
 
-/// The directory that a name leads to, where it is entered.
+/// The directory that a name leads to, if it is entered.
 pub(crate) fn down<T: Tree>(
     alloc: Global,
     store: &mut T,

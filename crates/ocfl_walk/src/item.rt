@@ -13,13 +13,13 @@ use ocfl_tree::{Place, Tree};
 use std::alloc::{AllocError, Global};
 
 /// The item at one place, by its path in the storage root (OCFL 1.1, 4 OCFL Storage Root): its
-/// lines, or the digests that its file is to be compared with; `None` where it has no lines.
+/// lines, or the digests that its file is to be compared with; `None` if it has no lines.
 ///
 /// Of directories it lists those on the way to the place and the place itself, in order, each once
 /// and only as far as they are entered. Of files it reads, each once, the declaration of the
-/// storage root or of an object where the place is that, and the inventory of the object that holds
-/// the place; an object's sidecars too. `Fault::Store` where the store did not answer,
-/// `Fault::Memory` where memory was refused.
+/// storage root or of an object if the place is that, and the inventory of the object that holds
+/// the place; an object's sidecars too. `Fault::Store` if the store did not answer,
+/// `Fault::Memory` if memory was refused.
 pub fn item_at<T: Tree>(
     alloc: Global,
     store: &mut T,

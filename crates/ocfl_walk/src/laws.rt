@@ -1,5 +1,5 @@
-//! What a walk did adds up, what lies on the way down to a place, and what a walk that begins at a
-//! place gives.
+//! Two walks one after the other do what one does; which directories and inventories are opened on
+//! the way to a place; a walk from a place gives exactly the items from there on.
 ghost use Rattle.std.specs.Prelude.{◌≡◌, ◌++◌, ◌∷◌, [], List, Option, None, Some, codes, true};
 ghost use Rattle.ocfl_tree.specs.Place.{Place};
 ghost use Rattle.ocfl_tree.specs.Ascending.{IsAmong};

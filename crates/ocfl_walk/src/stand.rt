@@ -35,7 +35,7 @@ use ocfl_tree::{Entry, Name, Place, Tree, is_text};
 use std::alloc::{AllocError, Global};
 
 /// The listings on the way to a place, of each what is left, the next entry last: the listing at an
-/// index is that of so many names of the place.
+/// index is that of as many names of the place.
 pub(crate) type Listings = ArrayVec<Vec<Entry>, 128, Global>;
 
 /// Where a walk stands: what is left of the listings on the way to its last place, and that place.
@@ -63,7 +63,7 @@ pub(crate) enum Turn {
 pub(crate) struct Met {
     pub(crate) item: Option<Pending>,
     pub(crate) folder: Option<Folder>,
-    /// The object that holds the entry, where its head does not stop.
+    /// The object that holds the entry, if its head does not stop.
     pub(crate) around: Option<Around>,
 }
 
@@ -117,7 +117,7 @@ fn next_entry(listings: &Listings, last: &Place) -> Result<Option<Place>, AllocE
     Ok(Some(directory.child(&entry.name)?))
 }
 
-/// Whether the next entry lies at a place.
+/// Whether the next entry is at a place.
 fn is_next_entry(listings: &Listings, last: &Place, place: &Place) -> bool
     ensures { IsTrue result
         ↔ (next_of (piles_at last.now listings.now.items) ≡ Some place.now) }
@@ -151,7 +151,7 @@ fn next_path(around: &Option<Around>, last: &Place) -> Result<Option<Place>, All
     }
 }
 
-/// The lesser of an entry and a path, the entry where they are one.
+/// The lesser of an entry and a path, the entry if they are one.
 fn lesser(entry: Option<Place>, path: Option<Place>) -> Turn
     ensures { result ≡ turn_of entry path }
 {
@@ -193,7 +193,7 @@ fn choose(
     Ok(lesser(next_entry(listings, last)?, Some(path)))
 }
 
-/// The same turn, where it does not lead past the end.
+/// The same turn, if it does not lead past the end.
 fn unless_past(alloc: Global, turn: Turn, end: &End) -> Turn
     ensures { result ≡ turn_before end.now turn }
 {
@@ -263,7 +263,7 @@ fn unless_above(entry: Option<Place>, place: &Place) -> Option<Place>
     }
 }
 
-/// The object, where the place lies in it.
+/// The object, if the place is in it.
 fn still_around(around: Option<Around>, place: &Place) -> Option<Around>
     ensures { result ≡ still around place.now }
 {
@@ -273,7 +273,7 @@ fn still_around(around: Option<Around>, place: &Place) -> Option<Around>
     }
 }
 
-/// The object that a place lies in, with the table that was met there if it is one.
+/// The object that a place is in, with the table that was met there if it is one.
 fn around_at(
     around: Option<Around>,
     place: &Place,
@@ -288,7 +288,7 @@ fn around_at(
     Ok(Some(Around { place, table }))
 }
 
-/// What was met by a visit, its listing in order, with the object that its place lies in.
+/// What was met by a visit, its listing in order, with the object that its place is in.
 fn met_by(around: Option<Around>, place: &Place, visit: Visit) -> Result<Met, AllocError>
     ensures fair { IsFairVisit place.now visit
         → IsAroundIf place.now (around_of around place.now visit.table)
@@ -385,7 +385,7 @@ impl Stand {
         Ok(step_of(item))
     }
 
-    /// Takes the next entry, which lies at this place.
+    /// Takes the next entry, which is at this place.
     fn take_entry<T: Tree>(
         &mut self,
         alloc: Global,
@@ -447,7 +447,7 @@ impl Stand {
         Ok(step_of(item))
     }
 
-    /// Takes the place of a name in the directory at the last place, where it is not past the end.
+    /// Takes the place of a name in the directory at the last place, if it is not past the end.
     /// What is left before it is passed over.
     pub(crate) fn step_to<T: Tree>(
         &mut self,
@@ -482,7 +482,7 @@ impl Stand {
         }
     }
 
-    /// Takes the next place, where it is not past the end.
+    /// Takes the next place, if it is not past the end.
     fn step<T: Tree>(&mut self, alloc: Global, store: &mut T, end: &End) -> Result<Step, Fault>
         requires { IsOrderlyStand self.old }
         ensures orderly { IsOrderlyStand self.new }

@@ -40,7 +40,7 @@ impl Walk {
     ///
     /// It lists the directories on the way to the place, as far as they lead, and reads at most the
     /// inventory of the object that holds it; without a place it makes no call. `Fault::Store`
-    /// where the store did not answer, `Fault::Memory` where memory was refused.
+    /// if the store did not answer, `Fault::Memory` if memory was refused.
     pub fn start<T: Tree>(
         alloc: Global,
         store: &mut T,
@@ -83,8 +83,8 @@ impl Walk {
     ///
     /// It lists the directories above the place, as far as they lead to it, and reads at most the
     /// inventory of the object that holds its directory; at the storage root it makes no call. What
-    /// lies at the place is listed and read with its item. `Fault::Store` where the store did not
-    /// answer, `Fault::Memory` where memory was refused.
+    /// is at the place is listed and read with its item. `Fault::Store` if the store did not
+    /// answer, `Fault::Memory` if memory was refused.
     pub fn start_at<T: Tree>(alloc: Global, store: &mut T, from: &Place) -> Result<Walk, Fault>
         ensures only { IfErr result (λ why. IsWayFault why) }
         ensures live { IfOk result (λ walk. IsLive walk) }
@@ -112,11 +112,11 @@ impl Walk {
         })
     }
 
-    /// The next item, and `None` where there are no more, then and at each further call.
+    /// The next item, and `None` if there are no more, then and at each further call.
     ///
     /// It lists the directories and reads the inventories between the last place and the item's,
-    /// each once; it opens no content file. `Fault::Store` where the store did not answer,
-    /// `Fault::Memory` where memory was refused. After a fault each further call answers
+    /// each once; it opens no content file. `Fault::Store` if the store did not answer,
+    /// `Fault::Memory` if memory was refused. After a fault each further call answers
     /// `Fault::Broken` and makes no call of the store: a walk from the last place goes on.
     pub fn next<T: Tree>(&mut self, store: &mut T) -> Result<Option<Pending>, Fault>
         ensures only { IsLive self.old → IfErr result (λ why. IsWayFault why) }
@@ -134,10 +134,10 @@ impl Walk {
         self.next_within(store, &end)
     }
 
-    /// The next item before an end, and `None` where there are no more before it.
+    /// The next item before an end, and `None` if there are no more before it.
     ///
     /// It looks at no place past the end: none is listed there, and no inventory of an object there
-    /// is read. Where it answers `None` it stands where it stood, and a further end leads it on.
+    /// is read. If it answers `None` it stays where it was, and a further end leads it on.
     /// Otherwise as `next`.
     pub fn next_within<T: Tree>(
         &mut self,

@@ -1,4 +1,4 @@
--- Worked cases: the content of objects, and what else lies in them.
+-- Worked cases: the content of objects, and what else is in them.
 use Rattle.std.proofs.Common.{◌≡◌, ap, List, [], ◌∷◌, ◌++◌, codes, refl, true, map}
 use Prim.Native.String.{String}
 use Rattle.ocfl_tree.specs.Place.{Text}
@@ -88,7 +88,7 @@ files_and_digests_cases =
     -- ascending, told folded and escaped
     reports_256 "two_wrong_digests" (listing (key "Y%" "[\"v1/content/f\"]" ∷ key "X y" "[\"v1/content/f\"]" ∷ [])) f_is_abc
     "ok\t.\t-\nE101\to\tv1/content/f\nE092\to/v1/content/f\tsha256 x y ba7816bf8f01cfea414140de5dae2223b00361a396177a9cb410ff61f20015ad\nE092\to/v1/content/f\tsha256 y%25 ba7816bf8f01cfea414140de5dae2223b00361a396177a9cb410ff61f20015ad\n" ∷
-    -- as written, `B` stands before `a`
+    -- as written, `B` comes before `a`
     -- Seen to refuse: a table is not in order.
     reports_256 "wrong_digests_ascend_folded" (listing (key "B" "[\"v1/content/f\"]" ∷ key "a" "[\"v1/content/f\"]" ∷ [])) f_is_abc
     "ok\t.\t-\nE101\to\tv1/content/f\nE092\to/v1/content/f\tsha256 a ba7816bf8f01cfea414140de5dae2223b00361a396177a9cb410ff61f20015ad\nE092\to/v1/content/f\tsha256 b ba7816bf8f01cfea414140de5dae2223b00361a396177a9cb410ff61f20015ad\n" ∷
@@ -223,7 +223,7 @@ directories_and_links_in_content_cases =
     reports_256 "directories_in_content" (listing (key abc.sha256 "[\"v1/content/d\",\"v1/content/e/g\"]" ∷ []))
     (folder "o/v1/content/d" ∷ folder "o/v1/content/d/x" ∷ folder "o/v1/content/e" ∷ text_at "o/v1/content/e/g" "abc" ∷ [])
     "ok\t.\t-\nok\to\t-\nE092\to/v1/content/d\tsha256 missing\nE024\to/v1/content/d/x\t-\nok\to/v1/content/e/g\t3\n" ∷
-    -- the same digests as where `f` is a file
+    -- the same digests as if `f` were a file
     reports_256 "listed_link" (listing_with (key no_bytes.sha256 "[\"v1/content/f\"]" ∷ key abc.sha256 "[\"v1/content/f\"]" ∷ [])
     (codes "{\"md5\":{\"d41d8cd98f00b204e9800998ecf8427e\":[\"v1/content/f\"]}}")) (link "o/v1/content/f" ∷ [])
     "ok\t.\t-\nE101\to\tv1/content/f\nS04\to/v1/content/f\t-\nE092\to/v1/content/f\tsha256 missing\nE093\to/v1/content/f\tmd5 missing\n" ∷
@@ -260,7 +260,7 @@ entries_of_objects_cases =
     around_f "object_within_an_object" (object_in "o/sub" (listing []) []) "ok\t.\t-\nok\to\t-\nE001\to/sub\t-\nok\to/v1/content/f\t3\n" ∷
     around_f "object_within_content" (folder "o/v1/content/p" ∷ text_at "o/v1/content/p/0=ocfl_object_1.1" "ocfl_object_1.1\n" ∷ [])
     "ok\t.\t-\nok\to\t-\nok\to/v1/content/f\t3\nE023\to/v1/content/p/0=ocfl_object_1.1\t-\n" ∷
-    -- also where its head stops
+    -- even if its head stops
     reports "object_within_a_stopped_object" (storage_root (folder "o" ∷ text_at "o/0=ocfl_object_2.0" "" ∷ object_in "o/sub" (listing []) [])) "ok\t.\t-\nS01\to\t2.0\n" ∷
     reports "object_in_the_hierarchy"
     (storage_root (folder "p" ∷ folder "p/x" ∷ object_in "p/q" (listing lists_f)

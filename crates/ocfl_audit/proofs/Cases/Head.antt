@@ -98,7 +98,7 @@ unfolding audit_on_literals
 forms_of_sidecars = refl
 
 sidecars_and_inventories : AllAre (
-    -- Seen to refuse: the algorithm's own missing sidecar is reported also where no sidecar
+    -- Seen to refuse: the algorithm's own missing sidecar is reported even if no sidecar
     -- is there.
     reports "no_sidecar" (object (listing lists_f) (folder "o/v1" ∷ folder "o/v1/content" ∷ f_is_abc)) "ok\t.\t-\nE058\to\t-\nok\to/v1/content/f\t3\n" ∷
     -- a directory of its name is none, and is not allowed
@@ -193,7 +193,7 @@ inventory_algorithms_cases =
     reports_256 "algorithm_in_capitals" (inventory "SHA256" (codes "{}") (codes "{}")) f_is_abc "ok\t.\t-\nE025\to\tSHA256\n" ∷
     reports_256 "algorithm_for_fixity_alone" (inventory "md5" (codes "{}") (codes "{}")) [] "ok\t.\t-\nE025\to\tmd5\n" ∷
     reports_256 "fifth_algorithm_is_no_inventory_algorithm" (inventory "sha512/256" (codes "{}") (codes "{}")) [] "ok\t.\t-\nE025\to\tsha512/256\n" ∷
-    -- a detail is escaped as a name is; its slashes and spaces stand
+    -- a detail is escaped as a name is; its slashes and spaces stay
     reports_256 "algorithm_with_odd_letters" (codes "{\"digestAlgorithm\":\"% /" ++ 0xC3 ∷ 0xA9 ∷ codes "\\t\"}") [] "ok\t.\t-\nE025\to\t%25 /%C3%A9%09\n" ∷
     -- the last value is kept
     reports_256 "algorithm_twice" (codes "{\"digestAlgorithm\":\"md5\",\"manifest\":{},\"digestAlgorithm\":\"sha256\"}") [] "ok\t.\t-\nok\to\t-\n" ∷

@@ -8,7 +8,7 @@ use Rattle.ocfl_audit.proofs.Cases.OnLiterals.{audit_on_literals}
 use Rattle.ocfl_audit.proofs.Cases.Trees.{place, text_at, folder, storage_root, object_in, listing, lists_f}
 
 -- an object `o` and one of unknown version `u`; a directory `h` that is no object; and files named
--- as metadata where there is none
+-- as metadata if there is none
 abbrev named_alike : StorageRoot
 named_alike = storage_root (
     text_at "notes" "" ∷ text_at "inventory.json" "{}" ∷ text_at "0=ocfl_object_1.1" "ocfl_object_1.1\n" ∷ text_at "0=ocfl_layout" "" ∷
@@ -38,7 +38,7 @@ metadata_of_an_unknown_root : filter (is_meta (text_at "0=ocfl_2.0" "" ∷ objec
 unfolding audit_on_literals
 metadata_of_an_unknown_root = refl
 
--- ---- openings of all that lies in it
+-- ---- openings of all that is in it
 
 -- each failed, with two bytes
 abbrev failed : Place → Opening

@@ -26,7 +26,7 @@ objects_that_count : read_between some_count None None ≡ place "h/q" ∷ place
 unfolding audit_on_literals read_between
 objects_that_count = refl
 
--- an object's root is looked into also where its head stops, and then nothing below it
+-- an object's root is looked into even if its head stops, and then nothing below it
 directories_that_count : looked_between some_count None None
     ≡ [] ∷ place "bare" ∷ place "h" ∷ place "h/q" ∷ place "o" ∷ place "o/v1" ∷ place "o/v1/content" ∷ place "o/v1/content/p" ∷ place "o/v1/content/p/v1" ∷ place "two" ∷ place "u" ∷ []
 unfolding audit_on_literals looked_between

@@ -150,7 +150,7 @@ second_unread = (place "o/v1/content/b", 0) ∷ []
 abbrev two_audits : List (Part × Unread)
 two_audits = (part_below "o/v1/content/b", first_unread) ∷ (part_from "o/v1/content/b", second_unread) ∷ []
 
--- that `c` could not be read does not count, since it lies in the other part
+-- that `c` could not be read does not count, since it is in the other part
 -- Seen to refuse: what one part could not read counts in all.
 unread_together : together two_audits ≡ (place "o/v1/content/a", 2) ∷ (place "o/v1/content/b", 0) ∷ []
 unread_together = refl

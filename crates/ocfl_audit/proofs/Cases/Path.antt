@@ -19,13 +19,13 @@ keys_that_stand_twice_cases =
     -- Seen to refuse: E096 and E097 go by keys as written.
     reports_256 "digest_twice_in_the_manifest" (listing (key abc.sha256 "[\"v1/content/f\"]" ∷ key abc_sha256_capitals "[\"v1/content/f\"]" ∷ [])) f_is_abc
     "ok\t.\t-\nE096\to\tba7816bf8f01cfea414140de5dae2223b00361a396177a9cb410ff61f20015ad\nE101\to\tv1/content/f\nok\to/v1/content/f\t3\n" ∷
-    -- keys count, also where they list nothing
+    -- keys count, even if they list nothing
     reports_256 "digest_twice_with_empty_lists" (listing (key abc_sha256_capitals "[]" ∷ key abc.sha256 "[]" ∷ [])) []
     "ok\t.\t-\nE096\to\tba7816bf8f01cfea414140de5dae2223b00361a396177a9cb410ff61f20015ad\n" ∷
     reports_256 "two_digests_twice_ascending"
     (listing (key no_bytes.sha256 "[]" ∷ key no_bytes_sha256_capitals "[]" ∷ key abc.sha256 "[]" ∷ key abc_sha256_capitals "[]" ∷ [])) []
     "ok\t.\t-\nE096\to\tba7816bf8f01cfea414140de5dae2223b00361a396177a9cb410ff61f20015ad\nE096\to\te3b0c44298fc1c149afbf4c8996fb92427ae41e4649b934ca495991b7852b855\n" ∷
-    -- as written, `BA` stands before `aB`
+    -- as written, `BA` comes before `aB`
     reports_256 "repeated_digests_ascend_folded" (listing (key "BA" "[]" ∷ key "ba" "[]" ∷ key "aB" "[]" ∷ key "ab" "[]" ∷ [])) [] "ok\t.\t-\nE096\to\tab\nE096\to\tba\n" ∷
     -- one line for a digest, whatever its letters are
     reports_256 "any_key_three_times" (listing (key "xy" "[]" ∷ key "xY" "[]" ∷ key "XY" "[]" ∷ [])) [] "ok\t.\t-\nE096\to\txy\n" ∷
@@ -44,7 +44,7 @@ keys_that_stand_twice_cases =
     reports_256 "manifest_keys_before_fixity_keys"
     (listing_with (key abc.sha256 "[]" ∷ key abc_sha256_capitals "[]" ∷ []) (codes "{\"md5\":{\"a\":[],\"A\":[]}}")) []
     "ok\t.\t-\nE096\to\tba7816bf8f01cfea414140de5dae2223b00361a396177a9cb410ff61f20015ad\nE097\to\tmd5 a\n" ∷
-    -- a digest may stand once in each block
+    -- a digest may occur once in each block
     reports_256 "same_digest_in_other_blocks" (listing_with lists_f (codes "{\"md5\":{\"x\":[]},\"sha1\":{\"X\":[]}}")) f_is_abc "ok\t.\t-\nok\to\t-\nok\to/v1/content/f\t3\n" ∷
     []
 
@@ -76,11 +76,11 @@ bad_paths : AllAre bad_paths_cases
 unfolding audit_on_literals
 bad_paths = quickly bad_paths_cases refl
 
--- these paths have this fault, where the content directory is `content`
+-- these paths have this fault, if the content directory is `content`
 abbrev HaveFault : Option Code → List String → Type 0
 HaveFault fault paths = map (λ p. path_fault (codes "content") (codes p)) paths ≡ replicate (length paths) fault
 
--- also before dots that lie between
+-- also before dots that are between
 slashes_at_an_end : HaveFault (Some E100) ("v1/content/f/" ∷ "/" ∷ "/v1/../f" ∷ [])
 slashes_at_an_end = refl
 
@@ -157,7 +157,7 @@ abbrev with_content : Text → Text → Text
 with_content d path = codes "{\"digestAlgorithm\":\"sha256\",\"contentDirectory\":\"" ++ d ++ codes
     "\",\"manifest\":{\"ba7816bf8f01cfea414140de5dae2223b00361a396177a9cb410ff61f20015ad\":[\"" ++ path ++ codes "\"]}}"
 
--- stops nothing, but no path can lie in it
+-- stops nothing, but no path can be in it
 content_directory_longer_than_a_name : text (audit (sha256_object (with_content (replicate 256 97) (codes "v1/" ++ replicate 256 97 ++ codes "/f")) []) [])
     ≡ codes "ok\t.\t-\nS06\to\tv1/" ++ replicate 256 97 ++ codes "/f\n"
 unfolding audit_on_literals
@@ -179,7 +179,7 @@ paths_in_conflict_cases =
     -- Seen to refuse: E101 by the bytes of a beginning.
     reports_256 "letters_are_no_beginning" (listing (key abc.sha256 "[\"v1/content/a-b\",\"v1/content/a\",\"v1/content/ab\"]" ∷ [])) []
     "ok\t.\t-\nok\to\t-\nE092\to/v1/content/a\tsha256 missing\nE092\to/v1/content/a-b\tsha256 missing\nE092\to/v1/content/ab\tsha256 missing\n" ∷
-    -- although `a-b` stands between the two as texts
+    -- although `a-b` is between the two as texts
     reports_256 "path_between_as_text" (listing (key abc.sha256 "[\"v1/content/a-b\",\"v1/content/a\",\"v1/content/a/b\"]" ∷ [])) []
     "ok\t.\t-\nE101\to\tv1/content/a\nE092\to/v1/content/a\tsha256 missing\nE092\to/v1/content/a/b\tsha256 missing\nE092\to/v1/content/a-b\tsha256 missing\n" ∷
     -- ascending as places

@@ -17,7 +17,7 @@ use Rattle.ocfl_audit.specs.Lines.{notes, notes_in, cost}
 use Rattle.ocfl_audit.specs.Audit.{Unread, given_by, item_of, candidates, has_lines, audit}
 use Rattle.ocfl_audit.proofs.AuditExists.{place_from_test, append_nothing, zone_is}
 
--- the lines of an object's head, where those of its sidecars are these
+-- the lines of an object's head, if those of its sidecars are these
 abbrev pub head_beside : List Note → StorageRoot → Place → Text → Declared → List Note
 head_beside sidecars root o inventory undeclared = []
 head_beside sidecars root o inventory several = plain E003 ∷ []

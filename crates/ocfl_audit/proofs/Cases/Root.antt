@@ -44,7 +44,7 @@ root_declarations : AllAre (
     reports "known_and_unknown_declaration" (text_at "0=ocfl_2.0" "ocfl_2.0\n" ∷ storage_root []) "E076\t.\t-\n" ∷
     reports "unknown_root_version" (text_at "0=ocfl_2.0" "ocfl_2.0\n" ∷ folder "x" ∷ text_at "y/readme" "" ∷ []) "S01\t.\t2.0\n" ∷
     reports "longer_root_version" (text_at "0=ocfl_1.1.1" "ocfl_1.1\n" ∷ []) "S01\t.\t1.1.1\n" ∷
-    -- a name counts where a digit follows
+    -- a name counts if a digit follows
     reports "declaration_without_digit" (text_at "0=ocfl_layout" "" ∷ text_at "0=ocfl_" "" ∷ []) "E069\t.\t-\n" ∷
     -- only files count
     -- Seen to refuse: directories declare.

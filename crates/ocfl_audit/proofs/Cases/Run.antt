@@ -93,7 +93,7 @@ no_budgets = refl
 
 -- ---- a budget, and a limit on files
 
--- what each run spends under so many limits, each of this budget and so many files
+-- what each run spends under n limits, each of this budget and this number of files
 abbrev costs_under : List Item → ℕ → Limits → List ℕ
 costs_under items n limits = map total_cost (runs items (replicate n limits))
 
@@ -132,7 +132,7 @@ at_least_just = record { budget = omega arith; files = omega arith }
 not_at_least : (IsAtLeast 9 3 (limits_of 8 3) → ⊥) × (IsAtLeast 9 3 (limits_of 9 2) → ⊥)
 not_at_least = ((λ h. let m : 9 ≤ 8 = h.budget in omega (arith, m)), λ h. let m : 3 ≤ 2 = h.files in omega (arith, m))
 
--- a limit on files fits three files where it is three, or the budget; and not where it is less than
+-- a limit on files fits three files if it is three, or the budget; and not if it is less than
 -- both
 limits_that_fit : FileLimitFits three_items (limits_of 9 3) × FileLimitFits three_items (limits_of 2 2)
 limits_that_fit = (inr (omega arith), inl (omega arith))
@@ -214,7 +214,7 @@ unlisted_file_behind_the_file_limit :
     × (files_under unlisted_items 2 (limits_of 9 1) ≡ 1 ∷ []) × (left unlisted_items (limits_of 9 1) ≡ [])
 unlisted_file_behind_the_file_limit = (refl, refl, refl)
 
--- a run has a finding where its own items have one
+-- a run has a finding if its own items have one
 finding_of_one_run : map found (runs
     (audit (sha256_object (listing (key abc.sha256 "[\"v1/content/a\",\"v1/content/c\"]" ∷ []))
     (text_at "o/v1/content/a" "abc" ∷ text_at "o/v1/content/b" "" ∷ text_at "o/v1/content/c" "abc" ∷ [])) []) (of_budget 1 ∷ of_budget 1 ∷ [])) ≡ true ∷ false ∷ []
@@ -281,7 +281,7 @@ ten_bytes_of_the_report = refl
 behind_the_root : text (cut (after one_items (Some [])) (of_budget 9)) ≡ codes "ok\to\t-\nok\to/v1/content/f\t3\n"
 behind_the_root = refl
 
--- where the object can't be listed
+-- if the object can't be listed
 report_before_the_object : text (take 1 one_items) ≡ codes "ok\t.\t-\n"
 report_before_the_object = refl
 

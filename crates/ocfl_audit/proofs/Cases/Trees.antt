@@ -36,7 +36,7 @@ quick_texts (c ∷ cases) = λ i. c.is_quick i ∷ quick_texts cases i
 pub quickly : (cases : List Case) → AllAreQuick cases → AllAre cases
 quickly cases e = quick_texts cases ∙ e
 
--- a case whose text is computed as it stands
+-- a case whose text is computed as it is
 abbrev pub case : String → Text → Text → Case
 case name shown wanted = record { name = name; shown = shown; quick = shown; is_quick = refl; wanted = wanted }
 
@@ -44,7 +44,7 @@ case name shown wanted = record { name = name; shown = shown; quick = shown; is_
 abbrev pub reports : String → StorageRoot → String → Case
 reports name root t = case name (text (audit root [])) (codes t)
 
--- ---- what lies in a tree
+-- ---- what is in a tree
 
 -- a place by its text
 abbrev pub place : String → Place
@@ -62,7 +62,7 @@ folder p = (place p, dir)
 abbrev pub link : String → Place × Leaf
 link p = (place p, other)
 
--- a declared storage root, and what else lies in it
+-- a declared storage root, and what else is in it
 abbrev pub storage_root : StorageRoot → StorageRoot
 storage_root more = text_at "0=ocfl_1.1" "ocfl_1.1\n" ∷ more
 
@@ -81,7 +81,7 @@ right_sidecar_256 inventory = digest_of Sha256 inventory ++ codes " inventory.js
 abbrev pub right_sidecar_512 : Text → Text
 right_sidecar_512 inventory = digest_of Sha512 inventory ++ codes " inventory.json\n"
 
--- an object with a right sidecar, and what lies in its first version
+-- an object with a right sidecar, and what is in its first version
 abbrev pub sha256_object : Text → StorageRoot → StorageRoot
 sha256_object inventory more = object_beside (right_sidecar_256 inventory) inventory (folder "o/v1" ∷ folder "o/v1/content" ∷ more)
 

@@ -16,11 +16,11 @@ use Rattle.ocfl_audit.proofs.Cases.OnLiterals.{audit_on_literals}
 use Rattle.ocfl_audit.proofs.Cases.Trees.{quickly, three_files_content, three_files_listing, Case, AllAre, place, text_at, bytes_at, folder, sha256_object, f_is_abc, key, listing, listing_with, lists_f, three_files, abc, item, the_root, clean, right}
 use Rattle.ocfl_audit.proofs.Cases.Quiet.{quick_256, audit_256, told}
 
--- where the file at this place gave only so many bytes
+-- what could not be read if the file at this place gave only n bytes
 abbrev gave : String → ℕ → Unread
 gave p given = (place p, given) ∷ []
 
--- the text of the audit where one file of an object with a right sidecar gave only so many bytes
+-- the text of the audit if one file of an object with a right sidecar gave only n bytes
 abbrev reports_unread : String → Text → StorageRoot → String → ℕ → String → Case
 reports_unread name inventory more p given t =
     told name (audit (sha256_object inventory more) (gave p given)) (quick_256 inventory more (gave p given)) (audit_256 inventory more (gave p given)) (codes t)

@@ -24,7 +24,7 @@ directories_listed : lists 12 missing_and_right [] (listed_at missing_and_right 
 unfolding audit_on_literals
 directories_listed = refl
 
--- what the walk has taken, and has listed, after so many places
+-- what the walk has taken, and has listed, after n places
 abbrev taken_of_one_file : ℕ → Text
 taken_of_one_file n = text (taken n sha512_file [] [] (listed_at sha512_file [] [] []))
 
@@ -74,7 +74,7 @@ taken_from_the_hierarchy : AllAre (takes plain_tree (behind "taken_from_the_hier
 unfolding audit_on_literals
 taken_from_the_hierarchy = refl
 
--- what lies under no directory is not there, for the walk as for the audit
+-- what is under no directory is not there, for the walk as for the audit
 walk_without_directory : text (walk 4 (storage_root (folder "a/b" ∷ text_at "a/b/0=ocfl_object_1.1" "ocfl_object_1.1\n" ∷ [])) [] []) ≡ codes "ok\t.\t-\n"
 unfolding audit_on_literals
 walk_without_directory = refl

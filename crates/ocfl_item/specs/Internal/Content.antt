@@ -18,7 +18,7 @@ content_in root (inside o (v ∷ [])) = None
 content_in root (inside o (v ∷ n ∷ [])) = None
 content_in root (inside o (v ∷ c ∷ n ∷ q)) = option_map (λ t. (t, v ∷ c ∷ n ∷ q)) (table_at root o)
 
--- the table of the object that a place of at least three names more lies in, and the place as a
+-- the table of the object that a place of at least three names more is in, and the place as a
 -- path of it
 abbrev pub content_at : StorageRoot → Place → Option (Table × Place)
 content_at root p = content_in root (zone root p)
@@ -31,7 +31,7 @@ IsSight root p sight.EmptyDir = (seen root p ≡ Some dir) × (listed_dir_notes 
 IsSight root p sight.DeepDir = (seen root p ≡ Some dir) × (listed_dir_notes root p (plain E024 ∷ []) ≡ plain S05 ∷ [])
 IsSight root p sight.Other = seen root p ≡ Some other
 
--- the line for what is seen where no file is hashed: a file is one that nothing names
+-- the line for what is seen if no file is hashed: a file is one that nothing names
 abbrev pub sight_notes : Sight → List Note
 sight_notes sight.Nothing = []
 sight_notes sight.File = plain E023 ∷ []

@@ -19,7 +19,7 @@ use Rattle.ocfl_item.specs.Auditing.{IsMetadataRead}
 use Rattle.ocfl_item.specs.declared.fault.Fault.{Fault}
 use Rattle.ocfl_item.specs.HeadFiles.{files_there, ReadsFiles, FilesStop}
 
--- what was read of a file within a limit, and nothing where no file is there
+-- what was read of a file within a limit, and nothing if no file is there
 abbrev pub IsFileAt : StorageRoot → Place → ℕ → Option Bounded → Type 0
 IsFileAt root p limit None = file_at root p ≡ None
 IsFileAt root p limit (Some b) = (bytes : Text) × (file_at root p ≡ Some bytes) × IsBoundedTo limit bytes b
@@ -43,7 +43,7 @@ inventory_names = inventory_name ∷ sidecar_name Sha256 ∷ sidecar_name Sha512
 abbrev pub head_names : Version → List Text
 head_names v = declaration_name Object v ∷ inventory_names
 
--- the sidecars are read where the inventory is there, and is not over its limit
+-- the sidecars are read if the inventory is there, and is not over its limit
 abbrev pub sidecars_for : Option Text → List Text
 sidecars_for None = []
 sidecars_for (Some bytes) = if nat_le (length bytes) inventory_limit then sidecar_name Sha256 ∷ sidecar_name Sha512 ∷ [] else []
@@ -59,6 +59,6 @@ head_files root o (known v) = declaration_name Object v ∷ inventory_files root
 head_files root o (unknown t) = []
 head_files root o several = []
 
--- the table of an inventory that was read, and none where the head stops
+-- the table of an inventory that was read, and none if the head stops
 abbrev pub table_in : Option Text → Option Table
 table_in file = option_and_then (λ bytes. if nat_le (length bytes) inventory_limit then table_of bytes else None) file

@@ -26,7 +26,7 @@ declared_notes root d Object declared = head_notes_by root d declared
 abbrev pub AreSidecars : StorageRoot → Place → Sidecars → Type 0
 AreSidecars root o s = IsFileAt root (o ++ sidecar_name Sha256 ∷ []) side_limit s.short × IsFileAt root (o ++ sidecar_name Sha512 ∷ []) side_limit s.long
 
--- where the sidecar of a is there, its inventory's digest is among these
+-- if the sidecar of a is there, its inventory's digest is among these
 abbrev pub HasDigestFor : Option Bounded → Algorithm → Text → Digests → Type 0
 HasDigestFor file a bytes digests = is_some file ≡ true → digest_in digests a ≡ Some (digest_bytes_of a bytes)
 
@@ -34,7 +34,7 @@ HasDigestFor file a bytes digests = is_some file ≡ true → digest_in digests 
 abbrev pub is_other_there : StorageRoot → Place → Algorithm → Bool
 is_other_there root o a = is_sidecar_missing root o a && not (are_sidecars_missing root o)
 
--- the line of the missing sidecar of an algorithm, where one is named
+-- the line of the missing sidecar of an algorithm, if one is named
 abbrev pub named_notes : StorageRoot → Place → Option Algorithm → List Note
 named_notes root o None = []
 named_notes root o (Some a) = other_sidecar_notes root o a

@@ -13,7 +13,7 @@ use Rattle.ocfl_audit.specs.Lines.{notes, named_at, block_cmp, block_code}
 abbrev pub HasLines : PlaceLines → List Note → Type 0
 HasLines l ns = map line_of l.lines.items ≡ lines_at l.place ns
 
--- after the old lines stand these, of the same place
+-- after the old lines come these, of the same place
 abbrev pub Adds : PlaceLines → PlaceLines → List Note → Type 0
 Adds old new ns = (new.place ≡ old.place) × (map line_of new.lines.items ≡ map line_of old.lines.items ++ lines_at old.place ns)
 

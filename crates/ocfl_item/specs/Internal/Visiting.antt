@@ -32,7 +32,7 @@ use Rattle.ocfl_item.specs.declared.role.Role.{Role}
 use Rattle.ocfl_item.specs.declared.role.Role.TheVariants as role
 use Rattle.ocfl_item.specs.declared.visit.Visit.{Visit}
 
--- all above it is entered, and what lies there is of this kind
+-- all above it is entered, and what is there is of this kind
 pub record IsEntryAt (root : StorageRoot) (e : Place) (k : Kind) : Type 0 where
   pub way : list_all (is_entered root) (beginnings e) ≡ true
   pub kind : option_map kind_of (at root e) ≡ Some k
@@ -43,7 +43,7 @@ pub record IsPlainAt (root : StorageRoot) (e : Place) (ns : List Note) : Type 0 
   pub named : named_at root e ≡ []
   pub head : is_head (zone root e) ≡ false
 
--- a directory that is entered where it does not lie too deep
+-- a directory that is entered if it is not too deep
 pub record IsListedAt (root : StorageRoot) (e : Place) : Type 0 where
   pub way : list_all (is_entered root) (beginnings e) ≡ true
   pub directory : is_dir root e ≡ true
@@ -84,7 +84,7 @@ pub record IsBase (root : StorageRoot) (d : Place) (es : List Entry) (m : MadeDe
 
 -- ---- an object's head
 
--- from s to t metadata was read, right in o and each file once, of inventories just that of o where
+-- from s to t metadata was read, right in o and each file once, of inventories just that of o if
 -- it has one, and nothing was listed
 pub record ReadsOne (root : StorageRoot) (s t : Store) (o : Place) : Type 0 where
   pub over : s.tree ≡ root

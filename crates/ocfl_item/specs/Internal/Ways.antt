@@ -31,7 +31,7 @@ use Rattle.ocfl_inventory.specs.declared.declaration.Declared.TheVariants as mad
 use Rattle.ocfl_item.specs.declared.fault.Fault.TheVariants as fault
 use Rattle.ocfl_item.specs.declared.folder.Head.TheVariants as head
 
--- the fault where a store did not answer at a place
+-- the fault if a store did not answer at a place
 abbrev pub fault_by : Place → Trouble → Fault
 fault_by p trouble.Device = fault.Store p
 fault_by p trouble.Absent = fault.Store p
@@ -55,7 +55,7 @@ pub record ReadsMeta (root : StorageRoot) (s t : Store) : Type 0 where
   pub read : IsMetadataRead root trail
   pub meta : AreMeta root trail
 
--- and of inventories at most that of o, where its head reaches it
+-- and of inventories at most that of o, if its head reaches it
 pub record Opens (root : StorageRoot) (s t : Store) (o : Place) : Type 0 where
   pub reads : ReadsMeta root s t
   pub heads : IsFront (heads_of root reads.trail) (on (reads_inventory root o) o)

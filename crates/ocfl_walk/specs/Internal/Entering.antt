@@ -1,4 +1,4 @@
--- The entry at a place: the listings on the way to it, of each what lies above it.
+-- The entry at a place: the listings on the way to it, of each what is above it.
 use Rattle.std.specs.Prelude.{◌≡◌, ◌≤◌, ℕ, List, [], ◌∷◌, ◌++◌, Bool, not, false, Option, Some, None, Result, MatchOption, MatchResult, length, filter}
 use Rattle.std.specs.List.{AllByRecursion}
 use Rattle.ocfl_tree.specs.Place.{Text, Place}
@@ -128,12 +128,12 @@ pub record ListsBelow (root : StorageRoot) (s t : Store) (d : Place) (n : Text) 
 abbrev pub IsFairWay : Place → Text → Option Around → Option Around → Option Folder → Type 0
 IsFairWay d n old new o = MatchOption o (new ≡ old) (λ f. IsFairFolder (d ++ n ∷ []) f × IsAroundIf (d ++ n ∷ []) new)
 
--- where it is not entered, all below it has the table of what is around it, if there is one
+-- if it is not entered, all below it has the table of what is around it, if there is one
 pub record IsShut (root : StorageRoot) (d : Place) (n : Text) (r : Place) (around : Option Around) : Type 0 where
   pub out : is_reached root (d ++ n ∷ []) ≡ false
   pub table : IsTableAround root (d ++ n ∷ r) around
 
--- where it is entered
+-- if it is entered
 pub record IsIn (root : StorageRoot) (e : Place) (f : Folder) (around : Option Around) : Type 0 where
   pub place : f.place ≡ e
   pub here : IsAt root e f.entries.items
@@ -166,7 +166,7 @@ pub record IsBrought (root : StorageRoot) (d q : Place) (old new : List Pile) (a
 
 -- the start of a walk: the storage root and at most the directories on the way to p were listed,
 -- each once and all that are entered, and at most the inventory of the object that holds p was
--- opened, once, where its head reaches it
+-- opened, once, if its head reaches it
 pub record Starts (root : StorageRoot) (s t : Store) (p : Place) : Type 0 where
   pub comes : Comes root s t (way_to p) [] (holder_of (zone root p)) []
   pub root_first : IsRootFirst comes.goes.calls.listings

@@ -13,7 +13,7 @@ use Rattle.ocfl_item.specs.declared.fault.Fault.{Fault}
 use Rattle.ocfl_item.specs.declared.pending.Pending.{Pending}
 
 -- from s to t the first directories of a way were listed, in order, and metadata was read, right in
--- these and each file once, of inventories the first of those that may be; where none may be,
+-- these and each file once, of inventories the first of those that may be; if none may be,
 -- nothing was read
 pub record Finds (root : StorageRoot) (s t : Store) (way may : List Place) (failures : ℕ) : Type 0 where
   pub calls : Calls root s t failures

@@ -35,7 +35,7 @@ trimmed (p ∷ ps) = trimmed_from p.0 p.1 (trimmed ps) ps
 
 -- ---- on every store
 
--- each listing is of a directory on the way to p, and what is left of it lies above p
+-- each listing is of a directory on the way to p, and what is left of it is above p
 abbrev pub IsChain : Place → ℕ → List Frame → Type 0
 IsChain p k [] = ⊤
 IsChain p k (f ∷ fs) =
@@ -45,7 +45,7 @@ abbrev pub IsFitIf : Option Around → Type 0
 IsFitIf None = ⊤
 IsFitIf (Some a) = IsFit a.table
 
--- the last place lies in the object
+-- the last place is in the object
 pub record IsAround (last : Place) (a : Around) : Type 0 where
   pub holds : begins a.place last ≡ true
   pub depth : length a.place ≤ max_listed_depth
@@ -79,7 +79,7 @@ pub record IsHeld (root : StorageRoot) (stood : Place) (ps : List Pile) (around 
 
 -- ---- a step
 
--- the place of the next entry, where the first listing is not used up
+-- the place of the next entry, if the first listing is not used up
 abbrev pub next_in : Place → List Entry → Option Place
 next_in d [] = None
 next_in d (e ∷ es) = Some (d ++ e.name ∷ [])
@@ -93,7 +93,7 @@ abbrev pub path_from : Place → Option Around → Option Place
 path_from last None = None
 path_from last (Some a) = option_map (λ q. a.place ++ q) (next_path a.table (Some (drop (length a.place) last)))
 
--- the lesser of an entry and a path, the entry where they are one
+-- the lesser of an entry and a path, the entry if they are one
 abbrev pub turn_of : Option Place → Option Place → Turn
 turn_of None None = turn.End
 turn_of (Some e) None = turn.Entry e
@@ -134,12 +134,12 @@ place_by root ps (turn.Entry e) = Some (e, (e, seen_names root e) ∷ popped ps)
 place_by root ps (turn.Path b) = Some (b, frames_of ps)
 place_by root ps turn.End = None
 
--- the object, where a place lies in it
+-- the object, if a place is in it
 abbrev pub still : Option Around → Place → Option Around
 still None e = None
 still (Some a) e = if begins a.place e then Some a else None
 
--- the object that a place lies in, with the table that was met there if it is one
+-- the object that a place is in, with the table that was met there if it is one
 abbrev pub around_of : Option Around → Place → Option Table → Option Around
 around_of around e None = around
 around_of around e (Some t) = Some (record { place = e; table = t })
@@ -189,7 +189,7 @@ pub record IsFairPile (e : Place) (f : Folder) : Type 0 where
 abbrev pub from_name : Text → List Entry → List Entry
 from_name n es = filter (λ e. not (is_lt (text_cmp e.name n))) es
 
--- the listings, of the deepest only those, where it is that of a directory of k names
+-- the listings, of the deepest only those, if it is that of a directory of k names
 abbrev pub cut_top : ℕ → Text → List Pile → List Pile
 cut_top k n [] = []
 cut_top k n (p ∷ ps) = if nat_le k (length ps) then (p.0, from_name n p.1) ∷ ps else p ∷ ps

@@ -74,7 +74,7 @@ Steps root s t last new step.End = ⊥
 abbrev pub StepsTo : StorageRoot → Store → Store → Option Place → Place → Stand → Result Step Fault → Type 0
 StepsTo root s t last x new r = MatchResult r (λ step. Steps root s t last new step) (λ why. FailsTo root s t last x why)
 
--- one step, where there is one before the end
+-- one step, if there is one before the end
 abbrev pub StepsOut : StorageRoot → Store → Store → Option Place → End → Stand → Step → Type 0
 StepsOut root s t last e new (step.Item p) =
     Walks root s t last (Some p.place) × StandsAt root new (Some p.place) × IsBeyond last p.place × (is_past e p.place ≡ false) × IsNext root last p
@@ -112,7 +112,7 @@ GoesOn old new (step.Item p) = (new.last ≡ Some p.place) × IsBeyond old.last 
 GoesOn old new step.Nothing = (x : Place) × (new.last ≡ Some x) × IsBeyond old.last x × (stand_size new < stand_size old)
 GoesOn old new step.End = ⊤
 
--- the same of the first step of a walk that begins at a place, where less or as much is left
+-- the same of the first step of a walk that begins at a place, if less or as much is left
 abbrev pub GoesAt : Stand → Stand → Step → Type 0
 GoesAt old new (step.Item p) = (new.last ≡ Some p.place) × IsBeyond old.last p.place × (stand_size new ≤ stand_size old) × (length p.place ≤ 255)
 GoesAt old new step.Nothing = (x : Place) × (new.last ≡ Some x) × IsBeyond old.last x × (stand_size new ≤ stand_size old)

@@ -194,7 +194,7 @@ last_line_is : digest_line (front_of whole) ≡ last_line
 unfolding cursor_on_literals
 last_line_is = refl
 
--- the refusal of bytes where that is the line that they are to end with
+-- the refusal of bytes if that is the line that they are to end with
 abbrev refusal_by : Text → Text → Refusal
 refusal_by line b = if not (is_cursor_front b) then not_cursor
     else (if not (is_version (version_of b)) then version

@@ -22,7 +22,7 @@ use Rattle.ocfl_cursor.proofs.Seals.{length-sealed, sealed_determines}
 versions_differ : (a b : Text) → codes "ocfl-scrub cursor 1\n" ++ a ≡ codes "ocfl-scrub cursor 2\n" ++ b → ⊥
 versions_differ a b e = eqb-false 49 50 refl (ap (λ t. get_or t 18 0) e)
 
--- the version is the same where texts begin with its line, and so is what follows
+-- the version is the same if texts begin with its line, and so is what follows
 pub version_line_determines : (v w : Version) (r s : Text) → version_line v ++ r ≡ version_line w ++ s → (v ≡ w) × (r ≡ s)
 version_line_determines One One r s e = (refl, append_cancel_left (codes "ocfl-scrub cursor 1\n") _ _ e)
 version_line_determines One Two r s e = absurd (versions_differ r s e)
@@ -41,7 +41,7 @@ wide_files : (v : Version) (f : ℕ) → FilesFit v f → f < 2 ^ 128
 wide_files One f h = omega (arith, h)
 wide_files Two f h = h
 
--- numbers of files are the same where texts begin with their lines, and so is what follows them
+-- numbers of files are the same if texts begin with their lines, and so is what follows them
 files_line_determines : (v : Version) (f g : ℕ) (r s : Text) → FilesFit v f → FilesFit v g → files_line v f ++ r ≡ files_line v g ++ s → (f ≡ g) × (r ≡ s)
 files_line_determines One f g r s h k e = (h ∙ sym k, e)
 files_line_determines Two f g r s h k e = number_line_determines (codes "files") f g r s h k e
@@ -74,7 +74,7 @@ counts_text-append v n m k f r =
     ∙ append_assoc (number_line (codes "cycle") n ++ number_line (codes "runs") m) (number_line (codes "spent") k) (from_files v f r)
     ∙ append_assoc (number_line (codes "cycle") n) (number_line (codes "runs") m) (from_spent v k f r)
 
--- numbers are the same where texts begin with their lines, and so is what follows them
+-- numbers are the same if texts begin with their lines, and so is what follows them
 pub record SameCounts (n m k f n' m' k' f' : ℕ) (r s : Text) : Type 0 where
   pub cycle : n ≡ n'
   pub runs : m ≡ m'
@@ -323,7 +323,7 @@ cursor_from_parts lines line v n m k f s c fit e h b =
     let state = state_line_determines line s c.state h (IsStateLine-read lines line v n m k f c fit e b) in
     sym (λ i. record { cycle = same.cycle i; runs = same.runs i; spent = same.spent i; files = same.files i; state = state i })
 
--- where no cursor has the parts, no cursor has the lines
+-- if no cursor has the parts, no cursor has the lines
 pub no_cursor_of-parts : (lines line : Text) (v : Version) (n m k f : ℕ) (s : State) → CountsFit v n m k f → lines ≡ counts_text v n m k f ++ line → IsStateLine line s
     → (IsCursor (record { cycle = n; runs = m; spent = k; files = f; state = s }) → ⊥) → (c : Cursor) → AreLinesOf v lines c → ⊥
 no_cursor_of-parts lines line v n m k f s fit e h none c b = none (subst IsCursor (cursor_from_parts lines line v n m k f s c fit e h b) b.keeps)

@@ -1,4 +1,4 @@
--- What the first bytes of a reader tell of all of them, where one more is read than a cursor's text
+-- What the first bytes of a reader tell of all of them, if one more is read than a cursor's text
 -- can have.
 use Rattle.std.proofs.Common.{◌≡◌, ◌⊎◌, inl, inr, ℕ, ◌<◌, ◌≤◌, [], ◌++◌, nat_eq, nat_le, false, min, length, take, codes, Option, Some, None, IfSome, sym, subst, ◌∙◌, arith, length-take}
 use Rattle.std.specs.List.{starts_with}
@@ -25,7 +25,7 @@ limit = 262145
 pub too_long : (b : Text) → max_text < length b → is_cursor_front b ≡ false
 too_long b l = and_right (starts_with nat_eq b (codes "ocfl-scrub cursor ")) (nat_le (length b) max_text) (lt-leb (length b) max_text l)
 
--- what is read is a cursor's text only where it is all
+-- what is read is a cursor's text only if it is all
 IsTextOf-limited : (b : Text) (c : Cursor) → IsTextOf (take limit b) c → IsTextOf b c
 IsTextOf-limited b c h =
     let short : min limit (length b) < 196000 = read-short in
@@ -52,7 +52,7 @@ RefusedRightly-limited b Damaged h = IsRefused-limited b _ h
 RefusedRightly-limited b Malformed h = IsRefused-limited b _ h
 RefusedRightly-limited b Memory h = tt
 
--- ---- of a reader's bytes, where they are known
+-- ---- of a reader's bytes, if they are known
 
 -- the bytes that were read are the first of those, up to a limit
 abbrev pub IsReadTo : ℕ → Option Text → Text → Type 0

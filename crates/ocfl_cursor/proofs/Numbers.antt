@@ -26,6 +26,6 @@ after_name_is name text after n rest e f = append_cancel_left name _ _ (sym e �
 pub after_space_is : (name text after digits : Text) (n : ℕ) (rest : Text) → text ≡ name ++ after → after ≡ 32 ∷ digits → text ≡ number_line name n ++ rest → digits ≡ decimal n ++ 10 ∷ rest
 after_space_is name text after digits n rest e g f = ap (drop 1) (sym g ∙ after_name_is name text after n rest e f)
 
--- what stands before the line feed is the number's digits
+-- what is before the line feed is the number's digits
 pub digits_are_decimal : (text digits after : Text) (n : ℕ) (rest : Text) → n < 2 ^ 128 → All (λ b. b ≢ 10) digits → text ≡ digits ++ 10 ∷ after → text ≡ decimal n ++ 10 ∷ rest → digits ≡ decimal n
 digits_are_decimal text digits after n rest l h e f = (first_parts 10 digits (decimal n) after rest h (decimal_no_line_feed n l) (sym e ∙ f)).0

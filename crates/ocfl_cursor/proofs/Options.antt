@@ -6,7 +6,7 @@ pub IfSome-from_cases : {X : Type 0} (r : Option X) (P : Type 0) (Q : X → Type
 IfSome-from_cases None P Q h = tt
 IfSome-from_cases (Some x) P Q h = h
 
--- what it says where there is none
+-- what it says if there is none
 pub none_from_cases : {X : Type 0} (r : Option X) (P : Type 0) (Q : X → Type 0) → MatchOption r P Q → IsNone r → P
 none_from_cases None P Q h e = h
 none_from_cases (Some x) P Q h e = cc

@@ -1,4 +1,4 @@
--- What the first bytes of a reader tell of all of them, where one more is read than is taken as a
+-- What the first bytes of a reader tell of all of them, if one more is read than is taken as a
 -- part's cursor.
 use Rattle.std.proofs.Common.{◌≡◌, ◌⊎◌, inl, inr, ℕ, ◌<◌, ◌≤◌, ◌&&◌, nat_le, true, false, min, length, take, Option, Some, None, IfSome, refl, sym, ap, ap₂, subst, ◌∙◌, arith, length-take}
 use Rattle.std.proofs.lemmas.Bool.{le-leb, lt-leb, and_right, true≢false}
@@ -29,7 +29,7 @@ part_limit = 67108865
 
 -- ---- all bytes, or too many
 
--- what is read is all where it is not too much
+-- what is read is all if it is not too much
 all_read : (b read : Text) → read ≡ take part_limit b → length read ≤ max_part_text → read ≡ b
 all_read b read is few =
     let short : min part_limit (length b) ≤ max_part_text = omega (arith, length-take part_limit b, ap length is) in

@@ -83,7 +83,7 @@ end_of_path word text p other e = by (text_eq (place_text p) word) (ap (λ t. te
     by true f = absurd (true≢false f)
     by false f = e
 
--- no end has the text where the word, and a place of its path, are ruled out
+-- no end has the text if the word, and a place of its path, are ruled out
 pub no_end_of_word : (word text : Text) → text_eq text word ≡ false → text ≡ codes "./" ++ word → ((p : Place) → IsPlace p → word ≡ place_text p → ⊥)
     → (end : Option Place) → HasNames end → text ≡ end_text word end → ⊥
 no_end_of_word word text other is none None h e = true≢false (sym ((text_eq-Decides _ _).1 e) ∙ other)
@@ -126,7 +126,7 @@ end_line-append front word end r = simp append_assoc
 pub after_front : (front word text line : Text) (end : Option Place) (r : Text) → text ≡ front ++ line → text ≡ end_line front word end ++ r → line ≡ end_text word end ++ 10 ∷ r
 after_front front word text line end r e f = append_cancel_left front _ _ (sym e ∙ f ∙ end_line-append front word end r)
 
--- what stands before the line feed, and what follows it
+-- what is before the line feed, and what follows it
 pub before_feed : (front word text line before after : Text) (end : Option Place) (r : Text) → All (λ b. b ≢ 10) word → HasNames end → text ≡ front ++ line
     → line ≡ before ++ 10 ∷ after → All (λ b. b ≢ 10) before
     → text ≡ end_line front word end ++ r → (before ≡ end_text word end) × (after ≡ r)
@@ -139,7 +139,7 @@ pub end_line_read : (front word text line before after : Text) (end : Option Pla
 end_line_read front word text line before after end e f g =
     e ∙ ap (λ t. front ++ t) (f ∙ ap (λ t. t ++ 10 ∷ after) g) ∙ sym (end_line-append front word end after)
 
--- ends are the same where texts begin with their lines, and so is what follows
+-- ends are the same if texts begin with their lines, and so is what follows
 pub end_line_determines : (front word : Text) (p q : Option Place) (r s : Text) → All (λ b. b ≢ 10) word → HasNames p → HasNames q
     → end_line front word p ++ r ≡ end_line front word q ++ s → (p ≡ q) × (r ≡ s)
 end_line_determines front word p q r s plain h k e =

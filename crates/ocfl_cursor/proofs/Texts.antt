@@ -17,7 +17,7 @@ same-text_eq a b e = sym (texts_ties a b) ∙ (bytes_decides a b).1 e
 
 -- ---- the first line of a text
 
--- no line feed in what stands before it
+-- no line feed in what is before it
 abbrev IsNotFeed : ℕ → Type 0
 IsNotFeed b = b ≢ 10
 
@@ -25,13 +25,13 @@ first_line-cons : (c : ℕ) (t : Text) → c ≢ 10 → first_line (c ∷ t) ≡
 first_line-cons c t apart =
     take_while-cons (λ b. not (b == 10)) c t ∙ ap (λ r. cond (not r) (c ∷ first_line t) []) (ne_eqb c 10 apart)
 
--- what stands before a line feed, where none stands before it
+-- what is before a line feed, if none is before it
 pub first_line-found : (line rest : Text) → All IsNotFeed line → first_line (line ++ 10 ∷ rest) ≡ line
 first_line-found [] rest h = refl
 first_line-found (c ∷ line) rest h =
     first_line-cons c (line ++ 10 ∷ rest) (All-head IsNotFeed c line h) ∙ ap (λ t. c ∷ t) (first_line-found line rest (All-tail IsNotFeed c line h))
 
--- all of it where there is no line feed
+-- all of it if there is no line feed
 pub first_line-missing : (t : Text) → All IsNotFeed t → first_line t ≡ t
 first_line-missing [] h = refl
 first_line-missing (c ∷ t) h = first_line-cons c t (All-head IsNotFeed c t h) ∙ ap (λ u. c ∷ u) (first_line-missing t (All-tail IsNotFeed c t h))

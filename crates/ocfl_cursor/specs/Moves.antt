@@ -6,7 +6,7 @@ use Rattle.ocfl_cursor.specs.Cursor.{State, start, Cursor}
 abbrev pub next_cycle : Cursor → Cursor
 next_cycle c = record { cycle = c.cycle + 1; runs = 0; spent = 0; files = 0; state = start }
 
--- one run later, which has spent this much, started so many files and left this state
+-- one run later, which has spent and started this much, and left this state
 abbrev pub after_run : Cursor → ℕ → ℕ → State → Cursor
 after_run c spent files state = record { cycle = c.cycle; runs = c.runs + 1; spent = c.spent + spent; files = c.files + files; state = state }
 

@@ -15,7 +15,7 @@ pub record AreEnds (e : PartEnds) : Type 0 where
   pub from : HasNames e.from
   pub below : HasNames e.below
 
--- an end: a word where there is no place, else the place's text, with `./` before it where that is
+-- an end: a word if there is no place, else the place's text, with `./` before it if that is
 -- the word
 abbrev pub end_text : Text → Option Place → Text
 end_text word None = word

@@ -35,7 +35,7 @@ refusal b = if not (is_cursor_front b) then not_cursor
     else (if not (is_version (version_of b)) then version
     else (if not (is_sealed b) then damaged else malformed))
 
--- the bytes are the text of a cursor that keeps its rule: that of version 2, or, where it has no
+-- the bytes are the text of a cursor that keeps its rule: that of version 2, or, if it has no
 -- files, that of version 1
 pub record IsTextOf (b : Text) (c : Cursor) : Type 0 where
   pub keeps : IsCursor c

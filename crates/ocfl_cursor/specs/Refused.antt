@@ -6,7 +6,7 @@ use Rattle.ocfl_cursor.specs.Refusal.{Refusal, not_cursor, version, damaged, mal
 use Rattle.ocfl_cursor.specs.declared.refused.Refused.{Refused}
 use Rattle.ocfl_cursor.specs.declared.refused.Refused.TheVariants.{NotCursor, Version, Damaged, Malformed, Memory}
 
--- what the refusal says of the bytes: nothing where memory was refused
+-- what the refusal says of the bytes: nothing if memory was refused
 abbrev pub reason : Refused → Option Refusal
 reason NotCursor = Some not_cursor
 reason Version = Some version

@@ -34,7 +34,7 @@ pub record ArePartLines (b lines : Text) : Type 0 where
 abbrev pub AreShown : Text → Text → Type 0
 AreShown b lines = AreWholeLines b lines ⊎ ArePartLines b lines
 
--- the lines of the text that a reader gave; where its bytes are known, they are that text
+-- the lines of the text that a reader gave; if its bytes are known, they are that text
 pub record IsShownFrom (known : Option Text) (lines : Text) : Type 0 where
   pub bytes : Text
   pub are : AreShown bytes lines

@@ -1,4 +1,4 @@
-//! The cursor: where a cycle stands, and what its runs have spent.
+//! The cursor: how far a cycle is, and what its runs have spent.
 ghost use Rattle.std.specs.Prelude.{◌≡◌, ◌↔◌, IsSome, IfSome, IsNone};
 ghost use Rattle.ocfl_cursor.specs.Cursor.{IsCursor, new_cursor};
 ghost use Rattle.ocfl_cursor.specs.State.{state_of, cursor_of};
@@ -88,7 +88,7 @@ impl Cursor {
         Cursor::from_parts(self.cycle.checked_add(1)?, 0, 0, 0, State::Start)
     }
 
-    /// The cursor after one more run, which has spent this much, started so many files, and ends in
+    /// The cursor after one more run, which has spent `spent`, started `files` files, and ends in
     /// this state. `None` if no cursor is so: the runs are counted out, or one of the limits of
     /// [`Cursor::from_parts`] is passed.
     pub fn after_run(&self, spent: u64, files: u64, state: State) -> Option<Cursor>

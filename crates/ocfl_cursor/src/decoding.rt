@@ -32,7 +32,7 @@ use std::alloc::Global;
 /// The cursor whose text the bytes are.
 ///
 /// Bytes that are no cursor's text are refused for the first reason that applies. Memory is asked
-/// for only to make the place that the cursor holds; where that is refused the answer is `Memory`.
+/// for only to make the place that the cursor holds; if that is refused the answer is `Memory`.
 pub fn decode(alloc: Global, text: &[u8]) -> Result<Cursor, Refused>
     ensures cursor { IfOk result (λ cursor. IsTextOf text.now cursor) }
     ensures refused { IfErr result (λ refused. RefusedRightly text.now refused) }

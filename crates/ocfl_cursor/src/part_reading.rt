@@ -28,7 +28,7 @@ pub fn read_part_cursor<R: Read>(
     reader: &mut R,
     ends: &PartEnds,
 ) -> Result<Cursor, PartCursorStop>
-    // Where the reader's bytes are known, the answer is that of `decode_part` for all of them,
+    // If the reader's bytes are known, the answer is that of `decode_part` for all of them,
     // unless they are too many.
     ensures cursor { IfOk result
         (λ cursor. IfSome (R.remaining reader.old) (λ bytes. IsPartText ends.now bytes cursor)) }

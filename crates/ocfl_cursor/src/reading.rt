@@ -22,7 +22,7 @@ pub enum CursorStop {
 /// Reads a cursor from all the bytes of a reader: to its end, or one byte more than the text of a
 /// cursor can have.
 pub fn read_cursor<R: Read>(alloc: Global, reader: &mut R) -> Result<Cursor, CursorStop>
-    // Where the reader's bytes are known, the answer is that of `decode` for all of them.
+    // If the reader's bytes are known, the answer is that of `decode` for all of them.
     ensures cursor { IfOk result
         (λ cursor. IfSome (R.remaining reader.old) (λ bytes. IsTextOf bytes cursor)) }
     ensures refused { IfErr result

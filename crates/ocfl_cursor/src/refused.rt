@@ -12,7 +12,7 @@ pub enum Refused {
     /// The version in the first line is not known.
     #[error("version")]
     Version,
-    /// The last line is not the digest line of what stands before it.
+    /// The last line is not the digest line of what is before it.
     #[error("damaged")]
     Damaged,
     /// They are the text of no cursor.
@@ -31,7 +31,7 @@ pub enum PartRefused {
     /// 67,108,864.
     #[error("not a cursor")]
     NotCursor,
-    /// The last line is not the digest line of what stands before it.
+    /// The last line is not the digest line of what is before it.
     #[error("damaged")]
     Damaged,
     /// They are the text of no part's cursor.

@@ -1,4 +1,4 @@
-//! Where a cursor stands: at the start, after a place, or at the end.
+//! Where a cursor is: at the start, after a place, or at the end.
 ghost use Rattle.std.specs.Prelude.{◌↔◌, IsTrue};
 ghost use Rattle.ocfl_cursor.specs.Cursor.{IsShortPlace};
 ghost use Rattle.ocfl_cursor.specs.State.{state_of};

@@ -22,7 +22,7 @@ pub same_test : (a b : Text) (r : Bool) → (IsTrue r ↔ (map to_ascii_lowercas
     → r ≡ str_eq_ignore_ascii_case a b
 same_test a b r h = same_from_decides r _ h (bytes_eq-Decides _ _)
 
--- where the rows before one have other texts, the table gives its number if it has the text
+-- if the rows before one have other texts, the table gives its number if it has the text
 pub row_found : (rows : List (Bor Text × ℕ)) (t : Text) (i : ℕ) (d : Bor Text × ℕ) → i < length rows
     → beside (map row_of rows) t ≡ beside (map row_of (drop i rows)) t
     → str_eq_ignore_ascii_case t (get_or rows i d).0.now ≡ true

@@ -70,7 +70,7 @@ abbrev pub IsGiven : Text → List Row → Type 0
 IsGiven id rows = first_of id rows ≡ Some (codes "true")
 
 -- which items they choose: a part by the file of the separators and its number, a branch by its
--- place, and all of them where neither is given
+-- place, and all of them if neither is given
 abbrev pub IsChosen : List Row → Chosen → Type 0
 IsChosen rows All = IsLeftOut (codes "under") rows × IsLeftOut (codes "parts") rows × IsLeftOut (codes "part") rows
 IsChosen rows (Branch place) = HasText (codes "under") rows place × IsLeftOut (codes "parts") rows
@@ -78,7 +78,7 @@ IsChosen rows (Branch place) = HasText (codes "under") rows place × IsLeftOut (
 IsChosen rows (Part parts number) = IsLeftOut (codes "under") rows × HasText (codes "parts") rows parts
     × HasCount (codes "part") most_parts rows number
 
--- a deed, which items it takes, the folder and the file that it is done with, where they are given,
+-- a deed, which items it takes, the folder and the file that it is done with, if they are given,
 -- and whether quietly
 pub record IsTask (name : Text) (rows : List Row) (t : Task) : Type 0 where
   pub deed : IsDeed name rows t.deed

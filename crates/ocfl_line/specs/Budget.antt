@@ -16,12 +16,12 @@ units = (codes "", 1)
     ∷ (codes "T", 2 ^ 40) ∷ (codes "TiB", 2 ^ 40) ∷ (codes "TB", 10 ^ 12)
     ∷ []
 
--- what stands beside a text in a table, where capitals and small letters are alike
+-- what is beside a text in a table, if capitals and small letters are alike
 abbrev pub beside : List (Text × ℕ) → Text → Option ℕ
 beside [] t = None
 beside (row ∷ rows) t = if str_eq_ignore_ascii_case t row.0 then Some row.1 else beside rows t
 
--- what a unit multiplies by, where the text is one
+-- what a unit multiplies by, if the text is one
 abbrev pub unit_size : Text → Option ℕ
 unit_size = beside units
 

@@ -15,10 +15,10 @@ use std::alloc::Global;
 use std::convert::AsStr;
 
 /// What the words of a command line ask for, of which the first is the program's name. Fails with
-/// `Usage` where they are not understood, or ask for help or the version, and with `Memory` where
+/// `Usage` if they are not understood, or ask for help or the version, and with `Memory` if
 /// memory was refused.
 pub fn asked<'a, S: AsStr>(alloc: Global, words: &'a [S]) -> Result<Asked, LineStop>
-    // Where there is an answer, `clap` finds no fault in the words, and the answer is what they
+    // If there is an answer, `clap` finds no fault in the words, and the answer is what they
     // ask.
     ensures asked { IfOk result (Asks (subcommand_of line_app (map S.text words.entry.now))) }
     ensures faultless { IfOk result (λ _. fault_of line_app (map S.text words.entry.now) ≡ []) }

@@ -36,7 +36,7 @@ fn find_unit(units: &[(&str, u64)], text: &str) -> Option<u64>
     None
 }
 
-/// What a unit multiplies by, in capitals or small letters. `None` where the text is no unit.
+/// What a unit multiplies by, in capitals or small letters. `None` if the text is no unit.
 fn unit_size(text: &str) -> Option<u64>
     ensures { result ≡ size_of_unit text.now }
 {
@@ -66,7 +66,7 @@ pub(crate) fn read_budget(text: &str) -> Option<Budget>
     Budget::new(read_amount(text)?)
 }
 
-/// The size that a text writes: 1 to 2^62, as digits alone or with a unit. `None` where it writes
+/// The size that a text writes: 1 to 2^62, as digits alone or with a unit. `None` if it writes
 /// none.
 pub(crate) fn read_amount(text: &str) -> Option<u64>
     ensures found { IfSome result (IsSizeText text.now) }

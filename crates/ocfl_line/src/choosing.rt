@@ -12,7 +12,7 @@ use std::alloc::{AllocError, Global};
 // The most parts: one more than the separators that their file may have.
 const MAX_PARTS: u64 = 100001;
 
-/// Which items are chosen, or `None` where the arguments do not go together: a part needs both the
+/// Which items are chosen, or `None` if the arguments do not go together: a part needs both the
 /// file of the separators and its number, and is not chosen beside a branch.
 pub(crate) fn chosen_by(alloc: Global, inner: &ArgMatches<'_>) -> Result<Option<Chosen>, AllocError>
     ensures found { IfOk result (λ o. IfSome o (IsChosen (rows_of (found_of inner.now)))) }
@@ -31,7 +31,7 @@ pub(crate) fn chosen_by(alloc: Global, inner: &ArgMatches<'_>) -> Result<Option<
     }
 }
 
-/// The part of this file that is chosen, or `None` where there is no number, or a branch too.
+/// The part of this file that is chosen, or `None` if there is no number, or a branch too.
 fn part_of(inner: &ArgMatches<'_>, parts: String) -> Option<Chosen>
     requires { HasText (codes "parts") (rows_of (found_of inner.now)) parts }
     ensures found { IfSome result (IsChosen (rows_of (found_of inner.now))) }

@@ -17,7 +17,7 @@ use std::alloc::{AllocError, Global};
 /// The version of the program.
 const VERSION: &str = "1.0.0";
 
-/// What stands below the program's help.
+/// What is below the program's help.
 const AFTER_HELP: &str = "\
 Example:
   ocfl-scrub run --cursor root.cursor --budget 10G --files 5000 /srv/ocfl
@@ -285,11 +285,11 @@ fn arg_of<'a>(alloc: Global, argument: Argument) -> Arg<'a>
 /// What help says of a subcommand.
 #[derive(Clone, Copy)]
 struct Help<'a> {
-    /// What it does.
+    /// One sentence on what it does.
     about: &'a str,
-    /// How it is called, where its arguments do not say that.
+    /// How it is called, if its arguments do not say that.
     usage: Option<&'a str>,
-    /// An example of it.
+    /// A whole line that calls it.
     example: &'a str,
 }
 

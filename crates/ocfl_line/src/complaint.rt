@@ -128,7 +128,7 @@ fn find_complaint<'a>(name: &str, inner: &ArgMatches<'a>) -> Complaint<'a> {
     find_value(inner)
 }
 
-/// What is wrong with a value, or with the ends of a night, where all other words go together.
+/// What is wrong with a value, or with the ends of a night, if all other words go together.
 fn find_value<'a>(inner: &ArgMatches<'a>) -> Complaint<'a> {
     for id in ["budget", "files", "slice"] {
         if !is_left_out(inner, id) && !is_size(inner, id) {

@@ -31,7 +31,7 @@ pub(crate) fn until_of(inner: &ArgMatches<'_>) -> Option<Until>
     Some(Until::Never)
 }
 
-/// The end after so many hours, or `None` where another one is given too.
+/// The end after some hours, or `None` if another one is given too.
 fn hours_alone(inner: &ArgMatches<'_>) -> Option<Until>
     requires { IsLeftOut (codes "hours") (rows_of (found_of inner.now)) → ⊥ }
     ensures found { IfSome result (IsUntil (rows_of (found_of inner.now))) }

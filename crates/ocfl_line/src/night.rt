@@ -8,7 +8,7 @@ use ocfl_cursor::Budget;
 pub enum Until {
     /// At no time.
     Never,
-    /// So many hours after it began: 1 to 24.
+    /// This number of hours after it began: 1 to 24.
     Hours(u64),
     /// When the clock next shows this time of day.
     TimeOfDay {
@@ -24,11 +24,11 @@ pub enum Until {
 /// What a night may do, and until when.
 #[derive(Clone, Copy, Debug, PartialEq, Eq)]
 pub struct NightBounds {
-    /// How much the night may spend, where that is said.
+    /// How much the night may spend, if that is said.
     pub budget: Option<Budget>,
-    /// How many files it may start, where that is said: 1 to 2^62.
+    /// How many files it may start, if that is said: 1 to 2^62.
     pub files: Option<u64>,
-    /// How much each of its runs may spend, where that is said.
+    /// How much each of its runs may spend, if that is said.
     pub slice: Option<Budget>,
     /// When it begins no further run.
     pub until: Until,
@@ -45,9 +45,9 @@ pub struct NightAsked {
     pub bounds: NightBounds,
     /// Which items it takes: all of them, or those of one part.
     pub chosen: Chosen,
-    /// The file of findings that are known, where it is given.
+    /// The file of findings that are known, if it is given.
     pub known: Option<String>,
-    /// The file of the objects that must be there, where it is given; never with a part.
+    /// The file of the objects that must be there, if it is given; never with a part.
     pub expected: Option<String>,
     /// Whether a state folder without a checkpoint is begun in.
     pub create: bool,

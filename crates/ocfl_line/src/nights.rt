@@ -17,7 +17,7 @@ use clap::ArgMatches;
 use ocfl_cursor::Budget;
 use std::alloc::{AllocError, Global};
 
-/// The size of an option, `Some(None)` where it is left out, and `None` where its text is no size.
+/// The size of an option, `Some(None)` if it is left out, and `None` if its text is no size.
 fn size_of(inner: &ArgMatches<'_>, id: &str) -> Option<Option<u64>>
     ensures found { IfSome result (MayHaveSize id.now (rows_of (found_of inner.now))) }
     ensures missing { IsNone result
@@ -66,7 +66,7 @@ fn expects_of_part(inner: &ArgMatches<'_>) -> bool
     !is_left_out(inner, "expected") && !is_left_out(inner, "parts")
 }
 
-/// The texts of two arguments, or `None` where one of them is left out.
+/// The texts of two arguments, or `None` if one of them is left out.
 fn both_of(
     alloc: Global,
     inner: &ArgMatches<'_>,
@@ -89,7 +89,7 @@ fn both_of(
     }
 }
 
-/// A night, or `None` where its arguments ask for none.
+/// A night, or `None` if its arguments ask for none.
 pub(crate) fn night_by(
     alloc: Global,
     inner: &ArgMatches<'_>,
@@ -124,7 +124,7 @@ pub(crate) fn night_by(
     }))
 }
 
-/// The joining of the closed reports of all parts, or `None` where its arguments ask for none.
+/// The joining of the closed reports of all parts, or `None` if its arguments ask for none.
 pub(crate) fn join_by(
     alloc: Global,
     inner: &ArgMatches<'_>,

@@ -21,7 +21,7 @@ use std::alloc::{AllocError, Global};
 // The most runs of a cycle.
 const MAX_RUNS: u64 = 100000;
 
-/// The limits of a run, or `None` where the text of one of them is no size.
+/// The limits of a run, or `None` if the text of one of them is no size.
 fn limits_of(inner: &ArgMatches<'_>) -> Option<Limits>
     ensures found { IfSome result (HasLimits (rows_of (found_of inner.now))) }
     ensures missing { IsNone result
@@ -41,7 +41,7 @@ fn runs_of(inner: &ArgMatches<'_>) -> Option<usize>
     count_of(inner, "runs", MAX_RUNS)
 }
 
-/// One run, or `None` where its limits are not given.
+/// One run, or `None` if its limits are not given.
 fn run_of(inner: &ArgMatches<'_>) -> Option<Deed>
     ensures found { IfSome result (IsDeed (codes "run") (rows_of (found_of inner.now))) }
     ensures missing { IsNone result
@@ -51,7 +51,7 @@ fn run_of(inner: &ArgMatches<'_>) -> Option<Deed>
     Some(Deed::Run(limits))
 }
 
-/// A cycle, or `None` where its limits or its runs are not given.
+/// A cycle, or `None` if its limits or its runs are not given.
 fn cycle_of(inner: &ArgMatches<'_>) -> Option<Deed>
     ensures found { IfSome result (IsDeed (codes "cycle") (rows_of (found_of inner.now))) }
     ensures missing { IsNone result
@@ -60,7 +60,7 @@ fn cycle_of(inner: &ArgMatches<'_>) -> Option<Deed>
     Some(Deed::Cycle(limits_of(inner)?, runs_of(inner)?))
 }
 
-/// The check of a place, or `None` where its path is not given.
+/// The check of a place, or `None` if its path is not given.
 fn check_of(alloc: Global, inner: &ArgMatches<'_>) -> Result<Option<Deed>, AllocError>
     ensures found { IfOk result (λ o.
         IfSome o (IsDeed (codes "check") (rows_of (found_of inner.now)))) }
@@ -73,7 +73,7 @@ fn check_of(alloc: Global, inner: &ArgMatches<'_>) -> Result<Option<Deed>, Alloc
     }
 }
 
-/// The deed of the subcommand with this name and these matches, or `None` where they ask for none.
+/// The deed of the subcommand with this name and these matches, or `None` if they ask for none.
 fn deed_of(alloc: Global, name: &str, inner: &ArgMatches<'_>) -> Result<Option<Deed>, AllocError>
     ensures found { IfOk result (λ o. IfSome o (IsDeed name.now (rows_of (found_of inner.now)))) }
     ensures missing { IfOk result (λ o. IsNone o
@@ -90,7 +90,7 @@ fn deed_of(alloc: Global, name: &str, inner: &ArgMatches<'_>) -> Result<Option<D
 }
 
 /// The deed of the subcommand with this name and these matches, with what it is done with, or
-/// `None` where they ask for none.
+/// `None` if they ask for none.
 fn task_of(alloc: Global, name: &str, inner: &ArgMatches<'_>) -> Result<Option<Task>, AllocError>
     ensures found { IfOk result (λ o. IfSome o (IsTask name.now (rows_of (found_of inner.now)))) }
     ensures missing { IfOk result (λ o. IsNone o
@@ -114,7 +114,7 @@ fn task_of(alloc: Global, name: &str, inner: &ArgMatches<'_>) -> Result<Option<T
     }))
 }
 
-/// What the matches of `split` ask for, or `None` where they ask for nothing.
+/// What the matches of `split` ask for, or `None` if they ask for nothing.
 fn asked_split(alloc: Global, inner: &ArgMatches<'_>) -> Result<Option<Asked>, AllocError>
     ensures found { IfOk result (λ o.
         IfSome o (IsAsked (codes "split") (rows_of (found_of inner.now)))) }
@@ -153,7 +153,7 @@ fn asked_join(alloc: Global, inner: &ArgMatches<'_>) -> Result<Option<Asked>, Al
     }
 }
 
-/// What the subcommand with this name and these matches asks for, or `None` where it is nothing.
+/// What the subcommand with this name and these matches asks for, or `None` if it is nothing.
 fn asked_of(alloc: Global, name: &str, inner: &ArgMatches<'_>) -> Result<Option<Asked>, AllocError>
     ensures found { IfOk result (λ o. IfSome o (IsAsked name.now (rows_of (found_of inner.now)))) }
     ensures missing { IfOk result (λ o. IsNone o
@@ -170,7 +170,7 @@ fn asked_of(alloc: Global, name: &str, inner: &ArgMatches<'_>) -> Result<Option<
     }
 }
 
-/// What is asked for by matches, or `None` where they ask for nothing.
+/// What is asked for by matches, or `None` if they ask for nothing.
 pub(crate) fn asked_by(alloc: Global, matches: &ArgMatches<'_>) -> Result<Option<Asked>, AllocError>
     ensures found { IfOk result (λ o. IfSome o (Asks (subcommand_rows_of matches.now))) }
     ensures missing { IfOk result (λ o. IsNone o

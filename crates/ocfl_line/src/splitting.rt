@@ -13,7 +13,7 @@ use std::alloc::{AllocError, Global};
 // The most parts that listing splits a storage root into.
 const MAX_COUNT: u64 = 100000;
 
-/// How the storage root is split, or `None` where the arguments are not just those of one way.
+/// How the storage root is split, or `None` if the arguments are not just those of one way.
 pub(crate) fn split_by(alloc: Global, inner: &ArgMatches<'_>) -> Result<Option<Split>, AllocError>
     ensures found { IfOk result (λ o. IfSome o (IsSplit (rows_of (found_of inner.now)))) }
     ensures missing { IfOk result (λ o. IsNone o
@@ -28,7 +28,7 @@ pub(crate) fn split_by(alloc: Global, inner: &ArgMatches<'_>) -> Result<Option<S
     }
 }
 
-/// The split by listing this folder, or `None` where there is no count, or anything of a report.
+/// The split by listing this folder, or `None` if there is no count, or anything of a report.
 fn listing_of(inner: &ArgMatches<'_>, root: String) -> Option<Split>
     requires { HasText (codes "root") (rows_of (found_of inner.now)) root }
     ensures found { IfSome result (IsSplit (rows_of (found_of inner.now))) }
@@ -42,7 +42,7 @@ fn listing_of(inner: &ArgMatches<'_>, root: String) -> Option<Split>
     Some(Split::Listing { count, root })
 }
 
-/// The split by this report, or `None` where there is no budget, or a count.
+/// The split by this report, or `None` if there is no budget, or a count.
 fn report_of(inner: &ArgMatches<'_>, report: String) -> Option<Split>
     requires report { HasText (codes "report") (rows_of (found_of inner.now)) report }
     requires no_root { IsLeftOut (codes "root") (rows_of (found_of inner.now)) }

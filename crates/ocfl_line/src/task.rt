@@ -8,7 +8,7 @@ use ocfl_deed::Deed;
 pub enum Chosen {
     /// All of them.
     All,
-    /// Those of the branch of a place, as it stands in the command line.
+    /// Those of the branch of a place, as the command line gives it.
     Branch(String),
     /// Those of one part.
     Part {

@@ -2,7 +2,7 @@
 ghost use Rattle.std.specs.Prelude.{◌≡◌, ◌+◌, ◌<◌, ◌∷◌, [], ℕ, IfSome, IsNone};
 ghost use Rattle.ocfl_line.specs.TimeOfDay.{IsTimeText, two_digits};
 
-/// The number that a decimal digit writes. `None` where it is no digit.
+/// The number that a decimal digit writes. `None` if it is no digit.
 fn read_digit(byte: u8) -> Option<u8>
     ensures found { IfSome result (λ n. (n < 10) × (byte ≡ 48 + n)) }
     ensures missing { IsNone result → (n : ℕ) → n < 10 → byte ≡ 48 + n → ⊥ }
@@ -14,7 +14,7 @@ fn read_digit(byte: u8) -> Option<u8>
     }
 }
 
-/// The number that two decimal digits write. `None` where one of them is no digit.
+/// The number that two decimal digits write. `None` if one of them is no digit.
 fn read_digits(tens: u8, ones: u8) -> Option<u8>
     ensures found { IfSome result (λ n. (n < 100) × (tens ∷ ones ∷ [] ≡ two_digits n)) }
     ensures missing { IsNone result
@@ -25,7 +25,7 @@ fn read_digits(tens: u8, ones: u8) -> Option<u8>
     Some(10 * tens + ones)
 }
 
-/// The hour and the minute that a text writes: `HH:MM`, 00:00 to 23:59. `None` where it writes
+/// The hour and the minute that a text writes: `HH:MM`, 00:00 to 23:59. `None` if it writes
 /// none.
 pub(crate) fn read_time(text: &str) -> Option<(u8, u8)>
     ensures found { IfSome result (λ time. IsTimeText text.now time.0 time.1) }

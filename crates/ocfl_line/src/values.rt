@@ -7,7 +7,7 @@ ghost use Rattle.ocfl_line.specs.Asks.{HasCount, HasNumber, IsGiven, IsLeftOut};
 use clap::ArgMatches;
 use std::alloc::{AllocError, Global};
 
-/// The text of an argument, where it is given.
+/// The text of an argument, if it is given.
 pub(crate) fn text_of<'a>(inner: &ArgMatches<'a>, id: &str) -> Option<&'a str>
     ensures { option_map (λ s. s.now) result ≡ first_of id.now (rows_of (found_of inner.now)) }
 {

@@ -190,7 +190,7 @@ module _ (b : ℕ) (small : b < 2 ^ 64) (done : List Line) (ps : List Place) (s 
       subst (λ x. IsCutSoFar b (done ++ l ∷ []) qs t (Some x)) (sym g)
       (goes_on b small done ps s l has i qs t (ap (λ x. place_cmp i.place x.place) (sym g) ∙ o) closes above few (subst (IsCutSoFar b done ps s) e h))
 
-  -- all cuts, where no line follows
+  -- all cuts, if no line follows
   cuts_whole : cuts b done ≡ ps ++ cuts_from b s (items_from item [])
   cuts_whole = ap (cuts b) (sym (append-nil done)) ∙ h.cuts []
 

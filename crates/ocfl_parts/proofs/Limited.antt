@@ -1,4 +1,4 @@
--- What the first bytes of a reader tell of all of them, where one more is read than the text of
+-- What the first bytes of a reader tell of all of them, if one more is read than the text of
 -- separators can have.
 use Rattle.std.proofs.Common.{◌≡◌, ◌⊎◌, inl, inr, ℕ, ◌<◌, ◌≤◌, [], ◌++◌, List, length, take, take_all, Option, Some, None, Result, Ok, Err, IfSome, IfOk, IfErr, subst, ◌∙◌, arith, length-take}
 use Rattle.std.specs.Option.{option_map}
@@ -23,7 +23,7 @@ pub IsRead-to_end : (known : Option Text) (n : ℕ) (read before : Text) → n �
 IsRead-to_end None n read before l e h = tt
 IsRead-to_end (Some b) n read before l e h = h ∙ (λ i. e i ++ take (l i) b)
 
--- where no more bytes were read than there may be, all were read
+-- if no more bytes were read than there may be, all were read
 all_read : (b : Text) → length (take limit b) ≤ max_bytes → take limit b ≡ b
 all_read b short =
     let whole : length b ≤ limit = omega (arith, short, length-take limit b) in
@@ -44,7 +44,7 @@ stop_limited b Long (inr h) = by (cases_lt limit (length b))
 stop_limited b Read h = tt
 stop_limited b Memory h = tt
 
--- ---- of a reader's bytes, where they are known
+-- ---- of a reader's bytes, if they are known
 
 pub parts_read : (known : Option Text) (read : Text) (ps : List Place) → IsRead known read → IsPartsText read ps → IfSome known (λ b. IsPartsText b ps)
 parts_read None read ps is h = tt

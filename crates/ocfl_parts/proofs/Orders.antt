@@ -62,7 +62,7 @@ get_or_there [] i l e = cc
 get_or_there (x ∷ xs) zero l e = cc
 get_or_there (x ∷ xs) (suc i) l e = get_or_there xs i l e
 
--- what stands before the last place
+-- what is before the last place
 pub ends_in : (qs : List Place) (l : Place) → slice_get qs (length qs - 1) ≡ Some l → (ps : List Place) × (qs ≡ ps ++ l ∷ [])
 ends_in [] l e = cc
 ends_in (x ∷ xs) l e =

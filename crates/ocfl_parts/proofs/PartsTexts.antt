@@ -18,7 +18,7 @@ path_one_line p h = All-weaker IsPrintable (λ b. b ≢ 10) (λ b k. omega (arit
 pub part_line-append : (p : Place) (r : Text) → part_line p ++ r ≡ place_text p ++ 10 ∷ r
 part_line-append p r = append_assoc (place_text p) (10 ∷ []) r
 
--- places are the same where texts begin with their lines, and so is what follows
+-- places are the same if texts begin with their lines, and so is what follows
 pub first_lines : (p q : Place) (r s : Text) → IsPlace p → IsPlace q → part_line p ++ r ≡ part_line q ++ s → (p ≡ q) × (r ≡ s)
 first_lines p q r s h k e =
     let parts = first_parts 10 (place_text p) (place_text q) r s (path_one_line p h) (path_one_line q k) (sym (part_line-append p r) ∙ e ∙ part_line-append q s) in
@@ -37,7 +37,7 @@ parts_text_determines ps qs h k e = texts_determine IsPlace part_line first_line
 pub parts_text-push : (ps : List Place) (p : Place) → parts_text (ps ++ p ∷ []) ≡ parts_text ps ++ part_line p
 parts_text-push ps p = flat_map-append part_line ps (p ∷ []) ∙ ap (λ t. parts_text ps ++ t) (append-nil (part_line p))
 
--- what stands before the line feed of a separator's line, and what follows it
+-- what is before the line feed of a separator's line, and what follows it
 pub path_of_line : (text path rest : Text) (p : Place) (after : Text) → text ≡ path ++ 10 ∷ rest → All (λ b. b ≢ 10) path → IsPlace p → text ≡ part_line p ++ after → path ≡ place_text p
 path_of_line text path rest p after e first h f = (first_parts 10 path (place_text p) rest after first (path_one_line p h) (sym e ∙ f ∙ part_line-append p after)).0
 
@@ -45,7 +45,7 @@ path_of_line text path rest p after e first h f = (first_parts 10 path (place_te
 pub no_line : (text : Text) → All (λ b. b ≢ 10) text → (p : Place) (after : Text) → text ≢ part_line p ++ after
 no_line text none p after e = separator_is_there 10 (place_text p) after (subst (All (λ b. b ≢ 10)) (e ∙ part_line-append p after) none)
 
--- where one place is refused as a separator, so is each with that text
+-- if one place is refused as a separator, so is each with that text
 pub other_refused : (text path rest : Text) (before : List Place) (q : Place) → text ≡ path ++ 10 ∷ rest → All (λ b. b ≢ 10) path → path ≡ place_text q
     → IsPlace q → (AreSeparators (before ++ q ∷ []) → ⊥)
     → (p : Place) (after : Text) → AreSeparators (before ++ p ∷ []) → text ≢ part_line p ++ after
@@ -91,7 +91,7 @@ no_bad_line b n ps h e k =
     let whole : AreSeparators ((k.before ++ on.next ∷ []) ++ on.more) = subst AreSeparators (on.is ∙ sym (append_assoc k.before (on.next ∷ []) on.more)) h in
     k.bad on.next (parts_text on.more) (AreSeparators-front (k.before ++ on.next ∷ []) on.more whole) on.text
 
--- where there are more lines than there may be, there are too many separators
+-- if there are more lines than there may be, there are too many separators
 pub more_than_may_be : (b : Text) (ps : List Place) → AreSeparators ps → b ≡ parts_text ps → HasMoreLines b → max_separators < length ps
 more_than_may_be b ps h e k =
     let on = begins_in b ps k.before k.rest h e k.begins in
@@ -106,7 +106,7 @@ not_long b ps h (inr k) = omega (arith, more_than_may_be b ps h.separators h.is 
 
 -- ---- why bytes are refused is one thing
 
--- where more lines are those of separators, what follows the first of them is the line of one more
+-- if more lines are those of separators, what follows the first of them is the line of one more
 record GoesOnBefore (ps before : List Place) (tail rest : Text) : Type 0 where
   pub next : Place
   pub more : List Place

@@ -46,7 +46,7 @@ fields_one_line l h =
     let detail = All-cons P 9 (escape l.detail) tab (one_line (escape l.detail) (escape_printable l.detail (utf8_bytes l.detail h.detail))) in
     All-append P (code_text l.code ++ 9 ∷ place_text l.place) (9 ∷ escape l.detail) (All-append P (code_text l.code) (9 ∷ place_text l.place) code place) detail
 
--- where bytes begin with the text of a line, that is their first line
+-- if bytes begin with the text of a line, that is their first line
 pub line_is_first : (l : Line) (after : Text) → HasText l → take_through 10 (line_text l ++ after) ≡ line_text l
 line_is_first l after h = ap (take_through 10) (append_assoc (fields l) (10 ∷ []) after) ∙ first_line_is (fields l) after (fields_one_line l h)
 

@@ -3,11 +3,11 @@ use Rattle.std.specs.Prelude.{◌≡◌, ◌≢◌, ℕ, ◌+◌, ◌≤◌, Lis
 use Rattle.ocfl_tree.specs.Place.{Text, Place}
 use Rattle.ocfl_parts.specs.Separators.{AreSeparators, part_line, parts_text}
 
--- so many separators are read at most
+-- the most separators that are read
 abbrev pub max_separators : ℕ
 max_separators = 100000
 
--- from so many bytes at most
+-- and the most bytes
 abbrev pub max_bytes : ℕ
 max_bytes = 16777216
 

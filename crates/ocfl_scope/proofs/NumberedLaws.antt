@@ -95,7 +95,7 @@ part_determined b number e f h k =
     let same : h.separators ≡ k.separators = parts_text_determines h.separators k.separators h.text.separators k.text.separators (sym h.text.is ∙ k.text.is) in
     same_ends e f (same_Some (part_between e) (part_between f) (sym h.is ∙ ap (λ ps. part_numbered ps number) same ∙ k.is))
 
--- what stands in a list from an index on
+-- what is in a list from an index on
 abbrev from_index : {A : Type 0} → ℕ → List A → List A
 from_index zero xs = xs
 from_index (suc i) [] = []

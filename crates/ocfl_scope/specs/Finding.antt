@@ -28,12 +28,12 @@ BranchStops path why = ⊥
 
 -- ---- a part
 
--- a part, and where the bytes are known, the one with this number of those that they cut
+-- a part, and if the bytes are known, the one with this number of those that they cut
 abbrev pub IsPartScope : Option Text → ℕ → Scope → Type 0
 IsPartScope known number (scope.Part e) = IfSome known (λ b. IsPartOf b number e)
 IsPartScope known number s = ⊥
 
--- where the bytes are known, they are rightly refused, or have no such part
+-- if the bytes are known, they are rightly refused, or have no such part
 abbrev pub PartStops : Option Text → ℕ → ScopeStop → Type 0
 PartStops known number (stop.Parts why) = IfSome known (λ b. StopsRightly b why)
 PartStops known number stop.NoSuchPart = IfSome known (λ b. HasNoSuchPart b number)

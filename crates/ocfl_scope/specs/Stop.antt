@@ -4,7 +4,7 @@ use Rattle.ocfl_parts.specs.declared.reading.PartsStop.TheVariants as parts
 use Rattle.ocfl_scope.specs.declared.stop.ScopeStop.{ScopeStop}
 use Rattle.ocfl_scope.specs.declared.stop.ScopeStop.TheVariants as stop
 
--- 2 where what was given is wrong, 3 where it could not be read
+-- 2 if what was given is wrong, 3 if it could not be read
 abbrev pub stop_status : ScopeStop → ℕ
 stop_status stop.BadPath = 2
 stop_status stop.NoSuchPart = 2

@@ -28,7 +28,7 @@ pub fn find_branch(alloc: Global, path: &str) -> Result<Scope, ScopeStop>
 /// The part with this number, from 1, of those that separators make. Their text is all the bytes of
 /// the reader, which are read as `read_parts` does.
 ///
-/// Bytes that are not such a text, and a reader that failed, are `ScopeStop::Parts`. Where the
+/// Bytes that are not such a text, and a reader that failed, are `ScopeStop::Parts`. If the
 /// separators make fewer parts, or the number is 0, it is `ScopeStop::NoSuchPart`. If memory is
 /// refused, it is `ScopeStop::Parts` while they are read, and then `ScopeStop::Memory`.
 pub fn find_part<R: Read>(alloc: Global, reader: &mut R, number: usize) -> Result<Scope, ScopeStop>
@@ -59,7 +59,7 @@ fn copy_ends(separators: &Separators, number: usize) -> Result<Option<PartEnds>,
     Ok(Some(PartEnds { from, below }))
 }
 
-/// The same place again, if there is one.
+/// A copy of the place, if there is one.
 fn copy_place(place: Option<&Place>) -> Result<Option<Place>, AllocError>
     ensures { IfOk result (λ again. again ≡ option_map (λ p. p.now) place.entry) }
 {

@@ -23,7 +23,7 @@ pub enum ScopeStop {
 }
 
 impl ScopeStop {
-    /// The exit status: 2 for a wrong path, number or text of separators, and 3 where the reader
+    /// The exit status: 2 for a wrong path, number or text of separators, and 3 if the reader
     /// failed or memory was refused.
     pub fn status(&self) -> u8
         ensures { result ≡ stop_status self.now }

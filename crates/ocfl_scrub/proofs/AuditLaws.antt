@@ -150,7 +150,7 @@ unstarted root part s t old why only g = record {
 pub all_places : (root : StorageRoot) (os : List Opening) → places (items_in root os whole) ≡ item_places root
 all_places root os = ap places (after_is_due root os None) ∙ places_of_items root os (due root None) ∙ due_all root
 
--- ---- where no failure was counted
+-- ---- if no failure was counted
 
 pub none_left : {A : Type 0} (xs : List A) (n : ℕ) → n ≡ n + length xs → xs ≡ []
 none_left [] n e = refl

@@ -1,4 +1,4 @@
--- What lies between two places, cut in two at the last one taken.
+-- What is between two places, cut in two at the last one taken.
 use Rattle.std.proofs.Common.{◌≡◌, ◌⊎◌, inl, inr, List, [], ◌++◌, refl, sym, ◌∙◌, ap, subst, false, Option, Some, None, append_assoc}
 use Rattle.std.specs.Ordering.{is_lt}
 use Rattle.std.specs.declared.cmp.Ordering.{Ordering}
@@ -15,7 +15,7 @@ use Rattle.ocfl_walk.proofs.EndLaws.{looked_out, read_out}
 use Rattle.ocfl_scrub.proofs.Passing.{up_to_last}
 use Rattle.ocfl_scrub.proofs.Lists.{filter_none}
 
--- nothing was taken, or the last place taken lies above the first and before the end
+-- nothing was taken, or the last place taken is above the first and before the end
 abbrev pub HasGoneOn : End → Option Place → Option Place → Type 0
 HasGoneOn e from last = (last ≡ from) ⊎ ((m : Place) × ((last ≡ Some m) × (IsBeyond from m × (is_past e m ≡ false))))
 

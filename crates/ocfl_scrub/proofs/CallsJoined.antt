@@ -99,7 +99,7 @@ stored_says e whole c spent finding how status n (Some bytes) h says = record {
   ended = ran_says whole c spent finding how status n h.1 says;
 }
 
--- the same call, where what it was given and wrote has other names
+-- the same call, if what it was given and wrote has other names
 pub as_told : (root : StorageRoot) (s t : Store) (old old' new new' : Option (List ℕ)) (d d' : Deed) (w w' : Scope) (known known' : Option (Option Text)) (said : Performed)
     → old ≡ old' → new ≡ new' → d ≡ d' → w ≡ w' → known ≡ known'
     → PerformsIn (call_of root s t old new) d w known said.status said.note said.cursor → PerformsIn (call_of root s t old' new') d' w' known' said.status said.note said.cursor

@@ -1,4 +1,4 @@
--- The headline of a cycle by its runs: where no failure was counted, each starts a file only below
+-- The headline of a cycle by its runs: if no failure was counted, each starts a file only below
 -- its limits.
 use Rattle.std.proofs.Common.{◌≡◌, ◌⊎◌, inl, inr, ℕ, zero, suc, ◌+◌, ◌<◌, ◌≤◌, List, [], ◌∷◌, refl, sym, ◌∙◌, ap, subst, true, false, Bool, Some, None, Option, take, length, arith, eqb-true, ltb-true}
 use Rattle.std.specs.Prelude.{◌==◌, ◌||◌, ◌&&◌, nat_lt, slice_get}
@@ -137,13 +137,13 @@ module _ (root : StorageRoot) (part : Part) where
         → Step r.call from r.limits next k.last
     here next h = subst (λ x. Step x from r.limits next k.last) (sym is_call) (step s r.call.after old r.call.new from k.last r.limits r.ran.spent r.ran.files r.ran.found next h same)
 
-    -- the last, where it ended
+    -- the last, if it ended
     ended_below : (unused : List Limits) → r.ran.end ≡ run.Ended → EachStartsBelow (r.limits ∷ unused) (r.call ∷ []) (runs (above from) (r.limits ∷ unused))
     ended_below unused e =
         let x = here None (run_as run.Ended e) in
         (x.below, ap (runs_after unused) (no_first (left (above from) r.limits) x.next_is) ∙ runs_end unused)
 
-    -- the last, where its limits ended it, and there are no others
+    -- the last, if its limits ended it, and there are no others
     spent_below : (unused : List Limits) → r.ran.end ≡ run.Spent → unused ≡ [] → EachStartsBelow (r.limits ∷ unused) (r.call ∷ []) (runs (above from) (r.limits ∷ unused))
     spent_below unused e none =
         let h = run_as run.Spent e in

@@ -39,7 +39,7 @@ pub begun_there : (c : Cursor) (last : Option Place) → begun_in c (state_at la
 begun_there c None = refl
 begun_there c (Some p) = refl
 
--- so many runs later
+-- n runs later
 abbrev moved : Cursor → ℕ → ℕ → ℕ → State → Cursor
 moved c count spent files state = record { cycle = c.cycle; runs = c.runs + count; spent = c.spent + spent; files = c.files + files; state = state }
 
@@ -89,7 +89,7 @@ abbrev pub given : List MadeRun → List Limits → List Limits
 given runs unused = map (λ r. r.limits) runs ++ unused
 
 module _ (root : StorageRoot) (part : Part) where
-  -- where the runs of a chain come from a place
+  -- if the runs of a chain come from a place
   record Comes (s t : Store) (old new : Option (List ℕ)) (c : Cursor) (from : Option Place) (limits : List Limits) (runs : List MadeRun) (end : CycleStatus) : Type 0 where
     last : Option Place
     spent : ℕ

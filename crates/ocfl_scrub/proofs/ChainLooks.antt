@@ -74,7 +74,7 @@ module _ (root : StorageRoot) (part : Part) where
         ),
       )
 
-  -- ---- the last of them, where a call of the store failed
+  -- ---- the last of them, if a call of the store failed
 
   abbrev FailedIn : Store → Store → Place → Type 0
   FailedIn s t q = (listed : List Place) × ((trail : List Opening) × ((t.listings ≡ s.listings ++ listed) × ((t.openings ≡ s.openings ++ trail) × FailedAt root s t listed trail q)))

@@ -65,7 +65,7 @@ pub record Apart (call : Call) (part : Part) (limits : List Limits) (ran : Cycle
 
 -- ---- the runs
 
--- each began where the limits of the one before it had left something, and what is left at last
+-- each began if the limits of the one before it had left something, and what is left at last
 abbrev SpentFrom : RunStatus → List MadeRun → Type 0
 SpentFrom so [] = ⊤
 SpentFrom so (r ∷ runs) = (so ≡ run.Spent) × SpentFrom r.ran.end runs

@@ -50,7 +50,7 @@ one_item : (root : StorageRoot) (trail : List Opening) (p : Place) → items_at 
 unfolding items_at
 one_item root trail p = refl
 
--- where the place has lines, its item is the one
+-- if the place has lines, its item is the one
 some_item : (root : StorageRoot) (trail : List Opening) (p : Place) → notes root None p ≢ [] → checked_item root trail p ≡ items_at root trail (p ∷ [])
 some_item root trail p some = ap (λ b. on b (item_of root (unread_of root trail) p)) (has_item root (unread_of root trail) p some) ∙ sym (one_item root trail p)
 
@@ -66,7 +66,7 @@ joined_item : (root : StorageRoot) (front trail : List Opening) (p : Place) → 
     → checked_item root (front ++ trail) p ≡ items_at root trail (p ∷ [])
 joined_item root front trail p meta some = some_item root (front ++ trail) p some ∙ items_alike root p (front ++ trail) trail (unread_behind root front trail meta)
 
--- nothing is hashed where there are no lines
+-- nothing is hashed if there are no lines
 lines_free : (root : StorageRoot) (p : Place) → notes root None p ≡ [] → hashed_among root (p ∷ []) ≡ []
 unfolding hashed_among
 lines_free root p none = by (is_hashed root p) refl

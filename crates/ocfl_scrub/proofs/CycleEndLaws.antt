@@ -133,7 +133,7 @@ module _ (root : StorageRoot) (part : Part) (s t : Store) (old new : Option (Lis
         inventories_read = h.read.some some;
       }
 
-  -- ---- where no failure was counted
+  -- ---- if no failure was counted
 
   pub part_headline : (ends : Bool) → CyclesWithin (call_of root s t old new) part last limits spent files finding count ends
       → (calls : List Call) → IsMadeOf (call_of root s t old new) calls → EachStartsBelow limits calls (runs (within part (audit root [])) limits)

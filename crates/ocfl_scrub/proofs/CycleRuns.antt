@@ -223,7 +223,7 @@ last_there : (x : Place) (xs : List Place) → (q : Place) × ((last_of (Some x)
 last_there x [] = (x, (refl, inl refl))
 last_there x (y ∷ ys) = let h = last_there y ys in (h.0, (h.1.0, inr h.1.1))
 
--- each of some places in order is taken where the cursor is after the last
+-- each of some places in order is taken if the cursor is after the last
 taken_to_last : (from : Option Place) (ps : List Place) (p : Place) → IsAscending place_cmp ps → IsAmong ps p → is_taken (state_at (last_of from ps)) p ≡ true
 taken_to_last from [] p up i = absurd i
 taken_to_last from (x ∷ xs) p up (inr i) = taken_to_last (Some x) xs p up.1 i
@@ -615,7 +615,7 @@ module _ (root : StorageRoot) (part : Part) where
     pub reports_whole : (cursor_after c runs).state ≡ ended → reports_of runs ≡ text (within part (audit root (unread_together root runs)))
     reports_whole e = sym (append-nil (reports_of runs)) ∙ ap (λ s. reports_of runs ++ text (left_by s items_all)) (sym e) ∙ reports_and_rest
 
-    -- what could not be read lies in the part
+    -- what could not be read is in the part
     pub unread_inside : unread_in part (unread_together root runs) ≡ unread_together root runs
     unread_inside = unread_is part unread_all ∙ kept_all (lies_in part) unread_all (λ p i. inside p (all.among p i))
       where

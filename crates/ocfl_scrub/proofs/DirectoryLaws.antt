@@ -18,7 +18,7 @@ use Rattle.ocfl_audit.proofs.StepLaws.{all_beginnings_step}
 use Rattle.ocfl_item.specs.Auditing.{LiesIn}
 use Rattle.ocfl_walk.proofs.ReachLaws.{reached_looked}
 
--- ---- what is hashed lies in such a directory
+-- ---- what is hashed is in such a directory
 
 in_sight : (ns : List Named) (leaf : Option Leaf) → nat_lt 0 (cost_of ns None leaf) ≡ true → leaf ≢ None
 in_sight [] None h e = true_not_false (sym h)

@@ -1,4 +1,4 @@
--- What the headline of a cycle says where it has ended, and where it has not.
+-- What the headline of a cycle says if it has ended, and if it has not.
 use Rattle.std.proofs.Common.{◌≡◌, refl, ◌∙◌, ap, ℕ, ◌+◌, ◌/◌, ◌≤◌, List, [], ◌++◌, length, All}
 use Rattle.std.proofs.lemmas.Bool.{false≢true}
 use Rattle.ocfl_tree.specs.Place.{Text}

@@ -41,7 +41,7 @@ module _ (root : StorageRoot) (part : Part) where
   abbrev pub above : Option Place → List Item
   above from = after (within part (audit root [])) from
 
-  -- what a run took and left, where no failure was counted
+  -- what a run took and left, if no failure was counted
   record Step (c : Cursor) (r : PartRun) (next last : Option Place) : Type 0 where
     wrote : r.report ≡ text (cut (above (place_in c.state)) r.limits)
     opened : content_trail root r.opened ≡ hashed_among root (places (cut (above (place_in c.state)) r.limits))

@@ -39,7 +39,7 @@ module _ {A : Type 0} where
 -- ---- one list cut in two by a test that holds from some element on
 
 module _ {A : Type 0} where
-  -- where it holds of an element it holds of all later ones
+  -- if it holds of an element it holds of all later ones
   abbrev pub HoldsOn : (A → Bool) → List A → Type 0
   HoldsOn test [] = Unit {0}
   HoldsOn test (x ∷ xs) = (test x ≡ true → AllByRecursion (λ y. test y ≡ true) xs) × HoldsOn test xs

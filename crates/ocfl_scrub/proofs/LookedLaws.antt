@@ -41,7 +41,7 @@ stand_there root part q lies = by (first_place part) refl
     by None e = ap (λ o. stand_by root o (Some q)) e
     by (Some b) e = ap (λ o. stand_by root o (Some q)) e ∙ ap (λ v. cond v (place_before root b) (Some q)) (not_less_first part b q e lies)
 
--- what is due there before the end lies in the part
+-- what is due there before the end is in the part
 pub due_lies : (root : StorageRoot) (part : Part) (from : Option Place) (q : Place) → IsAmong (due root (stand root part from)) q → is_past (end_of part) q ≡ false → lies_in part q ≡ true
 due_lies root part from q i before =
     let there : IsAmong (due_in root (end_of part) (stand root part from)) q = among_filter (λ z. not (is_past (end_of part) z)) (due root (stand root part from)) q i (ap not before) in
@@ -53,7 +53,7 @@ met_lies root part from m h = due_lies root part from m.item.place (subst (λ ps
 
 -- ---- from one item to another
 
--- from s to t items were taken from one on up to another, and what lies between was listed and read
+-- from s to t items were taken from one on up to another, and what is between was listed and read
 pub record Looked (root : StorageRoot) (part : Part) (s t : Store) (p q : Place) : Type 0 where
   pub gone : HasGoneOn (end_of part) (Some p) (Some q)
   pub done : List Place

@@ -45,7 +45,7 @@ module _ {walk : Walk} {old mid : Option (List ℕ)} {finding : Bool} {o : Optio
 abbrev pub GivesNext : StorageRoot → End → Store → Store → Walk → Walk → Option Pending → Type 0
 GivesNext root e t u walk next o = t.tree ≡ root → IsLive walk → (last : Option Place) → Stands root walk last → GivesOut root t u last e next o
 
--- an item that a walk gives: it lies after where the walk stood, and before the end
+-- an item that a walk gives: it is after where the walk stood, and before the end
 pub record GivesItem (root : StorageRoot) (e : End) (t u : Store) (stood : Option Place) (next : Walk) (q : Pending) : Type 0 where
   pub gives : Gives root t u stood next (Some q)
   pub above : IsBeyond stood q.place

@@ -157,7 +157,7 @@ no_other_status status note.CursorFileFailed h = omega (arith, h)
 no_other_status status (note.CursorRefused why) h = let e = h.0 in omega (arith, e)
 no_other_status status (note.PartCursorRefused why) h = let e = h.0 in omega (arith, e)
 
--- ---- where nothing was done
+-- ---- if nothing was done
 
 -- a text that says something else, with another status
 otherwise : (status : ℕ) (n : Note) {A : Type 0} → (A → ⊥) → (n ≡ note.BadPath → ⊥) → (status ≡ 4 → ⊥) → (n ≡ note.CursorWorn → ⊥) → (n ≡ note.CursorFileFailed → ⊥)
@@ -317,7 +317,7 @@ unread_said status refused.Damaged e = (stop.Refused refused.Damaged, (e.0, refl
 unread_said status refused.Malformed e = (stop.Refused refused.Malformed, (e.0, refl))
 unread_said status refused.Memory e = absurd (e.1 refl)
 
--- a cursor of this cycle and of so many runs
+-- a cursor of this cycle and this number of runs
 abbrev counted : ℕ → ℕ → Cursor
 counted cycle runs = record { cycle = cycle; runs = runs; spent = 0; files = 0; state = start }
 

@@ -33,7 +33,7 @@ from_hashed : (root : StorageRoot) (ps : List Place) (p : Place) → IsAmong (ha
 unfolding hashed_among
 from_hashed root ps p i = among_from_filter (is_hashed root) ps p i
 
--- content is hashed, and metadata lies near
+-- content is hashed, and metadata is near
 near_or_among : (root : StorageRoot) (ps listed : List Place) (trail : List Opening) → content_trail root trail ≡ hashed_among root ps → LieIn root listed trail → (o : Opening)
     → IsAmong trail o → IsAmong (hashed_among root ps) o.place ⊎ LiesIn listed o.place
 near_or_among root ps listed trail opened near o i = by (is_meta root o.place) refl

@@ -32,7 +32,7 @@ use Rattle.ocfl_scrub.specs.Running.{items_above_in}
 use Rattle.ocfl_scrub.proofs.OrderLaws.{looked_ascend, read_ascend}
 use Rattle.ocfl_scrub.proofs.PassLaws.{due_ascends, not_less_or}
 
--- ---- what lies in a part: what is not less than its first place, and not past its end
+-- ---- what is in a part: what is not less than its first place, and not past its end
 
 pub unless_root_is : (g b : Place) → unless_root g ≡ Some b → g ≡ b
 unless_root_is [] b e = absurd (let two : None ≡ Some b = e in cc)
@@ -84,7 +84,7 @@ module _ (part : Part) (x : Place) where
       by None = refl
       by (Some b) = twice (is_lt (place_cmp x b))
 
-  -- apart from the branch nothing lies between its place and what is above it
+  -- apart from the branch nothing is between its place and what is above it
   apart : begins part.under x ≡ false → is_lt (place_cmp x part.under) ≡ false → is_above_branch part.under x ≡ true
   apart out low = ap (λ b. is_lt (place_cmp part.under x) && not b) out ∙ and_true (is_lt (place_cmp part.under x)) ∙ by (place_cmp x part.under) refl
     where
@@ -121,7 +121,7 @@ module _ (part : Part) (x : Place) where
 
 -- ---- places of a part, by the walk's beginning and its end
 
--- those not less than the first place, all where that is the storage root's
+-- those not less than the first place, all if that is the storage root's
 abbrev from_first : Option Place → List Place → List Place
 from_first None xs = xs
 from_first (Some b) xs = places_from b xs
@@ -140,7 +140,7 @@ module _ (part : Part) where
           ∙ filter_twice (λ z. not (is_past (end_of part) z)) (λ q. not (is_lt (place_cmp q (n ∷ g)))) xs
           ∙ filter_same _ _ (λ x. sym (lies_exact part x ∙ ap (λ h. not (is_lt (place_cmp x h)) && not (is_past (end_of part) x)) e)) xs
 
-  -- what lies in a part is not less than its first place
+  -- what is in a part is not less than its first place
   pub not_less_first : (b x : Place) → first_place part ≡ Some b → lies_in part x ≡ true → is_lt (place_cmp x b) ≡ false
   not_less_first b x e h = by (is_lt (place_cmp x b)) refl
     where
@@ -248,7 +248,7 @@ module _ (root : StorageRoot) (part : Part) (above : Option Place) where
       ∙ map_filter (λ i. lies_in part i.place) (item_of root (unread_of root os)) (due root above)
       ∙ ap (map (item_of root (unread_of root os))) (sym (places_within_is part (due root above)))
 
--- ---- what lies in the part there lies above the place that is gone down to
+-- ---- what is in the part there is above the place that is gone down to
 
 below_directory : (n : Text) (p : Place) → (d : Place) × ((directory_of (n ∷ p) ≡ Some d) × (place_cmp d (n ∷ p) ≡ Less))
 below_directory n [] = ([], (refl, refl))

@@ -182,7 +182,7 @@ passes_over h = h.audits.did.tree ∙ h.audits.over
 
 -- ---- a pass goes on
 
--- what is due lies above the last place
+-- what is due is above the last place
 pub among_beyond : (root : StorageRoot) (last : Option Place) (p : Place) → IsAmong (due root last) p → IsBeyond last p
 unfolding due
 among_beyond root None p i = tt

@@ -18,7 +18,7 @@ use Rattle.ocfl_walk.specs.declared.end.End.{End}
 use Rattle.ocfl_scrub.specs.Taking.{PartOf}
 use Rattle.ocfl_scrub.specs.Written.{last_of}
 
--- what lies between a place and the last one taken: nothing where there is none
+-- what is between a place and the last one taken: nothing if there is none
 abbrev pub up_to_last : (Option Place → Option Place → List Place) → Option Place → Option Place → List Place
 up_to_last between from None = []
 up_to_last between from (Some p) = between from (Some p)

@@ -20,7 +20,7 @@ use Rattle.ocfl_walk.specs.declared.end.End.{End}
 use Rattle.ocfl_scrub.specs.Written.{last_of}
 use Rattle.ocfl_scrub.proofs.Passing.{due_in, Passes, Finishes, Halts}
 
--- each of the items may be taken, where so much was spent before and so many files were started
+-- each of the items may be taken after this was spent and these files were started
 abbrev pub Paid : Limits → ℕ → ℕ → List Item → Type 0
 Paid limits spent files [] = ⊤
 Paid limits spent files (i ∷ items) = (may_take limits spent files i.cost ≡ true) × Paid limits (spent + i.cost) (files + files_of i.cost) items

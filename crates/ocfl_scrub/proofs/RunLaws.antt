@@ -66,7 +66,7 @@ some_first : (root : StorageRoot) (os : List Opening) (p : Place) (ps : List Pla
 unfolding items_at
 some_first root os p ps = refl
 
--- the next item is in the cut where it is paid for
+-- the next item is in the cut if it is paid for
 first_taken : (l : Limits) (s f : ℕ) (ys : List Item) → Paid l s f (take 1 ys) → take 1 (take (cut_len l s f ys) ys) ≡ take 1 ys
 first_taken l s f [] h = refl
 first_taken l s f (y ∷ ys) h =
@@ -200,7 +200,7 @@ not_run root part s t old from l why only g = record {
   looks = stops_above root part s t old old from why g;
 }
 
--- ---- where no failure was counted
+-- ---- if no failure was counted
 
 pub no_first : (items : List Item) → None ≡ first_of items → items ≡ []
 no_first [] e = refl

@@ -47,7 +47,7 @@ module _ (root : StorageRoot) (unread : Unread) (part : Part) where
       let w = after_is_end (within part (audit root unread)) p (items_ascend root unread part) in
       after_next w.0 x rest (w.1 ∙ ap (λ is. w.0 ++ is) e)
 
-  -- after the last of a front lies what follows it
+  -- after the last of a front comes what follows it
   pub after_front : (from : Option Place) (xs ys : List Item) → after (within part (audit root unread)) from ≡ xs ++ ys → after (within part (audit root unread)) (last_of from (places xs)) ≡ ys
   after_front from [] ys e = e
   after_front from (x ∷ xs) ys e = after_front (Some x.place) xs ys (after_one from x (xs ++ ys) e)

@@ -45,8 +45,8 @@ use Rattle.ocfl_scrub.proofs.RunPlaces.{Took, Turn, first_place, front_is, rest_
 
 -- ---- some runs
 
--- how many inventories runs read that begin above a place: none where there is no run, and else
--- those from there on and one more for each run, but for the first where nothing holds that place
+-- how many inventories runs read that begin above a place: none if there is no run, and else
+-- those from there on and one more for each run, but for the first if nothing holds that place
 pub record ReadFew (root : StorageRoot) (part : Part) (from : Option Place) (heads : List Place) (count : ℕ) : Type 0 where
   pub none : count ≡ 0 → length heads ≡ 0
   pub some : 1 ≤ count → length heads < length (holder root (entry part from)) + length (read_in root part from None) + count
@@ -110,7 +110,7 @@ joined_none xs = ap joined (take_nothing xs)
 front_none : (xs : List (List Item)) (whole : List Item) → IsFront (joined (take 0 xs)) whole
 front_none xs whole = (whole, sym (ap (λ is. is ++ whole) (joined_none xs)))
 
--- the first of them, and so many more
+-- the first of them, and n more
 joined_one : (x : List Item) (xs : List (List Item)) → joined (take 1 (x ∷ xs)) ≡ x
 joined_one x xs = ap (λ is. x ++ is) (joined_none xs) ∙ append-nil x
 

@@ -36,9 +36,9 @@ use Rattle.ocfl_scrub.proofs.PartStarts.{due_starts, due_within_ascends, lies_ex
 use Rattle.ocfl_scrub.proofs.PassLaws.{among_beyond, looked_further, not_less_or, take_nothing}
 use Rattle.ocfl_scrub.proofs.WayOrder.{way_parts}
 
--- ---- places from a directory on, and before what lies right in it, lie in it
+-- ---- places from a directory on, and before what is right in it, are in it
 
--- where the first names agree
+-- if the first names agree
 name_behind : (m x : Text) (d a : Place) (n : Text) → (is_lt (place_cmp a d) ≡ false → place_cmp a (d ++ n ∷ []) ≡ Less → (q : Place) × (a ≡ d ++ q)) → (c : Ordering) → text_cmp x m ≡ c
     → is_lt (ordering_then c (place_cmp a d)) ≡ false → ordering_then c (place_cmp a (d ++ n ∷ [])) ≡ Less → (q : Place) × (x ∷ a ≡ (m ∷ d) ++ q)
 name_behind m x d a n r Less e f g = absurd (true_not_false f)
@@ -97,7 +97,7 @@ module _ (d p : Place) (n : Text) (is : p ≡ d ++ n ∷ []) where
       by true e = inr (less_from (place_cmp a d) e)
       by false e = let w = within_it d a n e (subst (λ x. place_cmp a x ≡ Less) is l) in inl (subst (λ x. IsAmong (way_to x) d) (sym w.1) (among_way d w.0))
 
-  -- of a place that is not above it, and lies above its directory, that is one
+  -- of a place that is not above it, and is above its directory, that is one
   holds_it : (b : Place) → is_lt (place_cmp p b) ≡ false → place_cmp d b ≡ Less → (q : Place) × (b ≡ d ++ q)
   holds_it b low up = by (place_cmp b p) refl
     where
@@ -152,7 +152,7 @@ module _ (d p : Place) (n : Text) (is : p ≡ d ++ n ∷ []) where
         by true f = inl (on_way_there b (not_less_first part b p e lies) (less_from (place_cmp d b) f))
         by false f = inr (in_part (subst (λ g. is_lt (place_cmp d g) ≡ false) (sym (unless_root_is (greater_of part.under part.from) b e)) f), far from t f)
 
-    -- it is on the way down, or lies in the part beyond where the call begins
+    -- it is on the way down, or is in the part beyond where the call begins
     placed : (from : Option Place) → IsBeyond from p → IsPlaced from (entry part from)
     placed from l = by (first_place part) refl
       where

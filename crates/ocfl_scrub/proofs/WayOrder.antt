@@ -1,4 +1,4 @@
--- What lies on the way to a place comes before all that lies above it.
+-- What is on the way to a place comes before all that is above it.
 use Rattle.std.proofs.Common.{◌≡◌, ◌⊎◌, inl, inr, List, [], ◌∷◌, ◌++◌, refl, sym, ◌∙◌, ap, subst, Bool, true, false, cond, Option, Some, None, map, filter}
 use Rattle.ocfl_tree.specs.Place.{Text, Place, place_cmp}
 use Rattle.ocfl_tree.specs.Ascending.{IsAscending, IsAmong, IsBeforeAll}
@@ -90,7 +90,7 @@ holder_up_to root p x i = by (zone root p) refl i
     by hierarchy e j = absurd j
     by (inside o q) e j = at_object o q e (reads_inventory root o) j
 
--- ---- and what lies above it
+-- ---- and what is above it
 
 front_of_none : (xs : List Place) → IsFront xs [] → xs ≡ []
 front_of_none [] f = refl

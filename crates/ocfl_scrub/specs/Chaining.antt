@@ -29,7 +29,7 @@ IsMadeOf call [] = (call.after ≡ call.before) × (call.new ≡ call.old)
 IsMadeOf call (k ∷ calls) = (k ≡ call_of call.root call.before k.after call.old k.new) × IsMadeOf (call_of call.root k.after call.after k.new call.new) calls
 
 -- a call was these runs and nothing besides, from a cursor to one: each began with the cursor, the
--- store and the output that the one before it left, and only where its limits had left something.
+-- store and the output that the one before it left, and only if its limits had left something.
 -- Without a run all is left
 abbrev pub AreChained : Part → Call → Cursor → RunStatus → List MadeRun → Cursor → RunStatus → Type 0
 AreChained part call c so [] to end = (call.after ≡ call.before) × ((call.new ≡ call.old) × ((to ≡ c) × (so ≡ end)))

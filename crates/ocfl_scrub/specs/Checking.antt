@@ -18,7 +18,7 @@ use Rattle.ocfl_scrub.specs.Taking.{PartOf}
 use Rattle.ocfl_scrub.specs.declared.checking.End.{End}
 use Rattle.ocfl_scrub.specs.declared.checking.End.TheVariants as end
 
--- the item at a place, where a trail shows what could not be read
+-- the item at a place, if a trail shows what could not be read
 abbrev pub checked_item : StorageRoot → List Opening → Place → List Item
 checked_item root trail p = item_at root (unread_of root trail) p
 
@@ -27,7 +27,7 @@ abbrev pub AreOnce : List Opening → Type 0
 AreOnce trail = AllPairs (λ a b. a.place ≢ b.place) trail
 
 -- only directories on the way to a place were listed, at most the inventory of its object was read,
--- where its head reaches it, and no file was opened twice
+-- if its head reaches it, and no file was opened twice
 pub record IsJustFor (root : StorageRoot) (p : Place) (listed heads : List Place) (trail : List Opening) : Type 0 where
   pub listed_front : IsFront listed (way_to p)
   pub heads_front : IsFront heads (holder root (Some p))
@@ -47,7 +47,7 @@ pub record Checks (call : Call) (p : Place) (item finding : Bool) : Type 0 where
   pub item_is : item ≡ not (is_empty (checked_item call.root trail p))
   pub found_is : finding ≡ found (checked_item call.root trail p)
 
--- checking the place stopped: at most a proper beginning of its text went out, and nothing where it
+-- checking the place stopped: at most a proper beginning of its text went out, and nothing if it
 -- was not the output that failed
 pub record CheckStops (call : Call) (p : Place) (why : Fault) : Type 0 where
   pub trail : List Opening

@@ -38,7 +38,7 @@ pub record CyclesOnAnyStore {S O : Type 0} (contents : O → Option (List ℕ)) 
 abbrev pub enough : List Item → ℕ → ℕ → ℕ
 enough items b n = total_cost items / b + total_files items / n + 1
 
--- ---- the headline: where no failure was counted
+-- ---- the headline: if no failure was counted
 
 -- a run wrote the lines of these items, and opened the hashed files among them, in order, and no
 -- other content. It started each while what it had spent was below the budget, and the files that it

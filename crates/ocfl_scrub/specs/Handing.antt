@@ -1,5 +1,5 @@
 -- Calls of the program's function that run a part one after the other: each reads the bytes that
--- the one before handed back. And such calls on all parts of a storage root; also if calls stop,
+-- the one before handed back. And such calls on all parts of a storage root; even if calls stop,
 -- and meet files that they cannot read.
 use Rattle.std.specs.Prelude.{◌≡◌, ℕ, List, [], ◌∷◌, ◌++◌, Bool, true, false, Option, Some, None, Vec, IsSome, flat_map, map, option_map, ⊤}
 use mathlib.Core.Logic.{inl, inr}
@@ -101,7 +101,7 @@ pub record IsCalledCycle (root : StorageRoot) (d : CalledCycle) : Type 0 where
   pub begins : BeginsCycle d.ends d.stored
   pub are : AreCalls root d.ends d.stored d.calls
 
--- ---- the same where any call may stop, and may meet files that it cannot read
+-- ---- the same if any call may stop, and may meet files that it cannot read
 
 -- a call, and what its run answered
 pub record MadeCall : Type 0 where
@@ -122,7 +122,7 @@ HasRun call e known limits status n stored (inr unmade) ran report = ⊥
 
 -- it was asked for a run of the part with these ends, was given these bytes as the stored cursor and
 -- a store that tells this tree, and handed a cursor back, whatever failed in it. After its report
--- stands what went out of the next item's lines, where the output failed
+-- comes what went out of the next item's lines, if the output failed
 pub record MadeFrom (root : StorageRoot) (e : PartEnds) (stored : Option Text) (c : MadeCall) : Type 0 where
   pub before : Store
   pub behind : Store

@@ -1,5 +1,5 @@
 -- Runs of a part made one after the other, by whatever processes, and the parts of a storage root
--- together; also if runs stop, and meet files that they cannot read.
+-- together; even if runs stop, and meet files that they cannot read.
 use Rattle.std.specs.Prelude.{◌≡◌, ◌≢◌, ℕ, List, [], ◌∷◌, ◌++◌, Bool, true, false, not, Option, Some, None, filter, flat_map, length}
 use Rattle.std.specs.Ordering.{is_lt}
 use Rattle.ocfl_tree.specs.Place.{Text, Place, place_cmp}
@@ -59,7 +59,7 @@ pub record IsPartCycle (root : StorageRoot) (d : PartCycle) : Type 0 where
   pub begins : place_in d.first.state ≡ None
   pub are : AreRuns root d.part d.first d.runs
 
--- ---- the same where any run may stop, and may meet files that it cannot read
+-- ---- the same if any run may stop, and may meet files that it cannot read
 
 -- the items of a run whose lines went out whole
 abbrev pub items_out : (call : Call) (part : Part) (from last : Option Place) (limits : Limits) (spent files : ℕ) (finding : Bool) (end : RunStatus) → RunEndsWithin call part from last limits spent files finding end → List Item
@@ -69,7 +69,7 @@ items_out call part from last limits spent files finding (status.Stopped why) ru
 items_out call part from last limits spent files finding status.Worn run = []
 
 -- a run was made from a cursor, whatever failed in it. Its report is the lines of those items; after
--- it stands what went out of the next one's lines, where the output failed
+-- it comes what went out of the next one's lines, if the output failed
 pub record Ran (root : StorageRoot) (part : Part) (c : Cursor) (r : PartRun) : Type 0 where
   pub before : Store
   pub behind : Store

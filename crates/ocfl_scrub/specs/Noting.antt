@@ -71,7 +71,7 @@ IsFileSaid (note.CursorRefused why) = ⊤
 IsFileSaid (note.PartCursorRefused why) = ⊤
 IsFileSaid n = ⊥
 
--- what is said where no cursor was read
+-- what is said if no cursor was read
 abbrev pub IsUnreadSaid : Note → Type 0
 IsUnreadSaid note.OutOfMemory = ⊤
 IsUnreadSaid n = IsFileSaid n
@@ -125,7 +125,7 @@ pub record ReportsOnAnyStore {O : Type 0} (contents : O → Option (List ℕ)) (
   pub lines : n ≡ note.Nothing → WritesWithStatus (contents old) (contents new) status
   pub uncut : n ≢ note.OutputFailed → WritesWhole (contents old) (contents new)
 
--- what a command is ended with where no cursor was read
+-- what a command is ended with if no cursor was read
 pub record EndsUnread (status : ℕ) (n : Note) : Type 0 where
   pub status_is : IsStatus status n
   pub stops : 3 ≤ status
@@ -173,7 +173,7 @@ IsCycleNote runs spent finding cycle.Ended status n = (status ≡ status_of find
 IsCycleNote runs spent finding cycle.Spent status n = (status ≡ status_of finding) × (n ≡ note.CycleMade runs spent false)
 IsCycleNote runs spent finding (cycle.Stopped why) status n = (status ≡ 3) × IsStopNote why n
 
--- what it is ended with where no cursor was read
+-- what it is ended with if no cursor was read
 abbrev pub IsUnreadNote : CursorStop → ℕ → Note → Type 0
 IsUnreadNote stop.Read status n = (status ≡ 3) × (n ≡ note.CursorFileFailed)
 IsUnreadNote (stop.Refused refused.Memory) status n = (status ≡ 3) × (n ≡ note.OutOfMemory)
@@ -182,12 +182,12 @@ IsUnreadNote (stop.Refused refused.Version) status n = (status ≡ 4) × (n ≡ 
 IsUnreadNote (stop.Refused refused.Damaged) status n = (status ≡ 4) × (n ≡ note.CursorRefused refused.Damaged)
 IsUnreadNote (stop.Refused refused.Malformed) status n = (status ≡ 4) × (n ≡ note.CursorRefused refused.Malformed)
 
--- what it is ended with where the cursor of a part is refused
+-- what it is ended with if the cursor of a part is refused
 abbrev pub IsPartRefusedNote : PartRefused → ℕ → Note → Type 0
 IsPartRefusedNote part.Memory status n = (status ≡ 3) × (n ≡ note.OutOfMemory)
 IsPartRefusedNote why status n = (status ≡ 4) × (n ≡ note.PartCursorRefused why)
 
--- what it is ended with where nothing is shown
+-- what it is ended with if nothing is shown
 abbrev pub IsUnshownNote : ShowStop → ℕ → Note → Type 0
 IsUnshownNote (show.Whole why) status n = IsUnreadNote why status n
 IsUnshownNote (show.Part why) status n = IsPartRefusedNote why status n
@@ -204,7 +204,7 @@ pub record AuditsWithNote (call : Call) (status : ℕ) (n : Note) : Type 0 where
   pub audits : AuditEnds call ran.last ran.found ran.end
   pub says : IsAuditNote ran.found ran.end status n
 
--- the same where the text of the cursor is handed back, or where there was no memory for it
+-- the same if the text of the cursor is handed back, or if there was no memory for it
 abbrev pub IsStoredNote : (Cursor → Text) → Cursor → ℕ → Bool → RunStatus → ℕ → Note → Option (Vec ℕ Global) → Type 0
 IsStoredNote text_of c spent finding how status n None = (status ≡ 3) × (n ≡ note.OutOfMemory)
 IsStoredNote text_of c spent finding how status n (Some stored) = (stored.items ≡ text_of c) × IsRunNote c spent finding how status n

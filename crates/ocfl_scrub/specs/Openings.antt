@@ -8,7 +8,7 @@ use Rattle.ocfl_audit.specs.Parts.{Part, lies_in}
 use Rattle.ocfl_item.specs.Auditing.{LiesIn}
 use Rattle.ocfl_scrub.specs.Starting.{entry}
 
--- from s to t these directories were listed, and each file that was opened lies right in one of
+-- from s to t these directories were listed, and each file that was opened is right in one of
 -- them
 pub record OpensNear (s t : Store) (listed : List Place) : Type 0 where
   pub trail : List Opening
@@ -16,7 +16,7 @@ pub record OpensNear (s t : Store) (listed : List Place) : Type 0 where
   pub listings_are : t.listings ≡ s.listings ++ listed
   pub near : (o : Opening) → IsAmong trail o → LiesIn listed o.place
 
--- and each of these directories lies in the part, or is on the way down to where the call began
+-- and each of these directories is in the part, or is on the way down to where the call began
 pub record OpensWithin (part : Part) (from : Option Place) (s t : Store) : Type 0 where
   pub listed : List Place
   pub opens : OpensNear s t listed

@@ -33,12 +33,12 @@ use Rattle.ocfl_scrub.specs.declared.note.Note.TheVariants as note
 
 -- ---- the cursor that is read
 
--- the bytes of a reader, where there is one and they are known
+-- the bytes of a reader, if there is one and they are known
 abbrev pub bytes_of : {R : Type 0} → (R → Option (List ℕ)) → Option (MutBor R) → Option (Option Text)
 bytes_of remaining None = None
 bytes_of remaining (Some reader) = Some (remaining reader.now)
 
--- the lines are those that are shown of a text, which is the bytes, where they are known
+-- the lines are those that are shown of a text, which is the bytes, if they are known
 abbrev pub AreStored : Option (Option Text) → Text → Type 0
 AreStored None lines = ⊥
 AreStored (Some known) lines = IsShownFrom known lines
@@ -48,19 +48,19 @@ abbrev pub BeginsWith : Option (Option Text) → Cursor → Type 0
 BeginsWith None c = c ≡ new_cursor
 BeginsWith (Some known) c = IfSome known (λ bytes. IsTextOf bytes c)
 
--- no cursor was read, and where the bytes are known they are rightly refused; only a reader can be
+-- no cursor was read, and if the bytes are known they are rightly refused; only a reader can be
 -- refused
 abbrev pub StopsWith : Option (Option Text) → CursorStop → Type 0
 StopsWith None why = ⊥
 StopsWith (Some known) why = IfSome known (λ bytes. StopsRightly bytes why)
 
--- nothing is shown, and where the bytes are known they are rightly refused; only a reader can be
+-- nothing is shown, and if the bytes are known they are rightly refused; only a reader can be
 -- refused
 abbrev pub UnshownWith : Option (Option Text) → ShowStop → Type 0
 UnshownWith None why = ⊥
 UnshownWith (Some known) why = IfSome known (λ bytes. UnshownRightly bytes why)
 
--- what is said to be refused is rightly refused, as the cursor of a part where that is to be shown
+-- what is said to be refused is rightly refused, as the cursor of a part if that is to be shown
 abbrev pub RefusesRightly : Option (Option Text) → Note → Type 0
 RefusesRightly known (note.CursorRefused why) = StopsWith known (stop.Refused why)
 RefusesRightly known (note.PartCursorRefused why) = UnshownWith known (show.Part why)
@@ -134,7 +134,7 @@ abbrev pub HasBadPath : Deed → Type 0
 HasBadPath (deed.Check path) = IsNoPath (string_bytes path)
 HasBadPath d = ⊥
 
--- a path is refused exactly where it is that of no place, unless there was no memory to read it
+-- a path is refused exactly if it is that of no place, unless there was no memory to read it
 abbrev pub RefusesPath : Deed → ℕ → Note → Type 0
 RefusesPath (deed.Check path) status n = (IsNoPath (string_bytes path) → IsRefused status n) × (n ≡ note.BadPath → IsNoPath (string_bytes path))
 RefusesPath deed status n = ⊤
@@ -159,14 +159,14 @@ ShowsWith known note.Nothing old new = Shows known old new
 ShowsWith known note.OutputFailed old new = ShowsPart known old new
 ShowsWith known n old new = new ≡ old
 
--- what went out of a report: some lines, each whole unless the output failed. Where all went out,
+-- what went out of a report: some lines, each whole unless the output failed. If all went out,
 -- the status says whether one of them is a finding
 pub record WritesReport (status : ℕ) (n : Note) (old new : Option (List ℕ)) : Type 0 where
   pub uncut : n ≢ note.OutputFailed → WritesWhole old new
   pub whole : IsWhole n → WritesWithStatus old new status
 
 -- the same of a run. Without memory for its cursor's text it says that memory ran out and hands none
--- back, even where the output failed before
+-- back, even if the output failed before
 pub record WritesRun (status : ℕ) (n : Note) (stored : Option (Vec ℕ Global)) (old new : Option (List ℕ)) : Type 0 where
   pub uncut : n ≢ note.OutputFailed → (n ≢ note.OutOfMemory) ⊎ IsSome stored → WritesWhole old new
   pub whole : IsWhole n → WritesWithStatus old new status
@@ -199,7 +199,7 @@ pub record AnswersOnAnyStore {S O : Type 0} (contents : O → Option (List ℕ))
 
 -- ---- of a store that tells its tree
 
--- where no failure was counted, the whole audit went out
+-- if no failure was counted, the whole audit went out
 pub record AuditPerformed (call : Call) (status : ℕ) (n : Note) : Type 0 where
   pub audits : AuditsWithNote call status n
   pub clean : n ≡ note.Nothing → IsUnfailing call → Writes call (text (audit call.root [])) × (status ≡ status_of (found (audit call.root [])))
@@ -250,7 +250,7 @@ abbrev pub RunPerformed : Call → Option (Option Text) → Limits → ℕ → N
 RunPerformed call known limits status n stored =
     RunMade (BeginsWith known) cursor_text call whole limits status n stored ⊎ RunUnmade (WhyNoRun known status n) call stored
 
--- so many runs, each within the same limits
+-- n runs, each within the same limits
 abbrev pub equal_limits : MadeLimits → ℕ → List Limits
 equal_limits limits count = map limits_of (replicate count limits)
 

@@ -150,14 +150,14 @@ RunEnds call from last limits spent files finding end = RunEndsWithin call whole
 abbrev pub RunsFrom : Call → Cursor → Limits → RunEnd → Type 0
 RunsFrom call c limits ran = RunsFromWithin call whole c limits ran
 
--- ---- where no failure was counted
+-- ---- if no failure was counted
 
 -- the text and the figures of a run are those of the cut of the audit of files that can all be read
 pub record RunsCleanWithin (call : Call) (part : Part) (from : Option Place) (limits : Limits) (spent files : ℕ) (finding : Bool) : Type 0 where
   pub wrote : Writes call (text (cut (after (within part (audit call.root [])) from) limits))
   pub figures : Figures (cut (after (within part (audit call.root [])) from) limits) spent files finding
 
--- and it ended with the cycle exactly where it left nothing
+-- and it ended with the cycle exactly if it left nothing
 abbrev pub RunsCleanlyWithin : Call → Part → Cursor → Limits → ℕ → ℕ → Bool → RunStatus → Type 0
 RunsCleanlyWithin call part c limits spent files finding status.Ended = RunsCleanWithin call part (place_in c.state) limits spent files finding × (left (after (within part (audit call.root [])) (place_in c.state)) limits ≡ [])
 RunsCleanlyWithin call part c limits spent files finding status.Spent = RunsCleanWithin call part (place_in c.state) limits spent files finding × (left (after (within part (audit call.root [])) (place_in c.state)) limits ≢ [])

@@ -54,7 +54,7 @@ abbrev pub IsBranchNote : Bool → End → Option Place → ℕ → Note → Typ
 IsBranchNote finding end.Ended None status n = (status ≡ 2) × (n ≡ note.EmptyBranch)
 IsBranchNote finding how last status n = IsAuditNote finding how status n
 
--- what it is ended with where no cursor of a part was read
+-- what it is ended with if no cursor of a part was read
 abbrev pub IsPartUnreadNote : PartCursorStop → ℕ → Note → Type 0
 IsPartUnreadNote stop.Read status n = (status ≡ 3) × (n ≡ note.CursorFileFailed)
 IsPartUnreadNote (stop.Refused why) status n = IsPartRefusedNote why status n
@@ -66,7 +66,7 @@ abbrev pub BeginsPartWith : PartEnds → Option (Option Text) → Cursor → Typ
 BeginsPartWith e None c = c ≡ new_cursor
 BeginsPartWith e (Some known) c = IfSome known (λ bytes. IsPartText e bytes c)
 
--- no cursor was read, and where the bytes are known they are rightly refused to this part; only a
+-- no cursor was read, and if the bytes are known they are rightly refused to this part; only a
 -- reader can be refused
 abbrev pub PartStopsWith : PartEnds → Option (Option Text) → PartCursorStop → Type 0
 PartStopsWith e None why = ⊥
@@ -89,7 +89,7 @@ HandsBackIn d w known status n stored = HandsBack known d status n stored
 
 -- ---- of a store that tells its tree
 
--- a part was audited, and the status and the text are those of the audit; where no failure was
+-- a part was audited, and the status and the text are those of the audit; if no failure was
 -- counted and nothing is said, its items went out
 pub record PartAudited (Says : AuditEnd → Type 0) (call : Call) (part : Part) (status : ℕ) (n : Note) : Type 0 where
   pub ran : AuditEnd
@@ -98,7 +98,7 @@ pub record PartAudited (Says : AuditEnd → Type 0) (call : Call) (part : Part) 
   pub clean : n ≡ note.Nothing → IsUnfailing call →
       Writes call (text (within part (audit call.root []))) × (status ≡ status_of (found (within part (audit call.root []))))
 
--- a branch, which is said to be empty where it has no item
+-- a branch, which is said to be empty if it has no item
 abbrev pub BranchAudited : Call → Place → ℕ → Note → Type 0
 BranchAudited call p status n = PartAudited (λ ran. IsBranchNote ran.found ran.end ran.last status n) call (branch p) status n
 

@@ -1,4 +1,4 @@
--- Where a walk over a part of a storage root begins, and what of the root is looked at from there
+-- If a walk over a part of a storage root begins, and what of the root is looked at from there
 -- on.
 use Rattle.std.specs.Prelude.{◌≡◌, List, [], ◌∷◌, ◌++◌, Bool, true, Option, Some, None, if◌then◌else◌}
 use Rattle.std.specs.Ordering.{is_lt}
@@ -30,7 +30,7 @@ part_of p = record { under = p.end.under; from = p.from; below = p.end.below }
 abbrev pub end_of : Part → End
 end_of part = record { under = part.under; below = part.below }
 
--- the greater of two places, where there are two
+-- the greater of two places, if there are two
 abbrev pub greater_of : Place → Option Place → Place
 greater_of p None = p
 greater_of p (Some q) = if is_lt (place_cmp p q) then q else p
@@ -40,7 +40,7 @@ abbrev pub unless_root : Place → Option Place
 unless_root [] = None
 unless_root (n ∷ p) = Some (n ∷ p)
 
--- the place that a part begins with, where it does not begin with the storage root
+-- the place that a part begins with, if it does not begin with the storage root
 abbrev pub first_place : Part → Option Place
 first_place part = unless_root (greater_of part.under part.from)
 
@@ -50,7 +50,7 @@ is_before None first = true
 is_before (Some p) first = is_lt (place_cmp p first)
 
 -- where the walk goes down to: the place above which items are taken, and the directory of the
--- part's first place where that is greater, since what lies at that place is met
+-- part's first place if that is greater, since what is at that place is met
 abbrev pub entry_by : Option Place → Option Place → Option Place
 entry_by None above = above
 entry_by (Some first) above = if is_before above first then directory_of first else above
@@ -84,7 +84,7 @@ read_in root part from to = places_within part (read_between root from to)
 
 -- ---- what a call over a part looks at
 
--- of these places each hashed file lies right in one of these directories
+-- of these places each hashed file is right in one of these directories
 abbrev pub FilesLieIn : StorageRoot → List Place → List Place → Type 0
 FilesLieIn root places dirs = (p : Place) → IsAmong places p → is_hashed root p ≡ true → LiesIn dirs p
 

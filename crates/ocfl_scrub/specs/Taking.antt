@@ -28,7 +28,7 @@ piece_of lines = lines_text (map line_of lines)
 abbrev pub WritesLines : Option (List ℕ) → Option (List ℕ) → Bool → Type 0
 WritesLines old new finding = (lines : List Line) × Appends old new (lines_text lines) × (finding ≡ finds lines)
 
--- a proper beginning of what was to go out, and nothing where it was not the output that failed
+-- a proper beginning of what was to go out, and nothing if it was not the output that failed
 pub record PartOf (why : Fault) (whole part : Text) : Type 0 where
   pub gone : ℕ
   pub is : part ≡ take gone whole

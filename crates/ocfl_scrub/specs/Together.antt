@@ -30,7 +30,7 @@ cycle_state (status.Stopped why) last = state_at last
 abbrev pub cycle_cursor : ℕ → ℕ → ℕ → State → Cursor
 cycle_cursor count spent files state = record { cycle = 1; runs = count; spent = spent; files = files; state = state }
 
--- the runs of the audit of a part, where a trail shows what could not be read
+-- the runs of the audit of a part, if a trail shows what could not be read
 abbrev pub runs_in : StorageRoot → List Opening → Part → List Limits → List (List Item)
 runs_in root trail part limits = runs (items_in root trail part) limits
 
@@ -45,7 +45,7 @@ inventories_in root part = length (holder root (entry part None)) + length (read
 
 -- a cycle made the runs of the limits over a part: what they take together was written. Each hashed
 -- file of it was opened once, in order. Inventories were read at most as often as one run may read
--- any, and once more for each run after the first. The part has ended where a run was made and
+-- any, and once more for each run after the first. The part has ended if a run was made and
 -- nothing of it is left
 pub record CyclesWithin (call : Call) (part : Part) (last : Option Place) (limits : List Limits) (spent files : ℕ) (finding : Bool) (count : ℕ) (ends : Bool) : Type 0 where
   pub trail : List Opening
@@ -62,13 +62,13 @@ pub record CyclesWithin (call : Call) (part : Part) (last : Option Place) (limit
   pub suffice : (b n : ℕ) → 1 ≤ b → 1 ≤ n → All (IsAtLeast b n) limits → enough (items_in call.root trail part) b n ≤ length limits → ends ≡ true
   pub by_sum : (k : ℕ) → 1 ≤ k → k ≤ length limits → FilesFit (items_in call.root trail part) limits → total_cost (items_in call.root trail part) ≤ sum_of (take k (map (λ l. l.budget) limits)) → (ends ≡ true) × (count ≤ k)
 
--- what so many of the first runs take together
+-- what the first n runs take together
 abbrev pub first_in : StorageRoot → List Opening → Part → List Limits → ℕ → List Item
 first_in root trail part limits count = joined (take count (runs_in root trail part limits))
 
 -- a cycle over a part stopped, in its last run or before a further one began: the first items that
 -- its runs take went out whole, and of the next at most a proper beginning. Those of the runs
--- before the last are among them, also where the last took none
+-- before the last are among them, even if the last took none
 pub record CycleStopsWithin (call : Call) (part : Part) (last : Option Place) (limits : List Limits) (spent files : ℕ) (finding : Bool) (count : ℕ) (why : Fault) : Type 0 where
   pub trail : List Opening
   pub made : 1 ≤ count

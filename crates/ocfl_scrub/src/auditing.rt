@@ -32,7 +32,7 @@ pub struct AuditEnd {
 ///
 /// Each content file that some digest is named for is opened once, and no other content is. One
 /// that cannot be read is reported and stops nothing. After a stop the items before it have gone
-/// out whole, and of the next at most a beginning, and nothing where it was not the output that
+/// out whole, and of the next at most a beginning, and nothing if it was not the output that
 /// failed.
 pub fn audit<T: Tree, W: Write>(
     alloc: Global,

@@ -30,7 +30,7 @@ pub struct CheckEnd {
 
 /// Writes the report lines of one place.
 ///
-/// Where there are none, nothing is written. A content file is opened once, if some digest is named
+/// If there are none, nothing is written. A content file is opened once, if some digest is named
 /// for it, and no other content is; each declaration, inventory and sidecar that the lines need is
 /// opened once. After a stop, `found` and `item` are false.
 pub fn check<T: Tree, W: Write>(

@@ -22,7 +22,7 @@ use std::alloc::Global;
 use std::io::Write;
 
 /// Checks the place with this path, written as in report lines, and gives the exit status with what
-/// is to be said: 0 without a finding, 1 with one, 2 where the path is not that of a place, 3 after
+/// is to be said: 0 without a finding, 1 with one, 2 if the path is not that of a place, 3 after
 /// a stop.
 ///
 /// For a path that is not that of a place no call of the store is made, and nothing is written.

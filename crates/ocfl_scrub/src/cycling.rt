@@ -50,7 +50,7 @@ pub struct CycleEnd {
 ///
 /// Each run takes the items after those of the run before, and what they write, joined, begins the
 /// report of the whole audit; it is all of that where the cycle has ended. Without limits there is
-/// no run. A run that stopped is counted, also where it took nothing. Running out of memory for a
+/// no run. A run that stopped is counted, even if it took nothing. Running out of memory for a
 /// cursor's text is `Stopped(Fault::Memory)`, with the cursor of the last run.
 ///
 /// What it keeps while the root stays unchanged and every call succeeds is a law over `told`:

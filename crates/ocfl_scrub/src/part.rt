@@ -35,7 +35,7 @@ impl Part {
         }
     }
 
-    /// A place and all that lies in it.
+    /// A place and all that is in it.
     pub fn branch(place: Place) -> Part
         ensures { part_of result ≡ branch place }
     {
@@ -93,7 +93,7 @@ pub(crate) fn part_between(alloc: Global, ends: &PartEnds) -> Result<Part, Alloc
     Ok(Part::between(alloc, from, below))
 }
 
-/// The same end again.
+/// A copy of the end.
 fn end_again(end: &Option<Place>) -> Result<Option<Place>, AllocError>
     ensures { IfOk result (λ again. again ≡ end.now) }
 {

@@ -41,7 +41,7 @@ pub struct Performed {
     /// a branch has no item. 3 after a stop, for a worn cursor, or if no cursor could be read. 4 if
     /// the bytes are refused as a cursor.
     pub status: u8,
-    /// What is to be said.
+    /// The note to print, which may say nothing.
     pub note: Note,
     /// The text of the cursor that is to be stored.
     pub cursor: Option<Vec<u8>>,
@@ -53,11 +53,11 @@ pub struct Performed {
 /// The reader gives the bytes of the cursor that is stored, which a run goes on from, and which is
 /// shown. Without a reader a run begins with a new cursor, and nothing is shown. After a run
 /// the text of the cursor that it answered is handed back, to be stored, after a stop too: but not
-/// where the cursor was worn, or there was no memory for its text.
+/// if the cursor was worn, or there was no memory for its text.
 ///
-/// Where bytes are refused as a cursor, or could not be read, or a path is not that of a place, no
+/// If bytes are refused as a cursor, or could not be read, or a path is not that of a place, no
 /// call of the store is made, and nothing is written. A cursor that is shown ends with status 0
-/// exactly where nothing is said.
+/// exactly if nothing is said.
 pub fn perform<T: Tree, R: Read, W: Write>(
     alloc: Global,
     store: &mut T,
@@ -87,7 +87,7 @@ pub fn perform<T: Tree, R: Read, W: Write>(
     }
 }
 
-// What is said, where there is no cursor to store.
+// What is said, if there is no cursor to store.
 pub(crate) fn without_cursor(said: (u8, Note)) -> Performed
     ensures status { result.status ≡ said.0 }
     ensures note { result.note ≡ said.1 }
@@ -223,7 +223,7 @@ fn run_summary(cursor: &Cursor, spent: u64, ended: bool) -> Note
     }
 }
 
-// A cycle of so many runs, each within the same limits.
+// A cycle of `count` runs, each within the same limits.
 fn perform_cycle<T: Tree, W: Write>(
     alloc: Global,
     store: &mut T,

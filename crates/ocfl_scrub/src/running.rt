@@ -62,7 +62,7 @@ pub struct RunEnd {
 /// stop the cursor is after the last item whose lines went out whole, and without such an item
 /// where the run began; what was spent, started and found is that of those items alone.
 ///
-/// A cursor is worn where its runs, or after the end of a cycle its cycles, cannot be counted
+/// A cursor is worn if its runs, or after the end of a cycle its cycles, cannot be counted
 /// further: then no call of the store is made, nothing is written, and the cursor is handed back.
 pub fn run<T: Tree, W: Write>(
     alloc: Global,
@@ -89,7 +89,7 @@ pub fn run<T: Tree, W: Write>(
 /// part is left, so a cursor with a place after the part ends it at once. A run that takes no item
 /// and leaves some keeps the cursor's place.
 ///
-/// Outside the part it lists and reads only what lies on the way down to where it begins.
+/// Outside the part it lists and reads only what is on the way down to where it begins.
 pub fn run_part<T: Tree, W: Write>(
     alloc: Global,
     store: &mut T,
@@ -139,7 +139,7 @@ pub fn run_on<T: Tree, W: Write>(
         IsReady call.root (part_of part.now) (place_in cursor.state) kept.old
         → call.after.tree ≡ call.root) }
 
-    // The next run may go on with what is kept, and the walk is kept just where limits ended it.
+    // The next run may go on with what is kept, and the walk is kept exactly if limits ended it.
     ensures ready { WhereTold T.told T.state W.contents store.old store.new out.old out.new (λ call.
         IsReady call.root (part_of part.now) (place_in cursor.state) kept.old
         → IsReady call.root (part_of part.now) (place_in result.cursor.state) kept.new) }

@@ -32,7 +32,7 @@ three_by_more : (separators_of three 4 ≡ places ("o2" ∷ "o3" ∷ [])) × (se
 unfolding split_level level_from
 three_by_more = (refl, refl)
 
--- nothing is listed for one part; objects are listed where a deeper level is looked for
+-- nothing is listed for one part; objects are listed if a deeper level is looked for
 three_listed : (listed_for three 1 ≡ []) × (listed_for three 3 ≡ [] ∷ []) × (listed_for three 4 ≡ [] ∷ places ("o1" ∷ "o2" ∷ "o3" ∷ []))
 unfolding listed_for listed_from
 three_listed = (refl, refl, refl)

@@ -60,7 +60,7 @@ module _ (root : StorageRoot) where
     more : take (i + 1) ds ≡ take i ds ++ d ∷ []
     more = take_more ds i d l ∙ ap (λ x. take i ds ++ x ∷ []) (sym is)
 
-    -- one more, and there is room for what lies below it
+    -- one more, and there is room for what is below it
     pub one_more : (new : List Place) → ListsAll root t u (d ∷ []) → new ≡ next ++ directories_below root d → length new ≤ room → IsListedSo root s u room ds (i + 1) new
     one_more new h e few =
         let sum : length new ≡ length next + length (directories_below root d) = ap length e ∙ length-append next (directories_below root d) in
@@ -79,7 +79,7 @@ module _ (root : StorageRoot) where
               ∙ ap (λ xs. xs ++ listed_within root (room - length new) (drop (i + 1) ds)) (sym more);
         }
 
-    -- there is no room for what lies below it
+    -- there is no room for what is below it
     pub one_too_many : ListsAll root t u (d ∷ []) → length next ≤ room → room < length (next ++ directories_below root d) → (None ≡ next_level root room ds)
         × ListsAll root s u (listed_within root room ds)
     one_too_many h few many =

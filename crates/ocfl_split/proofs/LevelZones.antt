@@ -36,7 +36,7 @@ module _ (root : StorageRoot) where
 
   -- ---- down
 
-  -- where what lies in a directory belongs to the hierarchy, it does
+  -- if what is in a directory belongs to the hierarchy, it does
   led : (d : Place) → leads_on root d ≡ true → (d ≡ [] → ⊥) ⊎ (d ≡ []) → ((d ≡ [] → ⊥) → IsPart d) → zone root d ≡ hierarchy
   led [] h e k = root_hierarchy root h
   led (m ∷ d) h e k = by (k (λ f. cc))

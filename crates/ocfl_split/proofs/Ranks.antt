@@ -14,7 +14,7 @@ use Rattle.ocfl_split.specs.Splitting.{wider, kept}
 use Rattle.ocfl_split.specs.Internal.Directories.{IsBelow, IsLevel, AddsBelow}
 use Rattle.ocfl_split.proofs.Entries.{pick_among}
 
--- of places with equally many names, what lies below the lesser is less
+-- of places with equally many names, what is below the lesser is less
 pub before_longer : (d e x y : Place) → length d ≡ length e → place_cmp d e ≡ Less → place_cmp (d ++ x) (e ++ y) ≡ Less
 before_longer [] [] x y same l = absurd cc
 before_longer [] (m ∷ e) x y same l = absurd (omega (arith, same))
@@ -38,7 +38,7 @@ among_take (x ∷ xs) zero z h = absurd h
 among_take (x ∷ xs) (suc i) z (inl e) = inl e
 among_take (x ∷ xs) (suc i) z (inr j) = inr (among_take xs i z j)
 
--- the first places lie below those that follow
+-- the first places are below those that follow
 earlier_below : (xs : List Place) (i : ℕ) (x z : Place) → IsAscending place_cmp xs → i < length xs → IsAmong (take i xs) z → place_cmp z (get_or xs i x) ≡ Less
 earlier_below [] i x z h l j = absurd (omega (arith, l))
 earlier_below (y ∷ xs) zero x z h l j = absurd j

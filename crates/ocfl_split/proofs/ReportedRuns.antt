@@ -20,7 +20,7 @@ use Rattle.ocfl_split.proofs.ReportedParts.{places, AreSome, parts_are_cuts}
 false_not_true : false ≡ true → ⊥
 false_not_true e = cc
 
--- an item that is taken where so much has been spent
+-- an item that is taken after s has been spent
 abbrev affords : ℕ → ℕ → ℕ → Bool
 affords b s c = c == 0 || nat_lt s b
 
@@ -31,7 +31,7 @@ left_over b s c h = by (c == 0) refl h
     by true e g = absurd (false_not_true (sym g))
     by false e g = let z : c ≢ 0 = eqb-false c 0 e in (omega (arith, z), ltb-false s b g)
 
--- where nothing has been spent, any item is
+-- if nothing has been spent, any item is
 affords_first : (b c : ℕ) → 1 ≤ b → affords b 0 c ≡ true
 affords_first b c some = by (c == 0)
   where
@@ -39,7 +39,7 @@ affords_first b c some = by (c == 0)
     by true = refl
     by false = lt-ltb 0 b (omega (arith, some))
 
--- what a run takes that has spent so much before: a last file that passes the budget, and then what
+-- what a run takes that has spent s before: a last file that passes the budget, and then what
 -- is free
 record TakesJust (b s : ℕ) (items : List Item) : Type 0 where
   before : List Item

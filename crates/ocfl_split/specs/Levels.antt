@@ -6,8 +6,8 @@ use Rattle.ocfl_audit.specs.Zone.{hierarchy, zone, root_declared, object_declare
 use Rattle.ocfl_audit.specs.Objects.{IsObjectRoot}
 use Rattle.ocfl_item.specs.Ways.{is_extensions_name}
 
--- whether what lies in a directory of the hierarchy belongs to the hierarchy too: in the storage
--- root where its version is known, elsewhere where no object is declared (OCFL 1.1, 4.3 Storage
+-- whether what is in a directory of the hierarchy belongs to the hierarchy too: in the storage
+-- root if its version is known, elsewhere if no object is declared (OCFL 1.1, 4.3 Storage
 -- Hierarchies)
 abbrev pub leads_on : StorageRoot → Place → Bool
 leads_on root [] = is_known (root_declared root)

@@ -10,7 +10,7 @@ use Rattle.ocfl_item.specs.declared.fault.Fault.{Fault}
 use Rattle.ocfl_item.specs.declared.fault.Fault.TheVariants as fault
 use Rattle.ocfl_split.specs.Levels.{level, level_below, directories_below}
 
--- so many directories are held at most
+-- the most directories that are held
 abbrev pub max_held : ℕ
 max_held = 1000000
 
@@ -20,26 +20,26 @@ deepest_level = max_listed_depth + 1
 
 -- ---- the level that is split
 
--- room for so many directories of the next level is left by a level, and by what is kept of those
+-- how many directories of the next level a level leaves room for, and what is kept of those
 -- above it
 abbrev pub room_below : List Place → List Place → ℕ
 room_below above ds = max_held - (length above + length ds)
 
--- the next level down, where it has any directories, and where there is room for them
+-- the next level down, if it has any directories, and if there is room for them
 abbrev pub next_level : StorageRoot → ℕ → List Place → Option (List Place)
 next_level root room ds =
     let next = level_below root ds in
     if length next == 0 || nat_lt room (length next) then None else Some next
 
--- the level with more directories, or the lower where they have equally many
+-- the level with more directories, or the lower if they have equally many
 abbrev pub wider : List Place → List Place → List Place
 wider above ds = if nat_le (length above) (length ds) then ds else above
 
--- of the levels above one, the widest is kept where it is wider than that one
+-- of the levels above one, the widest is kept if it is wider than that one
 abbrev pub kept : List Place → List Place → List Place
 kept above ds = if nat_le (length above) (length ds) then [] else above
 
--- from a level on, at most k levels further down: the first that has at least so many directories,
+-- from a level on, at most k levels further down: the first that has at least `count` directories,
 -- or else the widest that is reached, or that is above
 unfoldable pub level_from : ℕ → StorageRoot → ℕ → List Place → List Place → List Place
 level_from zero root count above ds = wider above ds
@@ -51,7 +51,7 @@ level_from (suc k) root count above ds =
 unfoldable pub split_level : StorageRoot → ℕ → List Place
 split_level root count = level_from deepest_level root count [] ([] ∷ [])
 
--- so many directories are in level n and in the last one that is reached
+-- how many directories level n and the last one that is reached have together
 abbrev pub held : StorageRoot → ℕ → ℕ → ℕ
 held root n last = if n == last then length (level root n) else length (level root n) + length (level root last)
 
@@ -69,13 +69,13 @@ pub record IsSplitLevel (root : StorageRoot) (count n : ℕ) : Type 0 where
 
 -- ---- at equal distances
 
--- of m parts of about equally many directories, the first directory of the parts from 1 to k, where
+-- of m parts of about equally many directories, the first directory of the parts from 1 to k, if
 -- the very first part is 0
 abbrev pub firsts : List Place → ℕ → ℕ → List Place
 firsts ds m zero = []
 firsts ds m (suc k) = firsts ds m k ++ option_to_list (slice_get ds ((k + 1) * length ds / m))
 
--- so many parts, or one for each directory where these are fewer
+-- `count` parts, or one for each directory if these are fewer
 abbrev pub cut_evenly : ℕ → List Place → List Place
 cut_evenly count ds = let m = min count (length ds) in firsts ds m (m - 1)
 

@@ -53,18 +53,18 @@ fn cut(alloc: Global, level: &[Place], count: usize) -> Result<Separators, Alloc
 /// among them, and all have equally many names. No object is entered.
 ///
 /// Levels are listed from the storage root down, until one has at least `count` directories, or
-/// there is no deeper one. The first that has so many is split, or else the widest that was
+/// there is no deeper one. The first that has them is split, or else the widest that was
 /// reached, the lower of two that are equally wide. It is cut into `count` parts of about equally
-/// many directories, or into one part for each directory where there are fewer. The first directory
-/// of each part but the first is a separator. So there are at most `count - 1`, and none where
+/// many directories, or into one part for each directory if there are fewer. The first directory
+/// of each part but the first is a separator. So there are at most `count - 1`, and none if
 /// `count` is 0 or 1. Nothing is listed for one part, so a missing folder is not noticed.
 ///
-/// Not listed are the `extensions` of the storage root, what lies in a storage root that is not of
+/// Not listed are the `extensions` of the storage root, what is in a storage root that is not of
 /// one known version, and directories with more than 127 names. At most 1,000,000 directories are
-/// held: of a level, of the next, and of the widest above them where that is wider. Where there
+/// held: of a level, of the next, and of the widest above them if that is wider. If there
 /// would be more, no deeper level is reached.
 ///
-/// `Store` where a directory could not be listed, with its place. `Memory` if memory was
+/// `Store` if a directory could not be listed, with its place. `Memory` if memory was
 /// refused.
 pub fn split<T: Tree>(alloc: Global, store: &mut T, count: usize) -> Result<Separators, Fault>
     ensures only { IfErr result (λ why. IsWayFault why) }

@@ -22,7 +22,7 @@ const MAX_HELD: usize = 1_000_000;
 /// The deepest level. Its directories are not listed.
 const DEEPEST_LEVEL: usize = 128;
 
-/// The next level of the hierarchy, where it has directories, and where there is room for them.
+/// The next level of the hierarchy, if it has directories, and if there is room for them.
 fn next_level<T: Tree>(
     alloc: Global,
     store: &mut T,
@@ -61,7 +61,7 @@ fn first_level(alloc: Global) -> Result<Vec<Place>, AllocError>
     Ok(level)
 }
 
-/// The level with more directories, or the lower where they have equally many.
+/// The level with more directories, or the lower if they have equally many.
 fn wider(above: Vec<Place>, level: Vec<Place>) -> Vec<Place>
     ensures { result.items ≡ wider_level above.items level.items }
 {
@@ -71,7 +71,7 @@ fn wider(above: Vec<Place>, level: Vec<Place>) -> Vec<Place>
     level
 }
 
-/// What stays in memory of the levels above one: the widest, where it is wider.
+/// What stays in memory of the levels above one: the widest, if it is wider.
 fn keep(alloc: Global, above: Vec<Place>, level: &[Place]) -> Vec<Place>
     ensures { result.items ≡ kept above.items level.now }
 {
@@ -81,7 +81,7 @@ fn keep(alloc: Global, above: Vec<Place>, level: &[Place]) -> Vec<Place>
     above
 }
 
-/// The level that is split: the first with at least so many directories, or else the widest that
+/// The level that is split: the first with at least `count` directories, or else the widest that
 /// is reached, the lower of two that are equally wide.
 pub(crate) fn split_level<T: Tree>(
     alloc: Global,

@@ -20,7 +20,7 @@ abbrev pub AreBelow : List Place → Option Told → Type 0
 AreBelow ps None = ps ≡ []
 AreBelow ps (Some i) = AreSeparators (ps ++ i.place ∷ [])
 
--- after these lines there are these separators, the part has spent so much, and this item was
+-- after these lines there are these separators, the part has spent this much, and this item was
 -- begun. What further lines make of it is what they make of all
 pub record IsCutSoFar (budget : ℕ) (done : List Line) (ps : List Place) (spent : ℕ) (item : Option Told) : Type 0 where
   pub texts : All HasText done

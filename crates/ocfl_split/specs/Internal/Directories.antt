@@ -32,7 +32,7 @@ pub record AddsAll (root : StorageRoot) (d : Place) (room : ℕ) (old new : List
   pub added : fits ≡ true → new ≡ old ++ directories_below root d
   pub many : fits ≡ false → room < length (old ++ directories_below root d)
 
--- places with so many names, in order
+-- places with `depth` names, in order
 pub record IsLevel (depth : ℕ) (ps : List Place) : Type 0 where
   pub ascend : IsAscending place_cmp ps
   pub deep : All (λ p. length p ≡ depth) ps

@@ -209,7 +209,7 @@ long b left ps n m h e = by h.read
     by (inl k) = (last.0, (last.1.0, (list_lines left, (k ∙ ap (λ ls. ls ++ list_lines left) last.1.1.0 ∙ append_assoc last.0 (last.1.0 ∷ []) (list_lines left), (last.1.1.1, inr (split_some left))))))
     by (inr k) = (last.0, (last.1.0, ([], (k.1.0 ∙ last.1.1.0, (last.1.1.1, inl (λ z. k.1.1.1.1.1 (last_same k.1.1.0 last.0 k.1.1.1.0 last.1.0 (sym k.1.1.1.1.0 ∙ last.1.1.0) ∙ z)))))))
 
--- ---- of a reader's bytes, where they are known
+-- ---- of a reader's bytes, if they are known
 
 abbrev pub KnownListed : Option Text → Option Text → List Place → ℕ → Type 0
 KnownListed None left ps n = ⊤

@@ -70,7 +70,7 @@ answer_at Expected before now = missing_at before now
 abbrev pub lines_at : Place → List Line → List Line
 lines_at p ls = filter (λ l. place_eq p l.place) ls
 
--- the place is one of those that were left out, or lies below one
+-- the place is one of those that were left out, or is below one
 abbrev pub is_left : List Place → Place → Bool
 is_left left p = list_any (λ d. begins d p) left
 

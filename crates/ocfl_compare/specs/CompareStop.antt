@@ -13,7 +13,7 @@ StopsRightly b n NowFailed = ⊤
 StopsRightly b n Output = ⊤
 StopsRightly b n Memory = ⊤
 
--- the same where the bytes before are right
+-- the same if the bytes before are right
 abbrev pub ReportStops : Text → CompareStop → Type 0
 ReportStops b (Before k) = ⊥
 ReportStops b (Now k) = IsBadReportLine b k

@@ -9,7 +9,7 @@ use Rattle.ocfl_compare.specs.Kinds.{is_empty, tells_object}
 use Rattle.ocfl_compare.specs.Changes.{lines_at, is_left, row_text}
 use Rattle.ocfl_compare.specs.Compared.{IsReport}
 
--- no line of an object stands at the place, which was not left out; the storage root is no object
+-- no line of an object is at the place, which was not left out; the storage root is no object
 abbrev pub is_missing : List Place → List Line → Place → Bool
 is_missing left ls p = not (is_left left p) && (not (is_empty p) && not (list_any tells_object (lines_at p ls)))
 

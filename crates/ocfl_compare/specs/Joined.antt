@@ -49,7 +49,7 @@ abbrev pub named : ℕ → Option PartFault → List MissingPart
 named number None = []
 named number (Some fault) = record { part = number; fault = fault } ∷ []
 
--- those of the first so many parts that cannot be joined
+-- those of the first n parts that cannot be joined
 abbrev pub missing_of : List Place → Text → ℕ → List (Option ClosedPart) → ℕ → List MissingPart
 missing_of separators root cycle parts zero = []
 missing_of separators root cycle parts (suc n) = missing_of separators root cycle parts n ++ named (n + 1) (fault_of separators root cycle (n + 1) (part_at parts n))

@@ -20,7 +20,7 @@ abbrev pub trimmed : Text → Text
 trimmed [] = []
 trimmed (b ∷ t) = trim_onto b (trimmed t)
 
--- no path stands in an empty line, nor in one that begins with `#`
+-- no path is in an empty line, nor in one that begins with `#`
 abbrev pub path_of : Text → List Text
 path_of [] = []
 path_of (b ∷ t) = if b == 35 then [] else (b ∷ t) ∷ []
@@ -57,7 +57,7 @@ pub record IsBadListLine (b : Text) (n : ℕ) : Type 0 where
   pub some : path_in line ≢ []
   pub bad : (p : Place) → IsObjectPlace p → path_in line ≢ place_text p ∷ []
 
--- a list has so many lines at most
+-- the most lines that a list may have
 abbrev pub max_lines : ℕ
 max_lines = 10000000
 

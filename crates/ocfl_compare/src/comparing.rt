@@ -30,14 +30,14 @@ struct Both {
 /// Compares two reports of a storage root, and writes what changed, in the order of places. A
 /// row has a word, a tab, the place as reports write it, and a line feed:
 ///
-/// - `object` or `file`, where the report before has a line of an object or of a content file at
+/// - `object` or `file`, if the report before has a line of an object or of a content file at
 ///   the place, and this one has no line there;
 /// - the code of a finding that is at the place in this report, and was not in the one before, each
 ///   code once;
-/// - `repaired`, where the one before has a finding at the place, and this one has lines there and
+/// - `repaired`, if the one before has a finding at the place, and this one has lines there and
 ///   none of them is a finding.
 ///
-/// Nothing is said of the places in `left` and of what lies below them. All bytes of both readers
+/// Nothing is said of the places in `left` and of what is below them. All bytes of both readers
 /// are read as reports, and one line of each is in memory at a time.
 pub fn compare<R: BufRead, S: BufRead, W: Write>(
     alloc: Global,

@@ -19,7 +19,7 @@ use std::io::{BufRead, Write};
 
 /// Writes which objects of a list have no line of an object in a report, in the order of places,
 /// each once, and sorts the list. A row has the word `expected`, a tab, the place as reports write
-/// it, and a line feed. Nothing is said of the places in `left` and of what lies below them, nor of
+/// it, and a line feed. Nothing is said of the places in `left` and of what is below them, nor of
 /// the storage root, which is no object.
 ///
 /// All bytes of the reader are read as a report. One line of it is in memory at a time, and the

@@ -32,7 +32,7 @@ pub struct ClosedPart {
 /// Why the report of a part cannot be joined: the first of these that applies.
 #[derive(Clone, Copy, Debug, PartialEq, Eq, Error)]
 pub enum PartFault {
-    /// The separators do not make so many parts.
+    /// The separators make fewer parts.
     #[error("there is no such part")]
     NoPart,
     /// It closed no report.
@@ -76,7 +76,7 @@ pub enum JoinStop {
 }
 
 /// Why the part with this number, from 1, cannot be joined with the others of this cycle of this
-/// storage root. None where it can.
+/// storage root. None if it can.
 pub fn find_fault(
     separators: &Separators,
     root: &[u8],
@@ -141,7 +141,7 @@ fn is_end(place: &Option<Place>, end: Option<&Place>) -> bool
 }
 
 /// Names each part of a storage root whose report cannot be joined with the others, in their order,
-/// and why. None is named exactly where all can be joined. `parts` has what is known of each part.
+/// and why. None is named exactly if all can be joined. `parts` has what is known of each part.
 ///
 /// The only error is running out of memory.
 pub fn find_missing(

@@ -13,7 +13,7 @@ use std::alloc::Global;
 use std::io::BufRead;
 use thiserror::Error;
 
-/// A list has so many lines at most.
+/// The most lines that a list may have.
 const MAX_LINES: u64 = 10_000_000;
 
 /// Why no list was read.

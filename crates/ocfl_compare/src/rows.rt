@@ -33,7 +33,7 @@ pub(crate) fn put_said(
     put_answer(asked, place, before, now, rows)
 }
 
-/// Whether the place was left out, or lies below one that was.
+/// Whether the place was left out, or is below one that was.
 fn is_left(left: &[Place], place: &Place) -> bool
     ensures { result ≡ is_left_out left.now place.now }
 {

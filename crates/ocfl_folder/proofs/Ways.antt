@@ -1,4 +1,4 @@
--- The way to a place: what lies on it, name by name.
+-- The way to a place: what is on it, name by name.
 use Rattle.std.proofs.Common.{◌≡◌, ◌≢◌, ℕ, ◌+◌, ◌-◌, ◌<◌, ◌≤◌, true, cond, [], ◌∷◌, ◌++◌, length, take, drop, get_or, Option, Some, None, sym, ◌∙◌, ap, refl, arith, append-nil, append_assoc}
 use Rattle.std.specs.Option.{option_map}
 use Rattle.ocfl_tree.specs.Place.{Text, Place}
@@ -41,7 +41,7 @@ leaf_file (Some other) h = absurd cc
 pub file_there : (root : StorageRoot) (p : Place) (n : Text) → kind_at root p n ≡ Some File → IsFileAt (at root (p ++ n ∷ []))
 file_there root p n h = leaf_file (at root (p ++ n ∷ [])) h
 
--- ---- nothing lies below nothing
+-- ---- nothing is below nothing
 
 pub nothing_below : (root : StorageRoot) (p : Place) (n : Text) → at root p ≡ None → at root (p ++ n ∷ []) ≡ None
 nothing_below root p n h = at-append root p n ∙ ap (λ o. cond (is_dir_leaf o) (lookup root (p ++ n ∷ [])) None) h
@@ -50,7 +50,7 @@ pub nothing_far : (root : StorageRoot) (p q : Place) → at root p ≡ None → 
 nothing_far root p [] h = ap (at root) (append-nil p) ∙ h
 nothing_far root p (n ∷ q) h = ap (at root) (sym (append_assoc p (n ∷ []) q)) ∙ nothing_far root (p ++ n ∷ []) q (nothing_below root p n h)
 
--- nothing lies at a place of which nothing lies at a beginning
+-- nothing is at a place of which nothing is at a beginning
 pub nothing_beyond : (root s : StorageRoot) (names : Place) (i : ℕ) (n m : Text) → s ≡ root → i < length names → m ≡ get_or names i m → n ≡ m
     → kind_at s (take i names) n ≡ None → at root names ≡ None
 nothing_beyond root s names i n m same in' is named none =

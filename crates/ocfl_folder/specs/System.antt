@@ -7,12 +7,12 @@ use Rattle.ocfl_tree.specs.Store.{Store}
 use Rattle.ocfl_tree.specs.Listing.{kind_at}
 
 pub record Standing : Type 0 where
-  -- what lies in the folder, and the calls of the folder that were noted
+  -- what is in the folder, and the calls of the folder that were noted
   pub store : Store
-  -- the directory in which it stands, where that is one of the folder
+  -- the directory that it is in, if that is one of the folder
   pub here : Option Place
 
--- of a system that stands in the folder: P holds of its tree and of the place
+-- of a system that is in the folder: P holds of its tree and of the place
 abbrev pub IfHere : Standing → (StorageRoot → Place → Type 0) → Type 0
 IfHere s P = (p : Place) → s.here ≡ Some p → P s.store.tree p
 

@@ -14,7 +14,7 @@ pub enum Answer {
 /// What became of a read.
 #[derive(Clone, Copy, Debug, PartialEq, Eq)]
 pub enum ReadAnswer {
-    /// So many bytes were given.
+    /// How many bytes were given.
     Gave(usize),
     /// The device failed.
     Failed,

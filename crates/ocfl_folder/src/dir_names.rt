@@ -7,7 +7,7 @@ use std::io::{self, ErrorKind, Read};
 /// How many bytes of names a directory is asked for at once.
 const NAMES_LEN: usize = 8192;
 
-/// How many names in a row are left out at most: `.` and `..` stand once each.
+/// How many names in a row are left out at most: `.` and `..` occur once each.
 const MOST_SKIPPED: u64 = 1000;
 
 /// An open directory, and names that were read from it, each ended by NUL.
@@ -58,7 +58,7 @@ impl<D: Read + Drop> DirNames<D> {
         Ok(count > 0)
     }
 
-    /// Puts the next name in place of what the other holds. `false` where none is left.
+    /// Puts the next name in place of what the other holds. `false` if none is left.
     pub(crate) fn next(&mut self, name: &mut Vec<u8>) -> io::Result<bool> {
         for _ in 0..MOST_SKIPPED {
             if self.start >= self.end && !self.refill()? {

@@ -12,7 +12,7 @@ use std::alloc::AllocError;
 use std::rt::{Env, Files};
 use std::{fs, io};
 
-/// The folder at a path from `/` on, by last names alone: the process itself stands where the
+/// The folder at a path from `/` on, by last names alone: the process itself is where the
 /// folder does.
 #[derive(Drop)]
 pub struct Entering<R: Files + Env + AllocGlobal + Drop> {

@@ -22,10 +22,10 @@ use std::rt::{Env, Files};
 
 /// A folder, by the calls of a system. It tells its tree if the system does.
 ///
-/// It stands in the directory of the last place that it was asked for, and goes from there to that
+/// It is in the directory of the last place that it was asked for, and goes from there to that
 /// of the next one, name by name: up by `..`, and down after a look at the name. After each step it
 /// looks where it is, which must be the directory of that look, or that from which it came down. So
-/// no link is followed but one to the folder itself, which is found by its own path: where it has
+/// no link is followed but one to the folder itself, which is found by its own path: if it has
 /// to go up to it, and after each call that failed. A file is looked at before it is opened and
 /// once it is open, and must be the same. A link is listed as `Other`.
 ///
@@ -34,7 +34,7 @@ use std::rt::{Env, Files};
 ///
 /// - a file where a directory is asked for, or the other way round;
 /// - a directory that another one takes the place of, or one that is moved elsewhere while the
-///   folder stands in it or below;
+///   folder is in it or below;
 /// - a name that is not UTF-8, or that is listed twice;
 /// - more than 1,000,000 entries, or one that goes away while it is listed;
 /// - a file that is another once it is open.

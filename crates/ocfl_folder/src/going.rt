@@ -12,7 +12,7 @@ use crate::node::{Node, Seen};
 use crate::system::System;
 use ocfl_tree::{Kind, Name, is_text};
 
-/// What has this name, where it is of this kind. Another is the device's fault.
+/// What has this name, if it is of this kind. Another is the device's fault.
 pub(crate) fn look_for<S: System>(system: &S, name: &str, kind: Kind) -> Result<Seen, Fault>
     ensures { IsTrue S.told → IfHere (S.state system.now) (λ root p. MatchResult result
         (λ _. kind_at root p name.now ≡ Some kind)
@@ -65,7 +65,7 @@ fn step_down<S: System>(system: &mut S, way: &mut Vec<Node>, name: &str) -> Resu
     Ok(())
 }
 
-/// Goes into the directory that this one lies in, which is not the folder itself.
+/// Goes into the directory that this one is in, which is not the folder itself.
 fn step_up<S: System>(system: &mut S, way: &mut Vec<Node>) -> Result<(), Fault>
     ensures store { IsTrue S.told → (S.state system.new).store ≡ (S.state system.old).store }
     ensures here { IsTrue S.told → (p : Spot) (n : Text)
@@ -83,7 +83,7 @@ fn step_up<S: System>(system: &mut S, way: &mut Vec<Node>) -> Result<(), Fault>
     }
 }
 
-/// Goes up so many times.
+/// Goes up `count` times.
 fn climb<S: System>(system: &mut S, way: &mut Vec<Node>, count: usize) -> Result<(), Fault>
     ensures store { IsTrue S.told → (S.state system.new).store ≡ (S.state system.old).store }
     ensures here { IsTrue S.told → (p : Spot) → (S.state system.old).here ≡ Some p
@@ -97,7 +97,7 @@ fn climb<S: System>(system: &mut S, way: &mut Vec<Node>, count: usize) -> Result
     Ok(())
 }
 
-/// Goes down along the names of a directory, where it stands in the one that the first so many of
+/// Goes down along the names of a directory, where it is in the one that the first `from` of
 /// them lead to.
 pub(crate) fn descend<S: System>(
     system: &mut S,

@@ -4,8 +4,8 @@
 //!
 //! - A folder tells its tree if the calls of the system that it makes tell it (`FsTree` over
 //!   `System`): it lists just the names that they give, each with the kind that a look sees; opens
-//!   a file only where a look sees one; follows no link; and answers `Absent` only where nothing
-//!   is.
+//!   a file only if a look sees one; follows no link; and answers `Absent` only if nothing
+//!   is there.
 //! - A listing has each name once, and at most 1,000,000 names.
 //! - After any call that fails no file is open, and why it failed is kept.
 #![tactic(auto)]

@@ -14,8 +14,8 @@ pub struct Opened<F: Drop> {
     left: Option<u64>,
 }
 
-/// What is left of a file after a read of so many bytes into a buffer with this room: `None` where
-/// the read met the file's end.
+/// The bytes left after a read of `count` into `room`; `None` if it reached the end, which a read
+/// that leaves room shows.
 fn left_after(left: u64, count: usize, room: usize) -> Option<u64>
     ensures end { IsNone result ↔ ((count ≡ left) × (count < room)) }
     ensures rest { IfSome result (λ rest. rest ≡ left - count) }

@@ -1,4 +1,4 @@
-//! Listing the directory in which a system stands, and opening a file there.
+//! Listing the directory that a system is in, and opening a file there.
 ghost use Rattle.std.specs.Prelude.{◌≡◌, ◌≢◌, ◌++◌, ◌∷◌, [], IsTrue, IfOk, OnOk, IfErr};
 ghost use Rattle.std.specs.Prelude.{MatchResult};
 ghost use Rattle.std.specs.Prelude.{◌≤◌, ◌<◌, Some, None, length, take};
@@ -57,7 +57,7 @@ fn add_entry<S: System>(
     listed.add(Entry { name, kind })
 }
 
-/// The entries of the directory in which the system stands, as its listing gives them.
+/// The entries of the directory that the system is in, as its listing gives them.
 fn list_all<S: System>(system: &S, alloc: Global) -> Result<Listed, Fault>
     ensures listed { IsTrue S.told → IfHere (S.state system.now) (λ root p. IfOk result
         (λ listed. Covers root p listed.entries.items)) }
@@ -78,7 +78,7 @@ fn list_all<S: System>(system: &S, alloc: Global) -> Result<Listed, Fault>
     Err(wrong("it holds more than 1,000,000 entries"))
 }
 
-/// The entries of the directory in which the system stands.
+/// The entries of the directory that the system is in.
 pub(crate) fn list_here<S: System>(system: &S, alloc: Global) -> Result<Vec<Entry>, Fault>
     ensures ordinary { IfOk result (λ entries. IsOrdinary entries.items) }
     ensures listed { IsTrue S.told → IfHere (S.state system.now) (λ root p. IfOk result
@@ -88,7 +88,7 @@ pub(crate) fn list_here<S: System>(system: &S, alloc: Global) -> Result<Vec<Entr
     list_all(system, alloc)?.into_ordered()
 }
 
-/// The file with this name in the directory in which the system stands: that which it is when it is
+/// The file with this name in the directory that the system is in: that which it is when it is
 /// looked at.
 pub(crate) fn open_here<S: System>(system: &S, name: &str) -> Result<S::File, Fault>
     ensures { IsTrue S.told → IfHere (S.state system.now) (λ root p. MatchResult result

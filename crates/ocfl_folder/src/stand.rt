@@ -1,4 +1,4 @@
-//! Where a folder stands.
+//! Which directory a folder is in.
 ghost use Rattle.std.specs.Prelude.{◌≡◌, ◌≢◌, IsTrue, IfOk, IfErr, OnOk, [], MatchResult, Some};
 ghost use Rattle.std.specs.Prelude.{None, List, ℕ};
 ghost use Rattle.ocfl_tree.specs.StorageRoot.{file, dir, at};
@@ -19,7 +19,7 @@ use crate::system::System;
 use ocfl_tree::{Entry, Place};
 use std::alloc::Global;
 
-/// A system, and in which directory of the folder it stands, if that is known.
+/// A system, and in which directory of the folder it is, if that is known.
 #[derive(Drop)]
 pub(crate) struct Stand<S: System + Drop> {
     alloc: Global,
@@ -42,14 +42,14 @@ impl<S: System + Drop> Stand<S> {
         }
     }
 
-    /// Where it stands is not known from now on.
+    /// From now on it is not known where it is.
     pub(crate) fn forget(&mut self)
         ensures { self.new.system ≡ self.old.system }
     {
         self.here = None;
     }
 
-    /// Goes to a directory. Where that fails, it is not known where it stands.
+    /// Goes to a directory. If that fails, it is not known where it is.
     fn go(&mut self, dir: &Place) -> Result<(), Fault>
         ensures store { IsTrue S.told
             → (S.state self.new.system).store ≡ (S.state self.old.system).store }
@@ -71,7 +71,7 @@ impl<S: System + Drop> Stand<S> {
         Ok(())
     }
 
-    /// Whether it is known to stand in the directory with this path. Of the folder itself it is not
+    /// Whether it is known to be in the directory with this path. Of the folder itself it is not
     /// known: its own path may lead elsewhere meanwhile.
     fn is_in(&self, path: &str) -> bool
         ensures { IsTrue result → IsTrue S.told
@@ -96,7 +96,7 @@ impl<S: System + Drop> Stand<S> {
         Ok(())
     }
 
-    /// Goes to the directory with this path, unless it stands there.
+    /// Goes to the directory with this path, unless it is there.
     pub(crate) fn stand_in(&mut self, path: &str) -> Result<(), Fault>
         ensures store { IsTrue S.told
             → (S.state self.new.system).store ≡ (S.state self.old.system).store }

@@ -14,10 +14,10 @@ use crate::node::Seen;
 use ocfl_tree::Place;
 use std::io;
 
-/// What a folder asks of the system. It stands in one directory, and what it asks for is there, by
+/// What a folder asks of the system. It is in one directory, and what it asks for is there, by
 /// its last name alone.
 ///
-/// A system that tells its tree tells what lies in the folder, and in which directory it stands.
+/// A system that tells its tree tells what is in the folder, and in which directory it is.
 /// The tree stays as it is. Links are told as what is neither a file nor a directory, and the calls
 /// show them as such; only `start`, `enter` and `open` follow one.
 pub trait System {
@@ -50,14 +50,14 @@ pub trait System {
             at root (p ++ name.now ∷ []) ≡ Some dir
             → OnOk result ((state self.new).here ≡ Some (p ++ name.now ∷ []))) };
 
-    /// Goes into the directory that this one lies in.
+    /// Goes into the directory that this one is in.
     fn leave(&mut self) -> io::Result<()>
         ensures store { IsTrue told → (state self.new).store ≡ (state self.old).store }
         ensures here { IsTrue told → (p : Spot) (n : Text)
             → (state self.old).here ≡ Some (p ++ n ∷ [])
             → OnOk result ((state self.new).here ≡ Some p) };
 
-    /// Looks at the directory in which it stands.
+    /// Looks at the directory that it is in.
     fn look_here(&self) -> io::Result<Seen>;
 
     /// Looks at what has this name, and follows no link there.
@@ -66,7 +66,7 @@ pub trait System {
             (λ seen. kind_at root p name.now ≡ Some seen.kind)
             (λ error. error_kind error ≡ NotFound → kind_at root p name.now ≡ None)) };
 
-    /// Begins to list the directory in which it stands.
+    /// Begins to list the directory that it is in.
     fn names(&self) -> io::Result<Self::Names>
         ensures { IsTrue told → IfHere (state self.now) (λ root p. IfOk result (λ names.
             AreNames root p (left names))) };

@@ -18,7 +18,7 @@ use std::rt::Files;
 pub struct WholePaths<R: Files + AllocGlobal + Drop> {
     rt: R,
     root: String,
-    /// The path of the directory in which the folder stands.
+    /// The path of the directory that the folder is in.
     path: String,
 }
 
@@ -29,7 +29,7 @@ impl<R: Files + AllocGlobal + Drop> WholePaths<R> {
         Ok(WholePaths { rt, root, path })
     }
 
-    /// The path of what has this name where the folder stands.
+    /// The path of what has this name where the folder is.
     fn path_of(&self, name: &str) -> Result<String, AllocError> {
         let room = self.path.len() + 1 + name.len();
         let mut path = String::with_capacity(self.rt.alloc(), room)?;
@@ -39,7 +39,7 @@ impl<R: Files + AllocGlobal + Drop> WholePaths<R> {
         Ok(path)
     }
 
-    /// Whether the folder stands at its root.
+    /// Whether the folder is at its root.
     fn is_at_root(&self) -> bool {
         self.path.len() == self.root.len()
     }

@@ -72,7 +72,7 @@ same false = refl
 twice : (f : Item → Bool) (xs : List Item) → filter f (filter f xs) ≡ filter f xs
 twice f xs = filter_twice f f xs ∙ filter_same _ _ (λ i. same (f i)) xs
 
--- the front of some items is those up to a place, where the rest are those above it
+-- the front of some items is those up to a place, if the rest are those above it
 front_of : (f : Item → Bool) (items above front : List Item) → front ++ filter f items ≡ above → length (filter f above) ≤ length (filter f (filter f items)) → front ≡ filter (λ i. not (f i)) above
 front_of f items above front is few =
     let kept : filter f front ++ filter f (filter f items) ≡ filter f above = sym (filter-append f front (filter f items)) ∙ ap (filter f) is in

@@ -53,7 +53,7 @@ no_end old n = record { asked = []; are = sym (append-nil old); begun = 1; few =
 pub fewer : (end : Option ℕ) (a b : List ℕ) (k m n : ℕ) → BeginsInTime end a b k m → n ≤ m → BeginsInTime end a b k n
 fewer end a b k m n p le = record { asked = p.asked; are = p.are; begun = p.begun; few = p.few; counted = omega (arith, p.counted, le) }
 
--- what holds anyway holds of a value, where there is one
+-- what holds anyway holds of a value, if there is one
 pub if_ok : {T E P : Type 0} (r : Result T E) → P → OnOk r P
 if_ok (Ok x) p = p
 if_ok (Err e) p = tt

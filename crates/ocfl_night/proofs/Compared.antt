@@ -25,7 +25,7 @@ pub not_whole : {P : Type 0} (answer whole : Bool) → (IsTrue answer ↔ (IsTru
 not_whole true whole fits other = absurd (other (fits.0 refl).1)
 not_whole false whole fits other = refl
 
--- less is said of a value, where there is one
+-- less is said of a value, if there is one
 pub on_ok : {T E P Q : Type 0} (r : Result T E) → (P → Q) → OnOk r P → OnOk r Q
 on_ok (Ok x) less p = less p
 on_ok (Err e) less p = p

@@ -136,7 +136,7 @@ begun_heard {F} {may_leave} {moment} {left_since} part s f only_now kept =
     let here : (c : Content) → may_leave f c → IsHeardSince part (may_leave f) s s c = λ c n. found_heard part (may_leave f) s s c (grew_none s) (kept_found part (may_leave f) c kept n) in
     leaves {may_leave = may_leave} {moment = moment} {left_since = left_since} Same (IsHeardSince part (may_leave f) s s) f f (only_now f) here (λ d c n same. subst (λ (x : Content). IsHeardSince part (may_leave f) s s x) (sym same) (here d n)) (stayed Same (λ c. refl) f)
 
--- what holds if there is a value, where there is one
+-- what holds if there is a value, if there is one
 pub on_ok : {T E P : Type 0} (r : Result T E) → IsOk r → OnOk r P → P
 on_ok (Ok x) ok p = p
 on_ok (Err e) ok p = absurd (cc ok)

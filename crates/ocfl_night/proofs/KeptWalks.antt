@@ -18,7 +18,7 @@ use Rattle.ocfl_night.specs.Steps.{IsNext, IsWalkAt}
 use Rattle.ocfl_night.specs.declared.slicing.Made.{Made}
 use Rattle.ocfl_night.specs.declared.stop.Stop.{Stop}
 
--- where none is kept, the next run begins one
+-- if none is kept, the next run begins one
 pub walk_none : (root : StorageRoot) (part : Part) (k : Checkpoint) (kept : KeptWalk) → kept.met ≡ None → IsWalkAt root part k kept
 walk_none root part k kept none = subst (λ (o : Option Met). IsReadyIn root (part_after part k.left) (place_in k.cursor.state) o) (sym none) tt
 
@@ -41,7 +41,7 @@ pub walk_made : (root : StorageRoot) (part : Part) (k : Checkpoint) (ran : RunEn
 walk_made root part k ran (Ok m) h kept rest there walk = walk_next root part k m.checkpoint ran h.0 h.1 kept rest there walk
 walk_made root part k ran (Err e) h kept rest there walk = tt
 
--- whatever comes, where none is kept
+-- whatever comes, if none is kept
 module _ (root : StorageRoot) (part : Part) (kept : KeptWalk) (none : kept.met ≡ None) where
   pub walk_any : {B E : Type 0} (next : Result (Checkpoint × B) E) → IfOk next (λ n. IsWalkAt root part n.0 kept)
   walk_any (Ok n) = walk_none root part n.0 kept none

@@ -114,7 +114,7 @@ begins_exact front text b long =
     let left : length b.0 ≡ 0 = omega (arith, long, ap length b.1, length-append front b.0) in
     b.1 ∙ ap (λ (l : Text). front ++ l) (none_left b.0 left) ∙ append-nil front
 
--- the report of a checkpoint after which nothing stands
+-- the report of a checkpoint after which there is nothing
 pub exact_text : (part : Part) (t : Text) (k : Checkpoint) (c : Content) → (o : IsOpen part t k c) → length c.report ≡ k.report.bytes → c.report ≡ o.text
 exact_text part t k c o exact = begins_exact o.text c.report o.begins (exact ∙ long o.text k.report o.report)
 

@@ -37,7 +37,7 @@ EndAt part c (r ∷ q ∷ runs) d = Ran r.root part c r.run × (r.run.ran.end �
 
 -- ---- branches that are left out
 
--- the place with the byte 1 after its last name: its branch lies before that
+-- the place with the byte 1 after its last name: its branch is before that
 abbrev pub past : Place → Place
 past [] = []
 past (n ∷ []) = (n ++ 1 ∷ []) ∷ []

@@ -18,7 +18,7 @@ closed_text closed = flat_map (λ d. d.report) closed
 
 -- The cycle goes on: a chain of runs leads to the checkpoint's cursor, around the branches that it
 -- names as left out. The report begins with the
--- text of which the checkpoint has the length, the lines and the digests, and where nothing was lost
+-- text of which the checkpoint has the length, the lines and the digests, and if nothing was lost
 -- that is what the runs wrote. Of all the reports t was told.
 pub record IsOpen (part : Part) (t : Text) (k : Checkpoint) (c : Content) : Type 0 where
   pub phase : k.phase ≡ Open

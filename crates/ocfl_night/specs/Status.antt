@@ -5,7 +5,7 @@ use Rattle.ocfl_night.specs.declared.plan.Halt.TheVariants as halt
 use Rattle.ocfl_night.specs.declared.refusal.Refusal.{Refusal}
 use Rattle.ocfl_night.specs.declared.refusal.Refusal.TheVariants as refusal
 
--- 4 where the checkpoint cannot be read
+-- 4 if the checkpoint cannot be read
 abbrev pub refusal_status : Refusal → ℕ
 refusal_status refusal.NotCheckpoint = 4
 refusal_status refusal.Version = 4
@@ -13,7 +13,7 @@ refusal_status refusal.Damaged = 4
 refusal_status refusal.Malformed = 4
 refusal_status _ = 3
 
--- 0 where a night ended as it may
+-- 0 if a night ended as it may
 abbrev pub halt_status : Halt → ℕ
 halt_status (halt.CycleEnded cycle) = 0
 halt_status halt.TimeUp = 0

@@ -33,7 +33,7 @@ with_all_told k = record k { told = k.report.bytes }
 abbrev pub begun_anew : Checkpoint → Checkpoint
 begun_anew k = record k { phase = Open; whole = true; report = no_report; told = 0; left = [] }
 
--- a branch is left out where the cursor stands
+-- a branch is left out where the cursor is
 abbrev pub left_at : Place → Checkpoint → Left
 left_at branch k = record { place = branch; after = place_in k.cursor.state }
 
@@ -110,7 +110,7 @@ pub record IsCheckpointPut (k : Checkpoint) (old new : Content) : Type 0 where
 abbrev pub IsMoveDone : ℕ → Bool → Content → Content → Type 0
 IsMoveDone cycle whole old new = (IsTrue (is_closed old.closed cycle) × (new ≡ old)) ⊎ ((is_closed old.closed cycle ≡ false) × (new ≡ moved cycle whole old))
 
--- as before, or moved, but not where one of that cycle was shown to be closed
+-- as before, or moved, but not if one of that cycle was shown to be closed
 abbrev pub MayMoveAt : ℕ → Bool → Content → Step
 MayMoveAt cycle whole shown old new = (new ≡ old) ⊎ ((is_closed shown.closed cycle ≡ false) × (new ≡ moved cycle whole old))
 

@@ -81,7 +81,7 @@ fn state_again(state: &State) -> Result<State, AllocError>
     }
 }
 
-/// The same cursor again.
+/// A copy of the cursor.
 fn cursor_again(cursor: &Cursor) -> Result<Cursor, AllocError>
     ensures { IfOk result (λ again. again ≡ cursor.now) }
 {
@@ -138,7 +138,7 @@ pub(crate) fn begun_anew(alloc: Global, mut checkpoint: Checkpoint) -> Checkpoin
 
 // ---- in the folder
 
-/// The text of a checkpoint, which is read as that checkpoint. `Overtold` where it tells more than
+/// The text of a checkpoint, which is read as that checkpoint. `Overtold` if it tells more than
 /// its report has.
 fn text_of(alloc: Global, checkpoint: &Checkpoint) -> Result<Vec<u8>, Stop>
     ensures { IfOk result (λ text. IsCheckpointText text.items checkpoint.now) }
@@ -195,7 +195,7 @@ fn read_text(alloc: Global, text: &[u8]) -> Result<Checkpoint, NotOpened>
 /// The checkpoint, if there is one. After `Ok` all that reads show is on the disk, also what a
 /// killed process left.
 ///
-/// `NotCheckpoint`, `Version`, `Damaged` or `Malformed` where other bytes stand in its place.
+/// `NotCheckpoint`, `Version`, `Damaged` or `Malformed` if other bytes are in its place.
 pub fn look<S: StateFolder>(alloc: Global, folder: &mut S) -> Result<Option<Checkpoint>, NotOpened>
     ensures value { IsTrue S.told → IfOk result (λ found. MatchOption found
         ((S.seen folder.old).checkpoint ≡ None) (λ k. IsAt k (S.seen folder.old))) }

@@ -33,7 +33,7 @@ fn move_report<S: StateFolder>(folder: &mut S, cycle: u64, whole: bool) -> Resul
 }
 
 /// Closes the report as that of a checkpoint's cycle, unless one of that cycle is closed. It is
-/// read once, and not closed as whole where it is another one than the checkpoint says.
+/// read once, and not closed as whole if it is another one than the checkpoint says.
 fn move_as<S: StateFolder>(folder: &mut S, checkpoint: &Checkpoint) -> Result<(), Stop>
     ensures moved { IsTrue S.told → (IsTrue (is_closed (S.seen folder.old).closed
         checkpoint.now.cursor.cycle)
@@ -57,7 +57,7 @@ fn move_as<S: StateFolder>(folder: &mut S, checkpoint: &Checkpoint) -> Result<()
     move_report(folder, cycle_of(checkpoint), whole)
 }
 
-/// Closes the report of a cycle that has ended, and begins the next one. `Unsaid` where not all of
+/// Closes the report of a cycle that has ended, and begins the next one. `Unsaid` if not all of
 /// it was said.
 fn close<S: StateFolder>(
     alloc: Global,

@@ -32,7 +32,7 @@ fn renamed(place: &Place, name: Name) -> Result<Place, AllocError>
     Ok(other)
 }
 
-/// The name with the byte 1 after it. `None` where that is no name: it would have 256 bytes.
+/// The name with the byte 1 after it. `None` if that is no name: it would have 256 bytes.
 fn lengthened(alloc: Global, name: &str) -> Result<Option<Name>, AllocError>
     ensures { IfOk result (λ found. IfSome found (λ longer. longer ≡ name.now ++ 1 ∷ [])) }
 {
@@ -89,7 +89,7 @@ pub(crate) fn part_past(alloc: Global, part: &Part, left: &[Left]) -> Result<Par
     })
 }
 
-/// Whether a file of this name speaks for the object that it lies in: as its declaration, its
+/// Whether a file of this name speaks for the object that it is in: as its declaration, its
 /// inventory or a sidecar of that.
 fn speaks_for_object(name: &str) -> bool {
     name == "inventory.json"
@@ -109,7 +109,7 @@ pub(crate) fn branch_at(place: &Place) -> Result<Place, AllocError>
     }
 }
 
-/// The place that a cursor stands after, or `None` where it stands at no place.
+/// The place that a cursor is after, or `None` if it is after none.
 fn stood_at(state: &State) -> Result<Option<Place>, AllocError>
     ensures { IfOk result (λ stood. stood ≡ place_in (state_of state.now)) }
 {
@@ -119,7 +119,7 @@ fn stood_at(state: &State) -> Result<Option<Place>, AllocError>
     }
 }
 
-/// The checkpoint that names one branch more as left out, where its cursor stands.
+/// The checkpoint that names one branch more as left out, where its cursor is.
 fn with_left(mut checkpoint: Checkpoint, branch: Place) -> Result<Checkpoint, AllocError>
     ensures { IfOk result (λ next. next ≡ with_left branch checkpoint) }
 {
@@ -131,7 +131,7 @@ fn with_left(mut checkpoint: Checkpoint, branch: Place) -> Result<Checkpoint, Al
     Ok(checkpoint)
 }
 
-/// Leaves out a branch where the cursor stands, and puts the checkpoint that names it.
+/// Leaves out a branch where the cursor is, and puts the checkpoint that names it.
 pub fn leave_out<S: StateFolder>(
     alloc: Global,
     folder: &mut S,

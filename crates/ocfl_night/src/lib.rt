@@ -23,7 +23,7 @@
 //!   after the last whole 4 MiB, is called so by the night that finds it, and is not closed as
 //!   whole. Before a report is closed as whole all of it is compared, so one with any other byte is
 //!   closed as incomplete.
-//! - A branch is left out only by a checkpoint that names it, with the place that the cursor stood
+//! - A branch is left out only by a checkpoint that names it, with the place that the cursor was
 //!   after (`leave_out`). The next run is made past it (`slice`), and a cycle that left one out is
 //!   not closed as whole.
 //! - The closed reports after a cycle that it says has ended are those up to that cycle. Before

@@ -12,7 +12,7 @@ use ocfl_state::Trouble;
 use ocfl_tree::{Place, Tree};
 use std::alloc::Global;
 
-/// Looks at the root when a night begins. `NoRoot` where its top folder does not declare one.
+/// Looks at the root when a night begins. `NoRoot` if its top folder does not declare one.
 pub(crate) fn look_at<T: Tree>(
     alloc: Global,
     tree: &mut T,

@@ -97,7 +97,7 @@ impl Tally {
         self.found = either(self.found, made.found);
     }
 
-    /// Whether a place that cannot be read is tried once more: not where it was just tried so.
+    /// Whether a place that cannot be read is tried once more: not if it was just tried so.
     fn tries_again(&mut self, place: &Place) -> Result<bool, AllocError>
         ensures { self.new.runs ≡ self.old.runs }
     {
@@ -116,7 +116,7 @@ impl Tally {
         self.tried = None;
     }
 
-    /// The branch that can be left out for a place that cannot be read. `None` where none can be.
+    /// The branch that can be left out for a place that cannot be read. `None` if none can be.
     fn branch_of(&self, alloc: Global, place: &Place) -> Result<Option<Place>, AllocError> {
         if self.left.len() >= MOST_LEFT {
             return Ok(None);
@@ -128,7 +128,7 @@ impl Tally {
         }
     }
 
-    /// The branch that is left out for a place at which a run stopped. `Err` where none is: the
+    /// The branch that is left out for a place at which a run stopped. `Err` if none is: the
     /// place is tried once more, or the night is halted.
     fn to_leave(
         &mut self,
@@ -249,7 +249,7 @@ fn halt_after(ended: Option<u64>, pause: Pause) -> Halt
 }
 
 /// Goes on after a run that stopped at a place: it is tried once more. If the run stops there
-/// again, the place's branch is left out. What halts the night where none can be, or is to be.
+/// again, the place's branch is left out. What halts the night if none can be, or is to be.
 fn pass_by<S: StateFolder>(
     alloc: Global,
     folder: &mut S,
@@ -660,7 +660,7 @@ pub fn night<S: StateFolder, T: Tree, C: Clock, W: Write>(
         declarations_among (entries_in root []) ≡ [] → IsNotBegun result.end
         × IsUntouched S.seen S.may_leave S.moment S.left_since folder.old folder.new) }
 
-    // Where bytes of the report were lost or changed, it says so, unless it is refused or something
+    // If bytes of the report were lost or changed, it says so, unless it is refused or something
     // is troubled.
     ensures lost { IsTrue S.told → (k : ModelCheckpoint) → IsAt k (S.seen folder.old)
         → IsLost k (S.seen folder.old)

@@ -187,7 +187,7 @@ fn shortened(mut checkpoint: Checkpoint, report: ReportMark) -> Checkpoint
     checkpoint
 }
 
-/// Takes up the report as far as the checkpoint speaks of it. Where bytes of that were lost or
+/// Takes up the report as far as the checkpoint speaks of it. If bytes of that were lost or
 /// changed, the checkpoint then speaks of what is there.
 fn fit<S: StateFolder>(folder: &mut S, checkpoint: Checkpoint) -> Result<Opened, Stop>
     ensures any_moment { IsTrue S.told → (part : Part) (t : Text)
@@ -299,7 +299,7 @@ pub fn open<S: StateFolder>(
     ensures lost { IsTrue S.told → (k : ModelCheckpoint) → IsAt k (S.seen folder.old)
         → IsLost k (S.seen folder.old)
         → IfOk result (λ opened. IsTrue opened.lost × (opened.checkpoint.whole ≡ false)) }
-    // Where it is refused, the folder stays as it was.
+    // If it is refused, the folder stays as it was.
     ensures refused { IsTrue S.told → (why : ModelRefusal) → result ≡ Err (Refused why)
         → S.seen folder.new ≡ S.seen folder.old }
     // One of another root or part, or of a root that is not as it was, is not opened, and stays as

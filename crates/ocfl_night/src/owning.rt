@@ -126,8 +126,8 @@ fn begins(cursor: &Cursor) -> bool {
     }
 }
 
-/// The checkpoint with the declaration that the root has now. Its names are those of now where a
-/// cycle begins, or where more than half of them are gone; else they stay.
+/// The checkpoint with the declaration that the root has now. Its names are those of now if a
+/// cycle begins, or if more than half of them are gone; else they stay.
 pub(crate) fn with_root(mut checkpoint: Checkpoint, identity: &Identity) -> Checkpoint
     ensures { (anew : Bool) × (result ≡ with_root anew identity.now checkpoint) }
 {

@@ -33,7 +33,7 @@ pub struct Plan {
     pub slice_files: u64,
     /// The time at and after which no run begins, in seconds since the epoch.
     pub end: Option<u64>,
-    /// After so many files no further run begins.
+    /// After this number of files no further run begins.
     pub files: Option<u64>,
     /// Whether a folder with no checkpoint is begun in.
     pub create: bool,

@@ -16,7 +16,7 @@ pub enum Refusal {
     NoCheckpoint,
     /// There is no checkpoint, and there is a report, open or closed.
     HasReports,
-    /// What stands in the checkpoint's place does not begin as a checkpoint.
+    /// What is in the checkpoint's place does not begin as a checkpoint.
     NotCheckpoint,
     /// The checkpoint is of a version that is not known.
     Version,

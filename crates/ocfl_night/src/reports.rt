@@ -9,9 +9,9 @@ ghost use Rattle.ocfl_night.specs.Steps.{BeginsAs, KeepsFront};
 use ocfl_state::{FoundReport, ReportMark, StateFolder, Trouble, append_marked, find_report};
 
 /// What there is of a report that is another one than a mark says, up to the length that it says:
-/// bytes were lost or changed. `None` where it is as it says.
+/// bytes were lost or changed. `None` if it is as it says.
 ///
-/// Less than 4 MiB are read where it is; else all of it up to that length.
+/// Less than 4 MiB are read if it is; else all of it up to that length.
 pub(crate) fn find_lost<S: StateFolder>(
     folder: &mut S,
     mark: &ReportMark,

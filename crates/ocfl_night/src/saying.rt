@@ -20,7 +20,7 @@ use std::io::Write;
 const PIECE: usize = 8_192;
 
 /// Says a piece of the report that begins at an offset, and gives how many bytes that were: 1 to
-/// the most that are asked for. `Short` where the report has no more.
+/// the most that are asked for. `Short` if the report has no more.
 fn say_piece<S: StateFolder, W: Write>(
     folder: &mut S,
     out: &mut W,

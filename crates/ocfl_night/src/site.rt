@@ -17,7 +17,7 @@ pub struct Site {
     pub ends: Option<PartEnds>,
 }
 
-/// The same end again.
+/// A copy of the end.
 pub(crate) fn end_again(end: &Option<Place>) -> Result<Option<Place>, AllocError>
     ensures { IfOk result (λ again. again ≡ end.now) }
 {
@@ -27,7 +27,7 @@ pub(crate) fn end_again(end: &Option<Place>) -> Result<Option<Place>, AllocError
     }
 }
 
-/// The same ends again.
+/// A copy of the ends.
 pub(crate) fn ends_again(ends: &Option<PartEnds>) -> Result<Option<PartEnds>, AllocError>
     ensures { IfOk result (λ again. again ≡ ends.now) }
 {

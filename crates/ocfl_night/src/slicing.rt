@@ -229,10 +229,10 @@ fn keep<S: StateFolder>(
 }
 
 /// Makes one run from a checkpoint's cursor, past the branches that were left out, and the
-/// checkpoint after it. The root is looked at after the run: where it is gone, or another one,
+/// checkpoint after it. The root is looked at after the run: if it is gone, or another one,
 /// nothing of the run is kept.
 ///
-/// The run goes on with the walk that the slice before it kept, where it was made from the
+/// The run goes on with the walk that the slice before it kept, if it was made from the
 /// checkpoint that one gave; after a slice that the limits did not end, none is kept.
 pub fn slice<S: StateFolder, T: Tree>(
     alloc: Global,

@@ -5,8 +5,8 @@ ghost use Rattle.ocfl_night.specs.Status.{found_status, halt_status, refusal_sta
 use crate::plan::Halt;
 use crate::refusal::Refusal;
 
-/// The status of a night that ended so, whatever it found: 0 where it ended as it may, 3 where
-/// something stopped or refused it, and 4 where that is a checkpoint that cannot be read.
+/// The status of a night that ended so, whatever it found: 0 if it ended as it may, 3 if
+/// something stopped or refused it, and 4 if that is a checkpoint that cannot be read.
 pub fn status_of(halt: &Halt) -> u8
     ensures { result ≡ halt_status halt.now }
 {
@@ -29,7 +29,7 @@ fn status_of_refusal(refusal: &Refusal) -> u8
     }
 }
 
-/// The status of a night by what came of it: 3 where some of the report was lost, 1 where findings
+/// The status of a night by what came of it: 3 if some of the report was lost, 1 if findings
 /// were said, else 0. The status of the night is the greater one of this and of `status_of`.
 pub fn status_found(lost: bool, findings: u64) -> u8
     ensures { result ≡ found_status lost findings }

@@ -1,11 +1,11 @@
-//! Files by their paths: where they lie, opening them, and putting one in the place of another.
+//! Files by their paths: where they are, opening them, and putting one in the place of another.
 
 use std::fs::{self, File, OpenFile};
 use std::io::{self, Write};
 use std::path::PathBuf;
 use std::rt::Files;
 
-/// The folder that a file lies in.
+/// The folder that a file is in.
 pub(crate) fn folder_of(file: &str) -> &str {
     match file.rsplit_once('/') {
         Some(("", _)) => "/",
@@ -14,7 +14,7 @@ pub(crate) fn folder_of(file: &str) -> &str {
     }
 }
 
-/// A folder's own path. `None` where it cannot be resolved.
+/// A folder's own path. `None` if it cannot be resolved.
 pub(crate) fn path_of<R: Files + AllocGlobal>(rt: &R, folder: &str) -> io::Result<Option<PathBuf>> {
     match fs::canonicalize(rt, folder) {
         Ok(path) => Ok(Some(path)),
@@ -23,8 +23,8 @@ pub(crate) fn path_of<R: Files + AllocGlobal>(rt: &R, folder: &str) -> io::Resul
     }
 }
 
-/// Whether a file lies in a storage root, or would. Where one of the two folders cannot be
-/// resolved, it does not.
+/// Whether a file is in a storage root, or would be. If one of the two folders cannot be
+/// resolved, it is not.
 pub(crate) fn lies_inside<R>(rt: &R, file: &str, root: &str) -> io::Result<bool>
 where
     R: Files + AllocGlobal,
@@ -38,7 +38,7 @@ where
     Ok(folder.as_path().starts_with(root.as_path()))
 }
 
-/// Opens a file, and gives `None` where there is no such file.
+/// Opens a file, and gives `None` if there is no such file.
 pub(crate) fn open_if_there<R: Files>(rt: &R, file: &str) -> io::Result<Option<R::File>> {
     match File::open(rt, file) {
         Ok(opened) => Ok(Some(opened)),

@@ -28,7 +28,7 @@ use tasks::do_task;
 use version::print_build;
 use whole::whole_asked;
 
-/// Reads the words of the command line. Fails with the status where they cannot be read.
+/// Reads the words of the command line. Fails with the status if they cannot be read.
 fn read_words<R: Env + AllocGlobal + Eprint>(rt: &R) -> Result<Vec<String>, u8> {
     let read = match env::args(rt) {
         Ok(words) => words.collect(rt.alloc()).ok(),

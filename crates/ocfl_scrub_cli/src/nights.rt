@@ -48,7 +48,7 @@ use std::rc::Rc;
 use std::rt::{Env, Files};
 use std::time::Clock;
 
-/// How much a run spends, where that is not said: 1 GiB.
+/// How much a run spends, if that is not said: 1 GiB.
 const SLICE: u64 = 1 << 30;
 
 /// How many files a run starts at most.
@@ -80,7 +80,7 @@ struct Made {
     reason: Option<io::Error>,
 }
 
-/// The text, where there is one.
+/// The text, if there is one.
 fn text_of(text: &Option<String>) -> Option<&str> {
     match text {
         Some(text) => Some(text.as_str()),
@@ -144,7 +144,7 @@ impl Given {
     }
 }
 
-/// What the last cycle cost, where the night begins the next one.
+/// What the last cycle cost, if the night begins the next one.
 fn last_cost(began: Standing) -> Option<u128> {
     if began.has_ended {
         Some(u128::from(began.spent))
@@ -199,7 +199,7 @@ where
     })
 }
 
-/// Standard output, from which progress is removed where both go to one terminal.
+/// Standard output, from which progress is removed if both go to one terminal.
 fn output_on<'a, R>(rt: &'a R, shown_on: Terminals) -> Clearing<'a, R, Printer<'a, R>>
 where
     R: Print + Eprint,

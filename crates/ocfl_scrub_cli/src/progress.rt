@@ -56,20 +56,20 @@ fn declare_object(entries: &[Entry]) -> bool {
 }
 
 /// How many hundredths of a whole a part of it is; no more than 999, so that the line fits. `None`
-/// where the whole is not known, or nothing.
+/// if the whole is not known, or nothing.
 fn percent(part: u128, whole: Option<u128>) -> Option<u128> {
     Some(part.saturating_mul(100).checked_div(whole?)?.min(999))
 }
 
-/// A store that shows how much of its content was read, where that is asked for.
+/// A store that shows how much of its content was read, if that is asked for.
 #[derive(Drop)]
 pub(crate) struct Watched<'a, R, T: Drop> {
     store: T,
     rt: &'a R,
     is_shown: bool,
-    /// What the last cycle cost, where that is known.
+    /// What the last cycle cost, if that is known.
     last_cost: Option<u128>,
-    /// When the work began, where the clock can be read.
+    /// When the work began, if the clock can be read.
     began: Option<Instant>,
     /// The content files that were opened, and the bytes that were read of them.
     files: u64,
@@ -77,7 +77,7 @@ pub(crate) struct Watched<'a, R, T: Drop> {
     is_content: bool,
     /// The work since it was shown.
     work: u64,
-    /// The place that is read, where it is shown.
+    /// The place that is read, if it is shown.
     place: Place,
     /// The object that was listed last.
     object: Option<Place>,
@@ -112,14 +112,14 @@ impl<'a, R: AllocGlobal + Clock + Eprint, T: Drop> Watched<'a, R, T> {
         &self.store
     }
 
-    /// Counts the work at a place, and shows it where it is time to.
+    /// Counts the work at a place, and shows it when it is time to.
     fn reach(&mut self, place: &Place)
         ensures { self.new.store ≡ self.old.store }
     {
         if !self.is_shown {
             return;
         }
-        // Its text is made where it is shown. Where memory is refused, the place before stays.
+        // Its text is made when it is shown. If memory is refused, the place before stays.
         if let Ok(place) = place.try_clone() {
             self.place = place;
         }
@@ -136,7 +136,7 @@ impl<'a, R: AllocGlobal + Clock + Eprint, T: Drop> Watched<'a, R, T> {
         }
     }
 
-    /// Shows what was read and where. Where memory is refused, what was shown before stays.
+    /// Shows what was read, and where. If memory is refused, what was shown before stays.
     fn show(&self) {
         if let Ok(line) = self.line() {
             let _ = eprint!(self.rt; "\r{line:<79}");
@@ -153,7 +153,7 @@ impl<'a, R: AllocGlobal + Clock + Eprint, T: Drop> Watched<'a, R, T> {
         format!(in alloc; "{done}{place}")
     }
 
-    /// How far the run is, by the cost of the last cycle where that is known, and the time left.
+    /// How far the run is, by the cost of the last cycle if that is known, and the time left.
     fn share(&self) -> Result<String, AllocError> {
         let alloc = self.rt.alloc();
         let cost = u128::from(self.bytes) + u128::from(self.files);
@@ -169,7 +169,7 @@ impl<'a, R: AllocGlobal + Clock + Eprint, T: Drop> Watched<'a, R, T> {
     }
 
     /// How many minutes the rest of the cycle would take, the last one begun. `None` before the
-    /// first hundredth and after the last, and where the clock cannot be read.
+    /// first hundredth and after the last, and if the clock cannot be read.
     fn minutes_left(&self, share: u128) -> Option<u128> {
         if share >= 100 {
             return None;
@@ -180,7 +180,7 @@ impl<'a, R: AllocGlobal + Clock + Eprint, T: Drop> Watched<'a, R, T> {
         Some(left / 60 + 1)
     }
 
-    /// Keeps the place of an object that was listed. The storage root and what lies below an object
+    /// Keeps the place of an object that was listed. The storage root and what is below an object
     /// are none.
     fn note_listing(&mut self, place: &Place, entries: &[Entry])
         ensures { self.new.store ≡ self.old.store }
@@ -201,8 +201,8 @@ impl<'a, R: AllocGlobal + Clock + Eprint, T: Drop> Watched<'a, R, T> {
         }
     }
 
-    /// Whether the file at a place is content: declarations, inventories and sidecars lie in the
-    /// storage root itself or in an object's root directory, and content never does.
+    /// Whether the file at a place is content: declarations, inventories and sidecars are in the
+    /// storage root itself or in an object's root directory, and content never is.
     fn has_content_at(&self, place: &Place) -> bool {
         let Some((directory, _)) = place.split_last() else {
             return false;

@@ -12,7 +12,7 @@ use thiserror::Error;
 /// cursor's file inside the storage root.
 pub(crate) const USAGE: u8 = 2;
 
-/// The exit status where a command stopped.
+/// The exit status if a command stopped.
 pub(crate) const STOPPED: u8 = 3;
 
 /// The exit status of bytes that are refused as a checkpoint.
@@ -40,7 +40,7 @@ pub(crate) enum Stop {
     /// What any command may stop for.
     #[error("{0}")]
     Stopped(Note),
-    /// The same, where a store failed for a reason.
+    /// The same, if a store failed for a reason.
     #[error("{0}")]
     Reasoned(Note, Option<io::Error>),
 }
@@ -73,14 +73,14 @@ pub(crate) fn say_stop<R: Eprint>(rt: &R, stop: &Stop) -> u8 {
     stop.status()
 }
 
-/// Says what a command ended with, where that is to be said.
+/// Says what a command ended with, if that is to be said.
 pub(crate) fn say_note<R: Eprint>(rt: &R, note: &Note) {
     if !matches!(note, Note::Nothing) {
         let _ = eprintln!(rt; "ocfl-scrub: {note}");
     }
 }
 
-/// Says why a store did not answer at a place, where that is what a command stopped for.
+/// Says why a store did not answer at a place, if that is what a command stopped for.
 pub(crate) fn say_reason<R: Eprint>(rt: &R, note: &Note, reason: Option<io::Error>) {
     if let (Note::StoppedAt(place), Some(error)) = (note, reason) {
         let _ = eprintln!(rt; "ocfl-scrub: {}: {error}", DisplayPlace(place));

@@ -8,7 +8,7 @@ use std::fs::File;
 use std::io;
 use std::rt::Files;
 
-/// The items that are chosen. Reads the file of the separators where a part is.
+/// The items that are chosen. Reads the file of the separators if a part is.
 pub(crate) fn read_scope<R: Files + AllocGlobal>(rt: &R, chosen: &Chosen) -> Result<Scope, Stop> {
     let found = match chosen {
         Chosen::All => Ok(Scope::Whole),

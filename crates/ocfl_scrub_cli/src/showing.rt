@@ -11,7 +11,7 @@ use std::fs::File;
 use std::io::{self, Read};
 use std::rt::Files;
 
-/// So many bytes show whether a file begins as a checkpoint.
+/// How many bytes show whether a file begins as a checkpoint.
 const FRONT_LEN: u64 = 64;
 
 /// What is said of a file that could not be read.

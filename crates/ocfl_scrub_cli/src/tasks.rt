@@ -24,7 +24,7 @@ fn file_note(error: &io::Error) -> Note {
     }
 }
 
-/// Which terminals show progress and share it with the report: none where no progress is shown.
+/// Which terminals show progress and share it with the report: none if no progress is shown.
 fn shown_on(task: &Task, terminals: Terminals) -> Terminals {
     let is_long = matches!(&task.deed, Deed::Audit | Deed::Run(_) | Deed::Cycle(_, _));
     let error = is_long && !task.quiet && terminals.error;
@@ -32,7 +32,7 @@ fn shown_on(task: &Task, terminals: Terminals) -> Terminals {
     Terminals { output, error }
 }
 
-/// The folder that the command line names, and the current one where it names none.
+/// The folder that the command line names, and the current one if it names none.
 fn root_of(task: &Task) -> &str {
     match &task.root {
         Some(root) => root.as_str(),
@@ -40,7 +40,7 @@ fn root_of(task: &Task) -> &str {
     }
 }
 
-/// Opens the cursor's file that the command line names. `None` where it names no file, or there is
+/// Opens the cursor's file that the command line names. `None` if it names no file, or there is
 /// no such file yet.
 fn open_cursor<R: Files>(rt: &R, task: &Task) -> Result<Option<R::File>, Note> {
     match &task.file {
@@ -49,7 +49,7 @@ fn open_cursor<R: Files>(rt: &R, task: &Task) -> Result<Option<R::File>, Note> {
     }
 }
 
-/// What the last cycle cost, where a run begins the next one: its stored cursor holds that, and
+/// What the last cycle cost, if a run begins the next one: its stored cursor holds that, and
 /// that of a cycle that goes on does not. Whatever is wrong with the cursor, the run says it.
 fn last_cost<R>(rt: &R, task: &Task, scope: &Scope) -> Option<u128>
 where
@@ -80,7 +80,7 @@ struct Done {
     reason: Option<io::Error>,
 }
 
-/// Does the deed over its folder. Fails with what is to be said where it cannot begin.
+/// Does the deed over its folder. Fails with what is to be said if it cannot begin.
 fn perform_over_folder<R>(
     rt: &R,
     task: &Task,

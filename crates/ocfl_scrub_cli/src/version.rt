@@ -11,7 +11,7 @@ use std::rt::Files;
 /// The running file itself, whatever was put in its place since it was started.
 const RUNNING_FILE: &str = "/proc/self/exe";
 
-/// What `install` noted beside the program that it installed, where there is such a file.
+/// What `install` noted beside the program that it installed, if there is such a file.
 fn build_notes<R: Files + AllocGlobal>(rt: &R) -> Option<String> {
     let program = env::current_exe(rt).ok()?;
     let prefix = folder_of(folder_of(program.to_str()?));

@@ -145,7 +145,7 @@ path_determines [] (m ∷ q) h k e = absurd (place_some m q k (sym (append_cance
 path_determines (n ∷ p) [] h k e = absurd (place_some n p h (append_cancel_left (codes "/") _ [] e))
 path_determines (n ∷ p) (m ∷ q) h k e = place_text_determines (n ∷ p) (m ∷ q) h k (append_cancel_left (codes "/") _ _ e)
 
--- ---- where the cursor stood
+-- ---- where the cursor was
 
 pub stood_one_line : (s : Option Place) → IfSome s IsPlace → OneLine (stood_text s)
 stood_one_line None h = no_feed_test (codes "start") refl
@@ -213,14 +213,14 @@ no_named_path path names [] (n ∷ p) e f z h g =
     place_text_not_dot (n ∷ p) h (λ i. cc) (append_cancel_left (codes "/") _ _ (sym g ∙ e ∙ ap (λ t. codes "/" ++ t) f))
 no_named_path path names (m ∷ q) p e f z h g = omega (arith, z)
 
--- ---- what is read of where the cursor stood
+-- ---- what is read of where the cursor was
 
 pub record StoodAfter (line : Text) : Type 0 where
   pub place : Place
   pub names : IsPlace place
   pub is : line ≡ codes "after " ++ place_text place
 
--- it was after a place, where not at the start
+-- it was after a place, if not at the start
 pub stood_path : (line : Text) (s : Option Place) → text_eq line (codes "start") ≡ false → IfSome s IsPlace → line ≡ stood_text s → StoodAfter line
 stood_path line None other h e = absurd (false≢true (sym other ∙ same-text_eq line (codes "start") e))
 stood_path line (Some p) other h e = record { place = p; names = h; is = e }

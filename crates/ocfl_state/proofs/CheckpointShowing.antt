@@ -22,7 +22,7 @@ shown_of b lines h = subst (λ t. AreCursorLines t lines) (sym h.stored) h.are
 
 -- ---- of the first bytes of a reader
 
--- the bytes that were read are all, where they are not too many
+-- the bytes that were read are all, if they are not too many
 all_read : (all read : Text) → read ≡ take 67108865 all → length read ≤ 67108864 → read ≡ all
 all_read all read e few =
     let short : length all ≤ 67108865 = omega (arith, few, ap length e, length-take 67108865 all) in

@@ -23,7 +23,7 @@ use Rattle.ocfl_state.specs.declared.checkpoint_parts.ReportMark.{ReportMark}
 use Rattle.ocfl_state.specs.declared.checkpoint_parts.Left.{Left}
 use Rattle.ocfl_state.proofs.CheckpointFields.{field_determines, count_one_line, count_determines, digest_one_line, digest_determines, names_one_line, names_determine, phase_one_line, phase_determines, whole_one_line, whole_determines, sizes_one_line, sizes_determine, place_one_line, path_one_line, path_determines, stood_one_line, stood_determines}
 
--- ---- lines: what they tell is the same where they are, and so is what follows them
+-- ---- lines: what they tell is the same if they are, and so is what follows them
 
 pub digest_line_determines : (front d e r s : Text) → IsDigest d → IsDigest e → field_line front (encode_lower d) r ≡ field_line front (encode_lower e) s → (d ≡ e) × (r ≡ s)
 digest_line_determines front d e r s h k f =
@@ -148,7 +148,7 @@ pub record NextLeft (r : Text) : Type 0 where
   pub names : IsLeft left
   pub is : r ≡ left_text left ++ rest
 
--- where a text begins with the lines of fewer branches than it has
+-- if a text begins with the lines of fewer branches than it has
 pub lefts_next : (ls ms : List Left) (r s : Text) → All IsLeft ls → All IsLeft ms → length ls < length ms → flat_map left_text ls ++ r ≡ flat_map left_text ms ++ s → NextLeft r
 lefts_next [] [] r s h k l e = absurd (omega (arith, l))
 lefts_next [] (m ∷ ms) r s h k l e = record {
@@ -163,7 +163,7 @@ lefts_next (n ∷ ls) (m ∷ ms) r s h k l e =
     (sym (append_assoc (left_text n) (flat_map left_text ls) r) ∙ e ∙ append_assoc (left_text m) (flat_map left_text ms) s) in
     lefts_next ls ms r s (All-tail IsLeft n ls h) (All-tail IsLeft m ms k) (omega (arith, l)) both.1
 
--- where it begins with as many
+-- if it begins with as many
 pub lefts_determine : (ls ms : List Left) (r s : Text) → All IsLeft ls → All IsLeft ms → length ls ≡ length ms → flat_map left_text ls ++ r ≡ flat_map left_text ms ++ s → (ls ≡ ms) × (r ≡ s)
 lefts_determine [] [] r s h k l e = (refl, e)
 lefts_determine [] (m ∷ ms) r s h k l e = absurd (omega (arith, l))

@@ -1,4 +1,4 @@
--- A report is found whole where it has the tail that a checkpoint says.
+-- A report is found whole if it has the tail that a checkpoint says.
 use Rattle.std.proofs.Common.{◌≡◌, ◌↔◌, ℕ, ◌-◌, ◌^◌, ◌<◌, [], length, take, drop, refl, sym, ◌∙◌, ap, subst, arith, length-append, true, false}
 use Rattle.std.specs.Prelude.{Option, Some, None, IsSome, IfSome}
 use Rattle.std.proofs.lemmas.List.{length-take}

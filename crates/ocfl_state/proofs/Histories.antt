@@ -73,7 +73,7 @@ kept_or_still step next old begun new now past (inl is) steps follows = keeps st
     grown = ap (λ (h : History). h.past) is ∙ (λ i. past i ++ now i ∷ [])
 kept_or_still step next old begun new now past (inr is) steps follows = still step old new steps (ap (λ (h : History). h.now) is ∙ now) (ap (λ (h : History). h.past) is ∙ past)
 
--- the same where what is kept next is what was kept, changed so
+-- the same if what is kept next is what was kept, changed so
 pub changed : (step : Step) (change : Kept → Kept) (next : Kept) (old begun new : History) → begun.now ≡ old.now → begun.past ≡ old.past
     → next ≡ change begun.now → (new ≡ then_keeps next begun) ⊎ (new ≡ begun)
     → ((c : Content) → step c c) → Follows step (images old) (IsImage (change old.now)) → Changes step old new

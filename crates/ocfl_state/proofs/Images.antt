@@ -17,7 +17,7 @@ at_most_or_more (suc n) (suc m) = ⊎_elim (λ le. inl (omega (arith, le))) (λ 
 begins_within : (a b c : Bytes) → Begins a b → Begins b c → Begins a c
 begins_within a b c ab bc = (ab.0 ++ bc.0, bc.1 ∙ ap (λ (l : Bytes). l ++ bc.0) ab.1 ∙ append_assoc a ab.0 bc.0)
 
--- so many bytes of a text begin it, also where more follow
+-- the first n bytes of a text begin it, even if more follow
 take_begins : (n : ℕ) (xs more : Bytes) → Begins (take n xs) (take n (xs ++ more))
 take_begins zero xs more = ([], refl)
 take_begins (suc n) [] more = (take (suc n) more, refl)
@@ -93,7 +93,7 @@ take_of_take (suc m) zero xs le = absurd (omega arith)
 take_of_take (suc m) (suc n) [] le = refl
 take_of_take (suc m) (suc n) (x ∷ xs) le = ap (λ (l : Bytes). x ∷ l) (take_of_take m n xs (omega arith))
 
--- cut after so many bytes, of which so many are synced
+-- cut after n bytes, of which some are synced
 take_both : (n synced : ℕ) (xs : Bytes) → take (min synced n) (take n xs) ≡ take n (take synced xs)
 take_both n synced xs = take_of_take (min synced n) n xs (omega arith) ∙ by_order (at_most_or_more synced n)
   where
@@ -107,7 +107,7 @@ take_both n synced xs = take_of_take (min synced n) n xs (omega arith) ∙ by_or
         least : min synced n ≡ n
         least = omega (arith, more)
 
--- a short beginning of two texts begins so many bytes of the first
+-- a short beginning of two texts begins n bytes of the first
 front_of_first : (n : ℕ) (first more text : Bytes) → n ≤ length first → length text ≤ n
     → Begins text (first ++ more) → Begins text (take n first)
 front_of_first n first more text long le front = (

@@ -82,7 +82,7 @@ in_range c d bytes long grown is short = omega (arith, is, short, ap (λ (x : Co
 
 -- ---- why bytes are not appended
 
--- a report is found to be another one only where its mark is another one
+-- a report is found to be another one only if its mark is another one
 pub another_mark : (mark : ReportMark) (report : Bytes) (found : Option ReportDigests) → found ≡ None → (IsSome found ↔ HasTail mark report) → mark ≢ summary_of report
 another_mark mark report found none fits same = lost ((subst (λ (o : Option ReportDigests). IsSome o ↔ HasTail mark report) none fits).1 tail)
   where

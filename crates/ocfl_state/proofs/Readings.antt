@@ -102,7 +102,7 @@ pushing_stops report start end reached a b more none before = subst (λ (xs : By
     same : part report start reached ≡ part report start end
     same = take_all (reached - start) (drop start report) short ∙ sym (take_all (end - start) (drop start report) (omega (arith, short, more, before.begun)))
 
--- the same where the last read gave nothing
+-- the same if the last read gave nothing
 pub pushing_stops_at : (report : Bytes) (start end reached count : ℕ) (a b c : ReportDigests) → reached < end → count ≡ 0 → drop reached report ≡ []
     → IsPushing report start end reached a b → PushesPart (take count (drop reached report)) count b c → PushesPart (part report start end) (reached - start) a c
 pushing_stops_at report start end reached count a b c more empty none before piece =

@@ -1,4 +1,4 @@
--- Digests go on from a summary, where the report has the tail of that.
+-- Digests go on from a summary, if the report has the tail of that.
 use Rattle.std.proofs.Common.{◌≡◌, ◌↔◌, ℕ, ◌+◌, ◌-◌, ◌*◌, ◌/◌, ◌^◌, ◌<◌, ◌≤◌, [], ◌++◌, length, take, drop, sym, ◌∙◌, ap, subst, arith}
 use Rattle.std.specs.Prelude.{◌%◌, Option, Some, None, IsSome, IfSome}
 use Rattle.std.proofs.lemmas.List.{drop-take, length-take-le, length-take, length-drop}

@@ -8,14 +8,14 @@ use Rattle.ocfl_state.specs.declared.folder.Trouble.TheVariants.{Failed, Full, T
 abbrev pub bytes_of : Vec ℕ Global → Bytes
 bytes_of v = v.items
 
--- `Failed` and `Full` are answered only where the disk has failed in the call, `Taken` never
+-- `Failed` and `Full` are answered only if the disk has failed in the call, `Taken` never
 pub record HasCause {T : Type 0} (before now : ℕ) (result : Result T Trouble) : Type 0 where
   pub later : before ≤ now
   pub failed : IsErrOf result Failed → before < now
   pub full : IsErrOf result Full → before < now
   pub not_taken : result ≢ Err Taken
 
--- the same where there is one more reason for `Failed`
+-- the same if there is one more reason for `Failed`
 pub record HasCauseOr {T : Type 0} (Reason : Type 0) (before now : ℕ) (result : Result T Trouble) : Type 0 where
   pub later : before ≤ now
   pub failed : IsErrOf result Failed → (before < now) ⊎ Reason
@@ -30,12 +30,12 @@ most_checkpoint = 1048576
 abbrev pub IsLong : Bytes → Type 0
 IsLong bytes = most_checkpoint < length bytes
 
--- what lies there as a checkpoint is longer
+-- what is there as a checkpoint is longer
 abbrev pub HasLong : Option Bytes → Type 0
 HasLong None = ⊥
 HasLong (Some bytes) = IsLong bytes
 
--- the same of closing, which is refused where a report of that cycle is closed
+-- the same of closing, which is refused if a report of that cycle is closed
 pub record ClosesRightly {T : Type 0} (content : Content) (cycle before now : ℕ) (result : Result T Trouble) : Type 0 where
   pub later : before ≤ now
   pub failed : IsErrOf result Failed → before < now
@@ -43,7 +43,7 @@ pub record ClosesRightly {T : Type 0} (content : Content) (cycle before now : �
   pub taken : result ≡ Err Taken → IsTrue (is_closed content.closed cycle)
   pub refused : IsTrue (is_closed content.closed cycle) → IsErr result
 
--- a read from there gives these bytes into a buffer of so many: none only at the end
+-- a read from there gives these bytes into a buffer of `room`: none only at the end
 pub record IsReadOf (report : Bytes) (start : ℕ) (bytes : Bytes) (room : ℕ) : Type 0 where
   pub within : length bytes ≤ room
   pub are : bytes ≡ take (length bytes) (drop start report)

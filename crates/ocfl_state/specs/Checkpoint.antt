@@ -86,7 +86,7 @@ yes_or_no false = codes "no"
 abbrev pub size_text : ReportMark → Text
 size_text m = decimal m.bytes ++ 32 ∷ decimal m.lines
 
--- where the cursor stood
+-- where the cursor was
 abbrev pub stood_text : Option Place → Text
 stood_text None = codes "start"
 stood_text (Some p) = codes "after " ++ place_text p

@@ -72,7 +72,7 @@ body_text path s a rest = codes "ocfl-scrub checkpoint 1\n" ++ field_line (codes
 abbrev pub OneLine : Text → Type 0
 OneLine t = All (λ b. b ≢ 10) t
 
--- the lines of a branch that was left out, by its place and where the cursor stood
+-- the lines of a branch that was left out, by its place and where the cursor was
 abbrev pub left_fields : Text → Text → Text → Text
 left_fields path stood rest = field_line (codes "left ") path (field_line [] stood rest)
 

@@ -17,7 +17,7 @@ pub record AreCheckpointLines (b lines : Text) : Type 0 where
 abbrev pub AreShown : Text → Text → Type 0
 AreShown b lines = AreCheckpointLines b lines ⊎ AreCursorLines b lines
 
--- of so many bytes at most
+-- and the most bytes
 abbrev pub max_shown : ℕ
 max_shown = 67108864
 

@@ -30,7 +30,7 @@ abbrev pub MayMove : ℕ → Bool → Step
 MayMove cycle whole old new = (new ≡ old) ⊎ (new ≡ moved cycle whole old)
 
 -- The report alone may differ: of its first n bytes those that were there stay, and it is no longer
--- than it was, or than so many bytes.
+-- than it was, or than `most` bytes.
 pub record MayTear (n most : ℕ) (old new : Content) : Type 0 where
   pub checkpoint : new.checkpoint ≡ old.checkpoint
   pub closed : new.closed ≡ old.closed

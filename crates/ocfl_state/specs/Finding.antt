@@ -14,7 +14,7 @@ abbrev pub IsWholeWith : (ReportDigests → Type 0) → FoundReport → Type 0
 IsWholeWith Holds (Whole digests) = Holds digests
 IsWholeWith Holds (Lost digests) = ⊥
 
--- where it is not, this holds of the digests of what is there
+-- if it is not, this holds of the digests of what is there
 abbrev pub IfLost : (ReportDigests → Type 0) → FoundReport → Type 0
 IfLost Holds (Whole digests) = ⊤
 IfLost Holds (Lost digests) = Holds digests

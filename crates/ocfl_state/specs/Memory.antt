@@ -7,7 +7,7 @@ use Rattle.std.proofs.Math.Nat.{le-max_right}
 use Rattle.ocfl_state.specs.Content.{Bytes, Content, with_checkpoint, with_report, moved}
 use Rattle.ocfl_state.specs.Crash.{Begins, Outcomes}
 
--- a content, of whose report so many bytes are on the disk, and which since then had so many at most
+-- a content, how many bytes of its report are on the disk, and how many it had since at most
 pub record Kept : Type 0 where
   pub content : Content
   pub synced : ℕ
@@ -65,21 +65,21 @@ images h c = IsImage h.now c
 abbrev pub images_since : History → ℕ → Outcomes
 images_since h t c = IsImage h.now c ⊎ IsPast (drop t h.past) c
 
--- what was kept after so many changes, if there were so many
+-- what was kept after n changes, if there were as many
 abbrev pub kept_after : History → ℕ → Option Kept
 kept_after h changes = slice_get (h.past ++ h.now ∷ []) changes
 
 abbrev pub or_zeros : Bool → Bytes → Bytes
 or_zeros zeroed bytes = if zeroed then replicate (length bytes) 0 else bytes
 
--- the report of which at most so many bytes stay that were not on the disk, or as many zeros
+-- the report of which at most n bytes stay that were not on the disk, or as many zeros
 abbrev pub torn : Kept → ℕ → Bool → Bytes
 torn k left zeroed = take k.synced k.content.report ++ or_zeros zeroed (take left (drop k.synced k.content.report))
 
 abbrev pub after_crash : ℕ → Bool → Kept → Content
 after_crash left zeroed k = with_report (torn k left zeroed) k.content
 
--- a folder that a crash after so many changes leaves, of which all is on the disk
+-- a folder that a crash after these changes leaves, of which all is on the disk
 pub record IsCrashed (h : History) (changes left : ℕ) (zeroed : Bool) (folder : History) : Type 0 where
   pub kept : Kept
   pub was : kept_after h changes ≡ Some kept

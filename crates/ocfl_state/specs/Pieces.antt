@@ -16,7 +16,7 @@ piece_size = 4194304
 abbrev pub no_pieces : Bytes
 no_pieces = replicate 32 0
 
--- what stands before a piece where it is hashed: the value before it in hexadecimal digits, and a
+-- what is before a piece when it is hashed: the value before it in hexadecimal digits, and a
 -- line feed
 abbrev pub before_piece : Bytes → Bytes
 before_piece value = encode_lower value ++ 10 ∷ []
@@ -68,7 +68,7 @@ summary_of report = record {
 abbrev pub IsTailed : ReportDigests → Type 0
 IsTailed digests = digests.untailed ≤ digests.bytes
 
--- The digests of a text that follows k whole pieces, which have this value and so many lines. Of
+-- The digests of a text that follows k whole pieces, which have this value and `before` lines. Of
 -- bytes in pieces that will be whole no tail is kept.
 pub record CarriedFrom (value : Bytes) (k before : ℕ) (digests : ReportDigests) (text : Bytes) : Type 0 where
   pub bytes : digests.bytes ≡ piece_size * k + length text
@@ -93,7 +93,7 @@ Pushes bytes old new = (new.untailed ≡ old.untailed) × ((value : Bytes) (k li
     → piece_size * k + length (text ++ bytes) < 2 ^ 64 → lines + length (text ++ bytes) < 2 ^ 64
     → CarriedFrom value k lines new (text ++ bytes))
 
--- just these bytes are pushed, so many
+-- just these bytes are pushed, `count` of them
 pub record PushesPart (part : Bytes) (count : ℕ) (old new : ReportDigests) : Type 0 where
   pub all : count ≡ length part
   pub pushed : Pushes part old new

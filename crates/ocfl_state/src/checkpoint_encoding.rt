@@ -179,7 +179,7 @@ fn put_left(left: &Left, text: &mut Vec<u8>) -> Result<(), AllocError>
     put_stood(&left.after, text)
 }
 
-/// Appends the line of where the cursor stood.
+/// Appends the line of where the cursor was.
 fn put_stood(after: &Option<Place>, text: &mut Vec<u8>) -> Result<(), AllocError>
     ensures { OnOk result
         (text.new.items ≡ text.old.items ++ stood_text after.now ++ 10 ∷ []) }

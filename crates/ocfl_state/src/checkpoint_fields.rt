@@ -184,7 +184,7 @@ pub(crate) fn read_path(alloc: Global, path: &[u8]) -> Result<Place, NotDecoded>
     Ok(place)
 }
 
-/// Where the cursor stood: `start`, or `after ` and a place.
+/// Where the cursor was: `start`, or `after ` and a place.
 pub(crate) fn read_stood(alloc: Global, line: &[u8]) -> Result<Option<Place>, NotDecoded>
     ensures place { IfOk result (λ stood. line.now ≡ stood_text stood) }
     ensures names { IfOk result (λ stood. IfSome stood IsPlace) }

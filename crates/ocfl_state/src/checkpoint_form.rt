@@ -34,7 +34,7 @@ pub(crate) const TOLD: &[u8] = b"told ";
 
 pub(crate) const LEFT: &[u8] = b"left ";
 
-// The words that stand in them.
+// The words that are in them.
 pub(crate) const OPEN: &[u8] = b"open";
 
 pub(crate) const CLOSING: &[u8] = b"closing";
@@ -43,10 +43,10 @@ pub(crate) const YES: &[u8] = b"yes";
 
 pub(crate) const NO: &[u8] = b"no";
 
-/// The line of a branch that was left while the cursor stood at the start.
+/// The line of a branch that was left while the cursor was at the start.
 pub(crate) const START: &[u8] = b"start";
 
-/// How the line begins where the cursor stood after a place.
+/// How the line begins if the cursor was after a place.
 pub(crate) const AFTER: &[u8] = b"after ";
 
 /// The path of the system's own root.

@@ -12,7 +12,7 @@ use crate::checkpoint_parts::Left;
 use crate::checkpoint_refused::NotDecoded;
 use std::alloc::Global;
 
-/// Reads the lines of so many branches. Gives what follows them too.
+/// Reads the lines of `count` branches. Gives what follows them too.
 pub(crate) fn read_all_left(
     alloc: Global,
     count: u64,
@@ -73,7 +73,7 @@ fn read_left(alloc: Global, text: &[u8]) -> Result<(Left, &[u8]), NotDecoded>
     }
 }
 
-/// The place of a branch, where the cursor stood, and what follows their lines.
+/// The place of a branch, where the cursor was, and what follows their lines.
 fn split_left(text: &[u8]) -> Option<(&[u8], &[u8], &[u8])>
     ensures found { IfSome result
         (λ parts. text.now ≡ left_fields parts.0.now parts.1.now parts.2.now) }

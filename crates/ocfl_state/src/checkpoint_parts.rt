@@ -52,6 +52,6 @@ pub struct ReportMark {
 pub struct Left {
     /// The place of the branch.
     pub place: Place,
-    /// The place that the cursor stood after; `None` if it stood at the start.
+    /// The place that the cursor was after; `None` if it was at the start.
     pub after: Option<Place>,
 }

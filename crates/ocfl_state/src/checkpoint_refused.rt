@@ -12,7 +12,7 @@ pub enum NotDecoded {
     /// The version in the first line is not known.
     #[error("version")]
     Version,
-    /// The last line is not the SHA-256 line of what stands before it.
+    /// The last line is not the SHA-256 line of what is before it.
     #[error("damaged")]
     Damaged,
     /// They are the text of no checkpoint.

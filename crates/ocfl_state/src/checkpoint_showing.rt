@@ -80,7 +80,7 @@ fn lines_of_cursor(alloc: Global, text: &[u8]) -> Result<Vec<u8>, ShowStop>
 ///
 /// At most 67,108,865 bytes are read.
 pub fn read_stored<R: Read>(alloc: Global, reader: &mut R) -> Result<Vec<u8>, NotShown>
-    // Where the reader's bytes are known, the answer is that of `show_stored` for all of them.
+    // If the reader's bytes are known, the answer is that of `show_stored` for all of them.
     ensures lines { IfOk result (λ lines. IfSome (R.remaining reader.old)
         (λ all. AreShown all lines.items)) }
     ensures refused { IfErr result (λ why. IfSome (R.remaining reader.old)

@@ -1,6 +1,6 @@
-//! The folder of the file system in which a state lies, and the calls of the system on it.
+//! The folder of the file system that a state is in, and the calls of the system on it.
 //!
-//! No link in the folder is followed: what lies at a name is looked at first, and what is opened
+//! No link in the folder is followed: what is at a name is looked at first, and what is opened
 //! must be the file of that look.
 ghost use Rattle.std.specs.Prelude.{◌≡◌, IfOk, Ok};
 
@@ -82,7 +82,7 @@ impl<R: Files<File = File> + AllocGlobal + Clone + Drop> Disk<R> {
         of_file(file, self.joined(file))
     }
 
-    /// What lies at a name, which may be a link. `None` if nothing does.
+    /// What is at a name, which may be a link. `None` if nothing is.
     pub(crate) fn look(&self, file: StateFile) -> Result<Option<Metadata>, Reason> {
         let path = self.path_of(file)?;
         match fs::symlink_metadata(&self.rt, path.as_str()) {
@@ -92,7 +92,7 @@ impl<R: Files<File = File> + AllocGlobal + Clone + Drop> Disk<R> {
         }
     }
 
-    /// Whether anything lies at a name.
+    /// Whether anything is at a name.
     pub(crate) fn has(&self, file: StateFile) -> Result<bool, Reason> {
         Ok(self.look(file)?.is_some())
     }
@@ -144,7 +144,7 @@ impl<R: Files<File = File> + AllocGlobal + Clone + Drop> Disk<R> {
         }
     }
 
-    /// Makes a file, and opens it for reading and appending. What lies there already is refused.
+    /// Makes a file, and opens it for reading and appending. What is there already is refused.
     pub(crate) fn create(&self, file: StateFile) -> Result<File, Reason> {
         let path = self.path_of(file)?;
         let mut options = for_appending();
@@ -153,7 +153,7 @@ impl<R: Files<File = File> + AllocGlobal + Clone + Drop> Disk<R> {
         of_file(file, options.open(&self.rt, path.as_str()))
     }
 
-    /// Opens a file for reading and appending, which is made where it is not there.
+    /// Opens a file for reading and appending, which is made if it is not there.
     pub(crate) fn open_or_create(&self, file: StateFile) -> Result<File, Reason> {
         match self.open(file, &for_appending())? {
             Some(opened) => Ok(opened),

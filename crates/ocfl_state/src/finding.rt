@@ -21,7 +21,7 @@ pub enum FoundReport {
 }
 
 /// Looks whether the report is as a checkpoint says, up to the length that it says. Less than 4 MiB
-/// are read where it is; else all of it up to that length.
+/// are read if it is; else all of it up to that length.
 #[tactic(auto, using(crate::proofs::Readings::passes_then))]
 pub fn find_report<S: StateFolder>(
     folder: &mut S,
@@ -29,7 +29,7 @@ pub fn find_report<S: StateFolder>(
 ) -> Result<FoundReport, Trouble>
     ensures whole { IsTrue S.told → IfOk result (λ found.
         IsWhole found ↔ HasTail mark.now (S.seen folder.old).report) }
-    // Where it begins with the report of which the checkpoint speaks, it is whole.
+    // If it begins with the report of which the checkpoint speaks, it is whole.
     ensures carried { IsTrue S.told → (text : Bytes) → mark.now ≡ summary_of text
         → Begins text (S.seen folder.old).report
         → IfOk result (λ found. IsWholeWith (λ digests. Carries digests text) found) }
@@ -48,7 +48,7 @@ pub fn find_report<S: StateFolder>(
 }
 
 /// Whether the report may be closed as whole: nothing of it was lost before, and it is the one that
-/// a checkpoint says. Where nothing was lost, it is read once.
+/// a checkpoint says. If nothing was lost, it is read once.
 #[tactic(auto, using(crate::proofs::Readings::passes_none))]
 pub fn may_close_whole<S: StateFolder>(
     folder: &mut S,

@@ -67,7 +67,7 @@ pub trait StateFolder {
     ghost faults: { Self → ℕ };
 
     /// The checkpoint's bytes, at most [`MOST_CHECKPOINT`]; `None` if there is no checkpoint.
-    /// `Failed` if what lies there is longer.
+    /// `Failed` if what is there is longer.
     fn checkpoint(&mut self) -> Result<Option<Vec<u8>>, Trouble>
         ensures bound { IfOk result (λ found. IfSome found (λ bytes.
             length bytes.items ≤ most_checkpoint)) }
@@ -150,7 +150,7 @@ pub trait StateFolder {
     /// The report becomes the closed report of a cycle, as a whole, and the next one is empty.
     /// After `Ok` that is on the disk, as far as the report was.
     ///
-    /// `Taken` where a report of that cycle is closed; then nothing is changed.
+    /// `Taken` if a report of that cycle is closed; then nothing is changed.
     fn close(&mut self, cycle: u64, whole: bool) -> Result<(), Trouble>
         ensures closed { IsTrue told → OnOk result
             (seen self.new ≡ moved cycle whole (seen self.old)) }

@@ -29,7 +29,7 @@ const NO_OFFSET: u64 = 1 << 63;
 /// link, a pipe or a folder in place of a file is opened. Files that are made have the mode 640,
 /// and folders 750, less the process's mask.
 ///
-/// `Full` is answered where the device or the quota is full, and `Memory` if memory ran out.
+/// `Full` is answered if the device or the quota is full, and `Memory` if memory ran out.
 /// Every other fault is `Failed`, also a checkpoint of more than 1 MiB. `reason` says why the last
 /// call failed that did.
 #[derive(Drop)]
@@ -88,9 +88,9 @@ fn fit(file: StateFile, bytes: &[u8]) -> Result<(), Reason>
 impl<R: Files<File = File> + AllocGlobal + Clone + Drop> FsState<R> {
     /// Opens the state folder at a path, which may be a link to it, and holds it.
     ///
-    /// With `create` the folder is made where it is not there, but not the one above it; one that
+    /// With `create` the folder is made if it is not there, but not the one above it; one that
     /// has no checkpoint but reports is refused. Without it a folder with neither checkpoint nor
-    /// lock is refused. Where it is refused, nothing in it was changed.
+    /// lock is refused. If it is refused, nothing in it was changed.
     pub fn open(rt: R, path: &str, create: bool) -> Result<FsState<R>, StateStop>
         ensures { IfOk result (λ folder. folder ≡ None) }
     {
@@ -111,7 +111,7 @@ impl<R: Files<File = File> + AllocGlobal + Clone + Drop> FsState<R> {
         self.reason
     }
 
-    /// Whether a file `stop` stands in the folder, whatever it is.
+    /// Whether a file `stop` is in the folder, whatever it is.
     pub fn has_stop(&mut self) -> Result<bool, Trouble>
         ensures kept { IfErr result (λ trouble. IsKept self.new trouble) }
         ensures same { OnOk result (self.new ≡ self.old) }
@@ -231,7 +231,7 @@ impl<R: Files<File = File> + AllocGlobal + Clone + Drop> FsState<R> {
         Ok(())
     }
 
-    /// Opens the report, which is made where it is not there.
+    /// Opens the report, which is made if it is not there.
     fn make_report(&mut self) -> Result<(), Reason>
         ensures { self.new ≡ self.old }
     {
@@ -320,7 +320,7 @@ impl<R: Files<File = File> + AllocGlobal + Clone + Drop> FsState<R> {
         self.disk.has(StateFile::Incomplete(cycle))
     }
 
-    /// Makes the folder of the closed reports where it is not there, and brings its name to the
+    /// Makes the folder of the closed reports if it is not there, and brings its name to the
     /// disk.
     fn make_reports(&self) -> Result<(), Reason> {
         if self.disk.has_folder(StateFile::Reports)? {

@@ -56,7 +56,7 @@ impl Model for Held {
     } };
 }
 
-/// Whether what lies there is longer than a checkpoint may be.
+/// Whether what is there is longer than a checkpoint may be.
 pub(crate) fn has_long(checkpoint: &Option<Vec<u8>>) -> bool
     ensures { IsTrue result ↔ HasLong (option_map bytes_of checkpoint.now) }
 {
@@ -209,7 +209,7 @@ fn bytes_or_zeros(alloc: Global, bytes: &[u8], zeroed: bool) -> Result<Vec<u8>, 
     Ok(copy)
 }
 
-/// The first bytes, at most so many.
+/// The first bytes, at most `most`.
 #[tactic(auto, using(std::proofs::lemmas::List::take_min))]
 fn front(bytes: &[u8], most: usize) -> &[u8]
     ensures { result.now ≡ take most bytes.now }
@@ -217,7 +217,7 @@ fn front(bytes: &[u8], most: usize) -> &[u8]
     &bytes[..most.min(bytes.len())]
 }
 
-/// All bytes but the first, of which there are at most so many.
+/// All bytes but the first `most`.
 #[tactic(auto, using(crate::proofs::Images::drop_min))]
 fn rest(bytes: &[u8], most: usize) -> &[u8]
     ensures { result.now ≡ drop most bytes.now }

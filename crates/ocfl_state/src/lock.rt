@@ -59,7 +59,7 @@ where
     Ok(())
 }
 
-/// Refuses a folder for a first night, where nights have been before.
+/// Refuses a folder for a first night, if nights have been before.
 fn refuse_used<R>(disk: &Disk<R>) -> Result<(), StateStop>
 where
     R: Files<File = File> + AllocGlobal + Clone + Drop,
@@ -76,7 +76,7 @@ where
     Ok(())
 }
 
-/// Opens the file of the lock. It is made where nights have been before, or are to begin.
+/// Opens the file of the lock. It is made if nights have been before, or are to begin.
 fn open_lock<R>(disk: &Disk<R>, create: bool) -> Result<File, StateStop>
 where
     R: Files<File = File> + AllocGlobal + Clone + Drop,

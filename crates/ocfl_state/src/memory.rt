@@ -69,7 +69,7 @@ impl MemState {
         self.call = Some(number);
     }
 
-    /// The checkpoint's bytes, where there is one.
+    /// The checkpoint's bytes, if there is one.
     pub fn checkpoint_bytes(&self) -> Option<&[u8]>
         ensures { option_map (λ bytes. bytes.now) result ≡ self.now.now.content.checkpoint }
     {
@@ -100,7 +100,7 @@ impl MemState {
         self.past.len()
     }
 
-    /// What was kept after so many changes.
+    /// What was kept after this number of changes.
     #[tactic(auto, using(crate::proofs::Histories::kept_last, crate::proofs::Histories::kept_earlier))]
     fn held_after(&self, changes: usize) -> Option<&Held>
         ensures { option_map (λ held. held.now) result ≡ kept_after self.now changes }
@@ -111,7 +111,7 @@ impl MemState {
         self.past.get(changes)
     }
 
-    /// The folder that a crash leaves if it comes after so many of the changes. Of the report's
+    /// The folder that a crash leaves if it comes after `changes` changes. Of the report's
     /// bytes that were not on the disk at most `left` stay, all zeros if `zeroed`. `None` if there
     /// were fewer changes.
     #[tactic(auto, using(crate::proofs::Images::torn_is_image))]

@@ -38,7 +38,7 @@ pub(crate) fn count_lines(bytes: &[u8]) -> usize
     bytes.iter().filter(|byte| **byte == b'\n').count()
 }
 
-/// A hasher that holds what stands before a piece.
+/// A hasher that holds what is before a piece.
 fn piece_hasher(value: &[u8; 32]) -> Sha256
     ensures { Holds256 result (before_piece value.now) }
 {
@@ -66,7 +66,7 @@ impl ReportDigests {
         ReportDigests::after(0, &[0; 32])
     }
 
-    /// Those of the empty text after so many whole pieces with this value. It counts lines from 0.
+    /// Those of the empty text after `count` whole pieces with this value. It counts lines from 0.
     #[tactic(auto, using(crate::proofs::PieceLaws::carried_after))]
     pub(crate) fn after(count: u64, value: &[u8; 32]) -> ReportDigests
         requires { count < 2 ^ 42 }
@@ -156,7 +156,7 @@ impl ReportDigests {
         self.push_from(bytes);
     }
 
-    /// The digests with the lines of a summary, where what follows the whole pieces has the digest
+    /// The digests with the lines of a summary, if what follows the whole pieces has the digest
     /// that it has of them.
     pub(crate) fn resumed(mut self, summary: &ReportMark) -> Option<ReportDigests>
         ensures found { (text : Bytes) → Holds256 self.tail text

@@ -1,4 +1,4 @@
-//! What lies in a state folder, and why a call of the system on it failed.
+//! What is in a state folder, and why a call of the system on it failed.
 ghost use Rattle.ocfl_state.specs.Reasons.{IsTroubleOf};
 
 use crate::folder::Trouble;
@@ -10,7 +10,7 @@ use std::{fmt, io};
 #[derive(Clone, Copy, Debug, PartialEq, Eq)]
 pub enum StateFile {
     Folder,
-    /// The folder that it lies in.
+    /// The folder that it is in.
     Above,
     Checkpoint,
     /// The next checkpoint while it is written.
@@ -23,7 +23,7 @@ pub enum StateFile {
     /// The closed report of a cycle that is not whole.
     Incomplete(u64),
     Lock,
-    /// Where this file stands, a night begins no further run.
+    /// If this file is there, a night begins no further run.
     Stop,
     Log,
     /// The cursor of the nightly scripts.
@@ -70,7 +70,7 @@ pub struct Reason {
 }
 
 impl Reason {
-    /// The trouble that is answered: `Full` where the device or the quota is full, `Memory` if
+    /// The trouble that is answered: `Full` if the device or the quota is full, `Memory` if
     /// memory ran out, else `Failed`.
     pub fn trouble(&self) -> Trouble
         ensures { IsTroubleOf self.now result }

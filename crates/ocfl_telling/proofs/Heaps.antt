@@ -13,7 +13,7 @@ use Rattle.ocfl_telling.specs.declared.gravest.Kept.{Kept}
 use Rattle.ocfl_telling.specs.declared.gravest.Gravest.{Gravest}
 use Rattle.ocfl_telling.proofs.Weights.{length_by_weight}
 
--- one line more is taken where the test takes it
+-- one line more is taken if the test takes it
 filter_more : (p : Line → Bool) (ls : List Line) (l : Line) → p l ≡ true → filter p (ls ++ l ∷ []) ≡ filter p ls ++ l ∷ []
 filter_more p ls l h =
     let one : filter p (l ∷ []) ≡ l ∷ [] = rw h refl in

@@ -57,7 +57,7 @@ one false = 0
 length_more : (p : Line → Bool) (l : Line) (ls : List Line) → length (filter p (l ∷ ls)) ≡ one (p l) + length (filter p ls)
 length_more p l ls = elim (p l) as (λ b. length (cond b (l ∷ filter p ls) (filter p ls)) ≡ one b + length (filter p ls)) [ true ↦ omega arith | false ↦ omega arith ]
 
--- a line has one weight where it is a finding, and else none
+-- a line has one weight if it is a finding, and else none
 one_weight : (c : Code) → one (is_weight Bytes (weight_of c)) + one (is_weight Object (weight_of c)) + one (is_weight Record (weight_of c)) + one (is_weight Position (weight_of c)) ≡ one (is_finding_code c)
 one_weight Clean = refl
 one_weight E001 = refl

@@ -16,7 +16,7 @@ not_whole_text cycle report = codes "Cycle " ++ decimal cycle ++ codes " has end
 abbrev pub ended_text : Bool → ℕ → Text → Text
 ended_text whole cycle report = if whole then [] else not_whole_text cycle report
 
--- how many are not shown, of a list that has so many of them
+-- how many are not shown, of a list of this length
 abbrev pub not_shown : ℕ → ℕ → ℕ
 not_shown count listed = count - min listed most_shown
 

@@ -8,7 +8,7 @@ use Rattle.ocfl_telling.specs.declared.weight.Weight.TheVariants.{Bytes, Object,
 use Rattle.ocfl_telling.specs.declared.gravest.Kept.{Kept}
 use Rattle.ocfl_telling.specs.declared.gravest.Gravest.{Gravest}
 
--- so many findings are shown at most
+-- the most findings that are shown
 abbrev pub most_shown : ℕ
 most_shown = 20
 

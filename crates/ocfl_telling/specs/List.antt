@@ -10,7 +10,7 @@ use Rattle.ocfl_telling.specs.declared.known.Entry.{Entry}
 use Rattle.ocfl_telling.specs.declared.list.KnownStop.{KnownStop}
 use Rattle.ocfl_telling.specs.declared.list.KnownStop.TheVariants as stop
 
--- from so many bytes at most
+-- and the most bytes
 abbrev pub max_bytes : ℕ
 max_bytes = 16777216
 

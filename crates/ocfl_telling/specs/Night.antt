@@ -37,10 +37,10 @@ more_text report left = if left == 0 then [] else some_more_text report left
 abbrev pub look_text : Text → Text
 look_text root = codes "To look at one again: ocfl-scrub check " ++ escape root ++ codes " PATH, with the path as shown above.\n"
 
--- so many findings, of which these are shown
+-- n findings, of which these are shown
 abbrev pub findings_text : Night → ℕ → List Line → Text
 findings_text n count shown = head_text n count ++ lines_text shown ++ more_text n.report.now (count - most_shown) ++ look_text n.root.now
 
--- the message of a night with these lines, and nothing where none is a finding
+-- the message of a night with these lines, and nothing if none is a finding
 abbrev pub night_text : Night → List Line → Text
 night_text n ls = if length (by_weight ls) == 0 then [] else findings_text n (length (by_weight ls)) (gravest ls)

@@ -37,8 +37,8 @@ pub struct Gone {
     pub place: Place,
 }
 
-/// What a closed cycle found. Each list has the first of what it is of, 20 or more where there are
-/// as many, in the order of places; beside it stands how many there are of all.
+/// What a closed cycle found. Each list has the first of what it is of, 20 or more if there are
+/// as many, in the order of places; beside it is how many there are of all.
 #[derive(Clone, Copy, Debug)]
 pub struct Closing<'a> {
     /// The number of the cycle.
@@ -107,7 +107,7 @@ fn put_findings(
     put_more(alloc, file, count, lines.len(), text)
 }
 
-/// Appends how many are not shown, of which so many are in the list.
+/// Appends how many of `count` are not shown, of which `listed` are in the list.
 fn put_more(
     alloc: Global,
     file: &str,

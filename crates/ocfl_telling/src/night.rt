@@ -84,7 +84,7 @@ pub(crate) fn more(alloc: Global, report: &str, left: u128) -> Result<String, Al
     some_more(alloc, report, left)
 }
 
-/// So many more, in a file.
+/// How many more are in a file.
 fn some_more(alloc: Global, report: &str, left: u128) -> Result<String, AllocError>
     ensures { IfOk result (λ text. string_bytes text ≡ some_more_text report.now left) }
 {
@@ -101,7 +101,7 @@ fn look(alloc: Global, root: &str) -> Result<String, AllocError>
     )
 }
 
-/// Appends the text of the first of these lines, up to so many. Gives how many more there may be.
+/// Appends the text of the first of these lines, up to `room`. Gives how many more there may be.
 pub(crate) fn put_first(
     lines: &[Line],
     room: usize,

@@ -20,6 +20,6 @@ pub record CoversBut (root : StorageRoot) (p : Place) (es : List Entry) (left : 
   pub there : All (λ e. kind_at root p e.name ≡ Some e.kind) es
   pub all : (n : Text) → kind_at root p n ≢ None → Contains (map (λ e. e.name) es) n ⊎ IsAmong left n
 
--- these are all entries of the directory, in some order; one may stand twice
+-- these are all entries of the directory, in some order; one may occur twice
 abbrev pub Covers : StorageRoot → Place → List Entry → Type 0
 Covers root p es = CoversBut root p es []

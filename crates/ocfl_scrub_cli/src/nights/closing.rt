@@ -52,7 +52,7 @@ struct Pair {
     cycle: u64,
     /// Whether its report is whole.
     whole: bool,
-    /// The number of the cycle before; 0 where there is no whole report.
+    /// The number of the cycle before; 0 if there is no whole report.
     before: u64,
     /// How many branches were left out, as far as this night knows.
     left: u64,
@@ -393,7 +393,7 @@ where
     }
 }
 
-/// The status of a night that closed a cycle: 3 where its report is not whole, 1 where something is
+/// The status of a night that closed a cycle: 3 if its report is not whole, 1 if something is
 /// new or gone, else 0.
 fn status_of(whole: bool, account: &Account) -> u8 {
     if !whole {
@@ -457,7 +457,7 @@ where
     first
 }
 
-/// Says what a closed cycle found, unless that was said, and gives the status. `cycle` is 0 where
+/// Says what a closed cycle found, unless that was said, and gives the status. `cycle` is 0 if
 /// no cycle was closed, and `left` is how many branches were left out of it.
 pub(crate) fn tell_closing<R, F, W>(
     rt: &R,

@@ -20,7 +20,7 @@ pub(crate) fn is_own(refusal: &Refusal) -> bool {
     }
 }
 
-/// What is said of a night that ended so; nothing where it ended well. `words` are the system's on
+/// What is said of a night that ended so; nothing if it ended well. `words` are the system's on
 /// the last call on the state folder that failed, and `why` on the last over the storage root.
 pub(crate) fn ending_text(
     alloc: Global,

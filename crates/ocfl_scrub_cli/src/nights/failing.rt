@@ -7,7 +7,7 @@ use std::alloc::{AllocError, AllocFailed};
 #[derive(Debug, Drop)]
 pub(crate) struct Failure {
     pub(crate) status: u8,
-    /// What is said, with its line feed. `None` where memory was refused.
+    /// What is said, with its line feed. `None` if memory was refused.
     pub(crate) text: Option<String>,
 }
 

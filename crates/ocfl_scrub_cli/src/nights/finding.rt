@@ -46,7 +46,7 @@ impl Findings {
     }
 }
 
-/// Whether a line is the one that is named: of that place, and of that code where one is named.
+/// Whether a line is the one that is named: of that place, and of that code if one is named.
 fn is_named(named: &Line, line: &Line) -> bool {
     let is_code = named.code == Code::Clean || named.code == line.code;
     is_code && named.place == line.place

@@ -26,7 +26,7 @@ struct Facts {
     root: Vec<u8>,
     from: Option<Place>,
     below: Option<Place>,
-    /// The cycle that was closed last; 0 where none was.
+    /// The cycle that was closed last; 0 if none was.
     last: u64,
     /// Whether that cycle is known to have read files, so that its report has lines.
     has_lines: bool,
@@ -88,7 +88,7 @@ fn refused(alloc: Global, path: &str, why: NotDecoded) -> Result<Failure, AllocE
     Ok(Failure::stopped(format!(in alloc; "{}/checkpoint: {why}\n", Shown(path))?))
 }
 
-/// What the state folder of a part says. `None` where there is no such folder yet.
+/// What the state folder of a part says. `None` if there is no such folder yet.
 fn read_facts<R>(rt: &R, path: &str) -> Result<Option<Facts>, Failure>
 where
     R: Files<File = File> + AllocGlobal,
@@ -135,7 +135,7 @@ where
     Ok(all)
 }
 
-/// The last cycle that each part has closed. 0 where one has closed none.
+/// The last cycle that each part has closed. 0 if one has closed none.
 fn last_of_all(all: &[Option<Facts>]) -> u64 {
     let mut last = u64::MAX;
     for one in all {

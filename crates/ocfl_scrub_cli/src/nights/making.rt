@@ -27,12 +27,12 @@ pub(crate) fn file_failure(
     Ok(Failure::stopped(format!(in alloc; "{}: {error}\n", Shown(path))?))
 }
 
-/// Whether something lies at a path.
+/// Whether something is at a path.
 pub(crate) fn is_there<R: Files>(rt: &R, path: &str) -> bool {
     fs::symlink_metadata(rt, path).is_ok()
 }
 
-/// Makes a file for its owner and his group, in place of what lies there.
+/// Makes a file for its owner and his group, in place of what is there.
 fn make<R: Files>(rt: &R, path: &str) -> io::Result<R::File> {
     // Removes what a killed night left, and does not write through a link there.
     let _ = fs::remove_file(rt, path);

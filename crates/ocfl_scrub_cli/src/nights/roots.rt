@@ -56,7 +56,7 @@ fn unresolved(
     Ok(Failure::stopped(format!(in alloc; "{}: {error}. Nothing was run.\n", Shown(root))?))
 }
 
-/// The ends of the part that is chosen. `None` where all of the root is.
+/// The ends of the part that is chosen. `None` if all of the root is.
 pub(crate) fn find_ends<R>(rt: &R, chosen: &Chosen) -> Result<Option<PartEnds>, Failure>
 where
     R: Files + AllocGlobal,
@@ -71,7 +71,7 @@ where
     }
 }
 
-/// The number of the part that is chosen. `None` where all of the root is.
+/// The number of the part that is chosen. `None` if all of the root is.
 pub(crate) fn part_number(chosen: &Chosen) -> Option<u64> {
     match chosen {
         Chosen::Part { number, .. } => Some(*number as u64),

@@ -6,7 +6,7 @@ use ocfl_tree::Place;
 use std::alloc::Global;
 use std::io::{self, BufRead, ErrorKind};
 
-/// Whether a place lies in a part.
+/// Whether a place is in a part.
 fn lies_in(part: &ClosedPart, place: &Place) -> bool {
     let is_from = match &part.from {
         Some(from) => place >= from,
@@ -28,7 +28,7 @@ fn place_of(alloc: Global, text: &[u8]) -> io::Result<Option<Place>> {
     }
 }
 
-/// Whether all lines are report lines, none of which comes before the one above it, and lie in the
+/// Whether all lines are report lines, none of which comes before the one above it, and are in the
 /// part.
 pub(crate) fn is_sound<B: BufRead>(
     alloc: Global,

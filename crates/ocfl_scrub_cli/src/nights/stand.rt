@@ -62,7 +62,7 @@ impl Standing {
         Standing { left, ..self }
     }
 
-    /// The cycle whose report was closed last. 0 where none was.
+    /// The cycle whose report was closed last. 0 if none was.
     pub(crate) fn last_closed(&self) -> u64 {
         if self.is_closed {
             self.cycle

@@ -12,7 +12,7 @@ use std::io;
 use std::path::Path;
 use std::rt::Files;
 
-/// The exit status where another night holds the folder's lock.
+/// The exit status if another night holds the folder's lock.
 const HELD: u8 = 75;
 
 /// Refuses a state folder in the storage root, and a storage root in the state folder.
@@ -30,7 +30,7 @@ where
     }
 }
 
-/// Whether the folder lies in the root, or would, or the root in the folder.
+/// Whether the folder is in the root, or would be, or the root in the folder.
 fn overlap<R: Files + AllocGlobal>(rt: &R, state: &str, root: &str) -> io::Result<bool> {
     match path_of(rt, state)? {
         Some(folder) => {

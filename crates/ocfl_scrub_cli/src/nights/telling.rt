@@ -14,7 +14,7 @@ use std::rc::Rc;
 pub(crate) struct Names<'a> {
     /// The path of the storage root.
     pub(crate) root: &'a str,
-    /// The number of the part, where only a part is read.
+    /// The number of the part, if only a part is read.
     pub(crate) part: Option<u64>,
     /// The path of the state folder.
     pub(crate) state: &'a str,

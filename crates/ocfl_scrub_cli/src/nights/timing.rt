@@ -32,7 +32,7 @@ pub(crate) fn seconds_now<R: Clock>(rt: &R) -> u64 {
     }
 }
 
-/// Whether a budget is spent by so much.
+/// Whether a budget is spent by this cost.
 pub(crate) fn is_spent_by(budget: Budget, cost: u64) -> bool {
     let Some(files) = FileLimit::new(2) else {
         return false;
@@ -53,7 +53,7 @@ pub(crate) struct NightClock<'a, R> {
     /// Where the nights stood when this one began.
     pub(crate) began: Standing,
     pub(crate) now: Rc<Cell<Standing>>,
-    /// Once so much is spent no further run begins.
+    /// Once this much is spent no further run begins.
     pub(crate) budget: Option<Budget>,
 }
 

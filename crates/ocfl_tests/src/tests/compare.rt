@@ -82,7 +82,7 @@ const BAD_LINES: [(&str, u64); 7] = [
     ("ok\ta\t-\nok\tb\t-\nok\tc\t-\nok\t.\t-\n", 4),
 ];
 
-/// Lines of the place `o`, and what is gone where this report has no line there.
+/// Lines of the place `o`, and what is gone if this report has no line there.
 const KINDS: [(&str, &[&str]); 3] = [
     (
         "object\to\n",

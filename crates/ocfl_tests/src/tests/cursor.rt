@@ -19,7 +19,7 @@ use std::test::Fail;
 mod part;
 mod stored;
 
-/// A place of so many names, each 255 bytes 0x01.
+/// A place of `count` names, each 255 bytes 0x01.
 fn long_place(alloc: Global, count: usize) -> Result<Place, Fail> {
     let name = String::from_utf8(vec![in alloc; 1u8; 255]?)?;
     let mut place = Place::root(alloc);
@@ -33,7 +33,7 @@ fn cursor_behind(place: Place) -> Result<Cursor, Fail> {
     Ok(Cursor::from_parts(1, 1, 0, 0, State::After(place)).ok_or("a place of at most 255 names")?)
 }
 
-/// The sealed text of a cursor that begins so and stands after this place.
+/// The sealed text of a cursor that begins so and is after this place.
 fn text_behind(alloc: Global, front: &str, place: &Place) -> Result<Vec<u8>, Fail> {
     let body = format!(in alloc; "{front}after {}\n", DisplayPlace(place))?;
     sealed(alloc, body.as_str())
@@ -129,7 +129,7 @@ fn reads_a_long_text_of_version_one(rt: HostRuntime) -> Result<(), Fail> {
     Ok(())
 }
 
-/// The text is refused so where it is cut before this byte, and where this byte is changed.
+/// The text is refused so if it is cut before this byte, and if this byte is changed.
 fn expect_damaged_at(
     rt: &impl Runtime,
     version: &str,
@@ -166,7 +166,7 @@ fn refuses_texts_that_are_cut_or_changed(rt: HostRuntime) -> Result<(), Fail> {
     Ok(())
 }
 
-/// What the body of a text is refused for, where this is put for that in it.
+/// What the body of a text is refused for, if this is put for that in it.
 fn refusal_with(alloc: Global, body: &str, from: &str, to: &str) -> Result<Option<Refused>, Fail> {
     let body = body.replace(alloc, from, to)?;
     Ok(refusal_of(alloc, &sealed(alloc, body.as_str())?))
@@ -399,7 +399,7 @@ fn reasons_have_their_texts(rt: HostRuntime) -> Result<(), Fail> {
     expect_shown(&rt, "version", &Refused::Version, "version")
 }
 
-/// A meter of this budget, for a run that may start so many files.
+/// A meter of this budget, for a run that may start `files` files.
 fn meter_of(budget: u64, files: u64) -> Result<Meter, Fail> {
     let budget = Budget::new(budget).ok_or("a budget")?;
     let files = FileLimit::new(files).ok_or("a limit on files")?;

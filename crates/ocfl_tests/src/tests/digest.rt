@@ -63,7 +63,7 @@ fn all() -> Wanted {
     wanted
 }
 
-/// So many bytes: 0 to 250, again and again.
+/// `count` bytes: 0 to 250, again and again.
 fn rising(alloc: Global, count: u32) -> Result<Vec<u8>, Fail> {
     let mut bytes = Vec::new(alloc);
     for i in 0..count {
@@ -79,7 +79,7 @@ fn tree_of(alloc: Global, bytes: Vec<u8>) -> Result<MemTree, Fail> {
     Ok(store)
 }
 
-/// A digest as lower-case hexadecimal, and no text where there is no digest.
+/// A digest as lower-case hexadecimal, and no text if there is no digest.
 fn text_of(alloc: Global, digest: Option<&[u8]>) -> Result<String, Fail> {
     let mut text = String::new(alloc);
     for byte in digest.unwrap_or(&[]) {
@@ -97,7 +97,7 @@ fn are(rt: &impl Runtime, row: &str, digests: &Digests, want: &[&str; 5]) -> Res
     Ok(())
 }
 
-/// The file `f` was opened once, gave so many bytes, and nothing was listed.
+/// The file `f` was opened once, gave `given` bytes, and nothing was listed.
 fn opened_once(
     rt: &impl Runtime,
     row: &str,

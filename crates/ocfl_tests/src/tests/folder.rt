@@ -99,7 +99,7 @@ fn both_stores_hold_the_same(rt: HostRuntime) -> Result<(), Fail> {
     Ok(())
 }
 
-/// Paths, and what their listing and their opening stop with; nothing where they do not stop.
+/// Paths, and what their listing and their opening stop with; nothing if they do not stop.
 const TROUBLES: [(&str, Option<Trouble>, Option<Trouble>); 10] = [
     // links, and what is below them or below a file
     ("to_file", Some(Trouble::Device), Some(Trouble::Device)),
@@ -162,7 +162,7 @@ const GROWS: [(&str, usize, &[usize], &[usize]); 5] = [
     ("after a part and the end", 2, &[2, 1], &[0, 0]),
 ];
 
-/// Reads with this room, which give so many bytes each.
+/// Reads with this room, and how many bytes each gives.
 fn expect_reads<T: Tree>(
     rt: &impl Runtime,
     row: &str,

@@ -46,7 +46,7 @@ fn expect(
     Ok(())
 }
 
-/// An inventory with so many arrays within one another.
+/// An inventory with this number of arrays within one another.
 fn nested(alloc: Global, arrays: usize) -> Result<String, Fail> {
     let front = "[".repeat(alloc, arrays)?;
     let back = "]".repeat(alloc, arrays)?;

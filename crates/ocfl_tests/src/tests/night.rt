@@ -53,7 +53,7 @@ impl Clock for Still {
     }
 }
 
-/// Runs of one file each, and so many files a night.
+/// Runs of one file each, and `files` files a night.
 fn plan(files: Option<u64>, end: Option<u64>, create: bool) -> Result<Plan, Fail> {
     Ok(Plan {
         slice_budget: Budget::new(1 << 62).ok_or("no budget")?,
@@ -296,7 +296,7 @@ fn a_run_that_stops_is_kept(rt: HostRuntime) -> Result<(), Fail> {
     expect_audit(&rt, "the rest", &nights)
 }
 
-/// Each folder that a crash after so many changes may leave closes the audit, and all of it is
+/// Each folder that a crash after these changes may leave closes the audit, and all of it is
 /// said: what was told by then, and what the nights say after the crash.
 fn expect_audit_after(
     rt: &impl Runtime,

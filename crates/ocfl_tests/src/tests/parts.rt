@@ -79,7 +79,7 @@ fn bad_lines_are_counted(rt: HostRuntime) -> Result<(), Fail> {
     Ok(())
 }
 
-/// So many lines, the first and least of which is `A000000`, and then these bytes.
+/// `count` lines, the first and least of which is `A000000`, and then these bytes.
 fn many_lines(alloc: Global, count: usize, last: &[u8]) -> Result<Vec<u8>, Fail> {
     let mut text = Vec::new(alloc);
     for number in 0..count {
@@ -95,7 +95,7 @@ fn long_texts_are_refused(rt: HostRuntime) -> Result<(), Fail> {
     let most = many_lines(alloc, 100_000, b"")?;
     let mut reader = most.as_slice();
     assert_eq!(rt; read_parts(alloc, &mut reader)?.len(), 100_000);
-    // One line more is too long, whatever stands there; a bad line before it comes first.
+    // One line more is too long, whatever is there; a bad line before it comes first.
     for (row, last) in [
         ("a further place", b"B\n".as_slice()),
         ("no line", b"/"),

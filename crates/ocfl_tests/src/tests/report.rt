@@ -14,7 +14,7 @@ use std::test::Fail;
 /// What a call of `write` does.
 #[derive(Clone, Copy)]
 enum Answer {
-    /// Takes up to so many bytes.
+    /// Takes up to this number of bytes.
     Takes(usize),
     Fails(ErrorKind),
 }
@@ -309,7 +309,7 @@ const NO_LINES: [(&str, &str); 37] = [
     ("a name of two dots", "ok\t..\t-\n"),
     ("an escaped dot", "ok\t%2E\t-\n"),
     ("a letter beyond ASCII in the place", "ok\té\t-\n"),
-    // Small digits, escapes of what stands as it is, broken escapes, bytes that are not UTF-8.
+    // Small digits, escapes of what stays as it is, broken escapes, bytes that are not UTF-8.
     ("small digits in the place", "ok\t%c3%a9\t-\n"),
     ("small digits in the detail", "E018\to\t%c3%a9\n"),
     ("a capital and a small digit", "E018\to\t%C3%a9\n"),

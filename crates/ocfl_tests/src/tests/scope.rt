@@ -18,7 +18,7 @@ fn part_of(alloc: Global, text: &[u8], number: usize) -> Result<Scope, ScopeStop
     find_part(alloc, &mut reader, number)
 }
 
-/// What is said where that part is not found, and the status.
+/// What is said if that part is not found, and the status.
 fn stop_of(alloc: Global, text: &[u8], number: usize) -> Result<Option<(String, u8)>, Fail> {
     match part_of(alloc, text, number) {
         Ok(_) => Ok(None),

@@ -58,7 +58,7 @@ fn root_with(alloc: Global, (objects, changes): &Root) -> Result<MemTree, Fail> 
     Ok(store)
 }
 
-/// Splits a root into so many parts. Gives the text of the separators.
+/// Splits a root into `count` parts. Gives the text of the separators.
 fn split_text(alloc: Global, store: &mut MemTree, count: usize) -> Result<String, Fail> {
     text_of(alloc, &split(alloc, store, count).map_err(said)?)
 }
@@ -182,7 +182,7 @@ fn a_level_of_many_directories(rt: HostRuntime) -> Result<(), Fail> {
     let text = split_text(alloc, &mut store, 3)?;
     assert_eq!(rt; text.as_str(), "10700\n11400\n");
     expect_listed(&rt, "2,100 directories", &store, ";")?;
-    // Each of them is listed where a deeper level is looked for.
+    // Each of them is listed if a deeper level is looked for.
     let text = split_text(alloc, &mut store, 2_101)?;
     assert_eq!(rt; text.as_str().lines().count(), 2_099);
     assert_eq!(rt; store.listings().len(), 2_102);

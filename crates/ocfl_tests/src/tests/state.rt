@@ -156,7 +156,7 @@ fn a_crash_loses_what_is_not_synced(rt: HostRuntime) -> Result<(), Fail> {
     Ok(())
 }
 
-/// What a crash after so many of the changes of `synced` leaves, with all bytes that were not on
+/// What a crash after each of the changes of `synced` leaves, with all bytes that were not on
 /// the disk lost.
 const MOMENTS: [&str; 7] = [
     "none|",

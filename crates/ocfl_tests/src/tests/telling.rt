@@ -35,7 +35,7 @@ fn codes_have_weights(rt: HostRuntime) -> Result<(), Fail> {
     Ok(())
 }
 
-/// What is found in a report that comes in pieces of so many bytes.
+/// What is found in a report that comes in pieces of `piece` bytes.
 fn found_in(
     alloc: Global,
     known: &Known,
@@ -85,7 +85,7 @@ fn nights_say_what_is_gravest_first(rt: HostRuntime) -> Result<(), Fail> {
     Ok(())
 }
 
-/// A report with so many findings of one code, at the places `p000` on.
+/// A report with `count` findings of one code, at the places `p000` on.
 fn many(alloc: Global, code: &str, count: usize) -> Result<String, Fail> {
     let mut text = String::new(alloc);
     for number in 0..count {

@@ -56,7 +56,7 @@ pub(crate) fn judged<T: Tree>(
 }
 
 /// Judging the item at a place gives these lines, with a bar for each tab and names of digests, and
-/// costs this much; no lines where there is no item.
+/// costs this much; no lines if there is no item.
 pub(crate) fn expect_item<T: Tree>(
     rt: &impl Runtime,
     row: &str,

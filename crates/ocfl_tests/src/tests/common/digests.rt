@@ -7,7 +7,7 @@ pub const ABC_SHA256: &str = "ba7816bf8f01cfea414140de5dae2223b00361a396177a9cb4
 pub const NOTHING_SHA256: &str = "e3b0c44298fc1c149afbf4c8996fb92427ae41e4649b934ca495991b7852b855";
 
 /// What the texts of tests call each digest (FIPS 180-4, RFC 1321). A name that another one begins
-/// with stands after that one.
+/// with comes after that one.
 const DIGESTS: [(&str, &str); 15] = [
     ("ABC_MD5", "900150983cd24fb0d6963f7d28e17f72"),
     ("ABC_SHA1", "a9993e364706816aba3e25717850c26c9cd0d89d"),

@@ -21,7 +21,7 @@ pub struct Slow<'a> {
 }
 
 impl Slow<'_> {
-    /// A call where no byte is left.
+    /// A call when no byte is left.
     fn read_behind(&self, buf: &mut [u8]) -> io::Result<usize> {
         match self.then {
             Then::Ends => Ok(0),

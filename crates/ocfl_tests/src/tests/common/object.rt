@@ -12,7 +12,7 @@ pub const FILE: &str = "o/v1/content/f";
 /// What lists it in a manifest, with the bytes `abc`.
 pub const LISTS_F: &str = r#""ABC_SHA256":["v1/content/f"]"#;
 
-/// What else may lie where it is listed: a name, what is put there, and the first line of its
+/// What else may be where it is listed: a name, what is put there, and the first line of its
 /// place. A directory with something in it is no item.
 pub const NO_FILE: [(&str, &[(&str, &str)], &str); 4] = [
     ("nothing", &[], ""),

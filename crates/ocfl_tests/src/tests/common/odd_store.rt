@@ -5,20 +5,20 @@ ghost use Rattle.ocfl_tree.specs.Store.{empty_store};
 use ocfl_memory::MemTree;
 use ocfl_tree::{Entry, Kind, Name, Place, Tree, Trouble};
 
-/// How a store differs from the one in memory that stands behind it.
+/// How a store differs from the one in memory behind it.
 #[derive(Drop)]
 pub enum Oddity {
-    /// It does not find what lies at this place, though it lists it.
+    /// It does not find what is at this place, though it lists it.
     Hides(Place),
     /// Each directory but the root has the entries of this one.
     Repeats(Place),
     /// The file at this place goes on with the byte `x` and never ends.
     NeverEnds(Place),
-    /// The root has so many files more, whose names begin with `a`.
+    /// The root has this number of files more, whose names begin with `a`.
     Crowds(u64),
 }
 
-/// So many files more for a listing.
+/// Adds `count` files to a listing.
 fn crowd(entries: &mut Vec<Entry>, count: u64) -> Result<(), Trouble> {
     let alloc = *entries.allocator();
     for number in 0..count {

@@ -2,7 +2,7 @@
 use std::alloc::Global;
 use std::io::{self, ErrorKind, Write};
 
-/// Keeps so many bytes in all, and then fails.
+/// Keeps `room` bytes in all, and then fails.
 #[derive(Drop)]
 pub struct Narrow {
     room: usize,

@@ -8,7 +8,7 @@ use ocfl_memory::{MemTree, Point};
 use std::alloc::Global;
 use std::test::Fail;
 
-/// A storage root: its name, what the manifest and the fixity block of its object `o` list, where
+/// A storage root: its name, what the manifest and the fixity block of its object `o` list, if
 /// there is one, and the changes that are made to it then. After them the lines of all its items,
 /// with bars for tabs, what judging these costs and the status of an audit.
 pub type Root = (
@@ -277,7 +277,7 @@ pub const ROOTS: [Root; 34] = [
         "ok|.|-\nok|o|-\nE023|o/v1/content/f|-\n",
         (4, 1),
     ),
-    // what lies in an object
+    // what is in an object
     (
         "a name with escapes",
         F_OF_ABC,
@@ -449,7 +449,7 @@ pub fn unread_in_fixity_alone(alloc: Global) -> Result<MemTree, Fail> {
     Ok(store)
 }
 
-/// A storage root with so many directories named `d`, each in the one before, and the last one's
+/// A storage root with `count` directories named `d`, each in the one before, and the last one's
 /// path.
 pub fn nested(alloc: Global, count: usize) -> Result<(MemTree, String), Fail> {
     let mut store = bare_root(alloc)?;

@@ -1,4 +1,4 @@
-//! Trees in memory: what lies in them, and what was asked of them.
+//! Trees in memory: what is in them, and what was asked of them.
 use crate::tests::common::Runtime;
 use ocfl_memory::MemTree;
 use ocfl_tree::{Name, Place};

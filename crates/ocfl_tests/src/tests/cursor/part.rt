@@ -204,7 +204,7 @@ fn right_body(alloc: Global) -> Result<String, Fail> {
     Ok(format!(in alloc; "{FIRST}from b\nbelow d\n{LINES}")?)
 }
 
-/// What stands in place of the first line.
+/// What is in place of the first line.
 const NO_FIRST_LINES: [(&str, &str); 7] = [
     ("no first line", ""),
     ("no line feed", "ocfl-scrub part cursor 1"),

@@ -92,7 +92,7 @@ fn read<R: Files + AllocGlobal + Clone + Drop>(
     Ok(store.read(&mut buffer))
 }
 
-/// What a file gives where this is moved to its path right before it is opened.
+/// What a file gives if this is moved to its path right before it is opened.
 fn read_as(
     rt: &HostRuntime,
     spare: &'static str,

@@ -57,7 +57,7 @@ struct Fake {
 }
 
 impl Fake {
-    /// One in which a kind of call fails so often.
+    /// One in which a kind of call fails a number of times.
     fn new(
         alloc: Global,
         names: &'static [u8],
@@ -319,7 +319,7 @@ fn faults_of_the_system_are_told_apart(rt: HostRuntime) -> Result<(), Fail> {
         assert_eq!(rt; answer, Err(want), "{kind:?} of an opening");
         let answer = read(Fake::new(alloc, names, Call::Read, kind, 1)?)?;
         assert_eq!(rt; answer, Err(Trouble::Device), "{kind:?} of a read");
-        // A directory in which it stands and a file that is open are there.
+        // A directory that it is in and a file that is open are there.
         let absent = want == Trouble::Absent;
         let want = if absent { Trouble::Device } else { want };
         let answer = listed(Fake::new(alloc, names, Call::OpenDir, kind, 1)?)?;

@@ -18,7 +18,7 @@ enum What {
     Link(u64),
 }
 
-/// A thing: its number, that of the directory that it lies in, and its name there.
+/// A thing: its number, that of the directory that it is in, and its name there.
 #[derive(Clone, Copy)]
 struct Thing {
     number: u64,
@@ -27,7 +27,7 @@ struct Thing {
     what: What,
 }
 
-/// The number of what everything lies in, of the storage root, and of a folder beside it.
+/// The number of what everything is in, of the storage root, and of a folder beside it.
 const TOP: u64 = 1;
 
 const ROOT: u64 = 2;
@@ -71,7 +71,7 @@ enum Event {
     IsMoved(u64),
 }
 
-/// All things, where the process stands, and what happens before which call.
+/// All things, where the process is, and what happens before which call.
 #[derive(Drop)]
 struct World {
     things: Vec<Thing>,
@@ -217,7 +217,7 @@ struct MemSystem {
 }
 
 impl MemSystem {
-    /// The world, where a call was counted.
+    /// The world, after a call was counted.
     fn call(&self) -> io::Result<RefMut<'_, World>> {
         self.calls.set(self.calls.get().saturating_add(1));
         let mut world = self.world.try_borrow_mut()?;
@@ -396,7 +396,7 @@ fn walked<T: Tree>(alloc: Global, store: &mut T) -> Result<Met, Fail> {
     Ok(met)
 }
 
-/// What a walk over all meets where nothing happens.
+/// What a walk over all meets if nothing happens.
 const ALL: &str = "z/f=z/f;d/h=d/h;d/e/g=d/e/g;d/e/f=d/e/f;a=a;";
 
 /// How many calls a walk over all makes at most.
@@ -443,7 +443,7 @@ fn what_takes_the_place_of_a_folder_is_not_read(rt: HostRuntime) -> Result<(), F
             };
             let row = format!(in alloc; "{event:?} before call {when}")?;
             assert!(rt; !met.text.contains("outside"), "{row}: {}", met.text);
-            // Whatever was read is what lies there, and the folder goes on.
+            // Whatever was read is what is there, and the folder goes on.
             let again = walked(alloc, &mut store)?;
             assert!(rt;
                 !again.text.contains("outside"),
@@ -470,7 +470,7 @@ fn another_folder_in_the_place_of_one_is_found_out(rt: HostRuntime) -> Result<()
                 break;
             };
             let row = format!(in alloc; "{event:?} before call {when}")?;
-            // One that lay there before the look is read; none is read for another.
+            // One that was there before the look is read; none is read for another.
             let both = met.text.contains("d/e/f=d/e/f;") && met.text.contains("d/e/f=outside;");
             assert!(rt; !both, "{row}: {}", met.text);
             let again = walked(alloc, &mut store)?;

@@ -33,7 +33,7 @@ fn made(
     Ok(FsTree::at(rt.clone()?, top)?)
 }
 
-/// Tries each wrong place where the directory was listed right before.
+/// Tries each wrong place right after the directory was listed.
 fn wrong_behind<T: Tree>(
     rt: &impl Runtime,
     store: &mut T,

@@ -74,7 +74,7 @@ fn heads_stop_at_their_declarations(rt: HostRuntime) -> Result<(), Fail> {
     says(&rt, "2.0 and 1.1", &both, "E003|p/o|-\n")
 }
 
-/// A name, an inventory, its sidecars for sha256 and sha512 where they are there, and the lines.
+/// A name, an inventory, its sidecars for sha256 and sha512 if they are there, and the lines.
 const INVENTORIES: [(&str, &str, Option<&str>, Option<&str>, &str); 14] = [
     (
         "both sidecars",

@@ -51,7 +51,7 @@ fn object(alloc: Global, store: &mut MemTree) -> Result<Option<Around>, Fail> {
     }))
 }
 
-/// The entry at a path, met in the part of the storage root that it lies in.
+/// The entry at a path, met in the part of the storage root that it is in.
 fn met(
     alloc: Global,
     store: &mut MemTree,

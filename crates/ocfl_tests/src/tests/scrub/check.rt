@@ -157,7 +157,7 @@ fn object_by(alloc: Global, members: &str, changes: &[(&str, &str)]) -> Result<M
 }
 
 /// Checking the path in that object writes this text, ends with this status and this note, and
-/// opens the path so often.
+/// opens the path this number of times.
 fn expect_check(
     rt: &impl Runtime,
     row: &str,

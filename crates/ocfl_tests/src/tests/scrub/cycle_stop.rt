@@ -30,7 +30,7 @@ const CUTS: [Cut; 8] = [
     (0, 1, &[1, 1, 1, 1]),
 ];
 
-/// What a run from the cursor writes where nothing limits it.
+/// What a run from the cursor writes if nothing limits it.
 fn rest_from(alloc: Global, store: &mut MemTree, cursor: Cursor) -> Result<String, Fail> {
     let (mut block, mut out) = (Block::new(alloc)?, Vec::new(alloc));
     let most = limits(MOST, MOST)?;
@@ -38,7 +38,7 @@ fn rest_from(alloc: Global, store: &mut MemTree, cursor: Cursor) -> Result<Strin
     Ok(String::from_utf8(out)?)
 }
 
-/// The cycle and its cursor say so many runs of a first cycle, and pay for the items that went out
+/// The cycle and its cursor say `runs` runs of a first cycle, and pay for the items that went out
 /// whole; a run from the cursor writes the rest of the report.
 fn expect_stop(
     rt: &impl Runtime,
@@ -61,7 +61,7 @@ fn expect_stop(
     Ok(())
 }
 
-/// A cycle whose output takes so many bytes of the report stops in the run that takes the item
+/// A cycle whose output takes `room` bytes of the report stops in the run that takes the item
 /// which the next byte is of.
 fn expect_cut_cycle(
     rt: &impl Runtime,
@@ -107,7 +107,7 @@ fn runs_begun(alloc: Global, store: &MemTree) -> Result<usize, Fail> {
 }
 
 /// The runs of a cycle are those that were begun until a call failed, and of these the last is the
-/// one that takes the last item that went out, or the next one, or lies between.
+/// one that takes the last item that went out, or the next one, or is between.
 fn expect_failing_cycle(
     rt: &impl Runtime,
     root: &mut Tried,

@@ -161,7 +161,7 @@ impl io::Write for Drops {
     }
 }
 
-/// A run over such an output is cut where its room is less than the report, and a run from its
+/// A run over such an output is cut if its room is less than the report, and a run from its
 /// cursor writes the rest.
 pub(crate) fn expect_dropped(rt: &impl Runtime, root: &mut Tried, room: usize) -> Result<(), Fail> {
     let alloc = rt.alloc();

@@ -249,7 +249,7 @@ fn limits_of_paths(rt: HostRuntime) -> Result<(), Fail> {
             finds(&rt, row, &mut store, line.as_str())?;
         }
         let place = format!(in alloc; "o/{path}")?;
-        // Where `f` itself is listed it is there.
+        // If `f` itself is listed it is there.
         if letters == 255 {
             let missing = format!(in alloc; "E092|o/{path}|sha256 missing\n")?;
             let lines = missing.as_str();

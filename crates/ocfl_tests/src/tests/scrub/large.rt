@@ -16,7 +16,7 @@ use ocfl_scrub::{audited, checked, perform, run};
 use std::alloc::Global;
 use std::test::Fail;
 
-/// The numbers from 10,000 on, so many, each in a text of its own.
+/// `count` numbers from 10,000 on, each in a text of its own.
 fn numbered(
     alloc: Global,
     count: u64,
@@ -92,7 +92,7 @@ fn inventory_of_three_hundred_members(rt: HostRuntime) -> Result<(), Fail> {
     expect(&rt, row, &mut store, FILE, FILE_IS_OK, 0, "")
 }
 
-/// What a deed writes, its status and its note, where no cursor is stored.
+/// What a deed writes, its status and its note, if no cursor is stored.
 pub(super) fn performed(
     alloc: Global,
     store: &mut MemTree,
@@ -195,7 +195,7 @@ fn lines_of_an_item_go_out_as_one_piece(rt: HostRuntime) -> Result<(), Fail> {
     Ok(())
 }
 
-/// The writer was called so often, and kept these lines.
+/// The writer was called `count` times, and kept these lines.
 fn expect_pieces(rt: &impl Runtime, row: &str, out: &Counting, lines: &str, count: usize) {
     assert_eq!(rt; out.calls, count, "{row}");
     assert!(rt; out.kept.as_slice() == lines.as_bytes(), "{row}");

@@ -14,7 +14,7 @@ use ocfl_scrub::Scope;
 use std::alloc::Global;
 use std::test::Fail;
 
-/// A path of so many names, each of these letters.
+/// A path of `count` names, each of these letters.
 fn long_path(alloc: Global, name: &str, count: usize) -> Result<String, Fail> {
     let mut path = format!(in alloc; "{name}/")?.repeat(alloc, count)?;
     path.pop();
@@ -108,7 +108,7 @@ fn details_of_many_bytes(rt: HostRuntime) -> Result<(), Fail> {
     Ok(())
 }
 
-/// So many objects, each with twenty files of the bytes `abc`. Gives the lines of its audit.
+/// Puts `count` objects, each with twenty files of the bytes `abc`. Gives the lines of its audit.
 fn put_objects(alloc: Global, store: &mut MemTree, count: u64) -> Result<String, Fail> {
     let mut paths = String::new(alloc);
     for number in 10..30u64 {

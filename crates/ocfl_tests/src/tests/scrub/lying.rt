@@ -135,7 +135,7 @@ struct Scant {
 }
 
 impl Scant {
-    /// Whether this call finds memory; where it does not, no file is open.
+    /// Whether this call finds memory; if it does not, no file is open.
     fn find_memory(&mut self) -> Result<(), Trouble> {
         self.calls = self.calls.saturating_sub(1);
         if self.calls > 0 {

@@ -15,7 +15,7 @@ use std::fs;
 use std::test::Fail;
 
 /// The root of a right object, which does not find what it lists at a place. The sidecar of it is
-/// the longer one where that is hidden.
+/// the longer one if that is hidden.
 pub(crate) fn forgetful(alloc: Global, hidden: &str) -> Result<Odd, Fail> {
     let inner = if hidden == LONG_SIDECAR {
         long_object(alloc, "ABC_SHA512")?

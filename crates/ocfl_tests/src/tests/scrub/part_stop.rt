@@ -14,7 +14,7 @@ use ocfl_walk::Fault;
 use std::alloc::Global;
 use std::test::Fail;
 
-/// The places between which a part of the root of two objects lies, `-` for none, and its report.
+/// The places between which a part of the root of two objects is, `-` for none, and its report.
 const INSIDE: [(&str, &str, &str); 3] = [
     (
         "o1/v1/content/f",
@@ -143,7 +143,7 @@ fn try_call(alloc: Global, call: &str, store: &mut MemTree, part: &Part) -> Resu
     }
 }
 
-/// What the store was asked begins what it is asked where nothing fails.
+/// What the store was asked begins what it is asked if nothing fails.
 fn asks_a_front(
     rt: &impl Runtime,
     row: &str,
@@ -192,7 +192,7 @@ fn expect_rest(
     Ok(())
 }
 
-/// The report where the file of one of the objects cannot be read.
+/// The report if the file of one of the objects cannot be read.
 fn expect_unread(
     rt: &impl Runtime,
     row: &str,

@@ -86,7 +86,7 @@ pub(crate) fn run_of(budget: u64) -> Result<Deed, Fail> {
     Ok(Deed::Run(limits(budget, MOST)?))
 }
 
-/// The budget and the limit of files of so many runs, what their cycle writes, and the note.
+/// The budget, the limit of files and the number of runs, what their cycle writes, and the note.
 const CYCLES: [(&str, u64, u64, usize, &[&str], &str); 5] = [
     (
         "one run too few",
@@ -368,7 +368,7 @@ fn commands_that_a_call_stops(rt: HostRuntime) -> Result<(), Fail> {
     Ok(())
 }
 
-/// What comes of the deed where the output takes ten bytes: what was written, and the cursor.
+/// What comes of the deed if the output takes ten bytes: what was written, and the cursor.
 fn with_ten_bytes(
     rt: &impl Runtime,
     row: &str,

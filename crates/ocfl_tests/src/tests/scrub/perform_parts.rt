@@ -176,7 +176,7 @@ fn the_call_of_which_laws_speak_is_made(rt: HostRuntime) -> Result<(), Fail> {
     Ok(())
 }
 
-/// Where a stored cursor stands, the part that it is of, what its run writes, and its cost.
+/// Where a stored cursor is, the part that it is of, what its run writes, and its cost.
 const STANDS: [(&str, &str, &str, &str, &[&str], u64); 4] = [
     ("at its start", "start", FILE_B, "-", &[B, C], 5),
     (

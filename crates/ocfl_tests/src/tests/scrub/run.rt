@@ -283,7 +283,7 @@ fn run_behind_the_end_of_a_cycle(rt: HostRuntime) -> Result<(), Fail> {
     Ok(())
 }
 
-/// The cursor, which says this, is worn: its run makes no call and writes nothing, even where both
+/// The cursor, which says this, is worn: its run makes no call and writes nothing, even if both
 /// would fail.
 fn is_worn(rt: &impl Runtime, cursor: Cursor, says: &str) -> Result<(), Fail> {
     let alloc = rt.alloc();

@@ -40,7 +40,7 @@ pub(crate) fn budgets(alloc: Global, budgets: &[u64]) -> Result<Vec<Limits>, Fai
     Ok(all)
 }
 
-/// The limits of so many runs, all of this budget and of this limit of files.
+/// The limits of `count` runs, all of this budget and of this limit of files.
 pub(crate) fn equal_limits(
     alloc: Global,
     count: usize,
@@ -54,7 +54,7 @@ pub(crate) fn equal_limits(
     Ok(all)
 }
 
-/// A cursor of the first cycle that has had no run and stands after this place.
+/// A cursor of the first cycle that has had no run and is after this place.
 pub(crate) fn cursor_after(alloc: Global, path: &str) -> Result<Cursor, Fail> {
     cursor_of(1, 0, State::After(place_of(alloc, path)?))
 }
@@ -240,7 +240,7 @@ pub(crate) fn reckoned(report: &str) -> Result<Figures, Fail> {
     Ok(sum)
 }
 
-/// A file's bytes and one more, where the line says that it was read.
+/// A file's bytes and one more, if the line says that it was read.
 fn cost_of(code: &str, detail: &str) -> u64 {
     let is_read = code == "ok" || code == "E092";
     if is_read && (detail == "3" || detail.ends_with(ABC_SHA256)) {
@@ -252,7 +252,7 @@ fn cost_of(code: &str, detail: &str) -> u64 {
     }
 }
 
-/// How many bytes the items have that went out whole, where so many bytes of the report did. Lines
+/// How many bytes the items have that went out whole, if `room` bytes of the report did. Lines
 /// of one place are one item.
 fn whole_items(report: &str, room: usize) -> usize {
     let mut whole = 0;
@@ -283,7 +283,7 @@ pub(crate) fn items_in(report: &str) -> usize {
     count
 }
 
-/// The figures of the items that went out whole, where so many bytes of the report did, and the
+/// The figures of the items that went out whole, if `room` bytes of the report did, and the
 /// report after them.
 pub(crate) fn due_of(report: &str, room: usize) -> Result<(Figures, &str), Fail> {
     let (went, left) = report

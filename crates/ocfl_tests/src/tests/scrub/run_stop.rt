@@ -180,7 +180,7 @@ fn until_stopped(
     Err("no stop within 100 runs".into())
 }
 
-/// Runs whose output takes so many bytes of the report pay for the items that went out whole, and a
+/// Runs whose output takes `room` bytes of the report pay for the items that went out whole, and a
 /// run from the cursor writes the rest.
 pub(crate) fn expect_cut_runs(
     rt: &impl Runtime,

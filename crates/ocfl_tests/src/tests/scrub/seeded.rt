@@ -122,7 +122,7 @@ fn grow_declaration(grown: &mut Grown, dice: &mut Dice, object: &str) -> Result<
     )
 }
 
-/// Puts what may stand in an object's content directories, and gives the paths that the manifest is
+/// Puts what may be in an object's content directories, and gives the paths that the manifest is
 /// to list.
 fn grow_content(grown: &mut Grown, dice: &mut Dice, object: &str) -> Result<String, Fail> {
     let alloc = grown.alloc;

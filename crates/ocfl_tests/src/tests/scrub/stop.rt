@@ -20,7 +20,7 @@ use std::alloc::Global;
 use std::test::Fail;
 
 /// Calls that fail over the root of an object by sha512: their places, what was written before, the
-/// note, and where the cursor of a run stands.
+/// note, and where the cursor of a run is.
 pub(crate) const STOPS: [(&str, &str, Point, &str, &str, &str); 3] = [
     (
         "listing the root",
@@ -144,13 +144,13 @@ impl Tried {
         Ok(Tried { number, store, all })
     }
 
-    /// These bytes are so many, and begin the report.
+    /// There are `count` of these bytes, and they begin the report.
     pub(crate) fn begins_with(&self, bytes: &[u8], count: usize) -> bool {
         bytes.len() == count && self.all.as_bytes().starts_with(bytes)
     }
 }
 
-/// An audit whose output takes so many bytes of the report says so. A walk after its last place
+/// An audit whose output takes `room` bytes of the report says so. A walk after its last place
 /// gives the rest, so that of the item that did not go out whole at most a beginning went out.
 fn expect_cut_audit(rt: &impl Runtime, root: &mut Tried, room: usize) -> Result<(), Fail> {
     let alloc = rt.alloc();

@@ -42,7 +42,7 @@ fn root(alloc: Global) -> Result<MemTree, Fail> {
     Ok(store)
 }
 
-/// The lines of the item at a place: `none` without one, `hashed` where its file must be
+/// The lines of the item at a place: `none` without one, `hashed` if its file must be
 /// read.
 fn text_at(store: &mut MemTree, alloc: Global, text: &str) -> Result<String, Fail> {
     let Some(pending) = item(alloc, store, text)? else {

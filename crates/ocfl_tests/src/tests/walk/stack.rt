@@ -9,7 +9,7 @@ use ocfl_walk::Walk;
 use std::alloc::Global;
 use std::test::Fail;
 
-/// The path of the next item; a dash where there are no more.
+/// The path of the next item; a dash if there are no more.
 pub(crate) fn step(alloc: Global, store: &mut MemTree, walk: &mut Walk) -> Result<String, Fail> {
     let text = match &walk.next(store).map_err(said)? {
         Some(pending) => String::from_str(alloc, pending.place().path())?,
@@ -18,7 +18,7 @@ pub(crate) fn step(alloc: Global, store: &mut MemTree, walk: &mut Walk) -> Resul
     Ok(text)
 }
 
-/// The path of an item, a dash where there are no more, and all directories that were listed when
+/// The path of an item, a dash if there are no more, and all directories that were listed when
 /// it was given.
 type Step = (&'static str, &'static str);
 

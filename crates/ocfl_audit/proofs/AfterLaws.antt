@@ -2,21 +2,16 @@
 use Rattle.std.proofs.Common.{◌≡◌, List, [], ◌∷◌, ◌++◌, refl, sym, ◌∙◌, ap, true, false, Bool, map, Some}
 use Rattle.std.specs.Prelude.{cond}
 use Rattle.std.specs.Ordering.{is_lt}
-use Rattle.std.specs.declared.cmp.Ordering.{Ordering}
-use Rattle.std.specs.declared.cmp.Ordering.TheVariants.{Less, Equal, Greater}
+use Rattle.std.specs.declared.cmp.Ordering.TheVariants.{Less}
 use Rattle.ocfl_tree.specs.Place.{Place, place_cmp}
 use Rattle.ocfl_tree.specs.Ascending.{IsBeforeAll, IsAscending}
 use Rattle.ocfl_report.specs.Line.{Item}
 use Rattle.ocfl_audit.specs.Audit.{after}
-use Rattle.ocfl_tree.proofs.Orders.{place_cmp_total, not_below_itself, not_both_below}
+use Rattle.ocfl_audit.proofs.BelowLaws.{less_from}
+use Rattle.ocfl_tree.proofs.Orders.{place_cmp_total, not_below_itself, not_both_below, not_less}
 
-abbrev places : List Item → List Place
+abbrev pub places : List Item → List Place
 places items = map (λ i. i.place) items
-
-less_from_test : (r : Ordering) → is_lt r ≡ true → r ≡ Less
-less_from_test Less e = refl
-less_from_test Equal e = cc
-less_from_test Greater e = cc
 
 -- what is above a place that has p below it is above p too
 all_above : (p q : Place) (items : List Item) → place_cmp p q ≡ Less → IsBeforeAll place_cmp q (places items) → after items (Some p) ≡ items
@@ -30,18 +25,13 @@ after_is_end [] p h = ([], refl)
 after_is_end (i ∷ items) p h = by (is_lt (place_cmp p i.place)) refl (after_is_end items p h.1)
   where
     by : (b : Bool) → is_lt (place_cmp p i.place) ≡ b → (front : List Item) × (items ≡ front ++ after items (Some p)) → (front : List Item) × (i ∷ items ≡ front ++ after (i ∷ items) (Some p))
-    by true e rest = ([], sym (ap (λ b. cond b (i ∷ after items (Some p)) (after items (Some p))) e ∙ ap (λ xs. i ∷ xs) (all_above p i.place items (less_from_test _ e) h.0)))
+    by true e rest = ([], sym (ap (λ b. cond b (i ∷ after items (Some p)) (after items (Some p))) e ∙ ap (λ xs. i ∷ xs) (all_above p i.place items (less_from _ e) h.0)))
     by false e rest = (i ∷ rest.0, ap (λ xs. i ∷ xs) rest.1 ∙ ap (λ b. i ∷ (rest.0 ++ cond b (i ∷ after items (Some p)) (after items (Some p)))) (sym e))
 
 -- all of what p comes before is above p
 above_kept : (p : Place) (items : List Item) → IsBeforeAll place_cmp p (places items) → after items (Some p) ≡ items
 above_kept p [] h = refl
 above_kept p (i ∷ items) h = ap (λ r. cond (is_lt r) (i ∷ after items (Some p)) (after items (Some p))) h.0 ∙ ap (λ xs. i ∷ xs) (above_kept p items h.1)
-
-not_less : (r : Ordering) → (r ≡ Less → ⊥) → is_lt r ≡ false
-not_less Less h = absurd (h refl)
-not_less Equal h = refl
-not_less Greater h = refl
 
 dropped : (p : Place) (i : Item) (items : List Item) → (place_cmp p i.place ≡ Less → ⊥) → after (i ∷ items) (Some p) ≡ after items (Some p)
 dropped p i items h = ap (λ b. cond b (i ∷ after items (Some p)) (after items (Some p))) (not_less _ h)

@@ -1,6 +1,6 @@
 -- Parts that are audited apart, each with what it could not read, are the audit of what they could
 -- not read together.
-use Rattle.std.proofs.Common.{◌≡◌, inl, inr, ℕ, List, [], ◌∷◌, ◌++◌, refl, sym, ◌∙◌, ap, true, false, Bool, map, filter, Option, Some, None}
+use Rattle.std.proofs.Common.{◌≡◌, inl, inr, ℕ, List, [], ◌∷◌, ◌++◌, refl, sym, ◌∙◌, ap, true, false, Bool, map, filter, Some, None}
 use Rattle.std.specs.Prelude.{cond, flat_map}
 use Rattle.std.specs.List.{AllByRecursion}
 use Rattle.std.specs.Ordering.{is_eq}
@@ -10,14 +10,12 @@ use Rattle.ocfl_tree.specs.Place.{Place, place_cmp, place_eq}
 use Rattle.ocfl_tree.specs.Ascending.{IsAscending, IsAmong}
 use Rattle.ocfl_tree.specs.StorageRoot.{StorageRoot}
 use Rattle.ocfl_tree.proofs.Orders.{place_cmp_exact, true_not_false, among_from_filter}
-use Rattle.ocfl_report.specs.Line.{Item}
-use Rattle.ocfl_inventory.specs.Note.{lines_at}
 use Rattle.ocfl_report.specs.Text.{lines_text, text}
-use Rattle.ocfl_audit.specs.Lines.{notes, cost}
 use Rattle.ocfl_audit.specs.Audit.{Unread, given_by, item_of, audit, total_cost}
 use Rattle.ocfl_audit.specs.Due.{item_places}
 use Rattle.ocfl_audit.specs.Runs.{total_files, sum_of}
 use Rattle.ocfl_audit.specs.Parts.{Part, lies_in, within, places_within, parts_of, unread_in, together, audited_apart}
+use Rattle.ocfl_audit.proofs.DueLaws.{item_read}
 use Rattle.ocfl_audit.proofs.PartLaws.{flat_flat, kept_is, places_within_is, within_by_places, items_join, lies_once, costs_sum, files_sum}
 
 -- ---- what is given at a place
@@ -121,9 +119,6 @@ module _ (z : Place) where
       )
 
 -- ---- items if what was read agrees
-
-item_read : StorageRoot → Place → Option ℕ → Item
-item_read root p g = record { place = p; lines = lines_at p (notes root g p); cost = cost root g p }
 
 items_alike : (root : StorageRoot) (u v : Unread) (ps : List Place) → ((p : Place) → IsAmong ps p → given_by u p ≡ given_by v p) → map (item_of root u) ps ≡ map (item_of root v) ps
 unfolding item_read

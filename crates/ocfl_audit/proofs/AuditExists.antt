@@ -196,9 +196,6 @@ notes_candidate root u (n ∷ p) some = zone_candidate root (n ∷ p) u (zone ro
 -- ---- the audit
 
 module _ (root : StorageRoot) (unread : Unread) where
-  has_notes : Place → Bool
-  has_notes p = has_lines (item_of root unread p)
-
   places_kept : (ps : List Place) → map (λ i. i.place) (filter has_lines (map (item_of root unread) ps)) ≡ filter (λ p. has_lines (item_of root unread p)) ps
   places_kept [] = refl
   places_kept (p ∷ ps) = by (has_lines (item_of root unread p)) (places_kept ps)

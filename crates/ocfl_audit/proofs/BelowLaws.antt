@@ -134,9 +134,6 @@ same_places : (xs ys : List Place) → IsAscending place_cmp xs → IsAscending 
 same_places xs ys h k to from = ascending_unique place_cmp_total place_cmp_exact xs ys h k (λ z. (to z, from z))
 
 module _ (ps : List Place) (ascends : IsAscending place_cmp ps) (d : Place) where
-  in_under : (e r : Place) → IsAmong ps (e ++ r) → IsAmong (under ps e) (e ++ r)
-  in_under e r i = among_filter (begins e) ps (e ++ r) i (begins_front e r)
-
   in_part : (n : Text) (r : Place) → IsAmong ps (d ++ n ∷ r) → IsAmong (under ps (d ++ n ∷ [])) (d ++ n ∷ r)
   in_part n r i = among_filter (begins (d ++ n ∷ [])) ps (d ++ n ∷ r) i (name_begins d n r)
 

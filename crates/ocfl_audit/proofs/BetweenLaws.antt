@@ -1,6 +1,7 @@
 -- What is between two places adds up, and between a place and the next that is seen is at most
 -- that one.
-use Rattle.std.proofs.Common.{◌≡◌, ◌≢◌, ◌⊎◌, inl, inr, List, [], ◌∷◌, ◌++◌, refl, sym, ◌∙◌, ap, subst, true, false, Bool, map, filter, Option, Some, None}
+use Rattle.std.proofs.Common.{◌≡◌, ◌≢◌, ◌⊎◌, inl, inr, List, [], ◌∷◌, ◌++◌, refl, sym, ◌∙◌, ap, subst, true, false, Bool, map, filter, Option, Some, None, append-nil}
+use Rattle.std.proofs.lemmas.Bool.{not-true}
 use Rattle.std.specs.Prelude.{cond, ◌&&◌, not, nat_le, length}
 use Rattle.std.specs.List.{list_all}
 use Rattle.std.specs.Ordering.{is_lt}
@@ -8,7 +9,7 @@ use Rattle.std.specs.declared.cmp.Ordering.{Ordering}
 use Rattle.std.specs.declared.cmp.Ordering.TheVariants.{Less, Equal, Greater}
 use Rattle.ocfl_tree.specs.Place.{Place, place_cmp}
 use Rattle.ocfl_tree.specs.Ascending.{ascending, IsAscending, IsAmong}
-use Rattle.ocfl_tree.specs.StorageRoot.{StorageRoot, Leaf, dir, at, is_dir, is_dir_leaf}
+use Rattle.ocfl_tree.specs.StorageRoot.{StorageRoot, dir, at, is_dir}
 use Rattle.ocfl_tree.proofs.Orders.{place_cmp_total, place_cmp_exact, true_not_false, below_from_greater, not_below_itself, not_less_itself, ascending_unique, among_ascending, among_filter, among_from_filter, among_left, among_right, ascends_filter, ascends_ascending}
 use Rattle.ocfl_audit.specs.Zone.{Zone, skipped, hierarchy, inside, zone, is_entered, is_listed_zone, seen, max_listed_depth, beginnings}
 use Rattle.ocfl_audit.specs.Walk.{is_reached}
@@ -18,15 +19,12 @@ use Rattle.ocfl_audit.specs.Head.{on}
 use Rattle.ocfl_audit.specs.Stack.{NoneSeenBetween, NoneSeenAbove}
 use Rattle.ocfl_audit.specs.Trail.{is_head, reads_inventory}
 use Rattle.ocfl_audit.specs.Between.{IsBeyond, IsWithin, between, up_to, is_looked_into, shows_entries, looked_between, read_between}
+use Rattle.ocfl_tree.proofs.Bools.{and_first, and_second}
 use Rattle.ocfl_audit.proofs.AuditExists.{seen_candidate, object_key, zone_is}
 use Rattle.ocfl_audit.proofs.BelowLaws.{less_from, from_append, ascends_append}
-use Rattle.ocfl_audit.proofs.WayLaws.{head_seen, is_closed}
+use Rattle.ocfl_audit.proofs.WayLaws.{dir_from, head_seen, is_closed}
 
 -- ---- what is between two places, by order alone
-
-not_true : (b : Bool) → not b ≡ true → b ≡ false
-not_true true h = absurd (true_not_false (sym h))
-not_true false h = refl
 
 module _ (ps : List Place) where
   pub among_between : (from to : Option Place) (z : Place) → IsAmong ps z → IsBeyond from z → IsWithin to z → IsAmong (between ps from to) z
@@ -49,7 +47,7 @@ module _ (ps : List Place) where
 
       up : (to : Option Place) → IsAmong (up_to (places_after ps from) to) z → IsAmong (places_after ps from) z × IsWithin to z
       up None k = (k, tt)
-      up (Some b) k = let l = among_from_filter (λ p. not (is_lt (place_cmp b p))) (places_after ps from) z k in (l.0, not_true _ l.1)
+      up (Some b) k = let l = among_from_filter (λ p. not (is_lt (place_cmp b p))) (places_after ps from) z k in (l.0, not-true _ l.1)
 
   module _ (ascends : IsAscending place_cmp ps) where
     pub between_ascends : (from to : Option Place) → IsAscending place_cmp (between ps from to)
@@ -151,19 +149,6 @@ module _ (ps : List Place) where
 
 -- ---- directories that are looked into, and objects whose inventories are read
 
-and_first : (a b : Bool) → a && b ≡ true → a ≡ true
-and_first true b h = refl
-and_first false b h = h
-
-and_second : (a b : Bool) → a && b ≡ true → b ≡ true
-and_second true b h = h
-and_second false b h = absurd (true_not_false (sym h))
-
-dir_leaf : (o : Option Leaf) → is_dir_leaf o ≡ true → o ≡ Some dir
-dir_leaf None h = absurd (true_not_false (sym h))
-dir_leaf (Some dir) h = refl
-dir_leaf (Some l) h = absurd (true_not_false (sym h))
-
 -- the storage root has no beginning before it
 abbrev pub directories : StorageRoot → List Place
 directories root = filter (is_looked_into root) (ascending place_cmp (candidates root))
@@ -185,7 +170,7 @@ module _ (root : StorageRoot) where
       let short = nat_le (length (n ∷ d)) max_listed_depth in
       let rest = and_second way (short && (is_dir root (n ∷ d) && shows_entries root (zone root (n ∷ d)))) h in
       let there = and_first (is_dir root (n ∷ d)) (shows_entries root (zone root (n ∷ d))) (and_second short (is_dir root (n ∷ d) && shows_entries root (zone root (n ∷ d))) rest) in
-      ap (λ b. cond b (at root (n ∷ d)) None) (and_first way (short && (is_dir root (n ∷ d) && shows_entries root (zone root (n ∷ d)))) h) ∙ dir_leaf (at root (n ∷ d)) there
+      ap (λ b. cond b (at root (n ∷ d)) None) (and_first way (short && (is_dir root (n ∷ d) && shows_entries root (zone root (n ∷ d)))) h) ∙ dir_from (at root (n ∷ d)) there
 
   pub head_zone : (p : Place) (z : Zone) → zone root p ≡ z → is_head z ≡ true → (o : Place) × (zone root p ≡ inside o [])
   head_zone p skipped e h = absurd (true_not_false (sym h))
@@ -193,16 +178,12 @@ module _ (root : StorageRoot) where
   head_zone p (inside o []) e h = (o, e)
   head_zone p (inside o (n ∷ q)) e h = absurd (true_not_false (sym h))
 
-  append_none : (p : Place) → p ++ [] ≡ p
-  append_none [] = refl
-  append_none (n ∷ p) = ap (λ q. n ∷ q) (append_none p)
-
   -- an object is seen at its own place, which is not the storage root's
   head_there : (p : Place) → is_head (zone root p) ≡ true → (seen root p ≡ Some dir) × (p ≢ [])
   head_there p h =
       let w = head_zone p (zone root p) refl h in
       let is = zone_is root p w.0 [] w.1 in
-      let same : p ≡ w.0 = is.whole ∙ append_none w.0 in
+      let same : p ≡ w.0 = is.whole ∙ append-nil w.0 in
       (ap (seen root) same ∙ head_seen root (is_closed root) p w.0 [] w.1, λ e. is.below (sym same ∙ e))
 
   dir_at : (p : Place) → seen root p ≡ Some dir → at root p ≡ Some dir
@@ -221,7 +202,7 @@ module _ (root : StorageRoot) where
       let way = list_all (is_entered root) (beginnings p) in
       let entered = and_second way (is_entered root p) h in
       let there = and_first (is_dir root p) (is_listed_zone root (zone root p)) (and_second (nat_le (length p) max_listed_depth) (is_dir root p && is_listed_zone root (zone root p)) entered) in
-      ap (λ b. cond b (at root p) None) (and_first way (is_entered root p) h) ∙ dir_leaf (at root p) there
+      ap (λ b. cond b (at root p) None) (and_first way (is_entered root p) h) ∙ dir_from (at root p) there
 
   pub is_directory : (p : Place) → is_looked_into root p ≡ true → IsAmong (directories root) p
   is_directory p h = among_filter (is_looked_into root) (ascending place_cmp (candidates root)) p

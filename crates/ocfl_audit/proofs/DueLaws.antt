@@ -51,11 +51,11 @@ no_notes xs (y ∷ ys) e h = absurd (true_not_false (sym (ap is_empty h) ∙ e))
 pub lines_alike : (root : StorageRoot) (u v : Option ℕ) (p : Place) → notes root u p ≡ [] → notes root v p ≡ []
 lines_alike root u v p h = no_notes (notes root u p) (notes root v p) (notes_alike root u v p) h
 
--- if two sets of unread files agree at a place, so do the audits there
 -- the item of a place, if this was read of it
-item_read : StorageRoot → Place → Option ℕ → Item
+unfoldable pub item_read : StorageRoot → Place → Option ℕ → Item
 item_read root p g = record { place = p; lines = lines_at p (notes root g p); cost = cost root g p }
 
+-- if two sets of unread files agree at a place, so do the audits there
 pub items_agree : (root : StorageRoot) (u v : Unread) (p : Place) → given_by u p ≡ given_by v p → items_of_place p (audit root u) ≡ items_of_place p (audit root v)
 unfolding item_read
 items_agree root u v p e =

@@ -1,9 +1,9 @@
 -- Which names are allowed, what is metadata, and what openings show.
-use Rattle.std.proofs.Common.{◌≡◌, ◌≢◌, ◌↔◌, ℕ, List, [], ◌∷◌, ◌++◌, refl, sym, ◌∙◌, ap, true, false, Bool, map, filter, Option, Some, None, codes, append_assoc}
+use Rattle.std.proofs.Common.{◌≡◌, ◌≢◌, ◌↔◌, ℕ, List, [], ◌∷◌, ◌++◌, refl, sym, ◌∙◌, ap, true, false, Bool, map, filter, Some, codes, append_assoc}
 use Rattle.std.proofs.lemmas.List.{map-append}
 use Rattle.std.specs.Prelude.{cond, ◌||◌, ◌&&◌, not, nat_lt, length}
 use Rattle.ocfl_tree.specs.Place.{Place, Text, text_eq, place_eq}
-use Rattle.ocfl_tree.specs.StorageRoot.{StorageRoot, Leaf, file, dir, other, at, is_dir, is_dir_leaf, names_in}
+use Rattle.ocfl_tree.specs.StorageRoot.{StorageRoot, file, dir, at, is_dir, is_dir_leaf, names_in}
 use Rattle.ocfl_inventory.specs.Note.{Note, plain}
 use Rattle.ocfl_report.specs.declared.code.Code.TheVariants.{E001, E015, S05}
 use Rattle.ocfl_inventory.specs.ListedPath.{is_version_name}
@@ -21,7 +21,7 @@ use Rattle.ocfl_audit.specs.Trail.{is_root_meta, is_meta_zone, is_meta, content_
 use Rattle.ocfl_audit.specs.Objects.{IsObjectRoot, IsInventoryFile, inventory, sidecar_sha256, sidecar_sha512, IsObjectFile, declaration, of_inventory, IsMetadata, of_root, of_object}
 use Rattle.ocfl_audit.proofs.AuditExists.{append_nothing, zone_is, place_from_test}
 use Rattle.ocfl_audit.proofs.BelowLaws.{text_from_test, text_same, place_same}
-use Rattle.ocfl_audit.proofs.WayLaws.{is_closed, zone_part}
+use Rattle.ocfl_audit.proofs.WayLaws.{dir_from, is_closed, zone_part}
 use Rattle.ocfl_audit.proofs.NextLaws.{zone_longer}
 use Rattle.ocfl_audit.proofs.ObjectLaws.{object_by_zone}
 use Rattle.ocfl_audit.proofs.Trails.{filter_append}
@@ -112,12 +112,6 @@ object_directories root p n = (to, back)
 
 -- ---- the storage root's extensions
 
-pub dir_there : (leaf : Option Leaf) → is_dir_leaf leaf ≡ true → leaf ≡ Some dir
-dir_there None h = absurd (true_not_false (sym h))
-dir_there (Some (file bytes)) h = absurd (true_not_false (sym h))
-dir_there (Some dir) h = refl
-dir_there (Some other) h = absurd (true_not_false (sym h))
-
 pub in_extensions : (root : StorageRoot) (p : Place) → (is_in_extensions root p ≡ true) ↔ ((q : Place) × ((p ≡ codes "extensions" ∷ q) × (at root (codes "extensions" ∷ []) ≡ Some dir)))
 in_extensions root [] = (λ e. absurd (true_not_false (sym e)), λ k. absurd (empty k.0 k.1.0))
   where
@@ -131,7 +125,7 @@ in_extensions root (n ∷ p) = (to, λ k. ap (is_in_extensions root) k.1.0 ∙ a
         by : (b : Bool) → text_eq n (codes "extensions") ≡ b → (b && is_dir root (n ∷ [])) ≡ true → (q : Place) × ((n ∷ p ≡ codes "extensions" ∷ q) × (at root (codes "extensions" ∷ []) ≡ Some dir))
         by true e k =
             let same = text_from_test n (codes "extensions") e in
-            (p, (ap (λ m. m ∷ p) same, ap (λ m. at root (m ∷ [])) (sym same) ∙ dir_there (at root (n ∷ [])) k))
+            (p, (ap (λ m. m ∷ p) same, ap (λ m. at root (m ∷ [])) (sym same) ∙ dir_from (at root (n ∷ [])) k))
         by false e k = absurd (true_not_false (sym k))
 
 module _ (root : StorageRoot) where

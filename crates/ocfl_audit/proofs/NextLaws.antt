@@ -1,5 +1,5 @@
 -- The next item: of what is seen on the stack, and of what the table names.
-use Rattle.std.proofs.Common.{◌≡◌, ◌≢◌, ◌⊎◌, inl, inr, ℕ, List, [], ◌∷◌, ◌++◌, refl, sym, ◌∙◌, ap, subst, true, false, Bool, map, filter, Option, Some, None, append_assoc}
+use Rattle.std.proofs.Common.{◌≡◌, ◌≢◌, ◌⊎◌, inl, inr, ℕ, List, [], ◌∷◌, ◌++◌, refl, sym, ◌∙◌, ap, subst, true, false, Bool, map, filter, Option, Some, None, append_assoc, append-nil}
 use Rattle.std.specs.Prelude.{cond, flat_map, filter_map, is_some, ◌&&◌}
 use Rattle.std.specs.Ordering.{is_lt, is_eq, ordering_then}
 use Rattle.std.specs.declared.cmp.Ordering.{Ordering}
@@ -159,12 +159,8 @@ module _ (root : StorageRoot) (closed : IsClosed root) where
       ∙ ap (λ l. l ++ seen_left (seen_places root) fs) (sym (split_after (seen_places root) (seen_ascend root) d (seen_names root d) (seen_names_ascend root d) (cover_seen d) n q))
 
   pub listed_is : (q : Place) → seen_left (seen_places root) (listed_at root [] q []) ≡ filter (above q) (seen_places root)
-  listed_is q = listed_left [] q [] ∙ append_none (filter (above q) (under (seen_places root) [])) ∙ ap (filter (above q)) (all (seen_places root))
+  listed_is q = listed_left [] q [] ∙ append-nil (filter (above q) (under (seen_places root) [])) ∙ ap (filter (above q)) (all (seen_places root))
     where
-      append_none : (xs : List Place) → xs ++ [] ≡ xs
-      append_none [] = refl
-      append_none (x ∷ xs) = ap (λ l. x ∷ l) (append_none xs)
-
       all : (xs : List Place) → filter (begins []) xs ≡ xs
       all [] = refl
       all (x ∷ xs) = ap (λ l. x ∷ l) (all xs)

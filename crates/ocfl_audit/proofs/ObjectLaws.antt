@@ -150,10 +150,6 @@ module _ (root : StorageRoot) where
       let f = h.inventory.1 in
       λ i. is_head (z i) && is_some (cond (is_known (d i)) (f i) None)
 
-  pub read_which : (o : Place) → HasInventory root o ↔ IsAmong (read_between root None None) o
-  unfolding read_between
-  read_which o = (λ h. is_object root o (reads_there o h), λ i. has_inventory o (from_object root o i))
-
   pub read_ascends : IsAscending place_cmp (read_between root None None)
   unfolding read_between
   read_ascends = objects_ascend root

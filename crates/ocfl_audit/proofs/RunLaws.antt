@@ -1,6 +1,6 @@
 -- Laws of cuts and runs.
 use Rattle.std.proofs.Common.{◌≡◌, ◌≢◌, ◌⊎◌, inl, inr, ℕ, zero, suc, ◌+◌, ◌<◌, ◌≤◌, ◌^◌, zero-le, List, [], ◌∷◌, ◌++◌, refl, sym, ◌∙◌, ap, ap₂, subst, true, false, Bool, ◌-◌, ◌*◌, ◌/◌, suc-mul, mul_comm, arith, All, map, take, drop, length, replicate, leb-true, leb-false, ltb-true, ltb-false, eqb-true, Some}
-use Rattle.std.proofs.lemmas.Bool.{eqb-false, lt-ltb}
+use Rattle.std.proofs.lemmas.Bool.{and_cases, and_parts, eqb-false, lt-ltb}
 use Rattle.std.proofs.lemmas.Nat.{le-div}
 use Rattle.std.proofs.Math.Nat.{lt-mul-div-succ, div-mul-le_self}
 use Rattle.std.proofs.lemmas.List.{take-append-drop, take-replicate, length-replicate}
@@ -15,21 +15,13 @@ use Rattle.ocfl_audit.specs.Runs.{Limits, files_of, total_files, may_take, cut_l
 false_not_true : false ≡ true → ⊥
 false_not_true e = cc
 
-both_true : (p q : Bool) → (p && q) ≡ true → (p ≡ true) × (q ≡ true)
-both_true true q e = (refl, e)
-both_true false q e = absurd (false_not_true e)
-
-one_false : (p q : Bool) → (p && q) ≡ false → (p ≡ false) ⊎ (q ≡ false)
-one_false true q e = inr e
-one_false false q e = inl refl
-
 -- an item that costs something is taken below both limits
 taken_test : (l : Limits) (s f c : ℕ) → may_take l s f c ≡ true → 0 < c → (s < l.budget) × (f < l.files)
 taken_test l s f c h p = by (c == 0) refl h
   where
     by : (t : Bool) → c == 0 ≡ t → (t || (nat_lt s l.budget && nat_lt f l.files)) ≡ true → (s < l.budget) × (f < l.files)
     by true e g = let z : c ≡ 0 = eqb-true c 0 e in absurd (omega (arith, z, p))
-    by false e g = let both = both_true (nat_lt s l.budget) (nat_lt f l.files) g in (ltb-true s l.budget both.0, ltb-true f l.files both.1)
+    by false e g = let both = and_parts (nat_lt s l.budget) (nat_lt f l.files) g in (ltb-true s l.budget both.0, ltb-true f l.files both.1)
 
 -- an item that is left costs something, and one of the limits is reached before it
 pub record IsLeft (l : Limits) (s f c : ℕ) : Type 0 where
@@ -45,7 +37,7 @@ left_test l s f c h = by (c == 0) refl h
 
     by : (t : Bool) → c == 0 ≡ t → (t || (nat_lt s l.budget && nat_lt f l.files)) ≡ false → IsLeft l s f c
     by true e g = absurd (false_not_true (sym g))
-    by false e g = let z : c ≢ 0 = eqb-false c 0 e in record { costs = omega (arith, z); reached = which (one_false (nat_lt s l.budget) (nat_lt f l.files) g) }
+    by false e g = let z : c ≢ 0 = eqb-false c 0 e in record { costs = omega (arith, z); reached = which (and_cases (nat_lt s l.budget) (nat_lt f l.files) g) }
 
 -- ---- the cut is the greatest
 
@@ -272,10 +264,10 @@ same_few_files items bs h = runs_of_budgets items bs (few_files_fit items bs h)
 -- ---- budgets alone
 
 -- the test by a budget alone
-abbrev affords : ℕ → ℕ → ℕ → Bool
+abbrev pub affords : ℕ → ℕ → ℕ → Bool
 affords b s c = c == 0 || nat_lt s b
 
-left_over : (b s c : ℕ) → affords b s c ≡ false → (0 < c) × (b ≤ s)
+pub left_over : (b s c : ℕ) → affords b s c ≡ false → (0 < c) × (b ≤ s)
 left_over b s c h = by (c == 0) refl h
   where
     by : (t : Bool) → c == 0 ≡ t → (t || nat_lt s b) ≡ false → (0 < c) × (b ≤ s)
@@ -370,7 +362,7 @@ runs_take_all b bs items h =
 
 -- ---- equal budgets alone
 
-cancel : (xs ys zs : List Item) → xs ++ ys ≡ xs ++ zs → ys ≡ zs
+pub cancel : (xs ys zs : List Item) → xs ++ ys ≡ xs ++ zs → ys ≡ zs
 cancel [] ys zs e = e
 cancel (x ∷ xs) ys zs e = cancel xs ys zs (let f : xs ++ ys ≡ xs ++ zs = cc in f)
 
@@ -473,7 +465,7 @@ budgets_equal : (l : Limits) (n : ℕ) → map (λ k. k.budget) (replicate n l) 
 budgets_equal l zero = refl
 budgets_equal l (suc n) = ap (λ r. l.budget ∷ r) (budgets_equal l n)
 
-same_equal : (items : List Item) (l : Limits) (n : ℕ) → FileLimitFits items l → runs items (replicate n l) ≡ budget_runs items (replicate n l.budget)
+pub same_equal : (items : List Item) (l : Limits) (n : ℕ) → FileLimitFits items l → runs items (replicate n l) ≡ budget_runs items (replicate n l.budget)
 same_equal items l n h = same_runs items (replicate n l) (fits_equal items l n h) ∙ ap (budget_runs items) (budgets_equal l n)
 
 pub same_few : (items : List Item) (l : Limits) (n : ℕ) → FileLimitFits items l → 1 ≤ l.budget → 1 ≤ total_cost items → length (runs items (replicate n l)) ≤ (total_cost items - 1) / l.budget + 1

@@ -5,7 +5,7 @@ use Rattle.std.specs.List.{cons_option, list_all}
 use Rattle.std.specs.Ordering.{is_lt}
 use Rattle.std.specs.declared.cmp.Ordering.{Ordering}
 use Rattle.std.specs.declared.cmp.Ordering.TheVariants.{Less, Equal, Greater}
-use Rattle.ocfl_tree.specs.Place.{Place, Text, text_cmp, text_eq, place_cmp, place_eq, child_name}
+use Rattle.ocfl_tree.specs.Place.{Place, Text, text_cmp, place_cmp, place_eq, child_name}
 use Rattle.ocfl_tree.specs.Ascending.{IsAscending, IsAmong}
 use Rattle.ocfl_tree.specs.StorageRoot.{StorageRoot, Leaf, lookup, at, is_dir, is_dir_leaf, names_in}
 use Rattle.ocfl_inventory.specs.Table.{Table, paths_of}
@@ -13,24 +13,14 @@ use Rattle.ocfl_audit.specs.Zone.{hierarchy, inside, zone, table_at, seen, is_en
 use Rattle.ocfl_audit.specs.Walk.{is_reached, seen_names, IsClosed}
 use Rattle.ocfl_audit.specs.Stack.{Frame, seen_places, seen_in, seen_left, listed_at, NoneSeenBetween, NoPathBetween, NoneSeenAbove, NoPathAbove, IsStack, IsNextPath}
 use Rattle.ocfl_tree.proofs.Orders.{ascending_unique, ascends_ascending, place_cmp_total, place_cmp_exact, true_not_false, not_below_itself, not_both_below, below_from_greater, before_each, among_ascending, among_filter, among_from_filter, ascends_filter}
+use Rattle.ocfl_tree.proofs.Places.{append-child_name}
 use Rattle.ocfl_audit.proofs.AuditExists.{zone_is}
-use Rattle.ocfl_audit.proofs.BelowLaws.{text_cmp_total, text_cmp_exact, text_from_test, place_same, above, less_from, cmp_behind}
+use Rattle.ocfl_audit.proofs.BelowLaws.{text_cmp_total, text_cmp_exact, place_same, above, less_from, cmp_behind}
 use Rattle.ocfl_audit.proofs.StepLaws.{seen_step, reached_step}
 use Rattle.ocfl_audit.proofs.WayLaws.{at_step}
 use Rattle.ocfl_audit.proofs.NextLaws.{seen_ascend, seen_from, seen_to, least_above, same_above, listed_is, listing_step}
 
 -- ---- an entry of a listing is seen
-
-child_whole : (d p : Place) (n : Text) → child_name d p ≡ Some n → p ≡ d ++ n ∷ []
-child_whole [] [] n h = cc
-child_whole [] (m ∷ []) n h = let e : m ≡ n = cc in ap (λ x. x ∷ []) e
-child_whole [] (m ∷ k ∷ p) n h = cc
-child_whole (a ∷ d) [] n h = cc
-child_whole (a ∷ d) (m ∷ p) n h = by (text_eq a m) refl h (child_whole d p n)
-  where
-    by : (b : Bool) → text_eq a m ≡ b → cond b (child_name d p) None ≡ Some n → (child_name d p ≡ Some n → p ≡ d ++ n ∷ []) → m ∷ p ≡ a ∷ d ++ n ∷ []
-    by true e g k = λ i. sym (text_from_test a m e) i ∷ k g i
-    by false e g k = cc
 
 key_from_entry : (d : Place) (n : Text) (root : StorageRoot) → IsAmong (filter_map (λ e. child_name d e.0) root) n → IsAmong (map (λ e. e.0) root) (d ++ n ∷ [])
 key_from_entry d n [] i = absurd i
@@ -39,7 +29,7 @@ key_from_entry d n (e ∷ root) i = by (child_name d e.0) refl i (key_from_entry
     by : (o : Option Text) → child_name d e.0 ≡ o → IsAmong (cons_option o (filter_map (λ x. child_name d x.0) root)) n
         → (IsAmong (filter_map (λ x. child_name d x.0) root) n → IsAmong (map (λ x. x.0) root) (d ++ n ∷ [])) → IsAmong (map (λ x. x.0) (e ∷ root)) (d ++ n ∷ [])
     by None f j k = inr (k j)
-    by (Some m) f (inl g) k = inl (sym (child_whole d e.0 n (f ∙ ap (λ x. Some x) (sym g))))
+    by (Some m) f (inl g) k = inl (sym (append-child_name d e.0 n (f ∙ ap (λ x. Some x) (sym g))))
     by (Some m) f (inr j) k = inr (k j)
 
 key_lookup : (root : StorageRoot) (p : Place) → IsAmong (map (λ e. e.0) root) p → (leaf : Leaf) × (lookup root p ≡ Some leaf)

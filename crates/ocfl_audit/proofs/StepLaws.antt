@@ -7,14 +7,7 @@ use Rattle.ocfl_tree.specs.StorageRoot.{StorageRoot, at, is_dir}
 use Rattle.ocfl_inventory.specs.Table.{Table}
 use Rattle.ocfl_audit.specs.Zone.{skipped, hierarchy, inside, object_zone, object_declared, zone, root_declared, is_in_extensions, is_entered, is_listed_zone, is_listed_within, seen, max_listed_depth, beginnings, is_known, is_declared}
 use Rattle.ocfl_audit.specs.Walk.{step_zone, is_extensions, step_listed, is_reached}
-
-append_nothing : (p : Place) → p ++ [] ≡ p
-append_nothing [] = refl
-append_nothing (n ∷ p) = ap (λ q. n ∷ q) (append_nothing p)
-
-append_one : (front rest : Place) (n : Text) → (front ++ n ∷ []) ++ rest ≡ front ++ n ∷ rest
-append_one [] rest n = refl
-append_one (m ∷ front) rest n = ap (λ p. m ∷ p) (append_one front rest n)
+use Rattle.ocfl_audit.proofs.AuditExists.{append_one, append_nothing}
 
 pub object_zone_step : (root : StorageRoot) (front d : Place) (n : Text) → object_zone root front (d ++ n ∷ []) ≡ step_zone root (front ++ d) n (object_zone root front d)
 object_zone_step root front [] n = ap (λ x. step_zone root x n hierarchy) (sym (append_nothing front))

@@ -1,5 +1,5 @@
 -- The audit, taken name by name.
-use Rattle.std.proofs.Common.{◌≡◌, ◌≢◌, inl, inr, ℕ, zero, suc, ◌<◌, List, [], ◌∷◌, ◌++◌, refl, sym, ◌∙◌, ap, subst, true, false, Bool, map, filter, Some, arith, length, append_assoc}
+use Rattle.std.proofs.Common.{◌≡◌, ◌≢◌, inl, inr, ℕ, zero, suc, ◌<◌, List, [], ◌∷◌, ◌++◌, refl, sym, ◌∙◌, ap, subst, true, false, Bool, map, filter, Some, arith, length, append_assoc, append-nil}
 use Rattle.std.specs.Prelude.{cond, flat_map}
 use Rattle.std.specs.Ordering.{is_lt}
 use Rattle.ocfl_tree.specs.Place.{Place, Text, text_cmp, place_cmp, place_eq, begins}
@@ -10,7 +10,7 @@ use Rattle.ocfl_audit.specs.Audit.{Unread, given_by, item_of, has_lines, candida
 use Rattle.ocfl_audit.specs.Head.{on}
 use Rattle.ocfl_audit.specs.Lines.{notes}
 use Rattle.ocfl_audit.specs.Walk.{items_under, items_of_place, seen_names, path_names, names_below, item_at, walk, walk_after, IsClosed}
-use Rattle.ocfl_audit.specs.Stack.{Frame, left_in, left_of, entered_at}
+use Rattle.ocfl_audit.specs.Stack.{Frame, left_of, entered_at}
 use Rattle.ocfl_tree.proofs.Orders.{place_cmp_total, place_cmp_exact, ascending_unique, among_ascending, among_filter, among_from_filter, ascends_filter, ascends_ascending}
 use Rattle.ocfl_audit.proofs.AuditExists.{place_from_test, append_one, append_nothing, lines_from_notes, notes_candidate}
 use Rattle.ocfl_audit.proofs.BelowLaws.{text_cmp_total, place_same, under, above, begins_rest, split_names, split_self, split_after}
@@ -222,18 +222,4 @@ module _ (root : StorageRoot) (closed : IsClosed root) (unread : Unread) where
       ∙ ap (λ l. l ++ left_of (audit root unread) fs) (sym (items_after_name d n q))
 
   pub entered_is : (q : Place) → left_of (audit root unread) (entered_at root [] q []) ≡ after (audit root unread) (Some q)
-  entered_is q = entered_left [] q [] ∙ append_none (after (items_under [] (audit root unread)) (Some q)) ∙ ap (λ xs. after xs (Some q)) under_root
-    where
-      append_none : (xs : List Item) → xs ++ [] ≡ xs
-      append_none [] = refl
-      append_none (x ∷ xs) = ap (λ l. x ∷ l) (append_none xs)
-
-  -- the next name: its item, and then what is below it
-  pub stack_step : (d : Place) (n : Text) (ns : List Text) (fs : List Frame) → left_of (audit root unread) ((d, n ∷ ns) ∷ fs)
-      ≡ item_at root unread (d ++ n ∷ []) ++ left_of (audit root unread) ((d ++ n ∷ [], names_below root (d ++ n ∷ [])) ∷ (d, ns) ∷ fs)
-  stack_step d n ns fs =
-      ap (λ l. (l ++ left_in (audit root unread) (d, ns)) ++ left_of (audit root unread) fs) (items_by_name (d ++ n ∷ []))
-      ∙ regroup (item_at root unread (d ++ n ∷ [])) (left_in (audit root unread) (d ++ n ∷ [], names_below root (d ++ n ∷ []))) (left_in (audit root unread) (d, ns)) (left_of (audit root unread) fs)
-    where
-      regroup : (a b c e : List Item) → ((a ++ b) ++ c) ++ e ≡ a ++ (b ++ (c ++ e))
-      regroup a b c e = simp append_assoc
+  entered_is q = entered_left [] q [] ∙ append-nil (after (items_under [] (audit root unread)) (Some q)) ∙ ap (λ xs. after xs (Some q)) under_root

@@ -15,6 +15,7 @@ use Rattle.ocfl_audit.specs.Lines.{notes, notes_in, hierarchy_notes, within_note
 use Rattle.ocfl_audit.specs.Walk.{is_reached, seen_names, next_name, names_of_table, path_names_in, path_names, names_below, IsClosed, step_zone}
 use Rattle.ocfl_tree.proofs.Bools.{and_first, and_second, and_both}
 use Rattle.ocfl_tree.proofs.Orders.{true_not_false, among_ascending, among_left, among_right}
+use Rattle.ocfl_tree.proofs.Places.{child_name-append}
 use Rattle.ocfl_audit.proofs.AuditExists.{some_not_none, append_one, append_nothing, not_empty, among_keys, at_lookup, object_at, zone_is, path_among, missing_named}
 use Rattle.ocfl_audit.proofs.StepLaws.{object_zone_step, all_beginnings_step, and_assoc, all_map}
 use Rattle.ocfl_audit.proofs.BelowLaws.{text_cmp_exact, text_same}
@@ -47,10 +48,6 @@ among_filter_map {B = B} h (z ∷ xs) x y (inr i) e = by (h z) (among_filter_map
     by None k = k
     by (Some w) k = inr k
 
-child_is : (d : Place) (n : Text) → child_name d (d ++ n ∷ []) ≡ Some n
-child_is [] n = refl
-child_is (m ∷ d) n = ap (λ b. cond b (child_name d (d ++ n ∷ [])) None) (text_same m) ∙ child_is d n
-
 next_is : (d : Place) (n : Text) (r : Place) → next_name d (d ++ n ∷ r) ≡ Some n
 next_is [] n r = refl
 next_is (m ∷ d) n r = ap (λ b. cond b (next_name d (d ++ n ∷ r)) None) (text_same m) ∙ next_is d n r
@@ -61,7 +58,7 @@ at_key root (n ∷ p) leaf some h = among_keys root (n ∷ p) leaf (at_lookup ro
 
 entry_from_key : (d : Place) (n : Text) (root : StorageRoot) → IsAmong (map (λ e. e.0) root) (d ++ n ∷ []) → IsAmong (filter_map (λ e. child_name d e.0) root) n
 entry_from_key d n [] i = absurd i
-entry_from_key d n (e ∷ root) (inl f) = subst (λ o. IsAmong (cons_option o (filter_map (λ x. child_name d x.0) root)) n) (sym (child_is d n) ∙ ap (child_name d) f) (inl refl)
+entry_from_key d n (e ∷ root) (inl f) = subst (λ o. IsAmong (cons_option o (filter_map (λ x. child_name d x.0) root)) n) (sym (child_name-append d n) ∙ ap (child_name d) f) (inl refl)
 entry_from_key d n (e ∷ root) (inr i) = by (child_name d e.0) (entry_from_key d n root i)
   where
     by : (o : Option Text) → IsAmong (filter_map (λ x. child_name d x.0) root) n → IsAmong (cons_option o (filter_map (λ x. child_name d x.0) root)) n
@@ -88,7 +85,7 @@ pub at_step : (root : StorageRoot) (d : Place) (n : Text) → at root (d ++ n �
 at_step root [] n = refl
 at_step root (m ∷ d) n = at_below_step root [] m d n
 
-dir_from : (leaf : Option Leaf) → is_dir_leaf leaf ≡ true → leaf ≡ Some dir
+pub dir_from : (leaf : Option Leaf) → is_dir_leaf leaf ≡ true → leaf ≡ Some dir
 dir_from None h = absurd (true_not_false (sym h))
 dir_from (Some (file bytes)) h = absurd (true_not_false (sym h))
 dir_from (Some dir) h = refl

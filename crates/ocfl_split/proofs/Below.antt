@@ -2,7 +2,6 @@
 use Rattle.std.proofs.Common.{◌≡◌, ℕ, ◌<◌, List, [], ◌∷◌, ◌++◌, refl, sym, ◌∙◌, ap, subst, true, false, Bool, length, append_assoc, arith, IsPermutation}
 use Rattle.std.specs.Prelude.{cond}
 use Rattle.std.specs.List.Sorted.{IsSorted}
-use Rattle.std.proofs.lemmas.List.{append-nil}
 use Rattle.ocfl_tree.specs.Place.{Place, text_cmp}
 use Rattle.ocfl_tree.specs.StorageRoot.{StorageRoot}
 use Rattle.ocfl_tree.specs.Store.{Store}
@@ -53,9 +52,6 @@ module _ (root : StorageRoot) where
   -- and before anything was listed
   pub memory_first : (s : Store) (ds : List Place) → s.tree ≡ root → ListsStop root s s ds fault.Memory
   memory_first s ds over = memory_stops s s [] ds (lists_none s over)
-
-  pub memory_at_end : (s t : Store) (ds : List Place) → ListsAll root s t ds → ListsStop root s t ds fault.Memory
-  memory_at_end s t ds h = subst (λ xs. ListsStop root s t xs fault.Memory) (append-nil ds) (memory_stops s t ds [] h)
 
   pub lists_on : (s t u : Store) (ds es : List Place) → ListsAll root s t ds → ListsAll root t u es → ListsAll root s u (ds ++ es)
   lists_on s t u ds es h k = record { over = h.over; did = did_then s t u [] [] ds es 0 h.did k.did }

@@ -1,5 +1,5 @@
 -- From a listing to the directories of the hierarchy right below its place.
-use Rattle.std.proofs.Common.{◌≡◌, inl, inr, ℕ, zero, suc, ◌+◌, ◌<◌, List, [], ◌∷◌, ◌++◌, refl, sym, ◌∙◌, ap, subst, true, false, Bool, Option, Some, None, arith, length, map, filter, drop, get_or, All, IsPermutation}
+use Rattle.std.proofs.Common.{◌≡◌, inl, inr, zero, suc, ◌+◌, List, [], ◌∷◌, ◌++◌, refl, sym, ◌∙◌, ap, subst, true, false, Bool, Option, Some, None, arith, map, filter, All, IsPermutation}
 use Rattle.std.specs.Prelude.{cond, not, ◌&&◌, option_map, filter_map, slice_index_or}
 use Rattle.std.specs.List.{IsDistinct}
 use Rattle.std.specs.List.Sorted.{IsSorted}
@@ -15,7 +15,6 @@ use Rattle.ocfl_tree.specs.declared.store.Entry.{Entry}
 use Rattle.ocfl_tree.specs.declared.store.Kind.{Kind}
 use Rattle.ocfl_tree.specs.declared.store.Kind.TheVariants as kind
 use Rattle.ocfl_tree.proofs.Bools.{and_first, and_second, and_both}
-use Rattle.ocfl_tree.proofs.Lists.{drop_item}
 use Rattle.ocfl_tree.proofs.Places.{text_eq-Decides, text_eq-same, not_decided, differ}
 use Rattle.ocfl_tree.proofs.Orders.{below_from_greater, place_cmp_total, place_cmp_exact, ascending_unique, ascends_ascending, ascends_filter, among_filter, among_from_filter, among_map}
 use Rattle.ocfl_audit.proofs.AuditExists.{some_not_none}
@@ -188,15 +187,3 @@ among_tree root d es fs ordinary h moved sorted =
     ascending_unique place_cmp_total place_cmp_exact (directories_among d fs) (directories_in root d)
     (among_below d fs (names_rise es fs ordinary moved sorted)).ascend (tree_rises root d)
     (λ z. (to_tree root d es fs ordinary h moved z, from_tree root d es fs ordinary h moved z))
-
--- ---- entry by entry
-
-pub among_kept : (d : Place) (es : List Entry) (i : ℕ) (e : Entry) → i < length es → e ≡ get_or es i e → is_directory_entry d e ≡ true
-    → directories_among d (drop i es) ≡ (d ++ e.name ∷ []) ∷ directories_among d (drop (i + 1) es)
-among_kept d es i e l is t = ap (directories_among d) (drop_item es i e l is)
-    ∙ ap (λ b. map (λ e. d ++ e.name ∷ []) (cond b (e ∷ filter (is_directory_entry d) (drop (i + 1) es)) (filter (is_directory_entry d) (drop (i + 1) es)))) t
-
-pub among_passed : (d : Place) (es : List Entry) (i : ℕ) (e : Entry) → i < length es → e ≡ get_or es i e → is_directory_entry d e ≡ false
-    → directories_among d (drop i es) ≡ directories_among d (drop (i + 1) es)
-among_passed d es i e l is t = ap (directories_among d) (drop_item es i e l is)
-    ∙ ap (λ b. map (λ e. d ++ e.name ∷ []) (cond b (e ∷ filter (is_directory_entry d) (drop (i + 1) es)) (filter (is_directory_entry d) (drop (i + 1) es)))) t

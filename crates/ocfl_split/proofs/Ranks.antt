@@ -1,6 +1,6 @@
 -- Levels in order.
 use Rattle.std.proofs.Common.{◌≡◌, ◌⊎◌, inl, inr, ℕ, zero, suc, ◌+◌, ◌<◌, ◌≤◌, List, [], ◌∷◌, ◌++◌, refl, sym, ◌∙◌, ap, subst, true, false, Bool, length, take, take_all, get_or, All, arith}
-use Rattle.std.proofs.lemmas.List.{take_more, length-append, append-nil}
+use Rattle.std.proofs.lemmas.List.{take_more, length-append}
 use Rattle.std.proofs.lemmas.Bool.{leb-false}
 use Rattle.std.specs.Prelude.{cond, nat_le}
 use Rattle.std.specs.Ordering.{ordering_then}
@@ -47,9 +47,6 @@ earlier_below (y ∷ xs) (suc i) x z h l (inr j) = earlier_below xs i x z h.1 (o
 
 -- ---- places right below others
 
-pub none_below : IsBelow [] []
-none_below = record { ascend = tt; under = λ z i. absurd i }
-
 pub below_more : (depth : ℕ) (ds : List Place) (i : ℕ) (d : Place) (room : ℕ) (old new : List Place) → IsLevel depth ds → i < length ds → d ≡ get_or ds i d
     → IsBelow (take i ds) old → AddsBelow d room old new → IsBelow (take (i + 1) ds) new
 below_more depth ds i d room old new h l is k adds =
@@ -81,9 +78,6 @@ below_more depth ds i d room old new h l is k adds =
     found : (z : Place) → IsAmong old z ⊎ IsAmong adds.places z → (e : Place) × IsAmong (take i ds ++ d ∷ []) e × ((n : Text) × (z ≡ e ++ n ∷ []))
     found z (inl j) = let a = k.under z j in (a.0, among_left (take i ds) (d ∷ []) a.0 a.1, a.2)
     found z (inr j) = let b = adds.below.under z j in (b.0, among_right (take i ds) (d ∷ []) b.0 b.1, b.2)
-
-pub below_old : (ds : List Place) (d : Place) (room : ℕ) (old : List Place) → AddsBelow d room old old
-below_old ds d room old = record { few = λ h. h; places = []; added = sym (append-nil old); below = record { ascend = tt; under = λ z i. absurd i } }
 
 -- ---- a whole level
 

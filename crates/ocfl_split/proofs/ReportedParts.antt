@@ -1,5 +1,5 @@
 -- The parts that are cut at the first places of runs are those runs.
-use Rattle.std.proofs.Common.{◌≡◌, List, [], ◌∷◌, ◌++◌, refl, sym, ◌∙◌, ap, ap₂, true, false, Bool, map, filter, Option, Some, None, append-nil}
+use Rattle.std.proofs.Common.{◌≡◌, List, [], ◌∷◌, ◌++◌, refl, sym, ◌∙◌, ap, ap₂, true, false, map, filter, Option, Some, None, append-nil}
 use Rattle.std.specs.Prelude.{cond, not, ◌&&◌, ⊤}
 use Rattle.std.specs.Ordering.{is_lt}
 use Rattle.std.specs.declared.cmp.Ordering.TheVariants.{Less}
@@ -10,11 +10,9 @@ use Rattle.ocfl_tree.proofs.Orders.{place_cmp_total, not_less, not_less_itself, 
 use Rattle.ocfl_report.specs.Line.{Item}
 use Rattle.ocfl_audit.specs.Runs.{joined}
 use Rattle.ocfl_audit.specs.Parts.{Part, is_from, is_below, lies_in, within, parts_from, parts_of}
-use Rattle.ocfl_audit.proofs.PartLaws.{within_is}
+use Rattle.ocfl_audit.proofs.AfterLaws.{places}
+use Rattle.ocfl_audit.proofs.PartLaws.{and_false, within_is}
 use Rattle.ocfl_split.specs.Reported.{first_places}
-
-abbrev pub places : List Item → List Place
-places items = map (λ i. i.place) items
 
 abbrev part_at : Option Place → Option Place → Part
 part_at from below = record { under = []; from = from; below = below }
@@ -51,10 +49,6 @@ past_from p (i ∷ items) h = (ap not h.0, past_from p items h.1)
 none_from : (p : Place) (b : Option Place) (items : List Item) → AreBelow p items → in_part (Some p) b items ≡ []
 none_from p b [] h = refl
 none_from p b (i ∷ items) h = ap (λ o. cond (not (is_lt o) && is_below b i.place) (i ∷ in_part (Some p) b items) (in_part (Some p) b items)) h.0 ∙ none_from p b items h.1
-
-and_false : (b : Bool) → (b && false) ≡ false
-and_false true = refl
-and_false false = refl
 
 none_past : (a : Option Place) (p : Place) (items : List Item) → ArePast p items → in_part a (Some p) items ≡ []
 none_past a p [] h = refl

@@ -1,37 +1,26 @@
 -- A report is cut where the runs of a cycle begin, and each run but the last passes its budget by
 -- less than its last file.
 use Rattle.std.proofs.Common.{◌≡◌, ◌≢◌, ℕ, zero, suc, ◌+◌, ◌<◌, ◌≤◌, List, [], ◌∷◌, ◌++◌, refl, sym, ◌∙◌, ap, subst, true, false, Bool, arith, map, take, drop, replicate, ltb-true, ltb-false, eqb-true}
-use Rattle.std.proofs.lemmas.Bool.{eqb-false, lt-ltb}
+use Rattle.std.proofs.lemmas.Bool.{lt-ltb}
 use Rattle.std.proofs.lemmas.List.{take-append-drop}
-use Rattle.std.proofs.lemmas.List.Elements.{All-nil, All-cons}
 use Rattle.std.specs.Prelude.{cond, ◌==◌, ◌||◌, nat_lt}
 use Rattle.ocfl_tree.specs.Place.{Place, place_cmp}
 use Rattle.ocfl_tree.specs.Ascending.{IsAscending}
 use Rattle.ocfl_report.specs.Line.{Line, Item}
 use Rattle.ocfl_audit.specs.Audit.{total_cost}
-use Rattle.ocfl_audit.specs.Runs.{Limits, runs, joined, FileLimitFits, FilesFit, budget_len, budget_cut, budget_left, budget_runs_after, budget_runs}
+use Rattle.ocfl_audit.specs.Runs.{Limits, runs, joined, FileLimitFits, budget_len, budget_cut, budget_left, budget_runs_after, budget_runs}
 use Rattle.ocfl_audit.specs.Parts.{within, parts_of}
-use Rattle.ocfl_audit.proofs.RunLaws.{same_runs}
+use Rattle.ocfl_audit.proofs.AfterLaws.{places}
+use Rattle.ocfl_audit.proofs.RunLaws.{affords, cancel, left_over, same_equal}
 use Rattle.ocfl_parts.specs.Splits.{reported, cuts}
 use Rattle.ocfl_parts.proofs.ItemCuts.{item_cuts, cuts_of_items}
 use Rattle.ocfl_split.specs.Reported.{first_places, PassesJust}
-use Rattle.ocfl_split.proofs.ReportedParts.{places, AreSome, parts_are_cuts}
+use Rattle.ocfl_split.proofs.ReportedParts.{AreSome, parts_are_cuts}
 
 false_not_true : false ≡ true → ⊥
 false_not_true e = cc
 
--- an item that is taken after s has been spent
-abbrev affords : ℕ → ℕ → ℕ → Bool
-affords b s c = c == 0 || nat_lt s b
-
-left_over : (b s c : ℕ) → affords b s c ≡ false → (0 < c) × (b ≤ s)
-left_over b s c h = by (c == 0) refl h
-  where
-    by : (t : Bool) → c == 0 ≡ t → (t || nat_lt s b) ≡ false → (0 < c) × (b ≤ s)
-    by true e g = absurd (false_not_true (sym g))
-    by false e g = let z : c ≢ 0 = eqb-false c 0 e in (omega (arith, z), ltb-false s b g)
-
--- if nothing has been spent, any item is
+-- where nothing has been spent, any item is
 affords_first : (b c : ℕ) → 1 ≤ b → affords b 0 c ≡ true
 affords_first b c some = by (c == 0)
   where
@@ -68,10 +57,6 @@ cuts_left b s (i ∷ items) = by (affords b s i.cost) (cuts_left b (s + i.cost) 
     by false e = refl
 
 -- ---- where runs begin
-
-cancel : (xs ys zs : List Item) → xs ++ ys ≡ xs ++ zs → ys ≡ zs
-cancel [] ys zs e = e
-cancel (x ∷ xs) ys zs e = cancel xs ys zs (let f : xs ++ ys ≡ xs ++ zs = cc in f)
 
 module _ (b : ℕ) (some : 1 ≤ b) where
   -- a run takes its first item
@@ -226,34 +211,23 @@ module _ (b : ℕ) (some : 1 ≤ b) where
 
 -- ---- the same of limits whose limit on files fits
 
-budgets_of : (l : Limits) (n : ℕ) → map (λ k. k.budget) (replicate n l) ≡ replicate n l.budget
-budgets_of l zero = refl
-budgets_of l (suc n) = ap (λ r. l.budget ∷ r) (budgets_of l n)
-
-fit_all : (items : List Item) (l : Limits) (n : ℕ) → FileLimitFits items l → FilesFit items (replicate n l)
-fit_all items l zero h = All-nil (FileLimitFits items)
-fit_all items l (suc n) h = All-cons (FileLimitFits items) l (replicate n l) h (fit_all items l n h)
-
-by_budgets : (items : List Item) (l : Limits) (n : ℕ) → FileLimitFits items l → runs items (replicate n l) ≡ budget_runs items (replicate n l.budget)
-by_budgets items l n h = same_runs items (replicate n l) (fit_all items l n h) ∙ ap (budget_runs items) (budgets_of l n)
-
 pub cuts_begin_runs : (lines : List Line) (l : Limits) (n : ℕ) → 1 ≤ l.budget → FileLimitFits (reported lines) l
     → joined (runs (reported lines) (replicate n l)) ≡ reported lines → cuts l.budget lines ≡ first_places (drop 1 (runs (reported lines) (replicate n l)))
 cuts_begin_runs lines l n some fit whole =
-    let same = by_budgets (reported lines) l n fit in
+    let same = same_equal (reported lines) l n fit in
     cuts_of_items l.budget lines
     ∙ begin_of l.budget some n (reported lines) (ap joined (sym same) ∙ whole)
     ∙ ap (λ cuts. first_places (drop 1 cuts)) (sym same)
 
 pub runs_pass_just : (items : List Item) (l : Limits) (n : ℕ) (before : List (List Item)) (run next : List Item) (later : List (List Item)) → 1 ≤ l.budget → FileLimitFits items l
     → runs items (replicate n l) ≡ before ++ run ∷ next ∷ later → PassesJust l.budget run
-runs_pass_just items l n before run next later some fit h = just_of l.budget some n items before run next later (sym (by_budgets items l n fit) ∙ h)
+runs_pass_just items l n before run next later some fit h = just_of l.budget some n items before run next later (sym (same_equal items l n fit) ∙ h)
 
 pub parts_are_runs : (lines : List Line) (l : Limits) (n : ℕ) → 1 ≤ n → 1 ≤ l.budget → FileLimitFits (reported lines) l → joined (runs (reported lines) (replicate n l)) ≡ reported lines
     → IsAscending place_cmp (places (reported lines)) → map (λ part. within part (reported lines)) (parts_of (cuts l.budget lines)) ≡ runs (reported lines) (replicate n l)
 parts_are_runs lines l zero one some fit whole up = absurd (omega (arith, one))
 parts_are_runs lines l (suc n) one some fit whole up =
-    let same = by_budgets (reported lines) l (suc n) fit in
+    let same = same_equal (reported lines) l (suc n) fit in
     ap (λ seps. map (λ part. within part (reported lines)) (parts_of seps))
     (cuts_begin_runs lines l (suc n) some fit whole ∙ ap (λ cuts. first_places (drop 1 cuts)) same)
     ∙ parts_of_budget l.budget some n (reported lines) (ap joined (sym same) ∙ whole) up

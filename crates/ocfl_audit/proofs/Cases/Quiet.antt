@@ -1,6 +1,6 @@
 -- Worked cases of objects with a right sidecar, whose digest is not computed: it has no lines,
 -- whatever it is.
-use Rattle.std.proofs.Common.{◌≡◌, List, [], ◌∷◌, ◌++◌, codes, refl, ◌∙◌, ap, Bool, true, false}
+use Rattle.std.proofs.Common.{◌≡◌, List, [], ◌∷◌, ◌++◌, codes, refl, ◌∙◌, ap, Bool, true, false, append-nil}
 use Rattle.std.specs.Prelude.{◌&&◌}
 use Prim.Native.String.{String}
 use Rattle.ocfl_tree.specs.Place.{Text, Place}
@@ -53,15 +53,11 @@ audit_512 inventory more unread = audit_is root (codes "o") [] inventory (beside
     one_is_there true = refl
     one_is_there false = refl
 
-    at_end : (ns : List Note) → ns ++ [] ≡ ns
-    at_end [] = refl
-    at_end (n ∷ ns) = λ i. n ∷ at_end ns i
-
     those : sidecars_notes root o inventory ≡ beside_512 inventory root
     those =
         ap (λ ns. (ns ++ beside_512 inventory root) ++ sidecar_notes Sha512 inventory (sidecar_at root o Sha512)) (one_is_there (is_sidecar_missing root o Sha256))
         ∙ ap (λ ns. beside_512 inventory root ++ ns) (right_512_is_quiet inventory)
-        ∙ at_end (beside_512 inventory root)
+        ∙ append-nil (beside_512 inventory root)
 
 -- the text of items that can be had with less
 abbrev pub told : String → (items quick : List Item) → items ≡ quick → Text → Case

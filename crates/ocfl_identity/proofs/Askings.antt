@@ -1,5 +1,5 @@
 -- What a store is asked while declarations are read.
-use Rattle.std.proofs.Common.{◌≡◌, ◌⊎◌, inl, inr, ◌∙◌, ℕ, ◌+◌, ◌≤◌, ◌^◌, true, false, List, [], ◌∷◌, ◌++◌, drop, length, refl, sym, ap, subst, Option, Some, None, arith, append_assoc, append-nil}
+use Rattle.std.proofs.Common.{◌≡◌, ◌⊎◌, inl, inr, ◌∙◌, ℕ, ◌+◌, true, false, List, [], ◌∷◌, ◌++◌, drop, length, refl, sym, ap, subst, Option, Some, None, append_assoc, append-nil}
 use Rattle.std.specs.Prelude.{String, string_bytes}
 use Rattle.std.specs.Option.{option_map}
 use Rattle.std.specs.declared.alloc.Global.{Global}
@@ -8,7 +8,7 @@ use Rattle.ocfl_tree.specs.StorageRoot.{StorageRoot, file_at}
 use Rattle.ocfl_tree.specs.Store.{Store, Did}
 use Rattle.ocfl_tree.specs.Calls.{opening}
 use Rattle.ocfl_tree.specs.declared.store.Opening.{Opening}
-use Rattle.ocfl_tree.proofs.Stores.{did_both, did_nothing, did_then}
+use Rattle.ocfl_tree.proofs.Stores.{did_then}
 use Rattle.ocfl_digest.specs.Hashing.{StopsHashing}
 use Rattle.ocfl_digest.specs.declared.stop.Cause.{Cause}
 use Rattle.ocfl_digest.specs.declared.stop.Cause.TheVariants.{Device, Absent, TooLong}
@@ -28,9 +28,6 @@ opens_first root n names bytes e = ap (λ o. opened_then n o [] ++ openings_of r
 -- and if it is not
 opens_none : (root : StorageRoot) (n : Text) (names : List Text) → file_at root (n ∷ []) ≡ None → openings_of root (n ∷ names) ≡ []
 opens_none root n names e = ap (λ o. opened_then n o (openings_of root names)) e
-
-pub opened_none : (root : StorageRoot) (s : Store) (names : List Text) → AreOpened root s s names 0
-opened_none root s names = record { done = []; did = did_nothing s; is = refl }
 
 pub opened_next : (root : StorageRoot) (s t u : Store) (names rest : List Text) (n : Text) (i j : ℕ) (bytes : Text) → AreOpened root s t names i
     → drop i names ≡ n ∷ rest → drop j names ≡ rest → file_at root (n ∷ []) ≡ Some bytes → Did t u (openings_of root (n ∷ [])) [] 0

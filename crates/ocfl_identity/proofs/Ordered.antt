@@ -1,5 +1,5 @@
 -- A sorted listing is the entries of the directory.
-use Rattle.std.proofs.Common.{◌≡◌, inl, inr, suc, ◌+◌, List, [], ◌∷◌, ◌++◌, refl, sym, ◌∙◌, ap, subst, Bool, true, false, Option, Some, None, arith, All, IsPermutation}
+use Rattle.std.proofs.Common.{◌≡◌, inl, inr, suc, ◌+◌, List, [], ◌∷◌, ◌++◌, refl, sym, ◌∙◌, ap, subst, Bool, true, false, Option, Some, None, arith, IsPermutation}
 use Rattle.std.specs.Prelude.{◌&&◌, cond, filter, filter_map, option_and_then, option_map, slice_index_or}
 use Rattle.sha2.specs.Sha256.{sha256}
 use Rattle.hex.specs.Hex.{encode_lower}
@@ -8,7 +8,7 @@ use Rattle.std.specs.List.Sorted.{IsSorted}
 use Rattle.std.specs.Ordering.{is_lt, is_eq, ordering_reverse}
 use Rattle.std.specs.declared.cmp.Ordering.{Ordering}
 use Rattle.std.specs.declared.cmp.Ordering.TheVariants.{Less, Equal, Greater}
-use Rattle.std.proofs.lemmas.List.Elements.{All-nil, All-cons}
+use Rattle.std.proofs.lemmas.List.Elements.{All-from_recursion, recursion_from_All}
 use Rattle.std.proofs.lemmas.List.Sorted.{All-permutation, IsPermutation-sym, IsPermutation-map}
 use Rattle.std.proofs.lemmas.Map.Keys.{IsDistinct-IsPermutation}
 use Rattle.ocfl_tree.specs.Place.{Place, Text, child_name, text_cmp, text_eq}
@@ -17,7 +17,7 @@ use Rattle.ocfl_tree.specs.StorageRoot.{StorageRoot, Leaf, file, dir, other, at,
 use Rattle.ocfl_tree.specs.Listing.{IsListing, IsOrdinary, entries_in, entry_at, kind_at, kind_of}
 use Rattle.ocfl_tree.specs.declared.store.Entry.{Entry}
 use Rattle.ocfl_tree.specs.declared.store.Kind.{Kind}
-use Rattle.ocfl_tree.specs.declared.store.Kind.TheVariants.{File, Other}
+use Rattle.ocfl_tree.specs.declared.store.Kind.TheVariants.{Other}
 use Rattle.ocfl_tree.proofs.Orders.{ascending_unique, ascends_ascending, below_from_greater, true_not_false}
 use Rattle.ocfl_tree.proofs.Places.{text_cmp_exact, text_cmp_total}
 use Rattle.ocfl_tree.proofs.Listings.{listing_permutes}
@@ -116,16 +116,8 @@ module _ (root : StorageRoot) (d : Place) where
 -- ---- what permutations keep
 
 module _ {A : Type 0} (P : A → Type 0) where
-  to_all : (xs : List A) → AllByRecursion P xs → All P xs
-  to_all [] h = All-nil P
-  to_all (x ∷ xs) h = All-cons P x xs h.0 (to_all xs h.1)
-
-  from_all : (xs : List A) → All P xs → AllByRecursion P xs
-  from_all [] h = tt
-  from_all (x ∷ xs) h = (h 0 x (omega arith), from_all xs (λ k d l. h (suc k) d (omega (arith, l))))
-
   moved : (xs ys : List A) → IsPermutation xs ys → AllByRecursion P xs → AllByRecursion P ys
-  moved xs ys m h = from_all ys (All-permutation P xs ys m (to_all xs h))
+  moved xs ys m h = recursion_from_All P ys (All-permutation P xs ys m (All-from_recursion P xs h))
 
   one_of : (xs : List A) (z : A) → AllByRecursion P xs → IsAmong xs z → P z
   one_of [] z h i = absurd i

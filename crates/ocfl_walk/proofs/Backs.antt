@@ -3,6 +3,7 @@ use Rattle.std.proofs.Common.{◌≡◌, ◌≢◌, ℕ, zero, suc, ◌-◌, ◌
 use Rattle.std.specs.Prelude.{cond, filter, slice_get, option_map, MatchOption, ◌==◌}
 use Rattle.std.specs.Option.{option_to_list}
 use Rattle.std.proofs.lemmas.Bool.{eqb-true, eqb-false}
+use Rattle.std.proofs.lemmas.List.{nil_from_length}
 use Rattle.ocfl_tree.specs.declared.store.Entry.{Entry}
 use Rattle.ocfl_walk.specs.Standing.{back, back_onto, piles_of, pile_of}
 use Rattle.ocfl_walk.specs.Internal.Standing.{IsTaken, next_in, next_of, trimmed, trimmed_from}
@@ -101,11 +102,7 @@ some_items : (f : Folder) → (vec_len f.entries == 0) ≡ false → f.entries.i
 some_items f n = λ e. eqb-false (vec_len f.entries) 0 n (omega (arith, ap length e, f.entries.ok.0))
 
 no_items : (f : Folder) → (vec_len f.entries == 0) ≡ true → f.entries.items ≡ []
-no_items f n = let none : vec_len f.entries ≡ 0 = eqb-true (vec_len f.entries) 0 n in by f.entries.items (omega (arith, none, f.entries.ok.0))
-  where
-    by : (xs : List Entry) → length xs ≡ 0 → xs ≡ []
-    by [] g = refl
-    by (x ∷ xs) g = absurd (omega (arith, g))
+no_items f n = let none : vec_len f.entries ≡ 0 = eqb-true (vec_len f.entries) 0 n in nil_from_length f.entries.items (omega (arith, none, f.entries.ok.0))
 
 pub trim_keeps_by : (fs old new : List Folder) (f : Folder) (b : Bool) → old ≡ fs ++ f ∷ [] → new ≡ fs ++ f ∷ [] → b ≡ (vec_len f.entries == 0) → b ≡ false → piles_of new ≡ trimmed (piles_of old)
 trim_keeps_by fs old new f b h k e n = ap piles_of (k ∙ sym h) ∙ sym (trim_keeps fs old f h (some_items f (sym e ∙ n)))
@@ -116,9 +113,5 @@ trim_drops_by fs old f b h e n = sym (trim_drops fs old f h (no_items f (sym e �
 pub taken_at : (fs old new : List Folder) (f g : Folder) (o : Option Entry) → old ≡ fs ++ f ∷ [] → new ≡ fs ++ g ∷ [] → g.place ≡ f.place
     → f.entries.items ≡ g.entries.items ++ option_to_list o → MatchOption o ((vec_len f.entries ≡ 0) × (vec_len g.entries ≡ 0)) (λ _. vec_len g.entries + 1 ≡ vec_len f.entries)
     → MatchOption o (next_of (piles_of old) ≡ None) (λ entry. IsTaken (piles_of old) (piles_of new) entry)
-taken_at fs old new f g None h k p e v = none_taken fs old f h (by f.entries.items (omega (arith, v.0, f.entries.ok.0)))
-  where
-    by : (xs : List Entry) → length xs ≡ 0 → xs ≡ []
-    by [] z = refl
-    by (x ∷ xs) z = absurd (omega (arith, z))
+taken_at fs old new f g None h k p e v = none_taken fs old f h (nil_from_length f.entries.items (omega (arith, v.0, f.entries.ok.0)))
 taken_at fs old new f g (Some entry) h k p e v = taken fs old new f g entry h k p e

@@ -1,6 +1,6 @@
 -- One place, looked up by itself.
 use Rattle.std.proofs.Common.{◌≡◌, ◌≢◌, ◌⊎◌, inl, inr, ℕ, ◌+◌, ◌≤◌, List, [], ◌∷◌, ◌++◌, refl, sym, ◌∙◌, ap, subst, true, false, Bool, Option, Some, None, arith, length, append_assoc}
-use Rattle.std.proofs.lemmas.List.{append-nil, length-append}
+use Rattle.std.proofs.lemmas.List.{append-nil, length-append, nil_from_length}
 use Rattle.std.specs.Prelude.{AllPairs, Result, Ok, Err, IfErr, IfOk}
 use Rattle.ocfl_tree.specs.Place.{Text, Place}
 use Rattle.ocfl_tree.specs.StorageRoot.{StorageRoot, dir}
@@ -45,10 +45,6 @@ use Rattle.ocfl_tree.proofs.Stores.{did_nothing}
 
 -- ---- lists
 
-pub none_is : {A : Type 0} (xs : List A) → length xs ≡ 0 → xs ≡ []
-none_is [] h = refl
-none_is (x ∷ xs) h = absurd (omega (arith, h))
-
 pub front_of : {A : Type 0} (xs ys zs : List A) → IsFront (xs ++ ys) zs → IsFront xs zs
 front_of xs ys zs h = (ys ++ h.0, h.1 ∙ append_assoc xs ys h.0)
 
@@ -87,7 +83,7 @@ module _ (root : StorageRoot) where
       record {
         calls = h.calls;
         once = few_once trail (omega (arith, few, all));
-        closed = λ e. none_is trail (let none = ap length e in omega (arith, none, all));
+        closed = λ e. nil_from_length trail (let none = ap length e in omega (arith, none, all));
         listed = front_of h.calls.listings more way h.listed;
         heads = front_of (heads_of root trail) left may h.heads;
         near = h.near;
@@ -106,7 +102,7 @@ module _ (root : StorageRoot) where
       → AllPairs (λ a b. a.place ≢ b.place) (os ++ os')
   both_once left [] os' few closed once = once
   both_once left (x ∷ os) os' few closed once =
-      let none = ap length (closed (none_is left (omega (arith, few)))) in
+      let none = ap length (closed (nil_from_length left (omega (arith, few)))) in
       few_once (x ∷ os ++ os') (omega (arith, few, none, length-append (x ∷ os) os'))
 
   module _ (s t u : Store) (way more may left : List Place) (few : length may ≤ 1) (h : Descends root s t way more may left 0) where
@@ -124,8 +120,8 @@ module _ (root : StorageRoot) where
           once = both_once left trail behind (omega (arith, all, few)) g.closed g.once;
           closed = λ e.
               let none = ap length e in
-              let before = none_is trail (omega (arith, none, all)) in
-              let after = g.closed (none_is left (omega (arith, none, all))) in
+              let before = nil_from_length trail (omega (arith, none, all)) in
+              let after = g.closed (nil_from_length left (omega (arith, none, all))) in
               (λ i. before i ++ after i);
           listed = front_next h.calls.listings more way g.calls.listings h.listed g.listed;
           heads = subst (λ x. IsFront x may) (sym (heads_append root trail behind)) (front_next (heads_of root trail) left may (heads_of root behind) h.heads g.heads);

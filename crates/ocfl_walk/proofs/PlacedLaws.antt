@@ -2,7 +2,7 @@
 use Rattle.std.specs.declared.alloc.Global.{Global}
 use Rattle.std.proofs.Common.{◌≡◌, ℕ, zero, suc, ◌+◌, ◌-◌, ◌<◌, ◌≤◌, List, [], ◌∷◌, ◌++◌, refl, sym, ◌∙◌, ap, subst, true, false, Bool, Option, Some, None, length, take, drop, arith, vec_len}
 use Rattle.std.proofs.lemmas.Bool.{leb-true, leb-false, le-leb}
-use Rattle.std.proofs.lemmas.List.{length-append, length-take, length-take-le, same_from_push, take-append-drop, take-append-le, take_min}
+use Rattle.std.proofs.lemmas.List.{length-append, length-take, length-take-le, nil_from_length, same_from_push, take-append-drop, take-append-le, take_min}
 use Rattle.std.proofs.Math.Seq.{take-append_seam, take-length}
 use Rattle.std.specs.Prelude.{Vec, ◌==◌, IfSome, MatchOption, cond, nat_le, min, option_map, slice_get}
 use Rattle.std.specs.Option.{option_to_list}
@@ -248,12 +248,8 @@ module _ (p x : Place) (old new : List (Vec Entry Global)) (entry : Entry) (a : 
 pub path_shared : (p b : Place) (vs : List (Vec Entry Global)) (a : Option Around) → IsOrderly p (piles_at p vs) a → IsOrderly b (piles_at p vs) a → piles_at b vs ≡ piles_at p vs
 path_shared p b vs a h k = by (piles_at p vs) refl k.chain
   where
-    none : (vs : List (Vec Entry Global)) → length vs ≡ 0 → piles_at b vs ≡ piles_at p vs
-    none [] e = refl
-    none (v ∷ vs) e = absurd (omega (arith, e))
-
     by : (ps : List Pile) → piles_at p vs ≡ ps → IsChain b levels (frames_of ps) → piles_at b vs ≡ piles_at p vs
-    by [] e c = let n = piles_count p vs in let m : length (piles_at p vs) ≡ 0 = ap length e in none vs (omega (arith, n, m))
+    by [] e c = let n = piles_count p vs in let m : length (piles_at p vs) ≡ 0 = ap length e in let none = nil_from_length vs (omega (arith, n, m)) in ap (piles_at b) none ∙ sym (ap (piles_at p) none)
     by (q ∷ ps) e c =
         let many = some_count p vs q ps e in
         let d = chain_deep p levels vs h.chain in

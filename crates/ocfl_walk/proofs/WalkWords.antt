@@ -1,5 +1,5 @@
 -- What is said of a walk, by where it stands.
-use Rattle.std.proofs.Common.{◌≡◌, ◌≢◌, ℕ, List, [], ◌∷◌, ◌++◌, Option, Some, None, Result, Ok, Err, refl, sym, ◌∙◌, ap, subst, length, arith}
+use Rattle.std.proofs.Common.{◌≡◌, ◌≢◌, ℕ, List, [], ◌∷◌, ◌++◌, Option, Some, None, Result, Ok, Err, refl, sym, ◌∙◌, ap, subst, arith}
 use Rattle.std.proofs.lemmas.List.{append-nil}
 use Rattle.std.specs.declared.cmp.Ordering.TheVariants.{Less}
 use Rattle.ocfl_tree.specs.Place.{Place, Text, place_cmp}
@@ -66,11 +66,6 @@ opens_down root s t way more may left failures h = record { trail = h.calls.trai
 pub opens_nothing : (root : StorageRoot) (s : Store) → OpensInventories root s s
 opens_nothing root s = record { trail = []; opened = sym (append-nil s.openings); only = refl }
 
-pub gives_by : (root : StorageRoot) (s t : Store) (last : Option Place) (e : End) (new : Walk) → new.first ≡ None → (o : Option Pending)
-    → NextTold root s t last e new.stand o → GivesOut root s t last e new o
-gives_by root s t last e new none None h = (h.0, h.1, (h.2.0, stands_now root new h.2.0 none h.2.1, h.2.2))
-gives_by root s t last e new none (Some p) h = (h.0, stands_now root new (Some p.place) none h.1, h.2.pending, h.2.due_are)
-
 -- ---- of a walk that begins at a place
 
 module _ (root : StorageRoot) (old : Walk) (n : Text) (some : old.first ≡ Some n) (last : Option Place) (st : Stands root old last) where
@@ -127,10 +122,6 @@ module _ (root : StorageRoot) (s t : Store) (last : Option Place) (e : End) (und
   all_told (Err why) h = fails_all root s t last e under below why h
 
 -- ---- where a walk begins
-
-pub no_names_there : (p : Place) → length p ≡ 0 → p ≡ []
-no_names_there [] e = refl
-no_names_there (n ∷ p) e = absurd (omega (arith, e))
 
 pub at_top : (root : StorageRoot) (p : Place) → p ≡ [] → (X : Option Place → Option Place → Type 0) → X None None → X (directory_of p) (place_before root p)
 at_top root p e X x = subst (λ y. X (directory_of y) (place_before root y)) (sym e) (subst (X None) (sym (before_root root)) x)

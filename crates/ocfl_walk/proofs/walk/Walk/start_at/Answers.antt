@@ -1,5 +1,6 @@
 use Rattle.std.proofs.Common.{◌∙◌, ap, refl, sym, Some, false, length}
 use Rattle.std.specs.Prelude.{MatchResult}
+use Rattle.std.proofs.lemmas.List.{nil_from_length}
 use Rattle.std.proofs.lemmas.Result.{err_from_is_err_and}
 use Rattle.ocfl_walk.specs.Before.{directory_of}
 use Rattle.ocfl_walk.specs.WalkCalls.{GoDownFails, GoesDown}
@@ -8,12 +9,12 @@ use Rattle.ocfl_walk.specs.declared.walk.Walk.{Walk}
 use Rattle.ocfl_walk.proofs.BeforeLaws.{directory_is}
 use Rattle.ocfl_walk.proofs.FoundLaws.{answered_memory, start_fails_down, start_goes_down}
 use Rattle.ocfl_walk.proofs.OrderlyTests.{orderly_to}
-use Rattle.ocfl_walk.proofs.WalkWords.{at_name, at_top, no_names_there, opens_down, some_directory}
+use Rattle.ocfl_walk.proofs.WalkWords.{at_name, at_top, opens_down, some_directory}
 use Rattle.ocfl_walk.proofs.walk.Walk.start_at.Goals as goal
 
 pub returns-then-depth-eq0-clause-told : goal.returns-then-depth-eq0-clause-told
 returns-then-depth-eq0-clause-told g c = λ h root over.
-    at_top root c.args.from.now (no_names_there c.args.from.now (sym c.depth.ensures ∙ c.if-depth-eq0.true))
+    at_top root c.args.from.now (nil_from_length c.args.from.now (sym c.depth.ensures ∙ c.if-depth-eq0.true))
     (λ d b. MatchResult c.start.result (λ walk. GoesDown root (g.T.Tree.state c.args.store.now) (g.T.Tree.state c.start.new.store) d × Stands root walk b)
     (λ why. GoDownFails root (g.T.Tree.state c.args.store.now) (g.T.Tree.state c.start.new.store) d why))
     (c.start.ensures.told h root over)

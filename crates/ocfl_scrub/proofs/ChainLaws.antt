@@ -6,7 +6,7 @@ use Rattle.ocfl_tree.specs.Place.{Place}
 use Rattle.ocfl_tree.specs.StorageRoot.{StorageRoot}
 use Rattle.ocfl_tree.specs.Store.{Store}
 use Rattle.ocfl_audit.specs.Lines.{is_empty}
-use Rattle.ocfl_audit.specs.Parts.{Part, whole}
+use Rattle.ocfl_audit.specs.Parts.{Part}
 use Rattle.ocfl_audit.specs.Runs.{Limits}
 use Rattle.ocfl_cursor.specs.Cursor.{State, Cursor, new_cursor}
 use Rattle.ocfl_cursor.specs.Moves.{after_run}
@@ -15,8 +15,8 @@ use Rattle.ocfl_item.specs.declared.fault.Fault.TheVariants.{Memory}
 use Rattle.ocfl_scrub.specs.Call.{Call, call_of}
 use Rattle.ocfl_scrub.specs.Running.{place_in, state_at, state_after, begun_in, RunEndsWithin, RunsFromWithin}
 use Rattle.ocfl_scrub.specs.Starting.{due_within}
-use Rattle.ocfl_scrub.specs.Chaining.{MadeRun, IsMadeOf, CycleOfRunsWithin, CycleOfRuns}
-use Rattle.ocfl_scrub.specs.Together.{CyclesToWithin, CyclesTo, cycle_state, cycle_cursor}
+use Rattle.ocfl_scrub.specs.Chaining.{MadeRun, IsMadeOf, CycleOfRunsWithin}
+use Rattle.ocfl_scrub.specs.Together.{CyclesToWithin, cycle_state, cycle_cursor}
 use Rattle.ocfl_scrub.specs.declared.running.RunStatus.{RunStatus}
 use Rattle.ocfl_scrub.specs.declared.running.RunStatus.TheVariants as run
 use Rattle.ocfl_scrub.specs.declared.cycling.CycleEnd.{CycleEnd}
@@ -276,9 +276,6 @@ pub together : (call : Call) (part : Part) (limits : List Limits) (ran : CycleEn
 together call part limits ran h =
     let a = apart call part limits ran h in
     by_runs call.root part call.before call.after call.old call.new limits ran a.over a.runs a.unused a.limits_are a.chained a.made_of a.spent a.ends a.cursor_is a.found_is
-
-pub together_whole : (call : Call) (limits : List Limits) (ran : CycleEnd) → CycleOfRuns call limits ran → CyclesTo call limits ran.cursor ran.found ran.end
-together_whole call limits ran h = together call whole limits ran h
 
 -- its count is that of its cursor
 pub counted : (call : Call) (part : Part) (limits : List Limits) (ran : CycleEnd) → CycleOfRunsWithin call part limits ran → ran.runs ≡ ran.cursor.runs

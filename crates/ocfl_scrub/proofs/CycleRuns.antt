@@ -19,7 +19,7 @@ use Rattle.ocfl_report.specs.Line.{Item}
 use Rattle.ocfl_report.specs.Text.{text}
 use Rattle.ocfl_audit.specs.Audit.{Unread, given_by, audit, after, item_of, total_cost}
 use Rattle.ocfl_audit.specs.Due.{item_places, due, items_at, hashed_among}
-use Rattle.ocfl_audit.specs.Parts.{Part, whole, lies_in, within, places_within, parts_of, unread_in, together}
+use Rattle.ocfl_audit.specs.Parts.{Part, lies_in, within, places_within, parts_of, unread_in, together}
 use Rattle.ocfl_audit.specs.Runs.{Limits, total_files, may_take, IsAtLeast}
 use Rattle.ocfl_audit.specs.Trail.{content_trail, content_openings, unread_of}
 use Rattle.ocfl_audit.proofs.ApartLaws.{apart_texts, unread_is}
@@ -639,13 +639,9 @@ module _ (root : StorageRoot) (part : Part) where
         let o = m.once in
         omega (arith, d, e, k, o)
 
--- ---- the whole, and all parts
+-- ---- all parts
 
 module _ (root : StorageRoot) where
-  pub whole_reports : (c : Cursor) (runs : List PartRun) → place_in c.state ≡ None → AreOneCycle root whole c runs → (cursor_after c runs).state ≡ ended
-      → reports_of runs ≡ text (audit root (unread_together root runs))
-  whole_reports c runs fresh h e = reports_whole root whole c runs fresh h e
-
   abbrev apart : List PartCycle → List (Part × Unread)
   apart ds = map (λ d. (d.part, unread_together root d.runs)) ds
 

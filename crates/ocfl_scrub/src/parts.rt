@@ -13,7 +13,7 @@ ghost use Rattle.ocfl_report.specs.Text.{text};
 ghost use Rattle.ocfl_audit.specs.Audit.{audit, total_cost};
 ghost use Rattle.ocfl_audit.specs.Due.{hashed_among, item_places};
 ghost use Rattle.ocfl_audit.specs.Lines.{is_empty};
-ghost use Rattle.ocfl_audit.specs.Parts.{Part, parts_of, places_within, whole, within};
+ghost use Rattle.ocfl_audit.specs.Parts.{Part, parts_of, places_within, within};
 ghost use Rattle.ocfl_audit.specs.Runs.{IsAtLeast, Limits, total_files};
 ghost use Rattle.ocfl_audit.specs.Trail.{content_trail, heads_of};
 ghost use Rattle.ocfl_cursor.specs.Cursor.{Cursor, ended};
@@ -90,10 +90,6 @@ pub fn runs_that_stop_join()
         → place_in c.state ≡ None → AreOneCycle root part c runs
         → (cursor_after c runs).state ≡ ended
         → reports_of runs ≡ text (within part (audit root (unread_together root runs))) }
-    ensures whole { (root : StorageRoot) (c : Cursor) (runs : List PartRun)
-        → place_in c.state ≡ None → AreOneCycle root whole c runs
-        → (cursor_after c runs).state ≡ ended
-        → reports_of runs ≡ text (audit root (unread_together root runs)) }
     ensures few { (root : StorageRoot) (part : Part) (c : Cursor) (runs : List PartRun)
         → place_in c.state ≡ None → AreOneCycle root part c runs → (b n : ℕ) → 1 ≤ b → 1 ≤ n
         → All (IsAtLeast b n) (map (λ r. r.limits) runs) → unstopped runs

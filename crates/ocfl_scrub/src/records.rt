@@ -255,11 +255,9 @@ pub fn a_run_that_stops_took_the_first_of_its_cut()
         (i : Item) → whole ≡ front ++ i ∷ [] → last ≡ Some i.place))))))) }
 {}
 
-/// What the runs of a cycle did together, of the whole and of a part.
+/// What the runs of a cycle did together, of a part; the whole is one.
 pub fn a_cycle_does_what_its_runs_do()
-    ensures whole { (call : Call) (limits : List Limits) (ran : CycleEnd)
-        → CycleOfRuns call limits ran → CyclesTo call limits ran.cursor ran.found ran.end }
-    ensures part { (call : Call) (part : Part) (limits : List Limits) (ran : CycleEnd)
+    ensures { (call : Call) (part : Part) (limits : List Limits) (ran : CycleEnd)
         → CycleOfRunsWithin call part limits ran
         → CyclesToWithin call part limits ran.cursor ran.found ran.end }
 {}

@@ -92,10 +92,13 @@ limits_given calls = map (λ c. limits_of c.limits) calls
 -- ---- all parts
 
 -- the calls of one cycle of a part, and what was stored before them
-pub record CalledCycle : Type 0 where
+pub record CycleOf (A : Type 0) : Type 0 where
   pub ends : PartEnds
   pub stored : Option Text
-  pub calls : List PartCall
+  pub calls : List A
+
+abbrev pub CalledCycle : Type 0
+CalledCycle = CycleOf PartCall
 
 pub record IsCalledCycle (root : StorageRoot) (d : CalledCycle) : Type 0 where
   pub begins : BeginsCycle d.ends d.stored
@@ -154,11 +157,9 @@ stored_last stored calls = stored_after stored (map (λ c. c.call) calls)
 abbrev pub runs_made : List MadeCall → List PartRun
 runs_made calls = map run_in calls
 
--- the calls of one cycle of a part, from its first item to its end
-pub record MadeCycle : Type 0 where
-  pub ends : PartEnds
-  pub stored : Option Text
-  pub calls : List MadeCall
+-- from the first item of a part to its end
+abbrev pub MadeCycle : Type 0
+MadeCycle = CycleOf MadeCall
 
 pub record IsMadeCycle (root : StorageRoot) (d : MadeCycle) : Type 0 where
   pub starts : BeginsCycle d.ends d.stored

@@ -39,6 +39,8 @@ use std::io::{Read, Write};
 
 /// A call of `perform_part` for a run of a part is one of which the laws below speak, if its store
 /// tells its tree, the bytes of its cursor and of its output are known, and no failure is counted.
+/// So is each that hands a cursor back, whatever failed in it. Its report is what it wrote, except
+/// for a beginning of the next item's lines if the output failed.
 pub fn a_call_is_told<T: Tree, R: Read, W: Write>(
     alloc: Global,
     store: &mut T,
@@ -48,7 +50,7 @@ pub fn a_call_is_told<T: Tree, R: Read, W: Write>(
     block: &mut Block,
     out: &mut W,
 ) -> Performed
-    ensures { WhereTold T.told T.state W.contents store.old store.new out.old out.new (λ call.
+    ensures well { WhereTold T.told T.state W.contents store.old store.new out.old out.new (λ call.
         (limits : MadeLimits) (e : PartEnds) (stored : Option Text) (old report : Text)
         (opened : List Opening) → deed.now ≡ deeds.Run limits → scope.now ≡ scopes.Part e
         → bytes_of R.remaining reader.entry ≡ bytes_stored stored → call.old ≡ Some old
@@ -56,6 +58,16 @@ pub fn a_call_is_told<T: Tree, R: Read, W: Write>(
         → call.after.openings ≡ call.before.openings ++ opened → IsUnfailing call
         → CalledWell call.root e stored
         (record { limits = limits; report = report; opened = opened; said = result })) }
+    ensures handed_back { WhereTold T.told T.state W.contents store.old store.new out.old out.new
+        (λ call. (limits : MadeLimits) (e : PartEnds) (stored : Option Text) (old new : Text)
+        → deed.now ≡ deeds.Run limits → scope.now ≡ scopes.Part e
+        → bytes_of R.remaining reader.entry ≡ bytes_stored stored → call.old ≡ Some old
+        → call.new ≡ Some new → IsSome result.cursor → (c : MadeCall)
+        × ((c.call.limits ≡ limits) × ((c.call.said ≡ result)
+        × ((call.after.openings ≡ call.before.openings ++ c.call.opened)
+        × ((cut : Text) × ((new ≡ old ++ (c.call.report ++ cut))
+        × ((result.note ≢ notes.OutputFailed → cut ≡ [])
+        × MadeFrom call.root e stored c))))))) }
 {
     perform_part(alloc, store, deed, scope, reader, block, out)
 }
@@ -97,32 +109,6 @@ pub fn calls_on_all_parts_join_to_the_audit()
         → flat_map (λ d. content_opened root d.calls) cycles
         ≡ hashed_among root (item_places root) }
 {}
-
-/// A call of `perform_part` for a run of a part that hands a cursor back is one of which the laws
-/// below speak, whatever failed in it. Its report is what it wrote, except for a beginning of the
-/// next item's lines if the output failed.
-pub fn a_call_that_hands_back_has_a_report<T: Tree, R: Read, W: Write>(
-    alloc: Global,
-    store: &mut T,
-    deed: &Deed,
-    scope: &Scope,
-    reader: Option<&mut R>,
-    block: &mut Block,
-    out: &mut W,
-) -> Performed
-    ensures { WhereTold T.told T.state W.contents store.old store.new out.old out.new (λ call.
-        (limits : MadeLimits) (e : PartEnds) (stored : Option Text) (old new : Text)
-        → deed.now ≡ deeds.Run limits → scope.now ≡ scopes.Part e
-        → bytes_of R.remaining reader.entry ≡ bytes_stored stored → call.old ≡ Some old
-        → call.new ≡ Some new → IsSome result.cursor → (c : MadeCall)
-        × ((c.call.limits ≡ limits) × ((c.call.said ≡ result)
-        × ((call.after.openings ≡ call.before.openings ++ c.call.opened)
-        × ((cut : Text) × ((new ≡ old ++ (c.call.report ++ cut))
-        × ((result.note ≢ notes.OutputFailed → cut ≡ [])
-        × MadeFrom call.root e stored c))))))) }
-{
-    perform_part(alloc, store, deed, scope, reader, block, out)
-}
 
 /// The same calls, of which any may stop at a call of the store that fails, and may meet content
 /// that it cannot read. Each that handed a cursor back as bytes is one of them, and the next one

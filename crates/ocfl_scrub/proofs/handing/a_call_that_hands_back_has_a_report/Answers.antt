@@ -1,8 +1,0 @@
-use Rattle.ocfl_scrub.proofs.CallsJoined.{as_told}
-use Rattle.ocfl_scrub.proofs.CallsMade.{call_has_run}
-use Rattle.ocfl_scrub.proofs.handing.a_call_that_hands_back_has_a_report.Goals as goal
-
-pub returns : goal.returns
-returns g c told root over short limits e stored old new run part known before behind handed =
-    call_has_run root (g.T.Tree.state c.args.store.now) (g.T.Tree.state c.perform_part.new.store) e stored limits old c.perform_part.result new handed
-    (as_told root _ _ _ _ _ _ _ _ _ _ _ _ c.perform_part.result before behind run part known (c.perform_part.ensures.told told root over short))

@@ -1,20 +1,24 @@
 -- What is said and handed back after a run.
-use Rattle.std.proofs.Common.{◌≡◌, refl, ap, subst, ℕ, List, Option, Some, None, Vec, inl, inr}
-use Rattle.std.specs.Prelude.{◌≢◌, IsNone, IfSome, ◌⊎◌, String, string_bytes}
+use Rattle.std.proofs.Common.{◌≡◌, refl, ap, subst, ℕ, List, [], Option, Some, None, Vec, inl, inr}
+use Rattle.std.specs.Prelude.{◌≢◌, IsNone, IsSome, IfSome, ◌⊎◌, String, string_bytes}
 use Rattle.std.specs.declared.alloc.Global.{Global}
 use Rattle.ocfl_tree.specs.Place.{Text, Place}
 use Rattle.ocfl_tree.specs.Store.{Store}
-use Rattle.ocfl_audit.specs.Parts.{Part}
+use Rattle.ocfl_report.specs.Line.{found}
+use Rattle.ocfl_report.specs.Text.{text}
+use Rattle.ocfl_audit.specs.Audit.{audit}
+use Rattle.ocfl_audit.specs.Parts.{Part, whole}
 use Rattle.ocfl_audit.specs.Runs.{Limits}
 use Rattle.ocfl_cursor.specs.Cursor.{Cursor, IsCursor}
 use Rattle.ocfl_cursor.specs.Moves.{after_run}
 use Rattle.ocfl_cursor.specs.declared.limits.Limits.{Limits as MadeLimits}
 use Rattle.ocfl_deed.specs.declared.deed.Deed.{Deed}
 use Rattle.ocfl_deed.specs.declared.deed.Deed.TheVariants as deed
+use Rattle.ocfl_item.specs.declared.fault.Fault.TheVariants as fault
 use Rattle.ocfl_scope.specs.Finding.{IsNoPath}
-use Rattle.ocfl_scrub.specs.Call.{Call, IsUnfailing}
-use Rattle.ocfl_scrub.specs.Noting.{IsRefused, IsStoredNote}
-use Rattle.ocfl_scrub.specs.Performing.{HandedBack, RefusesPath, RunMade, RunUnmade, RunWorn}
+use Rattle.ocfl_scrub.specs.Call.{Call, IsUnfailing, Writes}
+use Rattle.ocfl_scrub.specs.Noting.{AuditsWithNote, IsAuditNote, IsRanSaid, IsRefused, IsStatus, IsStoredNote, status_of}
+use Rattle.ocfl_scrub.specs.Performing.{AnswersOnAnyStore, Performs, HandedBack, IsKept, IsSilent, IsWhole, IsWithoutFile, RefusesPath, RunMade, RunUnmade, RunWorn}
 use Rattle.ocfl_scrub.specs.Running.{IsPaid, IsWorn, RunsCleanlyWithin, RunsFromWithin, RunsOnAnyStore, begun, limits_of, state_after}
 use Rattle.ocfl_scrub.specs.declared.note.Note.{Note}
 use Rattle.ocfl_scrub.specs.declared.note.Note.TheVariants as note
@@ -59,6 +63,42 @@ module _ {S O : Type 0} {contents : O → Option (List ℕ)} {before after : S} 
 
   pub worn_silent : (state : S → Store) → ran.end ≡ run.Worn → (state after ≡ state before) × (contents new ≡ contents old)
   worn_silent state worn = (ap state (r.worn_silent worn).0, ap contents (r.worn_silent worn).1)
+
+-- of what a run says, it is of a worn cursor alone that nothing was done
+silent_worn : (n : Note) → IsRanSaid n → IsSilent n → n ≡ note.CursorWorn
+silent_worn note.CursorWorn h k = refl
+silent_worn note.BadPath h k = absurd h
+silent_worn note.CursorFileFailed h k = absurd h
+silent_worn (note.CursorRefused why) h k = absurd h
+silent_worn (note.PartCursorRefused why) h k = absurd h
+silent_worn n h k = absurd k
+
+no_file_failed : (known : Option (Option Text)) (limits : MadeLimits) (n : Note) → IsRanSaid n → IsWithoutFile known (deed.Run limits) n
+no_file_failed None limits n h = λ e. subst IsRanSaid e h
+no_file_failed (Some known) limits n h = tt
+
+-- a run answers on any store as what is said of it
+module _ {S O : Type 0} {contents : O → Option (List ℕ)} {before after : S} {old new : O} {from : Cursor} {limits : MadeLimits} {ran : RunEnd}
+    (r : RunsOnAnyStore contents before after old new from limits ran) where
+  pub run_answers : (known : Option (Option Text)) (said : Performed) → IsStatus said.status said.note → IsRanSaid said.note → (said.note ≡ note.CursorWorn → ran.end ≡ run.Worn)
+      → IsKept said.note said.cursor → (IsWhole said.note → (ran.end ≢ run.Stopped fault.Output) × (said.status ≡ status_of ran.found))
+      → (said.note ≢ note.OutputFailed → (said.note ≢ note.OutOfMemory) ⊎ IsSome said.cursor → ran.end ≢ run.Stopped fault.Output)
+      → AnswersOnAnyStore contents before after old new known (deed.Run limits) said
+  run_answers known said status says worn kept whole uncut = record {
+    status = status;
+    silent = λ h. r.worn_silent (worn (silent_worn said.note says h));
+    show_calls = λ e. absurd (let two : deed.Run limits ≡ deed.Show = e in cc);
+    show_ends = λ e. absurd (let two : deed.Run limits ≡ deed.Show = e in cc);
+    unshown = tt;
+    kept = kept;
+    without_file = no_file_failed known limits said.note says;
+    bad_path = tt;
+    bad_path_silent = λ h. absurd h;
+    lines = record {
+      uncut = λ written held. (ran.found, r.lines (uncut written held));
+      whole = λ h. let k = whole h in (ran.found, (k.1, r.lines k.0));
+    };
+  }
 
 module _ {Begins : Cursor → Type 0} {text_of : Cursor → Text} {limits : Limits} {from : Cursor} {ran : RunEnd} {said : Performed} (h : Made Begins text_of limits from ran said) where
   -- a text that is handed back is that of the cursor that the run answered
@@ -108,6 +148,13 @@ module _ {Begins : Cursor → Type 0} {text_of : Cursor → Text} {limits : Limi
           says = h.says went;
         };
       })
+
+-- a whole root that was audited, as it is said
+pub audit_performed : (call : Call) (known : Option (Option Text)) (d : Deed) (status status' : ℕ) (n n' : Note) (stored : Option (Vec ℕ Global))
+    → d ≡ deed.Audit → status ≡ status' → n ≡ n' → AuditsWithNote (λ ran. IsAuditNote ran.found ran.end status' n') call whole
+    → (n' ≡ note.Nothing → IsUnfailing call → Writes call (text (audit call.root [])) × (status' ≡ status_of (found (audit call.root []))))
+    → Performs call known d status n stored
+audit_performed call known d status status' n n' stored e s m audits clean = rw (e, s, m) (record { audits = audits; clean = clean })
 
 -- a path that was checked is refused as the check refuses it
 pub path_refused : (d : Deed) (path : String Global) (read : Text) (status status' : ℕ) (n n' : Note)

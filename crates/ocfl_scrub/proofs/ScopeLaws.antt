@@ -12,8 +12,8 @@ use Rattle.ocfl_audit.specs.Parts.{Part, within}
 use Rattle.ocfl_deed.specs.declared.deed.Deed.{Deed}
 use Rattle.ocfl_scrub.specs.Call.{call_of}
 use Rattle.ocfl_scrub.specs.Noting.{status_of}
-use Rattle.ocfl_scrub.specs.Performing.{Performs}
-use Rattle.ocfl_scrub.specs.Scoping.{PartAudited, PerformsIn}
+use Rattle.ocfl_scrub.specs.Performing.{PartAudited, Performs}
+use Rattle.ocfl_scrub.specs.Scoping.{PerformsIn}
 use Rattle.ocfl_scrub.specs.WholeAudit.{AuditEndsWithin}
 use Rattle.ocfl_scrub.specs.declared.auditing.AuditEnd.{AuditEnd}
 use Rattle.ocfl_scrub.specs.declared.checking.End.TheVariants as end
@@ -40,9 +40,7 @@ module _ (root : StorageRoot) (s t : Store) (old new : Option (List ℕ)) (made 
 
   pub part_audited : {Says : AuditEnd → Type 0} (part : Part) → made ≡ part → Says ran → PartAudited Says (call_of root s t old new) part status n
   part_audited part same says = record {
-    ran = ran;
-    audits = subst (λ q. AuditEndsWithin (call_of root s t old new) q ran.last ran.found ran.end) same audits;
-    says = says;
+    audits = record { ran = ran; audits = subst (λ q. AuditEndsWithin (call_of root s t old new) q ran.last ran.found ran.end) same audits; says = says };
     clean = clean_said part same;
   }
 

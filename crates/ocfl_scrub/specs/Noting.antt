@@ -15,7 +15,7 @@ use Rattle.ocfl_item.specs.declared.fault.Fault.TheVariants as fault
 use Rattle.ocfl_scrub.specs.Call.{Call, IsUnfailing}
 use Rattle.ocfl_scrub.specs.Taking.{WritesLines}
 use Rattle.ocfl_scrub.specs.Checking.{CheckEnds}
-use Rattle.ocfl_scrub.specs.WholeAudit.{AuditEnds}
+use Rattle.ocfl_scrub.specs.WholeAudit.{AuditEndsWithin}
 use Rattle.ocfl_scrub.specs.declared.auditing.AuditEnd.{AuditEnd}
 use Rattle.ocfl_scrub.specs.declared.checking.CheckEnd.{CheckEnd}
 use Rattle.ocfl_scrub.specs.declared.checking.End.{End}
@@ -198,11 +198,11 @@ pub record ChecksWithNote (call : Call) (p : Place) (status : ℕ) (n : Note) : 
   pub checks : CheckEnds call p ran.item ran.found ran.end
   pub says : IsCheckNote ran.item ran.found ran.end status n
 
--- the root was audited, and the status and the text are those of the audit
-pub record AuditsWithNote (call : Call) (status : ℕ) (n : Note) : Type 0 where
+-- a part was audited, and what is said is said of that audit
+pub record AuditsWithNote (Says : AuditEnd → Type 0) (call : Call) (part : Part) : Type 0 where
   pub ran : AuditEnd
-  pub audits : AuditEnds call ran.last ran.found ran.end
-  pub says : IsAuditNote ran.found ran.end status n
+  pub audits : AuditEndsWithin call part ran.last ran.found ran.end
+  pub says : Says ran
 
 -- the same if the text of the cursor is handed back, or if there was no memory for it
 abbrev pub IsStoredNote : (Cursor → Text) → Cursor → ℕ → Bool → RunStatus → ℕ → Note → Option (Vec ℕ Global) → Type 0

@@ -8,7 +8,7 @@ use Rattle.ocfl_tree.specs.Name.{IsPlace}
 use Rattle.ocfl_report.specs.Line.{found}
 use Rattle.ocfl_report.specs.Text.{place_text, text}
 use Rattle.ocfl_audit.specs.Audit.{audit}
-use Rattle.ocfl_audit.specs.Parts.{Part, whole}
+use Rattle.ocfl_audit.specs.Parts.{Part, whole, within}
 use Rattle.ocfl_audit.specs.Runs.{Limits}
 use Rattle.ocfl_cursor.specs.Cursor.{Cursor, IsCursor, new_cursor, cursor_text}
 use Rattle.ocfl_cursor.specs.Moves.{after_run}
@@ -24,8 +24,9 @@ use Rattle.ocfl_deed.specs.declared.deed.Deed.{Deed}
 use Rattle.ocfl_deed.specs.declared.deed.Deed.TheVariants as deed
 use Rattle.ocfl_scope.specs.Finding.{IsNoPath}
 use Rattle.ocfl_scrub.specs.Call.{Call, Writes, IsUnfailing}
-use Rattle.ocfl_scrub.specs.Noting.{IsStatus, status_of, IsAuditSaid, IsCheckSaid, IsRunSaid, IsCycleSaid, IsFileSaid, IsShowSaid, IsRefused, IsRunNote, IsUnreadNote, WritesWhole, WritesWithStatus, AuditsWithNote, ChecksWithNote, RunsWithNote, CyclesWithNote}
+use Rattle.ocfl_scrub.specs.Noting.{IsStatus, status_of, IsAuditSaid, IsCheckSaid, IsRunSaid, IsCycleSaid, IsFileSaid, IsShowSaid, IsRefused, IsAuditNote, IsRunNote, IsUnreadNote, WritesWhole, WritesWithStatus, AuditsWithNote, ChecksWithNote, RunsWithNote, CyclesWithNote}
 use Rattle.ocfl_scrub.specs.Running.{IsPaid, IsWorn, begun, limits_of, state_after}
+use Rattle.ocfl_scrub.specs.declared.auditing.AuditEnd.{AuditEnd}
 use Rattle.ocfl_scrub.specs.declared.performing.Performed.{Performed}
 use Rattle.ocfl_scrub.specs.declared.running.RunEnd.{RunEnd}
 use Rattle.ocfl_scrub.specs.declared.note.Note.{Note}
@@ -43,22 +44,23 @@ abbrev pub AreStored : Option (Option Text) → Text → Type 0
 AreStored None lines = ⊥
 AreStored (Some known) lines = IsShownFrom known lines
 
+-- what holds without a reader, and what of the bytes of a reader, where they are known
+abbrev pub IfRead : Type 0 → (Text → Type 0) → Option (Option Text) → Type 0
+IfRead unread OfBytes None = unread
+IfRead unread OfBytes (Some known) = IfSome known OfBytes
+
 -- a run begins with the cursor that is stored, and without a reader with the first
 abbrev pub BeginsWith : Option (Option Text) → Cursor → Type 0
-BeginsWith None c = c ≡ new_cursor
-BeginsWith (Some known) c = IfSome known (λ bytes. IsTextOf bytes c)
+BeginsWith known c = IfRead (c ≡ new_cursor) (λ bytes. IsTextOf bytes c) known
 
 -- no cursor was read, and if the bytes are known they are rightly refused; only a reader can be
 -- refused
 abbrev pub StopsWith : Option (Option Text) → CursorStop → Type 0
-StopsWith None why = ⊥
-StopsWith (Some known) why = IfSome known (λ bytes. StopsRightly bytes why)
+StopsWith known why = IfRead ⊥ (λ bytes. StopsRightly bytes why) known
 
--- nothing is shown, and if the bytes are known they are rightly refused; only a reader can be
--- refused
+-- so too if nothing is shown
 abbrev pub UnshownWith : Option (Option Text) → ShowStop → Type 0
-UnshownWith None why = ⊥
-UnshownWith (Some known) why = IfSome known (λ bytes. UnshownRightly bytes why)
+UnshownWith known why = IfRead ⊥ (λ bytes. UnshownRightly bytes why) known
 
 -- what is said to be refused is rightly refused, as the cursor of a part if that is to be shown
 abbrev pub RefusesRightly : Option (Option Text) → Note → Type 0
@@ -199,10 +201,14 @@ pub record AnswersOnAnyStore {S O : Type 0} (contents : O → Option (List ℕ))
 
 -- ---- of a store that tells its tree
 
--- if no failure was counted, the whole audit went out
-pub record AuditPerformed (call : Call) (status : ℕ) (n : Note) : Type 0 where
-  pub audits : AuditsWithNote call status n
-  pub clean : n ≡ note.Nothing → IsUnfailing call → Writes call (text (audit call.root [])) × (status ≡ status_of (found (audit call.root [])))
+-- a part was audited; if no failure was counted and nothing is said, its items went out
+pub record PartAudited (Says : AuditEnd → Type 0) (call : Call) (part : Part) (status : ℕ) (n : Note) : Type 0 where
+  pub audits : AuditsWithNote Says call part
+  pub clean : n ≡ note.Nothing → IsUnfailing call →
+      Writes call (text (within part (audit call.root []))) × (status ≡ status_of (found (within part (audit call.root []))))
+
+abbrev pub AuditPerformed : Call → ℕ → Note → Type 0
+AuditPerformed call status n = PartAudited (λ ran. IsAuditNote ran.found ran.end status n) call whole status n
 
 -- nothing was done because memory ran out
 pub record OutOfMemoryFirst (call : Call) (status : ℕ) (n : Note) : Type 0 where

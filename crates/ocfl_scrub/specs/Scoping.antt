@@ -1,11 +1,8 @@
 -- What a command does within a scope: in the whole storage root, in a branch of it, or in a part.
-use Rattle.std.specs.Prelude.{◌≡◌, ◌⊎◌, ℕ, [], Bool, Option, Some, None, Vec, IfSome, ⊤}
+use Rattle.std.specs.Prelude.{◌≡◌, ◌⊎◌, ℕ, Bool, Option, Some, None, Vec, IfSome, ⊤}
 use Rattle.std.specs.declared.alloc.Global.{Global}
 use Rattle.ocfl_tree.specs.Place.{Text, Place}
-use Rattle.ocfl_report.specs.Line.{found}
-use Rattle.ocfl_report.specs.Text.{text}
-use Rattle.ocfl_audit.specs.Audit.{audit}
-use Rattle.ocfl_audit.specs.Parts.{Part, branch, within}
+use Rattle.ocfl_audit.specs.Parts.{Part, branch}
 use Rattle.ocfl_audit.specs.Runs.{Limits}
 use Rattle.ocfl_cursor.specs.Cursor.{Cursor, new_cursor}
 use Rattle.ocfl_cursor.specs.Part.{part_text, IsPartText}
@@ -18,12 +15,10 @@ use Rattle.ocfl_deed.specs.declared.deed.Deed.TheVariants as deed
 use Rattle.ocfl_scope.specs.Numbered.{part_between}
 use Rattle.ocfl_scope.specs.declared.scope.Scope.{Scope}
 use Rattle.ocfl_scope.specs.declared.scope.Scope.TheVariants as scope
-use Rattle.ocfl_scrub.specs.Call.{Call, Writes, IsUnfailing}
-use Rattle.ocfl_scrub.specs.Noting.{status_of, IsAuditSaid, IsRunSaid, IsAuditNote, IsPartRefusedNote}
-use Rattle.ocfl_scrub.specs.Performing.{IsSaid, RefusesRightly, HandedBack, HandsBack, OutOfMemoryFirst, RunMade, RunUnmade, RunUnread, RunWorn, Performs}
+use Rattle.ocfl_scrub.specs.Call.{Call}
+use Rattle.ocfl_scrub.specs.Noting.{IsAuditSaid, IsRunSaid, IsAuditNote, IsPartRefusedNote}
+use Rattle.ocfl_scrub.specs.Performing.{IfRead, IsSaid, RefusesRightly, HandedBack, HandsBack, PartAudited, OutOfMemoryFirst, RunMade, RunUnmade, RunUnread, RunWorn, Performs}
 use Rattle.ocfl_scrub.specs.Running.{limits_of}
-use Rattle.ocfl_scrub.specs.WholeAudit.{AuditEndsWithin}
-use Rattle.ocfl_scrub.specs.declared.auditing.AuditEnd.{AuditEnd}
 use Rattle.ocfl_scrub.specs.declared.checking.End.{End}
 use Rattle.ocfl_scrub.specs.declared.checking.End.TheVariants as end
 use Rattle.ocfl_scrub.specs.declared.note.Note.{Note}
@@ -63,14 +58,12 @@ IsPartUnreadNote (stop.Refused why) status n = IsPartRefusedNote why status n
 
 -- a run begins with the cursor that is stored, and without a reader with the first
 abbrev pub BeginsPartWith : PartEnds → Option (Option Text) → Cursor → Type 0
-BeginsPartWith e None c = c ≡ new_cursor
-BeginsPartWith e (Some known) c = IfSome known (λ bytes. IsPartText e bytes c)
+BeginsPartWith e known c = IfRead (c ≡ new_cursor) (λ bytes. IsPartText e bytes c) known
 
 -- no cursor was read, and if the bytes are known they are rightly refused to this part; only a
 -- reader can be refused
 abbrev pub PartStopsWith : PartEnds → Option (Option Text) → PartCursorStop → Type 0
-PartStopsWith e None why = ⊥
-PartStopsWith e (Some known) why = IfSome known (λ bytes. PartStopsRightly e bytes why)
+PartStopsWith e known why = IfRead ⊥ (λ bytes. PartStopsRightly e bytes why) known
 
 -- what is said to be refused is rightly refused
 abbrev pub PartRefusesRightly : PartEnds → Option (Option Text) → Note → Type 0
@@ -89,16 +82,7 @@ HandsBackIn d w known status n stored = HandsBack known d status n stored
 
 -- ---- of a store that tells its tree
 
--- a part was audited, and the status and the text are those of the audit; if no failure was
--- counted and nothing is said, its items went out
-pub record PartAudited (Says : AuditEnd → Type 0) (call : Call) (part : Part) (status : ℕ) (n : Note) : Type 0 where
-  pub ran : AuditEnd
-  pub audits : AuditEndsWithin call part ran.last ran.found ran.end
-  pub says : Says ran
-  pub clean : n ≡ note.Nothing → IsUnfailing call →
-      Writes call (text (within part (audit call.root []))) × (status ≡ status_of (found (within part (audit call.root []))))
-
--- a branch, which is said to be empty if it has no item
+-- of a branch, which is said to be empty if it has no item
 abbrev pub BranchAudited : Call → Place → ℕ → Note → Type 0
 BranchAudited call p status n = PartAudited (λ ran. IsBranchNote ran.found ran.end ran.last status n) call (branch p) status n
 

@@ -5,6 +5,7 @@ ghost use Rattle.ocfl_tree.specs.Name.{IsPlace};
 ghost use Rattle.ocfl_report.specs.Line.{found as found_in};
 ghost use Rattle.ocfl_report.specs.Text.{place_text, text};
 ghost use Rattle.ocfl_audit.specs.Audit.{audit as whole_audit};
+ghost use Rattle.ocfl_audit.specs.Parts.{whole};
 ghost use Rattle.ocfl_scrub.specs.Call.{IsUnfailing, WhereTold, Writes};
 ghost use Rattle.ocfl_scrub.specs.Noting.{status_of, IsAuditNote, IsAuditSaid, IsCheckNote};
 ghost use Rattle.ocfl_scrub.specs.Noting.{IsCheckSaid, IsRefused, IsStatus, IsStopNote, IsStopSaid};
@@ -69,7 +70,7 @@ pub fn audited<T: Tree, W: Write>(
 
     // Of a store that tells its tree.
     ensures told { WhereTold T.told T.state W.contents store.old store.new out.old out.new (λ call.
-        AuditsWithNote call result.0 result.1) }
+        AuditsWithNote (λ ran. IsAuditNote ran.found ran.end result.0 result.1) call whole) }
     ensures unfailing { WhereTold T.told T.state W.contents store.old store.new out.old out.new
         (λ call. result.1 ≡ Note.Nothing → IsUnfailing call
         → Writes call (text (whole_audit call.root []))

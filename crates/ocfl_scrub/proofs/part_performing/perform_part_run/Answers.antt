@@ -1,10 +1,10 @@
-use Rattle.std.proofs.Common.{inl, inr, rules}
+use Rattle.std.proofs.Common.{inl, inr}
 use Rattle.ocfl_cursor.specs.Part.{part_text}
 use Rattle.ocfl_scrub.specs.Call.{call_of}
 use Rattle.ocfl_scrub.specs.Performing.{bytes_of}
 use Rattle.ocfl_scrub.specs.Running.{limits_of}
 use Rattle.ocfl_scrub.specs.Scoping.{BeginsPartWith}
-use Rattle.ocfl_scrub.proofs.PerformLaws.{Made, handed_back, made_by, run_performed, worn_silent}
+use Rattle.ocfl_scrub.proofs.PerformLaws.{Made, handed_back, made_by, run_answers, run_performed, worn_silent}
 use Rattle.ocfl_scrub.proofs.part_performing.perform_part_run.Given as given
 use Rattle.ocfl_scrub.proofs.part_performing.perform_part_run.Goals as goal
 use Rattle.ocfl_scrub.proofs.part_performing.perform_part_run.Goals.{Joined-part-2}
@@ -26,20 +26,5 @@ returns-clause-told g c told root over short =
 
 pub returns-clause-any_store : goal.returns-clause-any_store
 returns-clause-any_store g c =
-    let ran = c.run_part-end.ensures.any_store in
     let said = c.conclude_run.ensures in
-    record {
-      status = search rules;
-      silent = search rules;
-      show_calls = search rules;
-      show_ends = search rules;
-      unshown = search rules;
-      kept = search rules;
-      without_file = search rules;
-      bad_path = search rules;
-      bad_path_silent = search rules;
-      lines = record {
-        uncut = λ written kept. (c.run_part-end.result.found, ran.lines (said.uncut written kept));
-        whole = search rules;
-      };
-    }
+    run_answers c.run_part-end.ensures.any_store _ c.conclude_run.result said.status said.said said.worn.0 said.kept said.lines said.uncut

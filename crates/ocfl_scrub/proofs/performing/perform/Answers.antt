@@ -1,6 +1,13 @@
 use Rattle.std.proofs.Common.{rules}
-use Rattle.ocfl_scrub.proofs.PerformLaws.{path_refused}
+use Rattle.ocfl_scrub.specs.Call.{call_of}
+use Rattle.ocfl_scrub.proofs.PerformLaws.{audit_performed, path_refused}
 use Rattle.ocfl_scrub.proofs.performing.perform.Goals as goal
+
+pub returns-in-Audit-clause-told : goal.returns-in-Audit-clause-told
+returns-in-Audit-clause-told g c told root over short =
+    let e = c.audited.ensures in
+    let said = c.without_cursor.ensures in
+    audit_performed (call_of root _ _ _ _) _ _ _ _ _ _ _ c.in-Audit.is said.status said.note (e.told told root over short) (e.unfailing told root over short)
 
 pub returns-in-Check-clause-any_store : goal.returns-in-Check-clause-any_store
 returns-in-Check-clause-any_store g c =

@@ -11,30 +11,31 @@ use Rattle.ocfl_report.specs.Text.{text}
 use Rattle.ocfl_audit.specs.Audit.{audit, item_of}
 use Rattle.ocfl_audit.specs.Due.{item_places, due, items_at}
 use Rattle.ocfl_audit.specs.Trail.{unread_of}
-use Rattle.ocfl_audit.specs.Between.{looked_between, read_between}
+use Rattle.ocfl_audit.specs.Between.{read_between}
 use Rattle.ocfl_audit.specs.Parts.{Part, whole, within}
 use Rattle.ocfl_audit.proofs.DueLaws.{after_is_due}
 use Rattle.ocfl_audit.proofs.Trails.{unread_behind}
 use Rattle.ocfl_item.specs.Looking.{IsFront}
 use Rattle.ocfl_item.specs.Ways.{IsWayFault}
-use Rattle.ocfl_item.specs.Auditing.{Audits, Fails}
+use Rattle.ocfl_item.specs.Auditing.{Audits}
 use Rattle.ocfl_walk.specs.Ends.{before_end}
 use Rattle.ocfl_walk.specs.WalkCalls.{GoesDown, GoDownFails}
+use Rattle.ocfl_walk.proofs.FoundLaws.{none_hashed}
 use Rattle.ocfl_item.specs.declared.fault.Fault.{Fault}
 use Rattle.ocfl_item.specs.declared.fault.Fault.TheVariants.{Output}
 use Rattle.ocfl_scrub.specs.Call.{call_of}
 use Rattle.ocfl_scrub.specs.Taking.{PartOf}
 use Rattle.ocfl_scrub.specs.Written.{places, last_of, StopsWithin}
 use Rattle.ocfl_scrub.specs.Running.{items_above_in}
-use Rattle.ocfl_scrub.specs.Starting.{items_in, FilesLieIn, end_of, entry, stand, looked_in, read_in, LooksOver, StopsLooking}
+use Rattle.ocfl_scrub.specs.Starting.{items_in, end_of, entry, stand, looked_in, read_in, LooksOver, StopsLooking}
 use Rattle.ocfl_scrub.proofs.PartStarts.{above_in, due_starts, looked_all, read_all}
 use Rattle.ocfl_scrub.proofs.Passing.{due_in, Finishes, Halts}
 use Rattle.ocfl_scrub.proofs.LookLaws.{looks_over, stops_looking, stops_above}
 use Rattle.ocfl_scrub.proofs.WayListed.{halted_lie, taken_lie}
-use Rattle.ocfl_scrub.specs.WholeAudit.{AuditsWithin, AuditStopsWithin, AuditEndsWithin, AuditsAll, AuditStops, AuditEnds}
+use Rattle.ocfl_scrub.specs.WholeAudit.{AuditsWithin, AuditStopsWithin, AuditEndsWithin}
 use Rattle.ocfl_scrub.specs.declared.checking.End.{End}
 use Rattle.ocfl_scrub.specs.declared.checking.End.TheVariants.{Ended, Stopped}
-use Rattle.ocfl_scrub.proofs.AuditsJoined.{items_append, nothing_hashed}
+use Rattle.ocfl_scrub.proofs.AuditsJoined.{items_append}
 use Rattle.ocfl_scrub.proofs.TakeLaws.{nothing_of}
 
 pub due_all : (root : StorageRoot) → due root None ≡ item_places root
@@ -53,17 +54,13 @@ take_items root os zero (p ∷ ps) = refl
 take_items root os (suc n) [] = refl
 take_items root os (suc n) (p ∷ ps) = ap (λ is. item_of root (unread_of root os) p ∷ is) (take_items root os n ps)
 
-pub nothing_front : {A : Type 0} (xs : List A) → IsFront xs [] → xs ≡ []
-nothing_front [] f = refl
-nothing_front (x ∷ xs) f = absurd (let e = f.1 in cc)
-
 -- ---- after a walk that went down to where the pass over a part begins
 
 module _ (root : StorageRoot) (part : Part) (s t : Store) (from : Option Place) (g : GoesDown root s t (entry part from)) where
   -- what was read on the way down has no part in the items
   walked : (os : List Opening) (ps : List Place) → items_at root (g.trail ++ os) ps ≡ items_at root os ps
   unfolding items_at
-  walked os ps = ap (λ v. map (item_of root v) ps) (unread_behind root g.trail os (g.audits.opened ∙ nothing_hashed root))
+  walked os ps = ap (λ v. map (item_of root v) ps) (unread_behind root g.trail os (g.audits.opened ∙ none_hashed root))
 
   -- the items of the part are those of what is due before the end
   pub above_at : (os : List Opening) → items_above_in root (g.trail ++ os) part from ≡ items_at root os (due_in root (end_of part) (stand root part from))

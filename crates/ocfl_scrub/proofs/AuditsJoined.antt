@@ -4,6 +4,7 @@ use Rattle.std.specs.Prelude.{cond}
 use Rattle.std.specs.Ordering.{is_eq}
 use Rattle.std.specs.declared.cmp.Ordering.{Ordering}
 use Rattle.std.specs.declared.cmp.Ordering.TheVariants.{Less, Equal, Greater}
+use Rattle.std.proofs.lemmas.List.{map-append}
 use Rattle.ocfl_tree.specs.Place.{Place, place_cmp, place_eq}
 use Rattle.ocfl_tree.specs.Ascending.{IsAscending, IsAmong}
 use Rattle.ocfl_tree.specs.StorageRoot.{StorageRoot}
@@ -16,7 +17,7 @@ use Rattle.ocfl_audit.specs.Audit.{Unread, given_by, item_of}
 use Rattle.ocfl_audit.specs.Trail.{content_openings, content_trail, unread_of}
 use Rattle.ocfl_audit.specs.Due.{items_at, hashed_among}
 use Rattle.ocfl_item.specs.Auditing.{Audits}
-use Rattle.ocfl_scrub.proofs.Lists.{map_append, ascends_across}
+use Rattle.ocfl_scrub.proofs.Lists.{ascends_across}
 use Rattle.ocfl_item.proofs.AuditingLaws.{unread_append}
 
 -- ---- what a trail shows
@@ -103,7 +104,7 @@ items_behind root os os' ps qs h e =
 
 pub items_append : (root : StorageRoot) (os : List Opening) (ps qs : List Place) → items_at root os (ps ++ qs) ≡ items_at root os ps ++ items_at root os qs
 unfolding items_at
-items_append root os ps qs = map_append _ ps qs
+items_append root os ps qs = map-append _ ps qs
 
 pub items_then : (root : StorageRoot) (os os' : List Opening) (ps qs : List Place) → IsAscending place_cmp (ps ++ qs)
     → content_trail root os ≡ hashed_among root ps → content_trail root os' ≡ hashed_among root qs → items_at root (os ++ os') (ps ++ qs) ≡ items_at root os ps ++ items_at root os' qs
@@ -111,10 +112,6 @@ items_then root os os' ps qs h e f =
     items_append root (os ++ os') ps qs ∙ ap (λ is. is ++ items_at root (os ++ os') qs) (items_before root os os' ps qs h f) ∙ ap (λ is. items_at root os ps ++ is) (items_behind root os os' ps qs h e)
 
 -- ---- calls
-
-pub nothing_hashed : (root : StorageRoot) → hashed_among root [] ≡ []
-unfolding hashed_among
-nothing_hashed root = refl
 
 pub audits_over : {root : StorageRoot} {s t : Store} {ps ls hs : List Place} {os : List Opening} → Audits root s t ps ls hs os → t.tree ≡ root
 audits_over h = h.did.tree ∙ h.over

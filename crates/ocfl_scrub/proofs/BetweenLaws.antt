@@ -1,16 +1,16 @@
 -- What is between two places, cut in two at the last one taken.
 use Rattle.std.proofs.Common.{◌≡◌, ◌⊎◌, inl, inr, List, [], ◌++◌, refl, sym, ◌∙◌, ap, subst, false, Option, Some, None, append_assoc}
 use Rattle.std.specs.Ordering.{is_lt}
-use Rattle.std.specs.declared.cmp.Ordering.{Ordering}
-use Rattle.std.specs.declared.cmp.Ordering.TheVariants.{Less, Equal, Greater}
+use Rattle.std.specs.declared.cmp.Ordering.TheVariants.{Less}
 use Rattle.ocfl_tree.specs.Place.{Place, place_cmp}
 use Rattle.ocfl_tree.specs.StorageRoot.{StorageRoot}
-use Rattle.ocfl_tree.proofs.Orders.{place_cmp_total, not_below_itself}
+use Rattle.ocfl_tree.proofs.Orders.{place_cmp_total}
 use Rattle.ocfl_audit.specs.Between.{IsBeyond, IsWithin, between, looked_between, read_between}
 use Rattle.ocfl_audit.proofs.BetweenLaws.{looked_on, read_on}
 use Rattle.ocfl_item.specs.Looking.{IsFront}
 use Rattle.ocfl_walk.specs.Ends.{is_past, before_end}
 use Rattle.ocfl_walk.specs.declared.end.End.{End}
+use Rattle.ocfl_walk.proofs.BeforeLaws.{not_below}
 use Rattle.ocfl_walk.proofs.EndLaws.{looked_out, read_out}
 use Rattle.ocfl_scrub.proofs.Passing.{up_to_last}
 use Rattle.ocfl_scrub.proofs.Lists.{filter_none}
@@ -30,14 +30,6 @@ pub gone_next : (e : End) (from last : Option Place) (p : Place) → HasGoneOn e
 gone_next e from last p (inl f) l n = inr (p, (refl, (subst (λ x. IsBeyond x p) f l, n)))
 gone_next e from last p (inr (m, (f, b))) l n = inr (p, (refl, (beyond_more from m p b.0 (subst (λ x. IsBeyond x p) f l), n)))
 
-not_past : (m p : Place) → place_cmp m p ≡ Less → is_lt (place_cmp p m) ≡ false
-not_past m p h = by (place_cmp p m) refl
-  where
-    by : (r : Ordering) → place_cmp p m ≡ r → is_lt r ≡ false
-    by Less e = absurd (not_below_itself place_cmp_total m (place_cmp_total.trans m p m h e))
-    by Equal e = refl
-    by Greater e = refl
-
 module _ (f : Option Place → Option Place → List Place)
     (joins : (from to : Option Place) (b : Place) → IsBeyond from b → IsWithin to b → f from (Some b) ++ f (Some b) to ≡ f from to) (self : (p : Place) → f (Some p) (Some p) ≡ []) where
   up_self : (from : Option Place) → up_to_last f from from ≡ []
@@ -49,7 +41,7 @@ module _ (f : Option Place → Option Place → List Place)
   joined e from last to (inr (m, (g, b))) u = subst (λ x. up_to_last f from x ++ f x to ≡ f from to) (sym g) (joins from to m b.0 (u m g))
 
   joined_next : (e : End) (from last : Option Place) (p : Place) → HasGoneOn e from last → IsBeyond last p → up_to_last f from last ++ f last (Some p) ≡ f from (Some p)
-  joined_next e from last p low h = joined e from last (Some p) low (λ m g. not_past m p (subst (λ x. IsBeyond x p) g h))
+  joined_next e from last p low h = joined e from last (Some p) low (λ m g. not_below m p (subst (λ x. IsBeyond x p) g h))
 
   -- the same of what is left before the end
   joined_out : (e : End) → ((from : Option Place) (b : Place) → IsBeyond from b → is_past e b ≡ false → f from (Some b) ++ before_end e (f (Some b) None) ≡ before_end e (f from None))

@@ -1,6 +1,6 @@
 -- Calls that hand the text of a part's cursor from one to the next are runs of one cycle of that part,
 -- whatever failed in them.
-use Rattle.std.proofs.Common.{◌≡◌, ◌≢◌, inl, inr, ℕ, ◌+◌, ◌≤◌, ◌/◌, List, [], ◌∷◌, ◌++◌, refl, sym, ◌∙◌, ap, subst, Some, None, Option, All, map, true, Bool, Vec, append-nil, take}
+use Rattle.std.proofs.Common.{◌≡◌, ◌≢◌, inl, inr, ℕ, ◌+◌, ◌≤◌, ◌/◌, List, [], ◌∷◌, ◌++◌, refl, sym, ◌∙◌, ap, subst, Some, None, Option, All, map, true, Bool, Vec}
 use Rattle.std.specs.Prelude.{◌⊎◌, IsNone, IsSome, flat_map, option_map}
 use Rattle.std.specs.List.{AllByRecursion}
 use Rattle.std.specs.declared.alloc.Global.{Global}
@@ -11,7 +11,7 @@ use Rattle.ocfl_tree.specs.declared.store.Opening.{Opening}
 use Rattle.ocfl_report.specs.Text.{text}
 use Rattle.ocfl_audit.specs.Audit.{Unread, audit, total_cost}
 use Rattle.ocfl_audit.specs.Parts.{Part, within}
-use Rattle.ocfl_audit.specs.Runs.{Limits, total_files, IsAtLeast}
+use Rattle.ocfl_audit.specs.Runs.{total_files, IsAtLeast}
 use Rattle.ocfl_cursor.specs.Cursor.{Cursor, IsCursor, ended}
 use Rattle.ocfl_cursor.specs.Part.{IsPartText, part_text}
 use Rattle.ocfl_cursor.specs.declared.ends.PartEnds.{PartEnds}
@@ -27,7 +27,7 @@ use Rattle.ocfl_scrub.specs.Handing.{SaysMade, BeginsCycle, bytes_stored, handed
 use Rattle.ocfl_scrub.specs.Joining.{AreOneCycle, IsWholeCycle, PartCycle, Ran, cursor_after, items_out, left_by, reports_of, unread_together, unstopped}
 use Rattle.ocfl_scrub.specs.Noting.{IsRunNote, IsStoredNote}
 use Rattle.ocfl_scrub.specs.Performing.{RunMade, RunUnmade}
-use Rattle.ocfl_scrub.specs.Running.{RunsFromWithin, limits_of, place_in, state_after, taken_in}
+use Rattle.ocfl_scrub.specs.Running.{limits_of, place_in, state_after}
 use Rattle.ocfl_scrub.specs.Scoping.{BeginsPartWith, PartRunPerformed, PerformsIn, WhyNoPartRun}
 use Rattle.ocfl_scrub.specs.declared.note.Note.{Note}
 use Rattle.ocfl_scrub.specs.declared.note.Note.TheVariants as note
@@ -36,8 +36,7 @@ use Rattle.ocfl_scrub.specs.declared.running.RunEnd.{RunEnd}
 use Rattle.ocfl_scrub.specs.declared.running.RunStatus.{RunStatus}
 use Rattle.ocfl_scrub.specs.declared.running.RunStatus.TheVariants as run
 use Rattle.ocfl_scrub.proofs.CallsJoined.{fresh, ran_says}
-use Rattle.ocfl_scrub.proofs.CycleRuns.{parts_reports, reports_and_rest, reports_whole, runs_few}
-use Rattle.ocfl_scrub.proofs.RunLaws.{no_part}
+use Rattle.ocfl_scrub.proofs.CycleRuns.{parts_reports, report_at, reports_and_rest, reports_whole, runs_few}
 
 -- ---- what is handed back, and what is said
 
@@ -70,45 +69,6 @@ output_says c spent finding how status n h e = (subst (λ x. IsRunNote c spent f
 begins_if : (e : PartEnds) (stored : Option Text) → ((c : Cursor) → BeginsPartWith e (bytes_stored stored) c → place_in c.state ≡ None) → BeginsCycle e stored
 begins_if e None h = tt
 begins_if e (Some bytes) h = h
-
--- ---- the report of a run
-
--- what went out of a run's text besides the lines of its items
-record Report (s t : Store) (old new report : Text) (end : RunStatus) : Type 0 where
-  cut : Text
-  wrote : new ≡ old ++ (report ++ cut)
-  uncut : end ≢ run.Stopped Output → cut ≡ []
-  opened : List Opening
-  opened_is : t.openings ≡ s.openings ++ opened
-
-module _ (root : StorageRoot) (s t : Store) (old new : Text) (part : Part) (c : Cursor) (l : Limits) (reached : Cursor) (spent files : ℕ) (finding : Bool) where
-  abbrev end_with : RunStatus → RunEnd
-  end_with end = record { cursor = reached; spent = spent; files = files; found = finding; end = end }
-
-  report_at : (end : RunStatus) (h : RunsFromWithin (known_call root s t old new) part c l (end_with end))
-      → Report s t old new (text (items_out (known_call root s t old new) part (place_in c.state) h.last l spent files finding end h.run)) end
-  report_at run.Ended h = record {
-    cut = [];
-    wrote = h.run.wrote ∙ ap (λ x. old ++ x) (sym (append-nil (text (taken_in root h.run.trail part (place_in c.state) l))));
-    uncut = λ f. refl;
-    opened = h.run.trail;
-    opened_is = h.run.looks.audits.did.openings_are;
-  }
-  report_at run.Spent h = record {
-    cut = [];
-    wrote = h.run.1.wrote ∙ ap (λ x. old ++ x) (sym (append-nil (text (taken_in root h.run.1.trail part (place_in c.state) l))));
-    uncut = λ f. refl;
-    opened = h.run.1.trail;
-    opened_is = h.run.1.looks.audits.did.openings_are;
-  }
-  report_at (run.Stopped why) h = record {
-    cut = h.run.stops.part;
-    wrote = h.run.stops.wrote;
-    uncut = λ f. no_part why (λ e. f (ap run.Stopped e)) (text (take 1 h.run.stops.others)) h.run.stops.part h.run.stops.part_of;
-    opened = h.run.trail;
-    opened_is = h.run.looks.fails.did.openings_are;
-  }
-  report_at run.Worn h = absurd h.run
 
 -- ---- a call that handed a cursor back has a run
 

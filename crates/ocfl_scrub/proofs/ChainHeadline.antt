@@ -1,7 +1,7 @@
 -- The headline of a cycle by its runs: if no failure was counted, each starts a file only below
 -- its limits.
-use Rattle.std.proofs.Common.{◌≡◌, ◌⊎◌, inl, inr, ℕ, zero, suc, ◌+◌, ◌<◌, ◌≤◌, List, [], ◌∷◌, refl, sym, ◌∙◌, ap, subst, true, false, Bool, Some, None, Option, take, length, arith, eqb-true, ltb-true}
-use Rattle.std.specs.Prelude.{◌==◌, ◌||◌, ◌&&◌, nat_lt, slice_get}
+use Rattle.std.proofs.Common.{◌≡◌, ◌⊎◌, inl, inr, ℕ, zero, suc, ◌+◌, ◌<◌, ◌≤◌, List, [], ◌∷◌, sym, ◌∙◌, ap, subst, true, false, Bool, Some, None, Option, take, length, arith}
+use Rattle.std.specs.Prelude.{slice_get}
 use Rattle.std.specs.Io.KnownBytes.{Appends}
 use Rattle.ocfl_tree.specs.Place.{Place}
 use Rattle.ocfl_tree.specs.StorageRoot.{StorageRoot}
@@ -10,9 +10,8 @@ use Rattle.ocfl_report.specs.Line.{Item}
 use Rattle.ocfl_report.specs.Text.{text}
 use Rattle.ocfl_audit.specs.Audit.{audit, after, total_cost}
 use Rattle.ocfl_audit.specs.Due.{hashed_among}
-use Rattle.ocfl_audit.specs.Lines.{is_empty}
 use Rattle.ocfl_audit.specs.Parts.{Part, whole, within}
-use Rattle.ocfl_audit.specs.Runs.{Limits, files_of, total_files, may_take, StaysWithin, cut, left, runs, runs_after}
+use Rattle.ocfl_audit.specs.Runs.{Limits, files_of, total_files, StaysWithin, cut, left, runs, runs_after}
 use Rattle.ocfl_audit.specs.Trail.{unread_of}
 use Rattle.ocfl_cursor.specs.Cursor.{Cursor, new_cursor}
 use Rattle.ocfl_scrub.specs.Call.{Call, call_of, IsUnfailing}
@@ -29,8 +28,9 @@ use Rattle.ocfl_scrub.specs.declared.running.RunStatus.TheVariants as run
 use Rattle.ocfl_scrub.proofs.AuditLaws.{none_left}
 use Rattle.ocfl_scrub.proofs.ChainParts.{calls_of, AreMade, AreSpent, last_end, LastEnds, Apart, apart}
 use Rattle.ocfl_scrub.proofs.ChainLaws.{given, place_there, spent_not_ended, counted, together}
-use Rattle.ocfl_scrub.proofs.CutLaws.{cut_and_left}
+use Rattle.ocfl_scrub.proofs.CutLaws.{cut_and_left, taken_test}
 use Rattle.ocfl_scrub.proofs.CycleEndLaws.{part_headline}
+use Rattle.ocfl_scrub.proofs.JoinLaws.{some_first}
 use Rattle.ocfl_scrub.proofs.PartLaws.{cut_paid}
 use Rattle.ocfl_scrub.proofs.Paying.{Paid}
 use Rattle.ocfl_scrub.proofs.RunLaws.{no_first}
@@ -39,24 +39,13 @@ use Rattle.ocfl_scrub.proofs.RunsJoined.{runs_go_on, runs_end}
 
 -- ---- what is paid for stays within the limits
 
-both_true : (p q : Bool) → (p && q) ≡ true → (p ≡ true) × (q ≡ true)
-both_true true q e = (refl, e)
-both_true false q e = absurd cc
-
-below_both : (l : Limits) (s f c : ℕ) → may_take l s f c ≡ true → 0 < c → (s < l.budget) × (f < l.files)
-below_both l s f c h p = by (c == 0) refl h
-  where
-    by : (t : Bool) → c == 0 ≡ t → (t || (nat_lt s l.budget && nat_lt f l.files)) ≡ true → (s < l.budget) × (f < l.files)
-    by true e g = let z : c ≡ 0 = eqb-true c 0 e in absurd (omega (arith, z, p))
-    by false e g = let both = both_true (nat_lt s l.budget) (nat_lt f l.files) g in (ltb-true s l.budget both.0, ltb-true f l.files both.1)
-
 module _ (l : Limits) where
   paid_within : (s f : ℕ) (items : List Item) → Paid l s f items → (k : ℕ) (i : Item) → k < length items → slice_get items k ≡ Some i → 0 < i.cost
       → (s + total_cost (take k items) < l.budget) × (f + total_files (take k items) < l.files)
   paid_within s f [] h k i fits e c = absurd (omega (arith, fits))
   paid_within s f (x ∷ items) h zero i fits e c =
       let same : x ≡ i = cc in
-      let r = below_both l s f x.cost h.0 (subst (λ y. 0 < y.cost) (sym same) c) in
+      let r = taken_test l s f x.cost h.0 (subst (λ y. 0 < y.cost) (sym same) c) in
       (omega (arith, r.0), omega (arith, r.1))
   paid_within s f (x ∷ items) h (suc k) i fits e c =
       let r = paid_within (s + x.cost) (f + files_of x.cost) items h.1 k i (omega (arith, fits)) e c in (omega (arith, r.0), omega (arith, r.1))
@@ -115,10 +104,6 @@ module _ (root : StorageRoot) (part : Part) where
         next_is = h.next_is ∙ ap (λ u. first_of (left (after (within part (audit root u)) from) l)) none;
         goes_on = ap above last_is ∙ after_front root [] part from (cut (above from) l) (left (above from) l) (sym (cut_and_left (above from) l));
       }
-
-  some_first : (items : List Item) (p : Place) → Some p ≡ first_of items → is_empty items ≡ false
-  some_first [] p e = absurd cc
-  some_first (i ∷ items) p e = refl
 
   -- ---- the runs of a chain
 

@@ -53,9 +53,6 @@ moved_none c s e =
     ap (λ x. record { cycle = c.cycle; runs = c.runs; spent = c.spent; files = c.files; state = x }) e in
     k ∙ figures_are c.cycle c.runs (c.runs + 0) c.spent (c.spent + 0) c.files (c.files + 0) s (omega arith) (omega arith) (omega arith)
 
-moved_one : (c : Cursor) (spent files : ℕ) (s : State) → after_run c spent files s ≡ moved c 1 spent files s
-moved_one c spent files s = refl
-
 moved_on : (c : Cursor) (n a a' b b' : ℕ) (s t : State) → moved (after_run c a b s) n a' b' t ≡ moved c (suc n) (a + a') (b + b') t
 moved_on c n a a' b b' s t =
     figures_are c.cycle (c.runs + 1 + n) (c.runs + suc n) (c.spent + a + a') (c.spent + (a + a')) (c.files + b + b') (c.files + (b + b')) t (omega arith) (omega arith) (omega arith)

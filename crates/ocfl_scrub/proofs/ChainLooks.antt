@@ -29,50 +29,36 @@ use Rattle.ocfl_scrub.proofs.LooksOnce.{run_lists_once, run_reads_once}
 use Rattle.ocfl_scrub.proofs.ChainParts.{calls_of, AreMade, last_end, LastEnds, Apart, apart}
 
 module _ (root : StorageRoot) (part : Part) where
-  -- ---- one run
+  -- ---- what each run of a chain added, and all together
 
-  abbrev Lists : Store → Store → Type 0
-  Lists s t = (listed : List Place) × ((t.listings ≡ s.listings ++ listed) × IsAscending place_cmp listed)
-
-  abbrev Reads : Store → Store → Type 0
-  Reads s t = (trail : List Opening) × ((t.openings ≡ s.openings ++ trail) × IsAscending place_cmp (heads_of root trail))
-
-  -- ---- the runs of a chain
+  module _ {A : Type 0} (of : Store → List A) (Is : List A → Type 0)
+      (one : (s t : Store) (old new : Option (List ℕ)) (from last : Option Place) (limits : Limits) (spent files : ℕ) (finding : Bool) (how : RunStatus)
+      → RunEndsWithin (call_of root s t old new) part from last limits spent files finding how → (xs : List A) × ((of t ≡ of s ++ xs) × Is xs)) where
+    all_added : (made : List MadeRun) (c : Cursor) (s t : Store) (old new : Option (List ℕ)) → AreMade part c made → IsMadeOf (call_of root s t old new) (calls_of made)
+        → (many : List (List A)) × ((length many ≡ length made) × ((of t ≡ of s ++ flat_map (λ xs. xs) many) × AllByRecursion Is many))
+    all_added [] c s t old new h m = ([], (refl, (ap of m.0 ∙ sym (append-nil (of s)), tt)))
+    all_added (r ∷ rest) c s t old new h m =
+        let k = now root part s old c r h.0 m.0 in
+        let first = one s r.call.after old r.call.new (place_in c.state) k.last r.limits r.ran.spent r.ran.files r.ran.found r.ran.end k.run in
+        let more = all_added rest r.ran.cursor r.call.after t r.call.new new h.1 m.1 in (
+          first.0 ∷ more.0,
+          (
+            ap suc more.1.0,
+            (
+              more.1.1.0 ∙ ap (λ xs. xs ++ flat_map (λ x. x) more.0) first.1.0 ∙ append_assoc (of s) first.0 (flat_map (λ x. x) more.0),
+              (first.1.1, more.1.1.1),
+            ),
+          ),
+        )
 
   lists_all : (made : List MadeRun) (c : Cursor) (s t : Store) (old new : Option (List ℕ)) → AreMade part c made → IsMadeOf (call_of root s t old new) (calls_of made)
       → (looks : List (List Place)) × ((length looks ≡ length made) × ((t.listings ≡ s.listings ++ flat_map (λ ls. ls) looks) × AllByRecursion (IsAscending place_cmp) looks))
-  lists_all [] c s t old new h m = ([], (refl, (ap (λ x. x.listings) m.0 ∙ sym (append-nil s.listings), tt)))
-  lists_all (r ∷ rest) c s t old new h m =
-      let k = now root part s old c r h.0 m.0 in
-      let one : Lists s r.call.after = run_lists_once (call_of root s r.call.after old r.call.new) part (place_in c.state) k.last r.limits r.ran.spent r.ran.files r.ran.found r.ran.end k.run in
-      let more = lists_all rest r.ran.cursor r.call.after t r.call.new new h.1 m.1 in (
-        one.0 ∷ more.0,
-        (
-          ap suc more.1.0,
-          (
-            more.1.1.0 ∙ ap (λ ls. ls ++ flat_map (λ x. x) more.0) one.1.0 ∙ append_assoc s.listings one.0 (flat_map (λ x. x) more.0),
-            (one.1.1, more.1.1.1),
-          ),
-        ),
-      )
+  lists_all = all_added (λ s. s.listings) (IsAscending place_cmp) (λ s t old new. run_lists_once (call_of root s t old new) part)
 
   reads_all : (made : List MadeRun) (c : Cursor) (s t : Store) (old new : Option (List ℕ)) → AreMade part c made → IsMadeOf (call_of root s t old new) (calls_of made)
       → (trails : List (List Opening)) × ((length trails ≡ length made) × ((t.openings ≡ s.openings ++ flat_map (λ os. os) trails)
       × AllByRecursion (λ os. IsAscending place_cmp (heads_of root os)) trails))
-  reads_all [] c s t old new h m = ([], (refl, (ap (λ x. x.openings) m.0 ∙ sym (append-nil s.openings), tt)))
-  reads_all (r ∷ rest) c s t old new h m =
-      let k = now root part s old c r h.0 m.0 in
-      let one : Reads s r.call.after = run_reads_once (call_of root s r.call.after old r.call.new) part (place_in c.state) k.last r.limits r.ran.spent r.ran.files r.ran.found r.ran.end k.run in
-      let more = reads_all rest r.ran.cursor r.call.after t r.call.new new h.1 m.1 in (
-        one.0 ∷ more.0,
-        (
-          ap suc more.1.0,
-          (
-            more.1.1.0 ∙ ap (λ os. os ++ flat_map (λ x. x) more.0) one.1.0 ∙ append_assoc s.openings one.0 (flat_map (λ x. x) more.0),
-            (one.1.1, more.1.1.1),
-          ),
-        ),
-      )
+  reads_all = all_added (λ s. s.openings) (λ os. IsAscending place_cmp (heads_of root os)) (λ s t old new. run_reads_once (call_of root s t old new) part)
 
   -- ---- the last of them, if a call of the store failed
 

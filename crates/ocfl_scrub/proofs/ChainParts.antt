@@ -1,12 +1,10 @@
 -- A cycle's chain of runs taken apart: its runs one by one, the calls that they were, where they ended.
-use Rattle.std.proofs.Common.{◌≡◌, ◌⊎◌, inl, inr, ◌≤◌, List, [], ◌∷◌, ◌++◌, refl, ◌∙◌, map, length}
+use Rattle.std.proofs.Common.{◌≡◌, List, [], ◌∷◌, ◌++◌, refl, map, length, sym, subst}
 use Rattle.std.specs.Prelude.{⊤}
 use Rattle.std.specs.List.{list_any}
 use Rattle.ocfl_audit.specs.Parts.{Part}
 use Rattle.ocfl_audit.specs.Runs.{Limits}
 use Rattle.ocfl_cursor.specs.Cursor.{Cursor, new_cursor}
-use Rattle.ocfl_item.specs.declared.fault.Fault.{Fault}
-use Rattle.ocfl_item.specs.declared.fault.Fault.TheVariants as fault
 use Rattle.ocfl_scrub.specs.Call.{Call, call_of}
 use Rattle.ocfl_scrub.specs.Chaining.{MadeRun, AreChained, IsMadeOf, ChainEnds, CycleOfRunsWithin}
 use Rattle.ocfl_scrub.specs.Running.{RunsFromWithin}
@@ -14,7 +12,6 @@ use Rattle.ocfl_scrub.specs.declared.running.RunStatus.{RunStatus}
 use Rattle.ocfl_scrub.specs.declared.running.RunStatus.TheVariants as run
 use Rattle.ocfl_scrub.specs.declared.cycling.CycleEnd.{CycleEnd}
 use Rattle.ocfl_scrub.specs.declared.cycling.CycleStatus.{CycleStatus}
-use Rattle.ocfl_scrub.specs.declared.cycling.CycleStatus.TheVariants as cycle
 
 abbrev pub calls_of : List MadeRun → List Call
 calls_of runs = map (λ r. r.call) runs
@@ -39,16 +36,8 @@ abbrev pub last_cursor : Cursor → List MadeRun → Cursor
 last_cursor c [] = c
 last_cursor c (r ∷ runs) = last_cursor r.ran.cursor runs
 
-pub record IsBetween (runs : List MadeRun) (unused : List Limits) (why : Fault) : Type 0 where
-  pub memory : why ≡ fault.Memory
-  pub made : 1 ≤ length runs
-  pub spent : last_end runs ≡ run.Spent
-  pub further : 1 ≤ length unused
-
 abbrev pub LastEnds : List MadeRun → List Limits → CycleStatus → Type 0
-LastEnds runs unused cycle.Ended = last_end runs ≡ run.Ended
-LastEnds runs unused cycle.Spent = (last_end runs ≡ run.Spent) × (unused ≡ [])
-LastEnds runs unused (cycle.Stopped why) = (last_end runs ≡ run.Stopped why) ⊎ IsBetween runs unused why
+LastEnds runs unused end = ChainEnds runs (last_end runs) unused end
 
 pub record Apart (call : Call) (part : Part) (limits : List Limits) (ran : CycleEnd) : Type 0 where
   pub over : call.before.tree ≡ call.root
@@ -113,20 +102,6 @@ end_is : (runs : List MadeRun) → end_from run.Spent runs ≡ last_end runs
 end_is [] = refl
 end_is (r ∷ runs) = end_then r runs
 
--- ---- its end
-
-last_of_end : (runs : List MadeRun) (last : RunStatus) (unused : List Limits) (end : CycleStatus) → last_end runs ≡ last → ChainEnds runs last unused end → LastEnds runs unused end
-last_of_end runs last unused cycle.Ended e h = e ∙ h
-last_of_end runs last unused cycle.Spent e h = (e ∙ h.0, h.1)
-last_of_end runs last unused (cycle.Stopped why) e (inl h) = inl (e ∙ h)
-last_of_end runs last unused (cycle.Stopped why) e (inr b) = inr (record { memory = b.memory; made = b.made; spent = e ∙ b.spent; further = b.further })
-
-end_of_last : (runs : List MadeRun) (last : RunStatus) (unused : List Limits) (end : CycleStatus) → last ≡ last_end runs → LastEnds runs unused end → ChainEnds runs last unused end
-end_of_last runs last unused cycle.Ended e h = e ∙ h
-end_of_last runs last unused cycle.Spent e h = (e ∙ h.0, h.1)
-end_of_last runs last unused (cycle.Stopped why) e (inl h) = inl (e ∙ h)
-end_of_last runs last unused (cycle.Stopped why) e (inr b) = inr (record { memory = b.memory; made = b.made; spent = e ∙ b.spent; further = b.further })
-
 -- ---- a cycle
 
 pub apart : (call : Call) (part : Part) (limits : List Limits) (ran : CycleEnd) → CycleOfRunsWithin call part limits ran → Apart call part limits ran
@@ -141,7 +116,7 @@ apart call part limits ran h =
       unused = h.unused;
       limits_are = h.limits_are;
       spent = e.0;
-      ends = last_of_end h.runs h.end h.unused ran.end e.1 h.ends;
+      ends = subst (λ x. ChainEnds h.runs x h.unused ran.end) (sym e.1) h.ends;
       count_is = h.count_is;
       cursor_is = k.1.1;
       found_is = h.found_is;
@@ -155,7 +130,7 @@ put_together call part limits ran a = record {
   chained = chain_of part call new_cursor ran.cursor run.Spent a.runs a.chained a.made_of a.cursor_is (spent_from a.runs a.spent);
   unused = a.unused;
   limits_are = a.limits_are;
-  ends = end_of_last a.runs (end_from run.Spent a.runs) a.unused ran.end (end_is a.runs) a.ends;
+  ends = subst (λ x. ChainEnds a.runs x a.unused ran.end) (sym (end_is a.runs)) a.ends;
   count_is = a.count_is;
   found_is = a.found_is;
 }

@@ -3,6 +3,7 @@ use Rattle.std.proofs.Common.{◌≡◌, inl, inr, ℕ, ◌≤◌, ◌+◌, List
 use Rattle.std.specs.Prelude.{◌||◌}
 use Rattle.std.specs.List.{AllByRecursion, list_any}
 use Rattle.std.proofs.lemmas.List.Folds.{list_any-append}
+use Rattle.std.proofs.lemmas.List.{map-append}
 use Rattle.ocfl_tree.specs.Place.{Place}
 use Rattle.ocfl_tree.specs.StorageRoot.{StorageRoot}
 use Rattle.ocfl_tree.specs.Store.{Store}
@@ -22,7 +23,6 @@ use Rattle.ocfl_scrub.specs.declared.cycling.CycleStatus.{CycleStatus}
 use Rattle.ocfl_scrub.specs.declared.cycling.CycleStatus.TheVariants as cycle
 use Rattle.ocfl_scrub.proofs.AuditsJoined.{audits_over}
 use Rattle.ocfl_scrub.proofs.ChainParts.{calls_of, AreMade, AreSpent, last_end, last_cursor, LastEnds, put_together}
-use Rattle.ocfl_scrub.proofs.Lists.{map_append}
 use Rattle.ocfl_scrub.proofs.TakeLaws.{or_none}
 
 -- ---- one run more
@@ -158,9 +158,9 @@ module _ (root : StorageRoot) (part : Part) (s t : Store) (old mid : Option (Lis
         record {
           runs = k.runs ++ this ∷ [];
           chained = chained_more part new_cursor k.runs this k.chained (subst (λ x. RunsFromWithin (call_of root t u mid new) part x l made) (is_now ∙ k.cursor_is) did);
-          made_of = subst (IsMadeOf (call_of root s u old new)) (sym (map_append (λ r. r.call) k.runs (this ∷ []))) (made_of_more root s t u old mid new (calls_of k.runs) k.made_of);
+          made_of = subst (IsMadeOf (call_of root s u old new)) (sym (map-append (λ r. r.call) k.runs (this ∷ []))) (made_of_more root s t u old mid new (calls_of k.runs) k.made_of);
           limits_are = k.limits_are ∙ ap (λ xs. map (λ r. r.limits) k.runs ++ xs) is_left ∙ sym (append_assoc (map (λ r. r.limits) k.runs) (l ∷ []) ls)
-              ∙ ap (λ xs. xs ++ ls) (sym (map_append (λ r. r.limits) k.runs (this ∷ [])));
+              ∙ ap (λ xs. xs ++ ls) (sym (map-append (λ r. r.limits) k.runs (this ∷ [])));
           count_is = let n = k.count_is in let m = length-append k.runs (this ∷ []) in omega (arith, n, m);
           cursor_is = sym (cursor_more new_cursor k.runs this);
           found_is = is_either ∙ ap (λ v. v || made.found) k.found_is ∙ ap (λ v. list_any (λ r. r.ran.found) k.runs || v) (sym (or_none made.found))

@@ -33,7 +33,7 @@ use Rattle.ocfl_scrub.specs.Taking.{PartOf, Takes, Misses}
 use Rattle.ocfl_scrub.specs.Checking.{checked_item, AreOnce, IsJustFor, Checks, CheckStops, CheckEnds}
 use Rattle.ocfl_scrub.specs.declared.checking.End.{End}
 use Rattle.ocfl_scrub.specs.declared.checking.End.TheVariants.{Stopped}
-use Rattle.ocfl_scrub.proofs.AuditsJoined.{nothing_hashed}
+use Rattle.ocfl_walk.proofs.FoundLaws.{none_hashed}
 use Rattle.ocfl_item.proofs.AuditingLaws.{audits_fail, audits_on}
 use Rattle.ocfl_scrub.proofs.TakeLaws.{nothing_of}
 use Rattle.ocfl_scrub.proofs.WayListed.{checked_lie, front_lies}
@@ -106,7 +106,7 @@ none_opened (x ∷ trail) h = absurd cc
 
 -- of a front of one place
 one_of_front : (root : StorageRoot) (p : Place) (begun rest : List Place) (trail : List Opening) → p ∷ [] ≡ begun ++ rest → places_of trail ≡ hashed_among root begun → IsOne root p trail
-one_of_front root p [] rest trail e h = inl (none_opened trail (h ∙ nothing_hashed root))
+one_of_front root p [] rest trail e h = inl (none_opened trail (h ∙ none_hashed root))
 one_of_front root p (q ∷ []) rest trail e h = one_or_none root p trail (h ∙ ap (λ x. hashed_among root (x ∷ [])) (let f : q ≡ p = cc in f))
 one_of_front root p (q ∷ r ∷ begun) rest trail e h = absurd cc
 
@@ -142,7 +142,7 @@ module _ (root : StorageRoot) (p : Place) where
             over = g.audits.over;
             did = g.audits.did;
             read = g.audits.read;
-            opened = g.audits.opened ∙ nothing_hashed root
+            opened = g.audits.opened ∙ none_hashed root
                 ∙ sym (lines_free root p none);
             heads_are = g.audits.heads_are;
             near = g.audits.near;
@@ -171,7 +171,7 @@ module _ (root : StorageRoot) (p : Place) where
 
   module _ (s t u : Store) (old new : Option (List ℕ)) (g : GoesDown root s t (Some p)) (some : notes root None p ≢ []) where
     meta : content_trail root g.trail ≡ []
-    meta = g.audits.opened ∙ nothing_hashed root
+    meta = g.audits.opened ∙ none_hashed root
 
     just_then : (trail : List Opening) → IsOne root p trail → IsJustFor root p g.listed g.heads (g.trail ++ trail)
     just_then trail one = record { listed_front = g.listed_front; heads_front = g.heads_front; once = then_one root p g.trail trail meta g.once one }

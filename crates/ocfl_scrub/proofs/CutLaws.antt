@@ -5,6 +5,7 @@ use Rattle.std.proofs.lemmas.List.{take-append-drop}
 use Rattle.std.specs.Prelude.{if◌then◌else◌, cond, ◌==◌, ◌||◌, ◌&&◌, nat_lt}
 use Rattle.ocfl_tree.specs.Place.{Place}
 use Rattle.ocfl_tree.specs.StorageRoot.{StorageRoot, Leaf, file, dir, other}
+use Rattle.ocfl_tree.proofs.Bools.{and_first, and_second}
 use Rattle.ocfl_report.specs.Line.{Item}
 use Rattle.ocfl_inventory.specs.Table.{Named}
 use Rattle.ocfl_audit.specs.Zone.{seen}
@@ -144,16 +145,13 @@ no_cost (i ∷ items) h =
     let z = no_cost items m in
     ap (λ n. cond (n == 0) i.cost n) z ∙ (let k : i.cost ≡ 0 = omega (arith, h) in k)
 
-both_true : (p q : Bool) → (p && q) ≡ true → p ≡ true
-both_true true q e = refl
-both_true false q e = absurd cc
-
-taken_test : (l : Limits) (s f c : ℕ) → may_take l s f c ≡ true → 0 < c → s < l.budget
+pub taken_test : (l : Limits) (s f c : ℕ) → may_take l s f c ≡ true → 0 < c → (s < l.budget) × (f < l.files)
 taken_test l s f c h p = by (c == 0) refl h
   where
-    by : (t : Bool) → c == 0 ≡ t → (t || (nat_lt s l.budget && nat_lt f l.files)) ≡ true → s < l.budget
+    by : (t : Bool) → c == 0 ≡ t → (t || (nat_lt s l.budget && nat_lt f l.files)) ≡ true → (s < l.budget) × (f < l.files)
     by true e g = let z : c ≡ 0 = eqb-true c 0 e in absurd (omega (arith, z, p))
-    by false e g = ltb-true s l.budget (both_true (nat_lt s l.budget) (nat_lt f l.files) g)
+    by false e g =
+        (ltb-true s l.budget (and_first (nat_lt s l.budget) (nat_lt f l.files) g), ltb-true f l.files (and_second (nat_lt s l.budget) (nat_lt f l.files) g))
 
 zero_costs : (items : List Item) → last_cost items ≡ 0 → total_cost items ≡ 0
 zero_costs [] h = refl
@@ -173,7 +171,7 @@ paid_by_less l s f (i ∷ items) h k = by (last_cost items == 0) refl (paid_by_l
     by true e rest =
         let z = zero_costs items (eqb-true (last_cost items) 0 e) in
         let p : 0 < i.cost = omega (arith, z, k) in
-        let q = taken_test l s f i.cost h.0 p in
+        let q = (taken_test l s f i.cost h.0 p).0 in
         omega (arith, z, q)
     by false e rest = some (total_cost items) refl
       where

@@ -6,7 +6,7 @@ use Rattle.std.specs.List.{AllByRecursion}
 use Rattle.std.specs.Ordering.{is_lt, is_eq}
 use Rattle.std.specs.declared.cmp.Ordering.{Ordering}
 use Rattle.std.specs.declared.cmp.Ordering.TheVariants.{Less, Equal, Greater}
-use Rattle.std.proofs.lemmas.List.{append_cancel_left, take-append-drop}
+use Rattle.std.proofs.lemmas.List.{map-append, append_cancel_left, take-append-drop}
 use Rattle.std.proofs.lemmas.List.Elements.{All-head, All-tail}
 use Rattle.std.proofs.lemmas.Nat.{le-div}
 use Rattle.ocfl_tree.specs.Place.{Text, Place, place_cmp, place_eq}
@@ -15,6 +15,7 @@ use Rattle.ocfl_tree.specs.StorageRoot.{StorageRoot}
 use Rattle.ocfl_tree.specs.Store.{Store}
 use Rattle.ocfl_tree.specs.declared.store.Opening.{Opening}
 use Rattle.ocfl_tree.proofs.Orders.{place_cmp_total, place_cmp_exact, true_not_false, not_less, not_both_below, not_less_itself, before_each, among_from_filter, among_left, among_right}
+use Rattle.ocfl_tree.proofs.Stores.{among_either}
 use Rattle.ocfl_report.specs.Line.{Item}
 use Rattle.ocfl_report.specs.Text.{text}
 use Rattle.ocfl_audit.specs.Audit.{Unread, given_by, audit, after, item_of, total_cost}
@@ -42,9 +43,9 @@ use Rattle.ocfl_scrub.proofs.AuditLaws.{places_of_items}
 use Rattle.ocfl_scrub.proofs.AuditsJoined.{hashed_are_among, failed_among, given_none, given_left, given_right, not_after, items_agree, agree_all}
 use Rattle.ocfl_scrub.proofs.ChainLaws.{place_there}
 use Rattle.ocfl_scrub.proofs.CutLaws.{IsStop, cut_and_left}
-use Rattle.ocfl_scrub.proofs.Lists.{map_append, ascends_left}
+use Rattle.ocfl_scrub.proofs.Lists.{ascends_left}
 use Rattle.ocfl_scrub.proofs.PartStarts.{due_within_ascends}
-use Rattle.ocfl_scrub.proofs.PassLaws.{text_append, among_beyond}
+use Rattle.ocfl_scrub.proofs.PassLaws.{text_append, among_beyond, last_among}
 use Rattle.ocfl_scrub.proofs.PartLaws.{cut_stops}
 use Rattle.ocfl_scrub.proofs.RunLaws.{no_first, no_part}
 use Rattle.ocfl_scrub.proofs.RunPlaces.{front_is, rest_is, due_parts}
@@ -92,9 +93,6 @@ ended_spent e = cc
 spent_stopped : (why : Fault) → status.Spent ≡ status.Stopped why → ⊥
 spent_stopped why e = cc
 
-stopped_ended : (why : Fault) → status.Stopped why ≡ status.Ended → ⊥
-stopped_ended why e = cc
-
 -- a run that left something has reached one of its limits
 left_reached : (l : Limits) (s f c : ℕ) → may_take l s f c ≡ false → (l.budget ≤ s) ⊎ (l.files ≤ f)
 left_reached l s f c h = by (c == 0) h
@@ -137,62 +135,40 @@ counted_none : (b n : ℕ) → Counted b n [] []
 counted_none b n = record { by_cost = 0; by_files = 0; at_end = 0; count_is = refl; once = omega arith; costs = omega arith; files = omega arith }
 
 module _ (b n : ℕ) (r : PartRun) (rest : List PartRun) (xs ys : List Item) (large : IsAtLeast b n r.limits) (m : Counted b n rest ys) where
+  counted_more : (by_cost by_files : ℕ) → unstopped (r ∷ rest) ≡ by_cost + by_files + m.at_end → by_cost * b ≤ total_cost xs + m.by_cost * b
+      → by_files * n ≤ total_files xs + m.by_files * n → Counted b n (r ∷ rest) (xs ++ ys)
+  counted_more by_cost by_files count costs files =
+      let c = cost_append xs ys in
+      let f = files_append xs ys in
+      let low = m.costs in
+      let lower = m.files in
+      record {
+        by_cost = by_cost;
+        by_files = by_files;
+        at_end = m.at_end;
+        count_is = count;
+        once = m.once;
+        costs = omega (arith, c, low, costs);
+        files = omega (arith, f, lower, files);
+      }
+
   -- one that was ended by its limits
   counted_spent : r.ran.end ≡ status.Spent → (r.limits.budget ≤ total_cost xs) ⊎ (r.limits.files ≤ total_files xs) → Counted b n (r ∷ rest) (xs ++ ys)
   counted_spent e (inl p) =
       let more = went_on r rest status.Spent e refl in
       let k = m.count_is in
-      let c = cost_append xs ys in
-      let f = files_append xs ys in
       let one = suc-mul m.by_cost b in
-      let low = m.costs in
-      let lower = m.files in
       let least = large.budget in
-      record {
-        by_cost = suc m.by_cost;
-        by_files = m.by_files;
-        at_end = m.at_end;
-        count_is = omega (arith, more, k);
-        once = m.once;
-        costs = omega (arith, c, one, low, least, p);
-        files = omega (arith, f, lower);
-      }
+      counted_more (suc m.by_cost) m.by_files (omega (arith, more, k)) (omega (arith, one, least, p)) (omega arith)
   counted_spent e (inr p) =
       let more = went_on r rest status.Spent e refl in
       let k = m.count_is in
-      let c = cost_append xs ys in
-      let f = files_append xs ys in
       let one = suc-mul m.by_files n in
-      let low = m.costs in
-      let lower = m.files in
       let least = large.files in
-      record {
-        by_cost = m.by_cost;
-        by_files = suc m.by_files;
-        at_end = m.at_end;
-        count_is = omega (arith, more, k);
-        once = m.once;
-        costs = omega (arith, c, low);
-        files = omega (arith, f, one, lower, least, p);
-      }
+      counted_more m.by_cost (suc m.by_files) (omega (arith, more, k)) (omega arith) (omega (arith, one, least, p))
 
   counted_stopped : (why : Fault) → r.ran.end ≡ status.Stopped why → Counted b n (r ∷ rest) (xs ++ ys)
-  counted_stopped why e =
-      let same = stopped_there r rest why e in
-      let k = m.count_is in
-      let c = cost_append xs ys in
-      let f = files_append xs ys in
-      let low = m.costs in
-      let lower = m.files in
-      record {
-        by_cost = m.by_cost;
-        by_files = m.by_files;
-        at_end = m.at_end;
-        count_is = same ∙ k;
-        once = m.once;
-        costs = omega (arith, c, low);
-        files = omega (arith, f, lower);
-      }
+  counted_stopped why e = counted_more m.by_cost m.by_files (stopped_there r rest why e ∙ m.count_is) (omega arith) (omega arith)
 
 counted_ended : (b n : ℕ) (r : PartRun) (xs : List Item) → r.ran.end ≡ status.Ended → Counted b n (r ∷ []) xs
 counted_ended b n r xs e = record {
@@ -207,21 +183,8 @@ counted_ended b n r xs e = record {
 
 -- ---- what was taken
 
-among_parts : (ps qs : List Place) (p : Place) → IsAmong (ps ++ qs) p → IsAmong ps p ⊎ IsAmong qs p
-among_parts [] qs p i = inr i
-among_parts (x ∷ ps) qs p (inl e) = inl (inl e)
-among_parts (x ∷ ps) qs p (inr i) = by (among_parts ps qs p i)
-  where
-    by : IsAmong ps p ⊎ IsAmong qs p → IsAmong (x ∷ ps) p ⊎ IsAmong qs p
-    by (inl j) = inl (inr j)
-    by (inr j) = inr j
-
 less_true : (r : Ordering) → r ≡ Less → is_lt r ≡ true
 less_true r e = ap is_lt e
-
-last_there : (x : Place) (xs : List Place) → (q : Place) × ((last_of (Some x) xs ≡ Some q) × IsAmong (x ∷ xs) q)
-last_there x [] = (x, (refl, inl refl))
-last_there x (y ∷ ys) = let h = last_there y ys in (h.0, (h.1.0, inr h.1.1))
 
 -- each of some places in order is taken if the cursor is after the last
 taken_to_last : (from : Option Place) (ps : List Place) (p : Place) → IsAscending place_cmp ps → IsAmong ps p → is_taken (state_at (last_of from ps)) p ≡ true
@@ -230,7 +193,7 @@ taken_to_last from (x ∷ xs) p up (inr i) = taken_to_last (Some x) xs p up.1 i
 taken_to_last from (x ∷ xs) p up (inl e) = subst (λ o. is_taken (state_at o) p ≡ true) (sym last.1.0) (ap not (by last.1.1))
   where
     last : (q : Place) × ((last_of (Some x) xs ≡ Some q) × IsAmong (x ∷ xs) q)
-    last = last_there x xs
+    last = last_among x xs
 
     by : IsAmong (x ∷ xs) last.0 → is_lt (place_cmp last.0 p) ≡ false
     by (inl f) = ap (λ q. is_lt (place_cmp q p)) (f ∙ sym e) ∙ not_less_itself place_cmp_total p
@@ -378,13 +341,13 @@ module _ (root : StorageRoot) (part : Part) where
           ∙ append_assoc h.stops.whole h.stops.others (rest_in root h.trail part from r.limits)
 
       next_first : places h.stops.others ≡ h.stops.begun ++ (h.stops.one.0 ++ places (drop 1 h.stops.others))
-      next_first = ap places (sym (take-append-drop 1 h.stops.others)) ∙ map_append (λ i. i.place) (take 1 h.stops.others) (drop 1 h.stops.others)
+      next_first = ap places (sym (take-append-drop 1 h.stops.others)) ∙ map-append (λ i. i.place) (take 1 h.stops.others) (drop 1 h.stops.others)
           ∙ ap (λ ps. ps ++ places (drop 1 h.stops.others)) h.stops.one.1 ∙ append_assoc h.stops.begun h.stops.one.0 (places (drop 1 h.stops.others))
 
       due_next : due_within root part last ≡ h.stops.begun ++ unbegun
       due_next = ap (due_within root part) h.stops.last_is ∙ sym (places_of_items root h.trail (due_within root part (last_of from (places h.stops.whole))))
           ∙ ap places (rest_is root part h.trail from h.stops.whole unwritten stop_split)
-          ∙ map_append (λ i. i.place) h.stops.others (rest_in root h.trail part from r.limits)
+          ∙ map-append (λ i. i.place) h.stops.others (rest_in root h.trail part from r.limits)
           ∙ ap (λ ps. ps ++ places (rest_in root h.trail part from r.limits)) next_first
           ∙ append_assoc h.stops.begun (h.stops.one.0 ++ places (drop 1 h.stops.others)) (places (rest_in root h.trail part from r.limits))
 
@@ -400,7 +363,7 @@ module _ (root : StorageRoot) (part : Part) where
             report = report ∙ ap text (out_is h.trail k.whole unwritten stop_split k.last_is same);
             taken = λ p i. ap (λ s. is_taken s p) state ∙ taken_before h.trail k.whole unwritten stop_split k.last_is same p i;
             among = λ p t i. not_begun (places k.whole) k.begun unbegun p due_next (sym (ap (λ s. is_taken s p) state) ∙ t)
-                (among_parts (places k.whole) k.begun p (opened_there r.opened (places k.whole ++ k.begun) p
+                (among_either (places k.whole) k.begun p (opened_there r.opened (places k.whole ++ k.begun) p
                 (subst (λ os. content_trail root os ≡ hashed_among root (places k.whole ++ k.begun)) same h.looks.fails.opened) i));
             ends = inl state;
             goes_on = λ f. ap place_in state ∙ place_there last;
@@ -498,11 +461,11 @@ module _ (root : StorageRoot) (part : Part) where
       next_items = items_agree root (own ++ later) later next (agree_all (own ++ later) later next (λ p i. given_right p own later (λ j. not_after k.done next p up (own_among p j) i)))
 
       both_items : map (item_of root (own ++ later)) (k.done ++ next) ≡ map (item_of root unread) k.done ++ map (item_of root later) next
-      both_items = map_append (item_of root (own ++ later)) k.done next ∙ ap (λ is. is ++ map (item_of root (own ++ later)) next) (first_items ∙ own_items)
+      both_items = map-append (item_of root (own ++ later)) k.done next ∙ ap (λ is. is ++ map (item_of root (own ++ later)) next) (first_items ∙ own_items)
           ∙ ap (λ is. map (item_of root unread) k.done ++ is) next_items
 
       both_among : (p : Place) → IsAmong (unread_places (own ++ later)) p → IsAmong (k.done ++ next) p
-      both_among p i = by (among_parts (unread_places own) (unread_places later) p (subst (λ ps. IsAmong ps p) (map_append (λ (e : Place × ℕ). e.0) own later) i))
+      both_among p i = by (among_either (unread_places own) (unread_places later) p (subst (λ ps. IsAmong ps p) (map-append (λ (e : Place × ℕ). e.0) own later) i))
         where
           by : IsAmong (unread_places own) p ⊎ IsAmong (unread_places later) p → IsAmong (k.done ++ next) p
           by (inl j) = among_left k.done next p (own_among p j)
@@ -592,7 +555,7 @@ module _ (root : StorageRoot) (part : Part) where
     items_parts : items_all ≡ map (item_of root unread_all) all.done ++ map (item_of root unread_all) (due_within root part all.last)
     items_parts =
         above_by unread_all None ∙ ap (map (item_of root unread_all)) (ap (due_within root part) (sym fresh) ∙ all.due_are)
-        ∙ map_append (item_of root unread_all) all.done (due_within root part all.last)
+        ∙ map-append (item_of root unread_all) all.done (due_within root part all.last)
 
     left_at : (last : Option Place) → left_by (state_at last) items_all ≡ map (item_of root unread_all) (due_within root part last)
     left_at None = above_by unread_all None
@@ -682,45 +645,48 @@ module _ (root : StorageRoot) (s t : Store) (old : Text) (part : Part) (c : Curs
       → Ran root part c (record { limits = l; report = report; opened = opened; ran = ran })) e
       (λ h is. record { before = s; behind = t; old = old; cut = cut; runs = h; report_is = is; opened_is = openings })
 
-  module _ (reached : Cursor) (spent files : ℕ) (finding : Bool) (new : Text) where
-    abbrev end_with : RunStatus → RunEnd
-    end_with end = record { cursor = reached; spent = spent; files = files; found = finding; end = end }
+-- what went out of a run's text besides the lines of its items
+pub record Report (s t : Store) (old new report : Text) (end : RunStatus) : Type 0 where
+  pub cut : Text
+  pub wrote : new ≡ old ++ (report ++ cut)
+  pub uncut : end ≢ status.Stopped Output → cut ≡ []
+  pub opened : List Opening
+  pub opened_is : t.openings ≡ s.openings ++ opened
 
-    report_at : (end : RunStatus) → RunsFromWithin (known_call root s t old new) part c l (end_with end) → HasReport root old new part c l (end_with end)
-    report_at status.Ended h =
-        let report : Text = text (taken_in root h.run.trail part (place_in c.state) l) in
-        let wrote : new ≡ old ++ (report ++ []) = h.run.wrote ∙ ap (λ x. old ++ x) (sym (append-nil report)) in (
-          record { limits = l; report = report; opened = h.run.trail; ran = end_with status.Ended },
-          ([], (refl, (refl, (wrote, ((λ f. refl), ran_by (end_with status.Ended) report [] h.run.trail new (sym wrote) h.run.looks.audits.did.openings_are h refl))))),
-        )
-    report_at status.Spent h =
-        let report : Text = text (taken_in root h.run.1.trail part (place_in c.state) l) in
-        let wrote : new ≡ old ++ (report ++ []) = h.run.1.wrote ∙ ap (λ x. old ++ x) (sym (append-nil report)) in (
-          record { limits = l; report = report; opened = h.run.1.trail; ran = end_with status.Spent },
-          ([], (refl, (refl, (wrote, ((λ f. refl), ran_by (end_with status.Spent) report [] h.run.1.trail new (sym wrote) h.run.1.looks.audits.did.openings_are h refl))))),
-        )
-    report_at (status.Stopped why) h =
-        let report : Text = text h.run.stops.whole in (
-          record { limits = l; report = report; opened = h.run.trail; ran = end_with (status.Stopped why) },
-          (
-            h.run.stops.part,
-            (
-              refl,
-              (
-                refl,
-                (
-                  h.run.stops.wrote,
-                  (
-                    (λ f. no_part why (λ e. f (ap status.Stopped e)) (text (take 1 h.run.stops.others)) h.run.stops.part h.run.stops.part_of),
-                    ran_by (end_with (status.Stopped why)) report h.run.stops.part h.run.trail new (sym h.run.stops.wrote) h.run.looks.fails.did.openings_are h refl,
-                  ),
-                ),
-              ),
-            ),
-          ),
-        )
-    report_at status.Worn h = absurd h.run
+module _ (root : StorageRoot) (s t : Store) (old new : Text) (part : Part) (c : Cursor) (l : Limits) (reached : Cursor) (spent files : ℕ) (finding : Bool) where
+  abbrev end_with : RunStatus → RunEnd
+  end_with end = record { cursor = reached; spent = spent; files = files; found = finding; end = end }
+
+  pub report_at : (end : RunStatus) (h : RunsFromWithin (known_call root s t old new) part c l (end_with end))
+      → Report s t old new (text (items_out (known_call root s t old new) part (place_in c.state) h.last l spent files finding end h.run)) end
+  report_at status.Ended h = record {
+    cut = [];
+    wrote = h.run.wrote ∙ ap (λ x. old ++ x) (sym (append-nil (text (taken_in root h.run.trail part (place_in c.state) l))));
+    uncut = λ f. refl;
+    opened = h.run.trail;
+    opened_is = h.run.looks.audits.did.openings_are;
+  }
+  report_at status.Spent h = record {
+    cut = [];
+    wrote = h.run.1.wrote ∙ ap (λ x. old ++ x) (sym (append-nil (text (taken_in root h.run.1.trail part (place_in c.state) l))));
+    uncut = λ f. refl;
+    opened = h.run.1.trail;
+    opened_is = h.run.1.looks.audits.did.openings_are;
+  }
+  report_at (status.Stopped why) h = record {
+    cut = h.run.stops.part;
+    wrote = h.run.stops.wrote;
+    uncut = λ f. no_part why (λ e. f (ap status.Stopped e)) (text (take 1 h.run.stops.others)) h.run.stops.part h.run.stops.part_of;
+    opened = h.run.trail;
+    opened_is = h.run.looks.fails.did.openings_are;
+  }
+  report_at status.Worn h = absurd h.run
 
 pub has_report : (root : StorageRoot) (s t : Store) (old new : Text) (part : Part) (c : Cursor) (l : Limits) (ran : RunEnd)
     → RunsFromWithin (known_call root s t old new) part c l ran → HasReport root old new part c l ran
-has_report root s t old new part c l ran h = report_at root s t old part c l ran.cursor ran.spent ran.files ran.found new ran.end h
+has_report root s t old new part c l ran h =
+    let r = report_at root s t old new part c l ran.cursor ran.spent ran.files ran.found ran.end h in
+    let report : Text = text (items_out (known_call root s t old new) part (place_in c.state) h.last l ran.spent ran.files ran.found ran.end h.run) in (
+      record { limits = l; report = report; opened = r.opened; ran = ran },
+      (r.cut, (refl, (refl, (r.wrote, (r.uncut, ran_by root s t old part c l ran report r.cut r.opened new (sym r.wrote) r.opened_is h refl))))),
+    )

@@ -2,7 +2,7 @@
 use Rattle.std.proofs.Common.{◌≡◌, ℕ, suc, ◌+◌, ◌≤◌, ◌/◌, List, [], ◌∷◌, ◌++◌, refl, sym, ◌∙◌, ap, subst, Some, None, Option, append-nil, All, map, length, false, arith}
 use Rattle.std.specs.Prelude.{flat_map}
 use Rattle.std.specs.List.{AllByRecursion}
-use Rattle.std.proofs.lemmas.List.{append_cancel_left}
+use Rattle.std.proofs.lemmas.List.{map-append, append_cancel_left}
 use Rattle.ocfl_tree.specs.Place.{Place, place_cmp}
 use Rattle.ocfl_tree.specs.Ascending.{IsAscending}
 use Rattle.ocfl_tree.specs.StorageRoot.{StorageRoot}
@@ -25,14 +25,13 @@ use Rattle.ocfl_scrub.specs.Joining.{PartRun, RanWell, AreRuns, reports_of, open
 use Rattle.ocfl_scrub.specs.declared.running.RunStatus.TheVariants as status
 use Rattle.ocfl_scrub.proofs.AuditLaws.{none_left}
 use Rattle.ocfl_scrub.proofs.CutLaws.{cut_and_left}
-use Rattle.ocfl_scrub.proofs.Lists.{map_append}
 use Rattle.ocfl_scrub.proofs.PassLaws.{text_append}
 use Rattle.ocfl_scrub.proofs.RunLaws.{no_first}
 use Rattle.ocfl_scrub.proofs.RunPlaces.{after_front}
 use Rattle.ocfl_scrub.proofs.RunsJoined.{runs_go_on}
 use Rattle.ocfl_scrub.proofs.ChainLaws.{place_there}
 
-some_first : (items : List Item) (p : Place) → Some p ≡ first_of items → is_empty items ≡ false
+pub some_first : (items : List Item) (p : Place) → Some p ≡ first_of items → is_empty items ≡ false
 some_first [] p e = absurd cc
 some_first (i ∷ items) p e = refl
 
@@ -112,7 +111,7 @@ module _ (root : StorageRoot) (part : Part) where
       record {
         reports = ap (λ x. x ++ reports_of (q ∷ rs)) k.took.wrote ∙ ap (λ x. text first ++ x) (later.reports ∙ ap text k.there) ∙ sym (text_append first rest) ∙ ap text both;
         opened = ap (λ x. x ++ opened_by root (q ∷ rs)) k.took.opened ∙ ap (λ x. hashed_among root (places first) ++ x) (later.opened ∙ ap (λ is. hashed_among root (places is)) k.there)
-            ∙ sym (hashed_append root (places first) (places rest)) ∙ ap (hashed_among root) (sym (map_append (λ i. i.place) first rest)) ∙ ap (λ is. hashed_among root (places is)) both;
+            ∙ sym (hashed_append root (places first) (places rest)) ∙ ap (hashed_among root) (sym (map-append (λ i. i.place) first rest)) ∙ ap (λ is. hashed_among root (places is)) both;
         count = ap (λ xs. length (first ∷ xs)) (runs_go_on rest ls some) ∙ ap suc (ap (λ is. length (runs is ls)) (sym k.there) ∙ later.count);
       }
 

@@ -1,5 +1,5 @@
 -- A walk that is kept: what it stands for, and a way on which it could have come there.
-use Rattle.std.proofs.Common.{◌≡◌, ◌⊎◌, inl, inr, ℕ, ◌+◌, List, [], ◌∷◌, ◌++◌, refl, sym, ◌∙◌, ap, subst, true, false, Bool, Some, None, Option}
+use Rattle.std.proofs.Common.{◌≡◌, ℕ, List, [], ◌∷◌, refl, sym, ◌∙◌, ap, subst, true, false, Bool, Some, None, Option}
 use Rattle.std.specs.Prelude.{IfSome, not}
 use Rattle.ocfl_tree.specs.Place.{Text, Place}
 use Rattle.ocfl_tree.specs.Ascending.{IsAmong}
@@ -9,12 +9,10 @@ use Rattle.ocfl_tree.proofs.Orders.{among_from_filter, among_left}
 use Rattle.ocfl_audit.specs.Due.{due}
 use Rattle.ocfl_audit.specs.Parts.{Part, lies_in}
 use Rattle.ocfl_audit.specs.Runs.{Limits}
-use Rattle.ocfl_item.specs.declared.pending.Pending.{Pending}
 use Rattle.ocfl_item.proofs.AuditingLaws.{audits_meta, front_all, front_none, near_none, none_once}
-use Rattle.ocfl_walk.specs.Ends.{before_end, is_past}
+use Rattle.ocfl_walk.specs.Ends.{is_past}
 use Rattle.ocfl_walk.specs.WalkCalls.{GoesDown, IsRootFirst, way_of}
 use Rattle.ocfl_walk.specs.Walks.{Gives}
-use Rattle.ocfl_walk.specs.declared.walk.Walk.{Walk}
 use Rattle.ocfl_scrub.specs.Keeping.{IsMet}
 use Rattle.ocfl_scrub.specs.Passes.{IsAhead}
 use Rattle.ocfl_scrub.specs.Starting.{end_of, entry, stand}
@@ -22,13 +20,10 @@ use Rattle.ocfl_scrub.specs.Written.{last_of}
 use Rattle.ocfl_scrub.specs.declared.kept.Met.{Met}
 use Rattle.ocfl_scrub.proofs.AlikeLaws.{walks_with}
 use Rattle.ocfl_scrub.proofs.LookedLaws.{due_lies, stand_there}
+use Rattle.ocfl_scrub.proofs.PassLaws.{last_among}
 use Rattle.ocfl_scrub.proofs.RunTurns.{HasMet, HasPaid}
 
 -- ---- where it stands after a run
-
-last_among : (p : Place) (ps : List Place) → (m : Place) × ((last_of (Some p) ps ≡ Some m) × IsAmong (p ∷ ps) m)
-last_among p [] = (p, (refl, inl refl))
-last_among p (q ∷ ps) = let h = last_among q ps in (h.0, (h.1.0, inr h.1.1))
 
 stood_at : (root : StorageRoot) (part : Part) (from last stood : Option Place) (done : List Place) → stood ≡ last_of (stand root part from) done → last ≡ last_of from done
     → ((q : Place) → IsAmong done q → lies_in part q ≡ true) → stood ≡ stand root part last

@@ -1,20 +1,21 @@
 -- Laws of lists, and of lists in order.
-use Rattle.std.proofs.Common.{◌≡◌, inl, inr, subst, List, [], ◌∷◌, ◌++◌, refl, sym, ◌∙◌, ap, true, false, Bool, map, filter, append_assoc}
+use Rattle.std.proofs.Common.{◌≡◌, inl, inr, subst, List, [], ◌∷◌, ◌++◌, refl, sym, ◌∙◌, ap, true, false, Bool, filter, append_assoc}
 use Rattle.std.specs.Prelude.{cond, flat_map, not}
 use Rattle.std.specs.List.{AllByRecursion}
 use Rattle.std.specs.declared.cmp.Ordering.{Ordering}
 use Rattle.ocfl_tree.specs.Ascending.{IsBeforeAll, IsAscending, IsAmong}
+use Rattle.ocfl_item.specs.Looking.{IsFront}
 
 module _ {A B : Type 0} where
-  pub map_append : (f : A → B) (xs ys : List A) → map f (xs ++ ys) ≡ map f xs ++ map f ys
-  map_append f [] ys = refl
-  map_append f (x ∷ xs) ys = ap (λ zs. f x ∷ zs) (map_append f xs ys)
-
   pub flat_append : (f : A → List B) (xs ys : List A) → flat_map f (xs ++ ys) ≡ flat_map f xs ++ flat_map f ys
   flat_append f [] ys = refl
   flat_append f (x ∷ xs) ys = ap (λ zs. f x ++ zs) (flat_append f xs ys) ∙ sym (append_assoc (f x) (flat_map f xs) (flat_map f ys))
 
 module _ {A : Type 0} where
+  pub nothing_front : (xs : List A) → IsFront xs [] → xs ≡ []
+  nothing_front [] f = refl
+  nothing_front (x ∷ xs) f = absurd (let e = f.1 in cc)
+
   pub ascends_left : (cmp : A → A → Ordering) (xs ys : List A) → IsAscending cmp (xs ++ ys) → IsAscending cmp xs
   ascends_left cmp [] ys h = tt
   ascends_left cmp (x ∷ xs) ys h = (before_left xs h.0, ascends_left cmp xs ys h.1)

@@ -1,5 +1,5 @@
 -- What an audit opens and lists ascends.
-use Rattle.std.proofs.Common.{◌≡◌, ◌≢◌, ◌↔◌, List, [], ◌∷◌, ◌++◌, refl, sym, subst, Bool, true, Option, Some, None, not, map}
+use Rattle.std.proofs.Common.{◌≡◌, ◌≢◌, ◌↔◌, List, [], ◌∷◌, refl, true, Option, Some, None, not, map}
 use Rattle.std.specs.Ordering.{is_lt}
 use Rattle.ocfl_tree.specs.Place.{Place, place_cmp}
 use Rattle.ocfl_tree.specs.Ascending.{ascending, IsAscending, IsAmong}
@@ -13,10 +13,7 @@ use Rattle.ocfl_audit.specs.Lines.{is_empty, is_hashed, notes}
 use Rattle.ocfl_audit.specs.Trail.{reads_inventory}
 use Rattle.ocfl_audit.proofs.AuditExists.{notes_candidate}
 use Rattle.ocfl_audit.proofs.PathLaws.{hashed_lines}
-
-items_ascend : (root : StorageRoot) → IsAscending place_cmp (item_places root)
-unfolding item_places
-items_ascend root = ascends_filter place_cmp (λ p. not (is_empty (notes root None p))) (ascending place_cmp (candidates root)) (ascends_ascending place_cmp_total (candidates root))
+use Rattle.ocfl_scrub.proofs.PassLaws.{items_ascend}
 
 pub hashed_ascend : (root : StorageRoot) → IsAscending place_cmp (hashed_among root (item_places root))
 unfolding hashed_among

@@ -69,7 +69,7 @@ lines_then old mid new a b either h k e =
 
 -- ---- what is due
 
-items_ascend : (root : StorageRoot) → IsAscending place_cmp (item_places root)
+pub items_ascend : (root : StorageRoot) → IsAscending place_cmp (item_places root)
 unfolding item_places
 items_ascend root = ascends_filter place_cmp (λ p. not (is_empty (notes root None p))) (ascending place_cmp (candidates root)) (ascends_ascending place_cmp_total (candidates root))
 
@@ -127,6 +127,11 @@ not_less_or x a b h k = by (place_cmp a b) (place_cmp x b) refl refl
     by Greater Less e f = absurd (true_not_false (sym (ap is_lt (place_cmp_total.trans x b a f (below_from_greater place_cmp_total a b e))) ∙ h))
     by Greater Equal e f = refl
     by Greater Greater e f = refl
+
+-- after one place there is a last one
+pub last_among : (p : Place) (ps : List Place) → (m : Place) × ((last_of (Some p) ps ≡ Some m) × IsAmong (p ∷ ps) m)
+last_among p [] = (p, (refl, inl refl))
+last_among p (q ∷ ps) = let h = last_among q ps in (h.0, (h.1.0, inr h.1.1))
 
 -- the last of some places is not less than any of them
 last_upper : (from : Option Place) (ps : List Place) → IsAscending place_cmp ps → (p : Place) → IsAmong ps p → (m : Place) × ((last_of from ps ≡ Some m) × (is_lt (place_cmp m p) ≡ false))

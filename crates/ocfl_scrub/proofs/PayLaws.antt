@@ -81,10 +81,6 @@ pays_none root end s old from l spent files over e f = record {
   counts = counts_same l spent files _ [] (no_items root []) (counts_none l spent files e f);
 }
 
-pub pays_over : {root : StorageRoot} {end : End} {s t : Store} {old new : Option (List ℕ)} {from last : Option Place} {l : Limits} {spent files : ℕ}
-    {finding : Bool} → Pays root end s t old new from last l spent files finding → t.tree ≡ root
-pays_over h = h.passes.audits.did.tree ∙ h.passes.audits.over
-
 -- ---- a pass goes on
 
 module _ (root : StorageRoot) (end : End) (s t u : Store) (old mid : Option (List ℕ)) (from last : Option Place) (l : Limits) (spent files : ℕ)

@@ -24,8 +24,8 @@ use Rattle.ocfl_item.specs.declared.fault.Fault.{Fault}
 use Rattle.ocfl_item.specs.declared.fault.Fault.TheVariants as fault
 use Rattle.ocfl_walk.specs.WalkCalls.{holder, way_of}
 use Rattle.ocfl_scrub.specs.Call.{Call, known_call, IsUnfailing}
-use Rattle.ocfl_scrub.specs.Written.{places, last_of}
-use Rattle.ocfl_cursor.specs.Cursor.{Cursor, start, behind, ended, cursor_text}
+use Rattle.ocfl_scrub.specs.Written.{places, last_of, StopsWithin}
+use Rattle.ocfl_cursor.specs.Cursor.{State, Cursor, start, behind, ended, cursor_text}
 use Rattle.ocfl_cursor.specs.Moves.{next_cycle}
 use Rattle.ocfl_cursor.specs.declared.limits.Limits.{Limits as MadeLimits}
 use Rattle.ocfl_deed.specs.declared.deed.Deed.TheVariants as deed
@@ -48,12 +48,30 @@ use Rattle.ocfl_scrub.specs.declared.cycling.CycleStatus.{CycleStatus}
 use Rattle.ocfl_scrub.specs.declared.cycling.CycleStatus.TheVariants as cycle
 use Rattle.ocfl_scrub.specs.declared.note.Note.{Note}
 use Rattle.ocfl_scrub.specs.declared.note.Note.TheVariants as note
-use Rattle.ocfl_scrub.proofs.AuditLaws.{all_places, nothing_front}
+use Rattle.ocfl_scrub.proofs.AuditLaws.{all_places}
 use Rattle.ocfl_scrub.proofs.CycleEndLaws.{few_inventories, some_run}
+use Rattle.ocfl_scrub.proofs.Lists.{nothing_front}
 use Rattle.ocfl_scrub.proofs.PassLaws.{last_append}
 
 last_item : (from : Option Place) (front : List Item) (i : Item) → last_of from (places (front ++ i ∷ [])) ≡ Some i.place
 last_item from front i = ap (last_of from) (map-append (λ j. j.place) front (i ∷ [])) ∙ last_append from (places front) i.place
+
+-- the last place, by the items that were taken
+last_said : (from last : Option Place) (items : List Item) → last ≡ last_of from (places items)
+    → (items ≡ [] → last ≡ from) × ((front : List Item) (i : Item) → items ≡ front ++ i ∷ [] → last ≡ Some i.place)
+last_said from last items is = ((λ e. is ∙ ap (λ xs. last_of from (places xs)) e), λ front i e. is ∙ ap (λ xs. last_of from (places xs)) e ∙ last_item from front i)
+
+-- what went out before a stop, after what is known of the calls
+stop_wrote : (before : List ℕ) {items : List Item} {written : List ℕ} {from last : Option Place} {why : Fault} {Did : Type 0}
+    (s : StopsWithin items (Some before) (Some written) from last why) → Did → (Of : List Item → Type 0) → Of s.whole → (whole : List Item)
+    × ((others : List Item) × ((gone : ℕ)
+    × (Did × ((items ≡ whole ++ others)
+    × ((written ≡ before ++ (text whole ++ take gone (text (take 1 others))))
+    × ((why ≡ fault.Output → gone < length (text (take 1 others))) × ((why ≢ fault.Output → gone ≡ 0) × Of whole)))))))
+stop_wrote before s did Of of = (
+  s.whole,
+  (s.others, (s.part_of.gone, (did, (s.items_are, ((s.wrote ∙ ap (λ u. before ++ (text s.whole ++ u)) s.part_of.is), (s.part_of.proper, (s.part_of.none, of))))))),
+)
 
 fewer : (xs ys : List Place) (n : ℕ) → xs ≡ ys → length ys < n → length xs < n
 fewer xs ys n e h = let same : length xs ≡ length ys = ap length e in omega (arith, same, h)
@@ -139,22 +157,7 @@ pub stopped_audit_wrote : (root : StorageRoot) (s t : Store) (before written : L
     × ((audit root (unread_of root trail) ≡ whole ++ others)
     × ((written ≡ before ++ (text whole ++ take gone (text (take 1 others))))
     × ((why ≡ fault.Output → gone < length (text (take 1 others))) × ((why ≢ fault.Output → gone ≡ 0) × (finding ≡ found whole)))))))))
-stopped_audit_wrote root s t before written last finding why h = (
-  h.trail,
-  (
-    h.stops.whole,
-    (
-      h.stops.others,
-      (
-        h.stops.part_of.gone,
-        (
-          h.looks.fails.did.openings_are,
-          (h.stops.items_are, ((h.stops.wrote ∙ ap (λ u. before ++ (text h.stops.whole ++ u)) h.stops.part_of.is), (h.stops.part_of.proper, (h.stops.part_of.none, h.found_is)))),
-        ),
-      ),
-    ),
-  ),
-)
+stopped_audit_wrote root s t before written last finding why h = (h.trail, stop_wrote before h.stops h.looks.fails.did.openings_are (λ whole. finding ≡ found whole) h.found_is)
 
 pub stopped_audit_opened : (call : Call) (last : Option Place) (finding : Bool) (why : Fault) → AuditStops call last finding why → (trail : List Opening)
     × ((whole : List Item) × ((others : List Item)
@@ -228,13 +231,7 @@ pub run_ended_at : (call : Call) (from last next : Option Place) (limits : Limit
     × ((call.after.openings ≡ call.before.openings ++ trail)
     × ((cut (after (audit call.root (unread_of call.root trail)) from) limits ≡ [] → last ≡ from)
     × ((front : List Item) (i : Item) → cut (after (audit call.root (unread_of call.root trail)) from) limits ≡ front ++ i ∷ [] → last ≡ Some i.place)))
-run_ended_at call from last next limits spent files finding h = (
-  h.trail,
-  (
-    h.looks.audits.did.openings_are,
-    ((λ e. h.last_is ∙ ap (λ items. last_of from (places items)) e), λ front i e. h.last_is ∙ ap (λ items. last_of from (places items)) e ∙ last_item from front i),
-  ),
-)
+run_ended_at call from last next limits spent files finding h = (h.trail, (h.looks.audits.did.openings_are, last_said from last _ h.last_is))
 
 pub stopped_run_wrote : (root : StorageRoot) (s t : Store) (before written : List ℕ) (from last : Option Place) (limits : Limits) (spent files : ℕ)
     (finding : Bool) (why : Fault) → RunStops (known_call root s t before written) from last limits spent files finding why → (trail : List Opening)
@@ -243,28 +240,8 @@ pub stopped_run_wrote : (root : StorageRoot) (s t : Store) (before written : Lis
     × ((cut (after (audit root (unread_of root trail)) from) limits ≡ whole ++ others)
     × ((written ≡ before ++ (text whole ++ take gone (text (take 1 others))))
     × ((why ≡ fault.Output → gone < length (text (take 1 others))) × ((why ≢ fault.Output → gone ≡ 0) × ((spent ≡ total_cost whole) × ((files ≡ total_files whole) × (finding ≡ found whole)))))))))))
-stopped_run_wrote root s t before written from last limits spent files finding why h = (
-  h.trail,
-  (
-    h.stops.whole,
-    (
-      h.stops.others,
-      (
-        h.stops.part_of.gone,
-        (
-          h.looks.fails.did.openings_are,
-          (
-            h.stops.items_are,
-            (
-              (h.stops.wrote ∙ ap (λ u. before ++ (text h.stops.whole ++ u)) h.stops.part_of.is),
-              (h.stops.part_of.proper, (h.stops.part_of.none, (h.figures.spent_is, (h.figures.files_is, h.figures.found_is)))),
-            ),
-          ),
-        ),
-      ),
-    ),
-  ),
-)
+stopped_run_wrote root s t before written from last limits spent files finding why h =
+    (h.trail, stop_wrote before h.stops h.looks.fails.did.openings_are (λ whole. (spent ≡ total_cost whole) × ((files ≡ total_files whole) × (finding ≡ found whole))) (h.figures.spent_is, (h.figures.files_is, h.figures.found_is)))
 
 pub stopped_run_opened : (call : Call) (from last : Option Place) (limits : Limits) (spent files : ℕ) (finding : Bool) (why : Fault)
     → RunStops call from last limits spent files finding why → (trail : List Opening)
@@ -314,25 +291,8 @@ pub stopped_run_ended_at : (call : Call) (from last : Option Place) (limits : Li
     × ((call.after.openings ≡ call.before.openings ++ trail)
     × ((cut (after (audit call.root (unread_of call.root trail)) from) limits ≡ whole ++ others)
     × ((spent ≡ total_cost whole) × ((whole ≡ [] → last ≡ from) × ((front : List Item) (i : Item) → whole ≡ front ++ i ∷ [] → last ≡ Some i.place)))))))
-stopped_run_ended_at call from last limits spent files finding why h = (
-  h.trail,
-  (
-    h.stops.whole,
-    (
-      h.stops.others,
-      (
-        h.looks.fails.did.openings_are,
-        (
-          h.stops.items_are,
-          (
-            h.figures.spent_is,
-            ((λ e. h.stops.last_is ∙ ap (λ items. last_of from (places items)) e), λ front i e. h.stops.last_is ∙ ap (λ items. last_of from (places items)) e ∙ last_item from front i),
-          ),
-        ),
-      ),
-    ),
-  ),
-)
+stopped_run_ended_at call from last limits spent files finding why h =
+    (h.trail, (h.stops.whole, (h.stops.others, (h.looks.fails.did.openings_are, (h.stops.items_are, (h.figures.spent_is, last_said from last h.stops.whole h.stops.last_is))))))
 
 -- ---- a cycle
 
@@ -382,13 +342,7 @@ pub cycle_ended_at : (call : Call) (last : Option Place) (limits : List Limits) 
     × ((call.after.openings ≡ call.before.openings ++ trail)
     × ((joined (runs (audit call.root (unread_of call.root trail)) limits) ≡ [] → last ≡ None)
     × ((front : List Item) (i : Item) → joined (runs (audit call.root (unread_of call.root trail)) limits) ≡ front ++ i ∷ [] → last ≡ Some i.place)))
-cycle_ended_at call last limits spent files finding count whole h = (
-  h.trail,
-  (
-    h.audits.did.openings_are,
-    ((λ e. h.last_is ∙ ap (λ items. last_of None (places items)) e), λ front i e. h.last_is ∙ ap (λ items. last_of None (places items)) e ∙ last_item None front i),
-  ),
-)
+cycle_ended_at call last limits spent files finding count whole h = (h.trail, (h.audits.did.openings_are, last_said None last _ h.last_is))
 
 pub stopped_cycle_wrote : (root : StorageRoot) (s t : Store) (before written : List ℕ) (last : Option Place) (limits : List Limits) (spent files : ℕ)
     (finding : Bool) (count : ℕ) (why : Fault) → CycleStops (known_call root s t before written) last limits spent files finding count why
@@ -398,28 +352,8 @@ pub stopped_cycle_wrote : (root : StorageRoot) (s t : Store) (before written : L
     × ((joined (take count (runs (audit root (unread_of root trail)) limits)) ≡ whole ++ others)
     × ((written ≡ before ++ (text whole ++ take gone (text (take 1 others))))
     × ((why ≡ fault.Output → gone < length (text (take 1 others))) × ((why ≢ fault.Output → gone ≡ 0) × ((spent ≡ total_cost whole) × ((files ≡ total_files whole) × (finding ≡ found whole)))))))))))
-stopped_cycle_wrote root s t before written last limits spent files finding count why h = (
-  h.trail,
-  (
-    h.stops.whole,
-    (
-      h.stops.others,
-      (
-        h.stops.part_of.gone,
-        (
-          h.fails.did.openings_are,
-          (
-            h.stops.items_are,
-            (
-              (h.stops.wrote ∙ ap (λ u. before ++ (text h.stops.whole ++ u)) h.stops.part_of.is),
-              (h.stops.part_of.proper, (h.stops.part_of.none, (h.figures.spent_is, (h.figures.files_is, h.figures.found_is)))),
-            ),
-          ),
-        ),
-      ),
-    ),
-  ),
-)
+stopped_cycle_wrote root s t before written last limits spent files finding count why h =
+    (h.trail, stop_wrote before h.stops h.fails.did.openings_are (λ whole. (spent ≡ total_cost whole) × ((files ≡ total_files whole) × (finding ≡ found whole))) (h.figures.spent_is, (h.figures.files_is, h.figures.found_is)))
 
 pub stopped_cycle_counted : (call : Call) (last : Option Place) (limits : List Limits) (spent files : ℕ) (finding : Bool) (count : ℕ) (why : Fault)
     → CycleStops call last limits spent files finding count why → (trail : List Opening)
@@ -454,16 +388,8 @@ pub stopped_cycle_ended_at : (call : Call) (last : Option Place) (limits : List 
     → CycleStops call last limits spent files finding count why → (trail : List Opening)
     × ((whole : List Item) × ((call.after.openings ≡ call.before.openings ++ trail)
     × ((spent ≡ total_cost whole) × ((whole ≡ [] → last ≡ None) × ((front : List Item) (i : Item) → whole ≡ front ++ i ∷ [] → last ≡ Some i.place)))))
-stopped_cycle_ended_at call last limits spent files finding count why h = (
-  h.trail,
-  (
-    h.stops.whole,
-    (
-      h.fails.did.openings_are,
-      (h.figures.spent_is, ((λ e. h.stops.last_is ∙ ap (λ items. last_of None (places items)) e), λ front i e. h.stops.last_is ∙ ap (λ items. last_of None (places items)) e ∙ last_item None front i)),
-    ),
-  ),
-)
+stopped_cycle_ended_at call last limits spent files finding count why h =
+    (h.trail, (h.stops.whole, (h.fails.did.openings_are, (h.figures.spent_is, last_said None last h.stops.whole h.stops.last_is))))
 
 -- ---- how they ended
 
@@ -520,21 +446,24 @@ pub run_went_on : (call : Call) (c : Cursor) (limits : Limits) (ran : RunEnd) (p
     → (last : Option Place) × RunEnds call (Some p) last limits ran.spent ran.files ran.found ran.end
 run_went_on call c limits ran p e h = (h.last, subst (λ state. RunEnds call (place_in state) h.last limits ran.spent ran.files ran.found ran.end) e h.run)
 
+-- where a run or a cycle that is not at its end leaves its cursor
+state_said : (last : Option Place) (state : State) → state ≡ state_at last → (last ≡ None → state ≡ start) × ((p : Place) → last ≡ Some p → state ≡ behind p)
+state_said last state there = ((λ e. there ∙ ap state_at e), λ p e. there ∙ ap state_at e)
+
+cursor_goes_on : (call : Call) (c : Cursor) (limits : Limits) (ran : RunEnd) → begun c ≡ c → RunsFrom call c limits ran
+    → (ran.cursor.cycle ≡ c.cycle) × ((ran.cursor.runs ≡ c.runs + 1) × ((ran.cursor.spent ≡ c.spent + ran.spent) × (ran.cursor.files ≡ c.files + ran.files)))
+cursor_goes_on call c limits ran b h = (
+  (ap (λ r. r.cycle) h.cursor_is ∙ ap (λ r. r.cycle) b),
+  ((ap (λ r. r.runs) h.cursor_is ∙ ap (λ r. r.runs + 1) b), ((ap (λ r. r.spent) h.cursor_is ∙ ap (λ r. r.spent + ran.spent) b), (ap (λ r. r.files) h.cursor_is ∙ ap (λ r. r.files + ran.files) b))),
+)
+
 pub cursor_from_the_first : (call : Call) (c : Cursor) (limits : Limits) (ran : RunEnd) → c.state ≡ start → RunsFrom call c limits ran
     → (ran.cursor.cycle ≡ c.cycle) × ((ran.cursor.runs ≡ c.runs + 1) × ((ran.cursor.spent ≡ c.spent + ran.spent) × (ran.cursor.files ≡ c.files + ran.files)))
-cursor_from_the_first call c limits ran e h =
-    let b : begun c ≡ c = ap (begun_in c) e in (
-      (ap (λ r. r.cycle) h.cursor_is ∙ ap (λ r. r.cycle) b),
-      ((ap (λ r. r.runs) h.cursor_is ∙ ap (λ r. r.runs + 1) b), ((ap (λ r. r.spent) h.cursor_is ∙ ap (λ r. r.spent + ran.spent) b), (ap (λ r. r.files) h.cursor_is ∙ ap (λ r. r.files + ran.files) b))),
-    )
+cursor_from_the_first call c limits ran e h = cursor_goes_on call c limits ran (ap (begun_in c) e) h
 
 pub cursor_from_a_place : (call : Call) (c : Cursor) (limits : Limits) (ran : RunEnd) (p : Place) → c.state ≡ behind p → RunsFrom call c limits ran
     → (ran.cursor.cycle ≡ c.cycle) × ((ran.cursor.runs ≡ c.runs + 1) × ((ran.cursor.spent ≡ c.spent + ran.spent) × (ran.cursor.files ≡ c.files + ran.files)))
-cursor_from_a_place call c limits ran p e h =
-    let b : begun c ≡ c = ap (begun_in c) e in (
-      (ap (λ r. r.cycle) h.cursor_is ∙ ap (λ r. r.cycle) b),
-      ((ap (λ r. r.runs) h.cursor_is ∙ ap (λ r. r.runs + 1) b), ((ap (λ r. r.spent) h.cursor_is ∙ ap (λ r. r.spent + ran.spent) b), (ap (λ r. r.files) h.cursor_is ∙ ap (λ r. r.files + ran.files) b))),
-    )
+cursor_from_a_place call c limits ran p e h = cursor_goes_on call c limits ran (ap (begun_in c) e) h
 
 pub cursor_of_the_next_cycle : (call : Call) (c : Cursor) (limits : Limits) (ran : RunEnd) → c.state ≡ ended → RunsFrom call c limits ran
     → (ran.cursor.cycle ≡ c.cycle + 1) × ((ran.cursor.runs ≡ 1) × ((ran.cursor.spent ≡ ran.spent) × (ran.cursor.files ≡ ran.files)))
@@ -550,16 +479,12 @@ cursor_of_the_end call c limits ran h e = ap (λ r. r.state) h.cursor_is ∙ ap 
 pub cursor_of_a_spent_run : (call : Call) (c : Cursor) (limits : Limits) (ran : RunEnd) → RunsFrom call c limits ran → ran.end ≡ run.Spent
     → (last : Option Place) × (RunEnds call (place_in c.state) last limits ran.spent ran.files ran.found ran.end
     × ((last ≡ None → ran.cursor.state ≡ start) × ((p : Place) → last ≡ Some p → ran.cursor.state ≡ behind p)))
-cursor_of_a_spent_run call c limits ran h e =
-    let there = ap (λ r. r.state) h.cursor_is ∙ ap (λ w. state_after w h.last) e in
-    (h.last, (h.run, ((λ f. there ∙ ap state_at f), λ p f. there ∙ ap state_at f)))
+cursor_of_a_spent_run call c limits ran h e = (h.last, (h.run, state_said h.last _ (ap (λ r. r.state) h.cursor_is ∙ ap (λ w. state_after w h.last) e)))
 
 pub cursor_of_a_stopped_run : (call : Call) (c : Cursor) (limits : Limits) (ran : RunEnd) (why : Fault) → RunsFrom call c limits ran → ran.end ≡ run.Stopped why
     → (last : Option Place) × (RunEnds call (place_in c.state) last limits ran.spent ran.files ran.found ran.end
     × ((last ≡ None → ran.cursor.state ≡ start) × ((p : Place) → last ≡ Some p → ran.cursor.state ≡ behind p)))
-cursor_of_a_stopped_run call c limits ran why h e =
-    let there = ap (λ r. r.state) h.cursor_is ∙ ap (λ w. state_after w h.last) e in
-    (h.last, (h.run, ((λ f. there ∙ ap state_at f), λ p f. there ∙ ap state_at f)))
+cursor_of_a_stopped_run call c limits ran why h e = (h.last, (h.run, state_said h.last _ (ap (λ r. r.state) h.cursor_is ∙ ap (λ w. state_after w h.last) e)))
 
 pub cycle_is_the_first : (call : Call) (limits : List Limits) (c : Cursor) (finding : Bool) (how : CycleStatus) → CyclesTo call limits c finding how
     → (c.cycle ≡ 1) × ((last : Option Place) × CycleEnds call last limits c.spent c.files finding c.runs how)
@@ -570,12 +495,12 @@ cursor_of_the_last_run call limits c finding h = ap (λ r. r.state) h.cursor_is
 
 pub cursor_of_a_spent_cycle : (call : Call) (limits : List Limits) (c : Cursor) (finding : Bool) → CyclesTo call limits c finding cycle.Spent
     → (last : Option Place) × (CycleEnds call last limits c.spent c.files finding c.runs cycle.Spent × ((last ≡ None → c.state ≡ start) × ((p : Place) → last ≡ Some p → c.state ≡ behind p)))
-cursor_of_a_spent_cycle call limits c finding h = (h.last, (h.cycle, ((λ e. ap (λ r. r.state) h.cursor_is ∙ ap state_at e), λ p e. ap (λ r. r.state) h.cursor_is ∙ ap state_at e)))
+cursor_of_a_spent_cycle call limits c finding h = (h.last, (h.cycle, state_said h.last _ (ap (λ r. r.state) h.cursor_is)))
 
 pub cursor_of_a_stopped_cycle : (call : Call) (limits : List Limits) (c : Cursor) (finding : Bool) (why : Fault)
     → CyclesTo call limits c finding (cycle.Stopped why) → (last : Option Place)
     × (CycleEnds call last limits c.spent c.files finding c.runs (cycle.Stopped why) × ((last ≡ None → c.state ≡ start) × ((p : Place) → last ≡ Some p → c.state ≡ behind p)))
-cursor_of_a_stopped_cycle call limits c finding why h = (h.last, (h.cycle, ((λ e. ap (λ r. r.state) h.cursor_is ∙ ap state_at e), λ p e. ap (λ r. r.state) h.cursor_is ∙ ap state_at e)))
+cursor_of_a_stopped_cycle call limits c finding why h = (h.last, (h.cycle, state_said h.last _ (ap (λ r. r.state) h.cursor_is)))
 
 -- ---- without failures
 

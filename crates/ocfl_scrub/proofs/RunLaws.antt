@@ -44,7 +44,7 @@ use Rattle.ocfl_scrub.proofs.Passing.{due_in}
 use Rattle.ocfl_scrub.proofs.PartStarts.{looked_all, read_all, looked_to, read_to}
 use Rattle.ocfl_scrub.proofs.LookLaws.{looks_over, stops_looking, stops_above}
 use Rattle.ocfl_scrub.proofs.WayListed.{before_next, halted_lie, taken_lie}
-use Rattle.ocfl_scrub.proofs.CutLaws.{IsStop, paid_begins, cut_of_paid, left_of_paid, paid_passes, test_unpaid, hashed_costs}
+use Rattle.ocfl_scrub.proofs.CutLaws.{IsStop, paid_begins, cut_of_paid, left_of_paid, test_unpaid, hashed_costs}
 
 -- ---- where a cut ends
 
@@ -262,6 +262,3 @@ module _ (root : StorageRoot) (part : Part) (s t : Store) (old new : Option (Lis
     run = begun_there;
     cursor_is = e ∙ ap (λ x. after_run x spent files state) h.begun_is ∙ ap (λ x. after_run (begun c) spent files x) f;
   }
-
-  pub clean_from : t.failures ≡ s.failures → RunsCleanlyWithin (call_of root s t old new) part c l spent files finding end
-  clean_from same = runs_cleanly root part s t old new c last l spent files finding same end begun_there

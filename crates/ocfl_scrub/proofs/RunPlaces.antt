@@ -1,6 +1,7 @@
 -- One run of a part's cycle, by its places.
 use Rattle.std.proofs.Common.{◌≡◌, ℕ, ◌+◌, ◌≤◌, List, [], ◌∷◌, ◌++◌, refl, sym, ◌∙◌, ap, subst, Bool, Some, None, Option, map, length, length-append, arith}
 use Rattle.std.specs.Io.KnownBytes.{Appends}
+use Rattle.std.proofs.lemmas.List.{map-append}
 use Rattle.ocfl_tree.specs.Place.{Place, place_cmp}
 use Rattle.ocfl_tree.specs.Ascending.{IsAscending}
 use Rattle.ocfl_tree.specs.StorageRoot.{StorageRoot}
@@ -23,7 +24,6 @@ use Rattle.ocfl_scrub.proofs.Paying.{Paid}
 use Rattle.ocfl_scrub.specs.Running.{items_above_in, taken_in, rest_in, first_of, RunsWithin}
 use Rattle.ocfl_scrub.specs.Starting.{entry, due_within, read_in}
 use Rattle.ocfl_scrub.proofs.PartStarts.{above_in, items_ascend}
-use Rattle.ocfl_scrub.proofs.Lists.{map_append}
 use Rattle.ocfl_scrub.proofs.AuditLaws.{places_of_items}
 use Rattle.ocfl_scrub.proofs.CutLaws.{IsStop, cut_and_left}
 use Rattle.ocfl_scrub.proofs.PartLaws.{cut_paid, cut_stops}
@@ -77,7 +77,7 @@ module _ (root : StorageRoot) (part : Part) (os : List Opening) where
 
     pub due_parts : due_within root part from ≡ places xs ++ due_within root part (last_of from (places xs))
     due_parts =
-        sym (places_of_items root os (due_within root part from)) ∙ ap places above_is ∙ map_append (λ i. i.place) xs ys
+        sym (places_of_items root os (due_within root part from)) ∙ ap places above_is ∙ map-append (λ i. i.place) xs ys
         ∙ ap (λ ps. places xs ++ ps) (ap places (sym rest_is) ∙ places_of_items root os (due_within root part (last_of from (places xs))))
 
 -- ---- one run

@@ -1,7 +1,7 @@
 -- Some runs of a part one after the other, by their places: a run, and then those that follow.
 use Rattle.std.proofs.Common.{◌≡◌, inl, inr, ℕ, zero, suc, ◌+◌, ◌-◌, ◌<◌, ◌≤◌, List, [], ◌∷◌, ◌++◌, refl, sym, ◌∙◌, ap, subst, true, false, Bool, Some, None, Option, append-nil, append_assoc, length, length-append, take, drop, arith}
 use Rattle.std.specs.Prelude.{◌||◌, cond, filter}
-use Rattle.std.proofs.lemmas.List.{take-append-drop}
+use Rattle.std.proofs.lemmas.List.{map-append, take-append-drop}
 use Rattle.std.specs.Io.KnownBytes.{Appends}
 use Rattle.std.proofs.KnownBytes.{Appends-nil, Appends-trans}
 use Rattle.ocfl_tree.specs.Place.{Text, Place, place_cmp}
@@ -31,7 +31,7 @@ use Rattle.ocfl_scrub.specs.Starting.{entry, due_within, read_in}
 use Rattle.ocfl_scrub.proofs.PartStarts.{above_in, due_within_ascends}
 use Rattle.ocfl_scrub.specs.declared.cycling.CycleStatus.{CycleStatus}
 use Rattle.ocfl_scrub.specs.declared.cycling.CycleStatus.TheVariants.{Ended, Spent, Stopped}
-use Rattle.ocfl_scrub.proofs.Lists.{map_append, ascends_left}
+use Rattle.ocfl_scrub.proofs.Lists.{ascends_left}
 use Rattle.ocfl_scrub.proofs.AuditsJoined.{items_before, items_behind, items_append, items_then}
 use Rattle.ocfl_item.proofs.AuditingLaws.{audits_fail, audits_nothing, audits_on}
 use Rattle.ocfl_scrub.proofs.PassLaws.{text_append, found_append, no_items, take_nothing}
@@ -243,11 +243,11 @@ module _ (root : StorageRoot) (part : Part) (s t : Store) (old mid : Option (Lis
       let next_is : due_within root part (last_of from done) ≡ places (w.others ++ left_items) =
       sym (places_of_items root h.trail (due_within root part (last_of from done))) ∙ ap places (rest_is root part h.trail from w.whole (w.others ++ left_items) split) in
       let first : places w.others ≡ w.begun ++ (w.one.0 ++ places (drop 1 w.others)) =
-      ap places (sym (take-append-drop 1 w.others)) ∙ map_append (λ i. i.place) (take 1 w.others) (drop 1 w.others)
+      ap places (sym (take-append-drop 1 w.others)) ∙ map-append (λ i. i.place) (take 1 w.others) (drop 1 w.others)
       ∙ ap (λ ps. ps ++ places (drop 1 w.others)) w.one.1 ∙ append_assoc w.begun w.one.0 (places (drop 1 w.others)) in
       let behind : List Place = (w.one.0 ++ places (drop 1 w.others)) ++ places left_items in
       let next_begun : due_within root part (last_of from done) ≡ w.begun ++ behind =
-      next_is ∙ map_append (λ i. i.place) w.others left_items ∙ ap (λ ps. ps ++ places left_items) first ∙ append_assoc w.begun (w.one.0 ++ places (drop 1 w.others)) (places left_items) in
+      next_is ∙ map-append (λ i. i.place) w.others left_items ∙ ap (λ ps. ps ++ places left_items) first ∙ append_assoc w.begun (w.one.0 ++ places (drop 1 w.others)) (places left_items) in
       record {
         done = done;
         begun = w.begun;

@@ -18,7 +18,7 @@ use Rattle.ocfl_item.specs.declared.fault.Fault.{Fault}
 use Rattle.ocfl_item.specs.declared.fault.Fault.TheVariants.{Store as AtStore, Memory, Output}
 use Rattle.ocfl_scrub.specs.Call.{call_of}
 use Rattle.ocfl_scrub.specs.Taking.{WritesLines, PartOf, Takes, Misses, finds, piece_of}
-use Rattle.ocfl_scrub.proofs.AuditsJoined.{nothing_hashed}
+use Rattle.ocfl_walk.proofs.FoundLaws.{none_hashed}
 use Rattle.ocfl_item.proofs.AuditingLaws.{audits_nothing}
 
 pub or_none : (b : Bool) → (b || false) ≡ b
@@ -101,7 +101,7 @@ front_of_one p false = (p ∷ [], refl)
 
 none_or_hashed : (root : StorageRoot) (p : Place) (part : Bool) → cond part (hashed_among root (p ∷ [])) [] ≡ hashed_among root (cond part (p ∷ []) [])
 none_or_hashed root p true = refl
-none_or_hashed root p false = sym (nothing_hashed root)
+none_or_hashed root p false = sym (none_hashed root)
 
 -- the item was not judged
 pub unjudged : (root : StorageRoot) (s t : Store) (old : Option (List ℕ)) (p : Place) → JudgeFails root s t p → Misses (call_of root s t old old) p Memory
@@ -125,7 +125,7 @@ unbegun root s old p over =
       begun = [];
       one = (p ∷ [], refl);
       fails = record { over = over; did = subst (Did s s [] []) (memory_none.0 _) none.did; opened = none.opened; heads_are = refl; near = none.near; store = λ q e. absurd (memory_none.1 q e) };
-      alone = sym (nothing_hashed root);
+      alone = sym (none_hashed root);
       part = [];
       wrote = Appends-nil old;
       part_of = nothing_of Memory memory_other (text (items_at root [] (p ∷ [])));

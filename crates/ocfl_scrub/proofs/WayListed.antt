@@ -9,6 +9,7 @@ use Rattle.ocfl_tree.specs.Place.{Text, Place, place_cmp, text_cmp}
 use Rattle.ocfl_tree.specs.Ascending.{IsAmong, IsAscending, IsBeforeAll}
 use Rattle.ocfl_tree.specs.StorageRoot.{StorageRoot}
 use Rattle.ocfl_tree.specs.Store.{Store}
+use Rattle.ocfl_tree.proofs.Bools.{and_second}
 use Rattle.ocfl_tree.proofs.Orders.{among_filter, among_from_filter, among_left, among_map, among_right, below_from_greater, not_below_itself, place_cmp_exact, place_cmp_total, true_not_false}
 use Rattle.ocfl_tree.proofs.Stores.{among_either}
 use Rattle.ocfl_tree.proofs.Places.{text_cmp_exact}
@@ -62,10 +63,6 @@ none_is (n ∷ g) e = absurd (let two : Some (n ∷ g) ≡ None = e in cc)
 not_true : (b : Bool) → not b ≡ true → b ≡ false
 not_true true h = absurd (true_not_false (sym h))
 not_true false h = refl
-
-after_both : (a b : Bool) → a && b ≡ true → b ≡ true
-after_both true b h = h
-after_both false b h = absurd (true_not_false (sym h))
 
 among_first : (ps : List Place) (p : Place) → IsAmong (take 1 ps) p → IsAmong ps p
 among_first [] p i = absurd i
@@ -122,7 +119,7 @@ module _ (d p : Place) (n : Text) (is : p ≡ d ++ n ∷ []) where
   module _ (part : Part) (lies : lies_in part p ≡ true) where
     not_past : is_past (end_of part) d ≡ false
     not_past =
-        let there = after_both (not (is_lt (place_cmp p (greater_of part.under part.from)))) (not (is_past (end_of part) p)) (sym (lies_exact part p) ∙ lies) in
+        let there = and_second (not (is_lt (place_cmp p (greater_of part.under part.from)))) (not (is_past (end_of part) p)) (sym (lies_exact part p) ∙ lies) in
         not_past_down (end_of part) p d (not_true (is_past (end_of part) p) there) (not_below d p above_it)
 
     in_part : is_lt (place_cmp d (greater_of part.under part.from)) ≡ false → lies_in part d ≡ true

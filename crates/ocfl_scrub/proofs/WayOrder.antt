@@ -1,10 +1,11 @@
 -- What is on the way to a place comes before all that is above it.
 use Rattle.std.proofs.Common.{◌≡◌, ◌⊎◌, inl, inr, List, [], ◌∷◌, ◌++◌, refl, sym, ◌∙◌, ap, subst, Bool, true, false, cond, Option, Some, None, map, filter}
+use Rattle.std.proofs.lemmas.List.{map-append}
 use Rattle.ocfl_tree.specs.Place.{Text, Place, place_cmp}
 use Rattle.ocfl_tree.specs.Ascending.{IsAscending, IsAmong, IsBeforeAll}
 use Rattle.std.specs.declared.cmp.Ordering.TheVariants.{Less}
 use Rattle.ocfl_tree.specs.StorageRoot.{StorageRoot}
-use Rattle.ocfl_tree.proofs.Orders.{place_cmp_total}
+use Rattle.ocfl_tree.proofs.Orders.{among_left, place_cmp_total}
 use Rattle.ocfl_audit.specs.Zone.{Zone, skipped, hierarchy, inside, zone, beginnings}
 use Rattle.ocfl_audit.specs.Between.{IsBeyond}
 use Rattle.ocfl_audit.specs.Parts.{Part}
@@ -13,7 +14,7 @@ use Rattle.ocfl_audit.proofs.AuditExists.{zone_is}
 use Rattle.ocfl_audit.proofs.BelowLaws.{cmp_behind, above_self, from_append, ascends_append}
 use Rattle.ocfl_item.specs.Looking.{way_to, IsFront}
 use Rattle.ocfl_walk.specs.WalkCalls.{holder_of, way_of, holder}
-use Rattle.ocfl_scrub.proofs.Lists.{map_append, ascends_left, ascends_across}
+use Rattle.ocfl_scrub.proofs.Lists.{nothing_front, ascends_left, ascends_across}
 use Rattle.ocfl_scrub.specs.Starting.{entry, looked_in, read_in}
 use Rattle.ocfl_scrub.proofs.PartStarts.{looked_in_ascends, read_in_ascends, looked_in_beyond, read_in_beyond}
 
@@ -33,7 +34,7 @@ module _ (n : Text) where
   root_before (a ∷ ps) = (refl, root_before ps)
 
   pub way_parts : (p : Place) → way_to (n ∷ p) ≡ [] ∷ map (λ q. n ∷ q) (way_to p)
-  way_parts p = ap (λ ps. [] ∷ ps) (sym (map_append (λ q. n ∷ q) (beginnings p) (p ∷ [])))
+  way_parts p = ap (λ ps. [] ∷ ps) (sym (map-append (λ q. n ∷ q) (beginnings p) (p ∷ [])))
 
 pub way_ascends : (p : Place) → IsAscending place_cmp (way_to p)
 way_ascends [] = (tt, tt)
@@ -92,20 +93,11 @@ holder_up_to root p x i = by (zone root p) refl i
 
 -- ---- and what is above it
 
-front_of_none : (xs : List Place) → IsFront xs [] → xs ≡ []
-front_of_none [] f = refl
-front_of_none (x ∷ xs) f = absurd (let e = f.1 in cc)
-
-left_among : (xs ys : List Place) (z : Place) → IsAmong xs z → IsAmong (xs ++ ys) z
-left_among [] ys z i = absurd i
-left_among (x ∷ xs) ys z (inl e) = inl e
-left_among (x ∷ xs) ys z (inr i) = inr (left_among xs ys z i)
-
 joined_ascends : (p : Place) (front way rest : List Place) → IsFront front way → IsAscending place_cmp way → ((x : Place) → IsAmong way x → IsUpTo p x)
     → IsAscending place_cmp rest → ((y : Place) → IsAmong rest y → place_cmp p y ≡ Less) → IsAscending place_cmp (front ++ rest)
 joined_ascends p front way rest f up low k far =
     ascends_append place_cmp front rest (ascends_left place_cmp front f.0 (subst (IsAscending place_cmp) f.1 up)) k
-    (λ x y i j. before_beyond p x y (low x (subst (λ zs. IsAmong zs x) (sym f.1) (left_among front f.0 x i))) (far y j))
+    (λ x y i j. before_beyond p x y (low x (subst (λ zs. IsAmong zs x) (sym f.1) (among_left front f.0 x i))) (far y j))
 
 front_ascends : (whole xs : List Place) → IsFront xs whole → IsAscending place_cmp whole → IsAscending place_cmp xs
 front_ascends whole xs f h = ascends_left place_cmp xs f.0 (subst (IsAscending place_cmp) f.1 h)
@@ -113,13 +105,13 @@ front_ascends whole xs f h = ascends_left place_cmp xs f.0 (subst (IsAscending p
 -- the directories on the way to a place, and then others above it
 listed_then : (from : Option Place) (down listed : List Place) → IsFront down (way_of from) → IsAscending place_cmp listed
     → ((y : Place) → IsAmong listed y → IsBeyond from y) → IsAscending place_cmp (down ++ listed)
-listed_then None down listed f up far = subst (λ xs. IsAscending place_cmp (xs ++ listed)) (sym (front_of_none down f)) up
+listed_then None down listed f up far = subst (λ xs. IsAscending place_cmp (xs ++ listed)) (sym (nothing_front down f)) up
 listed_then (Some p) down listed f up far = joined_ascends p down (way_to p) listed f (way_ascends p) (way_up_to p) up far
 
 -- the object that holds a place, and then others above it
 read_then : (root : StorageRoot) (from : Option Place) (held heads : List Place) → IsFront held (holder root from) → IsAscending place_cmp heads
     → ((y : Place) → IsAmong heads y → IsBeyond from y) → IsAscending place_cmp (held ++ heads)
-read_then root None held heads f up far = subst (λ xs. IsAscending place_cmp (xs ++ heads)) (sym (front_of_none held f)) up
+read_then root None held heads f up far = subst (λ xs. IsAscending place_cmp (xs ++ heads)) (sym (nothing_front held f)) up
 read_then root (Some p) held heads f up far = joined_ascends p held (holder root (Some p)) heads f (holder_ascends root (zone root p)) (holder_up_to root p) up far
 
 -- ---- of a part
@@ -128,9 +120,9 @@ module _ (root : StorageRoot) (part : Part) (from to : Option Place) where
   pub listed_once_in : (down listed : List Place) → IsFront down (way_of (entry part from)) → IsFront listed (looked_in root part from to) → IsAscending place_cmp (down ++ listed)
   listed_once_in down listed f g =
       listed_then (entry part from) down listed f (front_ascends _ listed g (looked_in_ascends root part from to))
-      (λ y j. looked_in_beyond root part from to y (subst (λ zs. IsAmong zs y) (sym g.1) (left_among listed g.0 y j)))
+      (λ y j. looked_in_beyond root part from to y (subst (λ zs. IsAmong zs y) (sym g.1) (among_left listed g.0 y j)))
 
   pub read_once_in : (held heads : List Place) → IsFront held (holder root (entry part from)) → IsFront heads (read_in root part from to) → IsAscending place_cmp (held ++ heads)
   read_once_in held heads f g =
       read_then root (entry part from) held heads f (front_ascends _ heads g (read_in_ascends root part from to))
-      (λ y j. read_in_beyond root part from to y (subst (λ zs. IsAmong zs y) (sym g.1) (left_among heads g.0 y j)))
+      (λ y j. read_in_beyond root part from to y (subst (λ zs. IsAmong zs y) (sym g.1) (among_left heads g.0 y j)))

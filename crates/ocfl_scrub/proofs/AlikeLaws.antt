@@ -1,5 +1,5 @@
 -- What calls did to one store, done to another.
-use Rattle.std.proofs.Common.{◌≡◌, ℕ, ◌+◌, List, [], ◌∷◌, ◌++◌, refl, sym, ◌∙◌, ap, subst, Bool, Some, None, Option, append-nil, append_assoc, arith, length}
+use Rattle.std.proofs.Common.{◌≡◌, ℕ, ◌+◌, List, [], ◌∷◌, ◌++◌, refl, sym, ◌∙◌, ap, Bool, Some, None, Option, append-nil, append_assoc, arith, length}
 use Rattle.std.proofs.lemmas.List.{append_cancel_left}
 use Rattle.ocfl_tree.specs.Place.{Place, Text}
 use Rattle.ocfl_tree.specs.StorageRoot.{StorageRoot}

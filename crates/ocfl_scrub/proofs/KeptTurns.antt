@@ -1,7 +1,7 @@
 -- A pass that goes on from an item that was met, turn by turn: what it does here, and what it does
 -- on any store on which a walk could have come to that item.
-use Rattle.std.proofs.Common.{◌≡◌, ◌⊎◌, ℕ, ◌+◌, List, refl, sym, ◌∙◌, ap, subst, true, false, Bool, Some, None, Option}
-use Rattle.std.specs.Prelude.{◌≢◌, ◌||◌, IfSome}
+use Rattle.std.proofs.Common.{◌≡◌, ℕ, ◌+◌, List, sym, ◌∙◌, subst, true, false, Bool, Some, None, Option}
+use Rattle.std.specs.Prelude.{◌||◌, IfSome}
 use Rattle.ocfl_tree.specs.Place.{Place}
 use Rattle.ocfl_tree.specs.StorageRoot.{StorageRoot}
 use Rattle.ocfl_tree.specs.Store.{Store}

@@ -6,13 +6,13 @@ use Rattle.ocfl_tree.specs.Ascending.{IsAmong}
 use Rattle.ocfl_tree.specs.StorageRoot.{StorageRoot}
 use Rattle.ocfl_tree.specs.Store.{Store, Did}
 use Rattle.ocfl_tree.specs.declared.store.Opening.{Opening}
-use Rattle.ocfl_tree.proofs.Orders.{among_filter, among_from_filter, among_left}
+use Rattle.ocfl_tree.proofs.Orders.{among_filter, among_from_filter}
 use Rattle.ocfl_audit.specs.Between.{IsBeyond, looked_between, read_between}
 use Rattle.ocfl_audit.specs.Due.{due}
 use Rattle.ocfl_audit.specs.Parts.{Part, lies_in}
 use Rattle.ocfl_audit.specs.Trail.{heads_of}
 use Rattle.ocfl_audit.proofs.PartLaws.{places_within_is}
-use Rattle.ocfl_item.specs.Auditing.{Audits, Fails}
+use Rattle.ocfl_item.specs.Auditing.{Audits}
 use Rattle.ocfl_item.specs.Looking.{IsFront}
 use Rattle.ocfl_item.specs.Pending.{IsPending}
 use Rattle.ocfl_item.specs.declared.fault.Fault.{Fault}

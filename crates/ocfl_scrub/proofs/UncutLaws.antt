@@ -1,7 +1,6 @@
 -- Which texts say that no line was cut short.
-use Rattle.std.proofs.Common.{◌≡◌, refl, sym, subst, ℕ, List, [], Option, Vec, IsSome, false, inl, inr}
+use Rattle.std.proofs.Common.{◌≡◌, refl, sym, subst, ℕ, List, [], Option, IsSome, false, inl, inr}
 use Rattle.std.specs.Prelude.{◌≢◌, ◌⊎◌}
-use Rattle.std.specs.Io.KnownBytes.{Appends}
 use Rattle.std.proofs.KnownBytes.{Appends-nil}
 use Rattle.ocfl_tree.specs.Place.{Text, Place}
 use Rattle.ocfl_tree.specs.Store.{Store}
@@ -10,7 +9,6 @@ use Rattle.ocfl_deed.specs.declared.deed.Deed.{Deed}
 use Rattle.ocfl_deed.specs.declared.deed.Deed.TheVariants as deed
 use Rattle.ocfl_scrub.specs.Noting.{WritesWhole}
 use Rattle.ocfl_scrub.specs.Performing.{AnswersOnAnyStore, ShowsWith, WritesBy}
-use Rattle.ocfl_scrub.specs.declared.note.Note.{Note}
 use Rattle.ocfl_scrub.specs.declared.note.Note.TheVariants as note
 use Rattle.ocfl_scrub.specs.declared.performing.Performed.{Performed}
 

@@ -1,5 +1,5 @@
 -- What a command does within a scope: in the whole storage root, in a branch of it, or in a part.
-use Rattle.std.specs.Prelude.{◌≡◌, ◌⊎◌, ℕ, Bool, Option, Some, None, Vec, IfSome, ⊤}
+use Rattle.std.specs.Prelude.{◌≡◌, ◌⊎◌, ℕ, Bool, Option, None, Vec, IfSome, ⊤}
 use Rattle.std.specs.declared.alloc.Global.{Global}
 use Rattle.ocfl_tree.specs.Place.{Text, Place}
 use Rattle.ocfl_audit.specs.Parts.{Part, branch}

@@ -1,9 +1,8 @@
-use Rattle.std.proofs.Common.{◌≡◌, ◌≤◌, ◌∙◌, ◌^◌, arith, length, refl, subst, sym}
+use Rattle.std.proofs.Common.{◌≤◌, ◌∙◌, ◌^◌, arith, length, refl, subst, sym}
 use Rattle.ocfl_tree.specs.Place.{Place}
 use Rattle.ocfl_scrub.specs.Call.{call_of}
 use Rattle.ocfl_scrub.specs.Running.{limits_of}
 use Rattle.ocfl_scrub.specs.Starting.{part_of}
-use Rattle.ocfl_scrub.specs.Taking.{WritesLines}
 use Rattle.ocfl_scrub.proofs.KeptRuns.{ended_pass, missed_whole, pass_as, passes_as, spent_pass, stopped_pass}
 use Rattle.ocfl_scrub.proofs.KeptTurns.{on_way_first, way_ended, way_lost, way_missed, way_next, way_spent}
 use Rattle.ocfl_scrub.proofs.LoopLaws.{goes_further, next_short, sets_out}

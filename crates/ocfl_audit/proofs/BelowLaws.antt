@@ -10,6 +10,7 @@ use Rattle.std.specs.FinMap.{IsAntisymmetric, slice_cmp-IsAntisymmetric, nat_cmp
 use Rattle.ocfl_tree.specs.Place.{Place, Text, text_cmp, text_eq, place_cmp, place_eq, begins}
 use Rattle.ocfl_tree.specs.Ascending.{IsBeforeAll, IsAscending, IsAmong}
 use Rattle.ocfl_tree.proofs.Orders.{place_cmp_total, place_cmp_exact, true_not_false, not_below_itself, not_both_below, before_each, ascending_unique, ascends_filter, among_filter, among_from_filter, among_left, among_right, among_flat_map}
+use Rattle.ocfl_tree.proofs.Stores.{among_either}
 use Rattle.ocfl_audit.proofs.AuditExists.{equal_from_test, place_from_test, append_one, append_nothing}
 
 pub text_cmp_total : IsTotalOrder text_cmp
@@ -79,13 +80,7 @@ above_name d n m r s l = cmp_behind d (n ∷ r) (m ∷ s) ∙ ap (λ o. ordering
 
 module _ {A : Type 0} where
   pub from_append : (xs ys : List A) (z : A) → IsAmong (xs ++ ys) z → IsAmong xs z ⊎ IsAmong ys z
-  from_append [] ys z i = inr i
-  from_append (x ∷ xs) ys z (inl e) = inl (inl e)
-  from_append (x ∷ xs) ys z (inr i) = by (from_append xs ys z i)
-    where
-      by : IsAmong xs z ⊎ IsAmong ys z → IsAmong (x ∷ xs) z ⊎ IsAmong ys z
-      by (inl j) = inl (inr j)
-      by (inr j) = inr j
+  from_append = among_either
 
   before_from : (cmp : A → A → Ordering) (x : A) (ys : List A) → ((y : A) → IsAmong ys y → cmp x y ≡ Less) → IsBeforeAll cmp x ys
   before_from cmp x [] h = tt

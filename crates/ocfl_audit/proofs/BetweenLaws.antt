@@ -1,7 +1,7 @@
 -- What is between two places adds up, and between a place and the next that is seen is at most
 -- that one.
 use Rattle.std.proofs.Common.{◌≡◌, ◌≢◌, ◌⊎◌, inl, inr, List, [], ◌∷◌, ◌++◌, refl, sym, ◌∙◌, ap, subst, true, false, Bool, map, filter, Option, Some, None, append-nil}
-use Rattle.std.proofs.lemmas.Bool.{not-true}
+use Rattle.std.proofs.lemmas.Bool.{false_from_ne_true, not-true}
 use Rattle.std.specs.Prelude.{cond, ◌&&◌, not, nat_le, length}
 use Rattle.std.specs.List.{list_all}
 use Rattle.std.specs.Ordering.{is_lt}
@@ -23,6 +23,7 @@ use Rattle.ocfl_tree.proofs.Bools.{and_first, and_second}
 use Rattle.ocfl_audit.proofs.AuditExists.{seen_candidate, object_key, zone_is}
 use Rattle.ocfl_audit.proofs.BelowLaws.{less_from, from_append, ascends_append}
 use Rattle.ocfl_audit.proofs.WayLaws.{dir_from, head_seen, is_closed}
+use Rattle.ocfl_audit.proofs.WalkLaws.{none_among}
 
 -- ---- what is between two places, by order alone
 
@@ -141,11 +142,7 @@ module _ (ps : List Place) where
         back z false e i = absurd i
 
     pub between_none : (from : Option Place) → ((y : Place) → IsAmong ps y → IsBeyond from y → ⊥) → between ps from None ≡ []
-    between_none from none = by (between ps from None) (λ y i. let k = from_between from None y i in none y k.0 k.1)
-      where
-        by : (xs : List Place) → ((y : Place) → IsAmong xs y → ⊥) → xs ≡ []
-        by [] k = refl
-        by (x ∷ xs) k = absurd (k x (inl refl))
+    between_none from none = none_among (between ps from None) (λ y i. let k = from_between from None y i in none y k.0 k.1)
 
 -- ---- directories that are looked into, and objects whose inventories are read
 
@@ -258,11 +255,7 @@ module _ (root : StorageRoot) where
   looked_first = between_step (directories root) directories_ascend None [] true tt (λ h. is_directory [] refl) (λ h i. true_not_false h) (λ y i f k. none_below_root y k)
 
   pub root_unread : reads_inventory root [] ≡ false
-  root_unread = by (reads_inventory root []) (λ h. (read_seen [] h).1 refl)
-    where
-      by : (b : Bool) → (b ≡ true → ⊥) → b ≡ false
-      by true k = absurd (k refl)
-      by false k = refl
+  root_unread = false_from_ne_true (reads_inventory root []) (λ h. (read_seen [] h).1 refl)
 
   pub read_first : read_between root None (Some []) ≡ []
   unfolding read_between

@@ -1,6 +1,7 @@
 -- Which names are allowed, what is metadata, and what openings show.
 use Rattle.std.proofs.Common.{◌≡◌, ◌≢◌, ◌↔◌, ℕ, List, [], ◌∷◌, ◌++◌, refl, sym, ◌∙◌, ap, true, false, Bool, map, filter, Some, codes, append_assoc}
 use Rattle.std.proofs.lemmas.List.{map-append}
+use Rattle.std.proofs.lemmas.Bool.{or_right}
 use Rattle.std.specs.Prelude.{cond, ◌||◌, ◌&&◌, not, nat_lt, length}
 use Rattle.ocfl_tree.specs.Place.{Place, Text, text_eq, place_eq}
 use Rattle.ocfl_tree.specs.StorageRoot.{StorageRoot, file, dir, at, is_dir, is_dir_leaf, names_in}
@@ -25,10 +26,6 @@ use Rattle.ocfl_audit.proofs.WayLaws.{dir_from, is_closed, zone_part}
 use Rattle.ocfl_audit.proofs.NextLaws.{zone_longer}
 use Rattle.ocfl_audit.proofs.ObjectLaws.{object_by_zone}
 use Rattle.ocfl_audit.proofs.Trails.{filter_append}
-
-or_right : (a b : Bool) → b ≡ true → (a || b) ≡ true
-or_right true b e = refl
-or_right false b e = e
 
 -- ---- names of files
 

@@ -19,7 +19,7 @@ use Rattle.ocfl_tree.proofs.Orders.{place_cmp_total, place_cmp_exact, true_not_f
 use Rattle.ocfl_audit.proofs.AuditExists.{append_one, append_nothing, zone_is, seen_candidate, place_from_test}
 use Rattle.ocfl_audit.proofs.BelowLaws.{text_cmp_total, text_cmp_exact, place_same, under, above, less_from, above_self, begins_rest, text_same, equal_itself, split_names, split_self, split_after}
 use Rattle.ocfl_audit.proofs.WayLaws.{seen_way, Reason, by_sight, by_table, reason, head_seen, zone_part}
-use Rattle.ocfl_audit.proofs.WalkLaws.{item_places, places_ascend, audit_places, filter_items, place_has, has_place}
+use Rattle.ocfl_audit.proofs.WalkLaws.{item_places, places_ascend, audit_places, filter_items, place_has, has_place, none_among}
 
 -- ---- what is above a place, by order alone
 
@@ -63,11 +63,7 @@ module _ (ps : List Place) (ascends : IsAscending place_cmp ps) where
       ))
 
   none_above : (p : Place) → ((y : Place) → IsAmong ps y → place_cmp p y ≡ Less → ⊥) → filter (above p) ps ≡ []
-  none_above p h = by (filter (above p) ps) (λ y i. let k = among_from_filter (above p) ps y i in h y k.0 (less_from _ k.1))
-    where
-      by : (xs : List Place) → ((y : Place) → IsAmong xs y → ⊥) → xs ≡ []
-      by [] k = refl
-      by (x ∷ xs) k = absurd (k x (inl refl))
+  none_above p h = none_among (filter (above p) ps) (λ y i. let k = among_from_filter (above p) ps y i in h y k.0 (less_from _ k.1))
 
 -- ---- the same of items
 

@@ -1,5 +1,6 @@
 -- Which objects' inventories an audit reads, and which directories it looks into.
 use Rattle.std.proofs.Common.{◌≡◌, ◌≢◌, ◌↔◌, inl, inr, List, [], ◌∷◌, ◌++◌, refl, sym, ◌∙◌, ap, subst, true, false, Bool, map, filter, Option, Some, None}
+use Rattle.std.proofs.lemmas.Bool.{false_from_ne_true}
 use Rattle.std.specs.Prelude.{cond, ◌&&◌, ◌||◌, not, nat_le, length, is_some}
 use Rattle.std.specs.Ordering.{ordering_then}
 use Rattle.std.specs.declared.cmp.Ordering.{Ordering}
@@ -74,10 +75,6 @@ module _ (root : StorageRoot) where
       by true e g k = let f : s ++ n ∷ q ≡ [] = cc in longer s n q f
       by false e g k = further s d e (λ a c. k a c g)
 
-  not_true : (b : Bool) → (b ≡ true → ⊥) → b ≡ false
-  not_true true k = absurd (k refl)
-  not_true false k = refl
-
   -- with no object above it, an object's zone begins at itself
   outermost_zone : (front rest : Place) → rest ≢ [] → is_declared (object_declared root (front ++ rest)) ≡ true
       → ((b : Place) (n : Text) (q : Place) → front ++ rest ≡ b ++ n ∷ q → b ≢ [] → is_declared (object_declared root b) ≡ false) → object_zone root front rest ≡ inside (front ++ rest) []
@@ -108,7 +105,7 @@ module _ (root : StorageRoot) where
             below_root = is.below;
             not_in_extensions = parts.1.0;
             declares = is.declares;
-            outermost = λ b n q e some. not_true (is_declared (object_declared root b)) (λ d. no_inner [] b n q o some d (ap (object_zone root []) (sym e) ∙ parts.1.1));
+            outermost = λ b n q e some. false_from_ne_true (is_declared (object_declared root b)) (λ d. no_inner [] b n q o some d (ap (object_zone root []) (sym e) ∙ parts.1.1));
           }
 
   -- ---- objects with inventories

@@ -183,7 +183,7 @@ map_same (p ∷ ps) = ap (λ l. p ∷ l) (map_same ps)
 pub places_join : (ps qs : List Place) → IsAscending place_cmp ps → IsAscending place_cmp qs → flat_map (λ part. places_within part qs) (parts_of ps) ≡ qs
 places_join ps qs up qs_up = kept_join (λ p. p) ps up qs (rw (map_same qs) qs_up)
 
-items_ascend : (root : StorageRoot) → IsAscending place_cmp (item_places root)
+pub items_ascend : (root : StorageRoot) → IsAscending place_cmp (item_places root)
 unfolding item_places
 items_ascend root = ascends_filter place_cmp (λ p. not (is_empty (notes root None p))) (ascending place_cmp (candidates root)) (ascends_ascending place_cmp_total (candidates root))
 

@@ -30,7 +30,7 @@ module _ {A B : Type 0} where
   flat_map_alike : (g h : A → List B) (xs : List A) → ((x : A) → g x ≡ h x) → flat_map g xs ≡ flat_map h xs
   flat_map_alike g h xs e = λ i. flat_map (λ x. e x i) xs
 
-none_among : (xs : List Place) → ((z : Place) → IsAmong xs z → ⊥) → xs ≡ []
+pub none_among : (xs : List Place) → ((z : Place) → IsAmong xs z → ⊥) → xs ≡ []
 none_among [] h = refl
 none_among (x ∷ xs) h = absurd (h x (inl refl))
 

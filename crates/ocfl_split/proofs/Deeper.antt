@@ -10,7 +10,7 @@ use Rattle.ocfl_tree.proofs.Lists.{drop_item}
 use Rattle.ocfl_item.specs.declared.fault.Fault.{Fault}
 use Rattle.ocfl_split.specs.Levels.{directories_below, level_below}
 use Rattle.ocfl_split.specs.Splitting.{next_level, listed_within, ListsAll, ListsStop}
-use Rattle.ocfl_split.proofs.Below.{lists_none, lists_on, stops_on, stops_before}
+use Rattle.ocfl_split.proofs.Below.{lists_on, stops_on, stops_before}
 
 -- ---- the next level
 
@@ -40,20 +40,7 @@ pub record IsListedSo (root : StorageRoot) (s t : Store) (room : ℕ) (ds : List
   pub listed : listed_within root room ds ≡ take i ds ++ listed_within root (room - length found) (drop i ds)
 
 module _ (root : StorageRoot) where
-  pub none_listed : (s : Store) (room : ℕ) (ds next : List Place) → s.tree ≡ root → next ≡ [] → IsListedSo root s s room ds 0 next
-  none_listed s room ds next over e = subst (IsListedSo root s s room ds 0) (sym e) (record {
-    lists = lists_none root s over;
-    next = refl;
-    listed = ap (λ r. listed_within root r ds) all;
-  })
-    where
-      all : room ≡ room - 0
-      all = omega arith
-
   module _ (s t u : Store) (room : ℕ) (ds : List Place) (i : ℕ) (d : Place) (next : List Place) (so : IsListedSo root s t room ds i next) (l : i < length ds) (is : d ≡ get_or ds i d) where
-    below : List Place
-    below = directories_below root d
-
     left : drop i ds ≡ d ∷ drop (i + 1) ds
     left = drop_item ds i d l is
 

@@ -38,6 +38,12 @@ pub piles_push : (fs gs : List Folder) (f : Folder) → gs ≡ fs ++ f ∷ [] �
 piles_push fs gs f e = back_same pile_of fs gs f e
 
 module _ {A : Type 0} where
+  -- a list with an item has a last
+  pub snoc : (xs : List A) → (xs ≢ []) → (ys : List A) × (x : A) × (xs ≡ ys ++ x ∷ [])
+  snoc [] n = absurd (n refl)
+  snoc (x ∷ []) n = ([], x, refl)
+  snoc (x ∷ y ∷ xs) n = let k = snoc (y ∷ xs) (λ g. cc) in (x ∷ k.0, k.1, ap (λ zs. x ∷ zs) k.2)
+
   split_at_last : (n : ℕ) (xs : List A) (x : A) → length xs ≡ suc n → slice_get xs n ≡ Some x → (ys : List A) × (xs ≡ ys ++ x ∷ [])
   split_at_last zero [] x h e = absurd (omega (arith, h))
   split_at_last zero (y ∷ []) x h e = ([], let same : y ≡ x = cc in ap (λ z. z ∷ []) same)
@@ -71,14 +77,9 @@ next_of_last fs gs f o h k = ap next_of (piles_push fs gs f h) ∙ by o (last_sp
 pub trim_keeps : (fs gs : List Folder) (f : Folder) → gs ≡ fs ++ f ∷ [] → f.entries.items ≢ [] → trimmed (piles_of gs) ≡ piles_of gs
 trim_keeps fs gs f e n = ap trimmed (piles_push fs gs f e) ∙ by f.entries.items n ∙ sym (piles_push fs gs f e)
   where
-    some : (xs : List Entry) → (xs ≢ []) → (ys : List Entry) × (x : Entry) × (xs ≡ ys ++ x ∷ [])
-    some [] n = absurd (n refl)
-    some (x ∷ []) n = ([], x, refl)
-    some (x ∷ y ∷ xs) n = let k = some (y ∷ xs) (λ g. cc) in (x ∷ k.0, k.1, ap (λ zs. x ∷ zs) k.2)
-
     by : (xs : List Entry) → (xs ≢ []) → trimmed_from f.place (back (λ e. e) xs) (trimmed (piles_of fs)) (piles_of fs) ≡ (f.place, back (λ e. e) xs) ∷ piles_of fs
     by xs n =
-        let k = some xs n in
+        let k = snoc xs n in
         let b : back (λ e. e) xs ≡ k.1 ∷ back (λ e. e) k.0 = back_same (λ e. e) k.0 xs k.1 k.2 in
         subst (λ zs. trimmed_from f.place zs (trimmed (piles_of fs)) (piles_of fs) ≡ (f.place, zs) ∷ piles_of fs) (sym b) refl
 

@@ -1,12 +1,11 @@
 -- A step to an entry of a listing.
-use Rattle.std.proofs.Common.{◌≡◌, ◌≢◌, ◌⊎◌, inl, inr, List, [], ◌∷◌, ◌++◌, refl, sym, ◌∙◌, ap, subst, true, false, Bool, Option, Some, None, length, append_assoc}
+use Rattle.std.proofs.Common.{◌≡◌, ◌≢◌, ◌⊎◌, inl, inr, List, [], ◌∷◌, ◌++◌, refl, sym, ◌∙◌, ap, subst, true, false, Bool, Option, Some, None, append_assoc}
 use Rattle.std.proofs.lemmas.List.{append-nil}
-use Rattle.std.specs.Prelude.{cond, ◌&&◌, nat_le}
-use Rattle.std.specs.List.{list_all}
+use Rattle.std.specs.Prelude.{cond, ◌&&◌}
 use Rattle.std.specs.declared.cmp.Ordering.TheVariants.{Less}
 use Rattle.ocfl_tree.specs.Place.{Place, Text, place_cmp, begins, text_eq}
 use Rattle.ocfl_tree.specs.Ascending.{IsAmong}
-use Rattle.ocfl_tree.specs.StorageRoot.{StorageRoot, is_dir, names_in}
+use Rattle.ocfl_tree.specs.StorageRoot.{StorageRoot, names_in}
 use Rattle.ocfl_tree.specs.Store.{Store}
 use Rattle.ocfl_tree.specs.declared.store.Entry.{Entry}
 use Rattle.ocfl_tree.proofs.Orders.{place_cmp_total, not_below_itself, true_not_false}
@@ -15,7 +14,7 @@ use Rattle.ocfl_audit.specs.Due.{due}
 use Rattle.ocfl_audit.specs.Lines.{notes}
 use Rattle.ocfl_audit.specs.Walk.{is_reached, seen_names}
 use Rattle.ocfl_audit.specs.Stack.{IsListed}
-use Rattle.ocfl_audit.specs.Zone.{Zone, skipped, hierarchy, inside, zone, table_at, is_entered, is_listed_zone, is_listed_in_object, max_listed_depth, beginnings}
+use Rattle.ocfl_audit.specs.Zone.{Zone, skipped, hierarchy, inside, zone, table_at, is_listed_zone, is_listed_in_object}
 use Rattle.ocfl_walk.specs.Standing.{HaveEntries, Pile, StandsAt, frames_of}
 use Rattle.ocfl_walk.specs.Internal.Standing.{IsAroundIf, IsHeld, IsOrderly, IsTaken, next_of, still}
 use Rattle.ocfl_item.specs.Around.{IsMet, IsPart, IsTableAround}
@@ -28,6 +27,7 @@ use Rattle.ocfl_audit.proofs.AuditExists.{zone_is}
 use Rattle.ocfl_audit.proofs.BelowLaws.{above_self, begins_front, begins_rest, text_from_test}
 use Rattle.ocfl_item.proofs.LooksZones.{inside_on}
 use Rattle.ocfl_walk.proofs.OrderlyLaws.{entry_after, old_chain}
+use Rattle.ocfl_walk.proofs.ReachLaws.{reached_listed}
 use Rattle.ocfl_walk.proofs.WalkCallLaws.{IsNear, meets_walks}
 use Rattle.ocfl_walk.proofs.StandLaws.{object_zone}
 
@@ -59,15 +59,6 @@ begins_last (m ∷ o) (a ∷ d) n h = by (text_eq m a) refl h (begins_last o d n
     by false e g k = absurd (true_not_false (sym g))
 
 module _ (root : StorageRoot) where
-  reached_entered : (d : Place) → is_reached root d ≡ true → is_listed_zone root (zone root d) ≡ true
-  reached_entered d h = by (list_all (is_entered root) (beginnings d)) (nat_le (length d) max_listed_depth) (is_dir root d) (is_listed_zone root (zone root d)) h
-    where
-      by : (a b c e : Bool) → a && (b && (c && e)) ≡ true → e ≡ true
-      by true true true e k = k
-      by true true false e k = absurd (true_not_false (sym k))
-      by true false c e k = absurd (true_not_false (sym k))
-      by false b c e k = absurd (true_not_false (sym k))
-
   name_reached : (d : Place) (n : Text) → IsAmong (seen_names root d) n → is_reached root d ≡ true
   name_reached d n i = by (is_reached root d) refl i
     where
@@ -78,7 +69,7 @@ module _ (root : StorageRoot) where
   -- which object holds the entry, if the directory is on the way to the last place
   part_is : (last d : Place) (n : Text) (a : Option Around) → IsTableAround root last a → begins d last ≡ true → is_reached root d ≡ true
       → place_cmp last (d ++ n ∷ []) ≡ Less → IsPart root d (still a (d ++ n ∷ []))
-  part_is last d n a h b r l = by (zone root d) refl (reached_entered d r)
+  part_is last d n a h b r l = by (zone root d) refl (reached_listed root d r)
     where
       x : Place
       x = d ++ n ∷ []

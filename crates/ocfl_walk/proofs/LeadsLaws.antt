@@ -3,19 +3,19 @@ use Rattle.std.proofs.Common.{◌≡◌, ◌≢◌, suc, ◌+◌, ◌-◌, ◌�
 use Rattle.std.proofs.lemmas.Bool.{leb-true}
 use Rattle.std.proofs.lemmas.List.{length-append}
 use Rattle.std.specs.Prelude.{◌&&◌, nat_le}
-use Rattle.std.specs.List.{list_all}
 use Rattle.ocfl_tree.specs.Place.{Text, Place, text_eq}
-use Rattle.ocfl_tree.specs.StorageRoot.{StorageRoot, is_dir}
+use Rattle.ocfl_tree.specs.StorageRoot.{StorageRoot}
 use Rattle.ocfl_tree.specs.declared.store.Entry.{Entry}
 use Rattle.ocfl_inventory.specs.ListedPath.{is_version_name}
-use Rattle.ocfl_audit.specs.Zone.{inside, zone, table_at, is_entered, is_listed_zone, is_listed_in_object, is_listed_within, max_listed_depth, beginnings}
+use Rattle.ocfl_audit.specs.Zone.{inside, zone, table_at, is_listed_zone, is_listed_in_object, is_listed_within, max_listed_depth}
 use Rattle.ocfl_audit.specs.Walk.{step_listed}
 use Rattle.ocfl_item.specs.Ways.{IsAt}
 use Rattle.ocfl_walk.specs.Internal.Standing.{IsAround, IsAroundIf}
 use Rattle.ocfl_audit.proofs.BelowLaws.{begins_front, begins_rest}
 use Rattle.ocfl_walk.proofs.OrderlyLaws.{begins_on}
+use Rattle.ocfl_walk.proofs.ReachLaws.{reached_listed}
 use Rattle.ocfl_item.specs.declared.meeting.Around.{Around}
-use Rattle.ocfl_tree.proofs.Bools.{and_first, and_second}
+use Rattle.ocfl_tree.proofs.Bools.{and_first}
 use Rattle.ocfl_audit.proofs.AuditExists.{zone_is}
 
 pub may_depth : (d : Place) (n : Text) (b : Bool) → nat_le (suc (length d)) max_listed_depth && b ≡ true → length (d ++ n ∷ []) ≤ max_listed_depth
@@ -39,10 +39,7 @@ around_on d n r (Some a) h = record { holds = begins_on a.place d (d ++ n ∷ r)
 module _ (root : StorageRoot) (d : Place) (n : Text) (es : List Entry) (a : Around) (at : IsAt root d es) (s : Place)
     (z : zone root d ≡ inside a.place s) (t : table_at root a.place ≡ Some a.table) where
   listed_here : is_listed_within a.table s ≡ true
-  listed_here =
-      let entered : is_entered root d ≡ true = and_second (list_all (is_entered root) (beginnings d)) (is_entered root d) at.reached in
-      sym (ap (is_listed_zone root) z ∙ ap (λ x. is_listed_in_object x s) t)
-      ∙ and_second (is_dir root d) (is_listed_zone root (zone root d)) (and_second (nat_le (length d) max_listed_depth) (is_dir root d && is_listed_zone root (zone root d)) entered)
+  listed_here = sym (ap (is_listed_zone root) z ∙ ap (λ x. is_listed_in_object x s) t) ∙ reached_listed root d at.reached
 
   deep : length d ≡ length a.place + length s
   deep = ap length (zone_is root d a.place s z).whole ∙ length-append a.place s

@@ -14,7 +14,7 @@ use Rattle.ocfl_walk.specs.Standing.{back, Pile, folders_from, frames_of, pile_o
 use Rattle.ocfl_walk.specs.Internal.Standing.{IsChain, cut_top, from_name, IsFairPile, IsOrderly, IsOrderlyIf, IsTaken, left_of_folder, next_of, pushed, trimmed}
 use Rattle.ocfl_item.specs.declared.meeting.Around.{Around}
 use Rattle.ocfl_item.specs.declared.folder.Folder.{Folder}
-use Rattle.ocfl_walk.proofs.Backs.{next_of_last, piles_push, taken_at, trim_drops_by, trim_keeps_by}
+use Rattle.ocfl_walk.proofs.Backs.{next_of_last, piles_push, snoc, taken_at, trim_drops_by, trim_keeps_by}
 use Rattle.ocfl_walk.proofs.OrderlyLaws.{back_count, chain_short, frames_count, length_one}
 
 push_from : (i : ℕ) (p : Place) (vs : List (Vec Entry Global)) (v : Vec Entry Global)
@@ -165,20 +165,14 @@ begins_here p vs old new v w k n h e l same =
 
 -- ---- on to another place
 
-snoc : (n : ℕ) (vs : List (Vec Entry Global)) → length vs ≡ suc n → (us : List (Vec Entry Global)) × (v : Vec Entry Global) × (vs ≡ us ++ v ∷ []) × (length us ≡ n)
-snoc n [] e = absurd (omega (arith, e))
-snoc zero (v ∷ []) e = ([], v, refl, refl)
-snoc zero (v ∷ w ∷ vs) e = absurd (omega (arith, e))
-snoc (suc n) (v ∷ []) e = absurd (omega (arith, e))
-snoc (suc n) (v ∷ w ∷ vs) e = let k = snoc n (w ∷ vs) (omega (arith, e)) in (v ∷ k.0, k.1, ap (λ us. v ∷ us) k.2, omega (arith, k.3))
-
 -- the deepest listing's place
 top_place : (p : Place) (vs : List (Vec Entry Global)) (n : ℕ) (q : Pile) (ps : List Pile) → length vs ≡ suc n → piles_at p vs ≡ q ∷ ps → q.0 ≡ take n p
 top_place p vs n q ps count is =
-    let k = snoc n vs count in
+    let k = snoc vs (λ e. let none = ap length e in omega (arith, none, count)) in
+    let above : length k.0 ≡ n = let all = ap length k.2 in omega (arith, all, count, length-append k.0 (k.1 ∷ [])) in
     let top : piles_at p vs ≡ (take (length k.0) p, back (λ x. x) k.1.items) ∷ piles_at p k.0 =
     piles_push (folders_from 0 p k.0) (folders_from 0 p vs) (record { place = take (length k.0) p; entries = k.1 }) (folders_push p k.0 vs k.1 k.2) in
-    first (sym is ∙ top) ∙ ap (λ m. take m p) k.3
+    first (sym is ∙ top) ∙ ap (λ m. take m p) above
   where
     first : {x : Pile} {xs : List Pile} → q ∷ ps ≡ x ∷ xs → q.0 ≡ x.0
     first {x = x} e = let same : ◌≡◌ {A = Pile} q x = cc in ap (λ y. y.0) same

@@ -39,6 +39,12 @@ module _ (root : StorageRoot) where
     pub comes_shut : (s t : Store) (may : List Place) → Descends root s t (way_below d (n ∷ r)) [] may [] 0 → Comes root s t (way_below d (n ∷ r)) [] may []
     comes_shut s t may goes = record { goes = goes; all = all_shut (goes.calls.listings ++ []) }
 
+  -- what is entered lies where directories are listed
+  pub reached_listed : (d : Place) → is_reached root d ≡ true → is_listed_zone root (zone root d) ≡ true
+  reached_listed d h =
+      and_second (is_dir root d) (is_listed_zone root (zone root d))
+      (and_second (nat_le (length d) max_listed_depth) (is_dir root d && is_listed_zone root (zone root d)) (and_second (list_all (is_entered root) (beginnings d)) (is_entered root d) h))
+
   -- what is entered is looked into
   shows : (z : Zone) → is_listed_zone root z ≡ true → shows_entries root z ≡ true
   shows skipped h = h

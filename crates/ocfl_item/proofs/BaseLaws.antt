@@ -76,7 +76,7 @@ declaration_at_root root p n v e f = (λ i. is_meta root (e i ++ f i ∷ [])) �
 
 -- the storage root has lines, and nothing is hashed there
 pub root_unhashed : (root : StorageRoot) (d : Declared) (l : PlaceLines) → l.place ≡ [] → d ≡ root_declared root → HasLines l (root_notes_by root d) → IsUnhashed root l
-root_unhashed root d l top same are = unhashed_at root l [] top (root_some root) (root_unnamed root) (are ∙ ap (λ x. lines_at l.place (root_notes_by root x)) same)
+root_unhashed root d l top same are = unhashed_at root l [] top (root_some root) (root_unnamed root) (are ∙ ap (root_notes_by root) same)
 
 -- ---- what was done
 

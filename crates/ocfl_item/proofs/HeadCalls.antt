@@ -246,7 +246,7 @@ module _ (root : StorageRoot) (o : Place) (z : zone root o ≡ inside o []) (v :
   known_lines none a b c is has h k clean =
       clean (on (not (is_exact_declaration root o level.Object v)) (plain E007) ++ inventory_file_notes root o (file_at root (o ++ inventory_name ∷ [])))
       (has_more none b [] _ has (adds_both none a b _ _ h k))
-      ∙ ap (lines_at c.place) (sym (head_notes_are root o z ∙ ap (head_notes_by root o) is))
+      ∙ sym (head_notes_are root o z ∙ ap (head_notes_by root o) is)
 
 pub known_table : (root : StorageRoot) (o : Place) (v : Version) (table : Option Table) → object_declared root o ≡ known v
     → table ≡ table_in (file_at root (o ++ inventory_name ∷ [])) → table ≡ table_at root o
@@ -256,6 +256,6 @@ pub stopped_head : (root : StorageRoot) (o : Place) (es : List Entry) (m : MadeD
     → is_known (meaning level.Object es m) ≡ false → HasLines lines (head_notes_by root o (meaning level.Object es m))
     → IsHeadOf root o (lines, None)
 stopped_head root o es m lines h stops k = (
-  k ∙ ap (lines_at lines.place) (sym (head_notes_are root o h.zone ∙ ap (head_notes_by root o) (sym h.says))),
+  k ∙ sym (head_notes_are root o h.zone ∙ ap (head_notes_by root o) (sym h.says)),
   sym (ap (λ b. table_in (cond b (file_at root (o ++ inventory_name ∷ [])) None)) (ap is_known (sym h.says) ∙ stops)),
 )

@@ -8,10 +8,10 @@ use Rattle.ocfl_tree.specs.StorageRoot.{StorageRoot, file_at, bytes_of}
 use Rattle.ocfl_tree.specs.Store.{Store, Did}
 use Rattle.ocfl_tree.specs.Calls.{opening}
 use Rattle.ocfl_tree.specs.declared.store.Opening.{Opening}
-use Rattle.ocfl_report.specs.Line.{line_of}
-use Rattle.ocfl_inventory.specs.Note.{plain, lines_at}
+use Rattle.ocfl_report.specs.Line.{Line}
+use Rattle.ocfl_inventory.specs.Note.{Note, plain, lines_at}
 use Rattle.ocfl_report.specs.declared.code.Code.TheVariants.{S08}
-use Rattle.ocfl_report.specs.declared.line.Line.{Line as MadeLine}
+use Rattle.ocfl_inventory.specs.Remark.{remark_view}
 use Rattle.ocfl_digest.specs.Digest.{digest_bytes_of}
 use Rattle.ocfl_digest.specs.Hashing.{HashesFile, StopsHashing, StopFits, stop_trail, stop_failures}
 use Rattle.ocfl_digest.specs.declared.digests.Digests.{Digests}
@@ -28,6 +28,9 @@ use Rattle.ocfl_item.specs.Internal.FileLines.{HasDigests, given_in}
 use Rattle.ocfl_item.specs.Judging.{HasShortFiles, Judges, JudgeFails}
 use Rattle.ocfl_audit.specs.Lines.{notes, named_at, is_hashed, cost, file_notes, or_bytes, unnamed_notes, wrong_notes}
 use Rattle.ocfl_item.specs.Pending.{IsPending}
+use Rattle.ocfl_item.specs.PlaceLines.{lines_of}
+use Rattle.ocfl_item.specs.Internal.Lines.{HasLines}
+use Rattle.ocfl_item.specs.declared.lines.PlaceLines.{PlaceLines}
 use Rattle.ocfl_audit.specs.Trail.{is_meta, content_openings, content_trail, heads_of, inventory_of, unread_of}
 use Rattle.ocfl_item.specs.declared.pending.Pending.{Pending}
 use Rattle.ocfl_audit.proofs.AuditExists.{some_not_none}
@@ -54,9 +57,9 @@ file_part bytes (n ∷ ns) given h = refl
 
 -- ---- one place and a trail
 
-item_is : (root : StorageRoot) (p : Place) (trail : List Opening) (u : Option ℕ) (lines : List MadeLine) (c : ℕ) → given_by (unread_of root trail) p ≡ u
-    → lines_at p (notes root u p) ≡ map line_of lines → cost root u p ≡ c
-    → items_at root trail (p ∷ []) ≡ record { place = p; lines = map line_of lines; cost = c } ∷ []
+item_is : (root : StorageRoot) (p : Place) (trail : List Opening) (u : Option ℕ) (lines : List Line) (c : ℕ) → given_by (unread_of root trail) p ≡ u
+    → lines_at p (notes root u p) ≡ lines → cost root u p ≡ c
+    → items_at root trail (p ∷ []) ≡ record { place = p; lines = lines; cost = c } ∷ []
 unfolding items_at
 item_is root p trail u lines c e f k =
     ap (λ g. record { place = p; lines = lines_at p (notes root g p); cost = cost root g p } ∷ []) e ∙ (λ i. record { place = p; lines = f i; cost = k i } ∷ [])
@@ -67,15 +70,15 @@ hashed_alone root p b h = ap (λ x. cond x (p ∷ []) []) h
 
 -- ---- an item whose file is not hashed
 
-pub judged_known : (root : StorageRoot) (s : Store) (made : Pending) (lines : List MadeLine) → s.tree ≡ root → IsPending root made → made.hashed ≡ false
-    → map line_of lines ≡ map line_of made.lines.items → Judges root s s made.place lines 0
-judged_known root s made lines over pending unhashed same =
+pub judged_known : (root : StorageRoot) (s : Store) (made : Pending) → s.tree ≡ root → IsPending root made → made.hashed ≡ false
+    → Judges root s s made.place (lines_at made.place (map remark_view made.remarks.items)) 0
+judged_known root s made over pending unhashed =
     let free : is_hashed root made.place ≡ false = sym pending.hashed ∙ unhashed in
     record {
       trail = [];
       audits = record { over = over; did = did_nothing s; read = refl; opened = sym (hashed_alone root made.place false free); heads_are = refl; near = near_none root [] };
       alone = sym (hashed_alone root made.place false free);
-      item = item_is root made.place [] None lines 0 refl (sym (same ∙ pending.lines unhashed)) (unhashed_cost root made.place free);
+      item = item_is root made.place [] None _ 0 refl (ap (lines_at made.place) (sym (pending.lines unhashed))) (unhashed_cost root made.place free);
     }
 
 not_the_store : (q : Place) → fault.Memory ≡ fault.Store q → ⊥
@@ -149,9 +152,9 @@ module _ (root : StorageRoot) (p : Place) (hashed : is_hashed root p ≡ true) w
   part_fails : (s t : Store) (n : ℕ) → s.tree ≡ root → Did s t (opening p n true ∷ []) [] 1 → JudgeFails root s t p
   part_fails s t n over did = opens_fails s t n true over (did_part s t n did)
 
-  opens_judges : (s t : Store) (n : ℕ) (failed : Bool) (u : Option ℕ) (lines : List MadeLine) → s.tree ≡ root
+  opens_judges : (s t : Store) (n : ℕ) (failed : Bool) (u : Option ℕ) (lines : List Line) → s.tree ≡ root
       → Did s t (opening p n failed ∷ []) [] (length (unread_of root (opening p n failed ∷ []))) → given_by (unread_of root (opening p n failed ∷ [])) p ≡ u
-      → lines_at p (notes root u p) ≡ map line_of lines → cost root u p ≡ n + 1 → Judges root s t p lines (n + 1)
+      → lines_at p (notes root u p) ≡ lines → cost root u p ≡ n + 1 → Judges root s t p lines (n + 1)
   opens_judges s t n failed u lines over did given are costs = record {
     trail = opening p n failed ∷ [];
     audits = record { over = over; did = did; read = opened_read n failed; opened = opened_place n failed; heads_are = no_head n failed; near = opened_near n failed };
@@ -159,12 +162,12 @@ module _ (root : StorageRoot) (p : Place) (hashed : is_hashed root p ≡ true) w
     item = item_is root p (opening p n failed ∷ []) u lines (n + 1) given are costs;
   }
 
-  whole_judges : (s t : Store) (n : ℕ) (lines : List MadeLine) → s.tree ≡ root → Did s t (opening p n false ∷ []) [] 0
-      → lines_at p (notes root None p) ≡ map line_of lines → cost root None p ≡ n + 1 → Judges root s t p lines (n + 1)
+  whole_judges : (s t : Store) (n : ℕ) (lines : List Line) → s.tree ≡ root → Did s t (opening p n false ∷ []) [] 0
+      → lines_at p (notes root None p) ≡ lines → cost root None p ≡ n + 1 → Judges root s t p lines (n + 1)
   whole_judges s t n lines over did are costs = opens_judges s t n false None lines over (did_whole s t n did) (ap (λ u. given_by u p) (none_unread n)) are costs
 
-  part_judges : (s t : Store) (n : ℕ) (lines : List MadeLine) → s.tree ≡ root → Did s t (opening p n true ∷ []) [] 1
-      → lines_at p (notes root (Some n) p) ≡ map line_of lines → cost root (Some n) p ≡ n + 1 → Judges root s t p lines (n + 1)
+  part_judges : (s t : Store) (n : ℕ) (lines : List Line) → s.tree ≡ root → Did s t (opening p n true ∷ []) [] 1
+      → lines_at p (notes root (Some n) p) ≡ lines → cost root (Some n) p ≡ n + 1 → Judges root s t p lines (n + 1)
   part_judges s t n lines over did are costs =
       opens_judges s t n true (Some n) lines over (did_part s t n did) (ap (λ u. given_by u p) (one_unread n) ∙ ap (λ b. cond b (Some n) None) (place_same p)) are costs
 
@@ -197,10 +200,10 @@ module _ (root : StorageRoot) (s t : Store) (made : Pending) (over : s.tree ≡ 
   pub failed_whole : (w : Wanted) (d : Digests) (n : ℕ) → HashesFile root s t made.place w d n → JudgeFails root s t made.place
   failed_whole w d n h = whole_fails root made.place file_is s t n over h.did
 
-  pub judged_whole : (w : Wanted) (d : Digests) (n : ℕ) (ns : List MadeNamed) (lines : List MadeLine) → ns ≡ made.named.items
+  pub judged_whole : (w : Wanted) (d : Digests) (n : ℕ) (ns : List MadeNamed) (lines : List Line) → ns ≡ made.named.items
       → AreWanted w (map (λ m. m.algorithm) made.named.items) → HashesFile root s t made.place w d n
       → ((bytes : Text) → HasDigests (map (λ m. m.algorithm) ns) bytes d → n ≡ length bytes
-      → map line_of lines ≡ lines_at made.place (or_bytes bytes (unnamed_notes (map named_view ns) ++ wrong_notes bytes (map named_view ns))))
+      → lines ≡ lines_at made.place (or_bytes bytes (unnamed_notes (map named_view ns) ++ wrong_notes bytes (map named_view ns))))
       → Judges root s t made.place lines (n + 1)
   judged_whole w d n ns lines same wanted h are =
       let f = hashed_file root made.place file_is in
@@ -218,8 +221,8 @@ module _ (root : StorageRoot) (s t : Store) (made : Pending) (over : s.tree ≡ 
   pub failed_part : HasShortFiles root → (n : ℕ) (cause : Cause) → StopsHashing root s t made.place n cause → cause ≢ Memory → JudgeFails root s t made.place
   failed_part short n cause stops kept = part_fails root made.place file_is s t n over (by_device root made.place file_is short s t n cause stops kept)
 
-  pub judged_part : HasShortFiles root → (n : ℕ) (cause : Cause) (ns : List MadeNamed) (lines : List MadeLine) → ns ≡ made.named.items → StopsHashing root s t made.place n cause → cause ≢ Memory
-      → map line_of lines ≡ lines_at made.place (unnamed_notes (map named_view ns) ++ plain S08 ∷ []) → Judges root s t made.place lines (n + 1)
+  pub judged_part : HasShortFiles root → (n : ℕ) (cause : Cause) (ns : List MadeNamed) (lines : List Line) → ns ≡ made.named.items → StopsHashing root s t made.place n cause → cause ≢ Memory
+      → lines ≡ lines_at made.place (unnamed_notes (map named_view ns) ++ plain S08 ∷ []) → Judges root s t made.place lines (n + 1)
   judged_part short n cause ns lines same stops kept are =
       let f = hashed_file root made.place file_is in
       let names : map named_view ns ≡ named_at root made.place = ap (map named_view) same ∙ pending.named in
@@ -253,7 +256,7 @@ by_cause Memory k l = k refl
 by_cause TooLong k l = l (λ e. cc)
 
 abbrev Made : Type 0
-Made = Vec MadeLine Global × ℕ
+Made = PlaceLines × ℕ
 
 module _ (root : StorageRoot) (s t : Store) (made : Pending) (over : s.tree ≡ root) (pending : IsPending root made) (hashed : made.hashed ≡ true)
     (short : HasShortFiles root) (w : Wanted) (wanted : AreWanted w (map (λ m. m.algorithm) made.named.items)) where
@@ -261,28 +264,34 @@ module _ (root : StorageRoot) (s t : Store) (made : Pending) (over : s.tree ≡ 
   names = map named_view made.named.items
 
   abbrev IsJudged : Result Made Fault → Type 0
-  IsJudged r = MatchResult r (λ j. Judges root s t made.place j.0.items j.1) (λ why. JudgeFails root s t made.place)
+  IsJudged r = MatchResult r (λ j. Judges root s t made.place (lines_of j.0) j.1) (λ why. JudgeFails root s t made.place)
 
-  whole_is : (read : Digests × ℕ) (r : Result Made Fault) → HashesFile root s t made.place w read.0 read.1 → IfOk r (λ j. j.1 ≡ read.1 + 1)
-      → ((bytes : Text) → HasDigests (map (λ m. m.algorithm) made.named.items) bytes read.0 → read.1 ≡ length bytes
-      → IfOk r (λ j. map line_of j.0.items ≡ lines_at made.place (or_bytes bytes (unnamed_notes names ++ wrong_notes bytes names)))) → IsJudged r
-  whole_is read (Ok j) h cost are =
-      subst (Judges root s t made.place j.0.items) (sym cost) (judged_whole root s t made over pending hashed w read.0 read.1 made.named.items j.0.items refl wanted h are)
-  whole_is read (Err why) h cost are = failed_whole root s t made over pending hashed w read.0 read.1 h
+  module _ (j : Made) (placed : j.0.place ≡ made.place) where
+    lines_are : (ns : List Note) → HasLines j.0 ns → lines_of j.0 ≡ lines_at made.place ns
+    lines_are ns has i = lines_at (placed i) (has i)
 
-  part_is : (stop : ReadStop) (r : Result Made Fault) → StopsHashing root s t made.place stop.bytes stop.cause → IfOk r (λ j. j.1 ≡ stop.bytes + 1) → (stop.cause ≡ Memory → IfOk r (λ j. ⊥))
-      → (stop.cause ≢ Memory → IfOk r (λ j. map line_of j.0.items ≡ lines_at made.place (unnamed_notes names ++ plain S08 ∷ []))) → IsJudged r
-  part_is stop (Ok j) h cost none are =
-      by_cause stop.cause (λ e. absurd (none e))
-      (λ kept. subst (Judges root s t made.place j.0.items) (sym cost) (judged_part root s t made over pending hashed short stop.bytes stop.cause made.named.items j.0.items refl h kept (are kept)))
-  part_is stop (Err why) h cost none are =
-      by_cause stop.cause (λ e. refused root s t made over pending hashed stop.bytes (subst (StopsHashing root s t made.place stop.bytes) e h))
-      (λ kept. failed_part root s t made over pending hashed short stop.bytes stop.cause h kept)
+    whole_is : (read : Digests × ℕ) → HashesFile root s t made.place w read.0 read.1 → j.1 ≡ read.1 + 1
+        → ((bytes : Text) → HasDigests (map (λ m. m.algorithm) made.named.items) bytes read.0 → read.1 ≡ length bytes
+        → HasLines j.0 (or_bytes bytes (unnamed_notes names ++ wrong_notes bytes names))) → IsJudged (Ok j)
+    whole_is read h costs are =
+        subst (Judges root s t made.place (lines_of j.0)) (sym costs)
+        (judged_whole root s t made over pending hashed w read.0 read.1 made.named.items (lines_of j.0) refl wanted h (λ bytes has count. lines_are _ (are bytes has count)))
 
-  pub judged_is : (read : Result (Digests × ℕ) ReadStop) (r : Result Made Fault) → Read root s t made.place w read → IfOk r (λ j. j.1 ≡ given_in read + 1)
+    part_is : (stop : ReadStop) → StopsHashing root s t made.place stop.bytes stop.cause → j.1 ≡ stop.bytes + 1 → stop.cause ≢ Memory
+        → HasLines j.0 (unnamed_notes names ++ plain S08 ∷ []) → IsJudged (Ok j)
+    part_is stop h costs kept are =
+        subst (Judges root s t made.place (lines_of j.0)) (sym costs)
+        (judged_part root s t made over pending hashed short stop.bytes stop.cause made.named.items (lines_of j.0) refl h kept (lines_are _ are))
+
+  pub judged_is : (read : Result (Digests × ℕ) ReadStop) (r : Result Made Fault) → Read root s t made.place w read → IfOk r (λ j. j.0.place ≡ made.place)
+      → IfOk r (λ j. j.1 ≡ given_in read + 1)
       → IfErr read (λ stop. stop.cause ≡ Memory → IfOk r (λ j. ⊥))
       → IfOk read (λ h. (bytes : Text) → HasDigests (map (λ m. m.algorithm) made.named.items) bytes h.0 → h.1 ≡ length bytes
-      → IfOk r (λ j. map line_of j.0.items ≡ lines_at made.place (or_bytes bytes (unnamed_notes names ++ wrong_notes bytes names))))
-      → IfErr read (λ stop. stop.cause ≢ Memory → IfOk r (λ j. map line_of j.0.items ≡ lines_at made.place (unnamed_notes names ++ plain S08 ∷ []))) → IsJudged r
-  judged_is (Ok h) r did cost none whole part = whole_is h r did cost whole
-  judged_is (Err stop) r did cost none whole part = part_is stop r did cost none part
+      → IfOk r (λ j. HasLines j.0 (or_bytes bytes (unnamed_notes names ++ wrong_notes bytes names))))
+      → IfErr read (λ stop. stop.cause ≢ Memory → IfOk r (λ j. HasLines j.0 (unnamed_notes names ++ plain S08 ∷ []))) → IsJudged r
+  judged_is (Ok h) (Ok j) did placed costs none whole part = whole_is j placed h did costs whole
+  judged_is (Ok h) (Err why) did placed costs none whole part = failed_whole root s t made over pending hashed w h.0 h.1 did
+  judged_is (Err stop) (Ok j) did placed costs none whole part = by_cause stop.cause (λ e. absurd (none e)) (λ kept. part_is j placed stop did costs kept (part kept))
+  judged_is (Err stop) (Err why) did placed costs none whole part =
+      by_cause stop.cause (λ e. refused root s t made over pending hashed stop.bytes (subst (StopsHashing root s t made.place stop.bytes) e did))
+      (λ kept. failed_part root s t made over pending hashed short stop.bytes stop.cause did kept)

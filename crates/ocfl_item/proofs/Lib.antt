@@ -10,6 +10,7 @@ pub mod WantedLaws
 pub mod ContentLaws
 pub mod PendingLaws
 pub mod LinesLaws
+pub mod PieceLaws
 pub mod DigitLaws
 pub mod WrongLaws
 pub mod JudgeLaws

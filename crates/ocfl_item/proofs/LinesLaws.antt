@@ -1,29 +1,25 @@
 -- The lines of a place, as they are gathered.
 use Rattle.std.proofs.Common.{◌≡◌, ◌≢◌, List, [], ◌++◌, Bool, false, Result, Ok, Err, OnOk, None, map, refl, sym, ◌∙◌, ap, subst, append_assoc}
-use Rattle.std.proofs.lemmas.List.{append-nil, map-append}
+use Rattle.std.proofs.lemmas.List.{append-nil}
 use Rattle.ocfl_tree.specs.Place.{Place}
 use Rattle.ocfl_tree.specs.StorageRoot.{StorageRoot}
-use Rattle.ocfl_report.specs.Line.{line_of}
-use Rattle.ocfl_inventory.specs.Note.{Note, lines_at}
+use Rattle.ocfl_inventory.specs.Note.{Note}
+use Rattle.ocfl_inventory.specs.Remark.{remark_view}
 use Rattle.ocfl_audit.specs.Head.{on}
 use Rattle.ocfl_audit.specs.Lines.{named_at, notes}
 use Rattle.ocfl_item.specs.Internal.Lines.{Adds, HasLines, IsUnhashed}
 use Rattle.ocfl_item.specs.declared.lines.PlaceLines.{PlaceLines}
 
 pub adds_both : (old mid new : PlaceLines) (ms ns : List Note) → Adds old mid ms → Adds mid new ns → Adds old new (ms ++ ns)
-adds_both old mid new ms ns h k = (
-  k.0 ∙ h.0,
-  k.1 ∙ (λ i. h.1 i ++ lines_at (h.0 i) ns) ∙ append_assoc (map line_of old.lines.items) (lines_at old.place ms) (lines_at old.place ns)
-      ∙ ap (λ ls. map line_of old.lines.items ++ ls) (sym (map-append _ ms ns)),
-)
+adds_both old mid new ms ns h k = (k.0 ∙ h.0, k.1 ∙ ap (λ ls. ls ++ ns) h.1 ∙ append_assoc (map remark_view old.remarks.items) ms ns)
 
 pub has_more : (old new : PlaceLines) (ms ns : List Note) → HasLines old ms → Adds old new ns → HasLines new (ms ++ ns)
-has_more old new ms ns h k = k.1 ∙ ap (λ ls. ls ++ lines_at old.place ns) h ∙ sym (map-append _ ms ns) ∙ ap (λ p. lines_at p (ms ++ ns)) (sym k.0)
+has_more old new ms ns h k = k.1 ∙ ap (λ ls. ls ++ ns) h
 
 -- ---- lines that are there or not
 
 pub adds_none : (old : PlaceLines) → Adds old old []
-adds_none old = (refl, sym (append-nil (map line_of old.lines.items)))
+adds_none old = (refl, sym (append-nil (map remark_view old.remarks.items)))
 
 pub adds_not : (old : PlaceLines) (b : Bool) (n : Note) → b ≡ false → Adds old old (on b n)
 adds_not old b n h = subst (λ c. Adds old old (on c n)) (sym h) (adds_none old)
@@ -42,5 +38,5 @@ pub unhashed_at : (root : StorageRoot) (l : PlaceLines) (p : Place) → l.place 
 unhashed_at root l p at some unnamed are = record {
   some = subst (λ x. notes root None x ≢ []) (sym at) some;
   named = ap (named_at root) at ∙ unnamed;
-  lines = are ∙ ap (λ x. lines_at l.place (notes root None x)) (sym at);
+  lines = are ∙ ap (notes root None) (sym at);
 }

@@ -10,8 +10,8 @@ use Rattle.std.specs.declared.cmp.Ordering.{Ordering}
 use Rattle.std.specs.declared.cmp.Ordering.TheVariants.{Less, Equal, Greater}
 use Rattle.ocfl_tree.specs.Place.{Text, text_cmp}
 use Rattle.ocfl_tree.specs.Ascending.{IsAscending, insert_once, ascending}
-use Rattle.ocfl_report.specs.Line.{line_of}
-use Rattle.ocfl_inventory.specs.Note.{note, Note, lines_at}
+use Rattle.ocfl_inventory.specs.Remark.{remark_view}
+use Rattle.ocfl_inventory.specs.Note.{note, Note}
 use Rattle.ocfl_digest.specs.Algorithm.{algorithm_name, algorithm_cmp}
 use Rattle.ocfl_inventory.specs.Table.{Named, named_cmp}
 use Rattle.ocfl_audit.specs.Head.{on}
@@ -106,11 +106,11 @@ missing_in_order (m ∷ ms) h = let b = blocks m ms h in ap (map missing_note) b
 -- ---- the loop over the digests
 
 pub missing_done : (old new : PlaceLines) (ns : List MadeNamed) (i : ℕ) (before : Option Named) → length ns ≤ i
-    → (new.place ≡ old.place) × (map line_of new.lines.items ++ lines_at old.place (notes_behind before (map named_view (drop i ns))) ≡ map line_of
-    old.lines.items ++ lines_at old.place (notes_behind None (map named_view ns)))
+    → (new.place ≡ old.place) × (map remark_view new.remarks.items ++ notes_behind before (map named_view (drop i ns))
+    ≡ map remark_view old.remarks.items ++ notes_behind None (map named_view ns))
     → IsAscending named_cmp (map named_view ns) → Adds old new (missing_notes (map named_view ns))
 missing_done old new ns i before l so_far ascend = (
   so_far.0,
-  sym (append-nil (map line_of new.lines.items)) ∙ sym (at_drop_all (λ ms. map line_of new.lines.items ++ lines_at old.place (notes_behind before (map named_view ms))) ns i l) ∙ so_far.1
-      ∙ ap (λ ms. map line_of old.lines.items ++ lines_at old.place ms) (sym (missing_in_order (map named_view ns) ascend)),
+  sym (append-nil (map remark_view new.remarks.items)) ∙ sym (at_drop_all (λ ms. map remark_view new.remarks.items ++ notes_behind before (map named_view ms)) ns i l) ∙ so_far.1
+      ∙ ap (λ ms. map remark_view old.remarks.items ++ ms) (sym (missing_in_order (map named_view ns) ascend)),
 )

@@ -3,9 +3,8 @@ use Rattle.std.proofs.Common.{◌≡◌, ◌≢◌, List, [], ◌∷◌, ◌++�
 use Rattle.ocfl_tree.specs.Place.{Place}
 use Rattle.ocfl_tree.specs.StorageRoot.{StorageRoot}
 use Rattle.ocfl_tree.proofs.Orders.{true_not_false}
-use Rattle.ocfl_report.specs.Line.{line_of}
-use Rattle.ocfl_inventory.specs.Note.{Note, lines_at}
-use Rattle.ocfl_report.specs.declared.line.Line.{Line as MadeLine}
+use Rattle.ocfl_inventory.specs.Remark.{remark_view}
+use Rattle.ocfl_inventory.specs.declared.remark.Remark.{Remark}
 use Rattle.ocfl_inventory.specs.Table.{Table, named, named_cmp}
 use Rattle.ocfl_tree.specs.Ascending.{IsAscending}
 use Rattle.ocfl_audit.specs.Lines.{is_empty, notes, missing_notes, is_hashed, named_at}
@@ -21,13 +20,9 @@ use Rattle.ocfl_item.specs.declared.sight.Sight.{Sight}
 use Rattle.ocfl_item.proofs.ContentLaws.{content_is, hashed_by_sight, hashed_file, known_by_sight}
 use Rattle.ocfl_audit.proofs.UnreadLaws.{file_some}
 
-no_lines : (lines : List MadeLine) → map line_of lines ≡ [] → lines ≡ []
-no_lines [] e = refl
-no_lines (l ∷ ls) e = absurd cc
-
-no_notes : (p : Place) (ns : List Note) → lines_at p ns ≡ [] → ns ≡ []
-no_notes p [] e = refl
-no_notes p (n ∷ ns) e = absurd cc
+no_remarks : (remarks : List Remark) → map remark_view remarks ≡ [] → remarks ≡ []
+no_remarks [] e = refl
+no_remarks (r ∷ rs) e = absurd cc
 
 -- what is told of a content place
 pub record IsTold (root : StorageRoot) (p : Place) (t : Table) (q : Place) (ns : List MadeNamed) (s : Sight) : Type 0 where
@@ -61,24 +56,23 @@ module _ (root : StorageRoot) (p q : Place) (t : Table) (ns : List MadeNamed) (s
         lines = λ unread. absurd (true_not_false (sym hashed ∙ unread));
       }
 
-  -- the lines that were made, at the place itself
-  pub known_lines_are : (ms : List MadeNamed) (l : PlaceLines) → ms ≡ ns → l.place ≡ p
+  pub known_lines_are : (ms : List MadeNamed) (l : PlaceLines) → ms ≡ ns
       → (IsAscending named_cmp (map named_view ms) → HasLines l (sight_notes s ++ missing_notes (map named_view ms)))
-      → map line_of l.lines.items ≡ lines_at p (sight_notes s ++ missing_notes (map named_view ns))
-  known_lines_are ms l same at made =
-      made (subst (λ xs. IsAscending named_cmp (map named_view xs)) (sym same) names_ascend) ∙ (λ i. lines_at (at i) (sight_notes s ++ missing_notes (map named_view (same i))))
+      → HasLines l (sight_notes s ++ missing_notes (map named_view ns))
+  known_lines_are ms l same made =
+      made (subst (λ xs. IsAscending named_cmp (map named_view xs)) (sym same) names_ascend) ∙ ap (λ xs. sight_notes s ++ missing_notes (map named_view xs)) same
 
   pub pending_known : (made : Pending) → made.place ≡ p → made.named.items ≡ ns → made.hashed ≡ false → is_read s (map named_view ns) ≡ false
-      → map line_of made.lines.items ≡ lines_at p (sight_notes s ++ missing_notes (map named_view ns)) → made.lines.items ≢ [] → IsPending root made
+      → map remark_view made.remarks.items ≡ sight_notes s ++ missing_notes (map named_view ns) → made.remarks.items ≢ [] → IsPending root made
   pending_known made place digests hashed unread lines some =
-      let known : map line_of made.lines.items ≡ lines_at p (notes root None p) = lines ∙ ap (lines_at p) (sym (known_is unread)) in
+      let known : map remark_view made.remarks.items ≡ notes root None p = lines ∙ sym (known_is unread) in
       record {
-        some = subst (λ x. notes root None x ≢ []) (sym place) (λ e. some (no_lines made.lines.items (known ∙ ap (lines_at p) e)));
+        some = subst (λ x. notes root None x ≢ []) (sym place) (λ e. some (no_remarks made.remarks.items (known ∙ e)));
         hashed = hashed ∙ sym (hashed_is ∙ unread) ∙ ap (is_hashed root) (sym place);
         named = ap (map named_view) digests ∙ names ∙ ap (named_at root) (sym place);
-        lines = λ _. known ∙ (λ i. lines_at (sym place i) (notes root None (sym place i)));
+        lines = λ _. known ∙ ap (notes root None) (sym place);
       }
 
-  pub nothing_known : (lines : List MadeLine) → is_read s (map named_view ns) ≡ false
-      → map line_of lines ≡ lines_at p (sight_notes s ++ missing_notes (map named_view ns)) → lines ≡ [] → notes root None p ≡ []
-  nothing_known lines unread are none = no_notes p (notes root None p) (ap (lines_at p) (known_is unread) ∙ sym are ∙ ap (map line_of) none)
+  pub nothing_known : (remarks : List Remark) → is_read s (map named_view ns) ≡ false
+      → map remark_view remarks ≡ sight_notes s ++ missing_notes (map named_view ns) → remarks ≡ [] → notes root None p ≡ []
+  nothing_known remarks unread are none = known_is unread ∙ sym are ∙ ap (map remark_view) none

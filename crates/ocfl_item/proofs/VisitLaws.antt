@@ -11,8 +11,8 @@ use Rattle.ocfl_tree.specs.declared.store.Entry.{Entry}
 use Rattle.ocfl_tree.specs.declared.store.Kind.{Kind}
 use Rattle.ocfl_tree.specs.declared.store.Kind.TheVariants as kind
 use Rattle.ocfl_tree.proofs.Orders.{true_not_false}
-use Rattle.ocfl_report.specs.Line.{line_of}
-use Rattle.ocfl_inventory.specs.Note.{Note, plain, lines_at}
+use Rattle.ocfl_inventory.specs.Note.{Note, plain}
+use Rattle.ocfl_inventory.specs.Remark.{remark_view}
 use Rattle.ocfl_report.specs.declared.code.Code.{Code}
 use Rattle.ocfl_report.specs.declared.code.Code.TheVariants.{E001, E015, E024, S04, S05}
 use Rattle.ocfl_inventory.specs.Table.{Table, Named, named}
@@ -53,17 +53,17 @@ use Rattle.ocfl_tree.proofs.Stores.{did_nothing}
 
 -- ---- the item of one line
 
-pub unhashed_pending : (root : StorageRoot) (l : PlaceLines) (made : Pending) → IsUnhashed root l → made.place ≡ l.place → made.lines ≡ l.lines
+pub unhashed_pending : (root : StorageRoot) (l : PlaceLines) (made : Pending) → IsUnhashed root l → made.place ≡ l.place → made.remarks ≡ l.remarks
     → made.hashed ≡ false → made.named.items ≡ [] → IsPending root made
 unhashed_pending root l made h place lines unhashed unnamed = record {
   some = subst (λ x. notes root None x ≢ []) (sym place) h.some;
   hashed = unhashed ∙ sym (ap (is_hashed root) place ∙ ap (λ ns. nat_lt 0 (cost_of ns None (seen root l.place))) h.named);
   named = ap (map named_view) unnamed ∙ sym (ap (named_at root) place ∙ h.named);
-  lines = λ g. ap (λ v. map line_of v.items) lines ∙ h.lines ∙ ap (λ x. lines_at x (notes root None x)) (sym place);
+  lines = λ g. ap (λ v. map remark_view v.items) lines ∙ h.lines ∙ ap (notes root None) (sym place);
 }
 
 pub plain_unhashed : (root : StorageRoot) (e : Place) (code : Code) (l : PlaceLines) → IsPlainAt root e (plain code ∷ []) → l.place ≡ e → HasLines l (plain code ∷ []) → IsUnhashed root l
-plain_unhashed root e code l h at are = unhashed_at root l e at (λ g. filled (sym h.lines ∙ g)) h.named (are ∙ ap (lines_at l.place) (sym h.lines))
+plain_unhashed root e code l h at are = unhashed_at root l e at (λ g. filled (sym h.lines ∙ g)) h.named (are ∙ sym h.lines)
   where
     filled : plain code ∷ [] ≡ [] → ⊥
     filled g = cc

@@ -1,11 +1,10 @@
 -- What judging an item does: a content file that is hashed is opened once.
-use Rattle.std.specs.Prelude.{◌≡◌, ◌<◌, ◌≤◌, ◌^◌, ◌+◌, if◌then◌else◌, ℕ, List, [], ◌∷◌, Bool, true, false, length, map, Some}
+use Rattle.std.specs.Prelude.{◌≡◌, ◌<◌, ◌≤◌, ◌^◌, ◌+◌, if◌then◌else◌, ℕ, List, [], ◌∷◌, Bool, true, false, length, Some}
 use Rattle.ocfl_tree.specs.Place.{Text, Place}
 use Rattle.ocfl_tree.specs.StorageRoot.{StorageRoot, file, at}
 use Rattle.ocfl_tree.specs.Store.{Store}
 use Rattle.ocfl_tree.specs.declared.store.Opening.{Opening}
-use Rattle.ocfl_report.specs.Line.{line_of}
-use Rattle.ocfl_report.specs.declared.line.Line.{Line as MadeLine}
+use Rattle.ocfl_report.specs.Line.{Line}
 use Rattle.ocfl_audit.specs.Trail.{places_of}
 use Rattle.ocfl_audit.specs.Due.{items_at, hashed_among}
 use Rattle.ocfl_item.specs.Auditing.{Audits, Fails}
@@ -17,11 +16,11 @@ HasShortFiles root = (p : Place) (bytes : Text) → at root p ≡ Some (file byt
 
 -- from s to t the item at p was judged: its file was opened if it is hashed, and else nothing;
 -- nothing was listed
-pub record Judges (root : StorageRoot) (s t : Store) (p : Place) (lines : List MadeLine) (cost : ℕ) : Type 0 where
+pub record Judges (root : StorageRoot) (s t : Store) (p : Place) (lines : List Line) (cost : ℕ) : Type 0 where
   pub trail : List Opening
   pub audits : Audits root s t (p ∷ []) [] [] trail
   pub alone : places_of trail ≡ hashed_among root (p ∷ [])
-  pub item : items_at root trail (p ∷ []) ≡ record { place = p; lines = map line_of lines; cost = cost } ∷ []
+  pub item : items_at root trail (p ∷ []) ≡ record { place = p; lines = lines; cost = cost } ∷ []
 
 -- from s to t the item at p was not judged: its file was opened once, or not at all
 pub record JudgeFails (root : StorageRoot) (s t : Store) (p : Place) : Type 0 where

@@ -6,4 +6,5 @@ pub mod Meeting
 pub mod HeadFiles
 pub mod Judging
 pub mod Pending
+pub mod PlaceLines
 pub mod Internal

@@ -1,8 +1,7 @@
 -- What is known of an item before its file is read.
 use Rattle.std.specs.Prelude.{◌≡◌, ◌≢◌, [], false, None, map}
 use Rattle.ocfl_tree.specs.StorageRoot.{StorageRoot}
-use Rattle.ocfl_report.specs.Line.{line_of}
-use Rattle.ocfl_inventory.specs.Note.{lines_at}
+use Rattle.ocfl_inventory.specs.Remark.{remark_view}
 use Rattle.ocfl_inventory.specs.TripleView.{named_view}
 use Rattle.ocfl_item.specs.declared.pending.Pending.{Pending}
 use Rattle.ocfl_audit.specs.Lines.{notes, named_at, is_hashed}
@@ -12,4 +11,4 @@ pub record IsPending (root : StorageRoot) (p : Pending) : Type 0 where
   pub some : notes root None p.place ≢ []
   pub hashed : p.hashed ≡ is_hashed root p.place
   pub named : map named_view p.named.items ≡ named_at root p.place
-  pub lines : p.hashed ≡ false → map line_of p.lines.items ≡ lines_at p.place (notes root None p.place)
+  pub lines : p.hashed ≡ false → map remark_view p.remarks.items ≡ notes root None p.place

@@ -80,18 +80,18 @@ pub(crate) fn content_item(
             place,
             hashed: true,
             named,
-            lines: Vec::new(alloc),
+            remarks: Vec::new(alloc),
         }));
     }
     let known = known_lines(alloc, place, &named, sight)?;
-    if known.lines.is_empty() {
+    if known.remarks.is_empty() {
         return Ok(None);
     }
     Ok(Some(Pending {
         place: known.place,
         hashed: false,
         named,
-        lines: known.lines,
+        remarks: known.remarks,
     }))
 }
 

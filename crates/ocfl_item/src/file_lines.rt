@@ -2,8 +2,7 @@
 ghost use Rattle.std.specs.Prelude.{◌≡◌, ◌++◌, ◌∷◌, [], IfOk, List, OnOk, Some, length, map};
 ghost use Rattle.hex.specs.Hex.{encode_lower};
 ghost use Rattle.ocfl_tree.specs.Place.{Text};
-ghost use Rattle.ocfl_report.specs.Line.{line_of};
-ghost use Rattle.ocfl_inventory.specs.Note.{Note, plain, lines_at};
+ghost use Rattle.ocfl_inventory.specs.Note.{Note, plain};
 ghost use Rattle.ocfl_digest.specs.Digest.{digest_bytes_of};
 ghost use Rattle.ocfl_digest.specs.Digests.{digest_in};
 ghost use Rattle.ocfl_inventory.specs.TripleView.{named_view};
@@ -16,7 +15,7 @@ use crate::digits::{hex_of, is_hex_of};
 use crate::lines::{PlaceLines, code_of};
 use ocfl_digest::Digests;
 use ocfl_inventory::Named;
-use ocfl_report::{Code, Line};
+use ocfl_report::Code;
 use ocfl_tree::Place;
 use std::alloc::{AllocError, Global};
 
@@ -72,7 +71,8 @@ fn add_wrong(
     named: &Named,
     digests: &Digests,
 ) -> Result<(), AllocError>
-    ensures { (bytes : Text) → digest_in digests.now named.now.algorithm
+    ensures place { OnOk result (lines.new.place ≡ lines.old.place) }
+    ensures lines { (bytes : Text) → digest_in digests.now named.now.algorithm
         ≡ Some (digest_bytes_of named.now.algorithm bytes)
         → OnOk result (Adds lines.old lines.new
         (wrong_notes bytes (named_view named.now ∷ []))) }
@@ -90,7 +90,8 @@ fn add_each_wrong(
     named: &[Named],
     digests: &Digests,
 ) -> Result<(), AllocError>
-    ensures { (bytes : Text) → HasDigests (map (λ n. n.algorithm) named.now) bytes digests.now
+    ensures place { OnOk result (lines.new.place ≡ lines.old.place) }
+    ensures lines { (bytes : Text) → HasDigests (map (λ n. n.algorithm) named.now) bytes digests.now
         → OnOk result (Adds lines.old lines.new
         (wrong_notes bytes (map named_view named.now))) }
 {
@@ -100,17 +101,17 @@ fn add_each_wrong(
     Ok(())
 }
 
-/// The lines, or, if there are none, that of a clean file of `count` bytes.
-fn or_clean_file(alloc: Global, lines: PlaceLines, count: u64) -> Result<Vec<Line>, AllocError>
-    ensures { (bytes : Text) (ns : List Note) → count ≡ length bytes → HasLines lines ns
-        → IfOk result (λ made. map line_of made.items
-        ≡ lines_at lines.place (or_bytes bytes ns)) }
+/// Appends the line of a clean file of `count` bytes, if there is no line.
+fn add_clean_file(alloc: Global, lines: &mut PlaceLines, count: u64) -> Result<(), AllocError>
+    ensures place { OnOk result (lines.new.place ≡ lines.old.place) }
+    ensures lines { (bytes : Text) (ns : List Note) → count ≡ length bytes → HasLines lines.old ns
+        → OnOk result (HasLines lines.new (or_bytes bytes ns)) }
 {
-    if !lines.lines.is_empty() {
-        return Ok(lines.lines);
+    if !lines.remarks.is_empty() {
+        return Ok(());
     }
     let detail = count.to_string(alloc)?;
-    lines.with_last(Code::Clean, detail)
+    lines.add(Code::Clean, detail)
 }
 
 /// The lines of a content file that was read to its end: its digests, and how many bytes it has.
@@ -120,18 +121,19 @@ pub(crate) fn hashed_lines(
     named: &[Named],
     digests: &Digests,
     count: u64,
-) -> Result<Vec<Line>, AllocError>
-    ensures { (bytes : Text) → HasDigests (map (λ n. n.algorithm) named.now) bytes digests.now
+) -> Result<PlaceLines, AllocError>
+    ensures place { IfOk result (λ lines. lines.place ≡ place) }
+    ensures lines { (bytes : Text) → HasDigests (map (λ n. n.algorithm) named.now) bytes digests.now
         → count ≡ length bytes
-        → IfOk result (λ lines. map line_of lines.items
-        ≡ lines_at place (or_bytes bytes
+        → IfOk result (λ lines. HasLines lines (or_bytes bytes
         (unnamed_notes (map named_view named.now)
         ++ wrong_notes bytes (map named_view named.now)))) }
 {
     let mut lines = PlaceLines::new(alloc, place);
     add_unnamed(&mut lines, named)?;
     add_each_wrong(alloc, &mut lines, named, digests)?;
-    or_clean_file(alloc, lines, count)
+    add_clean_file(alloc, &mut lines, count)?;
+    Ok(lines)
 }
 
 /// The lines of a content file that could not be read.
@@ -139,12 +141,13 @@ pub(crate) fn unread_lines(
     alloc: Global,
     place: Place,
     named: &[Named],
-) -> Result<Vec<Line>, AllocError>
-    ensures { IfOk result (λ lines. map line_of lines.items
-        ≡ lines_at place (unnamed_notes (map named_view named.now) ++ plain Code.S08 ∷ [])) }
+) -> Result<PlaceLines, AllocError>
+    ensures place { IfOk result (λ lines. lines.place ≡ place) }
+    ensures lines { IfOk result (λ lines. HasLines lines
+        (unnamed_notes (map named_view named.now) ++ plain Code.S08 ∷ [])) }
 {
     let mut lines = PlaceLines::new(alloc, place);
     add_unnamed(&mut lines, named)?;
-    let detail = String::from_str(alloc, "-")?;
-    lines.with_last(Code::S08, detail)
+    lines.add_plain(Code::S08)?;
+    Ok(lines)
 }

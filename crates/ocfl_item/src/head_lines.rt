@@ -286,7 +286,7 @@ pub(crate) fn add_clean(lines: &mut PlaceLines) -> Result<(), AllocError>
     ensures lines { (ns : List Note) → HasLines lines.old ns
         → OnOk result (HasLines lines.new (or_clean ns)) }
 {
-    if !lines.lines.is_empty() {
+    if !lines.remarks.is_empty() {
         return Ok(());
     }
     lines.add_plain(Code::Clean)

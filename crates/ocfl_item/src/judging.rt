@@ -2,20 +2,22 @@
 ghost use Rattle.std.specs.Prelude.{◌≡◌, ◌≢◌, ◌≤◌, ◌<◌, ◌+◌, ◌^◌, ◌++◌, ◌∷◌, [], IfErr, IfOk};
 ghost use Rattle.std.specs.Prelude.{IsTrue, MatchResult, None, false, length, map, max, true};
 ghost use Rattle.ocfl_tree.specs.Place.{Text};
-ghost use Rattle.ocfl_report.specs.Line.{line_of};
-ghost use Rattle.ocfl_inventory.specs.Note.{lines_at, plain};
+ghost use Rattle.ocfl_inventory.specs.Note.{plain};
 ghost use Rattle.ocfl_inventory.specs.TripleView.{named_view};
 ghost use Rattle.ocfl_audit.specs.Lines.{or_bytes, unnamed_notes, wrong_notes};
 ghost use Rattle.ocfl_item.specs.Internal.FileLines.{HasDigests, given_in};
+ghost use Rattle.ocfl_item.specs.Internal.Lines.{HasLines};
 ghost use Rattle.ocfl_item.specs.Judging.{CostFits, HasShortFiles, JudgeFails, Judges};
 ghost use Rattle.ocfl_item.specs.Pending.{IsPending};
+ghost use Rattle.ocfl_item.specs.PlaceLines.{lines_of};
 ghost use Rattle.ocfl_tree.specs.Store.{IfTold};
 
 use crate::fault::Fault;
 use crate::file_lines::{hashed_lines, unread_lines};
+use crate::lines::PlaceLines;
 use crate::pending::Pending;
 use ocfl_digest::{Block, Cause, Digests, ReadStop, hash_open};
-use ocfl_report::{Code, Line};
+use ocfl_report::Code;
 use ocfl_tree::Tree;
 use std::alloc::Global;
 
@@ -24,23 +26,22 @@ fn judged(
     alloc: Global,
     pending: Pending,
     read: Result<(Digests, u64), ReadStop>,
-) -> Result<(Vec<Line>, u64), Fault>
+) -> Result<(PlaceLines, u64), Fault>
     requires short { IfOk read (λ hashed. hashed.1 < 2 ^ 62) }
     requires given { IfErr read (λ stop. stop.bytes ≤ 2 ^ 62) }
+    ensures place { IfOk result (λ judged. judged.0.place ≡ pending.place) }
     ensures cost { IfOk result (λ judged. judged.1 ≡ given_in read + 1) }
     ensures only { IfErr result (λ why. why ≡ Fault.Memory) }
     ensures refused { IfErr read (λ stop. stop.cause ≡ Cause.Memory → IfOk result (λ _. ⊥)) }
     ensures whole { IfOk read (λ hashed. (bytes : Text)
         → HasDigests (map (λ n. n.algorithm) pending.named.items) bytes hashed.0
         → hashed.1 ≡ length bytes
-        → IfOk result (λ judged. map line_of judged.0.items
-        ≡ lines_at pending.place (or_bytes bytes
+        → IfOk result (λ judged. HasLines judged.0 (or_bytes bytes
         (unnamed_notes (map named_view pending.named.items)
         ++ wrong_notes bytes (map named_view pending.named.items))))) }
     ensures part { IfErr read (λ stop. stop.cause ≢ Cause.Memory
-        → IfOk result (λ judged. map line_of judged.0.items
-        ≡ lines_at pending.place (unnamed_notes (map named_view pending.named.items)
-        ++ plain Code.S08 ∷ []))) }
+        → IfOk result (λ judged. HasLines judged.0
+        (unnamed_notes (map named_view pending.named.items) ++ plain Code.S08 ∷ []))) }
 {
     match read {
         Ok((digests, count)) => {
@@ -65,8 +66,9 @@ pub fn judge<T: Tree>(
     store: &mut T,
     pending: Pending,
     block: &mut Block,
-) -> Result<(Vec<Line>, u64), Fault>
+) -> Result<(PlaceLines, u64), Fault>
     // Of every store.
+    ensures place { IfOk result (λ judged. judged.0.place ≡ pending.place) }
     ensures cost { IfOk result (λ judged. CostFits pending.hashed judged.1) }
     ensures only_memory { IfErr result (λ why. why ≡ Fault.Memory) }
     ensures unasked { pending.hashed ≡ false → store.new ≡ store.old }
@@ -78,11 +80,12 @@ pub fn judge<T: Tree>(
     ensures told { IfTold T.told (T.state store.old) (λ root.
         HasShortFiles root → IsPending root pending → MatchResult result
         (λ judged. Judges root (T.state store.old)
-        (T.state store.new) pending.place judged.0.items judged.1)
+        (T.state store.new) pending.place (lines_of judged.0) judged.1)
         (λ _. JudgeFails root (T.state store.old) (T.state store.new) pending.place)) }
 {
     if !pending.hashed {
-        return Ok((pending.lines, 0));
+        let Pending { place, remarks, .. } = pending;
+        return Ok((PlaceLines { place, remarks }, 0));
     }
     let read = hash_open(store, &pending.place, pending.wanted(), block);
     judged(alloc, pending, read)

@@ -36,6 +36,7 @@ pub use base::visit_base;
 pub use fault::Fault;
 pub use folder::{Folder, Head, can_enter, head_of, is_extensions, list};
 pub use judging::judge;
+pub use lines::{Piece, PlaceLines};
 pub use meeting::{Around, visit_entry, visit_path};
 pub use object::table_of_object;
 pub use pending::Pending;

@@ -1,23 +1,35 @@
-//! The lines of one place, as they are gathered.
-ghost use Rattle.std.specs.Prelude.{◌≡◌, ◌++◌, ◌∷◌, [], IfOk, List, OnOk, map, string_bytes};
-ghost use Rattle.ocfl_report.specs.Line.{line_of};
-ghost use Rattle.ocfl_inventory.specs.Note.{Note, lines_at, note, plain};
+//! The lines of one place, as they are gathered and as text. The place is held once.
+ghost use Rattle.std.specs.Prelude.{◌≡◌, ◌∷◌, [], IfOk, OnOk, string_bytes};
+ghost use Rattle.std.specs.List.{list_any};
+ghost use Rattle.ocfl_report.specs.Line.{is_finding_code};
+ghost use Rattle.ocfl_report.specs.Text.{lines_text};
+ghost use Rattle.ocfl_inventory.specs.Note.{note, plain};
 ghost use Rattle.ocfl_inventory.specs.TripleView.{named_view};
 ghost use Rattle.ocfl_audit.specs.Head.{mismatch};
 ghost use Rattle.ocfl_audit.specs.Lines.{block_code};
 ghost use Rattle.ocfl_item.specs.Internal.Lines.{Adds, HasLines};
+ghost use Rattle.ocfl_item.specs.PlaceLines.{lines_of};
 
 use ocfl_digest::Algorithm;
-use ocfl_inventory::Named;
+use ocfl_inventory::{Named, Remark};
 use ocfl_report::{Code, Line};
 use ocfl_tree::Place;
 use std::alloc::{AllocError, Global};
 
-/// The lines of a place, as they are gathered.
-#[derive(Drop)]
-pub(crate) struct PlaceLines {
+/// The lines of a place.
+#[derive(Debug, Drop)]
+pub struct PlaceLines {
     pub(crate) place: Place,
-    pub(crate) lines: Vec<Line>,
+    pub(crate) remarks: Vec<Remark>,
+}
+
+/// The lines of a place as they go out.
+#[derive(Debug, Drop)]
+pub struct Piece {
+    pub place: Place,
+    pub text: Vec<u8>,
+    /// Whether a line of it is a finding.
+    pub found: bool,
 }
 
 impl PlaceLines {
@@ -28,7 +40,7 @@ impl PlaceLines {
     {
         PlaceLines {
             place,
-            lines: Vec::new(alloc),
+            remarks: Vec::new(alloc),
         }
     }
 
@@ -46,35 +58,15 @@ impl PlaceLines {
     pub(crate) fn add(&mut self, code: Code, detail: String) -> Result<(), AllocError>
         ensures { OnOk result (Adds self.old self.new (note code (string_bytes detail) ∷ [])) }
     {
-        let place = self.place.try_clone()?;
-        self.lines.push(Line {
-            code,
-            place,
-            detail,
-        })?;
+        self.remarks.push(Remark { code, detail })?;
         Ok(())
-    }
-
-    /// The lines with a last one after them, which takes the place.
-    pub(crate) fn with_last(self, code: Code, detail: String) -> Result<Vec<Line>, AllocError>
-        ensures { (ns : List Note) → HasLines self ns
-            → IfOk result (λ lines. map line_of lines.items
-            ≡ lines_at self.place (ns ++ note code (string_bytes detail) ∷ [])) }
-    {
-        let PlaceLines { place, mut lines } = self;
-        lines.push(Line {
-            code,
-            place,
-            detail,
-        })?;
-        Ok(lines)
     }
 
     /// Appends a line whose detail is a dash.
     pub(crate) fn add_plain(&mut self, code: Code) -> Result<(), AllocError>
         ensures { OnOk result (Adds self.old self.new (plain code ∷ [])) }
     {
-        let detail = String::from_str(*self.lines.allocator(), "-")?;
+        let detail = String::from_str(*self.remarks.allocator(), "-")?;
         self.add(code, detail)
     }
 
@@ -92,6 +84,36 @@ impl PlaceLines {
     {
         let detail = format!(in alloc; "{} {} {}", algorithm.name(), wanted, found)?;
         self.add(code, detail)
+    }
+
+    /// The text of the lines, for each of which the place is put in. The error is running out of
+    /// memory.
+    pub fn into_piece(self, alloc: Global) -> Result<Piece, AllocError>
+        ensures place { IfOk result (λ piece. piece.place ≡ self.place) }
+        ensures text { IfOk result (λ piece. piece.text.items ≡ lines_text (lines_of self)) }
+        ensures found { IfOk result (λ piece. piece.found
+            ≡ list_any (λ l. is_finding_code l.code) (lines_of self)) }
+    {
+        let mut line = Line {
+            code: Code::Clean,
+            place: self.place,
+            detail: String::new(alloc),
+        };
+        let mut text = Vec::new(alloc);
+        let mut found = false;
+        for remark in self.remarks {
+            line.code = remark.code;
+            line.detail = remark.detail;
+            line.put(&mut text)?;
+            if line.is_finding() {
+                found = true;
+            }
+        }
+        Ok(Piece {
+            place: line.place,
+            text,
+            found,
+        })
     }
 }
 

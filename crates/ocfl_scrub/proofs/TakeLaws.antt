@@ -1,14 +1,13 @@
 -- One item, judged and written.
-use Rattle.std.proofs.Common.{◌≡◌, ◌≢◌, ℕ, ◌+◌, List, [], ◌∷◌, refl, sym, ◌∙◌, ap, subst, true, false, Bool, Option, map, take, append-nil, arith}
+use Rattle.std.proofs.Common.{◌≡◌, ◌≢◌, ℕ, ◌+◌, List, [], ◌∷◌, refl, sym, ◌∙◌, ap, subst, true, false, Bool, Option, take, append-nil, arith}
 use Rattle.std.specs.Prelude.{cond, ◌||◌}
 use Rattle.std.specs.Io.KnownBytes.{Appends}
 use Rattle.std.proofs.KnownBytes.{Appends-nil}
 use Rattle.ocfl_tree.specs.Place.{Text, Place}
 use Rattle.ocfl_tree.specs.StorageRoot.{StorageRoot}
 use Rattle.ocfl_tree.specs.Store.{Store, Did}
-use Rattle.ocfl_report.specs.Line.{Line, line_of, found}
+use Rattle.ocfl_report.specs.Line.{Line, found}
 use Rattle.ocfl_report.specs.Text.{lines_text, text}
-use Rattle.ocfl_report.specs.declared.line.Line.{Line as MadeLine}
 use Rattle.ocfl_audit.specs.Audit.{total_cost}
 use Rattle.ocfl_audit.specs.Due.{hashed_among, items_at}
 use Rattle.ocfl_item.specs.Looking.{IsFront, failures_by}
@@ -17,9 +16,8 @@ use Rattle.ocfl_item.specs.Judging.{Judges, JudgeFails}
 use Rattle.ocfl_item.specs.declared.fault.Fault.{Fault}
 use Rattle.ocfl_item.specs.declared.fault.Fault.TheVariants.{Store as AtStore, Memory, Output}
 use Rattle.ocfl_scrub.specs.Call.{call_of}
-use Rattle.ocfl_scrub.specs.Taking.{WritesLines, PartOf, Takes, Misses, finds, piece_of}
+use Rattle.ocfl_scrub.specs.Taking.{WritesLines, PartOf, Takes, Misses, finds}
 use Rattle.ocfl_walk.proofs.FoundLaws.{none_hashed}
-use Rattle.ocfl_item.proofs.AuditingLaws.{audits_nothing}
 
 pub or_none : (b : Bool) → (b || false) ≡ b
 or_none true = refl
@@ -54,14 +52,14 @@ take_none (x ∷ xs) = refl
 pub nothing_of : (why : Fault) → why ≢ Output → (whole : Text) → PartOf why whole []
 nothing_of why other whole = record { gone = 0; is = take_none whole; proper = λ e. absurd (other e); none = λ _. refl }
 
-module _ (root : StorageRoot) (s t : Store) (p : Place) (lines : List MadeLine) (cost : ℕ) (j : Judges root s t p lines cost) where
-  judged_text : piece_of lines ≡ text (items_at root j.trail (p ∷ []))
-  judged_text = sym (ap text j.item ∙ append-nil (piece_of lines))
+module _ (root : StorageRoot) (s t : Store) (p : Place) (lines : List Line) (cost : ℕ) (j : Judges root s t p lines cost) where
+  judged_text : lines_text lines ≡ text (items_at root j.trail (p ∷ []))
+  judged_text = sym (ap text j.item ∙ append-nil (lines_text lines))
 
-  judged_found : found (items_at root j.trail (p ∷ [])) ≡ finds (map line_of lines)
-  judged_found = ap found j.item ∙ or_none (finds (map line_of lines))
+  judged_found : found (items_at root j.trail (p ∷ [])) ≡ finds lines
+  judged_found = ap found j.item ∙ or_none (finds lines)
 
-  pub judged_takes : (old new : Option (List ℕ)) (piece : List ℕ) (finding : Bool) → piece ≡ piece_of lines → finding ≡ finds (map line_of lines)
+  pub judged_takes : (old new : Option (List ℕ)) (piece : List ℕ) (finding : Bool) → piece ≡ lines_text lines → finding ≡ finds lines
       → Appends old new piece → Takes (call_of root s t old new) p cost finding
   judged_takes old new piece finding e f sent = record {
     trail = j.trail;
@@ -115,18 +113,3 @@ unjudged root s t old p j = record {
   wrote = Appends-nil old;
   part_of = nothing_of Memory memory_other (text (items_at root j.trail (p ∷ [])));
 }
-
--- nothing was done
-pub unbegun : (root : StorageRoot) (s : Store) (old : Option (List ℕ)) (p : Place) → s.tree ≡ root → Misses (call_of root s s old old) p Memory
-unbegun root s old p over =
-    let none = audits_nothing root s over in
-    record {
-      trail = [];
-      begun = [];
-      one = (p ∷ [], refl);
-      fails = record { over = over; did = subst (Did s s [] []) (memory_none.0 _) none.did; opened = none.opened; heads_are = refl; near = none.near; store = λ q e. absurd (memory_none.1 q e) };
-      alone = sym (none_hashed root);
-      part = [];
-      wrote = Appends-nil old;
-      part_of = nothing_of Memory memory_other (text (items_at root [] (p ∷ [])));
-    }

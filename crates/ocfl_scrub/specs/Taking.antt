@@ -1,12 +1,11 @@
 -- What judging one item and writing its lines does.
-use Rattle.std.specs.Prelude.{◌≡◌, ◌≢◌, ◌<◌, ℕ, List, [], ◌∷◌, Bool, length, take, map, Option}
+use Rattle.std.specs.Prelude.{◌≡◌, ◌≢◌, ◌<◌, ℕ, List, [], ◌∷◌, Bool, length, take, Option}
 use Rattle.std.specs.List.{list_any}
 use Rattle.std.specs.Io.KnownBytes.{Appends}
 use Rattle.ocfl_tree.specs.Place.{Text, Place}
 use Rattle.ocfl_tree.specs.declared.store.Opening.{Opening}
-use Rattle.ocfl_report.specs.Line.{Line, line_of, is_finding_code, found}
+use Rattle.ocfl_report.specs.Line.{Line, is_finding_code, found}
 use Rattle.ocfl_report.specs.Text.{lines_text, text}
-use Rattle.ocfl_report.specs.declared.line.Line.{Line as MadeLine}
 use Rattle.ocfl_audit.specs.Audit.{total_cost}
 use Rattle.ocfl_audit.specs.Trail.{places_of}
 use Rattle.ocfl_audit.specs.Due.{hashed_among, items_at}
@@ -19,10 +18,6 @@ use Rattle.ocfl_scrub.specs.Call.{Call, Writes}
 -- whether a line is a finding
 abbrev pub finds : List Line → Bool
 finds lines = list_any (λ l. is_finding_code l.code) lines
-
--- the text that goes out for an item, by its lines
-abbrev pub piece_of : List MadeLine → Text
-piece_of lines = lines_text (map line_of lines)
 
 -- on every store: the text of some lines went out, and it is said whether one of them is a finding
 abbrev pub WritesLines : Option (List ℕ) → Option (List ℕ) → Bool → Type 0

@@ -1,16 +1,16 @@
 //! One item: it is judged, and its lines go out as one piece.
-ghost use Rattle.std.specs.Prelude.{◌≡◌, ◌≢◌, ◌⊎◌, ◌||◌, IfErr, IfOk, map, MatchResult};
-ghost use Rattle.ocfl_report.specs.Line.{line_of};
+ghost use Rattle.std.specs.Prelude.{◌≡◌, ◌≢◌, ◌⊎◌, ◌||◌, IfErr, IfOk, MatchResult};
 ghost use Rattle.ocfl_item.specs.Judging.{CostFits};
 ghost use Rattle.ocfl_item.specs.Pending.{IsPending};
 ghost use Rattle.ocfl_scrub.specs.Call.{WhereTold};
-ghost use Rattle.ocfl_scrub.specs.Taking.{Misses, Takes, WritesLines, finds, piece_of};
+ghost use Rattle.ocfl_scrub.specs.Taking.{Misses, Takes, WritesLines};
 
 use ocfl_digest::Block;
-use ocfl_report::{Line, write_all_of};
+use ocfl_item::Piece;
+use ocfl_report::write_all_of;
 use ocfl_tree::{Place, Tree};
 use ocfl_walk::{Fault, Pending, judge};
-use std::alloc::{AllocError, Global};
+use std::alloc::Global;
 use std::io::Write;
 
 /// An item whose lines went out whole.
@@ -26,7 +26,7 @@ pub(crate) struct Taken {
 /// Judges an item and writes its lines as one piece.
 ///
 /// A fault is `Fault::Memory`, and then nothing was written, or `Fault::Output`.
-#[tactic(auto, using(crate::proofs::TakeLaws::lines_written, crate::proofs::TakeLaws::judged_takes, crate::proofs::TakeLaws::judged_memory, crate::proofs::TakeLaws::unjudged, crate::proofs::TakeLaws::unbegun))]
+#[tactic(auto, using(crate::proofs::TakeLaws::lines_written, crate::proofs::TakeLaws::judged_takes, crate::proofs::TakeLaws::judged_memory, crate::proofs::TakeLaws::unjudged))]
 pub(crate) fn take_item<T: Tree, W: Write>(
     alloc: Global,
     store: &mut T,
@@ -48,43 +48,17 @@ pub(crate) fn take_item<T: Tree, W: Write>(
         (λ taken. Takes call pending.place taken.cost taken.found)
         (λ why. Misses call pending.place why)) }
 {
-    // A place that is kept first cannot be wanting once the lines have gone out.
-    let Ok(place) = pending.place().try_clone() else {
-        return Err(Fault::Memory);
-    };
     let (lines, cost) = match judge(alloc, store, pending, block) {
         Ok(judged) => judged,
         Err(why) => return Err(why),
     };
-    let found = has_finding(&lines);
-    let Ok(text) = text_of(alloc, &lines) else {
+    let Ok(Piece { place, text, found }) = lines.into_piece(alloc) else {
         return Err(Fault::Memory);
     };
     match write_all_of(out, &text) {
         Ok(()) => Ok(Taken { place, cost, found }),
         Err(_) => Err(Fault::Output),
     }
-}
-
-fn text_of(alloc: Global, lines: &[Line]) -> Result<Vec<u8>, AllocError>
-    ensures { IfOk result (λ text. text.items ≡ piece_of lines.now) }
-{
-    let mut text = Vec::new(alloc);
-    for line in lines {
-        line.put(&mut text)?;
-    }
-    Ok(text)
-}
-
-fn has_finding(lines: &[Line]) -> bool
-    ensures { result ≡ finds (map line_of lines.now) }
-{
-    for line in lines {
-        if line.is_finding() {
-            return true;
-        }
-    }
-    false
 }
 
 /// Whether one of the two is so.

@@ -2,8 +2,8 @@
 use Rattle.std.specs.Prelude.{List, Bool, false, Option, Some, None, map, codes, ◌≡◌, ◌≢◌, [], ◌++◌}
 use Rattle.std.specs.Ordering.{is_eq}
 use Rattle.ocfl_tree.specs.StorageRoot.{StorageRoot}
-use Rattle.ocfl_report.specs.Line.{line_of}
-use Rattle.ocfl_inventory.specs.Note.{note, Note, lines_at}
+use Rattle.ocfl_inventory.specs.Note.{note, Note}
+use Rattle.ocfl_inventory.specs.Remark.{remark_view}
 use Rattle.ocfl_digest.specs.Algorithm.{algorithm_name}
 use Rattle.ocfl_inventory.specs.Table.{Named}
 use Rattle.ocfl_item.specs.declared.lines.PlaceLines.{PlaceLines}
@@ -11,11 +11,11 @@ use Rattle.ocfl_audit.specs.Lines.{notes, named_at, block_cmp, block_code}
 
 -- these are the lines
 abbrev pub HasLines : PlaceLines → List Note → Type 0
-HasLines l ns = map line_of l.lines.items ≡ lines_at l.place ns
+HasLines l ns = map remark_view l.remarks.items ≡ ns
 
 -- after the old lines come these, of the same place
 abbrev pub Adds : PlaceLines → PlaceLines → List Note → Type 0
-Adds old new ns = (new.place ≡ old.place) × (map line_of new.lines.items ≡ map line_of old.lines.items ++ lines_at old.place ns)
+Adds old new ns = (new.place ≡ old.place) × (map remark_view new.remarks.items ≡ map remark_view old.remarks.items ++ ns)
 
 -- the lines of a place at which no file is hashed and for which no digest is named
 pub record IsUnhashed (root : StorageRoot) (l : PlaceLines) : Type 0 where

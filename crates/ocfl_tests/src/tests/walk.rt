@@ -48,11 +48,7 @@ pub(crate) fn judged<T: Tree>(
 ) -> Result<(String, u64), Fail> {
     let mut block = Block::new(alloc)?;
     let (lines, cost) = judge(alloc, store, pending, &mut block).map_err(said)?;
-    let mut out = Vec::new(alloc);
-    for line in &lines {
-        line.put(&mut out)?;
-    }
-    Ok((String::from_utf8(out)?, cost))
+    Ok((String::from_utf8(lines.into_piece(alloc)?.text)?, cost))
 }
 
 /// Judging the item at a place gives these lines, with a bar for each tab and names of digests, and

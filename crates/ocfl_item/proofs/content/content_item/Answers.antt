@@ -15,23 +15,23 @@ returns-then-is_hashed-clause-told c =
 pub returns-then-is_empty-clause-told : goal.returns-then-is_empty-clause-told
 returns-then-is_empty-clause-told c =
     let unread = ap (λ ns. is_read c.args.sight (map named_view ns)) (sym c.deref.ensures.value) ∙ sym c.is_hashed.ensures ∙ c.if-is_hashed.false in
-    let none : vec_len c.in_ok-known.known.lines ≡ 0 = eqb-true (vec_len c.in_ok-known.known.lines) 0 (sym c.is_empty.ensures ∙ c.if-is_empty.true) in
-    let empty : c.in_ok-known.known.lines.items ≡ [] = nil_from_length c.in_ok-known.known.lines.items (omega (arith, none, c.in_ok-known.known.lines.ok.0)) in
+    let none : vec_len c.in_ok-known.known.remarks ≡ 0 = eqb-true (vec_len c.in_ok-known.known.remarks) 0 (sym c.is_empty.ensures ∙ c.if-is_empty.true) in
+    let empty : c.in_ok-known.known.remarks.items ≡ [] = nil_from_length c.in_ok-known.known.remarks.items (omega (arith, none, c.in_ok-known.known.remarks.ok.0)) in
     λ root t q content digests sight.
     let told : IsTold root c.args.place t q c.args.named.items c.args.sight = record { content = content; digests = digests; sight = sight } in
-    nothing_known root c.args.place q t c.args.named.items c.args.sight told c.in_ok-known.known.lines.items unread
+    nothing_known root c.args.place q t c.args.named.items c.args.sight told c.in_ok-known.known.remarks.items unread
     (known_lines_are root c.args.place q t c.args.named.items c.args.sight told c.deref-2.result.now c.in_ok-known.known c.deref-2.ensures.value
-    (c.in_ok-known.ensures.place) c.in_ok-known.ensures.lines) empty
+    c.in_ok-known.ensures.lines) empty
 
 pub returns-clause-told : goal.returns-clause-told
 returns-clause-told c =
     let unread = ap (λ ns. is_read c.args.sight (map named_view ns)) (sym c.deref.ensures.value) ∙ sym c.is_hashed.ensures ∙ c.if-is_hashed.false in
-    let some = λ (e : c.in_ok-known.known.lines.items ≡ []). eqb-false (vec_len c.in_ok-known.known.lines) 0
-    (sym c.is_empty.ensures ∙ c.if-is_empty.false) (omega (arith, ap length e, c.in_ok-known.known.lines.ok.0)) in
+    let some = λ (e : c.in_ok-known.known.remarks.items ≡ []). eqb-false (vec_len c.in_ok-known.known.remarks) 0
+    (sym c.is_empty.ensures ∙ c.if-is_empty.false) (omega (arith, ap length e, c.in_ok-known.known.remarks.ok.0)) in
     λ root t q content digests sight.
     let told : IsTold root c.args.place t q c.args.named.items c.args.sight = record { content = content; digests = digests; sight = sight } in (
       pending_known root c.args.place q t c.args.named.items c.args.sight told _ (c.in_ok-known.ensures.place) refl refl unread
           (known_lines_are root c.args.place q t c.args.named.items c.args.sight told c.deref-2.result.now c.in_ok-known.known c.deref-2.ensures.value
-          (c.in_ok-known.ensures.place) c.in_ok-known.ensures.lines) some,
+          c.in_ok-known.ensures.lines) some,
       c.in_ok-known.ensures.place,
     )

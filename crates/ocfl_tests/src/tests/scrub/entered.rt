@@ -43,15 +43,11 @@ fn items_above(
         if before.is_some_and(|place| pending.place() <= place) {
             return Err("an item is not above the one before".into());
         }
-        let place = pending.place().try_clone()?;
         let (lines, _) = judge(alloc, store, pending, block).map_err(said)?;
-        let mut text = Vec::new(alloc);
-        for line in &lines {
-            line.put(&mut text)?;
-        }
+        let piece = lines.into_piece(alloc)?;
         items.push(Passage {
-            place,
-            text: String::from_utf8(text)?,
+            place: piece.place,
+            text: String::from_utf8(piece.text)?,
         })?;
     }
     Err("too many items".into())

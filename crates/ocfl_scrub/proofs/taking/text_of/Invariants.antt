@@ -1,7 +1,0 @@
-use Rattle.std.proofs.Common.{◌≡◌, take, map}
-use Rattle.ocfl_report.specs.Line.{line_of}
-use Rattle.ocfl_report.specs.Text.{lines_text}
-use Rattle.ocfl_scrub.proofs.taking.text_of.Given as goal
-
-abbrev pub invariant-loop-line : goal.invariant-loop-line
-invariant-loop-line l = l.text.items ≡ lines_text (map line_of (take l.line-index l.lines))

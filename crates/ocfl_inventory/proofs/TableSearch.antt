@@ -2,7 +2,8 @@
 use Rattle.std.proofs.Common.{◌≡◌, ℕ, zero, suc, ◌≤◌, ◌<◌, List, [], ◌∷◌, Bool, true, false, refl, sym, ◌∙◌, ap, cond, map, length, get_or, take, drop, arith, Option, Some, None, option_map, filter_map, leb-true}
 use Rattle.std.specs.Prelude.{not, find, slice_get, nat_le}
 use Rattle.std.proofs.lemmas.Bool.Decides.{nat_tests}
-use Rattle.std.specs.List.{cons_option}
+use Rattle.std.specs.List.{AllWithin, cons_option}
+use Rattle.std.proofs.lemmas.List.{get_or_default}
 use Rattle.std.specs.List.Sorted.{IsPartitionPoint}
 use Rattle.std.specs.Ordering.{is_lt, is_eq, ordering_then, ordering_reverse}
 use Rattle.std.specs.declared.cmp.Ordering.{Ordering}
@@ -136,13 +137,16 @@ module _ (q : Place) where
       ∙ ap (λ ys. x.named ∷ ys) (picked_first xs j (λ k d a b. h (suc k) d (omega arith) (omega arith))
       (λ k d a b. w.0 (suc k) d (omega arith) (omega arith), λ k d a b. w.1 (suc k) d (omega arith) (omega arith)))
 
-  both_below : (p : Place) → is_lt (place_cmp p q) ≡ true → is_lt (place_cmp q p) ≡ true → ⊥
-  both_below p h k = true_not_false (sym h ∙ ap is_lt (place_cmp_total.antisymm p q) ∙ by (place_cmp q p) k)
+  not_above : (p : Place) → is_lt (place_cmp p q) ≡ true → is_lt (place_cmp q p) ≡ false
+  not_above p h = ap is_lt (place_cmp_total.antisymm q p) ∙ by (place_cmp p q) h
     where
       by : (o : Ordering) → is_lt o ≡ true → is_lt (ordering_reverse o) ≡ false
       by Less e = refl
-      by Equal e = refl
+      by Equal e = absurd (true_not_false (sym e))
       by Greater e = absurd (true_not_false (sym e))
+
+  both_below : (p : Place) → is_lt (place_cmp p q) ≡ true → is_lt (place_cmp q p) ≡ true → ⊥
+  both_below p h k = true_not_false (sym k ∙ not_above p h)
 
   not_past : (xs : List Triple) (i j : ℕ) → i ≤ length xs → IsLow xs i → IsHigh xs j → j < i → ⊥
   not_past [] i j a low high l = omega (arith, a, l)
@@ -163,6 +167,24 @@ module _ (q : Place) where
       skip x _ (below_apart x.path (low.0 0 x (omega arith) (omega arith)))
       ∙ picked xs i j (omega (arith, a)) (λ k d b l. low.0 (suc k) d (omega arith) (omega arith), λ k d b l. low.1 (suc k) d (omega arith) (omega arith))
       (λ k d b l. high.0 (suc k) d (omega arith) (omega arith), λ k d b l. high.1 (suc k) d (omega arith) (omega arith))
+
+  -- ---- going up from where the paths of a place begin
+
+  abbrev pub AreNotAbove : List Triple → ℕ → Type 0
+  AreNotAbove xs i = AllWithin (λ t. is_lt (place_cmp q t.path) ≡ false) xs 0 i
+
+  pub scan_begins : (xs : List Triple) (i : ℕ) → IsLow xs i → AreNotAbove xs i
+  scan_begins xs i low k d a b = not_above (get_or xs k d).path (low.0 k d a b)
+
+  pub scan_stops : (xs : List Triple) (i : ℕ) (d : Triple) → IsAscending triple_cmp xs → i < length xs → AreNotAbove xs i
+      → is_lt (place_cmp q (get_or xs i d).path) ≡ true → IsHigh xs i
+  scan_stops xs i d up l below above = (below, λ k e a b. by k e a b (is_lt (place_cmp q (get_or xs k e).path)) refl)
+    where
+      by : (k : ℕ) (e : Triple) → i ≤ k → k < length xs → (r : Bool) → is_lt (place_cmp q (get_or xs k e).path) ≡ r → is_lt (place_cmp q (get_or xs k e).path) ≡ true
+      by k e a b true is = is
+      by k e a b false is =
+          let here : is_lt (place_cmp q (get_or xs i e).path) ≡ false = not_true _ (parted_above xs q up i k e a b (ap not is)) in
+          absurd (true_not_false (sym above ∙ ap (λ t. is_lt (place_cmp q t.path)) (get_or_default xs i d e l) ∙ here))
 
 -- ---- the next path
 

@@ -79,13 +79,32 @@ fn first_above(triples: &[Triple], place: &Place) -> usize
     triples.partition_point(|triple| !place.cmp(triple.path()).is_lt())
 }
 
+/// Where the paths above a place begin, looked for from where its own begin: those are few.
+fn first_above_from(triples: &[Triple], place: &Place, first: usize) -> usize
+    requires ascending { IsAscending triple_cmp triples.now }
+    requires found { IsPartitionPoint (λ t. is_lt (place_cmp t.path place.now) ≡ true)
+        (λ t. is_lt (place_cmp t.path place.now) ≡ false) triples.now first }
+    requires bound { first ≤ length triples.now }
+    ensures found { IsPartitionPoint (λ t. is_lt (place_cmp place.now t.path) ≡ false)
+        (λ t. is_lt (place_cmp place.now t.path) ≡ true) triples.now result }
+    ensures bound { result ≤ length triples.now }
+{
+    for index in first..triples.len() {
+        if place.cmp(triples[index].path()).is_lt() {
+            return index;
+        }
+    }
+    triples.len()
+}
+
 /// Those of the triples that are a place's.
 fn triples_at<'t>(triples: &'t [Triple], place: &Place) -> &'t [Triple]
     requires { IsAscending triple_cmp triples.now }
     ensures { map (λ t. t.named) result.now ≡ named_among triples.now place.now }
 {
-    let (front, _) = triples.split_at(first_above(triples, place));
-    let (_, found) = front.split_at(first_from(triples, place));
+    let first = first_from(triples, place);
+    let (front, _) = triples.split_at(first_above_from(triples, place, first));
+    let (_, found) = front.split_at(first);
     found
 }
 

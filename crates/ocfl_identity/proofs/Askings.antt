@@ -113,3 +113,7 @@ opened_listed s t u p os top h did = did_then s t u [] os ([] ∷ []) [] 0 (subs
 
 pub unread_listed : (root : StorageRoot) (s t u : Store) (p q : Place) → p ≡ [] → Did s t [] (p ∷ []) 0 → IsUnread root t u [] q → IsUnread root s u ([] ∷ []) q
 unread_listed root s t u p q top h unread = unread_behind root s t u [] ([] ∷ []) ([] ∷ []) q (subst (λ x. Did s t [] (x ∷ []) 0) top h) unread refl
+
+-- with nothing after it
+pub listed_alone : (s t u : Store) (p : Place) → p ≡ [] → Did s t [] (p ∷ []) 0 → u ≡ t → Did s u [] ([] ∷ []) 0
+listed_alone s t u p top h same = subst (λ x. Did s x [] ([] ∷ []) 0) (sym same) (subst (λ q. Did s t [] (q ∷ []) 0) top h)

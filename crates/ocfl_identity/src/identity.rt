@@ -59,6 +59,9 @@ pub fn look_at_root<T: Tree>(
     ensures declares { IfOk result (λ identity. identity.declarations.items ≢ []) }
     ensures undeclared { IfTold T.told (T.state store.old) (λ root.
         result ≡ Err NoIdentity.Undeclared → declarations_among (entries_in root []) ≡ []) }
+    // Of a folder without a declaration no file is opened.
+    ensures unopened { IsTrue T.told → result ≡ Err NoIdentity.Undeclared
+        → Did (T.state store.old) (T.state store.new) [] ([] ∷ []) 0 }
     // The top folder is listed once, and each declaration is opened once.
     ensures opened { IfTold T.told (T.state store.old) (λ root. IfOk result (λ identity.
         Did (T.state store.old) (T.state store.new)
@@ -89,6 +92,8 @@ fn identify<T: Tree>(
         → IfOk result (IsIdentityOf root)) }
     ensures declares { IfOk result (λ identity. identity.declarations.items ≢ []) }
     ensures undeclared { result ≡ Err NoIdentity.Undeclared → declarations_among entries.now ≡ [] }
+    ensures unasked { result ≡ Err NoIdentity.Undeclared
+        → T.state store.new ≡ T.state store.old }
     ensures opened { IfTold T.told (T.state store.old) (λ root. IfOk result (λ identity.
         Did (T.state store.old) (T.state store.new)
         (openings_of root identity.declarations.items) [] 0)) }

@@ -2,7 +2,7 @@ use Rattle.std.proofs.Common.{◌≡◌, ◌∙◌, [], subst}
 use Rattle.ocfl_tree.specs.Listing.{IsListing}
 use Rattle.ocfl_identity.specs.Identity.{declarations_among}
 use Rattle.std.proofs.lemmas.Result.{IfOk-weaker, IfErr-weaker}
-use Rattle.ocfl_identity.proofs.Askings.{opened_listed, unread_listed}
+use Rattle.ocfl_identity.proofs.Askings.{listed_alone, opened_listed, unread_listed}
 use Rattle.ocfl_identity.proofs.Ordered.{sorted_listing}
 use Rattle.ocfl_identity.proofs.identity.look_at_root.Goals as goal
 
@@ -22,6 +22,9 @@ returns-clause-undeclared g c = λ told root is none.
     subst (λ es. declarations_among es ≡ [])
     (c.deref.ensures.value ∙ sorted_listing root [] c.in-Ok.entries.items c.sort.new.entries.items c.in-Ok.ensures.ordinary listing c.sort.ensures.permutation c.sort.ensures.sorted)
     (c.identify.ensures.undeclared none)
+
+pub returns-clause-unopened : goal.returns-clause-unopened
+returns-clause-unopened g c = λ told none. listed_alone _ _ _ _ c.root-top.ensures (c.in-Ok.ensures.lists told).did (c.identify.ensures.unasked none)
 
 pub returns-clause-opened : goal.returns-clause-opened
 returns-clause-opened g c = λ told root is.

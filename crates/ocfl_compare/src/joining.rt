@@ -195,6 +195,7 @@ fn known_part(parts: &[Option<ClosedPart>], index: usize) -> Option<&ClosedPart>
 
 /// Appends the report of the part with this number, from 1, to what was joined: all the bytes of
 /// the reader, just as they are. Parts are joined one after the other, from the first to the last.
+/// Of a part that cannot be joined nothing is read.
 pub fn join_part<R: Read, W: Write>(
     separators: &Separators,
     root: &[u8],
@@ -211,6 +212,10 @@ pub fn join_part<R: Read, W: Write>(
         × Appends (W.contents out.old) (W.contents out.new) bytes)) }
     ensures fault { IfErr result (λ stop. (fault : ModelFault) → stop ≡ JoinStop.Part fault
         → fault_of separators.now root.now cycle number (Some part.now) ≡ Some fault) }
+    ensures unread { IfErr result (λ stop. (fault : ModelFault) → stop ≡ JoinStop.Part fault
+        → R.remaining report.new ≡ R.remaining report.old) }
+    ensures unwritten { IfErr result (λ stop. (fault : ModelFault) → stop ≡ JoinStop.Part fault
+        → W.contents out.new ≡ W.contents out.old) }
     ensures changed { IfErr result (λ stop. stop ≡ JoinStop.Changed
         → IfSome (R.remaining report.old) (λ bytes. length bytes ≢ part.now.bytes)) }
 {

@@ -4,3 +4,4 @@ pub mod Heaps
 pub mod Pieces
 pub mod ShownLines
 pub mod Lists
+pub mod LogRows

@@ -1,14 +1,10 @@
-use Rattle.std.proofs.Common.{◌≡◌, ◌≤◌, ◌∙◌, ap, refl, arith}
-use Rattle.std.proofs.lemmas.Result.{IfOk-weaker}
-use Rattle.serde_json.specs.Data.{depth}
+use Rattle.std.proofs.Common.{◌∙◌, ap, refl}
 use Rattle.serde_json.specs.View.{view}
 use Rattle.ocfl_telling.specs.Log.{refusal_data, refusal_with}
+use Rattle.ocfl_telling.proofs.LogRows.{row_line}
 use Rattle.ocfl_telling.proofs.log.refusal_line.Goals as goal
 
 pub returns : goal.returns
 returns c =
-    let d = refusal_data c.args.row.now in
-    let flat : depth d ≡ 1 = refl in
-    let shallow : depth d ≤ 127 = omega (arith, flat) in
-    let built : view c.in_ok-value.value ≡ d = c.in_ok-value.ensures ∙ ap (refusal_with c.args.row.now) (c.as_str.ensures.value ∙ c.in_ok-said.ensures) in
-    IfOk-weaker c.line_of.result _ _ (λ line h. h d built refl shallow) c.line_of.ensures
+    let built = c.in_ok-value.ensures ∙ ap (refusal_with c.args.row.now) (c.as_str.ensures.value ∙ c.in_ok-said.ensures) in
+    row_line c.line_of.result (view c.in_ok-value.value) (refusal_data c.args.row.now) built refl refl c.line_of.ensures

@@ -12,3 +12,4 @@ pub mod Clocks
 pub mod Compared
 pub mod Lost
 pub mod Around
+pub mod Branches

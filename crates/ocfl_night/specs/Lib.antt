@@ -5,3 +5,4 @@ pub mod Steps
 pub mod Nights
 pub mod Clock
 pub mod Status
+pub mod Leaving

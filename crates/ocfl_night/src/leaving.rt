@@ -1,14 +1,17 @@
 //! Leaving out a branch that cannot be read.
-ghost use Rattle.std.specs.Prelude.{◌≡◌, ◌⊎◌, ◌-◌, ◌++◌, ◌∷◌, [], IfOk, IfSome, IsTrue, OnOk};
-ghost use Rattle.std.specs.Prelude.{length, take};
+ghost use Rattle.std.specs.Prelude.{◌≡◌, ◌-◌, ◌<◌, ◌≤◌, ◌++◌, ◌∷◌, [], IfOk, IfSome, IsNone, IsSome};
+ghost use Rattle.std.specs.Prelude.{IsTrue, OnOk, length, take};
 ghost use Rattle.ocfl_audit.specs.Parts.{Part as ModelPart};
+ghost use Rattle.ocfl_tree.specs.Name.{IsName};
 ghost use Rattle.ocfl_tree.specs.Place.{Text};
 ghost use Rattle.ocfl_cursor.specs.State.{state_of};
 ghost use Rattle.ocfl_scrub.specs.Running.{place_in};
 ghost use Rattle.ocfl_scrub.specs.Starting.{part_of};
 ghost use Rattle.ocfl_state.specs.Crash.{LeavesOnly};
 ghost use Rattle.ocfl_state.specs.declared.checkpoint_parts.Phase.TheVariants.{Open};
-ghost use Rattle.ocfl_night.specs.Chain.{from_after, part_after, past};
+ghost use Rattle.ocfl_night.specs.Chain.{from_after, part_after};
+ghost use Rattle.ocfl_night.specs.Leaving.{branch_at, end_of, is_of_inventory, last_name};
+ghost use Rattle.ocfl_night.specs.Leaving.{speaks_for_object};
 ghost use Rattle.ocfl_night.specs.Sound.{IsReady, IsSoundAt};
 ghost use Rattle.ocfl_night.specs.Steps.{with_left};
 
@@ -34,7 +37,9 @@ fn renamed(place: &Place, name: Name) -> Result<Place, AllocError>
 
 /// The name with the byte 1 after it. `None` if that is no name: it would have 256 bytes.
 fn lengthened(alloc: Global, name: &str) -> Result<Option<Name>, AllocError>
-    ensures { IfOk result (λ found. IfSome found (λ longer. longer ≡ name.now ++ 1 ∷ [])) }
+    ensures named { IfOk result (λ found. IfSome found (λ longer. longer ≡ name.now ++ 1 ∷ [])) }
+    ensures short { IfOk result (λ found. IsSome found → length name.now < 255) }
+    ensures long { IsName name.now → IfOk result (λ found. IsNone found → 255 ≤ length name.now) }
 {
     let mut longer = String::from_str(alloc, name)?;
     longer.push('\u{1}')?;
@@ -48,7 +53,7 @@ fn lengthened(alloc: Global, name: &str) -> Result<Option<Name>, AllocError>
 /// The end of a branch: its place with the byte 1 after the last name, which comes after all that
 /// the branch has. `None` for the storage root, and for a last name of 255 bytes.
 pub(crate) fn end_of(alloc: Global, branch: &Place) -> Result<Option<Place>, AllocError>
-    ensures { IfOk result (λ found. IfSome found (λ end. end ≡ past branch.now)) }
+    ensures { IfOk result (λ found. found ≡ end_of branch.now) }
 {
     let Some((_, name)) = branch.split_last() else {
         return Ok(None);
@@ -89,23 +94,40 @@ pub(crate) fn part_past(alloc: Global, part: &Part, left: &[Left]) -> Result<Par
     })
 }
 
+/// Whether a file of this name is an inventory, or a sidecar of one.
+fn is_of_inventory(name: &str) -> bool
+    ensures { result ≡ is_of_inventory name.now }
+{
+    name == "inventory.json" || name.as_bytes().starts_with(b"inventory.json.")
+}
+
 /// Whether a file of this name speaks for the object that it is in: as its declaration, its
 /// inventory or a sidecar of that.
-fn speaks_for_object(name: &str) -> bool {
-    name == "inventory.json"
-        || name.starts_with("inventory.json.")
-        || is_declaration_name(Level::Object, name)
+fn speaks_for_object(name: &str) -> bool
+    ensures { result ≡ speaks_for_object name.now }
+{
+    is_of_inventory(name) || is_declaration_name(Level::Object, name)
+}
+
+/// The last name, and nothing for the storage root.
+fn last_name(place: &Place) -> &str
+    ensures { result.now ≡ last_name place.now }
+{
+    match place.split_last() {
+        Some((_, name)) => name,
+        None => "",
+    }
 }
 
 /// The branch to leave out after a call at this place failed: that of the object if the place is
 /// one of its declarations, inventories or sidecars, else that of the place itself.
 pub(crate) fn branch_at(place: &Place) -> Result<Place, AllocError>
-    ensures { IfOk result (λ branch. (branch ≡ place.now)
-        ⊎ (branch ≡ take (length place.now - 1) place.now)) }
+    ensures { IfOk result (λ branch. branch ≡ branch_at place.now) }
 {
-    match place.split_last() {
-        Some((_, name)) if speaks_for_object(name) => place.first(place.depth().saturating_sub(1)),
-        _ => place.try_clone(),
+    if speaks_for_object(last_name(place)) {
+        place.first(place.depth().saturating_sub(1))
+    } else {
+        place.try_clone()
     }
 }
 

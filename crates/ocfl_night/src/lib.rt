@@ -50,6 +50,7 @@ mod site;
 mod slicing;
 mod status;
 mod stop;
+mod tally;
 
 pub use checkpoint::{look, put_checkpoint};
 pub use closing::finish;

@@ -1,6 +1,6 @@
 //! A night.
 ghost use Rattle.std.specs.Prelude.{◌≡◌, ◌≢◌, ◌⊎◌, ◌+◌, ◌≤◌, [], IfOk, IsErr, IsOk, IsTrue};
-ghost use Rattle.std.specs.Prelude.{List, Err, Ok, OnOk, Some, false, ℕ};
+ghost use Rattle.std.specs.Prelude.{All, List, Err, Ok, OnOk, Some, false, length, ℕ};
 ghost use Rattle.std.specs.Io.KnownBytes.{Appends};
 ghost use Rattle.ocfl_audit.specs.Parts.{Part as ModelPart};
 ghost use Rattle.ocfl_tree.specs.Place.{Text};
@@ -12,6 +12,8 @@ ghost use Rattle.ocfl_item.specs.Judging.{HasShortFiles};
 ghost use Rattle.ocfl_scrub.specs.Starting.{part_of};
 ghost use Rattle.ocfl_state.specs.Checkpoint.{Checkpoint as ModelCheckpoint};
 ghost use Rattle.ocfl_state.specs.Crash.{LeavesOnly};
+ghost use Rattle.ocfl_state.specs.declared.checkpoint_parts.Phase.TheVariants.{Open};
+ghost use Rattle.ocfl_night.specs.Leaving.{MayLeave, checkpoint_by, has_end, pause_by, remedy_at};
 ghost use Rattle.ocfl_night.specs.Site.{IsAnothers, IsForeign, IsOtherThan, part_at};
 ghost use Rattle.ocfl_night.specs.Steps.{IsLost, IsNotBegun, IsUntouched, IsWalkAt};
 ghost use Rattle.ocfl_night.specs.Sound.{IsAllSaid, IsAt, IsHeard, IsHeardSince, IsKept, IsOneMore};
@@ -25,7 +27,7 @@ ghost use Rattle.ocfl_night.specs.declared.refusal.Refusal.{Refusal as ModelRefu
 
 use crate::checkpoint::phase_of;
 use crate::closing::finish;
-use crate::leaving::{branch_at, end_of, leave_out};
+use crate::leaving::leave_out;
 use crate::looking::look_at;
 use crate::opening::open;
 use crate::plan::{Clock, Halt, NightEnd, Pause, Plan};
@@ -34,6 +36,7 @@ use crate::saying::speak;
 use crate::site::{Site, part_at};
 use crate::slicing::{Made, SliceEnd, slice};
 use crate::stop::Stop;
+use crate::tally::{Remedy, Tally};
 use ocfl_cursor::{FileLimit, Limits};
 use ocfl_digest::Block;
 use ocfl_identity::Identity;
@@ -41,132 +44,8 @@ use ocfl_scrub::{KeptWalk, Part};
 use ocfl_state::{Checkpoint, Phase, StateFolder};
 use ocfl_tree::{Place, Tree};
 use ocfl_walk::Fault;
-use std::alloc::{AllocError, Global};
+use std::alloc::Global;
 use std::io::Write;
-
-/// How many branches a night leaves out at most.
-const MOST_LEFT: usize = 16;
-
-/// How many runs of a night stop at a place at most, so that a store that fails now here and now
-/// there ends it: two for each branch that is left out, and as many again.
-const MOST_STOPS: u64 = 64;
-
-/// What was done so far.
-#[derive(Debug, Drop)]
-struct Tally {
-    runs: u64,
-    spent: u64,
-    files: u64,
-    found: bool,
-    /// How many runs stopped at a place.
-    stops: u64,
-    /// The place at which the last run stopped, if it is tried once more.
-    tried: Option<Place>,
-    /// The branches that were left out.
-    left: Vec<Place>,
-}
-
-impl Tally {
-    fn none(alloc: Global) -> Tally
-        ensures { result.runs ≡ 0 }
-    {
-        Tally {
-            runs: 0,
-            spent: 0,
-            files: 0,
-            found: false,
-            stops: 0,
-            tried: None,
-            left: Vec::new(alloc),
-        }
-    }
-
-    /// A run is begun.
-    fn begin(&mut self)
-        ensures { self.new.runs ≤ self.old.runs + 1 }
-    {
-        self.runs = self.runs.saturating_add(1);
-    }
-
-    /// A run is made.
-    fn count(&mut self, made: &Made)
-        ensures { self.new.runs ≡ self.old.runs }
-    {
-        self.spent = self.spent.saturating_add(made.spent);
-        self.files = self.files.saturating_add(made.files);
-        self.found = either(self.found, made.found);
-    }
-
-    /// Whether a place that cannot be read is tried once more: not if it was just tried so.
-    fn tries_again(&mut self, place: &Place) -> Result<bool, AllocError>
-        ensures { self.new.runs ≡ self.old.runs }
-    {
-        if is_at(&self.tried, place) {
-            self.tried = None;
-            return Ok(false);
-        }
-        self.tried = Some(place.try_clone()?);
-        Ok(true)
-    }
-
-    /// The last run did not stop at a place.
-    fn forget_try(&mut self)
-        ensures { self.new.runs ≡ self.old.runs }
-    {
-        self.tried = None;
-    }
-
-    /// The branch that can be left out for a place that cannot be read. `None` if none can be.
-    fn branch_of(&self, alloc: Global, place: &Place) -> Result<Option<Place>, AllocError> {
-        if self.left.len() >= MOST_LEFT {
-            return Ok(None);
-        }
-        let branch = branch_at(place)?;
-        match end_of(alloc, &branch)? {
-            Some(_) => Ok(Some(branch)),
-            None => Ok(None),
-        }
-    }
-
-    /// The branch that is left out for a place at which a run stopped. `Err` if none is: the
-    /// place is tried once more, or the night is halted.
-    fn to_leave(
-        &mut self,
-        alloc: Global,
-        place: Place,
-        plan: &Plan,
-    ) -> Result<Result<Place, Option<Pause>>, AllocError>
-        ensures { self.new.runs ≡ self.old.runs }
-    {
-        self.stops = self.stops.saturating_add(1);
-        if plan.stop_at_faults || self.stops > MOST_STOPS {
-            return Ok(Err(Some(Pause::Stopped(Fault::Store(place)))));
-        }
-        if self.tries_again(&place)? {
-            return Ok(Err(None));
-        }
-        match self.branch_of(alloc, &place)? {
-            Some(branch) => {
-                self.left.push(branch.try_clone()?)?;
-                Ok(Ok(branch))
-            }
-            None => Ok(Err(Some(Pause::Stopped(Fault::Store(place))))),
-        }
-    }
-}
-
-/// Whether there is a place, and it is this one.
-fn is_at(tried: &Option<Place>, place: &Place) -> bool {
-    match tried {
-        Some(tried) => tried == place,
-        None => false,
-    }
-}
-
-/// Whether one of the two holds.
-fn either(first: bool, second: bool) -> bool {
-    first || second
-}
 
 /// Whether the end of the plan has not come.
 fn has_time<C: Clock>(plan: &Plan, clock: &mut C) -> bool
@@ -267,13 +146,26 @@ fn pass_by<S: StateFolder>(
     ensures closed { IsTrue S.told → OnOk result
         ((S.seen folder.new).closed ≡ (S.seen folder.old).closed) }
     ensures runs { tally.new.runs ≡ tally.old.runs }
+
+    // What is done is what the place, the branches left out before and the plan call for.
+    ensures checkpoint { checkpoint.phase ≡ Open → IfOk result (λ next. next.0
+        ≡ checkpoint_by checkpoint (remedy_at plan.now.stop_at_faults tally.old place)) }
+    ensures pause { checkpoint.phase ≡ Open → IfOk result (λ next. next.1
+        ≡ pause_by place (remedy_at plan.now.stop_at_faults tally.old place)) }
+    ensures left { MayLeave plan.now.stop_at_faults tally.old.left.items
+        → MayLeave plan.now.stop_at_faults tally.new.left.items }
 {
     if phase_of(&checkpoint) != Phase::Open {
         return Ok((checkpoint, Some(Pause::Closing)));
     }
-    match tally.to_leave(alloc, place, plan)? {
-        Ok(branch) => Ok((leave_out(alloc, folder, checkpoint, branch)?, None)),
-        Err(pause) => Ok((checkpoint, pause)),
+    let remedy = tally.remedy(alloc, &place, plan.stop_at_faults)?;
+    match remedy {
+        Remedy::TryAgain => Ok((checkpoint, None)),
+        Remedy::LeaveOut(branch) => {
+            let next = leave_out(alloc, folder, checkpoint, branch)?;
+            Ok((next, None))
+        }
+        Remedy::Halt => Ok((checkpoint, Some(Pause::Stopped(Fault::Store(place))))),
     }
 }
 
@@ -298,6 +190,8 @@ fn go_on_after<S: StateFolder>(
     ensures walk { (part : ModelPart) (root : StorageRoot)
         → IsWalkAt root part made.checkpoint kept.old
         → IfOk result (λ next. IsWalkAt root part next.0 kept.new) }
+    ensures left { MayLeave plan.now.stop_at_faults tally.old.left.items
+        → MayLeave plan.now.stop_at_faults tally.new.left.items }
 {
     let Made {
         checkpoint,
@@ -350,6 +244,8 @@ fn go_on<S: StateFolder, T: Tree, C: Clock>(
         → IfOk result (λ next. IsWalkAt root (part_of part.now) next.0 kept.new)) }
     ensures clock { IsTrue C.told → BeginsInTime plan.now.end
         (C.answers clock.old) (C.answers clock.new) tally.old.runs tally.new.runs }
+    ensures left { MayLeave plan.now.stop_at_faults tally.old.left.items
+        → MayLeave plan.now.stop_at_faults tally.new.left.items }
 {
     if phase_of(&checkpoint) != Phase::Open {
         return Ok((checkpoint, Some(Pause::Closing)));
@@ -393,6 +289,8 @@ fn runs<S: StateFolder, T: Tree, C: Clock>(
         ((S.seen folder.new).closed ≡ (S.seen folder.old).closed) }
     ensures clock { IsTrue C.told → BeginsInTime plan.now.end
         (C.answers clock.old) (C.answers clock.new) tally.old.runs tally.new.runs }
+    ensures left { MayLeave plan.now.stop_at_faults tally.old.left.items
+        → MayLeave plan.now.stop_at_faults tally.new.left.items }
 {
     let mut kept = KeptWalk::none();
     let mut checkpoint = start;
@@ -468,6 +366,8 @@ fn make_runs<S: StateFolder, T: Tree, C: Clock, W: Write>(
         (S.seen folder.old).closed (S.seen folder.new).closed) }
     ensures clock { IsTrue C.told → BeginsInTime plan.now.end
         (C.answers clock.old) (C.answers clock.new) tally.old.runs tally.new.runs }
+    ensures left { MayLeave plan.now.stop_at_faults tally.old.left.items
+        → MayLeave plan.now.stop_at_faults tally.new.left.items }
     ensures said { IsTrue S.told → IfTold T.told (T.state tree.old) (λ root. HasShortFiles root
         → (t : Text) → IsReady S.seen S.may_leave (part_of part.now) t checkpoint folder.old
         → OnOk result (IsAllSaid (S.seen folder.new))) }
@@ -566,6 +466,8 @@ fn go_through<S: StateFolder, T: Tree, C: Clock, W: Write>(
         (S.seen folder.old).closed (S.seen folder.new).closed) }
     ensures clock { IsTrue C.told → BeginsInTime plan.now.end
         (C.answers clock.old) (C.answers clock.new) tally.old.runs tally.new.runs }
+    ensures left { MayLeave plan.now.stop_at_faults tally.old.left.items
+        → MayLeave plan.now.stop_at_faults tally.new.left.items }
     ensures said { IsTrue S.told → IfTold T.told (T.state tree.old) (λ root. HasShortFiles root
         → IsKept S.may_leave (part_at site.now.ends) folder.old
         → OnOk result (IsAllSaid (S.seen folder.new))) }
@@ -674,6 +576,12 @@ pub fn night<S: StateFolder, T: Tree, C: Clock, W: Write>(
         → IsOneMore (part_at site.now.ends) cycle
         (S.seen folder.old).closed (S.seen folder.new).closed) }
 
+    // At most 16 branches are left out, none if the night is to stop at faults, and neither the
+    // storage root nor one after which no place comes.
+    ensures few { length result.left.items ≤ 16 }
+    ensures none_left { IsTrue plan.now.stop_at_faults → result.left.items ≡ [] }
+    ensures ends { All (λ branch. IsTrue (has_end branch)) result.left.items }
+
     // No run is begun but where the clock has answered that the end has not come.
     ensures clock { IsTrue C.told → BeginsInTime plan.now.end
         (C.answers clock.old) (C.answers clock.new) 0 result.runs }
@@ -692,6 +600,7 @@ fn account(tally: Tally, lost: bool, through: Result<Halt, NotOpened>) -> NightE
         → through ≡ Ok (halt.CycleEnded cycle) }
     ensures runs { result.runs ≡ tally.runs }
     ensures lost { result.lost ≡ lost }
+    ensures left { result.left ≡ tally.left }
     ensures said { ((why : ModelStop) → result.end ≢ halt.Troubled why)
         → ((why : ModelRefusal) → result.end ≢ halt.Refused why) → IsOk through }
     ensures not_begun { IsErr through → IsNotBegun result.end }

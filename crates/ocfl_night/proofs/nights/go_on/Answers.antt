@@ -1,8 +1,9 @@
-use Rattle.std.proofs.Common.{◌+◌, arith}
+use Rattle.std.proofs.Common.{◌+◌, ap, arith}
 use Rattle.ocfl_night.specs.Sound.{IsSoundAt}
 use Rattle.ocfl_night.proofs.Moments.{joined_moments}
 use Rattle.ocfl_scrub.specs.Starting.{part_of}
 use Rattle.ocfl_night.proofs.Clocks.{none_begun, fewer}
+use Rattle.ocfl_night.specs.declared.tally.Tally.{Tally}
 use Rattle.ocfl_night.proofs.TakingUp.{ready_moments}
 use Rattle.ocfl_night.proofs.nights.go_on.Goals as goal
 
@@ -20,12 +21,12 @@ returns-then-ne-clause-clock g c = λ told. none_begun c.args.plan.now.end (g.C.
 pub returns-in_err-made-clause-clock : goal.returns-in_err-made-clause-clock
 returns-in_err-made-clause-clock g c = λ told.
     let count = c.args.tally.now.runs in
-    fewer c.args.plan.now.end (g.C.Clock.answers c.args.clock.now) (g.C.Clock.answers c.allowed.new.clock) count (count + 1) c.begin.new.self.runs (c.in-Ok.ensures.more told count) c.begin.ensures
+    fewer c.args.plan.now.end (g.C.Clock.answers c.args.clock.now) (g.C.Clock.answers c.allowed.new.clock) count (count + 1) c.begin.new.self.runs (c.in-Ok.ensures.more told count) (omega (arith, c.begin.ensures.runs))
 
 pub returns-clause-clock : goal.returns-clause-clock
 returns-clause-clock g c = λ told.
     let count = c.args.tally.now.runs in
-    fewer c.args.plan.now.end (g.C.Clock.answers c.args.clock.now) (g.C.Clock.answers c.allowed.new.clock) count (count + 1) c.go_on_after.new.tally.runs (c.in-Ok.ensures.more told count) (omega (arith, c.go_on_after.ensures.runs, c.count.ensures, c.begin.ensures))
+    fewer c.args.plan.now.end (g.C.Clock.answers c.args.clock.now) (g.C.Clock.answers c.allowed.new.clock) count (count + 1) c.go_on_after.new.tally.runs (c.in-Ok.ensures.more told count) (omega (arith, c.go_on_after.ensures.runs, ap (λ (x : Tally). x.runs) c.count.ensures.same, c.begin.ensures.runs))
 
 pub returns-clause-any_moment : goal.returns-clause-any_moment
 returns-clause-any_moment g c = λ told tells root over short walk t r.

@@ -1,5 +1,7 @@
-use Rattle.std.proofs.Common.{⊎_elim, Bool, subst, sym}
+use Rattle.std.proofs.Common.{◌≡◌, ◌≤◌, [], ⊎_elim, All, Bool, Global, Vec, length, subst, sym}
 use Rattle.std.specs.Prelude.{IsTrue}
+use Rattle.ocfl_tree.specs.Place.{Place}
+use Rattle.ocfl_night.specs.Leaving.{has_end}
 use Rattle.ocfl_night.specs.Site.{part_at}
 use Rattle.ocfl_night.specs.Sound.{IsSound, IsHeardSince}
 use Rattle.ocfl_night.proofs.Moments.{leaves_weaker}
@@ -50,3 +52,15 @@ pub returns-clause-lost : goal.returns-clause-lost
 returns-clause-lost g c = λ told k at lost well unrefused.
     subst (λ (b : Bool). IsTrue b) (sym c.account.ensures.lost)
     (on_ok c.go_through-through.result (c.account.ensures.said well unrefused) (c.go_through-through.ensures.lost told k at lost))
+
+pub returns-clause-few : goal.returns-clause-few
+returns-clause-few g c =
+    subst (λ (left : Vec Place Global). length left.items ≤ 16) (sym c.account.ensures.left) (c.go_through-through.ensures.left (c.none-tally.ensures.left c.args.plan.now.stop_at_faults)).few
+
+pub returns-clause-none_left : goal.returns-clause-none_left
+returns-clause-none_left g c = λ strict.
+    subst (λ (left : Vec Place Global). left.items ≡ []) (sym c.account.ensures.left) ((c.go_through-through.ensures.left (c.none-tally.ensures.left c.args.plan.now.stop_at_faults)).none strict)
+
+pub returns-clause-ends : goal.returns-clause-ends
+returns-clause-ends g c =
+    subst (λ (left : Vec Place Global). All (λ b. IsTrue (has_end b)) left.items) (sym c.account.ensures.left) (c.go_through-through.ensures.left (c.none-tally.ensures.left c.args.plan.now.stop_at_faults)).ends

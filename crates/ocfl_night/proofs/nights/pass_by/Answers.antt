@@ -1,3 +1,5 @@
+use Rattle.std.proofs.Common.{◌∙◌, ap, sym}
+use Rattle.ocfl_night.specs.Leaving.{checkpoint_by, pause_by}
 use Rattle.ocfl_night.proofs.TakingUp.{ready_moments}
 use Rattle.ocfl_night.proofs.nights.pass_by.Goals as goal
 
@@ -5,10 +7,26 @@ pub returns-then-ne-clause-any_moment : goal.returns-then-ne-clause-any_moment
 returns-then-ne-clause-any_moment g c = λ told part t r.
     ready_moments g.S.StateFolder.seen g.S.StateFolder.may_leave g.S.StateFolder.moment g.S.StateFolder.left_since (g.met.S.StateFolder.only_now told) part t c.args.checkpoint c.args.folder.now r
 
-pub returns-in_err-branch-clause-any_moment : goal.returns-in_err-branch-clause-any_moment
-returns-in_err-branch-clause-any_moment g c = λ told part t r.
+pub returns-in_err-remedy-clause-any_moment : goal.returns-in_err-remedy-clause-any_moment
+returns-in_err-remedy-clause-any_moment g c = λ told part t r.
     ready_moments g.S.StateFolder.seen g.S.StateFolder.may_leave g.S.StateFolder.moment g.S.StateFolder.left_since (g.met.S.StateFolder.only_now told) part t c.args.checkpoint c.args.folder.now r
 
-pub returns-in-Err-clause-any_moment : goal.returns-in-Err-clause-any_moment
-returns-in-Err-clause-any_moment g c = λ told part t r.
+pub returns-in-TryAgain-clause-any_moment : goal.returns-in-TryAgain-clause-any_moment
+returns-in-TryAgain-clause-any_moment g c = λ told part t r.
     ready_moments g.S.StateFolder.seen g.S.StateFolder.may_leave g.S.StateFolder.moment g.S.StateFolder.left_since (g.met.S.StateFolder.only_now told) part t c.args.checkpoint c.args.folder.now r
+
+pub returns-in-TryAgain-clause-checkpoint : goal.returns-in-TryAgain-clause-checkpoint
+returns-in-TryAgain-clause-checkpoint g c = λ there. ap (checkpoint_by c.args.checkpoint) (sym c.in-TryAgain.is ∙ c.in_ok-remedy.ensures.is)
+
+pub returns-in-TryAgain-clause-pause : goal.returns-in-TryAgain-clause-pause
+returns-in-TryAgain-clause-pause g c = λ there. ap (pause_by c.args.place) (sym c.in-TryAgain.is ∙ c.in_ok-remedy.ensures.is)
+
+pub returns-in-Halt-clause-any_moment : goal.returns-in-Halt-clause-any_moment
+returns-in-Halt-clause-any_moment g c = λ told part t r.
+    ready_moments g.S.StateFolder.seen g.S.StateFolder.may_leave g.S.StateFolder.moment g.S.StateFolder.left_since (g.met.S.StateFolder.only_now told) part t c.args.checkpoint c.args.folder.now r
+
+pub returns-in-Halt-clause-checkpoint : goal.returns-in-Halt-clause-checkpoint
+returns-in-Halt-clause-checkpoint g c = λ there. ap (checkpoint_by c.args.checkpoint) (sym c.in-Halt.is ∙ c.in_ok-remedy.ensures.is)
+
+pub returns-in-Halt-clause-pause : goal.returns-in-Halt-clause-pause
+returns-in-Halt-clause-pause g c = λ there. ap (pause_by c.args.place) (sym c.in-Halt.is ∙ c.in_ok-remedy.ensures.is)

@@ -16,6 +16,7 @@ loop-run-init g c =
       ready = λ told tells root over short t r. r;
       closed = λ told. refl;
       clock = λ told. none_begun c.args.plan.now.end (g.C.Clock.answers c.args.clock.now) c.args.tally.now.runs;
+      left = λ may. may;
       root = λ tells root over short. over;
       walk = λ tells root over short. walk_none root part c.args.start c.none-kept.result c.none-kept.ensures;
     }
@@ -58,6 +59,7 @@ loop-run-preserved g c =
       ready = λ told tells root over short t r. c.in_ok-next.ensures.ready told tells root (inv.root tells root over short) short (inv.walk tells root over short) t (inv.ready told tells root over short t r);
       closed = λ told. c.in_ok-next.ensures.closed told ∙ inv.closed told;
       clock = λ told. begun_on c.args.plan.now.end (g.C.Clock.answers c.args.clock.now) (g.C.Clock.answers c.loop-run.clock) (g.C.Clock.answers c.go_on.new.clock) c.args.tally.now.runs c.loop-run.tally.runs c.go_on.new.tally.runs (c.loop-run.invariant.clock told) (c.go_on.ensures.clock told);
+      left = λ may. c.go_on.ensures.left (inv.left may);
       root = λ tells root over short. c.go_on.ensures.root tells root (inv.root tells root over short) short (inv.walk tells root over short);
       walk = λ tells root over short. c.in_ok-next.ensures.walk tells root (inv.root tells root over short) short (inv.walk tells root over short);
     }

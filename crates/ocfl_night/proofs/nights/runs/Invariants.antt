@@ -6,6 +6,7 @@ use Rattle.std.specs.Prelude.{IsTrue}
 use Rattle.ocfl_scrub.specs.Starting.{part_of}
 use Rattle.ocfl_state.specs.Crash.{LeavesOnly}
 use Rattle.ocfl_night.specs.Clock.{BeginsInTime}
+use Rattle.ocfl_night.specs.Leaving.{MayLeave}
 use Rattle.ocfl_night.specs.Sound.{IsReady, IsSoundAt}
 use Rattle.ocfl_night.specs.Steps.{IsWalkAt}
 use Rattle.ocfl_night.proofs.nights.runs.Given as goal
@@ -20,6 +21,7 @@ invariant-loop-run g l =
       ready : IsTrue g.S.StateFolder.told → IfTold g.T.Tree.told (g.T.Tree.state l.fn.tree) (λ root. HasShortFiles root → (t : Text) → IsReady seen may_leave part t l.fn.start l.fn.folder → IsReady seen may_leave part t l.checkpoint l.folder);
       closed : IsTrue g.S.StateFolder.told → (seen l.folder).closed ≡ (seen l.fn.folder).closed;
       clock : IsTrue g.C.Clock.told → BeginsInTime l.fn.plan.end (g.C.Clock.answers l.fn.clock) (g.C.Clock.answers l.clock) l.fn.tally.runs l.tally.runs;
+      left : MayLeave l.fn.plan.stop_at_faults l.fn.tally.left.items → MayLeave l.fn.plan.stop_at_faults l.tally.left.items;
       root : IfTold g.T.Tree.told (g.T.Tree.state l.fn.tree) (λ root. HasShortFiles root → (g.T.Tree.state l.tree).tree ≡ root);
       walk : IfTold g.T.Tree.told (g.T.Tree.state l.fn.tree) (λ root. HasShortFiles root → IsWalkAt root part l.checkpoint l.kept);
     }

@@ -1,0 +1,92 @@
+-- What a night does about a run that stopped at a place, and which branch it leaves out for it.
+use Rattle.std.specs.Prelude.{◌≡◌, ◌≤◌, ◌-◌, ◌++◌, ◌∷◌, [], List, Bool, IsTrue, true, false, not, ◌&&◌, ◌||◌, if◌then◌else◌, Option, Some, None, All, length, take, nat_lt, nat_le, nat_eq}
+use Rattle.std.specs.List.{starts_with}
+use Rattle.ocfl_tree.specs.Place.{Text, Place, text_eq, place_eq}
+use Rattle.ocfl_inventory.specs.Declaration.{is_declaration}
+use Rattle.ocfl_inventory.specs.declared.declaration.Level.TheVariants.{Object}
+use Rattle.ocfl_audit.specs.Zone.{inventory_name}
+use Rattle.ocfl_item.specs.declared.fault.Fault.TheVariants as fault
+use Rattle.ocfl_state.specs.Checkpoint.{Checkpoint}
+use Rattle.ocfl_night.specs.Chain.{past}
+use Rattle.ocfl_night.specs.Steps.{with_left}
+use Rattle.ocfl_night.specs.declared.plan.Pause.{Pause}
+use Rattle.ocfl_night.specs.declared.plan.Pause.TheVariants as pause
+use Rattle.ocfl_night.specs.declared.tally.Remedy.{Remedy}
+use Rattle.ocfl_night.specs.declared.tally.Remedy.TheVariants.{TryAgain, LeaveOut, Halt}
+use Rattle.ocfl_night.specs.declared.tally.Tally.{Tally}
+
+-- ---- the branch of a place
+
+-- nothing for the storage root
+abbrev pub last_name : Place → Text
+last_name [] = []
+last_name (n ∷ []) = n
+last_name (n ∷ m ∷ p) = last_name (m ∷ p)
+
+-- whether a file of this name is an inventory, or a sidecar of one
+abbrev pub is_of_inventory : Text → Bool
+is_of_inventory n = text_eq n inventory_name || starts_with nat_eq n (inventory_name ++ 46 ∷ [])
+
+-- or speaks for the object that it lies in otherwise, as its declaration
+abbrev pub speaks_for_object : Text → Bool
+speaks_for_object n = is_of_inventory n || is_declaration Object n
+
+-- the branch that is left out for a place: that of the object which it speaks for, or its own
+abbrev pub branch_at : Place → Place
+branch_at p = if speaks_for_object (last_name p) then take (length p - 1) p else p
+
+-- whether a place comes after all that a branch has: not for the storage root, and not where the
+-- last name has 255 bytes
+abbrev pub has_end : Place → Bool
+has_end [] = false
+has_end (n ∷ p) = nat_lt (length (last_name (n ∷ p))) 255
+
+abbrev pub end_of : Place → Option Place
+end_of branch = if has_end branch then Some (past branch) else None
+
+-- ---- what is done
+
+-- the branch to leave out for a place, after these: none after 16, or if it has no end
+abbrev pub branch_for : List Place → Place → Option Place
+branch_for left p = if nat_lt (length left) 16 && has_end (branch_at p) then Some (branch_at p) else None
+
+abbrev pub remedy_by : Option Place → Remedy
+remedy_by None = Halt
+remedy_by (Some branch) = LeaveOut branch
+
+abbrev pub is_at : Option Place → Place → Bool
+is_at None p = false
+is_at (Some tried) p = place_eq tried p
+
+-- The place is tried once more, and then its branch is left out. A night that is to stop at faults
+-- halts, and so does one after the 64th run that stopped.
+abbrev pub remedy_at : Bool → Tally → Place → Remedy
+remedy_at strict tally p =
+    if strict || nat_le 64 tally.stops then Halt
+    else (if is_at tally.tried p then remedy_by (branch_for tally.left.items p) else TryAgain)
+
+-- the place that is tried once more
+abbrev pub tried_by : Place → Remedy → Option Place
+tried_by p TryAgain = Some p
+tried_by p _ = None
+
+-- the branch that is left out
+abbrev pub left_by : Remedy → List Place
+left_by (LeaveOut branch) = branch ∷ []
+left_by _ = []
+
+abbrev pub checkpoint_by : Checkpoint → Remedy → Checkpoint
+checkpoint_by k (LeaveOut branch) = with_left branch k
+checkpoint_by k _ = k
+
+-- what halts the night
+abbrev pub pause_by : Place → Remedy → Option Pause
+pause_by p Halt = Some (pause.Stopped (fault.Store p))
+pause_by p _ = None
+
+-- ---- what a night may leave out
+
+pub record MayLeave (strict : Bool) (left : List Place) : Type 0 where
+  pub few : length left ≤ 16
+  pub none : strict ≡ true → left ≡ []
+  pub ends : All (λ b. IsTrue (has_end b)) left

@@ -7,6 +7,7 @@ ghost use Rattle.ocfl_state.specs.Content.{empty};
 
 use crate::disk::{Disk, for_appending, for_reading, of_file, wrong};
 use crate::folder::{MOST_CHECKPOINT, StateFolder, Trouble};
+use crate::fs_log::append_line;
 use crate::lock::{StateStop, hold};
 use crate::state_file::{Reason, StateFile, closed_file};
 use std::fs::File;
@@ -125,7 +126,7 @@ impl<R: Files<File = File> + AllocGlobal + Clone + Drop> FsState<R> {
         ensures kept { IfErr result (λ trouble. IsKept self.new trouble) }
         ensures same { OnOk result (self.new ≡ self.old) }
     {
-        let appended = self.log(line);
+        let appended = append_line(&self.disk, line);
         self.answer(appended)
     }
 
@@ -151,17 +152,6 @@ impl<R: Files<File = File> + AllocGlobal + Clone + Drop> FsState<R> {
                 Err(reason.trouble())
             }
         }
-    }
-
-    fn log(&self, line: &[u8]) -> Result<(), Reason> {
-        let mut file = self.disk.open_or_create(StateFile::Log)?;
-        let before = of_file(StateFile::Log, file.metadata())?.len();
-        let written = file.write_all(line);
-        if written.is_err() {
-            // A part of a line is no line.
-            let _ = file.set_len(before);
-        }
-        of_file(StateFile::Log, written)
     }
 
     fn closed(&self, cycle: u64) -> Result<Option<OpenReport>, Reason> {

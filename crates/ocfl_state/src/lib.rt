@@ -19,6 +19,7 @@ mod disk;
 mod extending;
 mod finding;
 mod folder;
+mod fs_log;
 mod fs_state;
 mod held;
 pub mod laws;
@@ -41,6 +42,7 @@ pub use comparing::{digests_of_front, digests_of_report, is_report_of, resume_di
 pub use extending::append_marked;
 pub use finding::{FoundReport, find_report, may_close_whole};
 pub use folder::{MOST_CHECKPOINT, StateFolder, Trouble};
+pub use fs_log::FsLog;
 pub use fs_state::{FsState, OpenReport};
 pub use held::ClosedReport;
 pub use lock::StateStop;

@@ -426,8 +426,7 @@ const SLICE: &str =
 \"row\":\"slice\",\"run\":2,\"seconds\":9,\"spent\":5,\"stands\":\"after a\\\"\\\\/%0A\",\
 \"status\":3,\"time\":1700000001}\n";
 
-const LEFT: &str =
-    "{\"cycle\":3,\"night\":2,\"place\":\"a/b%0A\",\"row\":\"left\",\"time\":1}\n";
+const LEFT: &str = "{\"cycle\":3,\"night\":2,\"place\":\"a/b%0A\",\"row\":\"left\",\"time\":1}\n";
 
 const CLOSING: &str = "{\"cycle\":3,\"findings\":4,\"gone\":7,\"left\":8,\"new\":5,\"night\":2,\
 \"repaired\":6,\"report\":\"/s/%C2%9B\",\"row\":\"closing\",\"time\":1,\"whole\":true}\n";

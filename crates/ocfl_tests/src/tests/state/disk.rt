@@ -1,6 +1,6 @@
 //! The state folder of the file system.
 use crate::tests::common::Runtime;
-use ocfl_state::{FsState, StateFile, StateFolder, StateStop, Trouble};
+use ocfl_state::{FsLog, FsState, StateFile, StateFolder, StateStop, Trouble};
 use std::io::Read;
 use std::rt::Files;
 use std::test::Fail;
@@ -152,8 +152,10 @@ fn other_files_are_read_and_written(rt: HostRuntime) -> Result<(), Fail> {
     fs::write(&rt, "others/stop", "")?;
     assert!(rt; folder.has_stop()?);
     folder.append_log(b"one\n")?;
-    folder.append_log(b"two\n")?;
-    expect_text(&rt, "others/log", "one\ntwo\n")?;
+    let log = FsLog::at(rt.clone()?, "others")?;
+    log.append(b"two\n").map_err(|reason| reason.trouble())?;
+    folder.append_log(b"three\n")?;
+    expect_text(&rt, "others/log", "one\ntwo\nthree\n")?;
     assert!(rt; folder.open_closed(1)?.is_none());
     folder.append(b"abc")?;
     folder.close(1, false)?;

@@ -109,7 +109,7 @@ module _ (last : Place) (ps new : List Pile) (entry : Entry) (a : Option Around)
   pub entry_after : place_cmp last (t.place ++ entry.name ∷ []) ≡ Less
   entry_after = old_chain.2.0
 
-  -- an entry is in a directory of at most 127 names
+  -- an entry is in a directory whose place has at most 127 names
   pub entry_short : (x : Place) → x ≡ t.place ++ entry.name ∷ [] → length x ≤ 255
   entry_short x e = omega (arith, ap length e, length_one t.place entry.name, old_chain.1)
 

@@ -31,7 +31,7 @@ use Rattle.ocfl_walk.proofs.FilterLaws.{left_all, left_fewer}
 use Rattle.ocfl_walk.proofs.ReachLaws.{comes_on}
 use Rattle.ocfl_walk.proofs.KeepLaws.{left_above}
 use Rattle.ocfl_walk.proofs.LeadsLaws.{around_on}
-use Rattle.ocfl_walk.proofs.OrderlyLaws.{before_below, begins_own, length_one, own_names}
+use Rattle.ocfl_walk.proofs.OrderlyLaws.{before_below, length_one, orderly_top}
 use Rattle.ocfl_audit.proofs.StackLaws.{start_stops}
 
 -- ---- the names above one
@@ -56,13 +56,8 @@ module _ {d : Place} {es : List Entry} {ps qs : List Pile} {a : Option Around} {
   -- the last listing
   pub end_orderly : (q : Place) → length q ≡ 0 → IsAscending text_cmp (names_of left) → length left ≤ max_entries → IsOrderly (d ++ q) qs a
   end_orderly q none up few =
-      let own : IsOrderly d ((d, left) ∷ ps) a = record {
-        chain = (begins_own d, omega (arith, h.short), own_names d (names_of left), up, h.chain);
-        few = (few, h.few);
-        object = h.object;
-      } in
       let same : d ++ q ≡ d = ap (λ x. d ++ x) (nil_from_length q none) ∙ append-nil d in
-      subst (λ x. IsOrderly x qs a) (sym same) (subst (λ xs. IsOrderly d xs a) (sym top) own)
+      subst (λ x. IsOrderly x qs a) (sym same) (subst (λ xs. IsOrderly d xs a) (sym top) (orderly_top d left ps a h.short up few h.chain h.few h.object))
 
   module _ (n : Text) (whole : List Entry) (left_is : left ≡ left_above n whole) (up : IsAscending text_cmp (names_of whole)) (few : length whole ≤ max_entries) where
     chain_above : (r : Place) (k : ℕ) → length d < k → IsChain (d ++ n ∷ r) k ((d, names_of left) ∷ frames_of ps)

@@ -7,12 +7,13 @@ use Rattle.std.specs.List.{AllByRecursion}
 use Rattle.std.specs.declared.cmp.Ordering.{Ordering}
 use Rattle.std.specs.declared.cmp.Ordering.TheVariants.{Less, Equal, Greater}
 use Rattle.ocfl_tree.specs.Place.{Place, Text, text_cmp, place_cmp, begins}
-use Rattle.ocfl_tree.specs.Ascending.{IsBeforeAll}
+use Rattle.ocfl_tree.specs.Ascending.{IsAscending, IsBeforeAll}
 use Rattle.ocfl_tree.specs.declared.store.Entry.{Entry}
 use Rattle.ocfl_tree.specs.StorageRoot.{max_entries}
+use Rattle.ocfl_audit.specs.Zone.{max_listed_depth}
 use Rattle.ocfl_audit.specs.Stack.{Frame}
 use Rattle.ocfl_walk.specs.Standing.{Pile, back_onto, frames_of, size_of, weigh, entry_weight, paths_above, levels}
-use Rattle.ocfl_walk.specs.Internal.Standing.{IsAroundIf, IsChain, IsFairPile, IsFitIf, IsOrderly, IsOrderlyIf, IsTaken, left_names, pushed, trimmed, trimmed_from}
+use Rattle.ocfl_walk.specs.Internal.Standing.{IsAroundIf, IsChain, IsFairPile, IsFitIf, IsOrderly, IsOrderlyIf, IsTaken, left_of_folder, pushed, trimmed, trimmed_from}
 use Rattle.ocfl_item.specs.declared.folder.Folder.{Folder}
 use Rattle.ocfl_item.specs.declared.meeting.Around.{Around}
 use Rattle.ocfl_audit.proofs.BelowLaws.{above_self, above_name, begins_front, begins_rest}
@@ -102,6 +103,15 @@ own_names x (n ∷ ns) = (above_self x n [], own_names x ns)
 pub begins_own : (x : Place) → begins x x ≡ true
 begins_own x = subst (λ y. begins x y ≡ true) (append-nil x) (begins_front x [])
 
+-- with what is left of the listing of the last place on top
+pub orderly_top : (d : Place) (left : List Entry) (ps : List Pile) (a : Option Around) → length d ≤ max_listed_depth → IsAscending text_cmp (map (λ e. e.name) left) → length left ≤ max_entries
+    → IsChain d (length d) (frames_of ps) → AllByRecursion (λ p. length p.1 ≤ max_entries) ps → IsAroundIf d a → IsOrderly d ((d, left) ∷ ps) a
+orderly_top d left ps a short up few chain fewer object = record {
+  chain = (begins_own d, omega (arith, short), own_names d (map (λ e. e.name) left), up, chain);
+  few = (few, fewer);
+  object = object;
+}
+
 module _ (last : Place) (ps new : List Pile) (entry : Entry) (a : Option Around) (h : IsOrderly last ps a) (t : IsTaken ps new entry) where
   pub old_chain : IsChain last levels ((t.place, entry.name ∷ map (λ e. e.name) t.rest) ∷ frames_of t.others)
   old_chain = subst (λ qs. IsChain last levels (frames_of qs)) t.old_is h.chain
@@ -126,8 +136,7 @@ module _ (last : Place) (ps new : List Pile) (entry : Entry) (a : Option Around)
   orderly_entry x e (Some f) g a' h' =
       let deeper : length t.place < length x = omega (arith, ap length e, length_one t.place entry.name) in
       let below : IsChain x (length x) (frames_of new) = subst (λ y. IsChain y (length x) (frames_of new)) (sym e) (chain_at_entry (length x) deeper) in
-      let own : IsChain x levels ((x, left_names f) ∷ frames_of new) = (begins_own x, omega (arith, g.depth), own_names x (left_names f), g.ascends, below) in
-      record { chain = subst (λ d. IsChain x levels ((d, left_names f) ∷ frames_of new)) (sym g.place) own; few = (g.few, new_few); object = h' }
+      subst (λ d. IsOrderly x ((d, left_of_folder f) ∷ new) a') (sym g.place) (orderly_top x (left_of_folder f) new a' g.depth g.ascends g.few below new_few h')
 
 -- ---- room for one more listing
 

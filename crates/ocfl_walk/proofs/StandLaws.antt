@@ -1,15 +1,15 @@
 -- Where a walk stands after a step, on a told tree.
-use Rattle.std.proofs.Common.{◌≡◌, inl, inr, ◌<◌, List, [], ◌∷◌, ◌++◌, refl, sym, ◌∙◌, ap, subst, false, Option, Some, None, arith}
+use Rattle.std.proofs.Common.{◌≡◌, inl, inr, ◌<◌, List, [], ◌∷◌, ◌++◌, sym, ◌∙◌, ap, subst, false, Option, Some, None, arith}
 use Rattle.std.proofs.lemmas.List.{append-nil}
 use Rattle.std.specs.Prelude.{IfOk, Result, Ok, Err, option_map}
-use Rattle.ocfl_tree.specs.Place.{Place, Text}
+use Rattle.ocfl_tree.specs.Place.{Place}
 use Rattle.ocfl_tree.specs.StorageRoot.{StorageRoot}
 use Rattle.ocfl_tree.specs.Store.{Store}
 use Rattle.ocfl_tree.specs.declared.store.Entry.{Entry}
 use Rattle.ocfl_tree.proofs.Orders.{place_cmp_total}
 use Rattle.ocfl_audit.specs.Zone.{inside, zone}
 use Rattle.ocfl_audit.specs.Walk.{seen_names}
-use Rattle.ocfl_audit.specs.Stack.{Frame, IsStack, IsListed}
+use Rattle.ocfl_audit.specs.Stack.{IsStack, IsListed}
 use Rattle.ocfl_walk.specs.Standing.{StandsAt, stand_size, AreEntries, HaveEntries, IsStanding, Pile, frames_of}
 use Rattle.ocfl_walk.specs.Internal.Standing.{IsTaken, IsTurn, left_names, left_of_folder, path_from, popped, pushed}
 use Rattle.ocfl_item.specs.Around.{IsTableAround}
@@ -40,40 +40,25 @@ after_on (Some a) x y h k = place_cmp_total.trans a x y h k
 -- ---- the stack after a step
 
 module _ (root : StorageRoot) where
-  -- at an entry, its listing on top if it is entered
+  -- with the listing of x on top if it is entered
+  pub stands_top : (x : Place) (f : Option Folder) (ps : List Pile) (a : Option Around) → IsStack root x ((x, seen_names root x) ∷ frames_of ps) → IsListed root (frames_of ps) → HaveEntries root ps
+      → IsPileAt root x f → IsTableAround root x a → IsStanding root x (pushed f ps) a
+  stands_top x None ps a stack listed entries e z = record { stack = subst (λ ns. IsStack root x ((x, ns) ∷ frames_of ps)) e stack; listed = listed; entries = entries; table = z }
+  stands_top x (Some g) ps a stack listed entries e z = record {
+    stack = subst (λ d. IsStack root x ((d, left_names g) ∷ frames_of ps)) (sym e.0) (subst (λ ns. IsStack root x ((x, ns) ∷ frames_of ps)) (sym e.1) stack);
+    listed = subst (λ d. IsListed root ((d, left_names g) ∷ frames_of ps)) (sym e.0) (subst (λ ns. IsListed root ((x, ns) ∷ frames_of ps)) (sym e.1) ((λ n i. i), listed));
+    entries = (subst (λ d. AreEntries root d (left_of_folder g)) (sym e.0) e.2, entries);
+    table = z;
+  }
+
+  -- at an entry
   pub entry_stands : (last x : Place) (ps new : List Pile) (entry : Entry) (f : Option Folder) (a a' : Option Around) → HaveEntries root ps → IsTurn root last x ((x, seen_names root x) ∷ popped ps)
       → IsTaken ps new entry → IsPileAt root x f → IsTableAround root x a' → IsStanding root x (pushed f new) a'
-  entry_stands last x ps new entry f a a' h t k m z = by f m
-    where
-      left : popped ps ≡ frames_of new
-      left = ap popped k.old_is ∙ sym (ap frames_of k.new_is)
-
-      stack : IsStack root x ((x, seen_names root x) ∷ frames_of new)
-      stack = subst (λ fs. IsStack root x ((x, seen_names root x) ∷ fs)) left t.stack
-
-      listed : IsListed root ((x, seen_names root x) ∷ frames_of new)
-      listed = subst (λ fs. IsListed root ((x, seen_names root x) ∷ fs)) left t.listed
-
-      entries : HaveEntries root new
-      entries = let old : HaveEntries root ((k.place, entry ∷ k.rest) ∷ k.others) = subst (HaveEntries root) k.old_is h in subst (HaveEntries root) (sym k.new_is) (old.0.1, old.1)
-
-      by : (f : Option Folder) → IsPileAt root x f → IsStanding root x (pushed f new) a'
-      by None e = record {
-        stack = subst (λ ns. IsStack root x ((x, ns) ∷ frames_of new)) e stack;
-        listed = listed.1;
-        entries = entries;
-        table = z;
-      }
-      by (Some g) e = record {
-        stack = subst (λ d. IsStack root x ((d, left_names g) ∷ frames_of new)) (sym e.0) (subst (λ ns. IsStack root x ((x, ns) ∷ frames_of new)) (sym e.1) stack);
-        listed = subst (λ d. IsListed root ((d, left_names g) ∷ frames_of new)) (sym e.0)
-            (subst (λ ns. IsListed root ((x, ns) ∷ frames_of new)) (sym e.1) (listed_own x (seen_names root x) (frames_of new) listed refl));
-        entries = (subst (λ d. AreEntries root d (left_of_folder g)) (sym e.0) e.2, entries);
-        table = z;
-      }
-        where
-          listed_own : (x : Place) (ns : List Text) (fs : List Frame) → IsListed root ((x, ns) ∷ fs) → ns ≡ seen_names root x → IsListed root ((x, ns) ∷ fs)
-          listed_own x ns fs l e = l
+  entry_stands last x ps new entry f a a' h t k m z =
+      let left : popped ps ≡ frames_of new = ap popped k.old_is ∙ sym (ap frames_of k.new_is) in
+      let listed : IsListed root (frames_of new) = subst (IsListed root) left t.listed.1 in
+      let old : HaveEntries root ((k.place, entry ∷ k.rest) ∷ k.others) = subst (HaveEntries root) k.old_is h in
+      stands_top x f new a' (subst (λ fs. IsStack root x ((x, seen_names root x) ∷ fs)) left t.stack) listed (subst (HaveEntries root) (sym k.new_is) (old.0.1, old.1)) m z
 
   pub object_zone : (o s q : Place) (p : Place) → zone root p ≡ inside o s → zone root (o ++ q) ≡ inside o q
   object_zone o s q p e = inside_on root o o [] q (subst (λ x. zone root x ≡ inside o []) (append-nil o) (zone_part root (is_closed root) p o [] s e))

@@ -1,18 +1,15 @@
 -- The first step of a walk, to the storage root.
-use Rattle.std.proofs.Common.{◌≡◌, ℕ, ◌+◌, ◌*◌, ◌^◌, ◌<◌, ◌≤◌, List, [], ◌∷◌, ◌++◌, refl, sym, ◌∙◌, ap, subst, map, Option, Some, None, length, arith}
+use Rattle.std.proofs.Common.{◌≡◌, ℕ, ◌+◌, ◌*◌, ◌^◌, ◌<◌, ◌≤◌, List, [], ◌∷◌, refl, sym, ◌∙◌, ap, subst, Option, Some, None, length, arith}
 use Rattle.std.proofs.Math.Nat.{pow-suc, one-le-pow, mul_comm}
 use Rattle.std.specs.declared.alloc.Global.{Global}
 use Rattle.std.specs.Prelude.{IfSome, Vec}
 use Rattle.ocfl_tree.specs.declared.store.Entry.{Entry}
-use Rattle.ocfl_tree.specs.Place.{Place, Text, begins, place_cmp}
-use Rattle.ocfl_tree.specs.Ascending.{IsAmong, IsBeforeAll}
+use Rattle.ocfl_tree.specs.Place.{Place, Text}
 use Rattle.ocfl_tree.specs.StorageRoot.{StorageRoot, max_entries}
 use Rattle.ocfl_tree.specs.Store.{Store}
 use Rattle.ocfl_audit.specs.Due.{due}
-use Rattle.ocfl_audit.specs.Walk.{seen_names}
-use Rattle.ocfl_audit.specs.Stack.{IsStack, seen_left, seen_places}
-use Rattle.ocfl_walk.specs.Standing.{AreEntries, IsStanding, Pile, StandsAt, entry_weight, piles_at, piles_in, size_of, stand_size, weigh, levels}
-use Rattle.ocfl_walk.specs.Internal.Standing.{IsFairPile, IsOrderly, left_names, left_of_folder, pushed}
+use Rattle.ocfl_walk.specs.Standing.{IsStanding, Pile, StandsAt, entry_weight, piles_at, piles_in, size_of, stand_size, weigh, levels}
+use Rattle.ocfl_walk.specs.Internal.Standing.{IsFairPile, IsOrderly, left_of_folder, pushed}
 use Rattle.ocfl_item.specs.Meeting.{IsItemAt, Meets}
 use Rattle.ocfl_walk.specs.Internal.Walking.{IsPileAt, Steps, step_from}
 use Rattle.ocfl_item.specs.declared.folder.Folder.{Folder}
@@ -22,7 +19,9 @@ use Rattle.ocfl_walk.specs.declared.stand.Stand.{Stand}
 use Rattle.ocfl_item.proofs.BaseLaws.{root_some}
 use Rattle.ocfl_walk.proofs.DueTurns.{due_first}
 use Rattle.ocfl_item.proofs.HeadCalls.{inside_not_root}
+use Rattle.ocfl_walk.proofs.OrderlyLaws.{orderly_top}
 use Rattle.ocfl_walk.proofs.PlacedLaws.{piles_count}
+use Rattle.ocfl_walk.proofs.StandLaws.{stands_top}
 use Rattle.ocfl_walk.proofs.SizeLaws.{mul_room}
 use Rattle.ocfl_audit.proofs.StackLaws.{stack_starts}
 use Rattle.ocfl_audit.specs.Head.{on}
@@ -43,19 +42,13 @@ first_pushed x vs ws f e none fair push = ap (λ p. piles_at p ws) e ∙ push []
     fits None k = tt
     fits (Some g) k = (k.place, (let n : length (piles_at [] vs) ≡ 0 = ap length none in let m = piles_count [] vs in let z : 0 ≡ length vs = omega (arith, n, m) in z))
 
-above_root : (d : Place) (ns : List Text) → d ≡ [] → IsBeforeAll place_cmp [] (map (λ n. d ++ n ∷ []) ns)
-above_root d [] e = tt
-above_root d (n ∷ ns) e = (ap (λ y. place_cmp [] (y ++ n ∷ [])) e, above_root d ns e)
-
 pub orderly_first : (x : Place) (f : Option Folder) (ps : List Pile) (a : Option Around) → x ≡ [] → ps ≡ [] → a ≡ None → IfSome f (λ g. IsFairPile [] g) → IsOrderly x (pushed f ps) a
 orderly_first x f ps a e none alone h =
     subst (λ b. IsOrderly x (pushed f ps) b) (sym alone) (subst (λ qs. IsOrderly x (pushed f qs) None) (sym none) (subst (λ y. IsOrderly y (pushed f []) None) (sym e) (by f h)))
   where
     by : (f : Option Folder) → IfSome f (λ g. IsFairPile [] g) → IsOrderly [] (pushed f []) None
     by None k = record { chain = tt; few = tt; object = tt }
-    by (Some g) k =
-        let short : length g.place ≡ 0 = ap length k.place in
-        record { chain = (ap (λ y. begins y []) k.place, omega (arith, short), above_root g.place (left_names g) k.place, k.ascends, tt); few = (k.few, tt); object = tt }
+    by (Some g) k = subst (λ d. IsOrderly [] ((d, left_of_folder g) ∷ []) None) (sym k.place) (orderly_top [] (left_of_folder g) [] None k.depth k.ascends k.few tt tt tt)
 
 module _ (w : ℕ) (big : max_entries < w) where
   weigh_first : (n v : ℕ) → 1 ≤ v → n ≤ max_entries → n * v + 0 < v * w * w
@@ -103,24 +96,8 @@ item_first x (Some p) e h = h ∙ sym e
 module _ (root : StorageRoot) where
   pub first_stands : (x : Place) (f : Option Folder) (ps : List Pile) (a : Option Around) → x ≡ [] → ps ≡ [] → a ≡ None → IsPileAt root [] f → IsStanding root x (pushed f ps) a
   first_stands x f ps a e none alone h =
-      subst (λ b. IsStanding root x (pushed f ps) b) (sym alone) (subst (λ qs. IsStanding root x (pushed f qs) None) (sym none) (subst (λ y. IsStanding root y (pushed f []) None) (sym e) (by f h)))
-    where
-      starts : IsStack root [] (([], seen_names root []) ∷ [])
-      starts = stack_starts root (is_closed root) []
-
-      by : (f : Option Folder) → IsPileAt root [] f → IsStanding root [] (pushed f []) None
-      by None k = record {
-        stack = sym (ap (λ ns. seen_left (seen_places root) (([], ns) ∷ [])) k) ∙ starts;
-        listed = tt;
-        entries = tt;
-        table = λ o s z. absurd (inside_not_root root o s z);
-      }
-      by (Some g) k = record {
-        stack = subst (λ d. IsStack root [] ((d, left_names g) ∷ [])) (sym k.0) (subst (λ ns. IsStack root [] (([], ns) ∷ [])) (sym k.1) starts);
-        listed = ((λ n i. subst (λ d. IsAmong (seen_names root d) n) (sym k.0) (subst (λ ns. IsAmong ns n) k.1 i)), tt);
-        entries = (subst (λ d. AreEntries root d (left_of_folder g)) (sym k.0) k.2, tt);
-        table = λ o s z. absurd (inside_not_root root o s z);
-      }
+      subst (λ b. IsStanding root x (pushed f ps) b) (sym alone) (subst (λ qs. IsStanding root x (pushed f qs) None) (sym none) (subst (λ y. IsStanding root y (pushed f []) None) (sym e)
+      (stands_top root [] f [] None (stack_starts root (is_closed root) []) tt tt h (λ o s z. absurd (inside_not_root root o s z)))))
 
   -- the storage root comes first
   pub near_first : IsNear root None []

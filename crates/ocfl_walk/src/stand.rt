@@ -498,7 +498,7 @@ impl Stand {
         self.take_next(alloc, store, end)
     }
 
-    /// Takes the next place, where it is not past the end. The last listing is not empty.
+    /// Takes the next place, if it is not past the end, from a stand without empty listings on top.
     fn take_next<T: Tree>(&mut self, alloc: Global, store: &mut T, end: &End) -> Result<Step, Fault>
         requires orderly { IsOrderlyStand self.old }
         requires trim { trimmed (piles_in self.old.last self.old.listings.items)

@@ -33,8 +33,8 @@ use Rattle.ocfl_scrub.proofs.Passing.{due_in, Finishes, Halts}
 use Rattle.ocfl_scrub.proofs.LookLaws.{looks_over, stops_looking, stops_above}
 use Rattle.ocfl_scrub.proofs.WayListed.{halted_lie, taken_lie}
 use Rattle.ocfl_scrub.specs.WholeAudit.{AuditsWithin, AuditStopsWithin, AuditEndsWithin}
-use Rattle.ocfl_scrub.specs.declared.checking.End.{End}
-use Rattle.ocfl_scrub.specs.declared.checking.End.TheVariants.{Ended, Stopped}
+use Rattle.ocfl_scrub.specs.declared.checking.AuditStatus.{AuditStatus}
+use Rattle.ocfl_scrub.specs.declared.checking.AuditStatus.TheVariants.{Ended, Stopped}
 use Rattle.ocfl_scrub.proofs.AuditsJoined.{items_append}
 use Rattle.ocfl_scrub.proofs.TakeLaws.{nothing_of}
 
@@ -154,7 +154,7 @@ none_left [] n e = refl
 none_left (x ∷ xs) n e = absurd (omega (arith, e))
 
 -- what was written is the text of the audit of files that can all be read
-pub nothing_unread : (root : StorageRoot) (part : Part) (s t : Store) (old new : Option (List ℕ)) (last : Option Place) (finding : Bool) (end : End)
+pub nothing_unread : (root : StorageRoot) (part : Part) (s t : Store) (old new : Option (List ℕ)) (last : Option Place) (finding : Bool) (end : AuditStatus)
     → AuditEndsWithin (call_of root s t old new) part last finding end → end ≡ Ended
     → t.failures ≡ s.failures → Appends old new (text (within part (audit root []))) × (finding ≡ found (within part (audit root [])))
 nothing_unread root part s t old new last finding Ended h e same =

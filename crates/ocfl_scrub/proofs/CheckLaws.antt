@@ -31,8 +31,8 @@ use Rattle.ocfl_item.specs.declared.pending.Pending.{Pending}
 use Rattle.ocfl_scrub.specs.Call.{call_of}
 use Rattle.ocfl_scrub.specs.Taking.{PartOf, Takes, Misses}
 use Rattle.ocfl_scrub.specs.Checking.{checked_item, AreOnce, IsJustFor, Checks, CheckStops, CheckEnds}
-use Rattle.ocfl_scrub.specs.declared.checking.End.{End}
-use Rattle.ocfl_scrub.specs.declared.checking.End.TheVariants.{Stopped}
+use Rattle.ocfl_scrub.specs.declared.checking.AuditStatus.{AuditStatus}
+use Rattle.ocfl_scrub.specs.declared.checking.AuditStatus.TheVariants.{Stopped}
 use Rattle.ocfl_walk.proofs.FoundLaws.{none_hashed}
 use Rattle.ocfl_item.proofs.AuditingLaws.{audits_fail, audits_on}
 use Rattle.ocfl_scrub.proofs.TakeLaws.{nothing_of}
@@ -214,7 +214,7 @@ module _ (root : StorageRoot) (p : Place) where
 
 -- ---- at the ends that a call gives
 
-pub check_stopped : (root : StorageRoot) (s t : Store) (old new : Option (List ℕ)) (p : Place) (item finding : Bool) (why : Fault) (end : End)
+pub check_stopped : (root : StorageRoot) (s t : Store) (old new : Option (List ℕ)) (p : Place) (item finding : Bool) (why : Fault) (end : AuditStatus)
     → end ≡ Stopped why → CheckStops (call_of root s t old new) p why → CheckEnds (call_of root s t old new) p item finding end
 check_stopped root s t old new p item finding why end e w = subst (λ x. CheckEnds (call_of root s t old new) p item finding x) (sym e) w
 
@@ -223,7 +223,7 @@ pub check_took : (root : StorageRoot) (s t u : Store) (old new : Option (List �
     → Checks (call_of root s u old new) p true finding
 check_took root s t u old new p q cost finding e g some k = down_and_taken root p s t u old new g some cost finding (subst (λ x. Takes (call_of root t u old new) x cost finding) e k)
 
-pub check_missed : (root : StorageRoot) (s t u : Store) (old new : Option (List ℕ)) (p q : Place) (item finding : Bool) (why : Fault) (end : End)
+pub check_missed : (root : StorageRoot) (s t u : Store) (old new : Option (List ℕ)) (p q : Place) (item finding : Bool) (why : Fault) (end : AuditStatus)
     → end ≡ Stopped why → q ≡ p → GoesDown root s t (Some p) → notes root None p ≢ []
     → Misses (call_of root t u old new) q why → CheckEnds (call_of root s u old new) p item finding end
 check_missed root s t u old new p q item finding why end f e g some k =

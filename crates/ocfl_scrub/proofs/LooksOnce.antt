@@ -12,8 +12,8 @@ use Rattle.ocfl_scrub.specs.Call.{Call}
 use Rattle.ocfl_scrub.specs.Running.{RunEndsWithin}
 use Rattle.ocfl_scrub.specs.Starting.{looked_in, read_in, LooksOver, StopsLooking}
 use Rattle.ocfl_scrub.specs.WholeAudit.{AuditEndsWithin}
-use Rattle.ocfl_scrub.specs.declared.checking.End.{End}
-use Rattle.ocfl_scrub.specs.declared.checking.End.TheVariants as end
+use Rattle.ocfl_scrub.specs.declared.checking.AuditStatus.{AuditStatus}
+use Rattle.ocfl_scrub.specs.declared.checking.AuditStatus.TheVariants as end
 use Rattle.ocfl_scrub.specs.declared.running.RunStatus.{RunStatus}
 use Rattle.ocfl_scrub.specs.declared.running.RunStatus.TheVariants as run
 use Rattle.ocfl_scrub.proofs.WayOrder.{listed_once_in, read_once_in}
@@ -51,11 +51,11 @@ module _ (call : Call) (part : Part) (from : Option Place) where
 -- ---- the audit of a part
 
 module _ (call : Call) (part : Part) (last : Option Place) (finding : Bool) where
-  pub part_lists_once : (how : End) → AuditEndsWithin call part last finding how → (listed : List Place) × ((call.after.listings ≡ call.before.listings ++ listed) × IsAscending place_cmp listed)
+  pub part_lists_once : (how : AuditStatus) → AuditEndsWithin call part last finding how → (listed : List Place) × ((call.after.listings ≡ call.before.listings ++ listed) × IsAscending place_cmp listed)
   part_lists_once end.Ended h = looks_list call part None None _ h.trail h.looks
   part_lists_once (end.Stopped why) h = stops_list call part None _ h.trail why h.looks
 
-  pub part_reads_once : (how : End) → AuditEndsWithin call part last finding how → (trail : List Opening)
+  pub part_reads_once : (how : AuditStatus) → AuditEndsWithin call part last finding how → (trail : List Opening)
       × ((call.after.openings ≡ call.before.openings ++ trail) × IsAscending place_cmp (heads_of call.root trail))
   part_reads_once end.Ended h = looks_read call part None None _ h.trail h.looks
   part_reads_once (end.Stopped why) h = stops_read call part None _ h.trail why h.looks

@@ -22,8 +22,8 @@ use Rattle.ocfl_deed.specs.declared.deed.Deed.TheVariants as deed
 use Rattle.ocfl_scrub.specs.Noting.{IsStatus, IsStopSaid, IsRunSaid, IsStopNote, IsAuditSaid, IsCheckSaid, IsCycleSaid, IsShowSaid, IsCheckNote, IsAuditNote, IsRunNote, IsCycleNote, IsUnreadNote, IsPartRefusedNote, IsUnshownNote, IsRanSaid}
 use Rattle.ocfl_scrub.specs.Performing.{IsKept, IsKeptBy, IsSilent, IsWhole}
 use Rattle.ocfl_scrub.specs.Scoping.{IsBranchNote, IsBranchSaid, IsPartRunSaid, IsPartUnreadNote}
-use Rattle.ocfl_scrub.specs.declared.checking.End.{End}
-use Rattle.ocfl_scrub.specs.declared.checking.End.TheVariants as end
+use Rattle.ocfl_scrub.specs.declared.checking.AuditStatus.{AuditStatus}
+use Rattle.ocfl_scrub.specs.declared.checking.AuditStatus.TheVariants as end
 use Rattle.ocfl_scrub.specs.declared.running.RunStatus.{RunStatus}
 use Rattle.ocfl_scrub.specs.declared.running.RunStatus.TheVariants as run
 use Rattle.ocfl_scrub.specs.declared.cycling.CycleStatus.{CycleStatus}
@@ -232,11 +232,11 @@ stop_says_one fault.Output m n h k = h ∙ sym k
 stop_says_one fault.Broken m n h k = absurd h
 
 module _ (a b : ℕ) (m n : Note) where
-  pub check_says_one : (item finding : Bool) (how : End) → IsCheckNote item finding how a m → IsCheckNote item finding how b n → (a ≡ b) × (m ≡ n)
+  pub check_says_one : (item finding : Bool) (how : AuditStatus) → IsCheckNote item finding how a m → IsCheckNote item finding how b n → (a ≡ b) × (m ≡ n)
   check_says_one item finding end.Ended h k = (h.0 ∙ sym k.0, h.1 ∙ sym k.1)
   check_says_one item finding (end.Stopped why) h k = (h.0 ∙ sym k.0, stop_says_one why m n h.1 k.1)
 
-  pub audit_says_one : (finding : Bool) (how : End) → IsAuditNote finding how a m → IsAuditNote finding how b n → (a ≡ b) × (m ≡ n)
+  pub audit_says_one : (finding : Bool) (how : AuditStatus) → IsAuditNote finding how a m → IsAuditNote finding how b n → (a ≡ b) × (m ≡ n)
   audit_says_one finding end.Ended h k = (h.0 ∙ sym k.0, h.1 ∙ sym k.1)
   audit_says_one finding (end.Stopped why) h k = (h.0 ∙ sym k.0, stop_says_one why m n h.1 k.1)
 
@@ -270,7 +270,7 @@ module _ (a b : ℕ) (m n : Note) where
   unshown_says_one (show.Whole why) h k = unread_says_one why h k
   unshown_says_one (show.Part why) h k = part_refused_says_one why h k
 
-  pub branch_says_one : (finding : Bool) (how : End) (last : Option Place) → IsBranchNote finding how last a m → IsBranchNote finding how last b n → (a ≡ b) × (m ≡ n)
+  pub branch_says_one : (finding : Bool) (how : AuditStatus) (last : Option Place) → IsBranchNote finding how last a m → IsBranchNote finding how last b n → (a ≡ b) × (m ≡ n)
   branch_says_one finding end.Ended None h k = (h.0 ∙ sym k.0, h.1 ∙ sym k.1)
   branch_says_one finding end.Ended (Some p) h k = audit_says_one finding end.Ended h k
   branch_says_one finding (end.Stopped why) last h k = audit_says_one finding (end.Stopped why) h k
@@ -281,7 +281,7 @@ module _ (a b : ℕ) (m n : Note) where
 
 -- ---- what a command says is said of one of its ends
 
-pub audit_said : (status : ℕ) (n : Note) → IsStatus status n → IsAuditSaid n → (finding : Bool) × ((how : End) × IsAuditNote finding how status n)
+pub audit_said : (status : ℕ) (n : Note) → IsStatus status n → IsAuditSaid n → (finding : Bool) × ((how : AuditStatus) × IsAuditNote finding how status n)
 audit_said status note.Nothing (inl e) h = (false, (end.Ended, (e, refl)))
 audit_said status note.Nothing (inr e) h = (true, (end.Ended, (e, refl)))
 audit_said status (note.StoppedAt p) e h = (false, (end.Stopped (fault.Store p), (e, refl)))
@@ -289,7 +289,7 @@ audit_said status note.OutOfMemory e h = (false, (end.Stopped fault.Memory, (e, 
 audit_said status note.OutputFailed e h = (false, (end.Stopped fault.Output, (e, refl)))
 audit_said status n e h = absurd h
 
-pub check_said : (status : ℕ) (n : Note) → IsStatus status n → IsCheckSaid n → (n ≡ note.BadPath) ⊎ ((item : Bool) × ((finding : Bool) × ((how : End) × IsCheckNote item finding how status n)))
+pub check_said : (status : ℕ) (n : Note) → IsStatus status n → IsCheckSaid n → (n ≡ note.BadPath) ⊎ ((item : Bool) × ((finding : Bool) × ((how : AuditStatus) × IsCheckNote item finding how status n)))
 check_said status note.BadPath e h = inl refl
 check_said status note.NoItem e h = inr (false, (false, (end.Ended, (e, refl))))
 check_said status note.Nothing (inl e) h = inr (true, (false, (end.Ended, (e, refl))))
@@ -356,7 +356,7 @@ show_said status (note.CursorRefused why) e h = let how = unread_said status why
 show_said status (note.PartCursorRefused why) e h = inr (inr (show.Part why, part_refused_said status why e))
 show_said status n e h = absurd h
 
-pub branch_said : (status : ℕ) (n : Note) → IsStatus status n → IsBranchSaid n → (finding : Bool) × ((how : End) × ((last : Option Place) × IsBranchNote finding how last status n))
+pub branch_said : (status : ℕ) (n : Note) → IsStatus status n → IsBranchSaid n → (finding : Bool) × ((how : AuditStatus) × ((last : Option Place) × IsBranchNote finding how last status n))
 branch_said status note.EmptyBranch e h = (false, (end.Ended, (None, (e, refl))))
 branch_said status note.Nothing (inl e) h = (false, (end.Ended, (Some [], (e, refl))))
 branch_said status note.Nothing (inr e) h = (true, (end.Ended, (Some [], (e, refl))))

@@ -24,8 +24,8 @@ use Rattle.ocfl_scrub.specs.Openings.{OpensNear, OpensWithin}
 use Rattle.ocfl_scrub.specs.Running.{RunEndsWithin}
 use Rattle.ocfl_scrub.specs.Starting.{FilesLieIn, LooksOver, StopsLooking, entry, looked_in}
 use Rattle.ocfl_scrub.specs.WholeAudit.{AuditEndsWithin}
-use Rattle.ocfl_scrub.specs.declared.checking.End.{End}
-use Rattle.ocfl_scrub.specs.declared.checking.End.TheVariants as end
+use Rattle.ocfl_scrub.specs.declared.checking.AuditStatus.{AuditStatus}
+use Rattle.ocfl_scrub.specs.declared.checking.AuditStatus.TheVariants as end
 use Rattle.ocfl_scrub.specs.declared.running.RunStatus.{RunStatus}
 use Rattle.ocfl_scrub.specs.declared.running.RunStatus.TheVariants as run
 
@@ -93,7 +93,7 @@ module _ (call : Call) (part : Part) (from : Option Place) where
 
 -- ---- of an audit, a run and a check
 
-pub audit_opens : (call : Call) (part : Part) (last : Option Place) (finding : Bool) (e : End) → AuditEndsWithin call part last finding e
+pub audit_opens : (call : Call) (part : Part) (last : Option Place) (finding : Bool) (e : AuditStatus) → AuditEndsWithin call part last finding e
     → OpensWithin part None call.before call.after
 audit_opens call part last finding end.Ended h = looks_near call part None None _ h.trail h.looks
 audit_opens call part last finding (end.Stopped why) h = stops_near call part None _ h.trail why h.looks
@@ -112,7 +112,7 @@ module _ (call : Call) (p : Place) where
   abbrev pub Opens : Type 0
   Opens = (listed : List Place) × (OpensNear call.before call.after listed × ((d : Place) → IsAmong listed d → (q : Place) × (p ≡ d ++ q)))
 
-  pub check_opens : (item finding : Bool) (e : End) → CheckEnds call p item finding e → Opens
+  pub check_opens : (item finding : Bool) (e : AuditStatus) → CheckEnds call p item finding e → Opens
   check_opens item finding end.Ended h = (
     h.listed,
     (

@@ -28,8 +28,8 @@ use Rattle.ocfl_scrub.specs.Performing.{HandsBack, IsSaid, Performs, RefusesRigh
 use Rattle.ocfl_scrub.specs.Scoping.{BranchAudited, HandsBackIn, IsBranchNote, IsSaidIn, PartRefusesRightly, PerformsIn, RefusesRightlyIn}
 use Rattle.ocfl_scrub.specs.WholeAudit.{AuditEndsWithin}
 use Rattle.ocfl_scrub.specs.Written.{places, last_of}
-use Rattle.ocfl_scrub.specs.declared.checking.End.{End}
-use Rattle.ocfl_scrub.specs.declared.checking.End.TheVariants as end
+use Rattle.ocfl_scrub.specs.declared.checking.AuditStatus.{AuditStatus}
+use Rattle.ocfl_scrub.specs.declared.checking.AuditStatus.TheVariants as end
 use Rattle.ocfl_scrub.specs.declared.note.Note.{Note}
 use Rattle.ocfl_scrub.specs.declared.note.Note.TheVariants as note
 use Rattle.ocfl_scope.specs.declared.scope.Scope.TheVariants as scope
@@ -82,7 +82,7 @@ module _ (call : Call) (p : Place) (status : ℕ) where
   pub no_item : BranchAudited call p status note.EmptyBranch → Ended call p (λ items. items ≡ [])
   no_item h = by h.audits.ran.end h.audits.ran.last h.audits.audits h.audits.says
     where
-      by : (how : End) (last : Option Place) → AuditEndsWithin call (branch p) last h.audits.ran.found how → IsBranchNote h.audits.ran.found how last status note.EmptyBranch → Ended call p (λ items. items ≡ [])
+      by : (how : AuditStatus) (last : Option Place) → AuditEndsWithin call (branch p) last h.audits.ran.found how → IsBranchNote h.audits.ran.found how last status note.EmptyBranch → Ended call p (λ items. items ≡ [])
       by end.Ended None a says = (a.trail, (a.looks.audits.did.openings_are, no_items _ (sym a.last_is)))
       by end.Ended (Some q) a says = absurd (let e = says.1 in cc)
       by (end.Stopped why) last a says = absurd (no_stop why note.EmptyBranch (inl refl) says.1)
@@ -90,7 +90,7 @@ module _ (call : Call) (p : Place) (status : ℕ) where
   pub some_item : BranchAudited call p status note.Nothing → Ended call p (λ items. items ≢ [])
   some_item h = by h.audits.ran.end h.audits.ran.last h.audits.audits h.audits.says
     where
-      by : (how : End) (last : Option Place) → AuditEndsWithin call (branch p) last h.audits.ran.found how → IsBranchNote h.audits.ran.found how last status note.Nothing → Ended call p (λ items. items ≢ [])
+      by : (how : AuditStatus) (last : Option Place) → AuditEndsWithin call (branch p) last h.audits.ran.found how → IsBranchNote h.audits.ran.found how last status note.Nothing → Ended call p (λ items. items ≢ [])
       by end.Ended None a says = absurd (let e = says.1 in cc)
       by end.Ended (Some q) a says = (a.trail, (a.looks.audits.did.openings_are, λ none. let last = a.last_is ∙ ap (λ items. last_of None (places items)) none in cc))
       by (end.Stopped why) last a says = absurd (no_stop why note.Nothing (inr refl) says.1)

@@ -16,7 +16,7 @@ use Rattle.ocfl_scrub.specs.Performing.{PartAudited, Performs}
 use Rattle.ocfl_scrub.specs.Scoping.{PerformsIn}
 use Rattle.ocfl_scrub.specs.WholeAudit.{AuditEndsWithin}
 use Rattle.ocfl_scrub.specs.declared.auditing.AuditEnd.{AuditEnd}
-use Rattle.ocfl_scrub.specs.declared.checking.End.TheVariants as end
+use Rattle.ocfl_scrub.specs.declared.checking.AuditStatus.TheVariants as end
 use Rattle.ocfl_scrub.specs.declared.note.Note.{Note}
 use Rattle.ocfl_scrub.specs.declared.note.Note.TheVariants as note
 use Rattle.ocfl_scope.specs.declared.scope.Scope.{Scope}

@@ -15,8 +15,8 @@ use Rattle.ocfl_item.specs.declared.fault.Fault.{Fault}
 use Rattle.ocfl_scrub.specs.Call.{Call, Writes}
 use Rattle.ocfl_scrub.specs.Starting.{FilesLieIn}
 use Rattle.ocfl_scrub.specs.Taking.{PartOf}
-use Rattle.ocfl_scrub.specs.declared.checking.End.{End}
-use Rattle.ocfl_scrub.specs.declared.checking.End.TheVariants as end
+use Rattle.ocfl_scrub.specs.declared.checking.AuditStatus.{AuditStatus}
+use Rattle.ocfl_scrub.specs.declared.checking.AuditStatus.TheVariants as end
 
 -- the item at a place, if a trail shows what could not be read
 abbrev pub checked_item : StorageRoot → List Opening → Place → List Item
@@ -62,6 +62,6 @@ pub record CheckStops (call : Call) (p : Place) (why : Fault) : Type 0 where
   pub wrote : Writes call part
   pub part_of : PartOf why (text (checked_item call.root trail p)) part
 
-abbrev pub CheckEnds : Call → Place → Bool → Bool → End → Type 0
+abbrev pub CheckEnds : Call → Place → Bool → Bool → AuditStatus → Type 0
 CheckEnds call p item finding end.Ended = Checks call p item finding
 CheckEnds call p item finding (end.Stopped why) = CheckStops call p why

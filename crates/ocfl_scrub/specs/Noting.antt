@@ -18,8 +18,8 @@ use Rattle.ocfl_scrub.specs.Checking.{CheckEnds}
 use Rattle.ocfl_scrub.specs.WholeAudit.{AuditEndsWithin}
 use Rattle.ocfl_scrub.specs.declared.auditing.AuditEnd.{AuditEnd}
 use Rattle.ocfl_scrub.specs.declared.checking.CheckEnd.{CheckEnd}
-use Rattle.ocfl_scrub.specs.declared.checking.End.{End}
-use Rattle.ocfl_scrub.specs.declared.checking.End.TheVariants as end
+use Rattle.ocfl_scrub.specs.declared.checking.AuditStatus.{AuditStatus}
+use Rattle.ocfl_scrub.specs.declared.checking.AuditStatus.TheVariants as end
 use Rattle.ocfl_audit.specs.Parts.{Part}
 use Rattle.ocfl_audit.specs.Runs.{Limits}
 use Rattle.ocfl_scrub.specs.Running.{RunsFromWithin, RunsCleanlyWithin}
@@ -146,12 +146,12 @@ IsStopNote fault.Output n = n ≡ note.OutputFailed
 IsStopNote fault.Broken n = ⊥
 
 -- what a check ended with
-abbrev pub IsCheckNote : Bool → Bool → End → ℕ → Note → Type 0
+abbrev pub IsCheckNote : Bool → Bool → AuditStatus → ℕ → Note → Type 0
 IsCheckNote item finding end.Ended status n = (status ≡ status_of finding) × (n ≡ ended_note item)
 IsCheckNote item finding (end.Stopped why) status n = (status ≡ 3) × IsStopNote why n
 
 -- what an audit ended with
-abbrev pub IsAuditNote : Bool → End → ℕ → Note → Type 0
+abbrev pub IsAuditNote : Bool → AuditStatus → ℕ → Note → Type 0
 IsAuditNote finding end.Ended status n = (status ≡ status_of finding) × (n ≡ note.Nothing)
 IsAuditNote finding (end.Stopped why) status n = (status ≡ 3) × IsStopNote why n
 

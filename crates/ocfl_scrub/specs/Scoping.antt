@@ -19,8 +19,8 @@ use Rattle.ocfl_scrub.specs.Call.{Call}
 use Rattle.ocfl_scrub.specs.Noting.{IsAuditSaid, IsRunSaid, IsAuditNote, IsPartRefusedNote}
 use Rattle.ocfl_scrub.specs.Performing.{IfRead, IsSaid, RefusesRightly, HandedBack, HandsBack, PartAudited, OutOfMemoryFirst, RunMade, RunUnmade, RunUnread, RunWorn, Performs}
 use Rattle.ocfl_scrub.specs.Running.{limits_of}
-use Rattle.ocfl_scrub.specs.declared.checking.End.{End}
-use Rattle.ocfl_scrub.specs.declared.checking.End.TheVariants as end
+use Rattle.ocfl_scrub.specs.declared.checking.AuditStatus.{AuditStatus}
+use Rattle.ocfl_scrub.specs.declared.checking.AuditStatus.TheVariants as end
 use Rattle.ocfl_scrub.specs.declared.note.Note.{Note}
 use Rattle.ocfl_scrub.specs.declared.note.Note.TheVariants as note
 
@@ -45,7 +45,7 @@ IsSaidIn d w n = IsSaid d n
 
 -- what the audit of a branch ended with: a branch in which no item went out, and which did not
 -- stop, is said to be empty
-abbrev pub IsBranchNote : Bool → End → Option Place → ℕ → Note → Type 0
+abbrev pub IsBranchNote : Bool → AuditStatus → Option Place → ℕ → Note → Type 0
 IsBranchNote finding end.Ended None status n = (status ≡ 2) × (n ≡ note.EmptyBranch)
 IsBranchNote finding how last status n = IsAuditNote finding how status n
 

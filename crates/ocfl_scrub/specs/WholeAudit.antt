@@ -12,8 +12,8 @@ use Rattle.ocfl_scrub.specs.Taking.{WritesLines}
 use Rattle.ocfl_scrub.specs.Starting.{items_in, LooksOver, StopsLooking}
 use Rattle.ocfl_scrub.specs.Written.{places, last_of, StopsWithin}
 use Rattle.ocfl_scrub.specs.declared.auditing.AuditEnd.{AuditEnd}
-use Rattle.ocfl_scrub.specs.declared.checking.End.{End}
-use Rattle.ocfl_scrub.specs.declared.checking.End.TheVariants as end
+use Rattle.ocfl_scrub.specs.declared.checking.AuditStatus.{AuditStatus}
+use Rattle.ocfl_scrub.specs.declared.checking.AuditStatus.TheVariants as end
 
 -- what an audit does on any store, by what the output is before it and after it
 pub record AuditsOnAnyStore {O : Type 0} (contents : O → Option (List ℕ)) (old new : O) (ran : AuditEnd) : Type 0 where
@@ -39,7 +39,7 @@ pub record AuditStopsWithin (call : Call) (part : Part) (last : Option Place) (f
   pub found_is : finding ≡ found stops.whole
   pub looks : StopsLooking call part None (places stops.whole ++ stops.begun) trail why
 
-abbrev pub AuditEndsWithin : Call → Part → Option Place → Bool → End → Type 0
+abbrev pub AuditEndsWithin : Call → Part → Option Place → Bool → AuditStatus → Type 0
 AuditEndsWithin call part last finding end.Ended = AuditsWithin call part last finding
 AuditEndsWithin call part last finding (end.Stopped why) = AuditStopsWithin call part last finding why
 
@@ -51,5 +51,5 @@ AuditsAll call last finding = AuditsWithin call whole last finding
 abbrev pub AuditStops : Call → Option Place → Bool → Fault → Type 0
 AuditStops call last finding why = AuditStopsWithin call whole last finding why
 
-abbrev pub AuditEnds : Call → Option Place → Bool → End → Type 0
+abbrev pub AuditEnds : Call → Option Place → Bool → AuditStatus → Type 0
 AuditEnds call last finding end = AuditEndsWithin call whole last finding end

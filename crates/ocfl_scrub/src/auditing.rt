@@ -8,7 +8,7 @@ ghost use Rattle.ocfl_audit.specs.Parts.{within};
 ghost use Rattle.ocfl_scrub.specs.Starting.{part_of};
 ghost use Rattle.ocfl_scrub.specs.WholeAudit.{AuditEnds, AuditEndsWithin, AuditsOnAnyStore};
 
-use crate::checking::End;
+use crate::checking::AuditStatus;
 use crate::part::{Part, set_out};
 use crate::taking::{either, take_item};
 use ocfl_digest::Block;
@@ -24,7 +24,7 @@ pub struct AuditEnd {
     pub found: bool,
     /// The place of the last item that went out whole.
     pub last: Option<Place>,
-    pub end: End,
+    pub end: AuditStatus,
 }
 
 /// Writes the report lines of a whole storage root, item by item: the lines of one go out as one
@@ -44,7 +44,7 @@ pub fn audit<T: Tree, W: Write>(
     ensures told { WhereTold T.told T.state W.contents store.old store.new out.old out.new (λ call.
         AuditEnds call result.last result.found result.end) }
     ensures unfailing { WhereTold T.told T.state W.contents store.old store.new out.old out.new
-        (λ call. result.end ≡ End.Ended → IsUnfailing call
+        (λ call. result.end ≡ AuditStatus.Ended → IsUnfailing call
         → Writes call (text (whole_audit call.root []))
         × (result.found ≡ found_in (whole_audit call.root []))) }
 {
@@ -66,34 +66,34 @@ pub fn audit_part<T: Tree, W: Write>(
     ensures told { WhereTold T.told T.state W.contents store.old store.new out.old out.new (λ call.
         AuditEndsWithin call (part_of part.now) result.last result.found result.end) }
     ensures unfailing { WhereTold T.told T.state W.contents store.old store.new out.old out.new
-        (λ call. result.end ≡ End.Ended → IsUnfailing call
+        (λ call. result.end ≡ AuditStatus.Ended → IsUnfailing call
         → let items = within (part_of part.now) (whole_audit call.root []) in
         Writes call (text items) × (result.found ≡ found_in items)) }
 {
     let mut walk = match set_out(alloc, store, part, None) {
         Ok(walk) => walk,
-        Err(why) => return audit_end(None, false, End::Stopped(why)),
+        Err(why) => return audit_end(None, false, AuditStatus::Stopped(why)),
     };
     let mut last = None;
     let mut found = false;
     let end = loop {
         let pending = match walk.next_within(store, &part.end) {
             Ok(Some(pending)) => pending,
-            Ok(None) => break End::Ended,
-            Err(why) => break End::Stopped(why),
+            Ok(None) => break AuditStatus::Ended,
+            Err(why) => break AuditStatus::Stopped(why),
         };
         match take_item(alloc, store, pending, block, out) {
             Ok(taken) => {
                 found = either(found, taken.found);
                 last = Some(taken.place);
             }
-            Err(why) => break End::Stopped(why),
+            Err(why) => break AuditStatus::Stopped(why),
         }
     };
     audit_end(last, found, end)
 }
 
-fn audit_end(last: Option<Place>, found: bool, end: End) -> AuditEnd
+fn audit_end(last: Option<Place>, found: bool, end: AuditStatus) -> AuditEnd
     ensures last { result.last ≡ last }
     ensures found { result.found ≡ found }
     ensures end { result.end ≡ end }

@@ -11,9 +11,9 @@ use ocfl_walk::{Fault, item_at};
 use std::alloc::Global;
 use std::io::Write;
 
-/// How a call ended.
+/// How an audit or a check ended.
 #[derive(Debug, Drop)]
-pub enum End {
+pub enum AuditStatus {
     Ended,
     Stopped(Fault),
 }
@@ -25,7 +25,7 @@ pub struct CheckEnd {
     pub found: bool,
     /// Whether there are lines for the place.
     pub item: bool,
-    pub end: End,
+    pub end: AuditStatus,
 }
 
 /// Writes the report lines of one place.
@@ -41,10 +41,10 @@ pub fn check<T: Tree, W: Write>(
     out: &mut W,
 ) -> CheckEnd
     // Of every store.
-    ensures whole { result.end ≢ End.Stopped Fault.Broken }
-    ensures stopped { result.end ≢ End.Ended → result.item ≡ false }
+    ensures whole { result.end ≢ AuditStatus.Stopped Fault.Broken }
+    ensures stopped { result.end ≢ AuditStatus.Ended → result.item ≡ false }
     ensures no_item { result.item ≡ false → result.found ≡ false }
-    ensures silent { result.item ≡ false → result.end ≢ End.Stopped Fault.Output
+    ensures silent { result.item ≡ false → result.end ≢ AuditStatus.Stopped Fault.Output
         → out.new ≡ out.old }
     ensures lines { result.item ≡ true → WritesLines (W.contents out.old)
         (W.contents out.new) result.found }
@@ -59,7 +59,7 @@ pub fn check<T: Tree, W: Write>(
             return CheckEnd {
                 found: false,
                 item: false,
-                end: End::Ended,
+                end: AuditStatus::Ended,
             };
         }
         Err(why) => return stopped(why),
@@ -68,20 +68,20 @@ pub fn check<T: Tree, W: Write>(
         Ok(taken) => CheckEnd {
             found: taken.found,
             item: true,
-            end: End::Ended,
+            end: AuditStatus::Ended,
         },
         Err(why) => stopped(why),
     }
 }
 
 fn stopped(why: Fault) -> CheckEnd
-    ensures end { result.end ≡ End.Stopped why }
+    ensures end { result.end ≡ AuditStatus.Stopped why }
     ensures found { result.found ≡ false }
     ensures item { result.item ≡ false }
 {
     CheckEnd {
         found: false,
         item: false,
-        end: End::Stopped(why),
+        end: AuditStatus::Stopped(why),
     }
 }

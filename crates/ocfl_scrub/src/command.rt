@@ -13,7 +13,7 @@ ghost use Rattle.ocfl_scrub.specs.Noting.{AuditsWithNote, ChecksWithNote};
 ghost use Rattle.ocfl_scrub.specs.Noting.{ReportsOnAnyStore};
 
 use crate::auditing::{AuditEnd, audit};
-use crate::checking::{CheckEnd, End, check};
+use crate::checking::{AuditStatus, CheckEnd, check};
 use crate::note::Note;
 use ocfl_digest::Block;
 use ocfl_report::{PlaceStop, read_place};
@@ -80,8 +80,8 @@ pub fn audited<T: Tree, W: Write>(
 }
 
 fn describe_check(end: CheckEnd) -> (u8, Note)
-    requires whole { end.end ≢ End.Stopped Fault.Broken }
-    requires stopped { end.end ≢ End.Ended → end.item ≡ false }
+    requires whole { end.end ≢ AuditStatus.Stopped Fault.Broken }
+    requires stopped { end.end ≢ AuditStatus.Ended → end.item ≡ false }
     requires no_item { end.item ≡ false → end.found ≡ false }
     ensures note { IsCheckNote end.item end.found end.end result.0 result.1 }
     ensures status { IsStatus result.0 result.1 }
@@ -90,28 +90,28 @@ fn describe_check(end: CheckEnd) -> (u8, Note)
     ensures nothing { result.1 ≡ Note.Nothing
         → (end.item ≡ true) × (result.0 ≡ status_of end.found) }
     ensures silent { result.1 ≢ Note.Nothing → result.1 ≢ Note.OutputFailed
-        → (end.item ≡ false) × (end.end ≢ End.Stopped Fault.Output) }
+        → (end.item ≡ false) × (end.end ≢ AuditStatus.Stopped Fault.Output) }
 {
     match end.end {
-        End::Ended if !end.item => (status(end.found), Note::NoItem),
-        End::Ended => (status(end.found), Note::Nothing),
-        End::Stopped(why) => (3, stop_note(why)),
+        AuditStatus::Ended if !end.item => (status(end.found), Note::NoItem),
+        AuditStatus::Ended => (status(end.found), Note::Nothing),
+        AuditStatus::Stopped(why) => (3, stop_note(why)),
     }
 }
 
 pub(crate) fn describe_audit(end: AuditEnd) -> (u8, Note)
-    requires whole { end.end ≢ End.Stopped Fault.Broken }
+    requires whole { end.end ≢ AuditStatus.Stopped Fault.Broken }
     ensures note { IsAuditNote end.found end.end result.0 result.1 }
     ensures status { IsStatus result.0 result.1 }
     ensures said { IsAuditSaid result.1 }
     ensures nothing { result.1 ≡ Note.Nothing
-        → (end.end ≡ End.Ended) × (result.0 ≡ status_of end.found) }
-    ensures uncut { result.1 ≢ Note.OutputFailed → end.end ≢ End.Stopped Fault.Output }
+        → (end.end ≡ AuditStatus.Ended) × (result.0 ≡ status_of end.found) }
+    ensures uncut { result.1 ≢ Note.OutputFailed → end.end ≢ AuditStatus.Stopped Fault.Output }
 {
     let AuditEnd { found, end, .. } = end;
     match end {
-        End::Ended => (status(found), Note::Nothing),
-        End::Stopped(why) => (3, stop_note(why)),
+        AuditStatus::Ended => (status(found), Note::Nothing),
+        AuditStatus::Stopped(why) => (3, stop_note(why)),
     }
 }
 

@@ -47,7 +47,7 @@ ghost use Rattle.ocfl_scrub.specs.Scoping.{IsBranchNote, IsBranchSaid, IsPartRun
 ghost use Rattle.ocfl_scrub.specs.Scoping.{IsPartUnreadNote};
 ghost use Rattle.ocfl_scrub.specs.Running.{IsPaid, RunsWithin, begun, limits_of, state_after};
 ghost use Rattle.ocfl_scrub.specs.Running.{taken_in};
-ghost use Rattle.ocfl_scrub.specs.declared.checking.End.{End};
+ghost use Rattle.ocfl_scrub.specs.declared.checking.AuditStatus.{AuditStatus};
 ghost use Rattle.ocfl_scrub.specs.declared.cycling.CycleStatus.{CycleStatus};
 ghost use Rattle.ocfl_scrub.specs.declared.cycling.CycleStatus.TheVariants as cycle;
 ghost use Rattle.ocfl_scrub.specs.declared.note.Note.{Note};
@@ -127,10 +127,10 @@ pub fn a_run_that_was_made_hands_its_cursor_back()
 /// How a call ended determines its status and what is said of it.
 #[tactic(auto, using(crate::proofs::NoteLaws::check_says_one, crate::proofs::NoteLaws::audit_says_one, crate::proofs::NoteLaws::run_says_one, crate::proofs::NoteLaws::cycle_says_one, crate::proofs::NoteLaws::unread_says_one, crate::proofs::NoteLaws::unshown_says_one, crate::proofs::NoteLaws::branch_says_one, crate::proofs::NoteLaws::part_unread_says_one))]
 pub fn each_end_has_one_status_and_text()
-    ensures check { (a b : ℕ) (m n : Note) (item finding : Bool) (end : End)
+    ensures check { (a b : ℕ) (m n : Note) (item finding : Bool) (end : AuditStatus)
         → IsCheckNote item finding end a m → IsCheckNote item finding end b n
         → (a ≡ b) × (m ≡ n) }
-    ensures audit { (a b : ℕ) (m n : Note) (finding : Bool) (end : End)
+    ensures audit { (a b : ℕ) (m n : Note) (finding : Bool) (end : AuditStatus)
         → IsAuditNote finding end a m → IsAuditNote finding end b n → (a ≡ b) × (m ≡ n) }
     ensures run { (a b : ℕ) (m n : Note) (c : Cursor) (spent : ℕ) (finding : Bool)
         (end : RunStatus) → IsRunNote c spent finding end a m → IsRunNote c spent finding end b n
@@ -142,7 +142,7 @@ pub fn each_end_has_one_status_and_text()
         → IsUnreadNote why b n → (a ≡ b) × (m ≡ n) }
     ensures unshown { (a b : ℕ) (m n : Note) (why : ShowStop) → IsUnshownNote why a m
         → IsUnshownNote why b n → (a ≡ b) × (m ≡ n) }
-    ensures branch { (a b : ℕ) (m n : Note) (finding : Bool) (end : End) (last : Option Place)
+    ensures branch { (a b : ℕ) (m n : Note) (finding : Bool) (end : AuditStatus) (last : Option Place)
         → IsBranchNote finding end last a m → IsBranchNote finding end last b n
         → (a ≡ b) × (m ≡ n) }
     ensures part_unread { (a b : ℕ) (m n : Note) (why : PartCursorStop)
@@ -153,10 +153,10 @@ pub fn each_end_has_one_status_and_text()
 #[tactic(auto, using(crate::proofs::NoteLaws::audit_said, crate::proofs::NoteLaws::check_said, crate::proofs::NoteLaws::run_said, crate::proofs::NoteLaws::cycle_said, crate::proofs::NoteLaws::show_said, crate::proofs::NoteLaws::branch_said, crate::proofs::NoteLaws::part_run_said))]
 pub fn each_command_speaks_of_its_own_ends()
     ensures audit { (status : ℕ) (n : Note) → IsStatus status n → IsAuditSaid n
-        → (finding : Bool) × ((end : End) × IsAuditNote finding end status n) }
+        → (finding : Bool) × ((end : AuditStatus) × IsAuditNote finding end status n) }
     ensures check { (status : ℕ) (n : Note) → IsStatus status n → IsCheckSaid n
         → (n ≡ note.BadPath) ⊎ ((item : Bool) × ((finding : Bool)
-        × ((end : End) × IsCheckNote item finding end status n))) }
+        × ((end : AuditStatus) × IsCheckNote item finding end status n))) }
     ensures run { (status : ℕ) (n : Note) → IsStatus status n → IsRunSaid n
         → ((c : Cursor) × ((spent : ℕ) × ((finding : Bool)
         × ((end : RunStatus) × IsRunNote c spent finding end status n))))
@@ -168,7 +168,7 @@ pub fn each_command_speaks_of_its_own_ends()
         → (n ≡ note.Nothing) ⊎ ((n ≡ note.OutputFailed)
         ⊎ ((why : ShowStop) × IsUnshownNote why status n)) }
     ensures branch { (status : ℕ) (n : Note) → IsStatus status n → IsBranchSaid n
-        → (finding : Bool) × ((end : End)
+        → (finding : Bool) × ((end : AuditStatus)
         × ((last : Option Place) × IsBranchNote finding end last status n)) }
     ensures part_run { (status : ℕ) (n : Note) → IsStatus status n → IsPartRunSaid n
         → ((c : Cursor) × ((spent : ℕ) × ((finding : Bool)

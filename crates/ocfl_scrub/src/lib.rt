@@ -226,7 +226,7 @@ pub mod scope_laws;
 mod taking;
 
 pub use auditing::{AuditEnd, audit, audit_part};
-pub use checking::{CheckEnd, End, check};
+pub use checking::{AuditStatus, CheckEnd, check};
 pub use command::{audited, checked};
 pub use cycling::{CycleEnd, CycleStatus, cycle, cycle_part};
 pub use kept::KeptWalk;

@@ -16,7 +16,7 @@ ghost use Rattle.ocfl_scrub.specs.Scoping.{PartRefusesRightly, PartRunPerformed,
 ghost use Rattle.ocfl_scrub.specs.Scoping.{PerformsIn, RefusesRightlyIn};
 
 use crate::auditing::{AuditEnd, audit_part};
-use crate::checking::End;
+use crate::checking::AuditStatus;
 use crate::command::describe_audit;
 use crate::note::Note;
 use crate::part::{branch_at, part_between};
@@ -104,15 +104,15 @@ fn audited_branch<T: Tree, W: Write>(
 
 // Describes what the audit of a branch ended with.
 fn describe_branch(end: AuditEnd) -> (u8, Note)
-    requires whole { end.end ≢ End.Stopped Fault.Broken }
+    requires whole { end.end ≢ AuditStatus.Stopped Fault.Broken }
     ensures note { IsBranchNote end.found end.end end.last result.0 result.1 }
     ensures status { IsStatus result.0 result.1 }
     ensures said { IsBranchSaid result.1 }
     ensures nothing { result.1 ≡ Note.Nothing
-        → (end.end ≡ End.Ended) × (result.0 ≡ status_of end.found) }
-    ensures empty { result.1 ≡ Note.EmptyBranch → (end.end ≡ End.Ended) × (end.last ≡ None) }
+        → (end.end ≡ AuditStatus.Ended) × (result.0 ≡ status_of end.found) }
+    ensures empty { result.1 ≡ Note.EmptyBranch → (end.end ≡ AuditStatus.Ended) × (end.last ≡ None) }
 {
-    if matches!(end.end, End::Ended) && end.last.is_none() {
+    if matches!(end.end, AuditStatus::Ended) && end.last.is_none() {
         return (2, Note::EmptyBranch);
     }
     describe_audit(end)

@@ -29,7 +29,7 @@ ghost use Rattle.ocfl_scrub.specs.Joining.{PartCycle, PartRun, Ran, cursor_after
 ghost use Rattle.ocfl_scrub.specs.Joining.{opened_by, reports_of, unread_together, unstopped};
 ghost use Rattle.ocfl_scrub.specs.Keeping.{RunsOn};
 ghost use Rattle.ocfl_scrub.specs.WholeAudit.{AuditEndsWithin};
-ghost use Rattle.ocfl_scrub.specs.declared.checking.End.{End};
+ghost use Rattle.ocfl_scrub.specs.declared.checking.AuditStatus.{AuditStatus};
 ghost use Rattle.ocfl_scrub.specs.declared.cycling.CycleEnd.{CycleEnd};
 ghost use Rattle.ocfl_scrub.specs.declared.cycling.CycleStatus.TheVariants as cycle;
 ghost use Rattle.ocfl_scrub.specs.declared.running.RunEnd.{RunEnd};
@@ -143,9 +143,9 @@ pub fn what_was_taken_is_not_read_again()
 #[tactic(auto, using(crate::proofs::LooksOnce::part_lists_once, crate::proofs::LooksOnce::part_reads_once))]
 pub fn an_audit_of_a_part_looks_once()
     ensures listed { (call : Call) (part : Part) (last : Option Place) (finding : Bool)
-        (end : End) → AuditEndsWithin call part last finding end → (listed : List Place)
+        (end : AuditStatus) → AuditEndsWithin call part last finding end → (listed : List Place)
         × ((call.after.listings ≡ call.before.listings ++ listed) × IsAscending place_cmp listed) }
-    ensures read { (call : Call) (part : Part) (last : Option Place) (finding : Bool) (end : End)
+    ensures read { (call : Call) (part : Part) (last : Option Place) (finding : Bool) (end : AuditStatus)
         → AuditEndsWithin call part last finding end → (trail : List Opening)
         × ((call.after.openings ≡ call.before.openings ++ trail)
         × IsAscending place_cmp (heads_of call.root trail)) }
@@ -169,14 +169,14 @@ pub fn a_run_of_a_part_looks_once()
 /// content files too, and even if the call stopped. Each such directory is in the part or on the
 /// way down to where the call began; of a check it is on the way to its place.
 pub fn openings_lie_where_it_was_listed()
-    ensures audit { (call : Call) (part : Part) (last : Option Place) (finding : Bool) (end : End)
+    ensures audit { (call : Call) (part : Part) (last : Option Place) (finding : Bool) (end : AuditStatus)
         → AuditEndsWithin call part last finding end
         → OpensWithin part None call.before call.after }
     ensures run { (call : Call) (part : Part) (from last : Option Place) (limits : Limits)
         (spent files : ℕ) (finding : Bool) (end : RunStatus)
         → RunEndsWithin call part from last limits spent files finding end
         → OpensWithin part from call.before call.after }
-    ensures check { (call : Call) (p : Place) (item finding : Bool) (end : End)
+    ensures check { (call : Call) (p : Place) (item finding : Bool) (end : AuditStatus)
         → CheckEnds call p item finding end → (listed : List Place)
         × (OpensNear call.before call.after listed
         × ((d : Place) → IsAmong listed d → (q : Place) × (p ≡ d ++ q))) }

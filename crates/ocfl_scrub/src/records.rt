@@ -50,7 +50,7 @@ ghost use Rattle.ocfl_scrub.specs.Performing.{UnshownSaid, WritesBy};
 ghost use Rattle.ocfl_scrub.specs.Taking.{WritesLines};
 ghost use Rattle.ocfl_scrub.specs.declared.auditing.AuditEnd.{AuditEnd};
 ghost use Rattle.ocfl_scrub.specs.declared.checking.CheckEnd.{CheckEnd};
-ghost use Rattle.ocfl_scrub.specs.declared.checking.End.TheVariants as end;
+ghost use Rattle.ocfl_scrub.specs.declared.checking.AuditStatus.TheVariants as end;
 ghost use Rattle.ocfl_scrub.specs.declared.running.RunEnd.{RunEnd};
 ghost use Rattle.ocfl_scrub.specs.declared.running.RunStatus.TheVariants as run;
 ghost use Rattle.ocfl_scrub.specs.declared.cycling.CycleEnd.{CycleEnd};

@@ -8,7 +8,8 @@ use ocfl_cursor::{Cursor, State};
 use ocfl_digest::Block;
 use ocfl_memory::MemTree;
 use ocfl_scrub::{
-    AuditEnd, CycleEnd, CycleStatus, End, Part, RunEnd, RunStatus, audit_part, cycle_part, run_part,
+    AuditEnd, AuditStatus, CycleEnd, CycleStatus, Part, RunEnd, RunStatus, audit_part, cycle_part,
+    run_part,
 };
 use ocfl_walk::Fault;
 use std::alloc::Global;
@@ -103,8 +104,8 @@ fn try_audit(alloc: Global, store: &mut MemTree, part: &Part) -> Result<Ending, 
         Some(place) => cursor_of(1, 0, State::After(place))?,
         None => Cursor::new(),
     };
-    let stopped = matches!(end, End::Stopped(Fault::Store(_)));
-    let ends = (stopped, matches!(end, End::Ended));
+    let stopped = matches!(end, AuditStatus::Stopped(Fault::Store(_)));
+    let ends = (stopped, matches!(end, AuditStatus::Ended));
     ending_of(out, ends, cursor, false, found)
 }
 

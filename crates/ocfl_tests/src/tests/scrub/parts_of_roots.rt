@@ -14,7 +14,7 @@ use ocfl_cursor::Cursor;
 use ocfl_digest::Block;
 use ocfl_memory::{MemTree, Point};
 use ocfl_report::DisplayPlace;
-use ocfl_scrub::{AuditEnd, End, Part, audit_part, cycle_part, run_part};
+use ocfl_scrub::{AuditEnd, AuditStatus, Part, audit_part, cycle_part, run_part};
 use ocfl_tree::Place;
 use std::alloc::Global;
 use std::test::Fail;
@@ -78,8 +78,8 @@ fn root_named(alloc: Global, name: &str) -> Result<MemTree, Fail> {
 fn audit_says(alloc: Global, audit: &AuditEnd) -> Result<String, Fail> {
     let found = if audit.found { "found" } else { "clean" };
     let end = match &audit.end {
-        End::Ended => format!(in alloc; "ended")?,
-        End::Stopped(why) => why_says(alloc, why)?,
+        AuditStatus::Ended => format!(in alloc; "ended")?,
+        AuditStatus::Stopped(why) => why_says(alloc, why)?,
     };
     let last = match &audit.last {
         Some(place) => format!(in alloc; "after {}", DisplayPlace(place))?,

@@ -9,7 +9,7 @@ use crate::tests::common::store::place_of;
 use ocfl_cursor::{PartEnds, decode_part, encode_part};
 use ocfl_digest::Block;
 use ocfl_memory::MemTree;
-use ocfl_scrub::{CycleStatus, End, Part, audit, audit_part, cycle_part, run_part};
+use ocfl_scrub::{AuditStatus, CycleStatus, Part, audit, audit_part, cycle_part, run_part};
 use ocfl_tree::Place;
 use std::alloc::Global;
 use std::test::Fail;
@@ -73,7 +73,7 @@ fn audit_of(
     let (mut block, mut out) = (Block::new(alloc)?, Vec::new(alloc));
     let end = audit_part(alloc, store, part, &mut block, &mut out);
     let text = String::from_utf8(out)?;
-    assert!(rt; matches!(end.end, End::Ended), "{row}");
+    assert!(rt; matches!(end.end, AuditStatus::Ended), "{row}");
     assert_eq!(rt; end.found, reckoned(text.as_str())?.found, "{row}");
     assert_eq!(rt; end.last.is_none(), text.is_empty(), "{row}");
     for place in store.listings().iter().skip(listed) {

@@ -13,7 +13,7 @@ use crate::tests::common::store::place_of;
 use ocfl_cursor::Cursor;
 use ocfl_digest::Block;
 use ocfl_memory::{MemTree, Point};
-use ocfl_scrub::{End, audit, audited};
+use ocfl_scrub::{AuditStatus, audit, audited};
 use ocfl_tree::Place;
 use ocfl_walk::Fault;
 use std::alloc::Global;
@@ -97,11 +97,11 @@ fn place_of_the_last_item(rt: HostRuntime) -> Result<(), Fail> {
     assert!(rt; stopped.last == Some(Place::root(alloc)));
     let mut store = long_object(alloc, "ABC_SHA512")?;
     let ended = audit(alloc, &mut store, &mut block, &mut Vec::new(alloc));
-    assert!(rt; matches!(ended.end, End::Ended));
+    assert!(rt; matches!(ended.end, AuditStatus::Ended));
     assert!(rt; ended.last == Some(place_of(alloc, "o/v1/content/f")?));
     let mut out = Narrow::new(alloc, 10);
     let stopped = audit(alloc, &mut store, &mut block, &mut out);
-    assert!(rt; matches!(stopped.end, End::Stopped(Fault::Output)));
+    assert!(rt; matches!(stopped.end, AuditStatus::Stopped(Fault::Output)));
     assert!(rt; stopped.last == Some(Place::root(alloc)));
     assert!(rt; out.kept.as_slice() == b"ok\t.\t-\nok\t".as_slice());
     Ok(())

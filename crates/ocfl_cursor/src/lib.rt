@@ -18,6 +18,9 @@
 //!   to 67,108,864 bytes.
 //! - `read_shown` gives the lines that are shown of a stored cursor, of the whole or of any part.
 //!   It refuses other bytes by the kind that their first line names.
+//! - `sealed_text` ends a text with the line that seals it, and `sealed_body` gives what stands
+//!   before a last line exactly where that seals it. Checkpoints are sealed and read by these calls
+//!   too, by `after_prefix` and by `first_line`.
 //! - A meter starts a file only while less than the budget is spent and fewer files than their
 //!   limit are started. It adds exactly what is charged, and cannot overflow. It counts as one file
 //!   exactly what costs something.

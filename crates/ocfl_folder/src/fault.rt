@@ -10,35 +10,35 @@ use std::io::{self, ErrorKind};
 
 /// Why one try of a call gave nothing.
 #[derive(Clone, Copy)]
-pub(crate) enum Fault {
+pub(crate) enum TryFault {
     Interrupted,
     Failed(Failure),
 }
 
-impl From<AllocError> for Fault {
+impl From<AllocError> for TryFault {
     ghost from_gives = { λ _ fault. IsAbsent fault → ⊥ };
 
-    fn from(_error: AllocError) -> Fault {
-        Fault::Failed(out_of_memory())
+    fn from(_error: AllocError) -> TryFault {
+        TryFault::Failed(out_of_memory())
     }
 }
 
-impl<T: Drop> From<AllocFailed<T>> for Fault {
+impl<T: Drop> From<AllocFailed<T>> for TryFault {
     ghost from_gives = { λ _ fault. IsAbsent fault → ⊥ };
 
-    fn from(_error: AllocFailed<T>) -> Fault {
-        Fault::Failed(out_of_memory())
+    fn from(_error: AllocFailed<T>) -> TryFault {
+        TryFault::Failed(out_of_memory())
     }
 }
 
 /// An invalid name is reported as a failure of the device.
-impl From<NameStop> for Fault {
+impl From<NameStop> for TryFault {
     ghost from_gives = { λ _ fault. IsAbsent fault → ⊥ };
 
-    fn from(stop: NameStop) -> Fault {
+    fn from(stop: NameStop) -> TryFault {
         match stop {
             NameStop::Bad => wrong("it holds an invalid name"),
-            NameStop::Memory => Fault::Failed(out_of_memory()),
+            NameStop::Memory => TryFault::Failed(out_of_memory()),
         }
     }
 }
@@ -54,10 +54,10 @@ pub(crate) fn out_of_memory() -> Failure
 }
 
 /// That the device failed, though no call of the system did. The words say what is wrong.
-pub(crate) fn wrong(words: &str) -> Fault
+pub(crate) fn wrong(words: &str) -> TryFault
     ensures { IsAbsent result → ⊥ }
 {
-    Fault::Failed(Failure {
+    TryFault::Failed(Failure {
         trouble: Trouble::Device,
         error: io::Error::new(ErrorKind::InvalidData, words),
     })
@@ -74,33 +74,33 @@ pub(crate) fn too_often() -> Failure
 }
 
 /// The fault of an error.
-pub(crate) fn fault_of(error: io::Error) -> Fault
-    ensures interrupted { (result ≡ Fault.Interrupted)
+pub(crate) fn fault_of(error: io::Error) -> TryFault
+    ensures interrupted { (result ≡ TryFault.Interrupted)
         ↔ (error_kind error ≡ ErrorKind.Interrupted) }
     ensures absent { IsAbsent result ↔ (error_kind error ≡ ErrorKind.NotFound) }
 {
     let trouble = match error.kind() {
-        ErrorKind::Interrupted => return Fault::Interrupted,
+        ErrorKind::Interrupted => return TryFault::Interrupted,
         ErrorKind::NotFound => Trouble::Absent,
         ErrorKind::OutOfMemory => Trouble::Memory,
         _ => Trouble::Device,
     };
-    Fault::Failed(Failure { trouble, error })
+    TryFault::Failed(Failure { trouble, error })
 }
 
 /// The fault of an error at what was seen, or is open: that it is not there is the device's.
-pub(crate) fn entry_fault_of(error: io::Error) -> Fault
-    ensures interrupted { (result ≡ Fault.Interrupted)
+pub(crate) fn entry_fault_of(error: io::Error) -> TryFault
+    ensures interrupted { (result ≡ TryFault.Interrupted)
         ↔ (error_kind error ≡ ErrorKind.Interrupted) }
     ensures present { IsAbsent result → ⊥ }
 {
     match fault_of(error) {
-        Fault::Failed(
+        TryFault::Failed(
             Failure {
                 trouble: Trouble::Absent,
                 ..
             },
-        ) => Fault::Failed(Failure {
+        ) => TryFault::Failed(Failure {
             trouble: Trouble::Device,
             error,
         }),

@@ -7,13 +7,13 @@ ghost use Rattle.ocfl_tree.specs.Listing.{kind_at};
 ghost use Rattle.ocfl_folder.specs.System.{IfHere};
 ghost use Rattle.ocfl_folder.specs.Internal.Absence.{IsAbsent};
 
-use crate::fault::{Fault, entry_fault_of, fault_of, wrong};
+use crate::fault::{TryFault, entry_fault_of, fault_of, wrong};
 use crate::node::{Node, Seen};
 use crate::system::System;
 use ocfl_tree::{Kind, Name, is_text};
 
 /// What has this name, if it is of this kind. Another is the device's fault.
-pub(crate) fn look_for<S: System>(system: &S, name: &str, kind: Kind) -> Result<Seen, Fault>
+pub(crate) fn look_for<S: System>(system: &S, name: &str, kind: Kind) -> Result<Seen, TryFault>
     ensures { IsTrue S.told → IfHere (S.state system.now) (λ root p. MatchResult result
         (λ _. kind_at root p name.now ≡ Some kind)
         (λ fault. IsAbsent fault → kind_at root p name.now ≡ None)) }
@@ -26,7 +26,7 @@ pub(crate) fn look_for<S: System>(system: &S, name: &str, kind: Kind) -> Result<
 }
 
 /// Refuses another directory than this one.
-fn check_here<S: System>(system: &S, node: Node) -> Result<(), Fault>
+fn check_here<S: System>(system: &S, node: Node) -> Result<(), TryFault>
     ensures { IfErr result (λ fault. IsAbsent fault → ⊥) }
 {
     match system.look_here() {
@@ -37,7 +37,7 @@ fn check_here<S: System>(system: &S, node: Node) -> Result<(), Fault>
 }
 
 /// Goes to the folder itself.
-pub(crate) fn start<S: System>(system: &mut S, way: &mut Vec<Node>) -> Result<(), Fault>
+pub(crate) fn start<S: System>(system: &mut S, way: &mut Vec<Node>) -> Result<(), TryFault>
     ensures store { IsTrue S.told → (S.state system.new).store ≡ (S.state system.old).store }
     ensures here { IsTrue S.told → OnOk result ((S.state system.new).here ≡ Some []) }
     ensures there { IsTrue S.told → IfErr result (λ fault. IsAbsent fault → ⊥) }
@@ -50,7 +50,7 @@ pub(crate) fn start<S: System>(system: &mut S, way: &mut Vec<Node>) -> Result<()
 }
 
 /// Goes into a directory, and appends which one it is to the others on the way.
-fn step_down<S: System>(system: &mut S, way: &mut Vec<Node>, name: &str) -> Result<(), Fault>
+fn step_down<S: System>(system: &mut S, way: &mut Vec<Node>, name: &str) -> Result<(), TryFault>
     ensures store { IsTrue S.told → (S.state system.new).store ≡ (S.state system.old).store }
     ensures here { IsTrue S.told → IfHere (S.state system.old) (λ root p. MatchResult result
         (λ _. (S.state system.new).here ≡ Some (p ++ name.now ∷ []))
@@ -66,7 +66,7 @@ fn step_down<S: System>(system: &mut S, way: &mut Vec<Node>, name: &str) -> Resu
 }
 
 /// Goes into the directory that this one is in, which is not the folder itself.
-fn step_up<S: System>(system: &mut S, way: &mut Vec<Node>) -> Result<(), Fault>
+fn step_up<S: System>(system: &mut S, way: &mut Vec<Node>) -> Result<(), TryFault>
     ensures store { IsTrue S.told → (S.state system.new).store ≡ (S.state system.old).store }
     ensures here { IsTrue S.told → (p : Spot) (n : Text)
         → (S.state system.old).here ≡ Some (p ++ n ∷ [])
@@ -84,7 +84,7 @@ fn step_up<S: System>(system: &mut S, way: &mut Vec<Node>) -> Result<(), Fault>
 }
 
 /// Goes up `count` times.
-fn climb<S: System>(system: &mut S, way: &mut Vec<Node>, count: usize) -> Result<(), Fault>
+fn climb<S: System>(system: &mut S, way: &mut Vec<Node>, count: usize) -> Result<(), TryFault>
     ensures store { IsTrue S.told → (S.state system.new).store ≡ (S.state system.old).store }
     ensures here { IsTrue S.told → (p : Spot) → (S.state system.old).here ≡ Some p
         → count ≤ length p
@@ -104,7 +104,7 @@ pub(crate) fn descend<S: System>(
     way: &mut Vec<Node>,
     names: &[Name],
     from: usize,
-) -> Result<(), Fault>
+) -> Result<(), TryFault>
     requires { from ≤ length names.now }
     ensures store { IsTrue S.told → (S.state system.new).store ≡ (S.state system.old).store }
     ensures here { IsTrue S.told → (S.state system.old).here ≡ Some (take from names.now)
@@ -138,7 +138,7 @@ pub(crate) fn turn<S: System>(
     way: &mut Vec<Node>,
     from: &[Name],
     to: &[Name],
-) -> Result<usize, Fault>
+) -> Result<usize, TryFault>
     ensures within { IfOk result (λ kept. kept ≤ length to.now) }
     ensures store { IsTrue S.told → (S.state system.new).store ≡ (S.state system.old).store }
     ensures here { IsTrue S.told → (S.state system.old).here ≡ Some from.now

@@ -5,7 +5,7 @@ ghost use Rattle.ocfl_tree.specs.Listing.{AreApart, IsOrdinary};
 ghost use Rattle.ocfl_tree.specs.StorageRoot.{max_entries};
 ghost use Rattle.ocfl_folder.specs.Internal.Absence.{IsAbsent};
 
-use crate::fault::{Fault, wrong};
+use crate::fault::{TryFault, wrong};
 use ocfl_tree::{Entry, MAX_ENTRIES};
 use std::alloc::Global;
 
@@ -38,7 +38,7 @@ impl Listed {
     }
 
     /// Appends an entry. The device fails if there are [`MAX_ENTRIES`] already.
-    pub(crate) fn add(&mut self, entry: Entry) -> Result<(), Fault>
+    pub(crate) fn add(&mut self, entry: Entry) -> Result<(), TryFault>
         ensures added { OnOk result
             (self.new.entries.items ≡ self.old.entries.items ++ entry ∷ []) }
         ensures present { IfErr result (λ fault. IsAbsent fault → ⊥) }
@@ -51,7 +51,7 @@ impl Listed {
     }
 
     /// The entries in order. Refuses entries of which two have one name.
-    pub(crate) fn into_ordered(self) -> Result<Vec<Entry>, Fault>
+    pub(crate) fn into_ordered(self) -> Result<Vec<Entry>, TryFault>
         ensures ordinary { IfOk result (λ entries. IsOrdinary entries.items) }
         ensures present { IfErr result (λ fault. IsAbsent fault → ⊥) }
         ensures same { IfOk result (λ entries. IsPermutation self.entries.items entries.items) }

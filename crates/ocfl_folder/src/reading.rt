@@ -8,7 +8,7 @@ ghost use Rattle.ocfl_folder.specs.System.{IfHere, Gives};
 ghost use Rattle.ocfl_folder.specs.Internal.Covering.{Adds, Covers};
 ghost use Rattle.ocfl_folder.specs.Internal.Absence.{IsAbsent};
 
-use crate::fault::{Fault, entry_fault_of, fault_of, wrong};
+use crate::fault::{TryFault, entry_fault_of, fault_of, wrong};
 use crate::going::look_for;
 use crate::listed::Listed;
 use crate::system::System;
@@ -23,7 +23,11 @@ pub(crate) const TRIES: u64 = 1000;
 const MOST_NAMES: usize = MAX_ENTRIES + 2;
 
 /// The next name of a listing, in place of what the other holds. `false` at its end.
-fn next_name<S: System>(system: &S, names: &mut S::Names, name: &mut Vec<u8>) -> Result<bool, Fault>
+fn next_name<S: System>(
+    system: &S,
+    names: &mut S::Names,
+    name: &mut Vec<u8>,
+) -> Result<bool, TryFault>
     ensures given { IsTrue S.told → IfOk result (λ more.
         Gives more (S.left names.old) name.new.items (S.left names.new)) }
     ensures present { IfErr result (λ fault. IsAbsent fault → ⊥) }
@@ -40,7 +44,7 @@ fn add_entry<S: System>(
     alloc: Global,
     name: &[u8],
     listed: &mut Listed,
-) -> Result<(), Fault>
+) -> Result<(), TryFault>
     ensures added { IsTrue S.told → IfHere (S.state system.now) (λ root p. OnOk result
         (Adds root p name.now listed.old.entries.items listed.new.entries.items)) }
     ensures present { IfErr result (λ fault. IsAbsent fault → ⊥) }
@@ -58,7 +62,7 @@ fn add_entry<S: System>(
 }
 
 /// The entries of the directory that the system is in, as its listing gives them.
-fn list_all<S: System>(system: &S, alloc: Global) -> Result<Listed, Fault>
+fn list_all<S: System>(system: &S, alloc: Global) -> Result<Listed, TryFault>
     ensures listed { IsTrue S.told → IfHere (S.state system.now) (λ root p. IfOk result
         (λ listed. Covers root p listed.entries.items)) }
     ensures present { IfErr result (λ fault. IsAbsent fault → ⊥) }
@@ -79,7 +83,7 @@ fn list_all<S: System>(system: &S, alloc: Global) -> Result<Listed, Fault>
 }
 
 /// The entries of the directory that the system is in.
-pub(crate) fn list_here<S: System>(system: &S, alloc: Global) -> Result<Vec<Entry>, Fault>
+pub(crate) fn list_here<S: System>(system: &S, alloc: Global) -> Result<Vec<Entry>, TryFault>
     ensures ordinary { IfOk result (λ entries. IsOrdinary entries.items) }
     ensures listed { IsTrue S.told → IfHere (S.state system.now) (λ root p. IfOk result
         (λ entries. IsListing root p entries.items)) }
@@ -90,7 +94,7 @@ pub(crate) fn list_here<S: System>(system: &S, alloc: Global) -> Result<Vec<Entr
 
 /// The file with this name in the directory that the system is in: that which it is when it is
 /// looked at.
-pub(crate) fn open_here<S: System>(system: &S, name: &str) -> Result<S::File, Fault>
+pub(crate) fn open_here<S: System>(system: &S, name: &str) -> Result<S::File, TryFault>
     ensures { IsTrue S.told → IfHere (S.state system.now) (λ root p. MatchResult result
         (λ opened. at root (p ++ name.now ∷ []) ≡ Some (file (S.rest opened)))
         (λ fault. IsAbsent fault → kind_at root p name.now ≡ None)) }

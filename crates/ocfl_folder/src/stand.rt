@@ -11,7 +11,7 @@ ghost use Rattle.ocfl_folder.specs.Noted.{with_answer, with_read, with_room};
 
 use crate::answer::{Answer, ReadAnswer};
 use crate::failure::Failure;
-use crate::fault::{Fault, too_often, wrong};
+use crate::fault::{TryFault, too_often, wrong};
 use crate::going::{descend, start, turn};
 use crate::node::Node;
 use crate::reading::{TRIES, list_here, open_here};
@@ -50,7 +50,7 @@ impl<S: System + Drop> Stand<S> {
     }
 
     /// Goes to a directory. If that fails, it is not known where it is.
-    fn go(&mut self, dir: &Place) -> Result<(), Fault>
+    fn go(&mut self, dir: &Place) -> Result<(), TryFault>
         ensures store { IsTrue S.told
             → (S.state self.new.system).store ≡ (S.state self.old.system).store }
         ensures here { IsTrue S.told → MatchResult result
@@ -84,7 +84,7 @@ impl<S: System + Drop> Stand<S> {
     }
 
     /// Goes to the folder itself, by its own path.
-    fn go_to_root(&mut self) -> Result<(), Fault>
+    fn go_to_root(&mut self) -> Result<(), TryFault>
         ensures store { IsTrue S.told
             → (S.state self.new.system).store ≡ (S.state self.old.system).store }
         ensures here { IsTrue S.told → OnOk result ((S.state self.new.system).here ≡ Some []) }
@@ -97,7 +97,7 @@ impl<S: System + Drop> Stand<S> {
     }
 
     /// Goes to the directory with this path, unless it is there.
-    pub(crate) fn stand_in(&mut self, path: &str) -> Result<(), Fault>
+    pub(crate) fn stand_in(&mut self, path: &str) -> Result<(), TryFault>
         ensures store { IsTrue S.told
             → (S.state self.new.system).store ≡ (S.state self.old.system).store }
         ensures here { IsTrue S.told → MatchResult result
@@ -118,7 +118,7 @@ impl<S: System + Drop> Stand<S> {
     }
 
     /// The entries of a directory, in one try.
-    fn entries(&mut self, place: &Place) -> Result<Vec<Entry>, Fault>
+    fn entries(&mut self, place: &Place) -> Result<Vec<Entry>, TryFault>
         ensures ordinary { IfOk result (λ entries. IsOrdinary entries.items) }
         ensures store { IsTrue S.told
             → (S.state self.new.system).store ≡ (S.state self.old.system).store }
@@ -144,15 +144,15 @@ impl<S: System + Drop> Stand<S> {
         for _ in 0..TRIES {
             match self.entries(place) {
                 Ok(entries) => return Ok(entries),
-                Err(Fault::Interrupted) => {}
-                Err(Fault::Failed(failure)) => return Err(failure),
+                Err(TryFault::Interrupted) => {}
+                Err(TryFault::Failed(failure)) => return Err(failure),
             }
         }
         Err(too_often())
     }
 
     /// The file at a place, in one try.
-    fn file(&mut self, place: &Place) -> Result<S::File, Fault>
+    fn file(&mut self, place: &Place) -> Result<S::File, TryFault>
         ensures store { IsTrue S.told
             → (S.state self.new.system).store ≡ (S.state self.old.system).store }
         ensures opened { IsTrue S.told → MatchResult result
@@ -182,8 +182,8 @@ impl<S: System + Drop> Stand<S> {
         for _ in 0..TRIES {
             match self.file(place) {
                 Ok(file) => return Ok(file),
-                Err(Fault::Interrupted) => {}
-                Err(Fault::Failed(failure)) => return Err(failure),
+                Err(TryFault::Interrupted) => {}
+                Err(TryFault::Failed(failure)) => return Err(failure),
             }
         }
         Err(too_often())

@@ -17,11 +17,11 @@ use Rattle.ocfl_inventory.specs.Reading.{Reading, or_stop, object_of, digest_alg
 use Rattle.ocfl_report.specs.declared.code.Code.TheVariants.{E033, E025, E017, E018}
 use Rattle.std.specs.Prelude.{codes, length, ◌==◌, ◌||◌}
 use Rattle.std.specs.List.{list_any}
-use Rattle.ocfl_inventory.specs.declared.remark.Stop.{Stop}
-use Rattle.ocfl_inventory.specs.declared.remark.Stop.TheVariants as stops
+use Rattle.ocfl_inventory.specs.declared.remark.InventoryStop.{InventoryStop}
+use Rattle.ocfl_inventory.specs.declared.remark.InventoryStop.TheVariants as stops
 use Rattle.ocfl_inventory.specs.Internal.Parts.{Says, Fails}
 
-pub fails_by : {Y : Type 0} (e : Stop) (n : Note) (reading : Reading Y) → reading ≡ Err n → Says e n → Fails e reading
+pub fails_by : {Y : Type 0} (e : InventoryStop) (n : Note) (reading : Reading Y) → reading ≡ Err n → Says e n → Fails e reading
 fails_by stops.Memory n reading h s = tt
 fails_by (stops.Because r) n reading h s = h ∙ ap Err (sym s)
 
@@ -37,7 +37,7 @@ object_refused bytes h = by (is_utf8 bytes) refl
     by true e = rw (h (IsUtf8-from_is_utf8 bytes e))
     by false e = refl
 
-pub stops_by : {Y : Type 0} (e : Stop) (n : Note) (reading : Reading Y) → Says e n → reading ≡ Err n → Fails e reading
+pub stops_by : {Y : Type 0} (e : InventoryStop) (n : Note) (reading : Reading Y) → Says e n → reading ≡ Err n → Fails e reading
 stops_by e n reading s h = fails_by e n reading h s
 
 pub other_algorithm : (t : Text) (a b : Bool) → a ≡ bytes_eq t (codes "sha512") → b ≡ bytes_eq t (codes "sha256") → a ≡ false → b ≡ false → digest_algorithm t ≡ Err (note E025 t)

@@ -19,23 +19,23 @@ ghost use Rattle.ocfl_inventory.specs.Internal.Parts.{with_block, inventory_view
 
 use crate::block::{block, member, members, take_member};
 use crate::inventory::{Inventory, Listing, Supported};
-use crate::remark::{Remark, Stop};
+use crate::remark::{InventoryStop, Remark};
 use crate::texts::{has_byte, owned, put_in_order};
 use ocfl_digest::Algorithm;
 use ocfl_report::Code;
 use serde_json::{Map, Value};
 use std::alloc::{AllocError, Global};
 
-fn stop(alloc: Global, code: Code, detail: &str) -> Stop
+fn stop(alloc: Global, code: Code, detail: &str) -> InventoryStop
     ensures { Says result (note code detail.now) }
 {
     match String::from_str(alloc, detail) {
-        Ok(detail) => Stop::Because(Remark { code, detail }),
-        Err(_) => Stop::Memory,
+        Ok(detail) => InventoryStop::Because(Remark { code, detail }),
+        Err(_) => InventoryStop::Memory,
     }
 }
 
-pub(crate) fn object(alloc: Global, bytes: &[u8]) -> Result<Map<String, Value>, Stop>
+pub(crate) fn object(alloc: Global, bytes: &[u8]) -> Result<Map<String, Value>, InventoryStop>
     ensures { Gives (λ m. members_view m.entries) result (object_of bytes.now) }
 {
     match Value::from_slice(alloc, bytes) {
@@ -43,7 +43,7 @@ pub(crate) fn object(alloc: Global, bytes: &[u8]) -> Result<Map<String, Value>, 
         Ok(_) => Err(stop(alloc, Code::E033, "-")),
         Err(error) => {
             if error.is_memory() {
-                Err(Stop::Memory)
+                Err(InventoryStop::Memory)
             } else {
                 Err(stop(alloc, Code::E033, "-"))
             }
@@ -51,7 +51,7 @@ pub(crate) fn object(alloc: Global, bytes: &[u8]) -> Result<Map<String, Value>, 
     }
 }
 
-fn named_algorithm(alloc: Global, text: &str) -> Result<Algorithm, Stop>
+fn named_algorithm(alloc: Global, text: &str) -> Result<Algorithm, InventoryStop>
     ensures { Gives (λ a. a) result (digest_algorithm text.now) }
 {
     if text == "sha512" {
@@ -64,7 +64,10 @@ fn named_algorithm(alloc: Global, text: &str) -> Result<Algorithm, Stop>
 }
 
 /// Reads the digest algorithm that the members of an inventory name.
-pub(crate) fn read_algorithm(alloc: Global, map: &Map<String, Value>) -> Result<Algorithm, Stop>
+pub(crate) fn read_algorithm(
+    alloc: Global,
+    map: &Map<String, Value>,
+) -> Result<Algorithm, InventoryStop>
     ensures { Gives (λ a. a) result (algorithm_in (members_view map.now.entries)) }
 {
     let Some(value) = member(map, "digestAlgorithm") else {
@@ -76,7 +79,7 @@ pub(crate) fn read_algorithm(alloc: Global, map: &Map<String, Value>) -> Result<
     named_algorithm(alloc, text)
 }
 
-fn content_text<'v>(alloc: Global, text: &'v str) -> Result<&'v str, Stop>
+fn content_text<'v>(alloc: Global, text: &'v str) -> Result<&'v str, InventoryStop>
     ensures { Gives (λ t. t.now) result (content_named text.now) }
 {
     if text.is_empty() {
@@ -91,7 +94,7 @@ fn content_text<'v>(alloc: Global, text: &'v str) -> Result<&'v str, Stop>
     Ok(text)
 }
 
-fn content_in<'v>(alloc: Global, map: &'v Map<String, Value>) -> Result<&'v str, Stop>
+fn content_in<'v>(alloc: Global, map: &'v Map<String, Value>) -> Result<&'v str, InventoryStop>
     ensures { Gives (λ t. t.now) result
         (content_from (get_member (codes "contentDirectory") (members_view map.now.entries))) }
 {
@@ -104,7 +107,7 @@ fn content_in<'v>(alloc: Global, map: &'v Map<String, Value>) -> Result<&'v str,
     content_text(alloc, text)
 }
 
-fn content(alloc: Global, map: &Map<String, Value>) -> Result<String, Stop>
+fn content(alloc: Global, map: &Map<String, Value>) -> Result<String, InventoryStop>
     ensures { Gives string_bytes result
         (content_from (get_member (codes "contentDirectory") (members_view map.now.entries))) }
 {
@@ -112,7 +115,7 @@ fn content(alloc: Global, map: &Map<String, Value>) -> Result<String, Stop>
     Ok(String::from_str(alloc, text)?)
 }
 
-fn manifest(alloc: Global, value: Option<Value>) -> Result<Vec<Listing>, Stop>
+fn manifest(alloc: Global, value: Option<Value>) -> Result<Vec<Listing>, InventoryStop>
     ensures { Gives (λ b. block_view b.items) result (manifest_from (option_map view value)) }
 {
     let Some(value) = value else {
@@ -124,7 +127,7 @@ fn manifest(alloc: Global, value: Option<Value>) -> Result<Vec<Listing>, Stop>
     Ok(listings)
 }
 
-fn fixity(alloc: Global, value: Option<Value>) -> Result<Option<Map<String, Value>>, Stop>
+fn fixity(alloc: Global, value: Option<Value>) -> Result<Option<Map<String, Value>>, InventoryStop>
     ensures { Gives fixity_view result (fixity_from (option_map view value)) }
 {
     let Some(value) = value else {
@@ -228,7 +231,7 @@ pub(crate) fn read_behind_algorithm(
     alloc: Global,
     mut map: Map<String, Value>,
     algorithm: Algorithm,
-) -> Result<Inventory, Stop>
+) -> Result<Inventory, InventoryStop>
     ensures { Gives inventory_view result (behind_algorithm (members_view map.entries) algorithm) }
 {
     let content = content(alloc, &map)?;
@@ -265,8 +268,8 @@ fn stated_algorithm(
 {
     match read_algorithm(alloc, map) {
         Ok(algorithm) => Ok(Some(algorithm)),
-        Err(Stop::Memory) => Err(AllocError),
-        Err(Stop::Because(_)) => Ok(None),
+        Err(InventoryStop::Memory) => Err(AllocError),
+        Err(InventoryStop::Because(_)) => Ok(None),
     }
 }
 
@@ -280,7 +283,7 @@ pub fn algorithm_of(alloc: Global, bytes: &[u8]) -> Result<Option<Algorithm>, Al
 {
     match object(alloc, bytes) {
         Ok(map) => stated_algorithm(alloc, &map),
-        Err(Stop::Memory) => Err(AllocError),
-        Err(Stop::Because(_)) => Ok(None),
+        Err(InventoryStop::Memory) => Err(AllocError),
+        Err(InventoryStop::Because(_)) => Ok(None),
     }
 }

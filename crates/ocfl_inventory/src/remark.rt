@@ -1,6 +1,6 @@
 //! A line without its place, and why a reading stopped.
 ghost use Rattle.std.specs.Prelude.{◌≡◌};
-ghost use Rattle.ocfl_inventory.specs.declared.remark.Stop.TheVariants.{Memory};
+ghost use Rattle.ocfl_inventory.specs.declared.remark.InventoryStop.TheVariants.{Memory};
 
 use ocfl_report::Code;
 use std::alloc::AllocError;
@@ -14,15 +14,15 @@ pub struct Remark {
 
 /// Why a reading stopped: memory ran out, or what its only line says.
 #[derive(Debug, Drop)]
-pub enum Stop {
+pub enum InventoryStop {
     Memory,
     Because(Remark),
 }
 
-impl From<AllocError> for Stop {
+impl From<AllocError> for InventoryStop {
     ghost from_gives = { λ _ e. e ≡ Memory };
 
-    fn from(_e: AllocError) -> Stop {
-        Stop::Memory
+    fn from(_e: AllocError) -> InventoryStop {
+        InventoryStop::Memory
     }
 }

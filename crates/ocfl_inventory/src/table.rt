@@ -25,7 +25,7 @@ use crate::gather::gather;
 use crate::inventory::Inventory;
 use crate::notes::{add_others, repeated_lines};
 use crate::reading::{object, read_algorithm, read_behind_algorithm};
-use crate::remark::{Remark, Stop};
+use crate::remark::{InventoryStop, Remark};
 use crate::triple::{Named, Triple};
 use ocfl_digest::Algorithm;
 use ocfl_report::Line;
@@ -179,7 +179,7 @@ fn read_members(
     alloc: Global,
     members: Map<String, Value>,
     algorithm: Algorithm,
-) -> Result<(Vec<Remark>, Table), Stop>
+) -> Result<(Vec<Remark>, Table), InventoryStop>
     ensures reading { IsReading result (behind_algorithm (members_view members.entries) algorithm) }
     ensures few { IfOk result (λ r. length r.1.triples < 2 ^ 64) }
 {
@@ -223,15 +223,15 @@ pub struct InventoryReading {
 fn stopped(
     alloc: Global,
     algorithm: Option<Algorithm>,
-    stop: Stop,
+    stop: InventoryStop,
 ) -> Result<InventoryReading, AllocError>
     ensures algorithm { IfOk result (λ r. r.algorithm ≡ algorithm) }
     ensures remarks { IfOk result (λ r. SaysAlone stop (map remark_view r.remarks.items)) }
     ensures table { IfOk result (λ r. r.table ≡ None) }
 {
     match stop {
-        Stop::Memory => Err(AllocError),
-        Stop::Because(remark) => {
+        InventoryStop::Memory => Err(AllocError),
+        InventoryStop::Because(remark) => {
             let mut remarks = Vec::new(alloc);
             remarks.push(remark)?;
             Ok(InventoryReading {

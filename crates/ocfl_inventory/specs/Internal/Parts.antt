@@ -14,23 +14,23 @@ use Rattle.ocfl_digest.specs.Algorithm.{algorithm_name}
 use Rattle.ocfl_inventory.specs.Reading.{Reading, Block, Inventory, block_of}
 use Rattle.ocfl_digest.specs.declared.algorithm.Algorithm.{Algorithm}
 use Rattle.ocfl_inventory.specs.Remark.{remark_view}
-use Rattle.ocfl_inventory.specs.declared.remark.Stop.{Stop}
-use Rattle.ocfl_inventory.specs.declared.remark.Stop.TheVariants as stops
+use Rattle.ocfl_inventory.specs.declared.remark.InventoryStop.{InventoryStop}
+use Rattle.ocfl_inventory.specs.declared.remark.InventoryStop.TheVariants as stops
 use Rattle.ocfl_inventory.specs.declared.inventory.Listing.{Listing}
 use Rattle.ocfl_inventory.specs.declared.inventory.Supported.{Supported}
 use Rattle.ocfl_inventory.specs.declared.inventory.Inventory.{Inventory as MadeInventory}
 
 -- what stopped, unless memory ran out, is the line
-abbrev pub Says : Stop → Note → Type 0
+abbrev pub Says : InventoryStop → Note → Type 0
 Says stops.Memory n = Unit {0}
 Says (stops.Because r) n = remark_view r ≡ n
 
-abbrev pub Fails : {Y : Type 0} → Stop → Reading Y → Type 0
+abbrev pub Fails : {Y : Type 0} → InventoryStop → Reading Y → Type 0
 Fails stops.Memory read = Unit {0}
 Fails (stops.Because r) read = read ≡ Err (remark_view r)
 
 -- what a function returned, seen by view, is what reading gives, unless memory ran out
-abbrev pub Gives : {X Y : Type 0} → (X → Y) → Result X Stop → Reading Y → Type 0
+abbrev pub Gives : {X Y : Type 0} → (X → Y) → Result X InventoryStop → Reading Y → Type 0
 Gives view (Ok x) read = read ≡ Ok (view x)
 Gives view (Err e) read = Fails e read
 

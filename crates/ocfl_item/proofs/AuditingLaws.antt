@@ -118,20 +118,22 @@ lies_left ds es p h = (h.0, (h.1.0, (among_left ds es h.0 h.1.1.0, h.1.1.1)))
 lies_right : (ds es : List Place) (p : Place) → LiesIn es p → LiesIn (ds ++ es) p
 lies_right ds es p h = (h.0, (h.1.0, (among_right ds es h.0 h.1.1.0, h.1.1.1)))
 
-pub near_on : (root : StorageRoot) (ds es : List Place) (os os' : List Opening) → LieIn root ds os → LieIn root es os' → LieIn root (ds ++ es) (os ++ os')
-near_on root ds es os os' h k o i meta = by (among_either os os' o i)
+near_both : (root : StorageRoot) (ds : List Place) (os os' : List Opening) → LieIn root ds os → LieIn root ds os' → LieIn root ds (os ++ os')
+near_both root ds os os' h k o i meta = by (among_either os os' o i)
   where
-    by : IsAmong os o ⊎ IsAmong os' o → LiesIn (ds ++ es) o.place
-    by (inl j) = lies_left ds es o.place (h o j meta)
-    by (inr j) = lies_right ds es o.place (k o j meta)
+    by : IsAmong os o ⊎ IsAmong os' o → LiesIn ds o.place
+    by (inl j) = h o j meta
+    by (inr j) = k o j meta
+
+near_left : (root : StorageRoot) (ds es : List Place) (os : List Opening) → LieIn root ds os → LieIn root (ds ++ es) os
+near_left root ds es os h o i meta = lies_left ds es o.place (h o i meta)
+
+pub near_on : (root : StorageRoot) (ds es : List Place) (os os' : List Opening) → LieIn root ds os → LieIn root es os' → LieIn root (ds ++ es) (os ++ os')
+near_on root ds es os os' h k = near_both root (ds ++ es) os os' (near_left root ds es os h) (λ o i meta. lies_right ds es o.place (k o i meta))
 
 -- both in directories of the first
 pub near_within : (root : StorageRoot) (ds es : List Place) (os os' : List Opening) → LieIn root ds os → LieIn root ds os' → LieIn root (ds ++ es) (os ++ os')
-near_within root ds es os os' h k o i meta = by (among_either os os' o i)
-  where
-    by : IsAmong os o ⊎ IsAmong os' o → LiesIn (ds ++ es) o.place
-    by (inl j) = lies_left ds es o.place (h o j meta)
-    by (inr j) = lies_left ds es o.place (k o j meta)
+near_within root ds es os os' h k = near_both root (ds ++ es) os os' (near_left root ds es os h) (near_left root ds es os' k)
 
 one_of : (o : Place) (ns : List Text) (p : Place) → IsAmong (map (λ n. o ++ n ∷ []) ns) p → (n : Text) × (p ≡ o ++ n ∷ [])
 one_of o [] p i = absurd i

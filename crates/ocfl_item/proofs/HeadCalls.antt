@@ -10,7 +10,7 @@ use Rattle.ocfl_tree.specs.Place.{Text, Place, text_eq}
 use Rattle.ocfl_tree.specs.StorageRoot.{StorageRoot, file_at}
 use Rattle.ocfl_tree.specs.Store.{Store}
 use Rattle.ocfl_tree.specs.declared.store.Entry.{Entry}
-use Rattle.ocfl_inventory.specs.Note.{Note, plain, lines_at}
+use Rattle.ocfl_inventory.specs.Note.{Note, plain}
 use Rattle.ocfl_report.specs.declared.code.Code.TheVariants.{E007, E063, S02}
 use Rattle.ocfl_digest.specs.declared.bounded.Bounded.{Bounded}
 use Rattle.ocfl_digest.specs.declared.bounded.Bounded.TheVariants as bounded

@@ -1,7 +1,6 @@
 -- What judging one item does to a store that tells its tree.
 use Rattle.std.proofs.Common.{◌≡◌, inl, inr, ◌≢◌, ℕ, ◌+◌, ◌<◌, ◌≤◌, ◌^◌, List, [], ◌∷◌, ◌++◌, length, cond, map, filter, refl, sym, ◌∙◌, ap, subst, true, false, Bool, Option, Some, None, not, arith}
-use Rattle.std.specs.Prelude.{option_and_then, max, IfErr, IfOk, MatchResult, Result, Ok, Err, Vec}
-use Rattle.std.specs.declared.alloc.Global.{Global}
+use Rattle.std.specs.Prelude.{option_and_then, max, IfErr, IfOk, MatchResult, Result, Ok, Err}
 use Rattle.ocfl_tree.specs.Place.{Place, Text}
 use Rattle.ocfl_tree.specs.Ascending.{IsAmong}
 use Rattle.ocfl_tree.specs.StorageRoot.{StorageRoot, file_at, bytes_of}

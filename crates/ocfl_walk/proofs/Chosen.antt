@@ -1,7 +1,7 @@
 -- The turn that is chosen, and what a stand is once listings of which nothing is left are let go.
-use Rattle.std.proofs.Common.{◌≡◌, ◌≢◌, ◌⊎◌, inl, inr, List, [], ◌∷◌, refl, sym, ◌∙◌, ap, subst, true, false, Bool, Option, Some, None, Result, Ok, Err, arith}
+use Rattle.std.proofs.Common.{◌≡◌, ◌≢◌, ◌⊎◌, inl, inr, List, [], ◌∷◌, refl, sym, ◌∙◌, ap, subst, true, false, Bool, Option, Some, None, arith}
 use Rattle.std.specs.declared.alloc.Global.{Global}
-use Rattle.std.specs.Prelude.{cond, IfOk, Vec}
+use Rattle.std.specs.Prelude.{cond, Vec}
 use Rattle.std.specs.Ordering.{is_lt}
 use Rattle.std.specs.declared.cmp.Ordering.TheVariants.{Less}
 use Rattle.arrayvec.specs.ArrayVec.{ArrayVec}
@@ -15,7 +15,6 @@ use Rattle.ocfl_audit.specs.Between.{IsBeyond}
 use Rattle.ocfl_walk.specs.Internal.Walking.{GoesOn}
 use Rattle.ocfl_walk.specs.WalkCalls.{FailsOut}
 use Rattle.ocfl_walk.specs.Internal.Walking.{FailsTo}
-use Rattle.ocfl_item.specs.declared.fault.Fault.{Fault}
 use Rattle.ocfl_item.specs.declared.fault.Fault.TheVariants as fault
 use Rattle.ocfl_item.specs.declared.meeting.Around.{Around}
 use Rattle.ocfl_walk.specs.declared.end.End.{End}
@@ -125,14 +124,10 @@ pub sizes : (old mid : Stand) → mid.last ≡ old.last → mid.around ≡ old.a
 unfolding stand_size
 sizes old mid l a is = (λ i. size_of (l i) (piles_in mid.last mid.listings.items) (a i)) ∙ mid_size (piles_in old.last old.listings.items) (piles_in mid.last mid.listings.items) old.around is old.last
 
-pub goes_from : (old mid new : Stand) → mid.last ≡ old.last → stand_size mid ≡ stand_size old → (r : Result Step Fault) → IfOk r (λ s. GoesOn mid new s) → IfOk r (λ s. GoesOn old new s)
-goes_from old mid new l z (Err f) g = g
-goes_from old mid new l z (Ok s) g = by s g
-  where
-    by : (s : Step) → GoesOn mid new s → GoesOn old new s
-    by (step.Item p) g = (g.0, subst (λ x. IsBeyond x p.place) l g.1, omega (arith, z, g.2), g.3)
-    by step.Nothing g = (g.0, g.1, subst (λ x. IsBeyond x g.0) l g.2, omega (arith, z, g.3))
-    by step.End g = tt
+pub goes_from : (old mid new : Stand) → mid.last ≡ old.last → stand_size mid ≡ stand_size old → (s : Step) → GoesOn mid new s → GoesOn old new s
+goes_from old mid new l z (step.Item p) g = (g.0, subst (λ x. IsBeyond x p.place) l g.1, omega (arith, z, g.2), g.3)
+goes_from old mid new l z step.Nothing g = (g.0, g.1, subst (λ x. IsBeyond x g.0) l g.2, omega (arith, z, g.3))
+goes_from old mid new l z step.End g = tt
 
 -- if the last place is there, the walk stands at it
 pub at_last : (root : StorageRoot) (old : Stand) (X : Option Place → Type 0) (last : Option Place) → StandsAt root old last → (old.last ≡ None → ⊥)

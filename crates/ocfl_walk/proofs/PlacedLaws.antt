@@ -199,6 +199,11 @@ top_here d vs x rest c is = (whole, (λ e. let m = leb-false (length d) (length 
         let same : length rest ≡ length d = omega (arith, l, m, n) in
         top ∙ ap (λ k. take k d) same ∙ take-length d
 
+-- a listing that goes on top, of a place as deep as the others are many
+pub fits : (x : Place) (vs : List (Vec Entry Global)) (f : Option Folder) → length x ≡ length vs → IfSome f (λ g. IsFairPile x g) → IfSome f (λ g. (g.place ≡ x) × (length x ≡ length vs))
+fits x vs None deep k = tt
+fits x vs (Some g) deep k = (k.place, deep)
+
 -- at an entry of the deepest listing
 module _ (p x : Place) (old new : List (Vec Entry Global)) (entry : Entry) (a : Option Around) (h : IsOrderly p (piles_at p old) a)
     (t : IsTaken (piles_at p old) (piles_at p new) entry) (count : length new ≡ length old) (e : x ≡ t.place ++ entry.name ∷ []) where
@@ -228,11 +233,7 @@ module _ (p x : Place) (old new : List (Vec Entry Global)) (entry : Entry) (a : 
   -- its listing goes on top
   pub entry_pushed : (ws : List (Vec Entry Global)) (f : Option Folder) → IfSome f (λ g. IsFairPile x g)
       → ((q : Place) → IfSome f (λ g. (g.place ≡ q) × (length q ≡ length new)) → piles_at q ws ≡ pushed f (piles_at q new)) → piles_at x ws ≡ pushed f (piles_at p new)
-  entry_pushed ws f fair push = push x (fits f fair) ∙ ap (pushed f) entry_shared
-    where
-      fits : (f : Option Folder) → IfSome f (λ g. IsFairPile x g) → IfSome f (λ g. (g.place ≡ x) × (length x ≡ length new))
-      fits None k = tt
-      fits (Some g) k = (k.place, entry_depth)
+  entry_pushed ws f fair push = push x (fits x new f entry_depth fair) ∙ ap (pushed f) entry_shared
 
   pub entry_room : (f : Option Folder) → IfSome f (λ g. IsFairPile x g) → IfSome f (λ _. length new < levels)
   entry_room None k = tt

@@ -103,9 +103,9 @@ pub goes_here : (new : Stand) (x : Place) (item : Option Pending) → new.last �
 goes_here new x None l = l
 goes_here new x (Some p) l = l
 
-pub sizes_fall : (old new : Stand) (p x : Place) (ps qs : List Pile) (a a' : Option Around) → old.last ≡ Some p → piles_in old.last old.listings.items ≡ ps
-    → old.around ≡ a → new.last ≡ Some x → piles_in new.last new.listings.items ≡ qs → new.around ≡ a' → size_of (Some x) qs a' < size_of (Some p) ps a → stand_size new < stand_size old
+pub sizes_fall : (old new : Stand) (l l' : Option Place) (ps qs : List Pile) (a a' : Option Around) → old.last ≡ l → piles_in old.last old.listings.items ≡ ps
+    → old.around ≡ a → new.last ≡ l' → piles_in new.last new.listings.items ≡ qs → new.around ≡ a' → size_of l' qs a' < size_of l ps a → stand_size new < stand_size old
 unfolding stand_size
-sizes_fall old new p x ps qs a a' e1 e2 e3 f1 f2 f3 h =
+sizes_fall old new l l' ps qs a a' e1 e2 e3 f1 f2 f3 h =
     (subst (λ n. n < size_of old.last (piles_in old.last old.listings.items) old.around) (λ i. size_of (sym f1 i) (sym f2 i) (sym f3 i))
-    (subst (λ n. size_of (Some x) qs a' < n) (λ i. size_of (sym e1 i) (sym e2 i) (sym e3 i)) h))
+    (subst (λ n. size_of l' qs a' < n) (λ i. size_of (sym e1 i) (sym e2 i) (sym e3 i)) h))

@@ -40,7 +40,7 @@ use Rattle.ocfl_walk.proofs.PathSteps.{path_ahead}
 use Rattle.ocfl_walk.proofs.PlacedLaws.{begun, entry_pushed, entry_room}
 use Rattle.ocfl_walk.proofs.SizeLaws.{goes_here, goes_to, size_entry, sizes_fall}
 use Rattle.ocfl_walk.proofs.StandLaws.{entry_stands}
-use Rattle.ocfl_walk.proofs.StartLaws.{first_pushed, first_room, first_stands, item_first, orderly_first, root_short, size_begins, size_first, step_first}
+use Rattle.ocfl_walk.proofs.StartLaws.{first_pushed, first_room, first_stands, item_first, orderly_first, root_short, size_first, step_first}
 
 abbrev Listings : Type 0
 Listings = ArrayVec (Vec Entry Global)
@@ -73,7 +73,7 @@ module _ (old : Stand) (orderly : IsOrderlyStand old) (first : old.last ≡ None
       base_goes_on i =
           subst (GoesOn old base) (sym is)
           (goes_to old base x item (item_first x item top i) refl (subst (λ y. IsBeyond y x) (sym first) tt)
-          (size_begins old base x (piles_at [] old.listings.items) _ old.around old.around first (ap (λ l. piles_in l old.listings.items) first) refl refl
+          (sizes_fall old base None (Some x) (piles_at [] old.listings.items) _ old.around old.around first (ap (λ l. piles_in l old.listings.items) first) refl refl
           base_piles refl (size_first x f (piles_at [] old.listings.items) old.around nothing.0 nothing.1 fair))
           (root_short x top))
 
@@ -137,7 +137,7 @@ module _ (old : Stand) (entry : Entry) (x : Place) (mid : Listings) (orderly : I
             m.folder there.1 (taken (spot_of old.last)) fair.table fair.folder in
             subst (GoesOn old at_entry) (sym is)
             (goes_to old at_entry x m.item fair.item refl (subst (λ y. IsBeyond y x) (sym there.0) above)
-            (sizes_fall old at_entry (spot_of old.last) x _ _ old.around m.around there.0 refl refl refl entry_piles refl small)
+            (sizes_fall old at_entry (Some (spot_of old.last)) (Some x) _ _ old.around m.around there.0 refl refl refl entry_piles refl small)
             (entry_short (spot_of old.last) (piles_in old.last old.listings.items) (piles_in old.last mid.items) entry old.around there.1 (taken (spot_of old.last)) x own))
 
         pub entry_there : GoesTo at_entry x r

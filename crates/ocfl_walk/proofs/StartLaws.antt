@@ -8,7 +8,7 @@ use Rattle.ocfl_tree.specs.Place.{Place, Text}
 use Rattle.ocfl_tree.specs.StorageRoot.{StorageRoot, max_entries}
 use Rattle.ocfl_tree.specs.Store.{Store}
 use Rattle.ocfl_audit.specs.Due.{due}
-use Rattle.ocfl_walk.specs.Standing.{IsStanding, Pile, StandsAt, entry_weight, piles_at, piles_in, size_of, stand_size, weigh, levels}
+use Rattle.ocfl_walk.specs.Standing.{IsStanding, Pile, StandsAt, entry_weight, piles_at, size_of, weigh, levels}
 use Rattle.ocfl_walk.specs.Internal.Standing.{IsFairPile, IsOrderly, left_of_folder, pushed}
 use Rattle.ocfl_item.specs.Meeting.{IsItemAt, Meets}
 use Rattle.ocfl_walk.specs.Internal.Walking.{IsPileAt, Steps, step_from}
@@ -20,7 +20,7 @@ use Rattle.ocfl_item.proofs.BaseLaws.{root_some}
 use Rattle.ocfl_walk.proofs.DueTurns.{due_first}
 use Rattle.ocfl_item.proofs.HeadCalls.{inside_not_root}
 use Rattle.ocfl_walk.proofs.OrderlyLaws.{orderly_top}
-use Rattle.ocfl_walk.proofs.PlacedLaws.{piles_count}
+use Rattle.ocfl_walk.proofs.PlacedLaws.{fits, piles_count}
 use Rattle.ocfl_walk.proofs.StandLaws.{stands_top}
 use Rattle.ocfl_walk.proofs.SizeLaws.{mul_room}
 use Rattle.ocfl_audit.proofs.StackLaws.{stack_starts}
@@ -36,11 +36,10 @@ first_room vs (Some f) e = let n : length (piles_at [] vs) ≡ 0 = ap length e i
 -- the first listing
 pub first_pushed : (x : Place) (vs ws : List (Vec Entry Global)) (f : Option Folder) → x ≡ [] → piles_at [] vs ≡ [] → IfSome f (λ g. IsFairPile [] g)
     → ((p : Place) → IfSome f (λ g. (g.place ≡ p) × (length p ≡ length vs)) → piles_at p ws ≡ pushed f (piles_at p vs)) → piles_at x ws ≡ pushed f (piles_at [] vs)
-first_pushed x vs ws f e none fair push = ap (λ p. piles_at p ws) e ∙ push [] (fits f fair)
-  where
-    fits : (f : Option Folder) → IfSome f (λ g. IsFairPile [] g) → IfSome f (λ g. (g.place ≡ []) × (length {A = Text} [] ≡ length vs))
-    fits None k = tt
-    fits (Some g) k = (k.place, (let n : length (piles_at [] vs) ≡ 0 = ap length none in let m = piles_count [] vs in let z : 0 ≡ length vs = omega (arith, n, m) in z))
+first_pushed x vs ws f e none fair push =
+    let few : length (piles_at [] vs) ≡ 0 = ap length none in
+    let same : length {A = Text} [] ≡ length vs = omega (arith, few, piles_count [] vs) in
+    ap (λ p. piles_at p ws) e ∙ push [] (fits [] vs f same fair)
 
 pub orderly_first : (x : Place) (f : Option Folder) (ps : List Pile) (a : Option Around) → x ≡ [] → ps ≡ [] → a ≡ None → IfSome f (λ g. IsFairPile [] g) → IsOrderly x (pushed f ps) a
 orderly_first x f ps a e none alone h =
@@ -78,13 +77,6 @@ unfolding size_of entry_weight
 size_first x f ps a none alone h =
     subst (λ b. size_of (Some x) (pushed f ps) b < size_of None ps b) (sym alone)
     (subst (λ qs. size_of (Some x) (pushed f qs) None < size_of None qs None) (sym none) (weight_first entry_weight (omega arith) f h))
-
-pub size_begins : (old new : Stand) (x : Place) (ps qs : List Pile) (a a' : Option Around) → old.last ≡ None → piles_in old.last old.listings.items ≡ ps
-    → old.around ≡ a → new.last ≡ Some x → piles_in new.last new.listings.items ≡ qs → new.around ≡ a' → size_of (Some x) qs a' < size_of None ps a → stand_size new < stand_size old
-unfolding stand_size
-size_begins old new x ps qs a a' e1 e2 e3 f1 f2 f3 h =
-    (subst (λ n. n < size_of old.last (piles_in old.last old.listings.items) old.around) (λ i. size_of (sym f1 i) (sym f2 i) (sym f3 i))
-    (subst (λ n. size_of (Some x) qs a' < n) (λ i. size_of (sym e1 i) (sym e2 i) (sym e3 i)) h))
 
 pub root_short : (x : Place) → x ≡ [] → length x ≤ 255
 root_short x e = let n : length x ≡ length {A = Text} [] = ap length e in omega (arith, n)

@@ -482,24 +482,8 @@ impl Stand {
         }
     }
 
-    /// Takes the next place, if it is not past the end.
+    /// Takes the next place, if it is not past the end, where no empty listing is on top.
     fn step<T: Tree>(&mut self, alloc: Global, store: &mut T, end: &End) -> Result<Step, Fault>
-        requires { IsOrderlyStand self.old }
-        ensures orderly { IsOrderlyStand self.new }
-        ensures only { IfErr result (λ why. IsWayFault why) }
-        ensures goes_on { IfOk result (λ step. GoesOn self.old self.new step) }
-        ensures before { IfOk result (λ step. IsBefore end.now self.new step) }
-        ensures told { IfTold T.told (T.state store.old) (λ root.
-            (last : Option Spot) → StandsAt root self.old last
-            → StepsOutTo root (T.state store.old) (T.state store.new) last end.now self.new
-            result) }
-    {
-        drop_empty(&mut self.listings);
-        self.take_next(alloc, store, end)
-    }
-
-    /// Takes the next place, if it is not past the end, from a stand without empty listings on top.
-    fn take_next<T: Tree>(&mut self, alloc: Global, store: &mut T, end: &End) -> Result<Step, Fault>
         requires orderly { IsOrderlyStand self.old }
         requires trim { trimmed (piles_in self.old.last self.old.listings.items)
             ≡ piles_in self.old.last self.old.listings.items }
@@ -539,6 +523,7 @@ impl Stand {
             (λ why. FailsOut root (T.state store.old) (T.state store.new) last end.now why)) }
     {
         loop {
+            drop_empty(&mut self.listings);
             match self.step(alloc, store, end)? {
                 Step::Item(item) => return Ok(Some(item)),
                 Step::End => return Ok(None),

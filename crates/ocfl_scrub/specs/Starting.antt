@@ -1,4 +1,4 @@
--- If a walk over a part of a storage root begins, and what of the root is looked at from there
+-- Where a walk over a part of a storage root begins, and what of the root is looked at from there
 -- on.
 use Rattle.std.specs.Prelude.{◌≡◌, List, [], ◌∷◌, ◌++◌, Bool, true, Option, Some, None, if◌then◌else◌}
 use Rattle.std.specs.Ordering.{is_lt}

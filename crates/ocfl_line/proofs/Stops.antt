@@ -5,8 +5,8 @@ use Rattle.clap.specs.declared.error.Error.{Error}
 use Rattle.clap.specs.declared.parser.matches.ArgMatches.{ArgMatches}
 use Rattle.ocfl_line.specs.Line.{line_app}
 use Rattle.ocfl_line.specs.Stop.{IsStopOf, StopsRightly}
-use Rattle.ocfl_line.specs.declared.stop.LineStop.{LineStop}
-use Rattle.ocfl_line.specs.declared.stop.LineStop.TheVariants.{Usage, Memory}
+use Rattle.ocfl_line.specs.declared.stop.CommandStop.{CommandStop}
+use Rattle.ocfl_line.specs.declared.stop.CommandStop.TheVariants.{Usage, Memory}
 
 line_is_simple : is_simple line_app ≡ true
 line_is_simple = refl
@@ -27,7 +27,7 @@ pub subcommand_is : (a : App) (words : List Text) (m : ArgMatches) → a ≡ lin
 subcommand_is a words m e h = (h (ap is_simple e ∙ line_is_simple)).1 ∙ ap (λ x. subcommand_of x words) e
 
 -- an error of `clap` stops rightly
-pub stops_rightly : (words : List Text) (e : Error) (stop : LineStop) → IsStopOf e stop → HasKind (fault_of line_app words) e → StopsRightly words stop
+pub stops_rightly : (words : List Text) (e : Error) (stop : CommandStop) → IsStopOf e stop → HasKind (fault_of line_app words) e → StopsRightly words stop
 stops_rightly words e Memory is h = tt
 stops_rightly words e (Usage f) is (inl memory) = absurd (is.1 memory)
 stops_rightly words e (Usage f) is (inr kind) = inl (subst (λ x. IsAmong (kind_of x) (fault_of line_app words)) (sym is.0) kind)

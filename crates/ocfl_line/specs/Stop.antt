@@ -6,8 +6,8 @@ use Rattle.clap.specs.declared.error.kind.ErrorKind.TheVariants as kind
 use Rattle.ocfl_line.specs.Line.{line_app}
 use Rattle.ocfl_line.specs.Asks.{Asks}
 use Rattle.ocfl_line.specs.declared.task.Asked.{Asked}
-use Rattle.ocfl_line.specs.declared.stop.LineStop.{LineStop}
-use Rattle.ocfl_line.specs.declared.stop.LineStop.TheVariants.{Usage, Memory}
+use Rattle.ocfl_line.specs.declared.stop.CommandStop.{CommandStop}
+use Rattle.ocfl_line.specs.declared.stop.CommandStop.TheVariants.{Usage, Memory}
 
 -- the words ask for no command
 abbrev pub AsksNothing : List Text → Type 0
@@ -19,11 +19,11 @@ IsUsage words e = IsAmong (kind_of e) (fault_of line_app words)
     ⊎ ((kind_of e ≡ kind.ValueValidation) × (fault_of line_app words ≡ []) × AsksNothing words)
 
 -- a usage error names a fault of the words; memory may be refused at any time
-abbrev pub StopsRightly : List Text → LineStop → Type 0
+abbrev pub StopsRightly : List Text → CommandStop → Type 0
 StopsRightly words (Usage e) = IsUsage words e
 StopsRightly words Memory = ⊤
 
 -- what is made of an error of `clap`
-abbrev pub IsStopOf : Error → LineStop → Type 0
+abbrev pub IsStopOf : Error → CommandStop → Type 0
 IsStopOf e (Usage f) = (f ≡ e) × (kind_of e ≢ kind.OutOfMemory)
 IsStopOf e Memory = kind_of e ≡ kind.OutOfMemory

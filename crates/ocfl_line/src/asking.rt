@@ -8,7 +8,7 @@ ghost use Rattle.ocfl_line.specs.Stop.{StopsRightly};
 use crate::command::line_command;
 use crate::complaint::usage_error;
 use crate::reading::asked_by;
-use crate::stop::LineStop;
+use crate::stop::CommandStop;
 use crate::task::Asked;
 use clap::Command;
 use std::alloc::Global;
@@ -17,7 +17,7 @@ use std::convert::AsStr;
 /// What the words of a command line ask for, of which the first is the program's name. Fails with
 /// `Usage` if they are not understood, or ask for help or the version, and with `Memory` if
 /// memory was refused.
-pub fn asked<'a, S: AsStr>(alloc: Global, words: &'a [S]) -> Result<Asked, LineStop>
+pub fn asked<'a, S: AsStr>(alloc: Global, words: &'a [S]) -> Result<Asked, CommandStop>
     // If there is an answer, `clap` finds no fault in the words, and the answer is what they
     // ask.
     ensures asked { IfOk result (Asks (subcommand_of line_app (map S.text words.entry.now))) }
@@ -34,7 +34,7 @@ fn read_words<'a, S: AsStr>(
     alloc: Global,
     command: &mut Command<'a>,
     words: &'a [S],
-) -> Result<Asked, LineStop>
+) -> Result<Asked, CommandStop>
     requires { IsCommand line_app command.old }
     ensures asked { IfOk result (Asks (subcommand_of line_app (map S.text words.entry.now))) }
     ensures faultless { IfOk result (λ _. fault_of line_app (map S.text words.entry.now) ≡ []) }
@@ -43,6 +43,6 @@ fn read_words<'a, S: AsStr>(
     let matches = command.try_get_matches_from_mut(words)?;
     match asked_by(alloc, &matches)? {
         Some(asked) => Ok(asked),
-        None => Err(LineStop::Usage(usage_error(alloc, &matches)?)),
+        None => Err(CommandStop::Usage(usage_error(alloc, &matches)?)),
     }
 }

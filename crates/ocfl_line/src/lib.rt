@@ -28,5 +28,5 @@ mod values;
 
 pub use asking::asked;
 pub use night::{JoinAsked, NightAsked, NightBounds, Until};
-pub use stop::LineStop;
+pub use stop::CommandStop;
 pub use task::{Asked, Chosen, Split, Task};

@@ -15,7 +15,7 @@ mod whole;
 
 use clap::error::ErrorKind;
 use nights::{join_parts, make_night};
-use ocfl_line::{Asked, LineStop, asked};
+use ocfl_line::{Asked, CommandStop, asked};
 use progress::{Terminals, find_terminals};
 use saying::{STOPPED, USAGE, say, say_out_of_memory};
 use splits::split_root;
@@ -107,8 +107,8 @@ where
     }
     match asked(rt.alloc(), words.as_slice()) {
         Ok(asked) => do_asked(rt, asked, terminals),
-        Err(LineStop::Usage(error)) => print_usage(rt, &error),
-        Err(LineStop::Memory) => say_out_of_memory(rt),
+        Err(CommandStop::Usage(error)) => print_usage(rt, &error),
+        Err(CommandStop::Memory) => say_out_of_memory(rt),
     }
 }
 

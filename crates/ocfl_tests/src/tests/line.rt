@@ -7,7 +7,7 @@ use crate::tests::common::Runtime;
 use clap::error::ErrorKind;
 use ocfl_cursor::{Budget, FileLimit, Limits};
 use ocfl_deed::Deed;
-use ocfl_line::{Asked, LineStop, Split, Task, asked};
+use ocfl_line::{Asked, CommandStop, Split, Task, asked};
 use std::alloc::{AllocError, Global};
 use std::test::Fail;
 
@@ -30,7 +30,7 @@ fn words_of<'a>(alloc: Global, line: &'a str) -> Result<Vec<&'a str>, AllocError
     Ok(words)
 }
 
-fn read(alloc: Global, line: &str) -> Result<Asked, LineStop> {
+fn read(alloc: Global, line: &str) -> Result<Asked, CommandStop> {
     let words = words_of(alloc, line)?;
     asked(alloc, words.as_slice())
 }
@@ -46,7 +46,7 @@ fn read_task(alloc: Global, line: &str) -> Result<Task, Fail> {
 /// The kind of the fault of usage.
 fn words_fault(alloc: Global, words: &[&str]) -> Option<ErrorKind> {
     match asked(alloc, words) {
-        Err(LineStop::Usage(error)) => Some(error.kind()),
+        Err(CommandStop::Usage(error)) => Some(error.kind()),
         _ => None,
     }
 }
@@ -54,7 +54,7 @@ fn words_fault(alloc: Global, words: &[&str]) -> Option<ErrorKind> {
 /// The same of a line.
 fn fault(alloc: Global, line: &str) -> Option<ErrorKind> {
     match read(alloc, line) {
-        Err(LineStop::Usage(error)) => Some(error.kind()),
+        Err(CommandStop::Usage(error)) => Some(error.kind()),
         _ => None,
     }
 }
@@ -90,7 +90,7 @@ fn expect_split(rt: &impl Runtime, row: &str, line: &str, budget: u64) -> Result
 /// The text of a line's fault, or of the help that it asks for.
 fn usage_text(alloc: Global, line: &str) -> Result<String, Fail> {
     match read(alloc, line) {
-        Err(LineStop::Usage(error)) => Ok(format!(in alloc; "{error}")?),
+        Err(CommandStop::Usage(error)) => Ok(format!(in alloc; "{error}")?),
         _ => Err(Fail::from("no usage")),
     }
 }

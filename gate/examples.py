@@ -24,8 +24,9 @@ def looked_at():
 
 
 def tried_in(test):
-    """The text of a test without the comment at its head."""
-    return re.sub(r"\A(?://!.*\n)+", "", test)
+    """The text of a test without the comment at its head. Its attribute is not shown: `rt ci` would
+    look for a test in the crate."""
+    return re.sub(r"\A(?://!.*\n)+", "", test).replace("#[test]\n", "")
 
 
 def shown_in(source):

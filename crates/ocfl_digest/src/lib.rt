@@ -6,7 +6,6 @@
 //! use ocfl_digest::{Algorithm, Wanted, hash_bytes};
 //! use std::test::Fail;
 //!
-//! #[test]
 //! fn only_wanted_digests_are_computed(rt: HostRuntime) -> Result<(), Fail> {
 //!     let wanted = Wanted::none().with(Algorithm::Md5).with(Algorithm::Sha512);
 //!     let digests = hash_bytes(b"abc", wanted);

@@ -8,7 +8,6 @@
 //! use ocfl_tree::Place;
 //! use std::test::Fail;
 //!
-//! #[test]
 //! fn an_inventory_names_a_digest(rt: HostRuntime) -> Result<(), Fail> {
 //!     let bytes = br#"{"digestAlgorithm":"sha512","manifest":{"Ab01":["v1/content/f"]}}"#;
 //!     let reading = read_inventory(rt.alloc(), bytes)?;

@@ -6,7 +6,6 @@
 //! use ocfl_report::{Code, read_line};
 //! use std::test::Fail;
 //!
-//! #[test]
 //! fn a_line_is_read_and_written_again(rt: HostRuntime) -> Result<(), Fail> {
 //!     let text = b"E092\to/v1/content/a%25\tsha512 ab cd\n".as_slice();
 //!     let line = read_line(rt.alloc(), text)?;

@@ -10,7 +10,6 @@
 //! use std::fs;
 //! use std::test::Fail;
 //!
-//! #[test]
 //! fn a_storage_root_on_disk_is_audited(rt: HostRuntime) -> Result<(), Fail> {
 //!     fs::create_dir(&rt, "storage-root")?;
 //!     fs::write(&rt, "storage-root/0=ocfl_1.1", b"ocfl_1.1\n")?;

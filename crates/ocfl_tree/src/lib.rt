@@ -7,7 +7,6 @@
 //! use ocfl_tree::{Name, Place};
 //! use std::test::Fail;
 //!
-//! #[test]
 //! fn a_directory_comes_before_what_is_in_it(rt: HostRuntime) -> Result<(), Fail> {
 //!     let mut object = Place::root(rt.alloc());
 //!     object.push(Name::new(rt.alloc(), "object")?)?;

@@ -17,6 +17,7 @@ use std::io::ErrorKind;
 use std::test::Fail;
 
 mod part;
+mod seals;
 mod stored;
 
 /// A place of `count` names, each 255 bytes 0x01.

@@ -131,6 +131,7 @@ pub record IsNight (rows : List Row) (n : NightAsked) : Type 0 where
   pub of_all : ExpectsOfPart rows → ⊥
   pub create : IsTrue n.create ↔ IsGiven (codes "create") rows
   pub force_root : IsTrue n.force_root ↔ IsGiven (codes "force-root") rows
+  pub stop_at_faults : IsTrue n.stop_at_faults ↔ IsGiven (codes "stop-at-faults") rows
 
 -- the joining of the closed reports of all parts
 abbrev pub IsJoin : List Row → JoinAsked → Type 0

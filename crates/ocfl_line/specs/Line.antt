@@ -9,7 +9,7 @@ use Rattle.clap.specs.declared.builder.command.Command.TheViews.{out-Command}
 use Rattle.clap.specs.declared.builder.value_parser.ValueParser.TheVariants as vp
 use Rattle.ocfl_line.specs.declared.command.Argument.{Argument}
 use Rattle.ocfl_line.specs.declared.command.Argument.TheVariants.{Root, Path, File, Cursor, Budget, Files, Runs, Quiet, Under, Parts, Part, Count, AnyRoot, AnyBudget, Report}
-use Rattle.ocfl_line.specs.declared.command.Argument.TheVariants.{State, NightBudget, NightFiles, Slice, Hours, Until, End, Known, Expected, Create, ForceRoot, AllParts, PartStates}
+use Rattle.ocfl_line.specs.declared.command.Argument.TheVariants.{State, NightBudget, NightFiles, Slice, Hours, Until, End, Known, Expected, Create, ForceRoot, StopAtFaults, AllParts, PartStates}
 
 abbrev pub most_runs : ℕ
 most_runs = 100000
@@ -123,6 +123,7 @@ rule_for Known = named_rule (codes "known")
 rule_for Expected = named_rule (codes "expected")
 rule_for Create = flag_rule (codes "create")
 rule_for ForceRoot = flag_rule (codes "force-root")
+rule_for StopAtFaults = flag_rule (codes "stop-at-faults")
 rule_for AllParts = wanted_rule (codes "parts")
 rule_for PartStates = wanted_rule (codes "state")
 
@@ -151,7 +152,8 @@ abbrev pub night_app : App
 night_app = app_with (codes "night") (wanted_rule (codes "state") ∷ named_rule (codes "budget")
     ∷ named_rule (codes "files") ∷ named_rule (codes "slice") ∷ hours_rule ∷ named_rule (codes "until") ∷ end_rule
     ∷ named_rule (codes "parts") ∷ part_rule ∷ named_rule (codes "known") ∷ named_rule (codes "expected")
-    ∷ flag_rule (codes "create") ∷ flag_rule (codes "force-root") ∷ root_rule ∷ [])
+    ∷ flag_rule (codes "create") ∷ flag_rule (codes "force-root") ∷ flag_rule (codes "stop-at-faults")
+    ∷ root_rule ∷ [])
 
 abbrev pub check_app : App
 check_app = app_with (codes "check") (root_rule ∷ path_rule ∷ [])

@@ -9,7 +9,7 @@ ghost use Rattle.ocfl_line.specs.Line.{optional_rule, part_rule, rule_for, runs_
 use crate::command::Argument::{
     AllParts, AnyBudget, AnyRoot, Budget, Count, Create, Cursor, End, Expected, File, Files,
     ForceRoot, Hours, Known, NightBudget, NightFiles, Part, PartStates, Parts, Path, Quiet, Report,
-    Root, Runs, Slice, State, Under, Until,
+    Root, Runs, Slice, State, StopAtFaults, Under, Until,
 };
 use clap::{Arg, ArgAction, Command, value_parser};
 use std::alloc::{AllocError, Global};
@@ -77,6 +77,8 @@ enum Argument {
     Create,
     /// Whether another storage root is taken.
     ForceRoot,
+    /// Whether no branch is left out.
+    StopAtFaults,
     /// The file of the separators, of which all parts are taken.
     AllParts,
     /// The folder of the parts' state folders.
@@ -141,6 +143,9 @@ const CREATE: &str = "Begins a first cycle where the state folder has no checkpo
 
 const FORCE_ROOT: &str = "Takes ROOT for the root of this folder, though it differs from the one \
 of before";
+
+const STOP_AT_FAULTS: &str = "Ends the night at the first place that cannot be read, which is else \
+left out of the cycle, with all below it";
 
 const PART_STATES: &str = "The folder that has the state folders of the parts: part-000001 and so \
 on";
@@ -277,6 +282,7 @@ fn arg_of<'a>(alloc: Global, argument: Argument) -> Arg<'a>
         Expected => named(alloc, "expected", "FILE", EXPECTED),
         Create => flag(alloc, "create", CREATE),
         ForceRoot => flag(alloc, "force-root", FORCE_ROOT),
+        StopAtFaults => flag(alloc, "stop-at-faults", STOP_AT_FAULTS),
         AllParts => wanted(alloc, "parts", "FILE", PARTS),
         PartStates => wanted(alloc, "state", "DIR", PART_STATES),
     }
@@ -429,6 +435,7 @@ const NIGHT_ARGUMENTS: &[Argument] = &[
     Expected,
     Create,
     ForceRoot,
+    StopAtFaults,
     Root,
 ];
 

@@ -53,6 +53,8 @@ pub struct NightAsked {
     pub create: bool,
     /// Whether another storage root than the one before is taken.
     pub force_root: bool,
+    /// Whether it ends at a place that cannot be read, and leaves no branch out.
+    pub stop_at_faults: bool,
 }
 
 /// The joining of the closed reports of all parts.

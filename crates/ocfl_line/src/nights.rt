@@ -121,6 +121,7 @@ pub(crate) fn night_by(
         expected,
         create: is_given(inner, "create"),
         force_root: is_given(inner, "force-root"),
+        stop_at_faults: is_given(inner, "stop-at-faults"),
     }))
 }
 

@@ -108,7 +108,7 @@ fn plan_of(asked: &NightAsked, end: Option<u64>) -> Result<Plan, AllocError> {
         files: asked.bounds.files,
         create: asked.create,
         force_root: asked.force_root,
-        stop_at_faults: false,
+        stop_at_faults: asked.stop_at_faults,
     })
 }
 

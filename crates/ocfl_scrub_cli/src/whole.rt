@@ -79,6 +79,7 @@ fn whole_night<R: Env + AllocGlobal>(rt: &R, night: NightAsked) -> io::Result<Ni
         expected: whole_if_any(rt, night.expected)?,
         create: night.create,
         force_root: night.force_root,
+        stop_at_faults: night.stop_at_faults,
     })
 }
 

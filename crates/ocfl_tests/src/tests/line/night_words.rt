@@ -32,6 +32,7 @@ fn plain(alloc: Global) -> Result<NightAsked, AllocError> {
         expected: None,
         create: false,
         force_root: false,
+        stop_at_faults: false,
     })
 }
 
@@ -49,7 +50,7 @@ fn reads_a_night(rt: HostRuntime) -> Result<(), Fail> {
     let night = read_night(alloc, "night --state S R")?;
     assert_eq!(rt; night, plain(alloc)?);
     let line = "night R --files 20k --slice=1G --expected E --budget 500G --state S --known K \
-                --until 06:00 --create --force-root";
+                --until 06:00 --create --force-root --stop-at-faults";
     let mut wanted = plain(alloc)?;
     wanted.bounds = NightBounds {
         budget: Budget::new(500 << 30),
@@ -61,6 +62,7 @@ fn reads_a_night(rt: HostRuntime) -> Result<(), Fail> {
     wanted.expected = Some(String::from_str(alloc, "E")?);
     wanted.create = true;
     wanted.force_root = true;
+    wanted.stop_at_faults = true;
     assert_eq!(rt; read_night(alloc, line)?, wanted);
     Ok(())
 }
@@ -77,14 +79,16 @@ fn reads_a_night_of_a_part(rt: HostRuntime) -> Result<(), Fail> {
 
 #[test]
 fn reads_each_flag_of_a_night(rt: HostRuntime) -> Result<(), Fail> {
-    for (line, create, force_root) in [
-        ("night --state S --create R", true, false),
-        ("night --state S R --force-root", false, true),
-        ("night --state create force-root", false, false),
+    for (line, create, force_root, stop_at_faults) in [
+        ("night --state S --create R", true, false, false),
+        ("night --state S R --force-root", false, true, false),
+        ("night --state S --stop-at-faults R", false, false, true),
+        ("night --state create force-root", false, false, false),
     ] {
         let night = read_night(rt.alloc(), line)?;
         assert_eq!(rt; night.create, create, "{line}");
         assert_eq!(rt; night.force_root, force_root, "{line}");
+        assert_eq!(rt; night.stop_at_faults, stop_at_faults, "{line}");
     }
     Ok(())
 }
@@ -316,6 +320,7 @@ fn shows_help_of_nights(rt: HostRuntime) -> Result<(), Fail> {
             ),
             ("night --help", "\n      --until <HH:MM>    "),
             ("night --help", "\n      --force-root       "),
+            ("night --help", "\n      --stop-at-faults   "),
             (
                 "join --help",
                 "\nUsage: ocfl-scrub join --parts <FILE> --state <DIR>\n",

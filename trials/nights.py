@@ -54,7 +54,8 @@ def plain_nights(folder):
           ["checkpoint", "lock", "log", "reports"])
     check("and beside the report", sorted(os.listdir(nights.path("reports"))),
           ["cycle-000001", "gone-000001", "statement-000001", "statement-000001.json"])
-    check("the log", [row["row"] for row in nights.rows()], ["night", "closing", "night"])
+    check("the log", [row["row"] for row in nights.rows()],
+          ["slice", "night", "slice", "closing", "night"])
     write(nights.root + "/o/v1/content/b", "b")
     status, out, said = nights.night()
     check("a finding", (status, WRONG_B in out, said), (1, True, ""))

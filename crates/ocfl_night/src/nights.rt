@@ -259,6 +259,7 @@ fn go_on<S: StateFolder, T: Tree, C: Clock>(
         alloc, folder, tree, part, identity, kept, checkpoint, limits, block,
     )?;
     tally.count(&made);
+    clock.hears(&made);
     go_on_after(alloc, folder, kept, made, plan, tally)
 }
 

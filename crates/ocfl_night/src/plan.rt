@@ -2,12 +2,14 @@
 ghost use Rattle.std.specs.Prelude.{◌≡◌, ◌++◌, ◌∷◌, [], Bool, IsTrue, List, ℕ};
 
 use crate::refusal::Refusal;
+use crate::slicing::Made;
 use crate::stop::Stop;
 use ocfl_cursor::Budget;
 use ocfl_tree::Place;
 use ocfl_walk::Fault;
 
-/// A clock, which also knows whether the night is asked to stop. It may answer anything.
+/// A clock, which also knows whether the night is asked to stop, and hears of its runs. It may answer
+/// anything.
 pub trait Clock {
     /// Whether the clock is told. If not, the clause promises nothing.
     ghost told: { Bool };
@@ -21,6 +23,10 @@ pub trait Clock {
 
     /// Whether the night is asked to stop. It is asked before each run.
     fn is_stopped(&mut self) -> bool
+        ensures { IsTrue told → answers self.new ≡ answers self.old };
+
+    /// It hears what a run made, right after it.
+    fn hears(&mut self, made: &Made)
         ensures { IsTrue told → answers self.new ≡ answers self.old };
 }
 

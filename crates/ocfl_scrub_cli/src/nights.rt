@@ -22,7 +22,7 @@ use crate::nights::ending::{ending_text, is_own, left_text, lost_text};
 use crate::nights::failing::{Failure, say_failure, say_text};
 pub(crate) use crate::nights::joining::join_parts;
 use crate::nights::lists::{find_known, refuse_missing};
-use crate::nights::logging::{Account, log_night};
+use crate::nights::logging::{Account, Journal, log_night};
 use crate::nights::making::file_failure;
 use crate::nights::noted::Noting;
 use crate::nights::roots::{Root, find_ends, find_root, part_number};
@@ -38,7 +38,7 @@ use ocfl_digest::Block;
 use ocfl_folder::FsTree;
 use ocfl_line::NightAsked;
 use ocfl_night::{Halt, NightEnd, Plan, Site, night, status_found, status_of};
-use ocfl_state::{FsState, StateFile};
+use ocfl_state::{FsState, Reason, StateFile};
 use ocfl_telling::Known;
 use std::alloc::{AllocError, Global};
 use std::cell::Cell;
@@ -157,8 +157,9 @@ fn last_cost(began: Standing) -> Option<u128> {
 fn run_night<'a, R>(
     rt: &'a R,
     given: &Given,
-    folder: &mut Noting<&'a R>,
+    folder: &mut Noting<'a, R>,
     now: &Rc<Cell<Standing>>,
+    journal: Journal<'a, R>,
     shown_on: Terminals,
 ) -> Result<Made, Failure>
 where
@@ -176,6 +177,8 @@ where
         began,
         now: now.clone()?,
         budget: given.asked.bounds.budget,
+        journal,
+        asked: given.began,
     };
     let out = output_on(rt, shown_on);
     let mut teller = Teller::new(alloc, given.names(), &given.known, now.clone()?, out);
@@ -299,12 +302,15 @@ where
     let mut folder = open_state(rt, names.state, names.root, given.asked.create)?;
     let began = read_standing(rt.alloc(), &mut folder);
     let now = Rc::new(rt.alloc(), Cell::new(began))?;
+    let lost = Rc::new(rt.alloc(), Cell::new(None))?;
     let mut noting = Noting {
         alloc: rt.alloc(),
         folder,
         now: now.clone()?,
+        journal: journal_of(rt, given, &lost)?,
     };
-    let made = run_night(rt, given, &mut noting, &now, shown_on)?;
+    let journal = journal_of(rt, given, &lost)?;
+    let made = run_night(rt, given, &mut noting, &now, journal, shown_on)?;
     let mut folder = noting.folder;
     if shown_on.error {
         clear(rt);
@@ -319,10 +325,36 @@ where
     let closings = tell_closings(rt, &mut folder, &about, began.last_closed(), &made);
     let found = status_found(is_partial(&made), made.findings);
     let status = status_of(&made.end.end).max(found).max(closings);
-    Ok(log_made(rt, &mut folder, given, names, &made, status, text_of(&said)))
+    let said = text_of(&said);
+    Ok(log_made(
+        rt,
+        &mut folder,
+        given,
+        names,
+        &made,
+        status,
+        said,
+        lost.get(),
+    ))
 }
 
-/// Appends to the log what a night made, and gives its status.
+/// What logs the runs of a night. It keeps in `lost` why a line was not written.
+fn journal_of<'a, R>(
+    rt: &'a R,
+    given: &Given,
+    lost: &Rc<Cell<Option<Reason>>>,
+) -> Result<Journal<'a, R>, Failure>
+where
+    R: Files<File = File> + AllocGlobal + Clock,
+{
+    match Journal::at(rt, given.asked.state.as_str(), given.began, lost.clone()?) {
+        Ok(journal) => Ok(journal),
+        Err(_) => Err(Failure::from(AllocError)),
+    }
+}
+
+/// Appends to the log what a night made, and gives its status. `lost` is why a line of a run was
+/// not written.
 fn log_made<'a, R>(
     rt: &'a R,
     folder: &mut FsState<&'a R>,
@@ -331,6 +363,7 @@ fn log_made<'a, R>(
     made: &Made,
     status: u8,
     said: Option<&str>,
+    lost: Option<Reason>,
 ) -> u8
 where
     R: Files<File = File> + AllocGlobal + Clock + Eprint,
@@ -352,7 +385,7 @@ where
         program: text_of(&program).unwrap_or(""),
         said,
     };
-    log_night(rt, folder, names.state, account)
+    log_night(rt, folder, names.state, account, lost)
 }
 
 /// Logs a night that failed before its folder was opened, if nights were made in that folder. What
@@ -380,7 +413,7 @@ where
             program: text_of(&program).unwrap_or(""),
             said: Some(said.as_str()),
         };
-        log_night(rt, &mut folder, state, account);
+        log_night(rt, &mut folder, state, account, None);
     }
 }
 

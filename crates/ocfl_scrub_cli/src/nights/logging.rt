@@ -2,11 +2,123 @@
 
 use crate::nights::failing::{Failure, say_failure};
 use crate::nights::state::folder_failure;
-use ocfl_state::FsState;
-use ocfl_telling::{NightRow, RefusalRow, night_line, refusal_line};
+use crate::nights::timing::seconds_now;
+use crate::saying::STOPPED;
+use ocfl_cursor::State;
+use ocfl_night::{Made, SliceEnd};
+use ocfl_state::{Checkpoint, FsLog, FsState, Left, Reason};
+use ocfl_telling::{
+    LeftRow, NightRow, RefusalRow, SliceRow, Stands, left_line, night_line, refusal_line,
+    slice_line,
+};
 use std::alloc::{AllocError, Global};
+use std::cell::Cell;
 use std::fs::File;
+use std::io;
+use std::rc::Rc;
 use std::rt::Files;
+use std::time::Clock;
+
+/// The lines that are appended while a night is under way: one for each run, and one for each place
+/// that is left out.
+#[derive(Drop)]
+pub(crate) struct Journal<'a, R: Files<File = File> + AllocGlobal> {
+    rt: &'a R,
+    log: FsLog<&'a R>,
+    /// When the night began, in seconds since the epoch.
+    night: u64,
+    /// Why the last line that was not written was not.
+    lost: Rc<Cell<Option<Reason>>>,
+}
+
+/// The status of a run: 3 if it stopped, 1 if it found something, else 0.
+fn status_of(made: &Made) -> u8 {
+    match made.end {
+        SliceEnd::Stopped(_) => STOPPED,
+        _ if made.found => 1,
+        _ => 0,
+    }
+}
+
+/// Where a cursor stands.
+fn stands_at(state: &State) -> Stands<'_> {
+    match state {
+        State::Start => Stands::Start,
+        State::After(place) => Stands::After(place),
+        State::Ended => Stands::Ended,
+    }
+}
+
+/// The line of a run that began then, and whose checkpoint is put.
+fn slice_text(
+    alloc: Global,
+    made: &Made,
+    night: u64,
+    began: u64,
+    now: u64,
+) -> Result<String, AllocError> {
+    let Checkpoint { report, cursor, .. } = &made.checkpoint;
+    let row = SliceRow {
+        time: began,
+        night,
+        cycle: cursor.cycle(),
+        run: cursor.runs(),
+        status: status_of(made),
+        cost: made.spent,
+        spent: u64::try_from(cursor.spent()).unwrap_or(u64::MAX),
+        files: u64::try_from(cursor.files()).unwrap_or(u64::MAX),
+        lines: report.lines,
+        bytes: report.bytes,
+        seconds: now.saturating_sub(began),
+        stands: stands_at(cursor.state()),
+    };
+    slice_line(alloc, &row)
+}
+
+impl<'a, R: Files<File = File> + AllocGlobal + Clock> Journal<'a, R> {
+    /// That of a night that began then.
+    pub(crate) fn at(
+        rt: &'a R,
+        state: &str,
+        night: u64,
+        lost: Rc<Cell<Option<Reason>>>,
+    ) -> io::Result<Journal<'a, R>> {
+        Ok(Journal {
+            rt,
+            log: FsLog::at(rt, state)?,
+            night,
+            lost,
+        })
+    }
+
+    /// Appends a line, or keeps why it could not be. One for which there is no memory is left out.
+    fn append(&self, line: Result<String, AllocError>) {
+        if let Ok(line) = line {
+            if let Err(reason) = self.log.append(line.as_bytes()) {
+                self.lost.set(Some(reason));
+            }
+        }
+    }
+
+    /// Appends the line of a run that began then, unless nothing of it is kept.
+    pub(crate) fn slice(&self, made: &Made, began: u64) {
+        if !matches!(made.end, SliceEnd::RootChanged | SliceEnd::Unread(_)) {
+            let now = seconds_now(self.rt);
+            self.append(slice_text(self.rt.alloc(), made, self.night, began, now));
+        }
+    }
+
+    /// Appends the line of a place that a checkpoint names as left out.
+    pub(crate) fn left(&self, cycle: u64, left: &Left) {
+        let row = LeftRow {
+            time: seconds_now(self.rt),
+            night: self.night,
+            cycle,
+            place: &left.place,
+        };
+        self.append(left_line(self.rt.alloc(), &row));
+    }
+}
 
 /// What the log says of a night.
 #[derive(Clone, Copy)]
@@ -72,19 +184,38 @@ where
     }
 }
 
-/// Appends the lines on a night to the log, and gives its status. A log that cannot be written is
-/// said, and makes the status 3 at least.
+/// Appends the lines on a night to the log. `lost` is why a line before them was not written.
+fn append_all<R>(
+    alloc: Global,
+    folder: &mut FsState<R>,
+    state: &str,
+    account: Account<'_>,
+    lost: Option<Reason>,
+) -> Result<(), Failure>
+where
+    R: Files<File = File> + AllocGlobal + Clone + Drop,
+{
+    append(alloc, folder, state, account)?;
+    match lost {
+        Some(_) => Err(folder_failure(alloc, state, lost)?),
+        None => Ok(()),
+    }
+}
+
+/// Appends the lines on a night to the log, and gives its status. A log that cannot be written, or
+/// could not be while the night was under way, is said, and makes the status 3 at least.
 pub(crate) fn log_night<R, F>(
     rt: &R,
     folder: &mut FsState<F>,
     state: &str,
     account: Account<'_>,
+    lost: Option<Reason>,
 ) -> u8
 where
     R: AllocGlobal + Eprint,
     F: Files<File = File> + AllocGlobal + Clone + Drop,
 {
-    match append(rt.alloc(), folder, state, account) {
+    match append_all(rt.alloc(), folder, state, account, lost) {
         Ok(()) => account.status,
         Err(failure) => account.status.max(say_failure(rt, &failure)),
     }

@@ -2,35 +2,49 @@
 ghost use Rattle.std.specs.Prelude.{⊤, false};
 ghost use Rattle.ocfl_state.specs.Content.{empty};
 
+use crate::nights::logging::Journal;
 use crate::nights::stand::Standing;
-use ocfl_state::{FsState, StateFolder, Trouble, decode_checkpoint};
+use ocfl_state::{Checkpoint, FsState, StateFolder, Trouble, decode_checkpoint};
 use std::alloc::Global;
 use std::cell::Cell;
 use std::fs::File;
 use std::rc::Rc;
 use std::rt::Files;
+use std::time::Clock;
 
 /// A state folder, and where the nights stand by the checkpoint that was put last. What is said of
-/// a night, and its clock, go by that.
+/// a night, and its clock, go by that. Each place that is left out is logged.
 #[derive(Drop)]
-pub(crate) struct Noting<R: Files<File = File> + AllocGlobal + Clone + Drop> {
+pub(crate) struct Noting<'a, R: Files<File = File> + AllocGlobal> {
     pub(crate) alloc: Global,
-    pub(crate) folder: FsState<R>,
+    pub(crate) folder: FsState<&'a R>,
     pub(crate) now: Rc<Cell<Standing>>,
+    pub(crate) journal: Journal<'a, R>,
 }
 
-impl<R: Files<File = File> + AllocGlobal + Clone + Drop> Noting<R> {
+impl<R: Files<File = File> + AllocGlobal + Clock> Noting<'_, R> {
     /// Notes a checkpoint. One for which there is no memory is not noted.
     fn note(&self, bytes: &[u8]) {
         if let Ok(checkpoint) = decode_checkpoint(self.alloc, bytes) {
             let before = self.now.get();
-            self.now.set(Standing::of(&checkpoint).noted_after(before));
+            let now = Standing::of(&checkpoint).noted_after(before);
+            if now.leaves_more_than(before) {
+                self.log_left(&checkpoint);
+            }
+            self.now.set(now);
+        }
+    }
+
+    /// Logs the place that was left out last.
+    fn log_left(&self, checkpoint: &Checkpoint) {
+        if let Some(left) = checkpoint.left.last() {
+            self.journal.left(checkpoint.cursor.cycle(), left);
         }
     }
 }
 
 /// Does what the folder does.
-impl<R: Files<File = File> + AllocGlobal + Clone + Drop> StateFolder for Noting<R> {
+impl<R: Files<File = File> + AllocGlobal + Clock> StateFolder for Noting<'_, R> {
     ghost told = { false };
 
     ghost seen = { λ _. empty };

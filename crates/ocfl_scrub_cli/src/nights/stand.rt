@@ -62,6 +62,16 @@ impl Standing {
         Standing { left, ..self }
     }
 
+    /// Whether a branch is left out that was not when the nights stood there.
+    pub(crate) fn leaves_more_than(&self, before: Standing) -> bool {
+        let known = if self.cycle == before.cycle {
+            before.left
+        } else {
+            0
+        };
+        self.left > known
+    }
+
     /// The cycle whose report was closed last. 0 if none was.
     pub(crate) fn last_closed(&self) -> u64 {
         if self.is_closed {

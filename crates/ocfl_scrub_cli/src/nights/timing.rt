@@ -2,16 +2,18 @@
 ghost use Rattle.std.specs.Prelude.{[], false};
 
 use crate::nights::failing::Failure;
+use crate::nights::logging::Journal;
 use crate::nights::stand::Standing;
 use jiff::Error;
 use jiff::tz::{SystemTimeZone, TimeZone, TimeZoneDatabase};
 use ocfl_clock::next_time;
 use ocfl_cursor::{Budget, FileLimit, Limits, Meter};
 use ocfl_line::Until;
+use ocfl_night::Made;
 use std::alloc::AllocError;
 use std::cell::Cell;
 use std::env::{self, VarError};
-use std::fs;
+use std::fs::{self, File};
 use std::io::ErrorKind;
 use std::rc::Rc;
 use std::rt::{Env, Files};
@@ -44,9 +46,9 @@ pub(crate) fn is_spent_by(budget: Budget, cost: u64) -> bool {
     !meter.may_start()
 }
 
-/// The clock of a night.
+/// The clock of a night, which logs its runs.
 #[derive(Drop)]
-pub(crate) struct NightClock<'a, R> {
+pub(crate) struct NightClock<'a, R: Files<File = File> + AllocGlobal> {
     pub(crate) rt: &'a R,
     /// The path of the file that asks the night to stop.
     pub(crate) stop: String,
@@ -55,9 +57,12 @@ pub(crate) struct NightClock<'a, R> {
     pub(crate) now: Rc<Cell<Standing>>,
     /// Once this much is spent no further run begins.
     pub(crate) budget: Option<Budget>,
+    pub(crate) journal: Journal<'a, R>,
+    /// When it was last asked whether to stop: when the run under way began.
+    pub(crate) asked: u64,
 }
 
-impl<R> NightClock<'_, R> {
+impl<R: Files<File = File> + AllocGlobal> NightClock<'_, R> {
     /// Whether the night has spent all that it may.
     fn is_spent(&self) -> bool {
         match self.budget {
@@ -68,7 +73,7 @@ impl<R> NightClock<'_, R> {
 }
 
 /// A night is asked to stop by a file `stop` in its folder, and by what it has spent.
-impl<R: Files + Clock> ocfl_night::Clock for NightClock<'_, R> {
+impl<R: Files<File = File> + AllocGlobal + Clock> ocfl_night::Clock for NightClock<'_, R> {
     ghost told = { false };
 
     ghost answers = { λ _. [] };
@@ -78,7 +83,12 @@ impl<R: Files + Clock> ocfl_night::Clock for NightClock<'_, R> {
     }
 
     fn is_stopped(&mut self) -> bool {
+        self.asked = seconds_now(self.rt);
         self.is_spent() || fs::symlink_metadata(self.rt, self.stop.as_str()).is_ok()
+    }
+
+    fn hears(&mut self, made: &Made) {
+        self.journal.slice(made, self.asked);
     }
 }
 

@@ -12,7 +12,7 @@ use crate::tests::common::store::{change, place_of};
 use ocfl_cursor::{Budget, PartEnds};
 use ocfl_digest::Block;
 use ocfl_memory::{MemTree, Point};
-use ocfl_night::{Clock, Halt, NightEnd, Plan, Refusal, Site, Stop, night};
+use ocfl_night::{Clock, Halt, Made, NightEnd, Plan, Refusal, Site, Stop, night};
 use ocfl_state::{MemState, StateFolder, decode_checkpoint};
 use ocfl_tree::Tree;
 use sha2::{Digest, Sha256};
@@ -35,6 +35,20 @@ const FIRST: &str = "ok|.|-\nok|o|-\nok|o/v1/content/a|3\n";
 struct Still {
     time: u64,
     questions: u64,
+    /// How many runs it heard of, and what they cost.
+    heard: u64,
+    cost: u64,
+}
+
+impl Still {
+    fn at(time: u64, questions: u64) -> Still {
+        Still {
+            time,
+            questions,
+            heard: 0,
+            cost: 0,
+        }
+    }
 }
 
 impl Clock for Still {
@@ -50,6 +64,11 @@ impl Clock for Still {
         let asked = self.questions == 0;
         self.questions = self.questions.saturating_sub(1);
         asked
+    }
+
+    fn hears(&mut self, made: &Made) {
+        self.heard = self.heard.saturating_add(1);
+        self.cost = self.cost.saturating_add(made.spent);
     }
 }
 
@@ -94,10 +113,7 @@ fn night_over<T: Tree, W: Write>(
     out: &mut W,
 ) -> Result<NightEnd, Fail> {
     let mut block = Block::new(alloc)?;
-    let mut clock = Still {
-        time: 5,
-        questions: 1 << 32,
-    };
+    let mut clock = Still::at(5, 1 << 32);
     Ok(night(alloc, folder, tree, site, plan, &mut clock, &mut block, out))
 }
 
@@ -552,7 +568,7 @@ fn a_night_that_is_asked_to_stop_begins_no_run(rt: HostRuntime) -> Result<(), Fa
         let mut said = Vec::new(alloc);
         let mut tree = three_files(alloc)?;
         let mut block = Block::new(alloc)?;
-        let mut clock = Still { time: 5, questions };
+        let mut clock = Still::at(5, questions);
         let made = night(
             alloc,
             &mut folder,
@@ -564,6 +580,11 @@ fn a_night_that_is_asked_to_stop_begins_no_run(rt: HostRuntime) -> Result<(), Fa
             &mut said,
         );
         assert_eq!(rt; (ending(&made.end), made.runs), (want, runs), "{questions}");
+        assert_eq!(rt;
+            (clock.heard, clock.cost),
+            (made.runs, made.spent),
+            "{questions}"
+        );
         assert_eq!(rt;
             said.len(),
             folder.report().len() + closed_bytes(&folder),

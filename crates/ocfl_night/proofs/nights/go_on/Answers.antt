@@ -1,4 +1,5 @@
-use Rattle.std.proofs.Common.{◌+◌, ap, arith}
+use Rattle.std.proofs.Common.{◌+◌, List, ℕ, ap, arith, subst, sym}
+use Rattle.ocfl_night.specs.Clock.{BeginsInTime}
 use Rattle.ocfl_night.specs.Sound.{IsSoundAt}
 use Rattle.ocfl_night.proofs.Moments.{joined_moments}
 use Rattle.ocfl_scrub.specs.Starting.{part_of}
@@ -26,7 +27,10 @@ returns-in_err-made-clause-clock g c = λ told.
 pub returns-clause-clock : goal.returns-clause-clock
 returns-clause-clock g c = λ told.
     let count = c.args.tally.now.runs in
-    fewer c.args.plan.now.end (g.C.Clock.answers c.args.clock.now) (g.C.Clock.answers c.allowed.new.clock) count (count + 1) c.go_on_after.new.tally.runs (c.in-Ok.ensures.more told count) (omega (arith, c.go_on_after.ensures.runs, ap (λ (x : Tally). x.runs) c.count.ensures.same, c.begin.ensures.runs))
+    let end = c.args.plan.now.end in
+    let old = g.C.Clock.answers c.args.clock.now in
+    subst (λ (a : List ℕ). BeginsInTime end old a count c.go_on_after.new.tally.runs) (sym (c.hears.ensures told))
+    (fewer end old (g.C.Clock.answers c.allowed.new.clock) count (count + 1) c.go_on_after.new.tally.runs (c.in-Ok.ensures.more told count) (omega (arith, c.go_on_after.ensures.runs, ap (λ (x : Tally). x.runs) c.count.ensures.same, c.begin.ensures.runs)))
 
 pub returns-clause-any_moment : goal.returns-clause-any_moment
 returns-clause-any_moment g c = λ told tells root over short walk t r.

@@ -1,9 +1,8 @@
 -- How runs are begun by a clock.
-use Rattle.std.proofs.Common.{◌≡◌, ℕ, ◌+◌, ◌≤◌, List, [], ◌∷◌, ◌++◌, Option, Some, None, refl, sym, ◌∙◌, ap, subst, arith, append_assoc, Bool, true, Result, Ok, Err}
+use Rattle.std.proofs.Common.{◌≡◌, ℕ, ◌+◌, ◌≤◌, List, [], ◌∷◌, ◌++◌, Option, Some, None, refl, sym, ◌∙◌, ap, subst, arith, append_assoc, Bool, true}
 use Rattle.std.proofs.lemmas.List.{append-nil}
 use Rattle.std.specs.Prelude.{nat_lt, if◌then◌else◌}
-use Rattle.std.specs.Result.{OnOk}
-use Rattle.ocfl_night.specs.Clock.{answers_before, MayBegin, BeginsInTime}
+use Rattle.ocfl_night.specs.Clock.{answers_before, is_before, MayBegin, BeginsInTime}
 
 counted_on : (n x y z : ℕ) → x ≡ y + z → n + x ≡ (n + y) + z
 counted_on n x y z is = omega (arith, is)
@@ -38,7 +37,7 @@ begun_on end a b c k m n p q = record {
 }
 
 -- once
-pub asked_before : (end a : ℕ) (old : List ℕ) (n : ℕ) → nat_lt a end ≡ true → BeginsInTime (Some end) old (old ++ a ∷ []) n (n + 1)
+asked_before : (end a : ℕ) (old : List ℕ) (n : ℕ) → nat_lt a end ≡ true → BeginsInTime (Some end) old (old ++ a ∷ []) n (n + 1)
 asked_before end a old n before = record { asked = a ∷ []; are = refl; begun = 1; few = once; counted = omega arith }
   where
     once : 1 ≤ (if nat_lt a end then 1 else 0) + 0
@@ -47,13 +46,9 @@ asked_before end a old n before = record { asked = a ∷ []; are = refl; begun =
 pub asked_in_vain : (end : Option ℕ) (a : ℕ) (old : List ℕ) (n : ℕ) → BeginsInTime end old (old ++ a ∷ []) n n
 asked_in_vain end a old n = record { asked = a ∷ []; are = refl; begun = 0; few = may_none end (a ∷ []); counted = omega arith }
 
-pub no_end : (old : List ℕ) (n : ℕ) → BeginsInTime None old old n (n + 1)
-no_end old n = record { asked = []; are = sym (append-nil old); begun = 1; few = tt; counted = omega arith }
+pub asked_once : (end : Option ℕ) (a : ℕ) (old : List ℕ) (n : ℕ) → is_before a end ≡ true → BeginsInTime end old (old ++ a ∷ []) n (n + 1)
+asked_once None a old n before = record { asked = a ∷ []; are = refl; begun = 1; few = tt; counted = omega arith }
+asked_once (Some end) a old n before = asked_before end a old n before
 
 pub fewer : (end : Option ℕ) (a b : List ℕ) (k m n : ℕ) → BeginsInTime end a b k m → n ≤ m → BeginsInTime end a b k n
 fewer end a b k m n p le = record { asked = p.asked; are = p.are; begun = p.begun; few = p.few; counted = omega (arith, p.counted, le) }
-
--- what holds anyway holds of a value, if there is one
-pub if_ok : {T E P : Type 0} (r : Result T E) → P → OnOk r P
-if_ok (Ok x) p = p
-if_ok (Err e) p = tt

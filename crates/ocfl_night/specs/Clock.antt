@@ -1,5 +1,10 @@
 -- What a clock answered, and how many runs were begun by that.
-use Rattle.std.specs.Prelude.{◌≡◌, ℕ, ◌+◌, ◌≤◌, List, [], ◌∷◌, ◌++◌, Option, Some, None, nat_lt, if◌then◌else◌, ⊤}
+use Rattle.std.specs.Prelude.{◌≡◌, ℕ, ◌+◌, ◌≤◌, List, [], ◌∷◌, ◌++◌, Bool, true, Option, Some, None, nat_lt, if◌then◌else◌, ⊤}
+
+-- whether an end has not come
+abbrev pub is_before : ℕ → Option ℕ → Bool
+is_before now None = true
+is_before now (Some end) = nat_lt now end
 
 -- how many of a clock's answers are before an end
 abbrev pub answers_before : ℕ → List ℕ → ℕ

@@ -6,3 +6,4 @@ pub mod Nights
 pub mod Clock
 pub mod Status
 pub mod Leaving
+pub mod Pace

@@ -28,7 +28,8 @@
 //!   not closed as whole.
 //! - The closed reports after a cycle that it says has ended are those up to that cycle. Before
 //!   there was one less, or as many if a crash came right after the last one was closed.
-//! - It begins at most as many runs as its clock gave times before the end.
+//! - It begins at most as many runs as its clock gave times before the end. Each may spend no more
+//!   than runs spend in a minute, or until the end, at the rate of those before.
 //! - All but the last holds of a state folder and a store that are as they tell, over a root with
 //!   no file of 2^62 bytes or more; what is said of another root or part needs no store that tells.
 //!   The last holds of a clock that tells its answers.
@@ -42,6 +43,7 @@ mod looking;
 mod nights;
 mod opening;
 mod owning;
+mod pace;
 mod plan;
 mod refusal;
 mod reports;

@@ -1,6 +1,7 @@
 //! A night.
-ghost use Rattle.std.specs.Prelude.{◌≡◌, ◌≢◌, ◌⊎◌, ◌+◌, ◌≤◌, [], IfOk, IsErr, IsOk, IsTrue};
-ghost use Rattle.std.specs.Prelude.{All, List, Err, Ok, OnOk, Some, false, length, ℕ};
+ghost use Rattle.std.specs.Prelude.{◌≡◌, ◌≢◌, ◌⊎◌, ◌↔◌, ◌+◌, ◌≤◌, ◌++◌, ◌∷◌, [], IfOk, IfSome, IsErr};
+ghost use Rattle.std.specs.Prelude.{All, IsOk, IsSome, IsTrue, List, Err, Ok, OnOk, OnSome, Some, false};
+ghost use Rattle.std.specs.Prelude.{length, ℕ};
 ghost use Rattle.std.specs.Io.KnownBytes.{Appends};
 ghost use Rattle.ocfl_audit.specs.Parts.{Part as ModelPart};
 ghost use Rattle.ocfl_tree.specs.Place.{Text};
@@ -18,7 +19,9 @@ ghost use Rattle.ocfl_night.specs.Site.{IsAnothers, IsForeign, IsOtherThan, part
 ghost use Rattle.ocfl_night.specs.Steps.{IsLost, IsNotBegun, IsUntouched, IsWalkAt};
 ghost use Rattle.ocfl_night.specs.Sound.{IsAllSaid, IsAt, IsHeard, IsHeardSince, IsKept, IsOneMore};
 ghost use Rattle.ocfl_night.specs.Sound.{IsReady, IsReadySince, IsSound, IsSoundAt};
-ghost use Rattle.ocfl_night.specs.Clock.{BeginsInTime};
+ghost use Rattle.ocfl_cursor.specs.Limits.{IsFileLimit};
+ghost use Rattle.ocfl_night.specs.Clock.{BeginsInTime, is_before};
+ghost use Rattle.ocfl_night.specs.Pace.{budget_at, files_at};
 ghost use Rattle.ocfl_night.specs.Nights.{IsSafeNight};
 ghost use Rattle.ocfl_night.specs.declared.stop.Stop.{Stop as ModelStop};
 ghost use Rattle.ocfl_night.specs.declared.plan.Halt.TheVariants as halt;
@@ -30,6 +33,7 @@ use crate::closing::finish;
 use crate::leaving::leave_out;
 use crate::looking::look_at;
 use crate::opening::open;
+use crate::pace::paced;
 use crate::plan::{Clock, Halt, NightEnd, Pause, Plan};
 use crate::refusal::NotOpened;
 use crate::saying::speak;
@@ -47,45 +51,78 @@ use ocfl_walk::Fault;
 use std::alloc::Global;
 use std::io::Write;
 
-/// Whether the end of the plan has not come.
-fn has_time<C: Clock>(plan: &Plan, clock: &mut C) -> bool
-    ensures more { IsTrue C.told → IsTrue result → (n : ℕ) → BeginsInTime plan.now.end
-        (C.answers clock.old) (C.answers clock.new) n (n + 1) }
-    ensures same { IsTrue C.told → (n : ℕ) → BeginsInTime plan.now.end
-        (C.answers clock.old) (C.answers clock.new) n n }
+/// Whether an end has not come.
+fn is_before(now: u64, end: Option<u64>) -> bool
+    ensures { result ≡ is_before now end }
 {
-    match plan.end {
-        Some(end) => clock.now() < end,
+    match end {
+        Some(end) => now < end,
         None => true,
     }
 }
 
-/// The limits of the next run. `None` if no further file may be started.
-fn next_limits(plan: &Plan, tally: &Tally) -> Option<Limits> {
-    let left = match plan.files {
+/// The time, if the end of the plan has not come.
+fn time_before_end<C: Clock>(plan: &Plan, clock: &mut C) -> Option<u64>
+    ensures more { IsTrue C.told → OnSome result ((n : ℕ) → BeginsInTime plan.now.end
+        (C.answers clock.old) (C.answers clock.new) n (n + 1)) }
+    ensures same { IsTrue C.told → (n : ℕ) → BeginsInTime plan.now.end
+        (C.answers clock.old) (C.answers clock.new) n n }
+    ensures now { IsTrue C.told → IfSome result (λ now. C.answers clock.new
+        ≡ C.answers clock.old ++ now ∷ []) }
+{
+    let now = clock.now();
+    if is_before(now, plan.end) {
+        Some(now)
+    } else {
+        None
+    }
+}
+
+/// How many files the next run may start.
+fn files_left(plan: &Plan, tally: &Tally) -> u64
+    ensures { result ≡ files_at plan.now tally.now }
+{
+    match plan.files {
         Some(most) => most.saturating_sub(tally.files).min(plan.slice_files),
         None => plan.slice_files,
-    };
+    }
+}
+
+/// The limits of a run that begins now. `None` if no further file may be started.
+fn next_limits(plan: &Plan, tally: &Tally, now: u64) -> Option<Limits>
+    ensures budget { IfSome result (λ limits. limits.budget ≡ budget_at plan.now tally.now now) }
+    ensures files { IfSome result (λ limits. limits.files ≡ files_at plan.now tally.now) }
+    ensures none { IsSome result ↔ IsFileLimit (files_at plan.now tally.now) }
+{
+    let files = FileLimit::new(files_left(plan, tally))?;
+    let began = tally.began.unwrap_or(now);
     Some(Limits {
-        budget: plan.slice_budget,
-        files: FileLimit::new(left)?,
+        budget: paced(plan.slice_budget, tally.spent, began, now, plan.end),
+        files,
     })
 }
 
-/// The limits of the next run, or why none is made.
-fn allowed<C: Clock>(plan: &Plan, clock: &mut C, tally: &Tally) -> Result<Limits, Pause>
+/// The limits of the next run, and the time at which it begins. Or why none is made.
+fn allowed<C: Clock>(plan: &Plan, clock: &mut C, tally: &Tally) -> Result<(Limits, u64), Pause>
     ensures more { IsTrue C.told → OnOk result ((n : ℕ) → BeginsInTime plan.now.end
         (C.answers clock.old) (C.answers clock.new) n (n + 1)) }
     ensures same { IsTrue C.told → (n : ℕ) → BeginsInTime plan.now.end
         (C.answers clock.old) (C.answers clock.new) n n }
+    ensures budget { IfOk result (λ a. a.0.budget ≡ budget_at plan.now tally.now a.1) }
+    ensures files { IfOk result (λ a. a.0.files ≡ files_at plan.now tally.now) }
+    ensures now { IsTrue C.told → IfOk result (λ a. C.answers clock.new
+        ≡ C.answers clock.old ++ a.1 ∷ []) }
 {
     if clock.is_stopped() {
         return Err(Pause::Asked);
     }
-    if !has_time(plan, clock) {
+    let Some(now) = time_before_end(plan, clock) else {
         return Err(Pause::TimeUp);
+    };
+    match next_limits(plan, tally, now) {
+        Some(limits) => Ok((limits, now)),
+        None => Err(Pause::Spent),
     }
-    next_limits(plan, tally).ok_or(Pause::Spent)
 }
 
 /// The place at which a slice stopped. `Err` if it stopped at none: with what halts the night, or
@@ -250,11 +287,11 @@ fn go_on<S: StateFolder, T: Tree, C: Clock>(
     if phase_of(&checkpoint) != Phase::Open {
         return Ok((checkpoint, Some(Pause::Closing)));
     }
-    let limits = match allowed(plan, clock, tally) {
-        Ok(limits) => limits,
+    let (limits, now) = match allowed(plan, clock, tally) {
+        Ok(allowed) => allowed,
         Err(pause) => return Ok((checkpoint, Some(pause))),
     };
-    tally.begin();
+    tally.begin(now);
     let made = slice(
         alloc, folder, tree, part, identity, kept, checkpoint, limits, block,
     )?;

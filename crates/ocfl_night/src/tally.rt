@@ -1,5 +1,6 @@
 //! What a night has done so far, and what it does about a run that stopped at a place.
-ghost use Rattle.std.specs.Prelude.{◌≡◌, ◌+◌, ◌-◌, ◌^◌, ◌++◌, ◌||◌, Bool, IfOk, None, false, min};
+ghost use Rattle.std.specs.Prelude.{◌≡◌, ◌+◌, ◌-◌, ◌^◌, ◌++◌, ◌||◌, Bool, IfOk, None, Some, false, min};
+ghost use Rattle.std.specs.Prelude.{unwrap_or};
 ghost use Rattle.ocfl_night.specs.Leaving.{MayLeave, branch_for, is_at, left_by, remedy_at};
 ghost use Rattle.ocfl_night.specs.Leaving.{remedy_by, tried_by};
 
@@ -19,6 +20,8 @@ const MOST_STOPS: u64 = 64;
 #[derive(Debug, Drop)]
 pub(crate) struct Tally {
     pub(crate) runs: u64,
+    /// When the first run began.
+    pub(crate) began: Option<u64>,
     pub(crate) spent: u64,
     pub(crate) files: u64,
     pub(crate) found: bool,
@@ -48,6 +51,7 @@ impl Tally {
     {
         Tally {
             runs: 0,
+            began: None,
             spent: 0,
             files: 0,
             found: false,
@@ -57,12 +61,17 @@ impl Tally {
         }
     }
 
-    /// A run is begun.
-    pub(crate) fn begin(&mut self)
+    /// A run is begun at this time.
+    pub(crate) fn begin(&mut self, now: u64)
         ensures runs { self.new.runs ≡ min (self.old.runs + 1) (2 ^ 64 - 1) }
-        ensures same { self.new ≡ record self.old { runs = self.new.runs } }
+        ensures began { self.new.began ≡ Some (unwrap_or self.old.began now) }
+        ensures same { self.new ≡ record self.old {
+          runs = self.new.runs;
+          began = self.new.began;
+        } }
     {
         self.runs = self.runs.saturating_add(1);
+        self.began = Some(self.began.unwrap_or(now));
     }
 
     /// A run is made.

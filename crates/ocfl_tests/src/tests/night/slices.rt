@@ -1,9 +1,14 @@
 //! The slices of one night: they list and read nothing twice.
+ghost use Rattle.std.specs.Prelude.{[], false};
+
 use super::{closed_whole, ending, night_over, plan, site};
 use crate::tests::common::digests::lines_of;
-use crate::tests::common::roots::right_objects;
+use crate::tests::common::roots::{right_objects, three_files};
 use crate::tests::common::store::times_opened;
+use ocfl_cursor::Budget;
+use ocfl_digest::Block;
 use ocfl_memory::MemTree;
+use ocfl_night::{Clock, Made, night};
 use ocfl_state::MemState;
 use std::test::Fail;
 
@@ -51,6 +56,63 @@ fn slices_of_a_night_list_and_read_nothing_again(rt: HostRuntime) -> Result<(), 
         let times = times_opened(alloc, &store, path)?;
         let want = if opening.place.depth() > 1 { 1 } else { 5 };
         assert_eq!(rt; times, want, "{path}");
+    }
+    Ok(())
+}
+
+/// A clock that is so many seconds later each time that it is asked.
+#[derive(Drop)]
+struct Later {
+    time: u64,
+    step: u64,
+}
+
+impl Clock for Later {
+    ghost told = { false };
+
+    ghost answers = { λ _. [] };
+
+    fn now(&mut self) -> u64 {
+        let time = self.time;
+        self.time = time.saturating_add(self.step);
+        time
+    }
+
+    fn is_stopped(&mut self) -> bool {
+        false
+    }
+
+    fn hears(&mut self, _made: &Made) {}
+}
+
+/// The files cost 4, 1 and 4, and the first slice reads one. The second reads the others, unless
+/// that would take more than a minute, or longer than until the end, at the rate of the first.
+#[test]
+fn slices_shrink_to_a_minute_and_near_the_end(rt: HostRuntime) -> Result<(), Fail> {
+    let alloc = rt.alloc();
+    for (step, end, want, runs) in [
+        (0, None, "cycle 1 ended", 2),
+        (100, None, "cycle 1 ended", 2),
+        (300, None, "cycle 1 ended", 3),
+        (100, Some(125), "time up", 2),
+    ] {
+        let (mut folder, mut said) = (MemState::new(alloc), Vec::new(alloc));
+        let mut store = three_files(alloc)?;
+        let mut limits = plan(None, end, true)?;
+        limits.slice_budget = Budget::new(4).ok_or("no budget")?;
+        limits.slice_files = 9;
+        let mut block = Block::new(alloc)?;
+        let made = night(
+            alloc,
+            &mut folder,
+            &mut store,
+            &site(alloc)?,
+            &limits,
+            &mut Later { time: 5, step },
+            &mut block,
+            &mut said,
+        );
+        assert_eq!(rt; (ending(&made.end), made.runs), (want, runs), "{step}");
     }
     Ok(())
 }

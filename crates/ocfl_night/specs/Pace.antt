@@ -1,0 +1,34 @@
+-- What the next run may spend, by what the runs before it did.
+use Rattle.std.specs.Prelude.{ℕ, ◌-◌, ◌*◌, ◌/◌, ◌^◌, ◌==◌, ◌||◌, Option, Some, None, if◌then◌else◌, max, min, unwrap_or}
+use Rattle.ocfl_night.specs.declared.plan.Plan.{Plan}
+use Rattle.ocfl_night.specs.declared.tally.Tally.{Tally}
+
+-- a minute, or what is left until the end
+abbrev pub seconds_left : Option ℕ → ℕ → ℕ
+seconds_left None now = 60
+seconds_left (Some end) now = min (end - now) 60
+
+-- what runs spend in so many seconds, if those before spent so much in so long
+abbrev pub cost_in : ℕ → ℕ → ℕ → Option ℕ
+cost_in seconds spent elapsed = if spent == 0 || elapsed == 0 then None else Some (min (spent * seconds) (2 ^ 64 - 1) / elapsed)
+
+-- no more than that, and at least 1
+abbrev pub at_most : ℕ → Option ℕ → ℕ
+at_most most None = most
+at_most most (Some cost) = min most (max cost 1)
+
+abbrev pub paced : ℕ → ℕ → ℕ → ℕ → Option ℕ → ℕ
+paced most spent began now end = at_most most (cost_in (seconds_left end now) spent (now - began))
+
+-- ---- the limits of a run that begins now
+
+abbrev pub budget_at : Plan → Tally → ℕ → ℕ
+budget_at plan tally now = paced plan.slice_budget tally.spent (unwrap_or tally.began now) now plan.end
+
+-- how many files it may start
+abbrev pub files_at : Plan → Tally → ℕ
+files_at plan tally = fewer plan.files
+  where
+    fewer : Option ℕ → ℕ
+    fewer None = plan.slice_files
+    fewer (Some most) = min (most - tally.files) plan.slice_files

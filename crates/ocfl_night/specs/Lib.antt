@@ -6,4 +6,5 @@ pub mod Nights
 pub mod Clock
 pub mod Status
 pub mod Leaving
+pub mod Ending
 pub mod Pace

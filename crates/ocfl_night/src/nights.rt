@@ -21,6 +21,7 @@ ghost use Rattle.ocfl_night.specs.Sound.{IsAllSaid, IsAt, IsHeard, IsHeardSince,
 ghost use Rattle.ocfl_night.specs.Sound.{IsReady, IsReadySince, IsSound, IsSoundAt};
 ghost use Rattle.ocfl_cursor.specs.Limits.{IsFileLimit};
 ghost use Rattle.ocfl_night.specs.Clock.{BeginsInTime, is_before};
+ghost use Rattle.ocfl_night.specs.Ending.{ended_by, halt_after, halt_of, place_or_pause};
 ghost use Rattle.ocfl_night.specs.Pace.{budget_at, files_at};
 ghost use Rattle.ocfl_night.specs.Nights.{IsSafeNight};
 ghost use Rattle.ocfl_night.specs.declared.stop.Stop.{Stop as ModelStop};
@@ -127,7 +128,9 @@ fn allowed<C: Clock>(plan: &Plan, clock: &mut C, tally: &Tally) -> Result<(Limit
 
 /// The place at which a slice stopped. `Err` if it stopped at none: with what halts the night, or
 /// with `None` if the night goes on.
-fn place_or_pause(end: SliceEnd) -> Result<Place, Option<Pause>> {
+fn place_or_pause(end: SliceEnd) -> Result<Place, Option<Pause>>
+    ensures { result ≡ place_or_pause end }
+{
     match end {
         SliceEnd::Stopped(Fault::Store(place)) => Ok(place),
         SliceEnd::Stopped(Fault::Memory) => Err(Some(Pause::Stopped(Fault::Memory))),
@@ -143,6 +146,7 @@ fn place_or_pause(end: SliceEnd) -> Result<Place, Option<Pause>> {
 fn halt_of(pause: Pause) -> Halt
     ensures not_ended { (cycle : ℕ) → result ≢ halt.CycleEnded cycle }
     ensures unrefused { (why : ModelRefusal) → result ≢ halt.Refused why }
+    ensures is { result ≡ halt_of pause }
 {
     match pause {
         Pause::TimeUp => Halt::TimeUp,
@@ -157,6 +161,7 @@ fn halt_of(pause: Pause) -> Halt
 fn halt_after(ended: Option<u64>, pause: Pause) -> Halt
     ensures ended { (cycle : ℕ) → result ≡ halt.CycleEnded cycle → ended ≡ Some cycle }
     ensures unrefused { (why : ModelRefusal) → result ≢ halt.Refused why }
+    ensures is { result ≡ halt_after ended pause }
 {
     match ended {
         Some(cycle) => Halt::CycleEnded(cycle),
@@ -636,7 +641,11 @@ pub fn night<S: StateFolder, T: Tree, C: Clock, W: Write>(
 fn account(tally: Tally, lost: bool, through: Result<Halt, NotOpened>) -> NightEnd
     ensures ended { (cycle : ℕ) → result.end ≡ halt.CycleEnded cycle
         → through ≡ Ok (halt.CycleEnded cycle) }
+    ensures end { result.end ≡ ended_by through }
     ensures runs { result.runs ≡ tally.runs }
+    ensures spent { result.spent ≡ tally.spent }
+    ensures files { result.files ≡ tally.files }
+    ensures found { result.found ≡ tally.found }
     ensures lost { result.lost ≡ lost }
     ensures left { result.left ≡ tally.left }
     ensures said { ((why : ModelStop) → result.end ≢ halt.Troubled why)

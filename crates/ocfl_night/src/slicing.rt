@@ -16,6 +16,7 @@ ghost use Rattle.ocfl_state.specs.Pieces.{summary_of};
 ghost use Rattle.ocfl_state.specs.declared.checkpoint_parts.ReportMark.{ReportMark as ModelMark};
 ghost use Rattle.ocfl_state.specs.declared.checkpoint_parts.Phase.TheVariants.{Closing, Open};
 ghost use Rattle.ocfl_night.specs.Chain.{part_after};
+ghost use Rattle.ocfl_night.specs.Ending.{IsMadeBy, IsSlice, IsUnkept, KeepsTo, lost_by, slice_end};
 ghost use Rattle.ocfl_night.specs.Site.{IsStill};
 ghost use Rattle.ocfl_night.specs.Sound.{IsReady, IsSoundAt};
 ghost use Rattle.ocfl_night.specs.Steps.{IsNext, IsRun, IsWalkAt, KeepsFront};
@@ -39,6 +40,7 @@ use std::alloc::Global;
 fn lost(end: &RunStatus) -> Option<Stop>
     ensures made { IfNone result (end.now ≢ run.Worn) }
     ensures whole { IfNone result (end.now ≢ run.Stopped fault.Output) }
+    ensures why { result ≡ lost_by end.now }
 {
     match end {
         RunStatus::Stopped(Fault::Output) => Some(Stop::Folder(Trouble::Memory)),
@@ -70,6 +72,7 @@ fn make_run<T: Tree>(
         → IsWalkReady root (part_of part.now) (place_in cursor.state) kept.old
         → (T.state tree.new).tree ≡ root) }
     ensures still { IsTrue T.told → OnOk result (IsStill identity.now (T.state tree.new).tree) }
+    ensures keeps { IfOk result (λ r. KeepsTo cursor limits r.0) }
 {
     let mut lines: Vec<u8> = Vec::new(alloc);
     let ran = run_on(alloc, tree, part, kept, cursor, limits, block, &mut lines);
@@ -132,7 +135,9 @@ pub struct Made {
 }
 
 /// How a slice ended whose run is kept.
-fn end_of(end: RunStatus) -> SliceEnd {
+fn end_of(end: RunStatus) -> SliceEnd
+    ensures { result ≡ slice_end end }
+{
     match end {
         RunStatus::Ended => SliceEnd::Ended,
         RunStatus::Spent | RunStatus::Worn => SliceEnd::Spent,
@@ -153,7 +158,8 @@ fn phase_after(end: &RunStatus) -> Phase
 
 /// The checkpoint after a run, of which it keeps the report so.
 fn after_run(mut checkpoint: Checkpoint, ran: RunEnd, report: ReportMark) -> Made
-    ensures { IsNext checkpoint ran report result.checkpoint }
+    ensures next { IsNext checkpoint ran report result.checkpoint }
+    ensures made { IsMadeBy ran result }
 {
     let RunEnd {
         cursor,
@@ -176,7 +182,7 @@ fn after_run(mut checkpoint: Checkpoint, ran: RunEnd, report: ReportMark) -> Mad
 
 /// A slice of whose run nothing is kept, and why: `Err` if something is troubled.
 fn unkept(checkpoint: Checkpoint, why: NotKept) -> Result<Made, Stop>
-    ensures { IfOk result (λ made. made.checkpoint ≡ checkpoint) }
+    ensures { IfOk result (IsUnkept checkpoint) }
 {
     match why {
         NotKept::Troubled(why) => Err(why),
@@ -187,7 +193,7 @@ fn unkept(checkpoint: Checkpoint, why: NotKept) -> Result<Made, Stop>
 
 /// A slice of which nothing is kept, and that ended so.
 fn unmade(checkpoint: Checkpoint, end: SliceEnd) -> Made
-    ensures { result.checkpoint ≡ checkpoint }
+    ensures { IsUnkept checkpoint result }
 {
     Made {
         checkpoint,
@@ -220,6 +226,7 @@ fn keep<S: StateFolder>(
         ((S.seen folder.new).closed ≡ (S.seen folder.old).closed) }
     ensures next { IfOk result (λ made. (report : ModelMark)
         × IsNext checkpoint ran report made.checkpoint) }
+    ensures made { IfOk result (IsMadeBy ran) }
 {
     let mark = report_of(&checkpoint);
     let report = extend(folder, &mark, lines)?;
@@ -266,6 +273,9 @@ pub fn slice<S: StateFolder, T: Tree>(
     ensures walk { IfTold T.told (T.state tree.old) (λ root. HasShortFiles root
         → IsWalkAt root (part_of part.now) checkpoint kept.old
         → IfOk result (λ made. IsWalkAt root (part_of part.now) made.checkpoint kept.new)) }
+
+    // What it counts is what a run within the limits did, or nothing is kept of it.
+    ensures slice { IfOk result (IsSlice checkpoint limits) }
 
     // Nothing is kept of a run after which the root is not the one of before.
     ensures still { IsTrue S.told → IsTrue T.told → (S.seen folder.new ≡ S.seen folder.old)

@@ -2,8 +2,8 @@ use Rattle.std.proofs.Common.{ap, refl}
 use Rattle.ocfl_state.specs.Checkpoint.{Checkpoint}
 use Rattle.ocfl_night.proofs.slicing.after_run.Goals as goal
 
-pub returns : goal.returns
-returns c =
+pub returns-clause-next : goal.returns-clause-next
+returns-clause-next c =
     let is = c.checkpoint.view_is in
     record {
       ended = c.phase_after-checkpoint-inside.ensures.ended;

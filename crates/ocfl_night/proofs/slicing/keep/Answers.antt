@@ -17,7 +17,7 @@ returns-in_err-put_checkpoint-clause-any_moment g c = λ told part root run t r.
     let f = c.args.folder.now in
     let e = c.extend.new.folder in
     let next = c.after_run-made.result.checkpoint in
-    let is = subst (λ (m : ReportMark). IsNext k c.args.ran m next) (c.in_ok-report.ensures.mark told (c.report_of-mark.ensures ∙ ready_mark part t k f c.requires r)) c.after_run-made.ensures in
+    let is = subst (λ (m : ReportMark). IsNext k c.args.ran m next) (c.in_ok-report.ensures.mark told (c.report_of-mark.ensures ∙ ready_mark part t k f c.requires r)) c.after_run-made.ensures.next in
     let after = after_extended part t k next root c.args.ran c.args.lines.now f e c.requires r run (c.in_ok-report.ensures.grown told) is in
     moments (KeepsFront (length (g.S.StateFolder.seen f).report)) part t k next f e c.put_checkpoint.new.folder (g.met.S.StateFolder.only_now told) r
     (run_keeps part t k f c.requires r) (c.extend.ensures.crash told) (c.in_ok-report.ensures.only told) after.stands (c.put_checkpoint.ensures.crash told)
@@ -28,7 +28,7 @@ returns-clause-any_moment g c = λ told part root run t r.
     let f = c.args.folder.now in
     let e = c.extend.new.folder in
     let next = c.after_run-made.result.checkpoint in
-    let is = subst (λ (m : ReportMark). IsNext k c.args.ran m next) (c.in_ok-report.ensures.mark told (c.report_of-mark.ensures ∙ ready_mark part t k f c.requires r)) c.after_run-made.ensures in
+    let is = subst (λ (m : ReportMark). IsNext k c.args.ran m next) (c.in_ok-report.ensures.mark told (c.report_of-mark.ensures ∙ ready_mark part t k f c.requires r)) c.after_run-made.ensures.next in
     let after = after_extended part t k next root c.args.ran c.args.lines.now f e c.requires r run (c.in_ok-report.ensures.grown told) is in
     moments (KeepsFront (length (g.S.StateFolder.seen f).report)) part t k next f e c.put_checkpoint.new.folder (g.met.S.StateFolder.only_now told) r
     (run_keeps part t k f c.requires r) (c.extend.ensures.crash told) (c.in_ok-report.ensures.only told) after.stands (c.put_checkpoint.ensures.crash told)
@@ -39,7 +39,7 @@ returns-clause-ready g c = λ told part root run t r.
     let f = c.args.folder.now in
     let e = c.extend.new.folder in
     let next = c.after_run-made.result.checkpoint in
-    let is = subst (λ (m : ReportMark). IsNext k c.args.ran m next) (c.in_ok-report.ensures.mark told (c.report_of-mark.ensures ∙ ready_mark part t k f c.requires r)) c.after_run-made.ensures in
+    let is = subst (λ (m : ReportMark). IsNext k c.args.ran m next) (c.in_ok-report.ensures.mark told (c.report_of-mark.ensures ∙ ready_mark part t k f c.requires r)) c.after_run-made.ensures.next in
     let after = after_extended part t k next root c.args.ran c.args.lines.now f e c.requires r run (c.in_ok-report.ensures.grown told) is in
     put_ready part t next e c.put_checkpoint.new.folder (c.in_ok-put_checkpoint.ensures.put told) after.stands after.exact (c.in_ok-put_checkpoint.ensures.durable told (c.in_ok-report.ensures.only told))
 

@@ -1,0 +1,94 @@
+-- Why runs, slices and nights end, and what they count.
+use Rattle.std.specs.Prelude.{◌≡◌, ◌⊎◌, ℕ, false, Option, Some, None, Result, Ok, Err}
+use Rattle.ocfl_tree.specs.Place.{Place}
+use Rattle.ocfl_item.specs.declared.fault.Fault.TheVariants as fault
+use Rattle.ocfl_cursor.specs.Cursor.{Cursor, State}
+use Rattle.ocfl_cursor.specs.Moves.{after_run}
+use Rattle.ocfl_cursor.specs.declared.limits.Limits.{Limits}
+use Rattle.ocfl_scrub.specs.Running.{IsPaid, begun, limits_of}
+use Rattle.ocfl_scrub.specs.declared.running.RunEnd.{RunEnd}
+use Rattle.ocfl_scrub.specs.declared.running.RunStatus.{RunStatus}
+use Rattle.ocfl_scrub.specs.declared.running.RunStatus.TheVariants as status
+use Rattle.ocfl_state.specs.Checkpoint.{Checkpoint}
+use Rattle.ocfl_state.specs.declared.folder.Trouble.TheVariants.{Memory}
+use Rattle.ocfl_night.specs.declared.plan.Halt.{Halt}
+use Rattle.ocfl_night.specs.declared.plan.Halt.TheVariants as halt
+use Rattle.ocfl_night.specs.declared.plan.Pause.{Pause}
+use Rattle.ocfl_night.specs.declared.plan.Pause.TheVariants as pause
+use Rattle.ocfl_night.specs.declared.refusal.NotOpened.{NotOpened}
+use Rattle.ocfl_night.specs.declared.refusal.NotOpened.TheVariants as unopened
+use Rattle.ocfl_night.specs.declared.slicing.Made.{Made}
+use Rattle.ocfl_night.specs.declared.slicing.SliceEnd.{SliceEnd}
+use Rattle.ocfl_night.specs.declared.slicing.SliceEnd.TheVariants as slice
+use Rattle.ocfl_night.specs.declared.stop.Stop.{Stop}
+use Rattle.ocfl_night.specs.declared.stop.Stop.TheVariants as stop
+
+-- ---- ends
+
+-- why a run leaves nothing: its lines did not go out whole, or it was not made
+abbrev pub lost_by : RunStatus → Option Stop
+lost_by (status.Stopped fault.Output) = Some (stop.Folder Memory)
+lost_by status.Worn = Some stop.Worn
+lost_by _ = None
+
+-- how a slice ended whose run is kept
+abbrev pub slice_end : RunStatus → SliceEnd
+slice_end status.Ended = slice.Ended
+slice_end (status.Stopped why) = slice.Stopped why
+slice_end _ = slice.Spent
+
+-- the place at which a slice stopped; else what halts the night then, if anything does
+abbrev pub place_or_pause : SliceEnd → Result Place (Option Pause)
+place_or_pause slice.Ended = Err None
+place_or_pause slice.Spent = Err None
+place_or_pause (slice.Stopped (fault.Store p)) = Ok p
+place_or_pause (slice.Stopped why) = Err (Some (pause.Stopped why))
+place_or_pause (slice.Unread p) = Err (Some (pause.Stopped (fault.Store p)))
+place_or_pause slice.RootChanged = Err (Some pause.RootChanged)
+
+-- what ends a night whose cycle has not ended
+abbrev pub halt_of : Pause → Halt
+halt_of pause.TimeUp = halt.TimeUp
+halt_of pause.Spent = halt.Spent
+halt_of pause.Closing = halt.Spent
+halt_of pause.Asked = halt.Asked
+halt_of (pause.Stopped why) = halt.Stopped why
+halt_of pause.RootChanged = halt.RootChanged
+
+-- and one that has ended this cycle, or none
+abbrev pub halt_after : Option ℕ → Pause → Halt
+halt_after (Some cycle) p = halt.CycleEnded cycle
+halt_after None p = halt_of p
+
+-- what ended a night
+abbrev pub ended_by : Result Halt NotOpened → Halt
+ended_by (Ok h) = h
+ended_by (Err (unopened.Refused why)) = halt.Refused why
+ended_by (Err (unopened.Troubled why)) = halt.Troubled why
+
+-- ---- figures
+
+-- a run kept to these limits, and its cursor counts what it spent
+pub record KeepsTo (c : Cursor) (limits : Limits) (ran : RunEnd) : Type 0 where
+  pub state : State
+  pub cursor : ran.cursor ≡ after_run (begun c) ran.spent ran.files state
+  pub paid : IsPaid (limits_of limits) ran.spent ran.files
+
+-- a slice made what a run gave
+pub record IsMadeBy (ran : RunEnd) (made : Made) : Type 0 where
+  pub spent : made.spent ≡ ran.spent
+  pub files : made.files ≡ ran.files
+  pub found : made.found ≡ ran.found
+  pub end : made.end ≡ slice_end ran.end
+  pub cursor : made.checkpoint.cursor ≡ ran.cursor
+
+-- nothing is kept of a slice
+pub record IsUnkept (k : Checkpoint) (made : Made) : Type 0 where
+  pub checkpoint : made.checkpoint ≡ k
+  pub spent : made.spent ≡ 0
+  pub files : made.files ≡ 0
+  pub found : made.found ≡ false
+
+-- what a slice made is what a run within these limits did, or nothing is kept of it
+abbrev pub IsSlice : Checkpoint → Limits → Made → Type 0
+IsSlice k limits made = IsUnkept k made ⊎ ((ran : RunEnd) × (KeepsTo k.cursor limits ran × IsMadeBy ran made))

@@ -48,26 +48,13 @@ def check(name, got, expected):
     return False
 
 
-def check_known_fault(name, got, expected, why):
-    """Counts a known fault, for the reason `why`: it passes as long as what came is not what is
-    expected, and fails when it is, so that whoever mends it calls `check` instead."""
-    global passed
-    if got != expected:
-        passed += 1
-        print("not so yet: %s: %s" % (name, why), flush=True)
-        return True
-    failed.append(name)
-    print("%s: holds now; it was expected to fail: %s" % (name, why), flush=True)
-    return False
-
-
 def shown(value):
     text = repr(value)
     return text if len(text) < 1500 else text[:700] + " .. " + text[-700:]
 
 
 def run_trial(check_all, needs=()):
-    """Calls `tell` with a new folder, and ends with the names of the checks that failed and, as
+    """Calls `check_all` with a new folder, and ends with the names of the checks that failed and, as
     last line, the count.
 
     Where a tool that it needs is missing and cannot be installed, the trial is skipped and named;

@@ -10,14 +10,15 @@ Tried, and what comes of it:
 - `ocfl-scrub join` over parts that are gone, open, copies of others, of another root or not
   whole, that lost their report or have a cut checkpoint; another list of separators: each is
   named, status 3, and nothing is joined.
-- Parts of which one lost whole lines of its report: not so yet: they are joined.
+- A part that lost whole lines of its report, or whose report has other ones, than it was closed
+  with: it is named, status 3, and nothing is joined.
 """
 import os
 import shutil
 from typing import Any
 
 import common
-from common import digest, check_known_fault, check, ran
+from common import check, digest, ran
 from shared.nights import tried_apart
 
 SEPARATORS = ["b", "d"]
@@ -28,9 +29,9 @@ TEXT = """ocfl-scrub checkpoint 1
 root %(root)s
 declared %(declared)s
 names 3 %(zeros)s
-phase open
+phase %(phase)s
 whole yes
-report 0 0
+report %(report)s
 pieces %(zeros)s
 tail %(tail)s
 told 0
@@ -60,20 +61,26 @@ class Parts:
     def path(self, number: int, name: str = "") -> str:
         return "%s/part-%06d/%s" % (self.folder, number, name)
 
+    def checkpoint(self, number: int, name: str, lines: bytes = b"", **said: Any) -> None:
+        """A checkpoint of a part, of a report of these lines."""
+        text = TEXT % {"declared": digest(b"declared"), "zeros": NOTHING, "tail": digest(lines),
+                       "report": "%d %d" % (len(lines), lines.count(b"\n")), **said}
+        seal = "sha256 %s\n" % digest(text.encode())
+        common.write(self.path(number, name), (text + seal).encode())
+
     def put(self, number: int, of: int = 0, root: str = "/srv/ocfl", cycle: int = 1,
             state: str = "ended", whole: bool = True) -> None:
         """The folder of a part, as a night leaves it that closed a cycle; or one of part `of`."""
         shutil.rmtree(self.path(number), ignore_errors=True)
-        ends = ENDS[(of or number) - 1]
-        text = TEXT % {"root": root, "declared": digest(b"declared"), "zeros": NOTHING,
-                       "tail": digest(b""), "from": ends[0], "below": ends[1], "cycle": cycle,
-                       "state": state}
-        seal = "sha256 %s\n" % digest(text.encode())
-        common.write(self.path(number, "checkpoint"), (text + seal).encode())
+        ends, lines = ENDS[(of or number) - 1], REPORTS[(of or number) - 1].encode()
+        said = {"root": root, "from": ends[0], "below": ends[1]}
+        self.checkpoint(number, "checkpoint", phase="open", cycle=cycle, state=state, **said)
         common.write(self.path(number, "lock"), b"")
         for closed in range(1, cycle + (state == "ended")):
             name = "reports/%s-%06d" % ("cycle" if whole else "incomplete", closed)
-            common.write(self.path(number, name), REPORTS[(of or number) - 1].encode())
+            common.write(self.path(number, name), lines)
+            self.checkpoint(number, "reports/checkpoint-%06d" % closed, lines, phase="closing",
+                            cycle=closed, state="ended", **said)
 
     def joined(self, cycle: int = 1) -> tuple[Any, Any, str]:
         """The status of a joining, the joined report or None, and what was said."""
@@ -134,11 +141,18 @@ def refused(folder: str) -> None:
 
 
 def lost_lines(folder: str) -> None:
-    """A report that lost whole lines."""
+    """A report that lost whole lines, or has others in their place; and one of which the checkpoint
+    that closed it is not there."""
     parts = Parts(folder)
-    common.write(parts.path(2, "reports/cycle-000001"), b"ok\tb\t-\n")
-    check_known_fault("lost lines", parts.joined()[0:2], (3, None),
-                      "no checkpoint keeps the digests of a closed report")
+    for name, lines in [("lost lines", b"ok\tb\t-\n"),
+                        ("other lines", REPORTS[1].replace("E072", "E092").encode())]:
+        common.write(parts.path(2, "reports/cycle-000001"), lines)
+        parts.refused(name, "part 2: ")
+    parts.put(2)
+    common.write(parts.path(2, "reports/checkpoint-000001"), b"")
+    parts.refused("no checkpoint", "part 2: ")
+    os.remove(parts.path(2, "reports/checkpoint-000001"))
+    check("one that was not kept", parts.joined(), (0, "".join(REPORTS), ""))
 
 
 PARTS = [whole, later_cycles, refused, lost_lines]

@@ -53,7 +53,8 @@ def plain_nights(folder):
     check("what lies there", sorted(os.listdir(nights.state)),
           ["checkpoint", "lock", "log", "reports"])
     check("and beside the report", sorted(os.listdir(nights.path("reports"))),
-          ["cycle-000001", "gone-000001", "statement-000001", "statement-000001.json"])
+          ["checkpoint-000001", "cycle-000001", "gone-000001", "statement-000001",
+           "statement-000001.json"])
     check("the log", [row["row"] for row in nights.rows()],
           ["slice", "night", "slice", "closing", "night"])
     write(nights.root + "/o/v1/content/b", "b")

@@ -74,7 +74,7 @@ class Nights:
 
     def closed(self) -> list[str]:
         """The names of the closed reports."""
-        return [name for name in self.reports() if not name.startswith("gone-")]
+        return [name for name in self.reports() if name.startswith(("cycle-", "incomplete-"))]
 
     def kept(self) -> dict[str, Optional[str]]:
         """What nights rest on: the checkpoint, the report, and the closed reports."""

@@ -5,6 +5,7 @@ mod ending;
 mod failing;
 mod finding;
 mod joining;
+mod kept;
 mod lists;
 mod logging;
 mod making;

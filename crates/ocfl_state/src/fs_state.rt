@@ -26,7 +26,8 @@ const NO_OFFSET: u64 = 1 << 63;
 /// not tell what it holds.
 ///
 /// A checkpoint is written beside the old one, synced and renamed, and the folder is synced. The
-/// report is synced before it is moved, and then both folders are. Nothing in the folder that is a
+/// report is synced before it is moved, and then both folders are. The checkpoint with which it is
+/// closed is kept beside it. Nothing in the folder that is a
 /// link, a pipe or a folder in place of a file is opened. Files that are made have the mode 640,
 /// and folders 750, less the process's mask.
 ///
@@ -139,6 +140,18 @@ impl<R: Files<File = File> + AllocGlobal + Clone + Drop> FsState<R> {
         self.answer(found)
     }
 
+    /// The bytes of the checkpoint with which the report of a cycle was closed, if it was kept: it
+    /// has the length, the lines and the digests of that report.
+    pub fn kept_checkpoint(&mut self, cycle: u64) -> Result<Option<Vec<u8>>, Trouble>
+        ensures bound { IfOk result (λ found. IfSome found (λ bytes.
+            length bytes.items ≤ most_checkpoint)) }
+        ensures kept { IfErr result (λ trouble. IsKept self.new trouble) }
+        ensures same { OnOk result (self.new ≡ self.old) }
+    {
+        let found = self.read_kept(cycle);
+        self.answer(found)
+    }
+
     /// Keeps the reason of a failure.
     fn answer<T>(&mut self, outcome: Result<T, Reason>) -> Result<T, Trouble>
         ensures value { IfOk result (λ value. outcome ≡ Ok value) }
@@ -167,19 +180,40 @@ impl<R: Files<File = File> + AllocGlobal + Clone + Drop> FsState<R> {
         Ok(None)
     }
 
-    /// The checkpoint's bytes. Of a longer file one byte more than they may be is read.
-    fn read_checkpoint(&self) -> Result<Option<Vec<u8>>, Reason>
+    /// The bytes of a checkpoint. Of a longer file one byte more than they may be is read.
+    fn read_checkpoint(&self, there: StateFile) -> Result<Option<Vec<u8>>, Reason>
         ensures { IfOk result (λ found. IfSome found (λ bytes.
             length bytes.items ≤ most_checkpoint)) }
     {
-        let Some(file) = self.disk.open(StateFile::Checkpoint, &for_reading())? else {
+        let Some(file) = self.disk.open(there, &for_reading())? else {
             return Ok(None);
         };
         let mut bytes = Vec::new(self.disk.alloc());
         let mut limited = file.take(MOST_CHECKPOINT as u64 + 1);
-        of_file(StateFile::Checkpoint, limited.read_to_end(&mut bytes))?;
-        fit(StateFile::Checkpoint, &bytes)?;
+        of_file(there, limited.read_to_end(&mut bytes))?;
+        fit(there, &bytes)?;
         Ok(Some(bytes))
+    }
+
+    /// The bytes of the checkpoint with which a report was closed.
+    fn read_kept(&self, cycle: u64) -> Result<Option<Vec<u8>>, Reason>
+        ensures { IfOk result (λ found. IfSome found (λ bytes.
+            length bytes.items ≤ most_checkpoint)) }
+    {
+        if !self.disk.has_folder(StateFile::Reports)? {
+            return Ok(None);
+        }
+        self.read_checkpoint(StateFile::Kept(cycle))
+    }
+
+    /// Keeps the checkpoint beside the report that is closed with it. The folder is not synced.
+    fn keep_checkpoint(&self, cycle: u64) -> Result<(), Reason> {
+        let Some(bytes) = self.read_checkpoint(StateFile::Checkpoint)? else {
+            return Ok(());
+        };
+        self.write_beside(&bytes)?;
+        self.disk
+            .rename(StateFile::NewCheckpoint, StateFile::Kept(cycle))
     }
 
     /// Writes the next checkpoint beside the one that is there, and brings it to the disk.
@@ -326,6 +360,7 @@ impl<R: Files<File = File> + AllocGlobal + Clone + Drop> FsState<R> {
         self.make_report()?;
         self.sync_report()?;
         self.make_reports()?;
+        self.keep_checkpoint(cycle)?;
         self.disk
             .rename(StateFile::Report, closed_file(cycle, whole))?;
         self.report = None;
@@ -358,7 +393,7 @@ impl<R: Files<File = File> + AllocGlobal + Clone + Drop> StateFolder for FsState
         ensures kept { IfErr result (λ trouble. IsKept self.new trouble) }
         ensures same { OnOk result (self.new ≡ self.old) }
     {
-        let found = self.read_checkpoint();
+        let found = self.read_checkpoint(StateFile::Checkpoint);
         self.answer(found)
     }
 

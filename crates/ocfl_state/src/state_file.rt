@@ -22,6 +22,8 @@ pub enum StateFile {
     Whole(u64),
     /// The closed report of a cycle that is not whole.
     Incomplete(u64),
+    /// The checkpoint with which the report of a cycle was closed.
+    Kept(u64),
     Lock,
     /// If this file is there, a night begins no further run.
     Stop,
@@ -43,6 +45,7 @@ impl fmt::Display for StateFile {
             StateFile::Reports => f.write_str("reports"),
             StateFile::Whole(cycle) => write!(f, "reports/cycle-{cycle:06}"),
             StateFile::Incomplete(cycle) => write!(f, "reports/incomplete-{cycle:06}"),
+            StateFile::Kept(cycle) => write!(f, "reports/checkpoint-{cycle:06}"),
             StateFile::Lock => f.write_str("lock"),
             StateFile::Stop => f.write_str("stop"),
             StateFile::Log => f.write_str("log"),

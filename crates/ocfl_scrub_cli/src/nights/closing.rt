@@ -5,6 +5,7 @@
 
 use crate::nights::failing::Failure;
 use crate::nights::finding::{Findings, find_lines};
+use crate::nights::kept::is_as_closed;
 use crate::nights::lists::read_expected;
 use crate::nights::making::{file_failure, is_there, make_file, put_made};
 use crate::nights::rows::{Changes, Rows};
@@ -120,6 +121,27 @@ where
     }
 }
 
+/// Refuses the whole report of a cycle, one of a pair, that is not as it was closed.
+fn refuse_changed<R>(
+    alloc: Global,
+    folder: &mut FsState<R>,
+    state: &str,
+    pair: &Pair,
+    changed: u64,
+) -> Result<(), Failure>
+where
+    R: Files<File = File> + AllocGlobal + Clone + Drop,
+{
+    if is_as_closed(alloc, folder, state, changed)? {
+        return Ok(());
+    }
+    let (cycle, before) = (pair.cycle, pair.before);
+    Err(Failure::stopped(format!(in alloc;
+        "the report of cycle {cycle} was not compared with that of cycle {before}: that of cycle \
+         {changed} was changed since it was closed\n"
+    )?))
+}
+
 /// Why two reports were not compared.
 fn uncompared(alloc: Global, pair: &Pair, stop: CompareStop) -> Result<Failure, AllocError> {
     if stop == CompareStop::Memory {
@@ -145,6 +167,10 @@ where
 {
     if pair.before == 0 {
         return Ok(());
+    }
+    refuse_changed(alloc, folder, state, pair, pair.before)?;
+    if pair.whole {
+        refuse_changed(alloc, folder, state, pair, pair.cycle)?;
     }
     let mut before = reader_of(alloc, folder, state, pair.before)?;
     let mut now = reader_of(alloc, folder, state, pair.cycle)?;

@@ -1,6 +1,7 @@
 //! Joining the closed reports of all parts of a storage root, of one cycle.
 
 use crate::nights::failing::{Failure, say_failure};
+use crate::nights::kept::is_as_closed;
 use crate::nights::making::{file_failure, is_there, make_file, make_folder, put_made};
 use crate::nights::sound::is_sound;
 use crate::nights::stand::Standing;
@@ -221,21 +222,36 @@ fn say_missing<R: Eprint>(rt: &R, missing: &[MissingPart]) -> u8 {
     STOPPED
 }
 
+/// Whether the report of a cycle in the state folder of a part is as it was closed.
+fn is_part_as_closed<R>(rt: &R, path: &str, cycle: u64) -> Result<bool, Failure>
+where
+    R: Files<File = File> + AllocGlobal,
+{
+    let mut folder = open_state(rt, path, path, false)?;
+    is_as_closed(rt.alloc(), &mut folder, path, cycle)
+}
+
+/// That a report is not the one that its part closed.
+fn changed(alloc: Global, number: usize) -> Result<Failure, AllocError> {
+    Ok(Failure::stopped(format!(in alloc; "part {number}: its report was changed\n")?))
+}
+
 /// Refuses a report that cannot be that of its part.
 fn refuse_unsound<R>(rt: &R, path: &str, number: usize, part: &ClosedPart) -> Result<(), Failure>
 where
     R: Files<File = File> + AllocGlobal,
 {
     let alloc = rt.alloc();
+    if !is_part_as_closed(rt, path, part.cycle)? {
+        return Err(changed(alloc, number)?);
+    }
     let report = open_there(rt, path, number, part.cycle)?;
     let Ok(mut reader) = BufReader::new(alloc, report.file) else {
         return Err(Failure::from(AllocError));
     };
     match is_sound(alloc, &mut reader, part) {
         Ok(true) => Ok(()),
-        Ok(false) => Err(Failure::stopped(format!(in alloc;
-            "part {number}: its report was changed\n"
-        )?)),
+        Ok(false) => Err(changed(alloc, number)?),
         Err(error) => Err(file_failure(alloc, path, &error)?),
     }
 }

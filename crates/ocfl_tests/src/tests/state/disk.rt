@@ -53,13 +53,19 @@ fn calls_change_the_files(rt: HostRuntime) -> Result<(), Fail> {
     expect_text(&rt, "calls/checkpoint", "two")?;
     folder.close(7, true)?;
     expect_text(&rt, "calls/reports/cycle-000007", "abcd")?;
+    expect_text(&rt, "calls/reports/checkpoint-000007", "two")?;
     folder.append(b"x")?;
+    folder.put_checkpoint(b"three")?;
     assert_eq!(rt; folder.close(7, false).err(), Some(Trouble::Taken));
     folder.close(8, false)?;
     expect_text(&rt, "calls/reports/incomplete-000008", "x")?;
     assert_eq!(rt; folder.close(8, true).err(), Some(Trouble::Taken));
     folder.close(9, true)?;
     expect_text(&rt, "calls/reports/cycle-000009", "")?;
+    for (cycle, want) in [(6, None), (7, Some("two")), (8, Some("three"))] {
+        let kept = folder.kept_checkpoint(cycle)?;
+        assert_eq!(rt; kept.as_deref(), want.map(str::as_bytes), "{cycle}");
+    }
     for (cycle, want) in [(6, false), (7, true), (8, true), (10, false)] {
         assert_eq!(rt; folder.has_closed(cycle)?, want, "{cycle}");
     }

@@ -1,0 +1,93 @@
+//! Whether a closed report is as it was when it was closed.
+
+use crate::nights::failing::Failure;
+use crate::nights::making::file_failure;
+use crate::nights::state::folder_failure;
+use ocfl_state::{
+    FsState, NotDecoded, OpenReport, ReportDigests, ReportMark, StateFile, decode_checkpoint,
+};
+use std::alloc::{AllocError, Global};
+use std::fs::File;
+use std::io::{self, Read};
+use std::rt::Files;
+
+/// How many bytes of a report are read at once.
+const READ_LEN: usize = 16_384;
+
+/// The digests of what a reader gives until its end.
+fn digests_of<R: Read>(reader: &mut R) -> io::Result<ReportDigests> {
+    let mut digests = ReportDigests::new();
+    let mut buffer = [0; READ_LEN];
+    for _ in 0..u64::MAX {
+        let count = reader.read(&mut buffer)?;
+        if count == 0 {
+            break;
+        }
+        digests.push(&buffer[..count]);
+    }
+    Ok(digests)
+}
+
+/// The mark of the report of a cycle when it was closed. `None` where it was not kept, and
+/// `Some(None)` where what was kept is no checkpoint any more.
+fn mark_of<R>(
+    alloc: Global,
+    folder: &mut FsState<R>,
+    state: &str,
+    cycle: u64,
+) -> Result<Option<Option<ReportMark>>, Failure>
+where
+    R: Files<File = File> + AllocGlobal + Clone + Drop,
+{
+    let bytes = match folder.kept_checkpoint(cycle) {
+        Ok(Some(bytes)) => bytes,
+        Ok(None) => return Ok(None),
+        Err(_) => return Err(folder_failure(alloc, state, folder.reason())?),
+    };
+    match decode_checkpoint(alloc, &bytes) {
+        Ok(checkpoint) => Ok(Some(Some(checkpoint.report))),
+        Err(NotDecoded::Memory) => Err(Failure::from(AllocError)),
+        Err(_) => Ok(Some(None)),
+    }
+}
+
+/// Whether a report has this mark.
+fn has_mark(
+    alloc: Global,
+    state: &str,
+    cycle: u64,
+    mut report: OpenReport,
+    mark: &ReportMark,
+) -> Result<bool, Failure> {
+    match digests_of(&mut report.file) {
+        Ok(digests) => Ok(digests.summary() == *mark),
+        Err(error) => {
+            let path = format!(in alloc; "{state}/{}", StateFile::Whole(cycle))?;
+            Err(file_failure(alloc, path.as_str(), &error)?)
+        }
+    }
+}
+
+/// Whether the whole report of a cycle has the length, the lines and the digests of the checkpoint
+/// with which it was closed. One that is not there counts so, and one without a kept checkpoint.
+pub(crate) fn is_as_closed<R>(
+    alloc: Global,
+    folder: &mut FsState<R>,
+    state: &str,
+    cycle: u64,
+) -> Result<bool, Failure>
+where
+    R: Files<File = File> + AllocGlobal + Clone + Drop,
+{
+    let Some(mark) = mark_of(alloc, folder, state, cycle)? else {
+        return Ok(true);
+    };
+    let Some(mark) = mark else {
+        return Ok(false);
+    };
+    match folder.open_closed(cycle) {
+        Ok(Some(report)) => has_mark(alloc, state, cycle, report, &mark),
+        Ok(None) => Ok(true),
+        Err(_) => Err(folder_failure(alloc, state, folder.reason())?),
+    }
+}

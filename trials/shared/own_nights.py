@@ -126,7 +126,7 @@ class Audited:
         there."""
         for name in nights.reports():
             form, right = name.partition("-")[0], nights.has("reports/" + name)
-            if name.endswith(".new") and form == "gone":
+            if form == "checkpoint" or name.endswith(".new") and form == "gone":
                 continue
             if form not in ("cycle", "gone"):
                 yield "there is " + name

@@ -8,8 +8,8 @@ use ocfl_cursor::Budget;
 use ocfl_tree::Place;
 use ocfl_walk::Fault;
 
-/// A clock, which also knows whether the night is asked to stop, and hears of its runs. It may answer
-/// anything.
+/// A clock, which also knows whether the night is asked to stop, and hears of its runs. It may
+/// answer anything.
 pub trait Clock {
     /// Whether the clock is told. If not, the clause promises nothing.
     ghost told: { Bool };

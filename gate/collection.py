@@ -11,8 +11,10 @@ from gate.commands import fail
 from gate.edit_files import Edit
 from gate.repository import crates, folder_of
 
-# A use that an edit puts in: of which crate and module of `specs`, and which names.
-USE = re.compile(r"(?:ghost )?use Rattle\.(ocfl_\w+)\.specs\.([\w.]+)\.\{(.*)\};?")
+# A use that an edit puts in: of the `specs` of which crate, and what of its modules.
+USE = re.compile(r"(?:ghost )?use Rattle\.(ocfl_\w+)\.specs\.(.*\});?")
+# A module of a use, and its names.
+NAMES = re.compile(r"([\w.]+)\.\{([^{}]*)\}")
 
 
 def files_of(crate: str) -> list[str]:
@@ -85,14 +87,22 @@ def unknown_names() -> list[str]:
     faults = []
     for edit in every_edit():
         for used in filter(None, (USE.fullmatch(change.new) for change in edit.changes)):
-            crate, module, names = used.groups()
-            file = os.path.join(folder_of(crate), "specs", *module.split(".")) + ".antt"
-            if os.path.isfile(file):
-                with open(file) as it:
-                    known = set(re.findall(r"[^\s(){},;]+", it.read()))
-                faults += ["%s %s: %s has no %s" % (edit.crate, edit.path, file, name)
-                           for name in names.split(", ") if name.split(" ")[0] not in known]
+            crate, taken = used.groups()
+            faults += ["%s %s: %s" % (edit.crate, edit.path, it)
+                       for module, names in NAMES.findall(taken)
+                       for it in unknown_in(crate, module, names)]
     return faults
+
+
+def unknown_in(crate: str, module: str, names: str) -> list[str]:
+    """Which of some names a module of `specs` does not mention, if it is a file."""
+    path = os.path.join(folder_of(crate), "specs", *module.split(".")) + ".antt"
+    if not os.path.isfile(path):
+        return []
+    with open(path, encoding="utf-8") as file:
+        known = set(re.findall(r"[^\s(){},;]+", file.read()))
+    return ["%s has no %s" % (path, name)
+            for name in names.split(", ") if name.split(" ")[0] not in known]
 
 
 def misplaced() -> list[str]:

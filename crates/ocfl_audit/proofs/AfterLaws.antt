@@ -1,10 +1,7 @@
 -- The items above a place end an ascending list.
 use Rattle.std.proofs.Common.{◌≡◌, List, [], ◌∷◌, ◌++◌, refl, sym, ◌∙◌, ap, true, false, Bool, map, Some}
-use Rattle.std.specs.Prelude.{cond}
-use Rattle.std.specs.Ordering.{is_lt}
-use Rattle.std.specs.declared.cmp.Ordering.TheVariants.{Less}
-use Rattle.ocfl_tree.specs.Place.{Place, place_cmp}
-use Rattle.ocfl_tree.specs.Ascending.{IsBeforeAll, IsAscending}
+use Rattle.std.specs.{Prelude.{cond}, Ordering.{is_lt}, declared.cmp.Ordering.TheVariants.{Less}}
+use Rattle.ocfl_tree.specs.{Place.{Place, place_cmp}, Ascending.{IsBeforeAll, IsAscending}}
 use Rattle.ocfl_report.specs.Line.{Item}
 use Rattle.ocfl_audit.specs.Audit.{after}
 use Rattle.ocfl_audit.proofs.BelowLaws.{less_from}

@@ -1,19 +1,15 @@
 -- Parts that are audited apart, each with what it could not read, are the audit of what they could
 -- not read together.
 use Rattle.std.proofs.Common.{◌≡◌, inl, inr, ℕ, List, [], ◌∷◌, ◌++◌, refl, sym, ◌∙◌, ap, true, false, Bool, map, filter, Some, None}
-use Rattle.std.specs.Prelude.{cond, flat_map}
-use Rattle.std.specs.List.{AllByRecursion}
-use Rattle.std.specs.Ordering.{is_eq}
+use Rattle.std.specs.{Prelude.{cond, flat_map}, List.{AllByRecursion}, Ordering.{is_eq}}
 use Rattle.std.specs.declared.cmp.Ordering.{Ordering}
 use Rattle.std.specs.declared.cmp.Ordering.TheVariants.{Less, Equal, Greater}
-use Rattle.ocfl_tree.specs.Place.{Place, place_cmp, place_eq}
-use Rattle.ocfl_tree.specs.Ascending.{IsAscending, IsAmong}
+use Rattle.ocfl_tree.specs.{Place.{Place, place_cmp, place_eq}, Ascending.{IsAscending, IsAmong}}
 use Rattle.ocfl_tree.specs.StorageRoot.{StorageRoot}
 use Rattle.ocfl_tree.proofs.Orders.{place_cmp_exact, true_not_false, among_from_filter}
 use Rattle.ocfl_report.specs.Text.{lines_text, text}
 use Rattle.ocfl_audit.specs.Audit.{Unread, given_by, item_of, audit, total_cost}
-use Rattle.ocfl_audit.specs.Due.{item_places}
-use Rattle.ocfl_audit.specs.Runs.{total_files, sum_of}
+use Rattle.ocfl_audit.specs.{Due.{item_places}, Runs.{total_files, sum_of}}
 use Rattle.ocfl_audit.specs.Parts.{Part, lies_in, within, places_within, parts_of, unread_in, together, audited_apart}
 use Rattle.ocfl_audit.proofs.DueLaws.{item_read}
 use Rattle.ocfl_audit.proofs.PartLaws.{flat_flat, kept_is, places_within_is, within_by_places, items_join, lies_once, costs_sum, files_sum}

@@ -1,15 +1,13 @@
 -- The audit fits its description.
 use Rattle.std.proofs.Common.{◌≡◌, ◌↔◌, inl, inr, List, [], ◌∷◌, ◌++◌, refl, sym, ◌∙◌, ap, subst, true, false, Bool, map, filter, Option, Some, None, ℕ}
 use Rattle.std.specs.Prelude.{◌≢◌, cond, flat_map, not, ◌&&◌, nat_le, length, filter_map, if◌then◌else◌}
-use Rattle.std.specs.List.{AllByRecursion, cons_option}
-use Rattle.std.specs.Ordering.{is_eq}
+use Rattle.std.specs.{List.{AllByRecursion, cons_option}, Ordering.{is_eq}}
 use Rattle.std.specs.declared.cmp.Ordering.{Ordering}
 use Rattle.std.specs.declared.cmp.Ordering.TheVariants.{Less, Equal, Greater}
 use Rattle.ocfl_tree.specs.Place.{Place, Text, place_cmp, place_eq}
 use Rattle.ocfl_tree.specs.Ascending.{ascending, IsAscending, IsAmong}
 use Rattle.ocfl_tree.specs.StorageRoot.{StorageRoot, Leaf, file, dir, other, lookup, at_below, at, is_dir_leaf}
-use Rattle.ocfl_inventory.specs.Note.{Note, lines_at}
-use Rattle.ocfl_inventory.specs.Declaration.{undeclared, declared}
+use Rattle.ocfl_inventory.specs.{Note.{Note, lines_at}, Declaration.{undeclared, declared}}
 use Rattle.ocfl_inventory.specs.Table.{Table, Triple, Named, named, paths_of}
 use Rattle.ocfl_inventory.specs.declared.declaration.Level.TheVariants.{Object}
 use Rattle.ocfl_audit.specs.Zone.{Zone, skipped, hierarchy, inside, object_zone, object_declared, zone, table_at, seen, max_listed_depth, files_in, is_declared}

@@ -2,28 +2,21 @@
 -- that one.
 use Rattle.std.proofs.Common.{◌≡◌, ◌≢◌, ◌⊎◌, inl, inr, List, [], ◌∷◌, ◌++◌, refl, sym, ◌∙◌, ap, subst, true, false, Bool, map, filter, Option, Some, None, append-nil}
 use Rattle.std.proofs.lemmas.Bool.{false_from_ne_true, not-true}
-use Rattle.std.specs.Prelude.{cond, ◌&&◌, not, nat_le, length}
-use Rattle.std.specs.List.{list_all}
-use Rattle.std.specs.Ordering.{is_lt}
+use Rattle.std.specs.{Prelude.{cond, ◌&&◌, not, nat_le, length}, List.{list_all}, Ordering.{is_lt}}
 use Rattle.std.specs.declared.cmp.Ordering.{Ordering}
 use Rattle.std.specs.declared.cmp.Ordering.TheVariants.{Less, Equal, Greater}
-use Rattle.ocfl_tree.specs.Place.{Place, place_cmp}
-use Rattle.ocfl_tree.specs.Ascending.{ascending, IsAscending, IsAmong}
+use Rattle.ocfl_tree.specs.{Place.{Place, place_cmp}, Ascending.{ascending, IsAscending, IsAmong}}
 use Rattle.ocfl_tree.specs.StorageRoot.{StorageRoot, dir, at, is_dir}
 use Rattle.ocfl_tree.proofs.Orders.{place_cmp_total, place_cmp_exact, true_not_false, below_from_greater, not_below_itself, not_less_itself, ascending_unique, among_ascending, among_filter, among_from_filter, among_left, among_right, ascends_filter, ascends_ascending}
+use Rattle.ocfl_tree.proofs.Bools.{and_first, and_second}
 use Rattle.ocfl_audit.specs.Zone.{Zone, skipped, hierarchy, inside, zone, is_entered, is_listed_zone, seen, max_listed_depth, beginnings}
-use Rattle.ocfl_audit.specs.Walk.{is_reached}
-use Rattle.ocfl_audit.specs.Audit.{candidates}
-use Rattle.ocfl_audit.specs.Due.{places_after}
-use Rattle.ocfl_audit.specs.Head.{on}
+use Rattle.ocfl_audit.specs.{Walk.{is_reached}, Audit.{candidates}, Due.{places_after}, Head.{on}}
 use Rattle.ocfl_audit.specs.Stack.{NoneSeenBetween, NoneSeenAbove}
 use Rattle.ocfl_audit.specs.Trail.{is_head, reads_inventory}
 use Rattle.ocfl_audit.specs.Between.{IsBeyond, IsWithin, between, up_to, is_looked_into, shows_entries, looked_between, read_between}
-use Rattle.ocfl_tree.proofs.Bools.{and_first, and_second}
 use Rattle.ocfl_audit.proofs.AuditExists.{seen_candidate, object_key, zone_is}
 use Rattle.ocfl_audit.proofs.BelowLaws.{less_from, from_append, ascends_append}
-use Rattle.ocfl_audit.proofs.WayLaws.{dir_from, head_seen, is_closed}
-use Rattle.ocfl_audit.proofs.WalkLaws.{none_among}
+use Rattle.ocfl_audit.proofs.{WayLaws.{dir_from, head_seen, is_closed}, WalkLaws.{none_among}}
 
 -- ---- what is between two places, by order alone
 

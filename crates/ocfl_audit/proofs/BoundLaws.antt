@@ -1,26 +1,20 @@
 -- Items have at most 255 names, and a stack that is entered at a place lists only the way to it.
 use Rattle.std.proofs.Common.{◌≡◌, ◌≢◌, ◌⊎◌, inl, inr, ℕ, ◌+◌, ◌<◌, ◌≤◌, List, [], ◌∷◌, ◌++◌, refl, sym, ◌∙◌, ap, subst, true, false, Bool, map, filter, Option, Some, None, arith, length, Ok, Err, ltb-false}
-use Rattle.std.proofs.lemmas.Bool.{leb-true}
-use Rattle.std.proofs.lemmas.List.{length-append}
-use Rattle.std.specs.Prelude.{cond, flat_map, nat_le, nat_lt, not, is_some, ◌&&◌, ◌||◌}
-use Rattle.std.specs.List.{starts_with, ends_with, list_any, list_all}
-use Rattle.std.specs.Prelude.{nat_eq, codes}
-use Rattle.ocfl_tree.specs.Place.{Place, Text, begins}
-use Rattle.std.specs.Ordering.{match_ordering}
+use Rattle.std.proofs.{lemmas.Bool.{leb-true}, lemmas.List.{length-append}}
+use Rattle.std.specs.Prelude.{cond, flat_map, nat_le, nat_lt, not, is_some, ◌&&◌, ◌||◌, nat_eq, codes}
+use Rattle.std.specs.{List.{starts_with, ends_with, list_any, list_all}, Ordering.{match_ordering}}
 use Rattle.std.specs.declared.cmp.Ordering.{Ordering}
 use Rattle.std.specs.declared.cmp.Ordering.TheVariants.{Less, Equal, Greater}
+use Rattle.ocfl_tree.specs.Place.{Place, Text, begins}
 use Rattle.ocfl_tree.specs.Ascending.{insert_once, ascending, IsAmong}
-use Rattle.ocfl_tree.specs.StorageRoot.{StorageRoot, Leaf, at, is_dir}
+use Rattle.ocfl_tree.specs.{StorageRoot.{StorageRoot, Leaf, at, is_dir}, Path.{elements}}
 use Rattle.ocfl_report.specs.declared.code.Code.TheVariants.{E099, E100, S06}
 use Rattle.ocfl_digest.specs.declared.algorithm.Algorithm.{Algorithm}
 use Rattle.ocfl_inventory.specs.Table.{Table, Triple, triple_cmp, triples_of, table_from, table_of, paths_of}
 use Rattle.ocfl_inventory.specs.Reading.{Inventory, Block, Reading, inventory_of}
-use Rattle.ocfl_tree.specs.Path.{elements}
 use Rattle.ocfl_inventory.specs.ListedPath.{is_empty_or_dots, is_too_long_or_nul, is_content_path, is_kept}
 use Rattle.ocfl_audit.specs.Zone.{zone, table_at, inventory_at, inventory_limit, seen, is_entered, is_listed_zone, max_listed_depth, beginnings}
-use Rattle.ocfl_audit.specs.Lines.{notes}
-use Rattle.ocfl_audit.specs.Walk.{is_reached, IsClosed}
-use Rattle.ocfl_audit.specs.Stack.{Frame, listed_at}
+use Rattle.ocfl_audit.specs.{Lines.{notes}, Walk.{is_reached, IsClosed}, Stack.{Frame, listed_at}}
 use Rattle.ocfl_tree.proofs.Orders.{true_not_false}
 use Rattle.ocfl_audit.proofs.AuditExists.{some_not_none, zone_is, append_one}
 use Rattle.ocfl_audit.proofs.BelowLaws.{from_append, from_flat_map, begins_front}

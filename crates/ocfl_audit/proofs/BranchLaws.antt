@@ -1,19 +1,16 @@
 -- Two separators enclose a branch: its place, and this with the byte 1 after its last name.
 use Rattle.std.proofs.Common.{◌≡◌, ◌≢◌, ℕ, zero, suc, ◌+◌, ◌<◌, ◌≤◌, List, [], ◌∷◌, ◌++◌, refl, sym, ◌∙◌, ap, true, false, filter, arith, All, length, length-append, codes, IsUtf8}
-use Rattle.std.specs.Prelude.{cond, not, ◌&&◌}
-use Rattle.std.specs.List.{slice_index}
-use Rattle.std.specs.Cmp.{nat_cmp_is}
+use Rattle.std.proofs.lemmas.List.Elements.{All-nil, All-cons, All-head, All-tail, All-append}
+use Rattle.std.proofs.lemmas.Str.{IsUtf8-append, IsUtf8-from_ascii, IsUtf8-had}
+use Rattle.std.specs.{Prelude.{cond, not, ◌&&◌}, List.{slice_index}, Cmp.{nat_cmp_is}}
 use Rattle.std.specs.Ordering.{is_lt, is_eq, nat_cmp, ordering_then, ordering_reverse}
 use Rattle.std.specs.declared.cmp.Ordering.{Ordering}
 use Rattle.std.specs.declared.cmp.Ordering.TheVariants.{Less, Equal, Greater}
-use Rattle.std.proofs.lemmas.List.Elements.{All-nil, All-cons, All-head, All-tail, All-append}
-use Rattle.std.proofs.lemmas.Str.{IsUtf8-append, IsUtf8-from_ascii, IsUtf8-had}
 use Rattle.ocfl_tree.specs.Place.{Text, Place, text_cmp, text_eq, place_cmp, begins}
 use Rattle.ocfl_tree.specs.Name.{IsName, IsPlace}
 use Rattle.ocfl_tree.proofs.Places.{text_cmp_total, text_cmp_exact, text_eq-same}
 use Rattle.ocfl_report.specs.Line.{Item}
-use Rattle.ocfl_audit.specs.Walk.{items_under}
-use Rattle.ocfl_audit.specs.Parts.{lies_in, within, branch_end, enclosed}
+use Rattle.ocfl_audit.specs.{Walk.{items_under}, Parts.{lies_in, within, branch_end, enclosed}}
 use Rattle.ocfl_audit.proofs.PartLaws.{within_is}
 
 -- ---- names

@@ -2,22 +2,16 @@
 -- alone.
 use Rattle.std.proofs.Common.{◌≡◌, ℕ, List, [], ◌∷◌, refl, sym, ◌∙◌, ap, map, Option, Some, None, not}
 use Rattle.std.specs.Ordering.{is_lt}
-use Rattle.ocfl_tree.specs.Place.{Place, place_cmp}
-use Rattle.ocfl_tree.specs.Ascending.{ascending}
-use Rattle.ocfl_tree.specs.StorageRoot.{StorageRoot}
+use Rattle.ocfl_tree.specs.{Place.{Place, place_cmp}, Ascending.{ascending}}
+use Rattle.ocfl_tree.specs.{StorageRoot.{StorageRoot}, declared.store.Opening.{Opening}}
 use Rattle.ocfl_report.specs.Line.{Item}
 use Rattle.ocfl_inventory.specs.Note.{Note, lines_at}
 use Rattle.ocfl_audit.specs.Audit.{Unread, candidates, given_by, item_of, has_lines, audit, after}
-use Rattle.ocfl_audit.specs.Lines.{notes, is_empty, cost}
-use Rattle.ocfl_audit.proofs.UnreadLaws.{notes_alike}
-use Rattle.ocfl_audit.specs.Due.{item_places, due, items_at}
-use Rattle.ocfl_audit.proofs.Lists.{map_filter, filter_same}
-use Rattle.ocfl_tree.specs.declared.store.Opening.{Opening}
-use Rattle.ocfl_tree.proofs.Orders.{true_not_false}
-use Rattle.ocfl_audit.specs.Walk.{items_of_place}
+use Rattle.ocfl_audit.specs.{Lines.{notes, is_empty, cost}, Due.{item_places, due, items_at}}
+use Rattle.ocfl_audit.specs.{Walk.{items_of_place}, Trail.{unread_of}, Head.{on}}
+use Rattle.ocfl_audit.proofs.{UnreadLaws.{notes_alike}, Lists.{map_filter, filter_same}}
 use Rattle.ocfl_audit.proofs.WalkLaws.{item_here}
-use Rattle.ocfl_audit.specs.Trail.{unread_of}
-use Rattle.ocfl_audit.specs.Head.{on}
+use Rattle.ocfl_tree.proofs.Orders.{true_not_false}
 
 -- ---- the audit by its places
 

@@ -1,8 +1,7 @@
 -- Which directories are looked into, said by what is seen.
 use Rattle.std.proofs.Common.{◌≡◌, ◌≢◌, ◌↔◌, ◌⊎◌, inl, inr, [], ◌∷◌, refl, sym, ◌∙◌, ap, true, false, Bool, Option, Some, None, leb-true}
 use Rattle.std.proofs.lemmas.Bool.{le-leb}
-use Rattle.std.specs.Prelude.{cond, ◌&&◌, nat_le, length}
-use Rattle.std.specs.List.{list_all}
+use Rattle.std.specs.{Prelude.{cond, ◌&&◌, nat_le, length}, List.{list_all}}
 use Rattle.ocfl_tree.specs.Place.{Place, Text}
 use Rattle.ocfl_tree.specs.StorageRoot.{StorageRoot, dir, at, is_dir, is_dir_leaf}
 use Rattle.ocfl_tree.proofs.Orders.{true_not_false}
@@ -11,8 +10,7 @@ use Rattle.ocfl_audit.specs.Zone.{Zone, skipped, hierarchy, inside, zone, seen, 
 use Rattle.ocfl_audit.specs.Between.{shows_entries, is_looked_into}
 use Rattle.ocfl_audit.specs.Objects.{ShowsEntries, of_hierarchy, object_root, listed_in_object, IsLookedInto}
 use Rattle.ocfl_audit.proofs.AuditExists.{some_not_none, append_nothing, zone_is}
-use Rattle.ocfl_audit.proofs.ObjectLaws.{object_by_zone}
-use Rattle.ocfl_audit.proofs.WayLaws.{dir_from}
+use Rattle.ocfl_audit.proofs.{ObjectLaws.{object_by_zone}, WayLaws.{dir_from}}
 
 module _ (root : StorageRoot) where
   shows : (p : Place) → shows_entries root (zone root p) ≡ true → ShowsEntries root p

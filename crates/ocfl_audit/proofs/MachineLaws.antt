@@ -1,15 +1,13 @@
 -- The walk over a stack of listings and one table gives what is above the place at which it starts.
 use Rattle.std.proofs.Common.{◌≡◌, inl, inr, ℕ, zero, suc, ◌<◌, ◌≤◌, List, [], ◌∷◌, ◌++◌, refl, sym, ◌∙◌, ap, subst, true, false, Bool, filter, Option, Some, None, length, arith}
-use Rattle.std.specs.Prelude.{cond, option_map}
-use Rattle.std.specs.Ordering.{is_lt}
+use Rattle.std.specs.{Prelude.{cond, option_map}, Ordering.{is_lt}}
 use Rattle.std.specs.declared.cmp.Ordering.TheVariants.{Less}
 use Rattle.ocfl_tree.specs.Place.{Place, Text, text_cmp, place_cmp}
 use Rattle.ocfl_tree.specs.Ascending.{ascending, IsBeforeAll, IsAscending, IsAmong}
 use Rattle.ocfl_tree.specs.StorageRoot.{StorageRoot, Leaf}
 use Rattle.ocfl_inventory.specs.Table.{Table, paths_of}
 use Rattle.ocfl_audit.specs.Zone.{Zone, skipped, hierarchy, inside, zone, table_at, seen}
-use Rattle.ocfl_audit.specs.Audit.{Unread, candidates, audit, after}
-use Rattle.ocfl_audit.specs.Head.{on}
+use Rattle.ocfl_audit.specs.{Audit.{Unread, candidates, audit, after}, Head.{on}}
 use Rattle.ocfl_audit.specs.Walk.{seen_names, IsClosed, item_at, is_reached}
 use Rattle.ocfl_audit.specs.Stack.{Frame, listed_at, NoneSeenBetween, NoPathBetween, NoneSeenAbove, NoPathAbove, IsStack, IsNextPath, IsListed, entry_of, next_entry, first_of_list, next_path_of, next_path_in, next_path, lesser, next_place, taken_with, taken, lists_with, lists}
 use Rattle.ocfl_tree.proofs.Orders.{place_cmp_total, place_cmp_exact, true_not_false, not_below_itself, before_each, among_ascending, among_filter, among_from_filter, ascends_filter, ascends_ascending}

@@ -1,18 +1,15 @@
 -- Which names are allowed, what is metadata, and what openings show.
 use Rattle.std.proofs.Common.{◌≡◌, ◌≢◌, ◌↔◌, ℕ, List, [], ◌∷◌, ◌++◌, refl, sym, ◌∙◌, ap, true, false, Bool, map, filter, Some, codes, append_assoc}
-use Rattle.std.proofs.lemmas.List.{map-append}
-use Rattle.std.proofs.lemmas.Bool.{or_right}
+use Rattle.std.proofs.{lemmas.List.{map-append}, lemmas.Bool.{or_right}}
 use Rattle.std.specs.Prelude.{cond, ◌||◌, ◌&&◌, not, nat_lt, length}
 use Rattle.ocfl_tree.specs.Place.{Place, Text, text_eq, place_eq}
 use Rattle.ocfl_tree.specs.StorageRoot.{StorageRoot, file, dir, at, is_dir, is_dir_leaf, names_in}
-use Rattle.ocfl_inventory.specs.Note.{Note, plain}
-use Rattle.ocfl_report.specs.declared.code.Code.TheVariants.{E001, E015, S05}
-use Rattle.ocfl_inventory.specs.ListedPath.{is_version_name}
-use Rattle.ocfl_inventory.specs.Table.{Table}
 use Rattle.ocfl_tree.specs.declared.store.Opening.{Opening}
-use Rattle.ocfl_tree.proofs.Orders.{true_not_false}
+use Rattle.ocfl_inventory.specs.{Note.{Note, plain}, ListedPath.{is_version_name}, Table.{Table}}
 use Rattle.ocfl_inventory.specs.Declaration.{is_declaration}
 use Rattle.ocfl_inventory.specs.declared.declaration.Level.TheVariants.{Object}
+use Rattle.ocfl_report.specs.declared.code.Code.TheVariants.{E001, E015, S05}
+use Rattle.ocfl_tree.proofs.Orders.{true_not_false}
 use Rattle.ocfl_digest.specs.declared.algorithm.Algorithm.TheVariants.{Sha256, Sha512}
 use Rattle.ocfl_audit.specs.Zone.{Zone, skipped, hierarchy, inside, zone, inventory_name, max_listed_depth, is_in_extensions}
 use Rattle.ocfl_audit.specs.Head.{on, sidecar_name}
@@ -22,10 +19,8 @@ use Rattle.ocfl_audit.specs.Trail.{is_root_meta, is_meta_zone, is_meta, content_
 use Rattle.ocfl_audit.specs.Objects.{IsObjectRoot, IsInventoryFile, inventory, sidecar_sha256, sidecar_sha512, IsObjectFile, declaration, of_inventory, IsMetadata, of_root, of_object}
 use Rattle.ocfl_audit.proofs.AuditExists.{append_nothing, zone_is, place_from_test}
 use Rattle.ocfl_audit.proofs.BelowLaws.{text_from_test, text_same, place_same}
-use Rattle.ocfl_audit.proofs.WayLaws.{dir_from, is_closed, zone_part}
-use Rattle.ocfl_audit.proofs.NextLaws.{zone_longer}
-use Rattle.ocfl_audit.proofs.ObjectLaws.{object_by_zone}
-use Rattle.ocfl_audit.proofs.Trails.{filter_append}
+use Rattle.ocfl_audit.proofs.{WayLaws.{dir_from, is_closed, zone_part}, NextLaws.{zone_longer}}
+use Rattle.ocfl_audit.proofs.{ObjectLaws.{object_by_zone}, Trails.{filter_append}}
 
 -- ---- names of files
 

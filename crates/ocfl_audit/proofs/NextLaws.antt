@@ -1,8 +1,7 @@
 -- The next item: of what is seen on the stack, and of what the table names.
 use Rattle.std.proofs.Common.{◌≡◌, ◌≢◌, ◌⊎◌, inl, inr, ℕ, List, [], ◌∷◌, ◌++◌, refl, sym, ◌∙◌, ap, subst, true, false, Bool, map, filter, Option, Some, None, append_assoc, append-nil}
 use Rattle.std.specs.Prelude.{cond, flat_map, filter_map, is_some, ◌&&◌}
-use Rattle.std.specs.Ordering.{is_lt, is_eq, ordering_then}
-use Rattle.std.specs.declared.cmp.Ordering.{Ordering}
+use Rattle.std.specs.{Ordering.{is_lt, is_eq, ordering_then}, declared.cmp.Ordering.{Ordering}}
 use Rattle.std.specs.declared.cmp.Ordering.TheVariants.{Less, Equal, Greater}
 use Rattle.ocfl_tree.specs.Place.{Place, Text, text_cmp, place_cmp, place_eq, child_name, begins}
 use Rattle.ocfl_tree.specs.Ascending.{ascending, IsAscending, IsBeforeAll, IsAmong}
@@ -10,16 +9,15 @@ use Rattle.ocfl_tree.specs.StorageRoot.{StorageRoot, Leaf, dir, names_in}
 use Rattle.ocfl_inventory.specs.Table.{Table, paths_of}
 use Rattle.ocfl_audit.specs.Zone.{skipped, inside, zone, table_at, seen}
 use Rattle.ocfl_audit.specs.Audit.{Unread, given_by, item_of, has_lines, candidates, audit, after}
-use Rattle.ocfl_audit.specs.Head.{on}
-use Rattle.ocfl_audit.specs.Lines.{notes}
+use Rattle.ocfl_audit.specs.{Head.{on}, Lines.{notes}}
 use Rattle.ocfl_audit.specs.Walk.{is_reached, seen_names, IsClosed, item_at, step_zone, is_extensions}
 use Rattle.ocfl_audit.specs.Stack.{Frame, seen_places, seen_in, seen_left, listed_at, NoneSeenBetween, NoPathBetween, NoneSeenAbove, NoPathAbove, Ahead, in_sight, in_table, in_later}
 use Rattle.ocfl_audit.proofs.StepLaws.{zone_step}
-use Rattle.ocfl_tree.proofs.Orders.{place_cmp_total, place_cmp_exact, true_not_false, below_from_greater, ascending_unique, among_ascending, among_filter, among_from_filter, ascends_filter, ascends_ascending}
 use Rattle.ocfl_audit.proofs.AuditExists.{append_one, append_nothing, zone_is, seen_candidate, place_from_test}
 use Rattle.ocfl_audit.proofs.BelowLaws.{text_cmp_total, text_cmp_exact, place_same, under, above, less_from, above_self, begins_rest, text_same, equal_itself, split_names, split_self, split_after}
 use Rattle.ocfl_audit.proofs.WayLaws.{seen_way, Reason, by_sight, by_table, reason, head_seen, zone_part}
 use Rattle.ocfl_audit.proofs.WalkLaws.{item_places, places_ascend, audit_places, filter_items, place_has, has_place, none_among}
+use Rattle.ocfl_tree.proofs.Orders.{place_cmp_total, place_cmp_exact, true_not_false, below_from_greater, ascending_unique, among_ascending, among_filter, among_from_filter, ascends_filter, ascends_ascending}
 
 -- ---- what is above a place, by order alone
 

@@ -1,27 +1,21 @@
 -- What is in a part, consecutive parts joined, and what is left of a part above a place.
 use Rattle.std.proofs.Common.{◌≡◌, ℕ, ◌+◌, ◌≤◌, ◌/◌, List, [], ◌∷◌, ◌++◌, refl, sym, ◌∙◌, ap, true, false, Bool, map, filter, Option, Some, None, append-nil, arith, All, length}
-use Rattle.std.specs.Prelude.{cond, flat_map, not, ◌&&◌}
-use Rattle.std.proofs.lemmas.List.Elements.{filter-append}
-use Rattle.std.proofs.lemmas.Grind.{flat_map-append}
-use Rattle.std.specs.Ordering.{is_lt}
+use Rattle.std.proofs.{lemmas.List.Elements.{filter-append}, lemmas.Grind.{flat_map-append}}
+use Rattle.std.specs.{Prelude.{cond, flat_map, not, ◌&&◌}, Ordering.{is_lt}}
 use Rattle.std.specs.declared.cmp.Ordering.{Ordering}
 use Rattle.std.specs.declared.cmp.Ordering.TheVariants.{Less, Equal, Greater}
 use Rattle.ocfl_tree.specs.Place.{Place, place_cmp, begins}
 use Rattle.ocfl_tree.specs.Ascending.{ascending, IsAscending, IsBeforeAll}
 use Rattle.ocfl_tree.specs.StorageRoot.{StorageRoot}
 use Rattle.ocfl_tree.proofs.Orders.{place_cmp_total, true_not_false, not_less, ascends_filter, ascends_ascending}
-use Rattle.ocfl_report.specs.Line.{Item}
-use Rattle.ocfl_report.specs.Text.{lines_text, text}
+use Rattle.ocfl_report.specs.{Line.{Item}, Text.{lines_text, text}}
 use Rattle.ocfl_audit.specs.Lines.{is_empty, notes, is_hashed}
 use Rattle.ocfl_audit.specs.Audit.{Unread, candidates, item_of, audit, total_cost, after}
-use Rattle.ocfl_audit.specs.Due.{item_places, hashed_among}
-use Rattle.ocfl_audit.specs.Walk.{items_under}
+use Rattle.ocfl_audit.specs.{Due.{item_places, hashed_among}, Walk.{items_under}}
 use Rattle.ocfl_audit.specs.Runs.{Limits, total_files, sum_of, runs, joined, IsAtLeast}
 use Rattle.ocfl_audit.specs.Parts.{Part, branch, is_from, lies_in, kept, within, places_within, parts_from, parts_of, costs_of, file_counts}
-use Rattle.ocfl_audit.proofs.AuditExists.{audit_is}
-use Rattle.ocfl_audit.proofs.Lists.{map_filter, filter_same}
-use Rattle.ocfl_audit.proofs.BelowLaws.{less_from}
-use Rattle.ocfl_audit.proofs.DueLaws.{audit_by_places}
+use Rattle.ocfl_audit.proofs.{AuditExists.{audit_is}, Lists.{map_filter, filter_same}}
+use Rattle.ocfl_audit.proofs.{BelowLaws.{less_from}, DueLaws.{audit_by_places}}
 use Rattle.ocfl_audit.proofs.RunLaws.{large_whole, large_few, cost_append, files_append}
 
 -- ---- lists

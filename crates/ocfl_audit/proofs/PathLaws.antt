@@ -1,25 +1,21 @@
 -- Each path that an object's table names is an item.
 use Rattle.std.proofs.Common.{◌≡◌, ◌≢◌, inl, inr, ℕ, List, [], ◌∷◌, ◌++◌, refl, sym, ◌∙◌, ap, subst, true, false, Bool, map, Option, Some, None, nat_lt}
 use Rattle.std.specs.Prelude.{cond, filter_map, if◌then◌else◌, codes, ◌||◌, nat_lt}
-use Rattle.std.specs.Ordering.{match_ordering}
-use Rattle.std.specs.declared.cmp.Ordering.{Ordering}
-use Rattle.std.specs.declared.cmp.Ordering.TheVariants.{Less, Equal, Greater}
+use Rattle.std.specs.{Ordering.{match_ordering}, declared.cmp.Ordering.{Ordering}}
+use Rattle.std.specs.{declared.cmp.Ordering.TheVariants.{Less, Equal, Greater}, List.{cons_option}}
 use Rattle.ocfl_tree.specs.Place.{Place, Text, place_eq}
 use Rattle.ocfl_tree.specs.Ascending.{insert_once, ascending, IsAmong}
 use Rattle.ocfl_tree.specs.StorageRoot.{StorageRoot, Leaf, file, dir, other}
-use Rattle.ocfl_inventory.specs.Note.{note}
-use Rattle.ocfl_digest.specs.Algorithm.{algorithm_name}
-use Rattle.ocfl_inventory.specs.Table.{Table, Triple, Named, named, paths_of}
+use Rattle.ocfl_inventory.specs.{Note.{note}, Table.{Table, Triple, Named, named, paths_of}}
 use Rattle.ocfl_inventory.specs.ListedPath.{is_content_path}
+use Rattle.ocfl_digest.specs.Algorithm.{algorithm_name}
 use Rattle.ocfl_audit.specs.Zone.{skipped, hierarchy, inside, zone, table_at, seen, Zone}
 use Rattle.ocfl_audit.specs.Lines.{block_cmp, block_code, is_empty, file_notes, missing_notes, listed_dir_notes, content_notes, object_notes, notes_in, notes, cost_of, is_hashed, named_in, named_at}
-use Rattle.std.specs.List.{cons_option}
+use Rattle.ocfl_audit.specs.Trail.{is_root_meta, is_meta, is_meta_zone}
 use Rattle.ocfl_tree.proofs.Orders.{true_not_false}
-use Rattle.ocfl_audit.proofs.AuditExists.{zone_is, path_among}
-use Rattle.ocfl_audit.proofs.BelowLaws.{place_same}
+use Rattle.ocfl_audit.proofs.{AuditExists.{zone_is, path_among}, BelowLaws.{place_same}}
 use Rattle.ocfl_audit.proofs.BoundLaws.{kept_paths, kept_short, table_from_inventory}
 use Rattle.ocfl_audit.proofs.UnreadLaws.{file_some}
-use Rattle.ocfl_audit.specs.Trail.{is_root_meta, is_meta, is_meta_zone}
 
 filled : {A : Type 0} (x : A) (xs : List A) → x ∷ xs ≢ []
 filled x xs e = cc

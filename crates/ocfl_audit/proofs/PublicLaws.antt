@@ -1,11 +1,8 @@
 -- The laws of items by name, at any tree.
 use Rattle.std.proofs.Common.{◌≡◌, [], ◌∷◌, ◌++◌, filter, Some}
-use Rattle.std.specs.Prelude.{flat_map}
-use Rattle.std.specs.Ordering.{is_lt}
-use Rattle.ocfl_tree.specs.Place.{Place, Text, text_cmp}
-use Rattle.ocfl_tree.specs.StorageRoot.{StorageRoot}
-use Rattle.ocfl_audit.specs.Audit.{Unread, audit, after}
-use Rattle.ocfl_audit.specs.Walk.{items_under, names_below, item_at}
+use Rattle.std.specs.{Prelude.{flat_map}, Ordering.{is_lt}}
+use Rattle.ocfl_tree.specs.{Place.{Place, Text, text_cmp}, StorageRoot.{StorageRoot}}
+use Rattle.ocfl_audit.specs.{Audit.{Unread, audit, after}, Walk.{items_under, names_below, item_at}}
 use Rattle.ocfl_audit.proofs.WayLaws.{is_closed}
 use Rattle.ocfl_audit.proofs.WalkLaws.{items_by_name, items_after_self, items_after_name}
 

@@ -1,7 +1,6 @@
 -- Laws of cuts and runs.
 use Rattle.std.proofs.Common.{◌≡◌, ◌≢◌, ◌⊎◌, inl, inr, ℕ, zero, suc, ◌+◌, ◌<◌, ◌≤◌, ◌^◌, zero-le, List, [], ◌∷◌, ◌++◌, refl, sym, ◌∙◌, ap, ap₂, subst, true, false, Bool, ◌-◌, ◌*◌, ◌/◌, suc-mul, mul_comm, arith, All, map, take, drop, length, replicate, leb-true, leb-false, ltb-true, ltb-false, eqb-true, Some}
-use Rattle.std.proofs.lemmas.Bool.{and_cases, and_parts, eqb-false, lt-ltb}
-use Rattle.std.proofs.lemmas.Nat.{le-div}
+use Rattle.std.proofs.{lemmas.Bool.{and_cases, and_parts, eqb-false, lt-ltb}, lemmas.Nat.{le-div}}
 use Rattle.std.proofs.Math.Nat.{lt-mul-div-succ, div-mul-le_self}
 use Rattle.std.proofs.lemmas.List.{take-append-drop, take-replicate, length-replicate}
 use Rattle.std.proofs.lemmas.List.Elements.{All-nil, All-cons, All-head, All-tail, All-weaker}

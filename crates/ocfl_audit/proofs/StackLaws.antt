@@ -1,8 +1,7 @@
 -- A stack of listings and one table, step by step.
 use Rattle.std.proofs.Common.{◌≡◌, ◌↔◌, inl, inr, List, [], ◌∷◌, ◌++◌, refl, sym, ◌∙◌, ap, subst, true, false, Bool, filter, Option, Some, None, map}
 use Rattle.std.specs.Prelude.{cond, filter_map, ◌&&◌, nat_le, length}
-use Rattle.std.specs.List.{cons_option, list_all}
-use Rattle.std.specs.Ordering.{is_lt}
+use Rattle.std.specs.{List.{cons_option, list_all}, Ordering.{is_lt}}
 use Rattle.std.specs.declared.cmp.Ordering.{Ordering}
 use Rattle.std.specs.declared.cmp.Ordering.TheVariants.{Less, Equal, Greater}
 use Rattle.ocfl_tree.specs.Place.{Place, Text, text_cmp, place_cmp, place_eq, child_name}
@@ -16,8 +15,7 @@ use Rattle.ocfl_tree.proofs.Orders.{ascending_unique, ascends_ascending, place_c
 use Rattle.ocfl_tree.proofs.Places.{append-child_name}
 use Rattle.ocfl_audit.proofs.AuditExists.{zone_is}
 use Rattle.ocfl_audit.proofs.BelowLaws.{text_cmp_total, text_cmp_exact, place_same, above, less_from, cmp_behind}
-use Rattle.ocfl_audit.proofs.StepLaws.{seen_step, reached_step}
-use Rattle.ocfl_audit.proofs.WayLaws.{at_step}
+use Rattle.ocfl_audit.proofs.{StepLaws.{seen_step, reached_step}, WayLaws.{at_step}}
 use Rattle.ocfl_audit.proofs.NextLaws.{seen_ascend, seen_from, seen_to, least_above, same_above, listed_is, listing_step}
 
 -- ---- an entry of a listing is seen

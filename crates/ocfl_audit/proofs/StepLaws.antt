@@ -2,8 +2,7 @@
 use Rattle.std.proofs.Common.{◌≡◌, List, [], ◌∷◌, ◌++◌, refl, sym, ◌∙◌, ap, true, false, Bool, map}
 use Rattle.std.specs.Prelude.{cond, if◌then◌else◌, ◌&&◌, ◌||◌, not, nat_le, suc, length, None}
 use Rattle.std.specs.List.{list_all}
-use Rattle.ocfl_tree.specs.Place.{Place, Text}
-use Rattle.ocfl_tree.specs.StorageRoot.{StorageRoot, at, is_dir}
+use Rattle.ocfl_tree.specs.{Place.{Place, Text}, StorageRoot.{StorageRoot, at, is_dir}}
 use Rattle.ocfl_inventory.specs.Table.{Table}
 use Rattle.ocfl_audit.specs.Zone.{skipped, hierarchy, inside, object_zone, object_declared, zone, root_declared, is_in_extensions, is_entered, is_listed_zone, is_listed_within, seen, max_listed_depth, beginnings, is_known, is_declared}
 use Rattle.ocfl_audit.specs.Walk.{step_zone, is_extensions, step_listed, is_reached}

@@ -1,9 +1,7 @@
 -- Which places have lines does not depend on what could be read.
 use Rattle.std.proofs.Common.{◌≡◌, List, [], ◌∷◌, ◌++◌, refl, sym, ◌∙◌, true, false, Bool, Option, Some, None, ℕ}
-use Rattle.ocfl_tree.specs.Place.{Place, Text}
-use Rattle.ocfl_tree.specs.StorageRoot.{StorageRoot, Leaf, file, dir, other}
-use Rattle.ocfl_inventory.specs.Note.{Note}
-use Rattle.ocfl_inventory.specs.Table.{Table, Named, named}
+use Rattle.ocfl_tree.specs.{Place.{Place, Text}, StorageRoot.{StorageRoot, Leaf, file, dir, other}}
+use Rattle.ocfl_inventory.specs.{Note.{Note}, Table.{Table, Named, named}}
 use Rattle.ocfl_audit.specs.Zone.{Zone, skipped, hierarchy, inside, zone, seen, table_at}
 use Rattle.ocfl_audit.specs.Lines.{is_empty, or_bytes, file_notes, content_notes, within_notes, object_notes, notes_in, notes}
 use Rattle.ocfl_audit.specs.Head.{on}

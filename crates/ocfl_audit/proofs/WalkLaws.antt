@@ -1,14 +1,11 @@
 -- The audit, taken name by name.
 use Rattle.std.proofs.Common.{◌≡◌, ◌≢◌, inl, inr, ℕ, zero, suc, ◌<◌, List, [], ◌∷◌, ◌++◌, refl, sym, ◌∙◌, ap, subst, true, false, Bool, map, filter, Some, arith, length, append_assoc, append-nil}
-use Rattle.std.specs.Prelude.{cond, flat_map}
-use Rattle.std.specs.Ordering.{is_lt}
+use Rattle.std.specs.{Prelude.{cond, flat_map}, Ordering.{is_lt}}
 use Rattle.ocfl_tree.specs.Place.{Place, Text, text_cmp, place_cmp, place_eq, begins}
-use Rattle.ocfl_tree.specs.Ascending.{ascending, IsAscending, IsAmong}
-use Rattle.ocfl_tree.specs.StorageRoot.{StorageRoot}
+use Rattle.ocfl_tree.specs.{Ascending.{ascending, IsAscending, IsAmong}, StorageRoot.{StorageRoot}}
 use Rattle.ocfl_report.specs.Line.{Item}
 use Rattle.ocfl_audit.specs.Audit.{Unread, given_by, item_of, has_lines, candidates, audit, after}
-use Rattle.ocfl_audit.specs.Head.{on}
-use Rattle.ocfl_audit.specs.Lines.{notes}
+use Rattle.ocfl_audit.specs.{Head.{on}, Lines.{notes}}
 use Rattle.ocfl_audit.specs.Walk.{items_under, items_of_place, seen_names, path_names, names_below, item_at, walk, walk_after, IsClosed}
 use Rattle.ocfl_audit.specs.Stack.{Frame, left_of, entered_at}
 use Rattle.ocfl_tree.proofs.Orders.{place_cmp_total, place_cmp_exact, ascending_unique, among_ascending, among_filter, among_from_filter, ascends_filter, ascends_ascending}

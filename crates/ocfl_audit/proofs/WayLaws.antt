@@ -1,14 +1,11 @@
 -- The way down to each item: every name on it is seen by a listing, or is in a table.
 use Rattle.std.proofs.Common.{◌≡◌, ◌≢◌, ◌⊎◌, inl, inr, ℕ, ◌+◌, ◌≤◌, List, [], ◌∷◌, ◌++◌, refl, sym, ◌∙◌, ap, subst, true, false, Bool, map, Option, Some, None, arith, length, append_assoc}
-use Rattle.std.proofs.lemmas.Bool.{leb-true, le-leb}
-use Rattle.std.proofs.lemmas.List.{length-append}
+use Rattle.std.proofs.{lemmas.Bool.{leb-true, le-leb}, lemmas.List.{length-append}}
 use Rattle.std.specs.Prelude.{cond, ◌&&◌, ◌||◌, not, nat_le, filter_map, if◌then◌else◌}
 use Rattle.std.specs.List.{list_all, cons_option}
-use Rattle.ocfl_tree.specs.Place.{Place, Text, child_name}
-use Rattle.ocfl_tree.specs.Ascending.{IsAmong}
+use Rattle.ocfl_tree.specs.{Place.{Place, Text, child_name}, Ascending.{IsAmong}}
 use Rattle.ocfl_tree.specs.StorageRoot.{StorageRoot, Leaf, file, dir, other, lookup, at_below, at, is_dir, is_dir_leaf, names_in}
-use Rattle.ocfl_inventory.specs.Declaration.{undeclared, declared}
-use Rattle.ocfl_inventory.specs.Table.{Table, paths_of}
+use Rattle.ocfl_inventory.specs.{Declaration.{undeclared, declared}, Table.{Table, paths_of}}
 use Rattle.ocfl_inventory.specs.declared.declaration.Level.TheVariants.{Object}
 use Rattle.ocfl_audit.specs.Zone.{Zone, skipped, hierarchy, inside, object_zone, object_declared, root_declared, is_in_extensions, zone, table_at, seen, max_listed_depth, is_entered, is_listed_zone, beginnings, files_in, is_known, is_declared}
 use Rattle.ocfl_audit.specs.Lines.{notes, notes_in, hierarchy_notes, within_notes, object_notes}

@@ -1,15 +1,11 @@
 -- The audit of a storage root: each place that has lines, in order.
 use Rattle.std.specs.Prelude.{◌≡◌, ◌≢◌, ◌↔◌, ℕ, ◌+◌, List, [], ◌∷◌, ◌++◌, Bool, not, if◌then◌else◌, Option, Some, None, map, filter, flat_map}
-use Rattle.std.specs.Ordering.{is_lt}
-use Rattle.std.specs.List.{AllByRecursion}
+use Rattle.std.specs.{Ordering.{is_lt}, List.{AllByRecursion}}
 use Rattle.ocfl_tree.specs.Place.{Place, place_cmp, place_eq}
-use Rattle.ocfl_tree.specs.Ascending.{ascending, IsAscending, IsAmong}
-use Rattle.ocfl_tree.specs.StorageRoot.{StorageRoot}
+use Rattle.ocfl_tree.specs.{Ascending.{ascending, IsAscending, IsAmong}, StorageRoot.{StorageRoot}}
 use Rattle.ocfl_report.specs.Line.{Item}
-use Rattle.ocfl_inventory.specs.Note.{lines_at}
-use Rattle.ocfl_inventory.specs.Table.{Table, paths_of}
-use Rattle.ocfl_audit.specs.Zone.{table_at}
-use Rattle.ocfl_audit.specs.Lines.{is_empty, notes, cost}
+use Rattle.ocfl_inventory.specs.{Note.{lines_at}, Table.{Table, paths_of}}
+use Rattle.ocfl_audit.specs.{Zone.{table_at}, Lines.{is_empty, notes, cost}}
 
 -- the content files that could not be read, each with the bytes that it gave
 abbrev pub Unread : Type 0

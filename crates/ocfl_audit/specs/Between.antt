@@ -1,15 +1,10 @@
 -- Which directories an audit looks into, and whose inventories it reads, between two places.
 use Rattle.std.specs.Prelude.{◌≡◌, ⊤, ◌&&◌, nat_le, List, [], ◌∷◌, Bool, true, false, not, length, Option, Some, None, map, filter}
-use Rattle.std.specs.List.{list_all}
-use Rattle.std.specs.Ordering.{is_lt}
-use Rattle.std.specs.declared.cmp.Ordering.TheVariants.{Less}
-use Rattle.ocfl_tree.specs.Place.{Place, place_cmp}
-use Rattle.ocfl_tree.specs.Ascending.{ascending}
+use Rattle.std.specs.{List.{list_all}, Ordering.{is_lt}, declared.cmp.Ordering.TheVariants.{Less}}
+use Rattle.ocfl_tree.specs.{Place.{Place, place_cmp}, Ascending.{ascending}}
 use Rattle.ocfl_tree.specs.StorageRoot.{StorageRoot, is_dir}
 use Rattle.ocfl_audit.specs.Zone.{Zone, skipped, hierarchy, inside, zone, table_at, is_entered, is_listed_in_object, max_listed_depth, beginnings}
-use Rattle.ocfl_audit.specs.Audit.{candidates}
-use Rattle.ocfl_audit.specs.Due.{places_after}
-use Rattle.ocfl_audit.specs.Trail.{reads_inventory}
+use Rattle.ocfl_audit.specs.{Audit.{candidates}, Due.{places_after}, Trail.{reads_inventory}}
 
 -- a directory of the storage hierarchy, an object's root, even if its head stops, since its
 -- entries declare it, or a directory of an object that is listed

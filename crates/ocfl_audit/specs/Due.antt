@@ -1,14 +1,10 @@
 -- The audit by its places: which places have lines does not depend on what could be read; what is
 -- said there does.
-use Rattle.std.specs.Prelude.{List, not, Option, Some, None, map, filter}
-use Rattle.std.specs.Ordering.{is_lt}
-use Rattle.ocfl_tree.specs.Place.{Place, place_cmp}
-use Rattle.ocfl_tree.specs.Ascending.{ascending}
-use Rattle.ocfl_tree.specs.StorageRoot.{StorageRoot}
-use Rattle.ocfl_tree.specs.declared.store.Opening.{Opening}
+use Rattle.std.specs.{Prelude.{List, not, Option, Some, None, map, filter}, Ordering.{is_lt}}
+use Rattle.ocfl_tree.specs.{Place.{Place, place_cmp}, Ascending.{ascending}}
+use Rattle.ocfl_tree.specs.{StorageRoot.{StorageRoot}, declared.store.Opening.{Opening}}
 use Rattle.ocfl_report.specs.Line.{Item}
-use Rattle.ocfl_audit.specs.Lines.{is_empty, notes, is_hashed}
-use Rattle.ocfl_audit.specs.Audit.{candidates, item_of}
+use Rattle.ocfl_audit.specs.{Lines.{is_empty, notes, is_hashed}, Audit.{candidates, item_of}}
 use Rattle.ocfl_audit.specs.Trail.{unread_of}
 
 -- the places of the audit's items, ascending

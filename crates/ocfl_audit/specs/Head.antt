@@ -2,22 +2,18 @@
 -- Storage Root).
 use Rattle.std.specs.Prelude.{ℕ, ◌&&◌, nat_le, List, [], ◌∷◌, ◌++◌, Bool, false, not, length, if◌then◌else◌, Option, Some, None, is_some, Ok, Err}
 use Rattle.hex.specs.Hex.{encode_lower}
-use Rattle.ocfl_tree.specs.Place.{Text, Place, text_eq}
-use Rattle.ocfl_tree.specs.StorageRoot.{StorageRoot, file_at}
+use Rattle.ocfl_tree.specs.{Place.{Text, Place, text_eq}, StorageRoot.{StorageRoot, file_at}}
 use Rattle.ocfl_inventory.specs.Note.{note, Note, plain}
-use Rattle.ocfl_report.specs.declared.code.Code.{Code}
-use Rattle.ocfl_report.specs.declared.code.Code.TheVariants.{Clean, E003, E007, E058, E060, E061, E063, E069, E076, E080, S01, S02}
-use Rattle.ocfl_digest.specs.Algorithm.{algorithm_name}
-use Rattle.ocfl_digest.specs.Digest.{digest_bytes_of}
-use Rattle.ocfl_digest.specs.declared.algorithm.Algorithm.{Algorithm}
-use Rattle.ocfl_digest.specs.declared.algorithm.Algorithm.TheVariants.{Sha256, Sha512}
 use Rattle.ocfl_inventory.specs.Declaration.{Declared, undeclared, known, unknown, several, declaration_name, declaration_bytes}
-use Rattle.ocfl_inventory.specs.Sidecar.{sidecar_of}
-use Rattle.ocfl_inventory.specs.Reading.{Reading, algorithm_of}
-use Rattle.ocfl_inventory.specs.Notes.{notes_of}
-use Rattle.ocfl_inventory.specs.declared.declaration.Level.{Level}
+use Rattle.ocfl_inventory.specs.{Sidecar.{sidecar_of}, Reading.{Reading, algorithm_of}}
+use Rattle.ocfl_inventory.specs.{Notes.{notes_of}, declared.declaration.Level.{Level}}
 use Rattle.ocfl_inventory.specs.declared.declaration.Level.TheVariants.{Root, Object}
 use Rattle.ocfl_inventory.specs.declared.declaration.Version.{Version}
+use Rattle.ocfl_report.specs.declared.code.Code.{Code}
+use Rattle.ocfl_report.specs.declared.code.Code.TheVariants.{Clean, E003, E007, E058, E060, E061, E063, E069, E076, E080, S01, S02}
+use Rattle.ocfl_digest.specs.{Algorithm.{algorithm_name}, Digest.{digest_bytes_of}}
+use Rattle.ocfl_digest.specs.declared.algorithm.Algorithm.{Algorithm}
+use Rattle.ocfl_digest.specs.declared.algorithm.Algorithm.TheVariants.{Sha256, Sha512}
 use Rattle.ocfl_audit.specs.Zone.{inventory_name, inventory_limit}
 
 -- a file's digest, as lower-case hexadecimal

@@ -1,20 +1,16 @@
 -- The lines of each place, and what auditing it costs.
 use Rattle.std.specs.Prelude.{ℕ, ◌+◌, ◌||◌, nat_lt, List, [], ◌∷◌, ◌++◌, Bool, true, false, not, length, if◌then◌else◌, Option, Some, None, map, flat_map, codes, decimal}
-use Rattle.std.specs.List.{list_any}
-use Rattle.std.specs.Ordering.{bool_cmp, ordering_then}
+use Rattle.std.specs.{List.{list_any}, Ordering.{bool_cmp, ordering_then}}
 use Rattle.std.specs.declared.cmp.Ordering.{Ordering}
-use Rattle.ocfl_tree.specs.Place.{Text, Place, text_eq}
-use Rattle.ocfl_tree.specs.Ascending.{ascending}
+use Rattle.ocfl_tree.specs.{Place.{Text, Place, text_eq}, Ascending.{ascending}}
 use Rattle.ocfl_tree.specs.StorageRoot.{StorageRoot, Leaf, file, dir, other, names_in}
-use Rattle.ocfl_inventory.specs.Note.{note, Note, plain}
+use Rattle.ocfl_inventory.specs.{Note.{note, Note, plain}, Declaration.{is_declaration}}
+use Rattle.ocfl_inventory.specs.{ListedPath.{is_version_name}, Table.{Named, Table, named}}
+use Rattle.ocfl_inventory.specs.declared.declaration.Level.TheVariants.{Object}
 use Rattle.ocfl_report.specs.declared.code.Code.{Code}
 use Rattle.ocfl_report.specs.declared.code.Code.TheVariants.{Clean, E001, E015, E023, E024, E072, E073, E092, E093, S04, S05, S08}
 use Rattle.ocfl_digest.specs.Algorithm.{algorithm_name, algorithm_cmp}
 use Rattle.ocfl_digest.specs.declared.algorithm.Algorithm.TheVariants.{Sha256, Sha512}
-use Rattle.ocfl_inventory.specs.Declaration.{is_declaration}
-use Rattle.ocfl_inventory.specs.ListedPath.{is_version_name}
-use Rattle.ocfl_inventory.specs.Table.{Named, Table, named}
-use Rattle.ocfl_inventory.specs.declared.declaration.Level.TheVariants.{Object}
 use Rattle.ocfl_audit.specs.Zone.{Zone, skipped, hierarchy, inside, zone, seen, table_at, inventory_name, max_listed_depth, root_declared, object_declared}
 use Rattle.ocfl_audit.specs.Head.{on, mismatch, sidecar_name, root_notes_by, head_notes_by, digest_of}
 

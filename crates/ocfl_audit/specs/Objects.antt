@@ -1,12 +1,10 @@
 -- Which objects an audit reaches, which of them have an inventory that it reads, which directories
 -- it looks into, and what is metadata.
 use Rattle.std.specs.Prelude.{◌≡◌, ◌≢◌, ◌≤◌, length, [], ◌∷◌, ◌++◌, true, false, Some, codes}
-use Rattle.ocfl_tree.specs.Place.{Text, Place}
-use Rattle.ocfl_tree.specs.StorageRoot.{StorageRoot, dir, file_at}
+use Rattle.ocfl_tree.specs.{Place.{Text, Place}, StorageRoot.{StorageRoot, dir, file_at}}
 use Rattle.ocfl_inventory.specs.Declaration.{known, is_declaration}
 use Rattle.ocfl_inventory.specs.declared.declaration.Level.TheVariants.{Root, Object}
-use Rattle.ocfl_inventory.specs.declared.declaration.Version.{Version}
-use Rattle.ocfl_inventory.specs.Table.{Table}
+use Rattle.ocfl_inventory.specs.{declared.declaration.Version.{Version}, Table.{Table}}
 use Rattle.ocfl_audit.specs.Zone.{hierarchy, inside, zone, seen, table_at, is_listed_within, inventory_name, root_declared, object_declared, is_in_extensions, is_known, is_declared, max_listed_depth}
 
 -- an object's root: in a storage root of known version, outside its extensions, declared, and with

@@ -2,11 +2,9 @@
 -- cost.
 use Rattle.std.specs.Prelude.{ℕ, ◌&&◌, ◌||◌, List, [], ◌∷◌, ◌++◌, Bool, true, not, if◌then◌else◌, Option, Some, None, is_some, map, filter, flat_map}
 use Rattle.std.specs.Ordering.{is_lt}
-use Rattle.ocfl_tree.specs.Place.{Text, Place, place_cmp, begins}
-use Rattle.ocfl_tree.specs.StorageRoot.{StorageRoot}
+use Rattle.ocfl_tree.specs.{Place.{Text, Place, place_cmp, begins}, StorageRoot.{StorageRoot}}
 use Rattle.ocfl_report.specs.Line.{Item}
-use Rattle.ocfl_audit.specs.Lines.{is_empty}
-use Rattle.ocfl_audit.specs.Audit.{Unread, audit, total_cost}
+use Rattle.ocfl_audit.specs.{Lines.{is_empty}, Audit.{Unread, audit, total_cost}}
 use Rattle.ocfl_audit.specs.Runs.{total_files}
 
 -- the places at `under` and below it, not less than `from` and less than `below`, if these are

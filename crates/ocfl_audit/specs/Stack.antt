@@ -1,16 +1,13 @@
 -- The walk over a stack of listings.
 use Rattle.std.specs.Prelude.{◌≡◌, ℕ, zero, suc, is_some, option_map, ⊤, List, [], ◌∷◌, ◌++◌, if◌then◌else◌, Option, Some, None, filter, flat_map}
-use Rattle.std.specs.Ordering.{is_lt}
+use Rattle.std.specs.{Ordering.{is_lt}, declared.cmp.Ordering.TheVariants.{Less}}
 use Rattle.ocfl_tree.specs.Place.{Text, Place, text_cmp, place_cmp, begins}
-use Rattle.ocfl_tree.specs.Ascending.{ascending, IsAmong}
-use Rattle.ocfl_tree.specs.StorageRoot.{StorageRoot, Leaf, dir}
+use Rattle.ocfl_tree.specs.{Ascending.{ascending, IsAmong}, StorageRoot.{StorageRoot, Leaf, dir}}
 use Rattle.ocfl_report.specs.Line.{Item}
 use Rattle.ocfl_inventory.specs.Table.{Table, paths_of}
 use Rattle.ocfl_audit.specs.Zone.{Zone, skipped, hierarchy, inside, zone, seen, table_at}
-use Rattle.ocfl_audit.specs.Audit.{Unread, candidates}
-use Rattle.ocfl_audit.specs.Head.{on}
+use Rattle.ocfl_audit.specs.{Audit.{Unread, candidates}, Head.{on}}
 use Rattle.ocfl_audit.specs.Walk.{is_reached, item_at, items_under, names_below, seen_names}
-use Rattle.std.specs.declared.cmp.Ordering.TheVariants.{Less}
 
 -- ---- a stack of directories, the deepest first, each with its names that are still to be taken
 

@@ -1,14 +1,11 @@
 -- What openings and listings show of an audit.
 use Rattle.std.specs.Prelude.{◌&&◌, ◌||◌, List, [], ◌∷◌, ◌++◌, Bool, true, false, not, is_some, map, filter, if◌then◌else◌}
-use Rattle.ocfl_tree.specs.Place.{Place, place_cmp, text_eq}
-use Rattle.ocfl_tree.specs.Ascending.{ascending}
-use Rattle.ocfl_tree.specs.StorageRoot.{StorageRoot}
-use Rattle.ocfl_tree.specs.declared.store.Opening.{Opening}
+use Rattle.ocfl_tree.specs.{Place.{Place, place_cmp, text_eq}, Ascending.{ascending}}
+use Rattle.ocfl_tree.specs.{StorageRoot.{StorageRoot}, declared.store.Opening.{Opening}}
 use Rattle.ocfl_inventory.specs.Declaration.{is_declaration}
 use Rattle.ocfl_inventory.specs.declared.declaration.Level.TheVariants.{Root, Object}
 use Rattle.ocfl_audit.specs.Zone.{Zone, skipped, hierarchy, inside, zone, inventory_name, inventory_at}
-use Rattle.ocfl_audit.specs.Lines.{is_inventory_or_sidecar}
-use Rattle.ocfl_audit.specs.Audit.{Unread}
+use Rattle.ocfl_audit.specs.{Lines.{is_inventory_or_sidecar}, Audit.{Unread}}
 
 -- ---- what is read for its own sake: declarations, inventories and sidecars, by name and zone
 

@@ -1,16 +1,13 @@
 -- What is below a directory, name by name.
 use Rattle.std.specs.Prelude.{◌≡◌, ℕ, zero, suc, ◌&&◌, List, [], ◌∷◌, ◌++◌, Bool, false, if◌then◌else◌, Option, Some, None, filter, filter_map, flat_map}
-use Rattle.std.specs.List.{list_all}
-use Rattle.std.specs.Ordering.{is_lt}
+use Rattle.std.specs.{List.{list_all}, Ordering.{is_lt}}
 use Rattle.ocfl_tree.specs.Place.{Text, Place, text_cmp, text_eq, place_eq, begins}
 use Rattle.ocfl_tree.specs.Ascending.{ascending}
 use Rattle.ocfl_tree.specs.StorageRoot.{StorageRoot, Leaf, dir, at, names_in}
 use Rattle.ocfl_report.specs.Line.{Item}
-use Rattle.ocfl_inventory.specs.Table.{Table, paths_of}
-use Rattle.ocfl_inventory.specs.ListedPath.{is_version_name}
+use Rattle.ocfl_inventory.specs.{Table.{Table, paths_of}, ListedPath.{is_version_name}}
 use Rattle.ocfl_audit.specs.Zone.{Zone, skipped, hierarchy, inside, zone, is_entered, table_at, object_declared, is_in_extensions, is_listed_within, beginnings, is_declared}
-use Rattle.ocfl_audit.specs.Audit.{Unread, has_lines, item_of}
-use Rattle.ocfl_audit.specs.Head.{on}
+use Rattle.ocfl_audit.specs.{Audit.{Unread, has_lines, item_of}, Head.{on}}
 
 -- the items at d and below it
 abbrev pub items_under : Place → List Item → List Item

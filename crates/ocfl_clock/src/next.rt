@@ -1,8 +1,7 @@
 //! The next time of day, second by second.
 ghost use Rattle.std.specs.Prelude.{◌≡◌, ◌↔◌, ℕ, ◌+◌, ◌<◌, ◌≤◌, IfSome, IsNone, IsTrue};
 ghost use Rattle.jiff.specs.Words.{plain_zone};
-ghost use Rattle.ocfl_clock.specs.Clock.{Comes, IsNextTime, clock_at as clock_of, second_of_day};
-ghost use Rattle.ocfl_clock.specs.Clock.{shifted};
+ghost use Rattle.ocfl_clock.specs.Clock.{Comes, IsNextTime, clock_at as clock_of, second_of_day, shifted};
 
 use jiff::Timestamp;
 use jiff::tz::TimeZone;

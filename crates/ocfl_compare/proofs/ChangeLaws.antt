@@ -1,16 +1,11 @@
 -- The laws of what changed.
 use Rattle.std.proofs.Common.{◌≡◌, ◌⊎◌, ◌↔◌, inl, inr, List, [], ◌∷◌, ◌++◌, Bool, true, false, map, refl, sym, ap, subst, ◌∙◌, append_assoc, append-nil}
-use Rattle.std.specs.Prelude.{cond, ◌&&◌, ◌||◌, not, flat_map}
-use Rattle.std.specs.List.{list_any}
 use Rattle.std.proofs.Math.Bool.{or-true}
-use Rattle.ocfl_tree.specs.Ascending.{IsAmong}
-use Rattle.ocfl_tree.specs.Place.{Place}
-use Rattle.ocfl_tree.proofs.Orders.{among_left, among_right}
-use Rattle.ocfl_tree.proofs.Places.{text_eq-same}
+use Rattle.std.specs.{Prelude.{cond, ◌&&◌, ◌||◌, not, flat_map}, List.{list_any}}
+use Rattle.ocfl_tree.specs.{Ascending.{IsAmong}, Place.{Place}}
+use Rattle.ocfl_tree.proofs.{Orders.{among_left, among_right}, Places.{text_eq-same}}
 use Rattle.ocfl_tree.proofs.Stores.{among_either}
-use Rattle.ocfl_report.specs.Line.{Line}
-use Rattle.ocfl_report.specs.Text.{code_text}
-use Rattle.ocfl_report.specs.declared.code.Code.{Code}
+use Rattle.ocfl_report.specs.{Line.{Line}, Text.{code_text}, declared.code.Code.{Code}}
 use Rattle.ocfl_compare.specs.Kinds.{is_empty, tells_object, tells_file}
 use Rattle.ocfl_compare.specs.Changes.{has_code, is_code, finding_codes, new_codes, Change, object_gone, file_gone, found, repaired, when, changes_at, changes_text, lines_at, is_left, said_at, places_of, comparison_text}
 use Rattle.ocfl_compare.specs.declared.question.Question.TheVariants.{Changed}

@@ -1,16 +1,13 @@
 -- The lines of two reports, place by place, are those that a filter gives.
 use Rattle.std.proofs.Common.{◌≡◌, ◌≢◌, ◌⊎◌, inl, inr, List, [], ◌∷◌, ◌++◌, Bool, true, false, All, map, refl, sym, ap, subst, ◌∙◌, append-nil}
-use Rattle.std.specs.Prelude.{cond, flat_map}
-use Rattle.std.specs.Ordering.{is_eq}
-use Rattle.std.specs.declared.cmp.Ordering.{Ordering}
-use Rattle.std.specs.declared.cmp.Ordering.TheVariants.{Less, Equal, Greater}
 use Rattle.std.proofs.lemmas.List.{map-append}
 use Rattle.std.proofs.lemmas.List.Elements.{All-head, All-tail, filter-append}
+use Rattle.std.specs.{Prelude.{cond, flat_map}, Ordering.{is_eq}, declared.cmp.Ordering.{Ordering}}
+use Rattle.std.specs.declared.cmp.Ordering.TheVariants.{Less, Equal, Greater}
 use Rattle.ocfl_tree.specs.Place.{Place, place_cmp, place_eq}
 use Rattle.ocfl_tree.specs.Ascending.{IsBeforeAll, IsAscending, IsAmong}
 use Rattle.ocfl_tree.proofs.Orders.{place_cmp_total, place_cmp_exact, not_below_itself, before_each, ascending_unique, ascends_ascending, among_ascending, among_left, among_right, among_map}
-use Rattle.ocfl_tree.proofs.Places.{place_eq-same}
-use Rattle.ocfl_tree.proofs.Stores.{among_either}
+use Rattle.ocfl_tree.proofs.{Places.{place_eq-same}, Stores.{among_either}}
 use Rattle.ocfl_report.specs.Line.{Line}
 use Rattle.ocfl_compare.specs.Changes.{lines_at, places_of, said_at, changes_text, answer_at, is_left, answers_text}
 use Rattle.ocfl_compare.specs.declared.question.Question.{Question}

@@ -1,32 +1,25 @@
 -- What is answered of a list of objects, as a report, is which of them are missing.
 use Rattle.std.proofs.Common.{◌≡◌, inl, inr, ℕ, ◌+◌, List, [], ◌∷◌, ◌++◌, Bool, true, false, Option, Some, None, IfSome, All, map, filter, refl, sym, ap, subst, ◌∙◌, append_assoc, append-nil, add-one, arith}
-use Rattle.std.specs.Prelude.{cond, ◌&&◌, ◌||◌, not, flat_map, codes}
-use Rattle.std.specs.List.{list_any}
-use Rattle.std.specs.List.Sorted.{IsPermutation, IsSorted}
-use Rattle.std.specs.Io.KnownBytes.{Appends}
-use Rattle.std.specs.Ordering.{is_lt}
-use Rattle.std.specs.Str.{IsUtf8}
-use Rattle.std.proofs.Math.Bool.{or-true}
-use Rattle.std.proofs.lemmas.List.{map-append}
+use Rattle.std.proofs.{Math.Bool.{or-true}, lemmas.List.{map-append}}
 use Rattle.std.proofs.lemmas.List.Elements.{All-cons, All-nil, All-head, All-tail, All-weaker}
 use Rattle.std.proofs.lemmas.List.Concat.{flat_map-append}
 use Rattle.std.proofs.lemmas.List.Sorted.{list_any-IsPermutation}
-use Rattle.ocfl_tree.specs.Place.{Text, Place, place_cmp, place_eq}
-use Rattle.ocfl_tree.specs.Name.{IsPlace}
+use Rattle.std.specs.{Prelude.{cond, ◌&&◌, ◌||◌, not, flat_map, codes}, List.{list_any}}
+use Rattle.std.specs.{List.Sorted.{IsPermutation, IsSorted}, Io.KnownBytes.{Appends}}
+use Rattle.std.specs.{Ordering.{is_lt}, Str.{IsUtf8}}
+use Rattle.ocfl_tree.specs.{Place.{Text, Place, place_cmp, place_eq}, Name.{IsPlace}}
 use Rattle.ocfl_tree.specs.Ascending.{ascending, IsAmong}
 use Rattle.ocfl_tree.proofs.Bools.{and_first, and_second, and_both}
 use Rattle.ocfl_tree.proofs.Places.{place_eq-Decides, place_eq-same}
 use Rattle.ocfl_tree.proofs.Orders.{place_cmp_total, place_cmp_exact, ascending_unique, ascends_ascending, ascends_filter, among_ascending, among_filter, among_from_filter, among_left}
 use Rattle.ocfl_report.specs.Line.{Line}
 use Rattle.ocfl_report.specs.Text.{code_text, place_text, escape, line_text, lines_text, IsLine}
-use Rattle.ocfl_report.proofs.Bytes.{utf8_bytes}
-use Rattle.ocfl_report.proofs.LineTexts.{first_lines, lines_text_determines}
+use Rattle.ocfl_report.proofs.{Bytes.{utf8_bytes}, LineTexts.{first_lines, lines_text_determines}}
 use Rattle.ocfl_parts.specs.Splits.{HasText, AreInOrder, AreLines, IsBadReportLine}
 use Rattle.ocfl_compare.proofs.Reports.{not_greater}
 use Rattle.ocfl_compare.specs.Kinds.{is_empty, tells_object}
 use Rattle.ocfl_compare.specs.Changes.{lines_at, places_of, is_left, missing, when, row_text, changes_text, said_at, answers_text}
-use Rattle.ocfl_compare.specs.Compared.{IsAnswered}
-use Rattle.ocfl_compare.specs.CompareStop.{StopsRightly, ReportStops}
+use Rattle.ocfl_compare.specs.{Compared.{IsAnswered}, CompareStop.{StopsRightly, ReportStops}}
 use Rattle.ocfl_compare.specs.Expected.{is_missing, missing_objects, IsSearched}
 use Rattle.ocfl_compare.specs.Internal.Listing.{as_object}
 use Rattle.ocfl_compare.specs.declared.question.Question.TheVariants.{Expected}

@@ -1,13 +1,10 @@
 -- The lines of a list, one by one.
 use Rattle.std.proofs.Common.{◌≡◌, ◌≢◌, ◌⊎◌, inl, inr, ℕ, ◌+◌, ◌-◌, ◌<◌, List, [], ◌∷◌, ◌++◌, Bool, true, false, Option, Some, None, IfSome, length, All, map, refl, sym, ap, subst, ◌∙◌, append_assoc, append-nil, length-append, arith}
-use Rattle.std.specs.Prelude.{⊤, cond, ◌==◌, ◌||◌, flat_map}
-use Rattle.std.specs.List.{onto_first}
-use Rattle.std.specs.Io.BufRead.{take_through}
-use Rattle.std.specs.Io.KnownBytes.{Consumes, IsAtEnd}
 use Rattle.std.proofs.lemmas.List.Concat.{flat_map-append}
 use Rattle.std.proofs.lemmas.List.Elements.{All-append, All-nil}
-use Rattle.ocfl_tree.specs.Place.{Text, Place}
-use Rattle.ocfl_tree.specs.Name.{IsPlace}
+use Rattle.std.specs.{Prelude.{⊤, cond, ◌==◌, ◌||◌, flat_map}, List.{onto_first}}
+use Rattle.std.specs.{Io.BufRead.{take_through}, Io.KnownBytes.{Consumes, IsAtEnd}}
+use Rattle.ocfl_tree.specs.{Place.{Text, Place}, Name.{IsPlace}}
 use Rattle.ocfl_report.specs.Text.{place_text}
 use Rattle.ocfl_report.proofs.PlaceTexts.{place_text_determines}
 use Rattle.ocfl_compare.specs.Listed.{is_trimmed, trim_onto, trimmed, path_of, path_in, list_lines, listed_paths, IsObjectPlace, IsList, IsBadListLine, ListStopsRightly, max_lines}

@@ -1,7 +1,7 @@
 -- The parts that are missing, one by one.
 use Rattle.std.proofs.Common.{◌≡◌, ℕ, ◌+◌, List, ◌++◌, Bool, true, false, Option, Some, None, refl, sym, ap, ◌∙◌, add-one}
-use Rattle.std.specs.Prelude.{cond, ◌==◌, not}
 use Rattle.std.proofs.lemmas.Bool.{eqb-true}
+use Rattle.std.specs.Prelude.{cond, ◌==◌, not}
 use Rattle.ocfl_tree.proofs.Bools.{and_first, and_second}
 use Rattle.ocfl_tree.proofs.Places.{text_eq-Decides, place_eq-Decides}
 use Rattle.ocfl_parts.specs.Separators.{start_of_part, end_of_part}

@@ -1,19 +1,14 @@
 -- How one more place moves the comparison of two reports.
 use Rattle.std.proofs.Common.{◌≡◌, ◌≢◌, ◌⊎◌, inl, inr, ℕ, List, [], ◌∷◌, ◌++◌, Option, Some, None, IfSome, All, map, refl, sym, ap, subst, ◌∙◌, append_assoc, append-nil}
-use Rattle.std.specs.Prelude.{flat_map}
-use Rattle.std.specs.Io.KnownBytes.{Consumes, Appends, IsAtEnd}
-use Rattle.std.specs.declared.cmp.Ordering.TheVariants.{Less}
 use Rattle.std.proofs.lemmas.List.Concat.{flat_map-append}
 use Rattle.std.proofs.lemmas.List.Elements.{All-append, All-cons, All-nil, All-head, All-tail, All-weaker}
-use Rattle.ocfl_tree.specs.Place.{Text, Place, place_cmp}
-use Rattle.ocfl_tree.specs.Ascending.{IsBeforeAll, IsAscending}
+use Rattle.std.specs.{Prelude.{flat_map}, Io.KnownBytes.{Consumes, Appends, IsAtEnd}}
+use Rattle.std.specs.declared.cmp.Ordering.TheVariants.{Less}
+use Rattle.ocfl_tree.specs.{Place.{Text, Place, place_cmp}, Ascending.{IsBeforeAll, IsAscending}}
 use Rattle.ocfl_tree.proofs.Orders.{place_cmp_total, not_below_itself}
-use Rattle.ocfl_report.specs.Line.{Line}
-use Rattle.ocfl_report.specs.Text.{lines_text}
-use Rattle.ocfl_report.specs.declared.line.Line.{Line as MadeLine}
+use Rattle.ocfl_report.specs.{Line.{Line}, Text.{lines_text}, declared.line.Line.{Line as MadeLine}}
 use Rattle.ocfl_parts.specs.Splits.{HasText, AreLines}
-use Rattle.ocfl_compare.specs.Changes.{answers_text}
-use Rattle.ocfl_compare.specs.Compared.{IsReport, IsAnswered}
+use Rattle.ocfl_compare.specs.{Changes.{answers_text}, Compared.{IsReport, IsAnswered}}
 use Rattle.ocfl_compare.specs.CompareStop.{StopsRightly}
 use Rattle.ocfl_compare.specs.Internal.Reading.{IsReading, HasRead, IsBelow, IsAt, IsNextPlace, ReadStopsRightly}
 use Rattle.ocfl_compare.specs.Internal.Turns.{AreTaken, Group, IsGroup, group_text, said_text, IsHalf, IsSoFar, before_stop, now_stop}

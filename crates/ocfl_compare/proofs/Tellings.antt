@@ -1,16 +1,13 @@
 -- What the lines of one place say together, and its text.
 use Rattle.std.proofs.Common.{◌≡◌, ◌≢◌, inl, inr, List, [], ◌∷◌, ◌++◌, ℕ, Bool, true, false, Option, Some, None, All, map, refl, sym, ap, subst, ◌∙◌, append_assoc, append-nil}
-use Rattle.std.specs.Prelude.{cond, ◌&&◌, ◌||◌, not, flat_map}
-use Rattle.std.specs.List.{list_any}
-use Rattle.std.specs.declared.cmp.Ordering.{Ordering}
-use Rattle.std.specs.declared.cmp.Ordering.TheVariants.{Less, Equal, Greater}
 use Rattle.std.proofs.lemmas.List.Concat.{flat_map-append}
 use Rattle.std.proofs.lemmas.List.Elements.{All-append, All-cons, All-nil}
+use Rattle.std.specs.{Prelude.{cond, ◌&&◌, ◌||◌, not, flat_map}, List.{list_any}}
+use Rattle.std.specs.declared.cmp.Ordering.{Ordering}
+use Rattle.std.specs.declared.cmp.Ordering.TheVariants.{Less, Equal, Greater}
 use Rattle.ocfl_tree.specs.Place.{Text, Place, place_cmp}
 use Rattle.ocfl_tree.proofs.Orders.{place_cmp_exact, place_cmp_total, not_below_itself, below_from_greater}
-use Rattle.ocfl_report.specs.Line.{Line, line_of}
-use Rattle.ocfl_report.specs.Text.{code_text}
-use Rattle.ocfl_report.specs.declared.code.Code.{Code}
+use Rattle.ocfl_report.specs.{Line.{Line, line_of}, Text.{code_text}, declared.code.Code.{Code}}
 use Rattle.ocfl_report.specs.declared.line.Line.{Line as MadeLine}
 use Rattle.ocfl_compare.specs.Kinds.{is_empty, tells_object, tells_file}
 use Rattle.ocfl_compare.specs.Changes.{has_code, with_code, codes_from, new_codes, Change, object_gone, file_gone, found, repaired, missing, when, changes_at, missing_at, answer_at, row_text, change_word, changes_text, is_left}

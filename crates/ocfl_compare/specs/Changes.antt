@@ -3,8 +3,7 @@ use Rattle.std.specs.Prelude.{◌&&◌, List, [], ◌∷◌, ◌++◌, Bool, not
 use Rattle.std.specs.List.{list_any}
 use Rattle.ocfl_tree.specs.Place.{Text, Place, place_cmp, place_eq, text_eq, begins}
 use Rattle.ocfl_tree.specs.Ascending.{ascending}
-use Rattle.ocfl_report.specs.Line.{Line, is_finding_code}
-use Rattle.ocfl_report.specs.Text.{code_text, place_text}
+use Rattle.ocfl_report.specs.{Line.{Line, is_finding_code}, Text.{code_text, place_text}}
 use Rattle.ocfl_report.specs.declared.code.Code.{Code}
 use Rattle.ocfl_compare.specs.declared.question.Question.{Question}
 use Rattle.ocfl_compare.specs.declared.question.Question.TheVariants.{Changed, Expected}

@@ -1,9 +1,7 @@
 -- What comparing two reports does.
-use Rattle.std.specs.Prelude.{◌≡◌, List, Option}
-use Rattle.std.specs.Io.KnownBytes.{Appends}
+use Rattle.std.specs.{Prelude.{◌≡◌, List, Option}, Io.KnownBytes.{Appends}}
 use Rattle.ocfl_tree.specs.Place.{Text, Place}
-use Rattle.ocfl_report.specs.Line.{Line}
-use Rattle.ocfl_report.specs.Text.{lines_text}
+use Rattle.ocfl_report.specs.{Line.{Line}, Text.{lines_text}}
 use Rattle.ocfl_parts.specs.Splits.{AreLines}
 use Rattle.ocfl_compare.specs.declared.question.Question.{Question}
 use Rattle.ocfl_compare.specs.declared.question.Question.TheVariants.{Changed}

@@ -1,13 +1,10 @@
 -- Which objects of a list have no line in a report.
 use Rattle.std.specs.Prelude.{◌&&◌, List, Bool, not, Option, filter, flat_map, codes}
-use Rattle.std.specs.List.{list_any}
-use Rattle.std.specs.Io.KnownBytes.{Appends}
-use Rattle.ocfl_tree.specs.Place.{Text, Place, place_cmp}
-use Rattle.ocfl_tree.specs.Ascending.{ascending}
+use Rattle.std.specs.{List.{list_any}, Io.KnownBytes.{Appends}}
+use Rattle.ocfl_tree.specs.{Place.{Text, Place, place_cmp}, Ascending.{ascending}}
 use Rattle.ocfl_report.specs.Line.{Line}
 use Rattle.ocfl_compare.specs.Kinds.{is_empty, tells_object}
-use Rattle.ocfl_compare.specs.Changes.{lines_at, is_left, row_text}
-use Rattle.ocfl_compare.specs.Compared.{IsReport}
+use Rattle.ocfl_compare.specs.{Changes.{lines_at, is_left, row_text}, Compared.{IsReport}}
 
 -- no line of an object is at the place, which was not left out; the storage root is no object
 abbrev pub is_missing : List Place → List Line → Place → Bool

@@ -1,8 +1,7 @@
 -- What a line of a report is about.
 use Rattle.std.specs.Prelude.{◌&&◌, List, [], ◌∷◌, Bool, true, false, not, codes}
 use Rattle.ocfl_tree.specs.Place.{Text, text_eq}
-use Rattle.ocfl_report.specs.Line.{Line}
-use Rattle.ocfl_report.specs.declared.code.Code.{Code}
+use Rattle.ocfl_report.specs.{Line.{Line}, declared.code.Code.{Code}}
 use Rattle.ocfl_report.specs.declared.code.Code.TheVariants.{Clean, E003, E007, E017, E018, E023, E025, E033, E036, E041, E058, E060, E061, E063, E092, E093, E096, E097, E099, E100, E101, S01, S02, S03, S06, S07, S08}
 
 abbrev pub is_empty : {A : Type 0} → List A → Bool

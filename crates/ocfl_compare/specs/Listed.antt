@@ -1,8 +1,7 @@
 -- The text of a list of objects: a path a line, as in reports.
 use Rattle.std.specs.Prelude.{◌≡◌, ◌≢◌, ◌⊎◌, ℕ, ◌+◌, ◌==◌, ◌||◌, List, [], ◌∷◌, ◌++◌, length, All, Bool, if◌then◌else◌, map, flat_map, ⊤}
 use Rattle.std.specs.List.{slice_split}
-use Rattle.ocfl_tree.specs.Place.{Text, Place}
-use Rattle.ocfl_tree.specs.Name.{IsPlace}
+use Rattle.ocfl_tree.specs.{Place.{Text, Place}, Name.{IsPlace}}
 use Rattle.ocfl_report.specs.Text.{place_text}
 use Rattle.ocfl_compare.specs.declared.listing.ListStop.{ListStop}
 use Rattle.ocfl_compare.specs.declared.listing.ListStop.TheVariants.{Line, Long, Failed, Memory}

@@ -5,8 +5,7 @@ ghost use Rattle.ocfl_tree.specs.Place.{Place as ModelPlace};
 ghost use Rattle.ocfl_report.specs.Line.{Line as ModelLine};
 ghost use Rattle.ocfl_compare.specs.Compared.{IsAnswered, IsCompared};
 ghost use Rattle.ocfl_compare.specs.declared.question.Question.{Question as ModelQuestion};
-ghost use Rattle.ocfl_compare.specs.CompareStop.{StopsRightly};
-ghost use Rattle.ocfl_compare.specs.Internal.Reading.{IsNextPlace};
+ghost use Rattle.ocfl_compare.specs.{CompareStop.{StopsRightly}, Internal.Reading.{IsNextPlace}};
 ghost use Rattle.ocfl_compare.specs.Internal.Telling.{IsTold};
 ghost use Rattle.ocfl_compare.specs.Internal.Turns.{IsSoFar, before_stop, now_stop, said_text};
 

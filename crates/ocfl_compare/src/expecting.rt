@@ -1,11 +1,9 @@
 //! Looking for the objects of a list in a report.
 ghost use Rattle.std.specs.Prelude.{◌≡◌, ◌++◌, All, IsPermutation, map, IfErr, IfSome, OnOk};
 ghost use Rattle.std.specs.List.Sorted.{IsSorted};
-ghost use Rattle.ocfl_tree.specs.Name.{IsPlace};
-ghost use Rattle.ocfl_tree.specs.Place.{place_cmp};
+ghost use Rattle.ocfl_tree.specs.{Name.{IsPlace}, Place.{place_cmp}};
 ghost use Rattle.ocfl_report.specs.Text.{line_text, lines_text};
-ghost use Rattle.ocfl_compare.specs.CompareStop.{ReportStops};
-ghost use Rattle.ocfl_compare.specs.Expected.{IsSearched};
+ghost use Rattle.ocfl_compare.specs.{CompareStop.{ReportStops}, Expected.{IsSearched}};
 ghost use Rattle.ocfl_compare.specs.Internal.Listing.{as_object};
 
 use crate::comparing::answer;

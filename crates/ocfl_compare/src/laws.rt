@@ -1,15 +1,12 @@
 //! The laws of what changed between two reports, and of parts that are joined.
 ghost use Rattle.std.specs.Prelude.{◌≡◌, ◌↔◌, ℕ, List, [], Some, None, true, map};
 ghost use Rattle.std.specs.List.{list_any};
-ghost use Rattle.ocfl_tree.specs.Ascending.{IsAmong};
-ghost use Rattle.ocfl_tree.specs.Place.{Place, Text};
+ghost use Rattle.ocfl_tree.specs.{Ascending.{IsAmong}, Place.{Place, Text}};
 ghost use Rattle.ocfl_parts.specs.Separators.{end_of_part, start_of_part};
-ghost use Rattle.ocfl_compare.specs.Joined.{fault_of};
-ghost use Rattle.ocfl_compare.specs.declared.joining.ClosedPart.{ClosedPart};
-ghost use Rattle.ocfl_report.specs.Line.{Line};
-ghost use Rattle.ocfl_compare.specs.Changes.{changes_at, comparison_text, file_gone, finding_codes};
-ghost use Rattle.ocfl_compare.specs.Changes.{found, lines_at, object_gone};
+ghost use Rattle.ocfl_compare.specs.{Joined.{fault_of}, declared.joining.ClosedPart.{ClosedPart}};
+ghost use Rattle.ocfl_compare.specs.Changes.{changes_at, comparison_text, file_gone, finding_codes, found, lines_at, object_gone};
 ghost use Rattle.ocfl_compare.specs.Kinds.{tells_file, tells_object};
+ghost use Rattle.ocfl_report.specs.Line.{Line};
 
 /// Between a report and itself nothing changed.
 #[tactic(auto, using(crate::proofs::ChangeLaws::nothing_changed))]

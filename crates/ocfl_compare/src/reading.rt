@@ -1,18 +1,11 @@
 //! Reading a report line by line.
-ghost use Rattle.std.specs.Prelude.{◌≡◌, ◌≢◌, ◌⊎◌, ◌+◌, List, ℕ, [], ◌++◌, Option, None};
-ghost use Rattle.std.specs.Prelude.{true, false, IfOk, IfErr, IfSome, OnOk, option_map};
-ghost use Rattle.std.specs.Io.BufRead.{take_through};
-ghost use Rattle.std.specs.Io.KnownBytes.{Consumes, IsAtEnd};
-ghost use Rattle.ocfl_tree.specs.Place.{place_cmp};
+ghost use Rattle.std.specs.Prelude.{◌≡◌, ◌≢◌, ◌⊎◌, ◌+◌, List, ℕ, [], ◌++◌, Option, None, true, false, IfOk, IfErr, IfSome, OnOk, option_map};
+ghost use Rattle.std.specs.{Io.BufRead.{take_through}, Io.KnownBytes.{Consumes, IsAtEnd}};
 ghost use Rattle.std.specs.declared.cmp.Ordering.TheVariants.{Greater};
+ghost use Rattle.ocfl_tree.specs.Place.{place_cmp};
 ghost use Rattle.ocfl_report.specs.Line.{Line as ModelLine};
-ghost use Rattle.ocfl_compare.specs.Internal.Reading.{GoesOn, HasRead, IsBelow, IsNotAbove};
-ghost use Rattle.ocfl_compare.specs.Internal.Reading.{IsReading};
-ghost use Rattle.ocfl_compare.specs.Internal.Reading.{IsNextLine, IsNextPlace, IsOpen};
-ghost use Rattle.ocfl_compare.specs.Internal.Reading.{IsUnfit, ReadStopsRightly};
-ghost use Rattle.ocfl_compare.specs.Internal.Reading.{is_after, listed};
-ghost use Rattle.ocfl_compare.specs.Internal.Telling.{IsTold, Tells};
-ghost use Rattle.ocfl_compare.specs.Internal.Turns.{AreTaken};
+ghost use Rattle.ocfl_compare.specs.Internal.Reading.{GoesOn, HasRead, IsBelow, IsNotAbove, IsReading, IsNextLine, IsNextPlace, IsOpen, IsUnfit, ReadStopsRightly, is_after, listed};
+ghost use Rattle.ocfl_compare.specs.{Internal.Telling.{IsTold, Tells}, Internal.Turns.{AreTaken}};
 
 use crate::told::{Told, nothing, tell};
 use ocfl_report::{Line, LineStop, read_line};

@@ -4,8 +4,7 @@ ghost use Rattle.std.specs.List.{list_any};
 ghost use Rattle.ocfl_tree.specs.Place.{Place as ModelPlace};
 ghost use Rattle.ocfl_report.specs.Line.{Line as ModelLine};
 ghost use Rattle.ocfl_compare.specs.Changes.{changes_text, is_left as is_left_out, row_text};
-ghost use Rattle.ocfl_compare.specs.Internal.Telling.{IsTold, new_text, told_answer};
-ghost use Rattle.ocfl_compare.specs.Internal.Telling.{told_changes, told_repaired};
+ghost use Rattle.ocfl_compare.specs.Internal.Telling.{IsTold, new_text, told_answer, told_changes, told_repaired};
 ghost use Rattle.ocfl_compare.specs.Internal.Turns.{said_text};
 
 use crate::question::Question;

@@ -1,7 +1,6 @@
 -- Worked cases: cursors, their text, and why bytes are none.
 use Rattle.std.proofs.Common.{◌≡◌, ◌==◌, ◌+◌, ◌-◌, ◌∙◌, ℕ, zero, suc, List, [], ◌∷◌, ◌++◌, codes, refl, sym, ap, ap₂, inr, arith, length, map, replicate, take, drop, get_or}
-use Rattle.std.specs.Prelude.{◌&&◌, if◌then◌else◌, nat_le, not}
-use Rattle.std.specs.List.{slice_split}
+use Rattle.std.specs.{Prelude.{◌&&◌, if◌then◌else◌, nat_le, not}, List.{slice_split}}
 use Prim.Native.String.{String}
 use Rattle.ocfl_tree.specs.Place.{Text, Place, text_eq}
 use Rattle.ocfl_cursor.specs.Cursor.{start, behind, ended, Cursor, IsCursor, new_cursor, cursor_lines, cursor_body, cursor_text, digest_line, version_one_body, version_one_text}

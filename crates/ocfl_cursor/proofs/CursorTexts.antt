@@ -5,15 +5,12 @@ use Rattle.std.proofs.lemmas.List.{append_cancel_left, append_cancel_right}
 use Rattle.std.proofs.lemmas.Fmt.{length-decimal-le_wide}
 use Rattle.ocfl_tree.specs.Place.{Text}
 use Rattle.ocfl_report.specs.Text.{place_text}
-use Rattle.ocfl_report.proofs.PlaceTexts.{place_text_determines}
+use Rattle.ocfl_report.proofs.{PlaceTexts.{place_text_determines}, Numbers.{wide}}
 use Rattle.ocfl_cursor.specs.Cursor.{State, start, behind, ended, Cursor, IsShortPlace, IsCursor, number_line, state_text, cursor_lines, cursor_body, digest_line, cursor_text, version_one_body, version_one_text}
 use Rattle.ocfl_cursor.specs.Internal.Body.{version_line, files_line, FilesFit, counts_text, CountsFit, IsStateLine, AreLinesOf, IsBodyOf}
-use Rattle.ocfl_cursor.specs.Refusal.{IsTextOf}
-use Rattle.ocfl_cursor.specs.declared.form.Version.{Version}
+use Rattle.ocfl_cursor.specs.{Refusal.{IsTextOf}, declared.form.Version.{Version}}
 use Rattle.ocfl_cursor.specs.declared.form.Version.TheVariants.{One, Two}
-use Rattle.ocfl_report.proofs.Numbers.{wide}
-use Rattle.ocfl_cursor.proofs.Numbers.{number_line_determines}
-use Rattle.ocfl_cursor.proofs.Paths.{length-place_text}
+use Rattle.ocfl_cursor.proofs.{Numbers.{number_line_determines}, Paths.{length-place_text}}
 use Rattle.ocfl_cursor.proofs.Seals.{length-sealed, sealed_determines}
 
 -- ---- the first line

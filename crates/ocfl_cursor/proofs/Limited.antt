@@ -1,21 +1,17 @@
 -- What the first bytes of a reader tell of all of them, if one more is read than a cursor's text
 -- can have.
 use Rattle.std.proofs.Common.{◌≡◌, ◌⊎◌, inl, inr, ℕ, ◌<◌, ◌≤◌, [], ◌++◌, nat_eq, nat_le, false, min, length, take, codes, Option, Some, None, IfSome, sym, subst, ◌∙◌, arith, length-take}
-use Rattle.std.specs.List.{starts_with}
-use Rattle.std.specs.Option.{option_map}
-use Rattle.std.proofs.lemmas.Bool.{lt-leb, and_right, cases_lt}
-use Rattle.std.proofs.lemmas.List.{take_all}
+use Rattle.std.proofs.{lemmas.Bool.{lt-leb, and_right, cases_lt}, lemmas.List.{take_all}}
+use Rattle.std.specs.{List.{starts_with}, Option.{option_map}}
 use Rattle.ocfl_tree.specs.Place.{Text}
 use Rattle.ocfl_cursor.specs.Cursor.{Cursor}
 use Rattle.ocfl_cursor.specs.Refusal.{Refusal, not_cursor, max_text, is_cursor_front, IsTextOf}
-use Rattle.ocfl_cursor.specs.Refused.{IsRefused, RefusedRightly}
-use Rattle.ocfl_cursor.specs.Stop.{StopsRightly}
+use Rattle.ocfl_cursor.specs.{Refused.{IsRefused, RefusedRightly}, Stop.{StopsRightly}}
 use Rattle.ocfl_cursor.specs.declared.refused.Refused.{Refused}
 use Rattle.ocfl_cursor.specs.declared.refused.Refused.TheVariants.{NotCursor, Version, Damaged, Malformed, Memory}
 use Rattle.ocfl_cursor.specs.declared.reading.CursorStop.{CursorStop}
 use Rattle.ocfl_cursor.specs.declared.reading.CursorStop.TheVariants.{Read, Refused as Refuses}
-use Rattle.ocfl_cursor.proofs.CursorTexts.{length-text}
-use Rattle.ocfl_cursor.proofs.Refusals.{refused_not_cursor}
+use Rattle.ocfl_cursor.proofs.{CursorTexts.{length-text}, Refusals.{refused_not_cursor}}
 
 -- how many bytes are read at most
 abbrev pub limit : ℕ

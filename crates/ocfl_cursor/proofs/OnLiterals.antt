@@ -1,7 +1,5 @@
 -- What a computed example unfolds.
-use Rattle.std.specs.Prelude.{⊤}
-use Rattle.std.specs.Str.{chars, is_utf8}
-use Rattle.std.specs.Fmt.{digits}
+use Rattle.std.specs.{Prelude.{⊤}, Str.{chars, is_utf8}, Fmt.{digits}}
 use Rattle.hex.specs.Hex.{encode_with}
 use Rattle.hex.proofs.OnLiterals.{hex_on_literals}
 use Rattle.sha2.specs.Sha256 as s256

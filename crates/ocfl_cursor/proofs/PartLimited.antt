@@ -1,23 +1,21 @@
 -- What the first bytes of a reader tell of all of them, if one more is read than is taken as a
 -- part's cursor.
 use Rattle.std.proofs.Common.{◌≡◌, ◌⊎◌, inl, inr, ℕ, ◌<◌, ◌≤◌, ◌&&◌, nat_le, true, false, min, length, take, Option, Some, None, IfSome, refl, sym, ap, ap₂, subst, ◌∙◌, arith, length-take}
-use Rattle.std.proofs.lemmas.Bool.{le-leb, lt-leb, and_right, true≢false}
-use Rattle.std.proofs.lemmas.List.{take_all}
+use Rattle.std.proofs.{lemmas.Bool.{le-leb, lt-leb, and_right, true≢false}, lemmas.List.{take_all}}
 use Rattle.ocfl_tree.specs.Place.{Text}
-use Rattle.ocfl_cursor.specs.Cursor.{Cursor}
-use Rattle.ocfl_cursor.specs.Part.{IsPartText}
+use Rattle.ocfl_cursor.specs.{Cursor.{Cursor}, Part.{IsPartText}}
 use Rattle.ocfl_cursor.specs.PartRefusal.{is_part_front, PartRefusedRightly}
 use Rattle.ocfl_cursor.specs.Shown.{AreShown, IsShownFrom, UnshownRightly}
 use Rattle.ocfl_cursor.specs.Stop.{is_read_as_part, max_part_text, PartStopsRightly}
 use Rattle.ocfl_cursor.specs.declared.ends.PartEnds.{PartEnds}
 use Rattle.ocfl_cursor.specs.declared.part_reading.PartCursorStop.{PartCursorStop}
-use Rattle.ocfl_cursor.specs.declared.part_reading.PartCursorStop.TheVariants as part
 use Rattle.ocfl_cursor.specs.declared.reading.CursorStop.{CursorStop}
-use Rattle.ocfl_cursor.specs.declared.reading.CursorStop.TheVariants as stop
 use Rattle.ocfl_cursor.specs.declared.refused.PartRefused.{PartRefused}
 use Rattle.ocfl_cursor.specs.declared.refused.PartRefused.TheVariants.{NotCursor, Damaged, Malformed, OtherPart, Memory}
-use Rattle.ocfl_cursor.specs.declared.refused.Refused.TheVariants as refused
 use Rattle.ocfl_cursor.specs.declared.showing.ShowStop.{ShowStop}
+use Rattle.ocfl_cursor.specs.declared.part_reading.PartCursorStop.TheVariants as part
+use Rattle.ocfl_cursor.specs.declared.reading.CursorStop.TheVariants as stop
+use Rattle.ocfl_cursor.specs.declared.refused.Refused.TheVariants as refused
 use Rattle.ocfl_cursor.specs.declared.showing.ShowStop.TheVariants as show
 use Rattle.ocfl_cursor.proofs.Limited.{IsReadTo, too_long}
 use Rattle.ocfl_cursor.proofs.PartRefusals.{front-part_text, only_memory}

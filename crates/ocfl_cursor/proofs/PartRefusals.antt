@@ -4,16 +4,13 @@ use Rattle.std.proofs.lemmas.Bool.{false≢true}
 use Rattle.ocfl_tree.specs.Place.{Text}
 use Rattle.ocfl_cursor.specs.Cursor.{Cursor, cursor_text, digest_line, version_one_text}
 use Rattle.ocfl_cursor.specs.Refusal.{not_cursor, is_cursor_front, is_sealed, IsTextOf}
-use Rattle.ocfl_cursor.specs.Refused.{IsRefused}
-use Rattle.ocfl_cursor.specs.Part.{part_body, IsPartText}
+use Rattle.ocfl_cursor.specs.{Refused.{IsRefused}, Part.{part_body, IsPartText}}
 use Rattle.ocfl_cursor.specs.PartRefusal.{is_part_front, IsSealedPart, PartRefusedRightly}
-use Rattle.ocfl_cursor.specs.Shown.{PartUnshownRightly}
-use Rattle.ocfl_cursor.specs.Internal.Part.{IsPartBody}
+use Rattle.ocfl_cursor.specs.{Shown.{PartUnshownRightly}, Internal.Part.{IsPartBody}}
 use Rattle.ocfl_cursor.specs.declared.ends.PartEnds.{PartEnds}
 use Rattle.ocfl_cursor.specs.declared.refused.PartRefused.{PartRefused}
 use Rattle.ocfl_cursor.specs.declared.refused.PartRefused.TheVariants.{NotCursor, Damaged, Malformed, OtherPart, Memory}
-use Rattle.ocfl_cursor.proofs.Refusals.{refused_not_cursor}
-use Rattle.ocfl_cursor.proofs.Seals.{is_sealed-sealed}
+use Rattle.ocfl_cursor.proofs.{Refusals.{refused_not_cursor}, Seals.{is_sealed-sealed}}
 use Rattle.ocfl_cursor.proofs.PartTexts.{IsPartBody-sealed, part_text_determines}
 
 -- ---- a part's cursor passes each test

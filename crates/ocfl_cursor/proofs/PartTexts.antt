@@ -1,22 +1,17 @@
 -- The text of a part's cursor determines the part and the cursor.
 use Rattle.std.proofs.Common.{◌≡◌, ◌≢◌, [], ◌∷◌, ◌++◌, Bool, true, false, cond, Option, Some, None, All, codes, length, nat_eq, IsTrue, ◌↔◌, refl, sym, ap, subst, ◌∙◌, append_assoc, arith}
-use Rattle.std.specs.Cmp.Lexicographic.{pointwise}
-use Rattle.std.proofs.lemmas.Bool.{true≢false}
-use Rattle.std.proofs.lemmas.List.{append_cancel_left}
+use Rattle.std.proofs.{lemmas.Bool.{true≢false}, lemmas.List.{append_cancel_left}}
 use Rattle.std.proofs.lemmas.List.Elements.{All-head, All-weaker, All-append, All-from_recursion}
-use Rattle.ocfl_tree.specs.Place.{Text, Place, text_eq}
-use Rattle.ocfl_tree.specs.Name.{IsName, IsPlace}
+use Rattle.std.specs.Cmp.Lexicographic.{pointwise}
+use Rattle.ocfl_tree.specs.{Place.{Text, Place, text_eq}, Name.{IsName, IsPlace}}
 use Rattle.ocfl_tree.proofs.Places.{text_eq-Decides, path_eq-Decides}
 use Rattle.ocfl_report.specs.Text.{place_text}
-use Rattle.ocfl_report.proofs.Bytes.{IsPrintable}
-use Rattle.ocfl_report.proofs.Separators.{first_parts}
+use Rattle.ocfl_report.proofs.{Bytes.{IsPrintable}, Separators.{first_parts}}
 use Rattle.ocfl_report.proofs.PlaceTexts.{names_of, names_of-place_text, place_text_determines, place_text_printable}
 use Rattle.ocfl_cursor.specs.Cursor.{Cursor, cursor_lines, digest_line}
 use Rattle.ocfl_cursor.specs.Part.{HasNames, AreEnds, end_text, end_line, ends_lines, part_body, IsPartText}
-use Rattle.ocfl_cursor.specs.Internal.Part.{IsPartBody}
-use Rattle.ocfl_cursor.specs.declared.ends.PartEnds.{PartEnds}
-use Rattle.ocfl_cursor.specs.declared.form.Version.TheVariants.{Two}
-use Rattle.ocfl_cursor.specs.Internal.Body.{AreLinesOf}
+use Rattle.ocfl_cursor.specs.{Internal.Part.{IsPartBody}, declared.ends.PartEnds.{PartEnds}}
+use Rattle.ocfl_cursor.specs.{declared.form.Version.TheVariants.{Two}, Internal.Body.{AreLinesOf}}
 use Rattle.ocfl_cursor.proofs.CursorTexts.{lines_determine, AreLinesOf-cursor}
 use Rattle.ocfl_cursor.proofs.Seals.{sealed_determines}
 

@@ -1,14 +1,11 @@
 -- How long the text of a place is, and how many slashes it has.
 use Rattle.std.proofs.Common.{◌≡◌, ℕ, ◌+◌, ◌*◌, ◌/◌, ◌%◌, ◌<◌, ◌≤◌, [], ◌∷◌, ◌==◌, Bool, true, false, cond, length, map, count_by, ap, arith, length-append}
-use Rattle.std.specs.List.{slice_split, join_with_byte}
-use Rattle.std.proofs.lemmas.List.{length-map}
-use Rattle.std.proofs.lemmas.List.Splits.{length-slice_split}
+use Rattle.std.proofs.{lemmas.List.{length-map}, lemmas.List.Splits.{length-slice_split}}
 use Rattle.std.proofs.lemmas.List.Elements.{All-head, All-tail}
-use Rattle.ocfl_tree.specs.Place.{Text, Place}
-use Rattle.ocfl_tree.specs.Name.{IsName, IsPlace}
+use Rattle.std.specs.List.{slice_split, join_with_byte}
+use Rattle.ocfl_tree.specs.{Place.{Text, Place}, Name.{IsName, IsPlace}}
 use Rattle.ocfl_report.specs.Text.{is_escaped, hex_digit, escape_byte, escape, place_text}
-use Rattle.ocfl_report.proofs.Escapes.{unescape}
-use Rattle.ocfl_report.proofs.PlaceTexts.{names_of, names_of-place_text}
+use Rattle.ocfl_report.proofs.{Escapes.{unescape}, PlaceTexts.{names_of, names_of-place_text}}
 
 -- ---- slashes
 

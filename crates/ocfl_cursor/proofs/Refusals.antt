@@ -1,17 +1,15 @@
 -- Why bytes are the text of no cursor: what each test tells.
 use Rattle.std.proofs.Common.{◌≡◌, ◌⊎◌, inl, inr, Result, Ok, Err, IfErr, ◌≤◌, ◌++◌, nat_eq, ◌&&◌, Bool, true, false, not, cond, length, drop, codes, refl, sym, ap, ap₂, subst, ◌∙◌, arith}
-use Rattle.std.specs.List.{starts_with}
 use Rattle.std.proofs.lemmas.Bool.{le-leb, false≢true}
+use Rattle.std.specs.List.{starts_with}
 use Rattle.ocfl_tree.specs.Place.{Text}
 use Rattle.ocfl_cursor.specs.Cursor.{Cursor, cursor_body, digest_line, cursor_text, version_one_body, version_one_text}
 use Rattle.ocfl_cursor.specs.Internal.Body.{IsBodyOf}
 use Rattle.ocfl_cursor.specs.Refusal.{Refusal, not_cursor, version, damaged, malformed, max_text, is_cursor_front, version_of, is_version, is_sealed, IsTextOf}
-use Rattle.ocfl_cursor.specs.Sealed.{first_line}
-use Rattle.ocfl_cursor.specs.Refused.{IsRefused, RefusedRightly}
+use Rattle.ocfl_cursor.specs.{Sealed.{first_line}, Refused.{IsRefused, RefusedRightly}}
 use Rattle.ocfl_cursor.specs.declared.refused.Refused.{Refused}
 use Rattle.ocfl_cursor.specs.declared.refused.Refused.TheVariants.{Malformed, Memory}
-use Rattle.ocfl_cursor.proofs.CursorTexts.{length-text, IsBodyOf-sealed}
-use Rattle.ocfl_cursor.proofs.Seals.{is_sealed-sealed}
+use Rattle.ocfl_cursor.proofs.{CursorTexts.{length-text, IsBodyOf-sealed}, Seals.{is_sealed-sealed}}
 
 -- ---- a cursor's text passes each test
 

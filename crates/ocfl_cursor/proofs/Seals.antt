@@ -1,7 +1,6 @@
 -- What the last line of a text seals, where the line begins with a front of seven bytes.
 use Rattle.std.proofs.Common.{◌≡◌, ◌+◌, ◌-◌, ◌*◌, [], ◌∷◌, ◌++◌, ◌&&◌, true, length, take, drop, refl, sym, ap, ap₂, ◌∙◌, length-append, arith}
-use Rattle.std.proofs.lemmas.Bool.{le-leb}
-use Rattle.std.proofs.lemmas.List.{take_at, drop_at}
+use Rattle.std.proofs.{lemmas.Bool.{le-leb}, lemmas.List.{take_at, drop_at}}
 use Rattle.sha2.specs.Sha256.{sha256}
 use Rattle.sha2.proofs.Facts256.{length-sha256}
 use Rattle.hex.specs.Hex.{encode_lower, lower_digits}

@@ -2,17 +2,15 @@
 use Rattle.std.proofs.Common.{◌≡◌, inl, inr, ◌&&◌, nat_le, true, length, refl, sym, ap, ◌∙◌}
 use Rattle.std.proofs.lemmas.Bool.{true≢false}
 use Rattle.ocfl_tree.specs.Place.{Text}
-use Rattle.ocfl_cursor.specs.Cursor.{cursor_lines}
-use Rattle.ocfl_cursor.specs.Part.{part_lines}
+use Rattle.ocfl_cursor.specs.{Cursor.{cursor_lines}, Part.{part_lines}}
 use Rattle.ocfl_cursor.specs.Shown.{AreShown, AreWholeLines, IsOfNoBytes, UnshownRightly}
 use Rattle.ocfl_cursor.specs.Stop.{is_read_as_part, max_part_text}
+use Rattle.ocfl_cursor.specs.declared.showing.ShowStop.{ShowStop}
 use Rattle.ocfl_cursor.specs.declared.reading.CursorStop.TheVariants as stop
 use Rattle.ocfl_cursor.specs.declared.refused.PartRefused.TheVariants as part
 use Rattle.ocfl_cursor.specs.declared.refused.Refused.TheVariants as refused
-use Rattle.ocfl_cursor.specs.declared.showing.ShowStop.{ShowStop}
 use Rattle.ocfl_cursor.specs.declared.showing.ShowStop.TheVariants as show
-use Rattle.ocfl_cursor.proofs.CursorTexts.{text_determines}
-use Rattle.ocfl_cursor.proofs.PartTexts.{part_text_determines}
+use Rattle.ocfl_cursor.proofs.{CursorTexts.{text_determines}, PartTexts.{part_text_determines}}
 use Rattle.ocfl_cursor.proofs.PartRefusals.{seal-part_text, whole_is_no_part}
 
 -- the text of a whole root's cursor is not read as that of a part

@@ -1,12 +1,11 @@
 -- The lines of a stored cursor determine the part and the cursor.
 use Rattle.std.proofs.Common.{◌≡◌, Option, Some, None, IfSome, ◌++◌, Bool, true, false, nat_eq, get_or, codes, refl, sym, ap, ◌∙◌}
-use Rattle.std.specs.List.{starts_with}
 use Rattle.std.proofs.lemmas.Bool.{eqb-false, true≢false}
+use Rattle.std.specs.List.{starts_with}
 use Rattle.ocfl_tree.specs.Place.{Text}
 use Rattle.ocfl_cursor.specs.Cursor.{Cursor, IsCursor, cursor_lines}
 use Rattle.ocfl_cursor.specs.Part.{AreEnds, ends_lines, part_lines}
-use Rattle.ocfl_cursor.specs.Lines.{stored_lines, AreStoredLines}
-use Rattle.ocfl_cursor.specs.Internal.Body.{AreLinesOf}
+use Rattle.ocfl_cursor.specs.{Lines.{stored_lines, AreStoredLines}, Internal.Body.{AreLinesOf}}
 use Rattle.ocfl_cursor.specs.declared.ends.PartEnds.{PartEnds}
 use Rattle.ocfl_cursor.specs.declared.form.Version.TheVariants.{Two}
 use Rattle.ocfl_cursor.proofs.CursorTexts.{lines_determine, AreLinesOf-cursor}

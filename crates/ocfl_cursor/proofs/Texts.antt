@@ -1,9 +1,8 @@
 -- The test whether two texts are the same.
 use Rattle.std.proofs.Common.{◌≡◌, ◌≢◌, ℕ, [], ◌∷◌, ◌++◌, ◌==◌, true, not, cond, All, refl, sym, ap, ◌∙◌}
-use Rattle.std.specs.Cmp.Lexicographic.{texts_ties, bytes_decides}
-use Rattle.std.proofs.lemmas.Bool.{ne_eqb}
-use Rattle.std.proofs.lemmas.List.Sums.{take_while-cons}
+use Rattle.std.proofs.{lemmas.Bool.{ne_eqb}, lemmas.List.Sums.{take_while-cons}}
 use Rattle.std.proofs.lemmas.List.Elements.{All-head, All-tail}
+use Rattle.std.specs.Cmp.Lexicographic.{texts_ties, bytes_decides}
 use Rattle.ocfl_tree.specs.Place.{Text, text_eq}
 use Rattle.ocfl_cursor.specs.Sealed.{first_line}
 

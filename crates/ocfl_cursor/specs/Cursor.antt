@@ -1,7 +1,6 @@
 -- A cursor, and its text: what one run leaves for the next.
 use Rattle.std.specs.Prelude.{ℕ, ◌*◌, ◌^◌, ◌<◌, ◌≤◌, [], ◌∷◌, ◌++◌, length, codes, decimal, ⊤}
-use Rattle.ocfl_tree.specs.Place.{Text, Place}
-use Rattle.ocfl_tree.specs.Name.{IsPlace}
+use Rattle.ocfl_tree.specs.{Place.{Text, Place}, Name.{IsPlace}}
 use Rattle.ocfl_report.specs.Text.{place_text}
 use Rattle.ocfl_cursor.specs.Sealed.{seal_line}
 

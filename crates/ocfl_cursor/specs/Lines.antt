@@ -1,8 +1,7 @@
 -- The lines of a stored cursor between its first line and its last, of a whole root or of one part.
 use Rattle.std.specs.Prelude.{◌≡◌, Option, Some, None, IfSome}
 use Rattle.ocfl_tree.specs.Place.{Text}
-use Rattle.ocfl_cursor.specs.Cursor.{Cursor, IsCursor, cursor_lines}
-use Rattle.ocfl_cursor.specs.Part.{AreEnds, part_lines}
+use Rattle.ocfl_cursor.specs.{Cursor.{Cursor, IsCursor, cursor_lines}, Part.{AreEnds, part_lines}}
 use Rattle.ocfl_cursor.specs.declared.ends.PartEnds.{PartEnds}
 
 -- those of a part's cursor begin with the lines of the part's ends

@@ -1,7 +1,6 @@
 -- What a run has spent, and how many files it has started.
 use Rattle.std.specs.Prelude.{ℕ, ◌^◌, ◌+◌, ◌<◌, ◌≤◌, ◌==◌, if◌then◌else◌}
-use Rattle.ocfl_cursor.specs.Limits.{IsBudget, IsFileLimit}
-use Rattle.ocfl_cursor.specs.declared.limits.Limits.{Limits}
+use Rattle.ocfl_cursor.specs.{Limits.{IsBudget, IsFileLimit}, declared.limits.Limits.{Limits}}
 
 -- what auditing one file costs at most: its bytes, at most 2 ^ 62, and one more
 abbrev pub max_cost : ℕ

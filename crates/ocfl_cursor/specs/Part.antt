@@ -1,8 +1,6 @@
 -- The text of a part's cursor, which names the part.
 use Rattle.std.specs.Prelude.{◌≡◌, [], ◌∷◌, ◌++◌, Option, Some, None, IfSome, if◌then◌else◌, codes}
-use Rattle.ocfl_tree.specs.Place.{Text, text_eq}
-use Rattle.ocfl_tree.specs.Name.{IsPlace}
-use Rattle.ocfl_tree.specs.Place.{Place}
+use Rattle.ocfl_tree.specs.{Place.{Text, text_eq, Place}, Name.{IsPlace}}
 use Rattle.ocfl_report.specs.Text.{place_text}
 use Rattle.ocfl_cursor.specs.Cursor.{Cursor, IsCursor, cursor_lines, digest_line}
 use Rattle.ocfl_cursor.specs.declared.ends.PartEnds.{PartEnds}

@@ -1,10 +1,7 @@
 -- Why bytes are not the text of a cursor of a part: the first that applies.
-use Rattle.std.specs.Prelude.{◌≡◌, ◌≢◌, nat_eq, Bool, true, false, codes}
-use Rattle.std.specs.List.{starts_with}
+use Rattle.std.specs.{Prelude.{◌≡◌, ◌≢◌, nat_eq, Bool, true, false, codes}, List.{starts_with}}
 use Rattle.ocfl_tree.specs.Place.{Text}
-use Rattle.ocfl_cursor.specs.Cursor.{Cursor}
-use Rattle.ocfl_cursor.specs.Part.{IsPartText}
-use Rattle.ocfl_cursor.specs.Refusal.{is_sealed}
+use Rattle.ocfl_cursor.specs.{Cursor.{Cursor}, Part.{IsPartText}, Refusal.{is_sealed}}
 use Rattle.ocfl_cursor.specs.declared.ends.PartEnds.{PartEnds}
 use Rattle.ocfl_cursor.specs.declared.refused.PartRefused.{PartRefused}
 use Rattle.ocfl_cursor.specs.declared.refused.PartRefused.TheVariants.{NotCursor, Damaged, Malformed, OtherPart, Memory}

@@ -1,18 +1,15 @@
 -- What is shown of a stored cursor, of a whole root or of one part, and why nothing is.
 use Rattle.std.specs.Prelude.{◌≡◌, ◌⊎◌, true, false, Option, IfSome, ⊤}
 use Rattle.ocfl_tree.specs.Place.{Text}
-use Rattle.ocfl_cursor.specs.Cursor.{Cursor, cursor_lines}
-use Rattle.ocfl_cursor.specs.Part.{part_lines, IsPartText}
-use Rattle.ocfl_cursor.specs.PartRefusal.{IsMalformedPart}
-use Rattle.ocfl_cursor.specs.Refusal.{is_sealed, IsTextOf}
-use Rattle.ocfl_cursor.specs.Refused.{RefusedRightly}
-use Rattle.ocfl_cursor.specs.Stop.{is_read_as_part}
+use Rattle.ocfl_cursor.specs.{Cursor.{Cursor, cursor_lines}, Part.{part_lines, IsPartText}}
+use Rattle.ocfl_cursor.specs.{PartRefusal.{IsMalformedPart}, Refusal.{is_sealed, IsTextOf}}
+use Rattle.ocfl_cursor.specs.{Refused.{RefusedRightly}, Stop.{is_read_as_part}}
 use Rattle.ocfl_cursor.specs.declared.ends.PartEnds.{PartEnds}
-use Rattle.ocfl_cursor.specs.declared.reading.CursorStop.TheVariants as stop
 use Rattle.ocfl_cursor.specs.declared.refused.PartRefused.{PartRefused}
+use Rattle.ocfl_cursor.specs.declared.showing.ShowStop.{ShowStop}
+use Rattle.ocfl_cursor.specs.declared.reading.CursorStop.TheVariants as stop
 use Rattle.ocfl_cursor.specs.declared.refused.PartRefused.TheVariants as part
 use Rattle.ocfl_cursor.specs.declared.refused.Refused.TheVariants as refused
-use Rattle.ocfl_cursor.specs.declared.showing.ShowStop.{ShowStop}
 use Rattle.ocfl_cursor.specs.declared.showing.ShowStop.TheVariants as show
 
 -- ---- the lines of a cursor

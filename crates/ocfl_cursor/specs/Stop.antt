@@ -2,12 +2,11 @@
 use Rattle.std.specs.Prelude.{◌≡◌, ℕ, ◌&&◌, nat_le, Bool, true, false, length, ⊤}
 use Rattle.ocfl_tree.specs.Place.{Text}
 use Rattle.ocfl_cursor.specs.PartRefusal.{is_part_front, PartRefusedRightly}
-use Rattle.ocfl_cursor.specs.Refused.{RefusedRightly}
-use Rattle.ocfl_cursor.specs.declared.ends.PartEnds.{PartEnds}
+use Rattle.ocfl_cursor.specs.{Refused.{RefusedRightly}, declared.ends.PartEnds.{PartEnds}}
 use Rattle.ocfl_cursor.specs.declared.part_reading.PartCursorStop.{PartCursorStop}
-use Rattle.ocfl_cursor.specs.declared.part_reading.PartCursorStop.TheVariants as part
 use Rattle.ocfl_cursor.specs.declared.reading.CursorStop.{CursorStop}
 use Rattle.ocfl_cursor.specs.declared.reading.CursorStop.TheVariants.{Read, Refused}
+use Rattle.ocfl_cursor.specs.declared.part_reading.PartCursorStop.TheVariants as part
 use Rattle.ocfl_cursor.specs.declared.refused.PartRefused.TheVariants as refused
 
 -- the bytes are rightly refused, unless the reader failed or memory was refused

@@ -1,7 +1,6 @@
 //! The cursor: how far a cycle is, and what its runs have spent.
 ghost use Rattle.std.specs.Prelude.{◌≡◌, ◌↔◌, IsSome, IfSome, IsNone};
-ghost use Rattle.ocfl_cursor.specs.Cursor.{IsCursor, new_cursor};
-ghost use Rattle.ocfl_cursor.specs.State.{state_of, cursor_of};
+ghost use Rattle.ocfl_cursor.specs.{Cursor.{IsCursor, new_cursor}, State.{state_of, cursor_of}};
 ghost use Rattle.ocfl_cursor.specs.Moves.{at_start, next_cycle, after_run};
 
 use crate::state::{State, is_short};
@@ -21,8 +20,7 @@ pub struct Cursor {
 }
 
 impl Model for Cursor {
-    ghost use Rattle.ocfl_cursor.specs.Cursor.{Cursor, IsCursor};
-    ghost use Rattle.ocfl_cursor.specs.State.{cursor_of};
+    ghost use Rattle.ocfl_cursor.specs.{Cursor.{Cursor, IsCursor}, State.{cursor_of}};
 
     ghost Value = { Cursor };
 

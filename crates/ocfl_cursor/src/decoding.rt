@@ -1,18 +1,12 @@
 //! Reading a cursor from its text, and why other bytes are refused.
-ghost use Rattle.std.specs.Prelude.{◌≡◌, ◌≢◌, ◌⊎◌, ◌≤◌, ℕ, List, ◌++◌, drop, length, is_some, IfOk};
-ghost use Rattle.std.specs.Prelude.{IfErr, IfSome, IsNone};
-ghost use Rattle.ocfl_tree.specs.Name.{IsPlace};
-ghost use Rattle.ocfl_tree.specs.Place.{Place as ModelPlace};
+ghost use Rattle.std.specs.Prelude.{◌≡◌, ◌≢◌, ◌⊎◌, ◌≤◌, ℕ, List, ◌++◌, drop, length, is_some, IfOk, IfErr, IfSome, IsNone};
+ghost use Rattle.ocfl_tree.specs.{Name.{IsPlace}, Place.{Place as ModelPlace}};
 ghost use Rattle.ocfl_report.specs.Text.{place_text};
 ghost use Rattle.ocfl_cursor.specs.Cursor.{State as ModelState, Cursor as ModelCursor};
 ghost use Rattle.ocfl_cursor.specs.State.{state_of};
-ghost use Rattle.ocfl_cursor.specs.Internal.Body.{version_line, files_line, FilesFit};
-ghost use Rattle.ocfl_cursor.specs.Internal.Body.{CountsFit, counts_text, IsStateLine};
-ghost use Rattle.ocfl_cursor.specs.Internal.Body.{AreLinesOf, IsBodyOf};
-ghost use Rattle.ocfl_cursor.specs.Refusal.{IsTextOf, is_cursor_front, is_version, refusal};
-ghost use Rattle.ocfl_cursor.specs.Refusal.{malformed};
-ghost use Rattle.ocfl_cursor.specs.Refused.{RefusedRightly};
-ghost use Rattle.ocfl_cursor.specs.Sealed.{first_line as first_line_of};
+ghost use Rattle.ocfl_cursor.specs.Internal.Body.{version_line, files_line, FilesFit, CountsFit, counts_text, IsStateLine, AreLinesOf, IsBodyOf};
+ghost use Rattle.ocfl_cursor.specs.Refusal.{IsTextOf, is_cursor_front, is_version, refusal, malformed};
+ghost use Rattle.ocfl_cursor.specs.{Refused.{RefusedRightly}, Sealed.{first_line as first_line_of}};
 ghost use Rattle.ocfl_cursor.specs.declared.form.Version.{Version as ModelVersion};
 
 use crate::cursor::Cursor;

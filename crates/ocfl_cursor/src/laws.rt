@@ -1,19 +1,16 @@
 //! The laws of a cursor's text: it determines the cursor, and it reads back. The laws of a meter.
 ghost use Rattle.std.specs.Prelude.{◌≡◌, ◌⊎◌, ◌+◌, ◌^◌, ◌<◌, ◌≤◌, List, ℕ, length, IfOk, IfErr};
-ghost use Rattle.ocfl_cursor.specs.Cursor.{Cursor as ModelCursor, State as ModelState};
-ghost use Rattle.ocfl_cursor.specs.Cursor.{IsCursor, IsShortPlace};
+ghost use Rattle.ocfl_cursor.specs.Cursor.{Cursor as ModelCursor, State as ModelState, IsCursor, IsShortPlace};
 ghost use Rattle.ocfl_cursor.specs.Meter.{Meter as ModelMeter, IsMeter, MayStart};
-ghost use Rattle.ocfl_cursor.specs.Moves.{after_run};
-ghost use Rattle.ocfl_cursor.specs.Part.{IsPartText};
+ghost use Rattle.ocfl_cursor.specs.{Moves.{after_run}, Part.{IsPartText}};
 ghost use Rattle.ocfl_cursor.specs.PartRefusal.{PartRefusedRightly};
-ghost use Rattle.ocfl_cursor.specs.Refusal.{IsTextOf, not_cursor};
-ghost use Rattle.ocfl_cursor.specs.Refused.{IsRefused};
+ghost use Rattle.ocfl_cursor.specs.{Refusal.{IsTextOf, not_cursor}, Refused.{IsRefused}};
 ghost use Rattle.ocfl_cursor.specs.Shown.{AreShown, IsOfNoBytes, UnshownRightly};
 ghost use Rattle.ocfl_cursor.specs.Stop.{PartStopsRightly, max_part_text};
 ghost use Rattle.ocfl_cursor.specs.declared.ends.PartEnds.{PartEnds as ModelEnds};
-ghost use Rattle.ocfl_cursor.specs.declared.part_reading.PartCursorStop as part_stop;
 ghost use Rattle.ocfl_cursor.specs.declared.showing.ShowStop.{ShowStop as ModelShowStop};
 ghost use Rattle.ocfl_cursor.specs.declared.refused.PartRefused.{PartRefused as ModelRefused};
+ghost use Rattle.ocfl_cursor.specs.declared.part_reading.PartCursorStop as part_stop;
 
 use crate::cursor::Cursor;
 use crate::decoding::decode;

@@ -1,14 +1,10 @@
 //! Reading a part's cursor from its text, and why other bytes are refused.
-ghost use Rattle.std.specs.Prelude.{◌≡◌, ◌≢◌, ◌⊎◌, All, List, ℕ, ◌++◌, Option, IfOk, IfErr, IsTrue};
-ghost use Rattle.std.specs.Prelude.{◌↔◌, codes};
-ghost use Rattle.ocfl_tree.specs.Name.{IsPlace};
-ghost use Rattle.ocfl_tree.specs.Place.{Place as ModelPlace};
+ghost use Rattle.std.specs.Prelude.{◌≡◌, ◌≢◌, ◌⊎◌, All, List, ℕ, ◌++◌, Option, IfOk, IfErr, IsTrue, ◌↔◌, codes};
+ghost use Rattle.ocfl_tree.specs.{Name.{IsPlace}, Place.{Place as ModelPlace}};
 ghost use Rattle.ocfl_report.specs.Text.{place_text};
 ghost use Rattle.ocfl_cursor.specs.Cursor.{Cursor as ModelCursor};
-ghost use Rattle.ocfl_cursor.specs.Part.{HasNames, AreEnds, end_text, end_line, ends_lines};
-ghost use Rattle.ocfl_cursor.specs.Part.{IsPartText};
-ghost use Rattle.ocfl_cursor.specs.PartRefusal.{PartRefusedRightly};
-ghost use Rattle.ocfl_cursor.specs.Internal.Part.{IsPartBody};
+ghost use Rattle.ocfl_cursor.specs.Part.{HasNames, AreEnds, end_text, end_line, ends_lines, IsPartText};
+ghost use Rattle.ocfl_cursor.specs.{PartRefusal.{PartRefusedRightly}, Internal.Part.{IsPartBody}};
 ghost use Rattle.ocfl_cursor.specs.declared.ends.PartEnds.{PartEnds as ModelEnds};
 
 use crate::cursor::Cursor;

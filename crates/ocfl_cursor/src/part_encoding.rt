@@ -1,8 +1,7 @@
 //! Writing the text of a part's cursor, and the lines that are shown of it.
 ghost use Rattle.std.specs.Prelude.{◌≡◌, ◌++◌, Some, IfOk, OnOk};
 ghost use Rattle.ocfl_cursor.specs.Cursor.{IsCursor};
-ghost use Rattle.ocfl_cursor.specs.Part.{AreEnds, end_text, end_line, ends_lines, part_lines};
-ghost use Rattle.ocfl_cursor.specs.Part.{part_text};
+ghost use Rattle.ocfl_cursor.specs.Part.{AreEnds, end_text, end_line, ends_lines, part_lines, part_text};
 
 use crate::cursor::Cursor;
 use crate::encoding::cursor_lines;

@@ -1,7 +1,6 @@
 //! Reading a part's stored cursor from a reader.
 ghost use Rattle.std.specs.Prelude.{◌≡◌, ◌⊎◌, IfOk, IfErr, IfSome};
-ghost use Rattle.ocfl_cursor.specs.Part.{IsPartText};
-ghost use Rattle.ocfl_cursor.specs.Stop.{PartStopsRightly};
+ghost use Rattle.ocfl_cursor.specs.{Part.{IsPartText}, Stop.{PartStopsRightly}};
 
 use crate::cursor::Cursor;
 use crate::ends::PartEnds;

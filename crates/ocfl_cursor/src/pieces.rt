@@ -1,6 +1,5 @@
 //! Taking stored texts apart: prefixes and lines.
-ghost use Rattle.std.specs.Prelude.{◌≡◌, ◌≢◌, List, ℕ, [], ◌∷◌, ◌++◌, ◌==◌, count_by, IfSome};
-ghost use Rattle.std.specs.Prelude.{IsNone};
+ghost use Rattle.std.specs.Prelude.{◌≡◌, ◌≢◌, List, ℕ, [], ◌∷◌, ◌++◌, ◌==◌, count_by, IfSome, IsNone};
 ghost use Rattle.ocfl_cursor.specs.Sealed.{first_line as first_line_of};
 
 use ocfl_report::split_once;

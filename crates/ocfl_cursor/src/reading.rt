@@ -1,7 +1,6 @@
 //! Reading a stored cursor from a reader.
 ghost use Rattle.std.specs.Prelude.{◌≡◌, ◌⊎◌, take, IfOk, IfErr, IfSome};
-ghost use Rattle.ocfl_cursor.specs.Refusal.{IsTextOf};
-ghost use Rattle.ocfl_cursor.specs.Stop.{StopsRightly};
+ghost use Rattle.ocfl_cursor.specs.{Refusal.{IsTextOf}, Stop.{StopsRightly}};
 
 use crate::cursor::Cursor;
 use crate::decoding::decode;

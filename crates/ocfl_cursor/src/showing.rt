@@ -1,11 +1,8 @@
 //! Showing a stored cursor, whether of a whole root or of one part.
 ghost use Rattle.std.specs.Prelude.{◌≡◌, ◌≤◌, length, true, IfOk, IfErr, IfSome};
-ghost use Rattle.ocfl_cursor.specs.PartRefusal.{is_part_front};
-ghost use Rattle.ocfl_cursor.specs.Refused.{RefusedRightly};
-ghost use Rattle.ocfl_cursor.specs.Shown.{AreShown, AreWholeLines, IsShownFrom};
-ghost use Rattle.ocfl_cursor.specs.Shown.{PartUnshownRightly, UnshownRightly};
-ghost use Rattle.ocfl_cursor.specs.Internal.Part.{ArePartTextLines};
-ghost use Rattle.ocfl_cursor.specs.Stop.{max_part_text};
+ghost use Rattle.ocfl_cursor.specs.{PartRefusal.{is_part_front}, Refused.{RefusedRightly}};
+ghost use Rattle.ocfl_cursor.specs.Shown.{AreShown, AreWholeLines, IsShownFrom, PartUnshownRightly, UnshownRightly};
+ghost use Rattle.ocfl_cursor.specs.{Internal.Part.{ArePartTextLines}, Stop.{max_part_text}};
 
 use crate::decoding::decode;
 use crate::encoding::cursor_lines;

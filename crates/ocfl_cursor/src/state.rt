@@ -1,7 +1,6 @@
 //! Where a cursor is: at the start, after a place, or at the end.
 ghost use Rattle.std.specs.Prelude.{◌↔◌, IsTrue};
-ghost use Rattle.ocfl_cursor.specs.Cursor.{IsShortPlace};
-ghost use Rattle.ocfl_cursor.specs.State.{state_of};
+ghost use Rattle.ocfl_cursor.specs.{Cursor.{IsShortPlace}, State.{state_of}};
 
 use ocfl_tree::Place;
 use ocfl_tree::laws::every_place_has_names;

@@ -1,12 +1,9 @@
 -- How a file is read within a limit.
 use Rattle.std.proofs.Common.{◌≡◌, ◌≢◌, ℕ, ◌+◌, ◌-◌, ◌*◌, ◌<◌, ◌≤◌, min, max, Bool, false, [], ◌∷◌, ◌++◌, length, inl, inr, sym, ◌∙◌, subst, refl, append-nil, length-append, arith}
 use Rattle.std.specs.Prelude.{IsTrue}
-use Rattle.ocfl_tree.specs.Place.{Text, Place}
-use Rattle.ocfl_tree.specs.StorageRoot.{StorageRoot}
-use Rattle.ocfl_tree.specs.Store.{Store, Did}
+use Rattle.ocfl_tree.specs.{Place.{Text, Place}, StorageRoot.{StorageRoot}, Store.{Store, Did}}
 use Rattle.ocfl_tree.specs.Calls.{Opens, OpenFails, Reads, ReadFails, Closes, opening}
-use Rattle.ocfl_tree.specs.Reading.{IsReading}
-use Rattle.ocfl_tree.specs.declared.store.Trouble.{Trouble}
+use Rattle.ocfl_tree.specs.{Reading.{IsReading}, declared.store.Trouble.{Trouble}}
 use Rattle.ocfl_tree.specs.declared.store.Trouble.TheVariants.{Device, Absent, Memory}
 use Rattle.ocfl_digest.specs.Bounded.{IsBoundedTo, ReadsBounded, StopsReading}
 use Rattle.ocfl_digest.specs.declared.bounded.Bounded.{Bounded}

@@ -1,13 +1,10 @@
 -- What ended hashers give.
 use Rattle.std.proofs.Common.{◌≡◌, ℕ, List, Bool, true, false, if◌then◌else◌, Option, Some, None, ap, refl}
 use Rattle.ocfl_tree.specs.Place.{Text}
-use Rattle.ocfl_digest.specs.Digest.{digest_bytes_of}
-use Rattle.ocfl_digest.specs.Digests.{digest_in, AreDigests}
-use Rattle.ocfl_digest.specs.Internal.Hashers.{IsFed}
-use Rattle.ocfl_digest.specs.Wanted.{wants}
+use Rattle.ocfl_digest.specs.{Digest.{digest_bytes_of}, Digests.{digest_in, AreDigests}}
+use Rattle.ocfl_digest.specs.{Internal.Hashers.{IsFed}, Wanted.{wants}}
 use Rattle.ocfl_digest.specs.declared.algorithm.Algorithm.TheVariants.{Md5, Sha1, Sha256, Sha512, Sha512_256}
-use Rattle.ocfl_digest.specs.declared.digests.Digests.{Digests}
-use Rattle.ocfl_digest.specs.declared.wanted.Wanted.{Wanted}
+use Rattle.ocfl_digest.specs.{declared.digests.Digests.{Digests}, declared.wanted.Wanted.{Wanted}}
 
 -- a digest is there exactly if it is wanted
 pub ended : (digest : Text → List ℕ) (wanted : Bool) (bytes : Text) (o : Option (List ℕ)) → IsFed (λ d m. d ≡ digest m) wanted bytes o → o ≡ (if wanted then Some (digest bytes) else None)

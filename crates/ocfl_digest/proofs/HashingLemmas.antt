@@ -1,19 +1,14 @@
 -- How a file is hashed piece by piece.
 use Rattle.std.proofs.Common.{◌≡◌, ◌≢◌, ℕ, ◌+◌, ◌-◌, ◌*◌, ◌^◌, ◌<◌, ◌≤◌, min, max, Bool, false, true, List, [], ◌∷◌, ◌++◌, length, Some, sym, ◌∙◌, ap, subst, refl, append-nil, length-append, arith}
 use Rattle.std.specs.Prelude.{IsTrue}
-use Rattle.ocfl_tree.specs.Place.{Text, Place}
-use Rattle.ocfl_tree.specs.StorageRoot.{StorageRoot, file_at}
+use Rattle.ocfl_tree.specs.{Place.{Text, Place}, StorageRoot.{StorageRoot, file_at}}
 use Rattle.ocfl_tree.specs.Store.{Store, Did}
 use Rattle.ocfl_tree.specs.Calls.{Opens, OpenFails, Reads, ReadFails, Closes, opening}
-use Rattle.ocfl_tree.specs.Reading.{IsReading}
-use Rattle.ocfl_tree.specs.declared.store.Trouble.{Trouble}
+use Rattle.ocfl_tree.specs.{Reading.{IsReading}, declared.store.Trouble.{Trouble}}
 use Rattle.ocfl_tree.specs.declared.store.Trouble.TheVariants.{Device, Absent, Memory}
-use Rattle.ocfl_digest.specs.Digests.{AreDigests, AreDigestsOfSome}
-use Rattle.ocfl_digest.specs.Internal.Hashers.{AreFed}
-use Rattle.ocfl_digest.specs.Hashing.{HashesFile, StopsHashing}
-use Rattle.ocfl_digest.specs.Internal.Pieces.{FeedsPiece}
-use Rattle.ocfl_digest.specs.Stop.{cause_of}
-use Rattle.ocfl_digest.specs.declared.digests.Digests.{Digests}
+use Rattle.ocfl_digest.specs.{Digests.{AreDigests, AreDigestsOfSome}, Internal.Hashers.{AreFed}}
+use Rattle.ocfl_digest.specs.{Hashing.{HashesFile, StopsHashing}, Internal.Pieces.{FeedsPiece}}
+use Rattle.ocfl_digest.specs.{Stop.{cause_of}, declared.digests.Digests.{Digests}}
 use Rattle.ocfl_digest.specs.declared.hashers.Hashers.{Hashers}
 use Rattle.ocfl_digest.specs.declared.stop.Cause.TheVariants.{TooLong}
 use Rattle.ocfl_digest.specs.declared.wanted.Wanted.{Wanted}

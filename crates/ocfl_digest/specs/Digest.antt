@@ -1,7 +1,6 @@
 -- The digests of a file's bytes.
 use Rattle.std.specs.Prelude.{ℕ, List}
-use Rattle.sha2.specs.Sha256.{sha256}
-use Rattle.sha2.specs.Sha512.{sha512, sha512_256}
+use Rattle.sha2.specs.{Sha256.{sha256}, Sha512.{sha512, sha512_256}}
 use Rattle.sha1.specs.Sha1.{sha1}
 use Rattle.md5.specs.Md5.{md5}
 use Rattle.ocfl_tree.specs.Place.{Text}

@@ -1,12 +1,10 @@
 -- The digests of some bytes, one for each algorithm that is wanted.
 use Rattle.std.specs.Prelude.{◌≡◌, ℕ, List, length, if◌then◌else◌, Option, Some, None}
 use Rattle.ocfl_tree.specs.Place.{Text}
-use Rattle.ocfl_digest.specs.Digest.{digest_bytes_of}
-use Rattle.ocfl_digest.specs.Wanted.{wants}
+use Rattle.ocfl_digest.specs.{Digest.{digest_bytes_of}, Wanted.{wants}}
 use Rattle.ocfl_digest.specs.declared.algorithm.Algorithm.{Algorithm}
 use Rattle.ocfl_digest.specs.declared.algorithm.Algorithm.TheVariants.{Md5, Sha1, Sha256, Sha512, Sha512_256}
-use Rattle.ocfl_digest.specs.declared.digests.Digests.{Digests}
-use Rattle.ocfl_digest.specs.declared.wanted.Wanted.{Wanted}
+use Rattle.ocfl_digest.specs.{declared.digests.Digests.{Digests}, declared.wanted.Wanted.{Wanted}}
 
 -- the digest that is held for an algorithm
 abbrev pub digest_in : Digests → Algorithm → Option (List ℕ)

@@ -1,12 +1,8 @@
 -- What hashing a file does to a store that tells its tree, and what it answers.
 use Rattle.std.specs.Prelude.{◌≡◌, ℕ, ◌^◌, ◌≤◌, max, false, true, List, [], ◌∷◌, length, Some, None}
-use Rattle.ocfl_tree.specs.Place.{Text, Place}
-use Rattle.ocfl_tree.specs.StorageRoot.{StorageRoot, file_at}
-use Rattle.ocfl_tree.specs.Store.{Store, Did}
-use Rattle.ocfl_tree.specs.Calls.{opening}
-use Rattle.ocfl_tree.specs.declared.store.Opening.{Opening}
-use Rattle.ocfl_digest.specs.Digests.{AreDigests}
-use Rattle.ocfl_digest.specs.declared.digests.Digests.{Digests}
+use Rattle.ocfl_tree.specs.{Place.{Text, Place}, StorageRoot.{StorageRoot, file_at}}
+use Rattle.ocfl_tree.specs.{Store.{Store, Did}, Calls.{opening}, declared.store.Opening.{Opening}}
+use Rattle.ocfl_digest.specs.{Digests.{AreDigests}, declared.digests.Digests.{Digests}}
 use Rattle.ocfl_digest.specs.declared.stop.Cause.{Cause}
 use Rattle.ocfl_digest.specs.declared.stop.Cause.TheVariants.{Device, Absent, Memory, TooLong}
 use Rattle.ocfl_digest.specs.declared.wanted.Wanted.{Wanted}

@@ -1,8 +1,7 @@
 //! Reading a whole file within a limit of bytes.
 ghost use Rattle.std.specs.Prelude.{◌≡◌, IsTrue, IfOk, MatchResult};
-ghost use Rattle.ocfl_tree.specs.StorageRoot.{StorageRoot};
+ghost use Rattle.ocfl_tree.specs.{StorageRoot.{StorageRoot}, Store.{IfTold}};
 ghost use Rattle.ocfl_digest.specs.Bounded.{IsWithin, ReadsBounded, StopsReading};
-ghost use Rattle.ocfl_tree.specs.Store.{IfTold};
 
 use crate::pieces::read_piece;
 use ocfl_tree::{Place, Tree, Trouble};

@@ -1,6 +1,5 @@
 //! The digests of a file, one for each algorithm that was wanted.
-ghost use Rattle.std.specs.Prelude.{◌≡◌};
-ghost use Rattle.std.specs.Option.{option_copied};
+ghost use Rattle.std.specs.{Prelude.{◌≡◌}, Option.{option_copied}};
 ghost use Rattle.ocfl_digest.specs.Digests.{digest_in};
 
 use crate::algorithm::Algorithm;

@@ -3,8 +3,7 @@ ghost use Rattle.std.specs.Prelude.{◌≡◌, ◌++◌, [], Bool, if◌then◌e
 ghost use Rattle.sha1.specs.Sha1 as sha1;
 ghost use Rattle.md5.specs.Md5 as md5;
 ghost use Rattle.ocfl_tree.specs.Place.{Text};
-ghost use Rattle.ocfl_digest.specs.Internal.Hashers.{IsFed, AreFed};
-ghost use Rattle.ocfl_digest.specs.Digests.{AreDigests};
+ghost use Rattle.ocfl_digest.specs.{Internal.Hashers.{IsFed, AreFed}, Digests.{AreDigests}};
 ghost use Rattle.ocfl_digest.specs.declared.wanted.Wanted.{Wanted};
 
 use crate::algorithm::Algorithm;

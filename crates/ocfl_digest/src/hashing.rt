@@ -1,9 +1,7 @@
 //! Hashing a file of a store by one opening.
 ghost use Rattle.std.specs.Prelude.{◌≡◌, ◌<◌, ◌≤◌, ◌^◌, ◌↔◌, IsTrue, IfOk, IfErr, MatchResult};
-ghost use Rattle.ocfl_tree.specs.StorageRoot.{StorageRoot};
-ghost use Rattle.ocfl_digest.specs.Digests.{AreDigestsOfSome};
-ghost use Rattle.ocfl_digest.specs.Hashing.{HashesFile, StopsHashing};
-ghost use Rattle.ocfl_tree.specs.Store.{IfTold};
+ghost use Rattle.ocfl_tree.specs.{StorageRoot.{StorageRoot}, Store.{IfTold}};
+ghost use Rattle.ocfl_digest.specs.{Digests.{AreDigestsOfSome}, Hashing.{HashesFile, StopsHashing}};
 
 use crate::block::{BLOCK_LEN, Block};
 use crate::digests::Digests;

@@ -1,8 +1,7 @@
 //! The laws of algorithms and their names.
 ghost use Rattle.std.specs.Prelude.{◌≡◌, Some};
 ghost use Rattle.ocfl_tree.specs.Ascending.{IsAscending};
-ghost use Rattle.ocfl_digest.specs.Algorithm.{algorithm_name, algorithm_cmp, algorithm_named};
-ghost use Rattle.ocfl_digest.specs.Algorithm.{supported};
+ghost use Rattle.ocfl_digest.specs.Algorithm.{algorithm_name, algorithm_cmp, algorithm_named, supported};
 ghost use Rattle.ocfl_digest.specs.declared.algorithm.Algorithm.{Algorithm};
 
 /// The supported algorithms are in the order of their names, and each is found by its name.

@@ -1,6 +1,5 @@
 //! The pieces in which a file is read and hashed.
-ghost use Rattle.std.specs.Prelude.{◌≡◌, ◌≢◌, ◌≤◌, IsTrue, IfOk, IfErr, MatchResult, Err, take};
-ghost use Rattle.std.specs.Prelude.{max};
+ghost use Rattle.std.specs.Prelude.{◌≡◌, ◌≢◌, ◌≤◌, IsTrue, IfOk, IfErr, MatchResult, Err, take, max};
 ghost use Rattle.ocfl_tree.specs.Calls.{Reads, ReadFails};
 ghost use Rattle.ocfl_digest.specs.Internal.Pieces.{FeedsPiece};
 

@@ -1,7 +1,6 @@
 //! A set of algorithms.
 ghost use Rattle.std.specs.Prelude.{◌≡◌, ◌≢◌, true, false};
-ghost use Rattle.ocfl_digest.specs.Wanted.{wants};
-ghost use Rattle.ocfl_digest.specs.declared.algorithm.Algorithm.{Algorithm};
+ghost use Rattle.ocfl_digest.specs.{Wanted.{wants}, declared.algorithm.Algorithm.{Algorithm}};
 
 use crate::algorithm::Algorithm;
 

@@ -1,10 +1,8 @@
 -- What is answered in a directory, at the place that was asked for.
 use Rattle.std.proofs.Common.{◌≡◌, ◌≢◌, List, [], ◌∷◌, ◌++◌, Some, None, sym, ◌∙◌, ap, subst}
 use Rattle.std.specs.Prelude.{IfOk, IfErr, MatchResult, Result, Ok, Err}
-use Rattle.ocfl_tree.specs.Place.{Text, Place}
-use Rattle.ocfl_tree.specs.StorageRoot.{StorageRoot, file, dir, at}
-use Rattle.ocfl_tree.specs.Listing.{IsListing, kind_at}
-use Rattle.ocfl_tree.specs.declared.store.Entry.{Entry}
+use Rattle.ocfl_tree.specs.{Place.{Text, Place}, StorageRoot.{StorageRoot, file, dir, at}}
+use Rattle.ocfl_tree.specs.{Listing.{IsListing, kind_at}, declared.store.Entry.{Entry}}
 use Rattle.ocfl_tree.proofs.Trees.{some_not_none}
 use Rattle.ocfl_folder.proofs.Ways.{nothing_there}
 

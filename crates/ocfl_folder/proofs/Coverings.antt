@@ -1,21 +1,15 @@
 -- What the entries of a listing cover, name by name.
 use Rattle.std.proofs.Common.{◌≡◌, ◌⊎◌, inl, inr, suc, zero, Bool, true, false, cond, List, [], ◌∷◌, ◌++◌, map, Option, Some, None, sym, ◌∙◌, ap, subst, refl, arith}
-use Rattle.std.specs.List.{Contains, AllByRecursion}
-use Rattle.std.specs.List.Sorted.{IsPermutation}
 use Rattle.std.proofs.lemmas.List.{map-append}
 use Rattle.std.proofs.lemmas.List.Elements.{All-nil, All-push, All-same, recursion_from_All, Contains-append_left, Contains-push, Contains-append_cases}
 use Rattle.std.proofs.lemmas.List.Sorted.{All-permutation, Contains-permutation, IsPermutation-map}
-use Rattle.ocfl_tree.specs.Place.{Text, Place, text_eq}
-use Rattle.ocfl_tree.specs.Ascending.{IsAmong}
-use Rattle.ocfl_tree.specs.StorageRoot.{StorageRoot}
-use Rattle.ocfl_tree.specs.Listing.{kind_at, kind_in, IsListing}
-use Rattle.ocfl_tree.specs.declared.store.Kind.{Kind}
-use Rattle.ocfl_tree.specs.declared.store.Entry.{Entry}
-use Rattle.ocfl_tree.proofs.Places.{text_eq-Decides, differ}
-use Rattle.ocfl_tree.proofs.Trees.{some_not_none}
+use Rattle.std.specs.{List.{Contains, AllByRecursion}, List.Sorted.{IsPermutation}}
 use Rattle.std.specs.Prelude.{IfOk, Result, Ok, Err}
-use Rattle.ocfl_folder.specs.System.{AreNames, Gives}
-use Rattle.ocfl_folder.specs.Internal.Covering.{Adds, CoversBut, Covers}
+use Rattle.ocfl_tree.specs.{Place.{Text, Place, text_eq}, Ascending.{IsAmong}}
+use Rattle.ocfl_tree.specs.{StorageRoot.{StorageRoot}, Listing.{kind_at, kind_in, IsListing}}
+use Rattle.ocfl_tree.specs.{declared.store.Kind.{Kind}, declared.store.Entry.{Entry}}
+use Rattle.ocfl_tree.proofs.{Places.{text_eq-Decides, differ}, Trees.{some_not_none}}
+use Rattle.ocfl_folder.specs.{System.{AreNames, Gives}, Internal.Covering.{Adds, CoversBut, Covers}}
 
 abbrev names : List Entry → List Text
 names es = map (λ e. e.name) es

@@ -1,8 +1,7 @@
 -- Entries whose names strictly rise.
 use Rattle.std.proofs.Common.{◌≡◌, ℕ, suc, ◌<◌, false, cond, List, [], ◌∷◌, length, get_or, Some, None, sym, ◌∙◌, ap, refl, arith}
 use Rattle.std.specs.declared.cmp.Ordering.TheVariants.{Less}
-use Rattle.ocfl_tree.specs.Place.{Text, text_cmp, text_eq}
-use Rattle.ocfl_tree.specs.Listing.{AreApart, kind_in}
+use Rattle.ocfl_tree.specs.{Place.{Text, text_cmp, text_eq}, Listing.{AreApart, kind_in}}
 use Rattle.ocfl_tree.specs.declared.store.Entry.{Entry}
 use Rattle.ocfl_tree.proofs.Orders.{not_below_itself}
 use Rattle.ocfl_tree.proofs.Places.{text_eq-Decides, text_cmp_total, not_decided}

@@ -1,14 +1,11 @@
 -- The way to a place: what is on it, name by name.
 use Rattle.std.proofs.Common.{◌≡◌, ◌≢◌, ℕ, ◌+◌, ◌-◌, ◌<◌, ◌≤◌, true, cond, [], ◌∷◌, ◌++◌, length, take, drop, get_or, Option, Some, None, sym, ◌∙◌, ap, refl, arith, append-nil, append_assoc}
-use Rattle.std.specs.Option.{option_map}
-use Rattle.ocfl_tree.specs.Place.{Text, Place}
-use Rattle.ocfl_tree.specs.StorageRoot.{StorageRoot, Leaf, file, dir, other, lookup, is_dir_leaf, at}
-use Rattle.ocfl_tree.specs.Listing.{kind_of, kind_at}
-use Rattle.ocfl_tree.specs.declared.store.Kind.TheVariants.{File, Dir}
 use Rattle.std.proofs.lemmas.List.{take_more, take-append-drop}
-use Rattle.ocfl_tree.specs.Place.{text_eq}
-use Rattle.ocfl_tree.proofs.Places.{text_eq-Decides}
-use Rattle.ocfl_tree.proofs.Trees.{some_not_none, at-append}
+use Rattle.std.specs.Option.{option_map}
+use Rattle.ocfl_tree.specs.Place.{Text, Place, text_eq}
+use Rattle.ocfl_tree.specs.StorageRoot.{StorageRoot, Leaf, file, dir, other, lookup, is_dir_leaf, at}
+use Rattle.ocfl_tree.specs.{Listing.{kind_of, kind_at}, declared.store.Kind.TheVariants.{File, Dir}}
+use Rattle.ocfl_tree.proofs.{Places.{text_eq-Decides}, Trees.{some_not_none, at-append}}
 
 -- ---- what a look at a kind shows
 

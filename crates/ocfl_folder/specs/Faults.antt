@@ -1,6 +1,5 @@
 -- Which trouble is answered for an error, and when what is asked for is not there.
-use Rattle.std.specs.Prelude.{◌≡◌, ◌↔◌, Option, Some, None}
-use Rattle.std.specs.IoError.{error_kind}
+use Rattle.std.specs.{Prelude.{◌≡◌, ◌↔◌, Option, Some, None}, IoError.{error_kind}}
 use Rattle.std.specs.declared.io.Error.{Error}
 use Rattle.std.specs.declared.io.ErrorKind.TheVariants.{NotFound, OutOfMemory}
 use Rattle.ocfl_tree.specs.declared.store.Trouble.{Trouble}

@@ -1,7 +1,6 @@
 -- The calls of a folder, as a system that tells its tree keeps them.
 use Rattle.std.specs.Prelude.{ℕ, ◌+◌, true, false, [], ◌∷◌, ◌++◌, Option, max}
-use Rattle.ocfl_tree.specs.Place.{Text, Place}
-use Rattle.ocfl_tree.specs.Store.{Store}
+use Rattle.ocfl_tree.specs.{Place.{Text, Place}, Store.{Store}}
 use Rattle.ocfl_tree.specs.Calls.{opening, change_last, with_given, with_failure}
 use Rattle.ocfl_folder.specs.declared.answer.Answer.{Answer}
 use Rattle.ocfl_folder.specs.declared.answer.Answer.TheVariants.{Listed, NotListed, Opened, NotOpened}

@@ -1,10 +1,7 @@
 -- What a system that tells its tree tells, and what its calls show of that.
 use Rattle.std.specs.Prelude.{◌≡◌, ◌≢◌, ◌↔◌, Bool, true, false, List, [], ◌∷◌, Option, Some, None}
-use Rattle.ocfl_tree.specs.Place.{Text, Place}
-use Rattle.ocfl_tree.specs.Ascending.{IsAmong}
-use Rattle.ocfl_tree.specs.StorageRoot.{StorageRoot, dir, at}
-use Rattle.ocfl_tree.specs.Store.{Store}
-use Rattle.ocfl_tree.specs.Listing.{kind_at}
+use Rattle.ocfl_tree.specs.{Place.{Text, Place}, Ascending.{IsAmong}}
+use Rattle.ocfl_tree.specs.{StorageRoot.{StorageRoot, dir, at}, Store.{Store}, Listing.{kind_at}}
 
 pub record Standing : Type 0 where
   -- what is in the folder, and the calls of the folder that were noted

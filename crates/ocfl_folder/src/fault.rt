@@ -1,6 +1,5 @@
 //! Why one try of a call gave nothing.
-ghost use Rattle.std.specs.Prelude.{◌≡◌, ◌≢◌, ◌↔◌, ◌∷◌, []};
-ghost use Rattle.std.specs.IoError.{error_kind};
+ghost use Rattle.std.specs.{Prelude.{◌≡◌, ◌≢◌, ◌↔◌, ◌∷◌, []}, IoError.{error_kind}};
 ghost use Rattle.ocfl_folder.specs.Internal.Absence.{IsAbsent};
 
 use crate::failure::Failure;

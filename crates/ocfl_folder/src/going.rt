@@ -1,11 +1,7 @@
 //! Going from one directory of a folder to another, name by name.
-ghost use Rattle.std.specs.Prelude.{◌≡◌, ◌≢◌, ◌≤◌, ◌-◌, ◌++◌, ◌∷◌, [], IsTrue, IfOk, IfErr, OnOk};
-ghost use Rattle.std.specs.Prelude.{MatchResult, Some, None, length, take};
-ghost use Rattle.ocfl_tree.specs.Place.{Text, Place as Spot};
-ghost use Rattle.ocfl_tree.specs.StorageRoot.{at};
-ghost use Rattle.ocfl_tree.specs.Listing.{kind_at};
-ghost use Rattle.ocfl_folder.specs.System.{IfHere};
-ghost use Rattle.ocfl_folder.specs.Internal.Absence.{IsAbsent};
+ghost use Rattle.std.specs.Prelude.{◌≡◌, ◌≢◌, ◌≤◌, ◌-◌, ◌++◌, ◌∷◌, [], IsTrue, IfOk, IfErr, OnOk, MatchResult, Some, None, length, take};
+ghost use Rattle.ocfl_tree.specs.{Place.{Text, Place as Spot}, StorageRoot.{at}, Listing.{kind_at}};
+ghost use Rattle.ocfl_folder.specs.{System.{IfHere}, Internal.Absence.{IsAbsent}};
 
 use crate::fault::{TryFault, entry_fault_of, fault_of, wrong};
 use crate::node::{Node, Seen};

@@ -1,8 +1,7 @@
 //! The entries of a directory.
 ghost use Rattle.std.specs.Prelude.{◌≡◌, ◌≤◌, ◌++◌, ◌∷◌, [], IsTrue, IfOk, IfErr, OnOk, length};
 ghost use Rattle.std.specs.List.Sorted.{IsPermutation};
-ghost use Rattle.ocfl_tree.specs.Listing.{AreApart, IsOrdinary};
-ghost use Rattle.ocfl_tree.specs.StorageRoot.{max_entries};
+ghost use Rattle.ocfl_tree.specs.{Listing.{AreApart, IsOrdinary}, StorageRoot.{max_entries}};
 ghost use Rattle.ocfl_folder.specs.Internal.Absence.{IsAbsent};
 
 use crate::fault::{TryFault, wrong};

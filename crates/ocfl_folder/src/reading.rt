@@ -1,11 +1,7 @@
 //! Listing the directory that a system is in, and opening a file there.
-ghost use Rattle.std.specs.Prelude.{◌≡◌, ◌≢◌, ◌++◌, ◌∷◌, [], IsTrue, IfOk, OnOk, IfErr};
-ghost use Rattle.std.specs.Prelude.{MatchResult};
-ghost use Rattle.std.specs.Prelude.{◌≤◌, ◌<◌, Some, None, length, take};
-ghost use Rattle.ocfl_tree.specs.StorageRoot.{file, at};
-ghost use Rattle.ocfl_tree.specs.Listing.{IsListing, IsOrdinary, kind_at};
-ghost use Rattle.ocfl_folder.specs.System.{IfHere, Gives};
-ghost use Rattle.ocfl_folder.specs.Internal.Covering.{Adds, Covers};
+ghost use Rattle.std.specs.Prelude.{◌≡◌, ◌≢◌, ◌++◌, ◌∷◌, [], IsTrue, IfOk, OnOk, IfErr, MatchResult, ◌≤◌, ◌<◌, Some, None, length, take};
+ghost use Rattle.ocfl_tree.specs.{StorageRoot.{file, at}, Listing.{IsListing, IsOrdinary, kind_at}};
+ghost use Rattle.ocfl_folder.specs.{System.{IfHere, Gives}, Internal.Covering.{Adds, Covers}};
 ghost use Rattle.ocfl_folder.specs.Internal.Absence.{IsAbsent};
 
 use crate::fault::{TryFault, entry_fault_of, fault_of, wrong};

@@ -1,16 +1,11 @@
 -- What a store is asked while declarations are read.
 use Rattle.std.proofs.Common.{◌≡◌, ◌⊎◌, inl, inr, ◌∙◌, ℕ, ◌+◌, true, false, List, [], ◌∷◌, ◌++◌, drop, length, refl, sym, ap, subst, Option, Some, None, append_assoc, append-nil}
-use Rattle.std.specs.Prelude.{String, string_bytes}
-use Rattle.std.specs.Option.{option_map}
+use Rattle.std.specs.{Prelude.{String, string_bytes}, Option.{option_map}}
 use Rattle.std.specs.declared.alloc.Global.{Global}
-use Rattle.ocfl_tree.specs.Place.{Text, Place}
-use Rattle.ocfl_tree.specs.StorageRoot.{StorageRoot, file_at}
-use Rattle.ocfl_tree.specs.Store.{Store, Did}
-use Rattle.ocfl_tree.specs.Calls.{opening}
-use Rattle.ocfl_tree.specs.declared.store.Opening.{Opening}
+use Rattle.ocfl_tree.specs.{Place.{Text, Place}, StorageRoot.{StorageRoot, file_at}}
+use Rattle.ocfl_tree.specs.{Store.{Store, Did}, Calls.{opening}, declared.store.Opening.{Opening}}
 use Rattle.ocfl_tree.proofs.Stores.{did_then}
-use Rattle.ocfl_digest.specs.Hashing.{StopsHashing}
-use Rattle.ocfl_digest.specs.declared.stop.Cause.{Cause}
+use Rattle.ocfl_digest.specs.{Hashing.{StopsHashing}, declared.stop.Cause.{Cause}}
 use Rattle.ocfl_digest.specs.declared.stop.Cause.TheVariants.{Device, Absent, TooLong}
 use Rattle.ocfl_identity.specs.Identity.{IsUnread, in_listing, in_opening, too_long, digits_of, opened_then, openings_of}
 

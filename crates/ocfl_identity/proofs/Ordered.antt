@@ -1,28 +1,23 @@
 -- A sorted listing is the entries of the directory.
 use Rattle.std.proofs.Common.{◌≡◌, inl, inr, suc, ◌+◌, List, [], ◌∷◌, ◌++◌, refl, sym, ◌∙◌, ap, subst, Bool, true, false, Option, Some, None, arith, IsPermutation}
-use Rattle.std.specs.Prelude.{◌&&◌, cond, filter, filter_map, option_and_then, option_map, slice_index_or}
-use Rattle.sha2.specs.Sha256.{sha256}
-use Rattle.hex.specs.Hex.{encode_lower}
-use Rattle.std.specs.List.{AllByRecursion, IsDistinct, cons_option}
-use Rattle.std.specs.List.Sorted.{IsSorted}
-use Rattle.std.specs.Ordering.{is_lt, is_eq, ordering_reverse}
-use Rattle.std.specs.declared.cmp.Ordering.{Ordering}
-use Rattle.std.specs.declared.cmp.Ordering.TheVariants.{Less, Equal, Greater}
 use Rattle.std.proofs.lemmas.List.Elements.{All-from_recursion, recursion_from_All}
 use Rattle.std.proofs.lemmas.List.Sorted.{All-permutation, IsPermutation-sym, IsPermutation-map}
 use Rattle.std.proofs.lemmas.Map.Keys.{IsDistinct-IsPermutation}
+use Rattle.std.specs.Prelude.{◌&&◌, cond, filter, filter_map, option_and_then, option_map, slice_index_or}
+use Rattle.std.specs.{List.{AllByRecursion, IsDistinct, cons_option}, List.Sorted.{IsSorted}}
+use Rattle.std.specs.{Ordering.{is_lt, is_eq, ordering_reverse}, declared.cmp.Ordering.{Ordering}}
+use Rattle.std.specs.declared.cmp.Ordering.TheVariants.{Less, Equal, Greater}
+use Rattle.sha2.specs.Sha256.{sha256}
+use Rattle.hex.specs.Hex.{encode_lower}
 use Rattle.ocfl_tree.specs.Place.{Place, Text, child_name, text_cmp, text_eq}
 use Rattle.ocfl_tree.specs.Ascending.{IsAscending, IsAmong, IsBeforeAll}
 use Rattle.ocfl_tree.specs.StorageRoot.{StorageRoot, Leaf, file, dir, other, at, bytes_of, file_at, names_in}
 use Rattle.ocfl_tree.specs.Listing.{IsListing, IsOrdinary, entries_in, entry_at, kind_at, kind_of}
-use Rattle.ocfl_tree.specs.declared.store.Entry.{Entry}
-use Rattle.ocfl_tree.specs.declared.store.Kind.{Kind}
+use Rattle.ocfl_tree.specs.{declared.store.Entry.{Entry}, declared.store.Kind.{Kind}}
 use Rattle.ocfl_tree.specs.declared.store.Kind.TheVariants.{Other}
 use Rattle.ocfl_tree.proofs.Orders.{ascending_unique, ascends_ascending, below_from_greater, true_not_false}
-use Rattle.ocfl_tree.proofs.Places.{text_cmp_exact, text_cmp_total}
-use Rattle.ocfl_tree.proofs.Listings.{listing_permutes}
-use Rattle.ocfl_inventory.specs.Declaration.{is_declaration}
-use Rattle.ocfl_inventory.specs.Entries.{is_counted, is_file}
+use Rattle.ocfl_tree.proofs.{Places.{text_cmp_exact, text_cmp_total}, Listings.{listing_permutes}}
+use Rattle.ocfl_inventory.specs.{Declaration.{is_declaration}, Entries.{is_counted, is_file}}
 use Rattle.ocfl_inventory.specs.declared.declaration.Level.TheVariants.{Root}
 use Rattle.ocfl_identity.specs.Identity.{before_lines, declarations_among, declared_by, digits_of, names_of, sum_line, sum_lines}
 

@@ -1,8 +1,7 @@
 -- The lines of declarations, one after the other.
 use Rattle.std.proofs.Common.{◌≡◌, ◌∙◌, ℕ, List, [], ◌∷◌, ◌++◌, Option, Some, None, ap, append_assoc, drop, refl, sym}
 use Rattle.std.specs.Option.{option_map}
-use Rattle.ocfl_tree.specs.Place.{Text}
-use Rattle.ocfl_tree.specs.StorageRoot.{StorageRoot, file_at}
+use Rattle.ocfl_tree.specs.{Place.{Text}, StorageRoot.{StorageRoot, file_at}}
 use Rattle.ocfl_identity.specs.Identity.{before_lines, digits_of, sum_line, sum_lines}
 
 -- these lines come before those of the names from an index on

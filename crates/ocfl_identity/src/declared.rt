@@ -1,16 +1,13 @@
 //! The digest of what declares a storage root.
-ghost use Rattle.std.specs.Prelude.{◌≡◌, ◌≢◌, ◌++◌, ◌∷◌, [], IsTrue, IfOk, IfErr, List, ℕ};
-ghost use Rattle.std.specs.Prelude.{string_bytes};
+ghost use Rattle.std.specs.Prelude.{◌≡◌, ◌≢◌, ◌++◌, ◌∷◌, [], IsTrue, IfOk, IfErr, List, ℕ, string_bytes};
 ghost use Rattle.std.specs.Option.{option_map};
 ghost use Rattle.sha2.specs.Hashers.{Holds256};
 ghost use Rattle.hex.specs.Hex.{encode_lower};
-ghost use Rattle.ocfl_tree.specs.Place.{Place as ModelPlace};
-ghost use Rattle.ocfl_tree.specs.Store.{Did, IfTold};
+ghost use Rattle.ocfl_tree.specs.{Place.{Place as ModelPlace}, Store.{Did, IfTold}};
 ghost use Rattle.ocfl_tree.specs.StorageRoot.{file_at};
 ghost use Rattle.ocfl_digest.specs.Digests.{digest_in};
 ghost use Rattle.ocfl_digest.specs.declared.algorithm.Algorithm.TheVariants.{Sha256 as OfSha256};
-ghost use Rattle.ocfl_identity.specs.Identity.{IsUnread, declared_by, digits_of, openings_of};
-ghost use Rattle.ocfl_identity.specs.Identity.{sum_line};
+ghost use Rattle.ocfl_identity.specs.Identity.{IsUnread, declared_by, digits_of, openings_of, sum_line};
 
 use crate::identity::NoIdentity;
 use ocfl_digest::{Algorithm, Block, Cause, Digests, Wanted, hash_open};

@@ -1,6 +1,5 @@
 //! The entries of the top folder, in order, and what they add up to.
-ghost use Rattle.std.specs.Prelude.{◌≡◌, IfOk, IsPermutation};
-ghost use Rattle.std.specs.List.Sorted.{IsSorted};
+ghost use Rattle.std.specs.{Prelude.{◌≡◌, IfOk, IsPermutation}, List.Sorted.{IsSorted}};
 ghost use Rattle.sha2.specs.Sha256.{sha256};
 ghost use Rattle.ocfl_tree.specs.Place.{text_cmp};
 ghost use Rattle.ocfl_inventory.specs.Entries.{is_counted};

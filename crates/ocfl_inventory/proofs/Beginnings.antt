@@ -1,19 +1,15 @@
 -- The places that a place begins, and conflicts among sorted places.
 use Rattle.std.proofs.Common.{◌≡◌, List, [], ◌∷◌, refl, sym, ◌∙◌, ap, true, false, Bool}
-use Rattle.std.specs.Prelude.{◌&&◌}
-use Rattle.std.specs.List.{dedup}
-use Rattle.std.specs.List.Sorted.{IsPermutation}
+use Rattle.std.specs.{Prelude.{◌&&◌}, List.{dedup}, List.Sorted.{IsPermutation}}
 use Rattle.std.specs.Ordering.{is_eq, is_lt, ordering_then, ordering_reverse}
 use Rattle.std.specs.Cmp.Lexicographic.{nat_list_cmp_total}
 use Rattle.std.specs.FinMap.{IsAntisymmetric, slice_cmp-IsAntisymmetric, nat_cmp-IsAntisymmetric}
 use Rattle.std.specs.declared.cmp.Ordering.{Ordering}
 use Rattle.std.specs.declared.cmp.Ordering.TheVariants.{Less, Equal, Greater}
 use Rattle.ocfl_tree.specs.Place.{Text, Place, text_cmp, text_eq, place_cmp, place_eq, begins}
-use Rattle.ocfl_inventory.specs.Notes.{is_conflict, conflicts}
+use Rattle.ocfl_inventory.specs.{Notes.{is_conflict, conflicts}, Internal.Beside.{hits}}
 use Rattle.ocfl_tree.proofs.Orders.{true_not_false, place_cmp_total, place_cmp_exact, below_from_greater}
-use Rattle.ocfl_inventory.specs.Internal.Beside.{hits}
-use Rattle.ocfl_inventory.proofs.Runs.{IsUp, IsFront}
-use Rattle.ocfl_inventory.proofs.Once.{alike_itself, alike_is, sorted_hits}
+use Rattle.ocfl_inventory.proofs.{Runs.{IsUp, IsFront}, Once.{alike_itself, alike_is, sorted_hits}}
 
 pub text_exact : IsAntisymmetric text_cmp
 text_exact = slice_cmp-IsAntisymmetric nat_cmp-IsAntisymmetric

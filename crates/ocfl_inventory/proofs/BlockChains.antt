@@ -1,13 +1,10 @@
 -- Reading the blocks of the algorithms one after the other.
 use Rattle.std.proofs.Common.{◌≡◌, ◌+◌, ◌<◌, ℕ, zero, suc, List, [], ◌∷◌, ◌++◌, Bool, true, false, cond, Option, Some, None, option_map, length, drop, get_or, refl, sym, ap, subst, ◌∙◌}
-use Rattle.std.specs.Prelude.{option_and_then, ⊤}
-use Rattle.std.specs.List.{AllByRecursion}
-use Rattle.ocfl_tree.specs.Place.{text_eq}
-use Rattle.std.proofs.lemmas.List.{drop_more}
+use Rattle.std.proofs.lemmas.List.{drop_more, append-nil}
 use Rattle.std.proofs.lemmas.Iterator.Adapters.{option_map_id}
-use Rattle.std.proofs.lemmas.List.{append-nil}
-use Rattle.serde_json.specs.Data.{Data, Members}
-use Rattle.serde_json.specs.Find.{get_member}
+use Rattle.std.specs.{Prelude.{option_and_then, ⊤}, List.{AllByRecursion}}
+use Rattle.ocfl_tree.specs.Place.{text_eq}
+use Rattle.serde_json.specs.{Data.{Data, Members}, Find.{get_member}}
 use Rattle.ocfl_digest.specs.Algorithm.{algorithm_name, supported}
 use Rattle.ocfl_digest.specs.declared.algorithm.Algorithm.{Algorithm}
 use Rattle.ocfl_inventory.specs.Reading.{Block, block_of, blocks_for}

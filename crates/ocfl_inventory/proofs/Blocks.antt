@@ -1,16 +1,13 @@
 -- Reading a block one after the other, as a loop does.
 use Rattle.std.proofs.Common.{◌≡◌, List, [], ◌∷◌, ◌++◌, Bool, true, false, Option, Some, None, option_map, refl, sym, ap, ◌∙◌, append_assoc, String, Global, Vec}
+use Rattle.std.proofs.lemmas.List.{append-nil}
 use Rattle.std.specs.Prelude.{◌&&◌, is_some, option_and_then, string_bytes}
 use Rattle.std.specs.List.{cons_option, list_all}
-use Rattle.std.proofs.lemmas.List.{append-nil}
-use Rattle.serde_json.specs.Data.{Items}
-use Rattle.serde_json.specs.Find.{as_str, as_array}
-use Rattle.serde_json.specs.View.{view, items_view, members_view}
-use Rattle.serde_json.specs.declared.value.Value.{Value}
+use Rattle.serde_json.specs.{Data.{Items}, Find.{as_str, as_array}}
+use Rattle.serde_json.specs.{View.{view, items_view, members_view}, declared.value.Value.{Value}}
 use Rattle.ocfl_tree.specs.Place.{Text}
 use Rattle.ocfl_tree.proofs.Orders.{true_not_false}
-use Rattle.ocfl_inventory.specs.Reading.{Block, texts_of, lists_of}
-use Rattle.ocfl_inventory.specs.Internal.Parts.{texts_among}
+use Rattle.ocfl_inventory.specs.{Reading.{Block, texts_of, lists_of}, Internal.Parts.{texts_among}}
 
 -- what was read before, and what is still read
 abbrev pub with_front : {A : Type 0} → List A → Option (List A) → Option (List A)

@@ -1,25 +1,20 @@
 -- Looking for declarations among entries, one after the other.
 use Rattle.std.proofs.Common.{◌≡◌, ℕ, suc, ◌+◌, ◌≤◌, ◌<◌, List, [], ◌∷◌, ◌++◌, Bool, true, false, refl, sym, ◌∙◌, ap, cond, map, filter, drop, length, get_or, add-one, drop-cons, arith, Option, Some, None, subst}
-use Rattle.std.specs.Prelude.{◌&&◌, nat_eq, slice_get, is_some, All}
-use Rattle.std.specs.List.{starts_with}
 use Rattle.std.proofs.lemmas.Option.{slice_get-get_or, get_or_from_slice_get}
-use Rattle.std.proofs.lemmas.List.{length-append}
-use Rattle.std.proofs.lemmas.Slice.Eq.{starts_is}
-use Rattle.std.proofs.lemmas.Bool.Decides.{Decides-eqb}
-use Rattle.ocfl_tree.specs.Place.{Text}
-use Rattle.ocfl_tree.specs.declared.store.Entry.{Entry}
-use Rattle.ocfl_tree.specs.declared.store.Kind.{Kind}
+use Rattle.std.proofs.{lemmas.List.{length-append}, lemmas.Slice.Eq.{starts_is}}
+use Rattle.std.proofs.{lemmas.Bool.Decides.{Decides-eqb}, lemmas.List.Elements.{All-cons}}
+use Rattle.std.proofs.lemmas.List.Sorted.{sum_by-IsPermutation, All-permutation}
+use Rattle.std.specs.{Prelude.{◌&&◌, nat_eq, slice_get, is_some, All}, List.{starts_with}}
+use Rattle.std.specs.List.Sorted.{IsPermutation}
+use Rattle.ocfl_tree.specs.{Place.{Text}, declared.store.Entry.{Entry}, declared.store.Kind.{Kind}}
 use Rattle.ocfl_tree.specs.declared.store.Kind.TheVariants.{File, Dir, Other}
 use Rattle.ocfl_tree.proofs.Orders.{true_not_false}
-use Rattle.std.specs.List.Sorted.{IsPermutation}
-use Rattle.std.proofs.lemmas.List.Elements.{All-cons}
-use Rattle.std.proofs.lemmas.List.Sorted.{sum_by-IsPermutation, All-permutation}
 use Rattle.ocfl_inventory.proofs.Runs.{tally, tally_is}
 use Rattle.ocfl_inventory.specs.Declaration.{prefix, after_prefix, is_declaration, undeclared, known, several, declared, declared_by, version_named}
 use Rattle.ocfl_inventory.specs.Entries.{is_file, file_names, is_counted, unknown_by, IsNext, IsVersionOf, PointsAtOne}
-use Rattle.ocfl_inventory.specs.declared.declaration.Declared.TheVariants as made
 use Rattle.ocfl_inventory.specs.declared.declaration.Level.{Level}
 use Rattle.ocfl_inventory.specs.declared.declaration.Version.{Version}
+use Rattle.ocfl_inventory.specs.declared.declaration.Declared.TheVariants as made
 
 module _ (level : Level) where
   -- the names that count are those of the entries that count

@@ -1,19 +1,14 @@
 -- Tables are fit to be walked.
 use Rattle.std.proofs.Common.{◌≡◌, ◌≤◌, ◌<◌, ◌^◌, List, [], ◌∷◌, ◌++◌, refl, sym, subst, true, false, Bool, Some, None, arith, length, map, filter}
 use Rattle.std.proofs.lemmas.Bool.{ltb-false}
-use Rattle.std.specs.Prelude.{cond, ◌||◌, not, is_some, nat_lt, flat_map}
-use Rattle.std.specs.List.{AllByRecursion}
-use Rattle.std.specs.Ordering.{match_ordering}
-use Rattle.std.specs.declared.cmp.Ordering.{Ordering}
+use Rattle.std.specs.{Prelude.{cond, ◌||◌, not, is_some, nat_lt, flat_map}, List.{AllByRecursion}}
+use Rattle.std.specs.{Ordering.{match_ordering}, declared.cmp.Ordering.{Ordering}}
 use Rattle.std.specs.declared.cmp.Ordering.TheVariants.{Less, Equal, Greater}
-use Rattle.ocfl_tree.specs.Place.{Text}
-use Rattle.ocfl_tree.specs.Path.{elements}
-use Rattle.ocfl_tree.specs.Ascending.{ascending, insert_once}
+use Rattle.ocfl_tree.specs.{Place.{Text}, Path.{elements}, Ascending.{ascending, insert_once}}
 use Rattle.ocfl_tree.proofs.Orders.{ascends_ascending, true_not_false}
 use Rattle.ocfl_digest.specs.declared.algorithm.Algorithm.{Algorithm}
 use Rattle.ocfl_report.specs.declared.code.Code.TheVariants.{E099, E100, S06}
-use Rattle.ocfl_inventory.specs.ListedPath.{is_kept}
-use Rattle.ocfl_inventory.specs.Reading.{Block, Inventory}
+use Rattle.ocfl_inventory.specs.{ListedPath.{is_kept}, Reading.{Block, Inventory}}
 use Rattle.ocfl_inventory.specs.Table.{IsFit, Table, Triple, named_digest, table_from, triple_cmp, triples_of}
 use Rattle.ocfl_inventory.specs.Internal.TripleOrder.{triple_total}
 

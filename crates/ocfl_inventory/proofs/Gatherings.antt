@@ -1,8 +1,7 @@
 -- Going through a list one element after the other, and joining what each gives.
 use Rattle.std.proofs.Common.{◌≡◌, List, [], ◌∷◌, ◌++◌, sym, ◌∙◌, ap, map, append_assoc}
+use Rattle.std.proofs.{lemmas.List.{append-nil, map_push}, lemmas.Grind.{flat_map-append}}
 use Rattle.std.specs.Prelude.{flat_map}
-use Rattle.std.proofs.lemmas.List.{append-nil, map_push}
-use Rattle.std.proofs.lemmas.Grind.{flat_map-append}
 
 pub joined_push : {P X A : Type 0} (view : P → X) (f : X → List A) (xs : List P) (x : P) (front old new : List A)
     → old ≡ front ++ flat_map f (map view xs) → new ≡ old ++ f (view x) → new ≡ front ++ flat_map f (map view (xs ++ x ∷ []))

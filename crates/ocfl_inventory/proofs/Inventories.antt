@@ -1,45 +1,32 @@
 -- What an inventory lists, put in order.
 use Rattle.std.proofs.Common.{◌≡◌, ◌+◌, List, [], ◌∷◌, ◌++◌, Bool, false, refl, sym, ◌∙◌, ap, subst, cond, map, filter, get_or, arith, append_assoc}
-use Rattle.std.specs.Prelude.{flat_map, Option, Some, None, option_map, filter_map, is_some}
-use Rattle.std.specs.List.{cons_option}
-use Rattle.std.specs.Cmp.{IsTotalOrder}
-use Rattle.std.specs.FinMap.{IsAntisymmetric}
-use Rattle.std.specs.List.{dedup}
-use Rattle.std.specs.List.Retain.{IsFiltered, DiffersFromLast}
-use Rattle.std.specs.List.Sorted.{IsPermutation, IsSorted}
-use Rattle.std.specs.Ordering.{is_lt, eq_by_cmp, ordering_then}
-use Rattle.std.specs.declared.cmp.Ordering.{Ordering}
-use Rattle.std.specs.declared.cmp.Ordering.TheVariants.{Less, Equal, Greater}
-use Rattle.std.specs.Prelude.{nat_eq}
-use Rattle.std.specs.Ordering.{nat_cmp}
-use Rattle.std.specs.Cmp.Lexicographic.{pointwise, slice_cmp, lists_ties, texts_ties}
 use Rattle.std.proofs.lemmas.List.Filters.{dedup_is}
 use Rattle.std.proofs.lemmas.List.Sorted.{IsPermutation-map, IsPermutation-refl, IsPermutation-sym, IsPermutation-append_left, IsPermutation-trans}
-use Rattle.std.proofs.lemmas.List.{map-append}
-use Rattle.std.proofs.lemmas.List.Elements.{filter-append}
-use Rattle.std.specs.Cmp.Lexicographic.{nat_list_cmp_total}
+use Rattle.std.proofs.{lemmas.List.{map-append}, lemmas.List.Elements.{filter-append}}
+use Rattle.std.specs.Prelude.{flat_map, Option, Some, None, option_map, filter_map, is_some, nat_eq}
+use Rattle.std.specs.{List.{cons_option, dedup}, Cmp.{IsTotalOrder}, FinMap.{IsAntisymmetric}}
+use Rattle.std.specs.List.Retain.{IsFiltered, DiffersFromLast}
+use Rattle.std.specs.List.Sorted.{IsPermutation, IsSorted}
+use Rattle.std.specs.Ordering.{is_lt, eq_by_cmp, ordering_then, nat_cmp}
+use Rattle.std.specs.declared.cmp.Ordering.{Ordering}
+use Rattle.std.specs.declared.cmp.Ordering.TheVariants.{Less, Equal, Greater}
+use Rattle.std.specs.Cmp.Lexicographic.{pointwise, slice_cmp, lists_ties, texts_ties, nat_list_cmp_total}
 use Rattle.ocfl_tree.specs.Place.{Text, Place, text_cmp, place_cmp, place_eq, begins}
-use Rattle.ocfl_tree.specs.Ascending.{ascending}
+use Rattle.ocfl_tree.specs.{Ascending.{ascending}, Path.{elements, slashed}}
 use Rattle.ocfl_tree.proofs.Orders.{place_cmp_total, place_cmp_exact, ascending_unique, ascends_ascending, ascends_filter, among_ascending, among_filter, among_from_filter}
 use Rattle.ocfl_digest.specs.declared.algorithm.Algorithm.{Algorithm}
-use Rattle.ocfl_inventory.specs.Note.{note, Note}
-use Rattle.ocfl_report.specs.declared.code.Code.{Code}
-use Rattle.ocfl_report.specs.declared.code.Code.TheVariants.{E096, E101, S07}
-use Rattle.ocfl_tree.specs.Path.{elements, slashed}
-use Rattle.ocfl_inventory.specs.ListedPath.{is_kept, path_fault}
-use Rattle.ocfl_inventory.specs.DigestText.{folded}
-use Rattle.ocfl_inventory.specs.Reading.{Block, Inventory}
+use Rattle.ocfl_inventory.specs.{Note.{note, Note}, ListedPath.{is_kept, path_fault}}
+use Rattle.ocfl_inventory.specs.{DigestText.{folded}, Reading.{Block, Inventory}}
 use Rattle.ocfl_inventory.specs.Internal.ListsOf.{AreListed, all_repeated, all_triples, other_notes}
 use Rattle.ocfl_inventory.specs.declared.gather.Listed.{Listed}
 use Rattle.ocfl_inventory.specs.Internal.Gathered.{triple_of, is_bad, bad_texts}
-use Rattle.ocfl_inventory.specs.Notes.{conflicts, kept_paths, listed, fault_notes, inventory_notes, repeated_digests, repeated_notes}
+use Rattle.ocfl_inventory.specs.Notes.{conflicts, kept_paths, listed, fault_notes, inventory_notes, repeated_digests, repeated_notes, fault_note}
 use Rattle.ocfl_inventory.specs.Table.{Table, Triple, triple_cmp, named_cmp, table_from, triples_of}
-use Rattle.ocfl_inventory.specs.Internal.TripleOrder.{triple_total}
-use Rattle.ocfl_inventory.specs.Internal.Beside.{hits}
-use Rattle.ocfl_inventory.proofs.Runs.{IsUp}
-use Rattle.ocfl_inventory.proofs.Once.{up_from_sorted, sorted_once, among_permuted}
+use Rattle.ocfl_inventory.specs.{Internal.TripleOrder.{triple_total}, Internal.Beside.{hits}}
+use Rattle.ocfl_report.specs.declared.code.Code.{Code}
+use Rattle.ocfl_report.specs.declared.code.Code.TheVariants.{E096, E101, S07}
+use Rattle.ocfl_inventory.proofs.{Runs.{IsUp}, Once.{up_from_sorted, sorted_once, among_permuted}}
 use Rattle.ocfl_inventory.proofs.Beginnings.{text_exact, sorted_conflicts}
-use Rattle.ocfl_inventory.specs.Notes.{fault_note}
 use Rattle.ocfl_inventory.proofs.TripleOrders.{triple_exact}
 
 -- ---- sorted triples

@@ -1,16 +1,14 @@
 -- A path is kept if it is that of a place, and is not elsewhere.
 use Rattle.std.proofs.Common.{◌≡◌, ◌↔◌, ℕ, [], ◌∷◌, ◌++◌, Bool, true, false, refl, sym, ◌∙◌, ap, cond, length, take, drop, codes, arith, Option, Some, None, MatchOption, IfSome, IsNone, IsUtf8}
+use Rattle.std.proofs.lemmas.Bool.Decides.{Decides-eqb, nat_tests}
+use Rattle.std.proofs.lemmas.Slice.Eq.{starts_is, ends_is}
 use Rattle.std.specs.Prelude.{◌-◌, ◌==◌, ◌||◌, ◌&&◌, nat_eq, nat_lt, nat_le, not, is_some}
 use Rattle.std.specs.List.{list_any, list_all, starts_with, ends_with}
 use Rattle.std.specs.Cmp.Lexicographic.{texts_ties, pointwise}
-use Rattle.std.proofs.lemmas.Bool.Decides.{Decides-eqb, nat_tests}
-use Rattle.std.proofs.lemmas.Slice.Eq.{starts_is, ends_is}
 use Rattle.ocfl_report.specs.declared.code.Code.TheVariants.{E099, E100, S06}
-use Rattle.ocfl_tree.specs.Place.{Text, Place, text_eq}
-use Rattle.ocfl_tree.specs.Name.{IsPlace}
+use Rattle.ocfl_tree.specs.{Place.{Text, Place, text_eq}, Name.{IsPlace}}
 use Rattle.ocfl_tree.specs.Path.{elements, names_of, fits}
-use Rattle.ocfl_tree.proofs.Orders.{true_not_false}
-use Rattle.ocfl_tree.proofs.Paths.{elements-append}
+use Rattle.ocfl_tree.proofs.{Orders.{true_not_false}, Paths.{elements-append}}
 use Rattle.ocfl_tree.proofs.PathNames.{names_are, place_from_tests, place_fits, place_has_no_zero}
 use Rattle.ocfl_inventory.specs.ListedPath.{is_empty_or_dots, is_too_long_or_nul, is_content_path, is_kept, is_too_long}
 use Rattle.ocfl_inventory.proofs.PathTexts.{too_long_or_nul_is, has_zero}

@@ -1,14 +1,9 @@
 -- An object whose member was taken out.
 use Rattle.std.proofs.Common.{◌≡◌, List, [], ◌∷◌, Bool, true, false, Ordering, Less, Equal, Greater, String, Global, Option, Some, refl, sym, ap, ◌∙◌, cond, string_bytes, nat_cmp, is_eq, true≢false}
-use Rattle.std.specs.Cmp.Lexicographic.{slice_cmp}
-use Rattle.std.specs.Ordering.{match_ordering}
-use Rattle.std.specs.Map.{remove_entry}
+use Rattle.std.proofs.{lemmas.Map.Text.{is_eq-slice_cmp}, lemmas.Slice.Eq.{bytes_eq-Decides}}
+use Rattle.std.specs.{Cmp.Lexicographic.{slice_cmp}, Ordering.{match_ordering}, Map.{remove_entry}}
 use Rattle.std.specs.BTreeMap.{is_at}
-use Rattle.std.proofs.lemmas.Map.Text.{is_eq-slice_cmp}
-use Rattle.std.proofs.lemmas.Slice.Eq.{bytes_eq-Decides}
-use Rattle.serde_json.specs.Data.{Data}
-use Rattle.serde_json.specs.Find.{get_member}
-use Rattle.serde_json.specs.View.{view, members_view}
+use Rattle.serde_json.specs.{Data.{Data}, Find.{get_member}, View.{view, members_view}}
 use Rattle.serde_json.specs.declared.value.Value.{Value}
 use Rattle.ocfl_tree.specs.Place.{Text, text_eq}
 

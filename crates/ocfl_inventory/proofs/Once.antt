@@ -1,14 +1,10 @@
 -- A sorted list with each element once, and what the sorts and dedups of code leave.
 use Rattle.std.proofs.Common.{◌≡◌, ◌↔◌, inl, inr, List, [], ◌∷◌, refl, sym, ◌∙◌, ap, subst, true, false, Bool, cond, ℕ, ◌+◌, ◌≤◌, ◌<◌, arith, filter, nat_le, leb-true, le-leb, map, length, get_or, add-one}
-use Rattle.std.specs.Prelude.{◌||◌, count_by}
-use Rattle.std.specs.List.{list_any, dedup, dedup_from}
-use Rattle.std.specs.List.Sorted.{IsPermutation}
-use Rattle.std.specs.Ordering.{is_eq, is_lt}
-use Rattle.std.specs.Cmp.{IsTotalOrder}
-use Rattle.std.specs.FinMap.{IsAntisymmetric}
-use Rattle.std.specs.declared.cmp.Ordering.{Ordering}
-use Rattle.std.specs.declared.cmp.Ordering.TheVariants.{Less, Equal, Greater}
 use Rattle.std.proofs.lemmas.List.Sorted.{list_any-IsPermutation, sum_by-IsPermutation, IsPermutation-sym}
+use Rattle.std.specs.{Prelude.{◌||◌, count_by}, List.{list_any, dedup, dedup_from}}
+use Rattle.std.specs.{List.Sorted.{IsPermutation}, Ordering.{is_eq, is_lt}, Cmp.{IsTotalOrder}}
+use Rattle.std.specs.{FinMap.{IsAntisymmetric}, declared.cmp.Ordering.{Ordering}}
+use Rattle.std.specs.declared.cmp.Ordering.TheVariants.{Less, Equal, Greater}
 use Rattle.ocfl_tree.specs.Ascending.{IsBeforeAll, IsAscending, IsAmong, ascending}
 use Rattle.ocfl_tree.proofs.Orders.{true_not_false, below_from_greater, not_below_itself, not_less_itself, ascending_unique, ascends_ascending, among_ascending, ascends_filter, among_filter, among_from_filter}
 use Rattle.ocfl_inventory.specs.Internal.Beside.{hits}

@@ -1,21 +1,16 @@
 -- Paths and their elements.
 use Rattle.std.proofs.Common.{◌≡◌, ℕ, ◌+◌, ◌≤◌, ◌<◌, List, [], ◌∷◌, ◌++◌, Bool, true, false, refl, sym, ◌∙◌, ap, cond, map, Bor, length, Option, Some, None, arith, lit<, get_or, drop, drop-cons, add-one, append_assoc, filter_map}
-use Rattle.std.specs.Prelude.{◌==◌, ◌||◌, ◌&&◌, nat_le, nat_lt, count_by}
-use Rattle.std.specs.List.{cons_option, list_any, list_all, onto_first, position_or_len, before_first, after_first}
-use Rattle.std.specs.Option.{MatchOption}
-use Rattle.std.specs.Str.{all_ascii_digits}
-use Rattle.std.specs.Char.{is_ascii_digit}
-use Rattle.std.proofs.lemmas.Bool.Decides.{nat_tests}
-use Rattle.std.proofs.lemmas.List.{drop_all, append-nil}
+use Rattle.std.proofs.{lemmas.Bool.Decides.{nat_tests}, lemmas.List.{drop_all, append-nil}}
 use Rattle.std.proofs.lemmas.List.Splits.{slice_split_none, slice_split_first, length-slice_split}
 use Rattle.std.proofs.lemmas.List.Sums.{fails_before_first}
 use Rattle.std.proofs.lemmas.Str.Pattern.{IsSplitOnceResult, split_once_first}
-use Rattle.ocfl_inventory.specs.Note.{Note}
-use Rattle.ocfl_tree.specs.Place.{Text, Place, text_eq}
-use Rattle.ocfl_tree.specs.Path.{elements}
-use Rattle.ocfl_tree.proofs.PathOrders.{some_element, slash_is}
-use Rattle.ocfl_inventory.specs.Notes.{fault_note}
+use Rattle.std.specs.Prelude.{◌==◌, ◌||◌, ◌&&◌, nat_le, nat_lt, count_by}
+use Rattle.std.specs.List.{cons_option, list_any, list_all, onto_first, position_or_len, before_first, after_first}
+use Rattle.std.specs.{Option.{MatchOption}, Str.{all_ascii_digits}, Char.{is_ascii_digit}}
+use Rattle.ocfl_inventory.specs.{Note.{Note}, Notes.{fault_note}}
 use Rattle.ocfl_inventory.specs.ListedPath.{is_too_long_or_nul, is_version_name, is_content_path, is_too_long}
+use Rattle.ocfl_tree.specs.{Place.{Text, Place, text_eq}, Path.{elements}}
+use Rattle.ocfl_tree.proofs.PathOrders.{some_element, slash_is}
 
 pub digits_are : (bs : Text) → all_ascii_digits bs ≡ list_all is_ascii_digit bs
 digits_are [] = refl

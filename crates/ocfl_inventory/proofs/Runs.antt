@@ -1,12 +1,9 @@
 -- Sorted lists: what is beside its like, and each element once.
 use Rattle.std.proofs.Common.{◌≡◌, inl, inr, List, [], ◌∷◌, refl, sym, ◌∙◌, ap, subst, true, false, Bool, cond, ℕ, ◌+◌, ◌≤◌, arith}
-use Rattle.std.specs.Prelude.{count_by}
-use Rattle.std.specs.Ordering.{is_lt}
-use Rattle.std.specs.Cmp.{IsTotalOrder}
-use Rattle.std.specs.FinMap.{IsAntisymmetric}
-use Rattle.std.specs.declared.cmp.Ordering.{Ordering}
-use Rattle.std.specs.declared.cmp.Ordering.TheVariants.{Less, Equal, Greater}
 use Rattle.std.proofs.lemmas.List.Recursion.{is_count_by}
+use Rattle.std.specs.{Prelude.{count_by}, Ordering.{is_lt}, Cmp.{IsTotalOrder}}
+use Rattle.std.specs.{FinMap.{IsAntisymmetric}, declared.cmp.Ordering.{Ordering}}
+use Rattle.std.specs.declared.cmp.Ordering.TheVariants.{Less, Equal, Greater}
 use Rattle.ocfl_tree.specs.Ascending.{IsAmong}
 use Rattle.ocfl_inventory.specs.Internal.Beside.{hits}
 use Rattle.ocfl_tree.proofs.Orders.{true_not_false, below_from_greater}

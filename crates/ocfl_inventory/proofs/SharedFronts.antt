@@ -1,17 +1,14 @@
 -- What is shared at the front of texts does not count in their order.
 use Rattle.std.proofs.Common.{◌≡◌, ℕ, ◌+◌, ◌-◌, length-drop, ◌≤◌, ◌<◌, [], ◌∷◌, ◌++◌, List, Bool, true, false, refl, sym, ◌∙◌, ap, subst, cond, length, take, drop, get_or, arith, append_assoc}
-use Rattle.std.specs.Prelude.{◌==◌, ◌&&◌, nat_eq, All}
-use Rattle.std.specs.Ordering.{is_lt, ordering_then}
-use Rattle.std.specs.List.{starts_with}
-use Rattle.std.specs.List.Sorted.{IsSorted, IsSortedBy}
 use Rattle.std.proofs.lemmas.Bool.Decides.{Decides-eqb, nat_tests}
 use Rattle.std.proofs.lemmas.List.{take-append-drop, take_all, take_more, drop-append-le, take-append-le}
 use Rattle.std.proofs.lemmas.List.Elements.{All-append, All-cons, All-nil}
-use Rattle.std.proofs.lemmas.Slice.Eq.{starts_is, bytes_eq-Decides}
-use Rattle.std.proofs.Math.Seq.{drop-append_seam}
+use Rattle.std.proofs.{lemmas.Slice.Eq.{starts_is, bytes_eq-Decides}, Math.Seq.{drop-append_seam}}
+use Rattle.std.specs.{Prelude.{◌==◌, ◌&&◌, nat_eq, All}, Ordering.{is_lt, ordering_then}}
+use Rattle.std.specs.{List.{starts_with}, List.Sorted.{IsSorted, IsSortedBy}}
+use Rattle.std.specs.Cmp.Lexicographic.{pointwise}
 use Rattle.ocfl_tree.specs.Place.{Text, Place, place_cmp, begins}
 use Rattle.ocfl_tree.specs.Path.{elements, names_of, slashed, path_cmp, byte_cmp, is_ended}
-use Rattle.std.specs.Cmp.Lexicographic.{pointwise}
 use Rattle.ocfl_tree.proofs.Orders.{true_not_false}
 use Rattle.ocfl_tree.proofs.PathOrders.{path_cmp_is, names_cmp, names_begin}
 use Rattle.ocfl_inventory.specs.Table.{Triple, triple_cmp, named_cmp}

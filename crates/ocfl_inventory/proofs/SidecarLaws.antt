@@ -1,10 +1,8 @@
 -- The computation reads just the grammar.
 use Rattle.std.proofs.Common.{◌≡◌, ◌↔◌, List, [], ◌∷◌, ◌++◌, refl, sym, ◌∙◌, ap, true, false, Bool, ℕ, zero, suc, ◌<◌, arith, take, drop, length, codes, Option, Some, None, ltb-true, lt-ltb, eqb-true, eq-eqb, leb-true, le-leb}
 use Rattle.std.specs.Prelude.{◌≢◌, cond, option_and_then, ◌&&◌, ◌==◌, nat_lt, nat_le, nat_eq, Result, Ok, Err}
-use Rattle.std.specs.List.{list_all, starts_with}
-use Rattle.std.specs.Cmp.Lexicographic.{bytes_decides}
-use Rattle.hex.specs.Hex.{decode_of}
-use Rattle.hex.specs.declared.error.FromHexError.{FromHexError}
+use Rattle.std.specs.{List.{list_all, starts_with}, Cmp.Lexicographic.{bytes_decides}}
+use Rattle.hex.specs.{Hex.{decode_of}, declared.error.FromHexError.{FromHexError}}
 use Rattle.ocfl_tree.proofs.Bools.{and_both}
 use Rattle.ocfl_tree.specs.Place.{Text}
 use Rattle.ocfl_inventory.specs.Sidecar.{is_blank, is_tail, sidecar_digits, leading, IsSidecar, decoded, is_after_digits, sidecar_of_len, sidecar_of}

@@ -1,11 +1,9 @@
 -- Scanning a sidecar.
 use Rattle.std.proofs.Common.{◌≡◌, ℕ, suc, ◌+◌, ◌≤◌, ◌<◌, [], ◌∷◌, Bool, true, false, refl, sym, ◌∙◌, ap, cond, arith, take, drop, length, length-take, drop-cons, add-one, get_or, lt-ltb, ◌≢◌, nat_eq, None, codes}
-use Rattle.std.specs.Prelude.{nat_le, nat_lt, ◌==◌, ◌&&◌}
-use Rattle.std.specs.List.{starts_with, list_all}
-use Rattle.std.proofs.lemmas.List.{drop_all}
+use Rattle.std.proofs.{lemmas.List.{drop_all}, lemmas.Bool.Decides.{nat_tests}}
+use Rattle.std.specs.{Prelude.{nat_le, nat_lt, ◌==◌, ◌&&◌}, List.{starts_with, list_all}}
 use Rattle.ocfl_tree.specs.Place.{Text}
 use Rattle.ocfl_inventory.specs.Sidecar.{leading, is_blank, is_tail, decoded, is_after_digits, sidecar_of_len}
-use Rattle.std.proofs.lemmas.Bool.Decides.{nat_tests}
 
 pub leading_step : (p : ℕ → Bool) (t : Text) (i c : ℕ) (total : ℕ) → i < length t → p (get_or t i 0) ≡ true → i + length (leading p (drop i t)) ≡ total
     → i + 1 + length (leading p (drop (i + 1) t)) ≡ total

@@ -1,18 +1,14 @@
 -- What a reading gives where something stopped.
 use Rattle.std.proofs.Common.{◌≡◌, Option, None, refl, sym, ◌∙◌, ap, map}
-use Rattle.std.specs.Prelude.{Result, Ok, Err, IfOk}
-use Rattle.std.specs.Result.{result_ok}
+use Rattle.std.specs.{Prelude.{Result, Ok, Err, IfOk}, Result.{result_ok}}
 use Rattle.ocfl_digest.specs.declared.algorithm.Algorithm.{Algorithm}
-use Rattle.ocfl_inventory.specs.Reading.{Reading, ◌>>=◌, Inventory}
-use Rattle.ocfl_inventory.specs.Note.{Note}
-use Rattle.ocfl_inventory.specs.Notes.{reading_notes}
-use Rattle.ocfl_inventory.specs.Internal.Parts.{Fails}
-use Rattle.ocfl_inventory.specs.Internal.ReadInventory.{SaysAlone}
-use Rattle.ocfl_inventory.specs.Remark.{remark_view}
+use Rattle.ocfl_inventory.specs.{Reading.{Reading, ◌>>=◌, Inventory}, Note.{Note}}
+use Rattle.ocfl_inventory.specs.{Notes.{reading_notes}, Internal.Parts.{Fails}}
+use Rattle.ocfl_inventory.specs.{Internal.ReadInventory.{SaysAlone}, Remark.{remark_view}}
 use Rattle.ocfl_inventory.specs.Table.{table_from_reading}
 use Rattle.ocfl_inventory.specs.declared.remark.InventoryStop.{InventoryStop}
-use Rattle.ocfl_inventory.specs.declared.remark.InventoryStop.TheVariants as stops
 use Rattle.ocfl_inventory.specs.declared.table.InventoryReading.{InventoryReading}
+use Rattle.ocfl_inventory.specs.declared.remark.InventoryStop.TheVariants as stops
 
 -- what stops first stops all that comes after it
 pub fails_then : {A B : Type 0} (e : InventoryStop) (read : Reading A) (f : A → Reading B) → Fails e read → Fails e (read >>= f)

@@ -1,25 +1,20 @@
 -- What a stop says, and the whole object.
 use Rattle.std.proofs.Common.{◌≡◌, [], ◌∷◌, Some, None, refl, sym, ap, ◌∙◌, cond, Bool, true, false, BTreeMap, String, Global}
-use Rattle.std.specs.Prelude.{Ok, Err, option_and_then, IsUtf8}
-use Rattle.std.specs.Str.{is_utf8}
 use Rattle.std.proofs.lemmas.Str.{is_utf8-from_IsUtf8, IsUtf8-from_is_utf8}
-use Rattle.serde_json.specs.Find.{as_object}
-use Rattle.serde_json.specs.Read.{read}
-use Rattle.serde_json.specs.View.{view, members_view}
+use Rattle.std.proofs.lemmas.Map.Text.{is_eq-slice_cmp}
+use Rattle.std.specs.Prelude.{Ok, Err, option_and_then, IsUtf8, codes, length, ◌==◌, ◌||◌}
+use Rattle.std.specs.{Str.{is_utf8, bytes_eq}, List.{list_any}}
+use Rattle.serde_json.specs.{Find.{as_object}, Read.{read}, View.{view, members_view}}
 use Rattle.serde_json.specs.declared.value.Value.{Value, Object}
 use Rattle.serde_json.proofs.Views.{view-Object}
-use Rattle.std.proofs.lemmas.Map.Text.{is_eq-slice_cmp}
-use Rattle.std.specs.Str.{bytes_eq}
 use Rattle.ocfl_tree.specs.Place.{Text, text_eq}
 use Rattle.ocfl_digest.specs.declared.algorithm.Algorithm.TheVariants.{Sha256, Sha512}
 use Rattle.ocfl_inventory.specs.Note.{note, Note, plain}
 use Rattle.ocfl_inventory.specs.Reading.{Reading, or_stop, object_of, digest_algorithm, content_named}
-use Rattle.ocfl_report.specs.declared.code.Code.TheVariants.{E033, E025, E017, E018}
-use Rattle.std.specs.Prelude.{codes, length, ◌==◌, ◌||◌}
-use Rattle.std.specs.List.{list_any}
 use Rattle.ocfl_inventory.specs.declared.remark.InventoryStop.{InventoryStop}
-use Rattle.ocfl_inventory.specs.declared.remark.InventoryStop.TheVariants as stops
 use Rattle.ocfl_inventory.specs.Internal.Parts.{Says, Fails}
+use Rattle.ocfl_report.specs.declared.code.Code.TheVariants.{E033, E025, E017, E018}
+use Rattle.ocfl_inventory.specs.declared.remark.InventoryStop.TheVariants as stops
 
 pub fails_by : {Y : Type 0} (e : InventoryStop) (n : Note) (reading : Reading Y) → reading ≡ Err n → Says e n → Fails e reading
 fails_by stops.Memory n reading h s = tt

@@ -1,9 +1,7 @@
 -- Searching triples that ascend.
 use Rattle.std.proofs.Common.{◌≡◌, ℕ, zero, suc, ◌≤◌, ◌<◌, List, [], ◌∷◌, Bool, true, false, refl, sym, ◌∙◌, ap, cond, map, length, get_or, take, drop, arith, Option, Some, None, option_map, filter_map, leb-true}
-use Rattle.std.specs.Prelude.{not, find, slice_get, nat_le}
-use Rattle.std.proofs.lemmas.Bool.Decides.{nat_tests}
-use Rattle.std.specs.List.{AllWithin, cons_option}
-use Rattle.std.proofs.lemmas.List.{get_or_default}
+use Rattle.std.proofs.{lemmas.Bool.Decides.{nat_tests}, lemmas.List.{get_or_default}}
+use Rattle.std.specs.{Prelude.{not, find, slice_get, nat_le}, List.{AllWithin, cons_option}}
 use Rattle.std.specs.List.Sorted.{IsPartitionPoint}
 use Rattle.std.specs.Ordering.{is_lt, is_eq, ordering_then, ordering_reverse}
 use Rattle.std.specs.declared.cmp.Ordering.{Ordering}
@@ -12,8 +10,7 @@ use Rattle.ocfl_tree.specs.Place.{Place, place_cmp, place_eq}
 use Rattle.ocfl_tree.specs.Ascending.{IsBeforeAll, IsAscending}
 use Rattle.ocfl_tree.proofs.Orders.{true_not_false, place_cmp_total, place_cmp_exact, below_from_greater, not_less_itself}
 use Rattle.ocfl_inventory.specs.Table.{Named, Triple, triple_cmp, named_cmp}
-use Rattle.ocfl_inventory.proofs.Runs.{IsUnder, IsUp}
-use Rattle.ocfl_inventory.proofs.Once.{no_fall}
+use Rattle.ocfl_inventory.proofs.{Runs.{IsUnder, IsUp}, Once.{no_fall}}
 
 -- ---- the paths do not fall
 

@@ -1,18 +1,12 @@
 -- Texts that are sorted, and then each once.
 use Rattle.std.proofs.Common.{◌≡◌, List, [], ◌∷◌, refl, sym, ◌∙◌, ap, subst, true, false, Bool, cond, ℕ, ◌+◌, ◌≤◌, ◌<◌, arith, map, length, get_or, Bor}
-use Rattle.std.specs.List.{dedup, dedup_from}
-use Rattle.std.specs.List.Retain.{IsFiltered, DiffersFromLast}
-use Rattle.std.specs.List.Sorted.{IsPermutation, IsSorted}
-use Rattle.std.specs.Ordering.{is_lt, eq_by_cmp}
-use Rattle.std.specs.Str.{bytes_eq}
-use Rattle.std.specs.Cmp.Lexicographic.{nat_list_cmp_total}
-use Rattle.std.proofs.lemmas.List.Filters.{dedup_is}
-use Rattle.std.proofs.lemmas.List.Sorted.{IsPermutation-map}
+use Rattle.std.proofs.{lemmas.List.Filters.{dedup_is}, lemmas.List.Sorted.{IsPermutation-map}}
 use Rattle.std.proofs.lemmas.Map.Text.{is_eq-slice_cmp}
-use Rattle.ocfl_tree.specs.Place.{Text, text_cmp, text_eq}
-use Rattle.ocfl_tree.specs.Ascending.{ascending}
-use Rattle.ocfl_inventory.specs.Notes.{repeated}
-use Rattle.ocfl_inventory.specs.Internal.Beside.{hits}
+use Rattle.std.specs.{List.{dedup, dedup_from}, List.Retain.{IsFiltered, DiffersFromLast}}
+use Rattle.std.specs.{List.Sorted.{IsPermutation, IsSorted}, Ordering.{is_lt, eq_by_cmp}}
+use Rattle.std.specs.{Str.{bytes_eq}, Cmp.Lexicographic.{nat_list_cmp_total}}
+use Rattle.ocfl_tree.specs.{Place.{Text, text_cmp, text_eq}, Ascending.{ascending}}
+use Rattle.ocfl_inventory.specs.{Notes.{repeated}, Internal.Beside.{hits}}
 use Rattle.ocfl_inventory.proofs.Runs.{IsUp}
 use Rattle.ocfl_inventory.proofs.Once.{up_from_sorted, sorted_once, sorted_hits, alike_front}
 use Rattle.ocfl_inventory.proofs.Beginnings.{text_exact}

@@ -1,7 +1,6 @@
 -- The order of triples tells them apart.
 use Rattle.std.proofs.Common.{◌≡◌, Some, refl, sym, ap, ◌∙◌, true, false}
-use Rattle.std.specs.Ordering.{bool_cmp, is_eq, ordering_then}
-use Rattle.std.specs.FinMap.{IsAntisymmetric}
+use Rattle.std.specs.{Ordering.{bool_cmp, is_eq, ordering_then}, FinMap.{IsAntisymmetric}}
 use Rattle.std.specs.declared.cmp.Ordering.{Ordering}
 use Rattle.std.specs.declared.cmp.Ordering.TheVariants.{Less, Equal, Greater}
 use Rattle.ocfl_digest.specs.Algorithm.{algorithm_cmp, algorithm_name, algorithm_named}

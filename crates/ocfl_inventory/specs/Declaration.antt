@@ -1,8 +1,7 @@
 -- Which version a directory declares (OCFL 1.1, 4.2 Root Conformance Declaration and 3.2 Object
 -- Conformance Declaration).
 use Rattle.std.specs.Prelude.{nat_eq, ◌&&◌, List, [], ◌∷◌, ◌++◌, Bool, false, length, drop, if◌then◌else◌, filter, codes}
-use Rattle.std.specs.List.{starts_with}
-use Rattle.std.specs.Char.{is_ascii_digit}
+use Rattle.std.specs.{List.{starts_with}, Char.{is_ascii_digit}}
 use Rattle.ocfl_tree.specs.Place.{Text, text_eq}
 use Rattle.ocfl_inventory.specs.declared.declaration.Level.{Level}
 use Rattle.ocfl_inventory.specs.declared.declaration.Level.TheVariants.{Root, Object}

@@ -1,9 +1,7 @@
 -- The path texts of an inventory (OCFL 1.1, 3.5.2 Manifest).
 use Rattle.std.specs.Prelude.{ℕ, ◌==◌, ◌||◌, ◌&&◌, nat_eq, nat_lt, [], ◌∷◌, Bool, false, not, length, if◌then◌else◌, Option, Some, None, is_some, codes}
-use Rattle.std.specs.List.{starts_with, ends_with, list_any}
-use Rattle.std.specs.Str.{all_ascii_digits}
-use Rattle.ocfl_tree.specs.Place.{Text, Place, text_eq}
-use Rattle.ocfl_tree.specs.Path.{elements}
+use Rattle.std.specs.{List.{starts_with, ends_with, list_any}, Str.{all_ascii_digits}}
+use Rattle.ocfl_tree.specs.{Place.{Text, Place, text_eq}, Path.{elements}}
 use Rattle.ocfl_report.specs.declared.code.Code.{Code}
 use Rattle.ocfl_report.specs.declared.code.Code.TheVariants.{E099, E100, S06}
 

@@ -1,6 +1,5 @@
 -- Going through the paths of a table.
-use Rattle.std.specs.Prelude.{Option, Some, None, find, slice_get}
-use Rattle.std.specs.Ordering.{is_lt}
+use Rattle.std.specs.{Prelude.{Option, Some, None, find, slice_get}, Ordering.{is_lt}}
 use Rattle.ocfl_tree.specs.Place.{Place, place_cmp}
 use Rattle.ocfl_inventory.specs.Table.{Table, paths_of}
 

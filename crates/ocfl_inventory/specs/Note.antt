@@ -1,8 +1,7 @@
 -- What a line says beside its place.
 use Rattle.std.specs.Prelude.{List, map, codes}
 use Rattle.ocfl_tree.specs.Place.{Text, Place}
-use Rattle.ocfl_report.specs.Line.{Line}
-use Rattle.ocfl_report.specs.declared.code.Code.{Code}
+use Rattle.ocfl_report.specs.{Line.{Line}, declared.code.Code.{Code}}
 
 -- a line without its place
 pub record Note : Type 0 where

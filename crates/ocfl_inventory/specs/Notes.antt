@@ -2,15 +2,12 @@
 use Rattle.std.specs.Prelude.{nat_le, List, [], ◌∷◌, ◌++◌, Bool, Option, option_map, Ok, Err, map, filter, filter_map, flat_map, count_by}
 use Rattle.std.specs.declared.cmp.Ordering.{Ordering}
 use Rattle.ocfl_tree.specs.Place.{Text, Place, text_cmp, text_eq, place_cmp, begins}
-use Rattle.ocfl_tree.specs.Ascending.{ascending}
-use Rattle.ocfl_inventory.specs.Note.{note, Note}
-use Rattle.ocfl_report.specs.declared.code.Code.TheVariants.{E096, E097, E101, S07}
-use Rattle.ocfl_digest.specs.Algorithm.{algorithm_name}
-use Rattle.ocfl_digest.specs.declared.algorithm.Algorithm.{Algorithm}
-use Rattle.ocfl_inventory.specs.DigestText.{folded}
+use Rattle.ocfl_tree.specs.{Ascending.{ascending}, Path.{elements, slashed}}
+use Rattle.ocfl_inventory.specs.{Note.{note, Note}, DigestText.{folded}}
 use Rattle.ocfl_inventory.specs.Reading.{Reading, Block, Inventory, inventory_of}
-use Rattle.ocfl_tree.specs.Path.{elements, slashed}
 use Rattle.ocfl_inventory.specs.ListedPath.{path_fault, is_kept}
+use Rattle.ocfl_report.specs.declared.code.Code.TheVariants.{E096, E097, E101, S07}
+use Rattle.ocfl_digest.specs.{Algorithm.{algorithm_name}, declared.algorithm.Algorithm.{Algorithm}}
 
 -- each element that occurs twice or more, once, ascending
 abbrev pub repeated : {A : Type 0} → (A → A → Ordering) → (A → A → Bool) → List A → List A

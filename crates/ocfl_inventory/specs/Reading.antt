@@ -1,13 +1,10 @@
 -- What the bytes of an `inventory.json` hold, or the line that stops (OCFL 1.1, 3.5 Inventory; RFC
 -- 8259).
 use Rattle.std.specs.Prelude.{◌==◌, ◌||◌, List, [], ◌∷◌, not, if◌then◌else◌, Option, Some, None, option_map, option_and_then, is_some, Result, Ok, Err, filter, codes}
-use Rattle.std.specs.List.{list_any}
-use Rattle.std.specs.Str.{is_utf8}
+use Rattle.std.specs.{List.{list_any}, Str.{is_utf8}}
 use Rattle.serde_json.specs.Data.{Data, Items, no_items, item, Members, no_members, member}
-use Rattle.serde_json.specs.Find.{as_str, as_array, as_object, get_member}
-use Rattle.serde_json.specs.Read.{read}
-use Rattle.ocfl_tree.specs.Place.{Text, text_cmp, text_eq}
-use Rattle.ocfl_tree.specs.Ascending.{ascending}
+use Rattle.serde_json.specs.{Find.{as_str, as_array, as_object, get_member}, Read.{read}}
+use Rattle.ocfl_tree.specs.{Place.{Text, text_cmp, text_eq}, Ascending.{ascending}}
 use Rattle.ocfl_inventory.specs.Note.{note, Note, plain}
 use Rattle.ocfl_report.specs.declared.code.Code.TheVariants.{E017, E018, E025, E033, E036, E041, S03}
 use Rattle.ocfl_digest.specs.Algorithm.{supported, algorithm_name, algorithm_named}

@@ -2,8 +2,7 @@
 -- Digest).
 use Rattle.std.specs.Prelude.{◌≡◌, ℕ, ◌≤◌, ◌==◌, ◌&&◌, ◌||◌, ◌≢◌, nat_eq, nat_le, nat_lt, List, [], ◌∷◌, ◌++◌, Bool, true, Result, Ok, Err, length, take, drop, if◌then◌else◌, Option, Some, None, option_and_then, codes}
 use Rattle.std.specs.List.{list_all, starts_with}
-use Rattle.hex.specs.Hex.{decode_of}
-use Rattle.hex.specs.declared.error.FromHexError.{FromHexError}
+use Rattle.hex.specs.{Hex.{decode_of}, declared.error.FromHexError.{FromHexError}}
 use Rattle.ocfl_tree.specs.Place.{Text}
 use Rattle.ocfl_digest.specs.declared.algorithm.Algorithm.{Algorithm}
 use Rattle.ocfl_digest.specs.declared.algorithm.Algorithm.TheVariants.{Md5, Sha1, Sha256, Sha512, Sha512_256}

@@ -1,16 +1,13 @@
 -- The digests that an inventory names for the paths of its object (OCFL 1.1, 3.5.2 Manifest and
 -- 3.5.4 Fixity).
 use Rattle.std.specs.Prelude.{◌≤◌, ◌<◌, ◌^◌, length, List, ◌++◌, Bool, true, false, if◌then◌else◌, Option, Some, None, Ok, Err, map, filter, filter_map, flat_map}
-use Rattle.std.specs.List.{AllByRecursion}
-use Rattle.std.specs.Ordering.{bool_cmp, ordering_then}
+use Rattle.std.specs.{List.{AllByRecursion}, Ordering.{bool_cmp, ordering_then}}
 use Rattle.std.specs.declared.cmp.Ordering.{Ordering}
 use Rattle.ocfl_tree.specs.Place.{Text, Place, text_cmp, place_cmp, place_eq}
-use Rattle.ocfl_tree.specs.Ascending.{IsAscending, ascending}
-use Rattle.ocfl_digest.specs.Algorithm.{algorithm_cmp}
-use Rattle.ocfl_digest.specs.declared.algorithm.Algorithm.{Algorithm}
+use Rattle.ocfl_tree.specs.{Ascending.{IsAscending, ascending}, Path.{elements}}
+use Rattle.ocfl_digest.specs.{Algorithm.{algorithm_cmp}, declared.algorithm.Algorithm.{Algorithm}}
 use Rattle.ocfl_inventory.specs.DigestText.{folded}
 use Rattle.ocfl_inventory.specs.Reading.{Reading, Block, Inventory, inventory_of}
-use Rattle.ocfl_tree.specs.Path.{elements}
 use Rattle.ocfl_inventory.specs.ListedPath.{is_kept, max_elements}
 
 -- which block of an inventory names a digest

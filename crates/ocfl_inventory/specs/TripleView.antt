@@ -1,8 +1,7 @@
 -- What stored digests say.
 use Rattle.std.specs.Prelude.{string_bytes, List, if◌then◌else◌, Some, None, filter_map}
 use Rattle.ocfl_tree.specs.Place.{Place, place_eq}
-use Rattle.ocfl_inventory.specs.Table.{Named, Triple}
-use Rattle.ocfl_inventory.specs.declared.triple.Named.{Named as MadeNamed}
+use Rattle.ocfl_inventory.specs.{Table.{Named, Triple}, declared.triple.Named.{Named as MadeNamed}}
 
 abbrev pub named_view : MadeNamed → Named
 named_view n = record { fixity = n.fixity; algorithm = n.algorithm; digest = string_bytes n.digest }

@@ -1,10 +1,8 @@
 //! Listed paths that are repeated, or that another one begins with.
-ghost use Rattle.std.specs.Prelude.{◌≡◌, nat_eq, true, IfOk, map};
-ghost use Rattle.std.specs.List.{starts_with};
+ghost use Rattle.std.specs.{Prelude.{◌≡◌, nat_eq, true, IfOk, map}, List.{starts_with}};
 ghost use Rattle.std.specs.List.Sorted.{IsSorted};
 ghost use Rattle.ocfl_tree.specs.Place.{begins as begins_place};
-ghost use Rattle.ocfl_inventory.specs.Internal.Beside.{hits};
-ghost use Rattle.ocfl_inventory.specs.Notes.{conflicts as conflicts_of};
+ghost use Rattle.ocfl_inventory.specs.{Internal.Beside.{hits}, Notes.{conflicts as conflicts_of}};
 ghost use Rattle.ocfl_inventory.specs.Table.{triple_cmp};
 
 use crate::triple::Triple;

@@ -1,13 +1,8 @@
 //! Which version a directory declares.
 ghost use Rattle.std.specs.Prelude.{◌≡◌, ◌≢◌, ◌≤◌, ◌++◌, MatchOption, length, true};
 ghost use Rattle.ocfl_tree.specs.Place.{Text};
-ghost use Rattle.ocfl_inventory.specs.Declaration.{prefix as level_prefix, begins_with_digit};
-ghost use Rattle.ocfl_inventory.specs.Declaration.{after_prefix, is_declaration};
-ghost use Rattle.ocfl_inventory.specs.Declaration.{declared as declared_of};
-ghost use Rattle.ocfl_inventory.specs.Declaration.{declaration_name as name_of_declaration};
-ghost use Rattle.ocfl_inventory.specs.Declaration.{declaration_bytes as bytes_of_declaration};
-ghost use Rattle.ocfl_inventory.specs.Entries.{is_counted, IsNext, IsVersionOf, meaning};
-ghost use Rattle.ocfl_inventory.specs.Entries.{file_names, PointsAtOne};
+ghost use Rattle.ocfl_inventory.specs.Declaration.{prefix as level_prefix, begins_with_digit, after_prefix, is_declaration, declared as declared_of, declaration_name as name_of_declaration, declaration_bytes as bytes_of_declaration};
+ghost use Rattle.ocfl_inventory.specs.Entries.{is_counted, IsNext, IsVersionOf, meaning, file_names, PointsAtOne};
 
 use ocfl_tree::{Entry, Kind, is_bytes};
 

@@ -1,15 +1,11 @@
 //! The listed paths of an inventory, kept ones apart from bad ones.
-ghost use Rattle.std.specs.Prelude.{◌≡◌, ◌++◌, ◌∷◌, [], OnOk, map, flat_map, true, false};
-ghost use Rattle.std.specs.Prelude.{string_bytes, IfOk, IsPermutation};
+ghost use Rattle.std.specs.Prelude.{◌≡◌, ◌++◌, ◌∷◌, [], OnOk, map, flat_map, true, false, string_bytes, IfOk, IsPermutation};
 ghost use Rattle.std.specs.List.Sorted.{IsSorted};
 ghost use Rattle.ocfl_inventory.specs.Table.{triples_of, triple_cmp};
-ghost use Rattle.ocfl_inventory.specs.Internal.Parts.{block_view, listing_view, supported_view};
-ghost use Rattle.ocfl_inventory.specs.Internal.Parts.{text_in, texts_among};
+ghost use Rattle.ocfl_inventory.specs.Internal.Parts.{block_view, listing_view, supported_view, text_in, texts_among};
 ghost use Rattle.ocfl_inventory.specs.Internal.ListsOf.{all_triples, AreListed};
-ghost use Rattle.ocfl_inventory.specs.DigestText.{folded};
-ghost use Rattle.ocfl_inventory.specs.TripleView.{named_view};
-ghost use Rattle.ocfl_inventory.specs.Internal.Gathered.{Gathers, kept_from, bad_from};
-ghost use Rattle.ocfl_inventory.specs.Internal.Gathered.{key_triples, bad_texts};
+ghost use Rattle.ocfl_inventory.specs.{DigestText.{folded}, TripleView.{named_view}};
+ghost use Rattle.ocfl_inventory.specs.Internal.Gathered.{Gathers, kept_from, bad_from, key_triples, bad_texts};
 
 use crate::conflicts::conflicts;
 use crate::inventory::{Listing, Supported};

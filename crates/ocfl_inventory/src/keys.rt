@@ -1,12 +1,10 @@
 //! The keys of a block: digest texts, whose ASCII capitals and small letters are alike.
-ghost use Rattle.std.specs.Prelude.{◌≡◌, IfOk, Some, refl, string_bytes};
-ghost use Rattle.std.specs.Ordering.{eq_by_cmp};
+ghost use Rattle.std.specs.{Prelude.{◌≡◌, IfOk, Some, refl, string_bytes}, Ordering.{eq_by_cmp}};
 ghost use Rattle.std.specs.Cmp.{partial_equiv_from_equiv, partial_order_from_total};
 ghost use Rattle.std.specs.Cmp.Lexicographic.{nat_list_cmp_total};
 ghost use Rattle.std.proofs.lemmas.Cmp.{eq_by_cmp_equiv};
 ghost use Rattle.ocfl_tree.specs.Place.{text_cmp, text_eq};
-ghost use Rattle.ocfl_inventory.specs.DigestText.{folded};
-ghost use Rattle.ocfl_inventory.specs.Notes.{repeated as repeated_of};
+ghost use Rattle.ocfl_inventory.specs.{DigestText.{folded}, Notes.{repeated as repeated_of}};
 ghost use Rattle.ocfl_inventory.specs.Internal.Beside.{hits};
 
 use std::alloc::{AllocError, Global};

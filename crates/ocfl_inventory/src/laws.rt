@@ -1,14 +1,11 @@
 //! The laws of sidecars, declarations and lines.
 ghost use Rattle.std.specs.Prelude.{◌≡◌, ◌↔◌, Some, ℕ, List, IsPermutation};
-ghost use Rattle.ocfl_tree.specs.Ascending.{IsAmong};
-ghost use Rattle.ocfl_tree.specs.Place.{Text, Place};
+ghost use Rattle.ocfl_tree.specs.{Ascending.{IsAmong}, Place.{Text, Place}};
 ghost use Rattle.ocfl_tree.specs.declared.store.Entry.{Entry};
 ghost use Rattle.ocfl_report.specs.Line.{Line};
 ghost use Rattle.ocfl_digest.specs.declared.algorithm.Algorithm.{Algorithm};
-ghost use Rattle.ocfl_inventory.specs.Declaration.{declared};
-ghost use Rattle.ocfl_inventory.specs.Entries.{file_names};
-ghost use Rattle.ocfl_inventory.specs.declared.declaration.Level.{Level};
-ghost use Rattle.ocfl_inventory.specs.Note.{Note, lines_at};
+ghost use Rattle.ocfl_inventory.specs.{Declaration.{declared}, Entries.{file_names}};
+ghost use Rattle.ocfl_inventory.specs.{declared.declaration.Level.{Level}, Note.{Note, lines_at}};
 ghost use Rattle.ocfl_inventory.specs.Sidecar.{IsSidecar, sidecar_of};
 
 /// The computed digest of a sidecar is that of the grammar, and there is one exactly if the grammar

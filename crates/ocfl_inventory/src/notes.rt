@@ -3,12 +3,11 @@ ghost use Rattle.std.specs.Prelude.{◌≡◌, ◌++◌, ◌∷◌, [], map, fla
 ghost use Rattle.std.specs.List.{cons_option};
 ghost use Rattle.ocfl_tree.specs.Path.{slashed};
 ghost use Rattle.ocfl_inventory.specs.Note.{note};
-ghost use Rattle.ocfl_digest.specs.Algorithm.{algorithm_name};
-ghost use Rattle.ocfl_inventory.specs.Notes.{fault_note, fault_notes, folded_keys};
-ghost use Rattle.ocfl_inventory.specs.Notes.{repeated_digests, repeated_notes};
+ghost use Rattle.ocfl_inventory.specs.Notes.{fault_note, fault_notes, folded_keys, repeated_digests, repeated_notes};
 ghost use Rattle.ocfl_inventory.specs.Internal.Parts.{block_view, supported_view};
 ghost use Rattle.ocfl_inventory.specs.Remark.{remark_view};
 ghost use Rattle.ocfl_inventory.specs.Internal.ListsOf.{all_repeated, other_notes};
+ghost use Rattle.ocfl_digest.specs.Algorithm.{algorithm_name};
 
 use crate::gather::Listed;
 use crate::inventory::{Listing, Supported};

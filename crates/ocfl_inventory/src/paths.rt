@@ -1,15 +1,9 @@
 //! Listed paths.
-ghost use Rattle.std.specs.Prelude.{◌≡◌, ◌∷◌, [], ◌≤◌, ◌==◌, ◌||◌, ◌&&◌, nat_lt, nat_eq, not};
-ghost use Rattle.std.specs.Prelude.{length, count_by, true, false, IfOk, MatchOption, codes};
+ghost use Rattle.std.specs.Prelude.{◌≡◌, ◌∷◌, [], ◌≤◌, ◌==◌, ◌||◌, ◌&&◌, nat_lt, nat_eq, not, length, count_by, true, false, IfOk, MatchOption, codes};
 ghost use Rattle.std.specs.List.{list_any, list_all, starts_with, ends_with};
-ghost use Rattle.std.specs.Str.{all_ascii_digits};
-ghost use Rattle.std.specs.Char.{is_ascii_digit};
+ghost use Rattle.std.specs.{Str.{all_ascii_digits}, Char.{is_ascii_digit}};
 ghost use Rattle.ocfl_tree.specs.Path.{elements};
-ghost use Rattle.ocfl_inventory.specs.ListedPath.{is_version_name as is_version_text, is_too_long};
-ghost use Rattle.ocfl_inventory.specs.ListedPath.{is_empty_or_dots as is_empty_or_dots_text};
-ghost use Rattle.ocfl_inventory.specs.ListedPath.{is_too_long_or_nul as is_too_long_or_nul_text};
-ghost use Rattle.ocfl_inventory.specs.ListedPath.{is_content_path as is_content_place, path_fault};
-ghost use Rattle.ocfl_inventory.specs.ListedPath.{is_kept, max_elements};
+ghost use Rattle.ocfl_inventory.specs.ListedPath.{is_version_name as is_version_text, is_too_long, is_empty_or_dots as is_empty_or_dots_text, is_too_long_or_nul as is_too_long_or_nul_text, is_content_path as is_content_place, path_fault, is_kept, max_elements};
 
 use crate::texts::has_byte;
 use ocfl_report::Code;

@@ -1,21 +1,12 @@
 //! The keys of an inventory, each of which may stop.
-ghost use Rattle.std.specs.Prelude.{◌≡◌, false, map, IfOk, Some, None, option_map, string_bytes};
-ghost use Rattle.std.specs.Prelude.{[], ◌∷◌, filter, not, is_some, if◌then◌else◌, codes};
+ghost use Rattle.std.specs.Prelude.{◌≡◌, false, map, IfOk, Some, None, option_map, string_bytes, [], ◌∷◌, filter, not, is_some, if◌then◌else◌, codes};
 ghost use Rattle.std.specs.Result.{result_ok};
-ghost use Rattle.serde_json.specs.View.{view, members_view};
-ghost use Rattle.serde_json.specs.Find.{get_member};
+ghost use Rattle.serde_json.specs.{View.{view, members_view}, Find.{get_member}};
 ghost use Rattle.ocfl_tree.specs.Place.{text_eq};
 ghost use Rattle.ocfl_inventory.specs.Note.{note};
-ghost use Rattle.ocfl_digest.specs.Algorithm.{algorithm_name, algorithm_named};
-ghost use Rattle.ocfl_digest.specs.Algorithm.{supported as all_supported};
-ghost use Rattle.ocfl_inventory.specs.Reading.{object_of, digest_algorithm, algorithm_in};
-ghost use Rattle.ocfl_inventory.specs.Reading.{content_named, content_from, fixity_from};
-ghost use Rattle.ocfl_inventory.specs.Reading.{behind_algorithm, blocks_for, keys_of};
-ghost use Rattle.ocfl_inventory.specs.Reading.{unsupported_in};
-ghost use Rattle.ocfl_inventory.specs.Reading.{algorithm_of as algorithm_stated, manifest_from};
-ghost use Rattle.ocfl_inventory.specs.Internal.Parts.{Gives, Says, value_for};
-ghost use Rattle.ocfl_inventory.specs.Internal.Parts.{block_view, fixity_view, supported_view};
-ghost use Rattle.ocfl_inventory.specs.Internal.Parts.{with_block, inventory_view};
+ghost use Rattle.ocfl_inventory.specs.Reading.{object_of, digest_algorithm, algorithm_in, content_named, content_from, fixity_from, behind_algorithm, blocks_for, keys_of, unsupported_in, algorithm_of as algorithm_stated, manifest_from};
+ghost use Rattle.ocfl_inventory.specs.Internal.Parts.{Gives, Says, value_for, block_view, fixity_view, supported_view, with_block, inventory_view};
+ghost use Rattle.ocfl_digest.specs.Algorithm.{algorithm_name, algorithm_named, supported as all_supported};
 
 use crate::block::{block, member, members, take_member};
 use crate::inventory::{Inventory, Listing, Supported};

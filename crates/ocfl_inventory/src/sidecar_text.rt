@@ -1,10 +1,7 @@
 //! The text of a sidecar file.
-ghost use Rattle.std.specs.Prelude.{◌≡◌, option_map, length, ◌≤◌, ◌&&◌, drop, codes, nat_eq};
-ghost use Rattle.std.specs.Prelude.{IfSome, MatchOption, None};
+ghost use Rattle.std.specs.Prelude.{◌≡◌, option_map, length, ◌≤◌, ◌&&◌, drop, codes, nat_eq, IfSome, MatchOption, None};
 ghost use Rattle.std.specs.List.{list_all, starts_with};
-ghost use Rattle.ocfl_inventory.specs.Sidecar.{is_blank as is_blank_byte, is_tail as is_tail_byte};
-ghost use Rattle.ocfl_inventory.specs.Sidecar.{leading, is_after_digits as goes_on, sidecar_of_len};
-ghost use Rattle.ocfl_inventory.specs.Sidecar.{decoded, sidecar_of, sum_view};
+ghost use Rattle.ocfl_inventory.specs.Sidecar.{is_blank as is_blank_byte, is_tail as is_tail_byte, leading, is_after_digits as goes_on, sidecar_of_len, decoded, sidecar_of, sum_view};
 
 use hex::FromHex;
 use ocfl_digest::Algorithm;

@@ -1,10 +1,8 @@
 //! Sorting triples. The paths of an inventory mostly begin with the same bytes, which are compared
 //! once.
-ghost use Rattle.std.specs.Prelude.{◌≡◌, ◌≤◌, ◌++◌, ℕ, List, All, OnOk, length, take};
-ghost use Rattle.std.specs.Prelude.{IsPermutation};
+ghost use Rattle.std.specs.Prelude.{◌≡◌, ◌≤◌, ◌++◌, ℕ, List, All, OnOk, length, take, IsPermutation};
 ghost use Rattle.std.specs.List.Sorted.{IsSorted};
-ghost use Rattle.ocfl_inventory.specs.Table.{triple_cmp};
-ghost use Rattle.ocfl_inventory.specs.Internal.SharedFront.{IsBelow};
+ghost use Rattle.ocfl_inventory.specs.{Table.{triple_cmp}, Internal.SharedFront.{IsBelow}};
 
 use crate::ranks::Spots;
 use crate::triple::Triple;

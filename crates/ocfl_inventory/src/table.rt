@@ -1,24 +1,16 @@
 //! The table of an inventory: the digests that it names for the paths of its object.
-ghost use Rattle.std.specs.Prelude.{◌≡◌, [], ◌≤◌, ◌<◌, ◌^◌, IfOk, IfSome, Some, None, map};
-ghost use Rattle.std.specs.Prelude.{option_map};
-ghost use Rattle.std.specs.Prelude.{◌++◌, ◌∷◌, OnOk, true, false, length, slice_get, string_bytes};
-ghost use Rattle.std.specs.Ordering.{is_lt};
-ghost use Rattle.std.specs.Result.{result_ok};
+ghost use Rattle.std.specs.Prelude.{◌≡◌, [], ◌≤◌, ◌<◌, ◌^◌, IfOk, IfSome, Some, None, map, option_map, ◌++◌, ◌∷◌, OnOk, true, false, length, slice_get, string_bytes};
+ghost use Rattle.std.specs.{Ordering.{is_lt}, Result.{result_ok}};
 ghost use Rattle.std.specs.List.Sorted.{IsPartitionPoint, IsSorted};
 ghost use Rattle.serde_json.specs.View.{members_view};
-ghost use Rattle.ocfl_tree.specs.Place.{place_cmp};
-ghost use Rattle.ocfl_tree.specs.Ascending.{IsAscending, ascending};
+ghost use Rattle.ocfl_tree.specs.{Place.{place_cmp}, Ascending.{IsAscending, ascending}};
 ghost use Rattle.ocfl_report.specs.Line.{line_of};
 ghost use Rattle.ocfl_inventory.specs.Note.{lines_at};
-ghost use Rattle.ocfl_inventory.specs.Reading.{algorithm_in, algorithm_of, behind_algorithm};
-ghost use Rattle.ocfl_inventory.specs.Reading.{inventory_in};
+ghost use Rattle.ocfl_inventory.specs.Reading.{algorithm_in, algorithm_of, behind_algorithm, inventory_in};
 ghost use Rattle.ocfl_inventory.specs.Notes.{inventory_notes, notes_of, reading_notes};
-ghost use Rattle.ocfl_inventory.specs.Internal.Parts.{inventory_view};
-ghost use Rattle.ocfl_inventory.specs.Remark.{remark_view};
-ghost use Rattle.ocfl_inventory.specs.Table.{IsFit, triple_cmp, table_from, table_from_reading};
-ghost use Rattle.ocfl_inventory.specs.Table.{table_of, named as named_in};
-ghost use Rattle.ocfl_inventory.specs.NextPath.{next_path};
-ghost use Rattle.ocfl_inventory.specs.TripleView.{named_view, named_among};
+ghost use Rattle.ocfl_inventory.specs.{Internal.Parts.{inventory_view}, Remark.{remark_view}};
+ghost use Rattle.ocfl_inventory.specs.Table.{IsFit, triple_cmp, table_from, table_from_reading, table_of, named as named_in};
+ghost use Rattle.ocfl_inventory.specs.{NextPath.{next_path}, TripleView.{named_view, named_among}};
 ghost use Rattle.ocfl_inventory.specs.Internal.ReadInventory.{IsReading, SaysAlone, note_line};
 
 use crate::gather::gather;

@@ -1,8 +1,6 @@
 //! Texts: what is in them, and their order.
-ghost use Rattle.std.specs.Prelude.{◌≡◌, ◌==◌, map, string_bytes, IfOk};
-ghost use Rattle.std.specs.List.{list_any};
-ghost use Rattle.ocfl_tree.specs.Place.{text_cmp};
-ghost use Rattle.ocfl_tree.specs.Ascending.{ascending};
+ghost use Rattle.std.specs.{Prelude.{◌≡◌, ◌==◌, map, string_bytes, IfOk}, List.{list_any}};
+ghost use Rattle.ocfl_tree.specs.{Place.{text_cmp}, Ascending.{ascending}};
 
 use std::alloc::{AllocError, Global};
 

@@ -1,13 +1,11 @@
 //! A path with a digest that is named for it.
-ghost use Rattle.std.specs.Prelude.{◌≡◌, IfOk, Some, refl, drop};
-ghost use Rattle.std.specs.Ordering.{eq_by_cmp};
+ghost use Rattle.std.specs.{Prelude.{◌≡◌, IfOk, Some, refl, drop}, Ordering.{eq_by_cmp}};
 ghost use Rattle.std.specs.Cmp.{partial_equiv_from_equiv, partial_order_from_total};
 ghost use Rattle.std.proofs.lemmas.Cmp.{eq_by_cmp_equiv};
 ghost use Rattle.ocfl_tree.specs.Path.{slashed};
 ghost use Rattle.ocfl_inventory.specs.Table.{named_cmp, triple_cmp};
 ghost use Rattle.ocfl_inventory.specs.Internal.TripleOrder.{triple_total};
-ghost use Rattle.ocfl_inventory.specs.TripleView.{named_view};
-ghost use Rattle.ocfl_inventory.specs.Internal.SharedFront.{behind};
+ghost use Rattle.ocfl_inventory.specs.{TripleView.{named_view}, Internal.SharedFront.{behind}};
 
 use ocfl_digest::Algorithm;
 use ocfl_tree::{Place, cmp_elements};
@@ -57,8 +55,7 @@ pub(crate) struct Triple {
 }
 
 impl Model for Triple {
-    ghost use Rattle.ocfl_inventory.specs.Table.{Triple as TripleModel};
-    ghost use Rattle.ocfl_inventory.specs.TripleView.{named_view};
+    ghost use Rattle.ocfl_inventory.specs.{Table.{Triple as TripleModel}, TripleView.{named_view}};
 
     ghost Value = { TripleModel };
 

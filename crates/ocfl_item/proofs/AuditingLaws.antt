@@ -2,24 +2,18 @@
 use Rattle.std.proofs.Common.{◌≡◌, ◌⊎◌, inl, inr, ℕ, suc, cond, ◌+◌, List, [], ◌∷◌, ◌++◌, refl, sym, ◌∙◌, ap, subst, Bool, false, map, filter, length, append_assoc, arith, ◌≢◌, ◌≤◌, true}
 use Rattle.std.proofs.lemmas.List.{append-nil, length-append, map-append}
 use Rattle.std.specs.Prelude.{not, ◌&&◌, AllPairs, is_some}
-use Rattle.ocfl_tree.specs.Place.{Text, Place}
-use Rattle.ocfl_tree.specs.Ascending.{IsAmong}
-use Rattle.ocfl_tree.specs.StorageRoot.{StorageRoot, file_at}
-use Rattle.ocfl_tree.specs.Store.{Store, Did, failed_openings}
-use Rattle.ocfl_tree.specs.declared.store.Opening.{Opening}
+use Rattle.ocfl_tree.specs.{Place.{Text, Place}, Ascending.{IsAmong}}
+use Rattle.ocfl_tree.specs.{StorageRoot.{StorageRoot, file_at}, Store.{Store, Did, failed_openings}}
+use Rattle.ocfl_tree.specs.{declared.store.Opening.{Opening}, Calls.{opening}}
 use Rattle.ocfl_tree.proofs.Orders.{among_left, among_right, among_map}
 use Rattle.ocfl_tree.proofs.Stores.{among_either, did_both, did_nothing, listed_well, listing_failed}
-use Rattle.ocfl_audit.specs.Zone.{zone}
-use Rattle.ocfl_audit.specs.Lines.{is_hashed}
-use Rattle.ocfl_audit.specs.Due.{hashed_among}
+use Rattle.ocfl_audit.specs.{Zone.{zone}, Lines.{is_hashed}, Due.{hashed_among}}
 use Rattle.ocfl_audit.specs.Trail.{is_meta, content_openings, content_trail, unread_of, heads_of, inventory_of, places_of}
 use Rattle.ocfl_audit.proofs.Trails.{filter_append, none_unread}
 use Rattle.ocfl_item.specs.Looking.{IsFront, failures_by}
 use Rattle.ocfl_item.specs.Auditing.{Audits, Fails, FailedAt, IsMetadataRead, LiesIn, LieIn, in_listing, in_opening}
-use Rattle.ocfl_item.specs.HeadFiles.{files_there}
-use Rattle.ocfl_item.specs.declared.fault.Fault.{Fault}
+use Rattle.ocfl_item.specs.{HeadFiles.{files_there}, declared.fault.Fault.{Fault}}
 use Rattle.ocfl_item.specs.declared.fault.Fault.TheVariants as fault
-use Rattle.ocfl_tree.specs.Calls.{opening}
 
 -- ---- metadata that was read
 

@@ -1,52 +1,38 @@
 -- The storage root: its lines, what is read for them, and its listing.
 use Rattle.std.proofs.Common.{◌≡◌, ◌≢◌, ◌≤◌, ℕ, List, [], ◌∷◌, ◌++◌, refl, sym, ◌∙◌, ap, subst, true, false, Bool, Option, Some, None, arith, length, map}
+use Rattle.std.proofs.{lemmas.List.{append-nil, length-map}, lemmas.List.Prefix.{front_fits}}
 use Rattle.std.specs.Prelude.{AllPairs, cond, ◌||◌, not, Result, Ok, is_some, filter}
 use Rattle.std.specs.List.{AllByRecursion}
-use Rattle.std.proofs.lemmas.List.{append-nil, length-map}
-use Rattle.std.proofs.lemmas.List.Prefix.{front_fits}
-use Rattle.ocfl_tree.specs.Place.{Place, Text}
-use Rattle.ocfl_tree.specs.StorageRoot.{StorageRoot, file_at, names_in}
-use Rattle.ocfl_tree.specs.Store.{Store}
-use Rattle.ocfl_tree.specs.Listing.{IsListing, IsOrdinary}
-use Rattle.ocfl_tree.specs.declared.store.Entry.{Entry}
-use Rattle.ocfl_tree.specs.declared.store.Opening.{Opening}
+use Rattle.ocfl_tree.specs.{Place.{Place, Text}, StorageRoot.{StorageRoot, file_at, names_in}}
+use Rattle.ocfl_tree.specs.{Store.{Store}, Listing.{IsListing, IsOrdinary}}
+use Rattle.ocfl_tree.specs.{declared.store.Entry.{Entry}, declared.store.Opening.{Opening}}
 use Rattle.ocfl_inventory.specs.Declaration.{Declared, undeclared, known, unknown, several, declaration_name, declared}
 use Rattle.ocfl_inventory.specs.Entries.{PointsAtOne, file_names, meaning}
 use Rattle.ocfl_inventory.specs.declared.declaration.Declared.{Declared as MadeDeclared}
-use Rattle.ocfl_inventory.specs.declared.declaration.Declared.TheVariants as made
 use Rattle.ocfl_inventory.specs.declared.declaration.Level.TheVariants.{Root}
 use Rattle.ocfl_inventory.specs.declared.declaration.Version.{Version}
 use Rattle.ocfl_inventory.specs.declared.declaration.Version.TheVariants.{V1_0, V1_1}
+use Rattle.ocfl_inventory.specs.declared.declaration.Declared.TheVariants as made
 use Rattle.ocfl_digest.specs.declared.bounded.Bounded.{Bounded}
 use Rattle.ocfl_audit.specs.Zone.{skipped, hierarchy, inside, zone, root_declared, object_declared, is_in_extensions, is_listed_zone, is_known, is_declared}
-use Rattle.ocfl_audit.specs.Head.{root_notes_by}
-use Rattle.ocfl_item.specs.Auditing.{LieIn}
-use Rattle.ocfl_item.specs.HeadFiles.{FilesStop, ReadsFiles, files_there}
-use Rattle.ocfl_item.specs.Internal.HeadFiles.{IsFileAt, ReadsFile}
-use Rattle.ocfl_audit.specs.Lines.{named_at, named_in, notes}
-use Rattle.ocfl_item.specs.Looking.{IsFront, failures_by}
-use Rattle.ocfl_item.specs.Pending.{IsPending}
-use Rattle.ocfl_item.specs.Internal.Lines.{HasLines, IsUnhashed}
+use Rattle.ocfl_audit.specs.{Head.{root_notes_by, on}, Lines.{named_at, named_in, notes}}
 use Rattle.ocfl_audit.specs.Trail.{reads_inventory, content_trail, heads_of, inventory_of, is_head, is_meta, places_of}
+use Rattle.ocfl_item.specs.{Auditing.{LieIn}, HeadFiles.{FilesStop, ReadsFiles, files_there}}
+use Rattle.ocfl_item.specs.Internal.HeadFiles.{IsFileAt, ReadsFile}
+use Rattle.ocfl_item.specs.{Looking.{IsFront, failures_by}, Pending.{IsPending}}
+use Rattle.ocfl_item.specs.Internal.Lines.{HasLines, IsUnhashed}
 use Rattle.ocfl_item.specs.Meeting.{IsItemAt, IsVisit, MeetFails, Meets}
-use Rattle.ocfl_item.specs.Internal.Visiting.{IsBase}
-use Rattle.ocfl_item.specs.Ways.{Enters, Stops}
-use Rattle.ocfl_item.specs.declared.fault.Fault.{Fault}
-use Rattle.ocfl_item.specs.declared.fault.Fault.TheVariants as fault
-use Rattle.ocfl_item.specs.declared.folder.Folder.{Folder}
+use Rattle.ocfl_item.specs.{Internal.Visiting.{IsBase}, Ways.{Enters, Stops}}
+use Rattle.ocfl_item.specs.{declared.fault.Fault.{Fault}, declared.folder.Folder.{Folder}}
 use Rattle.ocfl_item.specs.declared.lines.PlaceLines.{PlaceLines}
-use Rattle.ocfl_item.specs.declared.pending.Pending.{Pending}
-use Rattle.ocfl_item.specs.declared.visit.Visit.{Visit}
-use Rattle.ocfl_item.proofs.HeadLaws.{unknown_stops}
-use Rattle.ocfl_item.proofs.ItemLaws.{clean_some}
-use Rattle.ocfl_item.proofs.LinesLaws.{unhashed_at}
-use Rattle.ocfl_tree.proofs.Stores.{did_then, listed_well}
-use Rattle.ocfl_item.proofs.LooksZones.{at_root, declared_root}
-use Rattle.ocfl_audit.specs.Head.{on}
-use Rattle.ocfl_audit.proofs.BetweenLaws.{root_unread}
+use Rattle.ocfl_item.specs.{declared.pending.Pending.{Pending}, declared.visit.Visit.{Visit}}
+use Rattle.ocfl_item.specs.declared.fault.Fault.TheVariants as fault
+use Rattle.ocfl_item.proofs.{HeadLaws.{unknown_stops}, ItemLaws.{clean_some}}
+use Rattle.ocfl_item.proofs.{LinesLaws.{unhashed_at}, LooksZones.{at_root, declared_root}}
 use Rattle.ocfl_item.proofs.AuditingLaws.{failed_behind, files_near, near_none, near_within, read_behind, few_once, none_once, front_all, heads_append}
 use Rattle.ocfl_item.proofs.VisitLaws.{meet_out, meet_stop, visit_of_folder, visit_of_item}
-use Rattle.ocfl_audit.proofs.Trails.{content_behind}
+use Rattle.ocfl_tree.proofs.Stores.{did_then, listed_well}
+use Rattle.ocfl_audit.proofs.{BetweenLaws.{root_unread}, Trails.{content_behind}}
 
 -- ---- its lines
 

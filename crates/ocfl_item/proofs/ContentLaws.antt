@@ -1,24 +1,21 @@
 -- What is known of a content place, and of a file that is hashed.
 use Rattle.std.proofs.Common.{◌≡◌, ◌≢◌, ℕ, ◌+◌, ◌≤◌, List, [], ◌∷◌, ◌++◌, length, cond, refl, sym, ◌∙◌, ap, subst, true, false, Bool, Option, Some, None, arith, ltb-false}
 use Rattle.std.proofs.lemmas.Bool.{lt-ltb}
-use Rattle.std.specs.Prelude.{option_map, nat_lt}
-use Rattle.std.specs.List.{list_all}
-use Rattle.ocfl_tree.specs.Place.{Place, Text}
-use Rattle.ocfl_tree.specs.Ascending.{IsAscending, IsAmong}
+use Rattle.std.specs.{Prelude.{option_map, nat_lt}, List.{list_all}}
+use Rattle.ocfl_tree.specs.{Place.{Place, Text}, Ascending.{IsAscending, IsAmong}}
 use Rattle.ocfl_tree.specs.StorageRoot.{StorageRoot, Leaf, file, dir, other, at}
 use Rattle.ocfl_inventory.specs.ListedPath.{is_content_path}
 use Rattle.ocfl_inventory.specs.Table.{Table, Named, named_cmp, named, paths_of}
 use Rattle.ocfl_audit.specs.Zone.{Zone, skipped, hierarchy, inside, zone, seen, table_at, is_entered, beginnings}
 use Rattle.ocfl_audit.specs.Lines.{content_notes, object_notes, notes_in, notes, named_in, named_at, cost_of, cost, is_hashed, file_notes, missing_notes}
-use Rattle.ocfl_item.specs.Internal.Content.{content_in, content_at, IsSight}
-use Rattle.ocfl_item.specs.Internal.Content.{is_read, sight_notes}
+use Rattle.ocfl_item.specs.Internal.Content.{content_in, content_at, IsSight, is_read, sight_notes}
 use Rattle.ocfl_item.specs.declared.sight.Sight.{Sight}
 use Rattle.ocfl_item.specs.declared.sight.Sight.TheVariants as sight
 use Rattle.ocfl_tree.proofs.Orders.{true_not_false}
 use Rattle.ocfl_audit.proofs.AuditExists.{some_not_none, zone_is, path_among}
 use Rattle.ocfl_audit.proofs.BoundLaws.{table_from_inventory, kept_paths, kept_short}
-use Rattle.ocfl_item.proofs.NamedLaws.{named_ascend}
 use Rattle.ocfl_audit.proofs.PathLaws.{deep_path}
+use Rattle.ocfl_item.proofs.NamedLaws.{named_ascend}
 
 pub record IsContent (root : StorageRoot) (p : Place) (ns : List Named) : Type 0 where
   pub lines : (u : Option ℕ) → notes root u p ≡ content_notes root p ns u (seen root p)

@@ -1,7 +1,6 @@
 -- A digest's digits, compared byte by byte.
 use Rattle.std.proofs.Common.{◌≡◌, ◌≢◌, ℕ, ◌+◌, ◌/◌, ◌%◌, ◌<◌, ◌≤◌, ◌==◌, Bool, true, false, [], ◌∷◌, length, drop, get_or, slice_index, sym, ◌∙◌, ap, refl, add-one, drop-cons}
-use Rattle.std.proofs.lemmas.List.{drop_all}
-use Rattle.std.proofs.Math.Dec.{eqb-suc-zero}
+use Rattle.std.proofs.{lemmas.List.{drop_all}, Math.Dec.{eqb-suc-zero}}
 use Rattle.std.specs.Bool.{Decides}
 use Rattle.hex.specs.Hex.{encode_lower, encode_with, lower_digits}
 use Rattle.ocfl_tree.specs.Place.{Text, text_eq}

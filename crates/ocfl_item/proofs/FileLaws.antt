@@ -1,38 +1,28 @@
 -- What reading the files of an object did.
 use Rattle.std.proofs.Common.{◌≡◌, ◌≢◌, ◌⊎◌, inl, inr, ℕ, ◌+◌, ◌<◌, ◌≤◌, List, [], ◌∷◌, ◌++◌, refl, sym, ◌∙◌, ap, subst, true, false, Bool, Some, None, arith, length, map, filter, get_or, is_some, append_assoc}
 use Rattle.std.proofs.lemmas.List.{append-nil, map-append, get_or-map, get_or_append_left, length-append, length-map}
-use Rattle.std.proofs.lemmas.List.Elements.{filter-append}
-use Rattle.std.proofs.lemmas.List.Kept.{AllPairs-filter}
+use Rattle.std.proofs.{lemmas.List.Elements.{filter-append}, lemmas.List.Kept.{AllPairs-filter}}
 use Rattle.std.specs.Prelude.{cond, ◌||◌, ◌&&◌, not, min, AllPairs, Ok, Err, option_and_then}
 use Rattle.std.specs.List.{list_all}
-use Rattle.ocfl_tree.specs.Place.{Text, Place}
-use Rattle.ocfl_tree.specs.StorageRoot.{StorageRoot, file_at, bytes_of}
-use Rattle.ocfl_tree.specs.Store.{Store, Did}
-use Rattle.ocfl_tree.specs.Calls.{opening}
-use Rattle.ocfl_tree.specs.Listing.{IsListing, kind_in}
-use Rattle.ocfl_tree.specs.declared.store.Entry.{Entry}
-use Rattle.ocfl_tree.specs.declared.store.Opening.{Opening}
+use Rattle.ocfl_tree.specs.{Place.{Text, Place}, StorageRoot.{StorageRoot, file_at, bytes_of}}
+use Rattle.ocfl_tree.specs.{Store.{Store, Did}, Calls.{opening}, Listing.{IsListing, kind_in}}
+use Rattle.ocfl_tree.specs.{declared.store.Entry.{Entry}, declared.store.Opening.{Opening}}
 use Rattle.ocfl_tree.specs.declared.store.Trouble.{Trouble}
 use Rattle.ocfl_tree.specs.declared.store.Trouble.TheVariants.{Device, Absent, Memory}
 use Rattle.ocfl_digest.specs.Bounded.{ReadsBounded, StopsReading}
 use Rattle.ocfl_digest.specs.declared.bounded.Bounded.{Bounded}
-use Rattle.ocfl_audit.specs.Zone.{inside, zone}
-use Rattle.ocfl_audit.specs.Lines.{is_hashed}
+use Rattle.ocfl_audit.specs.{Zone.{inside, zone}, Lines.{is_hashed}}
 use Rattle.ocfl_audit.specs.Trail.{is_root_meta, is_meta_zone, is_meta, is_object_meta, places_of, content_trail}
 use Rattle.ocfl_item.specs.Looking.{IsFront, failures_by}
 use Rattle.ocfl_item.specs.Auditing.{FailedAt, IsMetadataRead, in_opening}
 use Rattle.ocfl_item.specs.Internal.Ways.{fault_by, AreMeta, ReadsMeta, SeekStops, is_file_kind}
 use Rattle.ocfl_item.specs.HeadFiles.{files_there, ReadsFiles, FilesStop}
-use Rattle.ocfl_item.specs.Internal.HeadFiles.{ReadsFile, ReadsSome}
-use Rattle.ocfl_item.specs.declared.fault.Fault.{Fault}
+use Rattle.ocfl_item.specs.{Internal.HeadFiles.{ReadsFile, ReadsSome}, declared.fault.Fault.{Fault}}
 use Rattle.ocfl_item.specs.declared.fault.Fault.TheVariants as fault
-use Rattle.ocfl_tree.proofs.Orders.{true_not_false}
-use Rattle.ocfl_audit.proofs.AuditExists.{some_not_none}
-use Rattle.ocfl_audit.proofs.PathLaws.{hashed_no_meta}
+use Rattle.ocfl_tree.proofs.{Orders.{true_not_false}, Stores.{did_then, did_nothing, listed_well}}
+use Rattle.ocfl_audit.proofs.{AuditExists.{some_not_none}, PathLaws.{hashed_no_meta}}
 use Rattle.ocfl_item.proofs.AuditingLaws.{failed_behind, read_behind}
-use Rattle.ocfl_item.proofs.LooksEntries.{file_there, no_file_there}
-use Rattle.ocfl_item.proofs.LooksZones.{inside_on}
-use Rattle.ocfl_tree.proofs.Stores.{did_then, did_nothing, listed_well}
+use Rattle.ocfl_item.proofs.{LooksEntries.{file_there, no_file_there}, LooksZones.{inside_on}}
 use Rattle.ocfl_item.proofs.LooksCalls.{store_place, memory_no_store, kind_is_file, kind_is_no_file, front_more}
 
 -- ---- one file

@@ -1,44 +1,36 @@
 -- What reading an object's inventory, and its head, did.
 use Rattle.std.proofs.Common.{◌≡◌, ◌≢◌, ℕ, ◌<◌, List, [], ◌∷◌, ◌++◌, refl, sym, ◌∙◌, ap, subst, true, false, Bool, Option, Some, None, arith, length}
-use Rattle.std.proofs.lemmas.Bool.{le-leb, leb-true}
-use Rattle.std.proofs.lemmas.Map.Made.{AllPairs-from_IsDistinct}
+use Rattle.std.proofs.{lemmas.Bool.{le-leb, leb-true}, lemmas.Map.Made.{AllPairs-from_IsDistinct}}
 use Rattle.std.specs.List.{IsDistinct, list_all}
-use Rattle.ocfl_tree.proofs.Places.{text_eq-Decides}
 use Rattle.std.specs.Prelude.{cond, IfOk, ◌||◌, not, nat_le, AllPairs, Result, Ok, Err, Vec, option_and_then}
 use Rattle.std.specs.declared.alloc.Global.{Global}
-use Rattle.ocfl_tree.specs.Place.{Text, Place, text_eq}
-use Rattle.ocfl_tree.specs.StorageRoot.{StorageRoot, file_at}
-use Rattle.ocfl_tree.specs.Store.{Store}
-use Rattle.ocfl_tree.specs.declared.store.Entry.{Entry}
+use Rattle.ocfl_tree.proofs.Places.{text_eq-Decides}
+use Rattle.ocfl_tree.specs.{Place.{Text, Place, text_eq}, StorageRoot.{StorageRoot, file_at}}
+use Rattle.ocfl_tree.specs.{Store.{Store}, declared.store.Entry.{Entry}}
 use Rattle.ocfl_inventory.specs.Note.{Note, plain}
-use Rattle.ocfl_report.specs.declared.code.Code.TheVariants.{E007, E063, S02}
-use Rattle.ocfl_digest.specs.declared.bounded.Bounded.{Bounded}
-use Rattle.ocfl_digest.specs.declared.bounded.Bounded.TheVariants as bounded
-use Rattle.ocfl_digest.specs.declared.algorithm.Algorithm.TheVariants.{Sha256, Sha512}
 use Rattle.ocfl_inventory.specs.Declaration.{Declared, undeclared, known, unknown, several, declaration_name}
-use Rattle.ocfl_inventory.specs.Entries.{meaning}
-use Rattle.ocfl_inventory.specs.Reading.{algorithm_of}
-use Rattle.ocfl_inventory.specs.Table.{Table, table_of}
+use Rattle.ocfl_inventory.specs.{Entries.{meaning}, Reading.{algorithm_of}, Table.{Table, table_of}}
 use Rattle.ocfl_inventory.specs.declared.declaration.Declared.{Declared as MadeDeclared}
-use Rattle.ocfl_inventory.specs.declared.declaration.Level.TheVariants as level
 use Rattle.ocfl_inventory.specs.declared.declaration.Version.{Version}
 use Rattle.ocfl_inventory.specs.declared.declaration.Version.TheVariants.{V1_0, V1_1}
+use Rattle.ocfl_report.specs.declared.code.Code.TheVariants.{E007, E063, S02}
+use Rattle.ocfl_digest.specs.declared.bounded.Bounded.{Bounded}
+use Rattle.ocfl_digest.specs.declared.algorithm.Algorithm.TheVariants.{Sha256, Sha512}
+use Rattle.ocfl_digest.specs.declared.bounded.Bounded.TheVariants as bounded
+use Rattle.ocfl_inventory.specs.declared.declaration.Level.TheVariants as level
 use Rattle.ocfl_audit.specs.Zone.{skipped, hierarchy, inside, zone, root_declared, object_declared, inventory_name, inventory_limit, table_at, is_known}
 use Rattle.ocfl_audit.specs.Head.{on, or_clean, is_exact_declaration, sidecar_name, sidecars_notes, inventory_part, inventory_file_notes, head_notes_by}
-use Rattle.ocfl_audit.specs.Lines.{notes, notes_in}
-use Rattle.ocfl_audit.specs.Trail.{is_object_meta}
-use Rattle.ocfl_item.specs.Internal.Lines.{Adds, HasLines}
-use Rattle.ocfl_item.specs.Ways.{IsObject}
+use Rattle.ocfl_audit.specs.{Lines.{notes, notes_in}, Trail.{is_object_meta}}
+use Rattle.ocfl_item.specs.{Internal.Lines.{Adds, HasLines}, Ways.{IsObject}}
 use Rattle.ocfl_item.specs.Internal.Ways.{ReadsTable, IsDeclared, IsHeadOf}
 use Rattle.ocfl_item.specs.HeadFiles.{OpensJust, ReadsFiles, FilesStop}
 use Rattle.ocfl_item.specs.Internal.HeadFiles.{IsFileAt, ReadsFile, ReadsSome, head_files, head_names, sidecars_for, table_in}
-use Rattle.ocfl_item.specs.declared.fault.Fault.{Fault}
+use Rattle.ocfl_item.specs.{declared.fault.Fault.{Fault}, declared.lines.PlaceLines.{PlaceLines}}
 use Rattle.ocfl_item.specs.declared.fault.Fault.TheVariants as fault
-use Rattle.ocfl_item.specs.declared.lines.PlaceLines.{PlaceLines}
 use Rattle.ocfl_item.proofs.HeadTrails.{inventory_alone, inventory_opened}
-use Rattle.ocfl_audit.proofs.PathLaws.{notes_at}
 use Rattle.ocfl_item.proofs.LinesLaws.{adds_both, has_more}
 use Rattle.ocfl_item.proofs.FileLaws.{files_then, some_of, some_more, stop_more, stop_then, memory_after, some_is_meta, stop_is_meta}
+use Rattle.ocfl_audit.proofs.PathLaws.{notes_at}
 
 -- ---- the table
 

@@ -1,39 +1,28 @@
 -- The lines of an object's head, from files that were read before.
 use Rattle.std.proofs.Common.{◌≡◌, ℕ, ◌<◌, ◌≤◌, List, [], ◌∷◌, ◌++◌, Bool, true, false, Option, Some, None, Ok, Err, length, refl, sym, ◌∙◌, ap, cond, subst, arith}
-use Rattle.std.specs.Prelude.{◌&&◌, nat_eq, is_some, slice_get, IfSome}
-use Rattle.std.specs.List.{starts_with}
+use Rattle.std.proofs.{lemmas.Slice.Eq.{starts_is}, lemmas.Bool.Decides.{Decides-eqb}}
+use Rattle.std.specs.{Prelude.{◌&&◌, nat_eq, is_some, slice_get, IfSome}, List.{starts_with}}
 use Rattle.std.specs.Result.{result_ok}
-use Rattle.std.proofs.lemmas.Slice.Eq.{starts_is}
-use Rattle.std.proofs.lemmas.Bool.Decides.{Decides-eqb}
-use Rattle.ocfl_tree.specs.Place.{Place, Text, text_eq}
-use Rattle.ocfl_tree.specs.StorageRoot.{StorageRoot, file_at}
-use Rattle.ocfl_tree.specs.declared.store.Entry.{Entry}
-use Rattle.ocfl_tree.specs.declared.store.Kind.{Kind}
+use Rattle.ocfl_tree.specs.{Place.{Place, Text, text_eq}, StorageRoot.{StorageRoot, file_at}}
+use Rattle.ocfl_tree.specs.{declared.store.Entry.{Entry}, declared.store.Kind.{Kind}}
 use Rattle.ocfl_tree.specs.declared.store.Kind.TheVariants.{File, Dir, Other}
 use Rattle.ocfl_tree.proofs.Orders.{true_not_false}
-use Rattle.ocfl_inventory.specs.Note.{note, Note}
-use Rattle.ocfl_report.specs.declared.code.Code.TheVariants.{S01}
-use Rattle.ocfl_digest.specs.Bounded.{IsBoundedTo}
-use Rattle.ocfl_digest.specs.Digest.{digest_bytes_of}
-use Rattle.ocfl_digest.specs.Digests.{AreDigests}
-use Rattle.ocfl_digest.specs.Wanted.{wants}
-use Rattle.ocfl_digest.specs.declared.algorithm.Algorithm.{Algorithm}
-use Rattle.ocfl_digest.specs.declared.bounded.Bounded.{Bounded}
-use Rattle.ocfl_digest.specs.declared.digests.Digests.{Digests}
-use Rattle.ocfl_digest.specs.declared.wanted.Wanted.{Wanted}
-use Rattle.ocfl_inventory.specs.Reading.{Reading, algorithm_of}
-use Rattle.ocfl_inventory.specs.Notes.{notes_of}
-use Rattle.ocfl_inventory.specs.Sidecar.{sidecar_digits}
+use Rattle.ocfl_inventory.specs.{Note.{note, Note}, Reading.{Reading, algorithm_of}}
+use Rattle.ocfl_inventory.specs.{Notes.{notes_of}, Sidecar.{sidecar_digits}}
 use Rattle.ocfl_inventory.specs.Declaration.{Declared, unknown, prefix, after_prefix, declaration_name, declaration_bytes, is_declaration}
-use Rattle.ocfl_audit.specs.Zone.{is_known}
 use Rattle.ocfl_inventory.specs.Entries.{is_file, is_counted, meaning, unknown_by, PointsAtOne}
 use Rattle.ocfl_inventory.specs.declared.declaration.Level.{Level}
 use Rattle.ocfl_inventory.specs.declared.declaration.Level.TheVariants.{Root, Object}
 use Rattle.ocfl_inventory.specs.declared.declaration.Declared.{Declared as MadeDeclared}
-use Rattle.ocfl_inventory.specs.declared.declaration.Declared.TheVariants as made
 use Rattle.ocfl_inventory.specs.declared.declaration.Version.{Version}
 use Rattle.ocfl_inventory.specs.declared.declaration.Version.TheVariants.{V1_0, V1_1}
-use Rattle.ocfl_audit.specs.Head.{is_exact_declaration, inventory_part}
+use Rattle.ocfl_report.specs.declared.code.Code.TheVariants.{S01}
+use Rattle.ocfl_digest.specs.{Bounded.{IsBoundedTo}, Digest.{digest_bytes_of}, Digests.{AreDigests}}
+use Rattle.ocfl_digest.specs.{Wanted.{wants}, declared.algorithm.Algorithm.{Algorithm}}
+use Rattle.ocfl_digest.specs.declared.bounded.Bounded.{Bounded}
+use Rattle.ocfl_digest.specs.{declared.digests.Digests.{Digests}, declared.wanted.Wanted.{Wanted}}
+use Rattle.ocfl_audit.specs.{Zone.{is_known}, Head.{is_exact_declaration, inventory_part}}
+use Rattle.ocfl_inventory.specs.declared.declaration.Declared.TheVariants as made
 use Rattle.ocfl_item.specs.Internal.HeadFiles.{IsFileAt}
 use Rattle.ocfl_item.specs.Internal.HeadLines.{HasDigestFor, declared_notes, named_notes}
 use Rattle.ocfl_audit.proofs.BelowLaws.{text_from_test}

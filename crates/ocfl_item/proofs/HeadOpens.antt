@@ -3,31 +3,25 @@ use Rattle.std.proofs.Common.{◌≡◌, List, [], ◌∷◌, ◌++◌, refl, sy
 use Rattle.std.proofs.lemmas.Bool.{le-leb}
 use Rattle.std.specs.Prelude.{cond, IfOk, MatchResult, Result, Ok, Err, Vec}
 use Rattle.std.specs.declared.alloc.Global.{Global}
-use Rattle.ocfl_tree.specs.Place.{Text, Place}
-use Rattle.ocfl_tree.specs.StorageRoot.{StorageRoot, file_at}
-use Rattle.ocfl_tree.specs.Store.{Store}
+use Rattle.ocfl_tree.specs.{Place.{Text, Place}, StorageRoot.{StorageRoot, file_at}, Store.{Store}}
 use Rattle.ocfl_tree.specs.declared.store.Entry.{Entry}
 use Rattle.ocfl_digest.specs.declared.algorithm.Algorithm.TheVariants.{Sha256, Sha512}
 use Rattle.ocfl_digest.specs.declared.bounded.Bounded.{Bounded}
 use Rattle.ocfl_digest.specs.declared.bounded.Bounded.TheVariants as bounded
 use Rattle.ocfl_inventory.specs.Declaration.{Declared, declaration_name, undeclared, known, unknown, several}
-use Rattle.ocfl_inventory.specs.Entries.{meaning}
-use Rattle.ocfl_inventory.specs.Reading.{algorithm_of}
-use Rattle.ocfl_inventory.specs.Table.{Table, table_of}
+use Rattle.ocfl_inventory.specs.{Entries.{meaning}, Reading.{algorithm_of}, Table.{Table, table_of}}
 use Rattle.ocfl_inventory.specs.declared.declaration.Declared.{Declared as MadeDeclared}
+use Rattle.ocfl_inventory.specs.declared.declaration.Version.{Version}
 use Rattle.ocfl_inventory.specs.declared.declaration.Declared.TheVariants as made
 use Rattle.ocfl_inventory.specs.declared.declaration.Level.TheVariants as level
-use Rattle.ocfl_inventory.specs.declared.declaration.Version.{Version}
 use Rattle.ocfl_audit.specs.Head.{inventory_file_notes, inventory_part, sidecar_name, sidecars_notes}
 use Rattle.ocfl_audit.specs.Zone.{inventory_name, inventory_limit, object_declared, is_known}
 use Rattle.ocfl_item.specs.HeadFiles.{FilesStop, OpensJust, ReadsFiles, files_there}
 use Rattle.ocfl_item.specs.Internal.HeadFiles.{IsFileAt, ReadsFile, head_files, inventory_files, sidecars_for, table_in}
-use Rattle.ocfl_item.specs.Internal.Lines.{Adds}
-use Rattle.ocfl_item.specs.Ways.{IsObject}
+use Rattle.ocfl_item.specs.{Internal.Lines.{Adds}, Ways.{IsObject}}
 use Rattle.ocfl_item.specs.Internal.Ways.{IsDeclared, IsListedObject}
-use Rattle.ocfl_item.specs.declared.fault.Fault.{Fault}
+use Rattle.ocfl_item.specs.{declared.fault.Fault.{Fault}, declared.lines.PlaceLines.{PlaceLines}}
 use Rattle.ocfl_item.specs.declared.fault.Fault.TheVariants as fault
-use Rattle.ocfl_item.specs.declared.lines.PlaceLines.{PlaceLines}
 use Rattle.ocfl_item.proofs.FileLaws.{files_then, memory_after, some_of, stop_more, stop_then}
 use Rattle.ocfl_item.proofs.HeadCalls.{inventory_lines, inventory_table, later_stops, not_within}
 use Rattle.ocfl_item.proofs.LooksCalls.{memory_no_store}

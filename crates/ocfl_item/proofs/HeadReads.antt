@@ -1,23 +1,16 @@
 -- What reading an object's head did, as a visit says it.
 use Rattle.std.proofs.Common.{◌≡◌, ℕ, List, [], ◌∷◌, ◌++◌, refl, sym, ◌∙◌, ap, subst, Option}
-use Rattle.std.specs.Prelude.{IfOk, Result, Ok, Err}
 use Rattle.std.proofs.lemmas.List.{append_cancel_left, append-nil}
-use Rattle.ocfl_tree.specs.Place.{Place}
-use Rattle.ocfl_tree.specs.StorageRoot.{StorageRoot}
-use Rattle.ocfl_tree.specs.Store.{Store, Did}
-use Rattle.ocfl_inventory.specs.Table.{Table}
-use Rattle.ocfl_item.specs.Looking.{IsFront, failures_by}
-use Rattle.ocfl_item.specs.Auditing.{FailedAt, LieIn}
+use Rattle.std.specs.Prelude.{IfOk, Result, Ok, Err}
+use Rattle.ocfl_tree.specs.{Place.{Place}, StorageRoot.{StorageRoot}, Store.{Store, Did}}
 use Rattle.ocfl_tree.specs.declared.store.Opening.{Opening}
-use Rattle.ocfl_audit.specs.Head.{on}
-use Rattle.ocfl_audit.specs.Trail.{heads_of, places_of, reads_inventory}
+use Rattle.ocfl_inventory.specs.Table.{Table}
+use Rattle.ocfl_item.specs.{Looking.{IsFront, failures_by}, Auditing.{FailedAt, LieIn}}
+use Rattle.ocfl_item.specs.{HeadFiles.{OpensJust, files_there}, Internal.HeadFiles.{head_files}}
+use Rattle.ocfl_item.specs.{Internal.Ways.{IsHeadOf}, Internal.Visiting.{HeadRead}}
+use Rattle.ocfl_item.specs.{declared.fault.Fault.{Fault}, declared.lines.PlaceLines.{PlaceLines}}
+use Rattle.ocfl_audit.specs.{Head.{on}, Trail.{heads_of, places_of, reads_inventory}}
 use Rattle.ocfl_audit.specs.Zone.{inside, object_declared, zone}
-use Rattle.ocfl_item.specs.HeadFiles.{OpensJust, files_there}
-use Rattle.ocfl_item.specs.Internal.HeadFiles.{head_files}
-use Rattle.ocfl_item.specs.Internal.Ways.{IsHeadOf}
-use Rattle.ocfl_item.specs.Internal.Visiting.{HeadRead}
-use Rattle.ocfl_item.specs.declared.fault.Fault.{Fault}
-use Rattle.ocfl_item.specs.declared.lines.PlaceLines.{PlaceLines}
 use Rattle.ocfl_item.proofs.AuditingLaws.{files_near}
 use Rattle.ocfl_item.proofs.FileLaws.{some_is_meta, some_of, stop_is_meta}
 use Rattle.ocfl_item.proofs.HeadCalls.{head_files_apart, head_files_meta}

@@ -1,30 +1,22 @@
 -- Which inventories are among the files that were opened.
 use Rattle.std.proofs.Common.{◌≡◌, arith, length, List, [], ◌∷◌, ◌++◌, refl, sym, ◌∙◌, ap, subst, true, false, Bool, map, filter, is_some, append_assoc}
-use Rattle.std.specs.Prelude.{None, Option, Some, nat_le, cond, ◌&&◌, not}
 use Rattle.std.proofs.lemmas.List.{length-map}
+use Rattle.std.specs.Prelude.{None, Option, Some, nat_le, cond, ◌&&◌, not}
 use Rattle.std.specs.List.{list_all, AllByRecursion}
-use Rattle.ocfl_tree.specs.Place.{Text, Place, text_eq}
-use Rattle.ocfl_tree.specs.StorageRoot.{StorageRoot, file_at}
+use Rattle.ocfl_tree.specs.{Place.{Text, Place, text_eq}, StorageRoot.{StorageRoot, file_at}}
 use Rattle.ocfl_tree.specs.declared.store.Opening.{Opening}
 use Rattle.ocfl_digest.specs.declared.algorithm.Algorithm.TheVariants.{Sha256, Sha512}
-use Rattle.ocfl_inventory.specs.Declaration.{declaration_name}
+use Rattle.ocfl_inventory.specs.Declaration.{declaration_name, Declared, undeclared, known, unknown, several}
 use Rattle.ocfl_inventory.specs.declared.declaration.Level.TheVariants.{Object}
 use Rattle.ocfl_inventory.specs.declared.declaration.Version.{Version}
 use Rattle.ocfl_inventory.specs.declared.declaration.Version.TheVariants.{V1_0, V1_1}
 use Rattle.ocfl_tree.proofs.Orders.{true_not_false}
-use Rattle.ocfl_audit.specs.Zone.{inside, zone, inventory_name, is_known}
-use Rattle.ocfl_audit.specs.Trail.{places_of, heads_of, inventory_of}
-use Rattle.ocfl_item.specs.Looking.{IsFront}
-use Rattle.ocfl_item.specs.Ways.{AreInventories}
-use Rattle.ocfl_audit.specs.Head.{sidecar_name}
-use Rattle.ocfl_inventory.specs.Declaration.{Declared, undeclared, known, unknown, several}
-use Rattle.ocfl_audit.specs.Head.{on}
-use Rattle.ocfl_audit.specs.Trail.{is_head, reads_inventory}
-use Rattle.ocfl_audit.specs.Zone.{inventory_at, inventory_limit, object_declared}
-use Rattle.ocfl_item.specs.HeadFiles.{files_there}
+use Rattle.ocfl_audit.specs.Zone.{inside, zone, inventory_name, is_known, inventory_at, inventory_limit, object_declared}
+use Rattle.ocfl_audit.specs.Trail.{places_of, heads_of, inventory_of, is_head, reads_inventory}
+use Rattle.ocfl_audit.specs.Head.{sidecar_name, on}
+use Rattle.ocfl_item.specs.{Looking.{IsFront}, Ways.{AreInventories}, HeadFiles.{files_there}}
 use Rattle.ocfl_item.specs.Internal.HeadFiles.{head_files, sidecars_for}
-use Rattle.ocfl_item.proofs.FileLaws.{there_then}
-use Rattle.ocfl_item.proofs.LooksZones.{inside_on}
+use Rattle.ocfl_item.proofs.{FileLaws.{there_then}, LooksZones.{inside_on}}
 
 abbrev pub heads_at : StorageRoot → List Place → List Place
 heads_at root [] = []

@@ -1,19 +1,15 @@
 -- The item at a place, from what was looked at.
 use Rattle.std.proofs.Common.{arith, ◌≡◌, ◌≢◌, List, [], ◌∷◌, refl, sym, ◌∙◌, ap, true, None}
-use Rattle.ocfl_tree.specs.Place.{Place}
-use Rattle.ocfl_tree.specs.StorageRoot.{StorageRoot}
+use Rattle.ocfl_tree.specs.{Place.{Place}, StorageRoot.{StorageRoot}}
 use Rattle.ocfl_inventory.specs.Note.{Note}
+use Rattle.ocfl_inventory.specs.Declaration.{Declared, undeclared, known, unknown, several}
 use Rattle.ocfl_audit.specs.Zone.{Zone, skipped, hierarchy, inside, zone, object_declared, is_declared}
-use Rattle.ocfl_audit.specs.Lines.{notes}
-use Rattle.ocfl_audit.specs.Trail.{is_head}
+use Rattle.ocfl_audit.specs.{Lines.{notes}, Trail.{is_head}, Head.{or_clean, head_notes_by}}
 use Rattle.ocfl_item.specs.Internal.Lines.{HasLines, IsUnhashed}
 use Rattle.ocfl_item.specs.declared.lines.PlaceLines.{PlaceLines}
-use Rattle.ocfl_inventory.specs.Declaration.{Declared, undeclared, known, unknown, several}
-use Rattle.ocfl_audit.specs.Head.{or_clean, head_notes_by}
 use Rattle.ocfl_tree.proofs.Orders.{true_not_false}
 use Rattle.ocfl_audit.proofs.AuditExists.{zone_is, append_nothing}
-use Rattle.ocfl_item.proofs.HeadCalls.{head_notes_are}
-use Rattle.ocfl_item.proofs.LinesLaws.{unhashed_at}
+use Rattle.ocfl_item.proofs.{HeadCalls.{head_notes_are}, LinesLaws.{unhashed_at}}
 use Rattle.ocfl_item.proofs.VisitLaws.{named_short}
 
 pub clean_some : (ns : List Note) → or_clean ns ≢ []

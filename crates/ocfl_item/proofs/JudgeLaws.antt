@@ -1,48 +1,34 @@
 -- What judging one item does to a store that tells its tree.
 use Rattle.std.proofs.Common.{◌≡◌, inl, inr, ◌≢◌, ℕ, ◌+◌, ◌<◌, ◌≤◌, ◌^◌, List, [], ◌∷◌, ◌++◌, length, cond, map, filter, refl, sym, ◌∙◌, ap, subst, true, false, Bool, Option, Some, None, not, arith}
 use Rattle.std.specs.Prelude.{option_and_then, max, IfErr, IfOk, MatchResult, Result, Ok, Err}
-use Rattle.ocfl_tree.specs.Place.{Place, Text}
-use Rattle.ocfl_tree.specs.Ascending.{IsAmong}
-use Rattle.ocfl_tree.specs.StorageRoot.{StorageRoot, file_at, bytes_of}
-use Rattle.ocfl_tree.specs.Store.{Store, Did}
-use Rattle.ocfl_tree.specs.Calls.{opening}
-use Rattle.ocfl_tree.specs.declared.store.Opening.{Opening}
-use Rattle.ocfl_report.specs.Line.{Line}
-use Rattle.ocfl_inventory.specs.Note.{Note, plain, lines_at}
-use Rattle.ocfl_report.specs.declared.code.Code.TheVariants.{S08}
-use Rattle.ocfl_inventory.specs.Remark.{remark_view}
+use Rattle.ocfl_tree.specs.{Place.{Place, Text}, Ascending.{IsAmong}}
+use Rattle.ocfl_tree.specs.{StorageRoot.{StorageRoot, file_at, bytes_of}, Store.{Store, Did}}
+use Rattle.ocfl_tree.specs.{Calls.{opening}, declared.store.Opening.{Opening}}
+use Rattle.ocfl_report.specs.{Line.{Line}, declared.code.Code.TheVariants.{S08}}
+use Rattle.ocfl_inventory.specs.{Note.{Note, plain, lines_at}, Remark.{remark_view}, Table.{Named}}
+use Rattle.ocfl_inventory.specs.TripleView.{named_view}
+use Rattle.ocfl_inventory.specs.declared.triple.Named.{Named as MadeNamed}
 use Rattle.ocfl_digest.specs.Digest.{digest_bytes_of}
 use Rattle.ocfl_digest.specs.Hashing.{HashesFile, StopsHashing, StopFits, stop_trail, stop_failures}
-use Rattle.ocfl_digest.specs.declared.digests.Digests.{Digests}
-use Rattle.ocfl_digest.specs.declared.stop.Cause.{Cause}
+use Rattle.ocfl_digest.specs.{declared.digests.Digests.{Digests}, declared.stop.Cause.{Cause}}
 use Rattle.ocfl_digest.specs.declared.stop.ReadStop.{ReadStop}
 use Rattle.ocfl_digest.specs.declared.stop.Cause.TheVariants.{Device, Absent, Memory, TooLong}
 use Rattle.ocfl_digest.specs.declared.wanted.Wanted.{Wanted}
-use Rattle.ocfl_inventory.specs.Table.{Named}
-use Rattle.ocfl_inventory.specs.TripleView.{named_view}
-use Rattle.ocfl_inventory.specs.declared.triple.Named.{Named as MadeNamed}
-use Rattle.ocfl_audit.specs.Audit.{given_by}
-use Rattle.ocfl_audit.specs.Due.{items_at, hashed_among}
-use Rattle.ocfl_item.specs.Internal.FileLines.{HasDigests, given_in}
-use Rattle.ocfl_item.specs.Judging.{HasShortFiles, Judges, JudgeFails}
+use Rattle.ocfl_audit.specs.{Audit.{given_by}, Due.{items_at, hashed_among}}
 use Rattle.ocfl_audit.specs.Lines.{notes, named_at, is_hashed, cost, file_notes, or_bytes, unnamed_notes, wrong_notes}
-use Rattle.ocfl_item.specs.Pending.{IsPending}
-use Rattle.ocfl_item.specs.PlaceLines.{lines_of}
-use Rattle.ocfl_item.specs.Internal.Lines.{HasLines}
-use Rattle.ocfl_item.specs.declared.lines.PlaceLines.{PlaceLines}
 use Rattle.ocfl_audit.specs.Trail.{is_meta, content_openings, content_trail, heads_of, inventory_of, unread_of}
-use Rattle.ocfl_item.specs.declared.pending.Pending.{Pending}
-use Rattle.ocfl_audit.proofs.AuditExists.{some_not_none}
-use Rattle.ocfl_audit.proofs.BelowLaws.{place_same}
-use Rattle.ocfl_item.proofs.ContentLaws.{IsHashedFile, hashed_file, unhashed_cost}
-use Rattle.ocfl_audit.proofs.PathLaws.{hashed_no_meta, hashed_path}
-use Rattle.ocfl_item.specs.Auditing.{IsMetadataRead, LieIn}
-use Rattle.ocfl_item.proofs.AuditingLaws.{near_none}
+use Rattle.ocfl_item.specs.Internal.FileLines.{HasDigests, given_in}
+use Rattle.ocfl_item.specs.{Judging.{HasShortFiles, Judges, JudgeFails}, Pending.{IsPending}}
+use Rattle.ocfl_item.specs.{PlaceLines.{lines_of}, Internal.Lines.{HasLines}}
+use Rattle.ocfl_item.specs.declared.lines.PlaceLines.{PlaceLines}
+use Rattle.ocfl_item.specs.{declared.pending.Pending.{Pending}, Auditing.{IsMetadataRead, LieIn}}
 use Rattle.ocfl_item.specs.declared.fault.Fault.{Fault}
+use Rattle.ocfl_audit.proofs.{AuditExists.{some_not_none}, BelowLaws.{place_same}}
+use Rattle.ocfl_audit.proofs.PathLaws.{hashed_no_meta, hashed_path}
+use Rattle.ocfl_item.proofs.ContentLaws.{IsHashedFile, hashed_file, unhashed_cost}
+use Rattle.ocfl_item.proofs.{AuditingLaws.{near_none}, WantedLaws.{AreWanted}}
 use Rattle.ocfl_item.specs.declared.fault.Fault.TheVariants as fault
-use Rattle.ocfl_item.proofs.WantedLaws.{AreWanted}
-use Rattle.ocfl_tree.proofs.Orders.{true_not_false}
-use Rattle.ocfl_tree.proofs.Stores.{did_nothing}
+use Rattle.ocfl_tree.proofs.{Orders.{true_not_false}, Stores.{did_nothing}}
 
 -- ---- the lines of a file that some digest is named for
 

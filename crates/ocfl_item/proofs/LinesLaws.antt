@@ -1,12 +1,9 @@
 -- The lines of a place, as they are gathered.
 use Rattle.std.proofs.Common.{◌≡◌, ◌≢◌, List, [], ◌++◌, Bool, false, Result, Ok, Err, OnOk, None, map, refl, sym, ◌∙◌, ap, subst, append_assoc}
 use Rattle.std.proofs.lemmas.List.{append-nil}
-use Rattle.ocfl_tree.specs.Place.{Place}
-use Rattle.ocfl_tree.specs.StorageRoot.{StorageRoot}
-use Rattle.ocfl_inventory.specs.Note.{Note}
-use Rattle.ocfl_inventory.specs.Remark.{remark_view}
-use Rattle.ocfl_audit.specs.Head.{on}
-use Rattle.ocfl_audit.specs.Lines.{named_at, notes}
+use Rattle.ocfl_tree.specs.{Place.{Place}, StorageRoot.{StorageRoot}}
+use Rattle.ocfl_inventory.specs.{Note.{Note}, Remark.{remark_view}}
+use Rattle.ocfl_audit.specs.{Head.{on}, Lines.{named_at, notes}}
 use Rattle.ocfl_item.specs.Internal.Lines.{Adds, HasLines, IsUnhashed}
 use Rattle.ocfl_item.specs.declared.lines.PlaceLines.{PlaceLines}
 

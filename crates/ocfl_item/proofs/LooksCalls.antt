@@ -1,36 +1,30 @@
 -- What calls did on the way down to a place.
 use Rattle.std.proofs.Common.{◌≡◌, ◌⊎◌, inl, inr, ℕ, List, [], ◌∷◌, ◌++◌, refl, sym, ◌∙◌, ap, subst, true, false, Bool, Option, Some, None, append_assoc}
 use Rattle.std.specs.Prelude.{cond, nat_lt, map, Ok}
-use Rattle.ocfl_tree.specs.Place.{Text, Place}
-use Rattle.ocfl_tree.specs.StorageRoot.{StorageRoot, Leaf, dir, at}
-use Rattle.ocfl_tree.specs.Store.{Store}
-use Rattle.ocfl_tree.specs.Listing.{IsOrdinary}
-use Rattle.ocfl_tree.specs.Calls.{ListFails}
-use Rattle.ocfl_tree.specs.declared.store.Entry.{Entry}
-use Rattle.ocfl_tree.specs.declared.store.Kind.{Kind}
-use Rattle.ocfl_tree.specs.declared.store.Kind.TheVariants as kind
+use Rattle.ocfl_tree.specs.{Place.{Text, Place}, StorageRoot.{StorageRoot, Leaf, dir, at}}
+use Rattle.ocfl_tree.specs.{Store.{Store}, Listing.{IsOrdinary}, Calls.{ListFails}}
+use Rattle.ocfl_tree.specs.{declared.store.Entry.{Entry}, declared.store.Kind.{Kind}}
 use Rattle.ocfl_tree.specs.declared.store.Trouble.{Trouble}
 use Rattle.ocfl_tree.specs.declared.store.Trouble.TheVariants.{Device, Absent, Memory}
+use Rattle.ocfl_tree.specs.declared.store.Kind.TheVariants as kind
 use Rattle.ocfl_inventory.specs.Declaration.{Declared, undeclared, known, unknown, several, declared}
 use Rattle.ocfl_inventory.specs.Entries.{file_names, meaning, unknown_by, PointsAtOne}
 use Rattle.ocfl_inventory.specs.declared.declaration.Declared.{Declared as MadeDeclared}
-use Rattle.ocfl_inventory.specs.declared.declaration.Declared.TheVariants as made
 use Rattle.ocfl_inventory.specs.declared.declaration.Version.{Version}
-use Rattle.ocfl_inventory.specs.declared.declaration.Level.{Level}
+use Rattle.ocfl_inventory.specs.{declared.declaration.Level.{Level}, Table.{Table, Named}}
+use Rattle.ocfl_inventory.specs.declared.declaration.Declared.TheVariants as made
 use Rattle.ocfl_inventory.specs.declared.declaration.Level.TheVariants as level
-use Rattle.ocfl_item.specs.declared.folder.Head.{Head}
-use Rattle.ocfl_item.specs.declared.folder.Head.TheVariants as head
-use Rattle.ocfl_inventory.specs.Table.{Table, Named}
-use Rattle.ocfl_audit.specs.Zone.{is_entered, object_declared, seen, beginnings, is_known, is_declared}
-use Rattle.ocfl_audit.specs.Lines.{cost_of, named_at, is_hashed}
-use Rattle.ocfl_item.specs.Looking.{way_to, IsFront}
+use Rattle.ocfl_item.specs.{declared.folder.Head.{Head}, Looking.{way_to, IsFront}}
 use Rattle.ocfl_item.specs.Ways.{IsWayFault, Stops, is_listable, Enters, IsHead, InHierarchy, IsObject, is_extensions_name, way_below}
 use Rattle.ocfl_item.specs.Internal.Ways.{fault_by, SeekStops, ReadsMeta, ReadsTable, is_file_kind, IsDeclared, head_by, IsOpenObject}
+use Rattle.ocfl_item.specs.declared.folder.Head.TheVariants as head
+use Rattle.ocfl_audit.specs.Zone.{is_entered, object_declared, seen, beginnings, is_known, is_declared}
+use Rattle.ocfl_audit.specs.Lines.{cost_of, named_at, is_hashed}
 use Rattle.ocfl_item.specs.declared.fault.Fault.TheVariants as fault
 use Rattle.ocfl_tree.proofs.Orders.{true_not_false}
 use Rattle.ocfl_item.proofs.AuditingLaws.{failed_listing}
-use Rattle.ocfl_audit.proofs.StepLaws.{all_beginnings_step}
 use Rattle.ocfl_item.proofs.LooksZones.{listable_dir, declared_object, declared_root, hierarchy_on, object_zone_here, open_object, at_root}
+use Rattle.ocfl_audit.proofs.StepLaws.{all_beginnings_step}
 
 -- ---- one call after the other
 

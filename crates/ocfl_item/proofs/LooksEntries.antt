@@ -1,25 +1,19 @@
 -- What a listing tells of a directory.
 use Rattle.std.proofs.Common.{◌≡◌, ◌≢◌, ◌⊎◌, inl, inr, ℕ, suc, ◌+◌, ◌<◌, List, [], ◌∷◌, ◌++◌, refl, sym, ◌∙◌, ap, subst, true, false, Bool, filter, Option, Some, None, length, drop, get_or, drop-cons, add-one, arith}
-use Rattle.std.specs.Prelude.{cond, ◌&&◌, nat_le, ◌==◌, is_some, filter_map, option_and_then, ⊤}
-use Rattle.std.specs.Char.{is_ascii_digit}
-use Rattle.std.specs.Str.{all_ascii_digits}
-use Rattle.std.specs.List.{cons_option, list_all}
 use Rattle.std.proofs.lemmas.Bool.{eqb-true}
+use Rattle.std.specs.Prelude.{cond, ◌&&◌, nat_le, ◌==◌, is_some, filter_map, option_and_then, ⊤}
+use Rattle.std.specs.{Char.{is_ascii_digit}, Str.{all_ascii_digits}, List.{cons_option, list_all}}
 use Rattle.std.specs.Option.{option_map}
 use Rattle.ocfl_tree.specs.Place.{Text, Place, text_cmp, text_eq, place_eq, child_name}
 use Rattle.ocfl_tree.specs.Ascending.{IsAmong, IsAscending}
 use Rattle.ocfl_tree.specs.StorageRoot.{StorageRoot, Leaf, file, dir, other, at, bytes_of, file_at, is_dir, is_dir_leaf, lookup, names_in}
 use Rattle.ocfl_tree.specs.Listing.{kind_of, kind_in, AreApart, IsOrdinary, IsListing}
-use Rattle.ocfl_tree.specs.declared.store.Entry.{Entry}
-use Rattle.ocfl_tree.specs.declared.store.Kind.{Kind}
+use Rattle.ocfl_tree.specs.{declared.store.Entry.{Entry}, declared.store.Kind.{Kind}}
 use Rattle.ocfl_tree.specs.declared.store.Kind.TheVariants.{File, Dir, Other}
 use Rattle.ocfl_inventory.specs.Declaration.{is_declaration, declared, declared_by}
-use Rattle.ocfl_inventory.specs.Entries.{is_file, file_names}
-use Rattle.ocfl_inventory.specs.declared.declaration.Level.{Level}
-use Rattle.ocfl_audit.specs.Zone.{max_listed_depth, files_in}
-use Rattle.ocfl_audit.specs.Lines.{is_empty}
-use Rattle.ocfl_item.specs.Ways.{is_dir_kind, is_listable}
-use Rattle.ocfl_item.specs.Internal.Ways.{is_file_kind}
+use Rattle.ocfl_inventory.specs.{Entries.{is_file, file_names}, declared.declaration.Level.{Level}}
+use Rattle.ocfl_audit.specs.{Zone.{max_listed_depth, files_in}, Lines.{is_empty}}
+use Rattle.ocfl_item.specs.{Ways.{is_dir_kind, is_listable}, Internal.Ways.{is_file_kind}}
 use Rattle.ocfl_tree.proofs.Orders.{true_not_false, not_below_itself, before_each, ascends_ascending, among_ascending, ascends_filter, among_filter, among_from_filter}
 use Rattle.ocfl_audit.proofs.AuditExists.{some_not_none}
 use Rattle.ocfl_audit.proofs.BelowLaws.{text_cmp_total, text_cmp_exact, text_from_test, text_same, place_same}

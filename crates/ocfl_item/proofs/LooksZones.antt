@@ -1,17 +1,13 @@
 -- Zones, and what is seen, on the way down to a place.
 use Rattle.std.proofs.Common.{◌≡◌, ◌+◌, ◌≤◌, List, [], ◌∷◌, ◌++◌, refl, sym, ◌∙◌, ap, true, false, Bool, Option, Some, None, arith, length}
-use Rattle.std.proofs.lemmas.Bool.{leb-true, le-leb}
-use Rattle.std.proofs.lemmas.List.{length-append}
+use Rattle.std.proofs.{lemmas.Bool.{leb-true, le-leb}, lemmas.List.{length-append}}
 use Rattle.std.specs.Prelude.{cond, ◌&&◌, ◌||◌, not, nat_le, option_and_then, codes}
 use Rattle.std.specs.List.{list_all}
 use Rattle.ocfl_tree.specs.Place.{Text, Place, text_eq}
 use Rattle.ocfl_tree.specs.StorageRoot.{StorageRoot, Leaf, file, dir, other, at, file_at, is_dir, is_dir_leaf}
-use Rattle.ocfl_tree.specs.Listing.{kind_in, IsOrdinary, IsListing}
-use Rattle.ocfl_tree.specs.declared.store.Entry.{Entry}
-use Rattle.ocfl_inventory.specs.Declaration.{undeclared, declared}
-use Rattle.ocfl_inventory.specs.Entries.{file_names}
-use Rattle.ocfl_inventory.specs.Table.{Table, table_of}
-use Rattle.ocfl_inventory.specs.ListedPath.{is_version_name}
+use Rattle.ocfl_tree.specs.{Listing.{kind_in, IsOrdinary, IsListing}, declared.store.Entry.{Entry}}
+use Rattle.ocfl_inventory.specs.{Declaration.{undeclared, declared}, Entries.{file_names}}
+use Rattle.ocfl_inventory.specs.{Table.{Table, table_of}, ListedPath.{is_version_name}}
 use Rattle.ocfl_inventory.specs.declared.declaration.Level.TheVariants as level
 use Rattle.ocfl_audit.specs.Zone.{Zone, skipped, hierarchy, inside, object_zone, object_declared, root_declared, is_in_extensions, zone, inventory_name, inventory_limit, table_at, max_listed_depth, is_entered, is_listed_zone, is_listed_in_object, seen, beginnings, files_in, is_known, is_declared}
 use Rattle.ocfl_audit.specs.Walk.{step_zone, is_extensions, is_reached}
@@ -19,8 +15,7 @@ use Rattle.ocfl_item.specs.Internal.Content.{IsSight}
 use Rattle.ocfl_item.specs.Ways.{is_listable, is_extensions_name, IsAt, InHierarchy, IsObject}
 use Rattle.ocfl_item.specs.Internal.Ways.{IsOpenObject}
 use Rattle.ocfl_item.specs.declared.sight.Sight.TheVariants as sight
-use Rattle.ocfl_tree.proofs.Bools.{and_first, and_second, and_both}
-use Rattle.ocfl_tree.proofs.Orders.{true_not_false}
+use Rattle.ocfl_tree.proofs.{Bools.{and_first, and_second, and_both}, Orders.{true_not_false}}
 use Rattle.ocfl_audit.proofs.AuditExists.{append_one, append_nothing, object_at}
 use Rattle.ocfl_audit.proofs.StepLaws.{zone_step, reached_step, seen_step}
 use Rattle.ocfl_audit.proofs.WayLaws.{is_closed, way_dir, object_short, reached_front}

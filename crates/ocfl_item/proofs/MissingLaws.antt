@@ -4,22 +4,17 @@ use Rattle.std.proofs.lemmas.List.{at_drop_all}
 use Rattle.std.specs.Ordering.{bool_cmp, ordering_then, is_eq, match_ordering}
 use Rattle.std.specs.Cmp.{IsTotalOrder, on_total, then_total, bool_cmp_total, tied_itself, alike_right}
 use Rattle.std.specs.FinMap.{slice_cmp-IsAntisymmetric, nat_cmp-IsAntisymmetric}
-use Rattle.std.specs.Prelude.{codes, if◌then◌else◌}
-use Rattle.ocfl_report.specs.declared.code.Code.TheVariants.{E092, E093}
-use Rattle.std.specs.declared.cmp.Ordering.{Ordering}
+use Rattle.std.specs.{Prelude.{codes, if◌then◌else◌}, declared.cmp.Ordering.{Ordering}}
 use Rattle.std.specs.declared.cmp.Ordering.TheVariants.{Less, Equal, Greater}
-use Rattle.ocfl_tree.specs.Place.{Text, text_cmp}
-use Rattle.ocfl_tree.specs.Ascending.{IsAscending, insert_once, ascending}
-use Rattle.ocfl_inventory.specs.Remark.{remark_view}
-use Rattle.ocfl_inventory.specs.Note.{note, Note}
-use Rattle.ocfl_digest.specs.Algorithm.{algorithm_name, algorithm_cmp}
-use Rattle.ocfl_inventory.specs.Table.{Named, named_cmp}
-use Rattle.ocfl_audit.specs.Head.{on}
-use Rattle.ocfl_audit.specs.Lines.{block_cmp, missing_notes}
+use Rattle.ocfl_report.specs.declared.code.Code.TheVariants.{E092, E093}
+use Rattle.ocfl_tree.specs.{Place.{Text, text_cmp}, Ascending.{IsAscending, insert_once, ascending}}
+use Rattle.ocfl_inventory.specs.{Remark.{remark_view}, Note.{note, Note}, Table.{Named, named_cmp}}
 use Rattle.ocfl_inventory.specs.TripleView.{named_view}
+use Rattle.ocfl_inventory.specs.declared.triple.Named.{Named as MadeNamed}
+use Rattle.ocfl_digest.specs.Algorithm.{algorithm_name, algorithm_cmp}
+use Rattle.ocfl_audit.specs.{Head.{on}, Lines.{block_cmp, missing_notes}}
 use Rattle.ocfl_item.specs.Internal.Lines.{Adds, is_repeated, missing_note}
 use Rattle.ocfl_item.specs.declared.lines.PlaceLines.{PlaceLines}
-use Rattle.ocfl_inventory.specs.declared.triple.Named.{Named as MadeNamed}
 use Rattle.ocfl_item.proofs.NamedLaws.{algorithm_cmp_total}
 
 -- the lines of named digests, if the one before them had its own

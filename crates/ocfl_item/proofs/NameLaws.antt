@@ -1,11 +1,9 @@
 -- The names of a listing: no two are equal, however it is sorted.
 use Rattle.std.proofs.Common.{◌≡◌, List, [], ◌∷◌, refl, sym, true, false, Bool, Some, None, map, IsPermutation}
-use Rattle.std.specs.Prelude.{cond}
-use Rattle.std.specs.List.{AllByRecursion, IsDistinct}
 use Rattle.std.proofs.lemmas.List.Sorted.{IsPermutation-map}
 use Rattle.std.proofs.lemmas.Map.Keys.{IsDistinct-IsPermutation}
-use Rattle.ocfl_tree.specs.Place.{Text, text_eq}
-use Rattle.ocfl_tree.specs.Listing.{AreApart, IsOrdinary, kind_in}
+use Rattle.std.specs.{Prelude.{cond}, List.{AllByRecursion, IsDistinct}}
+use Rattle.ocfl_tree.specs.{Place.{Text, text_eq}, Listing.{AreApart, IsOrdinary, kind_in}}
 use Rattle.ocfl_tree.specs.declared.store.Entry.{Entry}
 use Rattle.ocfl_tree.proofs.Places.{text_eq-Decides, not_decided, differ}
 use Rattle.ocfl_audit.proofs.AuditExists.{some_not_none}

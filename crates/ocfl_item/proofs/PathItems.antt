@@ -1,9 +1,8 @@
 -- The item at a place at which nothing is seen.
 use Rattle.std.proofs.Common.{◌≡◌, ◌≢◌, inl, inr, Bool, true, false, List, [], ◌∷◌, refl, sym, subst, ◌∙◌, ap, Option, Some, None, length, drop, map}
-use Rattle.std.specs.Prelude.{IfSome, cond, filter_map}
-use Rattle.std.specs.List.{cons_option}
-use Rattle.ocfl_tree.specs.Place.{Place, Text, place_eq}
-use Rattle.ocfl_tree.specs.Ascending.{IsAmong}
+use Rattle.std.proofs.Math.Seq.{drop-append_seam}
+use Rattle.std.specs.{Prelude.{IfSome, cond, filter_map}, List.{cons_option}}
+use Rattle.ocfl_tree.specs.{Place.{Place, Text, place_eq}, Ascending.{IsAmong}}
 use Rattle.ocfl_tree.specs.StorageRoot.{StorageRoot, dir}
 use Rattle.ocfl_inventory.specs.Table.{Table, Named, Triple, named, paths_of}
 use Rattle.ocfl_inventory.specs.TripleView.{named_view}
@@ -11,13 +10,10 @@ use Rattle.ocfl_inventory.specs.declared.triple.Named.{Named as MadeNamed}
 use Rattle.ocfl_audit.specs.Zone.{Zone, skipped, hierarchy, inside, zone, seen, table_at}
 use Rattle.ocfl_audit.specs.Lines.{content_notes, hierarchy_notes, named_at, named_in, notes, notes_in, object_entry_notes, object_notes, version_entry_notes, within_notes}
 use Rattle.ocfl_item.specs.Internal.Content.{content_at, content_in}
-use Rattle.ocfl_item.specs.Around.{IsNamedIn, IsTableAround}
-use Rattle.ocfl_item.specs.declared.meeting.Around.{Around}
+use Rattle.ocfl_item.specs.{Around.{IsNamedIn, IsTableAround}, declared.meeting.Around.{Around}}
 use Rattle.ocfl_item.specs.declared.pending.Pending.{Pending}
 use Rattle.ocfl_audit.proofs.AuditExists.{append_nothing, place_from_test, some_not_none, zone_is}
-use Rattle.ocfl_audit.proofs.PathLaws.{named_path, notes_at}
-use Rattle.ocfl_audit.proofs.WayLaws.{head_seen, is_closed}
-use Rattle.std.proofs.Math.Seq.{drop-append_seam}
+use Rattle.ocfl_audit.proofs.{PathLaws.{named_path, notes_at}, WayLaws.{head_seen, is_closed}}
 
 abbrev named_of : Place → Option Table → List Named
 named_of q None = []

@@ -1,22 +1,15 @@
 -- The items at content places.
 use Rattle.std.proofs.Common.{◌≡◌, ◌≢◌, List, [], ◌∷◌, ◌++◌, map, refl, sym, ◌∙◌, ap, subst, true, false, Some, None}
-use Rattle.ocfl_tree.specs.Place.{Place}
-use Rattle.ocfl_tree.specs.StorageRoot.{StorageRoot}
+use Rattle.ocfl_tree.specs.{Place.{Place}, StorageRoot.{StorageRoot}, Ascending.{IsAscending}}
 use Rattle.ocfl_tree.proofs.Orders.{true_not_false}
-use Rattle.ocfl_inventory.specs.Remark.{remark_view}
-use Rattle.ocfl_inventory.specs.declared.remark.Remark.{Remark}
-use Rattle.ocfl_inventory.specs.Table.{Table, named, named_cmp}
-use Rattle.ocfl_tree.specs.Ascending.{IsAscending}
-use Rattle.ocfl_audit.specs.Lines.{is_empty, notes, missing_notes, is_hashed, named_at}
-use Rattle.ocfl_item.specs.Internal.Content.{IsSight, content_at}
-use Rattle.ocfl_inventory.specs.TripleView.{named_view}
-use Rattle.ocfl_item.specs.Pending.{IsPending}
-use Rattle.ocfl_item.specs.Internal.Content.{is_read, sight_notes}
-use Rattle.ocfl_item.specs.Internal.Lines.{HasLines}
+use Rattle.ocfl_inventory.specs.{Remark.{remark_view}, declared.remark.Remark.{Remark}}
+use Rattle.ocfl_inventory.specs.{Table.{Table, named, named_cmp}, TripleView.{named_view}}
 use Rattle.ocfl_inventory.specs.declared.triple.Named.{Named as MadeNamed}
+use Rattle.ocfl_audit.specs.Lines.{is_empty, notes, missing_notes, is_hashed, named_at}
+use Rattle.ocfl_item.specs.Internal.Content.{IsSight, content_at, is_read, sight_notes}
+use Rattle.ocfl_item.specs.{Pending.{IsPending}, Internal.Lines.{HasLines}}
 use Rattle.ocfl_item.specs.declared.lines.PlaceLines.{PlaceLines}
-use Rattle.ocfl_item.specs.declared.pending.Pending.{Pending}
-use Rattle.ocfl_item.specs.declared.sight.Sight.{Sight}
+use Rattle.ocfl_item.specs.{declared.pending.Pending.{Pending}, declared.sight.Sight.{Sight}}
 use Rattle.ocfl_item.proofs.ContentLaws.{content_is, hashed_by_sight, hashed_file, known_by_sight}
 use Rattle.ocfl_audit.proofs.UnreadLaws.{file_some}
 

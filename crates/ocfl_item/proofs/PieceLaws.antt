@@ -1,13 +1,10 @@
 -- The text of a place's lines, made one after the other.
 use Rattle.std.proofs.Common.{◌≡◌, List, [], ◌∷◌, ◌++◌, Bool, true, false, ap, refl, sym, ◌∙◌, append-nil}
-use Rattle.std.specs.Prelude.{◌||◌}
-use Rattle.std.specs.List.{list_any}
-use Rattle.std.proofs.lemmas.Grind.{flat_map-append}
-use Rattle.std.proofs.lemmas.List.{map-append}
+use Rattle.std.proofs.{lemmas.Grind.{flat_map-append}, lemmas.List.{map-append}}
 use Rattle.std.proofs.lemmas.List.Folds.{list_any-append}
+use Rattle.std.specs.{Prelude.{◌||◌}, List.{list_any}}
 use Rattle.ocfl_tree.specs.Place.{Place, Text}
-use Rattle.ocfl_report.specs.Line.{Line, is_finding_code}
-use Rattle.ocfl_report.specs.Text.{line_text, lines_text}
+use Rattle.ocfl_report.specs.{Line.{Line, is_finding_code}, Text.{line_text, lines_text}}
 use Rattle.ocfl_inventory.specs.Note.{Note, lines_at}
 
 abbrev finds : List Line → Bool

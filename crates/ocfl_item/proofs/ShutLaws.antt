@@ -1,20 +1,17 @@
 -- Places that are not looked into, and at which no inventory is read.
 use Rattle.std.proofs.Common.{◌≡◌, ◌≢◌, ◌<◌, [], ◌∷◌, ◌++◌, refl, sym, ◌∙◌, ap, true, false, Bool, Option, Some, None, length, arith}
-use Rattle.std.specs.Prelude.{cond, ◌&&◌, is_some, nat_le}
-use Rattle.std.specs.List.{list_all}
 use Rattle.std.proofs.lemmas.Bool.{lt-leb}
+use Rattle.std.specs.{Prelude.{cond, ◌&&◌, is_some, nat_le}, List.{list_all}}
 use Rattle.ocfl_tree.specs.Place.{Place, Text}
 use Rattle.ocfl_tree.specs.StorageRoot.{StorageRoot, dir, file_at, is_dir, names_in}
 use Rattle.ocfl_tree.proofs.Orders.{true_not_false}
 use Rattle.ocfl_inventory.specs.Declaration.{declared, undeclared}
 use Rattle.ocfl_inventory.specs.declared.declaration.Level.TheVariants as level
 use Rattle.ocfl_audit.specs.Zone.{Zone, skipped, hierarchy, inside, zone, is_entered, is_listed_zone, inventory_at, inventory_name, max_listed_depth, seen, beginnings, files_in, is_known}
-use Rattle.ocfl_audit.specs.Walk.{is_reached, seen_names}
-use Rattle.ocfl_audit.specs.Trail.{is_head, reads_inventory}
+use Rattle.ocfl_audit.specs.{Walk.{is_reached, seen_names}, Trail.{is_head, reads_inventory}}
 use Rattle.ocfl_audit.specs.Between.{is_looked_into, shows_entries}
 use Rattle.ocfl_audit.proofs.BetweenLaws.{looked_seen, read_seen, seen_reached}
-use Rattle.ocfl_item.specs.Internal.Visiting.{IsShut}
-use Rattle.ocfl_item.specs.Ways.{is_listable}
+use Rattle.ocfl_item.specs.{Internal.Visiting.{IsShut}, Ways.{is_listable}}
 use Rattle.ocfl_item.proofs.LooksZones.{not_entered, out_of_zone}
 
 -- what is not entered shows no names

@@ -1,13 +1,9 @@
 -- What stopped, and what did not fail.
 use Rattle.std.proofs.Common.{◌≡◌, ◌+◌, ◌⊎◌, inl, inr, ◌&&◌, ℕ, Bool, true, false, cond, List, [], ◌∷◌, ◌++◌, length, filter, refl, ap, ◌∙◌}
 use Rattle.std.proofs.lemmas.Bool.{false≢true}
-use Rattle.ocfl_tree.specs.Place.{Place}
-use Rattle.ocfl_tree.specs.Ascending.{IsAmong}
-use Rattle.ocfl_tree.specs.StorageRoot.{StorageRoot}
-use Rattle.ocfl_tree.specs.Store.{Store}
-use Rattle.ocfl_tree.specs.declared.store.Opening.{Opening}
-use Rattle.ocfl_audit.specs.Lines.{is_hashed}
-use Rattle.ocfl_audit.specs.Trail.{is_meta, unread_of}
+use Rattle.ocfl_tree.specs.{Place.{Place}, Ascending.{IsAmong}, StorageRoot.{StorageRoot}}
+use Rattle.ocfl_tree.specs.{Store.{Store}, declared.store.Opening.{Opening}}
+use Rattle.ocfl_audit.specs.{Lines.{is_hashed}, Trail.{is_meta, unread_of}}
 use Rattle.ocfl_item.specs.Auditing.{Audits, Fails, FailedAt, in_listing, in_opening}
 use Rattle.ocfl_item.specs.declared.fault.Fault.TheVariants as fault
 use Rattle.ocfl_item.proofs.AuditingLaws.{audits_well}

@@ -1,20 +1,16 @@
 -- Entries within an object whose head does not stop, by how many names they are below it.
 use Rattle.std.proofs.Common.{◌≡◌, ℕ, zero, suc, ◌-◌, ◌+◌, ◌≤◌, [], ◌∷◌, ◌++◌, sym, ◌∙◌, ap, true, Some, Option, subst, arith, length, drop, append_assoc}
-use Rattle.std.specs.Prelude.{option_map}
-use Rattle.std.specs.List.{list_all}
-use Rattle.std.proofs.lemmas.List.{length-append}
-use Rattle.ocfl_tree.specs.Place.{Place, Text}
-use Rattle.ocfl_tree.specs.StorageRoot.{StorageRoot}
+use Rattle.std.proofs.{lemmas.List.{length-append}, Math.Seq.{drop-append_seam}}
+use Rattle.std.specs.{Prelude.{option_map}, List.{list_all}}
+use Rattle.ocfl_tree.specs.{Place.{Place, Text}, StorageRoot.{StorageRoot}}
 use Rattle.ocfl_tree.specs.declared.store.Entry.{Entry}
 use Rattle.ocfl_inventory.specs.ListedPath.{is_version_name}
 use Rattle.ocfl_audit.specs.Zone.{inside, zone, is_entered, is_listed_in_object, is_listed_zone, beginnings}
-use Rattle.ocfl_item.specs.Internal.Content.{content_at, content_in}
-use Rattle.ocfl_item.specs.Around.{IsMet}
+use Rattle.ocfl_item.specs.{Internal.Content.{content_at, content_in}, Around.{IsMet}}
 use Rattle.ocfl_item.specs.declared.meeting.Around.{Around}
 use Rattle.ocfl_audit.proofs.AuditExists.{zone_is}
 use Rattle.ocfl_tree.proofs.Bools.{and_second}
 use Rattle.ocfl_item.proofs.LooksZones.{inside_step, zone_of_entered}
-use Rattle.std.proofs.Math.Seq.{drop-append_seam}
 
 -- an entry of a version directory
 pub record IsInVersion (root : StorageRoot) (o e : Place) (n : Text) : Type 0 where

@@ -1,55 +1,42 @@
 -- What is met at an entry.
 use Rattle.std.proofs.Common.{◌≡◌, ◌≢◌, ◌<◌, ◌≤◌, List, [], ◌∷◌, ◌++◌, refl, sym, ◌∙◌, ap, subst, true, false, Bool, Option, Some, None, arith, length, map}
+use Rattle.std.proofs.lemmas.Bool.{le-leb, lt-ltb, le-ltb, lt-leb}
 use Rattle.std.specs.Prelude.{cond, nat_lt, nat_le, option_map, Result, Ok, Err, IfErr, IfOk, ◌&&◌, ◌||◌, not, codes}
 use Rattle.std.specs.List.{list_all}
-use Rattle.std.proofs.lemmas.Bool.{le-leb, lt-ltb, le-ltb, lt-leb}
 use Rattle.ocfl_tree.specs.Place.{Place, Text, text_eq}
 use Rattle.ocfl_tree.specs.StorageRoot.{StorageRoot, Leaf, file, dir, other, at, is_dir, is_dir_leaf, names_in}
-use Rattle.ocfl_tree.specs.Store.{Store, Did}
-use Rattle.ocfl_tree.specs.Listing.{kind_of, IsListing}
-use Rattle.ocfl_tree.specs.declared.store.Entry.{Entry}
-use Rattle.ocfl_tree.specs.declared.store.Kind.{Kind}
+use Rattle.ocfl_tree.specs.{Store.{Store, Did}, Listing.{kind_of, IsListing}}
+use Rattle.ocfl_tree.specs.{declared.store.Entry.{Entry}, declared.store.Kind.{Kind}}
 use Rattle.ocfl_tree.specs.declared.store.Kind.TheVariants as kind
-use Rattle.ocfl_tree.proofs.Orders.{true_not_false}
-use Rattle.ocfl_inventory.specs.Note.{Note, plain}
-use Rattle.ocfl_inventory.specs.Remark.{remark_view}
+use Rattle.ocfl_tree.proofs.{Orders.{true_not_false}, Bools.{and_both}, Stores.{did_nothing}}
+use Rattle.ocfl_inventory.specs.{Note.{Note, plain}, Remark.{remark_view}}
+use Rattle.ocfl_inventory.specs.{Table.{Table, Named, named}, TripleView.{named_view}}
+use Rattle.ocfl_inventory.specs.{Declaration.{is_declaration}, ListedPath.{is_version_name}}
 use Rattle.ocfl_report.specs.declared.code.Code.{Code}
 use Rattle.ocfl_report.specs.declared.code.Code.TheVariants.{E001, E015, E024, S04, S05}
-use Rattle.ocfl_inventory.specs.Table.{Table, Named, named}
-use Rattle.ocfl_inventory.specs.TripleView.{named_view}
 use Rattle.ocfl_audit.specs.Zone.{Zone, skipped, hierarchy, inside, zone, seen, table_at, is_entered, is_listed_zone, is_listed_in_object, max_listed_depth, beginnings}
 use Rattle.ocfl_audit.specs.Lines.{notes, notes_in, object_notes, object_entry_notes, version_entry_notes, is_inventory_or_sidecar, named_at, cost_of, is_hashed, is_empty, listed_dir_notes}
-use Rattle.ocfl_inventory.specs.Declaration.{is_declaration}
-use Rattle.ocfl_inventory.specs.ListedPath.{is_version_name}
-use Rattle.ocfl_inventory.specs.declared.declaration.Level.TheVariants as level
-use Rattle.ocfl_audit.specs.Head.{on}
-use Rattle.ocfl_audit.specs.Walk.{is_reached, seen_names}
+use Rattle.ocfl_audit.specs.{Head.{on}, Walk.{is_reached, seen_names}}
 use Rattle.ocfl_audit.specs.Trail.{heads_of, is_head, reads_inventory}
 use Rattle.ocfl_audit.specs.Between.{is_looked_into, shows_entries}
-use Rattle.ocfl_item.specs.Looking.{IsFront}
-use Rattle.ocfl_item.specs.Internal.Content.{IsSight, content_in, content_at}
-use Rattle.ocfl_item.specs.Pending.{IsPending}
-use Rattle.ocfl_item.specs.Internal.Lines.{HasLines, IsUnhashed}
+use Rattle.ocfl_inventory.specs.declared.declaration.Level.TheVariants as level
+use Rattle.ocfl_item.specs.{Looking.{IsFront}, Internal.Content.{IsSight, content_in, content_at}}
+use Rattle.ocfl_item.specs.{Pending.{IsPending}, Internal.Lines.{HasLines, IsUnhashed}}
 use Rattle.ocfl_item.specs.Ways.{Enters, Stops, is_listable}
 use Rattle.ocfl_item.specs.Meeting.{IsFolderAt, IsItemAt, IsTableAt, IsVisit, Meets, MeetFails, Visits}
 use Rattle.ocfl_item.specs.Internal.Visiting.{HasRole, IsEntryAt, IsListedAt, IsPlainAt, IsShut}
-use Rattle.ocfl_item.specs.declared.fault.Fault.{Fault}
-use Rattle.ocfl_item.specs.declared.fault.Fault.TheVariants as fault
-use Rattle.ocfl_item.specs.declared.folder.Folder.{Folder}
+use Rattle.ocfl_item.specs.{declared.fault.Fault.{Fault}, declared.folder.Folder.{Folder}}
 use Rattle.ocfl_item.specs.declared.lines.PlaceLines.{PlaceLines}
-use Rattle.ocfl_item.specs.declared.pending.Pending.{Pending}
+use Rattle.ocfl_item.specs.{declared.pending.Pending.{Pending}, declared.visit.Visit.{Visit}}
+use Rattle.ocfl_item.specs.declared.fault.Fault.TheVariants as fault
 use Rattle.ocfl_item.specs.declared.role.Role.TheVariants as role
-use Rattle.ocfl_item.specs.declared.visit.Visit.{Visit}
 use Rattle.ocfl_item.specs.declared.sight.Sight.TheVariants as sight
-use Rattle.ocfl_tree.proofs.Bools.{and_both}
 use Rattle.ocfl_item.proofs.LooksZones.{leaf_dir, entered_from}
 use Rattle.ocfl_item.proofs.LooksEntries.{emptied, not_emptied}
 use Rattle.ocfl_item.proofs.AuditingLaws.{front_all, front_none, near_none, none_once}
 use Rattle.ocfl_item.proofs.ShutLaws.{listed_shows, looked_at, no_head_unread, shut_no_dir, shut_zone}
 use Rattle.ocfl_item.proofs.LinesLaws.{unhashed_at}
-use Rattle.ocfl_audit.proofs.PathLaws.{named_path, notes_at}
-use Rattle.ocfl_audit.proofs.AuditExists.{IsInside, zone_is}
-use Rattle.ocfl_tree.proofs.Stores.{did_nothing}
+use Rattle.ocfl_audit.proofs.{PathLaws.{named_path, notes_at}, AuditExists.{IsInside, zone_is}}
 
 -- ---- the item of one line
 

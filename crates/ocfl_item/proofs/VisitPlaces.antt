@@ -1,57 +1,46 @@
 -- Entries of the storage hierarchy: what is outside objects, and objects.
 use Rattle.std.proofs.Common.{◌≡◌, ◌≢◌, suc, ◌+◌, ◌-◌, ◌<◌, ◌≤◌, List, [], ◌∷◌, ◌++◌, refl, sym, ◌∙◌, ap, subst, true, false, Bool, Option, Some, None, arith, length}
-use Rattle.std.specs.Prelude.{cond, nat_eq, nat_le, option_map, codes, ◌&&◌, Result, Ok, Err, IfErr, IfOk}
-use Rattle.std.specs.List.{list_all}
 use Rattle.std.proofs.lemmas.List.{length-append}
 use Rattle.std.proofs.lemmas.Bool.{eqb-true, le-leb, lt-ltb, le-ltb, lt-leb}
+use Rattle.std.specs.Prelude.{cond, nat_eq, nat_le, option_map, codes, ◌&&◌, Result, Ok, Err, IfErr, IfOk}
+use Rattle.std.specs.List.{list_all}
 use Rattle.ocfl_tree.specs.Place.{Place, Text, text_eq}
 use Rattle.ocfl_tree.specs.StorageRoot.{StorageRoot, Leaf, file, other, at, is_dir, names_in}
-use Rattle.ocfl_tree.specs.Store.{Store, Did}
-use Rattle.ocfl_tree.specs.Listing.{kind_of, IsListing, IsOrdinary}
-use Rattle.ocfl_tree.specs.declared.store.Entry.{Entry}
-use Rattle.ocfl_tree.specs.declared.store.Kind.{Kind}
+use Rattle.ocfl_tree.specs.{Store.{Store, Did}, Listing.{kind_of, IsListing, IsOrdinary}}
+use Rattle.ocfl_tree.specs.{declared.store.Entry.{Entry}, declared.store.Kind.{Kind}}
 use Rattle.ocfl_tree.specs.declared.store.Kind.TheVariants as kind
-use Rattle.ocfl_tree.proofs.Orders.{true_not_false}
-use Rattle.ocfl_inventory.specs.Note.{Note, plain}
-use Rattle.ocfl_report.specs.declared.code.Code.TheVariants.{E072, E073, S04, S05}
-use Rattle.ocfl_inventory.specs.Table.{Table}
+use Rattle.ocfl_tree.proofs.{Orders.{true_not_false}, Stores.{did_then, did_nothing, listed_well}}
+use Rattle.ocfl_tree.proofs.Bools.{and_both, and_first}
+use Rattle.ocfl_inventory.specs.{Note.{Note, plain}, Table.{Table}}
 use Rattle.ocfl_inventory.specs.Declaration.{undeclared, declared}
 use Rattle.ocfl_inventory.specs.Entries.{file_names, meaning, unknown_by, PointsAtOne}
 use Rattle.ocfl_inventory.specs.declared.declaration.Declared.{Declared as MadeDeclared}
+use Rattle.ocfl_report.specs.declared.code.Code.TheVariants.{E072, E073, S04, S05}
 use Rattle.ocfl_inventory.specs.declared.declaration.Declared.TheVariants as made
 use Rattle.ocfl_inventory.specs.declared.declaration.Level.TheVariants as level
 use Rattle.ocfl_audit.specs.Head.{on}
 use Rattle.ocfl_audit.specs.Zone.{skipped, hierarchy, inside, zone, seen, table_at, is_entered, is_listed_zone, is_listed_in_object, max_listed_depth, object_declared, beginnings, files_in, is_declared}
 use Rattle.ocfl_audit.specs.Lines.{notes, notes_in, named_in, is_empty, listed_dir_notes, hierarchy_notes}
 use Rattle.ocfl_audit.specs.Walk.{is_extensions, is_reached, seen_names, step_zone}
-use Rattle.ocfl_audit.specs.Trail.{is_head}
-use Rattle.ocfl_item.specs.Looking.{IsFront, failures_by}
-use Rattle.ocfl_item.specs.Pending.{IsPending}
-use Rattle.ocfl_item.specs.Internal.Lines.{HasLines, IsUnhashed}
-use Rattle.ocfl_item.specs.Ways.{Enters, is_listable}
+use Rattle.ocfl_audit.specs.Trail.{is_head, heads_of, reads_inventory}
+use Rattle.ocfl_audit.specs.Between.{is_looked_into, shows_entries}
+use Rattle.ocfl_item.specs.{Looking.{IsFront, failures_by}, Pending.{IsPending}}
+use Rattle.ocfl_item.specs.{Internal.Lines.{HasLines, IsUnhashed}, Ways.{Enters, is_listable}}
 use Rattle.ocfl_item.specs.Internal.Ways.{IsDeclared}
 use Rattle.ocfl_item.specs.Meeting.{IsFairVisit, IsFolderAt, IsItemAt, IsTableAt, IsVisit, Meets, MeetFails, Visits}
 use Rattle.ocfl_item.specs.Around.{IsMet}
 use Rattle.ocfl_item.specs.Internal.Visiting.{HasRole, HeadRead, IsDirectoryAt, IsEntryAt, IsPlainAt, IsUndeclaredAt, ReadsOne, ReadOneFails, VisitsHead}
-use Rattle.ocfl_item.specs.declared.fault.Fault.{Fault}
-use Rattle.ocfl_item.specs.declared.fault.Fault.TheVariants as fault
-use Rattle.ocfl_item.specs.declared.folder.Folder.{Folder}
+use Rattle.ocfl_item.specs.{declared.fault.Fault.{Fault}, declared.folder.Folder.{Folder}}
 use Rattle.ocfl_item.specs.declared.lines.PlaceLines.{PlaceLines}
-use Rattle.ocfl_item.specs.declared.pending.Pending.{Pending}
-use Rattle.ocfl_item.specs.declared.meeting.Around.{Around}
-use Rattle.ocfl_item.specs.declared.role.Role.TheVariants as role
+use Rattle.ocfl_item.specs.{declared.pending.Pending.{Pending}, declared.meeting.Around.{Around}}
 use Rattle.ocfl_item.specs.declared.visit.Visit.{Visit}
-use Rattle.ocfl_audit.proofs.AuditExists.{not_empty}
-use Rattle.ocfl_item.proofs.AuditingLaws.{failed_behind, near_none, none_once, front_all, front_none}
-use Rattle.ocfl_tree.proofs.Stores.{did_then, did_nothing, listed_well}
-use Rattle.ocfl_item.proofs.LooksEntries.{emptied, not_emptied}
-use Rattle.ocfl_tree.proofs.Bools.{and_both, and_first}
-use Rattle.ocfl_item.proofs.ItemLaws.{head_unhashed}
-use Rattle.ocfl_item.proofs.LooksZones.{declared_object, entered_from, out_of_zone}
-use Rattle.ocfl_audit.proofs.PathLaws.{notes_at}
+use Rattle.ocfl_item.specs.declared.fault.Fault.TheVariants as fault
+use Rattle.ocfl_item.specs.declared.role.Role.TheVariants as role
+use Rattle.ocfl_audit.proofs.{AuditExists.{not_empty}, PathLaws.{notes_at}}
 use Rattle.ocfl_audit.proofs.StepLaws.{all_beginnings_step, zone_step}
-use Rattle.ocfl_audit.specs.Trail.{heads_of, reads_inventory}
-use Rattle.ocfl_audit.specs.Between.{is_looked_into, shows_entries}
+use Rattle.ocfl_item.proofs.AuditingLaws.{failed_behind, near_none, none_once, front_all, front_none}
+use Rattle.ocfl_item.proofs.{LooksEntries.{emptied, not_emptied}, ItemLaws.{head_unhashed}}
+use Rattle.ocfl_item.proofs.LooksZones.{declared_object, entered_from, out_of_zone}
 use Rattle.ocfl_item.proofs.ShutLaws.{hidden, looked_at, shut_zone}
 use Rattle.ocfl_item.proofs.VisitLaws.{deep_notes, entered_meets, entry_dir, entry_file, entry_other, file_shut, no_dir, other_shut, relined, short_notes, dir_here, visit_of_folder, visits_by}
 

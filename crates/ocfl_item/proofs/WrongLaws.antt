@@ -1,20 +1,14 @@
 -- The lines of named digests that are not the file's, made one after the other.
 use Rattle.std.proofs.Common.{◌≡◌, ℕ, ◌+◌, ◌<◌, ◌≤◌, List, [], ◌∷◌, ◌++◌, length, get_or, take, map, refl, sym, ◌∙◌, ap, subst, Some, inl, inr, arith}
-use Rattle.std.proofs.lemmas.List.{map_more, take_all}
-use Rattle.std.proofs.lemmas.List.Concat.{flat_map-append}
+use Rattle.std.proofs.{lemmas.List.{map_more, take_all}, lemmas.List.Concat.{flat_map-append}}
 use Rattle.std.specs.Prelude.{zero, suc}
-use Rattle.ocfl_tree.specs.Place.{Text}
-use Rattle.ocfl_tree.specs.Ascending.{IsAmong}
-use Rattle.ocfl_digest.specs.Digest.{digest_bytes_of}
-use Rattle.ocfl_digest.specs.Digests.{digest_in}
+use Rattle.ocfl_tree.specs.{Place.{Text}, Ascending.{IsAmong}}
+use Rattle.ocfl_digest.specs.{Digest.{digest_bytes_of}, Digests.{digest_in}}
 use Rattle.ocfl_digest.specs.declared.digests.Digests.{Digests}
-use Rattle.ocfl_audit.specs.Head.{digest_of}
-use Rattle.ocfl_inventory.specs.Table.{Named}
-use Rattle.ocfl_inventory.specs.TripleView.{named_view}
+use Rattle.ocfl_audit.specs.{Head.{digest_of}, Lines.{wrong_notes}}
+use Rattle.ocfl_inventory.specs.{Table.{Named}, TripleView.{named_view}}
 use Rattle.ocfl_inventory.specs.declared.triple.Named.{Named as MadeNamed}
-use Rattle.ocfl_item.specs.Internal.FileLines.{HasDigests, wrong_by}
-use Rattle.ocfl_audit.specs.Lines.{wrong_notes}
-use Rattle.ocfl_item.specs.Internal.Lines.{Adds}
+use Rattle.ocfl_item.specs.{Internal.FileLines.{HasDigests, wrong_by}, Internal.Lines.{Adds}}
 use Rattle.ocfl_item.specs.declared.lines.PlaceLines.{PlaceLines}
 use Rattle.ocfl_item.proofs.LinesLaws.{adds_both}
 use Rattle.ocfl_tree.proofs.Orders.{among_map}

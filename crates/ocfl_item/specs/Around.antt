@@ -1,13 +1,9 @@
 -- The object that holds a place, and an entry that is met in it.
 use Rattle.std.specs.Prelude.{◌≡◌, [], ◌∷◌, ◌++◌, true, Option, Some, None, drop, length}
-use Rattle.ocfl_tree.specs.Place.{Place}
-use Rattle.ocfl_tree.specs.Ascending.{IsAmong}
-use Rattle.ocfl_tree.specs.StorageRoot.{StorageRoot}
-use Rattle.ocfl_tree.specs.Listing.{kind_at}
-use Rattle.ocfl_tree.specs.declared.store.Entry.{Entry}
+use Rattle.ocfl_tree.specs.{Place.{Place}, Ascending.{IsAmong}, StorageRoot.{StorageRoot}}
+use Rattle.ocfl_tree.specs.{Listing.{kind_at}, declared.store.Entry.{Entry}}
 use Rattle.ocfl_inventory.specs.Table.{paths_of}
-use Rattle.ocfl_audit.specs.Zone.{hierarchy, inside, zone, table_at}
-use Rattle.ocfl_audit.specs.Walk.{is_reached}
+use Rattle.ocfl_audit.specs.{Zone.{hierarchy, inside, zone, table_at}, Walk.{is_reached}}
 use Rattle.ocfl_item.specs.declared.meeting.Around.{Around}
 
 -- the table of the object that holds a place, if there is one

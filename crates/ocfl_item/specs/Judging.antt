@@ -1,12 +1,9 @@
 -- What judging an item does: a content file that is hashed is opened once.
 use Rattle.std.specs.Prelude.{◌≡◌, ◌<◌, ◌≤◌, ◌^◌, ◌+◌, if◌then◌else◌, ℕ, List, [], ◌∷◌, Bool, true, false, length, Some}
-use Rattle.ocfl_tree.specs.Place.{Text, Place}
-use Rattle.ocfl_tree.specs.StorageRoot.{StorageRoot, file, at}
-use Rattle.ocfl_tree.specs.Store.{Store}
+use Rattle.ocfl_tree.specs.{Place.{Text, Place}, StorageRoot.{StorageRoot, file, at}, Store.{Store}}
 use Rattle.ocfl_tree.specs.declared.store.Opening.{Opening}
 use Rattle.ocfl_report.specs.Line.{Line}
-use Rattle.ocfl_audit.specs.Trail.{places_of}
-use Rattle.ocfl_audit.specs.Due.{items_at, hashed_among}
+use Rattle.ocfl_audit.specs.{Trail.{places_of}, Due.{items_at, hashed_among}}
 use Rattle.ocfl_item.specs.Auditing.{Audits, Fails}
 use Rattle.ocfl_item.specs.declared.fault.Fault.TheVariants as fault
 

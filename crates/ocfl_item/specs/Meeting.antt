@@ -1,25 +1,17 @@
 -- What is met at one place of a store that tells its tree.
 use Rattle.std.specs.Prelude.{AllPairs, ◌≡◌, ◌≢◌, ◌≤◌, List, [], true, false, Option, Some, None, MatchOption, MatchResult, IfSome, Result, length}
-use Rattle.ocfl_tree.specs.Place.{Place}
-use Rattle.ocfl_tree.specs.StorageRoot.{StorageRoot}
-use Rattle.ocfl_tree.specs.Store.{Store, Did}
-use Rattle.ocfl_tree.specs.Listing.{IsListing, IsOrdinary}
-use Rattle.ocfl_tree.specs.declared.store.Opening.{Opening}
+use Rattle.ocfl_tree.specs.{Place.{Place}, StorageRoot.{StorageRoot}, Store.{Store, Did}}
+use Rattle.ocfl_tree.specs.{Listing.{IsListing, IsOrdinary}, declared.store.Opening.{Opening}}
 use Rattle.ocfl_inventory.specs.Table.{IsFit, Table}
 use Rattle.ocfl_audit.specs.Zone.{inside, zone, table_at, max_listed_depth}
-use Rattle.ocfl_audit.specs.Lines.{notes, is_hashed}
-use Rattle.ocfl_audit.specs.Head.{on}
+use Rattle.ocfl_audit.specs.{Lines.{notes, is_hashed}, Head.{on}}
 use Rattle.ocfl_audit.specs.Trail.{content_trail, heads_of, is_head, reads_inventory}
-use Rattle.ocfl_audit.specs.Between.{is_looked_into}
+use Rattle.ocfl_audit.specs.{Between.{is_looked_into}, Walk.{is_reached, seen_names}}
 use Rattle.ocfl_item.specs.Auditing.{FailedAt, IsMetadataRead, LieIn}
-use Rattle.ocfl_item.specs.Looking.{IsFront, failures_by}
-use Rattle.ocfl_item.specs.Pending.{IsPending}
-use Rattle.ocfl_audit.specs.Walk.{is_reached, seen_names}
-use Rattle.ocfl_item.specs.declared.fault.Fault.{Fault}
+use Rattle.ocfl_item.specs.{Looking.{IsFront, failures_by}, Pending.{IsPending}}
+use Rattle.ocfl_item.specs.{declared.fault.Fault.{Fault}, declared.folder.Folder.{Folder}}
+use Rattle.ocfl_item.specs.{declared.pending.Pending.{Pending}, declared.visit.Visit.{Visit}}
 use Rattle.ocfl_item.specs.declared.fault.Fault.TheVariants as fault
-use Rattle.ocfl_item.specs.declared.folder.Folder.{Folder}
-use Rattle.ocfl_item.specs.declared.pending.Pending.{Pending}
-use Rattle.ocfl_item.specs.declared.visit.Visit.{Visit}
 
 -- from s to t just what is looked into and read at one place was listed and read: this directory,
 -- and the inventory of this object; no file was opened twice, none but right in this directory, and

@@ -1,8 +1,7 @@
 -- What is known of an item before its file is read.
 use Rattle.std.specs.Prelude.{◌≡◌, ◌≢◌, [], false, None, map}
 use Rattle.ocfl_tree.specs.StorageRoot.{StorageRoot}
-use Rattle.ocfl_inventory.specs.Remark.{remark_view}
-use Rattle.ocfl_inventory.specs.TripleView.{named_view}
+use Rattle.ocfl_inventory.specs.{Remark.{remark_view}, TripleView.{named_view}}
 use Rattle.ocfl_item.specs.declared.pending.Pending.{Pending}
 use Rattle.ocfl_audit.specs.Lines.{notes, named_at, is_hashed}
 

@@ -1,24 +1,16 @@
 -- The way down to a place: what is known of a directory on it, and what was done to come there.
 use Rattle.std.specs.Prelude.{◌≡◌, ◌≢◌, ℕ, ◌&&◌, nat_le, length, List, [], ◌∷◌, ◌++◌, Bool, true, false, Option, Some, None, codes}
 use Rattle.std.specs.List.{list_all}
-use Rattle.ocfl_tree.specs.Place.{Text, Place, text_eq}
-use Rattle.ocfl_tree.specs.StorageRoot.{StorageRoot, is_dir}
-use Rattle.ocfl_tree.specs.Store.{Store, Did}
-use Rattle.ocfl_tree.specs.Listing.{IsListing}
-use Rattle.ocfl_tree.specs.declared.store.Entry.{Entry}
-use Rattle.ocfl_tree.specs.declared.store.Kind.{Kind}
+use Rattle.ocfl_tree.specs.{Place.{Text, Place, text_eq}, StorageRoot.{StorageRoot, is_dir}}
+use Rattle.ocfl_tree.specs.{Store.{Store, Did}, Listing.{IsListing}, declared.store.Entry.{Entry}}
+use Rattle.ocfl_tree.specs.{declared.store.Kind.{Kind}, declared.store.Opening.{Opening}}
 use Rattle.ocfl_tree.specs.declared.store.Kind.TheVariants as kind
-use Rattle.ocfl_tree.specs.declared.store.Opening.{Opening}
 use Rattle.ocfl_inventory.specs.Declaration.{Declared}
 use Rattle.ocfl_audit.specs.Zone.{max_listed_depth, hierarchy, inside, zone, is_entered, object_declared, beginnings, is_known, is_declared}
-use Rattle.ocfl_audit.specs.Lines.{is_hashed}
-use Rattle.ocfl_audit.specs.Trail.{heads_of}
-use Rattle.ocfl_audit.specs.Walk.{is_reached}
-use Rattle.ocfl_item.specs.Looking.{IsFront, failures_by}
-use Rattle.ocfl_item.specs.Auditing.{FailedAt, IsMetadataRead}
-use Rattle.ocfl_item.specs.declared.fault.Fault.{Fault}
+use Rattle.ocfl_audit.specs.{Lines.{is_hashed}, Trail.{heads_of}, Walk.{is_reached}}
+use Rattle.ocfl_item.specs.{Looking.{IsFront, failures_by}, Auditing.{FailedAt, IsMetadataRead}}
+use Rattle.ocfl_item.specs.{declared.fault.Fault.{Fault}, declared.folder.Head.{Head}}
 use Rattle.ocfl_item.specs.declared.fault.Fault.TheVariants as fault
-use Rattle.ocfl_item.specs.declared.folder.Head.{Head}
 use Rattle.ocfl_item.specs.declared.folder.Head.TheVariants as head
 
 -- the places below d on the way to d ++ p, with that place at the end

@@ -1,21 +1,14 @@
 //! The storage root: its lines, and its listing if it is entered.
 ghost use Rattle.std.specs.Prelude.{◌≡◌, ◌∷◌, [], false, IfOk, IfErr};
-ghost use Rattle.ocfl_tree.specs.StorageRoot.{StorageRoot};
+ghost use Rattle.ocfl_tree.specs.{StorageRoot.{StorageRoot}, Store.{IfTold}};
 ghost use Rattle.ocfl_inventory.specs.Note.{plain};
-ghost use Rattle.ocfl_inventory.specs.Declaration.{declaration_name as declaration_name_of};
-ghost use Rattle.ocfl_inventory.specs.Declaration.{known};
-ghost use Rattle.ocfl_audit.specs.Zone.{is_known};
-ghost use Rattle.ocfl_inventory.specs.Entries.{meaning};
-ghost use Rattle.ocfl_inventory.specs.Sidecar.{side_limit};
+ghost use Rattle.ocfl_inventory.specs.Declaration.{declaration_name as declaration_name_of, known};
+ghost use Rattle.ocfl_inventory.specs.{Entries.{meaning}, Sidecar.{side_limit}};
+ghost use Rattle.ocfl_audit.specs.{Zone.{is_known}, Head.{root_notes_by}};
 ghost use Rattle.ocfl_inventory.specs.declared.declaration.Level.TheVariants as level;
-ghost use Rattle.ocfl_audit.specs.Head.{root_notes_by};
-ghost use Rattle.ocfl_item.specs.HeadFiles.{OpensJust};
-ghost use Rattle.ocfl_item.specs.Internal.HeadFiles.{IsFileAt};
-ghost use Rattle.ocfl_item.specs.Pending.{IsPending};
-ghost use Rattle.ocfl_item.specs.Meeting.{IsFairVisit, Visits};
-ghost use Rattle.ocfl_item.specs.Internal.Visiting.{IsBase};
-ghost use Rattle.ocfl_item.specs.Ways.{IsWayFault};
-ghost use Rattle.ocfl_tree.specs.Store.{IfTold};
+ghost use Rattle.ocfl_item.specs.{HeadFiles.{OpensJust}, Internal.HeadFiles.{IsFileAt}};
+ghost use Rattle.ocfl_item.specs.{Pending.{IsPending}, Meeting.{IsFairVisit, Visits}};
+ghost use Rattle.ocfl_item.specs.{Internal.Visiting.{IsBase}, Ways.{IsWayFault}};
 
 use crate::declarations::{is_exact, stopped_lines};
 use crate::fault::Fault;

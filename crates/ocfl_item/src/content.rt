@@ -1,15 +1,12 @@
 //! What is met in a content directory, by the digests that name it.
-ghost use Rattle.std.specs.Prelude.{◌≡◌, ◌++◌, IfOk, IfSome, OnOk, Some};
-ghost use Rattle.std.specs.Prelude.{map};
-ghost use Rattle.ocfl_tree.specs.Ascending.{IsAscending};
-ghost use Rattle.ocfl_tree.specs.Place.{Place as ModelPlace};
+ghost use Rattle.std.specs.Prelude.{◌≡◌, ◌++◌, IfOk, IfSome, OnOk, Some, map};
+ghost use Rattle.ocfl_tree.specs.{Ascending.{IsAscending}, Place.{Place as ModelPlace}};
 ghost use Rattle.ocfl_tree.specs.StorageRoot.{StorageRoot};
 ghost use Rattle.ocfl_inventory.specs.Table.{Table, named as digests_of, named_cmp};
 ghost use Rattle.ocfl_inventory.specs.TripleView.{named_view};
 ghost use Rattle.ocfl_audit.specs.Lines.{missing_notes};
 ghost use Rattle.ocfl_item.specs.Internal.Content.{IsSight, content_at, is_read, sight_notes};
-ghost use Rattle.ocfl_item.specs.Meeting.{IsItemAt};
-ghost use Rattle.ocfl_item.specs.Internal.Lines.{Adds, HasLines};
+ghost use Rattle.ocfl_item.specs.{Meeting.{IsItemAt}, Internal.Lines.{Adds, HasLines}};
 
 use crate::lines::PlaceLines;
 use crate::missing::add_missing;

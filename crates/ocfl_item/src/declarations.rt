@@ -4,13 +4,10 @@ ghost use Rattle.std.specs.Prelude.{◌≡◌, ◌≤◌, ◌++◌, ◌∷◌, [
 ghost use Rattle.ocfl_tree.specs.Place.{Place as ModelPlace, Text, text_eq};
 ghost use Rattle.ocfl_tree.specs.StorageRoot.{StorageRoot};
 ghost use Rattle.ocfl_inventory.specs.Note.{note};
+ghost use Rattle.ocfl_inventory.specs.Declaration.{after_prefix, declaration_name as name_of_declaration, prefix};
+ghost use Rattle.ocfl_inventory.specs.{Entries.{meaning, PointsAtOne}, Sidecar.{side_limit}};
 ghost use Rattle.ocfl_digest.specs.Bounded.{IsBoundedTo};
-ghost use Rattle.ocfl_inventory.specs.Declaration.{after_prefix};
-ghost use Rattle.ocfl_audit.specs.Zone.{is_known};
-ghost use Rattle.ocfl_inventory.specs.Declaration.{declaration_name as name_of_declaration, prefix};
-ghost use Rattle.ocfl_inventory.specs.Entries.{meaning, PointsAtOne};
-ghost use Rattle.ocfl_inventory.specs.Sidecar.{side_limit};
-ghost use Rattle.ocfl_audit.specs.Head.{is_exact_declaration};
+ghost use Rattle.ocfl_audit.specs.{Zone.{is_known}, Head.{is_exact_declaration}};
 ghost use Rattle.ocfl_item.specs.Internal.HeadFiles.{IsFileAt};
 ghost use Rattle.ocfl_item.specs.Internal.HeadLines.{declared_notes};
 ghost use Rattle.ocfl_item.specs.Internal.Lines.{Adds, HasLines};

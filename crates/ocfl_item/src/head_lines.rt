@@ -1,28 +1,21 @@
 //! The lines of an object's head, from files that were read before.
-ghost use Rattle.std.specs.Prelude.{◌≡◌, ◌++◌, ◌∷◌, [], List, true, false, not, is_some, map};
-ghost use Rattle.std.specs.Prelude.{option_map, Some, IfSome, IfOk, OnOk};
+ghost use Rattle.std.specs.Prelude.{◌≡◌, ◌++◌, ◌∷◌, [], List, true, false, not, is_some, map, option_map, Some, IfSome, IfOk, OnOk};
 ghost use Rattle.hex.specs.Hex.{encode_lower};
 ghost use Rattle.ocfl_tree.specs.Place.{Place as ModelPlace, Text, text_eq};
 ghost use Rattle.ocfl_tree.specs.StorageRoot.{StorageRoot};
 ghost use Rattle.ocfl_inventory.specs.Note.{Note, plain};
-ghost use Rattle.ocfl_digest.specs.Bounded.{IsBoundedTo};
-ghost use Rattle.ocfl_digest.specs.Digest.{digest_bytes_of};
-ghost use Rattle.ocfl_digest.specs.Digests.{digest_in};
-ghost use Rattle.ocfl_digest.specs.Wanted.{wants};
-ghost use Rattle.ocfl_digest.specs.declared.algorithm.Algorithm.TheVariants.{Sha256, Sha512};
 ghost use Rattle.ocfl_inventory.specs.Declaration.{declaration_name as name_of_declaration};
 ghost use Rattle.ocfl_inventory.specs.Reading.{algorithm_of as algorithm_in};
 ghost use Rattle.ocfl_inventory.specs.Remark.{remark_view};
 ghost use Rattle.ocfl_inventory.specs.Sidecar.{side_limit, sidecar_digits, sidecar_of, sum_view};
 ghost use Rattle.ocfl_inventory.specs.Table.{IsFit, table_of};
+ghost use Rattle.ocfl_digest.specs.{Bounded.{IsBoundedTo}, Digest.{digest_bytes_of}};
+ghost use Rattle.ocfl_digest.specs.{Digests.{digest_in}, Wanted.{wants}};
+ghost use Rattle.ocfl_digest.specs.declared.algorithm.Algorithm.TheVariants.{Sha256, Sha512};
 ghost use Rattle.ocfl_inventory.specs.declared.declaration.Level.TheVariants as level;
-ghost use Rattle.ocfl_audit.specs.Head.{digest_of, is_exact_declaration, on, or_clean};
-ghost use Rattle.ocfl_audit.specs.Head.{sidecar_name};
-ghost use Rattle.ocfl_audit.specs.Head.{sidecar_at, mismatch, sidecar_notes, are_sidecars_missing};
-ghost use Rattle.ocfl_audit.specs.Head.{sidecars_notes, inventory_part};
+ghost use Rattle.ocfl_audit.specs.Head.{digest_of, is_exact_declaration, on, or_clean, sidecar_name, sidecar_at, mismatch, sidecar_notes, are_sidecars_missing, sidecars_notes, inventory_part};
 ghost use Rattle.ocfl_item.specs.Internal.HeadFiles.{IsFileAt};
-ghost use Rattle.ocfl_item.specs.Internal.HeadLines.{AreSidecars, HasDigestFor, is_other_there};
-ghost use Rattle.ocfl_item.specs.Internal.HeadLines.{named_notes};
+ghost use Rattle.ocfl_item.specs.Internal.HeadLines.{AreSidecars, HasDigestFor, is_other_there, named_notes};
 ghost use Rattle.ocfl_item.specs.Internal.Lines.{Adds, HasLines};
 
 use crate::declarations::is_exact;

@@ -1,16 +1,12 @@
 //! Judging an item: its lines and its cost.
-ghost use Rattle.std.specs.Prelude.{◌≡◌, ◌≢◌, ◌≤◌, ◌<◌, ◌+◌, ◌^◌, ◌++◌, ◌∷◌, [], IfErr, IfOk};
-ghost use Rattle.std.specs.Prelude.{IsTrue, MatchResult, None, false, length, map, max, true};
-ghost use Rattle.ocfl_tree.specs.Place.{Text};
-ghost use Rattle.ocfl_inventory.specs.Note.{plain};
-ghost use Rattle.ocfl_inventory.specs.TripleView.{named_view};
+ghost use Rattle.std.specs.Prelude.{◌≡◌, ◌≢◌, ◌≤◌, ◌<◌, ◌+◌, ◌^◌, ◌++◌, ◌∷◌, [], IfErr, IfOk, IsTrue, MatchResult, None, false, length, map, max, true};
+ghost use Rattle.ocfl_tree.specs.{Place.{Text}, Store.{IfTold}};
+ghost use Rattle.ocfl_inventory.specs.{Note.{plain}, TripleView.{named_view}};
 ghost use Rattle.ocfl_audit.specs.Lines.{or_bytes, unnamed_notes, wrong_notes};
 ghost use Rattle.ocfl_item.specs.Internal.FileLines.{HasDigests, given_in};
 ghost use Rattle.ocfl_item.specs.Internal.Lines.{HasLines};
 ghost use Rattle.ocfl_item.specs.Judging.{CostFits, HasShortFiles, JudgeFails, Judges};
-ghost use Rattle.ocfl_item.specs.Pending.{IsPending};
-ghost use Rattle.ocfl_item.specs.PlaceLines.{lines_of};
-ghost use Rattle.ocfl_tree.specs.Store.{IfTold};
+ghost use Rattle.ocfl_item.specs.{Pending.{IsPending}, PlaceLines.{lines_of}};
 
 use crate::fault::Fault;
 use crate::file_lines::{hashed_lines, unread_lines};

@@ -1,15 +1,10 @@
 //! What calls did adds up, what stopped them, and which files are short.
-ghost use Rattle.std.specs.Prelude.{◌≡◌, ◌↔◌, ◌⊎◌, ◌<◌, ◌+◌, ◌++◌, ◌∷◌, [], ℕ, List, Some};
-ghost use Rattle.std.specs.Prelude.{length, true, false};
-ghost use Rattle.ocfl_tree.specs.Place.{Place, Text};
-ghost use Rattle.ocfl_tree.specs.Ascending.{IsAmong};
-ghost use Rattle.ocfl_tree.specs.Store.{Store};
+ghost use Rattle.std.specs.Prelude.{◌≡◌, ◌↔◌, ◌⊎◌, ◌<◌, ◌+◌, ◌++◌, ◌∷◌, [], ℕ, List, Some, length, true, false};
+ghost use Rattle.ocfl_tree.specs.{Place.{Place, Text}, Ascending.{IsAmong}, Store.{Store}};
 ghost use Rattle.ocfl_tree.specs.StorageRoot.{StorageRoot, file_at};
 ghost use Rattle.ocfl_tree.specs.declared.store.Opening.{Opening};
-ghost use Rattle.ocfl_audit.specs.Lines.{is_hashed};
-ghost use Rattle.ocfl_audit.specs.Trail.{is_meta, unread_of};
-ghost use Rattle.ocfl_item.specs.Auditing.{Audits, Fails};
-ghost use Rattle.ocfl_item.specs.Judging.{HasShortFiles};
+ghost use Rattle.ocfl_audit.specs.{Lines.{is_hashed}, Trail.{is_meta, unread_of}};
+ghost use Rattle.ocfl_item.specs.{Auditing.{Audits, Fails}, Judging.{HasShortFiles}};
 ghost use Rattle.ocfl_item.specs.declared.fault.Fault.{Fault};
 ghost use Rattle.ocfl_item.specs.declared.fault.Fault.TheVariants as fault;
 

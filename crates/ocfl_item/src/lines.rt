@@ -1,14 +1,9 @@
 //! The lines of one place, as they are gathered and as text. The place is held once.
-ghost use Rattle.std.specs.Prelude.{◌≡◌, ◌∷◌, [], IfOk, OnOk, string_bytes};
-ghost use Rattle.std.specs.List.{list_any};
-ghost use Rattle.ocfl_report.specs.Line.{is_finding_code};
-ghost use Rattle.ocfl_report.specs.Text.{lines_text};
-ghost use Rattle.ocfl_inventory.specs.Note.{note, plain};
-ghost use Rattle.ocfl_inventory.specs.TripleView.{named_view};
-ghost use Rattle.ocfl_audit.specs.Head.{mismatch};
-ghost use Rattle.ocfl_audit.specs.Lines.{block_code};
-ghost use Rattle.ocfl_item.specs.Internal.Lines.{Adds, HasLines};
-ghost use Rattle.ocfl_item.specs.PlaceLines.{lines_of};
+ghost use Rattle.std.specs.{Prelude.{◌≡◌, ◌∷◌, [], IfOk, OnOk, string_bytes}, List.{list_any}};
+ghost use Rattle.ocfl_report.specs.{Line.{is_finding_code}, Text.{lines_text}};
+ghost use Rattle.ocfl_inventory.specs.{Note.{note, plain}, TripleView.{named_view}};
+ghost use Rattle.ocfl_audit.specs.{Head.{mismatch}, Lines.{block_code}};
+ghost use Rattle.ocfl_item.specs.{Internal.Lines.{Adds, HasLines}, PlaceLines.{lines_of}};
 
 use ocfl_digest::Algorithm;
 use ocfl_inventory::{Named, Remark};

@@ -1,14 +1,11 @@
 //! What is met at a place below the storage root, by the part of the root that it is in.
 ghost use Rattle.std.specs.Prelude.{◌≡◌, None, IfErr, IfOk, IfSome, drop, length, map};
-ghost use Rattle.ocfl_tree.specs.Place.{Place as ModelPlace};
-ghost use Rattle.ocfl_tree.specs.StorageRoot.{StorageRoot};
-ghost use Rattle.ocfl_inventory.specs.Table.{named as digests_of};
-ghost use Rattle.ocfl_inventory.specs.TripleView.{named_view};
+ghost use Rattle.ocfl_tree.specs.{Place.{Place as ModelPlace}, StorageRoot.{StorageRoot}};
+ghost use Rattle.ocfl_tree.specs.Store.{IfTold};
+ghost use Rattle.ocfl_inventory.specs.{Table.{named as digests_of}, TripleView.{named_view}};
 ghost use Rattle.ocfl_audit.specs.Zone.{seen};
 ghost use Rattle.ocfl_item.specs.Around.{IsMet, IsNamedIn, IsTableAround};
-ghost use Rattle.ocfl_item.specs.Meeting.{IsFairVisit, IsItemAt, Visits};
-ghost use Rattle.ocfl_item.specs.Ways.{IsWayFault};
-ghost use Rattle.ocfl_tree.specs.Store.{IfTold};
+ghost use Rattle.ocfl_item.specs.{Meeting.{IsFairVisit, IsItemAt, Visits}, Ways.{IsWayFault}};
 
 use crate::content::content_item_at;
 use crate::fault::Fault;

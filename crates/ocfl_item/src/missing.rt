@@ -2,10 +2,8 @@
 ghost use Rattle.std.specs.Prelude.{◌≡◌, ◌∷◌, [], OnOk, not, option_map, map};
 ghost use Rattle.std.specs.Option.{option_copied};
 ghost use Rattle.ocfl_tree.specs.Ascending.{IsAscending};
-ghost use Rattle.ocfl_inventory.specs.Table.{named_cmp};
-ghost use Rattle.ocfl_inventory.specs.TripleView.{named_view};
-ghost use Rattle.ocfl_audit.specs.Head.{on};
-ghost use Rattle.ocfl_audit.specs.Lines.{missing_notes};
+ghost use Rattle.ocfl_inventory.specs.{Table.{named_cmp}, TripleView.{named_view}};
+ghost use Rattle.ocfl_audit.specs.{Head.{on}, Lines.{missing_notes}};
 ghost use Rattle.ocfl_item.specs.Internal.Lines.{Adds, is_repeated, is_same_block, missing_note};
 
 use crate::lines::{PlaceLines, code_of};

@@ -1,30 +1,22 @@
 //! An object's own files: its declaration, its inventory and the sidecars. They are read for its
 //! head with its table, or for the table alone; a file of the storage root is read in the same way.
-ghost use Rattle.std.specs.Prelude.{◌≡◌, ◌∷◌, ◌++◌, [], true, false, IfErr, IfOk, IfSome};
-ghost use Rattle.std.specs.Prelude.{MatchOption, MatchResult, OnOk, not};
-ghost use Rattle.ocfl_tree.specs.StorageRoot.{file_at};
-ghost use Rattle.ocfl_tree.specs.Listing.{IsListing, kind_in};
+ghost use Rattle.std.specs.Prelude.{◌≡◌, ◌∷◌, ◌++◌, [], true, false, IfErr, IfOk, IfSome, MatchOption, MatchResult, OnOk, not};
+ghost use Rattle.ocfl_tree.specs.{StorageRoot.{file_at}, Listing.{IsListing, kind_in}};
+ghost use Rattle.ocfl_tree.specs.Store.{IfTold};
 ghost use Rattle.ocfl_inventory.specs.Note.{plain};
-ghost use Rattle.ocfl_digest.specs.declared.algorithm.Algorithm.TheVariants.{Sha256, Sha512};
 ghost use Rattle.ocfl_inventory.specs.Declaration.{declaration_name as declaration_name_of, known};
-ghost use Rattle.ocfl_inventory.specs.Reading.{algorithm_of};
-ghost use Rattle.ocfl_inventory.specs.Sidecar.{side_limit};
+ghost use Rattle.ocfl_inventory.specs.{Reading.{algorithm_of}, Sidecar.{side_limit}};
 ghost use Rattle.ocfl_inventory.specs.Table.{IsFit, table_of};
+ghost use Rattle.ocfl_digest.specs.declared.algorithm.Algorithm.TheVariants.{Sha256, Sha512};
 ghost use Rattle.ocfl_inventory.specs.declared.declaration.Level.TheVariants as level;
-ghost use Rattle.ocfl_audit.specs.Head.{inventory_file_notes, inventory_part};
-ghost use Rattle.ocfl_audit.specs.Head.{is_exact_declaration, on, sidecars_notes};
-ghost use Rattle.ocfl_audit.specs.Head.{sidecar_name as sidecar_name_of};
+ghost use Rattle.ocfl_audit.specs.Head.{inventory_file_notes, inventory_part, is_exact_declaration, on, sidecars_notes, sidecar_name as sidecar_name_of};
 ghost use Rattle.ocfl_audit.specs.Trail.{is_meta};
 ghost use Rattle.ocfl_audit.specs.Zone.{inside, inventory_name, object_declared, table_at, zone};
 ghost use Rattle.ocfl_item.specs.HeadFiles.{FilesStop, OpensJust, ReadsFiles};
-ghost use Rattle.ocfl_item.specs.Internal.HeadFiles.{IsFileAt, ReadsFile, head_files};
-ghost use Rattle.ocfl_item.specs.Internal.HeadFiles.{inventory_files, table_in};
-ghost use Rattle.ocfl_item.specs.Internal.Lines.{Adds};
-ghost use Rattle.ocfl_item.specs.Internal.Visiting.{HeadRead};
+ghost use Rattle.ocfl_item.specs.Internal.HeadFiles.{IsFileAt, ReadsFile, head_files, inventory_files, table_in};
+ghost use Rattle.ocfl_item.specs.{Internal.Lines.{Adds}, Internal.Visiting.{HeadRead}};
 ghost use Rattle.ocfl_item.specs.Ways.{IsObject, IsWayFault};
-ghost use Rattle.ocfl_item.specs.Internal.Ways.{IsDeclared, IsHeadOf, IsListedObject};
-ghost use Rattle.ocfl_item.specs.Internal.Ways.{is_file_kind};
-ghost use Rattle.ocfl_tree.specs.Store.{IfTold};
+ghost use Rattle.ocfl_item.specs.Internal.Ways.{IsDeclared, IsHeadOf, IsListedObject, is_file_kind};
 
 use crate::declarations::stopped_lines;
 use crate::fault::Fault;

@@ -1,6 +1,5 @@
 //! What an entry is to the walk, by its kind and its name, in each part of the storage root.
-ghost use Rattle.std.specs.Prelude.{◌≡◌, ◌∷◌, ◌||◌, codes, [], None, Some};
-ghost use Rattle.std.specs.Prelude.{true};
+ghost use Rattle.std.specs.Prelude.{◌≡◌, ◌∷◌, ◌||◌, codes, [], None, Some, true};
 ghost use Rattle.ocfl_tree.specs.Place.{Place as ModelPlace, Text, text_eq};
 ghost use Rattle.ocfl_tree.specs.StorageRoot.{StorageRoot};
 ghost use Rattle.ocfl_inventory.specs.Declaration.{is_declaration};
@@ -9,8 +8,7 @@ ghost use Rattle.ocfl_inventory.specs.Table.{Table as TableOf};
 ghost use Rattle.ocfl_inventory.specs.declared.declaration.Level.TheVariants as level;
 ghost use Rattle.ocfl_audit.specs.Zone.{inside, table_at, zone};
 ghost use Rattle.ocfl_audit.specs.Lines.{is_inventory_or_sidecar as is_beside_inventory};
-ghost use Rattle.ocfl_item.specs.Around.{IsMet};
-ghost use Rattle.ocfl_item.specs.Internal.Visiting.{HasRole, IsEntryAt};
+ghost use Rattle.ocfl_item.specs.{Around.{IsMet}, Internal.Visiting.{HasRole, IsEntryAt}};
 
 use crate::folder::names_extensions;
 use crate::names::{INVENTORY_NAME, is_sidecar_name};

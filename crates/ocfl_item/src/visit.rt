@@ -1,22 +1,15 @@
 //! What is met at an entry of a directory.
-ghost use Rattle.std.specs.Prelude.{◌≡◌, ◌≤◌, ◌∷◌, [], None, Some, true};
-ghost use Rattle.std.specs.Prelude.{IfErr, IfOk, map, length};
-ghost use Rattle.ocfl_tree.specs.Place.{Place as ModelPlace};
-ghost use Rattle.ocfl_tree.specs.StorageRoot.{StorageRoot};
-ghost use Rattle.ocfl_tree.specs.Listing.{IsOrdinary};
-ghost use Rattle.ocfl_inventory.specs.Note.{plain};
-ghost use Rattle.ocfl_inventory.specs.Table.{Table as TableOf, named as digests_of};
+ghost use Rattle.std.specs.Prelude.{◌≡◌, ◌≤◌, ◌∷◌, [], None, Some, true, IfErr, IfOk, map, length};
+ghost use Rattle.ocfl_tree.specs.{Place.{Place as ModelPlace}, StorageRoot.{StorageRoot}};
+ghost use Rattle.ocfl_tree.specs.{Listing.{IsOrdinary}, Store.{IfTold}};
+ghost use Rattle.ocfl_inventory.specs.{Note.{plain}, Table.{Table as TableOf, named as digests_of}};
 ghost use Rattle.ocfl_inventory.specs.TripleView.{named_view};
 ghost use Rattle.ocfl_audit.specs.Zone.{is_listed_zone, max_listed_depth, zone};
-ghost use Rattle.ocfl_audit.specs.Lines.{listed_dir_notes};
-ghost use Rattle.ocfl_audit.specs.Walk.{seen_names};
-ghost use Rattle.ocfl_item.specs.Ways.{IsWayFault};
-ghost use Rattle.ocfl_item.specs.Internal.Ways.{IsDeclared};
+ghost use Rattle.ocfl_audit.specs.{Lines.{listed_dir_notes}, Walk.{seen_names}};
+ghost use Rattle.ocfl_item.specs.{Ways.{IsWayFault}, Internal.Ways.{IsDeclared}};
 ghost use Rattle.ocfl_item.specs.Internal.Content.{IsSight, content_at};
 ghost use Rattle.ocfl_item.specs.Meeting.{IsFairVisit, IsVisit, Visits};
-ghost use Rattle.ocfl_item.specs.Internal.Visiting.{HasRole, IsDirectoryAt, IsEntryAt, IsListedAt};
-ghost use Rattle.ocfl_item.specs.Internal.Visiting.{IsPlainAt, IsUndeclaredAt, VisitsHead};
-ghost use Rattle.ocfl_tree.specs.Store.{IfTold};
+ghost use Rattle.ocfl_item.specs.Internal.Visiting.{HasRole, IsDirectoryAt, IsEntryAt, IsListedAt, IsPlainAt, IsUndeclaredAt, VisitsHead};
 
 use crate::content::{content_item, content_item_at};
 use crate::fault::Fault;

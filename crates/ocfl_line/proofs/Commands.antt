@@ -1,10 +1,9 @@
 -- Commands that are built step by step.
 use Rattle.std.proofs.Common.{◌∙◌, ap, ap₂, sym, Bool, ℕ, ◌+◌, ◌<◌, List, length, map, take, get_or}
-use Rattle.std.specs.Prelude.{◌||◌}
 use Rattle.std.proofs.lemmas.List.{map_more}
+use Rattle.std.specs.Prelude.{◌||◌}
 use Rattle.clap.specs.Words.{App, AddsArg, AddsSubcommand, Text, with_rule, with_subcommand}
-use Rattle.clap.specs.declared.builder.arg.Arg.{Arg}
-use Rattle.clap.specs.declared.builder.command.Command.{Command}
+use Rattle.clap.specs.{declared.builder.arg.Arg.{Arg}, declared.builder.command.Command.{Command}}
 use Rattle.ocfl_line.specs.Line.{IsArg, IsCommand, app_with, rule_for}
 use Rattle.ocfl_line.specs.declared.command.Argument.{Argument}
 

@@ -2,8 +2,7 @@
 use Rattle.std.proofs.Common.{◌≡◌, ℕ, List, Option, Some, None, ap, true≢false}
 use Rattle.std.specs.Prelude.{IsSomeAnd, find, is_some, option_and_then, option_map, slice_get}
 use Rattle.std.specs.Str.{bytes_eq}
-use Rattle.clap.specs.Words.{Row, Text, read_as}
-use Rattle.clap.specs.Walk.{row_text}
+use Rattle.clap.specs.{Words.{Row, Text, read_as}, Walk.{row_text}}
 use Rattle.clap.specs.declared.builder.value_parser.Reading.{Reading}
 use Rattle.ocfl_line.specs.Asks.{HasNumber, IsLeftOut, IsNumberText}
 

@@ -1,7 +1,6 @@
 -- The numbers that `get_one` reads.
 use Rattle.std.proofs.Common.{◌≡◌, ◌^◌, ◌<◌, ℕ, Option, Some, None, Result, Ok, Err, refl, subst, true≢false, ap}
-use Rattle.std.specs.Prelude.{IfSome, IsNone, IsSomeAnd, is_some}
-use Rattle.std.specs.Str.Parse.{ParsesUnsigned}
+use Rattle.std.specs.{Prelude.{IfSome, IsNone, IsSomeAnd, is_some}, Str.Parse.{ParsesUnsigned}}
 use Rattle.clap.specs.Words.{ReadsOne, Text}
 use Rattle.ocfl_line.specs.Asks.{IsNumberText}
 

@@ -3,8 +3,7 @@ use Rattle.std.proofs.Common.{◌≡◌, ◌∙◌, List, [], true, refl, sym, a
 use Rattle.clap.specs.Words.{App, HasKind, HasMatchesOf, IsAmong, Text, fault_of, is_simple, is_simple_and_free, kind_of, subcommand_of, subcommand_rows_of}
 use Rattle.clap.specs.declared.error.Error.{Error}
 use Rattle.clap.specs.declared.parser.matches.ArgMatches.{ArgMatches}
-use Rattle.ocfl_line.specs.Line.{line_app}
-use Rattle.ocfl_line.specs.Stop.{IsStopOf, StopsRightly}
+use Rattle.ocfl_line.specs.{Line.{line_app}, Stop.{IsStopOf, StopsRightly}}
 use Rattle.ocfl_line.specs.declared.stop.CommandStop.{CommandStop}
 use Rattle.ocfl_line.specs.declared.stop.CommandStop.TheVariants.{Usage, Memory}
 

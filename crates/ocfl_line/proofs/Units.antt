@@ -1,14 +1,12 @@
 -- The digits and the unit of a size's text.
 use Rattle.std.proofs.Common.{◌≡◌, ◌∙◌, ℕ, zero, suc, ◌+◌, ◌<◌, ◌≤◌, Bool, true, false, List, ◌∷◌, length, drop, get_or, map, Some, refl, sym, subst, arith}
-use Rattle.std.specs.Prelude.{◌↔◌, IsTrue}
-use Rattle.std.specs.Char.{is_ascii_digit, to_ascii_lowercase}
-use Rattle.std.specs.List.{prefix_len}
-use Rattle.std.specs.Str.{IsCharBoundary, IsUtf8, str_eq_ignore_ascii_case}
 use Rattle.std.proofs.lemmas.Bool.Decides.{nat_tests, same_from_decides}
 use Rattle.std.proofs.lemmas.List.{at_drop_more}
 use Rattle.std.proofs.lemmas.List.Sums.{prefix_len-le-length, prefix_len_passes}
 use Rattle.std.proofs.lemmas.Slice.Eq.{bytes_eq-Decides}
 use Rattle.std.proofs.lemmas.Str.{IsCharBoundary-start, IsCharBoundary-after_ascii}
+use Rattle.std.specs.{Prelude.{◌↔◌, IsTrue}, Char.{is_ascii_digit, to_ascii_lowercase}}
+use Rattle.std.specs.{List.{prefix_len}, Str.{IsCharBoundary, IsUtf8, str_eq_ignore_ascii_case}}
 use Rattle.clap.specs.Words.{Text}
 use Rattle.ocfl_line.specs.Budget.{beside}
 use denote.Ref.{Bor}

@@ -6,20 +6,17 @@ use Rattle.clap.specs.Words.{Row, Text, first_of, one_of}
 use Rattle.ocfl_cursor.specs.declared.limits.Limits.{Limits}
 use Rattle.ocfl_line.specs.Budget.{IsSizeText}
 use Rattle.ocfl_line.specs.Line.{most_hours, most_parts, most_runs, most_split}
-use Rattle.ocfl_line.specs.TimeOfDay.{IsTimeText}
-use Rattle.ocfl_deed.specs.declared.deed.Deed.{Deed}
-use Rattle.ocfl_deed.specs.declared.deed.Deed.TheVariants.{Audit, Run, Cycle, Check, Show}
-use Rattle.ocfl_line.specs.declared.task.Chosen.{Chosen}
+use Rattle.ocfl_line.specs.{TimeOfDay.{IsTimeText}, declared.task.Chosen.{Chosen}}
 use Rattle.ocfl_line.specs.declared.task.Chosen.TheVariants.{All, Branch, Part}
-use Rattle.ocfl_line.specs.declared.task.Task.{Task}
-use Rattle.ocfl_line.specs.declared.task.Split.{Split}
+use Rattle.ocfl_line.specs.{declared.task.Task.{Task}, declared.task.Split.{Split}}
 use Rattle.ocfl_line.specs.declared.task.Split.TheVariants.{Listing, Report}
 use Rattle.ocfl_line.specs.declared.night.Until.{Until}
 use Rattle.ocfl_line.specs.declared.night.Until.TheVariants.{Never, Hours, TimeOfDay, At}
 use Rattle.ocfl_line.specs.declared.night.NightBounds.{NightBounds}
 use Rattle.ocfl_line.specs.declared.night.NightAsked.{NightAsked}
-use Rattle.ocfl_line.specs.declared.night.JoinAsked.{JoinAsked}
-use Rattle.ocfl_line.specs.declared.task.Asked.{Asked}
+use Rattle.ocfl_line.specs.{declared.night.JoinAsked.{JoinAsked}, declared.task.Asked.{Asked}}
+use Rattle.ocfl_deed.specs.declared.deed.Deed.{Deed}
+use Rattle.ocfl_deed.specs.declared.deed.Deed.TheVariants.{Audit, Run, Cycle, Check, Show}
 use Rattle.ocfl_line.specs.declared.task.Asked.TheVariants as asked
 
 -- the text writes this number: decimal digits, which a plus sign may precede

@@ -1,9 +1,7 @@
 -- The text of a size: of a budget, or of the most files of a run.
 use Rattle.std.specs.Prelude.{◌≡◌, ℕ, ◌*◌, ◌^◌, ◌∷◌, List, [], Option, Some, None, IsSomeAnd, codes, drop, if◌then◌else◌}
-use Rattle.std.specs.Char.{is_ascii_digit}
-use Rattle.std.specs.List.{prefix_len, take_while}
-use Rattle.std.specs.Str.{str_eq_ignore_ascii_case}
-use Rattle.std.specs.Str.Parse.{IsNumeral, digits_value}
+use Rattle.std.specs.{Char.{is_ascii_digit}, List.{prefix_len, take_while}}
+use Rattle.std.specs.{Str.{str_eq_ignore_ascii_case}, Str.Parse.{IsNumeral, digits_value}}
 use Rattle.clap.specs.Words.{Text}
 use Rattle.ocfl_cursor.specs.Limits.{IsBudget}
 

@@ -1,15 +1,12 @@
 -- The command line, as `clap` is to read it.
 use Rattle.std.specs.Prelude.{ℕ, List, [], ◌∷◌, Some, true, false, codes, ◌≡◌}
 use Rattle.clap.specs.Words.{App, Rule, Text, app_of, new_app, new_rule, rule_of, with_subcommand}
-use Rattle.clap.specs.Simple.{on_top}
-use Rattle.clap.specs.declared.builder.action.ArgAction.TheVariants.{SetTrue}
-use Rattle.clap.specs.declared.builder.arg.Arg.{Arg}
-use Rattle.clap.specs.declared.builder.command.Command.{Command}
+use Rattle.clap.specs.{Simple.{on_top}, declared.builder.action.ArgAction.TheVariants.{SetTrue}}
+use Rattle.clap.specs.{declared.builder.arg.Arg.{Arg}, declared.builder.command.Command.{Command}}
 use Rattle.clap.specs.declared.builder.command.Command.TheViews.{out-Command}
 use Rattle.clap.specs.declared.builder.value_parser.ValueParser.TheVariants as vp
 use Rattle.ocfl_line.specs.declared.command.Argument.{Argument}
-use Rattle.ocfl_line.specs.declared.command.Argument.TheVariants.{Root, Path, File, Cursor, Budget, Files, Runs, Quiet, Under, Parts, Part, Count, AnyRoot, AnyBudget, Report}
-use Rattle.ocfl_line.specs.declared.command.Argument.TheVariants.{State, NightBudget, NightFiles, Slice, Hours, Until, End, Known, Expected, Create, ForceRoot, StopAtFaults, AllParts, PartStates}
+use Rattle.ocfl_line.specs.declared.command.Argument.TheVariants.{Root, Path, File, Cursor, Budget, Files, Runs, Quiet, Under, Parts, Part, Count, AnyRoot, AnyBudget, Report, State, NightBudget, NightFiles, Slice, Hours, Until, End, Known, Expected, Create, ForceRoot, StopAtFaults, AllParts, PartStates}
 
 abbrev pub most_runs : ℕ
 most_runs = 100000

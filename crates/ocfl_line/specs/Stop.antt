@@ -3,9 +3,7 @@ use Rattle.std.specs.Prelude.{◌≡◌, ◌≢◌, ◌⊎◌, List, [], ⊤}
 use Rattle.clap.specs.Words.{Text, IsAmong, fault_of, kind_of, subcommand_of}
 use Rattle.clap.specs.declared.error.Error.{Error}
 use Rattle.clap.specs.declared.error.kind.ErrorKind.TheVariants as kind
-use Rattle.ocfl_line.specs.Line.{line_app}
-use Rattle.ocfl_line.specs.Asks.{Asks}
-use Rattle.ocfl_line.specs.declared.task.Asked.{Asked}
+use Rattle.ocfl_line.specs.{Line.{line_app}, Asks.{Asks}, declared.task.Asked.{Asked}}
 use Rattle.ocfl_line.specs.declared.stop.CommandStop.{CommandStop}
 use Rattle.ocfl_line.specs.declared.stop.CommandStop.TheVariants.{Usage, Memory}
 

@@ -1,9 +1,7 @@
 //! Reading a command line, or saying why it asks for nothing.
 ghost use Rattle.std.specs.Prelude.{◌≡◌, [], IfOk, IfErr, map};
 ghost use Rattle.clap.specs.Words.{fault_of, subcommand_of};
-ghost use Rattle.ocfl_line.specs.Line.{IsCommand, line_app};
-ghost use Rattle.ocfl_line.specs.Asks.{Asks};
-ghost use Rattle.ocfl_line.specs.Stop.{StopsRightly};
+ghost use Rattle.ocfl_line.specs.{Line.{IsCommand, line_app}, Asks.{Asks}, Stop.{StopsRightly}};
 
 use crate::command::line_command;
 use crate::complaint::usage_error;

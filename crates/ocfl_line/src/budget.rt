@@ -1,9 +1,7 @@
 //! The text of a size: of a budget, or of the most files of a run.
 ghost use Rattle.std.specs.Prelude.{◌≡◌, ℕ, IfSome, IsNone, map, take, drop};
-ghost use Rattle.std.specs.Char.{is_ascii_digit};
-ghost use Rattle.std.specs.List.{prefix_len};
-ghost use Rattle.ocfl_line.specs.Budget.{IsSizeText, beside, digits_of, unit_of};
-ghost use Rattle.ocfl_line.specs.Budget.{unit_size as size_of_unit};
+ghost use Rattle.std.specs.{Char.{is_ascii_digit}, List.{prefix_len}};
+ghost use Rattle.ocfl_line.specs.Budget.{IsSizeText, beside, digits_of, unit_of, unit_size as size_of_unit};
 
 use ocfl_cursor::Budget;
 

@@ -1,10 +1,7 @@
 //! The program's subcommands and arguments, as `clap` takes them.
 ghost use Rattle.std.specs.Prelude.{IfOk, map};
 ghost use Rattle.clap.specs.Words.{App, with_subcommand};
-ghost use Rattle.ocfl_line.specs.Line.{IsArg, IsCommand, app_with, bare_app, budget_rule};
-ghost use Rattle.ocfl_line.specs.Line.{count_rule, cursor_rule, end_rule, files_rule, flag_rule};
-ghost use Rattle.ocfl_line.specs.Line.{hours_rule, line_app, named_rule, needed_rule};
-ghost use Rattle.ocfl_line.specs.Line.{optional_rule, part_rule, rule_for, runs_rule, wanted_rule};
+ghost use Rattle.ocfl_line.specs.Line.{IsArg, IsCommand, app_with, bare_app, budget_rule, count_rule, cursor_rule, end_rule, files_rule, flag_rule, hours_rule, line_app, named_rule, needed_rule, optional_rule, part_rule, rule_for, runs_rule, wanted_rule};
 
 use crate::command::Argument::{
     AllParts, AnyBudget, AnyRoot, Budget, Count, Create, Cursor, End, Expected, File, Files,

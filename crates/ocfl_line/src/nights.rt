@@ -2,8 +2,7 @@
 ghost use Rattle.std.specs.Prelude.{◌↔◌, ℕ, Option, String, IfOk, IfSome, IsNone, IsTrue};
 ghost use Rattle.std.specs.declared.alloc.Global.{Global};
 ghost use Rattle.clap.specs.Words.{found_of, rows_of};
-ghost use Rattle.ocfl_line.specs.Asks.{ExpectsOfPart, HasBounds, HasText, IsJoin, IsNight};
-ghost use Rattle.ocfl_line.specs.Asks.{MayHaveSize};
+ghost use Rattle.ocfl_line.specs.Asks.{ExpectsOfPart, HasBounds, HasText, IsJoin, IsNight, MayHaveSize};
 ghost use Rattle.ocfl_line.specs.declared.night.JoinAsked.{JoinAsked as JoinOf};
 ghost use Rattle.ocfl_line.specs.declared.night.NightAsked.{NightAsked as NightOf};
 ghost use Rattle.ocfl_line.specs.declared.night.NightBounds.{NightBounds as BoundsOf};

@@ -3,9 +3,9 @@ ghost use Rattle.std.specs.Prelude.{ℕ, IfOk, IfSome, IsNone, codes};
 ghost use Rattle.clap.specs.Words.{found_of, rows_of, subcommand_rows_of};
 ghost use Rattle.ocfl_cursor.specs.declared.limits.Limits.{Limits as LimitsOf};
 ghost use Rattle.ocfl_line.specs.Asks.{Asks, HasLimits, HasRuns, IsAsked, IsDeed, IsTask};
-ghost use Rattle.ocfl_deed.specs.declared.deed.Deed.{Deed as DeedOf};
 ghost use Rattle.ocfl_line.specs.declared.task.Task.{Task as TaskOf};
 ghost use Rattle.ocfl_line.specs.declared.task.Asked.{Asked as AskedOf};
+ghost use Rattle.ocfl_deed.specs.declared.deed.Deed.{Deed as DeedOf};
 
 use crate::budget::{read_amount, read_budget};
 use crate::choosing::chosen_by;

@@ -1,22 +1,18 @@
 -- What a put and a removal do to a tree in memory.
 use Rattle.std.proofs.Common.{◌≡◌, ◌≢◌, ℕ, ◌<◌, ◌≤◌, Bool, true, false, cond, not, List, [], ◌∷◌, ◌++◌, length, Option, Some, None, sym, ◌∙◌, ap, subst, refl, arith, append-nil, length-append, leb, filter}
+use Rattle.std.proofs.{lemmas.Bool.{leb-false}, lemmas.List.{same_from_push}}
 use Rattle.std.specs.Prelude.{is_some, MatchOption, ⊤, Result, Ok, Err}
-use Rattle.std.proofs.lemmas.Bool.{leb-false}
-use Rattle.std.proofs.lemmas.List.{same_from_push}
 use Rattle.ocfl_tree.specs.Place.{Text, Place, begins, child_name}
 use Rattle.ocfl_tree.specs.StorageRoot.{StorageRoot, Leaf, dir, lookup, is_dir_leaf, at, is_dir, names_in}
+use Rattle.ocfl_tree.specs.{declared.store.Entry.{Entry}, declared.store.Opening.{Opening}}
 use Rattle.ocfl_memory.specs.Faults.{Faults}
 use Rattle.ocfl_memory.specs.Internal.Nodes.{with_entry, kept_in, AreOnce, stands_at, kept_refusal}
 use Rattle.ocfl_memory.specs.MemTree.{parent, put_refusal, after_put, Puts, Removes}
-use Rattle.ocfl_memory.specs.Internal.Kept.{IsKept, seen}
-use Rattle.ocfl_memory.specs.declared.build.BuildStop.{BuildStop}
+use Rattle.ocfl_memory.specs.{Internal.Kept.{IsKept, seen}, declared.build.BuildStop.{BuildStop}}
 use Rattle.ocfl_memory.specs.declared.build.BuildStop.TheVariants.{Exists, NoParent, Full}
 use Rattle.ocfl_memory.specs.declared.mem_tree.OpenFile.{OpenFile}
-use Rattle.ocfl_tree.specs.declared.store.Entry.{Entry}
-use Rattle.ocfl_tree.specs.declared.store.Opening.{Opening}
-use Rattle.ocfl_tree.proofs.Places.{append-child_name}
+use Rattle.ocfl_tree.proofs.{Places.{append-child_name}, Trees.{some_not_none, at_in_dir}}
 use Rattle.ocfl_memory.proofs.Listings.{length-names_in}
-use Rattle.ocfl_tree.proofs.Trees.{some_not_none, at_in_dir}
 use Rattle.ocfl_memory.proofs.Trees.{dir_from_leaf, front_last, parent-append, rooted_from_above, rooted_push, put_leaves, once_push, is_left, removal_leaves, rooted_left, once_left}
 
 -- the refusal that was found is that of the tree

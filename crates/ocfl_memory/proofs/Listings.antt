@@ -1,22 +1,18 @@
 -- The entries that are kept of a directory, those of the model, and what a listing gives.
 use Rattle.std.proofs.Common.{◌≡◌, ◌⊎◌, inl, inr, suc, Bool, true, false, cond, List, [], ◌∷◌, ◌++◌, length, map, Option, Some, None, sym, ◌∙◌, ap, refl}
-use Rattle.std.specs.Prelude.{filter_map}
-use Rattle.std.specs.List.{cons_option}
-use Rattle.std.specs.Option.{option_map}
-use Rattle.std.specs.Ordering.{match_ordering}
-use Rattle.std.specs.declared.cmp.Ordering.{Ordering}
-use Rattle.std.specs.declared.cmp.Ordering.TheVariants.{Less, Equal, Greater}
 use Rattle.std.proofs.lemmas.List.{same_from_push}
+use Rattle.std.specs.{Prelude.{filter_map}, List.{cons_option}, Option.{option_map}}
+use Rattle.std.specs.{Ordering.{match_ordering}, declared.cmp.Ordering.{Ordering}}
+use Rattle.std.specs.declared.cmp.Ordering.TheVariants.{Less, Equal, Greater}
 use Rattle.ocfl_tree.specs.Place.{Text, Place, text_cmp, text_eq, child_name}
 use Rattle.ocfl_tree.specs.Ascending.{insert_once, ascending, IsAmong}
 use Rattle.ocfl_tree.specs.StorageRoot.{StorageRoot, dir, lookup, at, names_in}
 use Rattle.ocfl_tree.specs.Listing.{kind_of, kind_in, AreApart, IsListing}
-use Rattle.ocfl_memory.specs.Internal.Nodes.{with_entry, kept_in, AreOnce}
 use Rattle.ocfl_tree.specs.declared.store.Entry.{Entry}
+use Rattle.ocfl_memory.specs.Internal.Nodes.{with_entry, kept_in, AreOnce}
 use Rattle.ocfl_tree.proofs.Orders.{among_ascending}
 use Rattle.ocfl_tree.proofs.Places.{text_eq-Decides, text_cmp_exact, differ, child_name-append, append-child_name}
-use Rattle.ocfl_tree.proofs.Lists.{lookup_here, lookup_other}
-use Rattle.ocfl_tree.proofs.Trees.{some_not_none, at_in_dir}
+use Rattle.ocfl_tree.proofs.{Lists.{lookup_here, lookup_other}, Trees.{some_not_none, at_in_dir}}
 
 pub kind_in-kept_in : (root : StorageRoot) (d : Place) (n : Text) → kind_in (kept_in root d) n ≡ option_map kind_of (lookup root (d ++ n ∷ []))
 kind_in-kept_in [] d n = refl

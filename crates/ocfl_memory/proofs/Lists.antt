@@ -1,8 +1,7 @@
 -- What is kept at an index, and where it is looked up.
 use Rattle.std.proofs.Common.{◌≡◌, ℕ, ◌+◌, ◌<◌, List, [], ◌∷◌, ◌++◌, length, drop, get_or, set, Some, sym, ◌∙◌, ap, refl}
 use Rattle.std.proofs.lemmas.List.{get_or_default}
-use Rattle.ocfl_tree.specs.Place.{Text, Place, child_name}
-use Rattle.ocfl_tree.specs.StorageRoot.{StorageRoot, Leaf, dir}
+use Rattle.ocfl_tree.specs.{Place.{Text, Place, child_name}, StorageRoot.{StorageRoot, Leaf, dir}}
 use Rattle.ocfl_tree.specs.Listing.{kind_of}
 use Rattle.ocfl_memory.specs.Internal.Nodes.{leaf_at, with_entry, kept_in}
 use Rattle.ocfl_tree.proofs.Lists.{drop_item}

@@ -2,25 +2,19 @@
 use Rattle.std.proofs.Common.{◌≡◌, ℕ, zero, suc, ◌+◌, ◌-◌, ◌<◌, ◌≤◌, true, false, List, [], ◌∷◌, ◌++◌, length, take, drop, Option, Some, None, sym, ◌∙◌, ap, subst, refl, arith, append-nil, length-append, length-drop}
 use Rattle.std.proofs.Math.Seq.{take-length}
 use Rattle.std.proofs.lemmas.List.{length-take-le, take-append-drop, drop-drop, nil_from_length}
-use Rattle.ocfl_tree.specs.Place.{Text, Place}
-use Rattle.ocfl_tree.specs.StorageRoot.{StorageRoot, file, dir}
-use Rattle.std.specs.Prelude.{slice_get, nat_lt, ◌&&◌, ◌^◌, Bool}
-use Rattle.std.specs.Option.{option_map_or}
-use Rattle.ocfl_memory.specs.Faults.{Faults, is_struck}
-use Rattle.ocfl_memory.specs.MemTree.{fails, read_fails}
-use Rattle.ocfl_memory.specs.Internal.Nodes.{leaf_at, bytes_in, stands_at, kept_in}
-use Rattle.ocfl_memory.specs.declared.plan.Point.TheVariants as point
-use Rattle.ocfl_memory.specs.Internal.Kept.{rest_of, seen, IsOpen, IfOpen, IsKept}
-use Rattle.ocfl_tree.specs.Ascending.{IsAmong}
-use Rattle.ocfl_tree.specs.Store.{Did, failed_openings}
+use Rattle.ocfl_tree.specs.{Place.{Text, Place}, StorageRoot.{StorageRoot, file, dir}}
+use Rattle.ocfl_tree.specs.{Ascending.{IsAmong}, Store.{Did, failed_openings}}
 use Rattle.ocfl_tree.specs.Calls.{Lists, ListFails, Opens, OpenFails, Reads, ReadFails, opening, change_last, with_given, with_failure}
-use Rattle.ocfl_memory.specs.declared.mem_tree.OpenFile.{OpenFile}
-use Rattle.ocfl_tree.specs.declared.store.Entry.{Entry}
-use Rattle.ocfl_tree.specs.declared.store.Opening.{Opening}
+use Rattle.ocfl_tree.specs.{declared.store.Entry.{Entry}, declared.store.Opening.{Opening}}
 use Rattle.ocfl_tree.specs.declared.store.Trouble.TheVariants.{Device}
+use Rattle.std.specs.{Prelude.{slice_get, nat_lt, ◌&&◌, ◌^◌, Bool}, Option.{option_map_or}}
+use Rattle.ocfl_memory.specs.{Faults.{Faults, is_struck}, MemTree.{fails, read_fails}}
+use Rattle.ocfl_memory.specs.Internal.Nodes.{leaf_at, bytes_in, stands_at, kept_in}
+use Rattle.ocfl_memory.specs.Internal.Kept.{rest_of, seen, IsOpen, IfOpen, IsKept}
+use Rattle.ocfl_memory.specs.declared.mem_tree.OpenFile.{OpenFile}
+use Rattle.ocfl_memory.specs.declared.plan.Point.TheVariants as point
 use Rattle.ocfl_memory.proofs.Listings.{kept_is_listing}
-use Rattle.ocfl_tree.proofs.Lists.{change_last-append}
-use Rattle.ocfl_tree.proofs.Trees.{some_not_none}
+use Rattle.ocfl_tree.proofs.{Lists.{change_last-append}, Trees.{some_not_none}}
 
 module _ (nodes : StorageRoot) (o : Option OpenFile) (os : List Opening) (ls us : List Place) (f l : ℕ) (g h : Faults) where
   -- what was added, with the listings among it that failed

@@ -3,15 +3,13 @@ use Rattle.std.specs.Prelude.{◌≡◌, ◌≢◌, IsTrue, IsErr, ℕ, ◌+◌,
 use Rattle.std.specs.Option.{option_map_or}
 use Rattle.ocfl_tree.specs.Place.{Text, Place, place_eq, begins}
 use Rattle.ocfl_tree.specs.StorageRoot.{StorageRoot, Leaf, at, is_dir, names_in, max_entries}
-use Rattle.ocfl_tree.specs.Store.{Store, empty_store}
-use Rattle.ocfl_memory.specs.Faults.{Faults, no_faults, is_struck, within_step}
-use Rattle.ocfl_tree.specs.declared.store.Opening.{Opening}
+use Rattle.ocfl_tree.specs.{Store.{Store, empty_store}, declared.store.Opening.{Opening}}
 use Rattle.ocfl_tree.specs.declared.store.Trouble.{Trouble}
 use Rattle.ocfl_tree.specs.declared.store.Trouble.TheVariants.{Absent}
-use Rattle.ocfl_memory.specs.declared.plan.Point.{Point}
-use Rattle.ocfl_memory.specs.declared.plan.Point.TheVariants as point
-use Rattle.ocfl_memory.specs.declared.build.BuildStop.{BuildStop}
+use Rattle.ocfl_memory.specs.Faults.{Faults, no_faults, is_struck, within_step}
+use Rattle.ocfl_memory.specs.{declared.plan.Point.{Point}, declared.build.BuildStop.{BuildStop}}
 use Rattle.ocfl_memory.specs.declared.build.BuildStop.TheVariants.{Exists, NoParent, Full, Memory}
+use Rattle.ocfl_memory.specs.declared.plan.Point.TheVariants as point
 
 -- a store that tells its tree, and which of its calls are made to fail
 pub record Held : Type 0 where

@@ -1,8 +1,6 @@
 //! What the changes of a tree in memory leave.
 ghost use Rattle.std.specs.Prelude.{◌≡◌, None};
-ghost use Rattle.ocfl_tree.specs.Place.{Place};
-ghost use Rattle.ocfl_tree.specs.StorageRoot.{Leaf};
-ghost use Rattle.ocfl_tree.specs.Store.{Store};
+ghost use Rattle.ocfl_tree.specs.{Place.{Place}, StorageRoot.{Leaf}, Store.{Store}};
 ghost use Rattle.ocfl_memory.specs.MemTree.{Puts, Removes};
 
 /// What is put into a tree in memory or taken from it closes the open file, and leaves the record

@@ -1,16 +1,9 @@
 //! A storage root in memory, which tells what was done to it and can be made to fail.
-ghost use Rattle.std.specs.Prelude.{◌≡◌, ◌≢◌, ◌↔◌, ◌<◌, ◌≤◌, ◌+◌, ◌^◌, [], true, IsTrue, ◌&&◌};
-ghost use Rattle.std.specs.Prelude.{nat_lt, IfOk, IfErr, OnOk, OnErr, IsOk, IsOkUnless};
-ghost use Rattle.std.specs.Prelude.{MatchOption, MatchResult, Err, length, take, max, is_some};
-ghost use Rattle.std.specs.Prelude.{IsSome, if◌then◌else◌};
-ghost use Rattle.ocfl_tree.specs.StorageRoot.{file, dir, other, at};
-ghost use Rattle.ocfl_tree.specs.Listing.{IsOrdinary};
-ghost use Rattle.ocfl_tree.specs.Calls.{Lists, ListFails, Opens, OpenFails, Reads, ReadFails};
-ghost use Rattle.ocfl_tree.specs.Calls.{Closes};
+ghost use Rattle.std.specs.Prelude.{◌≡◌, ◌≢◌, ◌↔◌, ◌<◌, ◌≤◌, ◌+◌, ◌^◌, [], true, IsTrue, ◌&&◌, nat_lt, IfOk, IfErr, OnOk, OnErr, IsOk, IsOkUnless, MatchOption, MatchResult, Err, length, take, max, is_some, IsSome, if◌then◌else◌};
+ghost use Rattle.ocfl_tree.specs.{StorageRoot.{file, dir, other, at}, Listing.{IsOrdinary}};
+ghost use Rattle.ocfl_tree.specs.Calls.{Lists, ListFails, Opens, OpenFails, Reads, ReadFails, Closes};
 ghost use Rattle.ocfl_memory.specs.Faults.{after_call};
-ghost use Rattle.ocfl_memory.specs.MemTree.{nothing_held, with_step, with_call, with_point, fails};
-ghost use Rattle.ocfl_memory.specs.MemTree.{read_fails, given_of, put_refusal, Puts, PutAnswer};
-ghost use Rattle.ocfl_memory.specs.MemTree.{FailsWhereStruck, Removes};
+ghost use Rattle.ocfl_memory.specs.MemTree.{nothing_held, with_step, with_call, with_point, fails, read_fails, given_of, put_refusal, Puts, PutAnswer, FailsWhereStruck, Removes};
 
 use crate::build::BuildStop;
 use crate::nodes::{self, Node, Stored};

@@ -1,16 +1,10 @@
 //! What a tree in memory holds at its places.
-ghost use Rattle.std.specs.Prelude.{◌≡◌, ◌≢◌, ℕ, ◌<◌, ◌≤◌, ◌++◌, ◌∷◌, [], List, take, IsTrue, ◌↔◌};
-ghost use Rattle.std.specs.Prelude.{IfOk, OnOk, OnErr, IfSome, IsNone, IsOkUnless, MatchOption};
-ghost use Rattle.std.specs.Prelude.{None, Some, Err, length, not, is_some};
+ghost use Rattle.std.specs.Prelude.{◌≡◌, ◌≢◌, ℕ, ◌<◌, ◌≤◌, ◌++◌, ◌∷◌, [], List, take, IsTrue, ◌↔◌, IfOk, OnOk, OnErr, IfSome, IsNone, IsOkUnless, MatchOption, None, Some, Err, length, not, is_some};
 ghost use Rattle.std.specs.List.{filter};
-ghost use Rattle.ocfl_tree.specs.Place.{begins, child_name};
-ghost use Rattle.ocfl_tree.specs.StorageRoot.{file, dir, lookup};
-ghost use Rattle.ocfl_tree.specs.Listing.{kind_of};
+ghost use Rattle.ocfl_tree.specs.{Place.{begins, child_name}, StorageRoot.{file, dir, lookup}};
+ghost use Rattle.ocfl_tree.specs.{Listing.{kind_of}, Name.{IsName}, Path.{names_of}};
 ghost use Rattle.ocfl_memory.specs.MemTree.{parent};
-ghost use Rattle.ocfl_tree.specs.Name.{IsName};
-ghost use Rattle.ocfl_tree.specs.Path.{names_of};
-ghost use Rattle.ocfl_memory.specs.Internal.Nodes.{leaf_of, bytes_in, leaf_at, stands_at, kept_in};
-ghost use Rattle.ocfl_memory.specs.Internal.Nodes.{kept_refusal};
+ghost use Rattle.ocfl_memory.specs.Internal.Nodes.{leaf_of, bytes_in, leaf_at, stands_at, kept_in, kept_refusal};
 
 use crate::build::BuildStop;
 use ocfl_tree::{Entry, Kind, MAX_ENTRIES, Name, Place, Trouble};
@@ -32,9 +26,7 @@ pub(crate) struct Stored {
 }
 
 impl Model for Stored {
-    ghost use Rattle.ocfl_tree.specs.StorageRoot.{Leaf};
-    ghost use Rattle.ocfl_tree.specs.Name.{IsName};
-    ghost use Rattle.ocfl_tree.specs.Path.{names_of};
+    ghost use Rattle.ocfl_tree.specs.{StorageRoot.{Leaf}, Name.{IsName}, Path.{names_of}};
     ghost use Rattle.ocfl_memory.specs.Internal.Nodes.{leaf_of};
 
     ghost Value = { Leaf };

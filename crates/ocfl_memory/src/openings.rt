@@ -1,8 +1,8 @@
 //! The openings and listings that a tree in memory notes.
 ghost use Rattle.std.specs.Prelude.{◌≡◌, ◌+◌, ◌^◌, ◌<◌, List, [], ◌∷◌, ◌++◌, length, OnOk, OnErr};
 ghost use Rattle.ocfl_tree.specs.Calls.{opening, with_given, with_failure};
-ghost use Rattle.ocfl_memory.specs.Faults.{is_struck, after_call};
 ghost use Rattle.ocfl_tree.specs.declared.store.Opening.{Opening};
+ghost use Rattle.ocfl_memory.specs.Faults.{is_struck, after_call};
 
 use crate::plan::{Plan, Point};
 use ocfl_tree::{Opening, Place};

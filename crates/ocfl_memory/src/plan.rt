@@ -1,8 +1,7 @@
 //! The failures that are planned for a tree in memory.
 ghost use Rattle.std.specs.Prelude.{◌≡◌, ◌<◌, ◌≤◌, ◌++◌, ◌∷◌, [], ◌&&◌, Some, OnOk, OnErr};
 ghost use Rattle.ocfl_tree.specs.Place.{place_eq};
-ghost use Rattle.ocfl_memory.specs.Faults.{no_faults, is_met, is_planned, is_struck, is_due};
-ghost use Rattle.ocfl_memory.specs.Faults.{due_after, after_call, within_step};
+ghost use Rattle.ocfl_memory.specs.Faults.{no_faults, is_met, is_planned, is_struck, is_due, due_after, after_call, within_step};
 
 use ocfl_tree::Place;
 use std::alloc::{AllocError, Global};
@@ -70,8 +69,7 @@ pub(crate) struct Plan {
 }
 
 impl Model for Plan {
-    ghost use Rattle.std.specs.Prelude.{◌<◌};
-    ghost use Rattle.std.specs.Option.{ForSome};
+    ghost use Rattle.std.specs.{Prelude.{◌<◌}, Option.{ForSome}};
     ghost use Rattle.ocfl_memory.specs.Faults.{Faults};
 
     ghost Value = { Faults };

@@ -1,23 +1,18 @@
 -- What holds of any nights.
 use Rattle.std.proofs.Common.{◌≡◌, inl, inr, ℕ, ◌+◌, List, [], ◌∷◌, ◌++◌, take, Option, Some, None, MatchOption, refl, sym, ◌∙◌, ap, subst, arith}
 use Rattle.std.proofs.lemmas.List.{append-nil, take-append-le}
-use Rattle.std.specs.Prelude.{map}
-use Rattle.std.specs.List.{AllByRecursion}
-use Rattle.ocfl_tree.specs.Place.{Text}
-use Rattle.ocfl_tree.specs.StorageRoot.{StorageRoot}
+use Rattle.std.specs.{Prelude.{map}, List.{AllByRecursion}}
+use Rattle.ocfl_tree.specs.{Place.{Text}, StorageRoot.{StorageRoot}}
 use Rattle.ocfl_audit.specs.Parts.{Part}
 use Rattle.ocfl_cursor.specs.Cursor.{Cursor, ended}
-use Rattle.ocfl_scrub.specs.Running.{begun}
-use Rattle.ocfl_scrub.specs.Joining.{Ran, AreOneCycle, cursor_after, reports_of}
-use Rattle.ocfl_state.specs.Checkpoint.{Checkpoint}
-use Rattle.ocfl_state.specs.Content.{Content, Closed, empty}
+use Rattle.ocfl_scrub.specs.{Running.{begun}, Joining.{Ran, AreOneCycle, cursor_after, reports_of}}
+use Rattle.ocfl_state.specs.{Checkpoint.{Checkpoint}, Content.{Content, Closed, empty}}
 use Rattle.ocfl_state.specs.Crash.{Outcomes}
 use Rattle.ocfl_night.specs.Chain.{RootRun, joined, EndAt}
 use Rattle.ocfl_night.specs.Sound.{closed_text, Stands, IsNew, IsMarked, IsSoundAt, IsSound, IsKept}
 use Rattle.ocfl_night.specs.Nights.{Night, AreNights, AtAnyMoment, AreWhole, IsTaken, AllTaken}
 use Rattle.ocfl_state.proofs.CheckpointTexts.{text_determines}
-use Rattle.ocfl_night.proofs.Sound.{long}
-use Rattle.ocfl_night.proofs.Chains.{ended_cursor, take_nothing}
+use Rattle.ocfl_night.proofs.{Sound.{long}, Chains.{ended_cursor, take_nothing}}
 use Rattle.ocfl_night.proofs.Heard.{since_sound}
 
 -- ---- closed reports

@@ -1,36 +1,23 @@
 -- What is written around branches that are left out.
 use Rattle.std.proofs.Common.{◌≡◌, ◌≢◌, ℕ, ◌≤◌, List, [], ◌∷◌, ◌++◌, Bool, true, false, Option, Some, None, refl, sym, ◌∙◌, ap, subst, arith, append_assoc, length, length-append}
-use Rattle.std.specs.Prelude.{filter, not, cond, ◌&&◌}
-use Rattle.std.specs.List.{AllByRecursion}
 use Rattle.std.proofs.lemmas.List.{append-nil, append_cancel_left}
-use Rattle.std.proofs.lemmas.List.Concat.{flat_map-append}
-use Rattle.std.proofs.lemmas.List.Elements.{filter-append}
+use Rattle.std.proofs.{lemmas.List.Concat.{flat_map-append}, lemmas.List.Elements.{filter-append}}
 use Rattle.std.proofs.lemmas.List.Filters.{length-filter_both}
-use Rattle.std.specs.Ordering.{is_lt}
-use Rattle.ocfl_tree.specs.Place.{Text, Place, place_cmp}
-use Rattle.ocfl_tree.specs.StorageRoot.{StorageRoot}
+use Rattle.std.specs.{Prelude.{filter, not, cond, ◌&&◌}, List.{AllByRecursion}, Ordering.{is_lt}}
+use Rattle.ocfl_tree.specs.{Place.{Text, Place, place_cmp}, StorageRoot.{StorageRoot}}
 use Rattle.ocfl_tree.specs.declared.store.Opening.{Opening}
-use Rattle.ocfl_report.specs.Line.{Item}
-use Rattle.ocfl_report.specs.Text.{text}
-use Rattle.ocfl_audit.specs.Audit.{Unread, audit, after}
-use Rattle.ocfl_audit.specs.Parts.{Part, within}
-use Rattle.ocfl_audit.specs.Runs.{Limits, cut, left}
-use Rattle.ocfl_audit.specs.Trail.{unread_of}
-use Rattle.ocfl_audit.proofs.PartLaws.{filter_twice}
-use Rattle.ocfl_audit.proofs.Lists.{filter_same}
+use Rattle.ocfl_report.specs.{Line.{Item}, Text.{text}}
+use Rattle.ocfl_audit.specs.{Audit.{Unread, audit, after}, Parts.{Part, within}}
+use Rattle.ocfl_audit.specs.{Runs.{Limits, cut, left}, Trail.{unread_of}}
+use Rattle.ocfl_audit.proofs.{PartLaws.{filter_twice}, Lists.{filter_same}}
 use Rattle.ocfl_cursor.specs.Cursor.{Cursor}
-use Rattle.ocfl_scrub.specs.Call.{Call, known_call}
-use Rattle.ocfl_scrub.specs.Written.{places, last_of}
+use Rattle.ocfl_scrub.specs.{Call.{Call, known_call}, Written.{places, last_of}}
 use Rattle.ocfl_scrub.specs.Running.{place_in, state_after, first_of, RunEndsWithin}
 use Rattle.ocfl_scrub.specs.Joining.{PartRun, Ran, items_out}
 use Rattle.ocfl_scrub.specs.declared.running.RunStatus.{RunStatus}
 use Rattle.ocfl_scrub.specs.declared.running.RunStatus.TheVariants as status
-use Rattle.ocfl_scrub.proofs.Lists.{filter_none}
-use Rattle.ocfl_scrub.proofs.ChainLaws.{place_there}
-use Rattle.ocfl_scrub.proofs.CutLaws.{cut_and_left}
-use Rattle.ocfl_scrub.proofs.PassLaws.{text_append}
-use Rattle.ocfl_scrub.proofs.RunLaws.{no_first}
-use Rattle.ocfl_scrub.proofs.RunPlaces.{after_front}
+use Rattle.ocfl_scrub.proofs.{Lists.{filter_none}, ChainLaws.{place_there}, CutLaws.{cut_and_left}}
+use Rattle.ocfl_scrub.proofs.{PassLaws.{text_append}, RunLaws.{no_first}, RunPlaces.{after_front}}
 use Rattle.ocfl_state.specs.declared.checkpoint_parts.Left.{Left}
 use Rattle.ocfl_night.specs.Chain.{RootRun, joined, LeadTo, EndAt, past_branch, LedToEnd, up_to, around}
 

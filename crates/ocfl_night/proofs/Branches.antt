@@ -1,10 +1,8 @@
 -- The last name of a place, and whether a branch has an end.
 use Rattle.std.proofs.Common.{◌≡◌, ◌<◌, ◌≤◌, ◌++◌, ◌∷◌, ◌∙◌, [], ⊎_elim, Bool, true, false, Option, Some, None, ap, refl, sym, subst, length, length-append, arith}
+use Rattle.std.proofs.{lemmas.Bool.{cases_lt}, lemmas.Bool.Decides.{nat_tests}}
 use Rattle.std.specs.Prelude.{nat_lt, if◌then◌else◌}
-use Rattle.std.proofs.lemmas.Bool.{cases_lt}
-use Rattle.std.proofs.lemmas.Bool.Decides.{nat_tests}
-use Rattle.ocfl_tree.specs.Name.{IsName}
-use Rattle.ocfl_tree.specs.Place.{Text, Place}
+use Rattle.ocfl_tree.specs.{Name.{IsName}, Place.{Text, Place}}
 use Rattle.ocfl_audit.proofs.BranchLaws.{end_is_name}
 use Rattle.ocfl_night.specs.Chain.{past}
 use Rattle.ocfl_night.specs.Leaving.{end_of, has_end, last_name, remedy_by, tried_by}

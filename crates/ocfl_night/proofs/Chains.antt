@@ -1,22 +1,16 @@
 -- Chains of runs, and the closed reports.
 use Rattle.std.proofs.Common.{◌≡◌, ◌≢◌, ◌⊎◌, inl, inr, ℕ, zero, suc, ◌+◌, ◌≤◌, List, [], ◌∷◌, ◌++◌, Option, Some, None, refl, sym, ◌∙◌, ap, subst, arith, append_assoc, Bool, true, false, ◌||◌, ◌==◌, take, ◌-◌, length, length-append}
+use Rattle.std.proofs.{lemmas.List.{append-nil, take_all, take-append-le}, lemmas.Bool.{eq-eqb}}
+use Rattle.std.proofs.{lemmas.Bool.Decides.{eqb_tells}, lemmas.List.Concat.{flat_map-append}}
 use Rattle.std.specs.Prelude.{slice_get}
-use Rattle.std.proofs.lemmas.List.{append-nil, take_all, take-append-le}
-use Rattle.std.proofs.lemmas.Bool.{eq-eqb}
-use Rattle.std.proofs.lemmas.Bool.Decides.{eqb_tells}
-use Rattle.std.proofs.lemmas.List.Concat.{flat_map-append}
-use Rattle.ocfl_tree.specs.Place.{Text, Place}
-use Rattle.ocfl_tree.specs.StorageRoot.{StorageRoot}
+use Rattle.ocfl_tree.specs.{Place.{Text, Place}, StorageRoot.{StorageRoot}}
 use Rattle.ocfl_audit.specs.Parts.{Part}
-use Rattle.ocfl_cursor.specs.Cursor.{Cursor, State, ended}
-use Rattle.ocfl_cursor.specs.Moves.{after_run}
+use Rattle.ocfl_cursor.specs.{Cursor.{Cursor, State, ended}, Moves.{after_run}}
 use Rattle.ocfl_scrub.specs.Running.{place_in, begun, begun_in, state_after}
-use Rattle.ocfl_scrub.specs.Joining.{PartRun, Ran}
-use Rattle.ocfl_scrub.specs.declared.running.RunEnd.{RunEnd}
+use Rattle.ocfl_scrub.specs.{Joining.{PartRun, Ran}, declared.running.RunEnd.{RunEnd}}
 use Rattle.ocfl_scrub.specs.declared.running.RunStatus.{RunStatus}
 use Rattle.ocfl_scrub.specs.declared.running.RunStatus.TheVariants as status
-use Rattle.ocfl_state.specs.Content.{Closed, is_closed}
-use Rattle.ocfl_state.specs.declared.checkpoint_parts.Left.{Left}
+use Rattle.ocfl_state.specs.{Content.{Closed, is_closed}, declared.checkpoint_parts.Left.{Left}}
 use Rattle.ocfl_night.specs.Chain.{RootRun, joined, LeadTo, EndAt, past, past_branch, part_after, from_after, LedBy, Led, LedToEnd, IsWholeReport, AreClosed}
 use Rattle.ocfl_night.specs.Sound.{closed_text}
 

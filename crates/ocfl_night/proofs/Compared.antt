@@ -3,15 +3,12 @@ use Rattle.std.proofs.Common.{◌≡◌, ◌⊎◌, ◌↔◌, inl, inr, ⊎_eli
 use Rattle.std.specs.Prelude.{IsTrue, OnOk, Result, Ok, Err}
 use Rattle.ocfl_tree.specs.Place.{Text}
 use Rattle.ocfl_audit.specs.Parts.{Part}
-use Rattle.ocfl_state.specs.Checkpoint.{Checkpoint}
-use Rattle.ocfl_state.specs.Content.{Content, is_closed}
-use Rattle.ocfl_state.specs.Crash.{Outcomes, Step, Same, After, Passes}
-use Rattle.ocfl_state.specs.Pieces.{summary_of}
+use Rattle.ocfl_state.specs.{Checkpoint.{Checkpoint}, Content.{Content, is_closed}}
+use Rattle.ocfl_state.specs.{Crash.{Outcomes, Step, Same, After, Passes}, Pieces.{summary_of}}
 use Rattle.ocfl_state.specs.declared.checkpoint_parts.Phase.TheVariants.{Closing}
 use Rattle.ocfl_night.specs.Sound.{IsClosing, IsMoved, IsReady}
 use Rattle.ocfl_night.specs.Steps.{closes_whole, IsMoveDone, MayMoveAt}
-use Rattle.ocfl_night.proofs.Moments.{weaker}
-use Rattle.ocfl_night.proofs.Sound.{closing_of, shut_closing}
+use Rattle.ocfl_night.proofs.{Moments.{weaker}, Sound.{closing_of, shut_closing}}
 
 -- ---- what the comparison answers
 

@@ -1,14 +1,10 @@
 -- What a run brings to the report.
-use Rattle.std.proofs.Common.{◌≡◌, ◌≢◌, [], ◌++◌, ◌∙◌, ap}
-use Rattle.std.proofs.lemmas.List.{append-nil}
-use Rattle.ocfl_tree.specs.Place.{Text}
-use Rattle.ocfl_tree.specs.StorageRoot.{StorageRoot}
-use Rattle.ocfl_audit.specs.Parts.{Part}
-use Rattle.ocfl_audit.specs.Runs.{Limits}
+use Rattle.std.proofs.{Common.{◌≡◌, ◌≢◌, [], ◌++◌, ◌∙◌, ap}, lemmas.List.{append-nil}}
+use Rattle.ocfl_tree.specs.{Place.{Text}, StorageRoot.{StorageRoot}}
+use Rattle.ocfl_audit.specs.{Parts.{Part}, Runs.{Limits}}
 use Rattle.ocfl_cursor.specs.Cursor.{Cursor}
 use Rattle.ocfl_item.specs.declared.fault.Fault.TheVariants as fault
-use Rattle.ocfl_scrub.specs.Joining.{PartRun, Ran}
-use Rattle.ocfl_scrub.specs.declared.running.RunEnd.{RunEnd}
+use Rattle.ocfl_scrub.specs.{Joining.{PartRun, Ran}, declared.running.RunEnd.{RunEnd}}
 use Rattle.ocfl_scrub.specs.declared.running.RunStatus.TheVariants as status
 use Rattle.ocfl_night.specs.Steps.{IsRun}
 

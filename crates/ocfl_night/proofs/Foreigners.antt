@@ -1,16 +1,12 @@
 -- Whose a checkpoint is.
 use Rattle.std.proofs.Common.{◌≡◌, ◌⊎◌, inl, inr, Bool, false, Some, List, ℕ, [], sym, ◌∙◌, ap, subst, arith}
-use Rattle.ocfl_tree.specs.Listing.{entries_in}
-use Rattle.ocfl_tree.specs.Place.{Text}
-use Rattle.ocfl_tree.specs.StorageRoot.{StorageRoot}
+use Rattle.ocfl_tree.specs.{Listing.{entries_in}, Place.{Text}, StorageRoot.{StorageRoot}}
 use Rattle.ocfl_identity.specs.Identity.{IsIdentityOf, declared_by, declarations_among}
 use Rattle.ocfl_identity.specs.declared.identity.Identity.{Identity}
-use Rattle.ocfl_state.specs.Checkpoint.{Checkpoint, IsCheckpointText}
-use Rattle.ocfl_state.specs.Content.{Content}
+use Rattle.ocfl_state.specs.{Checkpoint.{Checkpoint, IsCheckpointText}, Content.{Content}}
 use Rattle.ocfl_state.proofs.CheckpointTexts.{text_determines}
 use Rattle.ocfl_night.specs.Site.{IsAnothers, IsForeign, IsOther, IsOtherThan, IsOwn, IsSameRoot}
-use Rattle.ocfl_night.specs.Sound.{IsAt}
-use Rattle.ocfl_night.specs.declared.site.Site.{Site}
+use Rattle.ocfl_night.specs.{Sound.{IsAt}, declared.site.Site.{Site}}
 
 -- a folder is at one checkpoint
 pub at_once : (c : Content) (k found : Checkpoint) → IsAt found c → IsAt k c → found ≡ k

@@ -1,13 +1,10 @@
 -- What an output heard.
 use Rattle.std.proofs.Common.{◌≡◌, inl, inr, refl, ℕ, [], ◌++◌, length, Option, sym, ◌∙◌, ap, subst, append_assoc, Result, Ok, Err}
-use Rattle.std.proofs.KnownBytes.{Appends-nil, Appends-trans}
-use Rattle.std.proofs.lemmas.List.{append-nil}
-use Rattle.std.specs.Result.{IsErr, IsOk, OnOk}
-use Rattle.std.specs.Io.KnownBytes.{Appends}
+use Rattle.std.proofs.{KnownBytes.{Appends-nil, Appends-trans}, lemmas.List.{append-nil}}
+use Rattle.std.specs.{Result.{IsErr, IsOk, OnOk}, Io.KnownBytes.{Appends}}
 use Rattle.ocfl_tree.specs.Place.{Text}
 use Rattle.ocfl_audit.specs.Parts.{Part}
-use Rattle.ocfl_state.specs.Checkpoint.{Checkpoint}
-use Rattle.ocfl_state.specs.Content.{Content}
+use Rattle.ocfl_state.specs.{Checkpoint.{Checkpoint}, Content.{Content}}
 use Rattle.ocfl_state.specs.Crash.{Outcomes, Only, Same, Passes, LeavesOnly}
 use Rattle.ocfl_night.specs.Sound.{Stands, IsSoundAt, IsSound, IsReady, IsHeard, IsHeardReady, IsFound, IsHeardSince}
 use Rattle.ocfl_night.specs.Steps.{MayCheckpoint, IsCheckpointPut, unsaid}

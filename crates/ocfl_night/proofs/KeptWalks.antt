@@ -1,22 +1,16 @@
 -- The walk that is kept from one slice to the next.
 use Rattle.std.proofs.Common.{◌≡◌, Err, List, None, Ok, Option, Result, subst, sym}
 use Rattle.std.specs.Prelude.{IfOk}
-use Rattle.ocfl_tree.specs.Place.{Place}
-use Rattle.ocfl_tree.specs.StorageRoot.{StorageRoot}
+use Rattle.ocfl_tree.specs.{Place.{Place}, StorageRoot.{StorageRoot}}
 use Rattle.ocfl_audit.specs.Parts.{Part}
 use Rattle.ocfl_cursor.specs.Cursor.{Cursor}
-use Rattle.ocfl_scrub.specs.Keeping.{IsReady, IsReadyIn}
-use Rattle.ocfl_scrub.specs.Running.{place_in}
-use Rattle.ocfl_scrub.specs.declared.kept.KeptWalk.{KeptWalk}
-use Rattle.ocfl_scrub.specs.declared.kept.Met.{Met}
+use Rattle.ocfl_scrub.specs.{Keeping.{IsReady, IsReadyIn}, Running.{place_in}}
+use Rattle.ocfl_scrub.specs.{declared.kept.KeptWalk.{KeptWalk}, declared.kept.Met.{Met}}
 use Rattle.ocfl_scrub.specs.declared.running.RunEnd.{RunEnd}
-use Rattle.ocfl_state.specs.Checkpoint.{Checkpoint}
-use Rattle.ocfl_state.specs.declared.checkpoint_parts.Left.{Left}
+use Rattle.ocfl_state.specs.{Checkpoint.{Checkpoint}, declared.checkpoint_parts.Left.{Left}}
 use Rattle.ocfl_state.specs.declared.checkpoint_parts.ReportMark.{ReportMark}
-use Rattle.ocfl_night.specs.Chain.{part_after}
-use Rattle.ocfl_night.specs.Steps.{IsNext, IsWalkAt}
-use Rattle.ocfl_night.specs.declared.slicing.Made.{Made}
-use Rattle.ocfl_night.specs.declared.stop.Stop.{Stop}
+use Rattle.ocfl_night.specs.{Chain.{part_after}, Steps.{IsNext, IsWalkAt}}
+use Rattle.ocfl_night.specs.{declared.slicing.Made.{Made}, declared.stop.Stop.{Stop}}
 
 -- if none is kept, the next run begins one
 pub walk_none : (root : StorageRoot) (part : Part) (k : Checkpoint) (kept : KeptWalk) → kept.met ≡ None → IsWalkAt root part k kept

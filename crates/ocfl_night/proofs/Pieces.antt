@@ -1,7 +1,6 @@
 -- What is read of a report in pieces.
 use Rattle.std.proofs.Common.{◌≡◌, ℕ, ◌+◌, ◌-◌, ◌≤◌, ◌++◌, length, take, drop, sym, ◌∙◌, ap, arith}
-use Rattle.std.proofs.lemmas.List.{drop-drop, take-take, length-take-le}
-use Rattle.std.proofs.Math.Seq.{take-add}
+use Rattle.std.proofs.{lemmas.List.{drop-drop, take-take, length-take-le}, Math.Seq.{take-add}}
 use Rattle.ocfl_tree.specs.Place.{Text}
 
 -- one piece more

@@ -1,13 +1,10 @@
 -- What the steps of a night keep.
 use Rattle.std.proofs.Common.{◌≡◌, ◌≢◌, ◌⊎◌, inl, inr, ℕ, ◌+◌, ◌-◌, ◌≤◌, List, [], ◌∷◌, ◌++◌, length, take, drop, Option, None, MatchOption, Bool, ◌&&◌, refl, sym, ◌∙◌, ap, subst, arith, append_assoc, length-append, true, false, take-append-drop}
 use Rattle.std.proofs.lemmas.List.{append-nil, take_all, take-append-le, length-drop}
-use Rattle.ocfl_tree.specs.Place.{Text, Place}
-use Rattle.ocfl_tree.specs.StorageRoot.{StorageRoot}
-use Rattle.ocfl_audit.specs.Lines.{is_empty}
-use Rattle.ocfl_audit.specs.Parts.{Part}
+use Rattle.ocfl_tree.specs.{Place.{Text, Place}, StorageRoot.{StorageRoot}}
+use Rattle.ocfl_audit.specs.{Lines.{is_empty}, Parts.{Part}}
 use Rattle.ocfl_cursor.specs.Cursor.{Cursor, new_cursor}
-use Rattle.ocfl_scrub.specs.Running.{place_in, begun}
-use Rattle.ocfl_scrub.specs.declared.running.RunEnd.{RunEnd}
+use Rattle.ocfl_scrub.specs.{Running.{place_in, begun}, declared.running.RunEnd.{RunEnd}}
 use Rattle.ocfl_scrub.specs.declared.running.RunStatus.{RunStatus}
 use Rattle.ocfl_scrub.specs.declared.running.RunStatus.TheVariants as status
 use Rattle.ocfl_state.specs.Checkpoint.{Checkpoint, IsCheckpointText}

@@ -2,11 +2,10 @@
 use Rattle.std.proofs.Common.{◌≡◌, ℕ, [], Option, Some, None, MatchOption, refl, sym, ◌∙◌, ap, subst, arith, take, length}
 use Rattle.ocfl_tree.specs.Place.{Text}
 use Rattle.ocfl_audit.specs.Parts.{Part}
-use Rattle.ocfl_state.specs.Checkpoint.{Checkpoint}
-use Rattle.ocfl_state.specs.Content.{Content, with_report}
+use Rattle.ocfl_state.specs.{Checkpoint.{Checkpoint}, Content.{Content, with_report}}
 use Rattle.ocfl_state.specs.Crash.{Outcomes, Only, Same, Passes, LeavesOnly}
-use Rattle.ocfl_night.specs.Sound.{Stands, IsNew, IsSoundAt, IsSound, IsKept, IsAt, IsSettled, IsReady, IsFound, IsFoundReady}
 use Rattle.ocfl_state.specs.declared.checkpoint_parts.Phase.TheVariants.{Open, Closing}
+use Rattle.ocfl_night.specs.Sound.{Stands, IsNew, IsSoundAt, IsSound, IsKept, IsAt, IsSettled, IsReady, IsFound, IsFoundReady}
 use Rattle.ocfl_night.specs.Steps.{KeepsFront, MayCheckpoint}
 use Rattle.ocfl_night.proofs.Moments.{stayed, leaves, leaves_weaker, joined_moments, only_same}
 use Rattle.ocfl_night.proofs.Heard.{kept_found}

@@ -2,17 +2,13 @@
 -- answered, also around branches that are left out; and what a closed report is.
 use Rattle.std.specs.Prelude.{◌≡◌, ◌≢◌, ℕ, ◌+◌, List, [], ◌∷◌, ◌++◌, true, not, Option, Some, None, filter, flat_map}
 use Rattle.std.specs.Ordering.{is_lt}
-use Rattle.ocfl_tree.specs.Place.{Text, Place, place_cmp}
-use Rattle.ocfl_tree.specs.StorageRoot.{StorageRoot}
+use Rattle.ocfl_tree.specs.{Place.{Text, Place, place_cmp}, StorageRoot.{StorageRoot}}
 use Rattle.ocfl_report.specs.Line.{Item}
-use Rattle.ocfl_audit.specs.Audit.{after}
-use Rattle.ocfl_audit.specs.Parts.{Part, within}
+use Rattle.ocfl_audit.specs.{Audit.{after}, Parts.{Part, within}}
 use Rattle.ocfl_cursor.specs.Cursor.{Cursor}
-use Rattle.ocfl_scrub.specs.Running.{place_in}
-use Rattle.ocfl_scrub.specs.Joining.{PartRun, Ran}
+use Rattle.ocfl_scrub.specs.{Running.{place_in}, Joining.{PartRun, Ran}}
 use Rattle.ocfl_scrub.specs.declared.running.RunStatus.TheVariants as status
-use Rattle.ocfl_state.specs.Content.{Closed}
-use Rattle.ocfl_state.specs.declared.checkpoint_parts.Left.{Left}
+use Rattle.ocfl_state.specs.{Content.{Closed}, declared.checkpoint_parts.Left.{Left}}
 
 -- a run, and the storage root as it was then
 pub record RootRun : Type 0 where

@@ -2,25 +2,19 @@
 use Rattle.std.specs.Prelude.{◌≡◌, ◌⊎◌, ℕ, false, Option, Some, None, Result, Ok, Err}
 use Rattle.ocfl_tree.specs.Place.{Place}
 use Rattle.ocfl_item.specs.declared.fault.Fault.TheVariants as fault
-use Rattle.ocfl_cursor.specs.Cursor.{Cursor, State}
-use Rattle.ocfl_cursor.specs.Moves.{after_run}
+use Rattle.ocfl_cursor.specs.{Cursor.{Cursor, State}, Moves.{after_run}}
 use Rattle.ocfl_cursor.specs.declared.limits.Limits.{Limits}
-use Rattle.ocfl_scrub.specs.Running.{IsPaid, begun, limits_of}
-use Rattle.ocfl_scrub.specs.declared.running.RunEnd.{RunEnd}
+use Rattle.ocfl_scrub.specs.{Running.{IsPaid, begun, limits_of}, declared.running.RunEnd.{RunEnd}}
 use Rattle.ocfl_scrub.specs.declared.running.RunStatus.{RunStatus}
 use Rattle.ocfl_scrub.specs.declared.running.RunStatus.TheVariants as status
-use Rattle.ocfl_state.specs.Checkpoint.{Checkpoint}
-use Rattle.ocfl_state.specs.declared.folder.Trouble.TheVariants.{Memory}
-use Rattle.ocfl_night.specs.declared.plan.Halt.{Halt}
+use Rattle.ocfl_state.specs.{Checkpoint.{Checkpoint}, declared.folder.Trouble.TheVariants.{Memory}}
+use Rattle.ocfl_night.specs.{declared.plan.Halt.{Halt}, declared.plan.Pause.{Pause}}
+use Rattle.ocfl_night.specs.{declared.refusal.NotOpened.{NotOpened}, declared.slicing.Made.{Made}}
+use Rattle.ocfl_night.specs.{declared.slicing.SliceEnd.{SliceEnd}, declared.stop.Stop.{Stop}}
 use Rattle.ocfl_night.specs.declared.plan.Halt.TheVariants as halt
-use Rattle.ocfl_night.specs.declared.plan.Pause.{Pause}
 use Rattle.ocfl_night.specs.declared.plan.Pause.TheVariants as pause
-use Rattle.ocfl_night.specs.declared.refusal.NotOpened.{NotOpened}
 use Rattle.ocfl_night.specs.declared.refusal.NotOpened.TheVariants as unopened
-use Rattle.ocfl_night.specs.declared.slicing.Made.{Made}
-use Rattle.ocfl_night.specs.declared.slicing.SliceEnd.{SliceEnd}
 use Rattle.ocfl_night.specs.declared.slicing.SliceEnd.TheVariants as slice
-use Rattle.ocfl_night.specs.declared.stop.Stop.{Stop}
 use Rattle.ocfl_night.specs.declared.stop.Stop.TheVariants as stop
 
 -- ---- ends

@@ -7,13 +7,11 @@ use Rattle.ocfl_inventory.specs.declared.declaration.Level.TheVariants.{Object}
 use Rattle.ocfl_audit.specs.Zone.{inventory_name}
 use Rattle.ocfl_item.specs.declared.fault.Fault.TheVariants as fault
 use Rattle.ocfl_state.specs.Checkpoint.{Checkpoint}
-use Rattle.ocfl_night.specs.Chain.{past}
-use Rattle.ocfl_night.specs.Steps.{with_left}
-use Rattle.ocfl_night.specs.declared.plan.Pause.{Pause}
-use Rattle.ocfl_night.specs.declared.plan.Pause.TheVariants as pause
+use Rattle.ocfl_night.specs.{Chain.{past}, Steps.{with_left}, declared.plan.Pause.{Pause}}
 use Rattle.ocfl_night.specs.declared.tally.Remedy.{Remedy}
 use Rattle.ocfl_night.specs.declared.tally.Remedy.TheVariants.{TryAgain, LeaveOut, Halt}
 use Rattle.ocfl_night.specs.declared.tally.Tally.{Tally}
+use Rattle.ocfl_night.specs.declared.plan.Pause.TheVariants as pause
 
 -- ---- the branch of a place
 

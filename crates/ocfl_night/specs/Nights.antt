@@ -2,10 +2,8 @@
 use Rattle.std.specs.Prelude.{◌≡◌, ℕ, ◌++◌, List, [], ◌∷◌, Option, Some, ⊤}
 use Rattle.ocfl_tree.specs.Place.{Text}
 use Rattle.ocfl_audit.specs.Parts.{Part}
-use Rattle.ocfl_state.specs.Content.{Content, Closed}
-use Rattle.ocfl_state.specs.Crash.{Outcomes, LeavesOnly}
-use Rattle.ocfl_night.specs.Chain.{AreClosed}
-use Rattle.ocfl_night.specs.Sound.{IsSoundAt, IsKept, IsHeardSince}
+use Rattle.ocfl_state.specs.{Content.{Content, Closed}, Crash.{Outcomes, LeavesOnly}}
+use Rattle.ocfl_night.specs.{Chain.{AreClosed}, Sound.{IsSoundAt, IsKept, IsHeardSince}}
 
 -- What a night promises: if each crash before it leaves a sound content, so does each since then, and
 -- more than was told is told only if the output took it.

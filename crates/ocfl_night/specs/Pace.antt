@@ -1,7 +1,6 @@
 -- What the next run may spend, by what the runs before it did.
 use Rattle.std.specs.Prelude.{ℕ, ◌-◌, ◌*◌, ◌/◌, ◌^◌, ◌==◌, ◌||◌, Option, Some, None, if◌then◌else◌, max, min, unwrap_or}
-use Rattle.ocfl_night.specs.declared.plan.Plan.{Plan}
-use Rattle.ocfl_night.specs.declared.tally.Tally.{Tally}
+use Rattle.ocfl_night.specs.{declared.plan.Plan.{Plan}, declared.tally.Tally.{Tally}}
 
 -- a minute, or what is left until the end
 abbrev pub seconds_left : Option ℕ → ℕ → ℕ

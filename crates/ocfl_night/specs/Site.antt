@@ -1,16 +1,13 @@
 -- Whose a checkpoint is, and what it says of the root.
 use Rattle.std.specs.Prelude.{◌≡◌, ◌≢◌, ◌⊎◌, ℕ, ◌+◌, ◌<◌, ◌≤◌, [], Bool, true, false, Option, Some, None, if◌then◌else◌, length}
 use Rattle.ocfl_audit.specs.Parts.{Part, whole}
-use Rattle.ocfl_cursor.specs.Cursor.{new_cursor}
-use Rattle.ocfl_cursor.specs.declared.ends.PartEnds.{PartEnds}
+use Rattle.ocfl_cursor.specs.{Cursor.{new_cursor}, declared.ends.PartEnds.{PartEnds}}
 use Rattle.ocfl_scope.specs.Numbered.{part_between}
-use Rattle.ocfl_state.specs.Checkpoint.{Checkpoint}
-use Rattle.ocfl_state.specs.Pieces.{summary_of}
+use Rattle.ocfl_state.specs.{Checkpoint.{Checkpoint}, Pieces.{summary_of}}
 use Rattle.ocfl_state.specs.declared.checkpoint_parts.ReportMark.{ReportMark}
 use Rattle.ocfl_state.specs.declared.checkpoint_parts.TopNames.{TopNames}
 use Rattle.ocfl_state.specs.declared.checkpoint_parts.Phase.TheVariants.{Open}
-use Rattle.ocfl_tree.specs.Listing.{entries_in}
-use Rattle.ocfl_tree.specs.StorageRoot.{StorageRoot}
+use Rattle.ocfl_tree.specs.{Listing.{entries_in}, StorageRoot.{StorageRoot}}
 use Rattle.ocfl_identity.specs.Identity.{declared_by, declarations_among}
 use Rattle.ocfl_identity.specs.declared.identity.Identity.{Identity}
 use Rattle.ocfl_night.specs.declared.site.Site.{Site}

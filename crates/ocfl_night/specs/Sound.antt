@@ -5,10 +5,8 @@ use Rattle.ocfl_tree.specs.Place.{Text}
 use Rattle.ocfl_audit.specs.Parts.{Part}
 use Rattle.ocfl_cursor.specs.Cursor.{Cursor, ended}
 use Rattle.ocfl_scrub.specs.Running.{place_in, begun}
-use Rattle.ocfl_state.specs.Checkpoint.{Checkpoint, IsCheckpointText}
-use Rattle.ocfl_state.specs.Content.{Content, Closed}
-use Rattle.ocfl_state.specs.Crash.{Outcomes, Begins, Only}
-use Rattle.ocfl_state.specs.Pieces.{summary_of}
+use Rattle.ocfl_state.specs.{Checkpoint.{Checkpoint, IsCheckpointText}, Content.{Content, Closed}}
+use Rattle.ocfl_state.specs.{Crash.{Outcomes, Begins, Only}, Pieces.{summary_of}}
 use Rattle.ocfl_state.specs.declared.checkpoint_parts.Phase.TheVariants.{Open, Closing}
 use Rattle.ocfl_night.specs.Chain.{RootRun, joined, Led, LedToEnd, AreClosed}
 

@@ -1,26 +1,19 @@
 -- What the steps of a night do to a state folder.
 use Rattle.std.specs.Prelude.{◌≡◌, ◌≢◌, ◌⊎◌, ℕ, ◌-◌, ◌≤◌, [], ◌∷◌, ◌++◌, ◌&&◌, Bool, IsTrue, true, false, length, take, drop, ⊤}
-use Rattle.ocfl_tree.specs.Place.{Text, Place}
-use Rattle.ocfl_tree.specs.StorageRoot.{StorageRoot}
-use Rattle.ocfl_audit.specs.Lines.{is_empty}
-use Rattle.ocfl_audit.specs.Parts.{Part}
+use Rattle.ocfl_tree.specs.{Place.{Text, Place}, StorageRoot.{StorageRoot}}
+use Rattle.ocfl_audit.specs.{Lines.{is_empty}, Parts.{Part}}
 use Rattle.ocfl_cursor.specs.Cursor.{Cursor}
-use Rattle.ocfl_scrub.specs.Running.{place_in}
-use Rattle.ocfl_scrub.specs.Joining.{PartRun, Ran}
-use Rattle.ocfl_scrub.specs.Keeping.{IsReady as IsWalkReady}
-use Rattle.ocfl_scrub.specs.declared.kept.KeptWalk.{KeptWalk}
+use Rattle.ocfl_scrub.specs.{Running.{place_in}, Joining.{PartRun, Ran}}
+use Rattle.ocfl_scrub.specs.{Keeping.{IsReady as IsWalkReady}, declared.kept.KeptWalk.{KeptWalk}}
 use Rattle.ocfl_scrub.specs.declared.running.RunEnd.{RunEnd}
 use Rattle.ocfl_scrub.specs.declared.running.RunStatus.TheVariants as status
 use Rattle.ocfl_state.specs.Checkpoint.{Checkpoint, IsCheckpointText}
 use Rattle.ocfl_state.specs.Content.{Bytes, Content, with_checkpoint, moved, is_closed}
 use Rattle.ocfl_state.specs.Crash.{Outcomes, Step, Same, Begins, Passes}
-use Rattle.ocfl_state.specs.Pieces.{HasTail, summary_of}
-use Rattle.ocfl_state.specs.declared.checkpoint_parts.Left.{Left}
+use Rattle.ocfl_state.specs.{Pieces.{HasTail, summary_of}, declared.checkpoint_parts.Left.{Left}}
 use Rattle.ocfl_state.specs.declared.checkpoint_parts.ReportMark.{ReportMark}
 use Rattle.ocfl_state.specs.declared.checkpoint_parts.Phase.TheVariants.{Open, Closing}
-use Rattle.ocfl_night.specs.Chain.{part_after}
-use Rattle.ocfl_night.specs.Site.{no_report}
-use Rattle.ocfl_night.specs.declared.plan.Halt.{Halt}
+use Rattle.ocfl_night.specs.{Chain.{part_after}, Site.{no_report}, declared.plan.Halt.{Halt}}
 use Rattle.ocfl_night.specs.declared.plan.Halt.TheVariants as halt
 
 -- ---- what is made of a checkpoint

@@ -1,11 +1,8 @@
 //! The checkpoint: reading it in the folder, putting it there, and what is made of one.
 ghost use Rattle.std.specs.Prelude.{◌≡◌, ◌≤◌, ◌↔◌, [], IfOk, OnOk, IsTrue, MatchOption, None};
-ghost use Rattle.ocfl_state.specs.Checkpoint.{IsCheckpointText};
-ghost use Rattle.ocfl_state.specs.Crash.{Same, Only, Passes};
-ghost use Rattle.ocfl_night.specs.Site.{no_report};
-ghost use Rattle.ocfl_night.specs.Sound.{IsAt};
-ghost use Rattle.ocfl_night.specs.Steps.{IsCheckpointPut, MayCheckpoint, begun_anew, closes_whole};
-ghost use Rattle.ocfl_night.specs.Steps.{with_all_told};
+ghost use Rattle.ocfl_state.specs.{Checkpoint.{IsCheckpointText}, Crash.{Same, Only, Passes}};
+ghost use Rattle.ocfl_night.specs.{Site.{no_report}, Sound.{IsAt}};
+ghost use Rattle.ocfl_night.specs.Steps.{IsCheckpointPut, MayCheckpoint, begun_anew, closes_whole, with_all_told};
 
 use crate::refusal::{NotOpened, Refusal};
 use crate::stop::Stop;

@@ -2,8 +2,7 @@
 ghost use Rattle.std.specs.Prelude.{◌≡◌, ◌≢◌, ◌⊎◌, false, IfOk, IfSome, IsTrue, OnOk};
 ghost use Rattle.ocfl_audit.specs.Parts.{Part};
 ghost use Rattle.ocfl_tree.specs.Place.{Text};
-ghost use Rattle.ocfl_state.specs.Content.{is_closed};
-ghost use Rattle.ocfl_state.specs.Crash.{LeavesOnly, Only, Passes};
+ghost use Rattle.ocfl_state.specs.{Content.{is_closed}, Crash.{LeavesOnly, Only, Passes}};
 ghost use Rattle.ocfl_state.specs.Pieces.{summary_of};
 ghost use Rattle.ocfl_state.specs.declared.checkpoint_parts.Phase.TheVariants.{Closing};
 ghost use Rattle.ocfl_night.specs.Sound.{IsAllSaid, IsOneMore, IsReady, IsSoundAt};

@@ -1,16 +1,11 @@
 //! The laws of nights.
-ghost use Rattle.std.specs.Prelude.{◌≡◌, [], List, map};
-ghost use Rattle.std.specs.List.{AllByRecursion};
+ghost use Rattle.std.specs.{Prelude.{◌≡◌, [], List, map}, List.{AllByRecursion}};
 ghost use Rattle.ocfl_tree.specs.StorageRoot.{StorageRoot};
 ghost use Rattle.ocfl_report.specs.Text.{text};
-ghost use Rattle.ocfl_audit.specs.Audit.{audit};
-ghost use Rattle.ocfl_audit.specs.Parts.{Part, within};
-ghost use Rattle.ocfl_audit.specs.Trail.{unread_of};
+ghost use Rattle.ocfl_audit.specs.{Audit.{audit}, Parts.{Part, within}, Trail.{unread_of}};
 ghost use Rattle.ocfl_cursor.specs.Cursor.{Cursor};
-ghost use Rattle.ocfl_scrub.specs.Joining.{unread_together};
-ghost use Rattle.ocfl_scrub.specs.Running.{place_in};
-ghost use Rattle.ocfl_state.specs.Content.{Closed, empty};
-ghost use Rattle.ocfl_state.specs.declared.checkpoint_parts.Left.{Left};
+ghost use Rattle.ocfl_scrub.specs.{Joining.{unread_together}, Running.{place_in}};
+ghost use Rattle.ocfl_state.specs.{Content.{Closed, empty}, declared.checkpoint_parts.Left.{Left}};
 ghost use Rattle.ocfl_night.specs.Chain.{IsWholeReport, LedToEnd, RootRun, around, joined};
 ghost use Rattle.ocfl_night.specs.Sound.{IsSound};
 ghost use Rattle.ocfl_night.specs.Nights.{AllTaken, AreNights, AreWhole, AtAnyMoment, Night};

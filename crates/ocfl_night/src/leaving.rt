@@ -1,19 +1,14 @@
 //! Leaving out a branch that cannot be read.
-ghost use Rattle.std.specs.Prelude.{◌≡◌, ◌-◌, ◌<◌, ◌≤◌, ◌++◌, ◌∷◌, [], IfOk, IfSome, IsNone, IsSome};
-ghost use Rattle.std.specs.Prelude.{IsTrue, OnOk, length, take};
+ghost use Rattle.std.specs.Prelude.{◌≡◌, ◌-◌, ◌<◌, ◌≤◌, ◌++◌, ◌∷◌, [], IfOk, IfSome, IsNone, IsSome, IsTrue, OnOk, length, take};
 ghost use Rattle.ocfl_audit.specs.Parts.{Part as ModelPart};
-ghost use Rattle.ocfl_tree.specs.Name.{IsName};
-ghost use Rattle.ocfl_tree.specs.Place.{Text};
+ghost use Rattle.ocfl_tree.specs.{Name.{IsName}, Place.{Text}};
 ghost use Rattle.ocfl_cursor.specs.State.{state_of};
-ghost use Rattle.ocfl_scrub.specs.Running.{place_in};
-ghost use Rattle.ocfl_scrub.specs.Starting.{part_of};
+ghost use Rattle.ocfl_scrub.specs.{Running.{place_in}, Starting.{part_of}};
 ghost use Rattle.ocfl_state.specs.Crash.{LeavesOnly};
 ghost use Rattle.ocfl_state.specs.declared.checkpoint_parts.Phase.TheVariants.{Open};
 ghost use Rattle.ocfl_night.specs.Chain.{from_after, part_after};
-ghost use Rattle.ocfl_night.specs.Leaving.{branch_at, end_of, is_of_inventory, last_name};
-ghost use Rattle.ocfl_night.specs.Leaving.{speaks_for_object};
-ghost use Rattle.ocfl_night.specs.Sound.{IsReady, IsSoundAt};
-ghost use Rattle.ocfl_night.specs.Steps.{with_left};
+ghost use Rattle.ocfl_night.specs.Leaving.{branch_at, end_of, is_of_inventory, last_name, speaks_for_object};
+ghost use Rattle.ocfl_night.specs.{Sound.{IsReady, IsSoundAt}, Steps.{with_left}};
 
 use crate::checkpoint::put_checkpoint;
 use crate::site::end_again;

@@ -1,6 +1,5 @@
 //! Opening a night: what the last one left is taken up, if it is that of these nights.
-ghost use Rattle.std.specs.Prelude.{◌≡◌, ◌↔◌, [], IfOk, IsSome, IsTrue, OnOk, None, Err, false};
-ghost use Rattle.std.specs.Prelude.{length, take};
+ghost use Rattle.std.specs.Prelude.{◌≡◌, ◌↔◌, [], IfOk, IsSome, IsTrue, OnOk, None, Err, false, length, take};
 ghost use Rattle.ocfl_audit.specs.Parts.{Part};
 ghost use Rattle.ocfl_tree.specs.Place.{Text};
 ghost use Rattle.ocfl_state.specs.Checkpoint.{Checkpoint as ModelCheckpoint};
@@ -8,8 +7,7 @@ ghost use Rattle.ocfl_state.specs.Content.{is_closed, with_report};
 ghost use Rattle.ocfl_state.specs.Crash.{LeavesOnly, Only, Passes, Same};
 ghost use Rattle.ocfl_state.specs.declared.checkpoint_parts.Phase.TheVariants.{Closing};
 ghost use Rattle.ocfl_night.specs.Site.{IsForeign};
-ghost use Rattle.ocfl_night.specs.Sound.{IsAt, IsFound, IsFoundReady, IsKept, IsNew, IsReady};
-ghost use Rattle.ocfl_night.specs.Sound.{IsSettled, IsSoundAt};
+ghost use Rattle.ocfl_night.specs.Sound.{IsAt, IsFound, IsFoundReady, IsKept, IsNew, IsReady, IsSettled, IsSoundAt};
 ghost use Rattle.ocfl_night.specs.Steps.{IsChanged, IsLost, IsShortened, IsUntouched, KeepsFront};
 ghost use Rattle.ocfl_night.specs.declared.refusal.Refusal.{Refusal as ModelRefusal};
 ghost use Rattle.ocfl_night.specs.declared.refusal.NotOpened.TheVariants.{Refused};

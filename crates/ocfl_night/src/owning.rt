@@ -1,8 +1,6 @@
 //! Whether a checkpoint is that of these nights, and the root as it was.
 ghost use Rattle.std.specs.Prelude.{◌≡◌, ◌↔◌, ◌+◌, ◌<◌, Bool, IfOk, IsTrue, OnOk, false};
-ghost use Rattle.ocfl_night.specs.Site.{AreMostGone, IsOwn, IsSameRoot, first_checkpoint};
-ghost use Rattle.ocfl_night.specs.Site.{names_now};
-ghost use Rattle.ocfl_night.specs.Site.{with_root};
+ghost use Rattle.ocfl_night.specs.Site.{AreMostGone, IsOwn, IsSameRoot, first_checkpoint, names_now, with_root};
 
 use crate::checkpoint::no_report;
 use crate::refusal::Refusal;

@@ -1,8 +1,6 @@
 //! The report: what a checkpoint keeps of it, and changes, as far as a crash keeps its front.
-ghost use Rattle.std.specs.Prelude.{◌≡◌, ◌++◌, IfOk, IfSome, IsSome, IsTrue, None, OnOk, length};
-ghost use Rattle.std.specs.Prelude.{take};
-ghost use Rattle.ocfl_state.specs.Content.{with_report};
-ghost use Rattle.ocfl_state.specs.Crash.{Passes, Same};
+ghost use Rattle.std.specs.Prelude.{◌≡◌, ◌++◌, IfOk, IfSome, IsSome, IsTrue, None, OnOk, length, take};
+ghost use Rattle.ocfl_state.specs.{Content.{with_report}, Crash.{Passes, Same}};
 ghost use Rattle.ocfl_state.specs.Pieces.{HasTail, summary_of};
 ghost use Rattle.ocfl_night.specs.Steps.{BeginsAs, KeepsFront};
 

@@ -1,24 +1,19 @@
 //! A slice: one run, whose lines are appended, come to the disk, and then count.
 ghost use Rattle.std.specs.Prelude.{◌≡◌, ◌≢◌, ◌⊎◌, ◌++◌, IfNone, IfOk, IsTrue, OnOk, length};
 ghost use Rattle.ocfl_audit.specs.Parts.{Part as ModelPart};
-ghost use Rattle.ocfl_tree.specs.Place.{Text};
-ghost use Rattle.ocfl_tree.specs.StorageRoot.{StorageRoot};
-ghost use Rattle.ocfl_tree.specs.Store.{IfTold};
+ghost use Rattle.ocfl_tree.specs.{Place.{Text}, StorageRoot.{StorageRoot}, Store.{IfTold}};
 ghost use Rattle.ocfl_item.specs.Judging.{HasShortFiles};
 ghost use Rattle.ocfl_item.specs.declared.fault.Fault.TheVariants as fault;
-ghost use Rattle.ocfl_scrub.specs.Keeping.{IsReady as IsWalkReady};
-ghost use Rattle.ocfl_scrub.specs.Running.{place_in};
+ghost use Rattle.ocfl_scrub.specs.{Keeping.{IsReady as IsWalkReady}, Running.{place_in}};
 ghost use Rattle.ocfl_scrub.specs.Starting.{part_of};
 ghost use Rattle.ocfl_scrub.specs.declared.running.RunStatus.TheVariants as run;
-ghost use Rattle.ocfl_state.specs.Content.{with_report};
-ghost use Rattle.ocfl_state.specs.Crash.{LeavesOnly, Only, Passes};
+ghost use Rattle.ocfl_state.specs.{Content.{with_report}, Crash.{LeavesOnly, Only, Passes}};
 ghost use Rattle.ocfl_state.specs.Pieces.{summary_of};
 ghost use Rattle.ocfl_state.specs.declared.checkpoint_parts.ReportMark.{ReportMark as ModelMark};
 ghost use Rattle.ocfl_state.specs.declared.checkpoint_parts.Phase.TheVariants.{Closing, Open};
 ghost use Rattle.ocfl_night.specs.Chain.{part_after};
 ghost use Rattle.ocfl_night.specs.Ending.{IsMadeBy, IsSlice, IsUnkept, KeepsTo, lost_by, slice_end};
-ghost use Rattle.ocfl_night.specs.Site.{IsStill};
-ghost use Rattle.ocfl_night.specs.Sound.{IsReady, IsSoundAt};
+ghost use Rattle.ocfl_night.specs.{Site.{IsStill}, Sound.{IsReady, IsSoundAt}};
 ghost use Rattle.ocfl_night.specs.Steps.{IsNext, IsRun, IsWalkAt, KeepsFront};
 
 use crate::checkpoint::{cursor_of, put_checkpoint, report_of};

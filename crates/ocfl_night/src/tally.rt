@@ -1,8 +1,6 @@
 //! What a night has done so far, and what it does about a run that stopped at a place.
-ghost use Rattle.std.specs.Prelude.{◌≡◌, ◌+◌, ◌-◌, ◌^◌, ◌++◌, ◌||◌, Bool, IfOk, None, Some, false, min};
-ghost use Rattle.std.specs.Prelude.{unwrap_or};
-ghost use Rattle.ocfl_night.specs.Leaving.{MayLeave, branch_for, is_at, left_by, remedy_at};
-ghost use Rattle.ocfl_night.specs.Leaving.{remedy_by, tried_by};
+ghost use Rattle.std.specs.Prelude.{◌≡◌, ◌+◌, ◌-◌, ◌^◌, ◌++◌, ◌||◌, Bool, IfOk, None, Some, false, min, unwrap_or};
+ghost use Rattle.ocfl_night.specs.Leaving.{MayLeave, branch_for, is_at, left_by, remedy_at, remedy_by, tried_by};
 
 use crate::leaving::{branch_at, end_of};
 use crate::slicing::Made;

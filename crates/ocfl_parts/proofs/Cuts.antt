@@ -1,24 +1,20 @@
 -- How one more line moves the cuts of a report.
 use Rattle.std.proofs.Common.{◌≡◌, ◌≢◌, ◌⊎◌, inl, inr, ℕ, ◌+◌, ◌-◌, ◌^◌, ◌<◌, ◌≤◌, List, [], ◌∷◌, ◌++◌, Bool, true, false, ◌↔◌, Option, Some, None, length, All, refl, sym, ap, subst, ◌∙◌, append_assoc, append-nil, arith}
-use Rattle.std.specs.Prelude.{cond, ◌==◌, ◌||◌, nat_lt, min}
-use Rattle.std.specs.Ordering.{is_eq}
-use Rattle.std.specs.declared.cmp.Ordering.TheVariants.{Less, Equal, Greater}
 use Rattle.std.proofs.lemmas.Bool.{lt-ltb, le-ltb, ltb-true, ltb-false, ne_eqb}
 use Rattle.std.proofs.lemmas.List.Elements.{All-append, All-cons, All-nil}
-use Rattle.ocfl_tree.specs.Place.{Text, Place, place_cmp, place_eq}
-use Rattle.ocfl_tree.specs.Name.{IsPlace}
+use Rattle.std.specs.{Prelude.{cond, ◌==◌, ◌||◌, nat_lt, min}, Ordering.{is_eq}}
+use Rattle.std.specs.declared.cmp.Ordering.TheVariants.{Less, Equal, Greater}
+use Rattle.ocfl_tree.specs.{Place.{Text, Place, place_cmp, place_eq}, Name.{IsPlace}}
 use Rattle.ocfl_tree.proofs.Orders.{place_cmp_exact}
-use Rattle.ocfl_report.specs.Line.{Line}
-use Rattle.ocfl_parts.specs.Parts.{max_separators}
-use Rattle.ocfl_parts.specs.Separators.{AreSeparators}
+use Rattle.ocfl_report.specs.{Line.{Line}, Text.{IsLineText}}
+use Rattle.ocfl_parts.specs.{Parts.{max_separators}, Separators.{AreSeparators}}
 use Rattle.ocfl_parts.specs.Costs.{told_cost, told}
 use Rattle.ocfl_parts.specs.Splits.{items_from, cuts_from, cuts, HasText, IsNotLess, AreInOrder}
-use Rattle.ocfl_report.specs.Text.{IsLineText}
-use Rattle.ocfl_report.proofs.LineTexts.{line_text_read}
 use Rattle.ocfl_parts.specs.Internal.Cutting.{last_place, IsCutSoFar, TakesNot, TakesNotPlace, StopsAtEnd}
 use Rattle.ocfl_parts.specs.declared.splitting.SplitStop.{SplitStop}
 use Rattle.ocfl_parts.specs.declared.splitting.SplitStop.TheVariants.{Line as BadLine, Many, Read, Memory}
 use Rattle.ocfl_parts.specs.declared.costs.Told.{Told}
+use Rattle.ocfl_report.proofs.LineTexts.{line_text_read}
 use Rattle.ocfl_parts.proofs.Orders.{AreSeparators-push, AreSeparators-nil}
 
 -- ---- numbers beyond the budget are alike

@@ -1,13 +1,12 @@
 -- What the first bytes of a reader tell of all of them, if one more is read than the text of
 -- separators can have.
 use Rattle.std.proofs.Common.{◌≡◌, ◌⊎◌, inl, inr, ℕ, ◌<◌, ◌≤◌, [], ◌++◌, List, length, take, take_all, Option, Some, None, Result, Ok, Err, IfSome, IfOk, IfErr, subst, ◌∙◌, arith, length-take}
-use Rattle.std.specs.Option.{option_map}
 use Rattle.std.proofs.lemmas.Bool.{cases_lt}
+use Rattle.std.specs.Option.{option_map}
 use Rattle.ocfl_tree.specs.Place.{Text, Place}
 use Rattle.ocfl_parts.specs.Separators.{AreSeparators, parts_text}
 use Rattle.ocfl_parts.specs.Parts.{max_separators, max_bytes, IsPartsText, IsBadLine, HasMoreLines}
-use Rattle.ocfl_parts.specs.Stop.{StopsRightly, LinesStop}
-use Rattle.ocfl_parts.specs.declared.reading.PartsStop.{PartsStop}
+use Rattle.ocfl_parts.specs.{Stop.{StopsRightly, LinesStop}, declared.reading.PartsStop.{PartsStop}}
 use Rattle.ocfl_parts.specs.declared.reading.PartsStop.TheVariants.{Line, Long, Read, Memory}
 
 -- how many bytes are read at most

@@ -1,9 +1,7 @@
 -- What a detail says.
 use Rattle.std.proofs.Common.{◌≡◌, ◌≢◌, ℕ, ◌^◌, ◌<◌, ◌≤◌, decimal, Bool, true, false, refl, sym, ap, ◌∙◌, arith}
-use Rattle.std.specs.Prelude.{◌&&◌, nat_lt}
-use Rattle.std.specs.Str.Parse.{digits_value}
-use Rattle.std.proofs.lemmas.Bool.{lt-ltb, ltb-true}
-use Rattle.std.proofs.lemmas.Fmt.{decimal_is_IsNumeral_wide}
+use Rattle.std.proofs.{lemmas.Bool.{lt-ltb, ltb-true}, lemmas.Fmt.{decimal_is_IsNumeral_wide}}
+use Rattle.std.specs.{Prelude.{◌&&◌, nat_lt}, Str.Parse.{digits_value}}
 use Rattle.ocfl_tree.specs.Place.{Text, text_eq}
 use Rattle.ocfl_tree.proofs.Places.{text_eq-Decides, text_eq-same}
 use Rattle.ocfl_report.proofs.Numbers.{wide, decimal_determines}

@@ -1,16 +1,13 @@
 -- Places in order, and one more above the last.
 use Rattle.std.proofs.Common.{◌≡◌, ℕ, zero, suc, ◌-◌, ◌+◌, ◌<◌, List, [], ◌∷◌, ◌++◌, Bool, true, IsTrue, ◌↔◌, Some, length, take, take_all, get_or, All, refl, sym, ap, subst, ◌∙◌, arith}
-use Rattle.std.specs.Coded.{Unit-prop}
-use Rattle.std.specs.List.{slice_get}
-use Rattle.std.specs.Ordering.{is_lt}
+use Rattle.std.proofs.Props.{props}
+use Rattle.std.specs.{Coded.{Unit-prop}, List.{slice_get}, Ordering.{is_lt}}
 use Rattle.std.specs.declared.cmp.Ordering.{Ordering}
 use Rattle.std.specs.declared.cmp.Ordering.TheVariants.{Less, Equal, Greater}
-use Rattle.std.proofs.Props.{props}
 use mathlib.Core.Logic.{∥∥₁_elim}
 use Rattle.std.proofs.lemmas.List.{take_more}
 use Rattle.std.proofs.lemmas.List.Elements.{All-append, All-cons, All-nil, All-head, All-tail}
-use Rattle.ocfl_tree.specs.Place.{Place, place_cmp}
-use Rattle.ocfl_tree.specs.Name.{IsPlace}
+use Rattle.ocfl_tree.specs.{Place.{Place, place_cmp}, Name.{IsPlace}}
 use Rattle.ocfl_tree.specs.Ascending.{IsBeforeAll, IsAscending}
 use Rattle.ocfl_tree.proofs.Orders.{place_cmp_total}
 use Rattle.ocfl_parts.specs.Separators.{AreSeparators}

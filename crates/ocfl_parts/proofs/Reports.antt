@@ -1,24 +1,19 @@
 -- What the lines that were read say of all bytes of a reader.
 use Rattle.std.proofs.Common.{◌≡◌, ◌≢◌, ℕ, ◌+◌, ◌≤◌, List, [], ◌∷◌, ◌++◌, Option, Some, None, IfSome, length, All, refl, sym, ap, subst, ◌∙◌, append_assoc, append-nil, arith}
-use Rattle.std.specs.Prelude.{cond}
-use Rattle.std.specs.Io.BufRead.{take_through}
-use Rattle.std.specs.Io.KnownBytes.{Consumes}
 use Rattle.std.proofs.lemmas.Bool.{ne_eqb}
 use Rattle.std.proofs.lemmas.List.Elements.{All-append, All-cons, All-head, All-tail, All-weaker}
 use Rattle.std.proofs.lemmas.List.Concat.{flat_map-append}
+use Rattle.std.specs.{Prelude.{cond}, Io.BufRead.{take_through}, Io.KnownBytes.{Consumes}}
 use Rattle.ocfl_tree.specs.Place.{Text, Place}
 use Rattle.ocfl_report.specs.Line.{Line}
 use Rattle.ocfl_report.specs.Text.{code_text, place_text, escape, line_text, lines_text, IsLineText}
-use Rattle.ocfl_report.proofs.Bytes.{IsPrintable, utf8_bytes}
-use Rattle.ocfl_report.proofs.Escapes.{escape_printable}
-use Rattle.ocfl_report.proofs.CodeTexts.{code_text_printable}
-use Rattle.ocfl_report.proofs.PlaceTexts.{place_text_printable}
+use Rattle.ocfl_report.proofs.{Bytes.{IsPrintable, utf8_bytes}, Escapes.{escape_printable}}
+use Rattle.ocfl_report.proofs.{CodeTexts.{code_text_printable}, PlaceTexts.{place_text_printable}}
 use Rattle.ocfl_parts.specs.Parts.{max_separators}
 use Rattle.ocfl_parts.specs.Splits.{HasText, AreInOrder, AreLines, cuts, IsSplit}
 use Rattle.ocfl_parts.specs.SplitStop.{SplitStopsRightly}
 use Rattle.ocfl_parts.specs.Internal.Cutting.{IsCutSoFar, TakesNot, StopsAtEnd}
-use Rattle.ocfl_parts.specs.declared.costs.Told.{Told}
-use Rattle.ocfl_parts.specs.declared.splitting.SplitStop.{SplitStop}
+use Rattle.ocfl_parts.specs.{declared.costs.Told.{Told}, declared.splitting.SplitStop.{SplitStop}}
 use Rattle.ocfl_parts.specs.declared.splitting.SplitStop.TheVariants.{Line as BadLine, Many, Read, Memory}
 
 -- ---- the first line of some bytes

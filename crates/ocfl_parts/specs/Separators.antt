@@ -1,10 +1,7 @@
 -- Separators, and their text.
-use Rattle.std.specs.Prelude.{ℕ, ◌-◌, ◌==◌, List, [], ◌∷◌, ◌++◌, Option, None, flat_map, slice_get, if◌then◌else◌}
-use Rattle.ocfl_tree.specs.Place.{Text, Place, place_cmp}
-use Rattle.ocfl_tree.specs.Name.{IsPlace}
-use Rattle.ocfl_tree.specs.Ascending.{IsAscending}
+use Rattle.std.specs.Prelude.{ℕ, ◌-◌, ◌==◌, List, [], ◌∷◌, ◌++◌, Option, None, flat_map, slice_get, if◌then◌else◌, All}
+use Rattle.ocfl_tree.specs.{Place.{Text, Place, place_cmp}, Name.{IsPlace}, Ascending.{IsAscending}}
 use Rattle.ocfl_report.specs.Text.{place_text}
-use Rattle.std.specs.Prelude.{All}
 
 -- places in strictly ascending order
 pub record AreSeparators (ps : List Place) : Type 0 where

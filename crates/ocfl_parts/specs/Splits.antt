@@ -1,13 +1,9 @@
 -- Where a report is cut into parts of about one cost, and its items as runs take them.
 use Rattle.std.specs.Prelude.{◌≡◌, ◌≢◌, ℕ, ◌+◌, ◌≤◌, ◌<◌, ◌==◌, ◌||◌, nat_lt, List, [], ◌∷◌, ◌++◌, length, All, if◌then◌else◌, Option, Some, None, map, ⊤}
-use Rattle.std.specs.Str.{IsUtf8}
-use Rattle.std.specs.declared.cmp.Ordering.TheVariants.{Greater}
-use Rattle.ocfl_tree.specs.Place.{Text, Place, place_cmp, place_eq}
-use Rattle.ocfl_tree.specs.Name.{IsPlace}
-use Rattle.ocfl_report.specs.Line.{Line, Item}
-use Rattle.ocfl_report.specs.Text.{line_text, lines_text}
-use Rattle.ocfl_parts.specs.Parts.{max_separators}
-use Rattle.ocfl_parts.specs.Costs.{told_cost, told}
+use Rattle.std.specs.{Str.{IsUtf8}, declared.cmp.Ordering.TheVariants.{Greater}}
+use Rattle.ocfl_tree.specs.{Place.{Text, Place, place_cmp, place_eq}, Name.{IsPlace}}
+use Rattle.ocfl_report.specs.{Line.{Line, Item}, Text.{line_text, lines_text}}
+use Rattle.ocfl_parts.specs.{Parts.{max_separators}, Costs.{told_cost, told}}
 use Rattle.ocfl_parts.specs.declared.costs.Told.{Told}
 
 -- ---- items

@@ -1,8 +1,7 @@
 //! What a line of a report says of its place: how much it cost.
 ghost use Rattle.std.specs.Prelude.{◌≡◌, ◌^◌, ◌<◌, true, false, IfOk, IfSome, IsNone};
 ghost use Rattle.std.specs.Str.Parse.{digits_value};
-ghost use Rattle.ocfl_report.specs.Line.{Line as ModelLine};
-ghost use Rattle.ocfl_report.specs.Text.{IsLineText};
+ghost use Rattle.ocfl_report.specs.{Line.{Line as ModelLine}, Text.{IsLineText}};
 ghost use Rattle.ocfl_parts.specs.Costs.{is_size, told_cost, told};
 
 use ocfl_report::{Code, LineStop, read_decimal, read_line};

@@ -1,6 +1,5 @@
 //! Writing the text of separators.
-ghost use Rattle.std.specs.Prelude.{◌≡◌, ◌++◌, OnOk, OnErr};
-ghost use Rattle.std.specs.Io.{StartsWith};
+ghost use Rattle.std.specs.{Prelude.{◌≡◌, ◌++◌, OnOk, OnErr}, Io.{StartsWith}};
 ghost use Rattle.ocfl_parts.specs.Separators.{part_line, parts_text};
 
 use crate::separators::Separators;

@@ -1,12 +1,11 @@
 -- What holds of each byte of a text: of UTF-8, of a name, and by a test.
 use Rattle.std.proofs.Common.{◌≡◌, ℕ, ◌+◌, ◌/◌, ◌<◌, ◌≤◌, ◌&&◌, nat_le, nat_lt, leb-true, List, [], ◌∷◌, get_or, Fits, w8, Bool, true, false, cond, ltb, ltb-true, refl, subst, All, IsUtf8, arith}
-use Rattle.std.specs.List.{list_all}
 use Rattle.std.proofs.Math.Utf8.{scalar, scalars, next, encode, encodes, scalar_cases}
 use Rattle.std.proofs.lemmas.Bool.{and_parts}
 use Rattle.std.proofs.lemmas.List.Elements.{All-from_recursion, All-append, All-cons, All-nil, All-from_get_or}
 use Rattle.std.proofs.lemmas.Str.{IsUtf8-had}
-use Rattle.ocfl_tree.specs.Place.{Text}
-use Rattle.ocfl_tree.specs.Name.{IsName}
+use Rattle.std.specs.List.{list_all}
+use Rattle.ocfl_tree.specs.{Place.{Text}, Name.{IsName}}
 
 -- what a byte can be
 abbrev pub IsByte : ℕ → Type 0

@@ -2,8 +2,7 @@
 use Rattle.std.proofs.Common.{◌≡◌, ℕ, ◌<◌, ◌≤◌, List, [], ◌∷◌, true, if◌then◌else◌, bytes_eq, nat_lt, All, get_or, refl, sym, ap, ◌∙◌, ltb-true, arith}
 use Rattle.std.specs.List.{list_all}
 use Rattle.ocfl_tree.specs.Place.{Text}
-use Rattle.ocfl_report.specs.Text.{code_text}
-use Rattle.ocfl_report.specs.declared.code.Code.{Code}
+use Rattle.ocfl_report.specs.{Text.{code_text}, declared.code.Code.{Code}}
 use Rattle.ocfl_report.specs.declared.code.Code.TheVariants.{Clean, E001, E003, E007, E015, E017, E018, E023, E024, E025, E033, E036, E041, E058, E060, E061, E063, E069, E072, E073, E076, E080, E092, E093, E096, E097, E099, E100, E101, S01, S02, S03, S04, S05, S06, S07, S08}
 use Rattle.ocfl_report.specs.declared.code.TheConstants.{CODES}
 use Rattle.ocfl_report.proofs.Bytes.{All-from_test, IsPrintable, is_printable, IsPrintable-from_test}

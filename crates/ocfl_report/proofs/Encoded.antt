@@ -1,14 +1,12 @@
 -- The report's escapes are the percent-encoding at its set of bytes, and decoding undoes them.
 use Rattle.std.proofs.Common.{◌≡◌, ℕ, ◌<◌, [], ◌∷◌, ◌++◌, true, bytes_eq, All, IsUtf8, refl, sym, ap, ap₂, ◌∙◌}
-use Rattle.std.proofs.lemmas.Bool.{agree_below_at}
-use Rattle.std.proofs.lemmas.Slice.Eq.{bytes_eq-Decides}
+use Rattle.std.proofs.{lemmas.Bool.{agree_below_at}, lemmas.Slice.Eq.{bytes_eq-Decides}}
 use Rattle.std.proofs.lemmas.List.Elements.{All-head, All-tail}
 use Rattle.percent_encoding.specs.AsciiSet.{should_percent_encode}
 use Rattle.percent_encoding.specs.Percent.{percent_encode_byte, encode_byte, percent_encode, percent_decode}
 use Rattle.percent_encoding.proofs.PercentLemmas.{round_trip}
 use Rattle.ocfl_tree.specs.Place.{Text}
-use Rattle.ocfl_report.specs.Text.{escape_byte, escape}
-use Rattle.ocfl_report.specs.declared.escaped.TheConstants.{ESCAPED}
+use Rattle.ocfl_report.specs.{Text.{escape_byte, escape}, declared.escaped.TheConstants.{ESCAPED}}
 use Rattle.ocfl_report.proofs.Bytes.{IsByte, utf8_bytes}
 
 -- a byte is escaped alike

@@ -1,8 +1,8 @@
 -- Escaped text reads back, and has printable bytes alone.
 use Rattle.std.proofs.Common.{◌≡◌, ◌≢◌, ◌⊎◌, inl, inr, ℕ, ◌+◌, ◌*◌, ◌-◌, ◌/◌, ◌%◌, ◌<◌, [], ◌∷◌, ◌++◌, Bool, true, false, cond, if◌then◌else◌, nat_lt, ◌==◌, ◌||◌, not, All, refl, sym, ap, ap₂, ◌∙◌, append-nil, append_assoc, arith}
-use Rattle.std.specs.List.{list_all}
 use Rattle.std.proofs.lemmas.Bool.{agree_below_at, eqb-true, not-true, or_parts, or_cases, cond-false}
 use Rattle.std.proofs.lemmas.List.Elements.{All-nil, All-head, All-tail, All-append}
+use Rattle.std.specs.List.{list_all}
 use Rattle.ocfl_tree.specs.Place.{Text}
 use Rattle.ocfl_report.specs.Text.{is_escaped, hex_digit, escape_byte, escape}
 use Rattle.ocfl_report.proofs.Bytes.{IsByte, All-from_test, IsPrintable, is_printable, IsPrintable-from_test}

@@ -1,7 +1,6 @@
 -- A list that is taken piece by piece, and what holds of a refusal.
 use Rattle.std.proofs.Common.{◌≡◌, ℕ, ◌+◌, ◌-◌, ◌≤◌, List, ◌++◌, length, take, drop, sym, ap, ◌∙◌, arith, length-drop, Result, Ok, Err, OnErr}
-use Rattle.std.proofs.lemmas.List.{take_rest}
-use Rattle.std.proofs.Math.Seq.{take-add}
+use Rattle.std.proofs.{lemmas.List.{take_rest}, Math.Seq.{take-add}}
 
 -- a beginning, and then a beginning of the rest
 pub take_both : (xs : List ℕ) (i n : ℕ) → take i xs ++ take n (take (length xs - i) (drop i xs)) ≡ take (i + n) xs

@@ -1,11 +1,9 @@
 -- The text of a place is its path escaped, but for the root's.
 use Rattle.std.proofs.Common.{◌≡◌, ◌==◌, [], ◌∷◌, ◌++◌, true, false, map, length, codes, refl, sym, ap, ◌∙◌, arith, eqb-true}
-use Rattle.std.specs.List.{join_with_byte}
 use Rattle.std.proofs.lemmas.List.Concat.{flat_map-append}
-use Rattle.ocfl_tree.specs.Place.{Text, Place}
-use Rattle.ocfl_tree.specs.Path.{elements, names_of, slashed}
-use Rattle.ocfl_tree.proofs.Orders.{true_not_false}
-use Rattle.ocfl_tree.proofs.PathOrders.{some_element}
+use Rattle.std.specs.List.{join_with_byte}
+use Rattle.ocfl_tree.specs.{Place.{Text, Place}, Path.{elements, names_of, slashed}}
+use Rattle.ocfl_tree.proofs.{Orders.{true_not_false}, PathOrders.{some_element}}
 use Rattle.ocfl_tree.proofs.Paths.{slashed_elements}
 use Rattle.ocfl_report.specs.Text.{escape_byte, escape, place_text}
 

@@ -1,9 +1,8 @@
 -- The text of a place determines the place.
 use Rattle.std.proofs.Common.{◌≡◌, ◌≢◌, [], ◌∷◌, ◌==◌, map, codes, All, refl, sym, ap, ◌∙◌, arith}
-use Rattle.std.specs.List.{slice_split}
 use Rattle.std.proofs.lemmas.List.Elements.{All-nil, All-head, All-tail, All-map, All-weaker}
-use Rattle.ocfl_tree.specs.Place.{Text, Place}
-use Rattle.ocfl_tree.specs.Name.{IsName, IsPlace}
+use Rattle.std.specs.List.{slice_split}
+use Rattle.ocfl_tree.specs.{Place.{Text, Place}, Name.{IsName, IsPlace}}
 use Rattle.ocfl_report.specs.Text.{escape, place_text}
 use Rattle.ocfl_report.proofs.Bytes.{IsPrintable, name_bytes, All-from_test, is_printable, IsPrintable-from_test}
 use Rattle.ocfl_report.proofs.Separators.{slice_split-join_with_byte, All-join_with_byte}

@@ -1,18 +1,14 @@
 -- A place read back off its text: the text is the place's path escaped, but for the root's.
 use Rattle.std.proofs.Common.{◌≡◌, ◌≢◌, ◌⊎◌, inl, inr, ℕ, ◌==◌, [], ◌∷◌, ◌++◌, true, false, codes, length, get_or, All, IsUtf8, refl, sym, ap, ◌∙◌, arith}
-use Rattle.std.specs.List.{join_with_byte, slice_split}
-use Rattle.std.proofs.Math.Dec.{eqb-suc-zero}
-use Rattle.std.proofs.lemmas.Bool.Decides.{eqb_tells}
+use Rattle.std.proofs.{Math.Dec.{eqb-suc-zero}, lemmas.Bool.Decides.{eqb_tells}}
 use Rattle.std.proofs.lemmas.Str.{IsUtf8-nil, IsUtf8-append, IsUtf8-from_ascii, IsUtf8-had}
 use Rattle.std.proofs.lemmas.Str.Ascii.{IsAscii-nil, IsAscii-cons}
 use Rattle.std.proofs.lemmas.List.Elements.{All-head, All-tail, All-weaker}
-use Rattle.ocfl_tree.specs.Place.{Text, Place}
-use Rattle.ocfl_tree.specs.Name.{IsName, IsPlace}
-use Rattle.ocfl_tree.specs.Path.{names_of, slashed}
+use Rattle.std.specs.List.{join_with_byte, slice_split}
+use Rattle.ocfl_tree.specs.{Place.{Text, Place}, Name.{IsName, IsPlace}, Path.{names_of, slashed}}
 use Rattle.ocfl_tree.proofs.PathNames.{names_are}
 use Rattle.ocfl_report.specs.Text.{escape, place_text}
-use Rattle.ocfl_report.proofs.Escapes.{IsNoSlash}
-use Rattle.ocfl_report.proofs.PathTexts.{path_text, place_text-slashed}
+use Rattle.ocfl_report.proofs.{Escapes.{IsNoSlash}, PathTexts.{path_text, place_text-slashed}}
 use Rattle.ocfl_report.proofs.PlaceTexts.{names_of as unescaped_names, names_of-place_text}
 use Rattle.ocfl_report.proofs.Separators.{slice_split-join_with_byte}
 

@@ -1,9 +1,9 @@
 -- Texts with separators between them are told apart again.
 use Rattle.std.proofs.Common.{◌≡◌, ◌≢◌, ℕ, List, [], ◌∷◌, ◌++◌, ◌==◌, eq-eqb, false, All, flat_map, length, length-append, arith, refl, sym, ap, subst, ◌∙◌}
-use Rattle.std.specs.List.{join_with_byte, slice_split}
 use Rattle.std.proofs.lemmas.List.Splits.{slice_split_none, slice_split_at}
 use Rattle.std.proofs.lemmas.List.{get_or_at}
 use Rattle.std.proofs.lemmas.List.Elements.{All-nil, All-cons, All-head, All-tail, All-append, All-get_or}
+use Rattle.std.specs.List.{join_with_byte, slice_split}
 use Rattle.ocfl_tree.specs.Place.{Text}
 
 -- if two texts are equal, so are their parts up to the first separator, and so is what follows

@@ -1,6 +1,5 @@
 -- What a report consists of.
-use Rattle.std.specs.Prelude.{ℕ, List, Bool, true, false, string_bytes}
-use Rattle.std.specs.List.{list_any}
+use Rattle.std.specs.{Prelude.{ℕ, List, Bool, true, false, string_bytes}, List.{list_any}}
 use Rattle.ocfl_tree.specs.Place.{Text, Place}
 use Rattle.ocfl_report.specs.declared.code.Code.{Code}
 use Rattle.ocfl_report.specs.declared.code.Code.TheVariants.{Clean, S07}

@@ -1,12 +1,9 @@
 -- The text of a report: a line is its code, its place and its detail with tabs between them, and a
 -- line feed.
 use Rattle.std.specs.Prelude.{◌≡◌, ℕ, ◌/◌, ◌%◌, ◌<◌, ◌==◌, ◌||◌, nat_lt, nat_le, List, [], ◌∷◌, ◌++◌, All, Bool, if◌then◌else◌, map, flat_map, codes, slice_index}
-use Rattle.std.specs.List.{join_with_byte}
-use Rattle.std.specs.Str.{IsUtf8}
-use Rattle.ocfl_tree.specs.Place.{Text, Place}
-use Rattle.ocfl_tree.specs.Name.{IsPlace}
-use Rattle.ocfl_report.specs.Line.{Line, Item}
-use Rattle.ocfl_report.specs.declared.code.Code.{Code}
+use Rattle.std.specs.{List.{join_with_byte}, Str.{IsUtf8}}
+use Rattle.ocfl_tree.specs.{Place.{Text, Place}, Name.{IsPlace}}
+use Rattle.ocfl_report.specs.{Line.{Line, Item}, declared.code.Code.{Code}}
 use Rattle.ocfl_report.specs.declared.code.Code.TheVariants.{Clean, E001, E003, E007, E015, E017, E018, E023, E024, E025, E033, E036, E041, E058, E060, E061, E063, E069, E072, E073, E076, E080, E092, E093, E096, E097, E099, E100, E101, S01, S02, S03, S04, S05, S06, S07, S08}
 
 abbrev pub code_text : Code → Text

@@ -1,7 +1,6 @@
 //! The codes of report lines.
 ghost use Rattle.std.specs.Prelude.{◌≡◌, IfSome, IsNone};
-ghost use Rattle.ocfl_report.specs.Text.{code_text};
-ghost use Rattle.ocfl_report.specs.declared.code.Code.{Code as ModelCode};
+ghost use Rattle.ocfl_report.specs.{Text.{code_text}, declared.code.Code.{Code as ModelCode}};
 
 use ocfl_tree::is_bytes;
 

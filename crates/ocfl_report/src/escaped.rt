@@ -1,9 +1,6 @@
 //! Escaped text, after RFC 3986, 2.1, with this report's own set of bytes that stay as they are.
-ghost use Rattle.std.specs.Prelude.{◌≡◌, ◌+◌, ◌<◌, ◌≤◌, ◌++◌, ◌↔◌, IsTrue, OnOk, OnErr, length};
-ghost use Rattle.std.specs.Prelude.{vec_len, vec_capacity, IfOk, IfSome, IsNone};
-ghost use Rattle.std.specs.Cow.{cow_str_bytes};
-ghost use Rattle.std.specs.Io.{StartsWith};
-ghost use Rattle.std.specs.Str.{IsUtf8};
+ghost use Rattle.std.specs.Prelude.{◌≡◌, ◌+◌, ◌<◌, ◌≤◌, ◌++◌, ◌↔◌, IsTrue, OnOk, OnErr, length, vec_len, vec_capacity, IfOk, IfSome, IsNone};
+ghost use Rattle.std.specs.{Cow.{cow_str_bytes}, Io.{StartsWith}, Str.{IsUtf8}};
 ghost use Rattle.ocfl_tree.specs.Place.{Text as ModelText};
 ghost use Rattle.ocfl_report.specs.Text.{escape};
 

@@ -1,10 +1,7 @@
 //! The laws of the texts of places and lines.
-ghost use Rattle.std.specs.Prelude.{◌≡◌, ◌≢◌, ◌↔◌, ◌⊎◌, List, All, Any, IfOk, flat_map};
-ghost use Rattle.std.specs.Prelude.{true, false};
-ghost use Rattle.ocfl_tree.specs.Place.{Place as ModelPlace};
-ghost use Rattle.ocfl_tree.specs.Name.{IsPlace};
-ghost use Rattle.ocfl_report.specs.Line.{Line as ModelLine, Item, line_of};
-ghost use Rattle.ocfl_report.specs.Line.{is_finding_code, has_finding, found};
+ghost use Rattle.std.specs.Prelude.{◌≡◌, ◌≢◌, ◌↔◌, ◌⊎◌, List, All, Any, IfOk, flat_map, true, false};
+ghost use Rattle.ocfl_tree.specs.{Place.{Place as ModelPlace}, Name.{IsPlace}};
+ghost use Rattle.ocfl_report.specs.Line.{Line as ModelLine, Item, line_of, is_finding_code, has_finding, found};
 ghost use Rattle.ocfl_report.specs.declared.code.Code.{Code as ModelCode};
 ghost use Rattle.ocfl_report.specs.declared.code.Code.TheVariants.{Clean, S07};
 ghost use Rattle.ocfl_report.specs.Text.{place_text, line_text, lines_text, text, IsLine};

@@ -18,11 +18,9 @@ pub struct Line {
 }
 
 impl Line {
-    ghost use Rattle.std.specs.Prelude.{◌≡◌, ◌+◌, ◌<◌, ◌++◌, length, vec_len, vec_capacity, OnOk};
-    ghost use Rattle.std.specs.Prelude.{OnErr};
+    ghost use Rattle.std.specs.Prelude.{◌≡◌, ◌+◌, ◌<◌, ◌++◌, length, vec_len, vec_capacity, OnOk, OnErr};
     ghost use Rattle.std.specs.Io.{StartsWith};
-    ghost use Rattle.ocfl_report.specs.Line.{line_of, is_finding_code};
-    ghost use Rattle.ocfl_report.specs.Text.{line_text};
+    ghost use Rattle.ocfl_report.specs.{Line.{line_of, is_finding_code}, Text.{line_text}};
 
     /// Appends the line as a report has it: code, place and detail with tabs between them, and a
     /// line feed. The place is written as by [`put_place`](crate::put_place), and the detail is

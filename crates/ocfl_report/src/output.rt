@@ -1,6 +1,5 @@
 //! Writing all of some bytes, or saying how many went out.
-ghost use Rattle.std.specs.Prelude.{◌<◌, ◌≤◌, OnOk, IfErr, length, take};
-ghost use Rattle.std.specs.Io.KnownBytes.{Appends};
+ghost use Rattle.std.specs.{Prelude.{◌<◌, ◌≤◌, OnOk, IfErr, length, take}, Io.KnownBytes.{Appends}};
 
 use std::io::{ErrorKind, Write};
 

@@ -1,8 +1,7 @@
 //! Reading a report line back from its text.
 ghost use Rattle.std.specs.Prelude.{◌≡◌, ◌≢◌, ◌∷◌, ◌++◌, [], All, IfOk, IfSome, IsNone};
 ghost use Rattle.ocfl_tree.specs.Place.{Text as ModelText};
-ghost use Rattle.ocfl_report.specs.Line.{Line as ModelLine, line_of};
-ghost use Rattle.ocfl_report.specs.Text.{IsLineText};
+ghost use Rattle.ocfl_report.specs.{Line.{Line as ModelLine, line_of}, Text.{IsLineText}};
 
 use crate::code::read_code;
 use crate::escaped::read_escaped;

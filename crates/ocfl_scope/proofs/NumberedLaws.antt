@@ -1,13 +1,12 @@
 -- The parts that separators make, by their numbers.
 use Rattle.std.proofs.Common.{◌≡◌, ℕ, zero, suc, ◌+◌, ◌-◌, ◌≤◌, List, [], ◌∷◌, Option, Some, None, refl, sym, ◌∙◌, ap, subst, length, map, arith, inl, inr}
-use Rattle.std.specs.Prelude.{◌⊎◌, ◌↔◌, ◌==◌, IsSome, slice_get, if◌then◌else◌, false}
 use Rattle.std.proofs.lemmas.Bool.Decides.{nat_tests}
 use Rattle.std.proofs.lemmas.Option.{none-some, same_Some, slice_get_within}
+use Rattle.std.specs.Prelude.{◌⊎◌, ◌↔◌, ◌==◌, IsSome, slice_get, if◌then◌else◌, false}
 use Rattle.ocfl_tree.specs.Place.{Place, Text}
 use Rattle.ocfl_audit.specs.Parts.{Part, parts_from, parts_of}
 use Rattle.ocfl_cursor.specs.declared.ends.PartEnds.{PartEnds}
-use Rattle.ocfl_parts.specs.Parts.{IsPartsText}
-use Rattle.ocfl_parts.specs.Separators.{end_of_part, start_of_part}
+use Rattle.ocfl_parts.specs.{Parts.{IsPartsText}, Separators.{end_of_part, start_of_part}}
 use Rattle.ocfl_parts.specs.declared.reading.PartsStop.TheVariants as parts
 use Rattle.ocfl_parts.proofs.PartsTexts.{parts_text_determines, not_bad, not_long}
 use Rattle.ocfl_scope.specs.Finding.{PartStops}

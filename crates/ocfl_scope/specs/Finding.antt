@@ -1,13 +1,11 @@
 -- The scope that is found, and what it says that none is.
 use Rattle.std.specs.Prelude.{◌≡◌, ◌≢◌, ℕ, Option, IfSome, ⊤}
-use Rattle.ocfl_tree.specs.Place.{Text, Place}
-use Rattle.ocfl_tree.specs.Name.{IsPlace}
+use Rattle.ocfl_tree.specs.{Place.{Text, Place}, Name.{IsPlace}}
 use Rattle.ocfl_report.specs.Text.{place_text}
 use Rattle.ocfl_parts.specs.Stop.{StopsRightly}
-use Rattle.ocfl_scope.specs.Numbered.{IsPartOf, HasNoSuchPart}
-use Rattle.ocfl_scope.specs.declared.scope.Scope.{Scope}
-use Rattle.ocfl_scope.specs.declared.scope.Scope.TheVariants as scope
+use Rattle.ocfl_scope.specs.{Numbered.{IsPartOf, HasNoSuchPart}, declared.scope.Scope.{Scope}}
 use Rattle.ocfl_scope.specs.declared.stop.ScopeStop.{ScopeStop}
+use Rattle.ocfl_scope.specs.declared.scope.Scope.TheVariants as scope
 use Rattle.ocfl_scope.specs.declared.stop.ScopeStop.TheVariants as stop
 
 -- ---- a branch

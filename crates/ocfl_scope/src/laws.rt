@@ -1,14 +1,11 @@
 //! The laws of parts by their numbers, and of the scope that is found.
-ghost use Rattle.std.specs.Prelude.{◌≡◌, ◌⊎◌, ◌↔◌, ◌+◌, ◌≤◌, ℕ, List, [], Some, IsSome, length};
-ghost use Rattle.std.specs.Prelude.{map};
+ghost use Rattle.std.specs.Prelude.{◌≡◌, ◌⊎◌, ◌↔◌, ◌+◌, ◌≤◌, ℕ, List, [], Some, IsSome, length, map};
 ghost use Rattle.ocfl_tree.specs.Place.{Place, Text};
 ghost use Rattle.ocfl_cursor.specs.declared.ends.PartEnds.{PartEnds};
 ghost use Rattle.ocfl_audit.specs.Parts.{parts_of};
-ghost use Rattle.ocfl_parts.specs.Parts.{IsPartsText};
-ghost use Rattle.ocfl_parts.specs.Separators.{end_of_part, start_of_part};
+ghost use Rattle.ocfl_parts.specs.{Parts.{IsPartsText}, Separators.{end_of_part, start_of_part}};
 ghost use Rattle.ocfl_scope.specs.Finding.{PartStops};
-ghost use Rattle.ocfl_scope.specs.Numbered.{AreAllFrom, IsPartOf};
-ghost use Rattle.ocfl_scope.specs.Numbered.{part_between, part_numbered};
+ghost use Rattle.ocfl_scope.specs.Numbered.{AreAllFrom, IsPartOf, part_between, part_numbered};
 ghost use Rattle.ocfl_scope.specs.declared.stop.ScopeStop.{ScopeStop};
 ghost use Rattle.ocfl_scope.specs.declared.stop.ScopeStop.TheVariants as stop;
 ghost use Rattle.ocfl_parts.specs.declared.reading.PartsStop.TheVariants as parts;

@@ -1,21 +1,15 @@
 -- What calls did to one store, done to another.
 use Rattle.std.proofs.Common.{◌≡◌, ℕ, ◌+◌, List, [], ◌∷◌, ◌++◌, refl, sym, ◌∙◌, ap, Bool, Some, None, Option, append-nil, append_assoc, arith, length}
 use Rattle.std.proofs.lemmas.List.{append_cancel_left}
-use Rattle.ocfl_tree.specs.Place.{Place, Text}
-use Rattle.ocfl_tree.specs.StorageRoot.{StorageRoot}
-use Rattle.ocfl_tree.specs.Store.{Store, Did}
+use Rattle.ocfl_tree.specs.{Place.{Place, Text}, StorageRoot.{StorageRoot}, Store.{Store, Did}}
 use Rattle.ocfl_tree.specs.declared.store.Opening.{Opening}
 use Rattle.ocfl_audit.specs.Trail.{unread_of}
 use Rattle.ocfl_item.specs.Looking.{failures_by}
 use Rattle.ocfl_item.specs.Auditing.{Audits, Fails, FailedAt, in_listing, in_opening}
-use Rattle.ocfl_item.specs.declared.fault.Fault.{Fault}
-use Rattle.ocfl_item.specs.declared.pending.Pending.{Pending}
-use Rattle.ocfl_walk.specs.WalkCalls.{FailsOut, Walks, WalksOut}
-use Rattle.ocfl_walk.specs.Walks.{GivesOut}
-use Rattle.ocfl_walk.specs.declared.end.End.{End}
-use Rattle.ocfl_walk.specs.declared.walk.Walk.{Walk}
-use Rattle.ocfl_scrub.specs.Alike.{Added, IsAlike, with_added}
-use Rattle.ocfl_scrub.specs.Call.{call_of}
+use Rattle.ocfl_item.specs.{declared.fault.Fault.{Fault}, declared.pending.Pending.{Pending}}
+use Rattle.ocfl_walk.specs.{WalkCalls.{FailsOut, Walks, WalksOut}, Walks.{GivesOut}}
+use Rattle.ocfl_walk.specs.{declared.end.End.{End}, declared.walk.Walk.{Walk}}
+use Rattle.ocfl_scrub.specs.{Alike.{Added, IsAlike, with_added}, Call.{call_of}}
 use Rattle.ocfl_scrub.specs.Taking.{Misses, Takes}
 
 -- ---- nothing, and one call after the other

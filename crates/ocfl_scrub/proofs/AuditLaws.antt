@@ -1,41 +1,27 @@
 -- A pass over all items of a part is its audit, and the whole is one part.
 use Rattle.std.proofs.Common.{◌≡◌, ◌≢◌, ℕ, zero, suc, ◌+◌, List, [], ◌∷◌, ◌++◌, refl, sym, ◌∙◌, ap, subst, Bool, false, None, Option, length, map, take, append-nil, arith}
-use Rattle.std.specs.Io.KnownBytes.{Appends}
 use Rattle.std.proofs.KnownBytes.{Appends-nil}
-use Rattle.ocfl_tree.specs.Place.{Place}
-use Rattle.ocfl_tree.specs.StorageRoot.{StorageRoot}
-use Rattle.ocfl_tree.specs.Store.{Store}
+use Rattle.std.specs.Io.KnownBytes.{Appends}
+use Rattle.ocfl_tree.specs.{Place.{Place}, StorageRoot.{StorageRoot}, Store.{Store}}
 use Rattle.ocfl_tree.specs.declared.store.Opening.{Opening}
-use Rattle.ocfl_report.specs.Line.{Item, found}
-use Rattle.ocfl_report.specs.Text.{text}
-use Rattle.ocfl_audit.specs.Audit.{audit, item_of}
-use Rattle.ocfl_audit.specs.Due.{item_places, due, items_at}
-use Rattle.ocfl_audit.specs.Trail.{unread_of}
-use Rattle.ocfl_audit.specs.Between.{read_between}
-use Rattle.ocfl_audit.specs.Parts.{Part, whole, within}
-use Rattle.ocfl_audit.proofs.DueLaws.{after_is_due}
-use Rattle.ocfl_audit.proofs.Trails.{unread_behind}
-use Rattle.ocfl_item.specs.Looking.{IsFront}
-use Rattle.ocfl_item.specs.Ways.{IsWayFault}
-use Rattle.ocfl_item.specs.Auditing.{Audits}
-use Rattle.ocfl_walk.specs.Ends.{before_end}
-use Rattle.ocfl_walk.specs.WalkCalls.{GoesDown, GoDownFails}
+use Rattle.ocfl_report.specs.{Line.{Item, found}, Text.{text}}
+use Rattle.ocfl_audit.specs.{Audit.{audit, item_of}, Due.{item_places, due, items_at}}
+use Rattle.ocfl_audit.specs.{Trail.{unread_of}, Between.{read_between}, Parts.{Part, whole, within}}
+use Rattle.ocfl_audit.proofs.{DueLaws.{after_is_due}, Trails.{unread_behind}}
+use Rattle.ocfl_item.specs.{Looking.{IsFront}, Ways.{IsWayFault}, Auditing.{Audits}}
+use Rattle.ocfl_item.specs.{declared.fault.Fault.{Fault}, declared.fault.Fault.TheVariants.{Output}}
+use Rattle.ocfl_walk.specs.{Ends.{before_end}, WalkCalls.{GoesDown, GoDownFails}}
 use Rattle.ocfl_walk.proofs.FoundLaws.{none_hashed}
-use Rattle.ocfl_item.specs.declared.fault.Fault.{Fault}
-use Rattle.ocfl_item.specs.declared.fault.Fault.TheVariants.{Output}
-use Rattle.ocfl_scrub.specs.Call.{call_of}
-use Rattle.ocfl_scrub.specs.Taking.{PartOf}
-use Rattle.ocfl_scrub.specs.Written.{places, last_of, StopsWithin}
-use Rattle.ocfl_scrub.specs.Running.{items_above_in}
+use Rattle.ocfl_scrub.specs.{Call.{call_of}, Taking.{PartOf}}
+use Rattle.ocfl_scrub.specs.{Written.{places, last_of, StopsWithin}, Running.{items_above_in}}
 use Rattle.ocfl_scrub.specs.Starting.{items_in, end_of, entry, stand, looked_in, read_in, LooksOver, StopsLooking}
-use Rattle.ocfl_scrub.proofs.PartStarts.{above_in, due_starts, looked_all, read_all}
-use Rattle.ocfl_scrub.proofs.Passing.{due_in, Finishes, Halts}
-use Rattle.ocfl_scrub.proofs.LookLaws.{looks_over, stops_looking, stops_above}
-use Rattle.ocfl_scrub.proofs.WayListed.{halted_lie, taken_lie}
 use Rattle.ocfl_scrub.specs.WholeAudit.{AuditsWithin, AuditStopsWithin, AuditEndsWithin}
 use Rattle.ocfl_scrub.specs.declared.checking.AuditStatus.{AuditStatus}
 use Rattle.ocfl_scrub.specs.declared.checking.AuditStatus.TheVariants.{Ended, Stopped}
-use Rattle.ocfl_scrub.proofs.AuditsJoined.{items_append}
+use Rattle.ocfl_scrub.proofs.PartStarts.{above_in, due_starts, looked_all, read_all}
+use Rattle.ocfl_scrub.proofs.Passing.{due_in, Finishes, Halts}
+use Rattle.ocfl_scrub.proofs.LookLaws.{looks_over, stops_looking, stops_above}
+use Rattle.ocfl_scrub.proofs.{WayListed.{halted_lie, taken_lie}, AuditsJoined.{items_append}}
 use Rattle.ocfl_scrub.proofs.TakeLaws.{nothing_of}
 
 pub due_all : (root : StorageRoot) → due root None ≡ item_places root

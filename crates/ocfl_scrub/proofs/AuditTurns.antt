@@ -1,26 +1,17 @@
 -- One turn of the loop of an audit of a part.
 use Rattle.std.proofs.Common.{◌≡◌, ℕ, List, refl, sym, ◌∙◌, ap, subst, false, Bool, Some, None, Option}
 use Rattle.std.specs.Prelude.{◌||◌, IfSome}
-use Rattle.ocfl_tree.specs.Place.{Place}
-use Rattle.ocfl_tree.specs.StorageRoot.{StorageRoot}
-use Rattle.ocfl_tree.specs.Store.{Store}
+use Rattle.ocfl_tree.specs.{Place.{Place}, StorageRoot.{StorageRoot}, Store.{Store}}
 use Rattle.ocfl_audit.specs.Parts.{Part}
-use Rattle.ocfl_walk.specs.Ends.{is_past}
-use Rattle.ocfl_walk.specs.WalkCalls.{GoesDown, FailsOut}
-use Rattle.ocfl_item.specs.Pending.{IsPending}
-use Rattle.ocfl_walk.specs.Walks.{IsLive, Stands, GivesOut}
-use Rattle.ocfl_item.specs.Ways.{IsWayFault}
-use Rattle.ocfl_item.specs.declared.fault.Fault.{Fault}
+use Rattle.ocfl_walk.specs.{Ends.{is_past}, WalkCalls.{GoesDown, FailsOut}}
+use Rattle.ocfl_walk.specs.{Walks.{IsLive, Stands, GivesOut}, declared.walk.Walk.{Walk}}
+use Rattle.ocfl_item.specs.{Pending.{IsPending}, Ways.{IsWayFault}, declared.fault.Fault.{Fault}}
 use Rattle.ocfl_item.specs.declared.pending.Pending.{Pending}
-use Rattle.ocfl_walk.specs.declared.walk.Walk.{Walk}
-use Rattle.ocfl_scrub.specs.Call.{call_of}
-use Rattle.ocfl_scrub.specs.Starting.{end_of, entry, stand}
-use Rattle.ocfl_scrub.specs.Taking.{Takes, Misses}
-use Rattle.ocfl_scrub.specs.WholeAudit.{AuditsWithin, AuditStopsWithin}
+use Rattle.ocfl_scrub.specs.{Call.{call_of}, Starting.{end_of, entry, stand}}
+use Rattle.ocfl_scrub.specs.{Taking.{Takes, Misses}, WholeAudit.{AuditsWithin, AuditStopsWithin}}
 use Rattle.ocfl_scrub.specs.Written.{last_of}
 use Rattle.ocfl_scrub.proofs.AuditsJoined.{audits_over}
-use Rattle.ocfl_scrub.proofs.BetweenLaws.{HasGoneOn, gone_self, gone_next}
-use Rattle.ocfl_scrub.proofs.Passing.{Passes}
+use Rattle.ocfl_scrub.proofs.{BetweenLaws.{HasGoneOn, gone_self, gone_next}, Passing.{Passes}}
 use Rattle.ocfl_scrub.proofs.AuditLaws.{finish_part, halt_part}
 use Rattle.ocfl_scrub.proofs.PassLaws.{passes_none, passes_over, passes_took, passes_missed, passes_lost, passes_finish, all_done, last_append}
 use Rattle.ocfl_scrub.proofs.LoopLaws.{IsUnderWay, GivesNext, GivesItem, gives_item, walked_over}

@@ -1,19 +1,14 @@
 -- Audits one after the other.
 use Rattle.std.proofs.Common.{◌≡◌, inl, inr, ℕ, List, [], ◌∷◌, ◌++◌, refl, sym, ◌∙◌, ap, subst, true, false, Bool, map, filter, Some, None}
-use Rattle.std.specs.Prelude.{cond}
-use Rattle.std.specs.Ordering.{is_eq}
-use Rattle.std.specs.declared.cmp.Ordering.{Ordering}
-use Rattle.std.specs.declared.cmp.Ordering.TheVariants.{Less, Equal, Greater}
 use Rattle.std.proofs.lemmas.List.{map-append}
-use Rattle.ocfl_tree.specs.Place.{Place, place_cmp, place_eq}
-use Rattle.ocfl_tree.specs.Ascending.{IsAscending, IsAmong}
-use Rattle.ocfl_tree.specs.StorageRoot.{StorageRoot}
-use Rattle.ocfl_tree.specs.Store.{Store}
+use Rattle.std.specs.{Prelude.{cond}, Ordering.{is_eq}, declared.cmp.Ordering.{Ordering}}
+use Rattle.std.specs.declared.cmp.Ordering.TheVariants.{Less, Equal, Greater}
+use Rattle.ocfl_tree.specs.{Place.{Place, place_cmp, place_eq}, Ascending.{IsAscending, IsAmong}}
+use Rattle.ocfl_tree.specs.{StorageRoot.{StorageRoot}, Store.{Store}}
 use Rattle.ocfl_tree.specs.declared.store.Opening.{Opening}
 use Rattle.ocfl_tree.proofs.Orders.{place_cmp_total, place_cmp_exact, not_below_itself, before_each, among_from_filter}
 use Rattle.ocfl_inventory.specs.Note.{lines_at}
-use Rattle.ocfl_audit.specs.Lines.{notes, cost, is_hashed}
-use Rattle.ocfl_audit.specs.Audit.{Unread, given_by, item_of}
+use Rattle.ocfl_audit.specs.{Lines.{notes, cost, is_hashed}, Audit.{Unread, given_by, item_of}}
 use Rattle.ocfl_audit.specs.Trail.{content_openings, content_trail, unread_of}
 use Rattle.ocfl_audit.specs.Due.{items_at, hashed_among}
 use Rattle.ocfl_item.specs.Auditing.{Audits}

@@ -1,19 +1,14 @@
 -- What is between two places, cut in two at the last one taken.
 use Rattle.std.proofs.Common.{◌≡◌, ◌⊎◌, inl, inr, List, [], ◌++◌, refl, sym, ◌∙◌, ap, subst, false, Option, Some, None, append_assoc}
-use Rattle.std.specs.Ordering.{is_lt}
-use Rattle.std.specs.declared.cmp.Ordering.TheVariants.{Less}
-use Rattle.ocfl_tree.specs.Place.{Place, place_cmp}
-use Rattle.ocfl_tree.specs.StorageRoot.{StorageRoot}
+use Rattle.std.specs.{Ordering.{is_lt}, declared.cmp.Ordering.TheVariants.{Less}}
+use Rattle.ocfl_tree.specs.{Place.{Place, place_cmp}, StorageRoot.{StorageRoot}}
 use Rattle.ocfl_tree.proofs.Orders.{place_cmp_total}
 use Rattle.ocfl_audit.specs.Between.{IsBeyond, IsWithin, between, looked_between, read_between}
 use Rattle.ocfl_audit.proofs.BetweenLaws.{looked_on, read_on}
 use Rattle.ocfl_item.specs.Looking.{IsFront}
-use Rattle.ocfl_walk.specs.Ends.{is_past, before_end}
-use Rattle.ocfl_walk.specs.declared.end.End.{End}
-use Rattle.ocfl_walk.proofs.BeforeLaws.{not_below}
-use Rattle.ocfl_walk.proofs.EndLaws.{looked_out, read_out}
-use Rattle.ocfl_scrub.proofs.Passing.{up_to_last}
-use Rattle.ocfl_scrub.proofs.Lists.{filter_none}
+use Rattle.ocfl_walk.specs.{Ends.{is_past, before_end}, declared.end.End.{End}}
+use Rattle.ocfl_walk.proofs.{BeforeLaws.{not_below}, EndLaws.{looked_out, read_out}}
+use Rattle.ocfl_scrub.proofs.{Passing.{up_to_last}, Lists.{filter_none}}
 
 -- nothing was taken, or the last place taken is above the first and before the end
 abbrev pub HasGoneOn : End → Option Place → Option Place → Type 0

@@ -1,31 +1,24 @@
 -- Calls that hand the text of a part's cursor from one to the next are runs of that part.
 use Rattle.std.proofs.Common.{◌≡◌, ℕ, suc, ◌+◌, ◌≤◌, ◌/◌, List, [], ◌∷◌, ◌++◌, refl, sym, ◌∙◌, ap, subst, Some, None, Option, All, map, length, true, false, Bool, Vec, inl, inr, arith}
-use Rattle.std.specs.Prelude.{◌⊎◌, flat_map, option_map}
-use Rattle.std.specs.List.{AllByRecursion}
+use Rattle.std.specs.{Prelude.{◌⊎◌, flat_map, option_map}, List.{AllByRecursion}}
 use Rattle.std.specs.declared.alloc.Global.{Global}
-use Rattle.ocfl_tree.specs.Place.{Text}
-use Rattle.ocfl_tree.specs.StorageRoot.{StorageRoot}
-use Rattle.ocfl_tree.specs.Store.{Store}
+use Rattle.ocfl_tree.specs.{Place.{Text}, StorageRoot.{StorageRoot}, Store.{Store}}
 use Rattle.ocfl_report.specs.Text.{text}
-use Rattle.ocfl_audit.specs.Audit.{audit, total_cost}
-use Rattle.ocfl_audit.specs.Due.{item_places, hashed_among}
-use Rattle.ocfl_audit.specs.Parts.{within, places_within}
-use Rattle.ocfl_audit.specs.Runs.{total_files, IsAtLeast}
+use Rattle.ocfl_audit.specs.{Audit.{audit, total_cost}, Due.{item_places, hashed_among}}
+use Rattle.ocfl_audit.specs.{Parts.{within, places_within}, Runs.{total_files, IsAtLeast}}
 use Rattle.ocfl_audit.specs.Trail.{content_trail}
 use Rattle.ocfl_audit.proofs.PartLaws.{texts_join, hashed_join}
-use Rattle.ocfl_cursor.specs.Cursor.{Cursor, IsCursor}
-use Rattle.ocfl_cursor.specs.Part.{IsPartText, part_text}
+use Rattle.ocfl_cursor.specs.{Cursor.{Cursor, IsCursor}, Part.{IsPartText, part_text}}
 use Rattle.ocfl_cursor.specs.declared.ends.PartEnds.{PartEnds}
 use Rattle.ocfl_cursor.specs.declared.part_reading.PartCursorStop.{PartCursorStop}
-use Rattle.ocfl_cursor.specs.declared.part_reading.PartCursorStop.TheVariants as stop
 use Rattle.ocfl_cursor.specs.declared.refused.PartRefused.{PartRefused}
+use Rattle.ocfl_cursor.specs.declared.part_reading.PartCursorStop.TheVariants as stop
 use Rattle.ocfl_cursor.specs.declared.refused.PartRefused.TheVariants as refused
 use Rattle.ocfl_cursor.proofs.PartTexts.{part_text_determines}
 use Rattle.ocfl_item.specs.declared.fault.Fault.{Fault}
 use Rattle.ocfl_item.specs.declared.fault.Fault.TheVariants as fault
 use Rattle.ocfl_deed.specs.declared.deed.Deed.{Deed}
-use Rattle.ocfl_scope.specs.Numbered.{AreAllFrom, part_between}
-use Rattle.ocfl_scope.specs.declared.scope.Scope.{Scope}
+use Rattle.ocfl_scope.specs.{Numbered.{AreAllFrom, part_between}, declared.scope.Scope.{Scope}}
 use Rattle.ocfl_scope.proofs.NumberedLaws.{all_parts}
 use Rattle.ocfl_scrub.specs.Call.{call_of, known_call}
 use Rattle.ocfl_scrub.specs.Handing.{PartCall, CalledWell, SaysMade, AreCalls, BeginsCycle, CalledCycle, IsCalledCycle, bytes_stored, content_opened, handed_by, limits_given, stored_after, written_by}
@@ -34,11 +27,10 @@ use Rattle.ocfl_scrub.specs.Noting.{IsPartRefusedNote, IsRunNote, IsStopNote, Is
 use Rattle.ocfl_scrub.specs.Performing.{RunMade, RunUnmade}
 use Rattle.ocfl_scrub.specs.Running.{limits_of, place_in, state_after}
 use Rattle.ocfl_scrub.specs.Scoping.{BeginsPartWith, IsPartUnreadNote, PerformsIn, WhyNoPartRun}
-use Rattle.ocfl_scrub.specs.declared.note.Note.{Note}
-use Rattle.ocfl_scrub.specs.declared.note.Note.TheVariants as note
-use Rattle.ocfl_scrub.specs.declared.performing.Performed.{Performed}
+use Rattle.ocfl_scrub.specs.{declared.note.Note.{Note}, declared.performing.Performed.{Performed}}
 use Rattle.ocfl_scrub.specs.declared.running.RunEnd.{RunEnd}
 use Rattle.ocfl_scrub.specs.declared.running.RunStatus.{RunStatus}
+use Rattle.ocfl_scrub.specs.declared.note.Note.TheVariants as note
 use Rattle.ocfl_scrub.specs.declared.running.RunStatus.TheVariants as run
 use Rattle.ocfl_scrub.proofs.JoinLaws.{part_opened, part_reports, part_runs}
 

@@ -1,19 +1,14 @@
 -- Calls that hand the text of a part's cursor from one to the next are runs of one cycle of that part,
 -- whatever failed in them.
 use Rattle.std.proofs.Common.{◌≡◌, ◌≢◌, inl, inr, ℕ, ◌+◌, ◌≤◌, ◌/◌, List, [], ◌∷◌, ◌++◌, refl, sym, ◌∙◌, ap, subst, Some, None, Option, All, map, true, Bool, Vec}
-use Rattle.std.specs.Prelude.{◌⊎◌, IsNone, IsSome, flat_map, option_map}
-use Rattle.std.specs.List.{AllByRecursion}
+use Rattle.std.specs.{Prelude.{◌⊎◌, IsNone, IsSome, flat_map, option_map}, List.{AllByRecursion}}
 use Rattle.std.specs.declared.alloc.Global.{Global}
-use Rattle.ocfl_tree.specs.Place.{Text}
-use Rattle.ocfl_tree.specs.StorageRoot.{StorageRoot}
-use Rattle.ocfl_tree.specs.Store.{Store}
+use Rattle.ocfl_tree.specs.{Place.{Text}, StorageRoot.{StorageRoot}, Store.{Store}}
 use Rattle.ocfl_tree.specs.declared.store.Opening.{Opening}
 use Rattle.ocfl_report.specs.Text.{text}
-use Rattle.ocfl_audit.specs.Audit.{Unread, audit, total_cost}
-use Rattle.ocfl_audit.specs.Parts.{Part, within}
+use Rattle.ocfl_audit.specs.{Audit.{Unread, audit, total_cost}, Parts.{Part, within}}
 use Rattle.ocfl_audit.specs.Runs.{total_files, IsAtLeast}
-use Rattle.ocfl_cursor.specs.Cursor.{Cursor, IsCursor, ended}
-use Rattle.ocfl_cursor.specs.Part.{IsPartText, part_text}
+use Rattle.ocfl_cursor.specs.{Cursor.{Cursor, IsCursor, ended}, Part.{IsPartText, part_text}}
 use Rattle.ocfl_cursor.specs.declared.ends.PartEnds.{PartEnds}
 use Rattle.ocfl_cursor.specs.declared.limits.Limits.{Limits as MadeLimits}
 use Rattle.ocfl_cursor.proofs.PartTexts.{part_text_determines}
@@ -25,15 +20,13 @@ use Rattle.ocfl_scope.proofs.NumberedLaws.{all_parts}
 use Rattle.ocfl_scrub.specs.Call.{known_call}
 use Rattle.ocfl_scrub.specs.Handing.{SaysMade, BeginsCycle, bytes_stored, handed_by, MadeCall, run_in, HasRun, MadeFrom, AreMadeCalls, SayEnded, stored_last, runs_made, MadeCycle, IsMadeCycle}
 use Rattle.ocfl_scrub.specs.Joining.{AreOneCycle, IsWholeCycle, PartCycle, Ran, cursor_after, items_out, left_by, reports_of, unread_together, unstopped}
-use Rattle.ocfl_scrub.specs.Noting.{IsRunNote, IsStoredNote}
-use Rattle.ocfl_scrub.specs.Performing.{RunMade, RunUnmade}
+use Rattle.ocfl_scrub.specs.{Noting.{IsRunNote, IsStoredNote}, Performing.{RunMade, RunUnmade}}
 use Rattle.ocfl_scrub.specs.Running.{limits_of, place_in, state_after}
 use Rattle.ocfl_scrub.specs.Scoping.{BeginsPartWith, PartRunPerformed, PerformsIn, WhyNoPartRun}
-use Rattle.ocfl_scrub.specs.declared.note.Note.{Note}
-use Rattle.ocfl_scrub.specs.declared.note.Note.TheVariants as note
-use Rattle.ocfl_scrub.specs.declared.performing.Performed.{Performed}
+use Rattle.ocfl_scrub.specs.{declared.note.Note.{Note}, declared.performing.Performed.{Performed}}
 use Rattle.ocfl_scrub.specs.declared.running.RunEnd.{RunEnd}
 use Rattle.ocfl_scrub.specs.declared.running.RunStatus.{RunStatus}
+use Rattle.ocfl_scrub.specs.declared.note.Note.TheVariants as note
 use Rattle.ocfl_scrub.specs.declared.running.RunStatus.TheVariants as run
 use Rattle.ocfl_scrub.proofs.CallsJoined.{fresh, ran_says}
 use Rattle.ocfl_scrub.proofs.CycleRuns.{parts_reports, report_at, reports_and_rest, reports_whole, runs_few}

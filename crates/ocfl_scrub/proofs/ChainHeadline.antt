@@ -1,15 +1,10 @@
 -- The headline of a cycle by its runs: if no failure was counted, each starts a file only below
 -- its limits.
 use Rattle.std.proofs.Common.{◌≡◌, ◌⊎◌, inl, inr, ℕ, zero, suc, ◌+◌, ◌<◌, ◌≤◌, List, [], ◌∷◌, sym, ◌∙◌, ap, subst, true, false, Bool, Some, None, Option, take, length, arith}
-use Rattle.std.specs.Prelude.{slice_get}
-use Rattle.std.specs.Io.KnownBytes.{Appends}
-use Rattle.ocfl_tree.specs.Place.{Place}
-use Rattle.ocfl_tree.specs.StorageRoot.{StorageRoot}
-use Rattle.ocfl_tree.specs.Store.{Store}
-use Rattle.ocfl_report.specs.Line.{Item}
-use Rattle.ocfl_report.specs.Text.{text}
-use Rattle.ocfl_audit.specs.Audit.{audit, after, total_cost}
-use Rattle.ocfl_audit.specs.Due.{hashed_among}
+use Rattle.std.specs.{Prelude.{slice_get}, Io.KnownBytes.{Appends}}
+use Rattle.ocfl_tree.specs.{Place.{Place}, StorageRoot.{StorageRoot}, Store.{Store}}
+use Rattle.ocfl_report.specs.{Line.{Item}, Text.{text}}
+use Rattle.ocfl_audit.specs.{Audit.{audit, after, total_cost}, Due.{hashed_among}}
 use Rattle.ocfl_audit.specs.Parts.{Part, whole, within}
 use Rattle.ocfl_audit.specs.Runs.{Limits, files_of, total_files, StaysWithin, cut, left, runs, runs_after}
 use Rattle.ocfl_audit.specs.Trail.{unread_of}
@@ -18,23 +13,18 @@ use Rattle.ocfl_scrub.specs.Call.{Call, call_of, IsUnfailing}
 use Rattle.ocfl_scrub.specs.Chaining.{MadeRun, IsMadeOf, CycleOfRunsWithin, CycleOfRuns}
 use Rattle.ocfl_scrub.specs.Cycling.{StartsBelow, EachStartsBelow, HeadlineOf, HeadlineOfPart}
 use Rattle.ocfl_scrub.specs.Running.{first_of, place_in, state_after, RunsWithin, RunEndsWithin, RunsFromWithin}
-use Rattle.ocfl_scrub.specs.Together.{CyclesToWithin}
-use Rattle.ocfl_scrub.specs.Written.{places, last_of}
+use Rattle.ocfl_scrub.specs.{Together.{CyclesToWithin}, Written.{places, last_of}}
 use Rattle.ocfl_scrub.specs.declared.cycling.CycleEnd.{CycleEnd}
 use Rattle.ocfl_scrub.specs.declared.cycling.CycleStatus.{CycleStatus}
-use Rattle.ocfl_scrub.specs.declared.cycling.CycleStatus.TheVariants as cycle
 use Rattle.ocfl_scrub.specs.declared.running.RunStatus.{RunStatus}
+use Rattle.ocfl_scrub.specs.declared.cycling.CycleStatus.TheVariants as cycle
 use Rattle.ocfl_scrub.specs.declared.running.RunStatus.TheVariants as run
 use Rattle.ocfl_scrub.proofs.AuditLaws.{none_left}
 use Rattle.ocfl_scrub.proofs.ChainParts.{calls_of, AreMade, AreSpent, last_end, LastEnds, Apart, apart}
 use Rattle.ocfl_scrub.proofs.ChainLaws.{given, place_there, spent_not_ended, counted, together}
-use Rattle.ocfl_scrub.proofs.CutLaws.{cut_and_left, taken_test}
-use Rattle.ocfl_scrub.proofs.CycleEndLaws.{part_headline}
-use Rattle.ocfl_scrub.proofs.JoinLaws.{some_first}
-use Rattle.ocfl_scrub.proofs.PartLaws.{cut_paid}
-use Rattle.ocfl_scrub.proofs.Paying.{Paid}
-use Rattle.ocfl_scrub.proofs.RunLaws.{no_first}
-use Rattle.ocfl_scrub.proofs.RunPlaces.{after_front}
+use Rattle.ocfl_scrub.proofs.{CutLaws.{cut_and_left, taken_test}, CycleEndLaws.{part_headline}}
+use Rattle.ocfl_scrub.proofs.{JoinLaws.{some_first}, PartLaws.{cut_paid}, Paying.{Paid}}
+use Rattle.ocfl_scrub.proofs.{RunLaws.{no_first}, RunPlaces.{after_front}}
 use Rattle.ocfl_scrub.proofs.RunsJoined.{runs_go_on, runs_end}
 
 -- ---- what is paid for stays within the limits

@@ -1,32 +1,22 @@
 -- What the runs of a chain do together.
 use Rattle.std.proofs.Common.{◌≡◌, ◌⊎◌, inl, inr, ℕ, suc, ◌+◌, ◌≤◌, List, [], ◌∷◌, ◌++◌, refl, sym, ◌∙◌, ap, subst, true, false, Bool, Some, None, Option, map, length, arith}
-use Rattle.std.specs.Prelude.{◌||◌}
-use Rattle.std.specs.List.{list_any}
-use Rattle.ocfl_tree.specs.Place.{Place}
-use Rattle.ocfl_tree.specs.StorageRoot.{StorageRoot}
-use Rattle.ocfl_tree.specs.Store.{Store}
-use Rattle.ocfl_audit.specs.Lines.{is_empty}
-use Rattle.ocfl_audit.specs.Parts.{Part}
-use Rattle.ocfl_audit.specs.Runs.{Limits}
-use Rattle.ocfl_cursor.specs.Cursor.{State, Cursor, new_cursor}
-use Rattle.ocfl_cursor.specs.Moves.{after_run}
-use Rattle.ocfl_item.specs.declared.fault.Fault.{Fault}
-use Rattle.ocfl_item.specs.declared.fault.Fault.TheVariants.{Memory}
+use Rattle.std.specs.{Prelude.{◌||◌}, List.{list_any}}
+use Rattle.ocfl_tree.specs.{Place.{Place}, StorageRoot.{StorageRoot}, Store.{Store}}
+use Rattle.ocfl_audit.specs.{Lines.{is_empty}, Parts.{Part}, Runs.{Limits}}
+use Rattle.ocfl_cursor.specs.{Cursor.{State, Cursor, new_cursor}, Moves.{after_run}}
+use Rattle.ocfl_item.specs.{declared.fault.Fault.{Fault}, declared.fault.Fault.TheVariants.{Memory}}
 use Rattle.ocfl_scrub.specs.Call.{Call, call_of}
 use Rattle.ocfl_scrub.specs.Running.{place_in, state_at, state_after, begun_in, RunEndsWithin, RunsFromWithin}
-use Rattle.ocfl_scrub.specs.Starting.{due_within}
-use Rattle.ocfl_scrub.specs.Chaining.{MadeRun, IsMadeOf, CycleOfRunsWithin}
+use Rattle.ocfl_scrub.specs.{Starting.{due_within}, Chaining.{MadeRun, IsMadeOf, CycleOfRunsWithin}}
 use Rattle.ocfl_scrub.specs.Together.{CyclesToWithin, cycle_state, cycle_cursor}
 use Rattle.ocfl_scrub.specs.declared.running.RunStatus.{RunStatus}
-use Rattle.ocfl_scrub.specs.declared.running.RunStatus.TheVariants as run
 use Rattle.ocfl_scrub.specs.declared.cycling.CycleEnd.{CycleEnd}
 use Rattle.ocfl_scrub.specs.declared.cycling.CycleStatus.{CycleStatus}
+use Rattle.ocfl_scrub.specs.declared.running.RunStatus.TheVariants as run
 use Rattle.ocfl_scrub.specs.declared.cycling.CycleStatus.TheVariants as cycle
-use Rattle.ocfl_scrub.proofs.TakeLaws.{or_none}
-use Rattle.ocfl_scrub.proofs.RunPlaces.{Turn, turn_of}
+use Rattle.ocfl_scrub.proofs.{TakeLaws.{or_none}, RunPlaces.{Turn, turn_of}}
 use Rattle.ocfl_scrub.proofs.RunsJoined.{PartsEnd, parts_none, parts_unbegun, parts_ended, parts_stopped, next_some, ends_then}
-use Rattle.ocfl_scrub.proofs.CycleEndLaws.{cycles, cycle_stops, cycles_none}
-use Rattle.ocfl_scrub.proofs.ChainRuns.{run_over}
+use Rattle.ocfl_scrub.proofs.{CycleEndLaws.{cycles, cycle_stops, cycles_none}, ChainRuns.{run_over}}
 use Rattle.ocfl_scrub.proofs.ChainParts.{calls_of, AreMade, AreSpent, last_end, last_cursor, LastEnds, apart}
 
 -- ---- cursors

@@ -1,30 +1,22 @@
 -- What each run of a cycle lists and reads.
 use Rattle.std.proofs.Common.{◌≡◌, inl, inr, ℕ, suc, ◌+◌, ◌≤◌, List, [], ◌∷◌, ◌++◌, refl, sym, ◌∙◌, ap, subst, Bool, Option, append-nil, append_assoc, filter, length, length-append, arith}
-use Rattle.std.specs.Prelude.{flat_map}
-use Rattle.std.specs.List.{AllByRecursion}
 use Rattle.std.proofs.lemmas.List.{length-map}
-use Rattle.ocfl_tree.specs.Place.{Place, place_cmp}
-use Rattle.ocfl_tree.specs.Ascending.{IsBeforeAll, IsAscending}
-use Rattle.ocfl_tree.specs.StorageRoot.{StorageRoot}
-use Rattle.ocfl_tree.specs.Store.{Store}
+use Rattle.std.specs.{Prelude.{flat_map}, List.{AllByRecursion}}
+use Rattle.ocfl_tree.specs.{Place.{Place, place_cmp}, Ascending.{IsBeforeAll, IsAscending}}
+use Rattle.ocfl_tree.specs.{StorageRoot.{StorageRoot}, Store.{Store}}
 use Rattle.ocfl_tree.specs.declared.store.Opening.{Opening}
-use Rattle.ocfl_audit.specs.Lines.{is_empty}
-use Rattle.ocfl_audit.specs.Parts.{Part}
-use Rattle.ocfl_audit.specs.Runs.{Limits}
-use Rattle.ocfl_audit.specs.Trail.{heads_of}
+use Rattle.ocfl_audit.specs.{Lines.{is_empty}, Parts.{Part}, Runs.{Limits}, Trail.{heads_of}}
 use Rattle.ocfl_audit.proofs.Trails.{filter_append}
 use Rattle.ocfl_cursor.specs.Cursor.{Cursor, new_cursor}
-use Rattle.ocfl_scrub.specs.Call.{Call, call_of}
-use Rattle.ocfl_item.specs.Auditing.{FailedAt}
-use Rattle.ocfl_item.specs.declared.fault.Fault.TheVariants.{Memory, Store as AtStore}
-use Rattle.ocfl_scrub.specs.Chaining.{MadeRun, IsMadeOf, CycleOfRunsWithin}
+use Rattle.ocfl_scrub.specs.{Call.{Call, call_of}, Chaining.{MadeRun, IsMadeOf, CycleOfRunsWithin}}
 use Rattle.ocfl_scrub.specs.Running.{place_in, RunEndsWithin}
 use Rattle.ocfl_scrub.specs.declared.cycling.CycleEnd.{CycleEnd}
-use Rattle.ocfl_scrub.specs.declared.cycling.CycleStatus.TheVariants as cycle
 use Rattle.ocfl_scrub.specs.declared.running.RunStatus.{RunStatus}
+use Rattle.ocfl_item.specs.Auditing.{FailedAt}
+use Rattle.ocfl_item.specs.declared.fault.Fault.TheVariants.{Memory, Store as AtStore}
+use Rattle.ocfl_scrub.specs.declared.cycling.CycleStatus.TheVariants as cycle
 use Rattle.ocfl_scrub.specs.declared.running.RunStatus.TheVariants as run
-use Rattle.ocfl_scrub.proofs.ChainHeadline.{now}
-use Rattle.ocfl_scrub.proofs.ChainLaws.{spent_not_stopped}
+use Rattle.ocfl_scrub.proofs.{ChainHeadline.{now}, ChainLaws.{spent_not_stopped}}
 use Rattle.ocfl_scrub.proofs.LooksOnce.{run_lists_once, run_reads_once}
 use Rattle.ocfl_scrub.proofs.ChainParts.{calls_of, AreMade, last_end, LastEnds, Apart, apart}
 

@@ -1,17 +1,14 @@
 -- A cycle's chain of runs taken apart: its runs one by one, the calls that they were, where they ended.
 use Rattle.std.proofs.Common.{◌≡◌, List, [], ◌∷◌, ◌++◌, refl, map, length, sym, subst}
-use Rattle.std.specs.Prelude.{⊤}
-use Rattle.std.specs.List.{list_any}
-use Rattle.ocfl_audit.specs.Parts.{Part}
-use Rattle.ocfl_audit.specs.Runs.{Limits}
+use Rattle.std.specs.{Prelude.{⊤}, List.{list_any}}
+use Rattle.ocfl_audit.specs.{Parts.{Part}, Runs.{Limits}}
 use Rattle.ocfl_cursor.specs.Cursor.{Cursor, new_cursor}
 use Rattle.ocfl_scrub.specs.Call.{Call, call_of}
 use Rattle.ocfl_scrub.specs.Chaining.{MadeRun, AreChained, IsMadeOf, ChainEnds, CycleOfRunsWithin}
-use Rattle.ocfl_scrub.specs.Running.{RunsFromWithin}
-use Rattle.ocfl_scrub.specs.declared.running.RunStatus.{RunStatus}
-use Rattle.ocfl_scrub.specs.declared.running.RunStatus.TheVariants as run
+use Rattle.ocfl_scrub.specs.{Running.{RunsFromWithin}, declared.running.RunStatus.{RunStatus}}
 use Rattle.ocfl_scrub.specs.declared.cycling.CycleEnd.{CycleEnd}
 use Rattle.ocfl_scrub.specs.declared.cycling.CycleStatus.{CycleStatus}
+use Rattle.ocfl_scrub.specs.declared.running.RunStatus.TheVariants as run
 
 abbrev pub calls_of : List MadeRun → List Call
 calls_of runs = map (λ r. r.call) runs

@@ -1,25 +1,18 @@
 -- A chain of runs grows by one run.
 use Rattle.std.proofs.Common.{◌≡◌, inl, inr, ℕ, ◌≤◌, ◌+◌, List, [], ◌∷◌, ◌++◌, refl, sym, ◌∙◌, ap, ap₂, subst, false, Bool, Option, map, length, length-append, append_assoc, arith}
-use Rattle.std.specs.Prelude.{◌||◌}
-use Rattle.std.specs.List.{AllByRecursion, list_any}
-use Rattle.std.proofs.lemmas.List.Folds.{list_any-append}
-use Rattle.std.proofs.lemmas.List.{map-append}
-use Rattle.ocfl_tree.specs.Place.{Place}
-use Rattle.ocfl_tree.specs.StorageRoot.{StorageRoot}
-use Rattle.ocfl_tree.specs.Store.{Store}
-use Rattle.ocfl_audit.specs.Parts.{Part}
-use Rattle.ocfl_audit.specs.Runs.{Limits}
+use Rattle.std.proofs.{lemmas.List.Folds.{list_any-append}, lemmas.List.{map-append}}
+use Rattle.std.specs.{Prelude.{◌||◌}, List.{AllByRecursion, list_any}}
+use Rattle.ocfl_tree.specs.{Place.{Place}, StorageRoot.{StorageRoot}, Store.{Store}}
+use Rattle.ocfl_audit.specs.{Parts.{Part}, Runs.{Limits}}
 use Rattle.ocfl_cursor.specs.Cursor.{Cursor, new_cursor}
-use Rattle.ocfl_item.specs.declared.fault.Fault.{Fault}
-use Rattle.ocfl_item.specs.declared.fault.Fault.TheVariants.{Memory}
-use Rattle.ocfl_scrub.specs.Call.{Call, call_of}
-use Rattle.ocfl_scrub.specs.Running.{RunEndsWithin, RunsFromWithin}
+use Rattle.ocfl_item.specs.{declared.fault.Fault.{Fault}, declared.fault.Fault.TheVariants.{Memory}}
+use Rattle.ocfl_scrub.specs.{Call.{Call, call_of}, Running.{RunEndsWithin, RunsFromWithin}}
 use Rattle.ocfl_scrub.specs.Chaining.{MadeRun, IsMadeOf, CycleOfRunsWithin}
 use Rattle.ocfl_scrub.specs.declared.running.RunEnd.{RunEnd}
 use Rattle.ocfl_scrub.specs.declared.running.RunStatus.{RunStatus}
-use Rattle.ocfl_scrub.specs.declared.running.RunStatus.TheVariants as run
 use Rattle.ocfl_scrub.specs.declared.cycling.CycleEnd.{CycleEnd}
 use Rattle.ocfl_scrub.specs.declared.cycling.CycleStatus.{CycleStatus}
+use Rattle.ocfl_scrub.specs.declared.running.RunStatus.TheVariants as run
 use Rattle.ocfl_scrub.specs.declared.cycling.CycleStatus.TheVariants as cycle
 use Rattle.ocfl_scrub.proofs.AuditsJoined.{audits_over}
 use Rattle.ocfl_scrub.proofs.ChainParts.{calls_of, AreMade, AreSpent, last_end, last_cursor, LastEnds, put_together}

@@ -1,42 +1,30 @@
 -- A check, put together from the way down, and from what was judged and written.
 use Rattle.std.proofs.Common.{◌≡◌, ◌≢◌, ◌⊎◌, inl, inr, ℕ, List, [], ◌∷◌, ◌++◌, refl, sym, ◌∙◌, ap, subst, true, false, Bool, Option, Some, None, append-nil, not}
-use Rattle.std.specs.Prelude.{cond}
-use Rattle.std.specs.Io.KnownBytes.{Appends}
-use Rattle.std.proofs.KnownBytes.{Appends-nil}
-use Rattle.std.proofs.lemmas.List.Quantifiers.{all_pairs_push}
-use Rattle.ocfl_tree.specs.Place.{Place}
-use Rattle.ocfl_tree.specs.StorageRoot.{StorageRoot}
-use Rattle.ocfl_tree.specs.Store.{Store}
+use Rattle.std.proofs.{KnownBytes.{Appends-nil}, lemmas.List.Quantifiers.{all_pairs_push}}
+use Rattle.std.specs.{Prelude.{cond}, Io.KnownBytes.{Appends}}
+use Rattle.ocfl_tree.specs.{Place.{Place}, StorageRoot.{StorageRoot}, Store.{Store}}
 use Rattle.ocfl_tree.specs.declared.store.Opening.{Opening}
 use Rattle.ocfl_tree.proofs.Orders.{true_not_false}
-use Rattle.ocfl_report.specs.Line.{found}
+use Rattle.ocfl_report.specs.{Line.{found}, Text.{text}}
 use Rattle.ocfl_inventory.specs.Note.{lines_at}
-use Rattle.ocfl_report.specs.Text.{text}
-use Rattle.ocfl_audit.specs.Head.{on}
-use Rattle.ocfl_audit.specs.Lines.{is_empty, notes, is_hashed}
+use Rattle.ocfl_audit.specs.{Head.{on}, Lines.{is_empty, notes, is_hashed}}
 use Rattle.ocfl_audit.specs.Audit.{Unread, given_by, item_of, has_lines}
 use Rattle.ocfl_audit.specs.Trail.{is_meta, places_of, content_trail, unread_of}
 use Rattle.ocfl_audit.specs.Due.{hashed_among, items_at}
-use Rattle.ocfl_audit.proofs.AuditExists.{lines_from_notes}
-use Rattle.ocfl_audit.proofs.DueLaws.{lines_alike}
+use Rattle.ocfl_audit.proofs.{AuditExists.{lines_from_notes}, DueLaws.{lines_alike}}
 use Rattle.ocfl_audit.proofs.PathLaws.{hashed_lines, hashed_no_meta}
 use Rattle.ocfl_audit.proofs.Trails.{unread_behind, all_meta, meta_at}
-use Rattle.ocfl_item.specs.Ways.{IsWayFault}
-use Rattle.ocfl_item.specs.Auditing.{Audits, Fails}
-use Rattle.ocfl_walk.specs.WalkCalls.{GoesDown, GoDownFails}
-use Rattle.ocfl_item.specs.Pending.{IsPending}
-use Rattle.ocfl_item.specs.Meeting.{IsItemAt}
-use Rattle.ocfl_item.specs.declared.fault.Fault.{Fault}
+use Rattle.ocfl_item.specs.{Ways.{IsWayFault}, Auditing.{Audits, Fails}, Pending.{IsPending}}
+use Rattle.ocfl_item.specs.{Meeting.{IsItemAt}, declared.fault.Fault.{Fault}}
 use Rattle.ocfl_item.specs.declared.pending.Pending.{Pending}
-use Rattle.ocfl_scrub.specs.Call.{call_of}
-use Rattle.ocfl_scrub.specs.Taking.{PartOf, Takes, Misses}
+use Rattle.ocfl_walk.specs.WalkCalls.{GoesDown, GoDownFails}
+use Rattle.ocfl_scrub.specs.{Call.{call_of}, Taking.{PartOf, Takes, Misses}}
 use Rattle.ocfl_scrub.specs.Checking.{checked_item, AreOnce, IsJustFor, Checks, CheckStops, CheckEnds}
 use Rattle.ocfl_scrub.specs.declared.checking.AuditStatus.{AuditStatus}
 use Rattle.ocfl_scrub.specs.declared.checking.AuditStatus.TheVariants.{Stopped}
 use Rattle.ocfl_walk.proofs.FoundLaws.{none_hashed}
 use Rattle.ocfl_item.proofs.AuditingLaws.{audits_fail, audits_on}
-use Rattle.ocfl_scrub.proofs.TakeLaws.{nothing_of}
-use Rattle.ocfl_scrub.proofs.WayListed.{checked_lie, front_lies}
+use Rattle.ocfl_scrub.proofs.{TakeLaws.{nothing_of}, WayListed.{checked_lie, front_lies}}
 
 -- ---- the item of a place
 

@@ -1,15 +1,12 @@
 -- What is paid for is cut.
 use Rattle.std.proofs.Common.{◌≡◌, ℕ, zero, suc, ◌+◌, ◌<◌, ◌≤◌, List, [], ◌∷◌, ◌++◌, refl, sym, ◌∙◌, ap, subst, true, false, Bool, Some, None, Option, append-nil, length, take, drop, arith, eqb-true, ltb-true, ltb-false}
-use Rattle.std.proofs.lemmas.Bool.{eqb-false, lt-ltb}
-use Rattle.std.proofs.lemmas.List.{take-append-drop}
+use Rattle.std.proofs.{lemmas.Bool.{eqb-false, lt-ltb}, lemmas.List.{take-append-drop}}
 use Rattle.std.specs.Prelude.{if◌then◌else◌, cond, ◌==◌, ◌||◌, ◌&&◌, nat_lt}
-use Rattle.ocfl_tree.specs.Place.{Place}
-use Rattle.ocfl_tree.specs.StorageRoot.{StorageRoot, Leaf, file, dir, other}
+use Rattle.ocfl_tree.specs.{Place.{Place}, StorageRoot.{StorageRoot, Leaf, file, dir, other}}
 use Rattle.ocfl_tree.proofs.Bools.{and_first, and_second}
 use Rattle.ocfl_report.specs.Line.{Item}
 use Rattle.ocfl_inventory.specs.Table.{Named}
-use Rattle.ocfl_audit.specs.Zone.{seen}
-use Rattle.ocfl_audit.specs.Lines.{named_at, cost_of, cost, is_hashed}
+use Rattle.ocfl_audit.specs.{Zone.{seen}, Lines.{named_at, cost_of, cost, is_hashed}}
 use Rattle.ocfl_audit.specs.Audit.{total_cost}
 use Rattle.ocfl_audit.specs.Runs.{Limits, files_of, total_files, may_take, cut_len, cut, left}
 use Rattle.ocfl_scrub.proofs.Paying.{Paid}

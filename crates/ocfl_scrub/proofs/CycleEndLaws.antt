@@ -1,40 +1,26 @@
 -- A cycle over a part said of its audit alone, the headline, and the whole as one part.
 use Rattle.std.proofs.Common.{◌≡◌, ℕ, zero, suc, ◌+◌, ◌-◌, ◌<◌, ◌≤◌, List, [], ◌∷◌, ◌++◌, refl, sym, ◌∙◌, ap, subst, true, false, Bool, None, Option, append-nil, length, length-append, map, take, arith}
-use Rattle.std.proofs.lemmas.List.{length-map}
+use Rattle.std.proofs.{lemmas.List.{length-map}, KnownBytes.{Appends-nil}}
 use Rattle.std.specs.Io.KnownBytes.{Appends}
-use Rattle.std.proofs.KnownBytes.{Appends-nil}
 use Rattle.ocfl_tree.proofs.Orders.{true_not_false}
 use Rattle.ocfl_item.proofs.AuditingLaws.{audits_nothing}
-use Rattle.ocfl_tree.specs.Place.{Place}
-use Rattle.ocfl_tree.specs.StorageRoot.{StorageRoot}
-use Rattle.ocfl_tree.specs.Store.{Store}
+use Rattle.ocfl_tree.specs.{Place.{Place}, StorageRoot.{StorageRoot}, Store.{Store}}
 use Rattle.ocfl_tree.specs.declared.store.Opening.{Opening}
-use Rattle.ocfl_report.specs.Line.{Item}
-use Rattle.ocfl_report.specs.Text.{text}
-use Rattle.ocfl_audit.specs.Audit.{audit}
-use Rattle.ocfl_audit.specs.Zone.{inventory_name}
-use Rattle.ocfl_audit.specs.Lines.{is_empty}
-use Rattle.ocfl_audit.specs.Trail.{unread_of, inventories}
-use Rattle.ocfl_audit.specs.Due.{due, items_at, hashed_among}
-use Rattle.ocfl_audit.specs.Between.{read_between}
-use Rattle.ocfl_audit.specs.Runs.{Limits, runs, joined, sum_of}
+use Rattle.ocfl_report.specs.{Line.{Item}, Text.{text}}
+use Rattle.ocfl_audit.specs.{Audit.{audit}, Zone.{inventory_name}, Lines.{is_empty}}
+use Rattle.ocfl_audit.specs.{Trail.{unread_of, inventories}, Due.{due, items_at, hashed_among}}
+use Rattle.ocfl_audit.specs.{Between.{read_between}, Runs.{Limits, runs, joined, sum_of}}
+use Rattle.ocfl_audit.specs.Parts.{Part, whole, within}
 use Rattle.ocfl_audit.proofs.ObjectLaws.{inventories_read}
 use Rattle.ocfl_audit.proofs.RunLaws.{large_whole, large_few, limits_join, limits_few}
-use Rattle.ocfl_item.specs.Looking.{IsFront}
-use Rattle.ocfl_item.specs.Auditing.{Audits, Fails}
+use Rattle.ocfl_item.specs.{Looking.{IsFront}, Auditing.{Audits, Fails}}
 use Rattle.ocfl_item.specs.declared.fault.Fault.{Fault}
-use Rattle.ocfl_scrub.specs.Call.{Call, call_of}
-use Rattle.ocfl_scrub.specs.Written.{places, last_of, Figures}
-use Rattle.ocfl_audit.specs.Parts.{Part, whole, within}
-use Rattle.ocfl_scrub.specs.Starting.{items_in}
-use Rattle.ocfl_scrub.specs.Starting.{due_within}
-use Rattle.ocfl_scrub.specs.Chaining.{IsMadeOf}
+use Rattle.ocfl_scrub.specs.{Call.{Call, call_of}, Written.{places, last_of, Figures}}
+use Rattle.ocfl_scrub.specs.{Starting.{items_in, due_within}, Chaining.{IsMadeOf}}
 use Rattle.ocfl_scrub.specs.Cycling.{enough, EachStartsBelow, Headline}
 use Rattle.ocfl_scrub.specs.Together.{runs_in, all_in, inventories_in, CyclesWithin, CycleStopsWithin}
-use Rattle.ocfl_scrub.proofs.AuditLaws.{places_of_items, none_left}
-use Rattle.ocfl_scrub.proofs.NextLaws.{root_is_due}
-use Rattle.ocfl_scrub.proofs.PartStarts.{above_in}
-use Rattle.ocfl_scrub.proofs.RunsJoined.{Parts, PartsStop}
+use Rattle.ocfl_scrub.proofs.{AuditLaws.{places_of_items, none_left}, NextLaws.{root_is_due}}
+use Rattle.ocfl_scrub.proofs.{PartStarts.{above_in}, RunsJoined.{Parts, PartsStop}}
 
 -- ---- what is left
 

@@ -1,53 +1,41 @@
 -- Runs of one cycle, of which any may stop and meet files that it cannot read, take the audit with
 -- what they could not read.
 use Rattle.std.proofs.Common.{◌≡◌, ◌≢◌, ◌⊎◌, inl, inr, ℕ, suc, ◌+◌, ◌*◌, ◌/◌, ◌≤◌, List, [], ◌∷◌, ◌++◌, refl, sym, ◌∙◌, ap, subst, true, false, Bool, Some, None, Option, append-nil, append_assoc, All, map, filter, not, take, drop, length, suc-mul, arith, ltb-false}
-use Rattle.std.specs.Prelude.{cond, flat_map, ◌==◌, ◌||◌, ◌&&◌, nat_lt}
-use Rattle.std.specs.List.{AllByRecursion}
-use Rattle.std.specs.Ordering.{is_lt, is_eq}
-use Rattle.std.specs.declared.cmp.Ordering.{Ordering}
-use Rattle.std.specs.declared.cmp.Ordering.TheVariants.{Less, Equal, Greater}
 use Rattle.std.proofs.lemmas.List.{map-append, append_cancel_left, take-append-drop}
-use Rattle.std.proofs.lemmas.List.Elements.{All-head, All-tail}
-use Rattle.std.proofs.lemmas.Nat.{le-div}
+use Rattle.std.proofs.{lemmas.List.Elements.{All-head, All-tail}, lemmas.Nat.{le-div}}
+use Rattle.std.specs.{Prelude.{cond, flat_map, ◌==◌, ◌||◌, ◌&&◌, nat_lt}, List.{AllByRecursion}}
+use Rattle.std.specs.{Ordering.{is_lt, is_eq}, declared.cmp.Ordering.{Ordering}}
+use Rattle.std.specs.declared.cmp.Ordering.TheVariants.{Less, Equal, Greater}
 use Rattle.ocfl_tree.specs.Place.{Text, Place, place_cmp, place_eq}
-use Rattle.ocfl_tree.specs.Ascending.{IsAscending, IsAmong}
-use Rattle.ocfl_tree.specs.StorageRoot.{StorageRoot}
-use Rattle.ocfl_tree.specs.Store.{Store}
-use Rattle.ocfl_tree.specs.declared.store.Opening.{Opening}
+use Rattle.ocfl_tree.specs.{Ascending.{IsAscending, IsAmong}, StorageRoot.{StorageRoot}}
+use Rattle.ocfl_tree.specs.{Store.{Store}, declared.store.Opening.{Opening}}
 use Rattle.ocfl_tree.proofs.Orders.{place_cmp_total, place_cmp_exact, true_not_false, not_less, not_both_below, not_less_itself, before_each, among_from_filter, among_left, among_right}
 use Rattle.ocfl_tree.proofs.Stores.{among_either}
-use Rattle.ocfl_report.specs.Line.{Item}
-use Rattle.ocfl_report.specs.Text.{text}
+use Rattle.ocfl_report.specs.{Line.{Item}, Text.{text}}
 use Rattle.ocfl_audit.specs.Audit.{Unread, given_by, audit, after, item_of, total_cost}
 use Rattle.ocfl_audit.specs.Due.{item_places, due, items_at, hashed_among}
 use Rattle.ocfl_audit.specs.Parts.{Part, lies_in, within, places_within, parts_of, unread_in, together}
 use Rattle.ocfl_audit.specs.Runs.{Limits, total_files, may_take, IsAtLeast}
 use Rattle.ocfl_audit.specs.Trail.{content_trail, content_openings, unread_of}
-use Rattle.ocfl_audit.proofs.ApartLaws.{apart_texts, unread_is}
-use Rattle.ocfl_audit.proofs.DueLaws.{audit_by_places}
+use Rattle.ocfl_audit.proofs.{ApartLaws.{apart_texts, unread_is}, DueLaws.{audit_by_places}}
 use Rattle.ocfl_audit.proofs.Lists.{map_filter}
 use Rattle.ocfl_audit.proofs.PartLaws.{part_goes_on, within_is, places_within_is}
 use Rattle.ocfl_audit.proofs.RunLaws.{cost_append, files_append}
 use Rattle.ocfl_cursor.specs.Cursor.{State, start, behind, ended, Cursor}
-use Rattle.ocfl_item.specs.declared.fault.Fault.{Fault}
-use Rattle.ocfl_item.specs.declared.fault.Fault.TheVariants.{Output}
+use Rattle.ocfl_item.specs.{declared.fault.Fault.{Fault}, declared.fault.Fault.TheVariants.{Output}}
 use Rattle.ocfl_scrub.specs.Call.{Call, known_call}
 use Rattle.ocfl_scrub.specs.Joining.{PartRun, Ran, AreOneCycle, cursor_after, is_taken, left_by, unread_by, unread_together, is_stopped, unstopped, items_out, reports_of, PartCycle, IsWholeCycle}
 use Rattle.ocfl_scrub.specs.Running.{place_in, begun, begun_in, state_at, state_after, first_of, items_above_in, taken_in, rest_in, RunsWithin, RunStopsWithin, RunEndsWithin, RunsFromWithin}
-use Rattle.ocfl_scrub.specs.Starting.{due_within}
-use Rattle.ocfl_scrub.specs.Written.{places, last_of}
+use Rattle.ocfl_scrub.specs.{Starting.{due_within}, Written.{places, last_of}}
 use Rattle.ocfl_scrub.specs.declared.running.RunEnd.{RunEnd}
 use Rattle.ocfl_scrub.specs.declared.running.RunStatus.{RunStatus}
 use Rattle.ocfl_scrub.specs.declared.running.RunStatus.TheVariants as status
 use Rattle.ocfl_scrub.proofs.AuditLaws.{places_of_items}
 use Rattle.ocfl_scrub.proofs.AuditsJoined.{hashed_are_among, failed_among, given_none, given_left, given_right, not_after, items_agree, agree_all}
-use Rattle.ocfl_scrub.proofs.ChainLaws.{place_there}
-use Rattle.ocfl_scrub.proofs.CutLaws.{IsStop, cut_and_left}
-use Rattle.ocfl_scrub.proofs.Lists.{ascends_left}
-use Rattle.ocfl_scrub.proofs.PartStarts.{due_within_ascends}
+use Rattle.ocfl_scrub.proofs.{ChainLaws.{place_there}, CutLaws.{IsStop, cut_and_left}}
+use Rattle.ocfl_scrub.proofs.{Lists.{ascends_left}, PartStarts.{due_within_ascends}}
 use Rattle.ocfl_scrub.proofs.PassLaws.{text_append, among_beyond, last_among}
-use Rattle.ocfl_scrub.proofs.PartLaws.{cut_stops}
-use Rattle.ocfl_scrub.proofs.RunLaws.{no_first, no_part}
+use Rattle.ocfl_scrub.proofs.{PartLaws.{cut_stops}, RunLaws.{no_first, no_part}}
 use Rattle.ocfl_scrub.proofs.RunPlaces.{front_is, rest_is, due_parts}
 
 -- ---- what is given at a place that a test keeps

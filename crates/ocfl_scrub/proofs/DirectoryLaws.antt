@@ -1,17 +1,12 @@
 -- The directory of a hashed file is looked into.
 use Rattle.std.proofs.Common.{◌≡◌, ◌≢◌, List, [], ◌∷◌, ◌++◌, refl, sym, ◌∙◌, ap, Bool, true, false, Option, Some, None}
-use Rattle.std.specs.Prelude.{cond, nat_lt}
-use Rattle.std.specs.List.{list_all}
-use Rattle.ocfl_tree.specs.Place.{Text, Place}
-use Rattle.ocfl_tree.specs.StorageRoot.{StorageRoot, Leaf, at}
+use Rattle.std.specs.{Prelude.{cond, nat_lt}, List.{list_all}}
+use Rattle.ocfl_tree.specs.{Place.{Text, Place}, StorageRoot.{StorageRoot, Leaf, at}}
 use Rattle.ocfl_tree.proofs.Orders.{true_not_false}
 use Rattle.ocfl_inventory.specs.Table.{Named}
-use Rattle.ocfl_audit.specs.Between.{is_looked_into}
-use Rattle.ocfl_audit.specs.Lines.{cost_of, is_hashed, named_at}
-use Rattle.ocfl_audit.specs.Walk.{is_reached}
-use Rattle.ocfl_audit.specs.Zone.{beginnings, is_entered, seen}
-use Rattle.ocfl_audit.proofs.AuditExists.{zone_is}
-use Rattle.ocfl_audit.proofs.PathLaws.{hashed_path}
+use Rattle.ocfl_audit.specs.{Between.{is_looked_into}, Lines.{cost_of, is_hashed, named_at}}
+use Rattle.ocfl_audit.specs.{Walk.{is_reached}, Zone.{beginnings, is_entered, seen}}
+use Rattle.ocfl_audit.proofs.{AuditExists.{zone_is}, PathLaws.{hashed_path}}
 use Rattle.ocfl_audit.proofs.StepLaws.{all_beginnings_step}
 use Rattle.ocfl_walk.proofs.ReachLaws.{reached_looked}
 

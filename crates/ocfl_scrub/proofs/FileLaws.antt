@@ -1,24 +1,19 @@
 -- What is refused, shown and handed back of a cursor that is stored.
 use Rattle.std.proofs.Common.{◌≡◌, refl, subst, arith, sym, ◌∙◌, ap, ℕ, ◌+◌, ◌<◌, ◌≤◌, ◌++◌, length, take, Bool, true, false, Option, Some, None, Vec, inl, inr}
-use Rattle.std.specs.Prelude.{◌≢◌, ◌↔◌, if◌then◌else◌}
-use Rattle.std.specs.declared.alloc.Global.{Global}
 use Rattle.std.proofs.lemmas.Bool.{true≢false}
+use Rattle.std.specs.{Prelude.{◌≢◌, ◌↔◌, if◌then◌else◌}, declared.alloc.Global.{Global}}
 use Rattle.ocfl_tree.specs.Place.{Text, Place}
 use Rattle.ocfl_cursor.specs.Cursor.{Cursor, new_cursor, cursor_lines, cursor_text}
-use Rattle.ocfl_cursor.specs.Moves.{after_run}
-use Rattle.ocfl_cursor.specs.Part.{IsPartText, part_lines}
-use Rattle.ocfl_cursor.specs.Refusal.{Refusal, refusal, IsTextOf}
-use Rattle.ocfl_cursor.specs.Shown.{AreShown, IsShownFrom}
-use Rattle.ocfl_cursor.specs.Stop.{max_part_text}
-use Rattle.ocfl_cursor.specs.declared.ends.PartEnds.{PartEnds}
+use Rattle.ocfl_cursor.specs.{Moves.{after_run}, Part.{IsPartText, part_lines}}
+use Rattle.ocfl_cursor.specs.{Refusal.{Refusal, refusal, IsTextOf}, Shown.{AreShown, IsShownFrom}}
+use Rattle.ocfl_cursor.specs.{Stop.{max_part_text}, declared.ends.PartEnds.{PartEnds}}
+use Rattle.ocfl_cursor.specs.{Refused.{reason}, declared.limits.Limits.{Limits as MadeLimits}}
+use Rattle.ocfl_cursor.specs.declared.refused.PartRefused.{PartRefused}
+use Rattle.ocfl_cursor.specs.declared.refused.Refused.{Refused}
 use Rattle.ocfl_cursor.proofs.PartLimited.{read_as_part}
 use Rattle.ocfl_cursor.proofs.PartRefusals.{front-part_text, seal-part_text}
-use Rattle.ocfl_cursor.specs.Refused.{reason}
 use Rattle.ocfl_audit.specs.Runs.{Limits}
-use Rattle.ocfl_cursor.specs.declared.limits.Limits.{Limits as MadeLimits}
-use Rattle.ocfl_cursor.specs.declared.refused.PartRefused.{PartRefused}
 use Rattle.ocfl_cursor.specs.declared.refused.PartRefused.TheVariants as part
-use Rattle.ocfl_cursor.specs.declared.refused.Refused.{Refused}
 use Rattle.ocfl_cursor.specs.declared.refused.Refused.TheVariants as refused
 use Rattle.ocfl_deed.specs.declared.deed.Deed.TheVariants as deed
 use Rattle.ocfl_item.specs.declared.fault.Fault.{Fault}
@@ -26,9 +21,8 @@ use Rattle.ocfl_item.specs.declared.fault.Fault.TheVariants as fault
 use Rattle.ocfl_scrub.specs.Noting.{IsRunNote, IsStopNote}
 use Rattle.ocfl_scrub.specs.Performing.{BeginsWith, RefusesRightly, UnshownSaid, IsWithoutFile, ShowsWith, HandsBack, HandedBack}
 use Rattle.ocfl_scrub.specs.Running.{IsPaid, begun, limits_of, state_after}
-use Rattle.ocfl_scrub.specs.declared.note.Note.{Note}
+use Rattle.ocfl_scrub.specs.{declared.note.Note.{Note}, declared.running.RunStatus.{RunStatus}}
 use Rattle.ocfl_scrub.specs.declared.note.Note.TheVariants as note
-use Rattle.ocfl_scrub.specs.declared.running.RunStatus.{RunStatus}
 use Rattle.ocfl_scrub.specs.declared.running.RunStatus.TheVariants as run
 
 -- ---- what is refused

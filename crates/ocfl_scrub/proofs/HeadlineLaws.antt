@@ -1,18 +1,13 @@
 -- What the headline of a cycle says if it has ended, and if it has not.
 use Rattle.std.proofs.Common.{◌≡◌, refl, ◌∙◌, ap, ℕ, ◌+◌, ◌/◌, ◌≤◌, List, [], ◌++◌, length, All}
 use Rattle.std.proofs.lemmas.Bool.{false≢true}
-use Rattle.ocfl_tree.specs.Place.{Text}
-use Rattle.ocfl_tree.specs.StorageRoot.{StorageRoot}
-use Rattle.ocfl_tree.specs.Store.{Store}
+use Rattle.ocfl_tree.specs.{Place.{Text}, StorageRoot.{StorageRoot}, Store.{Store}}
 use Rattle.ocfl_tree.specs.declared.store.Opening.{Opening}
 use Rattle.ocfl_report.specs.Text.{text}
-use Rattle.ocfl_audit.specs.Audit.{audit, total_cost}
-use Rattle.ocfl_audit.specs.Due.{hashed_among, item_places}
-use Rattle.ocfl_audit.specs.Parts.{whole}
-use Rattle.ocfl_audit.specs.Runs.{Limits, IsAtLeast, joined, runs, total_files}
+use Rattle.ocfl_audit.specs.{Audit.{audit, total_cost}, Due.{hashed_among, item_places}}
+use Rattle.ocfl_audit.specs.{Parts.{whole}, Runs.{Limits, IsAtLeast, joined, runs, total_files}}
 use Rattle.ocfl_audit.specs.Trail.{content_trail}
-use Rattle.ocfl_scrub.specs.Call.{Call, known_call}
-use Rattle.ocfl_scrub.specs.Cycling.{HeadlineOf}
+use Rattle.ocfl_scrub.specs.{Call.{Call, known_call}, Cycling.{HeadlineOf}}
 use Rattle.ocfl_scrub.specs.declared.cycling.CycleStatus.TheVariants as cycle
 use Rattle.ocfl_scrub.proofs.JoinLaws.{places_are}
 

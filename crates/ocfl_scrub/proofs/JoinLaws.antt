@@ -1,15 +1,11 @@
 -- Runs of a part one after the other take what it has, and the parts of a root take the audit.
 use Rattle.std.proofs.Common.{◌≡◌, ℕ, suc, ◌+◌, ◌≤◌, ◌/◌, List, [], ◌∷◌, ◌++◌, refl, sym, ◌∙◌, ap, subst, Some, None, Option, append-nil, All, map, length, false, arith}
-use Rattle.std.specs.Prelude.{flat_map}
-use Rattle.std.specs.List.{AllByRecursion}
 use Rattle.std.proofs.lemmas.List.{map-append, append_cancel_left}
-use Rattle.ocfl_tree.specs.Place.{Place, place_cmp}
-use Rattle.ocfl_tree.specs.Ascending.{IsAscending}
+use Rattle.std.specs.{Prelude.{flat_map}, List.{AllByRecursion}}
+use Rattle.ocfl_tree.specs.{Place.{Place, place_cmp}, Ascending.{IsAscending}}
 use Rattle.ocfl_tree.specs.StorageRoot.{StorageRoot}
-use Rattle.ocfl_report.specs.Line.{Item}
-use Rattle.ocfl_report.specs.Text.{text}
-use Rattle.ocfl_audit.specs.Audit.{audit, after, item_of, total_cost}
-use Rattle.ocfl_audit.specs.Lines.{is_empty}
+use Rattle.ocfl_report.specs.{Line.{Item}, Text.{text}}
+use Rattle.ocfl_audit.specs.{Audit.{audit, after, item_of, total_cost}, Lines.{is_empty}}
 use Rattle.ocfl_audit.specs.Due.{item_places, hashed_among}
 use Rattle.ocfl_audit.specs.Parts.{Part, within, places_within, parts_of}
 use Rattle.ocfl_audit.specs.Runs.{Limits, cut, left, runs, total_files, IsAtLeast}
@@ -18,17 +14,12 @@ use Rattle.ocfl_audit.proofs.PartLaws.{texts_join, hashed_join, within_by_places
 use Rattle.ocfl_audit.proofs.RunLaws.{large_few}
 use Rattle.ocfl_item.proofs.AuditingLaws.{hashed_append}
 use Rattle.ocfl_cursor.specs.Cursor.{Cursor}
-use Rattle.ocfl_scrub.specs.Call.{known_call}
-use Rattle.ocfl_scrub.specs.Written.{places, last_of}
+use Rattle.ocfl_scrub.specs.{Call.{known_call}, Written.{places, last_of}}
 use Rattle.ocfl_scrub.specs.Running.{first_of, place_in, state_after, RunsWithin, RunEndsWithin}
 use Rattle.ocfl_scrub.specs.Joining.{PartRun, RanWell, AreRuns, reports_of, opened_by, PartCycle, IsPartCycle}
 use Rattle.ocfl_scrub.specs.declared.running.RunStatus.TheVariants as status
-use Rattle.ocfl_scrub.proofs.AuditLaws.{none_left}
-use Rattle.ocfl_scrub.proofs.CutLaws.{cut_and_left}
-use Rattle.ocfl_scrub.proofs.PassLaws.{text_append}
-use Rattle.ocfl_scrub.proofs.RunLaws.{no_first}
-use Rattle.ocfl_scrub.proofs.RunPlaces.{after_front}
-use Rattle.ocfl_scrub.proofs.RunsJoined.{runs_go_on}
+use Rattle.ocfl_scrub.proofs.{AuditLaws.{none_left}, CutLaws.{cut_and_left}, PassLaws.{text_append}}
+use Rattle.ocfl_scrub.proofs.{RunLaws.{no_first}, RunPlaces.{after_front}, RunsJoined.{runs_go_on}}
 use Rattle.ocfl_scrub.proofs.ChainLaws.{place_there}
 
 pub some_first : (items : List Item) (p : Place) → Some p ≡ first_of items → is_empty items ≡ false

@@ -1,27 +1,17 @@
 -- A walk that is kept: what it stands for, and a way on which it could have come there.
 use Rattle.std.proofs.Common.{◌≡◌, ℕ, List, [], ◌∷◌, refl, sym, ◌∙◌, ap, subst, true, false, Bool, Some, None, Option}
 use Rattle.std.specs.Prelude.{IfSome, not}
-use Rattle.ocfl_tree.specs.Place.{Text, Place}
-use Rattle.ocfl_tree.specs.Ascending.{IsAmong}
-use Rattle.ocfl_tree.specs.StorageRoot.{StorageRoot}
+use Rattle.ocfl_tree.specs.{Place.{Text, Place}, Ascending.{IsAmong}, StorageRoot.{StorageRoot}}
 use Rattle.ocfl_tree.specs.Store.{Store, Did}
 use Rattle.ocfl_tree.proofs.Orders.{among_from_filter, among_left}
-use Rattle.ocfl_audit.specs.Due.{due}
-use Rattle.ocfl_audit.specs.Parts.{Part, lies_in}
-use Rattle.ocfl_audit.specs.Runs.{Limits}
+use Rattle.ocfl_audit.specs.{Due.{due}, Parts.{Part, lies_in}, Runs.{Limits}}
 use Rattle.ocfl_item.proofs.AuditingLaws.{audits_meta, front_all, front_none, near_none, none_once}
-use Rattle.ocfl_walk.specs.Ends.{is_past}
-use Rattle.ocfl_walk.specs.WalkCalls.{GoesDown, IsRootFirst, way_of}
+use Rattle.ocfl_walk.specs.{Ends.{is_past}, WalkCalls.{GoesDown, IsRootFirst, way_of}}
 use Rattle.ocfl_walk.specs.Walks.{Gives}
-use Rattle.ocfl_scrub.specs.Keeping.{IsMet}
-use Rattle.ocfl_scrub.specs.Passes.{IsAhead}
-use Rattle.ocfl_scrub.specs.Starting.{end_of, entry, stand}
-use Rattle.ocfl_scrub.specs.Written.{last_of}
-use Rattle.ocfl_scrub.specs.declared.kept.Met.{Met}
-use Rattle.ocfl_scrub.proofs.AlikeLaws.{walks_with}
-use Rattle.ocfl_scrub.proofs.LookedLaws.{due_lies, stand_there}
-use Rattle.ocfl_scrub.proofs.PassLaws.{last_among}
-use Rattle.ocfl_scrub.proofs.RunTurns.{HasMet, HasPaid}
+use Rattle.ocfl_scrub.specs.{Keeping.{IsMet}, Passes.{IsAhead}, Starting.{end_of, entry, stand}}
+use Rattle.ocfl_scrub.specs.{Written.{last_of}, declared.kept.Met.{Met}}
+use Rattle.ocfl_scrub.proofs.{AlikeLaws.{walks_with}, LookedLaws.{due_lies, stand_there}}
+use Rattle.ocfl_scrub.proofs.{PassLaws.{last_among}, RunTurns.{HasMet, HasPaid}}
 
 -- ---- where it stands after a run
 

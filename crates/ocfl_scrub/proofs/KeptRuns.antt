@@ -1,43 +1,28 @@
 -- A pass with a walk that is kept, or that begins, is a run.
 use Rattle.std.proofs.Common.{◌≡◌, ◌≢◌, ◌⊎◌, inl, inr, ◌^◌, ◌≤◌, ℕ, List, refl, sym, ◌∙◌, ap, subst, false, Bool, Some, None, Option}
 use Rattle.std.specs.Prelude.{IfSome}
-use Rattle.ocfl_tree.specs.Place.{Place, Text}
-use Rattle.ocfl_tree.specs.StorageRoot.{StorageRoot}
-use Rattle.ocfl_tree.specs.Store.{Store}
-use Rattle.ocfl_audit.specs.Parts.{Part}
-use Rattle.ocfl_audit.specs.Runs.{Limits}
-use Rattle.ocfl_cursor.specs.Cursor.{Cursor, State}
-use Rattle.ocfl_cursor.specs.Moves.{after_run}
+use Rattle.ocfl_tree.specs.{Place.{Place, Text}, StorageRoot.{StorageRoot}, Store.{Store}}
+use Rattle.ocfl_audit.specs.{Parts.{Part}, Runs.{Limits}}
+use Rattle.ocfl_cursor.specs.{Cursor.{Cursor, State}, Moves.{after_run}}
 use Rattle.ocfl_cursor.specs.declared.limits.Limits.{Limits as MadeLimits}
-use Rattle.ocfl_item.specs.Ways.{IsWayFault}
-use Rattle.ocfl_item.specs.declared.fault.Fault.{Fault}
-use Rattle.ocfl_item.specs.declared.fault.Fault.TheVariants as fault
+use Rattle.ocfl_item.specs.{Ways.{IsWayFault}, declared.fault.Fault.{Fault}}
 use Rattle.ocfl_item.specs.declared.pending.Pending.{Pending}
-use Rattle.ocfl_walk.specs.Ends.{is_past}
-use Rattle.ocfl_walk.specs.WalkCalls.{FailsOut, GoDownFails, GoesDown, Walks}
-use Rattle.ocfl_walk.specs.Walks.{GivesOut, IsLive, Stands}
-use Rattle.ocfl_walk.specs.declared.walk.Walk.{Walk}
-use Rattle.ocfl_scrub.specs.Beginning.{Begins, IsShort}
-use Rattle.ocfl_scrub.specs.Call.{Call, call_of, known_call}
+use Rattle.ocfl_item.specs.declared.fault.Fault.TheVariants as fault
+use Rattle.ocfl_walk.specs.{Ends.{is_past}, WalkCalls.{FailsOut, GoDownFails, GoesDown, Walks}}
+use Rattle.ocfl_walk.specs.{Walks.{GivesOut, IsLive, Stands}, declared.walk.Walk.{Walk}}
+use Rattle.ocfl_scrub.specs.{Beginning.{Begins, IsShort}, Call.{Call, call_of, known_call}}
 use Rattle.ocfl_scrub.specs.Keeping.{IsMet, IsReady, IsReadyIn, RunsOn, met_at, met_in}
 use Rattle.ocfl_scrub.specs.Passes.{EndsAt, IsAhead, IsPass, PassesFrom, PassesOn, PassesWith}
 use Rattle.ocfl_scrub.specs.Running.{IsPaid, RunEndsWithin, RunsCleanlyWithin, RunsFromWithin, RunsOnAnyStore, begun, limits_of, place_in, state_after}
-use Rattle.ocfl_scrub.specs.Starting.{end_of, entry, stand}
-use Rattle.ocfl_scrub.specs.Taking.{WritesLines}
-use Rattle.ocfl_scrub.specs.declared.kept.KeptWalk.{KeptWalk}
-use Rattle.ocfl_scrub.specs.declared.kept.Met.{Met}
-use Rattle.ocfl_scrub.specs.declared.running.Pass.{Pass}
-use Rattle.ocfl_scrub.specs.declared.running.RunEnd.{RunEnd}
+use Rattle.ocfl_scrub.specs.{Starting.{end_of, entry, stand}, Taking.{WritesLines}}
+use Rattle.ocfl_scrub.specs.{declared.kept.KeptWalk.{KeptWalk}, declared.kept.Met.{Met}}
+use Rattle.ocfl_scrub.specs.{declared.running.Pass.{Pass}, declared.running.RunEnd.{RunEnd}}
 use Rattle.ocfl_scrub.specs.declared.running.RunStatus.{RunStatus}
 use Rattle.ocfl_scrub.specs.declared.running.RunStatus.TheVariants as status
-use Rattle.ocfl_scrub.proofs.AlikeLaws.{alike_same, alike_tree}
-use Rattle.ocfl_scrub.proofs.AuditsJoined.{audits_over}
-use Rattle.ocfl_scrub.proofs.CycleRuns.{HasReport, has_report}
-use Rattle.ocfl_scrub.proofs.KeptLaws.{ahead_of}
-use Rattle.ocfl_scrub.proofs.KeptTurns.{pass_is, pass_of}
-use Rattle.ocfl_scrub.proofs.LoopLaws.{GivesNext}
-use Rattle.ocfl_scrub.proofs.MeterLaws.{paid_within}
-use Rattle.ocfl_scrub.proofs.RunLaws.{not_run, runs_cleanly, runs_from}
+use Rattle.ocfl_scrub.proofs.{AlikeLaws.{alike_same, alike_tree}, AuditsJoined.{audits_over}}
+use Rattle.ocfl_scrub.proofs.{CycleRuns.{HasReport, has_report}, KeptLaws.{ahead_of}}
+use Rattle.ocfl_scrub.proofs.{KeptTurns.{pass_is, pass_of}, LoopLaws.{GivesNext}}
+use Rattle.ocfl_scrub.proofs.{MeterLaws.{paid_within}, RunLaws.{not_run, runs_cleanly, runs_from}}
 use Rattle.ocfl_scrub.proofs.RunTurns.{run_ended, run_lost, stands_first}
 
 -- ---- on every store

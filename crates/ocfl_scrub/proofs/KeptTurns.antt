@@ -2,37 +2,21 @@
 -- on any store on which a walk could have come to that item.
 use Rattle.std.proofs.Common.{◌≡◌, ℕ, ◌+◌, List, sym, ◌∙◌, subst, true, false, Bool, Some, None, Option}
 use Rattle.std.specs.Prelude.{◌||◌, IfSome}
-use Rattle.ocfl_tree.specs.Place.{Place}
-use Rattle.ocfl_tree.specs.StorageRoot.{StorageRoot}
-use Rattle.ocfl_tree.specs.Store.{Store}
-use Rattle.ocfl_audit.specs.Due.{due}
-use Rattle.ocfl_audit.specs.Parts.{Part}
-use Rattle.ocfl_audit.specs.Runs.{Limits, files_of}
-use Rattle.ocfl_item.specs.Pending.{IsPending}
-use Rattle.ocfl_item.specs.Ways.{IsWayFault}
-use Rattle.ocfl_item.specs.declared.fault.Fault.{Fault}
+use Rattle.ocfl_tree.specs.{Place.{Place}, StorageRoot.{StorageRoot}, Store.{Store}}
+use Rattle.ocfl_audit.specs.{Due.{due}, Parts.{Part}, Runs.{Limits, files_of}}
+use Rattle.ocfl_item.specs.{Pending.{IsPending}, Ways.{IsWayFault}, declared.fault.Fault.{Fault}}
 use Rattle.ocfl_item.specs.declared.pending.Pending.{Pending}
-use Rattle.ocfl_walk.specs.Ends.{is_past}
-use Rattle.ocfl_walk.specs.WalkCalls.{FailsOut}
-use Rattle.ocfl_walk.specs.Walks.{GivesOut, IsLive, Stands}
+use Rattle.ocfl_walk.specs.{Ends.{is_past}, WalkCalls.{FailsOut}, Walks.{GivesOut, IsLive, Stands}}
 use Rattle.ocfl_walk.specs.declared.walk.Walk.{Walk}
-use Rattle.ocfl_scrub.specs.Alike.{IsAlike}
-use Rattle.ocfl_scrub.specs.Call.{call_of}
-use Rattle.ocfl_scrub.specs.Keeping.{IsMet}
-use Rattle.ocfl_scrub.specs.Passes.{IsAhead, PassesOn}
-use Rattle.ocfl_scrub.specs.Starting.{end_of}
-use Rattle.ocfl_scrub.specs.Taking.{Misses, Takes}
-use Rattle.ocfl_scrub.specs.declared.kept.Met.{Met}
-use Rattle.ocfl_scrub.specs.declared.running.Pass.{Pass}
+use Rattle.ocfl_scrub.specs.{Alike.{IsAlike}, Call.{call_of}, Keeping.{IsMet}}
+use Rattle.ocfl_scrub.specs.{Passes.{IsAhead, PassesOn}, Starting.{end_of}, Taking.{Misses, Takes}}
+use Rattle.ocfl_scrub.specs.{declared.kept.Met.{Met}, declared.running.Pass.{Pass}}
 use Rattle.ocfl_scrub.specs.declared.running.RunStatus.{RunStatus}
 use Rattle.ocfl_scrub.specs.declared.running.RunStatus.TheVariants as status
 use Rattle.ocfl_scrub.proofs.AlikeLaws.{alike_start, alike_then, alike_there, alike_tree, gives_elsewhere, lost_elsewhere, misses_elsewhere, takes_elsewhere}
-use Rattle.ocfl_scrub.proofs.AuditsJoined.{audits_over}
-use Rattle.ocfl_scrub.proofs.KeptLaws.{met_ready}
+use Rattle.ocfl_scrub.proofs.{AuditsJoined.{audits_over}, KeptLaws.{met_ready}}
 use Rattle.ocfl_scrub.proofs.LookedLaws.{HasLooked, above_ended, above_lost, above_missed, above_spent, looked_first, looked_on, looked_over, looked_took, met_lies}
-use Rattle.ocfl_scrub.proofs.LoopLaws.{GivesNext}
-use Rattle.ocfl_scrub.proofs.PassLaws.{due_beyond}
-use Rattle.ocfl_scrub.proofs.Paying.{IsWithinBoth}
+use Rattle.ocfl_scrub.proofs.{LoopLaws.{GivesNext}, PassLaws.{due_beyond}, Paying.{IsWithinBoth}}
 use Rattle.ocfl_scrub.proofs.RunTurns.{HasMet, HasStood, met_first, run_ended, run_lost, run_meets, run_missed, run_spent, run_took}
 
 -- From s to t items were taken from m on, and the walk met the next one. From any store on which a

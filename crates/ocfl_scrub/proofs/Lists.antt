@@ -1,7 +1,6 @@
 -- Laws of lists, and of lists in order.
 use Rattle.std.proofs.Common.{◌≡◌, inl, inr, subst, List, [], ◌∷◌, ◌++◌, refl, sym, ◌∙◌, ap, true, false, Bool, filter, append_assoc}
-use Rattle.std.specs.Prelude.{cond, flat_map, not}
-use Rattle.std.specs.List.{AllByRecursion}
+use Rattle.std.specs.{Prelude.{cond, flat_map, not}, List.{AllByRecursion}}
 use Rattle.std.specs.declared.cmp.Ordering.{Ordering}
 use Rattle.ocfl_tree.specs.Ascending.{IsBeforeAll, IsAscending, IsAmong}
 use Rattle.ocfl_item.specs.Looking.{IsFront}

@@ -1,12 +1,9 @@
 -- What a call over a part looks at, after the way down to where it begins.
 use Rattle.std.proofs.Common.{◌++◌, [], List, Option, None, refl, sym, subst, append-nil, ℕ}
-use Rattle.ocfl_tree.specs.Place.{Place}
-use Rattle.ocfl_tree.specs.StorageRoot.{StorageRoot}
-use Rattle.ocfl_tree.specs.Store.{Store}
+use Rattle.ocfl_tree.specs.{Place.{Place}, StorageRoot.{StorageRoot}, Store.{Store}}
 use Rattle.ocfl_tree.specs.declared.store.Opening.{Opening}
 use Rattle.ocfl_audit.specs.Parts.{Part}
-use Rattle.ocfl_item.specs.Looking.{IsFront}
-use Rattle.ocfl_item.specs.Auditing.{Audits, Fails}
+use Rattle.ocfl_item.specs.{Looking.{IsFront}, Auditing.{Audits, Fails}}
 use Rattle.ocfl_item.specs.declared.fault.Fault.{Fault}
 use Rattle.ocfl_item.proofs.AuditingLaws.{audits_fail, audits_on}
 use Rattle.ocfl_walk.specs.WalkCalls.{GoesDown, GoDownFails}

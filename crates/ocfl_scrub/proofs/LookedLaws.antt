@@ -1,33 +1,21 @@
 -- What is listed and read from an item that was met on.
 use Rattle.std.proofs.Common.{◌≡◌, inl, ℕ, List, [], ◌∷◌, ◌++◌, refl, sym, ◌∙◌, ap, subst, true, false, Bool, Some, None, Option, append-nil}
 use Rattle.std.specs.Prelude.{cond, not}
-use Rattle.ocfl_tree.specs.Place.{Place}
-use Rattle.ocfl_tree.specs.Ascending.{IsAmong}
-use Rattle.ocfl_tree.specs.StorageRoot.{StorageRoot}
-use Rattle.ocfl_tree.specs.Store.{Store, Did}
-use Rattle.ocfl_tree.specs.declared.store.Opening.{Opening}
+use Rattle.ocfl_tree.specs.{Place.{Place}, Ascending.{IsAmong}, StorageRoot.{StorageRoot}}
+use Rattle.ocfl_tree.specs.{Store.{Store, Did}, declared.store.Opening.{Opening}}
 use Rattle.ocfl_tree.proofs.Orders.{among_filter, among_from_filter}
-use Rattle.ocfl_audit.specs.Between.{IsBeyond, looked_between, read_between}
-use Rattle.ocfl_audit.specs.Due.{due}
-use Rattle.ocfl_audit.specs.Parts.{Part, lies_in}
-use Rattle.ocfl_audit.specs.Trail.{heads_of}
+use Rattle.ocfl_audit.specs.{Between.{IsBeyond, looked_between, read_between}, Due.{due}}
+use Rattle.ocfl_audit.specs.{Parts.{Part, lies_in}, Trail.{heads_of}}
 use Rattle.ocfl_audit.proofs.PartLaws.{places_within_is}
-use Rattle.ocfl_item.specs.Auditing.{Audits}
-use Rattle.ocfl_item.specs.Looking.{IsFront}
-use Rattle.ocfl_item.specs.Pending.{IsPending}
-use Rattle.ocfl_item.specs.declared.fault.Fault.{Fault}
-use Rattle.ocfl_item.specs.declared.pending.Pending.{Pending}
+use Rattle.ocfl_item.specs.{Auditing.{Audits}, Looking.{IsFront}, Pending.{IsPending}}
+use Rattle.ocfl_item.specs.{declared.fault.Fault.{Fault}, declared.pending.Pending.{Pending}}
 use Rattle.ocfl_item.proofs.AuditingLaws.{audits_fail, audits_nothing, audits_on, front_all}
-use Rattle.ocfl_walk.specs.Before.{place_before}
-use Rattle.ocfl_walk.specs.Ends.{before_end, is_past}
-use Rattle.ocfl_walk.specs.WalkCalls.{FailsOut, Walks, WalksOut}
-use Rattle.ocfl_walk.specs.Walks.{Stands}
+use Rattle.ocfl_walk.specs.{Before.{place_before}, Ends.{before_end, is_past}}
+use Rattle.ocfl_walk.specs.{WalkCalls.{FailsOut, Walks, WalksOut}, Walks.{Stands}}
 use Rattle.ocfl_walk.specs.declared.walk.Walk.{Walk}
-use Rattle.ocfl_scrub.specs.Call.{call_of}
-use Rattle.ocfl_scrub.specs.Keeping.{IsMet, LooksAbove}
+use Rattle.ocfl_scrub.specs.{Call.{call_of}, Keeping.{IsMet, LooksAbove}}
 use Rattle.ocfl_scrub.specs.Starting.{due_within, end_of, first_place, looked_in, read_in, stand, stand_by}
-use Rattle.ocfl_scrub.specs.Taking.{Misses, Takes}
-use Rattle.ocfl_scrub.specs.declared.kept.Met.{Met}
+use Rattle.ocfl_scrub.specs.{Taking.{Misses, Takes}, declared.kept.Met.{Met}}
 use Rattle.ocfl_scrub.proofs.BetweenLaws.{HasGoneOn, front_behind, gone_next, gone_self, looked_end, looked_next, looked_self, read_end, read_next, read_self}
 use Rattle.ocfl_scrub.proofs.Passing.{due_in}
 use Rattle.ocfl_scrub.proofs.PartStarts.{due_starts, looked_all, not_less_first, read_all}

@@ -1,20 +1,15 @@
 -- An audit and a run list no directory twice, and read no inventory twice.
 use Rattle.std.proofs.Common.{◌≡◌, ℕ, List, [], ◌++◌, sym, subst, append-nil, Bool, Option, Some, None}
-use Rattle.ocfl_tree.specs.Place.{Place, place_cmp}
-use Rattle.ocfl_tree.specs.Ascending.{IsAscending}
+use Rattle.ocfl_tree.specs.{Place.{Place, place_cmp}, Ascending.{IsAscending}}
 use Rattle.ocfl_tree.specs.declared.store.Opening.{Opening}
-use Rattle.ocfl_audit.specs.Parts.{Part}
-use Rattle.ocfl_audit.specs.Runs.{Limits}
-use Rattle.ocfl_audit.specs.Trail.{heads_of}
-use Rattle.ocfl_item.specs.Looking.{IsFront}
-use Rattle.ocfl_item.specs.declared.fault.Fault.{Fault}
-use Rattle.ocfl_scrub.specs.Call.{Call}
-use Rattle.ocfl_scrub.specs.Running.{RunEndsWithin}
+use Rattle.ocfl_audit.specs.{Parts.{Part}, Runs.{Limits}, Trail.{heads_of}}
+use Rattle.ocfl_item.specs.{Looking.{IsFront}, declared.fault.Fault.{Fault}}
+use Rattle.ocfl_scrub.specs.{Call.{Call}, Running.{RunEndsWithin}}
 use Rattle.ocfl_scrub.specs.Starting.{looked_in, read_in, LooksOver, StopsLooking}
 use Rattle.ocfl_scrub.specs.WholeAudit.{AuditEndsWithin}
 use Rattle.ocfl_scrub.specs.declared.checking.AuditStatus.{AuditStatus}
-use Rattle.ocfl_scrub.specs.declared.checking.AuditStatus.TheVariants as end
 use Rattle.ocfl_scrub.specs.declared.running.RunStatus.{RunStatus}
+use Rattle.ocfl_scrub.specs.declared.checking.AuditStatus.TheVariants as end
 use Rattle.ocfl_scrub.specs.declared.running.RunStatus.TheVariants as run
 use Rattle.ocfl_scrub.proofs.WayOrder.{listed_once_in, read_once_in}
 

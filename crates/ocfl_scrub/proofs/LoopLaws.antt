@@ -1,21 +1,14 @@
 -- Where the loop over a walk stands, and what its next item is.
 use Rattle.std.proofs.Common.{◌≡◌, ℕ, List, sym, ◌∙◌, subst, false, Bool, Some, Option}
 use Rattle.std.specs.Prelude.{◌||◌, IfSome}
-use Rattle.ocfl_tree.specs.Place.{Place}
-use Rattle.ocfl_tree.specs.StorageRoot.{StorageRoot}
-use Rattle.ocfl_tree.specs.Store.{Store}
-use Rattle.ocfl_audit.specs.Between.{IsBeyond}
-use Rattle.ocfl_audit.specs.Due.{due}
-use Rattle.ocfl_walk.specs.Ends.{is_past}
-use Rattle.ocfl_walk.specs.WalkCalls.{Walks}
-use Rattle.ocfl_walk.specs.Walks.{IsLive, Stands, Gives, GivesOut, GoesOn}
-use Rattle.ocfl_item.specs.declared.pending.Pending.{Pending}
-use Rattle.ocfl_walk.specs.declared.end.End.{End}
+use Rattle.ocfl_tree.specs.{Place.{Place}, StorageRoot.{StorageRoot}, Store.{Store}}
+use Rattle.ocfl_audit.specs.{Between.{IsBeyond}, Due.{due}}
+use Rattle.ocfl_walk.specs.{Ends.{is_past}, WalkCalls.{Walks}}
+use Rattle.ocfl_walk.specs.{Walks.{IsLive, Stands, Gives, GivesOut, GoesOn}, declared.end.End.{End}}
 use Rattle.ocfl_walk.specs.declared.walk.Walk.{Walk}
-use Rattle.ocfl_scrub.specs.Taking.{WritesLines}
-use Rattle.ocfl_scrub.specs.Beginning.{IsShort}
-use Rattle.ocfl_scrub.proofs.PassLaws.{lines_then, due_beyond}
-use Rattle.ocfl_scrub.proofs.TakeLaws.{nothing_written}
+use Rattle.ocfl_item.specs.declared.pending.Pending.{Pending}
+use Rattle.ocfl_scrub.specs.{Taking.{WritesLines}, Beginning.{IsShort}}
+use Rattle.ocfl_scrub.proofs.{PassLaws.{lines_then, due_beyond}, TakeLaws.{nothing_written}}
 
 -- ---- on every store
 

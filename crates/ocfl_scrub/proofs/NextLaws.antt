@@ -1,30 +1,23 @@
 -- Between the last item of a part that was taken and a hashed file that is next, no inventory of it
 -- is read: each object whose inventory is read is an item, and none of them is hashed.
 use Rattle.std.proofs.Common.{◌≡◌, ◌≢◌, inl, inr, List, [], ◌∷◌, ◌++◌, refl, sym, ◌∙◌, ap, subst, true, false, ◌+◌, Option, Some, None, length, length-append, filter}
-use Rattle.std.specs.Prelude.{nat_lt}
-use Rattle.std.specs.Ordering.{is_lt}
-use Rattle.ocfl_tree.specs.Place.{Place, place_cmp}
-use Rattle.ocfl_tree.specs.Ascending.{IsAmong, IsAscending}
+use Rattle.std.specs.{Prelude.{nat_lt}, Ordering.{is_lt}}
+use Rattle.ocfl_tree.specs.{Place.{Place, place_cmp}, Ascending.{IsAmong, IsAscending}}
 use Rattle.ocfl_tree.specs.StorageRoot.{StorageRoot, dir}
 use Rattle.ocfl_tree.proofs.Orders.{true_not_false, before_each, among_filter, among_from_filter}
-use Rattle.ocfl_inventory.specs.Note.{Note}
-use Rattle.ocfl_inventory.specs.Table.{Named}
+use Rattle.ocfl_inventory.specs.{Note.{Note}, Table.{Named}}
 use Rattle.ocfl_inventory.specs.Declaration.{Declared, undeclared, known, unknown, several}
 use Rattle.ocfl_audit.specs.Zone.{root_declared, zone, inside}
 use Rattle.ocfl_audit.specs.Head.{or_clean, root_notes_by, head_notes_by}
 use Rattle.ocfl_audit.specs.Lines.{is_empty, notes, notes_in, cost_of, named_at, is_hashed}
-use Rattle.ocfl_audit.specs.Objects.{HasInventory}
-use Rattle.ocfl_audit.specs.Due.{item_places, due}
-use Rattle.ocfl_audit.specs.Between.{IsBeyond, IsWithin, read_between}
-use Rattle.ocfl_audit.specs.Parts.{Part, lies_in}
-use Rattle.ocfl_audit.proofs.PartLaws.{places_within_is}
-use Rattle.ocfl_audit.proofs.Trails.{filter_append}
+use Rattle.ocfl_audit.specs.{Objects.{HasInventory}, Due.{item_places, due}}
+use Rattle.ocfl_audit.specs.{Between.{IsBeyond, IsWithin, read_between}, Parts.{Part, lies_in}}
+use Rattle.ocfl_audit.proofs.{PartLaws.{places_within_is}, Trails.{filter_append}}
 use Rattle.ocfl_audit.proofs.BetweenLaws.{read_on}
 use Rattle.ocfl_audit.proofs.ObjectLaws.{object_by_zone, read_part, object_seen}
-use Rattle.ocfl_scrub.proofs.OrderLaws.{item_among}
-use Rattle.ocfl_scrub.specs.Starting.{due_within, read_in}
-use Rattle.ocfl_scrub.proofs.PartStarts.{due_within_ascends}
+use Rattle.ocfl_scrub.proofs.{OrderLaws.{item_among}, PartStarts.{due_within_ascends}}
 use Rattle.ocfl_scrub.proofs.PassLaws.{among_beyond}
+use Rattle.ocfl_scrub.specs.Starting.{due_within, read_in}
 
 -- ---- the storage root and each object with an inventory are items
 

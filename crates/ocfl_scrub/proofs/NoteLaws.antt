@@ -1,19 +1,17 @@
 -- What the status and the text that a command ends with say of it.
 use Rattle.std.proofs.Common.{◌≡◌, refl, sym, ◌∙◌, ℕ, ◌≤◌, suc, [], Option, Some, None, Vec, inl, inr, Bool, true, false, arith}
-use Rattle.std.specs.Prelude.{◌≢◌, ◌⊎◌, ◌↔◌}
-use Rattle.std.specs.declared.alloc.Global.{Global}
+use Rattle.std.specs.{Prelude.{◌≢◌, ◌⊎◌, ◌↔◌}, declared.alloc.Global.{Global}}
 use Rattle.ocfl_tree.specs.Place.{Place}
-use Rattle.ocfl_cursor.specs.Cursor.{Cursor, start, new_cursor}
-use Rattle.ocfl_cursor.specs.declared.limits.Limits.{Limits}
+use Rattle.ocfl_cursor.specs.{Cursor.{Cursor, start, new_cursor}, declared.limits.Limits.{Limits}}
 use Rattle.ocfl_cursor.specs.declared.reading.CursorStop.{CursorStop}
-use Rattle.ocfl_cursor.specs.declared.reading.CursorStop.TheVariants as stop
 use Rattle.ocfl_cursor.specs.declared.part_reading.PartCursorStop.{PartCursorStop}
-use Rattle.ocfl_cursor.specs.declared.part_reading.PartCursorStop.TheVariants as stops
 use Rattle.ocfl_cursor.specs.declared.refused.PartRefused.{PartRefused}
-use Rattle.ocfl_cursor.specs.declared.refused.PartRefused.TheVariants as part
 use Rattle.ocfl_cursor.specs.declared.showing.ShowStop.{ShowStop}
-use Rattle.ocfl_cursor.specs.declared.showing.ShowStop.TheVariants as show
 use Rattle.ocfl_cursor.specs.declared.refused.Refused.{Refused}
+use Rattle.ocfl_cursor.specs.declared.reading.CursorStop.TheVariants as stop
+use Rattle.ocfl_cursor.specs.declared.part_reading.PartCursorStop.TheVariants as stops
+use Rattle.ocfl_cursor.specs.declared.refused.PartRefused.TheVariants as part
+use Rattle.ocfl_cursor.specs.declared.showing.ShowStop.TheVariants as show
 use Rattle.ocfl_cursor.specs.declared.refused.Refused.TheVariants as refused
 use Rattle.ocfl_item.specs.declared.fault.Fault.{Fault}
 use Rattle.ocfl_item.specs.declared.fault.Fault.TheVariants as fault
@@ -23,12 +21,11 @@ use Rattle.ocfl_scrub.specs.Noting.{IsStatus, IsStopSaid, IsRunSaid, IsStopNote,
 use Rattle.ocfl_scrub.specs.Performing.{IsKept, IsKeptBy, IsSilent, IsWhole}
 use Rattle.ocfl_scrub.specs.Scoping.{IsBranchNote, IsBranchSaid, IsPartRunSaid, IsPartUnreadNote}
 use Rattle.ocfl_scrub.specs.declared.checking.AuditStatus.{AuditStatus}
-use Rattle.ocfl_scrub.specs.declared.checking.AuditStatus.TheVariants as end
 use Rattle.ocfl_scrub.specs.declared.running.RunStatus.{RunStatus}
+use Rattle.ocfl_scrub.specs.{declared.cycling.CycleStatus.{CycleStatus}, declared.note.Note.{Note}}
+use Rattle.ocfl_scrub.specs.declared.checking.AuditStatus.TheVariants as end
 use Rattle.ocfl_scrub.specs.declared.running.RunStatus.TheVariants as run
-use Rattle.ocfl_scrub.specs.declared.cycling.CycleStatus.{CycleStatus}
 use Rattle.ocfl_scrub.specs.declared.cycling.CycleStatus.TheVariants as cycle
-use Rattle.ocfl_scrub.specs.declared.note.Note.{Note}
 use Rattle.ocfl_scrub.specs.declared.note.Note.TheVariants as note
 
 module _ {A B : Type 0} where

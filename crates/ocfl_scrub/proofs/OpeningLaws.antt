@@ -1,32 +1,25 @@
 -- What is opened lies where it was listed.
 use Rattle.std.proofs.Common.{◌≡◌, ◌⊎◌, inl, inr, ℕ, List, [], ◌∷◌, ◌++◌, refl, sym, ap, subst, Bool, true, false, Option, Some, None, not, append-nil}
-use Rattle.ocfl_tree.specs.Place.{Place}
-use Rattle.ocfl_tree.specs.Ascending.{IsAmong}
-use Rattle.ocfl_tree.specs.StorageRoot.{StorageRoot}
+use Rattle.ocfl_tree.specs.{Place.{Place}, Ascending.{IsAmong}, StorageRoot.{StorageRoot}}
 use Rattle.ocfl_tree.specs.declared.store.Opening.{Opening}
 use Rattle.ocfl_tree.proofs.Orders.{among_filter, among_from_filter, among_left, among_map}
 use Rattle.ocfl_tree.proofs.Stores.{among_either}
-use Rattle.ocfl_audit.specs.Due.{hashed_among}
-use Rattle.ocfl_audit.specs.Lines.{is_hashed}
-use Rattle.ocfl_audit.specs.Parts.{Part, lies_in, places_within}
-use Rattle.ocfl_audit.specs.Runs.{Limits}
+use Rattle.ocfl_audit.specs.{Due.{hashed_among}, Lines.{is_hashed}}
+use Rattle.ocfl_audit.specs.{Parts.{Part, lies_in, places_within}, Runs.{Limits}}
 use Rattle.ocfl_audit.specs.Trail.{is_meta, content_openings, content_trail}
 use Rattle.ocfl_audit.specs.Between.{looked_between}
 use Rattle.ocfl_audit.proofs.PartLaws.{places_within_is}
-use Rattle.ocfl_item.specs.Auditing.{LiesIn, LieIn}
-use Rattle.ocfl_item.specs.Looking.{IsFront, way_to}
+use Rattle.ocfl_item.specs.{Auditing.{LiesIn, LieIn}, Looking.{IsFront, way_to}}
 use Rattle.ocfl_item.specs.declared.fault.Fault.{Fault}
 use Rattle.ocfl_walk.specs.WalkCalls.{way_of}
 use Rattle.ocfl_walk.proofs.WayDownLaws.{on_way}
-use Rattle.ocfl_scrub.specs.Call.{Call}
-use Rattle.ocfl_scrub.specs.Checking.{CheckEnds}
-use Rattle.ocfl_scrub.specs.Openings.{OpensNear, OpensWithin}
+use Rattle.ocfl_scrub.specs.{Call.{Call}, Checking.{CheckEnds}, Openings.{OpensNear, OpensWithin}}
 use Rattle.ocfl_scrub.specs.Running.{RunEndsWithin}
 use Rattle.ocfl_scrub.specs.Starting.{FilesLieIn, LooksOver, StopsLooking, entry, looked_in}
 use Rattle.ocfl_scrub.specs.WholeAudit.{AuditEndsWithin}
 use Rattle.ocfl_scrub.specs.declared.checking.AuditStatus.{AuditStatus}
-use Rattle.ocfl_scrub.specs.declared.checking.AuditStatus.TheVariants as end
 use Rattle.ocfl_scrub.specs.declared.running.RunStatus.{RunStatus}
+use Rattle.ocfl_scrub.specs.declared.checking.AuditStatus.TheVariants as end
 use Rattle.ocfl_scrub.specs.declared.running.RunStatus.TheVariants as run
 
 from_hashed : (root : StorageRoot) (ps : List Place) (p : Place) → IsAmong (hashed_among root ps) p → IsAmong ps p × (is_hashed root p ≡ true)

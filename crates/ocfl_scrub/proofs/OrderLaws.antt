@@ -1,18 +1,15 @@
 -- What an audit opens and lists ascends.
 use Rattle.std.proofs.Common.{◌≡◌, ◌≢◌, ◌↔◌, List, [], ◌∷◌, refl, true, Option, Some, None, not, map}
 use Rattle.std.specs.Ordering.{is_lt}
-use Rattle.ocfl_tree.specs.Place.{Place, place_cmp}
-use Rattle.ocfl_tree.specs.Ascending.{ascending, IsAscending, IsAmong}
+use Rattle.ocfl_tree.specs.{Place.{Place, place_cmp}, Ascending.{ascending, IsAscending, IsAmong}}
 use Rattle.ocfl_tree.specs.StorageRoot.{StorageRoot}
 use Rattle.ocfl_tree.proofs.Orders.{place_cmp_total, place_cmp_exact, ascends_filter, ascends_ascending, among_ascending, among_filter, among_from_filter}
 use Rattle.ocfl_inventory.specs.Note.{Note}
 use Rattle.ocfl_audit.specs.Audit.{candidates}
 use Rattle.ocfl_audit.specs.Between.{up_to, between, is_looked_into, looked_between, read_between}
 use Rattle.ocfl_audit.specs.Due.{places_after, item_places, hashed_among}
-use Rattle.ocfl_audit.specs.Lines.{is_empty, is_hashed, notes}
-use Rattle.ocfl_audit.specs.Trail.{reads_inventory}
-use Rattle.ocfl_audit.proofs.AuditExists.{notes_candidate}
-use Rattle.ocfl_audit.proofs.PathLaws.{hashed_lines}
+use Rattle.ocfl_audit.specs.{Lines.{is_empty, is_hashed, notes}, Trail.{reads_inventory}}
+use Rattle.ocfl_audit.proofs.{AuditExists.{notes_candidate}, PathLaws.{hashed_lines}}
 use Rattle.ocfl_scrub.proofs.PassLaws.{items_ascend}
 
 pub hashed_ascend : (root : StorageRoot) → IsAscending place_cmp (hashed_among root (item_places root))

@@ -3,14 +3,10 @@ use Rattle.std.proofs.Common.{◌≡◌, ℕ, ◌+◌, ◌<◌, List, [], ◌∷
 use Rattle.std.specs.Prelude.{cond, ◌==◌}
 use Rattle.ocfl_tree.specs.Place.{Place}
 use Rattle.ocfl_report.specs.Line.{Item}
-use Rattle.ocfl_audit.specs.Audit.{total_cost}
-use Rattle.ocfl_audit.specs.Parts.{Part}
-use Rattle.ocfl_audit.specs.Runs.{Limits, cut}
-use Rattle.ocfl_scrub.specs.Call.{Call}
-use Rattle.ocfl_scrub.specs.Running.{items_above_in, taken_in, RunsWithin}
+use Rattle.ocfl_audit.specs.{Audit.{total_cost}, Parts.{Part}, Runs.{Limits, cut}}
+use Rattle.ocfl_scrub.specs.{Call.{Call}, Running.{items_above_in, taken_in, RunsWithin}}
 use Rattle.ocfl_audit.proofs.RunLaws.{cost_append}
-use Rattle.ocfl_scrub.proofs.CutLaws.{last_cost, no_cost, paid_passes}
-use Rattle.ocfl_scrub.proofs.PartLaws.{cut_paid}
+use Rattle.ocfl_scrub.proofs.{CutLaws.{last_cost, no_cost, paid_passes}, PartLaws.{cut_paid}}
 
 some_cost : (n : ℕ) → 0 < n → (c : ℕ) → cond (n == 0) c n ≡ n
 some_cost n h c = by (n == 0) refl

@@ -2,18 +2,14 @@
 -- read has no part in the latter.
 use Rattle.std.proofs.Common.{◌≡◌, ℕ, suc, ◌+◌, ◌<◌, List, [], ◌∷◌, refl, sym, ◌∙◌, ap, subst, true, false, Bool, take, drop, arith, eqb-true}
 use Rattle.std.specs.Prelude.{cond, ◌==◌, ◌||◌, ◌&&◌, nat_lt}
-use Rattle.ocfl_tree.specs.Place.{Place}
-use Rattle.ocfl_tree.specs.StorageRoot.{StorageRoot}
+use Rattle.ocfl_tree.specs.{Place.{Place}, StorageRoot.{StorageRoot}}
 use Rattle.ocfl_tree.specs.declared.store.Opening.{Opening}
 use Rattle.ocfl_tree.proofs.Orders.{true_not_false}
 use Rattle.ocfl_report.specs.Line.{Item}
-use Rattle.ocfl_audit.specs.Lines.{is_hashed}
-use Rattle.ocfl_audit.specs.Audit.{given_by, total_cost}
-use Rattle.ocfl_audit.specs.Trail.{unread_of}
+use Rattle.ocfl_audit.specs.{Lines.{is_hashed}, Audit.{given_by, total_cost}, Trail.{unread_of}}
 use Rattle.ocfl_audit.specs.Due.{items_at}
 use Rattle.ocfl_audit.specs.Runs.{Limits, files_of, total_files, may_take, cut_len, cut, left}
-use Rattle.ocfl_scrub.proofs.Paying.{Paid}
-use Rattle.ocfl_scrub.proofs.CutLaws.{IsStop, test_free, hashed_costs, free_costs}
+use Rattle.ocfl_scrub.proofs.{Paying.{Paid}, CutLaws.{IsStop, test_free, hashed_costs, free_costs}}
 
 module _ (l : Limits) where
   taken_paid : (s f : ℕ) (items : List Item) → Paid l s f (take (cut_len l s f items) items)

@@ -1,14 +1,11 @@
 -- Where the walk over a part begins: what is left there before its end is what the part has above
 -- the place that it is given.
 use Rattle.std.proofs.Common.{◌≡◌, List, [], ◌∷◌, ◌++◌, refl, sym, ◌∙◌, ap, subst, true, false, Bool, Option, Some, None, map, filter, append-nil}
-use Rattle.std.specs.Prelude.{cond, not, ◌&&◌, ◌||◌}
-use Rattle.std.specs.Option.{option_map}
-use Rattle.std.specs.Ordering.{is_lt}
+use Rattle.std.specs.{Prelude.{cond, not, ◌&&◌, ◌||◌}, Option.{option_map}, Ordering.{is_lt}}
 use Rattle.std.specs.declared.cmp.Ordering.{Ordering}
 use Rattle.std.specs.declared.cmp.Ordering.TheVariants.{Less, Equal, Greater}
 use Rattle.ocfl_tree.specs.Place.{Text, Place, place_cmp, begins}
-use Rattle.ocfl_tree.specs.Ascending.{IsAscending, IsAmong}
-use Rattle.ocfl_tree.specs.StorageRoot.{StorageRoot}
+use Rattle.ocfl_tree.specs.{Ascending.{IsAscending, IsAmong}, StorageRoot.{StorageRoot}}
 use Rattle.ocfl_tree.specs.declared.store.Opening.{Opening}
 use Rattle.ocfl_tree.proofs.Orders.{place_cmp_total, place_cmp_exact, true_not_false, below_from_greater, ascends_filter, among_from_filter}
 use Rattle.ocfl_tree.proofs.Places.{begins-itself}
@@ -19,8 +16,7 @@ use Rattle.ocfl_audit.specs.Parts.{Part, is_from, is_below, lies_in, within, pla
 use Rattle.ocfl_audit.specs.Trail.{unread_of}
 use Rattle.ocfl_audit.proofs.AuditExists.{audit_is}
 use Rattle.ocfl_audit.proofs.BelowLaws.{less_from, begins_rest, cmp_behind}
-use Rattle.ocfl_audit.proofs.BetweenLaws.{from_between}
-use Rattle.ocfl_audit.proofs.DueLaws.{after_is_due}
+use Rattle.ocfl_audit.proofs.{BetweenLaws.{from_between}, DueLaws.{after_is_due}}
 use Rattle.ocfl_audit.proofs.Lists.{map_filter, filter_same}
 use Rattle.ocfl_audit.proofs.PartLaws.{and_true, and_false, filter_twice, within_is, places_within_is, part_goes_on}
 use Rattle.ocfl_walk.specs.Before.{directory_of, place_before, places_from}

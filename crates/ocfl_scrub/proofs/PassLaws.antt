@@ -1,45 +1,34 @@
 -- A pass, item by item, and its ends.
 use Rattle.std.proofs.Common.{◌≡◌, ◌≢◌, ◌⊎◌, inl, inr, ℕ, List, [], ◌∷◌, ◌++◌, refl, sym, ◌∙◌, ap, subst, true, false, Bool, Some, None, Option, append-nil, append_assoc, take, not}
-use Rattle.std.specs.Prelude.{cond, ◌||◌}
-use Rattle.std.specs.List.{list_any}
-use Rattle.std.specs.Ordering.{is_lt}
-use Rattle.std.specs.Io.KnownBytes.{Appends}
 use Rattle.std.proofs.KnownBytes.{Appends-nil, Appends-trans}
-use Rattle.ocfl_tree.specs.Place.{Place, place_cmp}
-use Rattle.ocfl_tree.specs.Ascending.{ascending, IsAscending, IsAmong}
-use Rattle.ocfl_tree.specs.StorageRoot.{StorageRoot}
-use Rattle.ocfl_tree.specs.Store.{Store}
+use Rattle.std.specs.{Prelude.{cond, ◌||◌}, List.{list_any}, Ordering.{is_lt}}
+use Rattle.std.specs.{Io.KnownBytes.{Appends}, declared.cmp.Ordering.{Ordering}}
+use Rattle.std.specs.declared.cmp.Ordering.TheVariants.{Less, Equal, Greater}
+use Rattle.ocfl_tree.specs.{Place.{Place, place_cmp}, Ascending.{ascending, IsAscending, IsAmong}}
+use Rattle.ocfl_tree.specs.{StorageRoot.{StorageRoot}, Store.{Store}}
 use Rattle.ocfl_tree.specs.declared.store.Opening.{Opening}
 use Rattle.ocfl_tree.proofs.Orders.{place_cmp_total, place_cmp_exact, not_less_itself, below_from_greater, true_not_false, among_left, among_right, ascends_filter, ascends_ascending, among_from_filter}
-use Rattle.std.specs.declared.cmp.Ordering.{Ordering}
-use Rattle.std.specs.declared.cmp.Ordering.TheVariants.{Less, Equal, Greater}
 use Rattle.ocfl_tree.proofs.Stores.{among_either}
 use Rattle.ocfl_report.specs.Line.{Line, Item, has_finding, found, is_finding_code}
 use Rattle.ocfl_report.specs.Text.{lines_text, text, line_text}
-use Rattle.ocfl_audit.specs.Audit.{candidates}
-use Rattle.ocfl_audit.specs.Lines.{is_empty, notes}
-use Rattle.ocfl_audit.specs.Due.{item_places, due, items_at, hashed_among}
-use Rattle.ocfl_audit.specs.Trail.{content_trail}
+use Rattle.ocfl_audit.specs.{Audit.{candidates}, Lines.{is_empty, notes}}
+use Rattle.ocfl_audit.specs.{Due.{item_places, due, items_at, hashed_among}, Trail.{content_trail}}
 use Rattle.ocfl_audit.specs.Between.{IsBeyond, IsWithin, looked_between, read_between}
-use Rattle.ocfl_audit.proofs.BelowLaws.{less_from}
-use Rattle.ocfl_audit.proofs.BetweenLaws.{among_between, from_between}
+use Rattle.ocfl_audit.proofs.{BelowLaws.{less_from}, BetweenLaws.{among_between, from_between}}
 use Rattle.ocfl_audit.proofs.Trails.{filter_append}
-use Rattle.ocfl_item.specs.Auditing.{Audits, Fails}
-use Rattle.ocfl_walk.specs.WalkCalls.{Walks, WalksOut, FailsOut}
-use Rattle.ocfl_walk.specs.Ends.{is_past, before_end}
-use Rattle.ocfl_walk.proofs.BeforeLaws.{not_below}
-use Rattle.ocfl_walk.specs.declared.end.End.{End}
-use Rattle.ocfl_item.specs.declared.fault.Fault.{Fault}
+use Rattle.ocfl_item.specs.{Auditing.{Audits, Fails}, declared.fault.Fault.{Fault}}
 use Rattle.ocfl_item.specs.declared.fault.Fault.TheVariants.{Output}
-use Rattle.ocfl_scrub.specs.Call.{call_of}
-use Rattle.ocfl_scrub.specs.Taking.{WritesLines, PartOf, Takes, Misses}
+use Rattle.ocfl_walk.specs.{WalkCalls.{Walks, WalksOut, FailsOut}, Ends.{is_past, before_end}}
+use Rattle.ocfl_walk.specs.declared.end.End.{End}
+use Rattle.ocfl_walk.proofs.BeforeLaws.{not_below}
+use Rattle.ocfl_scrub.specs.{Call.{call_of}, Taking.{WritesLines, PartOf, Takes, Misses}}
 use Rattle.ocfl_scrub.specs.Written.{last_of}
 use Rattle.ocfl_scrub.proofs.Passing.{up_to_last, due_in, Passes, Finishes, Halts}
 use Rattle.ocfl_scrub.proofs.Lists.{flat_append, ascends_left}
 use Rattle.ocfl_scrub.proofs.AuditsJoined.{items_before, items_behind, items_then}
-use Rattle.ocfl_item.proofs.AuditingLaws.{audits_fail, audits_nothing, audits_on}
 use Rattle.ocfl_scrub.proofs.BetweenLaws.{HasGoneOn, looked_self, looked_next, looked_end, looked_front, read_self, read_next, read_end, read_front, front_behind}
 use Rattle.ocfl_scrub.proofs.TakeLaws.{nothing_of}
+use Rattle.ocfl_item.proofs.AuditingLaws.{audits_fail, audits_nothing, audits_on}
 
 -- ---- texts and findings of what follows
 

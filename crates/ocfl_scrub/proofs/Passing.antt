@@ -1,22 +1,14 @@
 -- What a pass over the items above a place and before an end does: it takes one after the other.
 use Rattle.std.specs.Prelude.{◌≡◌, ℕ, List, [], ◌++◌, Bool, Option, Some, None, take}
 use Rattle.std.specs.Io.KnownBytes.{Appends}
-use Rattle.ocfl_tree.specs.Place.{Text, Place}
-use Rattle.ocfl_tree.specs.Ascending.{IsAmong}
-use Rattle.ocfl_tree.specs.StorageRoot.{StorageRoot}
-use Rattle.ocfl_tree.specs.Store.{Store}
-use Rattle.ocfl_tree.specs.declared.store.Opening.{Opening}
-use Rattle.ocfl_report.specs.Line.{found}
-use Rattle.ocfl_report.specs.Text.{text}
-use Rattle.ocfl_audit.specs.Due.{due, items_at}
-use Rattle.ocfl_audit.specs.Between.{looked_between, read_between}
-use Rattle.ocfl_item.specs.Looking.{IsFront}
-use Rattle.ocfl_item.specs.Auditing.{Audits, Fails}
+use Rattle.ocfl_tree.specs.{Place.{Text, Place}, Ascending.{IsAmong}, StorageRoot.{StorageRoot}}
+use Rattle.ocfl_tree.specs.{Store.{Store}, declared.store.Opening.{Opening}}
+use Rattle.ocfl_report.specs.{Line.{found}, Text.{text}}
+use Rattle.ocfl_audit.specs.{Due.{due, items_at}, Between.{looked_between, read_between}}
+use Rattle.ocfl_item.specs.{Looking.{IsFront}, Auditing.{Audits, Fails}}
 use Rattle.ocfl_item.specs.declared.fault.Fault.{Fault}
-use Rattle.ocfl_walk.specs.Ends.{before_end}
-use Rattle.ocfl_walk.specs.declared.end.End.{End}
-use Rattle.ocfl_scrub.specs.Taking.{PartOf}
-use Rattle.ocfl_scrub.specs.Written.{last_of}
+use Rattle.ocfl_walk.specs.{Ends.{before_end}, declared.end.End.{End}}
+use Rattle.ocfl_scrub.specs.{Taking.{PartOf}, Written.{last_of}}
 
 -- what is between a place and the last one taken: nothing if there is none
 abbrev pub up_to_last : (Option Place → Option Place → List Place) → Option Place → Option Place → List Place

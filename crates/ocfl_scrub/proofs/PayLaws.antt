@@ -1,34 +1,24 @@
 -- A pass that is paid for, item by item, and its ends.
 use Rattle.std.proofs.Common.{◌≡◌, ◌≢◌, inl, inr, ℕ, ◌+◌, List, [], ◌∷◌, ◌++◌, refl, sym, ◌∙◌, ap, subst, true, false, Bool, Some, Option, append-nil, take, arith}
-use Rattle.std.specs.Prelude.{◌||◌}
-use Rattle.ocfl_tree.specs.Place.{Place}
-use Rattle.ocfl_tree.specs.StorageRoot.{StorageRoot}
-use Rattle.ocfl_tree.specs.Store.{Store}
+use Rattle.std.specs.{Prelude.{◌||◌}, Io.KnownBytes.{Appends}}
+use Rattle.ocfl_tree.specs.{Place.{Place}, StorageRoot.{StorageRoot}, Store.{Store}}
 use Rattle.ocfl_tree.specs.declared.store.Opening.{Opening}
-use Rattle.ocfl_report.specs.Line.{Item, found}
-use Rattle.ocfl_report.specs.Text.{text}
-use Rattle.ocfl_audit.specs.Audit.{total_cost, given_by}
-use Rattle.ocfl_audit.specs.Lines.{cost, is_hashed}
-use Rattle.ocfl_audit.specs.Due.{due, items_at}
-use Rattle.ocfl_audit.specs.Between.{IsBeyond, looked_between, read_between}
-use Rattle.ocfl_audit.specs.Trail.{unread_of}
-use Rattle.ocfl_audit.specs.Runs.{Limits, files_of, total_files, may_take}
-use Rattle.std.specs.Io.KnownBytes.{Appends}
-use Rattle.ocfl_item.specs.Auditing.{Audits}
-use Rattle.ocfl_walk.specs.WalkCalls.{Walks, WalksOut, FailsOut}
-use Rattle.ocfl_walk.specs.Ends.{is_past}
-use Rattle.ocfl_walk.specs.declared.end.End.{End}
-use Rattle.ocfl_item.specs.declared.fault.Fault.{Fault}
+use Rattle.ocfl_report.specs.{Line.{Item, found}, Text.{text}}
+use Rattle.ocfl_audit.specs.{Audit.{total_cost, given_by}, Lines.{cost, is_hashed}}
+use Rattle.ocfl_audit.specs.{Due.{due, items_at}, Between.{IsBeyond, looked_between, read_between}}
+use Rattle.ocfl_audit.specs.{Trail.{unread_of}, Runs.{Limits, files_of, total_files, may_take}}
+use Rattle.ocfl_item.specs.{Auditing.{Audits}, declared.fault.Fault.{Fault}}
 use Rattle.ocfl_item.specs.declared.fault.Fault.TheVariants.{Output}
-use Rattle.ocfl_scrub.specs.Call.{call_of}
-use Rattle.ocfl_scrub.specs.Taking.{Takes, Misses}
+use Rattle.ocfl_walk.specs.{WalkCalls.{Walks, WalksOut, FailsOut}, Ends.{is_past}}
+use Rattle.ocfl_walk.specs.declared.end.End.{End}
+use Rattle.ocfl_scrub.specs.{Call.{call_of}, Taking.{Takes, Misses}}
 use Rattle.ocfl_scrub.proofs.Passing.{up_to_last, due_in}
 use Rattle.ocfl_scrub.proofs.Paying.{Paid, Counts, IsWithinBoth, Pays, PaysAll, PaysUpTo, PaysHalting}
-use Rattle.ocfl_item.proofs.AuditingLaws.{audits_on}
 use Rattle.ocfl_scrub.proofs.BetweenLaws.{HasGoneOn, looked_next, read_next}
-use Rattle.ocfl_audit.proofs.RunLaws.{cost_append, files_append}
 use Rattle.ocfl_scrub.proofs.CutLaws.{paid_append, test_paid, test_free, free_costs}
 use Rattle.ocfl_scrub.proofs.PassLaws.{no_items, halves, due_next, passes_none, passes_took, took_items, passes_missed, missed_items, next_is, passes_lost, walked_on, passes_finish, finished_items}
+use Rattle.ocfl_item.proofs.AuditingLaws.{audits_on}
+use Rattle.ocfl_audit.proofs.RunLaws.{cost_append, files_append}
 
 -- ---- what items cost
 

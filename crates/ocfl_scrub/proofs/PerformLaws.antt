@@ -2,15 +2,10 @@
 use Rattle.std.proofs.Common.{◌≡◌, refl, ap, subst, ℕ, List, [], Option, Some, None, Vec, inl, inr}
 use Rattle.std.specs.Prelude.{◌≢◌, IsNone, IsSome, IfSome, ◌⊎◌, String, string_bytes}
 use Rattle.std.specs.declared.alloc.Global.{Global}
-use Rattle.ocfl_tree.specs.Place.{Text, Place}
-use Rattle.ocfl_tree.specs.Store.{Store}
-use Rattle.ocfl_report.specs.Line.{found}
-use Rattle.ocfl_report.specs.Text.{text}
-use Rattle.ocfl_audit.specs.Audit.{audit}
-use Rattle.ocfl_audit.specs.Parts.{Part, whole}
-use Rattle.ocfl_audit.specs.Runs.{Limits}
-use Rattle.ocfl_cursor.specs.Cursor.{Cursor, IsCursor}
-use Rattle.ocfl_cursor.specs.Moves.{after_run}
+use Rattle.ocfl_tree.specs.{Place.{Text, Place}, Store.{Store}}
+use Rattle.ocfl_report.specs.{Line.{found}, Text.{text}}
+use Rattle.ocfl_audit.specs.{Audit.{audit}, Parts.{Part, whole}, Runs.{Limits}}
+use Rattle.ocfl_cursor.specs.{Cursor.{Cursor, IsCursor}, Moves.{after_run}}
 use Rattle.ocfl_cursor.specs.declared.limits.Limits.{Limits as MadeLimits}
 use Rattle.ocfl_deed.specs.declared.deed.Deed.{Deed}
 use Rattle.ocfl_deed.specs.declared.deed.Deed.TheVariants as deed
@@ -20,11 +15,10 @@ use Rattle.ocfl_scrub.specs.Call.{Call, IsUnfailing, Writes}
 use Rattle.ocfl_scrub.specs.Noting.{AuditsWithNote, IsAuditNote, IsRanSaid, IsRefused, IsStatus, IsStoredNote, status_of}
 use Rattle.ocfl_scrub.specs.Performing.{AnswersOnAnyStore, Performs, HandedBack, IsKept, IsSilent, IsWhole, IsWithoutFile, RefusesPath, RunMade, RunUnmade, RunWorn}
 use Rattle.ocfl_scrub.specs.Running.{IsPaid, IsWorn, RunsCleanlyWithin, RunsFromWithin, RunsOnAnyStore, begun, limits_of, state_after}
-use Rattle.ocfl_scrub.specs.declared.note.Note.{Note}
-use Rattle.ocfl_scrub.specs.declared.note.Note.TheVariants as note
-use Rattle.ocfl_scrub.specs.declared.performing.Performed.{Performed}
+use Rattle.ocfl_scrub.specs.{declared.note.Note.{Note}, declared.performing.Performed.{Performed}}
 use Rattle.ocfl_scrub.specs.declared.running.RunEnd.{RunEnd}
 use Rattle.ocfl_scrub.specs.declared.running.RunStatus.{RunStatus}
+use Rattle.ocfl_scrub.specs.declared.note.Note.TheVariants as note
 use Rattle.ocfl_scrub.specs.declared.running.RunStatus.TheVariants as run
 
 pub worn_or_not : (how : RunStatus) → (how ≡ run.Worn) ⊎ (how ≢ run.Worn)

@@ -1,38 +1,23 @@
 -- What the records of a check, an audit, a run and a cycle say, in other words.
 use Rattle.std.proofs.Common.{◌≡◌, ◌≢◌, ◌≤◌, ◌<◌, ◌+◌, ◌-◌, ◌/◌, ℕ, List, [], ◌∷◌, ◌++◌, Bool, true, false, not, Option, Some, None, Vec, String, string_bytes, replicate, length, take, map, All, AllPairs, sym, ap, subst, ◌∙◌, ◌⊎◌, inl, inr, arith}
-use Rattle.std.proofs.lemmas.Bool.{false≢true}
-use Rattle.std.proofs.lemmas.List.{map-append}
+use Rattle.std.proofs.{lemmas.Bool.{false≢true}, lemmas.List.{map-append}}
 use Rattle.std.specs.declared.alloc.Global.{Global}
-use Rattle.ocfl_tree.specs.Place.{Place, place_cmp}
-use Rattle.ocfl_tree.specs.Name.{IsPlace}
-use Rattle.ocfl_tree.specs.Ascending.{IsAscending}
-use Rattle.ocfl_tree.specs.StorageRoot.{StorageRoot}
-use Rattle.ocfl_tree.specs.Store.{Store}
+use Rattle.ocfl_tree.specs.{Place.{Place, place_cmp}, Name.{IsPlace}, Ascending.{IsAscending}}
+use Rattle.ocfl_tree.specs.{StorageRoot.{StorageRoot}, Store.{Store}}
 use Rattle.ocfl_tree.specs.declared.store.Opening.{Opening}
-use Rattle.ocfl_report.specs.Line.{Item, found}
-use Rattle.ocfl_report.specs.Text.{place_text, text}
-use Rattle.ocfl_audit.specs.Lines.{is_empty}
-use Rattle.ocfl_audit.specs.Audit.{audit, after, total_cost}
+use Rattle.ocfl_report.specs.{Line.{Item, found}, Text.{place_text, text}}
+use Rattle.ocfl_audit.specs.{Lines.{is_empty}, Audit.{audit, after, total_cost}}
 use Rattle.ocfl_audit.specs.Due.{hashed_among, item_places}
 use Rattle.ocfl_audit.specs.Trail.{content_trail, heads_of, inventories, unread_of}
-use Rattle.ocfl_audit.specs.Walk.{item_at}
-use Rattle.ocfl_audit.specs.Between.{looked_between, read_between}
-use Rattle.ocfl_audit.specs.Parts.{whole}
+use Rattle.ocfl_audit.specs.{Walk.{item_at}, Between.{looked_between, read_between}, Parts.{whole}}
 use Rattle.ocfl_audit.specs.Runs.{Limits, cut, left, runs, joined, total_files, IsAtLeast, FilesFit, sum_of}
-use Rattle.ocfl_item.specs.Looking.{failures_by, way_to}
-use Rattle.ocfl_item.specs.declared.fault.Fault.{Fault}
+use Rattle.ocfl_item.specs.{Looking.{failures_by, way_to}, declared.fault.Fault.{Fault}}
 use Rattle.ocfl_item.specs.declared.fault.Fault.TheVariants as fault
 use Rattle.ocfl_walk.specs.WalkCalls.{holder, way_of}
 use Rattle.ocfl_scrub.specs.Call.{Call, known_call, IsUnfailing}
 use Rattle.ocfl_scrub.specs.Written.{places, last_of, StopsWithin}
-use Rattle.ocfl_cursor.specs.Cursor.{State, Cursor, start, behind, ended, cursor_text}
-use Rattle.ocfl_cursor.specs.Moves.{next_cycle}
-use Rattle.ocfl_cursor.specs.declared.limits.Limits.{Limits as MadeLimits}
-use Rattle.ocfl_deed.specs.declared.deed.Deed.TheVariants as deed
 use Rattle.ocfl_scrub.specs.Running.{first_of, begun_in, begun, place_in, state_at, state_after, limits_of, Runs, RunStops, RunEnds, RunsFrom, RunsCleanly}
-use Rattle.ocfl_scrub.specs.Chaining.{CycleOfRuns}
-use Rattle.ocfl_scrub.proofs.LooksOnce.{lists_once, reads_once, stops_list_once, stops_read_once}
-use Rattle.ocfl_scrub.specs.Cycling.{HeadlineOf}
+use Rattle.ocfl_scrub.specs.{Chaining.{CycleOfRuns}, Cycling.{HeadlineOf}}
 use Rattle.ocfl_scrub.specs.Together.{Cycles, CycleStops, CycleEnds, CyclesTo}
 use Rattle.ocfl_scrub.specs.Checking.{Checks, CheckStops, CheckEnds}
 use Rattle.ocfl_scrub.specs.WholeAudit.{AuditsAll, AuditStops, AuditEnds}
@@ -40,18 +25,18 @@ use Rattle.ocfl_scrub.specs.Noting.{status_of, IsAuditNote, IsCheckNote, IsCycle
 use Rattle.ocfl_scrub.specs.Performing.{BeginsWith, Performs, OutOfMemoryFirst, RunPerformed, equal_limits}
 use Rattle.ocfl_scrub.specs.declared.auditing.AuditEnd.{AuditEnd}
 use Rattle.ocfl_scrub.specs.declared.checking.CheckEnd.{CheckEnd}
+use Rattle.ocfl_scrub.specs.{declared.running.RunEnd.{RunEnd}, declared.cycling.CycleEnd.{CycleEnd}}
+use Rattle.ocfl_scrub.specs.{declared.cycling.CycleStatus.{CycleStatus}, declared.note.Note.{Note}}
+use Rattle.ocfl_cursor.specs.Cursor.{State, Cursor, start, behind, ended, cursor_text}
+use Rattle.ocfl_cursor.specs.{Moves.{next_cycle}, declared.limits.Limits.{Limits as MadeLimits}}
+use Rattle.ocfl_deed.specs.declared.deed.Deed.TheVariants as deed
+use Rattle.ocfl_scrub.proofs.LooksOnce.{lists_once, reads_once, stops_list_once, stops_read_once}
+use Rattle.ocfl_scrub.proofs.{AuditLaws.{all_places}, CycleEndLaws.{few_inventories, some_run}}
+use Rattle.ocfl_scrub.proofs.{Lists.{nothing_front}, PassLaws.{last_append}}
 use Rattle.ocfl_scrub.specs.declared.checking.AuditStatus.TheVariants as end
-use Rattle.ocfl_scrub.specs.declared.running.RunEnd.{RunEnd}
 use Rattle.ocfl_scrub.specs.declared.running.RunStatus.TheVariants as run
-use Rattle.ocfl_scrub.specs.declared.cycling.CycleEnd.{CycleEnd}
-use Rattle.ocfl_scrub.specs.declared.cycling.CycleStatus.{CycleStatus}
 use Rattle.ocfl_scrub.specs.declared.cycling.CycleStatus.TheVariants as cycle
-use Rattle.ocfl_scrub.specs.declared.note.Note.{Note}
 use Rattle.ocfl_scrub.specs.declared.note.Note.TheVariants as note
-use Rattle.ocfl_scrub.proofs.AuditLaws.{all_places}
-use Rattle.ocfl_scrub.proofs.CycleEndLaws.{few_inventories, some_run}
-use Rattle.ocfl_scrub.proofs.Lists.{nothing_front}
-use Rattle.ocfl_scrub.proofs.PassLaws.{last_append}
 
 last_item : (from : Option Place) (front : List Item) (i : Item) → last_of from (places (front ++ i ∷ [])) ≡ Some i.place
 last_item from front i = ap (last_of from) (map-append (λ j. j.place) front (i ∷ [])) ∙ last_append from (places front) i.place

@@ -1,46 +1,28 @@
 -- A pass over a part that is paid for is a run.
 use Rattle.std.proofs.Common.{◌≡◌, ◌≢◌, ◌⊎◌, inl, inr, ℕ, suc, ◌+◌, ◌<◌, ◌≤◌, ◌^◌, List, [], ◌∷◌, ◌++◌, refl, sym, ◌∙◌, ap, subst, true, false, Bool, Some, None, Option, append-nil, take, Bor, arith}
-use Rattle.std.specs.Prelude.{cond}
-use Rattle.std.specs.Option.{option_map, option_copied}
-use Rattle.std.specs.Io.KnownBytes.{Appends}
+use Rattle.std.specs.{Prelude.{cond}, Option.{option_map, option_copied}, Io.KnownBytes.{Appends}}
 use Rattle.std.specs.Ordering.{is_lt}
-use Rattle.ocfl_tree.specs.Place.{Text, Place, place_cmp}
-use Rattle.ocfl_tree.specs.Ascending.{IsBeforeAll}
-use Rattle.ocfl_tree.specs.StorageRoot.{StorageRoot}
-use Rattle.ocfl_tree.specs.Store.{Store}
+use Rattle.ocfl_tree.specs.{Place.{Text, Place, place_cmp}, Ascending.{IsBeforeAll}}
+use Rattle.ocfl_tree.specs.{StorageRoot.{StorageRoot}, Store.{Store}}
 use Rattle.ocfl_tree.specs.declared.store.Opening.{Opening}
-use Rattle.ocfl_report.specs.Line.{Item, found}
-use Rattle.ocfl_report.specs.Text.{text}
-use Rattle.ocfl_audit.specs.Audit.{audit, after, total_cost, given_by}
-use Rattle.ocfl_audit.specs.Lines.{is_hashed}
-use Rattle.ocfl_audit.specs.Due.{items_at}
-use Rattle.ocfl_audit.specs.Between.{IsWithin, read_between}
-use Rattle.ocfl_audit.specs.Parts.{Part, within}
+use Rattle.ocfl_report.specs.{Line.{Item, found}, Text.{text}}
+use Rattle.ocfl_audit.specs.{Audit.{audit, after, total_cost, given_by}, Lines.{is_hashed}}
+use Rattle.ocfl_audit.specs.{Due.{items_at}, Between.{IsWithin, read_between}, Parts.{Part, within}}
 use Rattle.ocfl_audit.specs.Trail.{unread_of}
 use Rattle.ocfl_audit.specs.Runs.{Limits, files_of, total_files, cut_len, cut, left}
-use Rattle.ocfl_cursor.specs.Cursor.{State, Cursor, IsShortPlace, IsCursor}
-use Rattle.ocfl_cursor.specs.Moves.{after_run}
-use Rattle.ocfl_item.specs.Looking.{IsFront}
-use Rattle.ocfl_item.specs.Ways.{IsWayFault}
-use Rattle.ocfl_item.specs.Auditing.{Audits}
-use Rattle.ocfl_walk.specs.WalkCalls.{GoesDown, GoDownFails}
-use Rattle.ocfl_walk.specs.Ends.{before_end}
-use Rattle.ocfl_item.specs.declared.fault.Fault.{Fault}
-use Rattle.ocfl_item.specs.declared.fault.Fault.TheVariants.{Output}
-use Rattle.ocfl_scrub.specs.Call.{call_of}
-use Rattle.ocfl_scrub.specs.Taking.{PartOf}
-use Rattle.ocfl_scrub.specs.Written.{places, last_of, Figures}
+use Rattle.ocfl_cursor.specs.{Cursor.{State, Cursor, IsShortPlace, IsCursor}, Moves.{after_run}}
+use Rattle.ocfl_item.specs.{Looking.{IsFront}, Ways.{IsWayFault}, Auditing.{Audits}}
+use Rattle.ocfl_item.specs.{declared.fault.Fault.{Fault}, declared.fault.Fault.TheVariants.{Output}}
+use Rattle.ocfl_walk.specs.{WalkCalls.{GoesDown, GoDownFails}, Ends.{before_end}}
+use Rattle.ocfl_scrub.specs.{Call.{call_of}, Taking.{PartOf}, Written.{places, last_of, Figures}}
 use Rattle.ocfl_scrub.specs.Running.{items_above_in, taken_in, rest_in, first_of, place_in, RunsWithin, RunStopsWithin, RunEndsWithin, RunsFromWithin, RunsCleanWithin, RunsCleanlyWithin, IsPaid, begun, state_after}
 use Rattle.ocfl_scrub.specs.Starting.{end_of, entry, stand, looked_in, read_in, LooksOver, StopsLooking}
-use Rattle.ocfl_scrub.specs.Beginning.{Begins}
-use Rattle.ocfl_scrub.proofs.Paying.{Paid, Counts, IsWithinBoth, PaysAll, PaysUpTo, PaysHalting}
-use Rattle.ocfl_scrub.specs.declared.running.RunStatus.{RunStatus}
+use Rattle.ocfl_scrub.specs.{Beginning.{Begins}, declared.running.RunStatus.{RunStatus}}
 use Rattle.ocfl_scrub.specs.declared.running.RunStatus.TheVariants.{Ended, Spent, Stopped, Worn}
+use Rattle.ocfl_scrub.proofs.Paying.{Paid, Counts, IsWithinBoth, PaysAll, PaysUpTo, PaysHalting}
 use Rattle.ocfl_scrub.proofs.AuditLaws.{places_of_items, take_items, nothing_out, none_left, above_are}
-use Rattle.ocfl_scrub.proofs.PassLaws.{take_nothing}
-use Rattle.ocfl_scrub.proofs.TakeLaws.{nothing_of}
-use Rattle.ocfl_scrub.proofs.MeterLaws.{paid_files}
-use Rattle.ocfl_scrub.proofs.Passing.{due_in}
+use Rattle.ocfl_scrub.proofs.{PassLaws.{take_nothing}, TakeLaws.{nothing_of}}
+use Rattle.ocfl_scrub.proofs.{MeterLaws.{paid_files}, Passing.{due_in}}
 use Rattle.ocfl_scrub.proofs.PartStarts.{looked_all, read_all, looked_to, read_to}
 use Rattle.ocfl_scrub.proofs.LookLaws.{looks_over, stops_looking, stops_above}
 use Rattle.ocfl_scrub.proofs.WayListed.{before_next, halted_lie, taken_lie}

@@ -1,31 +1,21 @@
 -- One run of a part's cycle, by its places.
 use Rattle.std.proofs.Common.{◌≡◌, ℕ, ◌+◌, ◌≤◌, List, [], ◌∷◌, ◌++◌, refl, sym, ◌∙◌, ap, subst, Bool, Some, None, Option, map, length, length-append, arith}
-use Rattle.std.specs.Io.KnownBytes.{Appends}
 use Rattle.std.proofs.lemmas.List.{map-append}
-use Rattle.ocfl_tree.specs.Place.{Place, place_cmp}
-use Rattle.ocfl_tree.specs.Ascending.{IsAscending}
-use Rattle.ocfl_tree.specs.StorageRoot.{StorageRoot}
-use Rattle.ocfl_tree.specs.Store.{Store}
+use Rattle.std.specs.Io.KnownBytes.{Appends}
+use Rattle.ocfl_tree.specs.{Place.{Place, place_cmp}, Ascending.{IsAscending}}
+use Rattle.ocfl_tree.specs.{StorageRoot.{StorageRoot}, Store.{Store}}
 use Rattle.ocfl_tree.specs.declared.store.Opening.{Opening}
-use Rattle.ocfl_report.specs.Line.{Item}
-use Rattle.ocfl_report.specs.Text.{text}
-use Rattle.ocfl_audit.specs.Audit.{Unread, audit, after, item_of, total_cost}
-use Rattle.ocfl_audit.specs.Trail.{unread_of}
-use Rattle.ocfl_audit.specs.Due.{items_at}
-use Rattle.ocfl_audit.specs.Parts.{Part, within}
-use Rattle.ocfl_audit.specs.Runs.{Limits, total_files}
+use Rattle.ocfl_report.specs.{Line.{Item}, Text.{text}}
+use Rattle.ocfl_audit.specs.{Audit.{Unread, audit, after, item_of, total_cost}, Trail.{unread_of}}
+use Rattle.ocfl_audit.specs.{Due.{items_at}, Parts.{Part, within}, Runs.{Limits, total_files}}
 use Rattle.ocfl_audit.proofs.AfterLaws.{after_is_end, after_item}
-use Rattle.ocfl_item.specs.Looking.{IsFront}
-use Rattle.ocfl_item.specs.Auditing.{Audits}
+use Rattle.ocfl_item.specs.{Looking.{IsFront}, Auditing.{Audits}}
 use Rattle.ocfl_walk.specs.WalkCalls.{holder}
-use Rattle.ocfl_scrub.specs.Call.{call_of}
-use Rattle.ocfl_scrub.specs.Written.{places, last_of, Figures}
-use Rattle.ocfl_scrub.proofs.Paying.{Paid}
+use Rattle.ocfl_scrub.specs.{Call.{call_of}, Written.{places, last_of, Figures}}
 use Rattle.ocfl_scrub.specs.Running.{items_above_in, taken_in, rest_in, first_of, RunsWithin}
 use Rattle.ocfl_scrub.specs.Starting.{entry, due_within, read_in}
-use Rattle.ocfl_scrub.proofs.PartStarts.{above_in, items_ascend}
-use Rattle.ocfl_scrub.proofs.AuditLaws.{places_of_items}
-use Rattle.ocfl_scrub.proofs.CutLaws.{IsStop, cut_and_left}
+use Rattle.ocfl_scrub.proofs.{Paying.{Paid}, PartStarts.{above_in, items_ascend}}
+use Rattle.ocfl_scrub.proofs.{AuditLaws.{places_of_items}, CutLaws.{IsStop, cut_and_left}}
 use Rattle.ocfl_scrub.proofs.PartLaws.{cut_paid, cut_stops}
 
 -- ---- the items above a place, in two parts

@@ -1,32 +1,20 @@
 -- One turn of the loop of a run.
 use Rattle.std.proofs.Common.{◌≡◌, ℕ, ◌+◌, List, refl, sym, ◌∙◌, ap, subst, true, false, Bool, Some, None, Option}
 use Rattle.std.specs.Prelude.{◌≢◌, ◌||◌}
-use Rattle.ocfl_tree.specs.Place.{Place}
-use Rattle.ocfl_tree.specs.StorageRoot.{StorageRoot}
-use Rattle.ocfl_tree.specs.Store.{Store}
-use Rattle.ocfl_audit.specs.Due.{due}
-use Rattle.ocfl_audit.specs.Lines.{is_hashed}
-use Rattle.ocfl_audit.specs.Parts.{Part}
-use Rattle.ocfl_audit.specs.Runs.{Limits, files_of}
+use Rattle.ocfl_tree.specs.{Place.{Place}, StorageRoot.{StorageRoot}, Store.{Store}}
+use Rattle.ocfl_audit.specs.{Due.{due}, Lines.{is_hashed}, Parts.{Part}, Runs.{Limits, files_of}}
 use Rattle.ocfl_cursor.specs.Meter.{Meter, MayStart}
 use Rattle.ocfl_cursor.specs.declared.limits.Limits.{Limits as MadeLimits}
-use Rattle.ocfl_walk.specs.Ends.{is_past}
-use Rattle.ocfl_walk.specs.WalkCalls.{GoesDown, FailsOut}
-use Rattle.ocfl_item.specs.Judging.{CostFits}
-use Rattle.ocfl_walk.specs.Walks.{Stands, GivesOut}
-use Rattle.ocfl_item.specs.declared.fault.Fault.{Fault}
+use Rattle.ocfl_walk.specs.{Ends.{is_past}, WalkCalls.{GoesDown, FailsOut}}
+use Rattle.ocfl_walk.specs.{Walks.{Stands, GivesOut}, declared.walk.Walk.{Walk}}
+use Rattle.ocfl_item.specs.{Judging.{CostFits}, declared.fault.Fault.{Fault}}
 use Rattle.ocfl_item.specs.declared.fault.Fault.TheVariants.{Output}
 use Rattle.ocfl_item.specs.declared.pending.Pending.{Pending}
-use Rattle.ocfl_walk.specs.declared.walk.Walk.{Walk}
-use Rattle.ocfl_scrub.specs.Call.{call_of}
-use Rattle.ocfl_scrub.specs.Passes.{IsAhead}
+use Rattle.ocfl_scrub.specs.{Call.{call_of}, Passes.{IsAhead}}
 use Rattle.ocfl_scrub.specs.Running.{limits_of, IsPaid, RunsWithin, RunStopsWithin}
-use Rattle.ocfl_scrub.specs.Starting.{end_of, entry, stand}
-use Rattle.ocfl_scrub.specs.Taking.{Takes, Misses}
-use Rattle.ocfl_scrub.specs.Written.{last_of}
-use Rattle.ocfl_scrub.specs.declared.kept.Met.{Met}
-use Rattle.ocfl_scrub.proofs.AuditsJoined.{audits_over}
-use Rattle.ocfl_scrub.proofs.MeterLaws.{paid_item}
+use Rattle.ocfl_scrub.specs.{Starting.{end_of, entry, stand}, Taking.{Takes, Misses}}
+use Rattle.ocfl_scrub.specs.{Written.{last_of}, declared.kept.Met.{Met}}
+use Rattle.ocfl_scrub.proofs.{AuditsJoined.{audits_over}, MeterLaws.{paid_item}}
 use Rattle.ocfl_scrub.proofs.Paying.{IsWithinBoth, Pays}
 use Rattle.ocfl_scrub.proofs.PayLaws.{pays_none, pays_took, pays_missed, pays_lost, pays_up_to, pays_finish}
 use Rattle.ocfl_scrub.proofs.RunLaws.{ended, spent_all, stopped}

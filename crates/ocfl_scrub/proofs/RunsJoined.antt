@@ -1,47 +1,34 @@
 -- Some runs of a part one after the other, by their places: a run, and then those that follow.
 use Rattle.std.proofs.Common.{◌≡◌, inl, inr, ℕ, zero, suc, ◌+◌, ◌-◌, ◌<◌, ◌≤◌, List, [], ◌∷◌, ◌++◌, refl, sym, ◌∙◌, ap, subst, true, false, Bool, Some, None, Option, append-nil, append_assoc, length, length-append, take, drop, arith}
-use Rattle.std.specs.Prelude.{◌||◌, cond, filter}
 use Rattle.std.proofs.lemmas.List.{map-append, take-append-drop}
-use Rattle.std.specs.Io.KnownBytes.{Appends}
 use Rattle.std.proofs.KnownBytes.{Appends-nil, Appends-trans}
-use Rattle.ocfl_tree.specs.Place.{Text, Place, place_cmp}
-use Rattle.ocfl_tree.specs.Ascending.{IsAscending, IsAmong}
-use Rattle.ocfl_tree.specs.StorageRoot.{StorageRoot}
-use Rattle.ocfl_tree.specs.Store.{Store}
+use Rattle.std.specs.{Prelude.{◌||◌, cond, filter}, Io.KnownBytes.{Appends}}
+use Rattle.ocfl_tree.specs.{Place.{Text, Place, place_cmp}, Ascending.{IsAscending, IsAmong}}
+use Rattle.ocfl_tree.specs.{StorageRoot.{StorageRoot}, Store.{Store}}
 use Rattle.ocfl_tree.specs.declared.store.Opening.{Opening}
-use Rattle.ocfl_report.specs.Line.{Item, found}
-use Rattle.ocfl_report.specs.Text.{text}
-use Rattle.ocfl_audit.specs.Audit.{total_cost}
-use Rattle.ocfl_audit.specs.Lines.{is_empty, is_hashed}
+use Rattle.ocfl_report.specs.{Line.{Item, found}, Text.{text}}
+use Rattle.ocfl_audit.specs.{Audit.{total_cost}, Lines.{is_empty, is_hashed}}
 use Rattle.ocfl_audit.specs.Trail.{content_trail, reads_inventory}
 use Rattle.ocfl_audit.specs.Zone.{Zone, skipped, hierarchy, inside, zone}
-use Rattle.ocfl_audit.specs.Due.{items_at, hashed_among}
-use Rattle.ocfl_audit.specs.Parts.{Part}
+use Rattle.ocfl_audit.specs.{Due.{items_at, hashed_among}, Parts.{Part}}
 use Rattle.ocfl_audit.specs.Runs.{Limits, total_files, cut, left, runs, runs_after, joined}
-use Rattle.ocfl_item.specs.Looking.{IsFront}
-use Rattle.ocfl_item.specs.Auditing.{Fails}
-use Rattle.ocfl_walk.specs.WalkCalls.{holder, holder_of}
-use Rattle.ocfl_item.specs.declared.fault.Fault.{Fault}
+use Rattle.ocfl_item.specs.{Looking.{IsFront}, Auditing.{Fails}, declared.fault.Fault.{Fault}}
 use Rattle.ocfl_item.specs.declared.fault.Fault.TheVariants.{Memory, Store as AtStore}
-use Rattle.ocfl_scrub.specs.Call.{call_of}
-use Rattle.ocfl_scrub.specs.Taking.{PartOf}
-use Rattle.ocfl_scrub.specs.Written.{places, last_of, Figures}
+use Rattle.ocfl_walk.specs.WalkCalls.{holder, holder_of}
+use Rattle.ocfl_scrub.specs.{Call.{call_of}, Taking.{PartOf}, Written.{places, last_of, Figures}}
 use Rattle.ocfl_scrub.specs.Running.{items_above_in, rest_in as rest_of, RunStopsWithin}
 use Rattle.ocfl_scrub.specs.Starting.{entry, due_within, read_in}
-use Rattle.ocfl_scrub.proofs.PartStarts.{above_in, due_within_ascends}
 use Rattle.ocfl_scrub.specs.declared.cycling.CycleStatus.{CycleStatus}
 use Rattle.ocfl_scrub.specs.declared.cycling.CycleStatus.TheVariants.{Ended, Spent, Stopped}
-use Rattle.ocfl_scrub.proofs.Lists.{ascends_left}
+use Rattle.ocfl_scrub.proofs.{PartStarts.{above_in, due_within_ascends}, Lists.{ascends_left}}
 use Rattle.ocfl_scrub.proofs.AuditsJoined.{items_before, items_behind, items_append, items_then}
-use Rattle.ocfl_item.proofs.AuditingLaws.{audits_fail, audits_nothing, audits_on}
 use Rattle.ocfl_scrub.proofs.PassLaws.{text_append, found_append, no_items, take_nothing}
-use Rattle.ocfl_scrub.proofs.TakeLaws.{nothing_of, memory_other}
-use Rattle.ocfl_scrub.proofs.AuditLaws.{places_of_items}
-use Rattle.ocfl_audit.proofs.RunLaws.{cost_append, files_append}
+use Rattle.ocfl_scrub.proofs.{TakeLaws.{nothing_of, memory_other}, AuditLaws.{places_of_items}}
 use Rattle.ocfl_scrub.proofs.CutLaws.{IsStop, cut_of_paid, left_of_paid, cut_and_left}
-use Rattle.ocfl_scrub.proofs.PartLaws.{stop_alike, stop_hashed}
-use Rattle.ocfl_scrub.proofs.NextLaws.{read_parts}
+use Rattle.ocfl_scrub.proofs.{PartLaws.{stop_alike, stop_hashed}, NextLaws.{read_parts}}
 use Rattle.ocfl_scrub.proofs.RunPlaces.{Took, Turn, first_place, front_is, rest_is, due_parts, front_length}
+use Rattle.ocfl_item.proofs.AuditingLaws.{audits_fail, audits_nothing, audits_on}
+use Rattle.ocfl_audit.proofs.RunLaws.{cost_append, files_append}
 
 -- ---- some runs
 

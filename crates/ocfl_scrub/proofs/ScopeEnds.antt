@@ -1,19 +1,12 @@
 -- What a command within a scope ends with.
 use Rattle.std.proofs.Common.{◌≡◌, refl, sym, ◌∙◌, ap, ℕ, ◌≤◌, List, [], ◌∷◌, ◌++◌, length, Option, Some, None, Vec, inl, inr}
-use Rattle.std.specs.Prelude.{◌≢◌, ◌⊎◌}
-use Rattle.std.specs.declared.alloc.Global.{Global}
 use Rattle.std.proofs.lemmas.Bool.{true≢false}
-use Rattle.ocfl_tree.specs.Place.{Text, Place}
-use Rattle.ocfl_tree.specs.declared.store.Opening.{Opening}
+use Rattle.std.specs.{Prelude.{◌≢◌, ◌⊎◌}, declared.alloc.Global.{Global}}
+use Rattle.ocfl_tree.specs.{Place.{Text, Place}, declared.store.Opening.{Opening}}
 use Rattle.ocfl_report.specs.Line.{Item}
-use Rattle.ocfl_audit.specs.Audit.{audit}
-use Rattle.ocfl_audit.specs.Parts.{branch, within}
-use Rattle.ocfl_audit.specs.Trail.{unread_of}
-use Rattle.ocfl_cursor.specs.Cursor.{Cursor}
-use Rattle.ocfl_cursor.specs.Part.{IsPartText}
-use Rattle.ocfl_cursor.specs.Refusal.{IsTextOf}
-use Rattle.ocfl_cursor.specs.Stop.{max_part_text}
-use Rattle.ocfl_cursor.specs.declared.ends.PartEnds.{PartEnds}
+use Rattle.ocfl_audit.specs.{Audit.{audit}, Parts.{branch, within}, Trail.{unread_of}}
+use Rattle.ocfl_cursor.specs.{Cursor.{Cursor}, Part.{IsPartText}, Refusal.{IsTextOf}}
+use Rattle.ocfl_cursor.specs.{Stop.{max_part_text}, declared.ends.PartEnds.{PartEnds}}
 use Rattle.ocfl_cursor.specs.declared.refused.PartRefused.{PartRefused}
 use Rattle.ocfl_cursor.specs.declared.refused.PartRefused.TheVariants as refused
 use Rattle.ocfl_cursor.proofs.PartLimited.{read_as_part}
@@ -22,15 +15,12 @@ use Rattle.ocfl_deed.specs.declared.deed.Deed.{Deed}
 use Rattle.ocfl_deed.specs.declared.deed.Deed.TheVariants as deed
 use Rattle.ocfl_item.specs.declared.fault.Fault.{Fault}
 use Rattle.ocfl_item.specs.declared.fault.Fault.TheVariants as fault
-use Rattle.ocfl_scrub.specs.Call.{Call}
-use Rattle.ocfl_scrub.specs.Noting.{IsStopNote}
+use Rattle.ocfl_scrub.specs.{Call.{Call}, Noting.{IsStopNote}}
 use Rattle.ocfl_scrub.specs.Performing.{HandsBack, IsSaid, Performs, RefusesRightly}
 use Rattle.ocfl_scrub.specs.Scoping.{BranchAudited, HandsBackIn, IsBranchNote, IsSaidIn, PartRefusesRightly, PerformsIn, RefusesRightlyIn}
-use Rattle.ocfl_scrub.specs.WholeAudit.{AuditEndsWithin}
-use Rattle.ocfl_scrub.specs.Written.{places, last_of}
-use Rattle.ocfl_scrub.specs.declared.checking.AuditStatus.{AuditStatus}
+use Rattle.ocfl_scrub.specs.{WholeAudit.{AuditEndsWithin}, Written.{places, last_of}}
+use Rattle.ocfl_scrub.specs.{declared.checking.AuditStatus.{AuditStatus}, declared.note.Note.{Note}}
 use Rattle.ocfl_scrub.specs.declared.checking.AuditStatus.TheVariants as end
-use Rattle.ocfl_scrub.specs.declared.note.Note.{Note}
 use Rattle.ocfl_scrub.specs.declared.note.Note.TheVariants as note
 use Rattle.ocfl_scope.specs.declared.scope.Scope.TheVariants as scope
 

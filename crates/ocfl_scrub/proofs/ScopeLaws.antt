@@ -1,23 +1,14 @@
 -- What is said and handed back after a command within a scope.
 use Rattle.std.proofs.Common.{◌≡◌, sym, ◌∙◌, ap, subst, ℕ, List, [], Option, Bool, Vec}
-use Rattle.std.specs.Io.KnownBytes.{Appends}
-use Rattle.std.specs.declared.alloc.Global.{Global}
-use Rattle.ocfl_tree.specs.Place.{Text}
-use Rattle.ocfl_tree.specs.StorageRoot.{StorageRoot}
-use Rattle.ocfl_tree.specs.Store.{Store}
-use Rattle.ocfl_report.specs.Line.{found}
-use Rattle.ocfl_report.specs.Text.{text}
-use Rattle.ocfl_audit.specs.Audit.{audit}
-use Rattle.ocfl_audit.specs.Parts.{Part, within}
+use Rattle.std.specs.{Io.KnownBytes.{Appends}, declared.alloc.Global.{Global}}
+use Rattle.ocfl_tree.specs.{Place.{Text}, StorageRoot.{StorageRoot}, Store.{Store}}
+use Rattle.ocfl_report.specs.{Line.{found}, Text.{text}}
+use Rattle.ocfl_audit.specs.{Audit.{audit}, Parts.{Part, within}}
 use Rattle.ocfl_deed.specs.declared.deed.Deed.{Deed}
-use Rattle.ocfl_scrub.specs.Call.{call_of}
-use Rattle.ocfl_scrub.specs.Noting.{status_of}
-use Rattle.ocfl_scrub.specs.Performing.{PartAudited, Performs}
-use Rattle.ocfl_scrub.specs.Scoping.{PerformsIn}
-use Rattle.ocfl_scrub.specs.WholeAudit.{AuditEndsWithin}
-use Rattle.ocfl_scrub.specs.declared.auditing.AuditEnd.{AuditEnd}
+use Rattle.ocfl_scrub.specs.{Call.{call_of}, Noting.{status_of}, Performing.{PartAudited, Performs}}
+use Rattle.ocfl_scrub.specs.{Scoping.{PerformsIn}, WholeAudit.{AuditEndsWithin}}
+use Rattle.ocfl_scrub.specs.{declared.auditing.AuditEnd.{AuditEnd}, declared.note.Note.{Note}}
 use Rattle.ocfl_scrub.specs.declared.checking.AuditStatus.TheVariants as end
-use Rattle.ocfl_scrub.specs.declared.note.Note.{Note}
 use Rattle.ocfl_scrub.specs.declared.note.Note.TheVariants as note
 use Rattle.ocfl_scope.specs.declared.scope.Scope.{Scope}
 

@@ -1,22 +1,14 @@
 -- One item, judged and written.
 use Rattle.std.proofs.Common.{◌≡◌, ◌≢◌, ℕ, ◌+◌, List, [], ◌∷◌, refl, sym, ◌∙◌, ap, subst, true, false, Bool, Option, take, append-nil, arith}
-use Rattle.std.specs.Prelude.{cond, ◌||◌}
-use Rattle.std.specs.Io.KnownBytes.{Appends}
 use Rattle.std.proofs.KnownBytes.{Appends-nil}
-use Rattle.ocfl_tree.specs.Place.{Text, Place}
-use Rattle.ocfl_tree.specs.StorageRoot.{StorageRoot}
-use Rattle.ocfl_tree.specs.Store.{Store, Did}
-use Rattle.ocfl_report.specs.Line.{Line, found}
-use Rattle.ocfl_report.specs.Text.{lines_text, text}
-use Rattle.ocfl_audit.specs.Audit.{total_cost}
-use Rattle.ocfl_audit.specs.Due.{hashed_among, items_at}
-use Rattle.ocfl_item.specs.Looking.{IsFront, failures_by}
-use Rattle.ocfl_item.specs.Auditing.{Fails}
-use Rattle.ocfl_item.specs.Judging.{Judges, JudgeFails}
-use Rattle.ocfl_item.specs.declared.fault.Fault.{Fault}
+use Rattle.std.specs.{Prelude.{cond, ◌||◌}, Io.KnownBytes.{Appends}}
+use Rattle.ocfl_tree.specs.{Place.{Text, Place}, StorageRoot.{StorageRoot}, Store.{Store, Did}}
+use Rattle.ocfl_report.specs.{Line.{Line, found}, Text.{lines_text, text}}
+use Rattle.ocfl_audit.specs.{Audit.{total_cost}, Due.{hashed_among, items_at}}
+use Rattle.ocfl_item.specs.{Looking.{IsFront, failures_by}, Auditing.{Fails}}
+use Rattle.ocfl_item.specs.{Judging.{Judges, JudgeFails}, declared.fault.Fault.{Fault}}
 use Rattle.ocfl_item.specs.declared.fault.Fault.TheVariants.{Store as AtStore, Memory, Output}
-use Rattle.ocfl_scrub.specs.Call.{call_of}
-use Rattle.ocfl_scrub.specs.Taking.{WritesLines, PartOf, Takes, Misses, finds}
+use Rattle.ocfl_scrub.specs.{Call.{call_of}, Taking.{WritesLines, PartOf, Takes, Misses, finds}}
 use Rattle.ocfl_walk.proofs.FoundLaws.{none_hashed}
 
 pub or_none : (b : Bool) → (b || false) ≡ b

@@ -1,16 +1,15 @@
 -- Which texts say that no line was cut short.
 use Rattle.std.proofs.Common.{◌≡◌, refl, sym, subst, ℕ, List, [], Option, IsSome, false, inl, inr}
-use Rattle.std.specs.Prelude.{◌≢◌, ◌⊎◌}
 use Rattle.std.proofs.KnownBytes.{Appends-nil}
-use Rattle.ocfl_tree.specs.Place.{Text, Place}
-use Rattle.ocfl_tree.specs.Store.{Store}
+use Rattle.std.specs.Prelude.{◌≢◌, ◌⊎◌}
+use Rattle.ocfl_tree.specs.{Place.{Text, Place}, Store.{Store}}
 use Rattle.ocfl_cursor.specs.declared.limits.Limits.{Limits as MadeLimits}
 use Rattle.ocfl_deed.specs.declared.deed.Deed.{Deed}
 use Rattle.ocfl_deed.specs.declared.deed.Deed.TheVariants as deed
 use Rattle.ocfl_scrub.specs.Noting.{WritesWhole}
 use Rattle.ocfl_scrub.specs.Performing.{AnswersOnAnyStore, ShowsWith, WritesBy}
-use Rattle.ocfl_scrub.specs.declared.note.Note.TheVariants as note
 use Rattle.ocfl_scrub.specs.declared.performing.Performed.{Performed}
+use Rattle.ocfl_scrub.specs.declared.note.Note.TheVariants as note
 
 unwritten : (old new : Option (List ℕ)) → new ≡ old → WritesWhole old new
 unwritten old new e = subst (WritesWhole old) (sym e) (false, ([], Appends-nil old, refl))

@@ -1,37 +1,27 @@
 -- A call lists the directory of each file that it opens: on the way down to where it begins, or
 -- from there on.
 use Rattle.std.proofs.Common.{◌≡◌, ◌⊎◌, inl, inr, ℕ, List, [], ◌∷◌, ◌++◌, append-nil, append_assoc, refl, sym, ◌∙◌, ap, ap₂, subst, Bool, true, false, cond, take, Option, Some, None}
-use Rattle.std.specs.Prelude.{◌&&◌, not}
-use Rattle.std.specs.Ordering.{is_lt, ordering_then}
+use Rattle.std.specs.{Prelude.{◌&&◌, not}, Ordering.{is_lt, ordering_then}}
 use Rattle.std.specs.declared.cmp.Ordering.{Ordering}
 use Rattle.std.specs.declared.cmp.Ordering.TheVariants.{Less, Equal, Greater}
 use Rattle.ocfl_tree.specs.Place.{Text, Place, place_cmp, text_cmp}
 use Rattle.ocfl_tree.specs.Ascending.{IsAmong, IsAscending, IsBeforeAll}
-use Rattle.ocfl_tree.specs.StorageRoot.{StorageRoot}
-use Rattle.ocfl_tree.specs.Store.{Store}
+use Rattle.ocfl_tree.specs.{StorageRoot.{StorageRoot}, Store.{Store}}
 use Rattle.ocfl_tree.proofs.Bools.{and_second}
 use Rattle.ocfl_tree.proofs.Orders.{among_filter, among_from_filter, among_left, among_map, among_right, below_from_greater, not_below_itself, place_cmp_exact, place_cmp_total, true_not_false}
-use Rattle.ocfl_tree.proofs.Stores.{among_either}
-use Rattle.ocfl_tree.proofs.Places.{text_cmp_exact}
+use Rattle.ocfl_tree.proofs.{Stores.{among_either}, Places.{text_cmp_exact}}
 use Rattle.ocfl_audit.specs.Between.{IsBeyond, IsWithin, is_looked_into, looked_between}
-use Rattle.ocfl_audit.specs.Due.{due}
-use Rattle.ocfl_audit.specs.Lines.{is_hashed}
-use Rattle.ocfl_audit.specs.Parts.{Part, lies_in}
-use Rattle.ocfl_audit.specs.Walk.{is_reached}
+use Rattle.ocfl_audit.specs.{Due.{due}, Lines.{is_hashed}, Parts.{Part, lies_in}, Walk.{is_reached}}
 use Rattle.ocfl_audit.proofs.BelowLaws.{above_self, less_from}
 use Rattle.ocfl_audit.proofs.BetweenLaws.{among_between, is_directory}
 use Rattle.ocfl_audit.proofs.PartLaws.{places_within_is}
-use Rattle.ocfl_item.specs.Auditing.{LiesIn}
-use Rattle.ocfl_item.specs.Looking.{way_to}
-use Rattle.ocfl_item.specs.declared.fault.Fault.{Fault}
-use Rattle.ocfl_walk.specs.Before.{directory_of}
-use Rattle.ocfl_walk.specs.Ends.{is_past}
+use Rattle.ocfl_item.specs.{Auditing.{LiesIn}, Looking.{way_to}, declared.fault.Fault.{Fault}}
+use Rattle.ocfl_walk.specs.{Before.{directory_of}, Ends.{is_past}}
 use Rattle.ocfl_walk.specs.WalkCalls.{AreAllListed, GoesDown, way_of}
 use Rattle.ocfl_walk.proofs.BeforeLaws.{below_from, directory_is, not_below}
 use Rattle.ocfl_walk.proofs.EndLaws.{not_past_down}
 use Rattle.ocfl_scrub.specs.Starting.{FilesLieIn, due_within, end_of, entry, entry_by, first_place, greater_of, is_before, looked_in, stand, unless_root}
-use Rattle.ocfl_scrub.proofs.DirectoryLaws.{has_directory, hashed_within}
-use Rattle.ocfl_scrub.proofs.Lists.{ascends_across}
+use Rattle.ocfl_scrub.proofs.{DirectoryLaws.{has_directory, hashed_within}, Lists.{ascends_across}}
 use Rattle.ocfl_scrub.proofs.Passing.{Halts, due_in}
 use Rattle.ocfl_scrub.proofs.PartStarts.{due_starts, due_within_ascends, lies_exact, looked_starts, not_less_first, nothing_less, unless_root_is}
 use Rattle.ocfl_scrub.proofs.PassLaws.{among_beyond, looked_further, not_less_or, take_nothing}

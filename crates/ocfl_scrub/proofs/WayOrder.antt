@@ -3,20 +3,18 @@ use Rattle.std.proofs.Common.{◌≡◌, ◌⊎◌, inl, inr, List, [], ◌∷�
 use Rattle.std.proofs.lemmas.List.{map-append}
 use Rattle.ocfl_tree.specs.Place.{Text, Place, place_cmp}
 use Rattle.ocfl_tree.specs.Ascending.{IsAscending, IsAmong, IsBeforeAll}
-use Rattle.std.specs.declared.cmp.Ordering.TheVariants.{Less}
 use Rattle.ocfl_tree.specs.StorageRoot.{StorageRoot}
+use Rattle.std.specs.declared.cmp.Ordering.TheVariants.{Less}
 use Rattle.ocfl_tree.proofs.Orders.{among_left, place_cmp_total}
 use Rattle.ocfl_audit.specs.Zone.{Zone, skipped, hierarchy, inside, zone, beginnings}
-use Rattle.ocfl_audit.specs.Between.{IsBeyond}
-use Rattle.ocfl_audit.specs.Parts.{Part}
-use Rattle.ocfl_audit.specs.Trail.{reads_inventory}
+use Rattle.ocfl_audit.specs.{Between.{IsBeyond}, Parts.{Part}, Trail.{reads_inventory}}
 use Rattle.ocfl_audit.proofs.AuditExists.{zone_is}
 use Rattle.ocfl_audit.proofs.BelowLaws.{cmp_behind, above_self, from_append, ascends_append}
 use Rattle.ocfl_item.specs.Looking.{way_to, IsFront}
 use Rattle.ocfl_walk.specs.WalkCalls.{holder_of, way_of, holder}
 use Rattle.ocfl_scrub.proofs.Lists.{nothing_front, ascends_left, ascends_across}
-use Rattle.ocfl_scrub.specs.Starting.{entry, looked_in, read_in}
 use Rattle.ocfl_scrub.proofs.PartStarts.{looked_in_ascends, read_in_ascends, looked_in_beyond, read_in_beyond}
+use Rattle.ocfl_scrub.specs.Starting.{entry, looked_in, read_in}
 
 -- ---- the way to a place
 

@@ -1,8 +1,6 @@
 -- Calls that did the same to two stores.
 use Rattle.std.specs.Prelude.{◌≡◌, ℕ, ◌+◌, List, ◌++◌, Option}
-use Rattle.ocfl_tree.specs.Place.{Text, Place}
-use Rattle.ocfl_tree.specs.Store.{Store}
-use Rattle.ocfl_tree.specs.declared.store.Opening.{Opening}
+use Rattle.ocfl_tree.specs.{Place.{Text, Place}, Store.{Store}, declared.store.Opening.{Opening}}
 
 -- what calls added to what a store tells, and what they left of the open file and of the largest
 -- read

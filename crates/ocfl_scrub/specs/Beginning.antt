@@ -1,8 +1,7 @@
 -- Where a run begins.
 use Rattle.std.specs.Prelude.{◌≡◌, ◌<◌, ◌≤◌, ◌+◌, ◌^◌, Option, length, IfSome}
 use Rattle.ocfl_tree.specs.Place.{Place}
-use Rattle.ocfl_cursor.specs.Cursor.{Cursor, IsCursor}
-use Rattle.ocfl_cursor.specs.Moves.{at_start}
+use Rattle.ocfl_cursor.specs.{Cursor.{Cursor, IsCursor}, Moves.{at_start}}
 use Rattle.ocfl_scrub.specs.Running.{place_in, begun, IsWorn}
 
 -- a place that a cursor can hold has at most 255 names

@@ -1,10 +1,7 @@
 -- A call over a storage root: what the store tells, and what is known of the output, before it and
 -- after it.
-use Rattle.std.specs.Prelude.{◌≡◌, ℕ, List, Bool, Option, Some}
-use Rattle.std.specs.Io.KnownBytes.{Appends}
-use Rattle.ocfl_tree.specs.Place.{Text}
-use Rattle.ocfl_tree.specs.StorageRoot.{StorageRoot}
-use Rattle.ocfl_tree.specs.Store.{Store, IfTold}
+use Rattle.std.specs.{Prelude.{◌≡◌, ℕ, List, Bool, Option, Some}, Io.KnownBytes.{Appends}}
+use Rattle.ocfl_tree.specs.{Place.{Text}, StorageRoot.{StorageRoot}, Store.{Store, IfTold}}
 use Rattle.ocfl_item.specs.Judging.{HasShortFiles}
 
 pub record Call : Type 0 where

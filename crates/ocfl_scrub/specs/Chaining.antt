@@ -1,19 +1,16 @@
 -- A cycle, of the whole or of a part, as the runs that it made, each from the cursor that the one
 -- before it answered.
-use Rattle.std.specs.Prelude.{◌≡◌, ◌≤◌, ◌⊎◌, List, [], ◌∷◌, ◌++◌, map, length}
-use Rattle.std.specs.List.{list_any}
-use Rattle.ocfl_audit.specs.Parts.{Part, whole}
-use Rattle.ocfl_audit.specs.Runs.{Limits}
+use Rattle.std.specs.{Prelude.{◌≡◌, ◌≤◌, ◌⊎◌, List, [], ◌∷◌, ◌++◌, map, length}, List.{list_any}}
+use Rattle.ocfl_audit.specs.{Parts.{Part, whole}, Runs.{Limits}}
 use Rattle.ocfl_cursor.specs.Cursor.{Cursor, new_cursor}
 use Rattle.ocfl_item.specs.declared.fault.Fault.{Fault}
 use Rattle.ocfl_item.specs.declared.fault.Fault.TheVariants as fault
-use Rattle.ocfl_scrub.specs.Call.{Call, call_of}
-use Rattle.ocfl_scrub.specs.Running.{RunsFromWithin}
+use Rattle.ocfl_scrub.specs.{Call.{Call, call_of}, Running.{RunsFromWithin}}
 use Rattle.ocfl_scrub.specs.declared.running.RunEnd.{RunEnd}
 use Rattle.ocfl_scrub.specs.declared.running.RunStatus.{RunStatus}
-use Rattle.ocfl_scrub.specs.declared.running.RunStatus.TheVariants as run
 use Rattle.ocfl_scrub.specs.declared.cycling.CycleEnd.{CycleEnd}
 use Rattle.ocfl_scrub.specs.declared.cycling.CycleStatus.{CycleStatus}
+use Rattle.ocfl_scrub.specs.declared.running.RunStatus.TheVariants as run
 use Rattle.ocfl_scrub.specs.declared.cycling.CycleStatus.TheVariants as status
 
 -- a run: the call that it was, its limits, and what it answered

@@ -1,20 +1,13 @@
 -- What checking one place does.
 use Rattle.std.specs.Prelude.{◌≡◌, ◌≢◌, List, [], ◌∷◌, Bool, not, Some, AllPairs}
-use Rattle.ocfl_tree.specs.Place.{Text, Place}
-use Rattle.ocfl_tree.specs.StorageRoot.{StorageRoot}
+use Rattle.ocfl_tree.specs.{Place.{Text, Place}, StorageRoot.{StorageRoot}}
 use Rattle.ocfl_tree.specs.declared.store.Opening.{Opening}
-use Rattle.ocfl_report.specs.Line.{Item, found}
-use Rattle.ocfl_report.specs.Text.{text}
-use Rattle.ocfl_audit.specs.Lines.{is_empty}
-use Rattle.ocfl_audit.specs.Trail.{unread_of}
-use Rattle.ocfl_audit.specs.Walk.{item_at}
-use Rattle.ocfl_item.specs.Looking.{way_to, IsFront}
-use Rattle.ocfl_item.specs.Auditing.{Audits, Fails}
-use Rattle.ocfl_walk.specs.WalkCalls.{holder}
+use Rattle.ocfl_report.specs.{Line.{Item, found}, Text.{text}}
+use Rattle.ocfl_audit.specs.{Lines.{is_empty}, Trail.{unread_of}, Walk.{item_at}}
+use Rattle.ocfl_item.specs.{Looking.{way_to, IsFront}, Auditing.{Audits, Fails}}
 use Rattle.ocfl_item.specs.declared.fault.Fault.{Fault}
-use Rattle.ocfl_scrub.specs.Call.{Call, Writes}
-use Rattle.ocfl_scrub.specs.Starting.{FilesLieIn}
-use Rattle.ocfl_scrub.specs.Taking.{PartOf}
+use Rattle.ocfl_walk.specs.WalkCalls.{holder}
+use Rattle.ocfl_scrub.specs.{Call.{Call, Writes}, Starting.{FilesLieIn}, Taking.{PartOf}}
 use Rattle.ocfl_scrub.specs.declared.checking.AuditStatus.{AuditStatus}
 use Rattle.ocfl_scrub.specs.declared.checking.AuditStatus.TheVariants as end
 

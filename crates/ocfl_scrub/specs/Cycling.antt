@@ -1,21 +1,15 @@
 -- What a cycle does on any store, and the headline.
 use Rattle.std.specs.Prelude.{◌≡◌, ◌≢◌, ◌≤◌, ◌+◌, ◌/◌, ◌↔◌, ℕ, List, [], ◌∷◌, ◌++◌, Bool, true, false, Option, All, length, ⊤}
 use Rattle.ocfl_tree.specs.declared.store.Opening.{Opening}
-use Rattle.ocfl_report.specs.Line.{Item}
-use Rattle.ocfl_report.specs.Text.{text}
-use Rattle.ocfl_audit.specs.Audit.{audit, total_cost}
-use Rattle.ocfl_audit.specs.Due.{hashed_among}
-use Rattle.ocfl_audit.specs.Parts.{Part, within}
+use Rattle.ocfl_report.specs.{Line.{Item}, Text.{text}}
+use Rattle.ocfl_audit.specs.{Audit.{audit, total_cost}, Due.{hashed_among}, Parts.{Part, within}}
 use Rattle.ocfl_audit.specs.Trail.{content_trail}
 use Rattle.ocfl_audit.specs.Runs.{Limits, total_files, StaysWithin, runs, joined, IsAtLeast}
 use Rattle.ocfl_cursor.specs.Cursor.{ended, new_cursor}
 use Rattle.ocfl_cursor.specs.declared.limits.Limits.{Limits as MadeLimits}
 use Rattle.ocfl_item.specs.declared.fault.Fault.TheVariants as fault
-use Rattle.ocfl_scrub.specs.Call.{Call, Writes}
-use Rattle.ocfl_scrub.specs.Chaining.{IsMadeOf}
-use Rattle.ocfl_scrub.specs.Taking.{WritesLines}
-use Rattle.ocfl_scrub.specs.Written.{places}
-use Rattle.ocfl_scrub.specs.declared.cycling.CycleEnd.{CycleEnd}
+use Rattle.ocfl_scrub.specs.{Call.{Call, Writes}, Chaining.{IsMadeOf}, Taking.{WritesLines}}
+use Rattle.ocfl_scrub.specs.{Written.{places}, declared.cycling.CycleEnd.{CycleEnd}}
 use Rattle.ocfl_scrub.specs.declared.cycling.CycleStatus.{CycleStatus}
 use Rattle.ocfl_scrub.specs.declared.cycling.CycleStatus.TheVariants as status
 

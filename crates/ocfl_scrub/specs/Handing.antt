@@ -4,28 +4,20 @@
 use Rattle.std.specs.Prelude.{◌≡◌, ℕ, List, [], ◌∷◌, ◌++◌, Bool, true, false, Option, Some, None, Vec, IsSome, flat_map, map, option_map, ⊤}
 use mathlib.Core.Logic.{inl, inr}
 use Rattle.std.specs.declared.alloc.Global.{Global}
-use Rattle.ocfl_tree.specs.Place.{Text, Place}
-use Rattle.ocfl_tree.specs.StorageRoot.{StorageRoot}
-use Rattle.ocfl_tree.specs.Store.{Store}
+use Rattle.ocfl_tree.specs.{Place.{Text, Place}, StorageRoot.{StorageRoot}, Store.{Store}}
 use Rattle.ocfl_tree.specs.declared.store.Opening.{Opening}
 use Rattle.ocfl_report.specs.Text.{text}
-use Rattle.ocfl_audit.specs.Runs.{Limits}
-use Rattle.ocfl_audit.specs.Trail.{content_trail}
-use Rattle.ocfl_cursor.specs.Cursor.{Cursor}
-use Rattle.ocfl_cursor.specs.Part.{IsPartText}
-use Rattle.ocfl_cursor.specs.declared.ends.PartEnds.{PartEnds}
+use Rattle.ocfl_audit.specs.{Runs.{Limits}, Trail.{content_trail}}
+use Rattle.ocfl_cursor.specs.{Cursor.{Cursor}, Part.{IsPartText}, declared.ends.PartEnds.{PartEnds}}
 use Rattle.ocfl_cursor.specs.declared.limits.Limits.{Limits as MadeLimits}
 use Rattle.ocfl_deed.specs.declared.deed.Deed.TheVariants as deed
 use Rattle.ocfl_scope.specs.declared.scope.Scope.TheVariants as scope
 use Rattle.ocfl_scope.specs.Numbered.{part_between}
-use Rattle.ocfl_scrub.specs.Call.{Call, known_call}
-use Rattle.ocfl_scrub.specs.Joining.{PartRun, items_out}
-use Rattle.ocfl_scrub.specs.Running.{limits_of, place_in}
-use Rattle.ocfl_scrub.specs.Scoping.{PartRunPerformed, PerformsIn}
-use Rattle.ocfl_scrub.specs.declared.note.Note.{Note}
-use Rattle.ocfl_scrub.specs.declared.note.Note.TheVariants as note
-use Rattle.ocfl_scrub.specs.declared.performing.Performed.{Performed}
+use Rattle.ocfl_scrub.specs.{Call.{Call, known_call}, Joining.{PartRun, items_out}}
+use Rattle.ocfl_scrub.specs.{Running.{limits_of, place_in}, Scoping.{PartRunPerformed, PerformsIn}}
+use Rattle.ocfl_scrub.specs.{declared.note.Note.{Note}, declared.performing.Performed.{Performed}}
 use Rattle.ocfl_scrub.specs.declared.running.RunEnd.{RunEnd}
+use Rattle.ocfl_scrub.specs.declared.note.Note.TheVariants as note
 
 -- ---- one call
 

@@ -2,15 +2,10 @@
 -- together; even if runs stop, and meet files that they cannot read.
 use Rattle.std.specs.Prelude.{◌≡◌, ◌≢◌, ℕ, List, [], ◌∷◌, ◌++◌, Bool, true, false, not, Option, Some, None, filter, flat_map, length}
 use Rattle.std.specs.Ordering.{is_lt}
-use Rattle.ocfl_tree.specs.Place.{Text, Place, place_cmp}
-use Rattle.ocfl_tree.specs.StorageRoot.{StorageRoot}
-use Rattle.ocfl_tree.specs.Store.{Store}
-use Rattle.ocfl_tree.specs.declared.store.Opening.{Opening}
-use Rattle.ocfl_report.specs.Line.{Item}
-use Rattle.ocfl_report.specs.Text.{text}
-use Rattle.ocfl_audit.specs.Audit.{Unread, after}
-use Rattle.ocfl_audit.specs.Parts.{Part}
-use Rattle.ocfl_audit.specs.Runs.{Limits}
+use Rattle.ocfl_tree.specs.{Place.{Text, Place, place_cmp}, StorageRoot.{StorageRoot}}
+use Rattle.ocfl_tree.specs.{Store.{Store}, declared.store.Opening.{Opening}}
+use Rattle.ocfl_report.specs.{Line.{Item}, Text.{text}}
+use Rattle.ocfl_audit.specs.{Audit.{Unread, after}, Parts.{Part}, Runs.{Limits}}
 use Rattle.ocfl_audit.specs.Trail.{content_trail, unread_of}
 use Rattle.ocfl_cursor.specs.Cursor.{State, start, behind, ended, Cursor}
 use Rattle.ocfl_scrub.specs.Call.{Call, known_call}

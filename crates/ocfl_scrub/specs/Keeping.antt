@@ -1,23 +1,15 @@
 -- A run that goes on with the walk of the run before it.
 use Rattle.std.specs.Prelude.{◌≡◌, List, ◌++◌, false, Option, Some, None, ⊤}
-use Rattle.ocfl_tree.specs.Place.{Place}
-use Rattle.ocfl_tree.specs.StorageRoot.{StorageRoot}
-use Rattle.ocfl_tree.specs.Store.{Store}
+use Rattle.ocfl_tree.specs.{Place.{Place}, StorageRoot.{StorageRoot}, Store.{Store}}
 use Rattle.ocfl_tree.specs.declared.store.Opening.{Opening}
-use Rattle.ocfl_audit.specs.Parts.{Part}
-use Rattle.ocfl_audit.specs.Runs.{Limits}
-use Rattle.ocfl_audit.specs.Trail.{heads_of}
+use Rattle.ocfl_audit.specs.{Parts.{Part}, Runs.{Limits}, Trail.{heads_of}}
 use Rattle.ocfl_cursor.specs.Cursor.{Cursor}
 use Rattle.ocfl_item.specs.Looking.{IsFront}
-use Rattle.ocfl_walk.specs.Ends.{is_past}
-use Rattle.ocfl_walk.specs.WalkCalls.{GoesDown, Walks}
-use Rattle.ocfl_walk.specs.Walks.{Gives}
-use Rattle.ocfl_scrub.specs.Alike.{IsAlike}
-use Rattle.ocfl_scrub.specs.Call.{Call, call_of}
+use Rattle.ocfl_walk.specs.{Ends.{is_past}, WalkCalls.{GoesDown, Walks}, Walks.{Gives}}
+use Rattle.ocfl_scrub.specs.{Alike.{IsAlike}, Call.{Call, call_of}}
 use Rattle.ocfl_scrub.specs.Running.{RunsFromWithin, place_in}
 use Rattle.ocfl_scrub.specs.Starting.{end_of, entry, looked_in, read_in, stand}
-use Rattle.ocfl_scrub.specs.declared.kept.KeptWalk.{KeptWalk}
-use Rattle.ocfl_scrub.specs.declared.kept.Met.{Met}
+use Rattle.ocfl_scrub.specs.{declared.kept.KeptWalk.{KeptWalk}, declared.kept.Met.{Met}}
 use Rattle.ocfl_scrub.specs.declared.running.RunEnd.{RunEnd}
 
 -- the place of the item that the walk met, and none where the next run begins a walk

@@ -1,11 +1,10 @@
 -- The line that a note is shown as.
-use Rattle.std.specs.Prelude.{◌++◌, [], Bool, true, false, codes}
-use Rattle.std.specs.Fmt.{decimal}
+use Rattle.std.specs.{Prelude.{◌++◌, [], Bool, true, false, codes}, Fmt.{decimal}}
 use Rattle.ocfl_tree.specs.Place.{Text}
 use Rattle.ocfl_report.specs.Text.{place_text}
 use Rattle.ocfl_cursor.specs.declared.refused.PartRefused.{PartRefused}
-use Rattle.ocfl_cursor.specs.declared.refused.PartRefused.TheVariants as part
 use Rattle.ocfl_cursor.specs.declared.refused.Refused.{Refused}
+use Rattle.ocfl_cursor.specs.declared.refused.PartRefused.TheVariants as part
 use Rattle.ocfl_cursor.specs.declared.refused.Refused.TheVariants as refused
 use Rattle.ocfl_scrub.specs.declared.note.Note.{Note}
 use Rattle.ocfl_scrub.specs.declared.note.Note.TheVariants as note

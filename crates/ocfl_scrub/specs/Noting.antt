@@ -2,36 +2,28 @@
 use Rattle.std.specs.Prelude.{◌≡◌, ◌≢◌, ◌⊎◌, ◌≤◌, ℕ, List, Bool, true, false, Option, Some, None, Vec, ⊤}
 use Rattle.std.specs.declared.alloc.Global.{Global}
 use Rattle.ocfl_tree.specs.Place.{Text, Place}
-use Rattle.ocfl_cursor.specs.Cursor.{Cursor, IsCursor}
-use Rattle.ocfl_cursor.specs.declared.reading.CursorStop.{CursorStop}
-use Rattle.ocfl_cursor.specs.declared.reading.CursorStop.TheVariants as stop
+use Rattle.ocfl_cursor.specs.{Cursor.{Cursor, IsCursor}, declared.reading.CursorStop.{CursorStop}}
 use Rattle.ocfl_cursor.specs.declared.refused.PartRefused.{PartRefused}
+use Rattle.ocfl_cursor.specs.declared.showing.ShowStop.{ShowStop}
+use Rattle.ocfl_cursor.specs.declared.reading.CursorStop.TheVariants as stop
 use Rattle.ocfl_cursor.specs.declared.refused.PartRefused.TheVariants as part
 use Rattle.ocfl_cursor.specs.declared.refused.Refused.TheVariants as refused
-use Rattle.ocfl_cursor.specs.declared.showing.ShowStop.{ShowStop}
 use Rattle.ocfl_cursor.specs.declared.showing.ShowStop.TheVariants as show
 use Rattle.ocfl_item.specs.declared.fault.Fault.{Fault}
 use Rattle.ocfl_item.specs.declared.fault.Fault.TheVariants as fault
-use Rattle.ocfl_scrub.specs.Call.{Call, IsUnfailing}
-use Rattle.ocfl_scrub.specs.Taking.{WritesLines}
-use Rattle.ocfl_scrub.specs.Checking.{CheckEnds}
-use Rattle.ocfl_scrub.specs.WholeAudit.{AuditEndsWithin}
-use Rattle.ocfl_scrub.specs.declared.auditing.AuditEnd.{AuditEnd}
+use Rattle.ocfl_scrub.specs.{Call.{Call, IsUnfailing}, Taking.{WritesLines}, Checking.{CheckEnds}}
+use Rattle.ocfl_scrub.specs.{WholeAudit.{AuditEndsWithin}, declared.auditing.AuditEnd.{AuditEnd}}
 use Rattle.ocfl_scrub.specs.declared.checking.CheckEnd.{CheckEnd}
 use Rattle.ocfl_scrub.specs.declared.checking.AuditStatus.{AuditStatus}
-use Rattle.ocfl_scrub.specs.declared.checking.AuditStatus.TheVariants as end
-use Rattle.ocfl_audit.specs.Parts.{Part}
-use Rattle.ocfl_audit.specs.Runs.{Limits}
-use Rattle.ocfl_scrub.specs.Running.{RunsFromWithin, RunsCleanlyWithin}
-use Rattle.ocfl_scrub.specs.Chaining.{CycleOfRuns}
-use Rattle.ocfl_scrub.specs.Cycling.{HeadlineOf}
-use Rattle.ocfl_scrub.specs.declared.running.RunEnd.{RunEnd}
+use Rattle.ocfl_scrub.specs.{Running.{RunsFromWithin, RunsCleanlyWithin}, Chaining.{CycleOfRuns}}
+use Rattle.ocfl_scrub.specs.{Cycling.{HeadlineOf}, declared.running.RunEnd.{RunEnd}}
 use Rattle.ocfl_scrub.specs.declared.running.RunStatus.{RunStatus}
-use Rattle.ocfl_scrub.specs.declared.running.RunStatus.TheVariants as run
 use Rattle.ocfl_scrub.specs.declared.cycling.CycleEnd.{CycleEnd}
-use Rattle.ocfl_scrub.specs.declared.cycling.CycleStatus.{CycleStatus}
+use Rattle.ocfl_scrub.specs.{declared.cycling.CycleStatus.{CycleStatus}, declared.note.Note.{Note}}
+use Rattle.ocfl_scrub.specs.declared.checking.AuditStatus.TheVariants as end
+use Rattle.ocfl_audit.specs.{Parts.{Part}, Runs.{Limits}}
+use Rattle.ocfl_scrub.specs.declared.running.RunStatus.TheVariants as run
 use Rattle.ocfl_scrub.specs.declared.cycling.CycleStatus.TheVariants as cycle
-use Rattle.ocfl_scrub.specs.declared.note.Note.{Note}
 use Rattle.ocfl_scrub.specs.declared.note.Note.TheVariants as note
 
 -- 0 without a finding, 1 with one

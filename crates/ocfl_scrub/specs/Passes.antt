@@ -1,24 +1,15 @@
 -- What a pass over the items of a part does, by a walk that begins or that goes on.
 use Rattle.std.specs.Prelude.{◌≡◌, ◌≢◌, ◌^◌, ◌≤◌, ℕ, List, false, Option, Some, None}
-use Rattle.ocfl_tree.specs.Place.{Place}
-use Rattle.ocfl_tree.specs.StorageRoot.{StorageRoot}
-use Rattle.ocfl_tree.specs.Store.{Store}
-use Rattle.ocfl_audit.specs.Parts.{Part}
-use Rattle.ocfl_audit.specs.Runs.{Limits}
+use Rattle.ocfl_tree.specs.{Place.{Place}, StorageRoot.{StorageRoot}, Store.{Store}}
+use Rattle.ocfl_audit.specs.{Parts.{Part}, Runs.{Limits}}
 use Rattle.ocfl_cursor.specs.declared.limits.Limits.{Limits as MadeLimits}
 use Rattle.ocfl_item.specs.declared.fault.Fault.TheVariants as fault
-use Rattle.ocfl_walk.specs.Ends.{is_past}
-use Rattle.ocfl_walk.specs.WalkCalls.{GoesDown, Walks}
-use Rattle.ocfl_walk.specs.Walks.{Gives}
-use Rattle.ocfl_scrub.specs.Alike.{IsAlike}
-use Rattle.ocfl_scrub.specs.Beginning.{IsShort}
-use Rattle.ocfl_scrub.specs.Call.{Call, call_of}
+use Rattle.ocfl_walk.specs.{Ends.{is_past}, WalkCalls.{GoesDown, Walks}, Walks.{Gives}}
+use Rattle.ocfl_scrub.specs.{Alike.{IsAlike}, Beginning.{IsShort}, Call.{Call, call_of}}
 use Rattle.ocfl_scrub.specs.Keeping.{IsMet, IsReadyIn, LooksAbove, met_in}
 use Rattle.ocfl_scrub.specs.Running.{IsPaid, RunEndsWithin, limits_of}
-use Rattle.ocfl_scrub.specs.Starting.{end_of, entry, stand}
-use Rattle.ocfl_scrub.specs.Taking.{WritesLines}
-use Rattle.ocfl_scrub.specs.declared.kept.Met.{Met}
-use Rattle.ocfl_scrub.specs.declared.running.Pass.{Pass}
+use Rattle.ocfl_scrub.specs.{Starting.{end_of, entry, stand}, Taking.{WritesLines}}
+use Rattle.ocfl_scrub.specs.{declared.kept.Met.{Met}, declared.running.Pass.{Pass}}
 use Rattle.ocfl_scrub.specs.declared.running.RunStatus.TheVariants as status
 
 -- on every store

@@ -1,24 +1,15 @@
 -- What the function of the program does, by what is asked for.
 use Rattle.std.specs.Prelude.{◌≡◌, ◌≢◌, ◌↔◌, ◌⊎◌, ◌<◌, ℕ, List, [], Option, Some, None, Vec, IfSome, IsNone, IsSome, map, replicate, take, length, string_bytes, ⊤}
-use Rattle.std.specs.declared.alloc.Global.{Global}
-use Rattle.std.specs.Borrow.{MutBor}
-use Rattle.std.specs.Io.KnownBytes.{Appends}
-use Rattle.ocfl_tree.specs.Place.{Text, Place}
-use Rattle.ocfl_tree.specs.Name.{IsPlace}
-use Rattle.ocfl_report.specs.Line.{found}
-use Rattle.ocfl_report.specs.Text.{place_text, text}
-use Rattle.ocfl_audit.specs.Audit.{audit}
-use Rattle.ocfl_audit.specs.Parts.{Part, whole, within}
-use Rattle.ocfl_audit.specs.Runs.{Limits}
-use Rattle.ocfl_cursor.specs.Cursor.{Cursor, IsCursor, new_cursor, cursor_text}
-use Rattle.ocfl_cursor.specs.Moves.{after_run}
-use Rattle.ocfl_cursor.specs.Refusal.{IsTextOf}
-use Rattle.ocfl_cursor.specs.Shown.{IsShownFrom, UnshownRightly}
-use Rattle.ocfl_cursor.specs.Stop.{StopsRightly}
-use Rattle.ocfl_cursor.specs.declared.limits.Limits.{Limits as MadeLimits}
+use Rattle.std.specs.{declared.alloc.Global.{Global}, Borrow.{MutBor}, Io.KnownBytes.{Appends}}
+use Rattle.ocfl_tree.specs.{Place.{Text, Place}, Name.{IsPlace}}
+use Rattle.ocfl_report.specs.{Line.{found}, Text.{place_text, text}}
+use Rattle.ocfl_audit.specs.{Audit.{audit}, Parts.{Part, whole, within}, Runs.{Limits}}
+use Rattle.ocfl_cursor.specs.{Cursor.{Cursor, IsCursor, new_cursor, cursor_text}, Moves.{after_run}}
+use Rattle.ocfl_cursor.specs.{Refusal.{IsTextOf}, Shown.{IsShownFrom, UnshownRightly}}
+use Rattle.ocfl_cursor.specs.{Stop.{StopsRightly}, declared.limits.Limits.{Limits as MadeLimits}}
 use Rattle.ocfl_cursor.specs.declared.reading.CursorStop.{CursorStop}
-use Rattle.ocfl_cursor.specs.declared.reading.CursorStop.TheVariants as stop
 use Rattle.ocfl_cursor.specs.declared.showing.ShowStop.{ShowStop}
+use Rattle.ocfl_cursor.specs.declared.reading.CursorStop.TheVariants as stop
 use Rattle.ocfl_cursor.specs.declared.showing.ShowStop.TheVariants as show
 use Rattle.ocfl_deed.specs.declared.deed.Deed.{Deed}
 use Rattle.ocfl_deed.specs.declared.deed.Deed.TheVariants as deed
@@ -28,8 +19,7 @@ use Rattle.ocfl_scrub.specs.Noting.{IsStatus, status_of, IsAuditSaid, IsCheckSai
 use Rattle.ocfl_scrub.specs.Running.{IsPaid, IsWorn, begun, limits_of, state_after}
 use Rattle.ocfl_scrub.specs.declared.auditing.AuditEnd.{AuditEnd}
 use Rattle.ocfl_scrub.specs.declared.performing.Performed.{Performed}
-use Rattle.ocfl_scrub.specs.declared.running.RunEnd.{RunEnd}
-use Rattle.ocfl_scrub.specs.declared.note.Note.{Note}
+use Rattle.ocfl_scrub.specs.{declared.running.RunEnd.{RunEnd}, declared.note.Note.{Note}}
 use Rattle.ocfl_scrub.specs.declared.note.Note.TheVariants as note
 
 -- ---- the cursor that is read

@@ -1,22 +1,17 @@
 -- What one run does: of a part of a storage root it takes what is above its cursor's place, as far
 -- as its limits allow.
 use Rattle.std.specs.Prelude.{◌≡◌, ◌≢◌, ◌↔◌, ◌<◌, ◌≤◌, ◌+◌, ◌^◌, ℕ, List, [], ◌∷◌, ◌++◌, Bool, false, Option, Some, None, length, ⊤}
-use Rattle.ocfl_tree.specs.Place.{Place}
-use Rattle.ocfl_tree.specs.StorageRoot.{StorageRoot}
+use Rattle.ocfl_tree.specs.{Place.{Place}, StorageRoot.{StorageRoot}}
 use Rattle.ocfl_tree.specs.declared.store.Opening.{Opening}
-use Rattle.ocfl_report.specs.Line.{Item}
-use Rattle.ocfl_report.specs.Text.{text}
-use Rattle.ocfl_audit.specs.Audit.{audit, after}
-use Rattle.ocfl_audit.specs.Parts.{Part, whole, within}
+use Rattle.ocfl_report.specs.{Line.{Item}, Text.{text}}
+use Rattle.ocfl_audit.specs.{Audit.{audit, after}, Parts.{Part, whole, within}}
 use Rattle.ocfl_audit.specs.Runs.{Limits, sum_of, cut, left}
-use Rattle.ocfl_cursor.specs.Cursor.{State, start, behind, ended, Cursor}
-use Rattle.ocfl_cursor.specs.Meter.{max_cost}
+use Rattle.ocfl_cursor.specs.{Cursor.{State, start, behind, ended, Cursor}, Meter.{max_cost}}
 use Rattle.ocfl_cursor.specs.Moves.{next_cycle, after_run}
 use Rattle.ocfl_cursor.specs.declared.limits.Limits.{Limits as MadeLimits}
 use Rattle.ocfl_item.specs.declared.fault.Fault.{Fault}
 use Rattle.ocfl_item.specs.declared.fault.Fault.TheVariants as fault
-use Rattle.ocfl_scrub.specs.Call.{Call, Writes}
-use Rattle.ocfl_scrub.specs.Taking.{WritesLines}
+use Rattle.ocfl_scrub.specs.{Call.{Call, Writes}, Taking.{WritesLines}}
 use Rattle.ocfl_scrub.specs.Starting.{items_in, LooksOver, StopsLooking}
 use Rattle.ocfl_scrub.specs.Written.{places, last_of, Figures, StopsWithin}
 use Rattle.ocfl_scrub.specs.declared.running.RunEnd.{RunEnd}

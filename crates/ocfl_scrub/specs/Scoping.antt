@@ -2,26 +2,21 @@
 use Rattle.std.specs.Prelude.{◌≡◌, ◌⊎◌, ℕ, Bool, Option, None, Vec, IfSome, ⊤}
 use Rattle.std.specs.declared.alloc.Global.{Global}
 use Rattle.ocfl_tree.specs.Place.{Text, Place}
-use Rattle.ocfl_audit.specs.Parts.{Part, branch}
-use Rattle.ocfl_audit.specs.Runs.{Limits}
-use Rattle.ocfl_cursor.specs.Cursor.{Cursor, new_cursor}
-use Rattle.ocfl_cursor.specs.Part.{part_text, IsPartText}
-use Rattle.ocfl_cursor.specs.Stop.{PartStopsRightly}
-use Rattle.ocfl_cursor.specs.declared.ends.PartEnds.{PartEnds}
+use Rattle.ocfl_audit.specs.{Parts.{Part, branch}, Runs.{Limits}}
+use Rattle.ocfl_cursor.specs.{Cursor.{Cursor, new_cursor}, Part.{part_text, IsPartText}}
+use Rattle.ocfl_cursor.specs.{Stop.{PartStopsRightly}, declared.ends.PartEnds.{PartEnds}}
 use Rattle.ocfl_cursor.specs.declared.part_reading.PartCursorStop.{PartCursorStop}
 use Rattle.ocfl_cursor.specs.declared.part_reading.PartCursorStop.TheVariants as stop
 use Rattle.ocfl_deed.specs.declared.deed.Deed.{Deed}
 use Rattle.ocfl_deed.specs.declared.deed.Deed.TheVariants as deed
-use Rattle.ocfl_scope.specs.Numbered.{part_between}
-use Rattle.ocfl_scope.specs.declared.scope.Scope.{Scope}
+use Rattle.ocfl_scope.specs.{Numbered.{part_between}, declared.scope.Scope.{Scope}}
 use Rattle.ocfl_scope.specs.declared.scope.Scope.TheVariants as scope
 use Rattle.ocfl_scrub.specs.Call.{Call}
 use Rattle.ocfl_scrub.specs.Noting.{IsAuditSaid, IsRunSaid, IsAuditNote, IsPartRefusedNote}
 use Rattle.ocfl_scrub.specs.Performing.{IfRead, IsSaid, RefusesRightly, HandedBack, HandsBack, PartAudited, OutOfMemoryFirst, RunMade, RunUnmade, RunUnread, RunWorn, Performs}
-use Rattle.ocfl_scrub.specs.Running.{limits_of}
-use Rattle.ocfl_scrub.specs.declared.checking.AuditStatus.{AuditStatus}
-use Rattle.ocfl_scrub.specs.declared.checking.AuditStatus.TheVariants as end
+use Rattle.ocfl_scrub.specs.{Running.{limits_of}, declared.checking.AuditStatus.{AuditStatus}}
 use Rattle.ocfl_scrub.specs.declared.note.Note.{Note}
+use Rattle.ocfl_scrub.specs.declared.checking.AuditStatus.TheVariants as end
 use Rattle.ocfl_scrub.specs.declared.note.Note.TheVariants as note
 
 -- ---- what is said

@@ -2,25 +2,17 @@
 -- on.
 use Rattle.std.specs.Prelude.{◌≡◌, List, [], ◌∷◌, ◌++◌, Bool, true, Option, Some, None, if◌then◌else◌}
 use Rattle.std.specs.Ordering.{is_lt}
-use Rattle.ocfl_tree.specs.Place.{Place, place_cmp}
-use Rattle.ocfl_tree.specs.Ascending.{IsAmong}
-use Rattle.ocfl_tree.specs.StorageRoot.{StorageRoot}
-use Rattle.ocfl_tree.specs.declared.store.Opening.{Opening}
+use Rattle.ocfl_tree.specs.{Place.{Place, place_cmp}, Ascending.{IsAmong}}
+use Rattle.ocfl_tree.specs.{StorageRoot.{StorageRoot}, declared.store.Opening.{Opening}}
 use Rattle.ocfl_report.specs.Line.{Item}
-use Rattle.ocfl_audit.specs.Audit.{audit}
-use Rattle.ocfl_audit.specs.Due.{due}
-use Rattle.ocfl_audit.specs.Lines.{is_hashed}
+use Rattle.ocfl_audit.specs.{Audit.{audit}, Due.{due}, Lines.{is_hashed}}
 use Rattle.ocfl_audit.specs.Between.{looked_between, read_between}
-use Rattle.ocfl_audit.specs.Parts.{Part, within, places_within}
-use Rattle.ocfl_audit.specs.Trail.{unread_of}
-use Rattle.ocfl_item.specs.Looking.{IsFront}
-use Rattle.ocfl_item.specs.Auditing.{Audits, Fails, LiesIn}
+use Rattle.ocfl_audit.specs.{Parts.{Part, within, places_within}, Trail.{unread_of}}
+use Rattle.ocfl_item.specs.{Looking.{IsFront}, Auditing.{Audits, Fails, LiesIn}}
 use Rattle.ocfl_item.specs.declared.fault.Fault.{Fault}
-use Rattle.ocfl_walk.specs.WalkCalls.{way_of, holder}
-use Rattle.ocfl_walk.specs.Before.{directory_of, place_before}
+use Rattle.ocfl_walk.specs.{WalkCalls.{way_of, holder}, Before.{directory_of, place_before}}
 use Rattle.ocfl_walk.specs.declared.end.End.{End}
-use Rattle.ocfl_scrub.specs.Call.{Call}
-use Rattle.ocfl_scrub.specs.declared.part.Part.{Part as MadePart}
+use Rattle.ocfl_scrub.specs.{Call.{Call}, declared.part.Part.{Part as MadePart}}
 
 -- the part that a call is given
 abbrev pub part_of : MadePart → Part

@@ -1,16 +1,10 @@
 -- What judging one item and writing its lines does.
 use Rattle.std.specs.Prelude.{◌≡◌, ◌≢◌, ◌<◌, ℕ, List, [], ◌∷◌, Bool, length, take, Option}
-use Rattle.std.specs.List.{list_any}
-use Rattle.std.specs.Io.KnownBytes.{Appends}
-use Rattle.ocfl_tree.specs.Place.{Text, Place}
-use Rattle.ocfl_tree.specs.declared.store.Opening.{Opening}
-use Rattle.ocfl_report.specs.Line.{Line, is_finding_code, found}
-use Rattle.ocfl_report.specs.Text.{lines_text, text}
-use Rattle.ocfl_audit.specs.Audit.{total_cost}
-use Rattle.ocfl_audit.specs.Trail.{places_of}
-use Rattle.ocfl_audit.specs.Due.{hashed_among, items_at}
-use Rattle.ocfl_item.specs.Looking.{IsFront}
-use Rattle.ocfl_item.specs.Auditing.{Audits, Fails}
+use Rattle.std.specs.{List.{list_any}, Io.KnownBytes.{Appends}}
+use Rattle.ocfl_tree.specs.{Place.{Text, Place}, declared.store.Opening.{Opening}}
+use Rattle.ocfl_report.specs.{Line.{Line, is_finding_code, found}, Text.{lines_text, text}}
+use Rattle.ocfl_audit.specs.{Audit.{total_cost}, Trail.{places_of}, Due.{hashed_among, items_at}}
+use Rattle.ocfl_item.specs.{Looking.{IsFront}, Auditing.{Audits, Fails}}
 use Rattle.ocfl_item.specs.declared.fault.Fault.{Fault}
 use Rattle.ocfl_item.specs.declared.fault.Fault.TheVariants as fault
 use Rattle.ocfl_scrub.specs.Call.{Call, Writes}

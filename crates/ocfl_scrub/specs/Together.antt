@@ -1,24 +1,17 @@
 -- What the runs of a cycle do together.
 use Rattle.std.specs.Prelude.{◌≡◌, ◌<◌, ◌≤◌, ◌+◌, ◌-◌, ◌↔◌, ℕ, List, ◌++◌, Bool, true, false, Option, None, All, map, take, length}
-use Rattle.ocfl_tree.specs.Place.{Place}
-use Rattle.ocfl_tree.specs.StorageRoot.{StorageRoot}
+use Rattle.ocfl_tree.specs.{Place.{Place}, StorageRoot.{StorageRoot}}
 use Rattle.ocfl_tree.specs.declared.store.Opening.{Opening}
-use Rattle.ocfl_report.specs.Line.{Item}
-use Rattle.ocfl_report.specs.Text.{text}
-use Rattle.ocfl_audit.specs.Audit.{total_cost}
-use Rattle.ocfl_audit.specs.Parts.{Part, whole}
+use Rattle.ocfl_report.specs.{Line.{Item}, Text.{text}}
+use Rattle.ocfl_audit.specs.{Audit.{total_cost}, Parts.{Part, whole}}
 use Rattle.ocfl_audit.specs.Runs.{Limits, runs, joined, IsAtLeast, FilesFit, sum_of}
 use Rattle.ocfl_cursor.specs.Cursor.{State, ended, Cursor}
-use Rattle.ocfl_item.specs.Looking.{IsFront}
-use Rattle.ocfl_item.specs.Auditing.{Audits, Fails}
+use Rattle.ocfl_item.specs.{Looking.{IsFront}, Auditing.{Audits, Fails}}
 use Rattle.ocfl_item.specs.declared.fault.Fault.{Fault}
 use Rattle.ocfl_walk.specs.WalkCalls.{holder}
-use Rattle.ocfl_scrub.specs.Call.{Call, Writes}
-use Rattle.ocfl_scrub.specs.Starting.{entry, items_in, read_in}
-use Rattle.ocfl_scrub.specs.Written.{places, last_of, Figures, StopsWithin}
-use Rattle.ocfl_scrub.specs.Running.{state_at}
-use Rattle.ocfl_scrub.specs.Cycling.{enough}
-use Rattle.ocfl_scrub.specs.declared.cycling.CycleStatus.{CycleStatus}
+use Rattle.ocfl_scrub.specs.{Call.{Call, Writes}, Starting.{entry, items_in, read_in}}
+use Rattle.ocfl_scrub.specs.{Written.{places, last_of, Figures, StopsWithin}, Running.{state_at}}
+use Rattle.ocfl_scrub.specs.{Cycling.{enough}, declared.cycling.CycleStatus.{CycleStatus}}
 use Rattle.ocfl_scrub.specs.declared.cycling.CycleStatus.TheVariants as status
 
 abbrev pub cycle_state : CycleStatus → Option Place → State

@@ -1,14 +1,11 @@
 -- What the audit of a storage root, or of a part of it, does.
 use Rattle.std.specs.Prelude.{◌≡◌, ◌≢◌, ℕ, List, ◌++◌, Bool, false, Option, None}
-use Rattle.ocfl_tree.specs.Place.{Place}
-use Rattle.ocfl_tree.specs.declared.store.Opening.{Opening}
-use Rattle.ocfl_report.specs.Line.{found}
-use Rattle.ocfl_report.specs.Text.{text}
+use Rattle.ocfl_tree.specs.{Place.{Place}, declared.store.Opening.{Opening}}
+use Rattle.ocfl_report.specs.{Line.{found}, Text.{text}}
 use Rattle.ocfl_audit.specs.Parts.{Part, whole}
 use Rattle.ocfl_item.specs.declared.fault.Fault.{Fault}
 use Rattle.ocfl_item.specs.declared.fault.Fault.TheVariants as fault
-use Rattle.ocfl_scrub.specs.Call.{Call, Writes}
-use Rattle.ocfl_scrub.specs.Taking.{WritesLines}
+use Rattle.ocfl_scrub.specs.{Call.{Call, Writes}, Taking.{WritesLines}}
 use Rattle.ocfl_scrub.specs.Starting.{items_in, LooksOver, StopsLooking}
 use Rattle.ocfl_scrub.specs.Written.{places, last_of, StopsWithin}
 use Rattle.ocfl_scrub.specs.declared.auditing.AuditEnd.{AuditEnd}

@@ -1,8 +1,6 @@
 //! Checking one place.
 ghost use Rattle.std.specs.Prelude.{◌≡◌, ◌≢◌, true, false};
-ghost use Rattle.ocfl_scrub.specs.Call.{WhereTold};
-ghost use Rattle.ocfl_scrub.specs.Checking.{CheckEnds};
-ghost use Rattle.ocfl_scrub.specs.Taking.{WritesLines};
+ghost use Rattle.ocfl_scrub.specs.{Call.{WhereTold}, Checking.{CheckEnds}, Taking.{WritesLines}};
 
 use crate::taking::take_item;
 use ocfl_digest::Block;

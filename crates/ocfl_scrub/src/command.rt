@@ -1,16 +1,10 @@
 //! The commands `check` and `audit`: status and note.
 ghost use Rattle.std.specs.Prelude.{◌≡◌, ◌≢◌, ◌⊎◌, [], false, true};
-ghost use Rattle.ocfl_tree.specs.Place.{Place as ModelPlace};
-ghost use Rattle.ocfl_tree.specs.Name.{IsPlace};
-ghost use Rattle.ocfl_report.specs.Line.{found as found_in};
-ghost use Rattle.ocfl_report.specs.Text.{place_text, text};
-ghost use Rattle.ocfl_audit.specs.Audit.{audit as whole_audit};
-ghost use Rattle.ocfl_audit.specs.Parts.{whole};
+ghost use Rattle.ocfl_tree.specs.{Place.{Place as ModelPlace}, Name.{IsPlace}};
+ghost use Rattle.ocfl_report.specs.{Line.{found as found_in}, Text.{place_text, text}};
+ghost use Rattle.ocfl_audit.specs.{Audit.{audit as whole_audit}, Parts.{whole}};
 ghost use Rattle.ocfl_scrub.specs.Call.{IsUnfailing, WhereTold, Writes};
-ghost use Rattle.ocfl_scrub.specs.Noting.{status_of, IsAuditNote, IsAuditSaid, IsCheckNote};
-ghost use Rattle.ocfl_scrub.specs.Noting.{IsCheckSaid, IsRefused, IsStatus, IsStopNote, IsStopSaid};
-ghost use Rattle.ocfl_scrub.specs.Noting.{AuditsWithNote, ChecksWithNote};
-ghost use Rattle.ocfl_scrub.specs.Noting.{ReportsOnAnyStore};
+ghost use Rattle.ocfl_scrub.specs.Noting.{status_of, IsAuditNote, IsAuditSaid, IsCheckNote, IsCheckSaid, IsRefused, IsStatus, IsStopNote, IsStopSaid, AuditsWithNote, ChecksWithNote, ReportsOnAnyStore};
 
 use crate::auditing::{AuditEnd, audit};
 use crate::checking::{AuditStatus, CheckEnd, check};

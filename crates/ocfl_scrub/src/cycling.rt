@@ -2,10 +2,8 @@
 //! its own.
 ghost use Rattle.std.specs.Prelude.{◌≡◌, ◌≤◌, false, map, IfErr, IfOk};
 ghost use Rattle.ocfl_cursor.specs.Cursor.{new_cursor};
-ghost use Rattle.ocfl_scrub.specs.Call.{WhereTold};
-ghost use Rattle.ocfl_scrub.specs.Chaining.{CycleOfRuns, CycleOfRunsWithin};
-ghost use Rattle.ocfl_scrub.specs.Cycling.{CyclesOnAnyStore};
-ghost use Rattle.ocfl_scrub.specs.Running.{limits_of};
+ghost use Rattle.ocfl_scrub.specs.{Call.{WhereTold}, Chaining.{CycleOfRuns, CycleOfRunsWithin}};
+ghost use Rattle.ocfl_scrub.specs.{Cycling.{CyclesOnAnyStore}, Running.{limits_of}};
 ghost use Rattle.ocfl_scrub.specs.Starting.{part_of};
 
 use crate::part::Part;

@@ -1,31 +1,21 @@
 //! The laws of calls that hand the cursor of a part from one to the next as bytes, as the program
 //! does from one process to another.
-ghost use Rattle.std.specs.Prelude.{◌≡◌, ◌≢◌, ◌≤◌, ◌+◌, ◌++◌, ◌/◌, ℕ, List, [], Option, Some, All};
-ghost use Rattle.std.specs.Prelude.{IsSome, flat_map, length, map};
+ghost use Rattle.std.specs.Prelude.{◌≡◌, ◌≢◌, ◌≤◌, ◌+◌, ◌++◌, ◌/◌, ℕ, List, [], Option, Some, All, IsSome, flat_map, length, map};
 ghost use Rattle.std.specs.List.{AllByRecursion};
-ghost use Rattle.ocfl_tree.specs.Place.{Text};
-ghost use Rattle.ocfl_tree.specs.StorageRoot.{StorageRoot};
+ghost use Rattle.ocfl_tree.specs.{Place.{Text}, StorageRoot.{StorageRoot}};
 ghost use Rattle.ocfl_tree.specs.declared.store.Opening.{Opening};
 ghost use Rattle.ocfl_report.specs.Text.{text};
-ghost use Rattle.ocfl_audit.specs.Audit.{audit, total_cost};
-ghost use Rattle.ocfl_audit.specs.Due.{hashed_among, item_places};
-ghost use Rattle.ocfl_audit.specs.Parts.{places_within, within};
-ghost use Rattle.ocfl_audit.specs.Runs.{IsAtLeast, total_files};
-ghost use Rattle.ocfl_cursor.specs.Cursor.{Cursor};
-ghost use Rattle.ocfl_cursor.specs.declared.ends.PartEnds.{PartEnds};
+ghost use Rattle.ocfl_audit.specs.{Audit.{audit, total_cost}, Due.{hashed_among, item_places}};
+ghost use Rattle.ocfl_audit.specs.{Parts.{places_within, within}, Runs.{IsAtLeast, total_files}};
+ghost use Rattle.ocfl_cursor.specs.{Cursor.{Cursor}, declared.ends.PartEnds.{PartEnds}};
 ghost use Rattle.ocfl_cursor.specs.declared.limits.Limits.{Limits as MadeLimits};
 ghost use Rattle.ocfl_deed.specs.declared.deed.Deed.TheVariants as deeds;
 ghost use Rattle.ocfl_scope.specs.Numbered.{AreAllFrom, part_between};
 ghost use Rattle.ocfl_scope.specs.declared.scope.Scope.TheVariants as scopes;
 ghost use Rattle.ocfl_scrub.specs.Call.{IsUnfailing, WhereTold};
-ghost use Rattle.ocfl_scrub.specs.Handing.{AreCalls, AreMadeCalls, BeginsCycle, CalledCycle};
-ghost use Rattle.ocfl_scrub.specs.Handing.{CalledWell, IsCalledCycle, IsMadeCycle, MadeCall};
-ghost use Rattle.ocfl_scrub.specs.Handing.{MadeCycle, MadeFrom, PartCall, SayEnded, bytes_stored};
-ghost use Rattle.ocfl_scrub.specs.Handing.{content_opened, limits_given, runs_made};
-ghost use Rattle.ocfl_scrub.specs.Handing.{stored_after, stored_last, written_by};
+ghost use Rattle.ocfl_scrub.specs.Handing.{AreCalls, AreMadeCalls, BeginsCycle, CalledCycle, CalledWell, IsCalledCycle, IsMadeCycle, MadeCall, MadeCycle, MadeFrom, PartCall, SayEnded, bytes_stored, content_opened, limits_given, runs_made, stored_after, stored_last, written_by};
 ghost use Rattle.ocfl_scrub.specs.Joining.{left_by, reports_of, unread_together, unstopped};
-ghost use Rattle.ocfl_scrub.specs.Performing.{bytes_of};
-ghost use Rattle.ocfl_scrub.specs.Scoping.{BeginsPartWith};
+ghost use Rattle.ocfl_scrub.specs.{Performing.{bytes_of}, Scoping.{BeginsPartWith}};
 ghost use Rattle.ocfl_scrub.specs.declared.note.Note.TheVariants as notes;
 
 use crate::part_performing::perform_part;

@@ -1,8 +1,7 @@
 //! The main promise: what a cycle keeps while the root stays unchanged and every call succeeds. It
 //! follows from what the contract of a cycle says of its runs (`told`).
 ghost use Rattle.std.specs.Prelude.{List};
-ghost use Rattle.ocfl_audit.specs.Parts.{Part};
-ghost use Rattle.ocfl_audit.specs.Runs.{Limits};
+ghost use Rattle.ocfl_audit.specs.{Parts.{Part}, Runs.{Limits}};
 ghost use Rattle.ocfl_scrub.specs.Call.{Call, IsUnfailing};
 ghost use Rattle.ocfl_scrub.specs.Chaining.{CycleOfRuns, CycleOfRunsWithin};
 ghost use Rattle.ocfl_scrub.specs.Cycling.{HeadlineOf, HeadlineOfPart};

@@ -1,13 +1,10 @@
 //! Parts of a storage root.
-ghost use Rattle.std.specs.Prelude.{◌≡◌, [], None, Some, Option, option_map, IfErr, IfOk};
-ghost use Rattle.std.specs.Prelude.{MatchResult};
+ghost use Rattle.std.specs.Prelude.{◌≡◌, [], None, Some, Option, option_map, IfErr, IfOk, MatchResult};
 ghost use Rattle.ocfl_audit.specs.Parts.{branch, whole};
 ghost use Rattle.ocfl_item.specs.Ways.{IsWayFault};
 ghost use Rattle.ocfl_scope.specs.Numbered.{part_between};
-ghost use Rattle.ocfl_walk.specs.WalkCalls.{GoDownFails, GoesDown};
-ghost use Rattle.ocfl_walk.specs.Walks.{IsLive, Stands};
-ghost use Rattle.ocfl_scrub.specs.Starting.{entry, first_place as first_of_part, part_of, stand};
-ghost use Rattle.ocfl_scrub.specs.Starting.{is_before as lies_before};
+ghost use Rattle.ocfl_walk.specs.{WalkCalls.{GoDownFails, GoesDown}, Walks.{IsLive, Stands}};
+ghost use Rattle.ocfl_scrub.specs.Starting.{entry, first_place as first_of_part, part_of, stand, is_before as lies_before};
 ghost use Rattle.ocfl_tree.specs.Store.{IfTold};
 
 use ocfl_cursor::PartEnds;

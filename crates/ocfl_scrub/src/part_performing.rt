@@ -3,17 +3,10 @@
 ghost use Rattle.std.specs.Prelude.{◌≡◌, ◌≢◌, IfErr, IfOk, None, Some};
 ghost use Rattle.ocfl_scope.specs.Numbered.{part_between as part_of_ends};
 ghost use Rattle.ocfl_scope.specs.declared.scope.Scope.TheVariants as scopes;
-ghost use Rattle.ocfl_scrub.specs.Call.{WhereTold};
-ghost use Rattle.ocfl_scrub.specs.Running.{limits_of};
-ghost use Rattle.ocfl_scrub.specs.Noting.{EndsUnread, IsAuditSaid, IsStatus};
-ghost use Rattle.ocfl_scrub.specs.Noting.{ReportsOnAnyStore, status_of};
-ghost use Rattle.ocfl_scrub.specs.Performing.{AnswersOnAnyStore};
-ghost use Rattle.ocfl_scrub.specs.Performing.{bytes_of};
-ghost use Rattle.ocfl_scrub.specs.Scoping.{BeginsPartWith, BranchPerformed, HandsBackIn};
-ghost use Rattle.ocfl_scrub.specs.Scoping.{IsBranchNote, IsBranchSaid, IsPartRunSaid, IsSaidIn};
-ghost use Rattle.ocfl_scrub.specs.Scoping.{IsPartUnreadNote, PartPerformed};
-ghost use Rattle.ocfl_scrub.specs.Scoping.{PartRefusesRightly, PartRunPerformed, PartStopsWith};
-ghost use Rattle.ocfl_scrub.specs.Scoping.{PerformsIn, RefusesRightlyIn};
+ghost use Rattle.ocfl_scrub.specs.{Call.{WhereTold}, Running.{limits_of}};
+ghost use Rattle.ocfl_scrub.specs.Noting.{EndsUnread, IsAuditSaid, IsStatus, ReportsOnAnyStore, status_of};
+ghost use Rattle.ocfl_scrub.specs.Performing.{AnswersOnAnyStore, bytes_of};
+ghost use Rattle.ocfl_scrub.specs.Scoping.{BeginsPartWith, BranchPerformed, HandsBackIn, IsBranchNote, IsBranchSaid, IsPartRunSaid, IsSaidIn, IsPartUnreadNote, PartPerformed, PartRefusesRightly, PartRunPerformed, PartStopsWith, PerformsIn, RefusesRightlyIn};
 
 use crate::auditing::{AuditEnd, audit_part};
 use crate::checking::AuditStatus;

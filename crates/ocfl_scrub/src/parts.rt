@@ -1,39 +1,28 @@
 //! The laws of parts: what the runs of a part wrote, joined, and what the parts of a storage root
 //! wrote together.
-ghost use Rattle.std.specs.Prelude.{◌≡◌, ◌≢◌, ◌≤◌, ◌+◌, ◌++◌, ◌/◌, ℕ, Bool, List, [], ◌∷◌};
-ghost use Rattle.std.specs.Prelude.{Option, None, All, false};
-ghost use Rattle.std.specs.Prelude.{filter, flat_map, length, map};
+ghost use Rattle.std.specs.Prelude.{◌≡◌, ◌≢◌, ◌≤◌, ◌+◌, ◌++◌, ◌/◌, ℕ, Bool, List, [], ◌∷◌, Option, None, All, false, filter, flat_map, length, map};
 ghost use Rattle.std.specs.List.{AllByRecursion};
-ghost use Rattle.ocfl_tree.specs.Place.{Place, Text, place_cmp};
-ghost use Rattle.ocfl_tree.specs.Ascending.{IsAmong, IsAscending};
-ghost use Rattle.ocfl_tree.specs.StorageRoot.{StorageRoot};
-ghost use Rattle.ocfl_tree.specs.Store.{Store};
+ghost use Rattle.ocfl_tree.specs.{Place.{Place, Text, place_cmp}, Ascending.{IsAmong, IsAscending}};
+ghost use Rattle.ocfl_tree.specs.{StorageRoot.{StorageRoot}, Store.{Store}};
 ghost use Rattle.ocfl_tree.specs.declared.store.Opening.{Opening};
 ghost use Rattle.ocfl_report.specs.Text.{text};
-ghost use Rattle.ocfl_audit.specs.Audit.{audit, total_cost};
-ghost use Rattle.ocfl_audit.specs.Due.{hashed_among, item_places};
-ghost use Rattle.ocfl_audit.specs.Lines.{is_empty};
-ghost use Rattle.ocfl_audit.specs.Parts.{Part, parts_of, places_within, within};
+ghost use Rattle.ocfl_audit.specs.{Audit.{audit, total_cost}, Due.{hashed_among, item_places}};
+ghost use Rattle.ocfl_audit.specs.{Lines.{is_empty}, Parts.{Part, parts_of, places_within, within}};
 ghost use Rattle.ocfl_audit.specs.Runs.{IsAtLeast, Limits, total_files};
 ghost use Rattle.ocfl_audit.specs.Trail.{content_trail, heads_of};
 ghost use Rattle.ocfl_cursor.specs.Cursor.{Cursor, ended};
 ghost use Rattle.ocfl_item.specs.Auditing.{FailedAt};
 ghost use Rattle.ocfl_item.specs.declared.fault.Fault.TheVariants as fault;
-ghost use Rattle.ocfl_scrub.specs.Call.{Call, known_call};
-ghost use Rattle.ocfl_scrub.specs.Chaining.{CycleOfRunsWithin, IsMadeOf};
-ghost use Rattle.ocfl_scrub.specs.Checking.{CheckEnds};
-ghost use Rattle.ocfl_scrub.specs.Openings.{OpensNear, OpensWithin};
+ghost use Rattle.ocfl_scrub.specs.{Call.{Call, known_call}, Chaining.{CycleOfRunsWithin, IsMadeOf}};
+ghost use Rattle.ocfl_scrub.specs.{Checking.{CheckEnds}, Openings.{OpensNear, OpensWithin}};
 ghost use Rattle.ocfl_scrub.specs.Running.{RunEndsWithin, RunsFromWithin, begun, place_in};
-ghost use Rattle.ocfl_scrub.specs.Joining.{AreOneCycle, AreRuns, IsPartCycle, IsWholeCycle};
-ghost use Rattle.ocfl_scrub.specs.Joining.{PartCycle, PartRun, Ran, cursor_after, is_taken, left_by};
-ghost use Rattle.ocfl_scrub.specs.Joining.{opened_by, reports_of, unread_together, unstopped};
-ghost use Rattle.ocfl_scrub.specs.Keeping.{RunsOn};
-ghost use Rattle.ocfl_scrub.specs.WholeAudit.{AuditEndsWithin};
+ghost use Rattle.ocfl_scrub.specs.Joining.{AreOneCycle, AreRuns, IsPartCycle, IsWholeCycle, PartCycle, PartRun, Ran, cursor_after, is_taken, left_by, opened_by, reports_of, unread_together, unstopped};
+ghost use Rattle.ocfl_scrub.specs.{Keeping.{RunsOn}, WholeAudit.{AuditEndsWithin}};
 ghost use Rattle.ocfl_scrub.specs.declared.checking.AuditStatus.{AuditStatus};
 ghost use Rattle.ocfl_scrub.specs.declared.cycling.CycleEnd.{CycleEnd};
-ghost use Rattle.ocfl_scrub.specs.declared.cycling.CycleStatus.TheVariants as cycle;
 ghost use Rattle.ocfl_scrub.specs.declared.running.RunEnd.{RunEnd};
 ghost use Rattle.ocfl_scrub.specs.declared.running.RunStatus.{RunStatus};
+ghost use Rattle.ocfl_scrub.specs.declared.cycling.CycleStatus.TheVariants as cycle;
 ghost use Rattle.ocfl_scrub.specs.declared.running.RunStatus.TheVariants as run;
 
 /// If no failure was counted, the reports of the runs of one cycle of a part, joined, are what the

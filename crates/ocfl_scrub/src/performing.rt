@@ -1,23 +1,10 @@
 //! What the program does for a command: the one function that the program and the tests call.
-ghost use Rattle.std.specs.Prelude.{◌≡◌, ◌≢◌, ◌↔◌, ◌⊎◌, ℕ, IfErr, IfOk, IsNone, IsSome, Some, Vec};
-ghost use Rattle.std.specs.Prelude.{List, replicate};
+ghost use Rattle.std.specs.Prelude.{◌≡◌, ◌≢◌, ◌↔◌, ◌⊎◌, ℕ, IfErr, IfOk, IsNone, IsSome, Some, Vec, List, replicate};
 ghost use Rattle.std.specs.declared.alloc.Global.{Global};
 ghost use Rattle.ocfl_cursor.specs.Cursor.{Cursor as CursorModel};
-ghost use Rattle.ocfl_scrub.specs.Call.{WhereTold};
-ghost use Rattle.ocfl_scrub.specs.Running.{limits_of};
-ghost use Rattle.ocfl_scrub.specs.Noting.{IsCycleNote, IsCycleSaid, IsRanSaid, IsRunNote};
-ghost use Rattle.ocfl_scrub.specs.Noting.{IsRunSaid, IsShowSaid, IsStatus, IsStoredNote};
-ghost use Rattle.ocfl_scrub.specs.Noting.{EndsUnread, IsPartRefusedNote, IsUnreadNote};
-ghost use Rattle.ocfl_scrub.specs.Noting.{IsUnshownNote};
-ghost use Rattle.ocfl_scrub.specs.Noting.{run_summary as summary_of_run, status_of};
-ghost use Rattle.ocfl_scrub.specs.Performing.{AnswersOnAnyStore};
-ghost use Rattle.ocfl_scrub.specs.Performing.{BeginsWith, CyclePerformed, HandsBack, IsKept};
-ghost use Rattle.ocfl_scrub.specs.Performing.{IsSaid, IsSilent, IsWhole};
-ghost use Rattle.ocfl_scrub.specs.Performing.{IsWithoutFile};
-ghost use Rattle.ocfl_scrub.specs.Performing.{Performs, RefusesRightly, RunPerformed};
-ghost use Rattle.ocfl_scrub.specs.Performing.{ShowsWith, StopsWith, UnshownSaid, WritesReport};
-ghost use Rattle.ocfl_scrub.specs.Performing.{bytes_of};
-ghost use Rattle.ocfl_scrub.specs.Performing.{equal_limits as limits_of_each};
+ghost use Rattle.ocfl_scrub.specs.{Call.{WhereTold}, Running.{limits_of}};
+ghost use Rattle.ocfl_scrub.specs.Noting.{IsCycleNote, IsCycleSaid, IsRanSaid, IsRunNote, IsRunSaid, IsShowSaid, IsStatus, IsStoredNote, EndsUnread, IsPartRefusedNote, IsUnreadNote, IsUnshownNote, run_summary as summary_of_run, status_of};
+ghost use Rattle.ocfl_scrub.specs.Performing.{AnswersOnAnyStore, BeginsWith, CyclePerformed, HandsBack, IsKept, IsSaid, IsSilent, IsWhole, IsWithoutFile, Performs, RefusesRightly, RunPerformed, ShowsWith, StopsWith, UnshownSaid, WritesReport, bytes_of, equal_limits as limits_of_each};
 
 use crate::command::{audited, checked, status, stop_note};
 use crate::cycling::{CycleEnd, CycleStatus, cycle};

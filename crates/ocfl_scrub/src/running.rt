@@ -1,18 +1,13 @@
 //! One run: the items of a part above the cursor's place, as far as the limits allow.
-ghost use Rattle.std.specs.Prelude.{◌≡◌, ◌≢◌, ◌≤◌, ◌^◌, true, false, None, Some};
-ghost use Rattle.std.specs.Prelude.{IfErr, IfOk};
-ghost use Rattle.ocfl_cursor.specs.Cursor.{IsShortPlace};
-ghost use Rattle.ocfl_cursor.specs.Meter.{IsMeter, MayStart};
+ghost use Rattle.std.specs.Prelude.{◌≡◌, ◌≢◌, ◌≤◌, ◌^◌, true, false, None, Some, IfErr, IfOk};
+ghost use Rattle.ocfl_cursor.specs.{Cursor.{IsShortPlace}, Meter.{IsMeter, MayStart}};
 ghost use Rattle.ocfl_cursor.specs.State.{state_of};
 ghost use Rattle.ocfl_tree.specs.Place.{Place as Spot};
 ghost use Rattle.ocfl_scrub.specs.Call.{IsUnfailing, WhereTold};
 ghost use Rattle.ocfl_scrub.specs.Keeping.{IsReady, IsReadyIn, RunsOn, met_at, met_in};
-ghost use Rattle.ocfl_scrub.specs.Passes.{IsPass, PassesOn, PassesWith};
-ghost use Rattle.ocfl_scrub.specs.Taking.{WritesLines};
+ghost use Rattle.ocfl_scrub.specs.{Passes.{IsPass, PassesOn, PassesWith}, Taking.{WritesLines}};
 ghost use Rattle.ocfl_scrub.specs.Beginning.{Begins, IsShort};
-ghost use Rattle.ocfl_scrub.specs.Running.{IsWorn, RunEndsWithin, RunsCleanly, place_in};
-ghost use Rattle.ocfl_scrub.specs.Running.{RunsCleanlyWithin, RunsFrom, RunsFromWithin};
-ghost use Rattle.ocfl_scrub.specs.Running.{RunsOnAnyStore, limits_of, state_after};
+ghost use Rattle.ocfl_scrub.specs.Running.{IsWorn, RunEndsWithin, RunsCleanly, place_in, RunsCleanlyWithin, RunsFrom, RunsFromWithin, RunsOnAnyStore, limits_of, state_after};
 ghost use Rattle.ocfl_scrub.specs.Starting.{part_of};
 
 use crate::kept::{KeptWalk, Met};

@@ -1,25 +1,18 @@
 //! What a command within a scope ends with.
-ghost use Rattle.std.specs.Prelude.{◌≡◌, ◌≢◌, ◌⊎◌, ◌≤◌, ◌++◌, ℕ, List, [], Option, Some, Vec};
-ghost use Rattle.std.specs.Prelude.{length};
+ghost use Rattle.std.specs.Prelude.{◌≡◌, ◌≢◌, ◌⊎◌, ◌≤◌, ◌++◌, ℕ, List, [], Option, Some, Vec, length};
 ghost use Rattle.std.specs.declared.alloc.Global.{Global};
-ghost use Rattle.ocfl_tree.specs.Place.{Place};
-ghost use Rattle.ocfl_tree.specs.declared.store.Opening.{Opening};
+ghost use Rattle.ocfl_tree.specs.{Place.{Place}, declared.store.Opening.{Opening}};
 ghost use Rattle.ocfl_audit.specs.Parts.{branch};
-ghost use Rattle.ocfl_cursor.specs.Cursor.{Cursor};
-ghost use Rattle.ocfl_cursor.specs.Part.{IsPartText};
-ghost use Rattle.ocfl_cursor.specs.Refusal.{IsTextOf};
-ghost use Rattle.ocfl_cursor.specs.Stop.{max_part_text};
-ghost use Rattle.ocfl_cursor.specs.declared.ends.PartEnds.{PartEnds};
+ghost use Rattle.ocfl_cursor.specs.{Cursor.{Cursor}, Part.{IsPartText}, Refusal.{IsTextOf}};
+ghost use Rattle.ocfl_cursor.specs.{Stop.{max_part_text}, declared.ends.PartEnds.{PartEnds}};
 ghost use Rattle.ocfl_cursor.specs.declared.refused.PartRefused.{PartRefused};
 ghost use Rattle.ocfl_cursor.specs.declared.refused.PartRefused.TheVariants as refused;
 ghost use Rattle.ocfl_deed.specs.declared.deed.Deed.{Deed};
 ghost use Rattle.ocfl_scope.specs.declared.scope.Scope.TheVariants as scope;
 ghost use Rattle.ocfl_scrub.specs.Call.{Call};
 ghost use Rattle.ocfl_scrub.specs.Performing.{HandsBack, IsSaid, Performs, RefusesRightly};
-ghost use Rattle.ocfl_scrub.specs.Scoping.{BranchAudited, HandsBackIn, IsSaidIn};
-ghost use Rattle.ocfl_scrub.specs.Scoping.{PartRefusesRightly, PerformsIn, RefusesRightlyIn};
-ghost use Rattle.ocfl_scrub.specs.Starting.{items_in};
-ghost use Rattle.ocfl_scrub.specs.declared.note.Note.{Note};
+ghost use Rattle.ocfl_scrub.specs.Scoping.{BranchAudited, HandsBackIn, IsSaidIn, PartRefusesRightly, PerformsIn, RefusesRightlyIn};
+ghost use Rattle.ocfl_scrub.specs.{Starting.{items_in}, declared.note.Note.{Note}};
 ghost use Rattle.ocfl_scrub.specs.declared.note.Note.TheVariants as note;
 
 /// Within the whole storage root a command ends as it does without a scope.

@@ -1,9 +1,7 @@
 //! One item: it is judged, and its lines go out as one piece.
 ghost use Rattle.std.specs.Prelude.{◌≡◌, ◌≢◌, ◌⊎◌, ◌||◌, IfErr, IfOk, MatchResult};
-ghost use Rattle.ocfl_item.specs.Judging.{CostFits};
-ghost use Rattle.ocfl_item.specs.Pending.{IsPending};
-ghost use Rattle.ocfl_scrub.specs.Call.{WhereTold};
-ghost use Rattle.ocfl_scrub.specs.Taking.{Misses, Takes, WritesLines};
+ghost use Rattle.ocfl_item.specs.{Judging.{CostFits}, Pending.{IsPending}};
+ghost use Rattle.ocfl_scrub.specs.{Call.{WhereTold}, Taking.{Misses, Takes, WritesLines}};
 
 use ocfl_digest::Block;
 use ocfl_item::Piece;

@@ -1,17 +1,11 @@
 -- One directory is listed, and the directories right below it are taken.
 use Rattle.std.proofs.Common.{◌≡◌, ℕ, ◌<◌, List, [], ◌∷◌, ◌++◌, refl, sym, ◌∙◌, ap, subst, true, false, Bool, length, append_assoc, arith, IsPermutation}
-use Rattle.std.specs.Prelude.{cond}
-use Rattle.std.specs.List.Sorted.{IsSorted}
-use Rattle.ocfl_tree.specs.Place.{Place, text_cmp}
-use Rattle.ocfl_tree.specs.StorageRoot.{StorageRoot}
-use Rattle.ocfl_tree.specs.Store.{Store}
-use Rattle.ocfl_tree.specs.Listing.{IsListing, IsOrdinary}
-use Rattle.ocfl_tree.specs.declared.store.Entry.{Entry}
+use Rattle.std.specs.{Prelude.{cond}, List.Sorted.{IsSorted}}
+use Rattle.ocfl_tree.specs.{Place.{Place, text_cmp}, StorageRoot.{StorageRoot}, Store.{Store}}
+use Rattle.ocfl_tree.specs.{Listing.{IsListing, IsOrdinary}, declared.store.Entry.{Entry}}
 use Rattle.ocfl_tree.proofs.Stores.{did_then, did_nothing, listed_well}
-use Rattle.ocfl_item.specs.Auditing.{FailedAt, in_listing, in_opening}
-use Rattle.ocfl_item.specs.Looking.{failures_by}
-use Rattle.ocfl_item.specs.Ways.{is_listable, Enters, Stops}
-use Rattle.ocfl_item.specs.declared.fault.Fault.{Fault}
+use Rattle.ocfl_item.specs.{Auditing.{FailedAt, in_listing, in_opening}, Looking.{failures_by}}
+use Rattle.ocfl_item.specs.{Ways.{is_listable, Enters, Stops}, declared.fault.Fault.{Fault}}
 use Rattle.ocfl_item.specs.declared.fault.Fault.TheVariants as fault
 use Rattle.ocfl_item.proofs.LooksCalls.{memory_no_store}
 use Rattle.ocfl_split.specs.Levels.{leads_on, directories_in, directories_below}

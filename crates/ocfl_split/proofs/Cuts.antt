@@ -1,15 +1,11 @@
 -- The directories at which a level is cut.
 use Rattle.std.proofs.Common.{◌≡◌, ℕ, zero, suc, ◌+◌, ◌-◌, ◌*◌, ◌/◌, ◌<◌, ◌≤◌, List, [], ◌∷◌, ◌++◌, Some, refl, true, false, Bool, sym, ◌∙◌, ap, subst, length, drop, get_or, arith, append_assoc}
-use Rattle.std.specs.Prelude.{slice_get, min, nat_le}
-use Rattle.std.specs.Option.{option_to_list}
-use Rattle.std.proofs.Math.Nat.{div-mul-le_self, mul-le-mul_right}
-use Rattle.std.proofs.Math.Seq.{drop-nil}
+use Rattle.std.proofs.{Math.Nat.{div-mul-le_self, mul-le-mul_right}, Math.Seq.{drop-nil}}
 use Rattle.std.proofs.lemmas.Nat.{div-add-mod', div_below, le-div}
-use Rattle.std.proofs.lemmas.Option.{slice_get-get_or}
-use Rattle.std.proofs.lemmas.List.{length-append}
+use Rattle.std.proofs.{lemmas.Option.{slice_get-get_or}, lemmas.List.{length-append}}
 use Rattle.std.proofs.lemmas.Bool.{leb-true, leb-false}
-use Rattle.ocfl_tree.specs.Place.{Place, place_cmp}
-use Rattle.ocfl_tree.specs.StorageRoot.{StorageRoot}
+use Rattle.std.specs.{Prelude.{slice_get, min, nat_le}, Option.{option_to_list}}
+use Rattle.ocfl_tree.specs.{Place.{Place, place_cmp}, StorageRoot.{StorageRoot}}
 use Rattle.ocfl_tree.specs.Ascending.{IsAscending, IsBeforeAll}
 use Rattle.ocfl_tree.proofs.Lists.{drop_item}
 use Rattle.ocfl_split.specs.Splitting.{firsts, cut_evenly, split_level, separators_of}

@@ -1,11 +1,9 @@
 -- A level is listed, directory by directory, for the next.
 use Rattle.std.proofs.Common.{◌≡◌, ℕ, suc, ◌+◌, ◌-◌, ◌<◌, ◌≤◌, List, [], ◌∷◌, ◌++◌, refl, sym, ◌∙◌, ap, subst, true, false, Some, None, length, take, drop, get_or, arith, rules, append_assoc}
-use Rattle.std.specs.Prelude.{cond, ◌||◌, ◌==◌, nat_lt, nat_le}
 use Rattle.std.proofs.lemmas.List.{take_more, drop_all, length-append, append-nil}
 use Rattle.std.proofs.lemmas.Bool.{le-leb, lt-leb, or_right}
-use Rattle.ocfl_tree.specs.Place.{Place}
-use Rattle.ocfl_tree.specs.StorageRoot.{StorageRoot}
-use Rattle.ocfl_tree.specs.Store.{Store}
+use Rattle.std.specs.Prelude.{cond, ◌||◌, ◌==◌, nat_lt, nat_le}
+use Rattle.ocfl_tree.specs.{Place.{Place}, StorageRoot.{StorageRoot}, Store.{Store}}
 use Rattle.ocfl_tree.proofs.Lists.{drop_item}
 use Rattle.ocfl_item.specs.declared.fault.Fault.{Fault}
 use Rattle.ocfl_split.specs.Levels.{directories_below, level_below}

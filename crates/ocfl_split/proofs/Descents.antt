@@ -1,23 +1,16 @@
 -- Level by level, down to the one that is split.
 use Rattle.std.proofs.Common.{◌≡◌, ◌⊎◌, inl, inr, ℕ, zero, suc, ◌+◌, ◌-◌, ◌<◌, ◌≤◌, List, [], ◌∷◌, ◌++◌, refl, sym, ◌∙◌, ap, subst, true, false, Bool, Some, None, length, get_or, All, arith, append_assoc}
-use Rattle.std.specs.Prelude.{cond, ◌&&◌, not, nat_le}
-use Rattle.std.specs.Option.{option_map_or}
-use Rattle.std.proofs.lemmas.List.{append-nil}
-use Rattle.std.proofs.lemmas.Bool.{le-leb, leb-true, leb-false}
-use Rattle.ocfl_tree.specs.Place.{Place}
-use Rattle.ocfl_tree.specs.Ascending.{IsAmong}
-use Rattle.ocfl_tree.specs.StorageRoot.{StorageRoot, is_dir, names_in}
-use Rattle.ocfl_tree.specs.Store.{Store}
-use Rattle.ocfl_tree.proofs.Bools.{and_first, and_both}
-use Rattle.ocfl_tree.proofs.Orders.{among_from_filter}
+use Rattle.std.proofs.{lemmas.List.{append-nil}, lemmas.Bool.{le-leb, leb-true, leb-false}}
+use Rattle.std.specs.{Prelude.{cond, ◌&&◌, not, nat_le}, Option.{option_map_or}}
+use Rattle.ocfl_tree.specs.{Place.{Place}, Ascending.{IsAmong}}
+use Rattle.ocfl_tree.specs.{StorageRoot.{StorageRoot, is_dir, names_in}, Store.{Store}}
+use Rattle.ocfl_tree.proofs.{Bools.{and_first, and_both}, Orders.{among_from_filter}}
 use Rattle.ocfl_audit.proofs.BelowLaws.{from_flat_map}
-use Rattle.ocfl_item.specs.Ways.{is_extensions_name}
-use Rattle.ocfl_item.specs.declared.fault.Fault.{Fault}
+use Rattle.ocfl_item.specs.{Ways.{is_extensions_name}, declared.fault.Fault.{Fault}}
 use Rattle.ocfl_split.specs.Levels.{leads_on, directories_in, directories_below, level_below}
 use Rattle.ocfl_split.specs.Splitting.{room_below, next_level, wider, kept, level_from, split_level, listed_within, listed_from, listed_for, ListsAll, ListsStop}
 use Rattle.ocfl_split.specs.Internal.Directories.{IsLevel, AreListable}
-use Rattle.ocfl_split.proofs.Entries.{among_from_map}
-use Rattle.ocfl_split.proofs.Ranks.{all_from}
+use Rattle.ocfl_split.proofs.{Entries.{among_from_map}, Ranks.{all_from}}
 use Rattle.ocfl_split.proofs.Below.{lists_none, lists_on, stops_on, stops_before}
 
 -- ---- directories of the tree

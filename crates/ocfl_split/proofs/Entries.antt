@@ -1,18 +1,15 @@
 -- From a listing to the directories of the hierarchy right below its place.
 use Rattle.std.proofs.Common.{◌≡◌, inl, inr, zero, suc, ◌+◌, List, [], ◌∷◌, ◌++◌, refl, sym, ◌∙◌, ap, subst, true, false, Bool, Option, Some, None, arith, map, filter, All, IsPermutation}
+use Rattle.std.proofs.lemmas.List.Sorted.{All-permutation, IsPermutation-sym}
 use Rattle.std.specs.Prelude.{cond, not, ◌&&◌, option_map, filter_map, slice_index_or}
-use Rattle.std.specs.List.{IsDistinct}
-use Rattle.std.specs.List.Sorted.{IsSorted}
-use Rattle.std.specs.Ordering.{is_lt}
+use Rattle.std.specs.{List.{IsDistinct}, List.Sorted.{IsSorted}, Ordering.{is_lt}}
 use Rattle.std.specs.declared.cmp.Ordering.{Ordering}
 use Rattle.std.specs.declared.cmp.Ordering.TheVariants.{Less, Equal, Greater}
-use Rattle.std.proofs.lemmas.List.Sorted.{All-permutation, IsPermutation-sym}
 use Rattle.ocfl_tree.specs.Place.{Place, Text, text_cmp, text_eq, place_cmp, child_name}
 use Rattle.ocfl_tree.specs.Ascending.{IsAscending, IsAmong, IsBeforeAll}
 use Rattle.ocfl_tree.specs.StorageRoot.{StorageRoot, Leaf, file, dir, other, at, is_dir, is_dir_leaf, names_in}
 use Rattle.ocfl_tree.specs.Listing.{AreApart, IsListing, IsOrdinary, kind_at, kind_in, kind_of}
-use Rattle.ocfl_tree.specs.declared.store.Entry.{Entry}
-use Rattle.ocfl_tree.specs.declared.store.Kind.{Kind}
+use Rattle.ocfl_tree.specs.{declared.store.Entry.{Entry}, declared.store.Kind.{Kind}}
 use Rattle.ocfl_tree.specs.declared.store.Kind.TheVariants as kind
 use Rattle.ocfl_tree.proofs.Bools.{and_first, and_second, and_both}
 use Rattle.ocfl_tree.proofs.Places.{text_eq-Decides, text_eq-same, not_decided, differ}
@@ -21,8 +18,7 @@ use Rattle.ocfl_audit.proofs.AuditExists.{some_not_none}
 use Rattle.ocfl_audit.proofs.BelowLaws.{text_cmp_total, text_cmp_exact, above_name}
 use Rattle.ocfl_audit.proofs.WayLaws.{entry_named}
 use Rattle.ocfl_item.specs.Ways.{is_dir_kind, is_extensions_name}
-use Rattle.ocfl_item.proofs.LooksZones.{leaf_dir}
-use Rattle.ocfl_item.proofs.NameLaws.{names_of, names_differ}
+use Rattle.ocfl_item.proofs.{LooksZones.{leaf_dir}, NameLaws.{names_of, names_differ}}
 use Rattle.ocfl_split.specs.Levels.{directories_in}
 use Rattle.ocfl_split.specs.Internal.Directories.{is_directory_entry, directories_among, IsBelow}
 

@@ -1,16 +1,12 @@
 -- What a listing declares.
 use Rattle.std.proofs.Common.{◌≡◌, List, [], ◌∷◌, sym, ◌∙◌, ap, true, Bool, length, refl, arith}
 use Rattle.std.specs.Prelude.{not}
-use Rattle.ocfl_tree.specs.Place.{Place}
-use Rattle.ocfl_tree.specs.StorageRoot.{StorageRoot}
-use Rattle.ocfl_tree.specs.Listing.{IsListing, IsOrdinary}
-use Rattle.ocfl_tree.specs.declared.store.Entry.{Entry}
-use Rattle.ocfl_inventory.specs.Declaration.{Declared, declared}
+use Rattle.ocfl_tree.specs.{Place.{Place}, StorageRoot.{StorageRoot}}
+use Rattle.ocfl_tree.specs.{Listing.{IsListing, IsOrdinary}, declared.store.Entry.{Entry}}
+use Rattle.ocfl_inventory.specs.{Declaration.{Declared, declared}, Entries.{file_names}}
 use Rattle.ocfl_audit.specs.Zone.{is_known, is_declared}
-use Rattle.ocfl_inventory.specs.Entries.{file_names}
 use Rattle.ocfl_inventory.specs.declared.declaration.Level.TheVariants as level
-use Rattle.ocfl_item.specs.Ways.{IsHead, is_listable}
-use Rattle.ocfl_item.specs.declared.folder.Head.{Head}
+use Rattle.ocfl_item.specs.{Ways.{IsHead, is_listable}, declared.folder.Head.{Head}}
 use Rattle.ocfl_item.specs.declared.folder.Head.TheVariants as head
 use Rattle.ocfl_item.proofs.LooksZones.{declared_root, declared_object}
 use Rattle.ocfl_split.specs.Levels.{leads_on}

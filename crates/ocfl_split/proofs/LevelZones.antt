@@ -1,25 +1,20 @@
 -- The levels are the storage hierarchy.
 use Rattle.std.proofs.Common.{◌≡◌, ◌⊎◌, ◌↔◌, inl, inr, ℕ, zero, suc, ◌+◌, [], ◌∷◌, ◌++◌, refl, sym, ◌∙◌, ap, subst, true, false, Bool, length, filter, arith}
+use Rattle.std.proofs.{lemmas.Bool.{not-true}, lemmas.List.{length-append}}
 use Rattle.std.specs.Prelude.{cond, ◌&&◌, ◌||◌, not, codes}
-use Rattle.std.proofs.lemmas.Bool.{not-true}
-use Rattle.std.proofs.lemmas.List.{length-append}
-use Rattle.ocfl_tree.specs.Place.{Text, Place, text_eq}
-use Rattle.ocfl_tree.specs.Ascending.{IsAmong}
+use Rattle.ocfl_tree.specs.{Place.{Text, Place, text_eq}, Ascending.{IsAmong}}
 use Rattle.ocfl_tree.specs.StorageRoot.{StorageRoot, dir, at, is_dir, is_dir_leaf, names_in}
 use Rattle.ocfl_tree.proofs.Bools.{and_both, and_first, and_second}
 use Rattle.ocfl_tree.proofs.Orders.{true_not_false, among_filter, among_from_filter, among_map, among_flat_map}
 use Rattle.ocfl_audit.specs.Objects.{IsObjectRoot}
 use Rattle.ocfl_audit.specs.Zone.{Zone, skipped, hierarchy, inside, zone, root_declared, object_declared, is_known, is_declared}
 use Rattle.ocfl_audit.specs.Walk.{step_zone, is_extensions}
-use Rattle.ocfl_audit.proofs.BelowLaws.{from_flat_map}
-use Rattle.ocfl_audit.proofs.ObjectLaws.{object_by_zone}
-use Rattle.ocfl_audit.proofs.StepLaws.{zone_step}
-use Rattle.ocfl_audit.proofs.WayLaws.{is_closed, way_dir, entry_named}
+use Rattle.ocfl_audit.proofs.{BelowLaws.{from_flat_map}, ObjectLaws.{object_by_zone}}
+use Rattle.ocfl_audit.proofs.{StepLaws.{zone_step}, WayLaws.{is_closed, way_dir, entry_named}}
 use Rattle.ocfl_item.specs.Ways.{is_extensions_name}
 use Rattle.ocfl_item.proofs.LooksZones.{leaf_dir, root_hierarchy}
 use Rattle.ocfl_split.specs.Levels.{leads_on, directories_in, directories_below, level, LiesInHierarchy}
-use Rattle.ocfl_split.proofs.Entries.{among_from_map}
-use Rattle.ocfl_split.proofs.Below.{never_empty}
+use Rattle.ocfl_split.proofs.{Entries.{among_from_map}, Below.{never_empty}}
 
 -- a place of some names, and the last of them
 last_name : (p : Place) (n : ℕ) → length p ≡ suc n → (d : Place) × (x : Text) × (p ≡ d ++ x ∷ []) × (length d ≡ n)

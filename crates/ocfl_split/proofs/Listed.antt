@@ -1,19 +1,15 @@
 -- Levels in order, and each directory listed once.
 use Rattle.std.proofs.Common.{◌≡◌, ◌≢◌, ◌⊎◌, inl, inr, ℕ, zero, suc, ◌-◌, ◌≤◌, List, [], ◌∷◌, ◌++◌, refl, sym, ◌∙◌, ap, subst, true, false, Bool, Some, None, length, arith}
+use Rattle.std.proofs.{lemmas.List.{length-append}, lemmas.List.Kept.{AllPairs-cons}}
 use Rattle.std.specs.Prelude.{cond, ◌||◌, ◌==◌, nat_lt, nat_le, ⊤, AllPairs}
-use Rattle.std.specs.Option.{option_map_or}
-use Rattle.std.proofs.lemmas.List.{length-append}
-use Rattle.std.proofs.lemmas.List.Kept.{AllPairs-cons}
-use Rattle.std.specs.declared.cmp.Ordering.TheVariants.{Less}
-use Rattle.ocfl_tree.specs.Place.{Text, Place, place_cmp}
-use Rattle.ocfl_tree.specs.Ascending.{IsAmong, IsAscending}
+use Rattle.std.specs.{Option.{option_map_or}, declared.cmp.Ordering.TheVariants.{Less}}
+use Rattle.ocfl_tree.specs.{Place.{Text, Place, place_cmp}, Ascending.{IsAmong, IsAscending}}
 use Rattle.ocfl_tree.specs.StorageRoot.{StorageRoot}
 use Rattle.ocfl_tree.proofs.Orders.{place_cmp_total, not_below_itself, before_each, among_left}
 use Rattle.ocfl_audit.proofs.BelowLaws.{ascends_append, from_append, from_flat_map}
 use Rattle.ocfl_split.specs.Levels.{leads_on, directories_in, directories_below, level, level_below}
 use Rattle.ocfl_split.specs.Splitting.{room_below, next_level, wider, kept, listed_within, listed_from, listed_for}
-use Rattle.ocfl_split.proofs.Entries.{among_from_map, tree_rises}
-use Rattle.ocfl_split.proofs.Ranks.{before_longer, all_from}
+use Rattle.ocfl_split.proofs.{Entries.{among_from_map, tree_rises}, Ranks.{before_longer, all_from}}
 
 -- ---- levels in order
 

@@ -1,9 +1,7 @@
 -- Levels in order.
 use Rattle.std.proofs.Common.{◌≡◌, ◌⊎◌, inl, inr, ℕ, zero, suc, ◌+◌, ◌<◌, ◌≤◌, List, [], ◌∷◌, ◌++◌, refl, sym, ◌∙◌, ap, subst, true, false, Bool, length, take, take_all, get_or, All, arith}
-use Rattle.std.proofs.lemmas.List.{take_more, length-append}
-use Rattle.std.proofs.lemmas.Bool.{leb-false}
-use Rattle.std.specs.Prelude.{cond, nat_le}
-use Rattle.std.specs.Ordering.{ordering_then}
+use Rattle.std.proofs.{lemmas.List.{take_more, length-append}, lemmas.Bool.{leb-false}}
+use Rattle.std.specs.{Prelude.{cond, nat_le}, Ordering.{ordering_then}}
 use Rattle.std.specs.declared.cmp.Ordering.{Ordering}
 use Rattle.std.specs.declared.cmp.Ordering.TheVariants.{Less, Equal, Greater}
 use Rattle.ocfl_tree.specs.Place.{Place, Text, text_cmp, place_cmp}

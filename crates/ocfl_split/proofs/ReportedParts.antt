@@ -1,17 +1,14 @@
 -- The parts that are cut at the first places of runs are those runs.
 use Rattle.std.proofs.Common.{◌≡◌, List, [], ◌∷◌, ◌++◌, refl, sym, ◌∙◌, ap, ap₂, true, false, map, filter, Option, Some, None, append-nil}
-use Rattle.std.specs.Prelude.{cond, not, ◌&&◌, ⊤}
-use Rattle.std.specs.Ordering.{is_lt}
-use Rattle.std.specs.declared.cmp.Ordering.TheVariants.{Less}
 use Rattle.std.proofs.lemmas.List.Elements.{filter-append}
-use Rattle.ocfl_tree.specs.Place.{Place, place_cmp}
-use Rattle.ocfl_tree.specs.Ascending.{IsAscending, IsBeforeAll}
+use Rattle.std.specs.{Prelude.{cond, not, ◌&&◌, ⊤}, Ordering.{is_lt}}
+use Rattle.std.specs.declared.cmp.Ordering.TheVariants.{Less}
+use Rattle.ocfl_tree.specs.{Place.{Place, place_cmp}, Ascending.{IsAscending, IsBeforeAll}}
 use Rattle.ocfl_tree.proofs.Orders.{place_cmp_total, not_less, not_less_itself, not_both_below}
 use Rattle.ocfl_report.specs.Line.{Item}
 use Rattle.ocfl_audit.specs.Runs.{joined}
 use Rattle.ocfl_audit.specs.Parts.{Part, is_from, is_below, lies_in, within, parts_from, parts_of}
-use Rattle.ocfl_audit.proofs.AfterLaws.{places}
-use Rattle.ocfl_audit.proofs.PartLaws.{and_false, within_is}
+use Rattle.ocfl_audit.proofs.{AfterLaws.{places}, PartLaws.{and_false, within_is}}
 use Rattle.ocfl_split.specs.Reported.{first_places}
 
 abbrev part_at : Option Place → Option Place → Part

@@ -1,17 +1,14 @@
 -- A report is cut where the runs of a cycle begin, and each run but the last passes its budget by
 -- less than its last file.
 use Rattle.std.proofs.Common.{◌≡◌, ◌≢◌, ℕ, zero, suc, ◌+◌, ◌<◌, ◌≤◌, List, [], ◌∷◌, ◌++◌, refl, sym, ◌∙◌, ap, subst, true, false, Bool, arith, map, take, drop, replicate, ltb-true, ltb-false, eqb-true}
-use Rattle.std.proofs.lemmas.Bool.{lt-ltb}
-use Rattle.std.proofs.lemmas.List.{take-append-drop}
+use Rattle.std.proofs.{lemmas.Bool.{lt-ltb}, lemmas.List.{take-append-drop}}
 use Rattle.std.specs.Prelude.{cond, ◌==◌, ◌||◌, nat_lt}
-use Rattle.ocfl_tree.specs.Place.{Place, place_cmp}
-use Rattle.ocfl_tree.specs.Ascending.{IsAscending}
+use Rattle.ocfl_tree.specs.{Place.{Place, place_cmp}, Ascending.{IsAscending}}
 use Rattle.ocfl_report.specs.Line.{Line, Item}
 use Rattle.ocfl_audit.specs.Audit.{total_cost}
 use Rattle.ocfl_audit.specs.Runs.{Limits, runs, joined, FileLimitFits, budget_len, budget_cut, budget_left, budget_runs_after, budget_runs}
 use Rattle.ocfl_audit.specs.Parts.{within, parts_of}
-use Rattle.ocfl_audit.proofs.AfterLaws.{places}
-use Rattle.ocfl_audit.proofs.RunLaws.{affords, cancel, left_over, same_equal}
+use Rattle.ocfl_audit.proofs.{AfterLaws.{places}, RunLaws.{affords, cancel, left_over, same_equal}}
 use Rattle.ocfl_parts.specs.Splits.{reported, cuts}
 use Rattle.ocfl_parts.proofs.ItemCuts.{item_cuts, cuts_of_items}
 use Rattle.ocfl_split.specs.Reported.{first_places, PassesJust}

@@ -1,14 +1,10 @@
 //! Cutting a level of the storage hierarchy at equal distances.
-ghost use Rattle.std.specs.Prelude.{◌≡◌, ◌++◌, ◌∷◌, ◌-◌, ◌≤◌, [], length, IsTrue, IfOk, IfErr};
-ghost use Rattle.std.specs.Prelude.{OnOk, MatchResult};
-ghost use Rattle.ocfl_tree.specs.Ascending.{IsAscending};
-ghost use Rattle.ocfl_tree.specs.Place.{place_cmp};
-ghost use Rattle.ocfl_tree.specs.StorageRoot.{StorageRoot};
-ghost use Rattle.ocfl_tree.specs.Store.{IfTold};
+ghost use Rattle.std.specs.Prelude.{◌≡◌, ◌++◌, ◌∷◌, ◌-◌, ◌≤◌, [], length, IsTrue, IfOk, IfErr, OnOk, MatchResult};
+ghost use Rattle.ocfl_tree.specs.{Ascending.{IsAscending}, Place.{place_cmp}};
+ghost use Rattle.ocfl_tree.specs.{StorageRoot.{StorageRoot}, Store.{IfTold}};
 ghost use Rattle.ocfl_item.specs.Ways.{IsWayFault};
 ghost use Rattle.ocfl_parts.specs.Separators.{AreSeparators};
-ghost use Rattle.ocfl_split.specs.Splitting.{ListsAll, ListsStop, cut_evenly, listed_for};
-ghost use Rattle.ocfl_split.specs.Splitting.{max_held, separators_of};
+ghost use Rattle.ocfl_split.specs.Splitting.{ListsAll, ListsStop, cut_evenly, listed_for, max_held, separators_of};
 
 use crate::descent::split_level;
 use ocfl_item::Fault;

@@ -1,15 +1,10 @@
 //! Going down the storage hierarchy, level by level.
-ghost use Rattle.std.specs.Prelude.{◌≡◌, ◌≤◌, ℕ, ◌+◌, ◌∷◌, [], length, IsTrue, IfOk, IfErr};
-ghost use Rattle.std.specs.Prelude.{IfSome, MatchResult};
+ghost use Rattle.std.specs.Prelude.{◌≡◌, ◌≤◌, ℕ, ◌+◌, ◌∷◌, [], length, IsTrue, IfOk, IfErr, IfSome, MatchResult};
 ghost use Rattle.std.specs.Option.{option_map};
-ghost use Rattle.ocfl_tree.specs.StorageRoot.{StorageRoot};
+ghost use Rattle.ocfl_tree.specs.{StorageRoot.{StorageRoot}, Store.{IfTold}};
 ghost use Rattle.ocfl_item.specs.Ways.{IsWayFault};
-ghost use Rattle.ocfl_split.specs.Splitting.{ListsAll, ListsStop, max_held};
-ghost use Rattle.ocfl_split.specs.Splitting.{split_level as level_to_split};
-ghost use Rattle.ocfl_split.specs.Splitting.{listed_for, next_level as level_after};
-ghost use Rattle.ocfl_split.specs.Splitting.{listed_within, kept, wider as wider_level};
+ghost use Rattle.ocfl_split.specs.Splitting.{ListsAll, ListsStop, max_held, split_level as level_to_split, listed_for, next_level as level_after, listed_within, kept, wider as wider_level};
 ghost use Rattle.ocfl_split.specs.Internal.Directories.{IsLevel, AreListable};
-ghost use Rattle.ocfl_tree.specs.Store.{IfTold};
 
 use crate::directories::add_below;
 use ocfl_item::Fault;

@@ -1,16 +1,11 @@
 //! The directories of the storage hierarchy right below one, and those of a whole level.
-ghost use Rattle.std.specs.Prelude.{◌≡◌, ◌≤◌, ◌<◌, ◌++◌, ◌∷◌, [], IsTrue, IfOk, IfErr};
-ghost use Rattle.std.specs.Prelude.{length, IsPermutation, true, false, MatchResult};
+ghost use Rattle.std.specs.Prelude.{◌≡◌, ◌≤◌, ◌<◌, ◌++◌, ◌∷◌, [], IsTrue, IfOk, IfErr, length, IsPermutation, true, false, MatchResult};
 ghost use Rattle.std.specs.List.Sorted.{IsSorted};
-ghost use Rattle.ocfl_tree.specs.Listing.{IsOrdinary, IsListing};
-ghost use Rattle.ocfl_tree.specs.Place.{text_cmp};
-ghost use Rattle.ocfl_tree.specs.StorageRoot.{StorageRoot};
+ghost use Rattle.ocfl_tree.specs.{Listing.{IsOrdinary, IsListing}, Place.{text_cmp}};
+ghost use Rattle.ocfl_tree.specs.{StorageRoot.{StorageRoot}, Store.{IfTold}};
 ghost use Rattle.ocfl_item.specs.Ways.{IsWayFault, is_listable};
-ghost use Rattle.ocfl_split.specs.Levels.{leads_on};
-ghost use Rattle.ocfl_split.specs.Splitting.{ListsAll, ListsStop};
-ghost use Rattle.ocfl_split.specs.Internal.Directories.{is_directory_entry, directories_among};
-ghost use Rattle.ocfl_split.specs.Internal.Directories.{AddsBelow, AddsAll};
-ghost use Rattle.ocfl_tree.specs.Store.{IfTold};
+ghost use Rattle.ocfl_split.specs.{Levels.{leads_on}, Splitting.{ListsAll, ListsStop}};
+ghost use Rattle.ocfl_split.specs.Internal.Directories.{is_directory_entry, directories_among, AddsBelow, AddsAll};
 
 use ocfl_inventory::Level;
 use ocfl_item::{Fault, Folder, Head, head_of, is_extensions, list};

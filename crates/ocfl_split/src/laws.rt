@@ -1,9 +1,6 @@
 //! The laws of what splits a storage root.
-ghost use Rattle.std.specs.Prelude.{◌≡◌, ◌↔◌, ℕ, ◌+◌, ◌-◌, ◌*◌, ◌/◌, ◌<◌, ◌≤◌, ◌≢◌, Some};
-ghost use Rattle.std.specs.Prelude.{AllPairs, length, min, slice_get};
-ghost use Rattle.std.specs.Prelude.{List, ◌∷◌, ◌++◌, drop, map, replicate};
-ghost use Rattle.ocfl_tree.specs.Ascending.{IsAmong, IsAscending};
-ghost use Rattle.ocfl_tree.specs.Place.{Place, place_cmp};
+ghost use Rattle.std.specs.Prelude.{◌≡◌, ◌↔◌, ℕ, ◌+◌, ◌-◌, ◌*◌, ◌/◌, ◌<◌, ◌≤◌, ◌≢◌, Some, AllPairs, length, min, slice_get, List, ◌∷◌, ◌++◌, drop, map, replicate};
+ghost use Rattle.ocfl_tree.specs.{Ascending.{IsAmong, IsAscending}, Place.{Place, place_cmp}};
 ghost use Rattle.ocfl_tree.specs.StorageRoot.{StorageRoot, dir, at};
 ghost use Rattle.ocfl_report.specs.Line.{Line, Item};
 ghost use Rattle.ocfl_audit.specs.Runs.{Limits, runs, joined, FileLimitFits};

@@ -1,17 +1,14 @@
 -- The fields of a checkpoint's lines: each is within its line, and determines what it tells.
 use Rattle.std.proofs.Common.{◌≡◌, ◌≢◌, ℕ, suc, ◌/◌, ◌%◌, ◌^◌, ◌<◌, ◌==◌, [], ◌∷◌, ◌++◌, Bool, true, false, not, Option, Some, None, IfSome, Result, Ok, Err, All, get_or, length, codes, decimal, refl, sym, ap, ◌∙◌, arith}
-use Rattle.std.specs.Prelude.{slice_index}
-use Rattle.std.specs.List.{list_all}
 use Rattle.std.proofs.lemmas.Bool.{agree_below_at, eqb-false, not-true, false≢true}
-use Rattle.std.proofs.lemmas.Fmt.{decimal_is_IsNumeral_wide}
-use Rattle.std.proofs.lemmas.Str.Parse.{digit_at}
+use Rattle.std.proofs.{lemmas.Fmt.{decimal_is_IsNumeral_wide}, lemmas.Str.Parse.{digit_at}}
 use Rattle.std.proofs.lemmas.List.{append_cancel_left}
 use Rattle.std.proofs.lemmas.List.Elements.{All-nil, All-cons, All-head, All-append, All-weaker, All-from_get_or}
+use Rattle.std.specs.{Prelude.{slice_index}, List.{list_all}}
 use Rattle.hex.specs.Hex.{IsBytes, encode_lower, encode_with, lower_digits, decode_of, decode_sized}
 use Rattle.hex.specs.declared.error.FromHexError.{FromHexError}
 use Rattle.hex.proofs.HexLemmas.{decode_of-encode_lower, decode_of-same, decode_sized-encode_lower}
-use Rattle.ocfl_tree.specs.Place.{Text, Place, text_eq}
-use Rattle.ocfl_tree.specs.Name.{IsName, IsPlace}
+use Rattle.ocfl_tree.specs.{Place.{Text, Place, text_eq}, Name.{IsName, IsPlace}}
 use Rattle.ocfl_report.specs.Text.{place_text}
 use Rattle.ocfl_report.proofs.Bytes.{IsPrintable, All-from_test}
 use Rattle.ocfl_report.proofs.Numbers.{wide, decimal_no_line_feed, decimal_determines}

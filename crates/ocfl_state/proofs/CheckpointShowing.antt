@@ -3,14 +3,13 @@ use Rattle.std.proofs.Common.{◌≡◌, ◌⊎◌, inl, inr, ◌<◌, ◌≤◌
 use Rattle.std.proofs.lemmas.List.{take_all}
 use Rattle.ocfl_state.specs.CheckpointShown.{AreShown, HiddenRightly}
 use Rattle.ocfl_state.specs.declared.checkpoint_showing.NotShown.{NotShown}
+use Rattle.ocfl_state.specs.Checkpoint.{Checkpoint, IsCheckpointText, checkpoint_body}
+use Rattle.ocfl_state.specs.CheckpointRefusal.{IsSealedCheckpoint}
 use Rattle.ocfl_state.specs.declared.checkpoint_showing.NotShown.TheVariants as hidden
 use Rattle.ocfl_tree.specs.Place.{Text}
 use Rattle.ocfl_cursor.specs.Shown.{AreShown as AreCursorLines, IsShownFrom}
-use Rattle.ocfl_state.specs.Checkpoint.{Checkpoint, IsCheckpointText}
-use Rattle.ocfl_state.specs.CheckpointRefusal.{IsSealedCheckpoint}
 use Rattle.ocfl_cursor.proofs.Seals.{is_sealed-sealed}
 use Rattle.ocfl_state.proofs.CheckpointRefusals.{front_of_text, version_of_text}
-use Rattle.ocfl_state.specs.Checkpoint.{checkpoint_body}
 
 -- the text of a checkpoint is sealed
 pub sealed_text : (b : Text) (c : Checkpoint) → IsCheckpointText b c → IsSealedCheckpoint b

@@ -1,18 +1,14 @@
 -- The text of a checkpoint determines the checkpoint.
 use Rattle.std.proofs.Common.{◌≡◌, ℕ, ◌+◌, ◌*◌, ◌^◌, ◌<◌, ◌≤◌, List, [], ◌∷◌, ◌++◌, Bool, IfSome, All, length, take, codes, decimal, flat_map, refl, sym, ap, subst, ◌∙◌, append-nil, append_assoc, length-append, arith}
-use Rattle.std.proofs.lemmas.Grind.{flat_map-append}
-use Rattle.std.proofs.lemmas.List.{append_cancel_left}
+use Rattle.std.proofs.{lemmas.Grind.{flat_map-append}, lemmas.List.{append_cancel_left}}
 use Rattle.std.proofs.lemmas.List.Elements.{All-head, All-tail}
 use Rattle.hex.specs.Hex.{encode_lower}
-use Rattle.ocfl_tree.specs.Place.{Text}
-use Rattle.ocfl_tree.specs.Name.{IsPlace}
+use Rattle.ocfl_tree.specs.{Place.{Text}, Name.{IsPlace}}
 use Rattle.ocfl_report.specs.Text.{place_text}
 use Rattle.ocfl_report.proofs.PlaceTexts.{place_text_determines}
-use Rattle.ocfl_cursor.specs.Cursor.{IsCursor}
-use Rattle.ocfl_cursor.specs.Part.{AreEnds}
+use Rattle.ocfl_cursor.specs.{Cursor.{IsCursor}, Part.{AreEnds}}
 use Rattle.ocfl_cursor.specs.Lines.{stored_lines, AreStoredLines}
-use Rattle.ocfl_cursor.proofs.Seals.{sealed_determines}
-use Rattle.ocfl_cursor.proofs.StoredLines.{stored_lines_determine}
+use Rattle.ocfl_cursor.proofs.{Seals.{sealed_determines}, StoredLines.{stored_lines_determine}}
 use Rattle.ocfl_state.specs.Checkpoint.{Checkpoint, IsDigest, IsRoot, AreNames, IsMark, IsLeft, IsCheckpoint, path_text, names_text, phase_text, yes_or_no, stood_text, left_text, checkpoint_body, sha256_line, IsCheckpointText}
 use Rattle.ocfl_state.specs.CheckpointLines.{field_line, sizes_text, standing_text, IsStanding, mark_text, account_text, IsAccount, body_text, OneLine, left_fields, ArePartsOf, IsBodyOf}
 use Rattle.ocfl_state.specs.declared.checkpoint_account.Standing.{Standing}

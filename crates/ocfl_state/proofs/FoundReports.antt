@@ -1,11 +1,8 @@
 -- A report is found whole if it has the tail that a checkpoint says.
 use Rattle.std.proofs.Common.{◌≡◌, ◌↔◌, ℕ, ◌-◌, ◌^◌, ◌<◌, [], length, take, drop, refl, sym, ◌∙◌, ap, subst, arith, length-append, true, false}
+use Rattle.std.proofs.{lemmas.List.{length-take}, Math.Seq.{take-append_seam}}
 use Rattle.std.specs.Prelude.{Option, Some, None, IsSome, IfSome}
-use Rattle.std.proofs.lemmas.List.{length-take}
-use Rattle.std.proofs.Math.Seq.{take-append_seam}
-use Rattle.ocfl_state.specs.Content.{Bytes}
-use Rattle.ocfl_state.specs.Crash.{Begins}
-use Rattle.ocfl_state.specs.Finding.{IsWhole}
+use Rattle.ocfl_state.specs.{Content.{Bytes}, Crash.{Begins}, Finding.{IsWhole}}
 use Rattle.ocfl_state.specs.Pieces.{no_pieces, Carries, PushesPart, HasTail, rest_of, tail_of, summary_of}
 use Rattle.ocfl_state.specs.declared.checkpoint_parts.ReportMark.{ReportMark}
 use Rattle.ocfl_state.specs.declared.finding.FoundReport.TheVariants.{Whole, Lost}

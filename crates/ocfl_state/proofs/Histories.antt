@@ -1,7 +1,6 @@
 -- One more content is kept: time passes by that step.
 use Rattle.std.proofs.Common.{◌≡◌, ◌≢◌, Some, Result, Ok, Err, OnOk, ◌⊎◌, inl, inr, ⊎_elim, ℕ, zero, suc, ◌≤◌, List, [], ◌∷◌, ◌++◌, length, drop, refl, sym, ◌∙◌, subst, ap, arith, length-append}
-use Rattle.ocfl_state.specs.Content.{Content}
-use Rattle.ocfl_state.specs.Crash.{Step, Passes, Follows}
+use Rattle.ocfl_state.specs.{Content.{Content}, Crash.{Step, Passes, Follows}}
 use Rattle.ocfl_state.specs.Memory.{Kept, History, IsImage, IsPast, images, images_since, then_keeps, kept_after}
 use Rattle.std.specs.List.{slice_get}
 

@@ -1,8 +1,7 @@
 -- What a crash may leave after each change is what it may have left before, after a step.
 use Rattle.std.proofs.Common.{◌≡◌, ◌⊎◌, inl, inr, ⊎_elim, ℕ, zero, suc, ◌≤◌, ◌<◌, Bool, true, false, [], ◌∷◌, ◌++◌, length, take, drop, min, refl, sym, ◌∙◌, subst, ap, arith, length-append, append_assoc}
 use Rattle.std.proofs.lemmas.List.{append-nil, take-append-drop, take_all, length-take, length-drop, take-append-le, length-replicate}
-use Rattle.std.proofs.Math.Seq.{take-append_seam, drop-length}
-use Rattle.std.proofs.Math.ListN.{drop_of_length-le}
+use Rattle.std.proofs.{Math.Seq.{take-append_seam, drop-length}, Math.ListN.{drop_of_length-le}}
 use Rattle.ocfl_state.specs.Content.{Bytes, Content, moved}
 use Rattle.ocfl_state.specs.Crash.{Begins, Same, IsPut, MayPut, IsMoved, MayMove, MayTear, After, Follows}
 use Rattle.ocfl_state.specs.Memory.{Kept, IsImage, kept_whole, after_put, after_append, after_cut, after_close, after_crash, or_zeros}

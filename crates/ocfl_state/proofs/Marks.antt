@@ -1,7 +1,7 @@
 -- Bytes are appended between calls that change nothing, and the digests of the report go on.
 use Rattle.std.proofs.Common.{◌≡◌, ◌≢◌, ◌↔◌, true, false, inl, inr, ⊎_elim, ℕ, ◌^◌, ◌<◌, ◌++◌, length, take, refl, sym, ap, subst, arith}
-use Rattle.std.specs.Prelude.{Option, Some, None, IfSome, IsSome}
 use Rattle.std.proofs.lemmas.List.{take_all}
+use Rattle.std.specs.Prelude.{Option, Some, None, IfSome, IsSome}
 use Rattle.ocfl_state.specs.Content.{Bytes, Content, with_report}
 use Rattle.ocfl_state.specs.Crash.{Outcomes, Same, MayTear, After, Passes}
 use Rattle.ocfl_state.specs.Pieces.{Carries, HasTail, rest_of, summary_of, tail_of}

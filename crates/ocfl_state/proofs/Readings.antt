@@ -2,12 +2,11 @@
 -- text.
 use Rattle.std.proofs.Common.{◌≡◌, ◌⊎◌, inl, inr, ⊎_elim, ℕ, ◌+◌, ◌-◌, ◌^◌, ◌<◌, ◌≤◌, [], ◌++◌, length, take, drop, refl, sym, ◌∙◌, ap, subst, arith, length-append}
 use Rattle.std.proofs.lemmas.List.{take_all, drop-drop, length-take-le, length-take, length-drop}
-use Rattle.ocfl_state.specs.Content.{Bytes, Content}
-use Rattle.ocfl_state.specs.Crash.{Outcomes, Same, After, Passes}
+use Rattle.ocfl_state.specs.{Content.{Bytes, Content}, Crash.{Outcomes, Same, After, Passes}}
 use Rattle.ocfl_state.specs.Calls.{IsReadOf}
 use Rattle.ocfl_state.specs.Pieces.{no_pieces, CarriedFrom, Carries, Pushes, PushesPart}
-use Rattle.ocfl_state.proofs.PieceLaws.{take-more, pushes_nothing, pushes_both}
 use Rattle.ocfl_state.specs.declared.pieces.ReportDigests.{ReportDigests}
+use Rattle.ocfl_state.proofs.PieceLaws.{take-more, pushes_nothing, pushes_both}
 
 module _ {F : Type 0} (may_leave : F → Outcomes) (moment : F → ℕ) (left_since : F → ℕ → Outcomes) where
   pub passes_none : (a : F) → Passes may_leave moment left_since Same a a

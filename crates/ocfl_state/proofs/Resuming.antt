@@ -1,9 +1,8 @@
 -- Digests go on from a summary, if the report has the tail of that.
 use Rattle.std.proofs.Common.{◌≡◌, ◌↔◌, ℕ, ◌+◌, ◌-◌, ◌*◌, ◌/◌, ◌^◌, ◌<◌, ◌≤◌, [], ◌++◌, length, take, drop, sym, ◌∙◌, ap, subst, arith}
-use Rattle.std.specs.Prelude.{◌%◌, Option, Some, None, IsSome, IfSome}
 use Rattle.std.proofs.lemmas.List.{drop-take, length-take-le, length-take, length-drop}
-use Rattle.sha2.specs.Sha256.{sha256}
-use Rattle.sha2.specs.Hashers.{Holds256}
+use Rattle.std.specs.Prelude.{◌%◌, Option, Some, None, IsSome, IfSome}
+use Rattle.sha2.specs.{Sha256.{sha256}, Hashers.{Holds256}}
 use Rattle.ocfl_state.specs.Content.{Bytes}
 use Rattle.ocfl_state.specs.Pieces.{piece_size, before_piece, chained, whole_pieces, after_pieces, rest_of, rest_at, pieces_of, tail_of, summary_of, CarriedFrom, Carries, PushesPart, HasTail, HasRead}
 use Rattle.ocfl_state.specs.declared.pieces.ReportDigests.{ReportDigests}

@@ -2,17 +2,16 @@
 use Rattle.std.proofs.Common.{◌≡◌, ◌≢◌, ◌⊎◌, inl, inr, ⊎_elim, ℕ, zero, suc, ◌+◌, ◌*◌, ◌/◌, ◌<◌, [], ◌∷◌, ◌++◌, length, take, drop, refl, sym, ◌∙◌, ap, arith, length-append, Ok}
 use Rattle.std.proofs.lemmas.List.{take-append-drop, drop_at, take_at}
 use Rattle.std.proofs.lemmas.Bool.Decides.{eqb_tells}
-use Rattle.std.specs.Prelude.{Result, Err, replicate}
-use Rattle.std.specs.Int.{bytes_high_first, byte_at}
+use Rattle.std.specs.{Prelude.{Result, Err, replicate}, Int.{bytes_high_first, byte_at}}
 use Rattle.sha2.specs.Sha256 as s256
 use Rattle.sha2.proofs.Facts256.{length-sha256}
 use Rattle.hex.specs.Hex.{encode_lower, decode_of, lower_digits, IsBytes}
-use Rattle.hex.proofs.HexLemmas.{decode_of-encode_lower, length-encode_with}
 use Rattle.hex.specs.declared.error.FromHexError.{FromHexError}
+use Rattle.hex.proofs.HexLemmas.{decode_of-encode_lower, length-encode_with}
 use Rattle.ocfl_state.specs.Content.{Bytes}
 use Rattle.ocfl_state.specs.Pieces.{piece_size, no_pieces, before_piece, piece_at, chained, whole_pieces, rest_of, tail_of, summary_of, Collision}
-use Rattle.ocfl_state.proofs.PieceLaws.{take-more}
 use Rattle.ocfl_state.specs.declared.checkpoint_parts.ReportMark.{ReportMark}
+use Rattle.ocfl_state.proofs.PieceLaws.{take-more}
 
 same_number : (n m : ℕ) → (n ≡ m) ⊎ (n ≢ m)
 same_number n m = ⊎_elim (λ is. inl is.1) (λ other. inr other.1) (eqb_tells n m)

@@ -1,8 +1,7 @@
 -- What the calls of a state folder answer.
 use Rattle.std.specs.Prelude.{◌≡◌, ◌≢◌, ◌⊎◌, ℕ, ◌<◌, ◌≤◌, IsTrue, [], Option, Some, None, Result, Err, IsErr, IsErrOf, length, take, drop, Vec}
 use Rattle.std.specs.declared.alloc.Global.{Global}
-use Rattle.ocfl_state.specs.Content.{Bytes, Content, is_closed}
-use Rattle.ocfl_state.specs.declared.folder.Trouble.{Trouble}
+use Rattle.ocfl_state.specs.{Content.{Bytes, Content, is_closed}, declared.folder.Trouble.{Trouble}}
 use Rattle.ocfl_state.specs.declared.folder.Trouble.TheVariants.{Failed, Full, Taken}
 
 abbrev pub bytes_of : Vec ℕ Global → Bytes

@@ -1,14 +1,10 @@
 -- A checkpoint, and its text: what one night leaves for the next.
 use Rattle.std.specs.Prelude.{◌≡◌, ℕ, ◌^◌, ◌<◌, ◌≤◌, List, [], ◌∷◌, ◌++◌, All, Bool, true, false, Option, Some, None, IfSome, length, flat_map, codes, decimal}
 use Rattle.hex.specs.Hex.{encode_lower, IsBytes}
-use Rattle.ocfl_tree.specs.Place.{Text, Place}
-use Rattle.ocfl_tree.specs.Name.{IsPlace}
+use Rattle.ocfl_tree.specs.{Place.{Text, Place}, Name.{IsPlace}}
 use Rattle.ocfl_report.specs.Text.{place_text}
-use Rattle.ocfl_cursor.specs.Cursor.{Cursor, IsCursor}
-use Rattle.ocfl_cursor.specs.Lines.{stored_lines}
-use Rattle.ocfl_cursor.specs.Sealed.{seal_line}
-use Rattle.ocfl_cursor.specs.Part.{AreEnds}
-use Rattle.ocfl_cursor.specs.declared.ends.PartEnds.{PartEnds}
+use Rattle.ocfl_cursor.specs.{Cursor.{Cursor, IsCursor}, Lines.{stored_lines}, Sealed.{seal_line}}
+use Rattle.ocfl_cursor.specs.{Part.{AreEnds}, declared.ends.PartEnds.{PartEnds}}
 use Rattle.ocfl_state.specs.declared.checkpoint_parts.RootIdentity.{RootIdentity}
 use Rattle.ocfl_state.specs.declared.checkpoint_parts.TopNames.{TopNames}
 use Rattle.ocfl_state.specs.declared.checkpoint_parts.Phase.{Phase}

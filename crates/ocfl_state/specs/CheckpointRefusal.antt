@@ -1,6 +1,5 @@
 -- Why bytes are the text of no checkpoint: the first that applies.
-use Rattle.std.specs.Prelude.{◌≡◌, nat_eq, Bool, true, false, drop, codes}
-use Rattle.std.specs.List.{starts_with}
+use Rattle.std.specs.{Prelude.{◌≡◌, nat_eq, Bool, true, false, drop, codes}, List.{starts_with}}
 use Rattle.ocfl_tree.specs.Place.{Text, text_eq}
 use Rattle.ocfl_cursor.specs.Sealed.{first_line, is_sealed_by}
 use Rattle.ocfl_state.specs.Checkpoint.{Checkpoint, IsCheckpointText}

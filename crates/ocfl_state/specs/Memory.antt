@@ -1,9 +1,7 @@
 -- What a state folder in memory keeps, has kept, and may lose.
 use Rattle.std.specs.Prelude.{◌≡◌, ◌⊎◌, ℕ, ◌≤◌, Bool, List, [], ◌∷◌, ◌++◌, length, take, drop, max, min, Option, Some, None, refl, slice_get, replicate, if◌then◌else◌}
 use mathlib.Core.Logic.{inl, inr}
-use Rattle.std.proofs.Common.{sym}
-use Rattle.std.proofs.lemmas.List.{take-append-drop}
-use Rattle.std.proofs.Math.Nat.{le-max_right}
+use Rattle.std.proofs.{Common.{sym}, lemmas.List.{take-append-drop}, Math.Nat.{le-max_right}}
 use Rattle.ocfl_state.specs.Content.{Bytes, Content, with_checkpoint, with_report, moved}
 use Rattle.ocfl_state.specs.Crash.{Begins, Outcomes}
 

@@ -1,11 +1,9 @@
 -- The digests of a report by whole pieces of 4 MiB, so that a long one is compared without reading
 -- all of it.
 use Rattle.std.specs.Prelude.{◌≡◌, ◌≢◌, ℕ, zero, suc, ◌+◌, ◌-◌, ◌*◌, ◌/◌, ◌%◌, ◌^◌, ◌==◌, ◌<◌, ◌≤◌, [], ◌∷◌, ◌++◌, length, take, drop, replicate, count_by}
-use Rattle.sha2.specs.Sha256.{sha256}
-use Rattle.sha2.specs.Hashers.{Holds256}
+use Rattle.sha2.specs.{Sha256.{sha256}, Hashers.{Holds256}}
 use Rattle.hex.specs.Hex.{encode_lower}
-use Rattle.ocfl_state.specs.Content.{Bytes}
-use Rattle.ocfl_state.specs.declared.pieces.ReportDigests.{ReportDigests}
+use Rattle.ocfl_state.specs.{Content.{Bytes}, declared.pieces.ReportDigests.{ReportDigests}}
 use Rattle.ocfl_state.specs.declared.checkpoint_parts.ReportMark.{ReportMark}
 
 -- 4 MiB

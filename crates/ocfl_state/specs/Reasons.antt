@@ -1,6 +1,5 @@
 -- What is answered if a call of the system failed, and the reason that is kept of it.
-use Rattle.std.specs.Prelude.{◌≡◌, ◌≢◌, ◌⊎◌, ◌↔◌, Option, Some, None}
-use Rattle.std.specs.IoError.{error_kind}
+use Rattle.std.specs.{Prelude.{◌≡◌, ◌≢◌, ◌⊎◌, ◌↔◌, Option, Some, None}, IoError.{error_kind}}
 use Rattle.std.specs.declared.io.ErrorKind.TheVariants.{StorageFull, QuotaExceeded, OutOfMemory}
 use Rattle.ocfl_state.specs.declared.folder.Trouble.{Trouble}
 use Rattle.ocfl_state.specs.declared.folder.Trouble.TheVariants.{Full, Memory, Taken}

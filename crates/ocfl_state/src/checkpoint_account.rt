@@ -1,12 +1,8 @@
 //! Reading the lines of a checkpoint that have a fixed number.
-ghost use Rattle.std.specs.Prelude.{◌≡◌, ◌≢◌, ◌^◌, ◌<◌, ◌++◌, ℕ, All, List, IfSome, IsNone, Bool};
-ghost use Rattle.std.specs.Prelude.{decimal, codes};
+ghost use Rattle.std.specs.Prelude.{◌≡◌, ◌≢◌, ◌^◌, ◌<◌, ◌++◌, ℕ, All, List, IfSome, IsNone, Bool, decimal, codes};
 ghost use Rattle.hex.specs.Hex.{encode_lower};
-ghost use Rattle.ocfl_state.specs.Checkpoint.{IsDigest, AreNames, IsMark, names_text};
-ghost use Rattle.ocfl_state.specs.Checkpoint.{phase_text, yes_or_no};
-ghost use Rattle.ocfl_state.specs.CheckpointLines.{field_line, sizes_text, standing_text};
-ghost use Rattle.ocfl_state.specs.CheckpointLines.{IsStanding, mark_text, account_text, IsAccount};
-ghost use Rattle.ocfl_state.specs.CheckpointLines.{body_text, OneLine};
+ghost use Rattle.ocfl_state.specs.Checkpoint.{IsDigest, AreNames, IsMark, names_text, phase_text, yes_or_no};
+ghost use Rattle.ocfl_state.specs.CheckpointLines.{field_line, sizes_text, standing_text, IsStanding, mark_text, account_text, IsAccount, body_text, OneLine};
 ghost use Rattle.ocfl_state.specs.declared.checkpoint_account.Standing.{Standing as ModelStanding};
 ghost use Rattle.ocfl_state.specs.declared.checkpoint_account.Account.{Account as ModelAccount};
 ghost use Rattle.ocfl_state.specs.declared.checkpoint_parts.TopNames.{TopNames as ModelNames};

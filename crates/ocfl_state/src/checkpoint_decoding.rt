@@ -1,9 +1,7 @@
 //! Reading a checkpoint from its text, and why other bytes are refused.
-ghost use Rattle.std.specs.Prelude.{◌≡◌, ◌⊎◌, Option, Err, IfOk, IfErr, IfSome, is_some, drop};
-ghost use Rattle.std.specs.Prelude.{codes};
+ghost use Rattle.std.specs.Prelude.{◌≡◌, ◌⊎◌, Option, Err, IfOk, IfErr, IfSome, is_some, drop, codes};
 ghost use Rattle.ocfl_tree.specs.Place.{text_eq};
-ghost use Rattle.ocfl_cursor.specs.Cursor.{Cursor as ModelCursor};
-ghost use Rattle.ocfl_cursor.specs.Lines.{AreStoredLines};
+ghost use Rattle.ocfl_cursor.specs.{Cursor.{Cursor as ModelCursor}, Lines.{AreStoredLines}};
 ghost use Rattle.ocfl_cursor.specs.Sealed.{first_line as first_line_of};
 ghost use Rattle.ocfl_cursor.specs.declared.ends.PartEnds.{PartEnds as ModelEnds};
 ghost use Rattle.ocfl_state.specs.Checkpoint.{Checkpoint as ModelCheckpoint, IsCheckpointText};

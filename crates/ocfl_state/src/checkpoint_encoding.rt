@@ -1,11 +1,8 @@
 //! Writing a checkpoint's text, and the lines that are shown of it.
 ghost use Rattle.std.specs.Prelude.{◌≡◌, ◌++◌, [], ◌∷◌, IfOk, OnOk, flat_map, decimal, codes};
 ghost use Rattle.hex.specs.Hex.{encode_lower};
-ghost use Rattle.ocfl_state.specs.Checkpoint.{shown_text, checkpoint_text, path_text, left_text};
-ghost use Rattle.ocfl_state.specs.Checkpoint.{stood_text, phase_text, yes_or_no};
-ghost use Rattle.ocfl_state.specs.CheckpointLines.{root_lines, names_line, standing_lines};
-ghost use Rattle.ocfl_state.specs.CheckpointLines.{mark_lines, told_line, all_left, field_line};
-ghost use Rattle.ocfl_state.specs.CheckpointLines.{sizes_text};
+ghost use Rattle.ocfl_state.specs.Checkpoint.{shown_text, checkpoint_text, path_text, left_text, stood_text, phase_text, yes_or_no};
+ghost use Rattle.ocfl_state.specs.CheckpointLines.{root_lines, names_line, standing_lines, mark_lines, told_line, all_left, field_line, sizes_text};
 
 use crate::checkpoint::Checkpoint;
 use crate::checkpoint_fields::hex_digits;

@@ -1,12 +1,9 @@
 //! Reading the fields of a checkpoint's lines.
-ghost use Rattle.std.specs.Prelude.{◌≡◌, ◌≢◌, ◌⊎◌, ◌^◌, ◌<◌, ℕ, All, List, IfOk, IfErr};
-ghost use Rattle.std.specs.Prelude.{IfSome, IsNone, Bool, Err, Option, decimal, if◌then◌else◌};
+ghost use Rattle.std.specs.Prelude.{◌≡◌, ◌≢◌, ◌⊎◌, ◌^◌, ◌<◌, ℕ, All, List, IfOk, IfErr, IfSome, IsNone, Bool, Err, Option, decimal, if◌then◌else◌};
 ghost use Rattle.hex.specs.Hex.{encode_lower, IsBytes};
-ghost use Rattle.ocfl_tree.specs.Name.{IsPlace};
-ghost use Rattle.ocfl_tree.specs.Place.{Place as ModelPlace};
+ghost use Rattle.ocfl_tree.specs.{Name.{IsPlace}, Place.{Place as ModelPlace}};
 ghost use Rattle.ocfl_report.specs.Text.{place_text};
-ghost use Rattle.ocfl_state.specs.Checkpoint.{IsDigest, AreNames, path_text, names_text};
-ghost use Rattle.ocfl_state.specs.Checkpoint.{phase_text, yes_or_no, stood_text};
+ghost use Rattle.ocfl_state.specs.Checkpoint.{IsDigest, AreNames, path_text, names_text, phase_text, yes_or_no, stood_text};
 ghost use Rattle.ocfl_state.specs.CheckpointLines.{field_line, sizes_text};
 ghost use Rattle.ocfl_state.specs.declared.checkpoint_parts.TopNames.{TopNames as ModelNames};
 ghost use Rattle.ocfl_state.specs.declared.checkpoint_parts.Phase.{Phase as ModelPhase};

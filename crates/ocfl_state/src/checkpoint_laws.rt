@@ -2,9 +2,7 @@
 ghost use Rattle.std.specs.Prelude.{◌≡◌, ◌≤◌, ◌^◌, ◌<◌, List, ℕ, All, length, IfOk, IfErr, IfSome};
 ghost use Rattle.ocfl_tree.specs.Name.{IsPlace};
 ghost use Rattle.ocfl_cursor.specs.Part.{AreEnds};
-ghost use Rattle.ocfl_state.specs.Checkpoint.{Checkpoint as ModelCheckpoint, IsCheckpointText};
-ghost use Rattle.ocfl_state.specs.Checkpoint.{IsCheckpoint, IsRoot, AreNames, IsMark};
-ghost use Rattle.ocfl_state.specs.Checkpoint.{IsLeft};
+ghost use Rattle.ocfl_state.specs.Checkpoint.{Checkpoint as ModelCheckpoint, IsCheckpointText, IsCheckpoint, IsRoot, AreNames, IsMark, IsLeft};
 ghost use Rattle.ocfl_state.specs.CheckpointRefusal.{RefusedRightly};
 ghost use Rattle.ocfl_state.specs.declared.checkpoint_refused.NotDecoded.{NotDecoded as ModelRefused};
 

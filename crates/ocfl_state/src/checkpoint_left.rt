@@ -1,7 +1,5 @@
 //! Reading the lines of the branches that were left out of a checkpoint's cycle.
-ghost use Rattle.std.specs.Prelude.{◌≡◌, ◌≢◌, ◌⊎◌, ℕ, List, ◌++◌, All, Err, IfOk, IfErr, length};
-ghost use Rattle.std.specs.Prelude.{flat_map};
-ghost use Rattle.std.specs.Prelude.{IfSome, IsNone, OnOk, ◌∷◌, []};
+ghost use Rattle.std.specs.Prelude.{◌≡◌, ◌≢◌, ◌⊎◌, ℕ, List, ◌++◌, All, Err, IfOk, IfErr, length, flat_map, IfSome, IsNone, OnOk, ◌∷◌, []};
 ghost use Rattle.ocfl_state.specs.Checkpoint.{IsLeft, left_text};
 ghost use Rattle.ocfl_state.specs.CheckpointLines.{left_fields, OneLine};
 ghost use Rattle.ocfl_state.specs.declared.checkpoint_parts.Left.{Left as ModelLeft};

@@ -2,8 +2,7 @@
 ghost use Rattle.std.specs.Prelude.{◌≡◌, ◌⊎◌, take, IfOk, IfErr, IfSome};
 ghost use Rattle.ocfl_cursor.specs.Shown.{AreShown as AreCursorLines, UnshownRightly};
 ghost use Rattle.ocfl_state.specs.CheckpointRefusal.{RefusedRightly};
-ghost use Rattle.ocfl_state.specs.CheckpointShown.{AreShown, HiddenRightly, AreCheckpointLines};
-ghost use Rattle.ocfl_state.specs.CheckpointShown.{IsOfText};
+ghost use Rattle.ocfl_state.specs.CheckpointShown.{AreShown, HiddenRightly, AreCheckpointLines, IsOfText};
 
 use crate::checkpoint_decoding::decode_checkpoint;
 use crate::checkpoint_encoding::checkpoint_lines;

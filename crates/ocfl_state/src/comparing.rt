@@ -1,11 +1,8 @@
 //! Comparing the report of a state folder with what a checkpoint keeps of it.
-ghost use Rattle.std.specs.Prelude.{◌≡◌, ◌≤◌, ◌↔◌, ◌-◌, ◌<◌, ◌^◌, [], IsTrue, IsSome, IfOk, IfSome};
-ghost use Rattle.std.specs.Prelude.{length, take, drop};
-ghost use Rattle.ocfl_state.specs.Content.{Bytes};
-ghost use Rattle.ocfl_state.specs.Calls.{HasCause, IsReadOf};
+ghost use Rattle.std.specs.Prelude.{◌≡◌, ◌≤◌, ◌↔◌, ◌-◌, ◌<◌, ◌^◌, [], IsTrue, IsSome, IfOk, IfSome, length, take, drop};
+ghost use Rattle.ocfl_state.specs.{Content.{Bytes}, Calls.{HasCause, IsReadOf}};
 ghost use Rattle.ocfl_state.specs.Crash.{Same, Passes};
-ghost use Rattle.ocfl_state.specs.Pieces.{Carries, PushesPart, HasRead, summary_of, rest_of};
-ghost use Rattle.ocfl_state.specs.Pieces.{HasTail};
+ghost use Rattle.ocfl_state.specs.Pieces.{Carries, PushesPart, HasRead, summary_of, rest_of, HasTail};
 
 use crate::checkpoint_parts::ReportMark;
 use crate::folder::{StateFolder, Trouble};

@@ -1,9 +1,7 @@
 //! Appending to a report of which a checkpoint keeps the length, the lines and the digests.
 ghost use Rattle.std.specs.Prelude.{◌≡◌, ◌≢◌, ◌<◌, ◌↔◌, ◌^◌, ◌++◌, IsTrue, IfOk, OnOk, length};
-ghost use Rattle.ocfl_state.specs.Calls.{HasCauseOr};
-ghost use Rattle.ocfl_state.specs.Content.{with_report};
-ghost use Rattle.ocfl_state.specs.Crash.{MayTear, Passes};
-ghost use Rattle.ocfl_state.specs.Pieces.{summary_of};
+ghost use Rattle.ocfl_state.specs.{Calls.{HasCauseOr}, Content.{with_report}};
+ghost use Rattle.ocfl_state.specs.{Crash.{MayTear, Passes}, Pieces.{summary_of}};
 
 use crate::checkpoint_parts::ReportMark;
 use crate::comparing::resume_digests;

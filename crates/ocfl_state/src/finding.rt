@@ -1,8 +1,6 @@
 //! The report as a night finds it, beside what the checkpoint keeps of it.
 ghost use Rattle.std.specs.Prelude.{◌≡◌, ◌↔◌, IsTrue, IfOk, take};
-ghost use Rattle.ocfl_state.specs.Content.{Bytes};
-ghost use Rattle.ocfl_state.specs.Calls.{HasCause};
-ghost use Rattle.ocfl_state.specs.Crash.{Begins, Passes, Same};
+ghost use Rattle.ocfl_state.specs.{Content.{Bytes}, Calls.{HasCause}, Crash.{Begins, Passes, Same}};
 ghost use Rattle.ocfl_state.specs.Finding.{IfLost, IsWhole, IsWholeWith};
 ghost use Rattle.ocfl_state.specs.Pieces.{Carries, HasTail, summary_of};
 

@@ -1,14 +1,9 @@
 //! The interface of a state folder.
-ghost use Rattle.std.specs.Prelude.{◌≡◌, ◌≢◌, ◌↔◌, ◌≤◌, ◌++◌, ◌*◌, Bool, IsTrue, IfOk, IfSome};
-ghost use Rattle.std.specs.Prelude.{OnOk, ℕ};
-ghost use Rattle.std.specs.Prelude.{List, Option, Err, length, take};
+ghost use Rattle.std.specs.Prelude.{◌≡◌, ◌≢◌, ◌↔◌, ◌≤◌, ◌++◌, ◌*◌, Bool, IsTrue, IfOk, IfSome, OnOk, ℕ, List, Option, Err, length, take};
 ghost use Rattle.std.specs.Option.{option_map};
-ghost use Rattle.ocfl_state.specs.Content.{Content, Bytes, with_checkpoint, with_report, moved};
-ghost use Rattle.ocfl_state.specs.Content.{is_closed};
-ghost use Rattle.ocfl_state.specs.Crash.{Outcomes, Same, IsPut, MayPut, IsMoved, MayMove, MayTear};
-ghost use Rattle.ocfl_state.specs.Crash.{Only, Follows, Passes};
-ghost use Rattle.ocfl_state.specs.Calls.{HasCause, HasCauseOr, ClosesRightly, IsReadOf, bytes_of};
-ghost use Rattle.ocfl_state.specs.Calls.{HasLong, IsLong, most_checkpoint};
+ghost use Rattle.ocfl_state.specs.Content.{Content, Bytes, with_checkpoint, with_report, moved, is_closed};
+ghost use Rattle.ocfl_state.specs.Crash.{Outcomes, Same, IsPut, MayPut, IsMoved, MayMove, MayTear, Only, Follows, Passes};
+ghost use Rattle.ocfl_state.specs.Calls.{HasCause, HasCauseOr, ClosesRightly, IsReadOf, bytes_of, HasLong, IsLong, most_checkpoint};
 ghost use Rattle.ocfl_state.specs.declared.folder.Trouble.TheVariants.{Memory};
 
 use std::alloc::{AllocError, AllocFailed};

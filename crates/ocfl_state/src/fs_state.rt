@@ -1,9 +1,6 @@
 //! A state folder of the file system.
-ghost use Rattle.std.specs.Prelude.{◌≡◌, ◌≤◌, ◌⊎◌, ⊤, false, IfOk, IfSome, OnOk, IfErr, None, Ok};
-ghost use Rattle.std.specs.Prelude.{length};
-ghost use Rattle.ocfl_state.specs.Calls.{most_checkpoint};
-ghost use Rattle.ocfl_state.specs.Reasons.{IsKept};
-ghost use Rattle.ocfl_state.specs.Content.{empty};
+ghost use Rattle.std.specs.Prelude.{◌≡◌, ◌≤◌, ◌⊎◌, ⊤, false, IfOk, IfSome, OnOk, IfErr, None, Ok, length};
+ghost use Rattle.ocfl_state.specs.{Calls.{most_checkpoint}, Reasons.{IsKept}, Content.{empty}};
 
 use crate::disk::{Disk, for_appending, for_reading, of_file, wrong};
 use crate::folder::{MOST_CHECKPOINT, StateFolder, Trouble};

@@ -1,10 +1,8 @@
 //! What a state folder in memory keeps at one moment, and each change of it.
 ghost use Rattle.std.specs.Prelude.{◌≡◌, ◌≤◌, ◌↔◌, IfOk, IsTrue, length, take, drop};
 ghost use Rattle.std.specs.Option.{option_map};
-ghost use Rattle.ocfl_state.specs.Content.{is_closed};
-ghost use Rattle.ocfl_state.specs.Calls.{bytes_of, HasLong, IsReadOf};
-ghost use Rattle.ocfl_state.specs.Memory.{kept_whole, after_put, after_append, after_cut};
-ghost use Rattle.ocfl_state.specs.Memory.{after_close, after_crash, or_zeros};
+ghost use Rattle.ocfl_state.specs.{Content.{is_closed}, Calls.{bytes_of, HasLong, IsReadOf}};
+ghost use Rattle.ocfl_state.specs.Memory.{kept_whole, after_put, after_append, after_cut, after_close, after_crash, or_zeros};
 
 use crate::folder::MOST_CHECKPOINT;
 use std::alloc::{AllocError, Global};
@@ -40,8 +38,7 @@ pub(crate) struct Held {
 
 impl Model for Held {
     ghost use Rattle.std.specs.Option.{option_map};
-    ghost use Rattle.ocfl_state.specs.Memory.{Kept};
-    ghost use Rattle.ocfl_state.specs.Calls.{bytes_of};
+    ghost use Rattle.ocfl_state.specs.{Memory.{Kept}, Calls.{bytes_of}};
 
     ghost Value = { Kept };
 

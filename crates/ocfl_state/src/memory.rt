@@ -1,11 +1,9 @@
 //! A state folder in memory, which loses what a power cut may take, and can be made to fail.
-ghost use Rattle.std.specs.Prelude.{◌≡◌, ◌⊎◌, ◌<◌, ◌+◌, true, None, Some, IfOk, OnOk, OnErr};
-ghost use Rattle.std.specs.Prelude.{MatchOption, IsOkUnless, length};
+ghost use Rattle.std.specs.Prelude.{◌≡◌, ◌⊎◌, ◌<◌, ◌+◌, true, None, Some, IfOk, OnOk, OnErr, MatchOption, IsOkUnless, length};
 ghost use Rattle.std.specs.Option.{option_map};
 ghost use Rattle.std.proofs.Common.{inl};
 ghost use Rattle.ocfl_state.specs.Content.{empty};
-ghost use Rattle.ocfl_state.specs.Memory.{fresh, then_keeps, images, images_since, stays, only_now};
-ghost use Rattle.ocfl_state.specs.Memory.{IsCrashed, kept_after};
+ghost use Rattle.ocfl_state.specs.Memory.{fresh, then_keeps, images, images_since, stays, only_now, IsCrashed, kept_after};
 
 use crate::folder::{MOST_CHECKPOINT, StateFolder, Trouble};
 use crate::held::{

@@ -1,12 +1,8 @@
 //! The digests of a report by whole pieces of 4 MiB, carried along while bytes are appended.
-ghost use Rattle.std.specs.Prelude.{◌≡◌, ◌≤◌, ◌<◌, ◌+◌, ◌-◌, ◌%◌, ◌^◌, ◌++◌, ℕ, [], length};
-ghost use Rattle.std.specs.Prelude.{◌↔◌, ◌*◌, IsSome, IfSome};
-ghost use Rattle.sha2.specs.Hashers.{Holds256};
+ghost use Rattle.std.specs.Prelude.{◌≡◌, ◌≤◌, ◌<◌, ◌+◌, ◌-◌, ◌%◌, ◌^◌, ◌++◌, ℕ, [], length, ◌↔◌, ◌*◌, IsSome, IfSome};
+ghost use Rattle.sha2.specs.{Hashers.{Holds256}, Sha256.{sha256}};
 ghost use Rattle.ocfl_state.specs.Content.{Bytes};
-ghost use Rattle.sha2.specs.Sha256.{sha256};
-ghost use Rattle.ocfl_state.specs.Pieces.{piece_size, before_piece, lines_of, pieces_of, tail_of};
-ghost use Rattle.ocfl_state.specs.Pieces.{summary_of, no_pieces, CarriedFrom, Carries, Feeds};
-ghost use Rattle.ocfl_state.specs.Pieces.{IsTailed, Pushes, Turns};
+ghost use Rattle.ocfl_state.specs.Pieces.{piece_size, before_piece, lines_of, pieces_of, tail_of, summary_of, no_pieces, CarriedFrom, Carries, Feeds, IsTailed, Pushes, Turns};
 
 use crate::checkpoint_parts::ReportMark;
 use sha2::{Digest, Sha256};

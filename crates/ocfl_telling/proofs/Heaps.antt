@@ -1,16 +1,13 @@
 -- How the first findings of each weight grow by a line.
 use Rattle.std.proofs.Common.{◌≡◌, ◌+◌, ◌^◌, ◌<◌, List, [], ◌∷◌, ◌++◌, Bool, true, false, length, refl, ap, sym, subst, ◌∙◌, arith}
-use Rattle.std.specs.Prelude.{Some, None}
-use Rattle.std.specs.List.{filter}
-use Rattle.std.proofs.lemmas.List.{append-nil}
-use Rattle.std.proofs.lemmas.List.Elements.{filter-append}
+use Rattle.std.proofs.{lemmas.List.{append-nil}, lemmas.List.Elements.{filter-append}}
+use Rattle.std.specs.{Prelude.{Some, None}, List.{filter}}
 use Rattle.ocfl_report.specs.Line.{Line}
 use Rattle.ocfl_telling.specs.Weight.{weight_of, has_weight, is_weight}
 use Rattle.ocfl_telling.specs.Gravest.{IsFirst, IsOf, by_weight, of_weight}
 use Rattle.ocfl_telling.specs.declared.weight.Weight.{Weight}
 use Rattle.ocfl_telling.specs.declared.weight.Weight.TheVariants.{Bytes, Object, Record, Position}
-use Rattle.ocfl_telling.specs.declared.gravest.Kept.{Kept}
-use Rattle.ocfl_telling.specs.declared.gravest.Gravest.{Gravest}
+use Rattle.ocfl_telling.specs.{declared.gravest.Kept.{Kept}, declared.gravest.Gravest.{Gravest}}
 use Rattle.ocfl_telling.proofs.Weights.{length_by_weight}
 
 -- one line more is taken if the test takes it

@@ -1,22 +1,19 @@
 -- Lists of known findings, line by line.
 use Rattle.std.proofs.Common.{◌≡◌, ◌≢◌, ℕ, ◌+◌, ◌≤◌, List, [], ◌∷◌, ◌++◌, length, take, take_all, Option, Some, None, Result, Ok, Err, IfSome, IfOk, IfErr, sym, ap, subst, ◌∙◌, arith, append_assoc, length-take, length-append}
-use Rattle.std.specs.Prelude.{All, codes}
-use Rattle.std.specs.Option.{option_map}
 use Rattle.std.proofs.lemmas.Grind.{flat_map-append}
 use Rattle.std.proofs.lemmas.List.{append-nil, append_cancel_right}
 use Rattle.std.proofs.lemmas.List.Elements.{All-append, All-cons, All-nil, filter_map-append}
+use Rattle.std.specs.{Prelude.{All, codes}, Option.{option_map}}
 use Rattle.ocfl_tree.specs.Place.{Text}
 use Rattle.ocfl_report.proofs.Separators.{first_parts, separator_is_there}
 use Rattle.ocfl_telling.specs.List.{IsBadLine, IsEnded, IsEntry, IsEntryAs, IsKnownText, IsList, IsRemark, IsRow, IsSaid, KnownStopsRightly, Row, RowsStop, entries_of, max_bytes, row_text, rows_text}
-use Rattle.ocfl_report.specs.Line.{Line, line_of}
-use Rattle.ocfl_report.specs.Text.{IsLineText}
-use Rattle.ocfl_report.specs.declared.line.Line.{Line as MadeLine}
 use Rattle.ocfl_telling.specs.declared.known.Reach.{Reach}
 use Rattle.ocfl_telling.specs.declared.known.Reach.TheVariants.{One, Place, Branch}
-use Rattle.ocfl_telling.specs.declared.known.Entry.{Entry}
-use Rattle.ocfl_telling.specs.declared.known.Known.{Known}
+use Rattle.ocfl_telling.specs.{declared.known.Entry.{Entry}, declared.known.Known.{Known}}
 use Rattle.ocfl_telling.specs.declared.list.KnownStop.{KnownStop}
 use Rattle.ocfl_telling.specs.declared.list.KnownStop.TheVariants.{Long, Read, Memory}
+use Rattle.ocfl_report.specs.{Line.{Line, line_of}, Text.{IsLineText}}
+use Rattle.ocfl_report.specs.declared.line.Line.{Line as MadeLine}
 use Rattle.ocfl_telling.specs.declared.list.KnownStop.TheVariants as stop
 
 -- ---- one line

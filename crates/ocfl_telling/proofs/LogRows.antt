@@ -1,10 +1,8 @@
 -- The line of a row of the log.
 use Rattle.std.proofs.Common.{◌≡◌, ◌≤◌, false, Result, IfOk, arith, string_bytes}
-use Rattle.std.specs.declared.alloc.Global.{Global}
-use Rattle.std.specs.Prelude.{String}
 use Rattle.std.proofs.lemmas.Result.{IfOk-weaker}
-use Rattle.serde_json.specs.Data.{Data, depth}
-use Rattle.serde_json.specs.Written.{has_float}
+use Rattle.std.specs.{declared.alloc.Global.{Global}, Prelude.{String}}
+use Rattle.serde_json.specs.{Data.{Data, depth}, Written.{has_float}}
 use Rattle.ocfl_telling.specs.Log.{IsJsonLine}
 
 -- a row has neither floats nor members within members

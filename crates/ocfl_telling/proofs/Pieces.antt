@@ -1,17 +1,13 @@
 -- Bytes of a report that come piece by piece.
 use Rattle.std.proofs.Common.{◌≡◌, ◌≢◌, List, [], ◌∷◌, ◌++◌, true, false, not, refl, ap, sym, subst, ◌∙◌, append_assoc}
-use Rattle.std.specs.Prelude.{All}
-use Rattle.std.proofs.lemmas.Grind.{flat_map-append}
-use Rattle.std.proofs.lemmas.List.{append-nil}
+use Rattle.std.proofs.{lemmas.Grind.{flat_map-append}, lemmas.List.{append-nil}}
 use Rattle.std.proofs.lemmas.List.Elements.{All-append, All-cons, All-nil, filter-append}
+use Rattle.std.specs.Prelude.{All}
 use Rattle.ocfl_tree.specs.Place.{Text}
-use Rattle.ocfl_report.specs.Line.{Line}
-use Rattle.ocfl_report.specs.Text.{IsLine, IsLineText, line_text, lines_text}
+use Rattle.ocfl_report.specs.{Line.{Line}, Text.{IsLine, IsLineText, line_text, lines_text}}
 use Rattle.ocfl_report.proofs.LineTexts.{IsLine-from_text}
-use Rattle.ocfl_telling.specs.Gravest.{IsOf}
-use Rattle.ocfl_telling.specs.Known.{is_known, unknown}
-use Rattle.ocfl_telling.specs.Found.{AreAll, HasBadLine, IsAfter}
-use Rattle.ocfl_telling.specs.declared.found.Found.{Found}
+use Rattle.ocfl_telling.specs.{Gravest.{IsOf}, Known.{is_known, unknown}}
+use Rattle.ocfl_telling.specs.{Found.{AreAll, HasBadLine, IsAfter}, declared.found.Found.{Found}}
 use Rattle.ocfl_telling.specs.declared.known.Entry.{Entry}
 
 -- a line that is known is left out

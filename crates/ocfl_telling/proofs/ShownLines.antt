@@ -1,10 +1,8 @@
 -- The text of the gravest findings, put down weight by weight.
 use Rattle.std.proofs.Common.{◌≡◌, ◌≢◌, ℕ, ◌-◌, ◌==◌, false, List, ◌++◌, length, take, map, sym, ap, subst, ◌∙◌, arith}
-use Rattle.std.proofs.lemmas.Bool.Decides.{nat_tests}
-use Rattle.std.proofs.lemmas.List.{length-map, take-map}
+use Rattle.std.proofs.{lemmas.Bool.Decides.{nat_tests}, lemmas.List.{length-map, take-map}}
 use Rattle.ocfl_tree.specs.Place.{Text}
-use Rattle.ocfl_report.specs.Line.{Line, line_of}
-use Rattle.ocfl_report.specs.Text.{lines_text}
+use Rattle.ocfl_report.specs.{Line.{Line, line_of}, Text.{lines_text}}
 use Rattle.ocfl_telling.specs.Gravest.{IsOf, by_weight, gravest, most_shown, of_weight}
 use Rattle.ocfl_telling.specs.Night.{findings_text, head_text, look_text, more_text, night_text}
 use Rattle.ocfl_telling.specs.declared.night.Night.{Night}

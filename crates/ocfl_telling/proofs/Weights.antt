@@ -1,9 +1,7 @@
 -- Findings and their weights.
 use Rattle.std.proofs.Common.{◌≡◌, ℕ, ◌+◌, List, [], ◌∷◌, length, Bool, true, false, cond, refl, ◌∙◌, length-append, arith}
-use Rattle.std.specs.Prelude.{is_some}
-use Rattle.std.specs.List.{filter}
-use Rattle.ocfl_report.specs.Line.{Line, is_finding_code}
-use Rattle.ocfl_report.specs.declared.code.Code.{Code}
+use Rattle.std.specs.{Prelude.{is_some}, List.{filter}}
+use Rattle.ocfl_report.specs.{Line.{Line, is_finding_code}, declared.code.Code.{Code}}
 use Rattle.ocfl_report.specs.declared.code.Code.TheVariants.{Clean, E001, E003, E007, E015, E017, E018, E023, E024, E025, E033, E036, E041, E058, E060, E061, E063, E069, E072, E073, E076, E080, E092, E093, E096, E097, E099, E100, E101, S01, S02, S03, S04, S05, S06, S07, S08}
 use Rattle.ocfl_telling.specs.Weight.{weight_of, has_weight, is_weight}
 use Rattle.ocfl_telling.specs.Gravest.{findings, by_weight, of_weight}

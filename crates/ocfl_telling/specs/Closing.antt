@@ -1,14 +1,11 @@
 -- What is said of a cycle that was closed.
 use Rattle.std.specs.Prelude.{ℕ, ◌-◌, ◌==◌, min, List, [], ◌∷◌, ◌++◌, Bool, length, map, take, flat_map, codes, decimal, if◌then◌else◌}
 use Rattle.ocfl_tree.specs.Place.{Text}
-use Rattle.ocfl_report.specs.Line.{line_of}
-use Rattle.ocfl_report.specs.Text.{escape, lines_text, place_text}
-use Rattle.ocfl_telling.specs.Gravest.{most_shown}
-use Rattle.ocfl_telling.specs.Night.{more_text}
+use Rattle.ocfl_report.specs.{Line.{line_of}, Text.{escape, lines_text, place_text}}
+use Rattle.ocfl_telling.specs.{Gravest.{most_shown}, Night.{more_text}}
 use Rattle.ocfl_telling.specs.declared.closing.Kind.{Kind}
 use Rattle.ocfl_telling.specs.declared.closing.Kind.TheVariants.{Object, File, Expected}
-use Rattle.ocfl_telling.specs.declared.closing.Gone.{Gone}
-use Rattle.ocfl_telling.specs.declared.closing.Closing.{Closing}
+use Rattle.ocfl_telling.specs.{declared.closing.Gone.{Gone}, declared.closing.Closing.{Closing}}
 
 abbrev pub not_whole_text : ℕ → Text → Text
 not_whole_text cycle report = codes "Cycle " ++ decimal cycle ++ codes " has ended, and its report is not whole: " ++ escape report ++ codes "\n"

@@ -1,13 +1,9 @@
 -- The findings among the bytes of a report that come piece by piece.
 use Rattle.std.specs.Prelude.{◌≡◌, ◌≢◌, List, [], ◌∷◌, ◌++◌, All}
 use Rattle.ocfl_tree.specs.Place.{Text}
-use Rattle.ocfl_report.specs.Line.{Line}
-use Rattle.ocfl_report.specs.Text.{IsLine, IsLineText, lines_text}
-use Rattle.ocfl_telling.specs.Gravest.{IsOf}
-use Rattle.ocfl_telling.specs.Known.{unknown}
-use Rattle.ocfl_telling.specs.declared.gravest.Gravest.{Gravest}
-use Rattle.ocfl_telling.specs.declared.found.Found.{Found}
-use Rattle.ocfl_telling.specs.declared.known.Entry.{Entry}
+use Rattle.ocfl_report.specs.{Line.{Line}, Text.{IsLine, IsLineText, lines_text}}
+use Rattle.ocfl_telling.specs.{Gravest.{IsOf}, Known.{unknown}, declared.gravest.Gravest.{Gravest}}
+use Rattle.ocfl_telling.specs.{declared.found.Found.{Found}, declared.known.Entry.{Entry}}
 
 -- after these bytes: their whole lines are taken but for those that are known, and what follows the
 -- last line feed is kept

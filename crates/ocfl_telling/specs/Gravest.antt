@@ -1,12 +1,9 @@
 -- The gravest findings among the lines of a report.
-use Rattle.std.specs.Prelude.{◌≡◌, ℕ, ◌^◌, ◌<◌, List, ◌++◌, length, take, map}
-use Rattle.std.specs.List.{filter}
+use Rattle.std.specs.{Prelude.{◌≡◌, ℕ, ◌^◌, ◌<◌, List, ◌++◌, length, take, map}, List.{filter}}
 use Rattle.ocfl_report.specs.Line.{Line, line_of, is_finding_code}
-use Rattle.ocfl_telling.specs.Weight.{has_weight}
-use Rattle.ocfl_telling.specs.declared.weight.Weight.{Weight}
+use Rattle.ocfl_telling.specs.{Weight.{has_weight}, declared.weight.Weight.{Weight}}
 use Rattle.ocfl_telling.specs.declared.weight.Weight.TheVariants.{Bytes, Object, Record, Position}
-use Rattle.ocfl_telling.specs.declared.gravest.Kept.{Kept}
-use Rattle.ocfl_telling.specs.declared.gravest.Gravest.{Gravest}
+use Rattle.ocfl_telling.specs.{declared.gravest.Kept.{Kept}, declared.gravest.Gravest.{Gravest}}
 
 -- the most findings that are shown
 abbrev pub most_shown : ℕ

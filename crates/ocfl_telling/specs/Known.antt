@@ -1,10 +1,7 @@
 -- Findings that are known, and the text of a list of them.
-use Rattle.std.specs.Prelude.{List, Bool, ◌&&◌, not}
-use Rattle.std.specs.List.{filter, list_any}
+use Rattle.std.specs.{Prelude.{List, Bool, ◌&&◌, not}, List.{filter, list_any}}
 use Rattle.ocfl_tree.specs.Place.{text_eq, place_eq, begins}
-use Rattle.ocfl_report.specs.Line.{Line, line_of}
-use Rattle.ocfl_report.specs.Text.{code_text}
-use Rattle.ocfl_report.specs.declared.code.Code.{Code}
+use Rattle.ocfl_report.specs.{Line.{Line, line_of}, Text.{code_text}, declared.code.Code.{Code}}
 use Rattle.ocfl_telling.specs.declared.known.Reach.{Reach}
 use Rattle.ocfl_telling.specs.declared.known.Reach.TheVariants.{One, Place, Branch}
 use Rattle.ocfl_telling.specs.declared.known.Entry.{Entry}

@@ -2,12 +2,10 @@
 use Rattle.std.specs.Prelude.{◌≡◌, ◌≢◌, ◌⊎◌, ℕ, ◌+◌, ◌<◌, ◌≤◌, List, [], ◌∷◌, ◌++◌, All, Option, Some, None, codes, flat_map, length, ⊤}
 use Rattle.std.specs.List.{filter_map}
 use Rattle.ocfl_tree.specs.Place.{Text}
-use Rattle.ocfl_report.specs.Line.{Line, line_of}
-use Rattle.ocfl_report.specs.Text.{IsLineText}
+use Rattle.ocfl_report.specs.{Line.{Line, line_of}, Text.{IsLineText}}
 use Rattle.ocfl_telling.specs.declared.known.Reach.{Reach}
 use Rattle.ocfl_telling.specs.declared.known.Reach.TheVariants.{One, Place, Branch}
-use Rattle.ocfl_telling.specs.declared.known.Entry.{Entry}
-use Rattle.ocfl_telling.specs.declared.list.KnownStop.{KnownStop}
+use Rattle.ocfl_telling.specs.{declared.known.Entry.{Entry}, declared.list.KnownStop.{KnownStop}}
 use Rattle.ocfl_telling.specs.declared.list.KnownStop.TheVariants as stop
 
 -- and the most bytes

@@ -1,14 +1,12 @@
 -- The lines of the log, as JSON (RFC 8259).
 use Rattle.std.specs.Prelude.{◌≡◌, ℕ, [], ◌∷◌, ◌++◌, Some, codes}
 use Rattle.serde_json.specs.Data.{Data, Members, boolean, number, unsigned, string, object, member, no_members}
-use Rattle.serde_json.specs.Read.{read}
-use Rattle.serde_json.specs.Written.{compact_text}
+use Rattle.serde_json.specs.{Read.{read}, Written.{compact_text}}
 use Rattle.ocfl_tree.specs.Place.{Text}
 use Rattle.ocfl_report.specs.Text.{escape, place_text}
 use Rattle.ocfl_telling.specs.declared.log.Stands.{Stands}
 use Rattle.ocfl_telling.specs.declared.log.Stands.TheVariants.{Start, After, Ended}
-use Rattle.ocfl_telling.specs.declared.log.SliceRow.{SliceRow}
-use Rattle.ocfl_telling.specs.declared.log.LeftRow.{LeftRow}
+use Rattle.ocfl_telling.specs.{declared.log.SliceRow.{SliceRow}, declared.log.LeftRow.{LeftRow}}
 use Rattle.ocfl_telling.specs.declared.log.ClosingRow.{ClosingRow}
 use Rattle.ocfl_telling.specs.declared.log.RefusalRow.{RefusalRow}
 use Rattle.ocfl_telling.specs.declared.log.NightRow.{NightRow}

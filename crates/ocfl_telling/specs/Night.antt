@@ -1,8 +1,7 @@
 -- What is said of the findings of a night.
 use Rattle.std.specs.Prelude.{ℕ, ◌-◌, ◌==◌, List, [], ◌++◌, length, Option, Some, None, codes, decimal, if◌then◌else◌}
 use Rattle.ocfl_tree.specs.Place.{Text}
-use Rattle.ocfl_report.specs.Line.{Line}
-use Rattle.ocfl_report.specs.Text.{escape, lines_text}
+use Rattle.ocfl_report.specs.{Line.{Line}, Text.{escape, lines_text}}
 use Rattle.ocfl_telling.specs.Gravest.{by_weight, gravest, most_shown}
 use Rattle.ocfl_telling.specs.declared.night.Night.{Night}
 

@@ -2,8 +2,7 @@
 use Rattle.std.specs.Prelude.{ℕ, [], ◌++◌, Option, Some, None, codes}
 use Rattle.ocfl_tree.specs.Place.{Text}
 use Rattle.ocfl_report.specs.Text.{escape, place_text}
-use Rattle.ocfl_telling.specs.Night.{whose_text}
-use Rattle.ocfl_telling.specs.declared.stop.Stop.{Stop}
+use Rattle.ocfl_telling.specs.{Night.{whose_text}, declared.stop.Stop.{Stop}}
 use Rattle.ocfl_telling.specs.declared.stop.Stop.TheVariants.{At, Output, State, Memory}
 
 -- the system's words on a failed call

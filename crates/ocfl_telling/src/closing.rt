@@ -1,13 +1,9 @@
 //! What is said of a cycle that was closed: what is new, repaired and gone since the last whole
 //! report, and what was left out.
 ghost use Rattle.std.specs.Prelude.{◌≡◌, ◌++◌, List, length, map, take, IfOk, OnOk, string_bytes};
-ghost use Rattle.ocfl_report.specs.Line.{line_of};
-ghost use Rattle.ocfl_report.specs.Text.{lines_text};
+ghost use Rattle.ocfl_report.specs.{Line.{line_of}, Text.{lines_text}};
 ghost use Rattle.ocfl_telling.specs.Gravest.{most_shown};
-ghost use Rattle.ocfl_telling.specs.Closing.{closing_text as text_of_closing, ended_text};
-ghost use Rattle.ocfl_telling.specs.Closing.{gone_lines, gone_line, section_text, not_shown};
-ghost use Rattle.ocfl_telling.specs.Closing.{new_head, repaired_head, gone_head, kind_text};
-ghost use Rattle.ocfl_telling.specs.Closing.{new_text, repaired_text, not_whole_text};
+ghost use Rattle.ocfl_telling.specs.Closing.{closing_text as text_of_closing, ended_text, gone_lines, gone_line, section_text, not_shown, new_head, repaired_head, gone_head, kind_text, new_text, repaired_text, not_whole_text};
 ghost use Rattle.ocfl_telling.specs.Night.{more_text};
 
 use crate::gravest::SHOWN;

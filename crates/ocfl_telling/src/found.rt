@@ -2,8 +2,7 @@
 
 ghost use Rattle.std.specs.Prelude.{◌≡◌, List, ◌∷◌, ◌++◌, [], OnOk};
 ghost use Rattle.ocfl_report.specs.Line.{Line as ModelLine, line_of};
-ghost use Rattle.ocfl_telling.specs.Gravest.{IsOf};
-ghost use Rattle.ocfl_telling.specs.Known.{unknown};
+ghost use Rattle.ocfl_telling.specs.{Gravest.{IsOf}, Known.{unknown}};
 
 use crate::gravest::Gravest;
 use crate::known::Known;

@@ -1,6 +1,5 @@
 //! The gravest findings among lines that are taken one after the other.
-ghost use Rattle.std.specs.Prelude.{◌≡◌, ◌^◌, ◌<◌, List, [], ◌∷◌, ◌++◌, length, map, take};
-ghost use Rattle.std.specs.Prelude.{OnOk, OnErr};
+ghost use Rattle.std.specs.Prelude.{◌≡◌, ◌^◌, ◌<◌, List, [], ◌∷◌, ◌++◌, length, map, take, OnOk, OnErr};
 ghost use Rattle.ocfl_report.specs.Line.{Line as ModelLine, line_of};
 ghost use Rattle.ocfl_telling.specs.Gravest.{most_shown};
 

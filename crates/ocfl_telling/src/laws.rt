@@ -2,8 +2,7 @@
 ghost use Rattle.std.specs.Prelude.{◌≡◌, List, length, is_some};
 ghost use Rattle.ocfl_report.specs.Line.{Line as ModelLine, is_finding_code};
 ghost use Rattle.ocfl_report.specs.declared.code.Code.{Code as ModelCode};
-ghost use Rattle.ocfl_telling.specs.Weight.{weight_of};
-ghost use Rattle.ocfl_telling.specs.Gravest.{findings, by_weight};
+ghost use Rattle.ocfl_telling.specs.{Weight.{weight_of}, Gravest.{findings, by_weight}};
 
 /// Just the findings have a weight.
 #[tactic(auto, using(crate::proofs::Weights::weighed))]

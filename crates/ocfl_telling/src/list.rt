@@ -1,13 +1,8 @@
 //! Reading a list of known findings from its text.
-ghost use Rattle.std.specs.Prelude.{◌≡◌, ◌≢◌, ◌⊎◌, ◌↔◌, ◌++◌, ◌∷◌, [], take, IfOk, IfErr, IfSome};
-ghost use Rattle.std.specs.Prelude.{IsNone, IsTrue, OnOk};
+ghost use Rattle.std.specs.Prelude.{◌≡◌, ◌≢◌, ◌⊎◌, ◌↔◌, ◌++◌, ◌∷◌, [], take, IfOk, IfErr, IfSome, IsNone, IsTrue, OnOk};
 ghost use Rattle.ocfl_tree.specs.Place.{Text as ModelText};
-ghost use Rattle.ocfl_report.specs.Line.{Line as ModelLine, line_of};
-ghost use Rattle.ocfl_report.specs.Text.{IsLineText};
-ghost use Rattle.ocfl_telling.specs.List.{BeginsWith, HasFeed, IsEnded, IsEntry, IsKnownText};
-ghost use Rattle.ocfl_telling.specs.List.{IsList, IsRemark, IsRow, NamesLoss};
-ghost use Rattle.ocfl_telling.specs.List.{KnownStopsRightly, Row as ModelRow, RowsStop, entries_of};
-ghost use Rattle.ocfl_telling.specs.List.{row_text};
+ghost use Rattle.ocfl_report.specs.{Line.{Line as ModelLine, line_of}, Text.{IsLineText}};
+ghost use Rattle.ocfl_telling.specs.List.{BeginsWith, HasFeed, IsEnded, IsEntry, IsKnownText, IsList, IsRemark, IsRow, NamesLoss, KnownStopsRightly, Row as ModelRow, RowsStop, entries_of, row_text};
 ghost use Rattle.ocfl_telling.specs.declared.known.Entry.{Entry as ModelEntry};
 
 use crate::known::{Entry, Known, Reach};

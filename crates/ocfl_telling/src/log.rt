@@ -4,13 +4,9 @@
 //! Each has a member `row`, which says what it is of, and times in seconds since 1970. Paths,
 //! places and the system's words are escaped as in reports, so a line has printable ASCII alone.
 ghost use Rattle.std.specs.Prelude.{◌≡◌, ◌≤◌, false, IfOk, string_bytes};
-ghost use Rattle.serde_json.specs.Data.{Data, depth};
-ghost use Rattle.serde_json.specs.View.{view};
-ghost use Rattle.serde_json.specs.Written.{has_float};
+ghost use Rattle.serde_json.specs.{Data.{Data, depth}, View.{view}, Written.{has_float}};
 ghost use Rattle.ocfl_report.specs.Text.{escape, place_text};
-ghost use Rattle.ocfl_telling.specs.Log.{IsJsonLine, stands_text, slice_data, closing_data};
-ghost use Rattle.ocfl_telling.specs.Log.{refusal_data, night_data, slice_with, closing_with};
-ghost use Rattle.ocfl_telling.specs.Log.{left_data, left_with, refusal_with};
+ghost use Rattle.ocfl_telling.specs.Log.{IsJsonLine, stands_text, slice_data, closing_data, refusal_data, night_data, slice_with, closing_with, left_data, left_with, refusal_with};
 
 use crate::shown::Shown;
 use ocfl_report::DisplayPlace;

@@ -1,12 +1,8 @@
 //! The message after a night: the findings that were not said before.
-ghost use Rattle.std.specs.Prelude.{◌≡◌, ◌++◌, ◌-◌, ◌^◌, ◌<◌, List, length, map, take, OnOk};
-ghost use Rattle.std.specs.Prelude.{IfOk, string_bytes};
-ghost use Rattle.ocfl_report.specs.Line.{Line as ModelLine, line_of};
-ghost use Rattle.ocfl_report.specs.Text.{lines_text};
+ghost use Rattle.std.specs.Prelude.{◌≡◌, ◌++◌, ◌-◌, ◌^◌, ◌<◌, List, length, map, take, OnOk, IfOk, string_bytes};
+ghost use Rattle.ocfl_report.specs.{Line.{Line as ModelLine, line_of}, Text.{lines_text}};
 ghost use Rattle.ocfl_telling.specs.Gravest.{IsOf, by_weight, gravest, most_shown};
-ghost use Rattle.ocfl_telling.specs.Night.{whose_text, runs_text, head_text, more_text, look_text};
-ghost use Rattle.ocfl_telling.specs.Night.{between_text, some_more_text, part_text};
-ghost use Rattle.ocfl_telling.specs.Night.{night_text as text_of_night};
+ghost use Rattle.ocfl_telling.specs.Night.{whose_text, runs_text, head_text, more_text, look_text, between_text, some_more_text, part_text, night_text as text_of_night};
 
 use crate::gravest::{Gravest, SHOWN};
 use crate::shown::Shown;

@@ -1,8 +1,6 @@
 //! Why a night did nothing: a sentence for each reason.
 ghost use Rattle.std.specs.Prelude.{◌≡◌, IfOk, string_bytes};
-ghost use Rattle.ocfl_telling.specs.Refusal.{refusal_text as text_of_refusal, reason_text};
-ghost use Rattle.ocfl_telling.specs.Refusal.{ending_text, names_gone_text, other_declaration_text};
-ghost use Rattle.ocfl_telling.specs.Refusal.{other_part_text, other_root_text, root_changed_text};
+ghost use Rattle.ocfl_telling.specs.Refusal.{refusal_text as text_of_refusal, reason_text, ending_text, names_gone_text, other_declaration_text, other_part_text, other_root_text, root_changed_text};
 
 use crate::shown::Shown;
 use std::alloc::{AllocError, Global};

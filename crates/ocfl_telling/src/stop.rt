@@ -1,7 +1,6 @@
 //! Why a night stopped: the lines that say so.
 ghost use Rattle.std.specs.Prelude.{◌≡◌, IfOk, Option, option_map, string_bytes};
-ghost use Rattle.ocfl_telling.specs.Stop.{brackets_text, next_text, stop_text as text_of_stop};
-ghost use Rattle.ocfl_telling.specs.Stop.{why_text};
+ghost use Rattle.ocfl_telling.specs.Stop.{brackets_text, next_text, stop_text as text_of_stop, why_text};
 
 use crate::night::whose;
 use crate::shown::Shown;

@@ -1,17 +1,13 @@
 -- What each call of a store does, in other words.
 use Rattle.std.proofs.Common.{◌≡◌, ◌≢◌, ℕ, ◌+◌, ◌<◌, ◌≤◌, true, false, List, [], ◌∷◌, ◌++◌, None, Some, length, refl, ap, ◌∙◌, append-nil, arith}
-use Rattle.ocfl_tree.specs.Place.{Text, Place as Spot}
-use Rattle.ocfl_tree.specs.StorageRoot.{file, dir, at}
-use Rattle.ocfl_tree.specs.Listing.{kind_in, kind_at}
-use Rattle.ocfl_tree.specs.Ascending.{IsAmong}
+use Rattle.ocfl_tree.specs.{Place.{Text, Place as Spot}, StorageRoot.{file, dir, at}}
+use Rattle.ocfl_tree.specs.{Listing.{kind_in, kind_at}, Ascending.{IsAmong}}
 use Rattle.ocfl_tree.specs.Store.{Store, Did, failed_openings}
 use Rattle.ocfl_tree.specs.Calls.{opening, change_last, with_given, with_failure, Lists, ListFails, Opens, OpenFails, Reads, ReadFails, Closes}
-use Rattle.ocfl_tree.specs.declared.store.Entry.{Entry}
-use Rattle.ocfl_tree.specs.declared.store.Opening.{Opening}
+use Rattle.ocfl_tree.specs.{declared.store.Entry.{Entry}, declared.store.Opening.{Opening}}
 use Rattle.ocfl_tree.specs.declared.store.Trouble.{Trouble}
 use Rattle.ocfl_tree.specs.declared.store.Trouble.TheVariants.{Device, Absent, Memory}
-use Rattle.ocfl_tree.proofs.Lists.{change_last-append}
-use Rattle.ocfl_tree.proofs.Stores.{listed_well, listing_failed}
+use Rattle.ocfl_tree.proofs.{Lists.{change_last-append}, Stores.{listed_well, listing_failed}}
 
 none_more : (a b : ℕ) → b ≡ a + 0 → b ≡ a
 none_more a b e = omega (arith, e)

@@ -1,16 +1,13 @@
 -- The entries that are kept of a directory, those of the model, and what a listing gives.
 use Rattle.std.proofs.Common.{◌≡◌, ◌⊎◌, inl, inr, Bool, true, false, cond, not, List, [], ◌∷◌, ◌++◌, filter, Option, Some, None, sym, ◌∙◌, ap, subst, refl}
-use Rattle.std.specs.Prelude.{filter_map}
-use Rattle.std.specs.List.{cons_option}
-use Rattle.std.specs.Option.{option_map}
-use Rattle.std.specs.List.Sorted.{IsPermutation}
 use Rattle.std.proofs.lemmas.List.Sorted.{IsPermutation-refl, IsPermutation-sym, IsPermutation-cons, IsPermutation-trans, IsPermutation-middle}
+use Rattle.std.specs.{Prelude.{filter_map}, List.{cons_option}, Option.{option_map}}
+use Rattle.std.specs.List.Sorted.{IsPermutation}
 use Rattle.ocfl_tree.specs.Place.{Text, Place, text_cmp, text_eq, place_eq, child_name}
 use Rattle.ocfl_tree.specs.Ascending.{IsAmong, IsBeforeAll, IsAscending}
 use Rattle.ocfl_tree.specs.StorageRoot.{StorageRoot, Leaf, dir, lookup, at, names_in}
 use Rattle.ocfl_tree.specs.Listing.{kind_of, kind_at, entry_at, entries_in, kind_in, AreApart, IsOrdinary, IsListing}
-use Rattle.ocfl_tree.specs.declared.store.Kind.{Kind}
-use Rattle.ocfl_tree.specs.declared.store.Entry.{Entry}
+use Rattle.ocfl_tree.specs.{declared.store.Kind.{Kind}, declared.store.Entry.{Entry}}
 use Rattle.ocfl_tree.proofs.Orders.{among_ascending, ascends_ascending, not_below_itself}
 use Rattle.ocfl_tree.proofs.Places.{text_eq-Decides, text_eq-same, text_cmp_exact, text_cmp_total, place_eq-Decides, not_decided, differ, child_name-append}
 use Rattle.ocfl_tree.proofs.Trees.{some_not_none, at_in_dir}

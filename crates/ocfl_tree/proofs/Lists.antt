@@ -1,8 +1,7 @@
 -- What is kept at an index, and where it is looked up.
 use Rattle.std.proofs.Common.{◌≡◌, ◌≢◌, ℕ, ◌+◌, ◌<◌, cond, List, [], ◌∷◌, ◌++◌, length, drop, get_or, Some, sym, ◌∙◌, ap, refl}
 use Rattle.std.proofs.lemmas.List.{drop_more}
-use Rattle.ocfl_tree.specs.Place.{Place}
-use Rattle.ocfl_tree.specs.Calls.{change_last}
+use Rattle.ocfl_tree.specs.{Place.{Place}, Calls.{change_last}}
 use Rattle.ocfl_tree.specs.StorageRoot.{StorageRoot, Leaf, lookup}
 use Rattle.ocfl_tree.proofs.Places.{place_eq-Decides, not_decided}
 

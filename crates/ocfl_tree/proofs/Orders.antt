@@ -1,10 +1,8 @@
 -- Laws of ascending lists.
 use Rattle.std.proofs.Common.{◌≡◌, ◌↔◌, ◌⊎◌, inl, inr, List, [], ◌∷◌, ◌++◌, refl, sym, ◌∙◌, ap, subst, true, false, Bool, map, filter}
-use Rattle.std.specs.Prelude.{cond, flat_map}
-use Rattle.std.specs.Ordering.{ordering_reverse, match_ordering, is_lt}
+use Rattle.std.specs.{Prelude.{cond, flat_map}, Ordering.{ordering_reverse, match_ordering, is_lt}}
 use Rattle.std.specs.declared.cmp.Ordering.{Ordering}
-use Rattle.std.specs.declared.cmp.Ordering.TheVariants.{Less, Equal, Greater}
-use Rattle.std.specs.Cmp.{IsTotalOrder}
+use Rattle.std.specs.{declared.cmp.Ordering.TheVariants.{Less, Equal, Greater}, Cmp.{IsTotalOrder}}
 use Rattle.std.specs.Cmp.Lexicographic.{lists_total, nat_list_cmp_total}
 use Rattle.std.specs.FinMap.{IsAntisymmetric, slice_cmp-IsAntisymmetric, nat_cmp-IsAntisymmetric}
 use Rattle.ocfl_tree.specs.Place.{place_cmp}

@@ -1,19 +1,16 @@
 -- Which texts are the paths of places.
 use Rattle.std.proofs.Common.{◌≡◌, ◌≢◌, ◌⊎◌, inl, inr, ℕ, zero, suc, ◌+◌, ◌<◌, [], ◌∷◌, ◌++◌, Bool, true, false, refl, sym, ◌∙◌, ap, subst, cond, length, get_or, arith, codes, not, IsUtf8, length-append}
-use Rattle.std.specs.Prelude.{◌==◌, ◌||◌, nat_eq, nat_le, All}
-use Rattle.std.specs.List.{list_any, list_all, onto_first}
-use Rattle.std.specs.Cmp.Lexicographic.{pointwise}
 use Rattle.std.proofs.lemmas.Bool.{and_parts, leb-true, not-true}
 use Rattle.std.proofs.lemmas.Bool.Decides.{eqb_tells, nat_tests}
 use Rattle.std.proofs.lemmas.Slice.Eq.{bytes_eq-Decides}
 use Rattle.std.proofs.Math.Seq.{take-append_seam, drop-append-add, get_or-append_seam}
 use Rattle.std.proofs.lemmas.List.Elements.{All-nil, All-cons, All-head, All-tail}
 use Rattle.std.proofs.lemmas.Str.{IsUtf8-take, IsUtf8-drop, IsCharBoundary-before_ascii, IsCharBoundary-after_ascii}
-use Rattle.ocfl_tree.specs.Place.{Text, Place}
-use Rattle.ocfl_tree.specs.Name.{IsName, IsPlace}
+use Rattle.std.specs.Prelude.{◌==◌, ◌||◌, nat_eq, nat_le, All}
+use Rattle.std.specs.{List.{list_any, list_all, onto_first}, Cmp.Lexicographic.{pointwise}}
+use Rattle.ocfl_tree.specs.{Place.{Text, Place}, Name.{IsName, IsPlace}}
 use Rattle.ocfl_tree.specs.Path.{elements, names_of, fits}
-use Rattle.ocfl_tree.proofs.Orders.{true_not_false}
-use Rattle.ocfl_tree.proofs.Places.{differ}
+use Rattle.ocfl_tree.proofs.{Orders.{true_not_false}, Places.{differ}}
 use Rattle.ocfl_tree.proofs.PathOrders.{some_element, slash_is}
 use Rattle.ocfl_tree.proofs.Paths.{Lacks, lone_element, elements-append}
 

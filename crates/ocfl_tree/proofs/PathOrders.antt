@@ -1,16 +1,13 @@
 -- Comparing paths by their bytes compares them by their elements.
 use Rattle.std.proofs.Common.{◌≡◌, ◌≢◌, ◌⊎◌, inl, inr, ℕ, zero, suc, ◌-◌, ◌≤◌, [], ◌∷◌, Bool, true, false, refl, sym, ◌∙◌, ap, subst, cond, drop, take, length, arith, length-drop, leb-true}
 use Prim.Native.Nat.{min}
-use Rattle.std.specs.Prelude.{◌==◌, ◌&&◌, nat_eq, nat_le}
-use Rattle.std.specs.List.{starts_with, onto_first}
+use Rattle.std.specs.{Prelude.{◌==◌, ◌&&◌, nat_eq, nat_le}, List.{starts_with, onto_first}}
 use Rattle.std.specs.Ordering.{nat_cmp, ordering_then, ordering_reverse, is_eq}
 use Rattle.std.specs.declared.cmp.Ordering.{Ordering}
 use Rattle.std.specs.declared.cmp.Ordering.TheVariants.{Less, Equal, Greater}
-use Rattle.std.proofs.lemmas.Bool.Decides.{eqb_tells, nat_tests}
-use Rattle.std.proofs.lemmas.Cmp.{nat_cmp_total}
-use Rattle.std.specs.FinMap.{nat_cmp-IsAntisymmetric}
+use Rattle.std.specs.{FinMap.{nat_cmp-IsAntisymmetric}, Cmp.Lexicographic.{pointwise}}
+use Rattle.std.proofs.{lemmas.Bool.Decides.{eqb_tells, nat_tests}, lemmas.Cmp.{nat_cmp_total}}
 use Rattle.std.proofs.lemmas.List.{drop_all}
-use Rattle.std.specs.Cmp.Lexicographic.{pointwise}
 use Rattle.ocfl_tree.specs.Place.{Text, Place, text_cmp, place_cmp, begins}
 use Rattle.ocfl_tree.specs.Path.{elements, names_of, byte_cmp, path_cmp, is_ended, path_begins}
 use Rattle.ocfl_tree.proofs.Orders.{true_not_false}

@@ -1,23 +1,15 @@
 -- The names of a path.
-use Rattle.std.proofs.Common.{◌≡◌, ◌≢◌, ◌⊎◌, inl, inr, ℕ, zero, suc, ◌+◌, ◌<◌, [], ◌∷◌, ◌++◌, Bool, true, false, refl, sym, ◌∙◌, ap, cond, length, get_or, arith}
-use Rattle.std.specs.Prelude.{◌==◌, nat_eq}
-use Rattle.std.specs.List.{onto_first, count_by}
-use Rattle.std.specs.Cmp.Lexicographic.{pointwise}
-use Rattle.std.proofs.lemmas.Bool.Decides.{eqb_tells}
-use Rattle.std.proofs.lemmas.Slice.Eq.{bytes_eq-Decides}
+use Rattle.std.proofs.Common.{◌≡◌, ◌≢◌, ◌⊎◌, inl, inr, ℕ, zero, suc, ◌+◌, ◌<◌, [], ◌∷◌, ◌++◌, Bool, true, false, refl, sym, ◌∙◌, ap, cond, length, get_or, arith, Bor, Option, Some, None, MatchOption, Result, Ok, Err, OnOk, OnErr, subst, length-append, append-nil, ◌≤◌, take, drop}
+use Rattle.std.proofs.{lemmas.Bool.Decides.{eqb_tells}, lemmas.Slice.Eq.{bytes_eq-Decides}}
 use Rattle.std.proofs.lemmas.List.Splits.{length-slice_split}
-use Rattle.ocfl_tree.specs.Place.{Text, Place}
-use Rattle.ocfl_tree.specs.Path.{elements, names_of, slashed, below, joined}
-use Rattle.ocfl_tree.specs.Name.{IsName, IsPlace}
-use Rattle.ocfl_tree.proofs.Names.{place_push}
-use Rattle.std.proofs.Common.{Bor, Option, Some, None, MatchOption, Result, Ok, Err, OnOk, OnErr, subst, length-append, append-nil}
-use Rattle.std.proofs.Common.{◌≤◌, take, drop}
-use Rattle.std.specs.Str.Pattern.{RFindsChar}
 use Rattle.std.proofs.lemmas.Str.Pattern.{NoCharPasses-char, drop_at_char, IsSplitOnceResult, split_parts}
-use Rattle.std.proofs.lemmas.List.{take-append-drop, drop-drop, drop_all, length-drop, take-take, take_more, take_all, same_from_push}
-use Rattle.std.proofs.lemmas.List.{get_or_push}
+use Rattle.std.proofs.lemmas.List.{take-append-drop, drop-drop, drop_all, length-drop, take-take, take_more, take_all, same_from_push, get_or_push}
 use Rattle.std.proofs.lemmas.List.Elements.{All-head, All-tail, All-nil, All-append, All-cons, All-take, All-drop}
-use Rattle.ocfl_tree.proofs.Orders.{true_not_false}
+use Rattle.std.specs.{Prelude.{◌==◌, nat_eq}, List.{onto_first, count_by}}
+use Rattle.std.specs.{Cmp.Lexicographic.{pointwise}, Str.Pattern.{RFindsChar}}
+use Rattle.ocfl_tree.specs.{Place.{Text, Place}, Path.{elements, names_of, slashed, below, joined}}
+use Rattle.ocfl_tree.specs.Name.{IsName, IsPlace}
+use Rattle.ocfl_tree.proofs.{Names.{place_push}, Orders.{true_not_false}}
 use Rattle.ocfl_tree.proofs.Places.{path_eq-Decides, not_decided}
 use Rattle.ocfl_tree.proofs.PathOrders.{some_element, slash_is}
 

@@ -5,11 +5,9 @@ use Rattle.ocfl_tree.specs.Place.{Text, Place}
 use Rattle.ocfl_tree.specs.StorageRoot.{StorageRoot, Leaf, file, dir, other, at, bytes_of, file_at}
 use Rattle.ocfl_tree.specs.Store.{Store, Did, failed_openings}
 use Rattle.ocfl_tree.specs.Calls.{Opens, Reads, ReadFails, Closes, opening, change_last, with_given, with_failure}
-use Rattle.ocfl_tree.specs.Reading.{IsReading}
-use Rattle.ocfl_tree.specs.declared.store.Opening.{Opening}
+use Rattle.ocfl_tree.specs.{Reading.{IsReading}, declared.store.Opening.{Opening}}
 use Rattle.ocfl_tree.specs.declared.store.Trouble.TheVariants.{Device, Absent}
-use Rattle.ocfl_tree.proofs.Stores.{did_both, listed_well}
-use Rattle.ocfl_tree.proofs.Trees.{some_not_none}
+use Rattle.ocfl_tree.proofs.{Stores.{did_both, listed_well}, Trees.{some_not_none}}
 use Rattle.ocfl_tree.proofs.Lists.{change_last-append}
 
 pub reading_opens : (s t : Store) (p : Place) → Opens s t p → IsReading s t p []

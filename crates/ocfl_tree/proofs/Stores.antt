@@ -2,11 +2,8 @@
 use Rattle.std.proofs.Common.{List, [], ◌∷◌, ◌++◌, ◌∙◌, ap, ℕ, ◌+◌, ◌≡◌, ◌≤◌, ◌⊎◌, inl, inr, length, filter, refl, sym, subst, arith, append_assoc, append-nil}
 use Rattle.std.proofs.lemmas.List.{length-append, nil_from_length}
 use Rattle.std.proofs.lemmas.List.Elements.{filter-append}
-use Rattle.ocfl_tree.specs.Ascending.{IsAmong}
-use Rattle.ocfl_tree.specs.Calls.{Closes}
-use Rattle.ocfl_tree.specs.Place.{Place}
-use Rattle.ocfl_tree.specs.Store.{Store, Did, failed_openings}
-use Rattle.ocfl_tree.specs.declared.store.Opening.{Opening}
+use Rattle.ocfl_tree.specs.{Ascending.{IsAmong}, Calls.{Closes}, Place.{Place}}
+use Rattle.ocfl_tree.specs.{Store.{Store, Did, failed_openings}, declared.store.Opening.{Opening}}
 use Rattle.ocfl_tree.proofs.Orders.{among_left, among_right}
 
 -- ---- which listings failed

@@ -1,8 +1,6 @@
 -- Sets as lists in order, each element once.
-use Rattle.std.specs.Prelude.{◌≡◌, ◌⊎◌, List, [], ◌∷◌, ⊤}
-use Rattle.std.specs.Ordering.{match_ordering}
-use Rattle.std.specs.declared.cmp.Ordering.{Ordering}
-use Rattle.std.specs.declared.cmp.Ordering.TheVariants.{Less}
+use Rattle.std.specs.{Prelude.{◌≡◌, ◌⊎◌, List, [], ◌∷◌, ⊤}, Ordering.{match_ordering}}
+use Rattle.std.specs.{declared.cmp.Ordering.{Ordering}, declared.cmp.Ordering.TheVariants.{Less}}
 
 abbrev pub insert_once : {A : Type 0} → (A → A → Ordering) → A → List A → List A
 insert_once cmp x [] = x ∷ []

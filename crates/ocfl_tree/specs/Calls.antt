@@ -1,12 +1,8 @@
 -- What each call does to what a store tells.
 use Rattle.std.specs.Prelude.{◌≡◌, ◌≢◌, ℕ, ◌+◌, ◌<◌, Bool, true, false, List, [], ◌∷◌, ◌++◌, length, Some, None}
-use Rattle.ocfl_tree.specs.Place.{Text, Place}
-use Rattle.ocfl_tree.specs.StorageRoot.{file, dir, at}
-use Rattle.ocfl_tree.specs.Listing.{IsListing}
-use Rattle.ocfl_tree.specs.Store.{Store, Did}
-use Rattle.ocfl_tree.specs.declared.store.Entry.{Entry}
-use Rattle.ocfl_tree.specs.declared.store.Opening.{Opening}
-use Rattle.ocfl_tree.specs.declared.store.Trouble.{Trouble}
+use Rattle.ocfl_tree.specs.{Place.{Text, Place}, StorageRoot.{file, dir, at}, Listing.{IsListing}}
+use Rattle.ocfl_tree.specs.{Store.{Store, Did}, declared.store.Entry.{Entry}}
+use Rattle.ocfl_tree.specs.{declared.store.Opening.{Opening}, declared.store.Trouble.{Trouble}}
 use Rattle.ocfl_tree.specs.declared.store.Trouble.TheVariants.{Device, Absent, Memory}
 
 abbrev pub opening : Place → ℕ → Bool → Opening

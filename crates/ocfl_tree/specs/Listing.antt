@@ -3,9 +3,8 @@ use Rattle.std.specs.Prelude.{◌≡◌, ◌≤◌, List, [], ◌∷◌, ◌++�
 use Rattle.std.specs.Option.{option_map}
 use Rattle.ocfl_tree.specs.Place.{Text, Place, text_eq}
 use Rattle.ocfl_tree.specs.StorageRoot.{StorageRoot, Leaf, file, dir, other, at, names_in, max_entries}
-use Rattle.ocfl_tree.specs.declared.store.Kind.{Kind}
+use Rattle.ocfl_tree.specs.{declared.store.Kind.{Kind}, declared.store.Entry.{Entry}}
 use Rattle.ocfl_tree.specs.declared.store.Kind.TheVariants as kind
-use Rattle.ocfl_tree.specs.declared.store.Entry.{Entry}
 
 abbrev pub kind_of : Leaf → Kind
 kind_of (file bytes) = kind.File

@@ -1,6 +1,5 @@
 -- What the name of a directory's entry is.
-use Rattle.std.specs.Prelude.{◌≢◌, ℕ, ◌≤◌, List, [], length, All, codes}
-use Rattle.std.specs.Str.{IsUtf8}
+use Rattle.std.specs.{Prelude.{◌≢◌, ℕ, ◌≤◌, List, [], length, All, codes}, Str.{IsUtf8}}
 
 -- 1 to 255 bytes without `/` and NUL, and neither `.` nor `..`
 pub record HasNameBytes (bytes : List ℕ) : Type 0 where

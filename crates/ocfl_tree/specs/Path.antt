@@ -1,9 +1,7 @@
 -- Paths: the names of a place in one text, with `/` between them.
 use Rattle.std.specs.Prelude.{◌==◌, ◌&&◌, nat_eq, nat_le, not, ℕ, [], ◌∷◌, ◌++◌, Bool, true, length, drop, if◌then◌else◌, codes}
-use Rattle.std.specs.List.{starts_with, slice_split}
-use Rattle.std.specs.Cmp.Lexicographic.{pointwise}
-use Rattle.std.specs.Ordering.{nat_cmp}
-use Rattle.std.specs.declared.cmp.Ordering.{Ordering}
+use Rattle.std.specs.{List.{starts_with, slice_split}, Cmp.Lexicographic.{pointwise}}
+use Rattle.std.specs.{Ordering.{nat_cmp}, declared.cmp.Ordering.{Ordering}}
 use Rattle.std.specs.declared.cmp.Ordering.TheVariants.{Less, Equal, Greater}
 use Rattle.ocfl_tree.specs.Place.{Text, Place}
 

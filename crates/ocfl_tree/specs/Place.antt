@@ -1,7 +1,6 @@
 -- Places in a storage root, and their order.
 use Rattle.std.specs.Prelude.{ℕ, List, [], ◌∷◌, Bool, true, false, ◌&&◌, if◌then◌else◌, Option, Some, None}
-use Rattle.std.specs.Ordering.{nat_cmp, is_eq}
-use Rattle.std.specs.declared.cmp.Ordering.{Ordering}
+use Rattle.std.specs.{Ordering.{nat_cmp, is_eq}, declared.cmp.Ordering.{Ordering}}
 use Rattle.std.specs.Cmp.Lexicographic.{slice_cmp}
 
 -- a name, a text or a file's content, as its bytes

@@ -1,8 +1,6 @@
 -- A file that is read piece by piece.
 use Rattle.std.specs.Prelude.{◌≡◌, ◌++◌, length, Some, [], ◌∷◌, false}
-use Rattle.ocfl_tree.specs.Place.{Text, Place}
-use Rattle.ocfl_tree.specs.StorageRoot.{file, at}
-use Rattle.ocfl_tree.specs.Store.{Store, Did}
+use Rattle.ocfl_tree.specs.{Place.{Text, Place}, StorageRoot.{file, at}, Store.{Store, Did}}
 use Rattle.ocfl_tree.specs.Calls.{opening}
 
 -- from s to t the file at p was opened, and gave these bytes

@@ -1,17 +1,12 @@
 //! What callers of a store need once, as contracts of functions that do nothing.
-ghost use Rattle.std.specs.Prelude.{◌≡◌, ◌≢◌, ℕ, ◌+◌, ◌<◌, ◌++◌, [], ◌∷◌, List, length};
-ghost use Rattle.std.specs.Prelude.{true, false, None, Some, Bool, IsTrue};
+ghost use Rattle.std.specs.Prelude.{◌≡◌, ◌≢◌, ℕ, ◌+◌, ◌<◌, ◌++◌, [], ◌∷◌, List, length, true, false, None, Some, Bool, IsTrue};
 ghost use Rattle.std.specs.List.Sorted.{IsPermutation};
-ghost use Rattle.ocfl_tree.specs.Ascending.{IsAmong};
-ghost use Rattle.ocfl_tree.specs.Name.{IsPlace};
-ghost use Rattle.ocfl_tree.specs.Place.{Text, Place as Spot};
+ghost use Rattle.ocfl_tree.specs.{Ascending.{IsAmong}, Name.{IsPlace}, Place.{Text, Place as Spot}};
 ghost use Rattle.ocfl_tree.specs.StorageRoot.{StorageRoot, file, dir, at};
 ghost use Rattle.ocfl_tree.specs.Listing.{entries_in, kind_in, kind_at, IsOrdinary, IsListing};
 ghost use Rattle.ocfl_tree.specs.Store.{Store, Did, IfTold, failed_openings};
-ghost use Rattle.ocfl_tree.specs.Calls.{opening, Lists, ListFails, Opens, OpenFails, Reads};
-ghost use Rattle.ocfl_tree.specs.Calls.{ReadFails, Closes};
-ghost use Rattle.ocfl_tree.specs.Reading.{IsReading};
-ghost use Rattle.ocfl_tree.specs.declared.store.Entry.{Entry};
+ghost use Rattle.ocfl_tree.specs.Calls.{opening, Lists, ListFails, Opens, OpenFails, Reads, ReadFails, Closes};
+ghost use Rattle.ocfl_tree.specs.{Reading.{IsReading}, declared.store.Entry.{Entry}};
 ghost use Rattle.ocfl_tree.specs.declared.store.Opening.{Opening};
 ghost use Rattle.ocfl_tree.specs.declared.store.Trouble.{Trouble};
 ghost use Rattle.ocfl_tree.specs.declared.store.Trouble.TheVariants.{Device, Absent, Memory};

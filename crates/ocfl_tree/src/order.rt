@@ -1,8 +1,7 @@
 //! The order of paths.
 ghost use Rattle.std.specs.Prelude.{◌≡◌, ◌≤◌, ◌<◌, length, drop, IsTrue};
 ghost use Rattle.ocfl_tree.specs.Place.{place_cmp, begins as begins_place};
-ghost use Rattle.ocfl_tree.specs.Path.{elements, names_of, byte_cmp, path_cmp, path_begins};
-ghost use Rattle.ocfl_tree.specs.Path.{is_ended as is_ended_text};
+ghost use Rattle.ocfl_tree.specs.Path.{elements, names_of, byte_cmp, path_cmp, path_begins, is_ended as is_ended_text};
 
 use std::cmp::Ordering;
 

@@ -1,6 +1,5 @@
 //! Paths: the names of a place in one text, with `/` between them.
-ghost use Rattle.std.specs.Prelude.{◌≡◌, ◌≤◌, ◌+◌, ◌==◌, ◌↔◌, ◌∷◌, ◌++◌, [], length, IsTrue, IfOk};
-ghost use Rattle.std.specs.Prelude.{OnOk, OnErr, MatchOption, string_bytes, take, drop};
+ghost use Rattle.std.specs.Prelude.{◌≡◌, ◌≤◌, ◌+◌, ◌==◌, ◌↔◌, ◌∷◌, ◌++◌, [], length, IsTrue, IfOk, OnOk, OnErr, MatchOption, string_bytes, take, drop};
 ghost use Rattle.std.specs.List.{list_all, list_any, count_by};
 ghost use Rattle.ocfl_tree.specs.Name.{IsName, IsPlace};
 ghost use Rattle.ocfl_tree.specs.Path.{elements, names_of, below, joined, fits as fits_name};

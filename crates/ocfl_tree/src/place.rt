@@ -1,14 +1,9 @@
 //! Places: names from the storage root down, kept as one path.
-ghost use Rattle.std.specs.Prelude.{◌≡◌, ◌↔◌, ◌++◌, ◌∷◌, [], length, string_bytes, IfOk, OnOk};
-ghost use Rattle.std.specs.Prelude.{OnErr, take, drop, IfSome, IsNone, MatchOption, Some, nat_eq};
-ghost use Rattle.std.specs.Prelude.{refl};
+ghost use Rattle.std.specs.Prelude.{◌≡◌, ◌↔◌, ◌++◌, ◌∷◌, [], length, string_bytes, IfOk, OnOk, OnErr, take, drop, IfSome, IsNone, MatchOption, Some, nat_eq, refl};
 ghost use Rattle.std.specs.Cmp.{partial_equiv_from_equiv, partial_order_from_agreeing_total};
-ghost use Rattle.std.specs.Cmp.Lexicographic.{pointwise, slice_cmp, nat_list_eq_equiv};
-ghost use Rattle.std.specs.Cmp.Lexicographic.{nat_list_cmp_total, texts_ties, lists_equiv};
-ghost use Rattle.std.specs.Cmp.Lexicographic.{lists_total, lists_ties};
+ghost use Rattle.std.specs.Cmp.Lexicographic.{pointwise, slice_cmp, nat_list_eq_equiv, nat_list_cmp_total, texts_ties, lists_equiv, lists_total, lists_ties};
 ghost use Rattle.std.specs.Ordering.{nat_cmp};
-ghost use Rattle.ocfl_tree.specs.Name.{IsName, IsPlace};
-ghost use Rattle.ocfl_tree.specs.Path.{names_of, slashed};
+ghost use Rattle.ocfl_tree.specs.{Name.{IsName, IsPlace}, Path.{names_of, slashed}};
 ghost use Rattle.ocfl_tree.specs.Place.{place_cmp, begins};
 
 use crate::name::Name;
@@ -27,8 +22,7 @@ pub struct Place {
 
 impl Model for Place {
     ghost use Rattle.std.specs.Prelude.{List, ℕ, string_bytes};
-    ghost use Rattle.ocfl_tree.specs.Name.{IsPlace};
-    ghost use Rattle.ocfl_tree.specs.Path.{names_of};
+    ghost use Rattle.ocfl_tree.specs.{Name.{IsPlace}, Path.{names_of}};
 
     ghost Value = { List (List ℕ) };
 

@@ -1,10 +1,7 @@
 //! The interface of a store.
-ghost use Rattle.std.specs.Prelude.{◌≡◌, ◌≢◌, ◌≤◌, Bool, IsTrue, IfOk, MatchResult, length, take};
-ghost use Rattle.std.specs.Prelude.{max, Err};
-ghost use Rattle.ocfl_tree.specs.Store.{Store};
-ghost use Rattle.ocfl_tree.specs.Listing.{IsOrdinary};
-ghost use Rattle.ocfl_tree.specs.Calls.{Lists, ListFails, Opens, OpenFails, Reads, ReadFails};
-ghost use Rattle.ocfl_tree.specs.Calls.{Closes};
+ghost use Rattle.std.specs.Prelude.{◌≡◌, ◌≢◌, ◌≤◌, Bool, IsTrue, IfOk, MatchResult, length, take, max, Err};
+ghost use Rattle.ocfl_tree.specs.{Store.{Store}, Listing.{IsOrdinary}};
+ghost use Rattle.ocfl_tree.specs.Calls.{Lists, ListFails, Opens, OpenFails, Reads, ReadFails, Closes};
 
 use crate::place::Place;
 use crate::store::{Entry, Trouble};

@@ -1,9 +1,8 @@
 -- Lists that are kept from the last to the first.
 use Rattle.std.proofs.Common.{◌≡◌, ◌≢◌, ℕ, zero, suc, ◌-◌, ◌+◌, Bool, true, false, List, [], ◌∷◌, ◌++◌, Option, Some, None, length, refl, ap, ◌∙◌, sym, subst, arith, vec_len}
+use Rattle.std.proofs.{lemmas.Bool.{eqb-true, eqb-false}, lemmas.List.{nil_from_length}}
 use Rattle.std.specs.Prelude.{cond, filter, slice_get, option_map, MatchOption, ◌==◌}
 use Rattle.std.specs.Option.{option_to_list}
-use Rattle.std.proofs.lemmas.Bool.{eqb-true, eqb-false}
-use Rattle.std.proofs.lemmas.List.{nil_from_length}
 use Rattle.ocfl_tree.specs.declared.store.Entry.{Entry}
 use Rattle.ocfl_walk.specs.Standing.{back, back_onto, piles_of, pile_of}
 use Rattle.ocfl_walk.specs.Internal.Standing.{IsTaken, next_in, next_of, trimmed, trimmed_from}

@@ -1,19 +1,15 @@
 -- The place before a place.
 use Rattle.std.proofs.Common.{◌≡◌, inl, inr, List, [], ◌∷◌, ◌++◌, refl, sym, ◌∙◌, ap, true, false, Bool, filter, Option, Some, None, not}
-use Rattle.std.specs.Prelude.{cond, option_map}
-use Rattle.std.specs.Ordering.{is_lt}
+use Rattle.std.specs.{Prelude.{cond, option_map}, Ordering.{is_lt}}
 use Rattle.std.specs.declared.cmp.Ordering.{Ordering}
 use Rattle.std.specs.declared.cmp.Ordering.TheVariants.{Less, Equal, Greater}
 use Rattle.ocfl_tree.specs.Place.{Place, Text, place_cmp}
 use Rattle.ocfl_tree.specs.Ascending.{ascending, IsAscending, IsAmong}
 use Rattle.ocfl_tree.specs.StorageRoot.{StorageRoot, dir}
 use Rattle.ocfl_tree.proofs.Orders.{place_cmp_total, place_cmp_exact, true_not_false, below_from_greater, not_below_itself, not_both_below, before_each, among_ascending, among_filter, among_from_filter, ascends_filter, ascends_ascending}
-use Rattle.ocfl_audit.specs.Audit.{candidates}
-use Rattle.ocfl_audit.specs.Between.{looked_between, read_between, up_to}
-use Rattle.ocfl_audit.specs.Due.{due, item_places, places_after}
-use Rattle.ocfl_audit.specs.Lines.{is_empty, notes}
-use Rattle.ocfl_audit.proofs.AuditExists.{seen_candidate}
-use Rattle.ocfl_audit.proofs.BelowLaws.{less_from}
+use Rattle.ocfl_audit.specs.{Audit.{candidates}, Between.{looked_between, read_between, up_to}}
+use Rattle.ocfl_audit.specs.{Due.{due, item_places, places_after}, Lines.{is_empty, notes}}
+use Rattle.ocfl_audit.proofs.{AuditExists.{seen_candidate}, BelowLaws.{less_from}}
 use Rattle.ocfl_audit.proofs.BetweenLaws.{directories, from_directory, from_object, looked_seen, objects, read_seen}
 use Rattle.ocfl_walk.proofs.FilterLaws.{left_whole}
 use Rattle.ocfl_walk.specs.Before.{directory_of, last_place, place_before, places_from}

@@ -1,38 +1,25 @@
 -- The listings on the way to a place, name by name.
 use Rattle.std.proofs.Common.{◌≡◌, ℕ, ◌≤◌, ◌<◌, List, [], ◌∷◌, ◌++◌, append-nil, refl, sym, ◌∙◌, ap, subst, true, false, Bool, Option, Some, None, filter, length, arith}
 use Rattle.std.proofs.lemmas.List.{nil_from_length}
-use Rattle.std.specs.Prelude.{cond, Result, Ok, Err, IfOk, MatchResult}
-use Rattle.std.specs.Ordering.{is_lt}
-use Rattle.ocfl_tree.specs.Place.{Text, Place, text_cmp}
-use Rattle.ocfl_tree.specs.Ascending.{IsAscending, IsBeforeAll}
-use Rattle.ocfl_tree.specs.StorageRoot.{StorageRoot, names_in, max_entries}
-use Rattle.ocfl_tree.specs.Store.{Store}
-use Rattle.ocfl_tree.specs.Listing.{kind_at}
-use Rattle.ocfl_tree.specs.declared.store.Entry.{Entry}
-use Rattle.ocfl_audit.specs.Zone.{hierarchy, inside, zone}
-use Rattle.ocfl_audit.specs.Walk.{seen_names}
+use Rattle.std.specs.{Prelude.{cond, Result, Ok, Err, IfOk, MatchResult}, Ordering.{is_lt}}
+use Rattle.ocfl_tree.specs.{Place.{Text, Place, text_cmp}, Ascending.{IsAscending, IsBeforeAll}}
+use Rattle.ocfl_tree.specs.{StorageRoot.{StorageRoot, names_in, max_entries}, Store.{Store}}
+use Rattle.ocfl_tree.specs.{Listing.{kind_at}, declared.store.Entry.{Entry}}
+use Rattle.ocfl_audit.specs.{Zone.{hierarchy, inside, zone}, Walk.{seen_names}}
 use Rattle.ocfl_audit.specs.Stack.{IsListed, listed_at, seen_left, seen_places}
-use Rattle.ocfl_item.specs.Ways.{IsAt, way_below}
+use Rattle.ocfl_item.specs.{Ways.{IsAt, way_below}, Around.{IsPart, IsTableAround}}
+use Rattle.ocfl_item.specs.{Meeting.{IsFairFolder}, declared.fault.Fault.{Fault}}
+use Rattle.ocfl_item.specs.{declared.folder.Folder.{Folder}, declared.meeting.Around.{Around}}
 use Rattle.ocfl_walk.specs.Standing.{AreEntries, HaveEntries, Pile, frames_of, levels}
 use Rattle.ocfl_walk.specs.Internal.Standing.{IsChain, IsOrderly, IsAroundIf}
-use Rattle.ocfl_item.specs.Around.{IsPart, IsTableAround}
-use Rattle.ocfl_item.specs.Meeting.{IsFairFolder}
 use Rattle.ocfl_walk.specs.Internal.Entering.{Comes, DescendFails, IsBrought, IsComing, IsShut, Leads, may_open}
-use Rattle.ocfl_item.specs.declared.fault.Fault.{Fault}
-use Rattle.ocfl_item.specs.declared.folder.Folder.{Folder}
-use Rattle.ocfl_item.specs.declared.meeting.Around.{Around}
 use Rattle.ocfl_item.proofs.NameLaws.{names_of}
 use Rattle.ocfl_tree.proofs.Orders.{among_from_filter, ascends_filter}
-use Rattle.ocfl_audit.proofs.AuditExists.{append_one}
-use Rattle.ocfl_audit.proofs.BelowLaws.{begins_front, less_from}
-use Rattle.ocfl_audit.proofs.Lists.{map_filter}
-use Rattle.ocfl_walk.proofs.DescentLaws.{descent_fails_on}
-use Rattle.ocfl_walk.proofs.FilterLaws.{left_all, left_fewer}
-use Rattle.ocfl_walk.proofs.ReachLaws.{comes_on}
-use Rattle.ocfl_walk.proofs.KeepLaws.{left_above}
-use Rattle.ocfl_walk.proofs.LeadsLaws.{around_on}
+use Rattle.ocfl_audit.proofs.{AuditExists.{append_one}, BelowLaws.{begins_front, less_from}}
+use Rattle.ocfl_audit.proofs.{Lists.{map_filter}, StackLaws.{start_stops}}
+use Rattle.ocfl_walk.proofs.{DescentLaws.{descent_fails_on}, FilterLaws.{left_all, left_fewer}}
+use Rattle.ocfl_walk.proofs.{ReachLaws.{comes_on}, KeepLaws.{left_above}, LeadsLaws.{around_on}}
 use Rattle.ocfl_walk.proofs.OrderlyLaws.{before_below, length_one, orderly_top}
-use Rattle.ocfl_audit.proofs.StackLaws.{start_stops}
 
 -- ---- the names above one
 

@@ -1,27 +1,19 @@
 -- The turn that is chosen, and what a stand is once listings of which nothing is left are let go.
 use Rattle.std.proofs.Common.{◌≡◌, ◌≢◌, ◌⊎◌, inl, inr, List, [], ◌∷◌, refl, sym, ◌∙◌, ap, subst, true, false, Bool, Option, Some, None, arith}
-use Rattle.std.specs.declared.alloc.Global.{Global}
-use Rattle.std.specs.Prelude.{cond, Vec}
-use Rattle.std.specs.Ordering.{is_lt}
+use Rattle.std.specs.{declared.alloc.Global.{Global}, Prelude.{cond, Vec}, Ordering.{is_lt}}
 use Rattle.std.specs.declared.cmp.Ordering.TheVariants.{Less}
 use Rattle.arrayvec.specs.ArrayVec.{ArrayVec}
-use Rattle.ocfl_tree.specs.Place.{Place, place_cmp}
-use Rattle.ocfl_tree.specs.StorageRoot.{StorageRoot}
-use Rattle.ocfl_tree.specs.Store.{Store}
+use Rattle.ocfl_tree.specs.{Place.{Place, place_cmp}, StorageRoot.{StorageRoot}, Store.{Store}}
 use Rattle.ocfl_tree.specs.declared.store.Entry.{Entry}
 use Rattle.ocfl_walk.specs.Standing.{IsStanding, Pile, StandsAt, size_of, stand_size, piles_in}
 use Rattle.ocfl_walk.specs.Internal.Standing.{IsBelowNext, IsOrderlyIf, TurnIs, next_of, path_from, trimmed, trimmed_from, is_turn_past, turn_before, turn_of}
+use Rattle.ocfl_walk.specs.{Internal.Walking.{GoesOn, FailsTo}, WalkCalls.{FailsOut}}
+use Rattle.ocfl_walk.specs.{declared.end.End.{End}, declared.stand.Stand.{Stand}}
+use Rattle.ocfl_walk.specs.{declared.stand.Step.{Step}, declared.stand.Turn.{Turn}}
 use Rattle.ocfl_audit.specs.Between.{IsBeyond}
-use Rattle.ocfl_walk.specs.Internal.Walking.{GoesOn}
-use Rattle.ocfl_walk.specs.WalkCalls.{FailsOut}
-use Rattle.ocfl_walk.specs.Internal.Walking.{FailsTo}
 use Rattle.ocfl_item.specs.declared.fault.Fault.TheVariants as fault
 use Rattle.ocfl_item.specs.declared.meeting.Around.{Around}
-use Rattle.ocfl_walk.specs.declared.end.End.{End}
-use Rattle.ocfl_walk.specs.declared.stand.Stand.{Stand}
-use Rattle.ocfl_walk.specs.declared.stand.Step.{Step}
 use Rattle.ocfl_walk.specs.declared.stand.Step.TheVariants as step
-use Rattle.ocfl_walk.specs.declared.stand.Turn.{Turn}
 use Rattle.ocfl_walk.specs.declared.stand.Turn.TheVariants as turn
 use Rattle.ocfl_audit.proofs.BelowLaws.{equal_itself, less_from}
 use Rattle.ocfl_tree.proofs.Orders.{place_cmp_total}

@@ -1,37 +1,28 @@
 -- What is left of the listings at a directory where a walk goes on with one of its names.
 use Rattle.std.proofs.Common.{◌≡◌, ◌⊎◌, inl, inr, ℕ, suc, ◌*◌, ◌-◌, ◌^◌, ◌<◌, ◌≤◌, List, [], ◌∷◌, ◌++◌, refl, sym, ◌∙◌, ap, subst, true, false, Bool, map, filter, Option, Some, None, not, length, arith}
-use Rattle.std.proofs.lemmas.Bool.{not-true}
-use Rattle.std.proofs.lemmas.List.{append-nil}
+use Rattle.std.proofs.{lemmas.Bool.{not-true}, lemmas.List.{append-nil}}
 use Rattle.std.proofs.Math.Nat.{mul-le-mul_left, mul_comm}
-use Rattle.std.specs.Prelude.{cond, flat_map, nat_le}
-use Rattle.std.specs.Ordering.{is_lt, ordering_then}
+use Rattle.std.specs.{Prelude.{cond, flat_map, nat_le}, Ordering.{is_lt, ordering_then}}
 use Rattle.std.specs.declared.cmp.Ordering.{Ordering}
 use Rattle.std.specs.declared.cmp.Ordering.TheVariants.{Less, Equal, Greater}
 use Rattle.ocfl_tree.specs.Place.{Place, Text, text_cmp, place_cmp, begins}
-use Rattle.ocfl_tree.specs.Ascending.{IsAmong, IsBeforeAll}
-use Rattle.ocfl_tree.specs.StorageRoot.{StorageRoot, Leaf, dir}
-use Rattle.ocfl_tree.specs.Listing.{kind_at}
-use Rattle.ocfl_tree.specs.declared.store.Entry.{Entry}
+use Rattle.ocfl_tree.specs.{Ascending.{IsAmong, IsBeforeAll}, StorageRoot.{StorageRoot, Leaf, dir}}
+use Rattle.ocfl_tree.specs.{Listing.{kind_at}, declared.store.Entry.{Entry}}
 use Rattle.ocfl_tree.proofs.Orders.{place_cmp_total, place_cmp_exact, true_not_false, not_below_itself, ascending_unique, among_filter, among_from_filter, ascends_filter}
 use Rattle.ocfl_audit.specs.Audit.{candidates}
 use Rattle.ocfl_audit.specs.Stack.{Frame, IsListed, IsStack, seen_in, seen_left, seen_places}
-use Rattle.ocfl_audit.specs.Walk.{seen_names}
-use Rattle.ocfl_audit.specs.Zone.{inside, seen, table_at, zone}
+use Rattle.ocfl_audit.specs.{Walk.{seen_names}, Zone.{inside, seen, table_at, zone}}
 use Rattle.ocfl_audit.proofs.AuditExists.{object_at, object_key, path_candidate, seen_candidate, zone_is}
 use Rattle.ocfl_audit.proofs.BelowLaws.{above, above_self, begins_front, begins_rest, cmp_behind, from_append, from_flat_map, less_from, equal_itself}
 use Rattle.ocfl_audit.proofs.Lists.{map_filter}
 use Rattle.ocfl_audit.proofs.NextLaws.{same_above, seen_ascend, seen_from, seen_to}
-use Rattle.ocfl_audit.proofs.StackLaws.{entry_seen, stack_pops}
-use Rattle.ocfl_audit.proofs.Trails.{filter_append}
+use Rattle.ocfl_audit.proofs.{StackLaws.{entry_seen, stack_pops}, Trails.{filter_append}}
 use Rattle.ocfl_audit.proofs.WayLaws.{head_seen, is_closed}
-use Rattle.ocfl_item.specs.Around.{IsTableAround}
-use Rattle.ocfl_item.specs.declared.meeting.Around.{Around}
-use Rattle.ocfl_item.proofs.LooksZones.{inside_step}
-use Rattle.ocfl_item.proofs.NameLaws.{names_of}
+use Rattle.ocfl_item.specs.{Around.{IsTableAround}, declared.meeting.Around.{Around}}
+use Rattle.ocfl_item.proofs.{LooksZones.{inside_step}, NameLaws.{names_of}}
 use Rattle.ocfl_walk.specs.Standing.{HaveEntries, Pile, entry_weight, frames_of, size_of, weigh, levels}
 use Rattle.ocfl_walk.specs.Internal.Standing.{IsChain, IsOrderly, IsTurn, cut_top, from_name, next_in, next_of, popped, popped_from, trimmed}
-use Rattle.ocfl_walk.proofs.BeforeLaws.{IsJustBefore, below_from, not_below}
-use Rattle.ocfl_walk.proofs.DueTurns.{turn_by}
+use Rattle.ocfl_walk.proofs.{BeforeLaws.{IsJustBefore, below_from, not_below}, DueTurns.{turn_by}}
 use Rattle.ocfl_walk.proofs.EntrySteps.{begins_last}
 use Rattle.ocfl_walk.proofs.FilterLaws.{left_all, left_fewer, left_whole}
 use Rattle.ocfl_walk.proofs.OrderlyLaws.{chain_on, orderly_trimmed, size_trimmed}

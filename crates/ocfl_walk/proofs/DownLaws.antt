@@ -1,31 +1,24 @@
 -- One name further down, on the way to a place.
 use Rattle.std.proofs.Common.{◌≡◌, ℕ, List, [], ◌∷◌, ◌++◌, refl, sym, ◌∙◌, ap, subst, true, false, Bool, Option, Some, None}
-use Rattle.std.proofs.lemmas.Bool.{and_right, not-false}
-use Rattle.std.proofs.lemmas.List.{append-nil}
+use Rattle.std.proofs.{lemmas.Bool.{and_right, not-false}, lemmas.List.{append-nil}}
 use Rattle.std.specs.Prelude.{cond, ◌&&◌, ◌||◌, not, Ok, Err}
-use Rattle.ocfl_tree.specs.Place.{Text, Place}
-use Rattle.ocfl_tree.specs.Ascending.{IsAmong}
-use Rattle.ocfl_tree.specs.StorageRoot.{StorageRoot, is_dir}
-use Rattle.ocfl_tree.specs.Store.{Store, Did}
+use Rattle.ocfl_tree.specs.{Place.{Text, Place}, Ascending.{IsAmong}}
+use Rattle.ocfl_tree.specs.{StorageRoot.{StorageRoot, is_dir}, Store.{Store, Did}}
 use Rattle.ocfl_tree.specs.declared.store.Entry.{Entry}
 use Rattle.ocfl_audit.specs.Zone.{skipped, inside, object_zone, root_declared, is_in_extensions, zone, table_at, is_entered, is_listed_zone, is_listed_in_object, is_known}
-use Rattle.ocfl_audit.specs.Walk.{is_reached}
+use Rattle.ocfl_audit.specs.{Walk.{is_reached}, Trail.{heads_of}}
 use Rattle.ocfl_item.specs.Ways.{Enters, Stops, way_below, is_listable, is_extensions_name, IsAt, IsObject}
-use Rattle.ocfl_item.specs.Around.{IsPart, IsTableAround}
-use Rattle.ocfl_walk.specs.Internal.Entering.{Descends, IsIn, IsShut, Leads, LeadsOn, Opens, OpensIn, may_open}
-use Rattle.ocfl_audit.specs.Trail.{heads_of}
-use Rattle.ocfl_walk.specs.WalkCalls.{holder_of}
-use Rattle.ocfl_item.specs.Looking.{IsFront, failures_by}
-use Rattle.ocfl_item.specs.declared.fault.Fault.{Fault}
-use Rattle.ocfl_item.specs.declared.folder.Folder.{Folder}
+use Rattle.ocfl_item.specs.{Around.{IsPart, IsTableAround}, Looking.{IsFront, failures_by}}
+use Rattle.ocfl_item.specs.{declared.fault.Fault.{Fault}, declared.folder.Folder.{Folder}}
 use Rattle.ocfl_item.specs.declared.meeting.Around.{Around}
+use Rattle.ocfl_walk.specs.Internal.Entering.{Descends, IsIn, IsShut, Leads, LeadsOn, Opens, OpensIn, may_open}
+use Rattle.ocfl_walk.specs.WalkCalls.{holder_of}
 use Rattle.ocfl_tree.proofs.Orders.{true_not_false}
-use Rattle.ocfl_audit.proofs.AuditExists.{append_one}
-use Rattle.ocfl_audit.proofs.StepLaws.{reached_step, listed_step}
+use Rattle.ocfl_audit.proofs.{AuditExists.{append_one}, StepLaws.{reached_step, listed_step}}
 use Rattle.ocfl_item.proofs.LooksZones.{inside_on, inside_step, not_entered, out_of_zone, open_object, reach_on, entered_from, is_plain, plain_below, plain_extensions}
+use Rattle.ocfl_item.proofs.AuditingLaws.{near_none, near_within}
 use Rattle.ocfl_walk.proofs.DescentLaws.{both_inventories, calls_then, failed_then, descends_not, descends_one, descends_end, listing_fails, lists_calls, plain_table}
 use Rattle.ocfl_walk.proofs.ReachLaws.{comes_shut}
-use Rattle.ocfl_item.proofs.AuditingLaws.{near_none, near_within}
 
 module _ (root : StorageRoot) where
   shut_out : (d : Place) (n : Text) → is_entered root (d ++ n ∷ []) ≡ false → is_reached root (d ++ n ∷ []) ≡ false

@@ -1,33 +1,25 @@
 -- What is due before and after a turn.
 use Rattle.std.proofs.Common.{◌≡◌, ◌≢◌, List, [], ◌∷◌, ◌++◌, refl, sym, ◌∙◌, ap, subst, map, filter, Option, Some, None, not}
-use Rattle.std.specs.Ordering.{is_lt}
-use Rattle.std.specs.declared.cmp.Ordering.TheVariants.{Less}
-use Rattle.ocfl_tree.specs.Place.{Place, place_cmp}
-use Rattle.ocfl_tree.specs.Ascending.{IsAmong}
+use Rattle.std.specs.{Ordering.{is_lt}, declared.cmp.Ordering.TheVariants.{Less}}
+use Rattle.ocfl_tree.specs.{Place.{Place, place_cmp}, Ascending.{IsAmong}}
 use Rattle.ocfl_tree.specs.StorageRoot.{StorageRoot, Leaf}
 use Rattle.ocfl_tree.proofs.Orders.{place_cmp_total, not_below_itself, among_filter, among_from_filter}
 use Rattle.ocfl_report.specs.Line.{Item}
 use Rattle.ocfl_inventory.specs.Note.{Note, lines_at}
-use Rattle.ocfl_audit.specs.Audit.{Unread, item_of, audit, after}
-use Rattle.ocfl_audit.specs.Due.{due, items_at}
-use Rattle.ocfl_audit.specs.Head.{on}
-use Rattle.ocfl_audit.specs.Lines.{notes, is_empty}
-use Rattle.ocfl_audit.specs.Walk.{item_at}
+use Rattle.ocfl_audit.specs.{Audit.{Unread, item_of, audit, after}, Due.{due, items_at}, Head.{on}}
+use Rattle.ocfl_audit.specs.{Lines.{notes, is_empty}, Walk.{item_at}}
 use Rattle.ocfl_audit.specs.Stack.{Frame, IsListed, IsStack, NoPathBetween, NoneSeenBetween, seen_places}
 use Rattle.ocfl_audit.specs.Zone.{seen}
 use Rattle.ocfl_walk.specs.Standing.{Pile, IsStanding, frames_of}
 use Rattle.ocfl_walk.specs.Internal.Standing.{IsFitIf, IsTurn, TurnIs, next_of, path_from, place_by, trimmed, turn_of}
-use Rattle.ocfl_item.specs.declared.meeting.Around.{Around}
 use Rattle.ocfl_walk.specs.declared.stand.Turn.{Turn}
+use Rattle.ocfl_item.specs.declared.meeting.Around.{Around}
 use Rattle.ocfl_walk.specs.declared.stand.Turn.TheVariants as turn
-use Rattle.ocfl_audit.proofs.BelowLaws.{above, less_from}
-use Rattle.ocfl_audit.proofs.DueLaws.{after_is_due}
+use Rattle.ocfl_audit.proofs.{BelowLaws.{above, less_from}, DueLaws.{after_is_due}}
 use Rattle.ocfl_audit.proofs.MachineLaws.{IsNext, NextIs, from_root}
 use Rattle.ocfl_audit.proofs.NextLaws.{walk_takes, walk_ends, seen_to}
-use Rattle.ocfl_audit.proofs.BetweenLaws.{looked_step, read_step}
-use Rattle.ocfl_walk.proofs.WalkCallLaws.{IsNear}
-use Rattle.ocfl_walk.proofs.TurnLaws.{standing_trimmed, turn_is_next}
-use Rattle.ocfl_audit.proofs.WayLaws.{is_closed}
+use Rattle.ocfl_audit.proofs.{BetweenLaws.{looked_step, read_step}, WayLaws.{is_closed}}
+use Rattle.ocfl_walk.proofs.{WalkCallLaws.{IsNear}, TurnLaws.{standing_trimmed, turn_is_next}}
 
 places_at : (root : StorageRoot) (u : Unread) (ps : List Place) → map (λ i. i.place) (map (item_of root u) ps) ≡ ps
 places_at root u [] = refl

@@ -1,20 +1,15 @@
 -- What lies past the end of a walk.
 use Rattle.std.proofs.Common.{◌≡◌, ◌≢◌, List, [], ◌∷◌, ◌++◌, refl, sym, ◌∙◌, ap, subst, true, false, Bool, Option, Some, None}
-use Rattle.std.proofs.lemmas.Bool.{not-true, or_right}
-use Rattle.std.proofs.lemmas.List.{append-nil}
-use Rattle.std.specs.Prelude.{cond, not, ◌&&◌, ◌||◌}
-use Rattle.std.specs.Ordering.{is_lt, is_eq, ordering_then}
+use Rattle.std.proofs.{lemmas.Bool.{not-true, or_right}, lemmas.List.{append-nil}}
+use Rattle.std.specs.{Prelude.{cond, not, ◌&&◌, ◌||◌}, Ordering.{is_lt, is_eq, ordering_then}}
 use Rattle.std.specs.declared.cmp.Ordering.{Ordering}
 use Rattle.std.specs.declared.cmp.Ordering.TheVariants.{Less, Equal, Greater}
 use Rattle.ocfl_tree.specs.Place.{Place, text_cmp, place_cmp, begins}
-use Rattle.ocfl_tree.specs.Ascending.{IsAscending, IsAmong}
-use Rattle.ocfl_tree.specs.StorageRoot.{StorageRoot, dir}
+use Rattle.ocfl_tree.specs.{Ascending.{IsAscending, IsAmong}, StorageRoot.{StorageRoot, dir}}
 use Rattle.ocfl_tree.proofs.Bools.{and_first, and_second, and_both}
 use Rattle.ocfl_tree.proofs.Orders.{place_cmp_total, place_cmp_exact, true_not_false, not_below_itself, below_from_greater}
 use Rattle.ocfl_inventory.specs.Note.{Note}
-use Rattle.ocfl_audit.specs.Zone.{seen}
-use Rattle.ocfl_audit.specs.Lines.{notes}
-use Rattle.ocfl_audit.specs.Due.{due, item_places}
+use Rattle.ocfl_audit.specs.{Zone.{seen}, Lines.{notes}, Due.{due, item_places}}
 use Rattle.ocfl_audit.specs.Between.{IsBeyond, between, looked_between, read_between}
 use Rattle.ocfl_audit.specs.Stack.{NoneSeenBetween}
 use Rattle.ocfl_audit.proofs.BelowLaws.{less_from, begins_rest, text_cmp_total, text_cmp_exact}

@@ -1,39 +1,27 @@
 -- The start of a walk at a place.
 use Rattle.std.proofs.Common.{◌≡◌, inl, inr, true, List, [], ◌∷◌, ◌++◌, append-nil, refl, sym, ◌∙◌, ap, subst, false, Option, Some, None, length, arith}
 use Rattle.std.specs.Prelude.{cond, ◌||◌, not, Result, Ok, Err, IfOk, MatchResult}
-use Rattle.ocfl_tree.specs.Place.{Place}
-use Rattle.ocfl_tree.specs.StorageRoot.{StorageRoot}
-use Rattle.ocfl_tree.specs.Store.{Store, Did}
-use Rattle.ocfl_tree.specs.Listing.{IsOrdinary}
-use Rattle.ocfl_tree.specs.Ascending.{IsAmong}
-use Rattle.ocfl_tree.specs.declared.store.Entry.{Entry}
-use Rattle.ocfl_inventory.specs.Declaration.{declared}
-use Rattle.ocfl_inventory.specs.Entries.{file_names}
+use Rattle.ocfl_tree.specs.{Place.{Place}, StorageRoot.{StorageRoot}, Store.{Store, Did}}
+use Rattle.ocfl_tree.specs.{Listing.{IsOrdinary}, Ascending.{IsAmong}, declared.store.Entry.{Entry}}
+use Rattle.ocfl_inventory.specs.{Declaration.{declared}, Entries.{file_names}}
 use Rattle.ocfl_inventory.specs.declared.declaration.Level.TheVariants as level
 use Rattle.ocfl_audit.specs.Zone.{hierarchy, skipped, root_declared, is_listed_zone, zone, is_known}
-use Rattle.ocfl_audit.specs.Walk.{is_reached}
-use Rattle.ocfl_audit.specs.Stack.{seen_places}
-use Rattle.ocfl_item.specs.Looking.{way_to}
-use Rattle.ocfl_item.specs.Ways.{Enters, IsHead, Stops, way_below}
+use Rattle.ocfl_audit.specs.{Walk.{is_reached}, Stack.{seen_places}}
+use Rattle.ocfl_item.specs.{Looking.{way_to}, Ways.{Enters, IsHead, Stops, way_below}}
+use Rattle.ocfl_item.specs.{declared.fault.Fault.{Fault}, declared.folder.Folder.{Folder}}
+use Rattle.ocfl_item.specs.{declared.folder.Head.{Head}, declared.meeting.Around.{Around}}
 use Rattle.ocfl_walk.specs.Standing.{IsStanding, Pile, StandsAt, folders_from, piles_in, piles_of, spot_of}
 use Rattle.ocfl_walk.specs.Internal.Standing.{IsOrderly, IsOrderlyIf, IsOrderlyStand}
 use Rattle.ocfl_walk.specs.Internal.Entering.{Comes, Descends, DescendFails, IsBrought, IsComing, ListsRoot, Starts, StartFails, may_open}
-use Rattle.ocfl_walk.specs.WalkCalls.{holder_of}
-use Rattle.ocfl_item.specs.declared.fault.Fault.{Fault}
+use Rattle.ocfl_walk.specs.{WalkCalls.{holder_of}, declared.stand.Stand.{Stand}}
 use Rattle.ocfl_item.specs.declared.fault.Fault.TheVariants as fault
-use Rattle.ocfl_item.specs.declared.folder.Folder.{Folder}
-use Rattle.ocfl_item.specs.declared.folder.Head.{Head}
 use Rattle.ocfl_item.specs.declared.folder.Head.TheVariants as head
-use Rattle.ocfl_item.specs.declared.meeting.Around.{Around}
-use Rattle.ocfl_walk.specs.declared.stand.Stand.{Stand}
-use Rattle.ocfl_walk.proofs.PlacedLaws.{folders_none}
-use Rattle.ocfl_item.proofs.AuditingLaws.{near_none}
-use Rattle.ocfl_walk.proofs.ReachLaws.{comes_on, none_reached}
+use Rattle.ocfl_walk.proofs.{PlacedLaws.{folders_none}, ReachLaws.{comes_on, none_reached}}
 use Rattle.ocfl_walk.proofs.DescentLaws.{descends_end, descent_fails_on, descent_memory, listing_fails, lists_calls, plain_table}
+use Rattle.ocfl_item.proofs.AuditingLaws.{near_none}
 use Rattle.ocfl_item.proofs.LooksCalls.{head_unknown, root_entered, way_is}
 use Rattle.ocfl_item.proofs.LooksZones.{declared_root, out_of_zone, plain_unknown}
-use Rattle.ocfl_audit.proofs.StackLaws.{stack_starts, start_stops}
-use Rattle.ocfl_audit.proofs.WayLaws.{is_closed}
+use Rattle.ocfl_audit.proofs.{StackLaws.{stack_starts, start_stops}, WayLaws.{is_closed}}
 
 -- nothing is kept
 pub orderly_nothing : (p : Place) (fs : List Folder) → fs ≡ [] → IsOrderly p (piles_of fs) None

@@ -1,35 +1,25 @@
 -- A step to an entry of a listing.
 use Rattle.std.proofs.Common.{◌≡◌, ◌≢◌, ◌⊎◌, inl, inr, List, [], ◌∷◌, ◌++◌, refl, sym, ◌∙◌, ap, subst, true, false, Bool, Option, Some, None, append_assoc}
 use Rattle.std.proofs.lemmas.List.{append-nil}
-use Rattle.std.specs.Prelude.{cond, ◌&&◌}
-use Rattle.std.specs.declared.cmp.Ordering.TheVariants.{Less}
-use Rattle.ocfl_tree.specs.Place.{Place, Text, place_cmp, begins, text_eq}
-use Rattle.ocfl_tree.specs.Ascending.{IsAmong}
-use Rattle.ocfl_tree.specs.StorageRoot.{StorageRoot, names_in}
-use Rattle.ocfl_tree.specs.Store.{Store}
+use Rattle.std.specs.{Prelude.{cond, ◌&&◌}, declared.cmp.Ordering.TheVariants.{Less}}
+use Rattle.ocfl_tree.specs.{Place.{Place, Text, place_cmp, begins, text_eq}, Ascending.{IsAmong}}
+use Rattle.ocfl_tree.specs.{StorageRoot.{StorageRoot, names_in}, Store.{Store}}
 use Rattle.ocfl_tree.specs.declared.store.Entry.{Entry}
 use Rattle.ocfl_tree.proofs.Orders.{place_cmp_total, not_below_itself, true_not_false}
 use Rattle.ocfl_inventory.specs.Table.{Table}
-use Rattle.ocfl_audit.specs.Due.{due}
-use Rattle.ocfl_audit.specs.Lines.{notes}
-use Rattle.ocfl_audit.specs.Walk.{is_reached, seen_names}
+use Rattle.ocfl_audit.specs.{Due.{due}, Lines.{notes}, Walk.{is_reached, seen_names}}
 use Rattle.ocfl_audit.specs.Stack.{IsListed}
 use Rattle.ocfl_audit.specs.Zone.{Zone, skipped, hierarchy, inside, zone, table_at, is_listed_zone, is_listed_in_object}
 use Rattle.ocfl_walk.specs.Standing.{HaveEntries, Pile, StandsAt, frames_of}
 use Rattle.ocfl_walk.specs.Internal.Standing.{IsAroundIf, IsHeld, IsOrderly, IsTaken, next_of, still}
-use Rattle.ocfl_item.specs.Around.{IsMet, IsPart, IsTableAround}
-use Rattle.ocfl_item.specs.Meeting.{IsItemAt, Meets}
-use Rattle.ocfl_walk.specs.Internal.Walking.{Steps, step_from}
-use Rattle.ocfl_item.specs.declared.pending.Pending.{Pending}
-use Rattle.ocfl_item.specs.declared.meeting.Around.{Around}
-use Rattle.ocfl_walk.specs.declared.stand.Stand.{Stand}
+use Rattle.ocfl_walk.specs.{Internal.Walking.{Steps, step_from}, declared.stand.Stand.{Stand}}
+use Rattle.ocfl_item.specs.{Around.{IsMet, IsPart, IsTableAround}, Meeting.{IsItemAt, Meets}}
+use Rattle.ocfl_item.specs.{declared.pending.Pending.{Pending}, declared.meeting.Around.{Around}}
 use Rattle.ocfl_audit.proofs.AuditExists.{zone_is}
 use Rattle.ocfl_audit.proofs.BelowLaws.{above_self, begins_front, begins_rest, text_from_test}
 use Rattle.ocfl_item.proofs.LooksZones.{inside_on}
-use Rattle.ocfl_walk.proofs.OrderlyLaws.{entry_after, old_chain}
-use Rattle.ocfl_walk.proofs.ReachLaws.{reached_listed}
-use Rattle.ocfl_walk.proofs.WalkCallLaws.{IsNear, meets_walks}
-use Rattle.ocfl_walk.proofs.StandLaws.{object_zone}
+use Rattle.ocfl_walk.proofs.{OrderlyLaws.{entry_after, old_chain}, ReachLaws.{reached_listed}}
+use Rattle.ocfl_walk.proofs.{WalkCallLaws.{IsNear, meets_walks}, StandLaws.{object_zone}}
 
 pub taken_place : (ps new : List Pile) (entry : Entry) (x : Place) (t : IsTaken ps new entry) → next_of ps ≡ Some x → x ≡ t.place ++ entry.name ∷ []
 taken_place ps new entry x t h = let e : Some (t.place ++ entry.name ∷ []) ≡ Some x = sym (ap next_of t.old_is) ∙ h in cc

@@ -1,7 +1,6 @@
 -- What a test leaves of a list.
 use Rattle.std.proofs.Common.{◌≡◌, ◌≤◌, inl, inr, List, [], ◌∷◌, refl, ◌∙◌, ap, true, false, Bool, filter, length, arith}
-use Rattle.std.specs.Prelude.{cond}
-use Rattle.std.specs.List.{AllByRecursion}
+use Rattle.std.specs.{Prelude.{cond}, List.{AllByRecursion}}
 use Rattle.ocfl_tree.specs.Ascending.{IsAmong}
 
 module _ {A : Type 0} (test : A → Bool) where

@@ -2,46 +2,31 @@
 use Rattle.std.proofs.Common.{◌≡◌, ◌≢◌, ◌⊎◌, inl, inr, ℕ, ◌+◌, ◌≤◌, List, [], ◌∷◌, ◌++◌, refl, sym, ◌∙◌, ap, subst, true, false, Bool, Option, Some, None, arith, length, append_assoc}
 use Rattle.std.proofs.lemmas.List.{append-nil, length-append, nil_from_length}
 use Rattle.std.specs.Prelude.{AllPairs, Result, Ok, Err, IfErr, IfOk}
-use Rattle.ocfl_tree.specs.Place.{Text, Place}
-use Rattle.ocfl_tree.specs.StorageRoot.{StorageRoot, dir}
-use Rattle.ocfl_tree.specs.Store.{Store, Did}
-use Rattle.ocfl_tree.specs.Listing.{kind_at, kind_in}
-use Rattle.ocfl_tree.specs.declared.store.Entry.{Entry}
-use Rattle.ocfl_tree.specs.declared.store.Opening.{Opening}
+use Rattle.ocfl_tree.specs.{Place.{Text, Place}, StorageRoot.{StorageRoot, dir}, Store.{Store, Did}}
+use Rattle.ocfl_tree.specs.{Listing.{kind_at, kind_in}, declared.store.Entry.{Entry}}
+use Rattle.ocfl_tree.specs.{declared.store.Opening.{Opening}, Ascending.{IsAmong}}
 use Rattle.ocfl_audit.specs.Zone.{Zone, skipped, hierarchy, inside, zone, seen}
 use Rattle.ocfl_audit.specs.Trail.{heads_of, is_head, content_trail, reads_inventory}
-use Rattle.ocfl_walk.specs.WalkCalls.{holder_of}
-use Rattle.ocfl_audit.specs.Walk.{is_reached}
-use Rattle.ocfl_tree.specs.Ascending.{IsAmong}
-use Rattle.ocfl_walk.specs.WalkCalls.{AreAllListed}
+use Rattle.ocfl_audit.specs.{Walk.{is_reached}, Head.{on}, Between.{is_looked_into}}
+use Rattle.ocfl_walk.specs.WalkCalls.{holder_of, AreAllListed}
 use Rattle.ocfl_walk.specs.Internal.Entering.{Comes, Descends, DescendFails, Leads, may_open}
 use Rattle.ocfl_walk.specs.Internal.Finding.{Finds, FindsAll, FindFails, FindsItem}
-use Rattle.ocfl_item.specs.Looking.{IsFront, failures_by}
-use Rattle.ocfl_item.specs.Auditing.{IsMetadataRead, LieIn}
-use Rattle.ocfl_item.specs.Around.{IsMet, IsPart, IsTableAround}
-use Rattle.ocfl_item.specs.Meeting.{IsItemAt, Visits}
-use Rattle.ocfl_item.specs.Ways.{AreInventories, IsAt, way_below}
-use Rattle.ocfl_item.specs.declared.fault.Fault.{Fault}
+use Rattle.ocfl_item.specs.{Looking.{IsFront, failures_by}, Auditing.{IsMetadataRead, LieIn}}
+use Rattle.ocfl_item.specs.{Around.{IsMet, IsPart, IsTableAround}, Meeting.{IsItemAt, Visits}}
+use Rattle.ocfl_item.specs.{Ways.{AreInventories, IsAt, way_below}, declared.fault.Fault.{Fault}}
+use Rattle.ocfl_item.specs.{declared.folder.Folder.{Folder}, declared.pending.Pending.{Pending}}
+use Rattle.ocfl_item.specs.{declared.meeting.Around.{Around}, declared.visit.Visit.{Visit}}
 use Rattle.ocfl_item.specs.declared.fault.Fault.TheVariants as fault
-use Rattle.ocfl_item.specs.declared.folder.Folder.{Folder}
-use Rattle.ocfl_item.specs.declared.pending.Pending.{Pending}
-use Rattle.ocfl_item.specs.declared.meeting.Around.{Around}
-use Rattle.ocfl_item.specs.declared.visit.Visit.{Visit}
 use Rattle.ocfl_tree.proofs.Orders.{among_left, among_right, true_not_false}
-use Rattle.ocfl_tree.proofs.Stores.{among_either}
+use Rattle.ocfl_tree.proofs.Stores.{among_either, did_nothing}
 use Rattle.ocfl_walk.proofs.ReachLaws.{own_listed}
-use Rattle.ocfl_audit.proofs.BetweenLaws.{seen_reached}
-use Rattle.ocfl_audit.proofs.AuditExists.{append_one, some_not_none}
-use Rattle.ocfl_audit.proofs.WayLaws.{head_seen, is_closed}
-use Rattle.ocfl_audit.specs.Head.{on}
-use Rattle.ocfl_audit.specs.Between.{is_looked_into}
 use Rattle.ocfl_walk.proofs.DescentLaws.{calls_then, failed_then, front_on, front_within, no_calls, own_inventory_reached}
-use Rattle.ocfl_item.proofs.AuditingLaws.{few_once, front_all, near_none, near_on, none_once, heads_append}
-use Rattle.ocfl_item.proofs.ItemLaws.{head_zone}
-use Rattle.ocfl_item.proofs.LooksCalls.{memory_no_store}
-use Rattle.ocfl_item.proofs.LooksZones.{inside_step, sight_nothing, unseen_behind}
 use Rattle.ocfl_walk.proofs.MeetLaws.{own_head}
-use Rattle.ocfl_tree.proofs.Stores.{did_nothing}
+use Rattle.ocfl_audit.proofs.{BetweenLaws.{seen_reached}, AuditExists.{append_one, some_not_none}}
+use Rattle.ocfl_audit.proofs.WayLaws.{head_seen, is_closed}
+use Rattle.ocfl_item.proofs.AuditingLaws.{few_once, front_all, near_none, near_on, none_once, heads_append}
+use Rattle.ocfl_item.proofs.{ItemLaws.{head_zone}, LooksCalls.{memory_no_store}}
+use Rattle.ocfl_item.proofs.LooksZones.{inside_step, sight_nothing, unseen_behind}
 
 -- ---- lists
 

@@ -1,51 +1,35 @@
 -- The first step of a walk that begins at a place.
 use Rattle.std.proofs.Common.{◌≡◌, ◌≢◌, ◌<◌, ◌≤◌, [], ◌∷◌, ◌++◌, refl, sym, ◌∙◌, ap, subst, true, false, Option, Some, None, Result, Ok, Err, length, arith}
-use Rattle.std.specs.declared.alloc.Global.{Global}
-use Rattle.std.specs.Prelude.{IfOk, IfSome, Vec}
-use Rattle.std.specs.Ordering.{is_lt}
+use Rattle.std.specs.{declared.alloc.Global.{Global}, Prelude.{IfOk, IfSome, Vec}, Ordering.{is_lt}}
 use Rattle.std.specs.declared.cmp.Ordering.{Ordering}
 use Rattle.std.specs.declared.cmp.Ordering.TheVariants.{Less, Equal, Greater}
 use Rattle.arrayvec.specs.ArrayVec.{ArrayVec}
-use Rattle.ocfl_tree.specs.Place.{Place, Text, place_cmp}
-use Rattle.ocfl_tree.specs.Ascending.{IsAmong}
-use Rattle.ocfl_tree.specs.StorageRoot.{StorageRoot, dir}
-use Rattle.ocfl_tree.specs.Store.{Store}
+use Rattle.ocfl_tree.specs.{Place.{Place, Text, place_cmp}, Ascending.{IsAmong}}
+use Rattle.ocfl_tree.specs.{StorageRoot.{StorageRoot, dir}, Store.{Store}}
 use Rattle.ocfl_tree.specs.declared.store.Entry.{Entry}
 use Rattle.ocfl_tree.proofs.Orders.{place_cmp_exact, place_cmp_total, below_from_greater, true_not_false}
-use Rattle.ocfl_audit.specs.Audit.{candidates}
-use Rattle.ocfl_audit.specs.Between.{IsBeyond, looked_between, read_between}
-use Rattle.ocfl_audit.specs.Due.{due, item_places}
-use Rattle.ocfl_audit.specs.Stack.{IsListed, IsStack}
-use Rattle.ocfl_audit.specs.Walk.{seen_names}
+use Rattle.ocfl_audit.specs.{Audit.{candidates}, Between.{IsBeyond, looked_between, read_between}}
+use Rattle.ocfl_audit.specs.{Due.{due, item_places}, Stack.{IsListed, IsStack}, Walk.{seen_names}}
 use Rattle.ocfl_audit.specs.Zone.{seen}
-use Rattle.ocfl_audit.proofs.AuditExists.{seen_candidate}
-use Rattle.ocfl_audit.proofs.BelowLaws.{above_self}
+use Rattle.ocfl_audit.proofs.{AuditExists.{seen_candidate}, BelowLaws.{above_self}}
 use Rattle.ocfl_audit.proofs.BetweenLaws.{directories, from_directory, from_object, looked_seen, objects, read_seen}
-use Rattle.ocfl_item.specs.Around.{IsNamedIn}
-use Rattle.ocfl_item.specs.Meeting.{IsItemAt}
-use Rattle.ocfl_item.specs.declared.fault.Fault.{Fault}
+use Rattle.ocfl_item.specs.{Around.{IsNamedIn}, Meeting.{IsItemAt}, declared.fault.Fault.{Fault}}
 use Rattle.ocfl_item.specs.declared.pending.Pending.{Pending}
-use Rattle.ocfl_item.proofs.ShutLaws.{shut_unseen}
-use Rattle.ocfl_item.proofs.VisitLaws.{meets_shut}
-use Rattle.ocfl_walk.specs.Ends.{before_end, is_past}
-use Rattle.ocfl_walk.specs.Before.{place_before}
+use Rattle.ocfl_item.proofs.{ShutLaws.{shut_unseen}, VisitLaws.{meets_shut}}
+use Rattle.ocfl_walk.specs.{Ends.{before_end, is_past}, Before.{place_before}}
 use Rattle.ocfl_walk.specs.Standing.{HaveEntries, IsStanding, frames_of, piles_at, piles_in, size_of, spot_of, stand_size}
 use Rattle.ocfl_walk.specs.Internal.Standing.{IsAroundIf, IsBelowNext, IsHeld, IsOrderly, IsOrderlyIf, IsOrderlyStand, IsTurn, cut_top, next_of, popped, trimmed}
 use Rattle.ocfl_walk.specs.Internal.Walking.{GoesAt, GoesOn, GoesTo, IsBefore, Steps, StepsAtTo, StepsOutTo, step_from}
-use Rattle.ocfl_walk.specs.declared.end.End.{End}
-use Rattle.ocfl_walk.specs.declared.stand.Stand.{Stand}
+use Rattle.ocfl_walk.specs.{declared.end.End.{End}, declared.stand.Stand.{Stand}}
 use Rattle.ocfl_walk.specs.declared.stand.Step.{Step}
 use Rattle.ocfl_walk.specs.declared.stand.Step.TheVariants as step
 use Rattle.ocfl_walk.proofs.BeforeLaws.{IsJustBefore, item_candidate, just_before}
 use Rattle.ocfl_walk.proofs.Chosen.{trim_stays}
 use Rattle.ocfl_walk.proofs.CutLaws.{IsTop, cut_size, cut_stack, cut_trimmed, entries_cut, listed_cut, path_unseen, table_next, turn_entry, turn_path}
-use Rattle.ocfl_walk.proofs.DueTurns.{near_turn}
-use Rattle.ocfl_walk.proofs.EndLaws.{over, past_up}
-use Rattle.ocfl_walk.proofs.EntrySteps.{step_to}
+use Rattle.ocfl_walk.proofs.{DueTurns.{near_turn}, EndLaws.{over, past_up}, EntrySteps.{step_to}}
 use Rattle.ocfl_walk.proofs.LeadsLaws.{around_on}
 use Rattle.ocfl_walk.proofs.PathSteps.{named_short, orderly_on, size_named, size_on}
-use Rattle.ocfl_walk.proofs.PlacedLaws.{begun_if, path_shared, top_here}
-use Rattle.ocfl_walk.proofs.SizeLaws.{goes_here}
+use Rattle.ocfl_walk.proofs.{PlacedLaws.{begun_if, path_shared, top_here}, SizeLaws.{goes_here}}
 use Rattle.ocfl_walk.proofs.WalkCallLaws.{walks_out_nothing}
 
 abbrev Listings : Type 0

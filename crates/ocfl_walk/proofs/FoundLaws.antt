@@ -1,31 +1,23 @@
 -- What was done to know one place.
 use Rattle.std.proofs.Common.{◌≡◌, ◌≢◌, ℕ, ◌+◌, List, [], ◌∷◌, ◌++◌, refl, sym, ◌∙◌, ap, subst, true, false, Bool, Option, Some, None, arith, length, map, filter}
 use Rattle.std.specs.Prelude.{AllPairs, cond, ◌||◌, not, Result, Ok, Err, MatchResult}
-use Rattle.ocfl_tree.specs.Place.{Text, Place, text_eq}
-use Rattle.ocfl_tree.specs.StorageRoot.{StorageRoot}
-use Rattle.ocfl_tree.specs.Store.{Store, Did}
-use Rattle.ocfl_tree.specs.declared.store.Opening.{Opening}
+use Rattle.ocfl_tree.specs.{Place.{Text, Place, text_eq}, StorageRoot.{StorageRoot}}
+use Rattle.ocfl_tree.specs.{Store.{Store, Did}, declared.store.Opening.{Opening}}
 use Rattle.ocfl_audit.specs.Zone.{Zone, skipped, hierarchy, inside, inventory_name, is_in_extensions, object_zone, root_declared, zone, is_known}
-use Rattle.ocfl_audit.specs.Due.{hashed_among}
-use Rattle.ocfl_audit.specs.Lines.{is_hashed, notes, notes_in}
+use Rattle.ocfl_audit.specs.{Due.{hashed_among}, Lines.{is_hashed, notes, notes_in}}
 use Rattle.ocfl_audit.specs.Between.{is_looked_into}
 use Rattle.ocfl_audit.specs.Trail.{content_openings, content_trail, heads_of, inventory_of, reads_inventory, unread_of}
 use Rattle.ocfl_item.specs.Auditing.{FailedAt, IsMetadataRead, LieIn}
+use Rattle.ocfl_item.specs.{Looking.{IsFront, failures_by, way_to}, Meeting.{IsItemAt, Visits}}
+use Rattle.ocfl_item.specs.{Ways.{Stops, way_below}, declared.fault.Fault.{Fault}}
+use Rattle.ocfl_item.specs.{declared.pending.Pending.{Pending}, declared.visit.Visit.{Visit}}
 use Rattle.ocfl_walk.specs.WalkCalls.{AreAllListed, GoDownFails, GoesDown, IsRootFirst, holder, holder_of}
 use Rattle.ocfl_walk.specs.Internal.Entering.{Starts, StartFails}
 use Rattle.ocfl_walk.specs.Internal.Finding.{Finds, FindsAll, FindFails, FindsItem}
-use Rattle.ocfl_item.specs.Looking.{IsFront, failures_by, way_to}
-use Rattle.ocfl_item.specs.Meeting.{IsItemAt, Visits}
-use Rattle.ocfl_item.specs.Ways.{Stops, way_below}
-use Rattle.ocfl_item.specs.declared.fault.Fault.{Fault}
 use Rattle.ocfl_item.specs.declared.fault.Fault.TheVariants as fault
-use Rattle.ocfl_item.specs.declared.pending.Pending.{Pending}
-use Rattle.ocfl_item.specs.declared.visit.Visit.{Visit}
-use Rattle.ocfl_audit.proofs.AuditExists.{zone_is}
-use Rattle.ocfl_audit.proofs.PathLaws.{notes_at}
+use Rattle.ocfl_audit.proofs.{AuditExists.{zone_is}, PathLaws.{notes_at}}
 use Rattle.ocfl_item.proofs.AuditingLaws.{audits_nothing, front_all, front_kept, none_once}
-use Rattle.ocfl_walk.proofs.DescentLaws.{front_within}
-use Rattle.ocfl_walk.proofs.ReachLaws.{own_listed}
+use Rattle.ocfl_walk.proofs.{DescentLaws.{front_within}, ReachLaws.{own_listed}}
 use Rattle.ocfl_walk.proofs.EnterLaws.{comes_first, start_listed, start_unlisted}
 use Rattle.ocfl_walk.proofs.FindLaws.{all_on, front_own, finds_come, finds_stopped, item_memory, item_on, may_few}
 

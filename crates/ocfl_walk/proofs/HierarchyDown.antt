@@ -1,26 +1,20 @@
 -- Into a directory of the storage hierarchy that was listed.
 use Rattle.std.proofs.Common.{◌≡◌, ◌⊎◌, inl, inr, ℕ, ◌≤◌, List, [], ◌∷◌, ◌++◌, sym, ◌∙◌, ap, subst, true, Option, Some, None, length}
 use Rattle.std.specs.Prelude.{Result, Ok, Err}
-use Rattle.ocfl_tree.specs.Place.{Text, Place, begins}
-use Rattle.ocfl_tree.specs.StorageRoot.{StorageRoot}
-use Rattle.ocfl_tree.specs.Store.{Store}
+use Rattle.ocfl_tree.specs.{Place.{Text, Place, begins}, StorageRoot.{StorageRoot}, Store.{Store}}
 use Rattle.ocfl_tree.specs.declared.store.Entry.{Entry}
-use Rattle.ocfl_inventory.specs.Declaration.{declared}
-use Rattle.ocfl_inventory.specs.Table.{IsFit}
+use Rattle.ocfl_inventory.specs.{Declaration.{declared}, Table.{IsFit}}
 use Rattle.ocfl_inventory.specs.Entries.{file_names, meaning, PointsAtOne}
 use Rattle.ocfl_inventory.specs.declared.declaration.Declared.{Declared as MadeDeclared}
-use Rattle.ocfl_inventory.specs.declared.declaration.Declared.TheVariants as made
 use Rattle.ocfl_inventory.specs.declared.declaration.Version.{Version}
+use Rattle.ocfl_inventory.specs.declared.declaration.Declared.TheVariants as made
 use Rattle.ocfl_inventory.specs.declared.declaration.Level.TheVariants as level
 use Rattle.ocfl_audit.specs.Zone.{inside, table_at, zone, is_known, max_listed_depth}
-use Rattle.ocfl_item.specs.Ways.{InHierarchy, IsObject}
-use Rattle.ocfl_item.specs.Internal.Ways.{IsDeclared}
-use Rattle.ocfl_item.specs.Meeting.{IsFairFolder}
+use Rattle.ocfl_item.specs.{Ways.{InHierarchy, IsObject}, Internal.Ways.{IsDeclared}}
+use Rattle.ocfl_item.specs.{Meeting.{IsFairFolder}, declared.fault.Fault.{Fault}}
+use Rattle.ocfl_item.specs.{declared.folder.Folder.{Folder}, declared.meeting.Around.{Around}}
 use Rattle.ocfl_walk.specs.Internal.Standing.{IsAroundIf}
 use Rattle.ocfl_walk.specs.Internal.Entering.{Leads, ListsBelow, Opens}
-use Rattle.ocfl_item.specs.declared.fault.Fault.{Fault}
-use Rattle.ocfl_item.specs.declared.folder.Folder.{Folder}
-use Rattle.ocfl_item.specs.declared.meeting.Around.{Around}
 use Rattle.ocfl_item.proofs.LooksCalls.{declared_entered, finds_object, no_known, undeclared_entered}
 use Rattle.ocfl_item.proofs.LooksZones.{unknown_no_table}
 use Rattle.ocfl_walk.proofs.OrderlyLaws.{begins_own}

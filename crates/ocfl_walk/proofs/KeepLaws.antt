@@ -1,12 +1,9 @@
 -- What of a sorted listing lies above a name.
 use Rattle.std.proofs.Common.{◌≡◌, ◌-◌, List, [], ◌∷◌, ◌++◌, refl, sym, ◌∙◌, ap, subst, true, false, Bool, Option, Some, None, filter, length}
 use Rattle.std.proofs.lemmas.List.{append-nil}
-use Rattle.std.specs.Prelude.{cond, slice_get}
-use Rattle.std.specs.Option.{option_to_list}
-use Rattle.std.specs.Ordering.{is_lt}
+use Rattle.std.specs.{Prelude.{cond, slice_get}, Option.{option_to_list}, Ordering.{is_lt}}
 use Rattle.std.specs.declared.cmp.Ordering.TheVariants.{Less}
-use Rattle.ocfl_tree.specs.Place.{Text, text_cmp}
-use Rattle.ocfl_tree.specs.Ascending.{IsAscending, IsBeforeAll}
+use Rattle.ocfl_tree.specs.{Place.{Text, text_cmp}, Ascending.{IsAscending, IsBeforeAll}}
 use Rattle.ocfl_tree.specs.declared.store.Entry.{Entry}
 use Rattle.ocfl_item.proofs.NameLaws.{names_of}
 use Rattle.ocfl_walk.specs.Standing.{back}

@@ -1,22 +1,17 @@
 -- Which names lead on, by how deep a directory is in its object.
 use Rattle.std.proofs.Common.{◌≡◌, ◌≢◌, suc, ◌+◌, ◌-◌, ◌≤◌, List, [], ◌∷◌, ◌++◌, refl, sym, ◌∙◌, ap, subst, true, Bool, Option, None, Some, arith, length}
-use Rattle.std.proofs.lemmas.Bool.{leb-true}
-use Rattle.std.proofs.lemmas.List.{length-append}
+use Rattle.std.proofs.{lemmas.Bool.{leb-true}, lemmas.List.{length-append}}
 use Rattle.std.specs.Prelude.{◌&&◌, nat_le}
-use Rattle.ocfl_tree.specs.Place.{Text, Place, text_eq}
-use Rattle.ocfl_tree.specs.StorageRoot.{StorageRoot}
+use Rattle.ocfl_tree.specs.{Place.{Text, Place, text_eq}, StorageRoot.{StorageRoot}}
 use Rattle.ocfl_tree.specs.declared.store.Entry.{Entry}
 use Rattle.ocfl_inventory.specs.ListedPath.{is_version_name}
 use Rattle.ocfl_audit.specs.Zone.{inside, zone, table_at, is_listed_zone, is_listed_in_object, is_listed_within, max_listed_depth}
 use Rattle.ocfl_audit.specs.Walk.{step_listed}
-use Rattle.ocfl_item.specs.Ways.{IsAt}
+use Rattle.ocfl_item.specs.{Ways.{IsAt}, declared.meeting.Around.{Around}}
 use Rattle.ocfl_walk.specs.Internal.Standing.{IsAround, IsAroundIf}
-use Rattle.ocfl_audit.proofs.BelowLaws.{begins_front, begins_rest}
-use Rattle.ocfl_walk.proofs.OrderlyLaws.{begins_on}
-use Rattle.ocfl_walk.proofs.ReachLaws.{reached_listed}
-use Rattle.ocfl_item.specs.declared.meeting.Around.{Around}
+use Rattle.ocfl_audit.proofs.{BelowLaws.{begins_front, begins_rest}, AuditExists.{zone_is}}
+use Rattle.ocfl_walk.proofs.{OrderlyLaws.{begins_on}, ReachLaws.{reached_listed}}
 use Rattle.ocfl_tree.proofs.Bools.{and_first}
-use Rattle.ocfl_audit.proofs.AuditExists.{zone_is}
 
 pub may_depth : (d : Place) (n : Text) (b : Bool) → nat_le (suc (length d)) max_listed_depth && b ≡ true → length (d ++ n ∷ []) ≤ max_listed_depth
 may_depth d n b h =

@@ -1,28 +1,23 @@
 -- A listing that is sorted backwards, and taken from its end.
 use Rattle.std.proofs.Common.{◌≡◌, inl, inr, ℕ, suc, ◌+◌, ◌≤◌, List, [], ◌∷◌, ◌++◌, refl, sym, ◌∙◌, ap, subst, true, false, Bool, Option, Some, None, arith, length, IsPermutation}
-use Rattle.std.specs.Prelude.{cond, option_map, slice_index_or, ⊤}
-use Rattle.std.specs.List.{AllByRecursion, IsDistinct}
-use Rattle.std.specs.List.Sorted.{IsSorted}
-use Rattle.std.specs.Ordering.{is_lt}
-use Rattle.std.specs.declared.cmp.Ordering.{Ordering}
-use Rattle.std.specs.declared.cmp.Ordering.TheVariants.{Less, Equal, Greater}
 use Rattle.std.proofs.lemmas.List.Elements.{All-from_recursion, recursion_from_All}
 use Rattle.std.proofs.lemmas.List.Sorted.{All-permutation, IsPermutation-sym, length_permutation}
+use Rattle.std.specs.Prelude.{cond, option_map, slice_index_or, ⊤}
+use Rattle.std.specs.{List.{AllByRecursion, IsDistinct}, List.Sorted.{IsSorted}, Ordering.{is_lt}}
+use Rattle.std.specs.declared.cmp.Ordering.{Ordering}
+use Rattle.std.specs.declared.cmp.Ordering.TheVariants.{Less, Equal, Greater}
 use Rattle.ocfl_tree.specs.Place.{Place, Text, text_cmp, text_eq}
 use Rattle.ocfl_tree.specs.Ascending.{IsAscending, IsAmong, IsBeforeAll}
 use Rattle.ocfl_tree.specs.StorageRoot.{StorageRoot, Leaf, at, names_in}
 use Rattle.ocfl_tree.specs.Listing.{AreApart, IsListing, IsOrdinary, kind_at, kind_in, kind_of}
-use Rattle.ocfl_tree.specs.declared.store.Entry.{Entry}
-use Rattle.ocfl_tree.specs.declared.store.Kind.{Kind}
+use Rattle.ocfl_tree.specs.{declared.store.Entry.{Entry}, declared.store.Kind.{Kind}}
 use Rattle.ocfl_tree.proofs.Places.{text_eq-Decides, text_eq-same, not_decided, differ}
 use Rattle.ocfl_tree.proofs.Orders.{below_from_greater}
 use Rattle.ocfl_walk.specs.Standing.{AreEntries, back, back_onto}
 use Rattle.ocfl_audit.proofs.AuditExists.{some_not_none}
-use Rattle.ocfl_audit.proofs.BelowLaws.{text_cmp_total, text_cmp_exact}
-use Rattle.ocfl_audit.proofs.WayLaws.{entry_named}
-use Rattle.ocfl_item.proofs.LooksEntries.{name_there}
-use Rattle.ocfl_item.proofs.NameLaws.{names_of, names_differ}
+use Rattle.ocfl_audit.proofs.{BelowLaws.{text_cmp_total, text_cmp_exact}, WayLaws.{entry_named}}
 use Rattle.ocfl_audit.proofs.StackLaws.{names_sorted}
+use Rattle.ocfl_item.proofs.{LooksEntries.{name_there}, NameLaws.{names_of, names_differ}}
 
 abbrev backward : List Entry → List Entry → List Entry
 backward es later = back_onto (λ e. e) es later

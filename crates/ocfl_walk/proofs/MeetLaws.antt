@@ -1,20 +1,16 @@
 -- What is met at an entry, with the object that holds it.
 use Rattle.std.proofs.Common.{◌≡◌, [], ◌∷◌, ◌++◌, sym, ◌∙◌, ap, true, false, Bool, Option, Some, None, ◌≤◌, length}
 use Rattle.std.specs.Prelude.{cond, IfSome}
-use Rattle.ocfl_tree.specs.Place.{Place, Text}
-use Rattle.ocfl_tree.specs.StorageRoot.{StorageRoot}
-use Rattle.ocfl_tree.specs.declared.store.Entry.{Entry}
+use Rattle.ocfl_tree.specs.{Place.{Place, Text}, StorageRoot.{StorageRoot}}
+use Rattle.ocfl_tree.specs.{declared.store.Entry.{Entry}, Listing.{IsOrdinary}}
 use Rattle.ocfl_inventory.specs.Table.{IsFit, Table}
 use Rattle.ocfl_audit.specs.Trail.{is_head}
 use Rattle.ocfl_audit.specs.Zone.{skipped, hierarchy, inside, zone, table_at, object_declared, is_declared, max_listed_depth}
 use Rattle.ocfl_audit.specs.Walk.{is_extensions, step_zone}
-use Rattle.ocfl_tree.specs.Listing.{IsOrdinary}
-use Rattle.ocfl_item.specs.declared.folder.Folder.{Folder}
+use Rattle.ocfl_item.specs.{declared.folder.Folder.{Folder}, Around.{IsMet, IsTableAround}}
+use Rattle.ocfl_item.specs.{Meeting.{IsFairFolder, IsTableAt}, declared.meeting.Around.{Around}}
 use Rattle.ocfl_walk.proofs.OrderlyLaws.{begins_own}
 use Rattle.ocfl_walk.specs.Internal.Standing.{IsAroundIf, around_of}
-use Rattle.ocfl_item.specs.Around.{IsMet, IsTableAround}
-use Rattle.ocfl_item.specs.Meeting.{IsFairFolder, IsTableAt}
-use Rattle.ocfl_item.specs.declared.meeting.Around.{Around}
 use Rattle.ocfl_item.proofs.LooksZones.{inside_on}
 use Rattle.ocfl_audit.proofs.StepLaws.{zone_step}
 

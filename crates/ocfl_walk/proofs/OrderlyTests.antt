@@ -1,26 +1,19 @@
 -- The test of a walk's order says what the order is.
 use Rattle.std.proofs.Common.{◌≡◌, ℕ, ◌≤◌, ◌^◌, List, [], ◌∷◌, ◌++◌, refl, sym, ap, true, map, Option, Some, None, length}
-use Rattle.std.specs.Prelude.{nat_le, nat_lt, is_none}
-use Rattle.std.specs.List.{AllByRecursion, list_all}
-use Rattle.std.specs.Ordering.{is_lt}
-use Rattle.std.specs.declared.cmp.Ordering.{Ordering}
 use Rattle.std.proofs.lemmas.Bool.{leb-true, le-leb, ltb-true, lt-ltb}
+use Rattle.std.specs.{Prelude.{nat_le, nat_lt, is_none}, List.{AllByRecursion, list_all}}
+use Rattle.std.specs.{Ordering.{is_lt}, declared.cmp.Ordering.{Ordering}}
 use Rattle.ocfl_tree.specs.Place.{Place, text_cmp, place_cmp, begins}
-use Rattle.ocfl_tree.specs.Ascending.{IsAscending, IsBeforeAll}
-use Rattle.ocfl_tree.proofs.Orders.{true_not_false}
-use Rattle.ocfl_tree.specs.StorageRoot.{max_entries}
-use Rattle.ocfl_inventory.specs.Table.{paths_of, triple_cmp}
-use Rattle.ocfl_inventory.specs.ListedPath.{max_elements}
-use Rattle.ocfl_audit.specs.Lines.{is_empty}
-use Rattle.ocfl_audit.specs.Stack.{Frame}
+use Rattle.ocfl_tree.specs.{Ascending.{IsAscending, IsBeforeAll}, StorageRoot.{max_entries}}
+use Rattle.ocfl_tree.proofs.{Orders.{true_not_false}, Bools.{and_first, and_second, and_both}}
+use Rattle.ocfl_inventory.specs.{Table.{paths_of, triple_cmp}, ListedPath.{max_elements}}
+use Rattle.ocfl_audit.specs.{Lines.{is_empty}, Stack.{Frame}, Zone.{max_listed_depth}}
 use Rattle.ocfl_audit.proofs.BelowLaws.{less_from}
-use Rattle.ocfl_audit.specs.Zone.{max_listed_depth}
 use Rattle.ocfl_walk.specs.Orderly.{is_around, is_ascending, is_before_all, is_chain, is_orderly, is_orderly_if}
 use Rattle.ocfl_walk.specs.Standing.{Pile, frames_of, piles_in, levels}
 use Rattle.ocfl_walk.specs.Internal.Standing.{IsAroundIf, IsChain, IsOrderlyIf, IsOrderlyStand}
-use Rattle.ocfl_item.specs.declared.meeting.Around.{Around}
 use Rattle.ocfl_walk.specs.declared.stand.Stand.{Stand}
-use Rattle.ocfl_tree.proofs.Bools.{and_first, and_second, and_both}
+use Rattle.ocfl_item.specs.declared.meeting.Around.{Around}
 
 module _ {A : Type 0} (cmp : A → A → Ordering) where
   before_from : (x : A) (ys : List A) → is_before_all cmp x ys ≡ true → IsBeforeAll cmp x ys

@@ -1,25 +1,18 @@
 -- A step to a path of the table at which nothing is seen.
 use Rattle.std.proofs.Common.{◌≡◌, inl, inr, ◌+◌, ◌<◌, ◌≤◌, List, [], ◌∷◌, ◌++◌, refl, sym, ◌∙◌, ap, subst, true, false, Bool, map, filter, Option, Some, None, length, drop, arith}
-use Rattle.std.proofs.lemmas.List.{length-append}
-use Rattle.std.specs.Prelude.{cond, find, option_map}
-use Rattle.std.specs.List.{AllByRecursion}
-use Rattle.std.specs.Ordering.{is_lt}
+use Rattle.std.proofs.{lemmas.List.{length-append}, Math.Seq.{drop-append_seam}}
+use Rattle.std.specs.{Prelude.{cond, find, option_map}, List.{AllByRecursion}, Ordering.{is_lt}}
 use Rattle.std.specs.declared.cmp.Ordering.TheVariants.{Less}
-use Rattle.ocfl_tree.specs.Place.{Place, place_cmp, begins}
-use Rattle.ocfl_tree.specs.Ascending.{IsAmong, IsBeforeAll}
+use Rattle.ocfl_tree.specs.{Place.{Place, place_cmp, begins}, Ascending.{IsAmong, IsBeforeAll}}
 use Rattle.ocfl_tree.specs.declared.store.Entry.{Entry}
 use Rattle.ocfl_tree.proofs.Orders.{place_cmp_total, true_not_false}
-use Rattle.ocfl_inventory.specs.Table.{paths_of}
+use Rattle.ocfl_inventory.specs.{Table.{paths_of}, ListedPath.{max_elements}}
 use Rattle.ocfl_inventory.specs.NextPath as table
-use Rattle.ocfl_inventory.specs.ListedPath.{max_elements}
 use Rattle.ocfl_walk.specs.Standing.{Pile, frames_of, paths_above, size_of, levels}
 use Rattle.ocfl_walk.specs.Internal.Standing.{IsAroundIf, IsBelowNext, IsChain, IsOrderly, next_of, path_from, trimmed, trimmed_from}
-use Rattle.ocfl_item.specs.Around.{IsNamedIn}
-use Rattle.ocfl_item.specs.declared.meeting.Around.{Around}
+use Rattle.ocfl_item.specs.{Around.{IsNamedIn}, declared.meeting.Around.{Around}}
 use Rattle.ocfl_audit.proofs.BelowLaws.{begins_front, begins_rest, cmp_behind, equal_itself, less_from}
-use Rattle.ocfl_walk.proofs.EndLaws.{begins_between}
-use Rattle.ocfl_walk.proofs.OrderlyLaws.{before_below}
-use Rattle.std.proofs.Math.Seq.{drop-append_seam}
+use Rattle.ocfl_walk.proofs.{EndLaws.{begins_between}, OrderlyLaws.{before_below}}
 
 -- what was found passes the test, and is one of the list
 found : (test : Place → Bool) (ps : List Place) (q : Place) → find test ps ≡ Some q → (test q ≡ true) × IsAmong ps q

@@ -1,23 +1,17 @@
 -- The directories on a way that are entered.
 use Rattle.std.proofs.Common.{◌≡◌, ◌⊎◌, inl, inr, List, [], ◌∷◌, ◌++◌, refl, sym, ◌∙◌, ap, subst, true, false, Bool, length, arith}
 use Rattle.std.proofs.lemmas.Bool.{and_left}
-use Rattle.std.specs.Prelude.{◌&&◌, nat_le}
-use Rattle.std.specs.List.{list_all}
-use Rattle.ocfl_tree.specs.Place.{Text, Place}
-use Rattle.ocfl_tree.specs.Ascending.{IsAmong}
-use Rattle.ocfl_tree.specs.StorageRoot.{StorageRoot, is_dir}
-use Rattle.ocfl_tree.specs.Store.{Store, Did}
+use Rattle.std.specs.{Prelude.{◌&&◌, nat_le}, List.{list_all}}
+use Rattle.ocfl_tree.specs.{Place.{Text, Place}, Ascending.{IsAmong}}
+use Rattle.ocfl_tree.specs.{StorageRoot.{StorageRoot, is_dir}, Store.{Store, Did}}
 use Rattle.ocfl_tree.proofs.Orders.{among_left, among_right, true_not_false}
-use Rattle.ocfl_tree.proofs.Stores.{among_either}
-use Rattle.ocfl_tree.proofs.Bools.{and_first, and_second, and_both}
+use Rattle.ocfl_tree.proofs.{Stores.{among_either}, Bools.{and_first, and_second, and_both}}
 use Rattle.ocfl_audit.specs.Walk.{is_reached}
 use Rattle.ocfl_audit.specs.Zone.{Zone, skipped, hierarchy, inside, zone, beginnings, is_entered, is_listed_zone, max_listed_depth}
-use Rattle.ocfl_audit.specs.Between.{is_looked_into, shows_entries}
-use Rattle.ocfl_audit.specs.Head.{on}
+use Rattle.ocfl_audit.specs.{Between.{is_looked_into, shows_entries}, Head.{on}}
 use Rattle.ocfl_audit.proofs.StepLaws.{reached_step}
 use Rattle.ocfl_item.specs.Ways.{way_below}
-use Rattle.ocfl_walk.specs.WalkCalls.{AreAllListed}
-use Rattle.ocfl_walk.specs.Internal.Entering.{Comes, Descends}
+use Rattle.ocfl_walk.specs.{WalkCalls.{AreAllListed}, Internal.Entering.{Comes, Descends}}
 use Rattle.ocfl_walk.proofs.DescentLaws.{descends_not, descends_on}
 
 module _ (root : StorageRoot) where

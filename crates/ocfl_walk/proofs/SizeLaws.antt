@@ -2,21 +2,17 @@
 use Rattle.std.proofs.Common.{◌≡◌, ℕ, zero, suc, ◌+◌, ◌*◌, ◌-◌, ◌^◌, ◌<◌, ◌≤◌, List, [], ◌∷◌, ◌++◌, refl, sym, ◌∙◌, ap, subst, map, Option, Some, None, length, arith}
 use Rattle.std.proofs.Math.Nat.{pow-suc, one-le-pow, mul_comm}
 use native.Mathlib.Numerals.{unary_clauses}
-use Rattle.std.specs.Prelude.{IfSome}
-use Rattle.std.specs.Ordering.{is_lt}
-use Rattle.ocfl_tree.specs.Place.{Place, place_cmp}
-use Rattle.ocfl_tree.specs.declared.store.Entry.{Entry}
+use Rattle.std.specs.{Prelude.{IfSome}, Ordering.{is_lt}}
+use Rattle.ocfl_tree.specs.{Place.{Place, place_cmp}, declared.store.Entry.{Entry}}
 use Rattle.ocfl_tree.specs.StorageRoot.{max_entries}
 use Rattle.ocfl_inventory.specs.Table.{Triple, paths_of}
-use Rattle.ocfl_audit.specs.Zone.{max_listed_depth}
+use Rattle.ocfl_audit.specs.{Zone.{max_listed_depth}, Between.{IsBeyond}}
 use Rattle.ocfl_walk.specs.Standing.{Pile, entry_weight, frames_of, paths_above, piles_in, size_of, stand_size, weigh, levels}
 use Rattle.ocfl_walk.specs.Internal.Standing.{IsAroundIf, IsFairPile, IsOrderly, IsTaken, left_of_folder, pushed}
-use Rattle.ocfl_audit.specs.Between.{IsBeyond}
 use Rattle.ocfl_walk.specs.Internal.Walking.{GoesOn, GoesTo, step_from}
-use Rattle.ocfl_item.specs.declared.folder.Folder.{Folder}
-use Rattle.ocfl_item.specs.declared.pending.Pending.{Pending}
-use Rattle.ocfl_item.specs.declared.meeting.Around.{Around}
 use Rattle.ocfl_walk.specs.declared.stand.Stand.{Stand}
+use Rattle.ocfl_item.specs.{declared.folder.Folder.{Folder}, declared.pending.Pending.{Pending}}
+use Rattle.ocfl_item.specs.declared.meeting.Around.{Around}
 use Rattle.ocfl_walk.proofs.FilterLaws.{left_fewer}
 use Rattle.ocfl_walk.proofs.OrderlyLaws.{chain_short, frames_count, old_chain}
 

@@ -2,31 +2,22 @@
 use Rattle.std.proofs.Common.{◌≡◌, inl, inr, ◌<◌, List, [], ◌∷◌, ◌++◌, sym, ◌∙◌, ap, subst, false, Option, Some, None, arith}
 use Rattle.std.proofs.lemmas.List.{append-nil}
 use Rattle.std.specs.Prelude.{IfOk, Result, Ok, Err, option_map}
-use Rattle.ocfl_tree.specs.Place.{Place}
-use Rattle.ocfl_tree.specs.StorageRoot.{StorageRoot}
-use Rattle.ocfl_tree.specs.Store.{Store}
+use Rattle.ocfl_tree.specs.{Place.{Place}, StorageRoot.{StorageRoot}, Store.{Store}}
 use Rattle.ocfl_tree.specs.declared.store.Entry.{Entry}
 use Rattle.ocfl_tree.proofs.Orders.{place_cmp_total}
-use Rattle.ocfl_audit.specs.Zone.{inside, zone}
-use Rattle.ocfl_audit.specs.Walk.{seen_names}
-use Rattle.ocfl_audit.specs.Stack.{IsStack, IsListed}
+use Rattle.ocfl_audit.specs.{Zone.{inside, zone}, Walk.{seen_names}, Stack.{IsStack, IsListed}}
+use Rattle.ocfl_audit.specs.{Due.{due}, Between.{IsBeyond}}
 use Rattle.ocfl_walk.specs.Standing.{StandsAt, stand_size, AreEntries, HaveEntries, IsStanding, Pile, frames_of}
 use Rattle.ocfl_walk.specs.Internal.Standing.{IsTaken, IsTurn, left_names, left_of_folder, path_from, popped, pushed}
-use Rattle.ocfl_item.specs.Around.{IsTableAround}
 use Rattle.ocfl_walk.specs.Ends.{before_end, is_past}
 use Rattle.ocfl_walk.specs.Internal.Walking.{GoesOn, GoesTo, IsBefore, NextGoesOn, NextTold, Onward, SoFar, Steps, StepsOut, StepsOutTo, StepsTo, IsPileAt}
-use Rattle.ocfl_item.specs.declared.fault.Fault.{Fault}
-use Rattle.ocfl_item.specs.declared.folder.Folder.{Folder}
-use Rattle.ocfl_item.specs.declared.meeting.Around.{Around}
-use Rattle.ocfl_audit.specs.Due.{due}
+use Rattle.ocfl_walk.specs.{declared.end.End.{End}, declared.stand.Stand.{Stand}}
+use Rattle.ocfl_walk.specs.{declared.stand.Step.{Step}, WalkCalls.{FailsOut, Walks, WalksOut}}
+use Rattle.ocfl_item.specs.{Around.{IsTableAround}, declared.fault.Fault.{Fault}}
+use Rattle.ocfl_item.specs.{declared.folder.Folder.{Folder}, declared.meeting.Around.{Around}}
 use Rattle.ocfl_item.specs.declared.pending.Pending.{Pending}
-use Rattle.ocfl_walk.specs.declared.end.End.{End}
-use Rattle.ocfl_walk.specs.declared.stand.Stand.{Stand}
-use Rattle.ocfl_walk.specs.declared.stand.Step.{Step}
 use Rattle.ocfl_walk.specs.declared.stand.Step.TheVariants as step
 use Rattle.ocfl_item.proofs.LooksZones.{inside_on}
-use Rattle.ocfl_audit.specs.Between.{IsBeyond}
-use Rattle.ocfl_walk.specs.WalkCalls.{FailsOut, Walks, WalksOut}
 use Rattle.ocfl_walk.proofs.BeforeLaws.{not_below}
 use Rattle.ocfl_walk.proofs.WalkCallLaws.{fails_out, walks_fail_out, walks_on, walks_out, walks_over}
 use Rattle.ocfl_audit.proofs.WayLaws.{is_closed, zone_part}

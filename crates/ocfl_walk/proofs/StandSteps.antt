@@ -1,43 +1,32 @@
 -- What a stand is after each of its steps.
 use Rattle.std.proofs.Common.{◌≡◌, ◌≢◌, ◌⊎◌, inl, inr, ◌<◌, List, [], ◌∷◌, ◌++◌, refl, sym, ◌∙◌, ap, subst, true, Option, Some, None, length}
-use Rattle.std.specs.declared.alloc.Global.{Global}
-use Rattle.std.specs.Prelude.{IfSome, Vec}
+use Rattle.std.specs.{declared.alloc.Global.{Global}, Prelude.{IfSome, Vec}}
 use Rattle.std.specs.declared.cmp.Ordering.TheVariants.{Less}
 use Rattle.arrayvec.specs.ArrayVec.{ArrayVec}
-use Rattle.ocfl_tree.specs.Place.{Place, place_cmp}
-use Rattle.ocfl_tree.specs.StorageRoot.{StorageRoot}
-use Rattle.ocfl_tree.specs.Store.{Store}
+use Rattle.ocfl_tree.specs.{Place.{Place, place_cmp}, StorageRoot.{StorageRoot}, Store.{Store}}
 use Rattle.ocfl_tree.specs.declared.store.Entry.{Entry}
-use Rattle.ocfl_audit.specs.Between.{IsBeyond, looked_between, read_between}
-use Rattle.ocfl_audit.specs.Due.{due}
-use Rattle.ocfl_audit.specs.Stack.{Frame}
+use Rattle.ocfl_audit.specs.{Between.{IsBeyond, looked_between, read_between}, Due.{due}}
+use Rattle.ocfl_audit.specs.{Stack.{Frame}, Walk.{seen_names}}
 use Rattle.ocfl_audit.proofs.BetweenLaws.{looked_end, read_end}
 use Rattle.ocfl_tree.proofs.Orders.{true_not_false}
-use Rattle.ocfl_audit.specs.Walk.{seen_names}
-use Rattle.ocfl_item.specs.Around.{IsMet, IsNamedIn}
-use Rattle.ocfl_item.specs.Meeting.{IsItemAt, Meets}
-use Rattle.ocfl_item.specs.declared.folder.Folder.{Folder}
-use Rattle.ocfl_item.specs.declared.meeting.Around.{Around}
+use Rattle.ocfl_item.specs.{Around.{IsMet, IsNamedIn}, Meeting.{IsItemAt, Meets}}
+use Rattle.ocfl_item.specs.{declared.folder.Folder.{Folder}, declared.meeting.Around.{Around}}
 use Rattle.ocfl_item.specs.declared.pending.Pending.{Pending}
 use Rattle.ocfl_walk.specs.Standing.{IsStanding, Pile, StandsAt, piles_at, piles_in, spot_of, levels}
 use Rattle.ocfl_walk.specs.Internal.Standing.{IsAroundIf, IsBelowNext, IsFairPile, IsHeld, IsOrderly, IsOrderlyIf, IsOrderlyStand, IsTaken, IsTurn, TurnIs, next_of, path_from, popped, pushed, still, trimmed, is_turn_past, turn_before, turn_of}
 use Rattle.ocfl_walk.specs.Ends.{before_end, is_past}
 use Rattle.ocfl_walk.specs.Internal.Walking.{GoesOn, GoesTo, IsFairMet, IsMeeting, IsPileAt, Steps, StepsOut, step_from}
-use Rattle.ocfl_walk.specs.declared.end.End.{End}
-use Rattle.ocfl_walk.specs.declared.stand.Met.{Met}
-use Rattle.ocfl_walk.specs.declared.stand.Stand.{Stand}
-use Rattle.ocfl_walk.specs.declared.stand.Step.{Step}
-use Rattle.ocfl_walk.specs.declared.stand.Step.TheVariants as step
+use Rattle.ocfl_walk.specs.{declared.end.End.{End}, declared.stand.Met.{Met}}
+use Rattle.ocfl_walk.specs.{declared.stand.Stand.{Stand}, declared.stand.Step.{Step}}
 use Rattle.ocfl_walk.specs.declared.stand.Turn.{Turn}
+use Rattle.ocfl_walk.specs.declared.stand.Step.TheVariants as step
 use Rattle.ocfl_walk.specs.declared.stand.Turn.TheVariants as turn
 use Rattle.ocfl_walk.proofs.Chosen.{at_first, at_last, chosen_base, chosen_turn, ended_turn}
 use Rattle.ocfl_walk.proofs.EndLaws.{all_past, due_past, looked_past, read_past}
-use Rattle.ocfl_walk.proofs.WalkCallLaws.{walks_out_nothing}
-use Rattle.ocfl_walk.proofs.DueTurns.{near_turn}
+use Rattle.ocfl_walk.proofs.{WalkCallLaws.{walks_out_nothing}, DueTurns.{near_turn}}
 use Rattle.ocfl_walk.proofs.EntrySteps.{entry_met, step_to, still_around, taken_place}
 use Rattle.ocfl_walk.proofs.OrderlyLaws.{entry_after, entry_short, orderly_entry}
-use Rattle.ocfl_walk.proofs.PathSteps.{path_ahead}
-use Rattle.ocfl_walk.proofs.PlacedLaws.{begun, entry_pushed, entry_room}
+use Rattle.ocfl_walk.proofs.{PathSteps.{path_ahead}, PlacedLaws.{begun, entry_pushed, entry_room}}
 use Rattle.ocfl_walk.proofs.SizeLaws.{goes_here, goes_to, size_entry, sizes_fall}
 use Rattle.ocfl_walk.proofs.StandLaws.{entry_stands}
 use Rattle.ocfl_walk.proofs.StartLaws.{first_pushed, first_room, first_stands, item_first, orderly_first, root_short, size_first, step_first}

@@ -1,32 +1,22 @@
 -- The first step of a walk, to the storage root.
 use Rattle.std.proofs.Common.{◌≡◌, ℕ, ◌+◌, ◌*◌, ◌^◌, ◌<◌, ◌≤◌, List, [], ◌∷◌, refl, sym, ◌∙◌, ap, subst, Option, Some, None, length, arith}
 use Rattle.std.proofs.Math.Nat.{pow-suc, one-le-pow, mul_comm}
-use Rattle.std.specs.declared.alloc.Global.{Global}
-use Rattle.std.specs.Prelude.{IfSome, Vec}
-use Rattle.ocfl_tree.specs.declared.store.Entry.{Entry}
-use Rattle.ocfl_tree.specs.Place.{Place, Text}
-use Rattle.ocfl_tree.specs.StorageRoot.{StorageRoot, max_entries}
-use Rattle.ocfl_tree.specs.Store.{Store}
-use Rattle.ocfl_audit.specs.Due.{due}
+use Rattle.std.specs.{declared.alloc.Global.{Global}, Prelude.{IfSome, Vec}}
+use Rattle.ocfl_tree.specs.{declared.store.Entry.{Entry}, Place.{Place, Text}}
+use Rattle.ocfl_tree.specs.{StorageRoot.{StorageRoot, max_entries}, Store.{Store}}
+use Rattle.ocfl_audit.specs.{Due.{due}, Head.{on}}
 use Rattle.ocfl_walk.specs.Standing.{IsStanding, Pile, StandsAt, entry_weight, piles_at, size_of, weigh, levels}
 use Rattle.ocfl_walk.specs.Internal.Standing.{IsFairPile, IsOrderly, left_of_folder, pushed}
-use Rattle.ocfl_item.specs.Meeting.{IsItemAt, Meets}
 use Rattle.ocfl_walk.specs.Internal.Walking.{IsPileAt, Steps, step_from}
-use Rattle.ocfl_item.specs.declared.folder.Folder.{Folder}
-use Rattle.ocfl_item.specs.declared.pending.Pending.{Pending}
-use Rattle.ocfl_item.specs.declared.meeting.Around.{Around}
 use Rattle.ocfl_walk.specs.declared.stand.Stand.{Stand}
-use Rattle.ocfl_item.proofs.BaseLaws.{root_some}
-use Rattle.ocfl_walk.proofs.DueTurns.{due_first}
-use Rattle.ocfl_item.proofs.HeadCalls.{inside_not_root}
-use Rattle.ocfl_walk.proofs.OrderlyLaws.{orderly_top}
-use Rattle.ocfl_walk.proofs.PlacedLaws.{fits, piles_count}
-use Rattle.ocfl_walk.proofs.StandLaws.{stands_top}
-use Rattle.ocfl_walk.proofs.SizeLaws.{mul_room}
+use Rattle.ocfl_item.specs.{Meeting.{IsItemAt, Meets}, declared.folder.Folder.{Folder}}
+use Rattle.ocfl_item.specs.{declared.pending.Pending.{Pending}, declared.meeting.Around.{Around}}
+use Rattle.ocfl_item.proofs.{BaseLaws.{root_some}, HeadCalls.{inside_not_root}}
+use Rattle.ocfl_walk.proofs.{DueTurns.{due_first}, OrderlyLaws.{orderly_top}}
+use Rattle.ocfl_walk.proofs.{PlacedLaws.{fits, piles_count}, StandLaws.{stands_top}}
+use Rattle.ocfl_walk.proofs.{SizeLaws.{mul_room}, WalkCallLaws.{IsNear, meets_walks}}
 use Rattle.ocfl_audit.proofs.StackLaws.{stack_starts}
-use Rattle.ocfl_audit.specs.Head.{on}
 use Rattle.ocfl_audit.proofs.BetweenLaws.{looked_first, read_first, root_unread}
-use Rattle.ocfl_walk.proofs.WalkCallLaws.{IsNear, meets_walks}
 use Rattle.ocfl_audit.proofs.WayLaws.{is_closed}
 
 pub first_room : (vs : List (Vec Entry Global)) (f : Option Folder) → piles_at [] vs ≡ [] → IfSome f (λ _. length vs < levels)

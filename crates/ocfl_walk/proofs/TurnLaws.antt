@@ -1,15 +1,13 @@
 -- One turn of the walk: what is next by the listings that are left and the table is what is next on
 -- a told tree.
 use Rattle.std.proofs.Common.{◌≡◌, ◌≢◌, List, [], ◌∷◌, ◌++◌, refl, sym, ◌∙◌, ap, subst, true, false, Bool, map, filter, Option, Some, None, length, drop}
-use Rattle.std.specs.Prelude.{cond, option_map, find}
-use Rattle.std.specs.Ordering.{is_lt, match_ordering}
+use Rattle.std.proofs.Math.Seq.{drop-append_seam}
+use Rattle.std.specs.{Prelude.{cond, option_map, find}, Ordering.{is_lt, match_ordering}}
 use Rattle.std.specs.declared.cmp.Ordering.{Ordering}
 use Rattle.std.specs.declared.cmp.Ordering.TheVariants.{Less, Equal, Greater}
-use Rattle.std.proofs.Math.Seq.{drop-append_seam}
 use Rattle.ocfl_tree.specs.Place.{Place, place_cmp}
 use Rattle.ocfl_tree.specs.Ascending.{ascending, insert_once, IsAscending}
-use Rattle.ocfl_tree.specs.StorageRoot.{StorageRoot}
-use Rattle.ocfl_tree.specs.declared.store.Entry.{Entry}
+use Rattle.ocfl_tree.specs.{StorageRoot.{StorageRoot}, declared.store.Entry.{Entry}}
 use Rattle.ocfl_tree.proofs.Orders.{place_cmp_exact}
 use Rattle.ocfl_inventory.specs.Table.{Table, Triple, paths_of, triple_cmp}
 use Rattle.ocfl_inventory.specs.NextPath as table
@@ -18,11 +16,9 @@ use Rattle.ocfl_audit.specs.Walk.{IsClosed, seen_names}
 use Rattle.ocfl_audit.specs.Stack.{IsListed, seen_places, seen_left, next_entry, next_path, next_path_in, next_path_of, next_place, lesser, least_path, first_of_list}
 use Rattle.ocfl_walk.specs.Standing.{Pile, frames_of, IsStanding, AreEntries, HaveEntries}
 use Rattle.ocfl_walk.specs.Internal.Standing.{trimmed, trimmed_from, next_of, path_from, turn_of, place_by, IsFitIf}
-use Rattle.ocfl_item.specs.Around.{IsTableAround}
-use Rattle.ocfl_item.specs.declared.meeting.Around.{Around}
+use Rattle.ocfl_item.specs.{Around.{IsTableAround}, declared.meeting.Around.{Around}}
 use Rattle.ocfl_walk.specs.declared.stand.Turn.TheVariants as turn
-use Rattle.ocfl_audit.proofs.AuditExists.{zone_is}
-use Rattle.ocfl_audit.proofs.BelowLaws.{above}
+use Rattle.ocfl_audit.proofs.{AuditExists.{zone_is}, BelowLaws.{above}}
 use Rattle.ocfl_audit.proofs.MachineLaws.{NextIs, next_place_is}
 
 -- ---- the next path of a table

@@ -1,23 +1,17 @@
 -- What the calls of a walk did adds up.
 use Rattle.std.proofs.Common.{◌≡◌, [], ◌++◌, refl, sym, ◌∙◌, subst, false, Option, Some, None}
 use Rattle.std.specs.Prelude.{not}
-use Rattle.ocfl_tree.specs.Place.{Place}
-use Rattle.ocfl_tree.specs.StorageRoot.{StorageRoot}
-use Rattle.ocfl_tree.specs.Store.{Store, Did}
-use Rattle.ocfl_audit.specs.Head.{on}
-use Rattle.ocfl_audit.specs.Trail.{heads_of, reads_inventory}
+use Rattle.ocfl_tree.specs.{Place.{Place}, StorageRoot.{StorageRoot}, Store.{Store, Did}}
+use Rattle.ocfl_audit.specs.{Head.{on}, Trail.{heads_of, reads_inventory}}
 use Rattle.ocfl_audit.specs.Between.{IsBeyond, IsWithin, is_looked_into, looked_between, read_between}
 use Rattle.ocfl_audit.proofs.BetweenLaws.{looked_on, read_on}
-use Rattle.ocfl_item.specs.Looking.{IsFront, failures_by}
-use Rattle.ocfl_item.specs.Auditing.{Audits, LieIn}
+use Rattle.ocfl_item.specs.{Looking.{IsFront, failures_by}, Auditing.{Audits, LieIn}}
+use Rattle.ocfl_item.specs.{Meeting.{Meets, MeetFails}, declared.fault.Fault.{Fault}}
 use Rattle.ocfl_item.proofs.AuditingLaws.{audits_nothing, audits_on, audits_fail, audits_meta, fails_meta, fails_nothing, front_behind, front_more, front_none}
 use Rattle.ocfl_walk.specs.Ends.{before_end, is_past}
 use Rattle.ocfl_walk.specs.WalkCalls.{FailsOut, Walks, WalkFails, WalksOut}
-use Rattle.ocfl_walk.specs.Internal.Walking.{FailsTo}
-use Rattle.ocfl_walk.specs.declared.end.End.{End}
+use Rattle.ocfl_walk.specs.{Internal.Walking.{FailsTo}, declared.end.End.{End}}
 use Rattle.ocfl_walk.proofs.EndLaws.{all_kept, looked_out, read_out}
-use Rattle.ocfl_item.specs.Meeting.{Meets, MeetFails}
-use Rattle.ocfl_item.specs.declared.fault.Fault.{Fault}
 use Rattle.ocfl_item.specs.declared.fault.Fault.TheVariants as fault
 
 -- from one place to the next just what is at that one is looked into and read

@@ -2,28 +2,20 @@
 use Rattle.std.proofs.Common.{◌≡◌, ◌≢◌, ℕ, List, [], ◌∷◌, ◌++◌, Option, Some, None, Result, Ok, Err, refl, sym, ◌∙◌, ap, subst, arith}
 use Rattle.std.proofs.lemmas.List.{append-nil}
 use Rattle.std.specs.declared.cmp.Ordering.TheVariants.{Less}
-use Rattle.ocfl_tree.specs.Place.{Place, Text, place_cmp}
-use Rattle.ocfl_tree.specs.Store.{Store}
+use Rattle.std.specs.Prelude.{IfOk, MatchResult, option_map}
+use Rattle.ocfl_tree.specs.{Place.{Place, Text, place_cmp}, Store.{Store}}
 use Rattle.ocfl_tree.specs.StorageRoot.{StorageRoot}
-use Rattle.ocfl_walk.specs.Before.{directory_of, place_before}
-use Rattle.ocfl_walk.specs.Ends.{before_end}
-use Rattle.ocfl_walk.specs.Internal.Entering.{Descends}
-use Rattle.ocfl_walk.specs.Standing.{StandsAt}
-use Rattle.ocfl_audit.specs.Between.{IsBeyond}
-use Rattle.ocfl_audit.specs.Due.{due}
+use Rattle.ocfl_walk.specs.{Before.{directory_of, place_before}, Ends.{before_end}}
+use Rattle.ocfl_walk.specs.{Internal.Entering.{Descends}, Standing.{StandsAt}}
 use Rattle.ocfl_walk.specs.Internal.Walking.{GoesAt, NextGoesOn, NextTold, StepsAt}
 use Rattle.ocfl_walk.specs.Walks.{Gives, GivesOut, GoesOn, HasEndedOut, OpensInventories, Stands, StandsFrom, first_size, walk_size}
-use Rattle.std.specs.Prelude.{IfOk, MatchResult, option_map}
-use Rattle.ocfl_item.specs.declared.fault.Fault.{Fault}
-use Rattle.ocfl_walk.specs.WalkCalls.{FailsOut, WalkFails, WalksOut}
-use Rattle.ocfl_item.specs.declared.pending.Pending.{Pending}
-use Rattle.ocfl_walk.specs.declared.end.End.{End}
-use Rattle.ocfl_walk.specs.declared.stand.Stand.{Stand}
+use Rattle.ocfl_walk.specs.{WalkCalls.{FailsOut, WalkFails, WalksOut}, declared.end.End.{End}}
+use Rattle.ocfl_walk.specs.{declared.stand.Stand.{Stand}, declared.walk.Walk.{Walk}}
+use Rattle.ocfl_audit.specs.{Between.{IsBeyond}, Due.{due}}
+use Rattle.ocfl_item.specs.{declared.fault.Fault.{Fault}, declared.pending.Pending.{Pending}}
 use Rattle.ocfl_walk.specs.declared.stand.Step.TheVariants as step
-use Rattle.ocfl_walk.specs.declared.walk.Walk.{Walk}
 use Rattle.ocfl_walk.proofs.BeforeLaws.{before_root, directory_is, not_below, root_first, some_before}
-use Rattle.ocfl_walk.proofs.EndLaws.{all_kept}
-use Rattle.ocfl_walk.proofs.StandLaws.{after_on}
+use Rattle.ocfl_walk.proofs.{EndLaws.{all_kept}, StandLaws.{after_on}}
 use Rattle.ocfl_walk.proofs.WalkCallLaws.{fails_all, walks_all, walks_fail_out, walks_on, walks_out}
 
 pub stands_now : (root : StorageRoot) (walk : Walk) (last : Option Place) → walk.first ≡ None → StandsAt root walk.stand last → Stands root walk last

@@ -2,22 +2,17 @@
 use Rattle.std.proofs.Common.{◌≡◌, ◌⊎◌, inl, inr, List, [], ◌∷◌, ◌++◌, refl, sym, ◌∙◌, ap, subst, true, false, Bool, map, filter, Option, Some, None, arith}
 use Rattle.std.proofs.lemmas.List.{append-nil}
 use Rattle.std.specs.Prelude.{IfSome, codes, cond, not}
-use Rattle.ocfl_tree.specs.Place.{Place, Text}
-use Rattle.ocfl_tree.specs.Ascending.{IsAmong}
-use Rattle.ocfl_tree.specs.StorageRoot.{StorageRoot}
-use Rattle.ocfl_tree.specs.Store.{Store}
-use Rattle.ocfl_tree.specs.declared.store.Opening.{Opening}
+use Rattle.ocfl_tree.specs.{Place.{Place, Text}, Ascending.{IsAmong}, StorageRoot.{StorageRoot}}
+use Rattle.ocfl_tree.specs.{Store.{Store}, declared.store.Opening.{Opening}}
 use Rattle.ocfl_tree.proofs.Orders.{among_left, among_right}
 use Rattle.ocfl_audit.specs.Objects.{IsObjectRoot}
 use Rattle.ocfl_audit.specs.Trail.{content_trail, heads_of, inventory_of, is_meta, reads_inventory}
-use Rattle.ocfl_audit.specs.Walk.{is_reached}
-use Rattle.ocfl_audit.specs.Zone.{beginnings, zone}
+use Rattle.ocfl_audit.specs.{Walk.{is_reached}, Zone.{beginnings, zone}}
 use Rattle.ocfl_audit.proofs.MetaLaws.{head_shown}
 use Rattle.ocfl_item.specs.Looking.{way_to}
 use Rattle.ocfl_item.proofs.WantedLaws.{among_last}
 use Rattle.ocfl_walk.specs.WalkCalls.{GoesDown, IsRootFirst, holder, way_of}
-use Rattle.ocfl_walk.proofs.FoundLaws.{none_hashed, none_unread}
-use Rattle.ocfl_walk.proofs.HolderLaws.{held_above}
+use Rattle.ocfl_walk.proofs.{FoundLaws.{none_hashed, none_unread}, HolderLaws.{held_above}}
 
 -- ---- places on the way
 

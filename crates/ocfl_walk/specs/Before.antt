@@ -1,8 +1,7 @@
 -- The place before a place: a walk that begins at the one is after the other.
 use Rattle.std.specs.Prelude.{List, [], ◌∷◌, Option, Some, None, not, filter, option_map}
 use Rattle.std.specs.Ordering.{is_lt}
-use Rattle.ocfl_tree.specs.Place.{Place, place_cmp}
-use Rattle.ocfl_tree.specs.Ascending.{ascending}
+use Rattle.ocfl_tree.specs.{Place.{Place, place_cmp}, Ascending.{ascending}}
 use Rattle.ocfl_tree.specs.StorageRoot.{StorageRoot}
 use Rattle.ocfl_audit.specs.Audit.{candidates}
 

@@ -1,18 +1,12 @@
 -- The order that a walk keeps on every store, as a test.
 use Rattle.std.specs.Prelude.{ℕ, ◌&&◌, nat_le, nat_lt, ◌^◌, List, [], ◌∷◌, ◌++◌, Bool, true, Option, Some, None, is_none, map, length}
-use Rattle.std.specs.List.{list_all}
-use Rattle.std.specs.Ordering.{is_lt}
-use Rattle.std.specs.declared.cmp.Ordering.{Ordering}
-use Rattle.ocfl_tree.specs.Place.{Place, text_cmp, place_cmp, begins}
-use Rattle.ocfl_tree.specs.StorageRoot.{max_entries}
-use Rattle.ocfl_inventory.specs.Table.{Table, paths_of, triple_cmp}
-use Rattle.ocfl_inventory.specs.ListedPath.{max_elements}
-use Rattle.ocfl_audit.specs.Lines.{is_empty}
-use Rattle.ocfl_audit.specs.Stack.{Frame}
-use Rattle.ocfl_audit.specs.Zone.{max_listed_depth}
+use Rattle.std.specs.{List.{list_all}, Ordering.{is_lt}, declared.cmp.Ordering.{Ordering}}
+use Rattle.ocfl_tree.specs.{Place.{Place, text_cmp, place_cmp, begins}, StorageRoot.{max_entries}}
+use Rattle.ocfl_inventory.specs.{Table.{Table, paths_of, triple_cmp}, ListedPath.{max_elements}}
+use Rattle.ocfl_audit.specs.{Lines.{is_empty}, Stack.{Frame}, Zone.{max_listed_depth}}
 use Rattle.ocfl_walk.specs.Standing.{Pile, frames_of, piles_in, levels}
-use Rattle.ocfl_item.specs.declared.meeting.Around.{Around}
 use Rattle.ocfl_walk.specs.declared.stand.Stand.{Stand}
+use Rattle.ocfl_item.specs.declared.meeting.Around.{Around}
 
 abbrev pub is_before_all : {A : Type 0} → (A → A → Ordering) → A → List A → Bool
 is_before_all cmp x ys = list_all (λ y. is_lt (cmp x y)) ys

@@ -1,20 +1,14 @@
 -- What the calls of a walk did to a store that tells its tree: from one place on to another, and
 -- down to one place.
 use Rattle.std.specs.Prelude.{true, List, [], ◌∷◌, Option, Some, None, IfSome, AllPairs, ◌≡◌, ◌≢◌, filter}
-use Rattle.ocfl_tree.specs.Place.{Place}
-use Rattle.ocfl_tree.specs.Ascending.{IsAmong}
-use Rattle.ocfl_tree.specs.StorageRoot.{StorageRoot}
-use Rattle.ocfl_tree.specs.Store.{Store}
-use Rattle.ocfl_tree.specs.declared.store.Opening.{Opening}
+use Rattle.ocfl_tree.specs.{Place.{Place}, Ascending.{IsAmong}, StorageRoot.{StorageRoot}}
+use Rattle.ocfl_tree.specs.{Store.{Store}, declared.store.Opening.{Opening}}
 use Rattle.ocfl_audit.specs.Zone.{Zone, skipped, hierarchy, inside, zone}
-use Rattle.ocfl_audit.specs.Between.{looked_between, read_between}
-use Rattle.ocfl_audit.specs.Trail.{reads_inventory}
+use Rattle.ocfl_audit.specs.{Between.{looked_between, read_between}, Trail.{reads_inventory}}
 use Rattle.ocfl_audit.specs.Walk.{is_reached}
-use Rattle.ocfl_item.specs.Auditing.{Audits, Fails}
-use Rattle.ocfl_item.specs.Looking.{IsFront, way_to}
+use Rattle.ocfl_item.specs.{Auditing.{Audits, Fails}, Looking.{IsFront, way_to}}
 use Rattle.ocfl_item.specs.declared.fault.Fault.{Fault}
-use Rattle.ocfl_walk.specs.Ends.{before_end}
-use Rattle.ocfl_walk.specs.declared.end.End.{End}
+use Rattle.ocfl_walk.specs.{Ends.{before_end}, declared.end.End.{End}}
 
 -- ---- from one place on to another
 

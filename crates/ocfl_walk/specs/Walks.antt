@@ -1,21 +1,13 @@
 -- A walk as those above it see it.
 use Rattle.std.specs.Prelude.{◌≡◌, ◌<◌, ◌≤◌, ◌+◌, ℕ, ◌∷◌, ◌++◌, List, [], true, false, Option, Some, None, length, ⊤}
-use Rattle.ocfl_tree.specs.Place.{Place, Text}
-use Rattle.ocfl_tree.specs.StorageRoot.{StorageRoot}
-use Rattle.ocfl_tree.specs.Store.{Store}
+use Rattle.ocfl_tree.specs.{Place.{Place, Text}, StorageRoot.{StorageRoot}, Store.{Store}}
 use Rattle.ocfl_tree.specs.declared.store.Opening.{Opening}
-use Rattle.ocfl_audit.specs.Due.{due}
-use Rattle.ocfl_walk.specs.Before.{place_before}
-use Rattle.ocfl_walk.specs.Ends.{before_end}
-use Rattle.ocfl_walk.specs.WalkCalls.{Walks, WalksOut}
-use Rattle.ocfl_item.specs.Ways.{AreInventories}
-use Rattle.ocfl_item.specs.Pending.{IsPending}
-use Rattle.ocfl_audit.specs.Between.{IsBeyond}
-use Rattle.ocfl_walk.specs.Standing.{StandsAt, stand_size}
+use Rattle.ocfl_audit.specs.{Due.{due}, Between.{IsBeyond}}
+use Rattle.ocfl_walk.specs.{Before.{place_before}, Ends.{before_end}, WalkCalls.{Walks, WalksOut}}
+use Rattle.ocfl_walk.specs.{Standing.{StandsAt, stand_size}, declared.end.End.{End}}
+use Rattle.ocfl_walk.specs.{declared.stand.Stand.{Stand}, declared.walk.Walk.{Walk}}
+use Rattle.ocfl_item.specs.{Ways.{AreInventories}, Pending.{IsPending}}
 use Rattle.ocfl_item.specs.declared.pending.Pending.{Pending}
-use Rattle.ocfl_walk.specs.declared.end.End.{End}
-use Rattle.ocfl_walk.specs.declared.stand.Stand.{Stand}
-use Rattle.ocfl_walk.specs.declared.walk.Walk.{Walk}
 
 -- it has not failed
 abbrev pub IsLive : Walk → Type 0

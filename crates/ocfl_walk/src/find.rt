@@ -1,13 +1,10 @@
 //! One place, looked up in the listings on the way down to it.
 ghost use Rattle.std.specs.Prelude.{◌≡◌, ◌∷◌, ◌++◌, [], None, Some, IfErr, MatchOption};
-ghost use Rattle.ocfl_tree.specs.Listing.{kind_in};
+ghost use Rattle.ocfl_tree.specs.{Listing.{kind_in}, Store.{IfTold}};
 ghost use Rattle.ocfl_audit.specs.Zone.{zone};
-ghost use Rattle.ocfl_item.specs.Around.{IsPart};
-ghost use Rattle.ocfl_item.specs.Ways.{IsAt, IsWayFault, way_below};
-ghost use Rattle.ocfl_walk.specs.Internal.Entering.{may_open};
-ghost use Rattle.ocfl_walk.specs.Internal.Finding.{FindsItem};
+ghost use Rattle.ocfl_item.specs.{Around.{IsPart}, Ways.{IsAt, IsWayFault, way_below}};
+ghost use Rattle.ocfl_walk.specs.{Internal.Entering.{may_open}, Internal.Finding.{FindsItem}};
 ghost use Rattle.ocfl_walk.specs.Internal.Standing.{IsAroundIf};
-ghost use Rattle.ocfl_tree.specs.Store.{IfTold};
 
 use crate::entry::down;
 use ocfl_item::{Around, Fault, Folder, Pending, visit_entry, visit_path};

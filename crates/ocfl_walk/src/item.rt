@@ -1,7 +1,6 @@
 //! The item at one place.
 ghost use Rattle.std.specs.Prelude.{None, Some, IfErr, MatchResult};
-ghost use Rattle.ocfl_item.specs.Meeting.{IsItemAt};
-ghost use Rattle.ocfl_item.specs.Ways.{IsWayFault};
+ghost use Rattle.ocfl_item.specs.{Meeting.{IsItemAt}, Ways.{IsWayFault}};
 ghost use Rattle.ocfl_walk.specs.WalkCalls.{GoDownFails, GoesDown};
 ghost use Rattle.ocfl_tree.specs.Store.{IfTold};
 

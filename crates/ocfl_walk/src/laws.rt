@@ -1,16 +1,11 @@
 //! Two walks one after the other do what one does; which directories and inventories are opened on
 //! the way to a place; a walk from a place gives exactly the items from there on.
 ghost use Rattle.std.specs.Prelude.{◌≡◌, ◌++◌, ◌∷◌, [], List, Option, None, Some, codes, true};
-ghost use Rattle.ocfl_tree.specs.Place.{Place};
-ghost use Rattle.ocfl_tree.specs.Ascending.{IsAmong};
-ghost use Rattle.ocfl_tree.specs.Store.{Store};
-ghost use Rattle.ocfl_tree.specs.declared.store.Opening.{Opening};
-ghost use Rattle.ocfl_tree.specs.StorageRoot.{StorageRoot};
+ghost use Rattle.ocfl_tree.specs.{Place.{Place}, Ascending.{IsAmong}, Store.{Store}};
+ghost use Rattle.ocfl_tree.specs.{declared.store.Opening.{Opening}, StorageRoot.{StorageRoot}};
 ghost use Rattle.ocfl_audit.specs.Between.{IsBeyond, IsWithin, looked_between, read_between};
-ghost use Rattle.ocfl_audit.specs.Due.{due, item_places};
-ghost use Rattle.ocfl_audit.specs.Objects.{IsObjectRoot};
-ghost use Rattle.ocfl_audit.specs.Trail.{is_meta, reads_inventory};
-ghost use Rattle.ocfl_audit.specs.Walk.{is_reached};
+ghost use Rattle.ocfl_audit.specs.{Due.{due, item_places}, Objects.{IsObjectRoot}};
+ghost use Rattle.ocfl_audit.specs.{Trail.{is_meta, reads_inventory}, Walk.{is_reached}};
 ghost use Rattle.ocfl_audit.specs.Zone.{inside, zone, beginnings};
 ghost use Rattle.ocfl_item.specs.declared.fault.Fault.{Fault};
 ghost use Rattle.ocfl_walk.specs.Before.{place_before, places_from};

@@ -1,29 +1,16 @@
 //! Where a walk stands, and its steps.
-ghost use Rattle.std.specs.Prelude.{◌≡◌, ◌≢◌, ◌<◌, ◌∷◌, ◌++◌, [], false, Option, Some, None};
-ghost use Rattle.std.specs.Prelude.{◌↔◌, IsTrue, IfOk, IfErr, IfSome, MatchOption, MatchResult};
-ghost use Rattle.std.specs.Prelude.{◌+◌, length, take};
-ghost use Rattle.std.specs.Ordering.{is_lt};
-ghost use Rattle.std.specs.declared.cmp.Ordering.TheVariants.{Less};
+ghost use Rattle.std.specs.Prelude.{◌≡◌, ◌≢◌, ◌<◌, ◌∷◌, ◌++◌, [], false, Option, Some, None, ◌↔◌, IsTrue, IfOk, IfErr, IfSome, MatchOption, MatchResult, ◌+◌, length, take};
+ghost use Rattle.std.specs.{Ordering.{is_lt}, declared.cmp.Ordering.TheVariants.{Less}};
 ghost use Rattle.arrayvec.specs.ArrayVec.{array_vec_len};
-ghost use Rattle.ocfl_tree.specs.Place.{Place as Spot, place_cmp};
-ghost use Rattle.ocfl_tree.specs.StorageRoot.{StorageRoot};
+ghost use Rattle.ocfl_tree.specs.{Place.{Place as Spot, place_cmp}, StorageRoot.{StorageRoot}};
 ghost use Rattle.ocfl_tree.specs.Store.{Store, IfTold};
-ghost use Rattle.ocfl_audit.specs.Walk.{seen_names};
-ghost use Rattle.ocfl_audit.specs.Zone.{seen};
-ghost use Rattle.ocfl_item.specs.Ways.{IsWayFault};
-ghost use Rattle.ocfl_item.specs.Around.{IsMet, IsNamedIn, IsTableAround};
+ghost use Rattle.ocfl_audit.specs.{Walk.{seen_names}, Zone.{seen}};
+ghost use Rattle.ocfl_item.specs.{Ways.{IsWayFault}, Around.{IsMet, IsNamedIn, IsTableAround}};
 ghost use Rattle.ocfl_item.specs.Meeting.{IsFairVisit, IsVisit, MeetFails, Meets};
-ghost use Rattle.ocfl_walk.specs.Standing.{StandsAt, frames_of, levels, pile_of, piles_at};
-ghost use Rattle.ocfl_walk.specs.Standing.{piles_in, stand_size};
-ghost use Rattle.ocfl_walk.specs.Internal.Standing.{IsAroundIf, IsBelowNext, IsHeld};
-ghost use Rattle.ocfl_walk.specs.Internal.Standing.{IsOrderlyStand, IsTaken, IsTurn, around_of};
-ghost use Rattle.ocfl_walk.specs.Internal.Standing.{cut_top, next_of, path_from, popped, pushed};
-ghost use Rattle.ocfl_walk.specs.Internal.Standing.{still, trimmed, turn_before, turn_of};
-ghost use Rattle.ocfl_walk.specs.Before.{place_before};
-ghost use Rattle.ocfl_walk.specs.Ends.{is_past};
-ghost use Rattle.ocfl_walk.specs.Internal.Walking.{step_from, GoesOn, GoesTo, IsBefore, IsFairMet};
-ghost use Rattle.ocfl_walk.specs.Internal.Walking.{GoesAt, IsMeeting, NextGoesOn, NextTold};
-ghost use Rattle.ocfl_walk.specs.Internal.Walking.{StepsAtTo, StepsOutTo, StepsTo};
+ghost use Rattle.ocfl_walk.specs.Standing.{StandsAt, frames_of, levels, pile_of, piles_at, piles_in, stand_size};
+ghost use Rattle.ocfl_walk.specs.Internal.Standing.{IsAroundIf, IsBelowNext, IsHeld, IsOrderlyStand, IsTaken, IsTurn, around_of, cut_top, next_of, path_from, popped, pushed, still, trimmed, turn_before, turn_of};
+ghost use Rattle.ocfl_walk.specs.{Before.{place_before}, Ends.{is_past}};
+ghost use Rattle.ocfl_walk.specs.Internal.Walking.{step_from, GoesOn, GoesTo, IsBefore, IsFairMet, GoesAt, IsMeeting, NextGoesOn, NextTold, StepsAtTo, StepsOutTo, StepsTo};
 ghost use Rattle.ocfl_walk.specs.WalkCalls.{FailsOut};
 
 use crate::end::End;

@@ -1,14 +1,10 @@
 //! The walk: items in order, from a stack of sorted listings and the table of one object.
-ghost use Rattle.std.specs.Prelude.{◌≡◌, ◌≢◌, ◌∷◌, ◌++◌, [], Option, option_map, true, false};
-ghost use Rattle.std.specs.Prelude.{None, Some};
-ghost use Rattle.std.specs.Prelude.{Err, IfOk, IfErr, IfSome, MatchResult};
-ghost use Rattle.ocfl_tree.specs.Place.{Place as Spot};
+ghost use Rattle.std.specs.Prelude.{◌≡◌, ◌≢◌, ◌∷◌, ◌++◌, [], Option, option_map, true, false, None, Some, Err, IfOk, IfErr, IfSome, MatchResult};
+ghost use Rattle.ocfl_tree.specs.{Place.{Place as Spot}, Store.{IfTold}};
 ghost use Rattle.ocfl_item.specs.Ways.{IsWayFault};
-ghost use Rattle.ocfl_walk.specs.Before.{directory_of, place_before};
-ghost use Rattle.ocfl_walk.specs.Ends.{is_past};
+ghost use Rattle.ocfl_walk.specs.{Before.{directory_of, place_before}, Ends.{is_past}};
 ghost use Rattle.ocfl_walk.specs.WalkCalls.{FailsOut, GoDownFails, GoesDown, WalkFails};
 ghost use Rattle.ocfl_walk.specs.Orderly.{is_orderly};
-ghost use Rattle.ocfl_tree.specs.Store.{IfTold};
 
 use crate::end::End;
 use crate::entry::stand_at;
@@ -33,8 +29,7 @@ pub struct Walk {
 }
 
 impl Walk {
-    ghost use Rattle.ocfl_walk.specs.Walks.{Gives, GivesOut, GoesOn, IsBroken, IsLive};
-    ghost use Rattle.ocfl_walk.specs.Walks.{OpensInventories, Stands, last_of};
+    ghost use Rattle.ocfl_walk.specs.Walks.{Gives, GivesOut, GoesOn, IsBroken, IsLive, OpensInventories, Stands, last_of};
 
     /// A walk over the items above a place, whether or not there is one at it, or over all of them.
     ///

@@ -1,15 +1,11 @@
 -- Worked cases: the content of objects, and what else is in them.
 use Rattle.std.proofs.Common.{◌≡◌, ap, List, [], ◌∷◌, ◌++◌, codes, refl, true, map}
 use Prim.Native.String.{String}
-use Rattle.ocfl_tree.specs.Place.{Text}
-use Rattle.ocfl_tree.specs.StorageRoot.{StorageRoot, file}
-use Rattle.ocfl_report.specs.Line.{found}
-use Rattle.ocfl_report.specs.Text.{text}
+use Rattle.ocfl_tree.specs.{Place.{Text}, StorageRoot.{StorageRoot, file}}
+use Rattle.ocfl_report.specs.{Line.{found}, Text.{text}}
 use Rattle.ocfl_digest.specs.declared.algorithm.Algorithm.TheVariants.{Md5, Sha1, Sha256, Sha512, Sha512_256}
-use Rattle.ocfl_audit.specs.Head.{digest_of}
-use Rattle.ocfl_audit.specs.Audit.{audit, total_cost}
-use Rattle.ocfl_audit.specs.Due.{item_places, hashed_among}
-use Rattle.ocfl_audit.specs.Walk.{item_at}
+use Rattle.ocfl_audit.specs.{Head.{digest_of}, Audit.{audit, total_cost}}
+use Rattle.ocfl_audit.specs.{Due.{item_places, hashed_among}, Walk.{item_at}}
 use Rattle.ocfl_audit.proofs.Cases.OnLiterals.{audit_on_literals}
 use Rattle.ocfl_audit.proofs.Cases.Trees.{missing_and_right_content, missing_and_right_listing, sha512_file_listing, Case, case, Digests, AllAre, quickly, reports, place, text_at, folder, link, storage_root, object_in, sha256_object, sha512_object, f_is_abc, key, keys, inventory, listing, listing_with, lists_f, missing_and_right, sha512_file, abc, abc_sha512_capitals, no_bytes}
 use Rattle.ocfl_audit.proofs.Cases.Quiet.{audit_256, audit_512, reports_256, reports_512}

@@ -2,17 +2,12 @@
 use Rattle.std.proofs.Common.{◌≡◌, List, [], ◌∷◌, ◌++◌, codes, refl, true, false, Some, None, take, replicate, length, nat_le}
 use Prim.Native.String.{String}
 use Rattle.serde_json.specs.Data.{null, no_members, member}
-use Rattle.ocfl_tree.specs.Place.{Text, Place}
-use Rattle.ocfl_tree.specs.StorageRoot.{StorageRoot}
-use Rattle.ocfl_report.specs.Line.{found}
-use Rattle.ocfl_inventory.specs.Note.{plain}
-use Rattle.ocfl_report.specs.declared.code.Code.TheVariants.{S02}
-use Rattle.ocfl_digest.specs.declared.algorithm.Algorithm.TheVariants.{Md5, Sha1, Sha256, Sha512_256}
-use Rattle.ocfl_inventory.specs.Reading.{unsupported_in}
-use Rattle.ocfl_inventory.specs.Sidecar.{sidecar_of}
+use Rattle.ocfl_tree.specs.{Place.{Text, Place}, StorageRoot.{StorageRoot}}
+use Rattle.ocfl_report.specs.{Line.{found}, declared.code.Code.TheVariants.{S02}}
+use Rattle.ocfl_inventory.specs.{Note.{plain}, Reading.{unsupported_in}, Sidecar.{sidecar_of}}
 use Rattle.ocfl_inventory.specs.Table.{table_of}
-use Rattle.ocfl_audit.specs.Zone.{inventory_at, table_at}
-use Rattle.ocfl_audit.specs.Head.{inventory_file_notes, digest_of}
+use Rattle.ocfl_digest.specs.declared.algorithm.Algorithm.TheVariants.{Md5, Sha1, Sha256, Sha512_256}
+use Rattle.ocfl_audit.specs.{Zone.{inventory_at, table_at}, Head.{inventory_file_notes, digest_of}}
 use Rattle.ocfl_audit.specs.Audit.{audit}
 use Rattle.ocfl_audit.proofs.Cases.OnLiterals.{audit_on_literals}
 use Rattle.ocfl_audit.proofs.Cases.Trees.{Case, AllAre, quickly, reports, text_at, bytes_at, folder, link, storage_root, object, object_beside, right_sidecar_256, right_sidecar_512, sha256_object, f_is_abc, key, keys, inventory, inventory_with, listing, listing_with, lists_f, abc, abc_sha256_capitals}

@@ -1,7 +1,6 @@
 -- Worked cases: what is metadata, and what openings show of it.
 use Rattle.std.proofs.Common.{◌≡◌, List, [], ◌∷◌, ◌++◌, refl, true, false, map, filter}
-use Rattle.ocfl_tree.specs.Place.{Place}
-use Rattle.ocfl_tree.specs.StorageRoot.{StorageRoot}
+use Rattle.ocfl_tree.specs.{Place.{Place}, StorageRoot.{StorageRoot}}
 use Rattle.ocfl_tree.specs.declared.store.Opening.{Opening}
 use Rattle.ocfl_audit.specs.Trail.{is_meta, content_trail, unread_of, heads_of}
 use Rattle.ocfl_audit.proofs.Cases.OnLiterals.{audit_on_literals}

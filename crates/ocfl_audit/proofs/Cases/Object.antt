@@ -1,8 +1,7 @@
 -- Worked cases: whose inventories are read, and which directories are looked into.
 use Rattle.std.proofs.Common.{◌≡◌, [], ◌∷◌, codes, refl, Some, None}
 use Rattle.ocfl_tree.specs.StorageRoot.{StorageRoot}
-use Rattle.ocfl_audit.specs.Trail.{inventories}
-use Rattle.ocfl_audit.specs.Between.{looked_between, read_between}
+use Rattle.ocfl_audit.specs.{Trail.{inventories}, Between.{looked_between, read_between}}
 use Rattle.ocfl_audit.proofs.Cases.OnLiterals.{audit_on_literals}
 use Rattle.ocfl_audit.proofs.Cases.Trees.{place, text_at, folder, storage_root, object_in, listing, lists_f}
 

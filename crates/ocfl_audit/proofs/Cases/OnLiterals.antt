@@ -1,7 +1,5 @@
 -- What a computed example unfolds.
-use Rattle.std.specs.Prelude.{⊤}
-use Rattle.std.specs.Str.{chars, is_utf8}
-use Rattle.std.specs.Fmt.{digits}
+use Rattle.std.specs.{Prelude.{⊤}, Str.{chars, is_utf8}, Fmt.{digits}}
 use Rattle.serde_json.proofs.OnLiterals.{serde_json_on_literals}
 use Rattle.hex.specs.Hex.{encode_with}
 use Rattle.hex.proofs.OnLiterals.{hex_on_literals}

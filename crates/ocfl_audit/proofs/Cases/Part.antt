@@ -2,11 +2,9 @@
 use Rattle.std.proofs.Common.{◌≡◌, ◌++◌, List, [], ◌∷◌, codes, refl, Some, None, map, replicate}
 use Prim.Native.String.{String}
 use Rattle.ocfl_tree.specs.Place.{Text}
-use Rattle.ocfl_report.specs.Line.{Item}
-use Rattle.ocfl_report.specs.Text.{text}
+use Rattle.ocfl_report.specs.{Line.{Item}, Text.{text}}
 use Rattle.ocfl_audit.specs.Audit.{Unread, audit, after, total_cost}
-use Rattle.ocfl_audit.specs.Due.{item_places, hashed_among}
-use Rattle.ocfl_audit.specs.Runs.{runs, of_budget}
+use Rattle.ocfl_audit.specs.{Due.{item_places, hashed_among}, Runs.{runs, of_budget}}
 use Rattle.ocfl_audit.specs.Parts.{Part, branch, within, places_within, parts_of, costs_of, file_counts, together, branch_end, enclosed}
 use Rattle.ocfl_audit.proofs.Cases.OnLiterals.{audit_on_literals}
 use Rattle.ocfl_audit.proofs.Cases.Trees.{three_files_listing, three_files_content, three_files, three_objects, missing_and_right, place, the_root, clean, right}

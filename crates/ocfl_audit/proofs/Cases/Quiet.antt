@@ -3,12 +3,9 @@
 use Rattle.std.proofs.Common.{◌≡◌, List, [], ◌∷◌, ◌++◌, codes, refl, ◌∙◌, ap, Bool, true, false, append-nil}
 use Rattle.std.specs.Prelude.{◌&&◌}
 use Prim.Native.String.{String}
-use Rattle.ocfl_tree.specs.Place.{Text, Place}
-use Rattle.ocfl_tree.specs.StorageRoot.{StorageRoot}
-use Rattle.ocfl_report.specs.Line.{Item}
+use Rattle.ocfl_tree.specs.{Place.{Text, Place}, StorageRoot.{StorageRoot}}
+use Rattle.ocfl_report.specs.{Line.{Item}, Text.{text}, declared.code.Code.TheVariants.{E058}}
 use Rattle.ocfl_inventory.specs.Note.{Note, plain}
-use Rattle.ocfl_report.specs.Text.{text}
-use Rattle.ocfl_report.specs.declared.code.Code.TheVariants.{E058}
 use Rattle.ocfl_digest.specs.declared.algorithm.Algorithm.TheVariants.{Sha256, Sha512}
 use Rattle.ocfl_audit.specs.Head.{on, sidecar_at, sidecar_notes, sidecars_notes, is_sidecar_missing}
 use Rattle.ocfl_audit.specs.Audit.{Unread, audit}

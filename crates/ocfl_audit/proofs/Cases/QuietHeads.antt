@@ -1,12 +1,10 @@
 -- The audit of a tree in which the lines of one object's sidecars are known.
 use Rattle.std.proofs.Common.{◌≡◌, ℕ, List, [], ◌∷◌, ◌++◌, length, refl, sym, ◌∙◌, ap, Bool, true, false, map, filter, Option, Some}
 use Rattle.std.specs.Prelude.{cond, not, nat_le, if◌then◌else◌}
-use Rattle.ocfl_tree.specs.Place.{Text, Place, place_cmp, place_eq}
-use Rattle.ocfl_tree.specs.Ascending.{ascending}
+use Rattle.ocfl_tree.specs.{Place.{Text, Place, place_cmp, place_eq}, Ascending.{ascending}}
 use Rattle.ocfl_tree.specs.StorageRoot.{StorageRoot, file_at}
-use Rattle.ocfl_report.specs.Line.{Item}
+use Rattle.ocfl_report.specs.{Line.{Item}, declared.code.Code.TheVariants.{E003, E007, S01, S02}}
 use Rattle.ocfl_inventory.specs.Note.{note, Note, plain, lines_at}
-use Rattle.ocfl_report.specs.declared.code.Code.TheVariants.{E003, E007, S01, S02}
 use Rattle.ocfl_inventory.specs.Declaration.{Declared, undeclared, known, unknown, several}
 use Rattle.ocfl_inventory.specs.Reading.{algorithm_of}
 use Rattle.ocfl_inventory.specs.declared.declaration.Level.TheVariants.{Object}

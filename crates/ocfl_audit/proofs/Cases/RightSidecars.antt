@@ -6,12 +6,10 @@ use Rattle.hex.specs.Hex.{IsBytes, encode_lower, lower_digits}
 use Rattle.hex.proofs.HexLemmas.{decode_of-encode_lower, length-encode_with}
 use Rattle.sha2.specs.Sha256 as s256
 use Rattle.sha2.specs.Sha512 as s512
-use Rattle.sha2.proofs.Facts256.{length-sha256}
-use Rattle.sha2.proofs.Facts512.{length-sha512}
+use Rattle.sha2.proofs.{Facts256.{length-sha256}, Facts512.{length-sha512}}
 use Rattle.ocfl_tree.specs.Place.{Text}
 use Rattle.ocfl_tree.proofs.Places.{text_eq-same}
-use Rattle.ocfl_digest.specs.Digest.{digest_bytes_of}
-use Rattle.ocfl_digest.specs.declared.algorithm.Algorithm.{Algorithm}
+use Rattle.ocfl_digest.specs.{Digest.{digest_bytes_of}, declared.algorithm.Algorithm.{Algorithm}}
 use Rattle.ocfl_digest.specs.declared.algorithm.Algorithm.TheVariants.{Sha256, Sha512}
 use Rattle.ocfl_inventory.specs.Sidecar.{sidecar_digits, sidecar_of}
 use Rattle.ocfl_inventory.proofs.SidecarLaws.{sidecar_is}

@@ -2,16 +2,12 @@
 use Rattle.std.proofs.Common.{◌≡◌, ◌<◌, arith, ℕ, [], ◌∷◌, ◌++◌, codes, refl, Bool, true, false, ◌&&◌, nat_le, if◌then◌else◌, length, replicate, Some, None}
 use Rattle.std.specs.declared.cmp.Ordering.TheVariants.{Less}
 use Rattle.ocfl_tree.specs.Place.{Text, Place, place_cmp, text_cmp}
-use Rattle.ocfl_tree.specs.StorageRoot.{StorageRoot, file, dir, other, is_dir}
-use Rattle.ocfl_tree.specs.Name.{IsPlace}
-use Rattle.ocfl_report.specs.Line.{found}
-use Rattle.ocfl_inventory.specs.Note.{plain}
-use Rattle.ocfl_report.specs.Text.{escape, place_text}
+use Rattle.ocfl_tree.specs.{StorageRoot.{StorageRoot, file, dir, other, is_dir}, Name.{IsPlace}}
+use Rattle.ocfl_report.specs.{Line.{found}, Text.{escape, place_text}}
 use Rattle.ocfl_report.specs.declared.code.Code.TheVariants.{E001, E024, E072, E073, S04, S05}
+use Rattle.ocfl_inventory.specs.{Note.{plain}, Declaration.{undeclared, declared}}
+use Rattle.ocfl_inventory.specs.{declared.declaration.Level.TheVariants.{Object}, Table.{Table}}
 use Rattle.ocfl_digest.specs.declared.algorithm.Algorithm.TheVariants.{Sha256}
-use Rattle.ocfl_inventory.specs.Declaration.{undeclared, declared}
-use Rattle.ocfl_inventory.specs.declared.declaration.Level.TheVariants.{Object}
-use Rattle.ocfl_inventory.specs.Table.{Table}
 use Rattle.ocfl_audit.specs.Zone.{hierarchy, is_entered, is_listed_zone, zone, object_declared, seen, files_in}
 use Rattle.ocfl_audit.specs.Lines.{notes, hierarchy_notes, object_entry_notes, version_entry_notes, content_notes}
 use Rattle.ocfl_audit.specs.Audit.{audit}

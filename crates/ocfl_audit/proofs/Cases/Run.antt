@@ -2,14 +2,11 @@
 -- computed once, and its runs over its items.
 use Rattle.std.proofs.Common.{◌≡◌, ◌≤◌, ◌⊎◌, inl, inr, ℕ, arith, List, [], ◌∷◌, ◌++◌, codes, refl, Some, None, true, false, map, replicate, take}
 use Prim.Native.String.{String}
-use Rattle.ocfl_tree.specs.Place.{Text}
-use Rattle.ocfl_tree.specs.StorageRoot.{StorageRoot}
-use Rattle.ocfl_report.specs.Line.{Item, found}
-use Rattle.ocfl_inventory.specs.Note.{note, plain}
-use Rattle.ocfl_report.specs.declared.code.Code.TheVariants.{E023, E092, E093}
+use Rattle.ocfl_tree.specs.{Place.{Text}, StorageRoot.{StorageRoot}}
+use Rattle.ocfl_report.specs.{Line.{Item, found}, declared.code.Code.TheVariants.{E023, E092, E093}}
 use Rattle.ocfl_report.specs.Text.{text, place_text}
-use Rattle.ocfl_audit.specs.Audit.{audit, after, total_cost}
-use Rattle.ocfl_audit.specs.Trail.{inventories}
+use Rattle.ocfl_inventory.specs.Note.{note, plain}
+use Rattle.ocfl_audit.specs.{Audit.{audit, after, total_cost}, Trail.{inventories}}
 use Rattle.ocfl_audit.specs.Runs.{Limits, cut, left, runs, joined, total_files, IsAtLeast, FileLimitFits, of_budget, sum_of}
 use Rattle.ocfl_audit.proofs.Cases.OnLiterals.{audit_on_literals}
 use Rattle.ocfl_audit.proofs.Cases.Trees.{three_files_content, three_files_listing, missing_and_right_content, missing_and_right_listing, sha512_file_listing, Case, case, AllAre, Behind, behind, behind_each, place, text_at, folder, storage_root, sha256_object, f_is_abc, key, listing, lists_f, three_files, three_objects, missing_and_right, sha512_file, abc, item, the_root, clean, right}

@@ -2,15 +2,11 @@
 use Rattle.std.proofs.Common.{◌≡◌, ◌==◌, ℕ, List, [], ◌∷◌, ◌++◌, codes, map, refl, ◌∙◌}
 use Rattle.std.specs.List.{join_with_byte, slice_split}
 use Prim.Native.String.{String}
-use Rattle.ocfl_tree.specs.Place.{Text, Place}
-use Rattle.ocfl_tree.specs.StorageRoot.{StorageRoot, Leaf, file, dir, other}
-use Rattle.ocfl_report.specs.Line.{Item}
+use Rattle.ocfl_tree.specs.{Place.{Text, Place}, StorageRoot.{StorageRoot, Leaf, file, dir, other}}
+use Rattle.ocfl_report.specs.{Line.{Item}, Text.{text}, declared.code.Code.TheVariants.{Clean}}
 use Rattle.ocfl_inventory.specs.Note.{note, Note, plain, lines_at}
-use Rattle.ocfl_report.specs.Text.{text}
-use Rattle.ocfl_report.specs.declared.code.Code.TheVariants.{Clean}
 use Rattle.ocfl_digest.specs.declared.algorithm.Algorithm.TheVariants.{Sha256, Sha512}
-use Rattle.ocfl_audit.specs.Head.{digest_of}
-use Rattle.ocfl_audit.specs.Audit.{audit}
+use Rattle.ocfl_audit.specs.{Head.{digest_of}, Audit.{audit}}
 
 -- a case by its name: a text, and what it is to be; and a text that it is and that takes less to
 -- compute

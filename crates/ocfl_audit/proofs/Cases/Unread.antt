@@ -1,17 +1,13 @@
 -- Worked cases: content that can't be read.
 use Rattle.std.proofs.Common.{◌≡◌, ap, ℕ, ◌+◌, List, [], ◌∷◌, codes, refl, Bool, true, false, map, replicate}
 use Prim.Native.String.{String}
-use Rattle.ocfl_tree.specs.Place.{Text}
-use Rattle.ocfl_tree.specs.StorageRoot.{StorageRoot}
+use Rattle.ocfl_tree.specs.{Place.{Text}, StorageRoot.{StorageRoot}}
 use Rattle.ocfl_tree.specs.declared.store.Opening.{Opening}
-use Rattle.ocfl_report.specs.Line.{Item, found}
+use Rattle.ocfl_report.specs.{Line.{Item, found}, declared.code.Code.TheVariants.{S08}, Text.{text}}
 use Rattle.ocfl_inventory.specs.Note.{plain}
-use Rattle.ocfl_report.specs.declared.code.Code.TheVariants.{S08}
-use Rattle.ocfl_report.specs.Text.{text}
 use Rattle.ocfl_audit.specs.Audit.{Unread, audit, total_cost}
 use Rattle.ocfl_audit.specs.Due.{item_places, items_at, hashed_among}
-use Rattle.ocfl_audit.specs.Trail.{unread_of, content_trail}
-use Rattle.ocfl_audit.specs.Runs.{runs, of_budget}
+use Rattle.ocfl_audit.specs.{Trail.{unread_of, content_trail}, Runs.{runs, of_budget}}
 use Rattle.ocfl_audit.proofs.Cases.OnLiterals.{audit_on_literals}
 use Rattle.ocfl_audit.proofs.Cases.Trees.{quickly, three_files_content, three_files_listing, Case, AllAre, place, text_at, bytes_at, folder, sha256_object, f_is_abc, key, listing, listing_with, lists_f, three_files, abc, item, the_root, clean, right}
 use Rattle.ocfl_audit.proofs.Cases.Quiet.{quick_256, audit_256, told}

@@ -1,10 +1,8 @@
 -- Worked cases: the walk over a stack of listings and the table of one object.
 use Rattle.std.proofs.Common.{◌≡◌, ℕ, List, [], ◌∷◌, codes, refl, map}
-use Rattle.ocfl_tree.specs.Place.{Text, Place}
-use Rattle.ocfl_tree.specs.StorageRoot.{StorageRoot}
+use Rattle.ocfl_tree.specs.{Place.{Text, Place}, StorageRoot.{StorageRoot}}
 use Rattle.ocfl_report.specs.Text.{text}
-use Rattle.ocfl_audit.specs.Walk.{walk}
-use Rattle.ocfl_audit.specs.Stack.{taken, lists, listed_at}
+use Rattle.ocfl_audit.specs.{Walk.{walk}, Stack.{taken, lists, listed_at}}
 use Rattle.ocfl_audit.proofs.Cases.OnLiterals.{audit_on_literals}
 use Rattle.ocfl_audit.proofs.Cases.Trees.{Case, case, AllAre, Behind, behind, behind_each, place, text_at, folder, storage_root, missing_and_right, three_objects, sha512_file}
 

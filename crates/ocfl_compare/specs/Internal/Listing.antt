@@ -1,8 +1,7 @@
 -- A list of objects as a report.
 use Rattle.std.specs.Prelude.{codes}
 use Rattle.ocfl_tree.specs.Place.{Place}
-use Rattle.ocfl_report.specs.Line.{Line}
-use Rattle.ocfl_report.specs.declared.code.Code.TheVariants.{Clean}
+use Rattle.ocfl_report.specs.{Line.{Line}, declared.code.Code.TheVariants.{Clean}}
 
 -- the line of an object at which nothing is found
 abbrev pub as_object : Place → Line

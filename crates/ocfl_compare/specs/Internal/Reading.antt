@@ -1,11 +1,9 @@
 -- How far a report is read.
 use Rattle.std.specs.Prelude.{◌≡◌, ◌≢◌, ◌⊎◌, ℕ, List, [], ◌∷◌, ◌++◌, length, Bool, false, Option, Some, None, IfSome, ⊤}
-use Rattle.std.specs.Io.KnownBytes.{Consumes, IsAtEnd}
-use Rattle.std.specs.Ordering.{is_gt}
+use Rattle.std.specs.{Io.KnownBytes.{Consumes, IsAtEnd}, Ordering.{is_gt}}
 use Rattle.std.specs.declared.cmp.Ordering.TheVariants.{Less, Greater}
 use Rattle.ocfl_tree.specs.Place.{Text, Place, place_cmp}
-use Rattle.ocfl_report.specs.Line.{Line, line_of}
-use Rattle.ocfl_report.specs.Text.{lines_text, IsLineText}
+use Rattle.ocfl_report.specs.{Line.{Line, line_of}, Text.{lines_text, IsLineText}}
 use Rattle.ocfl_report.specs.declared.line.Line.{Line as MadeLine}
 use Rattle.ocfl_parts.specs.Splits.{AreLines, IsNotLess, IsBadReportLine}
 use Rattle.ocfl_compare.specs.declared.reading.ReadStop.{ReadStop}

@@ -2,17 +2,14 @@
 use Rattle.std.specs.Prelude.{◌≡◌, ◌&&◌, List, [], ◌++◌, Bool, not, map, if◌then◌else◌, Option}
 use Rattle.std.specs.List.{list_any}
 use Rattle.ocfl_tree.specs.Place.{Text, Place}
-use Rattle.ocfl_report.specs.Line.{Line}
-use Rattle.ocfl_report.specs.Text.{code_text}
-use Rattle.ocfl_report.specs.declared.code.Code.{Code}
+use Rattle.ocfl_report.specs.{Line.{Line}, Text.{code_text}, declared.code.Code.{Code}}
+use Rattle.ocfl_report.specs.declared.line.Line.{Line as MadeLine}
 use Rattle.ocfl_compare.specs.Kinds.{is_empty, tells_object, tells_file}
 use Rattle.ocfl_compare.specs.Changes.{finding_codes, new_codes, has_code, row_text, Change, object_gone, file_gone, found, repaired, missing, when}
-use Rattle.ocfl_report.specs.declared.line.Line.{Line as MadeLine}
 use Rattle.ocfl_compare.specs.Internal.Reading.{IsAt, listed}
 use Rattle.ocfl_compare.specs.declared.question.Question.{Question}
 use Rattle.ocfl_compare.specs.declared.question.Question.TheVariants.{Changed, Expected}
-use Rattle.ocfl_compare.specs.declared.told.Told.{Told}
-use Rattle.ocfl_compare.specs.declared.reading.Telling.{Telling}
+use Rattle.ocfl_compare.specs.{declared.told.Told.{Told}, declared.reading.Telling.{Telling}}
 use Rattle.ocfl_compare.specs.declared.reading.Telling.TheVariants.{More, Whole}
 
 pub record IsTold (told : Told) (ls : List Line) : Type 0 where

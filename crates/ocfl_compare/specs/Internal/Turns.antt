@@ -1,10 +1,8 @@
 -- How far two reports are compared.
 use Rattle.std.specs.Prelude.{◌≡◌, ◌≢◌, ◌⊎◌, ℕ, List, [], ◌++◌, All, map, flat_map, Option, if◌then◌else◌}
 use Rattle.std.specs.Io.KnownBytes.{Appends}
-use Rattle.ocfl_tree.specs.Place.{Text, Place, place_cmp}
-use Rattle.ocfl_tree.specs.Ascending.{IsAscending}
-use Rattle.ocfl_report.specs.Line.{Line}
-use Rattle.ocfl_report.specs.declared.line.Line.{Line as MadeLine}
+use Rattle.ocfl_tree.specs.{Place.{Text, Place, place_cmp}, Ascending.{IsAscending}}
+use Rattle.ocfl_report.specs.{Line.{Line}, declared.line.Line.{Line as MadeLine}}
 use Rattle.ocfl_compare.specs.Changes.{is_left, answer_at, changes_text}
 use Rattle.ocfl_compare.specs.Internal.Reading.{HasRead, IsBelow}
 use Rattle.ocfl_compare.specs.declared.question.Question.{Question}

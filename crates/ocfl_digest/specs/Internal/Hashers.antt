@@ -6,8 +6,7 @@ use Rattle.sha2.specs.Hashers.{Holds256, Holds512, Holds512_256}
 use Rattle.ocfl_tree.specs.Place.{Text}
 use Rattle.ocfl_digest.specs.Wanted.{wants}
 use Rattle.ocfl_digest.specs.declared.algorithm.Algorithm.TheVariants.{Md5, Sha1, Sha256, Sha512, Sha512_256}
-use Rattle.ocfl_digest.specs.declared.hashers.Hashers.{Hashers}
-use Rattle.ocfl_digest.specs.declared.wanted.Wanted.{Wanted}
+use Rattle.ocfl_digest.specs.{declared.hashers.Hashers.{Hashers}, declared.wanted.Wanted.{Wanted}}
 
 -- there is a hasher exactly if it is wanted, and it holds these bytes
 abbrev pub IsFed : {H : Type 0} → (H → List ℕ → Type 0) → Bool → Text → Option H → Type 0

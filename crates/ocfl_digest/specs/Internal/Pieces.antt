@@ -1,10 +1,7 @@
 -- A piece of the open file: read once, and fed to each wanted hasher.
 use Rattle.std.specs.Prelude.{◌≡◌, ℕ, ◌++◌, length, Bool, IsTrue}
-use Rattle.ocfl_tree.specs.Place.{Text}
-use Rattle.ocfl_tree.specs.Store.{Store}
-use Rattle.ocfl_tree.specs.Calls.{Reads}
-use Rattle.ocfl_digest.specs.Internal.Hashers.{AreFed}
-use Rattle.ocfl_digest.specs.declared.hashers.Hashers.{Hashers}
+use Rattle.ocfl_tree.specs.{Place.{Text}, Store.{Store}, Calls.{Reads}}
+use Rattle.ocfl_digest.specs.{Internal.Hashers.{AreFed}, declared.hashers.Hashers.{Hashers}}
 use Rattle.ocfl_digest.specs.declared.wanted.Wanted.{Wanted}
 
 -- one read with this room gave count bytes, and the hashers took just these

@@ -1,10 +1,8 @@
 -- The entries that a listing gives, name by name.
 use Rattle.std.specs.Prelude.{◌≡◌, ◌≢◌, ◌⊎◌, List, [], ◌∷◌, ◌++◌, Some, None, All, map}
 use Rattle.std.specs.List.{Contains}
-use Rattle.ocfl_tree.specs.Place.{Text, Place}
-use Rattle.ocfl_tree.specs.Ascending.{IsAmong}
-use Rattle.ocfl_tree.specs.StorageRoot.{StorageRoot, dir, at}
-use Rattle.ocfl_tree.specs.Listing.{kind_at}
+use Rattle.ocfl_tree.specs.{Place.{Text, Place}, Ascending.{IsAmong}}
+use Rattle.ocfl_tree.specs.{StorageRoot.{StorageRoot, dir, at}, Listing.{kind_at}}
 use Rattle.ocfl_tree.specs.declared.store.Entry.{Entry}
 
 -- the entry of a name that leads to something from p was added

@@ -1,12 +1,9 @@
 -- Gathering the listed paths of a block: kept ones with their digest, bad ones as their texts.
 use Rattle.std.specs.Prelude.{◌≡◌, List, ◌++◌, Bool, map, filter, flat_map, is_some, string_bytes}
-use Rattle.ocfl_tree.specs.Place.{Text}
+use Rattle.ocfl_tree.specs.{Place.{Text}, Path.{elements}}
 use Rattle.ocfl_digest.specs.declared.algorithm.Algorithm.{Algorithm}
-use Rattle.ocfl_inventory.specs.DigestText.{folded}
-use Rattle.ocfl_inventory.specs.Reading.{Block}
-use Rattle.ocfl_tree.specs.Path.{elements}
-use Rattle.ocfl_inventory.specs.ListedPath.{is_kept, path_fault}
-use Rattle.ocfl_inventory.specs.Table.{Triple}
+use Rattle.ocfl_inventory.specs.{DigestText.{folded}, Reading.{Block}}
+use Rattle.ocfl_inventory.specs.{ListedPath.{is_kept, path_fault}, Table.{Triple}}
 use Rattle.ocfl_inventory.specs.declared.gather.Source.{Source}
 use Rattle.ocfl_inventory.specs.declared.gather.Gathered.{Gathered}
 

@@ -1,15 +1,12 @@
 -- What an inventory lists.
 use Rattle.std.specs.Prelude.{◌≡◌, List, ◌++◌, map, flat_map, string_bytes}
-use Rattle.ocfl_tree.specs.Place.{Text}
-use Rattle.ocfl_tree.specs.Path.{slashed}
-use Rattle.ocfl_inventory.specs.Note.{note, Note}
-use Rattle.ocfl_report.specs.declared.code.Code.TheVariants.{E096, E101, S07}
-use Rattle.ocfl_digest.specs.declared.algorithm.Algorithm.{Algorithm}
-use Rattle.ocfl_inventory.specs.Reading.{Block}
+use Rattle.ocfl_tree.specs.{Place.{Text}, Path.{slashed}}
+use Rattle.ocfl_inventory.specs.{Note.{note, Note}, Reading.{Block}}
 use Rattle.ocfl_inventory.specs.Notes.{kept_paths, conflicts, fault_notes, repeated_digests, repeated_notes}
 use Rattle.ocfl_inventory.specs.Table.{Triple, by_fixity, by_manifest, triples_of}
-use Rattle.ocfl_inventory.specs.Internal.Gathered.{bad_texts}
-use Rattle.ocfl_inventory.specs.declared.gather.Listed.{Listed}
+use Rattle.ocfl_inventory.specs.{Internal.Gathered.{bad_texts}, declared.gather.Listed.{Listed}}
+use Rattle.ocfl_report.specs.declared.code.Code.TheVariants.{E096, E101, S07}
+use Rattle.ocfl_digest.specs.declared.algorithm.Algorithm.{Algorithm}
 
 -- all triples of a manifest and of a fixity block, as often as they are listed
 abbrev pub all_triples : Text → Algorithm → Block → List (Algorithm × Block) → List Triple

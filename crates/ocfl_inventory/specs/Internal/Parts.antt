@@ -1,24 +1,17 @@
 -- What the functions of the reading give, beside the definitions.
-use Rattle.std.specs.Prelude.{◌≡◌, List, [], ◌∷◌, ◌++◌, option_map, option_and_then, Option, Some, None, Result, Ok, Err, map, flat_map, string_bytes}
-use Rattle.std.specs.Prelude.{String}
-use Rattle.std.specs.declared.alloc.Global.{Global}
-use Rattle.std.specs.BTreeMap.{BTreeMap}
-use Rattle.std.specs.List.{cons_option}
-use Rattle.serde_json.specs.View.{view, members_view}
-use Rattle.serde_json.specs.declared.value.Value.{Value}
-use Rattle.serde_json.specs.Data.{Data, Members, no_members}
-use Rattle.serde_json.specs.Find.{as_str, get_member}
+use Rattle.std.specs.Prelude.{◌≡◌, List, [], ◌∷◌, ◌++◌, option_map, option_and_then, Option, Some, None, Result, Ok, Err, map, flat_map, string_bytes, String}
+use Rattle.std.specs.{declared.alloc.Global.{Global}, BTreeMap.{BTreeMap}, List.{cons_option}}
+use Rattle.serde_json.specs.{View.{view, members_view}, declared.value.Value.{Value}}
+use Rattle.serde_json.specs.{Data.{Data, Members, no_members}, Find.{as_str, get_member}}
 use Rattle.ocfl_tree.specs.Place.{Text}
-use Rattle.ocfl_inventory.specs.Note.{Note}
-use Rattle.ocfl_digest.specs.Algorithm.{algorithm_name}
-use Rattle.ocfl_inventory.specs.Reading.{Reading, Block, Inventory, block_of}
-use Rattle.ocfl_digest.specs.declared.algorithm.Algorithm.{Algorithm}
+use Rattle.ocfl_inventory.specs.{Note.{Note}, Reading.{Reading, Block, Inventory, block_of}}
 use Rattle.ocfl_inventory.specs.Remark.{remark_view}
 use Rattle.ocfl_inventory.specs.declared.remark.InventoryStop.{InventoryStop}
-use Rattle.ocfl_inventory.specs.declared.remark.InventoryStop.TheVariants as stops
 use Rattle.ocfl_inventory.specs.declared.inventory.Listing.{Listing}
 use Rattle.ocfl_inventory.specs.declared.inventory.Supported.{Supported}
 use Rattle.ocfl_inventory.specs.declared.inventory.Inventory.{Inventory as MadeInventory}
+use Rattle.ocfl_digest.specs.{Algorithm.{algorithm_name}, declared.algorithm.Algorithm.{Algorithm}}
+use Rattle.ocfl_inventory.specs.declared.remark.InventoryStop.TheVariants as stops
 
 -- what stopped, unless memory ran out, is the line
 abbrev pub Says : InventoryStop → Note → Type 0

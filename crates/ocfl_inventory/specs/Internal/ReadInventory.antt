@@ -2,13 +2,9 @@
 use Rattle.std.specs.Prelude.{◌≡◌, List, [], ◌∷◌, Result, Ok, Err, Vec, map}
 use Rattle.std.specs.declared.alloc.Global.{Global}
 use Rattle.ocfl_report.specs.Line.{Line}
-use Rattle.ocfl_inventory.specs.Note.{Note}
-use Rattle.ocfl_inventory.specs.Reading.{Reading, Inventory}
-use Rattle.ocfl_inventory.specs.Notes.{inventory_notes}
-use Rattle.ocfl_inventory.specs.Table.{Table, table_from}
-use Rattle.ocfl_inventory.specs.Internal.Parts.{Fails}
-use Rattle.ocfl_inventory.specs.Remark.{remark_view}
-use Rattle.ocfl_inventory.specs.declared.remark.Remark.{Remark}
+use Rattle.ocfl_inventory.specs.{Note.{Note}, Reading.{Reading, Inventory}, Notes.{inventory_notes}}
+use Rattle.ocfl_inventory.specs.{Table.{Table, table_from}, Internal.Parts.{Fails}}
+use Rattle.ocfl_inventory.specs.{Remark.{remark_view}, declared.remark.Remark.{Remark}}
 use Rattle.ocfl_inventory.specs.declared.remark.InventoryStop.{InventoryStop}
 use Rattle.ocfl_inventory.specs.declared.remark.InventoryStop.TheVariants as stops
 

@@ -1,7 +1,6 @@
 -- Triples whose paths begin with the same bytes.
 use Rattle.std.specs.Prelude.{◌≡◌, ℕ, ◌++◌, drop}
-use Rattle.ocfl_tree.specs.Place.{Text}
-use Rattle.ocfl_tree.specs.Path.{elements, names_of, slashed}
+use Rattle.ocfl_tree.specs.{Place.{Text}, Path.{elements, names_of, slashed}}
 use Rattle.ocfl_inventory.specs.Table.{Triple}
 
 -- a triple whose path begins with these bytes

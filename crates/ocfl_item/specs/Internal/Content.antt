@@ -1,10 +1,8 @@
 -- Content places, what is seen there, and the line for that.
 use Rattle.std.specs.Prelude.{ℕ, List, Option, Some, None, option_map, Bool, false, not, ◌≡◌, [], ◌∷◌}
-use Rattle.ocfl_tree.specs.Place.{Place}
-use Rattle.ocfl_tree.specs.StorageRoot.{StorageRoot, file, dir, other}
-use Rattle.ocfl_inventory.specs.Note.{plain, Note}
+use Rattle.ocfl_tree.specs.{Place.{Place}, StorageRoot.{StorageRoot, file, dir, other}}
+use Rattle.ocfl_inventory.specs.{Note.{plain, Note}, Table.{Table, Named}}
 use Rattle.ocfl_report.specs.declared.code.Code.TheVariants.{E024, S05, E023, S04}
-use Rattle.ocfl_inventory.specs.Table.{Table, Named}
 use Rattle.ocfl_audit.specs.Zone.{Zone, skipped, hierarchy, inside, zone, seen, table_at}
 use Rattle.ocfl_audit.specs.Lines.{listed_dir_notes, is_empty}
 use Rattle.ocfl_item.specs.declared.sight.Sight.{Sight}

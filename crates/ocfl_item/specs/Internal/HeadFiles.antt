@@ -1,21 +1,15 @@
 -- Which files of an object are read for its head, and what was read of them.
 use Rattle.std.specs.Prelude.{ℕ, List, Option, Some, None, Result, MatchResult, option_and_then, nat_le, length, ◌≡◌, [], ◌∷◌, ◌++◌, if◌then◌else◌}
-use Rattle.ocfl_tree.specs.Place.{Text, Place}
-use Rattle.ocfl_tree.specs.StorageRoot.{StorageRoot, file_at}
-use Rattle.ocfl_tree.specs.Store.{Store, Did}
-use Rattle.ocfl_tree.specs.declared.store.Opening.{Opening}
-use Rattle.ocfl_digest.specs.Bounded.{IsBoundedTo}
-use Rattle.ocfl_digest.specs.declared.bounded.Bounded.{Bounded}
+use Rattle.ocfl_tree.specs.{Place.{Text, Place}, StorageRoot.{StorageRoot, file_at}}
+use Rattle.ocfl_tree.specs.{Store.{Store, Did}, declared.store.Opening.{Opening}}
+use Rattle.ocfl_digest.specs.{Bounded.{IsBoundedTo}, declared.bounded.Bounded.{Bounded}}
 use Rattle.ocfl_digest.specs.declared.algorithm.Algorithm.TheVariants.{Sha256, Sha512}
 use Rattle.ocfl_inventory.specs.Declaration.{Declared, undeclared, known, unknown, several, declaration_name}
 use Rattle.ocfl_inventory.specs.declared.declaration.Level.TheVariants.{Object}
-use Rattle.ocfl_inventory.specs.declared.declaration.Version.{Version}
-use Rattle.ocfl_inventory.specs.Table.{Table, table_of}
-use Rattle.ocfl_audit.specs.Zone.{inventory_name, inventory_limit}
-use Rattle.ocfl_audit.specs.Head.{sidecar_name}
+use Rattle.ocfl_inventory.specs.{declared.declaration.Version.{Version}, Table.{Table, table_of}}
+use Rattle.ocfl_audit.specs.{Zone.{inventory_name, inventory_limit}, Head.{sidecar_name}}
 use Rattle.ocfl_audit.specs.Trail.{places_of}
-use Rattle.ocfl_item.specs.Looking.{IsFront}
-use Rattle.ocfl_item.specs.Auditing.{IsMetadataRead}
+use Rattle.ocfl_item.specs.{Looking.{IsFront}, Auditing.{IsMetadataRead}}
 use Rattle.ocfl_item.specs.declared.fault.Fault.{Fault}
 use Rattle.ocfl_item.specs.HeadFiles.{files_there, ReadsFiles, FilesStop}
 

@@ -1,20 +1,15 @@
 -- The lines of an object's head, beside the definition.
 use Rattle.std.specs.Prelude.{◌≡◌, ◌&&◌, true, is_some, List, [], ◌∷◌, ◌++◌, Bool, not, Option, Some, None}
-use Rattle.ocfl_tree.specs.Place.{Text, Place}
-use Rattle.ocfl_tree.specs.StorageRoot.{StorageRoot}
-use Rattle.ocfl_inventory.specs.Note.{Note}
-use Rattle.ocfl_digest.specs.Digest.{digest_bytes_of}
-use Rattle.ocfl_digest.specs.Digests.{digest_in}
+use Rattle.ocfl_tree.specs.{Place.{Text, Place}, StorageRoot.{StorageRoot}}
+use Rattle.ocfl_inventory.specs.{Note.{Note}, Declaration.{Declared}, Sidecar.{side_limit}}
+use Rattle.ocfl_inventory.specs.declared.declaration.Level.{Level}
+use Rattle.ocfl_inventory.specs.declared.declaration.Level.TheVariants.{Root, Object}
+use Rattle.ocfl_digest.specs.{Digest.{digest_bytes_of}, Digests.{digest_in}}
 use Rattle.ocfl_digest.specs.declared.algorithm.Algorithm.{Algorithm}
 use Rattle.ocfl_digest.specs.declared.algorithm.Algorithm.TheVariants.{Sha256, Sha512}
 use Rattle.ocfl_digest.specs.declared.bounded.Bounded.{Bounded}
 use Rattle.ocfl_digest.specs.declared.digests.Digests.{Digests}
-use Rattle.ocfl_item.specs.Internal.HeadFiles.{IsFileAt}
-use Rattle.ocfl_item.specs.declared.head_lines.Sidecars.{Sidecars}
-use Rattle.ocfl_inventory.specs.Declaration.{Declared}
-use Rattle.ocfl_inventory.specs.Sidecar.{side_limit}
-use Rattle.ocfl_inventory.specs.declared.declaration.Level.{Level}
-use Rattle.ocfl_inventory.specs.declared.declaration.Level.TheVariants.{Root, Object}
+use Rattle.ocfl_item.specs.{Internal.HeadFiles.{IsFileAt}, declared.head_lines.Sidecars.{Sidecars}}
 use Rattle.ocfl_audit.specs.Head.{root_notes_by, head_notes_by, sidecar_name, is_sidecar_missing, are_sidecars_missing, other_sidecar_notes}
 
 -- the lines of the storage root, or of an object at d, by what is declared there

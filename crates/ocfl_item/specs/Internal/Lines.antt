@@ -2,10 +2,8 @@
 use Rattle.std.specs.Prelude.{List, Bool, false, Option, Some, None, map, codes, ◌≡◌, ◌≢◌, [], ◌++◌}
 use Rattle.std.specs.Ordering.{is_eq}
 use Rattle.ocfl_tree.specs.StorageRoot.{StorageRoot}
-use Rattle.ocfl_inventory.specs.Note.{note, Note}
-use Rattle.ocfl_inventory.specs.Remark.{remark_view}
+use Rattle.ocfl_inventory.specs.{Note.{note, Note}, Remark.{remark_view}, Table.{Named}}
 use Rattle.ocfl_digest.specs.Algorithm.{algorithm_name}
-use Rattle.ocfl_inventory.specs.Table.{Named}
 use Rattle.ocfl_item.specs.declared.lines.PlaceLines.{PlaceLines}
 use Rattle.ocfl_audit.specs.Lines.{notes, named_at, block_cmp, block_code}
 

@@ -1,36 +1,27 @@
 -- What is known of an entry that the walk comes to.
 use Rattle.std.specs.Prelude.{AllPairs, ◌≢◌, ◌≡◌, ◌≤◌, List, [], ◌∷◌, cond, length, Result, MatchResult, true, false, Option, Some, None, option_map}
 use Rattle.std.specs.List.{list_all}
-use Rattle.ocfl_tree.specs.Place.{Place}
-use Rattle.ocfl_tree.specs.StorageRoot.{StorageRoot, at, is_dir}
-use Rattle.ocfl_tree.specs.Listing.{kind_of, IsListing}
-use Rattle.ocfl_tree.specs.declared.store.Entry.{Entry}
-use Rattle.ocfl_tree.specs.declared.store.Kind.{Kind}
+use Rattle.ocfl_tree.specs.{Place.{Place}, StorageRoot.{StorageRoot, at, is_dir}}
+use Rattle.ocfl_tree.specs.{Listing.{kind_of, IsListing}, declared.store.Entry.{Entry}}
+use Rattle.ocfl_tree.specs.{declared.store.Kind.{Kind}, Store.{Store, Did}}
+use Rattle.ocfl_tree.specs.declared.store.Opening.{Opening}
 use Rattle.ocfl_tree.specs.declared.store.Kind.TheVariants as kind
-use Rattle.ocfl_inventory.specs.Note.{Note, plain}
-use Rattle.ocfl_inventory.specs.Declaration.{undeclared}
+use Rattle.ocfl_inventory.specs.{Note.{Note, plain}, Declaration.{undeclared}}
 use Rattle.ocfl_inventory.specs.Entries.{meaning, PointsAtOne}
 use Rattle.ocfl_inventory.specs.declared.declaration.Declared.{Declared as MadeDeclared}
+use Rattle.ocfl_inventory.specs.Table.{Table}
 use Rattle.ocfl_inventory.specs.declared.declaration.Level.TheVariants as level
 use Rattle.ocfl_audit.specs.Zone.{hierarchy, inside, zone, is_entered, is_listed_zone, object_declared, root_declared, beginnings, is_declared, max_listed_depth}
 use Rattle.ocfl_audit.specs.Lines.{listed_dir_notes, notes, named_at, is_hashed}
-use Rattle.ocfl_audit.specs.Between.{is_looked_into}
-use Rattle.ocfl_audit.specs.Walk.{seen_names}
-use Rattle.ocfl_tree.specs.Store.{Store, Did}
-use Rattle.ocfl_tree.specs.declared.store.Opening.{Opening}
-use Rattle.ocfl_inventory.specs.Table.{Table}
-use Rattle.ocfl_audit.specs.Head.{on}
+use Rattle.ocfl_audit.specs.{Between.{is_looked_into}, Walk.{seen_names}, Head.{on}}
 use Rattle.ocfl_audit.specs.Trail.{content_trail, is_head, heads_of, reads_inventory}
 use Rattle.ocfl_item.specs.Auditing.{FailedAt, IsMetadataRead, LieIn}
-use Rattle.ocfl_item.specs.Looking.{IsFront, failures_by}
-use Rattle.ocfl_item.specs.Internal.Ways.{IsHeadOf}
-use Rattle.ocfl_item.specs.Meeting.{IsVisit}
-use Rattle.ocfl_item.specs.declared.fault.Fault.{Fault}
-use Rattle.ocfl_item.specs.declared.lines.PlaceLines.{PlaceLines}
-use Rattle.ocfl_item.specs.declared.fault.Fault.TheVariants as fault
-use Rattle.ocfl_item.specs.declared.role.Role.{Role}
-use Rattle.ocfl_item.specs.declared.role.Role.TheVariants as role
+use Rattle.ocfl_item.specs.{Looking.{IsFront, failures_by}, Internal.Ways.{IsHeadOf}}
+use Rattle.ocfl_item.specs.{Meeting.{IsVisit}, declared.fault.Fault.{Fault}}
+use Rattle.ocfl_item.specs.{declared.lines.PlaceLines.{PlaceLines}, declared.role.Role.{Role}}
 use Rattle.ocfl_item.specs.declared.visit.Visit.{Visit}
+use Rattle.ocfl_item.specs.declared.fault.Fault.TheVariants as fault
+use Rattle.ocfl_item.specs.declared.role.Role.TheVariants as role
 
 -- all above it is entered, and what is there is of this kind
 pub record IsEntryAt (root : StorageRoot) (e : Place) (k : Kind) : Type 0 where

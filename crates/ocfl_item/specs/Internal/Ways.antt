@@ -2,26 +2,18 @@
 -- read.
 use Rattle.std.specs.Prelude.{List, Bool, true, false, Option, Some, None, Result, MatchResult, AllPairs, ◌≡◌, ◌≢◌, []}
 use Rattle.std.specs.List.{list_all}
-use Rattle.ocfl_tree.specs.Place.{Place}
-use Rattle.ocfl_tree.specs.StorageRoot.{StorageRoot}
-use Rattle.ocfl_tree.specs.Store.{Store, Did}
-use Rattle.ocfl_tree.specs.Listing.{IsListing}
-use Rattle.ocfl_tree.specs.declared.store.Entry.{Entry}
-use Rattle.ocfl_tree.specs.declared.store.Kind.{Kind}
-use Rattle.ocfl_tree.specs.declared.store.Opening.{Opening}
+use Rattle.ocfl_tree.specs.{Place.{Place}, StorageRoot.{StorageRoot}, Store.{Store, Did}}
+use Rattle.ocfl_tree.specs.{Listing.{IsListing}, declared.store.Entry.{Entry}}
+use Rattle.ocfl_tree.specs.{declared.store.Kind.{Kind}, declared.store.Opening.{Opening}}
 use Rattle.ocfl_tree.specs.declared.store.Trouble.{Trouble}
 use Rattle.ocfl_inventory.specs.Entries.{meaning, PointsAtOne}
 use Rattle.ocfl_inventory.specs.declared.declaration.Declared.{Declared as MadeDeclared}
 use Rattle.ocfl_inventory.specs.Table.{Table}
 use Rattle.ocfl_audit.specs.Zone.{inside, zone, is_entered, object_declared, table_at, beginnings}
-use Rattle.ocfl_audit.specs.Lines.{notes}
-use Rattle.ocfl_audit.specs.Head.{on}
+use Rattle.ocfl_audit.specs.{Lines.{notes}, Head.{on}}
 use Rattle.ocfl_audit.specs.Trail.{content_trail, heads_of, reads_inventory}
-use Rattle.ocfl_item.specs.Looking.{IsFront}
-use Rattle.ocfl_item.specs.Auditing.{IsMetadataRead}
-use Rattle.ocfl_item.specs.Internal.Lines.{HasLines}
-use Rattle.ocfl_item.specs.declared.fault.Fault.{Fault}
-use Rattle.ocfl_item.specs.declared.lines.PlaceLines.{PlaceLines}
+use Rattle.ocfl_item.specs.{Looking.{IsFront}, Auditing.{IsMetadataRead}, Internal.Lines.{HasLines}}
+use Rattle.ocfl_item.specs.{declared.fault.Fault.{Fault}, declared.lines.PlaceLines.{PlaceLines}}
 use Rattle.ocfl_item.specs.declared.folder.Head.{Head}
 use Rattle.ocfl_item.specs.Ways.{Stops, is_listable, AreInventories, IsAt}
 use Rattle.ocfl_tree.specs.declared.store.Kind.TheVariants as kind

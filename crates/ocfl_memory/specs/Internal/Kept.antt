@@ -1,12 +1,10 @@
 -- How a tree in memory keeps what it tells.
 use Rattle.std.specs.Prelude.{◌≡◌, ℕ, ◌<◌, ◌≤◌, List, [], ◌∷◌, ◌++◌, Option, Some, None, length, drop, ⊤}
-use Rattle.ocfl_tree.specs.Place.{Text, Place}
-use Rattle.ocfl_tree.specs.StorageRoot.{StorageRoot, at, max_entries}
+use Rattle.ocfl_tree.specs.{Place.{Text, Place}, StorageRoot.{StorageRoot, at, max_entries}}
+use Rattle.ocfl_tree.specs.declared.store.Opening.{Opening}
 use Rattle.ocfl_memory.specs.Faults.{Faults}
 use Rattle.ocfl_memory.specs.Internal.Nodes.{AreOnce, stands_at, kept_in, leaf_at, bytes_in}
-use Rattle.ocfl_memory.specs.MemTree.{Held}
-use Rattle.ocfl_tree.specs.declared.store.Opening.{Opening}
-use Rattle.ocfl_memory.specs.declared.mem_tree.OpenFile.{OpenFile}
+use Rattle.ocfl_memory.specs.{MemTree.{Held}, declared.mem_tree.OpenFile.{OpenFile}}
 
 abbrev pub rest_of : StorageRoot → Option OpenFile → Option Text
 rest_of nodes None = None

@@ -2,13 +2,11 @@
 use Rattle.std.specs.Prelude.{◌≡◌, ℕ, List, [], ◌∷◌, Option, Some, None, slice_index_or, length, is_some, not, nat_le, if◌then◌else◌, ⊤}
 use Rattle.ocfl_tree.specs.Place.{Text, Place, child_name}
 use Rattle.ocfl_tree.specs.StorageRoot.{StorageRoot, Leaf, file, dir, other, lookup, is_dir_leaf, max_entries}
-use Rattle.ocfl_tree.specs.Listing.{kind_of}
-use Rattle.ocfl_memory.specs.MemTree.{parent}
-use Rattle.ocfl_memory.specs.declared.build.BuildStop.{BuildStop}
+use Rattle.ocfl_tree.specs.{Listing.{kind_of}, declared.store.Entry.{Entry}}
+use Rattle.ocfl_memory.specs.{MemTree.{parent}, declared.build.BuildStop.{BuildStop}}
 use Rattle.ocfl_memory.specs.declared.build.BuildStop.TheVariants.{Exists, NoParent, Full}
 use Rattle.ocfl_memory.specs.declared.nodes.Node.{Node}
 use Rattle.ocfl_memory.specs.declared.nodes.Node.TheVariants as node
-use Rattle.ocfl_tree.specs.declared.store.Entry.{Entry}
 
 abbrev pub leaf_of : Node → Leaf
 leaf_of (node.File bytes) = file bytes.items

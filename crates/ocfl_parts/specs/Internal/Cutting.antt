@@ -1,13 +1,10 @@
 -- How far a report is cut, after some of its lines.
 use Rattle.std.specs.Prelude.{◌≡◌, ℕ, ◌≤◌, ◌<◌, ◌↔◌, List, [], ◌∷◌, ◌++◌, length, All, Option, Some, None, ⊤}
 use Rattle.ocfl_tree.specs.Place.{Text, Place}
-use Rattle.ocfl_report.specs.Line.{Line}
-use Rattle.ocfl_report.specs.Text.{IsLineText}
-use Rattle.ocfl_parts.specs.Parts.{max_separators}
-use Rattle.ocfl_parts.specs.Separators.{AreSeparators}
+use Rattle.ocfl_report.specs.{Line.{Line}, Text.{IsLineText}}
+use Rattle.ocfl_parts.specs.{Parts.{max_separators}, Separators.{AreSeparators}}
 use Rattle.ocfl_parts.specs.Splits.{HasText, AreInOrder, items_from, cuts_from, cuts}
-use Rattle.ocfl_parts.specs.declared.costs.Told.{Told}
-use Rattle.ocfl_parts.specs.declared.splitting.SplitStop.{SplitStop}
+use Rattle.ocfl_parts.specs.{declared.costs.Told.{Told}, declared.splitting.SplitStop.{SplitStop}}
 use Rattle.ocfl_parts.specs.declared.splitting.SplitStop.TheVariants.{Line as BadLine, Many, Read, Memory}
 
 -- the place of the item that was begun

@@ -1,12 +1,9 @@
 -- Directories as they are collected from listings.
 use Rattle.std.specs.Prelude.{◌≡◌, ℕ, ◌<◌, ◌&&◌, ◌≤◌, not, length, All, List, [], ◌∷◌, ◌++◌, Bool, true, false, Some, filter, map}
-use Rattle.ocfl_tree.specs.Place.{Text, Place, place_cmp}
-use Rattle.ocfl_tree.specs.Ascending.{IsAscending, IsAmong}
-use Rattle.ocfl_tree.specs.StorageRoot.{StorageRoot}
-use Rattle.ocfl_tree.specs.declared.store.Entry.{Entry}
+use Rattle.ocfl_tree.specs.{Place.{Text, Place, place_cmp}, Ascending.{IsAscending, IsAmong}}
+use Rattle.ocfl_tree.specs.{StorageRoot.{StorageRoot}, declared.store.Entry.{Entry}}
 use Rattle.ocfl_item.specs.Ways.{is_dir_kind, is_extensions_name, is_listable}
-use Rattle.ocfl_split.specs.Levels.{directories_below}
-use Rattle.ocfl_split.specs.Splitting.{max_held}
+use Rattle.ocfl_split.specs.{Levels.{directories_below}, Splitting.{max_held}}
 
 -- an entry of a directory of the hierarchy that is a directory of it too
 abbrev pub is_directory_entry : Place → Entry → Bool

@@ -1,29 +1,23 @@
 -- The entry at a place: the listings on the way to it, of each what is above it.
 use Rattle.std.specs.Prelude.{◌≡◌, ◌≤◌, ℕ, List, [], ◌∷◌, ◌++◌, Bool, not, false, Option, Some, None, Result, MatchOption, MatchResult, length, filter}
 use Rattle.std.specs.List.{AllByRecursion}
-use Rattle.ocfl_tree.specs.Place.{Text, Place}
-use Rattle.ocfl_tree.specs.StorageRoot.{StorageRoot, max_entries}
-use Rattle.ocfl_tree.specs.Store.{Store, Did}
-use Rattle.ocfl_tree.specs.Listing.{IsOrdinary}
-use Rattle.ocfl_tree.specs.declared.store.Entry.{Entry}
+use Rattle.ocfl_tree.specs.{Place.{Text, Place}, StorageRoot.{StorageRoot, max_entries}}
+use Rattle.ocfl_tree.specs.{Store.{Store, Did}, Listing.{IsOrdinary}, declared.store.Entry.{Entry}}
 use Rattle.ocfl_tree.specs.declared.store.Opening.{Opening}
 use Rattle.ocfl_audit.specs.Zone.{Zone, inside, root_declared, zone, table_at, is_known, max_listed_depth}
-use Rattle.ocfl_audit.specs.Lines.{is_hashed}
-use Rattle.ocfl_audit.specs.Trail.{content_trail, heads_of, reads_inventory}
-use Rattle.ocfl_item.specs.Looking.{way_to, IsFront, failures_by}
-use Rattle.ocfl_item.specs.Auditing.{FailedAt, IsMetadataRead, LieIn}
-use Rattle.ocfl_walk.specs.WalkCalls.{AreAllListed, IsRootFirst, holder_of}
-use Rattle.ocfl_item.specs.Ways.{way_below, is_extensions_name, is_listable, AreInventories, Enters, InHierarchy, IsAt, Stops}
+use Rattle.ocfl_audit.specs.{Lines.{is_hashed}, Trail.{content_trail, heads_of, reads_inventory}}
 use Rattle.ocfl_audit.specs.Walk.{is_reached, step_listed}
 use Rattle.ocfl_audit.specs.Stack.{seen_places, seen_left, listed_at, IsListed}
+use Rattle.ocfl_item.specs.Looking.{way_to, IsFront, failures_by}
+use Rattle.ocfl_item.specs.Auditing.{FailedAt, IsMetadataRead, LieIn}
+use Rattle.ocfl_item.specs.Ways.{way_below, is_extensions_name, is_listable, AreInventories, Enters, InHierarchy, IsAt, Stops}
+use Rattle.ocfl_item.specs.{Around.{IsTableAround, IsPart}, Meeting.{IsFairFolder}}
+use Rattle.ocfl_item.specs.{declared.fault.Fault.{Fault}, declared.folder.Folder.{Folder}}
+use Rattle.ocfl_item.specs.declared.meeting.Around.{Around}
+use Rattle.ocfl_walk.specs.WalkCalls.{AreAllListed, IsRootFirst, holder_of}
 use Rattle.ocfl_walk.specs.Standing.{Pile, frames_of, HaveEntries}
 use Rattle.ocfl_walk.specs.Internal.Standing.{IsChain, IsAroundIf}
-use Rattle.ocfl_item.specs.Around.{IsTableAround, IsPart}
-use Rattle.ocfl_item.specs.Meeting.{IsFairFolder}
-use Rattle.ocfl_item.specs.declared.fault.Fault.{Fault}
 use Rattle.ocfl_item.specs.declared.fault.Fault.TheVariants as fault
-use Rattle.ocfl_item.specs.declared.folder.Folder.{Folder}
-use Rattle.ocfl_item.specs.declared.meeting.Around.{Around}
 
 -- ---- what was done
 

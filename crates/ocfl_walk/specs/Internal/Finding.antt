@@ -1,16 +1,10 @@
 -- One place, looked up by itself: the way down to it, and what is met there.
 use Rattle.std.specs.Prelude.{◌≡◌, ◌≢◌, ℕ, List, [], Option, Result, MatchResult, AllPairs}
-use Rattle.ocfl_tree.specs.Place.{Place}
-use Rattle.ocfl_tree.specs.StorageRoot.{StorageRoot}
-use Rattle.ocfl_tree.specs.Store.{Store}
+use Rattle.ocfl_tree.specs.{Place.{Place}, StorageRoot.{StorageRoot}, Store.{Store}}
 use Rattle.ocfl_audit.specs.Trail.{heads_of}
-use Rattle.ocfl_item.specs.Auditing.{LieIn}
-use Rattle.ocfl_item.specs.Looking.{IsFront, failures_by}
-use Rattle.ocfl_item.specs.Meeting.{IsItemAt}
-use Rattle.ocfl_walk.specs.Internal.Entering.{Calls, NamesFailed}
-use Rattle.ocfl_walk.specs.WalkCalls.{AreAllListed}
-use Rattle.ocfl_item.specs.declared.fault.Fault.{Fault}
-use Rattle.ocfl_item.specs.declared.pending.Pending.{Pending}
+use Rattle.ocfl_item.specs.{Auditing.{LieIn}, Looking.{IsFront, failures_by}, Meeting.{IsItemAt}}
+use Rattle.ocfl_item.specs.{declared.fault.Fault.{Fault}, declared.pending.Pending.{Pending}}
+use Rattle.ocfl_walk.specs.{Internal.Entering.{Calls, NamesFailed}, WalkCalls.{AreAllListed}}
 
 -- from s to t the first directories of a way were listed, in order, and metadata was read, right in
 -- these and each file once, of inventories the first of those that may be; if none may be,

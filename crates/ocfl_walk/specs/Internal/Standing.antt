@@ -1,25 +1,17 @@
 -- The order of what a walk keeps, and one step of it.
 use Rattle.std.specs.Prelude.{ℕ, nat_le, List, Bool, true, false, not, Option, Some, None, map, filter, option_map, length, drop, ⊤, ◌≡◌, ◌<◌, ◌≤◌, ◌≢◌, [], ◌∷◌, ◌++◌, if◌then◌else◌}
-use Rattle.std.specs.Ordering.{is_lt}
-use Rattle.std.specs.List.{AllByRecursion}
+use Rattle.std.specs.{Ordering.{is_lt}, List.{AllByRecursion}}
 use Rattle.std.specs.declared.cmp.Ordering.TheVariants.{Less}
 use Rattle.ocfl_tree.specs.Place.{Text, Place, text_cmp, place_cmp, begins}
 use Rattle.ocfl_tree.specs.Ascending.{IsAscending, IsBeforeAll}
-use Rattle.ocfl_tree.specs.StorageRoot.{StorageRoot, max_entries}
-use Rattle.ocfl_tree.specs.declared.store.Entry.{Entry}
-use Rattle.ocfl_inventory.specs.Table.{IsFit, Table}
-use Rattle.ocfl_audit.specs.Zone.{seen, max_listed_depth}
-use Rattle.ocfl_audit.specs.Lines.{notes}
-use Rattle.ocfl_audit.specs.Due.{due}
-use Rattle.ocfl_inventory.specs.NextPath.{next_path}
+use Rattle.ocfl_tree.specs.{StorageRoot.{StorageRoot, max_entries}, declared.store.Entry.{Entry}}
+use Rattle.ocfl_inventory.specs.{Table.{IsFit, Table}, NextPath.{next_path}}
+use Rattle.ocfl_audit.specs.{Zone.{seen, max_listed_depth}, Lines.{notes}, Due.{due}}
 use Rattle.ocfl_audit.specs.Walk.{seen_names}
 use Rattle.ocfl_audit.specs.Stack.{NoneSeenBetween, NoneSeenAbove, Frame, IsStack, IsListed}
-use Rattle.ocfl_item.specs.Around.{IsTableAround}
-use Rattle.ocfl_walk.specs.Ends.{is_past}
-use Rattle.ocfl_walk.specs.declared.end.End.{End}
-use Rattle.ocfl_walk.specs.declared.stand.Turn.{Turn}
-use Rattle.ocfl_item.specs.declared.folder.Folder.{Folder}
+use Rattle.ocfl_item.specs.{Around.{IsTableAround}, declared.folder.Folder.{Folder}}
 use Rattle.ocfl_item.specs.declared.meeting.Around.{Around}
+use Rattle.ocfl_walk.specs.{Ends.{is_past}, declared.end.End.{End}, declared.stand.Turn.{Turn}}
 use Rattle.ocfl_walk.specs.declared.stand.Stand.{Stand}
 use Rattle.ocfl_walk.specs.Standing.{levels, back, Pile, pile_of, frames_of, piles_in, HaveEntries}
 use Rattle.ocfl_walk.specs.declared.stand.Turn.TheVariants as turn

@@ -1,28 +1,18 @@
 -- What a walk does to a store that tells its tree.
 use Rattle.std.specs.Prelude.{List, ◌≡◌, ◌⊎◌, ◌≤◌, [], ◌∷◌, false, Option, Some, None, Result, MatchOption, MatchResult, IfSome, length, ◌<◌, ⊤}
-use Rattle.ocfl_tree.specs.Place.{Place}
-use Rattle.ocfl_tree.specs.StorageRoot.{StorageRoot}
-use Rattle.ocfl_tree.specs.Store.{Store}
+use Rattle.ocfl_tree.specs.{Place.{Place}, StorageRoot.{StorageRoot}, Store.{Store}}
 use Rattle.ocfl_tree.specs.declared.store.Opening.{Opening}
-use Rattle.ocfl_audit.specs.Due.{due}
-use Rattle.ocfl_audit.specs.Between.{IsBeyond, looked_between, read_between}
-use Rattle.ocfl_item.specs.Auditing.{Fails}
-use Rattle.ocfl_item.specs.Looking.{IsFront}
-use Rattle.ocfl_item.specs.Meeting.{IsItemAt}
-use Rattle.ocfl_walk.specs.Ends.{before_end, is_past}
-use Rattle.ocfl_walk.specs.WalkCalls.{FailsOut, Walks, WalksOut}
-use Rattle.ocfl_item.specs.Pending.{IsPending}
+use Rattle.ocfl_audit.specs.{Due.{due}, Between.{IsBeyond, looked_between, read_between}}
 use Rattle.ocfl_audit.specs.Walk.{seen_names}
+use Rattle.ocfl_item.specs.{Auditing.{Fails}, Looking.{IsFront}, Meeting.{IsItemAt}}
+use Rattle.ocfl_item.specs.{Pending.{IsPending}, Around.{IsTableAround}}
+use Rattle.ocfl_item.specs.{declared.fault.Fault.{Fault}, declared.folder.Folder.{Folder}}
+use Rattle.ocfl_item.specs.declared.pending.Pending.{Pending}
+use Rattle.ocfl_walk.specs.{Ends.{before_end, is_past}, WalkCalls.{FailsOut, Walks, WalksOut}}
 use Rattle.ocfl_walk.specs.Standing.{AreEntries, StandsAt, stand_size}
 use Rattle.ocfl_walk.specs.Internal.Standing.{IsFairPile, left_names, left_of_folder, IsAroundIf}
-use Rattle.ocfl_item.specs.Around.{IsTableAround}
-use Rattle.ocfl_item.specs.declared.fault.Fault.{Fault}
-use Rattle.ocfl_item.specs.declared.folder.Folder.{Folder}
-use Rattle.ocfl_item.specs.declared.pending.Pending.{Pending}
-use Rattle.ocfl_walk.specs.declared.end.End.{End}
-use Rattle.ocfl_walk.specs.declared.stand.Met.{Met}
-use Rattle.ocfl_walk.specs.declared.stand.Stand.{Stand}
-use Rattle.ocfl_walk.specs.declared.stand.Step.{Step}
+use Rattle.ocfl_walk.specs.{declared.end.End.{End}, declared.stand.Met.{Met}}
+use Rattle.ocfl_walk.specs.{declared.stand.Stand.{Stand}, declared.stand.Step.{Step}}
 use Rattle.ocfl_walk.specs.declared.stand.Step.TheVariants as step
 
 -- ---- at one place

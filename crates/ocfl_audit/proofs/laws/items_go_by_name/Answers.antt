@@ -1,5 +1,4 @@
-use Rattle.ocfl_audit.proofs.PublicLaws.{by_name}
-use Rattle.ocfl_audit.proofs.WalkLaws.{item_here, names_ascend}
+use Rattle.ocfl_audit.proofs.{PublicLaws.{by_name}, WalkLaws.{item_here, names_ascend}}
 use Rattle.ocfl_audit.proofs.laws.items_go_by_name.Goals as goal
 
 pub returns : goal.returns

@@ -1,7 +1,6 @@
-use Rattle.ocfl_audit.proofs.WayLaws.{is_closed}
-use Rattle.ocfl_audit.proofs.WalkLaws.{walk_is, walk_after_is, entered_is}
-use Rattle.std.proofs.Common.{◌<◌, length, arith}
+use Rattle.ocfl_audit.proofs.{WayLaws.{is_closed}, WalkLaws.{walk_is, walk_after_is, entered_is}}
 use Rattle.ocfl_audit.proofs.BoundLaws.{item_short}
+use Rattle.std.proofs.Common.{◌<◌, length, arith}
 use Rattle.ocfl_audit.proofs.laws.walk_gives_the_audit.Goals as goal
 
 pub returns : goal.returns

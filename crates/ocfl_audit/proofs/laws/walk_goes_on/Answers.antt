@@ -1,7 +1,5 @@
-use Rattle.ocfl_audit.proofs.WayLaws.{is_closed}
-use Rattle.ocfl_audit.proofs.NextLaws.{walk_takes, walk_ends}
-use Rattle.ocfl_audit.proofs.StackLaws.{stack_starts}
-use Rattle.ocfl_audit.proofs.BoundLaws.{lists_the_way}
+use Rattle.ocfl_audit.proofs.{WayLaws.{is_closed}, NextLaws.{walk_takes, walk_ends}}
+use Rattle.ocfl_audit.proofs.{StackLaws.{stack_starts}, BoundLaws.{lists_the_way}}
 use Rattle.ocfl_audit.proofs.laws.walk_goes_on.Goals as goal
 
 pub returns : goal.returns

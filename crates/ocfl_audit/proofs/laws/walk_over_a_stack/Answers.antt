@@ -1,5 +1,4 @@
-use Rattle.ocfl_audit.proofs.WayLaws.{is_closed}
-use Rattle.ocfl_audit.proofs.MachineLaws.{from_root, taken_from, lists_from}
+use Rattle.ocfl_audit.proofs.{WayLaws.{is_closed}, MachineLaws.{from_root, taken_from, lists_from}}
 use Rattle.ocfl_audit.proofs.laws.walk_over_a_stack.Goals as goal
 
 pub returns : goal.returns

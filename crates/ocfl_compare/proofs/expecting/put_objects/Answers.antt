@@ -1,10 +1,9 @@
-use Rattle.std.proofs.Common.{[], ◌∷◌, ◌++◌, All, ap, sym, subst, take, ◌∙◌}
+use Rattle.std.proofs.Common.{[], ◌∷◌, ◌++◌, All, ap, sym, subst, take, ◌∙◌, ◌≡◌, map}
 use Rattle.std.proofs.lemmas.List.{take_more}
 use Rattle.std.proofs.lemmas.List.Elements.{All-append, All-cons, All-nil}
 use Rattle.ocfl_tree.specs.Name.{IsPlace}
 use Rattle.ocfl_report.specs.Text.{lines_text}
 use Rattle.ocfl_compare.specs.Internal.Listing.{as_object}
-use Rattle.std.proofs.Common.{◌≡◌, map}
 use Rattle.ocfl_compare.proofs.Listings.{text_more}
 use Rattle.ocfl_compare.proofs.expecting.put_objects.Goals as goal
 

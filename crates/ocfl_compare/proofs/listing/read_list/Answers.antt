@@ -1,5 +1,4 @@
-use Rattle.std.proofs.Common.{◌∙◌, refl, arith}
-use Rattle.std.proofs.lemmas.Result.{err_from_is_err_and}
+use Rattle.std.proofs.{Common.{◌∙◌, refl, arith}, lemmas.Result.{err_from_is_err_and}}
 use Rattle.ocfl_compare.proofs.Lists.{known_long, known_more, known_bad}
 use Rattle.ocfl_compare.proofs.listing.read_list.Goals as goal
 

@@ -1,6 +1,5 @@
 use Rattle.std.proofs.Common.{◌++◌, ◌∙◌, refl, sym, subst}
-use Rattle.ocfl_compare.specs.Internal.Reading.{listed}
-use Rattle.ocfl_compare.specs.Internal.Telling.{IsTold}
+use Rattle.ocfl_compare.specs.{Internal.Reading.{listed}, Internal.Telling.{IsTold}}
 use Rattle.ocfl_compare.proofs.Tellings.{equal_at, at_equal}
 use Rattle.ocfl_compare.proofs.reading.take_line.Goals as goal
 

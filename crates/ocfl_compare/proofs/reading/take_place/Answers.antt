@@ -1,5 +1,4 @@
-use Rattle.std.proofs.Common.{◌++◌}
-use Rattle.std.proofs.lemmas.Result.{err_from_is_err_and}
+use Rattle.std.proofs.{Common.{◌++◌}, lemmas.Result.{err_from_is_err_and}}
 use Rattle.ocfl_compare.specs.Internal.Reading.{listed}
 use Rattle.ocfl_compare.proofs.Tellings.{taken_more, at_open, at_another, goes_from}
 use Rattle.ocfl_compare.proofs.reading.take_place.Goals as goal

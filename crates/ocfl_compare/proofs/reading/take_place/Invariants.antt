@@ -1,7 +1,6 @@
 use Rattle.std.proofs.Common.{List, ℕ, Option}
 use Rattle.ocfl_report.specs.Line.{Line as ModelLine}
-use Rattle.ocfl_compare.specs.Internal.Reading.{HasRead, IsNotAbove}
-use Rattle.ocfl_compare.specs.Internal.Telling.{IsTold}
+use Rattle.ocfl_compare.specs.{Internal.Reading.{HasRead, IsNotAbove}, Internal.Telling.{IsTold}}
 use Rattle.ocfl_compare.specs.Internal.Turns.{AreTaken}
 use Rattle.ocfl_compare.proofs.reading.take_place.Given as goal
 

@@ -1,5 +1,4 @@
-use Rattle.std.proofs.Common.{sym}
-use Rattle.std.proofs.lemmas.Result.{IfOk-weaker}
+use Rattle.std.proofs.{Common.{sym}, lemmas.Result.{IfOk-weaker}}
 use Rattle.ocfl_cursor.proofs.CursorTexts.{IsTextOf-sealed}
 use Rattle.ocfl_cursor.proofs.Refusals.{refused_not_cursor, refused_damaged, refused_after_seal, known_version-from_rest}
 use Rattle.ocfl_cursor.proofs.decoding.decode.Goals as goal

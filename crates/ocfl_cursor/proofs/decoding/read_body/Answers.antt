@@ -1,5 +1,4 @@
-use Rattle.std.proofs.Common.{refl}
-use Rattle.std.proofs.lemmas.Result.{IfOk-weaker}
+use Rattle.std.proofs.{Common.{refl}, lemmas.Result.{IfOk-weaker}}
 use Rattle.ocfl_cursor.proofs.CursorTexts.{body_from_lines, lines_from_body, no_body}
 use Rattle.ocfl_cursor.proofs.decoding.read_body.Goals as goal
 

@@ -1,5 +1,4 @@
-use Rattle.std.proofs.Common.{refl, sym, subst}
-use Rattle.std.proofs.lemmas.Bool.{false≢true}
+use Rattle.std.proofs.{Common.{refl, sym, subst}, lemmas.Bool.{false≢true}}
 use Rattle.std.proofs.lemmas.Result.{err_from_is_err_and}
 use Rattle.ocfl_cursor.specs.Internal.Body.{AreLinesOf}
 use Rattle.ocfl_cursor.specs.declared.refused.Refused.TheVariants.{Malformed}

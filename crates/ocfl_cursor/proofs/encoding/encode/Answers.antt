@@ -1,5 +1,4 @@
-use Rattle.std.proofs.Common.{◌++◌, codes, ap, ◌∙◌}
-use Rattle.std.proofs.lemmas.Result.{IfOk-weaker}
+use Rattle.std.proofs.{Common.{◌++◌, codes, ap, ◌∙◌}, lemmas.Result.{IfOk-weaker}}
 use Rattle.ocfl_tree.specs.Place.{Text}
 use Rattle.ocfl_cursor.specs.Cursor.{digest_line}
 use Rattle.ocfl_cursor.proofs.encoding.encode.Goals as goal

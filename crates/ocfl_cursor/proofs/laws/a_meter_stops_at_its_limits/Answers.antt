@@ -1,6 +1,6 @@
 use Rattle.std.proofs.Common.{◌≡◌, ◌⊎◌, inl, inr, ℕ, ◌<◌, ◌≤◌, Bool, true, false, refl, ltb-true, ltb-false}
-use Rattle.std.specs.Prelude.{nat_lt}
 use Rattle.std.proofs.Math.Nat.{eq-or-lt_of_le}
+use Rattle.std.specs.Prelude.{nat_lt}
 use Rattle.ocfl_cursor.proofs.laws.a_meter_stops_at_its_limits.Goals as goal
 
 at_one_of_two : (a b f n : ℕ) → f ≤ n → ((a < b) × (f < n) → ⊥) → (b ≤ a) ⊎ (f ≡ n)

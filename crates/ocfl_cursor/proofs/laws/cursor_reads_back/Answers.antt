@@ -1,5 +1,4 @@
-use Rattle.std.proofs.Common.{◌≡◌, inl, ◌∙◌}
-use Rattle.std.proofs.lemmas.Result.{IfOk-weaker}
+use Rattle.std.proofs.{Common.{◌≡◌, inl, ◌∙◌}, lemmas.Result.{IfOk-weaker}}
 use Rattle.ocfl_cursor.specs.Refusal.{IsTextOf}
 use Rattle.ocfl_cursor.proofs.CursorTexts.{text_determines}
 use Rattle.ocfl_cursor.proofs.laws.cursor_reads_back.Goals as goal

@@ -1,8 +1,6 @@
-use Rattle.std.proofs.Common.{◌∙◌}
-use Rattle.std.proofs.lemmas.Result.{IfOk-weaker, MatchResult-weaker}
+use Rattle.std.proofs.{Common.{◌∙◌}, lemmas.Result.{IfOk-weaker, MatchResult-weaker}}
 use Rattle.ocfl_cursor.specs.Part.{IsPartText}
-use Rattle.ocfl_cursor.proofs.PartTexts.{part_text_determines}
-use Rattle.ocfl_cursor.proofs.PartRefusals.{only_memory}
+use Rattle.ocfl_cursor.proofs.{PartTexts.{part_text_determines}, PartRefusals.{only_memory}}
 use Rattle.ocfl_cursor.proofs.laws.part_reads_back.Goals as goal
 
 pub returns-in-Ok-clause-same : goal.returns-in-Ok-clause-same

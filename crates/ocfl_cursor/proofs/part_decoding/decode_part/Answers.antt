@@ -1,9 +1,6 @@
-use Rattle.std.proofs.Common.{sym, ap, subst, Err, ◌∙◌}
-use Rattle.std.proofs.lemmas.Result.{err_from_is_err_and}
-use Rattle.ocfl_cursor.specs.Part.{IsPartText}
-use Rattle.ocfl_cursor.specs.declared.ends.PartEnds.{PartEnds}
-use Rattle.ocfl_cursor.proofs.PartTexts.{IsPartText-sealed}
-use Rattle.ocfl_cursor.proofs.PartRefusals.{part_refused}
+use Rattle.std.proofs.{Common.{sym, ap, subst, Err, ◌∙◌}, lemmas.Result.{err_from_is_err_and}}
+use Rattle.ocfl_cursor.specs.{Part.{IsPartText}, declared.ends.PartEnds.{PartEnds}}
+use Rattle.ocfl_cursor.proofs.{PartTexts.{IsPartText-sealed}, PartRefusals.{part_refused}}
 use Rattle.ocfl_cursor.proofs.part_decoding.decode_part.Goals as goal
 
 pub returns-in_err-named-clause-refused : goal.returns-in_err-named-clause-refused

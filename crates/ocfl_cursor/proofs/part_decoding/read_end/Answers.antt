@@ -1,7 +1,6 @@
 use Rattle.std.proofs.lemmas.Result.{err_from_is_err_and}
 use Rattle.ocfl_cursor.specs.declared.refused.PartRefused.TheVariants.{Malformed}
-use Rattle.ocfl_cursor.proofs.Options.{passed_on}
-use Rattle.ocfl_cursor.proofs.PartTexts.{before_feed}
+use Rattle.ocfl_cursor.proofs.{Options.{passed_on}, PartTexts.{before_feed}}
 use Rattle.ocfl_cursor.proofs.part_decoding.read_end.Goals as goal
 
 pub returns-in_err-read_end_text-clause-malformed : goal.returns-in_err-read_end_text-clause-malformed

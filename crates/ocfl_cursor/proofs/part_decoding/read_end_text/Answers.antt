@@ -1,5 +1,4 @@
-use Rattle.std.proofs.Common.{sym, ◌∙◌}
-use Rattle.std.proofs.lemmas.Bool.{both_ways}
+use Rattle.std.proofs.{Common.{sym, ◌∙◌}, lemmas.Bool.{both_ways}}
 use Rattle.std.proofs.lemmas.Result.{err_from_is_err_and}
 use Rattle.ocfl_tree.proofs.Places.{text_eq-Decides}
 use Rattle.ocfl_cursor.specs.declared.refused.PartRefused.TheVariants.{Malformed}

@@ -1,5 +1,4 @@
-use Rattle.std.proofs.Common.{codes, sym, ◌∙◌}
-use Rattle.std.proofs.lemmas.Result.{err_from_is_err_and}
+use Rattle.std.proofs.{Common.{codes, sym, ◌∙◌}, lemmas.Result.{err_from_is_err_and}}
 use Rattle.ocfl_cursor.specs.declared.refused.PartRefused.TheVariants.{Malformed}
 use Rattle.ocfl_cursor.proofs.Options.{passed_on}
 use Rattle.ocfl_cursor.proofs.PartTexts.{start_one_line, ends_lines-append, end_line_determines}

@@ -1,7 +1,6 @@
 use Rattle.std.proofs.Common.{◌++◌, codes, sym, ap, ◌∙◌, append_assoc}
 use Rattle.std.proofs.lemmas.Result.{IfOk-weaker}
-use Rattle.ocfl_cursor.specs.Cursor.{cursor_lines, digest_line}
-use Rattle.ocfl_cursor.specs.Part.{ends_lines}
+use Rattle.ocfl_cursor.specs.{Cursor.{cursor_lines, digest_line}, Part.{ends_lines}}
 use Rattle.ocfl_cursor.proofs.part_encoding.encode_part.Goals as goal
 
 pub returns-clause-text : goal.returns-clause-text

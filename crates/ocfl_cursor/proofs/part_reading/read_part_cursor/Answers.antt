@@ -1,6 +1,5 @@
 use Rattle.std.proofs.Common.{◌≤◌, ◌<◌, length, arith, subst}
-use Rattle.ocfl_cursor.specs.Part.{IsPartText}
-use Rattle.ocfl_cursor.specs.PartRefusal.{PartRefusedRightly}
+use Rattle.ocfl_cursor.specs.{Part.{IsPartText}, PartRefusal.{PartRefusedRightly}}
 use Rattle.ocfl_cursor.specs.Stop.{max_part_text}
 use Rattle.ocfl_cursor.proofs.PartLimited.{part_text_read, part_stops_read, part_stops_too_many}
 use Rattle.ocfl_cursor.proofs.part_reading.read_part_cursor.Goals as goal

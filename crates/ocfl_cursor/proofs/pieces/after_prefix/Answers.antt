@@ -1,5 +1,4 @@
-use Rattle.std.proofs.Common.{◌≡◌, ◌≢◌, ◌++◌, List, ℕ, Bor}
-use Rattle.std.proofs.lemmas.Slice.Eq.{strip_prefix_is}
+use Rattle.std.proofs.{Common.{◌≡◌, ◌≢◌, ◌++◌, List, ℕ, Bor}, lemmas.Slice.Eq.{strip_prefix_is}}
 use Rattle.std.proofs.lemmas.Bool.Decides.{Decides-eqb}
 use Rattle.ocfl_cursor.proofs.Options.{IfSome-from_cases, none_from_cases}
 use Rattle.ocfl_cursor.proofs.pieces.after_prefix.Goals as goal

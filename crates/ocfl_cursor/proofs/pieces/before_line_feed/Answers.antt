@@ -1,6 +1,5 @@
 use Rattle.std.proofs.Common.{◌≡◌, ◌≢◌, [], ◌∷◌, ◌++◌, List, ℕ, Bor}
-use Rattle.std.proofs.lemmas.Slice.Eq.{strip_suffix_is}
-use Rattle.std.proofs.lemmas.Bool.Decides.{Decides-eqb}
+use Rattle.std.proofs.{lemmas.Slice.Eq.{strip_suffix_is}, lemmas.Bool.Decides.{Decides-eqb}}
 use Rattle.ocfl_cursor.proofs.Options.{IfSome-from_cases, none_from_cases}
 use Rattle.ocfl_cursor.proofs.pieces.before_line_feed.Goals as goal
 

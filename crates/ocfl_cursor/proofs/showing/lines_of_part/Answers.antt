@@ -1,7 +1,5 @@
-use Rattle.std.proofs.Common.{ap, Err}
-use Rattle.std.proofs.lemmas.Result.{err_from_is_err_and}
-use Rattle.ocfl_cursor.proofs.PartTexts.{IsPartText-sealed}
-use Rattle.ocfl_cursor.proofs.PartRefusals.{part_unshown}
+use Rattle.std.proofs.{Common.{ap, Err}, lemmas.Result.{err_from_is_err_and}}
+use Rattle.ocfl_cursor.proofs.{PartTexts.{IsPartText-sealed}, PartRefusals.{part_unshown}}
 use Rattle.ocfl_cursor.proofs.showing.lines_of_part.Goals as goal
 
 pub returns-in_err-ends-clause-refused : goal.returns-in_err-ends-clause-refused

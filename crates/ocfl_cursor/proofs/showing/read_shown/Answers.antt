@@ -1,7 +1,6 @@
 use Rattle.std.proofs.Common.{◌≤◌, ◌<◌, length, arith, subst}
 use Rattle.std.proofs.lemmas.Result.{MatchResult-weaker, IfOk-weaker}
-use Rattle.ocfl_cursor.specs.Shown.{AreShown, UnshownRightly}
-use Rattle.ocfl_cursor.specs.Stop.{max_part_text}
+use Rattle.ocfl_cursor.specs.{Shown.{AreShown, UnshownRightly}, Stop.{max_part_text}}
 use Rattle.ocfl_cursor.proofs.PartLimited.{shown_read, unshown_read, unshown_too_many}
 use Rattle.ocfl_cursor.proofs.showing.read_shown.Goals as goal
 

@@ -1,6 +1,5 @@
 use Rattle.std.proofs.Common.{◌≡◌, ◌++◌, ℕ, List, Err, length-take, take, arith, ap, refl}
-use Rattle.std.proofs.lemmas.Grind.{common_steps}
-use Rattle.std.proofs.lemmas.Result.{err_from_is_err_and}
+use Rattle.std.proofs.{lemmas.Grind.{common_steps}, lemmas.Result.{err_from_is_err_and}}
 use Rattle.ocfl_digest.proofs.BoundedLemmas.{IsBounding, bounding_reads, bounding_ends, bounding_passes, open_stops, read_stops, memory_stops}
 use Rattle.ocfl_digest.proofs.bounded.read_bounded.Goals as goal
 

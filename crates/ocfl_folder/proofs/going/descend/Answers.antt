@@ -1,5 +1,4 @@
-use Rattle.std.proofs.Common.{ap}
-use Rattle.std.proofs.lemmas.Result.{err_from_is_err_and}
+use Rattle.std.proofs.{Common.{ap}, lemmas.Result.{err_from_is_err_and}}
 use Rattle.ocfl_tree.specs.Store.{Store}
 use Rattle.ocfl_folder.proofs.Ways.{nothing_beyond}
 use Rattle.ocfl_folder.proofs.going.descend.Goals as goal

@@ -1,7 +1,6 @@
 use Rattle.std.proofs.Common.{ℕ, suc, ◌<◌, ◌≡◌, get_or}
 use Rattle.std.specs.declared.cmp.Ordering.TheVariants.{Less}
-use Rattle.ocfl_tree.specs.Place.{text_cmp}
-use Rattle.ocfl_tree.specs.declared.store.Entry.{Entry}
+use Rattle.ocfl_tree.specs.{Place.{text_cmp}, declared.store.Entry.{Entry}}
 use Rattle.ocfl_folder.proofs.listed.rise.Given as goal
 
 abbrev pub invariant-loop-i : goal.invariant-loop-i

@@ -1,6 +1,5 @@
 use Rattle.std.specs.Prelude.{IsTrue}
-use Rattle.ocfl_folder.specs.System.{IfHere}
-use Rattle.ocfl_folder.specs.Internal.Covering.{CoversBut}
+use Rattle.ocfl_folder.specs.{System.{IfHere}, Internal.Covering.{CoversBut}}
 use Rattle.ocfl_folder.proofs.reading.list_all.Given as goal
 
 abbrev pub invariant-loop : goal.invariant-loop

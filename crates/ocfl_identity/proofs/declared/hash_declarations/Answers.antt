@@ -1,12 +1,10 @@
 use Rattle.std.proofs.Common.{◌∙◌, ◌+◌, ◌++◌, ◌∷◌, [], Some, ap, drop, refl, sym}
-use Rattle.std.specs.Prelude.{string_bytes}
-use Rattle.std.specs.Option.{option_map}
-use Rattle.std.proofs.lemmas.List.{drop_all, drop_more}
-use Rattle.std.proofs.lemmas.Result.{err_from_is_err_and}
+use Rattle.std.proofs.{lemmas.List.{drop_all, drop_more}, lemmas.Result.{err_from_is_err_and}}
+use Rattle.std.specs.{Prelude.{string_bytes}, Option.{option_map}}
 use Rattle.ocfl_tree.specs.StorageRoot.{file_at}
 use Rattle.ocfl_identity.proofs.Askings.{file_there, gone_file, opened_all, opened_next, opened_some, unread_behind}
-use Rattle.ocfl_identity.specs.Identity.{digits_of, sum_line}
 use Rattle.ocfl_identity.proofs.Sums.{before_next}
+use Rattle.ocfl_identity.specs.Identity.{digits_of, sum_line}
 use Rattle.ocfl_identity.proofs.declared.hash_declarations.Goals as goal
 
 pub returns-in_err-digits-clause-unread : goal.returns-in_err-digits-clause-unread

@@ -1,9 +1,7 @@
 use Rattle.std.proofs.Common.{◌≡◌, IsTrue}
 use Rattle.sha2.specs.Hashers.{Holds256}
-use Rattle.ocfl_tree.specs.Place.{Text}
-use Rattle.ocfl_tree.specs.StorageRoot.{StorageRoot}
-use Rattle.ocfl_identity.proofs.Askings.{AreOpened}
-use Rattle.ocfl_identity.proofs.Sums.{AreBefore}
+use Rattle.ocfl_tree.specs.{Place.{Text}, StorageRoot.{StorageRoot}}
+use Rattle.ocfl_identity.proofs.{Askings.{AreOpened}, Sums.{AreBefore}}
 use Rattle.ocfl_identity.proofs.declared.hash_declarations.Given as goal
 
 abbrev pub invariant-loop-name : goal.invariant-loop-name

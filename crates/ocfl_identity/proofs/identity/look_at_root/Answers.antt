@@ -1,7 +1,6 @@
-use Rattle.std.proofs.Common.{◌≡◌, ◌∙◌, [], subst}
+use Rattle.std.proofs.{Common.{◌≡◌, ◌∙◌, [], subst}, lemmas.Result.{IfOk-weaker, IfErr-weaker}}
 use Rattle.ocfl_tree.specs.Listing.{IsListing}
 use Rattle.ocfl_identity.specs.Identity.{declarations_among}
-use Rattle.std.proofs.lemmas.Result.{IfOk-weaker, IfErr-weaker}
 use Rattle.ocfl_identity.proofs.Askings.{listed_alone, opened_listed, unread_listed}
 use Rattle.ocfl_identity.proofs.Ordered.{sorted_listing}
 use Rattle.ocfl_identity.proofs.identity.look_at_root.Goals as goal

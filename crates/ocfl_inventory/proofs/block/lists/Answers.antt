@@ -1,9 +1,7 @@
-use Rattle.std.proofs.Common.{◌≡◌, ◌++◌, ◌∷◌, [], string_bytes}
-use Rattle.std.proofs.lemmas.Map.Iter.{rest_more}
+use Rattle.std.proofs.{Common.{◌≡◌, ◌++◌, ◌∷◌, [], string_bytes}, lemmas.Map.Iter.{rest_more}}
 use Rattle.std.proofs.lemmas.List.{map_push}
 use Rattle.serde_json.specs.View.{members_view}
-use Rattle.ocfl_inventory.specs.Reading.{lists_of}
-use Rattle.ocfl_inventory.specs.Internal.Parts.{block_view, texts_among}
+use Rattle.ocfl_inventory.specs.{Reading.{lists_of}, Internal.Parts.{block_view, texts_among}}
 use Rattle.ocfl_inventory.proofs.Blocks.{lists_step}
 use Rattle.ocfl_inventory.proofs.block.lists.Goals as goal
 

@@ -1,7 +1,6 @@
 use Rattle.std.proofs.Common.{◌≡◌}
 use Rattle.serde_json.specs.View.{members_view}
-use Rattle.ocfl_inventory.specs.Reading.{lists_of}
-use Rattle.ocfl_inventory.specs.Internal.Parts.{block_view}
+use Rattle.ocfl_inventory.specs.{Reading.{lists_of}, Internal.Parts.{block_view}}
 use Rattle.ocfl_inventory.proofs.Blocks.{with_front}
 use Rattle.ocfl_inventory.proofs.block.lists.Given as goal
 

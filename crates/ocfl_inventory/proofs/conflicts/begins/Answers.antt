@@ -1,6 +1,5 @@
 use Rattle.std.proofs.Common.{◌≡◌, ◌∙◌, true}
-use Rattle.std.specs.Prelude.{nat_eq}
-use Rattle.std.specs.List.{starts_with}
+use Rattle.std.specs.{Prelude.{nat_eq}, List.{starts_with}}
 use Rattle.ocfl_inventory.proofs.SharedFronts.{not_begun}
 use Rattle.ocfl_inventory.proofs.conflicts.begins.Goals as goal
 

@@ -1,7 +1,6 @@
 use Rattle.std.proofs.Common.{List, ap, ◌∙◌, map, true, false}
 use Rattle.std.specs.Prelude.{flat_map}
-use Rattle.ocfl_inventory.specs.Notes.{conflicts}
-use Rattle.ocfl_inventory.specs.Internal.Parts.{block_view, supported_view}
+use Rattle.ocfl_inventory.specs.{Notes.{conflicts}, Internal.Parts.{block_view, supported_view}}
 use Rattle.ocfl_inventory.specs.Table.{Triple, triples_of}
 use Rattle.ocfl_inventory.proofs.Inventories.{all_gathered, conflicts_permuted, kept_paths_of}
 use Rattle.ocfl_inventory.proofs.gather.gather.Goals as goal

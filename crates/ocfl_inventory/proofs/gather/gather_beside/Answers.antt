@@ -1,7 +1,6 @@
 use Rattle.std.proofs.Common.{List, String, Global, IsPermutation, ap, ◌∙◌, ◌++◌, map, subst, string_bytes}
 use Rattle.std.specs.Prelude.{flat_map}
-use Rattle.ocfl_inventory.specs.Internal.Gathered.{bad_texts}
-use Rattle.ocfl_inventory.specs.Internal.Parts.{supported_view}
+use Rattle.ocfl_inventory.specs.{Internal.Gathered.{bad_texts}, Internal.Parts.{supported_view}}
 use Rattle.ocfl_inventory.specs.Table.{Triple}
 use Rattle.ocfl_inventory.proofs.gather.gather_beside.Goals as goal
 

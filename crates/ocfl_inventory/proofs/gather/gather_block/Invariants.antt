@@ -1,5 +1,4 @@
-use Rattle.ocfl_inventory.specs.Table.{triples_of}
-use Rattle.ocfl_inventory.specs.Internal.Parts.{block_view}
+use Rattle.ocfl_inventory.specs.{Table.{triples_of}, Internal.Parts.{block_view}}
 use Rattle.ocfl_inventory.specs.Internal.Gathered.{Gathers, bad_texts}
 use Rattle.ocfl_inventory.proofs.gather.gather_block.Given as goal
 

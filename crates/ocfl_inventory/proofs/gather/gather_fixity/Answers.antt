@@ -1,6 +1,5 @@
 use Rattle.std.proofs.Common.{map, true, string_bytes}
-use Rattle.ocfl_inventory.specs.Table.{triples_of}
-use Rattle.ocfl_inventory.specs.Internal.Gathered.{bad_texts}
+use Rattle.ocfl_inventory.specs.{Table.{triples_of}, Internal.Gathered.{bad_texts}}
 use Rattle.ocfl_inventory.specs.Internal.Parts.{block_view}
 use Rattle.ocfl_inventory.specs.declared.inventory.Supported.{Supported}
 use Rattle.ocfl_inventory.proofs.Gatherings.{joined_push}

@@ -1,7 +1,6 @@
 use Rattle.std.proofs.Common.{true}
 use Rattle.std.specs.Prelude.{flat_map}
-use Rattle.ocfl_inventory.specs.Table.{triples_of}
-use Rattle.ocfl_inventory.specs.Internal.Parts.{supported_view}
+use Rattle.ocfl_inventory.specs.{Table.{triples_of}, Internal.Parts.{supported_view}}
 use Rattle.ocfl_inventory.specs.Internal.Gathered.{Gathers, bad_texts}
 use Rattle.ocfl_inventory.proofs.gather.gather_fixity.Given as goal
 

@@ -1,6 +1,5 @@
 use Rattle.std.proofs.Common.{List, IsPermutation, ap, ◌∙◌, ◌++◌, subst, false}
-use Rattle.ocfl_inventory.specs.Internal.Parts.{block_view}
-use Rattle.ocfl_inventory.specs.Table.{Triple, triples_of}
+use Rattle.ocfl_inventory.specs.{Internal.Parts.{block_view}, Table.{Triple, triples_of}}
 use Rattle.ocfl_inventory.proofs.gather.gather_manifest.Goals as goal
 
 pub returns-clause-triples : goal.returns-clause-triples

@@ -1,9 +1,7 @@
 use Rattle.std.proofs.Common.{rules, ◌≡◌, [], ◌∷◌, ◌++◌, sym, ap, ◌∙◌, map, cond, true, false, string_bytes}
-use Rattle.std.proofs.lemmas.List.{append-nil, map_push}
-use Rattle.std.proofs.lemmas.Bool.{not-true, not-false}
+use Rattle.std.proofs.{lemmas.List.{append-nil, map_push}, lemmas.Bool.{not-true, not-false}}
 use Rattle.serde_json.specs.declared.value.Value.{the_lemmas}
-use Rattle.ocfl_inventory.specs.Internal.Gathered.{is_bad}
-use Rattle.ocfl_inventory.specs.Internal.Parts.{text_in}
+use Rattle.ocfl_inventory.specs.{Internal.Gathered.{is_bad}, Internal.Parts.{text_in}}
 use Rattle.ocfl_inventory.proofs.gather.gather_value.Goals as goal
 
 pub returns-in_ok-push-in-Some : goal.returns-in_ok-push-in-Some

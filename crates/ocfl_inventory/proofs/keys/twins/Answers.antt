@@ -1,5 +1,4 @@
-use Rattle.std.proofs.Common.{sym, ◌∙◌, ap, ◌++◌}
-use Rattle.std.proofs.lemmas.List.{append-nil}
+use Rattle.std.proofs.{Common.{sym, ◌∙◌, ap, ◌++◌}, lemmas.List.{append-nil}}
 use Rattle.ocfl_tree.specs.Place.{Text, text_eq}
 use Rattle.std.specs.Prelude.{List}
 use Rattle.ocfl_inventory.proofs.SeenRuns.{few_hits}

@@ -1,6 +1,5 @@
 use Rattle.std.proofs.Common.{◌≡◌, inl, inr, List, [], ◌∷◌, ap}
-use Rattle.ocfl_tree.specs.Ascending.{IsAmong}
-use Rattle.ocfl_tree.specs.Place.{Place}
+use Rattle.ocfl_tree.specs.{Ascending.{IsAmong}, Place.{Place}}
 use Rattle.ocfl_report.specs.Line.{Line}
 use Rattle.ocfl_inventory.specs.Note.{Note, lines_at}
 use Rattle.ocfl_inventory.proofs.laws.lines_stand_at_their_place.Goals as goal

@@ -1,9 +1,7 @@
 use Rattle.std.proofs.Common.{ap, ◌∙◌, map}
-use Rattle.ocfl_tree.specs.Path.{slashed}
-use Rattle.ocfl_tree.specs.Place.{Place}
-use Rattle.ocfl_inventory.specs.Note.{note}
+use Rattle.ocfl_tree.specs.{Path.{slashed}, Place.{Place}}
+use Rattle.ocfl_inventory.specs.{Note.{note}, Remark.{remark_view}}
 use Rattle.ocfl_report.specs.declared.code.Code.TheVariants.{E101}
-use Rattle.ocfl_inventory.specs.Remark.{remark_view}
 use Rattle.ocfl_inventory.proofs.Loops.{appended, appended_all, mapped_more}
 use Rattle.ocfl_inventory.proofs.notes.add_conflicts.Goals as goal
 

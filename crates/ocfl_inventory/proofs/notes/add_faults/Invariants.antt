@@ -1,6 +1,5 @@
 use Rattle.std.proofs.Common.{◌≡◌, ◌++◌, map, drop, filter_map}
-use Rattle.ocfl_inventory.specs.Remark.{remark_view}
-use Rattle.ocfl_inventory.specs.Notes.{fault_note}
+use Rattle.ocfl_inventory.specs.{Remark.{remark_view}, Notes.{fault_note}}
 use Rattle.ocfl_inventory.proofs.notes.add_faults.Given as goal
 
 abbrev pub invariant-loop-text : goal.invariant-loop-text

@@ -1,12 +1,9 @@
 use Rattle.std.proofs.Common.{◌≡◌, ◌++◌, ◌∙◌, ap, subst, List, String, Global, map, string_bytes}
 use Rattle.std.specs.Prelude.{OnOk}
-use Rattle.ocfl_tree.specs.Place.{Place}
-use Rattle.ocfl_tree.specs.Path.{slashed}
-use Rattle.ocfl_inventory.specs.Note.{note, Note}
-use Rattle.ocfl_report.specs.declared.code.Code.TheVariants.{E101}
-use Rattle.ocfl_inventory.specs.Notes.{fault_notes}
-use Rattle.ocfl_inventory.specs.Remark.{remark_view}
+use Rattle.ocfl_tree.specs.{Place.{Place}, Path.{slashed}}
+use Rattle.ocfl_inventory.specs.{Note.{note, Note}, Notes.{fault_notes}, Remark.{remark_view}}
 use Rattle.ocfl_inventory.specs.declared.remark.Remark.{Remark}
+use Rattle.ocfl_report.specs.declared.code.Code.TheVariants.{E101}
 use Rattle.ocfl_inventory.proofs.Inventories.{others_joined}
 use Rattle.ocfl_inventory.proofs.notes.add_others.Goals as goal
 

@@ -1,7 +1,6 @@
 use Rattle.std.proofs.Common.{◌≡◌, ◌++◌, map, take}
-use Rattle.ocfl_inventory.specs.Note.{note}
+use Rattle.ocfl_inventory.specs.{Note.{note}, Remark.{remark_view}}
 use Rattle.ocfl_report.specs.declared.code.Code.TheVariants.{E096}
-use Rattle.ocfl_inventory.specs.Remark.{remark_view}
 use Rattle.ocfl_inventory.proofs.notes.add_repeated.Given as goal
 
 abbrev pub invariant-loop-key : goal.invariant-loop-key

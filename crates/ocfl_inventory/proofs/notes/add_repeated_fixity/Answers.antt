@@ -1,8 +1,7 @@
 use Rattle.std.proofs.Common.{List, map}
 use Rattle.std.specs.Prelude.{flat_map}
 use Rattle.ocfl_inventory.specs.Notes.{repeated_notes}
-use Rattle.ocfl_inventory.specs.Internal.Parts.{block_view, supported_view}
-use Rattle.ocfl_inventory.specs.Remark.{remark_view}
+use Rattle.ocfl_inventory.specs.{Internal.Parts.{block_view, supported_view}, Remark.{remark_view}}
 use Rattle.ocfl_inventory.specs.declared.inventory.Supported.{Supported}
 use Rattle.ocfl_inventory.proofs.Loops.{appended_all, several_more}
 use Rattle.ocfl_inventory.proofs.notes.add_repeated_fixity.Goals as goal

@@ -1,7 +1,6 @@
 use Rattle.std.proofs.Common.{◌≡◌, ◌++◌, map, take}
 use Rattle.std.specs.Prelude.{flat_map}
-use Rattle.ocfl_inventory.specs.Internal.Parts.{supported_view}
-use Rattle.ocfl_inventory.specs.Remark.{remark_view}
+use Rattle.ocfl_inventory.specs.{Internal.Parts.{supported_view}, Remark.{remark_view}}
 use Rattle.ocfl_inventory.specs.Notes.{repeated_notes}
 use Rattle.ocfl_inventory.proofs.notes.add_repeated_fixity.Given as goal
 

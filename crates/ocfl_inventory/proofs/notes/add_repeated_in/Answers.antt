@@ -1,12 +1,9 @@
 use Rattle.std.proofs.Common.{List, ap, ◌∙◌, ◌++◌, ◌∷◌, map}
 use Rattle.ocfl_tree.specs.Place.{Text}
-use Rattle.ocfl_inventory.specs.Note.{note}
+use Rattle.ocfl_inventory.specs.{Note.{note}, Notes.{repeated_digests}, Internal.Parts.{block_view}}
+use Rattle.ocfl_inventory.specs.{Remark.{remark_view}, declared.inventory.Listing.{Listing}}
 use Rattle.ocfl_report.specs.declared.code.Code.TheVariants.{E097}
 use Rattle.ocfl_digest.specs.Algorithm.{algorithm_name}
-use Rattle.ocfl_inventory.specs.Notes.{repeated_digests}
-use Rattle.ocfl_inventory.specs.Internal.Parts.{block_view}
-use Rattle.ocfl_inventory.specs.Remark.{remark_view}
-use Rattle.ocfl_inventory.specs.declared.inventory.Listing.{Listing}
 use Rattle.ocfl_inventory.proofs.Loops.{appended, appended_all, mapped_more}
 use Rattle.ocfl_inventory.proofs.notes.add_repeated_in.Goals as goal
 

@@ -1,8 +1,7 @@
 use Rattle.std.proofs.Common.{◌≡◌, ◌++◌, ◌∷◌, map, take}
-use Rattle.ocfl_inventory.specs.Note.{note}
+use Rattle.ocfl_inventory.specs.{Note.{note}, Remark.{remark_view}}
 use Rattle.ocfl_report.specs.declared.code.Code.TheVariants.{E097}
 use Rattle.ocfl_digest.specs.Algorithm.{algorithm_name}
-use Rattle.ocfl_inventory.specs.Remark.{remark_view}
 use Rattle.ocfl_inventory.proofs.notes.add_repeated_in.Given as goal
 
 abbrev pub invariant-loop-key : goal.invariant-loop-key

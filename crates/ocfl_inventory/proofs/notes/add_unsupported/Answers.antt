@@ -1,7 +1,6 @@
 use Rattle.std.proofs.Common.{List, String, Global, ap, ◌∙◌, map, string_bytes}
-use Rattle.ocfl_inventory.specs.Note.{note}
+use Rattle.ocfl_inventory.specs.{Note.{note}, Remark.{remark_view}}
 use Rattle.ocfl_report.specs.declared.code.Code.TheVariants.{S07}
-use Rattle.ocfl_inventory.specs.Remark.{remark_view}
 use Rattle.ocfl_inventory.proofs.Loops.{appended, appended_all, seen_more}
 use Rattle.ocfl_inventory.proofs.notes.add_unsupported.Goals as goal
 

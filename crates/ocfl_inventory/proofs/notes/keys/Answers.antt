@@ -1,6 +1,5 @@
 use Rattle.std.proofs.Common.{List, [], ap, ◌∙◌, string_bytes}
-use Rattle.ocfl_inventory.specs.DigestText.{folded}
-use Rattle.ocfl_inventory.specs.Notes.{folded_keys}
+use Rattle.ocfl_inventory.specs.{DigestText.{folded}, Notes.{folded_keys}}
 use Rattle.ocfl_inventory.specs.Internal.Parts.{block_view, listing_view}
 use Rattle.ocfl_inventory.specs.declared.inventory.Listing.{Listing}
 use Rattle.ocfl_inventory.proofs.Loops.{appended, appended_all, seen_more}

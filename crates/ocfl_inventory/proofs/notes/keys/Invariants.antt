@@ -1,6 +1,5 @@
 use Rattle.std.proofs.Common.{◌≡◌, take}
-use Rattle.ocfl_inventory.specs.Notes.{folded_keys}
-use Rattle.ocfl_inventory.specs.Internal.Parts.{block_view}
+use Rattle.ocfl_inventory.specs.{Notes.{folded_keys}, Internal.Parts.{block_view}}
 use Rattle.ocfl_inventory.proofs.notes.keys.Given as goal
 
 abbrev pub invariant-loop-listing : goal.invariant-loop-listing

@@ -1,5 +1,4 @@
-use Rattle.std.proofs.Common.{lit<, tests, rules}
-use Rattle.std.proofs.lemmas.Iterator.Search.{any_from_yields_List}
+use Rattle.std.proofs.{Common.{lit<, tests, rules}, lemmas.Iterator.Search.{any_from_yields_List}}
 use Rattle.std.proofs.lemmas.Iterator.Splits.{YieldsList-from_str_split}
 use Rattle.ocfl_inventory.specs.ListedPath.{is_empty_or_dots}
 use Rattle.ocfl_inventory.proofs.paths.has_empty_or_dots.Goals as goal

@@ -1,6 +1,5 @@
 use Rattle.std.proofs.Common.{sym, ap, ◌∙◌}
-use Rattle.std.specs.Prelude.{◌==◌, ◌||◌}
-use Rattle.std.specs.List.{list_any}
+use Rattle.std.specs.{Prelude.{◌==◌, ◌||◌}, List.{list_any}}
 use Rattle.ocfl_inventory.proofs.PathTexts.{too_long_or_nul_is}
 use Rattle.ocfl_inventory.proofs.paths.has_too_long_or_nul.Goals as goal
 

@@ -1,6 +1,5 @@
 use Rattle.std.proofs.Common.{◌≡◌, ◌↔◌, List, ℕ, sym, subst, ◌∙◌, IfSome, IsNone}
-use Rattle.ocfl_tree.specs.Name.{IsPlace}
-use Rattle.ocfl_tree.specs.Path.{names_of}
+use Rattle.ocfl_tree.specs.{Name.{IsPlace}, Path.{names_of}}
 use Rattle.ocfl_inventory.proofs.Kept.{elsewhere_is_bad, kept_from_path}
 use Rattle.ocfl_inventory.proofs.paths.kept_place.Goals as goal
 

@@ -1,7 +1,6 @@
 use Rattle.std.proofs.Common.{◌≡◌, List, ℕ, subst, sym, false}
 use Rattle.std.specs.Prelude.{option_map}
-use Rattle.serde_json.specs.Find.{get_member}
-use Rattle.serde_json.specs.View.{view, members_view}
+use Rattle.serde_json.specs.{Find.{get_member}, View.{view, members_view}}
 use Rattle.ocfl_tree.specs.Place.{text_eq}
 use Rattle.ocfl_digest.specs.Algorithm.{algorithm_name}
 use Rattle.ocfl_inventory.proofs.reading.take_for.Goals as goal

@@ -1,9 +1,7 @@
-use Rattle.std.proofs.Common.{List, ℕ, ◌+◌, take, subst, sym, ap, ◌∙◌}
+use Rattle.std.proofs.{Common.{List, ℕ, ◌+◌, take, subst, sym, ap, ◌∙◌}, lemmas.List.{take_all}}
 use Rattle.std.specs.Prelude.{All}
-use Rattle.std.proofs.lemmas.List.{take_all}
 use Rattle.ocfl_tree.specs.Path.{slashed}
-use Rattle.ocfl_inventory.specs.Internal.SharedFront.{IsBelow}
-use Rattle.ocfl_inventory.specs.Table.{Triple}
+use Rattle.ocfl_inventory.specs.{Internal.SharedFront.{IsBelow}, Table.{Triple}}
 use Rattle.ocfl_inventory.proofs.SharedFronts.{front_step}
 use Rattle.ocfl_inventory.proofs.sorting.shared_front.Goals as goal
 

@@ -1,11 +1,8 @@
-use Rattle.std.proofs.Common.{List, length, subst, rules}
-use Rattle.std.specs.Prelude.{All, IsPermutation}
-use Rattle.std.specs.Ordering.{is_lt}
-use Rattle.std.proofs.lemmas.Fn.{always_returns_same}
+use Rattle.std.proofs.{Common.{List, length, subst, rules}, lemmas.Fn.{always_returns_same}}
 use Rattle.std.proofs.lemmas.List.MinMax.{ranks_by}
 use Rattle.std.proofs.lemmas.List.Sorted.{All-permutation, IsPermutation-trans}
-use Rattle.ocfl_inventory.specs.Table.{Triple, triple_cmp}
-use Rattle.ocfl_inventory.specs.Internal.TripleOrder.{triple_total}
+use Rattle.std.specs.{Prelude.{All, IsPermutation}, Ordering.{is_lt}}
+use Rattle.ocfl_inventory.specs.{Table.{Triple, triple_cmp}, Internal.TripleOrder.{triple_total}}
 use Rattle.ocfl_inventory.specs.Internal.SharedFront.{IsBelow, behind}
 use Rattle.ocfl_inventory.proofs.SharedFronts.{sorted_behind}
 use Rattle.ocfl_inventory.proofs.sorting.sort.Goals as goal

@@ -1,6 +1,5 @@
 use Rattle.std.proofs.Common.{[], ap, ◌∙◌, map}
-use Rattle.ocfl_inventory.specs.Table.{Triple}
-use Rattle.ocfl_inventory.specs.TripleView.{named_view}
+use Rattle.ocfl_inventory.specs.{Table.{Triple}, TripleView.{named_view}}
 use Rattle.ocfl_inventory.proofs.Loops.{appended, appended_all, mapped_more}
 use Rattle.ocfl_inventory.proofs.table.clone_named.Goals as goal
 

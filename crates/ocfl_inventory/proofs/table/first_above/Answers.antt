@@ -1,7 +1,5 @@
-use Rattle.std.proofs.Common.{rules}
-use Rattle.std.specs.Prelude.{not}
-use Rattle.std.specs.Ordering.{is_lt}
-use Rattle.std.proofs.lemmas.List.Sorted.{IsPartitionPoint-from_clause}
+use Rattle.std.proofs.{Common.{rules}, lemmas.List.Sorted.{IsPartitionPoint-from_clause}}
+use Rattle.std.specs.{Prelude.{not}, Ordering.{is_lt}}
 use Rattle.ocfl_tree.specs.Place.{place_cmp}
 use Rattle.ocfl_inventory.proofs.TableSearch.{parted_above, above_point}
 use Rattle.ocfl_inventory.proofs.table.first_above.Goals as goal

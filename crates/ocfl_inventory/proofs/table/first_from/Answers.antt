@@ -1,6 +1,5 @@
-use Rattle.std.proofs.Common.{rules}
+use Rattle.std.proofs.{Common.{rules}, lemmas.List.Sorted.{IsPartitionPoint-from_clause}}
 use Rattle.std.specs.Ordering.{is_lt}
-use Rattle.std.proofs.lemmas.List.Sorted.{IsPartitionPoint-from_clause}
 use Rattle.ocfl_tree.specs.Place.{place_cmp}
 use Rattle.ocfl_inventory.proofs.TableSearch.{parted_from}
 use Rattle.ocfl_inventory.proofs.table.first_from.Goals as goal

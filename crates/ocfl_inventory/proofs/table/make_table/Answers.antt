@@ -1,8 +1,7 @@
 use Rattle.std.proofs.Common.{subst, sym, string_bytes}
 use Rattle.ocfl_tree.specs.Ascending.{IsAscending}
 use Rattle.ocfl_tree.proofs.Orders.{ascends_ascending}
-use Rattle.ocfl_inventory.specs.Table.{triple_cmp}
-use Rattle.ocfl_inventory.specs.Internal.TripleOrder.{triple_total}
+use Rattle.ocfl_inventory.specs.{Table.{triple_cmp}, Internal.TripleOrder.{triple_total}}
 use Rattle.ocfl_inventory.proofs.Inventories.{triples_once}
 use Rattle.ocfl_inventory.proofs.table.make_table.Goals as goal
 

@@ -1,7 +1,6 @@
 use Rattle.serde_json.specs.View.{members_view}
 use Rattle.ocfl_inventory.specs.Reading.{behind_algorithm}
-use Rattle.ocfl_inventory.proofs.Fits.{read_fits}
-use Rattle.ocfl_inventory.proofs.Stopped.{stopped_remarks, stopped_table}
+use Rattle.ocfl_inventory.proofs.{Fits.{read_fits}, Stopped.{stopped_remarks, stopped_table}}
 use Rattle.ocfl_inventory.proofs.table.reading_behind_algorithm.Goals as goal
 
 pub returns-in-Ok-clause-fit : goal.returns-in-Ok-clause-fit

@@ -1,7 +1,6 @@
 use Rattle.std.proofs.Common.{◌≡◌, [], map}
 use Rattle.ocfl_report.specs.Line.{line_of}
-use Rattle.ocfl_inventory.specs.Note.{lines_at}
-use Rattle.ocfl_inventory.specs.Remark.{remark_view}
+use Rattle.ocfl_inventory.specs.{Note.{lines_at}, Remark.{remark_view}}
 use Rattle.ocfl_inventory.proofs.table.to_lines.Given as goal
 
 abbrev pub invariant-loop-remark : goal.invariant-loop-remark

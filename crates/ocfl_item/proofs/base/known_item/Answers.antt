@@ -1,5 +1,4 @@
-use Rattle.std.proofs.Common.{◌∙◌, subst}
-use Rattle.std.proofs.lemmas.Result.{err_from_is_err_and}
+use Rattle.std.proofs.{Common.{◌∙◌, subst}, lemmas.Result.{err_from_is_err_and}}
 use Rattle.ocfl_item.specs.Internal.Lines.{HasLines}
 use Rattle.ocfl_item.proofs.BaseLaws.{declaration_read, read_at_top, root_unhashed}
 use Rattle.ocfl_item.proofs.HeadOpens.{one_memory}

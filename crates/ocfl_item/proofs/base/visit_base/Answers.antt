@@ -1,5 +1,4 @@
-use Rattle.std.proofs.Common.{refl}
-use Rattle.std.proofs.lemmas.Result.{err_from_is_err_and}
+use Rattle.std.proofs.{Common.{refl}, lemmas.Result.{err_from_is_err_and}}
 use Rattle.ocfl_item.proofs.BaseLaws.{base_is, base_known, base_listed, base_memory, base_not_listed, base_stopped, base_stops, declared_fails, declared_meets}
 use Rattle.ocfl_item.proofs.LooksCalls.{over_then, root_listable}
 use Rattle.ocfl_item.proofs.base.visit_base.Goals as goal

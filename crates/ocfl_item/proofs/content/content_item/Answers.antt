@@ -1,6 +1,5 @@
 use Rattle.std.proofs.Common.{◌≡◌, [], refl, sym, ◌∙◌, ap, arith, vec_len, length, map}
-use Rattle.std.proofs.lemmas.Bool.{eqb-true, eqb-false}
-use Rattle.std.proofs.lemmas.List.{nil_from_length}
+use Rattle.std.proofs.{lemmas.Bool.{eqb-true, eqb-false}, lemmas.List.{nil_from_length}}
 use Rattle.ocfl_inventory.specs.TripleView.{named_view}
 use Rattle.ocfl_item.specs.Internal.Content.{is_read}
 use Rattle.ocfl_item.proofs.PendingLaws.{IsTold, known_lines_are, nothing_known, pending_hashed, pending_known}

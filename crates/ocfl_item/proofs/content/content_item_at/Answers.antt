@@ -1,7 +1,6 @@
 use Rattle.std.proofs.Common.{◌≡◌, Some, subst, sym}
 use Rattle.std.specs.Prelude.{IfOk}
-use Rattle.ocfl_item.specs.Internal.Content.{IsSight, content_at}
-use Rattle.ocfl_item.specs.Meeting.{IsItemAt}
+use Rattle.ocfl_item.specs.{Internal.Content.{IsSight, content_at}, Meeting.{IsItemAt}}
 use Rattle.ocfl_item.proofs.content.content_item_at.Goals as goal
 
 pub returns-clause-told : goal.returns-clause-told

@@ -1,9 +1,8 @@
 use Rattle.std.proofs.Common.{◌≡◌, List, ◌∷◌, [], OnOk, Some, sym, ◌∙◌, ap, subst}
-use Rattle.std.specs.Prelude.{slice_get}
 use Rattle.std.proofs.lemmas.Option.{slice_get-get_or, slice_get_past}
-use Rattle.ocfl_inventory.specs.Note.{note, Note}
+use Rattle.std.specs.Prelude.{slice_get}
+use Rattle.ocfl_inventory.specs.{Note.{note, Note}, Declaration.{after_prefix}}
 use Rattle.ocfl_report.specs.declared.code.Code.TheVariants.{S01}
-use Rattle.ocfl_inventory.specs.Declaration.{after_prefix}
 use Rattle.ocfl_item.specs.Internal.Lines.{Adds}
 use Rattle.ocfl_item.proofs.HeadLaws.{unknown_name, unknown_there}
 use Rattle.ocfl_item.proofs.declarations.add_stop.Goals as goal

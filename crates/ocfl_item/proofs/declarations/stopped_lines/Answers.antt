@@ -1,8 +1,7 @@
 use Rattle.std.proofs.Common.{◌≡◌, [], false, ap, sym, subst}
 use Rattle.ocfl_audit.specs.Zone.{is_known}
 use Rattle.ocfl_inventory.specs.Entries.{meaning, PointsAtOne}
-use Rattle.ocfl_item.specs.Internal.HeadLines.{declared_notes}
-use Rattle.ocfl_item.specs.Internal.Lines.{HasLines}
+use Rattle.ocfl_item.specs.{Internal.HeadLines.{declared_notes}, Internal.Lines.{HasLines}}
 use Rattle.ocfl_item.proofs.LinesLaws.{has_more}
 use Rattle.ocfl_item.proofs.declarations.stopped_lines.Goals as goal
 

@@ -1,7 +1,5 @@
-use Rattle.std.proofs.Common.{◌∙◌, ap, sym}
-use Rattle.std.proofs.lemmas.List.{at_drop_all}
-use Rattle.ocfl_tree.specs.Place.{text_eq}
-use Rattle.ocfl_tree.specs.Listing.{kind_in}
+use Rattle.std.proofs.{Common.{◌∙◌, ap, sym}, lemmas.List.{at_drop_all}}
+use Rattle.ocfl_tree.specs.{Place.{text_eq}, Listing.{kind_in}}
 use Rattle.ocfl_item.proofs.LooksEntries.{kind_found, kind_goes_on}
 use Rattle.ocfl_item.proofs.folder.kind_of.Goals as goal
 

@@ -1,8 +1,7 @@
 use Rattle.std.proofs.Common.{◌≡◌, true, OnOk, sym, ◌∙◌, ap, subst}
 use Rattle.std.specs.Prelude.{not}
-use Rattle.ocfl_inventory.specs.Note.{plain}
+use Rattle.ocfl_inventory.specs.{Note.{plain}, declared.declaration.Level.TheVariants.{Object}}
 use Rattle.ocfl_report.specs.declared.code.Code.TheVariants.{E007}
-use Rattle.ocfl_inventory.specs.declared.declaration.Level.TheVariants.{Object}
 use Rattle.ocfl_audit.specs.Head.{on, is_exact_declaration}
 use Rattle.ocfl_item.specs.Internal.Lines.{Adds}
 use Rattle.ocfl_item.proofs.LinesLaws.{adds_not}

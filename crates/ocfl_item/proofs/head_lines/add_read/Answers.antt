@@ -1,9 +1,7 @@
 use Rattle.std.proofs.Common.{map, subst}
 use Rattle.ocfl_inventory.specs.Remark.{remark_view}
-use Rattle.ocfl_item.specs.Internal.HeadLines.{named_notes}
-use Rattle.ocfl_item.specs.Internal.Lines.{Adds}
-use Rattle.ocfl_item.proofs.HeadLaws.{named_have_sidecars, read_part}
-use Rattle.ocfl_item.proofs.LinesLaws.{adds_both}
+use Rattle.ocfl_item.specs.{Internal.HeadLines.{named_notes}, Internal.Lines.{Adds}}
+use Rattle.ocfl_item.proofs.{HeadLaws.{named_have_sidecars, read_part}, LinesLaws.{adds_both}}
 use Rattle.ocfl_item.proofs.head_lines.add_read.Goals as goal
 
 pub returns-clause-lines : goal.returns-clause-lines

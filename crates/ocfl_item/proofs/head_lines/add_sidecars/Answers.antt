@@ -1,6 +1,5 @@
 use Rattle.ocfl_digest.specs.declared.algorithm.Algorithm.TheVariants.{Sha256, Sha512}
-use Rattle.ocfl_item.proofs.HeadLaws.{digest_wanted}
-use Rattle.ocfl_item.proofs.LinesLaws.{adds_three}
+use Rattle.ocfl_item.proofs.{HeadLaws.{digest_wanted}, LinesLaws.{adds_three}}
 use Rattle.ocfl_item.proofs.head_lines.add_sidecars.Goals as goal
 
 pub returns-clause-lines : goal.returns-clause-lines

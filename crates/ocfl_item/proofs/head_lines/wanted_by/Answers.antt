@@ -1,7 +1,6 @@
 use Rattle.std.proofs.Common.{◌≡◌, true, sym, ◌∙◌, subst}
 use Rattle.ocfl_tree.proofs.Orders.{true_not_false}
-use Rattle.ocfl_digest.specs.Wanted.{wants}
-use Rattle.ocfl_digest.specs.declared.algorithm.Algorithm.TheVariants.{Sha256}
+use Rattle.ocfl_digest.specs.{Wanted.{wants}, declared.algorithm.Algorithm.TheVariants.{Sha256}}
 use Rattle.ocfl_item.proofs.head_lines.wanted_by.Goals as goal
 use Rattle.ocfl_item.proofs.head_lines.wanted_by.Goals.{then-is_some, else-is_some}
 

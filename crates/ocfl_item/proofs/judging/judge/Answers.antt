@@ -1,10 +1,8 @@
 use Rattle.std.proofs.Common.{◌≡◌, ◌≤◌, ◌<◌, ◌+◌, ◌^◌, ℕ, Bool, true, false, arith, refl, subst, sym, ◌∙◌}
 use Rattle.std.specs.Prelude.{IfErr, IfOk, Result, Ok, Err}
-use Rattle.ocfl_digest.specs.declared.digests.Digests.{Digests}
-use Rattle.ocfl_digest.specs.declared.stop.ReadStop.{ReadStop}
+use Rattle.ocfl_digest.specs.{declared.digests.Digests.{Digests}, declared.stop.ReadStop.{ReadStop}}
 use Rattle.ocfl_tree.proofs.Orders.{true_not_false}
-use Rattle.ocfl_item.specs.Internal.FileLines.{given_in}
-use Rattle.ocfl_item.specs.Judging.{CostFits}
+use Rattle.ocfl_item.specs.{Internal.FileLines.{given_in}, Judging.{CostFits}}
 use Rattle.ocfl_item.specs.declared.fault.Fault.{Fault}
 use Rattle.ocfl_item.proofs.JudgeLaws.{judged_is, judged_known, read_closed, read_largest}
 use Rattle.ocfl_item.proofs.judging.judge.Goals as goal

@@ -1,8 +1,6 @@
-use Rattle.std.proofs.Common.{length, drop, rules, subst}
-use Rattle.std.proofs.lemmas.Result.{err_from_is_err_and}
+use Rattle.std.proofs.{Common.{length, drop, rules, subst}, lemmas.Result.{err_from_is_err_and}}
 use Rattle.ocfl_item.specs.Around.{IsMet}
-use Rattle.ocfl_item.proofs.VisitLaws.{visits_nothing}
-use Rattle.ocfl_item.proofs.VisitPlaces.{entry_met}
+use Rattle.ocfl_item.proofs.{VisitLaws.{visits_nothing}, VisitPlaces.{entry_met}}
 use Rattle.ocfl_item.proofs.VisitInside.{in_content, in_object, in_version, met_within}
 use Rattle.ocfl_item.proofs.meeting.visit_entry.Goals as goal
 

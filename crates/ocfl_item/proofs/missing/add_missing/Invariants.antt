@@ -1,7 +1,6 @@
 use Rattle.std.proofs.Common.{◌≡◌, ◌++◌, drop, map, option_map, None}
 use Rattle.std.specs.Option.{option_copied}
-use Rattle.ocfl_inventory.specs.Remark.{remark_view}
-use Rattle.ocfl_inventory.specs.TripleView.{named_view}
+use Rattle.ocfl_inventory.specs.{Remark.{remark_view}, TripleView.{named_view}}
 use Rattle.ocfl_item.proofs.MissingLaws.{notes_behind}
 use Rattle.ocfl_item.proofs.missing.add_missing.Given as goal
 

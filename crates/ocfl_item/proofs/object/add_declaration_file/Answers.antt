@@ -1,7 +1,6 @@
 use Rattle.std.proofs.lemmas.Result.{err_from_is_err_and}
 use Rattle.ocfl_item.proofs.HeadCalls.{declaration_is_meta, head_declaration}
-use Rattle.ocfl_item.proofs.FileLaws.{file_is_meta}
-use Rattle.ocfl_item.proofs.HeadOpens.{one_memory}
+use Rattle.ocfl_item.proofs.{FileLaws.{file_is_meta}, HeadOpens.{one_memory}}
 use Rattle.ocfl_item.proofs.object.add_declaration_file.Goals as goal
 
 pub returns-in_err-declaration-clause-told : goal.returns-in_err-declaration-clause-told

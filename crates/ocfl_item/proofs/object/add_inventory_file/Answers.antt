@@ -1,5 +1,4 @@
-use Rattle.std.proofs.Common.{refl}
-use Rattle.std.proofs.lemmas.Result.{err_from_is_err_and}
+use Rattle.std.proofs.{Common.{refl}, lemmas.Result.{err_from_is_err_and}}
 use Rattle.ocfl_item.proofs.HeadCalls.{first_stops, first_memory, over_file, no_inventory_lines, long_inventory_lines, no_inventory_table, long_inventory_table}
 use Rattle.ocfl_item.proofs.FileLaws.{file_is_meta}
 use Rattle.ocfl_item.proofs.HeadOpens.{inventory_alone, sidecars_none, sidecars_over, sidecars_within, whole_opens, whole_told}

@@ -1,7 +1,5 @@
-use Rattle.std.proofs.Common.{◌≡◌, ◌∙◌, ap, sym, refl}
-use Rattle.std.proofs.lemmas.List.{at_drop_all}
-use Rattle.ocfl_tree.specs.Place.{text_eq}
-use Rattle.ocfl_tree.specs.Listing.{kind_in}
+use Rattle.std.proofs.{Common.{◌≡◌, ◌∙◌, ap, sym, refl}, lemmas.List.{at_drop_all}}
+use Rattle.ocfl_tree.specs.{Place.{text_eq}, Listing.{kind_in}}
 use Rattle.ocfl_item.specs.Internal.Ways.{is_file_kind}
 use Rattle.ocfl_item.proofs.LooksEntries.{kind_found, kind_goes_on, named_same, file_kind, other_kind}
 use Rattle.ocfl_item.proofs.object.file_named.Goals as goal

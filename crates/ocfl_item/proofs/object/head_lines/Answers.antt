@@ -1,9 +1,6 @@
-use Rattle.std.proofs.Common.{◌∙◌, ap, sym}
-use Rattle.std.proofs.lemmas.Result.{err_from_is_err_and}
-use Rattle.ocfl_inventory.specs.Entries.{meaning}
-use Rattle.ocfl_inventory.specs.declared.declaration.Level.TheVariants.{Object}
-use Rattle.ocfl_item.proofs.HeadCalls.{stopped_head}
-use Rattle.ocfl_item.proofs.HeadLaws.{unknown_stops}
+use Rattle.std.proofs.{Common.{◌∙◌, ap, sym}, lemmas.Result.{err_from_is_err_and}}
+use Rattle.ocfl_inventory.specs.{Entries.{meaning}, declared.declaration.Level.TheVariants.{Object}}
+use Rattle.ocfl_item.proofs.{HeadCalls.{stopped_head}, HeadLaws.{unknown_stops}}
 use Rattle.ocfl_item.proofs.HeadOpens.{known_object, known_opens, none_memory, stop_opens_none}
 use Rattle.ocfl_item.proofs.HeadReads.{head_read_from}
 use Rattle.ocfl_item.proofs.object.head_lines.Goals as goal

@@ -1,5 +1,4 @@
-use Rattle.std.proofs.Common.{◌∙◌}
-use Rattle.std.proofs.lemmas.Result.{err_from_is_err_and}
+use Rattle.std.proofs.{Common.{◌∙◌}, lemmas.Result.{err_from_is_err_and}}
 use Rattle.ocfl_item.proofs.HeadCalls.{known_lines, known_table}
 use Rattle.ocfl_item.proofs.HeadOpens.{declaration_stops, head_memory, head_opened, inventory_stops, listed_object, none_memory}
 use Rattle.ocfl_item.proofs.object.known_head.Goals as goal

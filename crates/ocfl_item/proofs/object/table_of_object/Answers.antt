@@ -1,8 +1,6 @@
-use Rattle.std.proofs.Common.{refl}
-use Rattle.std.proofs.lemmas.Result.{err_from_is_err_and}
+use Rattle.std.proofs.{Common.{refl}, lemmas.Result.{err_from_is_err_and}}
 use Rattle.ocfl_item.proofs.HeadCalls.{table_absent, table_over, table_whole}
-use Rattle.ocfl_item.proofs.FileLaws.{file_is_meta}
-use Rattle.ocfl_item.proofs.HeadOpens.{one_memory}
+use Rattle.ocfl_item.proofs.{FileLaws.{file_is_meta}, HeadOpens.{one_memory}}
 use Rattle.ocfl_item.proofs.object.table_of_object.Goals as goal
 
 pub returns-in_ok-read_table-in-Some-Whole-clause-told :

@@ -1,12 +1,10 @@
 use Rattle.std.proofs.Common.{◌≡◌, ◌<◌, ◌≤◌, ◌∙◌, sym, subst, Some, length, rules}
 use Rattle.std.proofs.lemmas.Result.{err_from_is_err_and}
-use Rattle.ocfl_item.specs.Internal.Content.{IsSight, content_at}
-use Rattle.ocfl_item.specs.Meeting.{IsItemAt}
-use Rattle.ocfl_item.proofs.LooksEntries.{no_entries, some_entries}
-use Rattle.ocfl_item.proofs.ShutLaws.{shut_deep}
+use Rattle.ocfl_item.specs.{Internal.Content.{IsSight, content_at}, Meeting.{IsItemAt}}
+use Rattle.ocfl_item.proofs.{LooksEntries.{no_entries, some_entries}, ShutLaws.{shut_deep}}
 use Rattle.ocfl_item.proofs.VisitLaws.{content_no_head, deep_sight, dir_sight, empty_sight, entered_meets, listable, looked_listed, reached_here, shut_visits, visit_of_folder, visits_memory, visits_told, visits_stop}
-use Rattle.ocfl_item.proofs.visit.visit_content_directory.Goals as goal
 use Rattle.ocfl_item.proofs.visit.visit_content_directory.Goals.{then-is_empty, else-is_empty}
+use Rattle.ocfl_item.proofs.visit.visit_content_directory.Goals as goal
 
 pub returns-then-depth-gt-MAX_LISTED_DEPTH-clause-told :
     goal.returns-then-depth-gt-MAX_LISTED_DEPTH-clause-told

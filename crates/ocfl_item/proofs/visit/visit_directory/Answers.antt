@@ -1,7 +1,5 @@
-use Rattle.std.proofs.Common.{◌<◌, ◌≤◌, length, rules}
-use Rattle.std.proofs.lemmas.Result.{err_from_is_err_and}
-use Rattle.ocfl_item.proofs.ShutLaws.{shut_deep}
-use Rattle.ocfl_item.proofs.VisitLaws.{shut_visits, visits_stop}
+use Rattle.std.proofs.{Common.{◌<◌, ◌≤◌, length, rules}, lemmas.Result.{err_from_is_err_and}}
+use Rattle.ocfl_item.proofs.{ShutLaws.{shut_deep}, VisitLaws.{shut_visits, visits_stop}}
 use Rattle.ocfl_item.proofs.VisitPlaces.{deep_plain, fair_over, listed_as, looked_either, object_visits, short_listable, undeclared_visits}
 use Rattle.ocfl_item.proofs.visit.visit_directory.Goals as goal
 

@@ -1,6 +1,5 @@
-use Rattle.std.proofs.Common.{ap, inr, map, sym, subst}
+use Rattle.std.proofs.{Common.{ap, inr, map, sym, subst}, lemmas.Result.{err_from_is_err_and}}
 use Rattle.std.specs.Prelude.{is_some}
-use Rattle.std.proofs.lemmas.Result.{err_from_is_err_and}
 use Rattle.ocfl_line.specs.Asks.{Asks}
 use Rattle.ocfl_line.proofs.Stops.{no_fault, has_fault, subcommand_is, stops_rightly}
 use Rattle.ocfl_line.proofs.asking.read_words.Goals as goal

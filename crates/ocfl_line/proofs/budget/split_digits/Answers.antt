@@ -1,7 +1,5 @@
 use Rattle.std.proofs.Common.{◌∙◌, ap, subst, sym}
-use Rattle.std.specs.Char.{is_ascii_digit}
-use Rattle.std.specs.List.{prefix_len}
-use Rattle.std.specs.Str.{IsCharBoundary}
+use Rattle.std.specs.{Char.{is_ascii_digit}, List.{prefix_len}, Str.{IsCharBoundary}}
 use Rattle.ocfl_line.proofs.Units.{digits_boundary}
 use Rattle.ocfl_line.proofs.budget.split_digits.Goals as goal
 

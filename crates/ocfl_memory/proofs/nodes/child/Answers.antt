@@ -1,10 +1,7 @@
-use Rattle.std.proofs.Common.{sym, ap, ◌∙◌, ◌++◌, ◌∷◌, []}
-use Rattle.std.proofs.lemmas.List.{same_from_push}
+use Rattle.std.proofs.{Common.{sym, ap, ◌∙◌, ◌++◌, ◌∷◌, []}, lemmas.List.{same_from_push}}
 use Rattle.std.proofs.lemmas.Slice.Eq.{bytes_eq-Decides}
-use Rattle.ocfl_tree.specs.Place.{child_name}
-use Rattle.ocfl_tree.specs.Path.{names_of}
-use Rattle.ocfl_tree.proofs.Places.{differ, child_name-append, no_child_name}
-use Rattle.ocfl_tree.proofs.Paths.{names_once}
+use Rattle.ocfl_tree.specs.{Place.{child_name}, Path.{names_of}}
+use Rattle.ocfl_tree.proofs.{Places.{differ, child_name-append, no_child_name}, Paths.{names_once}}
 use Rattle.ocfl_memory.proofs.nodes.child.Goals as goal
 
 pub returns-then-eq : goal.returns-then-eq

@@ -1,9 +1,6 @@
-use Rattle.std.proofs.Common.{◌≡◌, ◌≢◌, ap, sym, ◌∙◌, Some}
-use Rattle.std.proofs.lemmas.Slice.Eq.{bytes_eq-Decides}
-use Rattle.ocfl_tree.specs.Path.{names_of}
-use Rattle.ocfl_tree.specs.StorageRoot.{lookup}
-use Rattle.ocfl_tree.proofs.Places.{differ}
-use Rattle.ocfl_tree.proofs.Paths.{names_once}
+use Rattle.std.proofs.{Common.{◌≡◌, ◌≢◌, ap, sym, ◌∙◌, Some}, lemmas.Slice.Eq.{bytes_eq-Decides}}
+use Rattle.ocfl_tree.specs.{Path.{names_of}, StorageRoot.{lookup}}
+use Rattle.ocfl_tree.proofs.{Places.{differ}, Paths.{names_once}}
 use Rattle.ocfl_tree.proofs.Lists.{drop_item, lookup_here, lookup_other}
 use Rattle.ocfl_memory.proofs.Lists.{leaf_at_item}
 use Rattle.ocfl_memory.proofs.nodes.position.Goals as goal

@@ -1,6 +1,5 @@
 use Rattle.std.proofs.Common.{◌≡◌, drop}
-use Rattle.ocfl_tree.specs.Path.{names_of}
-use Rattle.ocfl_tree.specs.StorageRoot.{lookup}
+use Rattle.ocfl_tree.specs.{Path.{names_of}, StorageRoot.{lookup}}
 use Rattle.ocfl_memory.proofs.nodes.position.Given as goal
 
 abbrev pub invariant-loop-i : goal.invariant-loop-i

@@ -1,5 +1,4 @@
-use Rattle.std.proofs.Common.{rules, not}
-use Rattle.std.proofs.lemmas.Fn.{filter_same}
+use Rattle.std.proofs.{Common.{rules, not}, lemmas.Fn.{filter_same}}
 use Rattle.ocfl_tree.specs.Place.{begins}
 use Rattle.ocfl_memory.proofs.nodes.remove.Goals as goal
 

@@ -1,8 +1,6 @@
 use Rattle.std.proofs.Common.{◌↔◌, ◌≡◌, ℕ, Bool, inl, subst}
 use Rattle.std.specs.Prelude.{IsTrue}
-use Rattle.ocfl_state.specs.Content.{Content}
-use Rattle.ocfl_state.specs.Crash.{Passes}
-use Rattle.ocfl_state.specs.Pieces.{summary_of}
+use Rattle.ocfl_state.specs.{Content.{Content}, Crash.{Passes}, Pieces.{summary_of}}
 use Rattle.ocfl_state.specs.declared.checkpoint_parts.ReportMark.{ReportMark}
 use Rattle.ocfl_night.specs.Steps.{closes_whole, IsMoveDone, MayMoveAt}
 use Rattle.ocfl_night.proofs.Compared.{move_done_as, may_move_as, not_whole, on_ok, same_first, not_moved}

@@ -1,8 +1,7 @@
 use Rattle.std.proofs.Common.{◌≡◌, ◌∙◌, ◌++◌, ◌∷◌, ◌-◌, [], Option, Some, ap, length, refl, subst, sym, take}
 use Rattle.std.specs.Prelude.{IfSome, IsNone, IsSome}
 use Rattle.ocfl_tree.specs.Place.{Place, Text}
-use Rattle.ocfl_night.proofs.Branches.{an_end, no_end}
-use Rattle.ocfl_night.proofs.Chains.{past_is}
+use Rattle.ocfl_night.proofs.{Branches.{an_end, no_end}, Chains.{past_is}}
 use Rattle.ocfl_night.proofs.leaving.end_of.Goals as goal
 
 pub returns-in_default-2 : goal.returns-in_default-2

@@ -1,7 +1,5 @@
 use Rattle.std.proofs.Common.{◌≡◌, ◌∙◌, ◌++◌, ◌∷◌, [], ap, sym, Bool, false, nat_eq}
-use Rattle.std.specs.Prelude.{◌||◌}
-use Rattle.std.specs.List.{starts_with}
-use Rattle.std.specs.Cmp.Lexicographic.{texts_ties}
+use Rattle.std.specs.{Prelude.{◌||◌}, List.{starts_with}, Cmp.Lexicographic.{texts_ties}}
 use Rattle.ocfl_tree.specs.Place.{Text, text_eq}
 use Rattle.ocfl_audit.specs.Zone.{inventory_name}
 use Rattle.ocfl_night.proofs.leaving.is_of_inventory.Goals as goal

@@ -1,9 +1,7 @@
 use Rattle.std.proofs.Common.{◌∙◌, ap, sym, subst}
-use Rattle.ocfl_state.specs.Checkpoint.{Checkpoint}
-use Rattle.ocfl_state.specs.Content.{Content}
+use Rattle.ocfl_state.specs.{Checkpoint.{Checkpoint}, Content.{Content}}
 use Rattle.ocfl_night.specs.Sound.{Stands}
-use Rattle.ocfl_night.proofs.Sound.{left_stands, put_ready}
-use Rattle.ocfl_night.proofs.TakingUp.{put_moments, ready_moments}
+use Rattle.ocfl_night.proofs.{Sound.{left_stands, put_ready}, TakingUp.{put_moments, ready_moments}}
 use Rattle.ocfl_night.proofs.leaving.leave_out.Goals as goal
 
 pub returns-in_err-next-clause-any_moment : goal.returns-in_err-next-clause-any_moment

@@ -1,11 +1,8 @@
 use Rattle.std.proofs.Common.{◌+◌, List, ℕ, ap, arith, subst, sym}
-use Rattle.ocfl_night.specs.Clock.{BeginsInTime}
-use Rattle.ocfl_night.specs.Sound.{IsSoundAt}
-use Rattle.ocfl_night.proofs.Moments.{joined_moments}
-use Rattle.ocfl_scrub.specs.Starting.{part_of}
-use Rattle.ocfl_night.proofs.Clocks.{none_begun, fewer}
-use Rattle.ocfl_night.specs.declared.tally.Tally.{Tally}
+use Rattle.ocfl_night.specs.{Clock.{BeginsInTime}, Sound.{IsSoundAt}, declared.tally.Tally.{Tally}}
+use Rattle.ocfl_night.proofs.{Moments.{joined_moments}, Clocks.{none_begun, fewer}}
 use Rattle.ocfl_night.proofs.TakingUp.{ready_moments}
+use Rattle.ocfl_scrub.specs.Starting.{part_of}
 use Rattle.ocfl_night.proofs.nights.go_on.Goals as goal
 
 pub returns-then-ne-clause-any_moment : goal.returns-then-ne-clause-any_moment

@@ -1,11 +1,8 @@
 use Rattle.std.proofs.Common.{◌≡◌, ◌∙◌, ◌++◌, List, Ok, ap, refl, sym, subst}
 use Rattle.ocfl_audit.specs.Parts.{Part}
-use Rattle.ocfl_state.specs.Content.{Closed}
-use Rattle.ocfl_state.specs.Crash.{LeavesOnly}
-use Rattle.ocfl_night.specs.Site.{part_at}
-use Rattle.ocfl_night.specs.Sound.{IsHeard, IsHeardSince, IsOneMore, IsReady}
-use Rattle.ocfl_night.proofs.Moments.{joined_moments, leaves_weaker}
-use Rattle.ocfl_night.proofs.Clocks.{none_begun}
+use Rattle.ocfl_state.specs.{Content.{Closed}, Crash.{LeavesOnly}}
+use Rattle.ocfl_night.specs.{Site.{part_at}, Sound.{IsHeard, IsHeardSince, IsOneMore, IsReady}}
+use Rattle.ocfl_night.proofs.{Moments.{joined_moments, leaves_weaker}, Clocks.{none_begun}}
 use Rattle.ocfl_night.proofs.Heard.{heard_longer, heard_on, ok_inj}
 use Rattle.ocfl_night.specs.declared.plan.Halt.TheVariants as halt
 use Rattle.ocfl_night.proofs.nights.go_through.Goals as goal

@@ -1,8 +1,7 @@
 use Rattle.std.proofs.Common.{◌≡◌, ◌∙◌, ◌++◌, ℕ, List, Option, Some, ap, sym, subst}
 use Rattle.std.specs.Prelude.{IfSome}
 use Rattle.ocfl_scrub.specs.Starting.{part_of}
-use Rattle.ocfl_state.specs.Checkpoint.{Checkpoint}
-use Rattle.ocfl_state.specs.Content.{Closed}
+use Rattle.ocfl_state.specs.{Checkpoint.{Checkpoint}, Content.{Closed}}
 use Rattle.ocfl_night.specs.Sound.{IsOneMore}
 use Rattle.ocfl_night.proofs.Heard.{grew_none, heard_joined, silent, silent_then}
 use Rattle.ocfl_night.proofs.nights.make_runs.Goals as goal

@@ -1,11 +1,8 @@
 use Rattle.std.proofs.Common.{◌≡◌, ◌≤◌, [], ⊎_elim, All, Bool, Global, Vec, length, subst, sym}
 use Rattle.std.specs.Prelude.{IsTrue}
 use Rattle.ocfl_tree.specs.Place.{Place}
-use Rattle.ocfl_night.specs.Leaving.{has_end}
-use Rattle.ocfl_night.specs.Site.{part_at}
-use Rattle.ocfl_night.specs.Sound.{IsSound, IsHeardSince}
-use Rattle.ocfl_night.proofs.Moments.{leaves_weaker}
-use Rattle.ocfl_night.proofs.Heard.{none_ok, on_ok, since_sound}
+use Rattle.ocfl_night.specs.{Leaving.{has_end}, Site.{part_at}, Sound.{IsSound, IsHeardSince}}
+use Rattle.ocfl_night.proofs.{Moments.{leaves_weaker}, Heard.{none_ok, on_ok, since_sound}}
 use Rattle.ocfl_night.proofs.nights.night.Goals as goal
 
 pub returns-clause-any_moment : goal.returns-clause-any_moment

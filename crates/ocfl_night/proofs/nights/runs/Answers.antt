@@ -1,10 +1,8 @@
 use Rattle.std.proofs.Common.{◌∙◌, refl}
 use Rattle.ocfl_scrub.specs.Starting.{part_of}
 use Rattle.ocfl_night.specs.Sound.{IsSoundAt}
-use Rattle.ocfl_night.proofs.Clocks.{begun_on, none_begun}
-use Rattle.ocfl_night.proofs.KeptWalks.{walk_none}
-use Rattle.ocfl_night.proofs.Moments.{joined_moments}
-use Rattle.ocfl_night.proofs.TakingUp.{ready_moments}
+use Rattle.ocfl_night.proofs.{Clocks.{begun_on, none_begun}, KeptWalks.{walk_none}}
+use Rattle.ocfl_night.proofs.{Moments.{joined_moments}, TakingUp.{ready_moments}}
 use Rattle.ocfl_night.proofs.nights.runs.Goals as goal
 
 pub loop-run-init : goal.loop-run-init

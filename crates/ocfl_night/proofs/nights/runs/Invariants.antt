@@ -1,13 +1,10 @@
 use Rattle.std.proofs.Common.{◌≡◌, ℕ}
-use Rattle.ocfl_tree.specs.Place.{Text}
-use Rattle.ocfl_tree.specs.Store.{IfTold}
+use Rattle.ocfl_tree.specs.{Place.{Text}, Store.{IfTold}}
 use Rattle.ocfl_item.specs.Judging.{HasShortFiles}
 use Rattle.std.specs.Prelude.{IsTrue}
 use Rattle.ocfl_scrub.specs.Starting.{part_of}
 use Rattle.ocfl_state.specs.Crash.{LeavesOnly}
-use Rattle.ocfl_night.specs.Clock.{BeginsInTime}
-use Rattle.ocfl_night.specs.Leaving.{MayLeave}
-use Rattle.ocfl_night.specs.Sound.{IsReady, IsSoundAt}
+use Rattle.ocfl_night.specs.{Clock.{BeginsInTime}, Leaving.{MayLeave}, Sound.{IsReady, IsSoundAt}}
 use Rattle.ocfl_night.specs.Steps.{IsWalkAt}
 use Rattle.ocfl_night.proofs.nights.runs.Given as goal
 

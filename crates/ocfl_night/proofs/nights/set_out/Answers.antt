@@ -1,7 +1,6 @@
 use Rattle.std.proofs.Common.{◌∙◌, inl, inr, refl}
 use Rattle.ocfl_state.specs.Crash.{Same}
-use Rattle.ocfl_night.proofs.Moments.{stayed}
-use Rattle.ocfl_night.proofs.Foreigners.{other_by}
+use Rattle.ocfl_night.proofs.{Moments.{stayed}, Foreigners.{other_by}}
 use Rattle.ocfl_night.proofs.Heard.{begun_heard, grew_none}
 use Rattle.ocfl_night.proofs.nights.set_out.Goals as goal
 

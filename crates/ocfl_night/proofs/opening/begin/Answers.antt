@@ -1,8 +1,7 @@
 use Rattle.std.proofs.Common.{◌∙◌, ap, subst, sym, []}
 use Rattle.ocfl_state.specs.Content.{Content}
 use Rattle.ocfl_night.specs.Sound.{IsNew, IsSoundAt}
-use Rattle.ocfl_night.proofs.Moments.{joined_moments}
-use Rattle.ocfl_night.proofs.TakingUp.{new_unchanged}
+use Rattle.ocfl_night.proofs.{Moments.{joined_moments}, TakingUp.{new_unchanged}}
 use Rattle.ocfl_night.proofs.opening.begin.Goals as goal
 
 pub returns-clause-any_moment : goal.returns-clause-any_moment

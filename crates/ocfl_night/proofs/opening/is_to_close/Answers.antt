@@ -1,7 +1,6 @@
 use Rattle.std.proofs.Common.{◌∙◌, ℕ, ap}
 use Rattle.ocfl_state.specs.Content.{is_closed}
-use Rattle.ocfl_night.proofs.Lost.{not_answer}
-use Rattle.ocfl_night.proofs.Moments.{only_same}
+use Rattle.ocfl_night.proofs.{Lost.{not_answer}, Moments.{only_same}}
 use Rattle.ocfl_night.proofs.TakingUp.{settled_unchanged, settled_on}
 use Rattle.ocfl_night.proofs.opening.is_to_close.Goals as goal
 

@@ -1,9 +1,6 @@
-use Rattle.std.proofs.Common.{◌∙◌, [], ap, sym, subst}
-use Rattle.std.proofs.lemmas.Result.{IfOk-weaker}
-use Rattle.ocfl_state.specs.Checkpoint.{Checkpoint}
-use Rattle.ocfl_state.specs.Content.{Content}
-use Rattle.ocfl_night.specs.Sound.{IsAt, IsReady, IsFoundReady}
-use Rattle.ocfl_night.specs.Steps.{IsLost}
+use Rattle.std.proofs.{Common.{◌∙◌, [], ap, sym, subst}, lemmas.Result.{IfOk-weaker}}
+use Rattle.ocfl_state.specs.{Checkpoint.{Checkpoint}, Content.{Content}}
+use Rattle.ocfl_night.specs.{Sound.{IsAt, IsReady, IsFoundReady}, Steps.{IsLost}}
 use Rattle.ocfl_night.proofs.Foreigners.{at_once, own_at}
 use Rattle.ocfl_night.proofs.TakingUp.{found_on, found_ready, looked, shown, shown_nothing, none_there, new_there, settled, none_found, some_found}
 use Rattle.ocfl_night.proofs.opening.open.Goals as goal

@@ -1,10 +1,8 @@
 use Rattle.std.proofs.Common.{◌≡◌, ◌∙◌, ap, sym, subst}
-use Rattle.ocfl_state.specs.Checkpoint.{Checkpoint}
-use Rattle.ocfl_state.specs.Content.{Content}
+use Rattle.ocfl_state.specs.{Checkpoint.{Checkpoint}, Content.{Content}}
 use Rattle.ocfl_state.specs.declared.checkpoint_parts.Phase.TheVariants.{Open}
 use Rattle.ocfl_night.specs.Sound.{IsSoundAt, Stands}
-use Rattle.ocfl_night.proofs.Moments.{joined_moments}
-use Rattle.ocfl_night.proofs.Sound.{root_stands, put_ready}
+use Rattle.ocfl_night.proofs.{Moments.{joined_moments}, Sound.{root_stands, put_ready}}
 use Rattle.ocfl_night.proofs.TakingUp.{put_moments}
 use Rattle.ocfl_night.proofs.opening.resume.Goals as goal
 

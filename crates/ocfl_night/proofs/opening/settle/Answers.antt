@@ -1,10 +1,7 @@
-use Rattle.std.proofs.Common.{◌∙◌, ℕ, ap, refl, sym, subst, take}
-use Rattle.std.proofs.lemmas.Result.{IfOk-weaker}
-use Rattle.ocfl_state.specs.Content.{Content, with_report, is_closed}
-use Rattle.ocfl_state.specs.Crash.{Passes}
+use Rattle.std.proofs.{Common.{◌∙◌, ℕ, ap, refl, sym, subst, take}, lemmas.Result.{IfOk-weaker}}
+use Rattle.ocfl_state.specs.{Content.{Content, with_report, is_closed}, Crash.{Passes}}
 use Rattle.ocfl_night.specs.Steps.{IsChanged, KeepsFront}
-use Rattle.ocfl_night.proofs.Lost.{cut_changed}
-use Rattle.ocfl_night.proofs.TakingUp.{cut_moments, cut_ready}
+use Rattle.ocfl_night.proofs.{Lost.{cut_changed}, TakingUp.{cut_moments, cut_ready}}
 use Rattle.ocfl_night.proofs.opening.settle.Goals as goal
 
 pub returns-in_err-trim-in-Open-clause-any_moment : goal.returns-in_err-trim-in-Open-clause-any_moment

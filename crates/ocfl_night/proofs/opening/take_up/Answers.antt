@@ -1,11 +1,8 @@
 use Rattle.std.proofs.Common.{◌∙◌, ap, refl, sym, subst}
-use Rattle.ocfl_state.specs.Content.{Content}
-use Rattle.ocfl_state.specs.Pieces.{HasTail}
+use Rattle.ocfl_state.specs.{Content.{Content}, Pieces.{HasTail}}
 use Rattle.ocfl_state.specs.declared.checkpoint_parts.ReportMark.{ReportMark}
-use Rattle.ocfl_night.specs.Sound.{IsSoundAt}
-use Rattle.ocfl_night.specs.Steps.{BeginsAs}
-use Rattle.ocfl_night.proofs.Lost.{begins_as}
-use Rattle.ocfl_night.proofs.Moments.{joined_moments}
+use Rattle.ocfl_night.specs.{Sound.{IsSoundAt}, Steps.{BeginsAs}}
+use Rattle.ocfl_night.proofs.{Lost.{begins_as}, Moments.{joined_moments}}
 use Rattle.ocfl_night.proofs.TakingUp.{ready_unchanged, ready_on}
 use Rattle.ocfl_night.proofs.opening.take_up.Goals as goal
 

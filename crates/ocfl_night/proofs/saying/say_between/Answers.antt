@@ -1,11 +1,7 @@
-use Rattle.std.proofs.Common.{◌∙◌, subst, take, drop, arith}
+use Rattle.std.proofs.{Common.{◌∙◌, subst, take, drop, arith}, KnownBytes.{Appends-trans}}
 use Rattle.std.specs.Io.KnownBytes.{Appends}
-use Rattle.std.proofs.KnownBytes.{Appends-trans}
-use Rattle.ocfl_state.specs.Content.{Content}
-use Rattle.ocfl_state.specs.Crash.{Same}
-use Rattle.ocfl_night.proofs.Heard.{grew_on}
-use Rattle.ocfl_night.proofs.Moments.{passed, same_joins}
-use Rattle.ocfl_night.proofs.Pieces.{piece_on}
+use Rattle.ocfl_state.specs.{Content.{Content}, Crash.{Same}}
+use Rattle.ocfl_night.proofs.{Heard.{grew_on}, Moments.{passed, same_joins}, Pieces.{piece_on}}
 use Rattle.ocfl_night.proofs.saying.say_between.Goals as goal
 
 pub returns-in_err-at-clause-grew : goal.returns-in_err-at-clause-grew

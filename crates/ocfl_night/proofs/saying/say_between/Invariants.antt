@@ -1,6 +1,5 @@
 use Rattle.std.proofs.Common.{◌≡◌, ◌≤◌, ◌-◌, ℕ, List, take, drop}
-use Rattle.std.specs.Prelude.{IsTrue}
-use Rattle.std.specs.Io.KnownBytes.{Appends}
+use Rattle.std.specs.{Prelude.{IsTrue}, Io.KnownBytes.{Appends}}
 use Rattle.ocfl_state.specs.Crash.{Same, Passes}
 use Rattle.ocfl_night.proofs.saying.say_between.Given as goal
 

@@ -1,9 +1,7 @@
 use Rattle.std.proofs.Common.{◌≡◌, ◌++◌, ℕ, refl, sym, ap, subst}
 use Rattle.ocfl_state.specs.Checkpoint.{Checkpoint}
-use Rattle.ocfl_night.specs.Sound.{IsSoundAt, Stands}
-use Rattle.ocfl_night.specs.Steps.{unsaid, with_all_told}
-use Rattle.ocfl_night.proofs.Sound.{said_stands, sound_holds, ready_holds}
-use Rattle.ocfl_night.proofs.TakingUp.{unmoved}
+use Rattle.ocfl_night.specs.{Sound.{IsSoundAt, Stands}, Steps.{unsaid, with_all_told}}
+use Rattle.ocfl_night.proofs.{Sound.{said_stands, sound_holds, ready_holds}, TakingUp.{unmoved}}
 use Rattle.ocfl_night.proofs.Moments.{only_same}
 use Rattle.ocfl_night.proofs.Heard.{heard_put, put_heard, unheard, same_ready, silent, grew_none}
 use Rattle.ocfl_night.proofs.saying.speak.Goals as goal

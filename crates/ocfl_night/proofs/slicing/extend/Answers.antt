@@ -1,6 +1,5 @@
 use Rattle.std.proofs.Common.{◌∙◌, ap, sym}
-use Rattle.ocfl_state.specs.Content.{Content}
-use Rattle.ocfl_state.specs.Pieces.{summary_of}
+use Rattle.ocfl_state.specs.{Content.{Content}, Pieces.{summary_of}}
 use Rattle.ocfl_night.proofs.slicing.extend.Goals as goal
 
 pub returns-clause-mark : goal.returns-clause-mark

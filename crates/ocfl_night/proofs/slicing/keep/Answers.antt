@@ -1,6 +1,5 @@
 use Rattle.std.proofs.Common.{◌∙◌, ap, length, subst}
-use Rattle.ocfl_state.specs.Content.{Content}
-use Rattle.ocfl_state.specs.declared.checkpoint_parts.ReportMark.{ReportMark}
+use Rattle.ocfl_state.specs.{Content.{Content}, declared.checkpoint_parts.ReportMark.{ReportMark}}
 use Rattle.ocfl_night.specs.Steps.{KeepsFront, IsNext}
 use Rattle.ocfl_night.proofs.Sound.{moments, first_moments, ready_holds, ready_mark, run_keeps, after_extended, put_ready}
 use Rattle.ocfl_night.proofs.slicing.keep.Goals as goal

@@ -1,8 +1,6 @@
 use Rattle.std.proofs.Common.{◌∙◌, refl, sym, subst}
 use Rattle.ocfl_tree.specs.StorageRoot.{StorageRoot}
-use Rattle.ocfl_scrub.specs.Keeping.{met_at}
-use Rattle.ocfl_scrub.specs.Starting.{part_of}
-use Rattle.ocfl_scrub.specs.Running.{limits_of}
+use Rattle.ocfl_scrub.specs.{Keeping.{met_at}, Starting.{part_of}, Running.{limits_of}}
 use Rattle.ocfl_night.specs.Site.{IsStill}
 use Rattle.ocfl_night.proofs.Extending.{run_of}
 use Rattle.ocfl_night.proofs.slicing.make_run.Goals as goal

@@ -4,10 +4,8 @@ use Rattle.ocfl_audit.specs.Parts.{Part}
 use Rattle.ocfl_cursor.specs.Cursor.{Cursor}
 use Rattle.ocfl_scrub.specs.Starting.{part_of}
 use Rattle.ocfl_state.specs.Checkpoint.{Checkpoint}
-use Rattle.ocfl_night.specs.Chain.{part_after}
-use Rattle.ocfl_night.specs.Steps.{IsRun}
-use Rattle.ocfl_night.proofs.KeptWalks.{walk_from, walk_made}
-use Rattle.ocfl_night.proofs.TakingUp.{ready_moments}
+use Rattle.ocfl_night.specs.{Chain.{part_after}, Steps.{IsRun}}
+use Rattle.ocfl_night.proofs.{KeptWalks.{walk_from, walk_made}, TakingUp.{ready_moments}}
 use Rattle.ocfl_night.proofs.slicing.slice.Goals as goal
 
 pub returns-in_err-cursor-clause-any_moment : goal.returns-in_err-cursor-clause-any_moment

@@ -1,5 +1,4 @@
-use Rattle.std.proofs.Common.{◌≡◌, ◌++◌, sym, ap, ◌∙◌}
-use Rattle.std.proofs.lemmas.Result.{IfOk-weaker, IfErr-at_err}
+use Rattle.std.proofs.{Common.{◌≡◌, ◌++◌, sym, ap, ◌∙◌}, lemmas.Result.{IfOk-weaker, IfErr-at_err}}
 use Rattle.ocfl_parts.specs.Separators.{parts_text}
 use Rattle.ocfl_parts.proofs.PartsTexts.{parts_text_determines, no_bad_line}
 use Rattle.ocfl_parts.proofs.laws.parts_read_back.Goals as goal

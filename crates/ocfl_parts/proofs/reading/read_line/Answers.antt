@@ -1,6 +1,5 @@
 use Rattle.std.proofs.lemmas.Result.{err_from_is_err_and}
-use Rattle.ocfl_parts.proofs.Orders.{names_last}
-use Rattle.ocfl_parts.proofs.PartsTexts.{path_of_line, other_refused}
+use Rattle.ocfl_parts.proofs.{Orders.{names_last}, PartsTexts.{path_of_line, other_refused}}
 use Rattle.ocfl_parts.proofs.reading.read_line.Goals as goal
 
 pub returns-in-Err-Bad-clause-bad : goal.returns-in-Err-Bad-clause-bad

@@ -1,7 +1,5 @@
-use Rattle.std.proofs.Common.{subst}
-use Rattle.std.proofs.lemmas.Result.{MatchResult-weaker}
-use Rattle.ocfl_parts.specs.Parts.{IsPartsText}
-use Rattle.ocfl_parts.specs.Stop.{StopsRightly}
+use Rattle.std.proofs.{Common.{subst}, lemmas.Result.{MatchResult-weaker}}
+use Rattle.ocfl_parts.specs.{Parts.{IsPartsText}, Stop.{StopsRightly}}
 use Rattle.ocfl_parts.proofs.Limited.{parts_read, stop_read}
 use Rattle.ocfl_parts.proofs.reading.read_parts.Goals as goal
 

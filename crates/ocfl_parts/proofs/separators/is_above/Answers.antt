@@ -1,6 +1,5 @@
 use Rattle.std.proofs.Common.{sym, ap, ◌∙◌}
-use Rattle.std.specs.Option.{option_copied}
-use Rattle.std.specs.Ordering.{is_lt}
+use Rattle.std.specs.{Option.{option_copied}, Ordering.{is_lt}}
 use Rattle.ocfl_parts.proofs.Orders.{ends_in, above_last, AreSeparators-had}
 use Rattle.ocfl_parts.proofs.separators.is_above.Goals as goal
 

@@ -1,6 +1,5 @@
 use Rattle.std.proofs.Common.{◌≡◌, ◌<◌, ◌^◌, ◌⊎◌, ◌++◌, inl, inr, ap, arith}
-use Rattle.ocfl_parts.proofs.Orders.{above_next, above_other}
-use Rattle.ocfl_parts.proofs.Cuts.{item_stays}
+use Rattle.ocfl_parts.proofs.{Orders.{above_next, above_other}, Cuts.{item_stays}}
 use Rattle.ocfl_parts.proofs.splitting.close.Goals.{then-item-eq0-via-then-item-eq0, then-item-eq0-via-else-item-eq0+then-spent-budget}
 use Rattle.ocfl_parts.proofs.splitting.close.Goals as goal
 

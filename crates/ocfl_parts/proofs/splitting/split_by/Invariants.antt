@@ -1,7 +1,6 @@
 use Rattle.std.proofs.Common.{◌≡◌, ◌+◌, List, length}
 use Rattle.std.specs.Io.KnownBytes.{Consumes}
-use Rattle.ocfl_report.specs.Line.{Line as ModelLine}
-use Rattle.ocfl_report.specs.Text.{lines_text}
+use Rattle.ocfl_report.specs.{Line.{Line as ModelLine}, Text.{lines_text}}
 use Rattle.ocfl_parts.specs.Internal.Cutting.{IsCutSoFar}
 use Rattle.ocfl_parts.proofs.splitting.split_by.Given as goal
 

@@ -1,5 +1,4 @@
-use Rattle.std.proofs.Common.{ap}
-use Rattle.std.proofs.lemmas.Result.{IfOk-weaker, IfErr-weaker}
+use Rattle.std.proofs.{Common.{ap}, lemmas.Result.{IfOk-weaker, IfErr-weaker}}
 use Rattle.ocfl_parts.proofs.Cuts.{place_refused, text_of_line}
 use Rattle.ocfl_parts.proofs.splitting.take_line.Goals as goal
 

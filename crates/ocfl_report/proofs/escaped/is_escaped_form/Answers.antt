@@ -1,12 +1,10 @@
 use Rattle.std.proofs.Common.{◌≡◌, ◌≢◌, ◌++◌, List, ℕ, sym, ap, ◌∙◌}
-use Rattle.std.proofs.lemmas.List.{append_cancel_left}
-use Rattle.std.proofs.lemmas.Bool.Decides.{Decides-eqb}
+use Rattle.std.proofs.{lemmas.List.{append_cancel_left}, lemmas.Bool.Decides.{Decides-eqb}}
 use Rattle.std.proofs.lemmas.Slice.Eq.{strip_prefix_is}
 use Rattle.std.proofs.lemmas.Option.{MatchOption-at_some, MatchOption-at_none}
 use Rattle.percent_encoding.specs.Iter.{encoded_text}
 use Rattle.ocfl_report.specs.Text.{escape}
-use Rattle.ocfl_report.proofs.Encoded.{percent_encode-escape}
-use Rattle.ocfl_report.proofs.Bytes.{bytes_from_type}
+use Rattle.ocfl_report.proofs.{Encoded.{percent_encode-escape}, Bytes.{bytes_from_type}}
 use Rattle.ocfl_report.proofs.escaped.is_escaped_form.Goals as goal
 
 pub loop-piece-init : goal.loop-piece-init

@@ -1,7 +1,5 @@
-use Rattle.std.proofs.Common.{◌++◌, ap, ◌∙◌, refl, le_refl}
-use Rattle.std.proofs.Transfers.{starts_with_of_eq}
-use Rattle.ocfl_report.proofs.Encoded.{percent_encode-escape}
-use Rattle.ocfl_report.proofs.Bytes.{bytes_from_type}
+use Rattle.std.proofs.{Common.{◌++◌, ap, ◌∙◌, refl, le_refl}, Transfers.{starts_with_of_eq}}
+use Rattle.ocfl_report.proofs.{Encoded.{percent_encode-escape}, Bytes.{bytes_from_type}}
 use Rattle.ocfl_report.proofs.escaped.put_escaped.Goals as goal
 
 pub loop-piece-init : goal.loop-piece-init

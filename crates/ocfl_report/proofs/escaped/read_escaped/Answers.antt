@@ -1,5 +1,4 @@
-use Rattle.std.proofs.Common.{IsUtf8, sym, ap, ◌∙◌, subst}
-use Rattle.std.proofs.lemmas.Bool.{both_ways}
+use Rattle.std.proofs.{Common.{IsUtf8, sym, ap, ◌∙◌, subst}, lemmas.Bool.{both_ways}}
 use Rattle.ocfl_report.specs.Text.{escape}
 use Rattle.ocfl_report.proofs.Encoded.{decoded_text}
 use Rattle.ocfl_report.proofs.escaped.read_escaped.Goals as goal

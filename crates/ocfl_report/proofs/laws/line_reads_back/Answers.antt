@@ -1,8 +1,5 @@
-use Rattle.std.proofs.Common.{◌≡◌}
-use Rattle.std.proofs.lemmas.Str.{IsUtf8-string_bytes}
-use Rattle.std.proofs.lemmas.Result.{IfOk-weaker}
-use Rattle.ocfl_report.specs.Line.{line_of}
-use Rattle.ocfl_report.specs.Text.{line_text, IsLineText}
+use Rattle.std.proofs.{Common.{◌≡◌}, lemmas.Str.{IsUtf8-string_bytes}, lemmas.Result.{IfOk-weaker}}
+use Rattle.ocfl_report.specs.{Line.{line_of}, Text.{line_text, IsLineText}}
 use Rattle.ocfl_report.proofs.LineTexts.{line_text_read}
 use Rattle.ocfl_report.proofs.laws.line_reads_back.Goals as goal
 

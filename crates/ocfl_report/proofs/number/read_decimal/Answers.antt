@@ -1,7 +1,6 @@
 use Rattle.std.proofs.Common.{◌≡◌, decimal, Ok, sym, subst, ap, ◌∙◌}
-use Rattle.std.specs.Result.{result_ok}
-use Rattle.std.specs.Str.{IsUtf8}
 use Rattle.std.proofs.lemmas.Fmt.{parse-decimal_wide}
+use Rattle.std.specs.{Result.{result_ok}, Str.{IsUtf8}}
 use Rattle.ocfl_report.specs.Internal.Number.{IsPlain}
 use Rattle.ocfl_report.proofs.Numbers.{wide, read_is_decimal, decimal_plain, decimal_utf8, IfSome-result_ok, IsNone-not_some}
 use Rattle.ocfl_report.proofs.number.read_decimal.Goals as goal

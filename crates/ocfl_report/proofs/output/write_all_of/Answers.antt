@@ -1,6 +1,5 @@
-use Rattle.std.proofs.Common.{subst}
+use Rattle.std.proofs.{Common.{subst}, KnownBytes.{Appends-trans}}
 use Rattle.std.specs.Io.KnownBytes.{Appends}
-use Rattle.std.proofs.KnownBytes.{Appends-trans}
 use Rattle.ocfl_report.proofs.Parts.{take_both, within_both}
 use Rattle.ocfl_report.proofs.output.write_all_of.Goals as goal
 

@@ -1,9 +1,7 @@
 use Rattle.std.proofs.Common.{◌≢◌, ◌∙◌, codes, sym, ap, subst, refl, IsNone, string_bytes}
-use Rattle.std.proofs.lemmas.Bool.{both_ways}
-use Rattle.std.proofs.lemmas.Option.{MatchOption-at_some}
+use Rattle.std.proofs.{lemmas.Bool.{both_ways}, lemmas.Option.{MatchOption-at_some}}
 use Rattle.std.proofs.lemmas.Str.{IsUtf8-string_bytes}
-use Rattle.ocfl_tree.specs.Name.{IsPlace}
-use Rattle.ocfl_tree.specs.Path.{names_of, slashed}
+use Rattle.ocfl_tree.specs.{Name.{IsPlace}, Path.{names_of, slashed}}
 use Rattle.ocfl_report.specs.Text.{escape, place_text}
 use Rattle.ocfl_report.proofs.Encoded.{same_text_of}
 use Rattle.ocfl_report.proofs.ReadPaths.{text_of_path, path_of_text, path_names, path_utf8, text_some}

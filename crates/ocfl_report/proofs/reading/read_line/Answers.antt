@@ -1,8 +1,6 @@
 use Rattle.std.proofs.Common.{◌∙◌, sym, ap, subst, refl, IsNone, string_bytes}
-use Rattle.std.proofs.lemmas.Str.{IsUtf8-string_bytes}
-use Rattle.std.proofs.lemmas.Option.{MatchOption-at_some}
-use Rattle.ocfl_report.specs.Line.{Line}
-use Rattle.ocfl_report.specs.Text.{escape}
+use Rattle.std.proofs.{lemmas.Str.{IsUtf8-string_bytes}, lemmas.Option.{MatchOption-at_some}}
+use Rattle.ocfl_report.specs.{Line.{Line}, Text.{escape}}
 use Rattle.ocfl_report.proofs.LineTexts.{fields_of, IsLine-from_text, text_from_fields}
 use Rattle.ocfl_report.proofs.reading.read_line.Goals as goal
 

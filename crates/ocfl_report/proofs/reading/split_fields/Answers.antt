@@ -1,7 +1,5 @@
-use Rattle.std.proofs.Common.{◌≡◌, [], ◌∷◌, ◌++◌, refl}
-use Rattle.std.proofs.lemmas.Slice.Eq.{strip_suffix_is}
-use Rattle.std.proofs.lemmas.Bool.Decides.{Decides-eqb}
-use Rattle.std.proofs.lemmas.Option.{MatchOption-at_some}
+use Rattle.std.proofs.{Common.{◌≡◌, [], ◌∷◌, ◌++◌, refl}, lemmas.Slice.Eq.{strip_suffix_is}}
+use Rattle.std.proofs.{lemmas.Bool.Decides.{Decides-eqb}, lemmas.Option.{MatchOption-at_some}}
 use Rattle.ocfl_report.proofs.Fields.{no_fields_without_tab, no_fields_with_one_tab, fields_from_parts}
 use Rattle.ocfl_report.proofs.reading.split_fields.Goals as goal
 

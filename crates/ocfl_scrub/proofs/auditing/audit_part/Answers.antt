@@ -3,8 +3,8 @@ use Rattle.ocfl_scrub.specs.Starting.{part_of}
 use Rattle.ocfl_scrub.proofs.AuditLaws.{unstarted, nothing_unread}
 use Rattle.ocfl_scrub.proofs.AuditTurns.{nothing_taken, audit_ended, audit_took, audit_missed, audit_lost}
 use Rattle.ocfl_scrub.proofs.LoopLaws.{sets_out, goes_further}
-use Rattle.ocfl_scrub.proofs.auditing.audit_part.Goals as goal
 use Rattle.ocfl_scrub.proofs.auditing.audit_part.Goals.{in-Ok-None, in-Err-next_within, in-Ok-Some+in-Err-take_item}
+use Rattle.ocfl_scrub.proofs.auditing.audit_part.Goals as goal
 
 pub returns-in-Err-clause-told : goal.returns-in-Err-clause-told
 returns-in-Err-clause-told g c told root over short =

@@ -1,9 +1,7 @@
 use Rattle.std.proofs.Common.{◌≡◌, None, false}
 use Rattle.ocfl_walk.specs.Walks.{walk_size}
-use Rattle.ocfl_scrub.specs.Call.{WhereTold}
-use Rattle.ocfl_scrub.specs.Starting.{part_of}
-use Rattle.ocfl_scrub.proofs.AuditTurns.{HasTaken}
-use Rattle.ocfl_scrub.proofs.LoopLaws.{IsUnderWay}
+use Rattle.ocfl_scrub.specs.{Call.{WhereTold}, Starting.{part_of}}
+use Rattle.ocfl_scrub.proofs.{AuditTurns.{HasTaken}, LoopLaws.{IsUnderWay}}
 use Rattle.ocfl_scrub.proofs.auditing.audit_part.Given as goal
 
 abbrev pub invariant-loop-pending : goal.invariant-loop-pending

@@ -1,15 +1,11 @@
 use Rattle.std.proofs.Common.{◌≡◌, sym, ◌∙◌, subst, inl}
-use Rattle.ocfl_tree.specs.Place.{Place}
-use Rattle.ocfl_tree.specs.StorageRoot.{StorageRoot}
-use Rattle.ocfl_tree.specs.Store.{Store}
+use Rattle.ocfl_tree.specs.{Place.{Place}, StorageRoot.{StorageRoot}, Store.{Store}}
 use Rattle.std.specs.Prelude.{List, ℕ, Option}
 use Rattle.ocfl_report.specs.Text.{place_text}
 use Rattle.ocfl_report.proofs.PlaceTexts.{place_text_determines}
-use Rattle.ocfl_scrub.specs.Call.{call_of}
-use Rattle.ocfl_scrub.specs.Checking.{CheckEnds}
+use Rattle.ocfl_scrub.specs.{Call.{call_of}, Checking.{CheckEnds}}
 use Rattle.ocfl_scrub.specs.Noting.{IsCheckNote, ChecksWithNote}
-use Rattle.ocfl_scrub.specs.declared.checking.CheckEnd.{CheckEnd}
-use Rattle.ocfl_scrub.specs.declared.note.Note.{Note}
+use Rattle.ocfl_scrub.specs.{declared.checking.CheckEnd.{CheckEnd}, declared.note.Note.{Note}}
 use Rattle.ocfl_scrub.proofs.command.checked.Goals as goal
 
 -- a check of the place that was read is one of the place that was meant

@@ -2,8 +2,7 @@ use Rattle.std.proofs.Common.{◌≢◌, refl, ap, ◌+◌, arith, rules}
 use Rattle.ocfl_item.specs.declared.fault.Fault.TheVariants.{Output}
 use Rattle.ocfl_scrub.specs.Starting.{part_of}
 use Rattle.ocfl_scrub.specs.declared.cycling.CycleStatus.TheVariants as cycle
-use Rattle.ocfl_scrub.proofs.TakeLaws.{nothing_written}
-use Rattle.ocfl_scrub.proofs.PassLaws.{lines_then}
+use Rattle.ocfl_scrub.proofs.{TakeLaws.{nothing_written}, PassLaws.{lines_then}}
 use Rattle.ocfl_scrub.proofs.ChainRuns.{chain_begins, chain_goes_on, cycle_out, cycle_unbegun, cycle_ended, cycle_stopped}
 use Rattle.ocfl_scrub.proofs.CycleLoop.{limits_next, limits_out, limits_some, ended_not_worn, spent_not_worn, stopped_not_worn, ended_wrote, spent_wrote, stopped_wrote, new_unended, one_run_more, same_cycle, spent_unended, lines_said}
 use Rattle.ocfl_scrub.proofs.cycling.cycle_part.Goals as goal

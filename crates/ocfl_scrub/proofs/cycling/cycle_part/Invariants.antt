@@ -3,9 +3,7 @@ use Rattle.std.specs.Prelude.{IsTrue}
 use Rattle.ocfl_cursor.specs.Cursor.{ended, new_cursor}
 use Rattle.ocfl_tree.specs.StorageRoot.{StorageRoot}
 use Rattle.ocfl_item.specs.Judging.{HasShortFiles}
-use Rattle.ocfl_scrub.specs.Running.{limits_of}
-use Rattle.ocfl_scrub.specs.Starting.{part_of}
-use Rattle.ocfl_scrub.specs.Taking.{WritesLines}
+use Rattle.ocfl_scrub.specs.{Running.{limits_of}, Starting.{part_of}, Taking.{WritesLines}}
 use Rattle.ocfl_scrub.proofs.ChainRuns.{ChainSoFar}
 use Rattle.ocfl_scrub.proofs.cycling.cycle_part.Given as goal
 

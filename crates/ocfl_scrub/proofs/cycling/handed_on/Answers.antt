@@ -1,5 +1,4 @@
-use Rattle.std.proofs.Common.{◌≡◌, inl, ◌∙◌}
-use Rattle.std.proofs.lemmas.Result.{IfOk-weaker}
+use Rattle.std.proofs.{Common.{◌≡◌, inl, ◌∙◌}, lemmas.Result.{IfOk-weaker}}
 use Rattle.ocfl_cursor.specs.Refusal.{IsTextOf}
 use Rattle.ocfl_cursor.proofs.CursorTexts.{text_determines}
 use Rattle.ocfl_scrub.proofs.cycling.handed_on.Goals as goal

@@ -1,5 +1,4 @@
-use Rattle.ocfl_scrub.proofs.CallsJoined.{as_told}
-use Rattle.ocfl_scrub.proofs.CallsMade.{call_has_run}
+use Rattle.ocfl_scrub.proofs.{CallsJoined.{as_told}, CallsMade.{call_has_run}}
 use Rattle.ocfl_scrub.proofs.handing.a_call_is_told.Goals as goal
 
 pub returns-clause-well : goal.returns-clause-well

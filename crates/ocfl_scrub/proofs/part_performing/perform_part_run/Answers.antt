@@ -1,13 +1,11 @@
 use Rattle.std.proofs.Common.{inl, inr}
 use Rattle.ocfl_cursor.specs.Part.{part_text}
-use Rattle.ocfl_scrub.specs.Call.{call_of}
-use Rattle.ocfl_scrub.specs.Performing.{bytes_of}
-use Rattle.ocfl_scrub.specs.Running.{limits_of}
+use Rattle.ocfl_scrub.specs.{Call.{call_of}, Performing.{bytes_of}, Running.{limits_of}}
 use Rattle.ocfl_scrub.specs.Scoping.{BeginsPartWith}
 use Rattle.ocfl_scrub.proofs.PerformLaws.{Made, handed_back, made_by, run_answers, run_performed, worn_silent}
+use Rattle.ocfl_scrub.proofs.part_performing.perform_part_run.Goals.{Joined-part-2}
 use Rattle.ocfl_scrub.proofs.part_performing.perform_part_run.Given as given
 use Rattle.ocfl_scrub.proofs.part_performing.perform_part_run.Goals as goal
-use Rattle.ocfl_scrub.proofs.part_performing.perform_part_run.Goals.{Joined-part-2}
 
 made : (g : given.Over) (c : Joined-part-2 g)
     → Made (BeginsPartWith c.args.ends.now (bytes_of g.R.Read.remaining c.args.reader)) (part_text c.args.ends.now) (limits_of c.args.limits) c.in-Ok.cursor c.run_part-end.result c.conclude_run.result

@@ -1,7 +1,5 @@
 use Rattle.std.proofs.Common.{◌≡◌, subst, inl, ◌∙◌, ap, map}
-use Rattle.ocfl_scrub.specs.Call.{call_of}
-use Rattle.ocfl_scrub.specs.Chaining.{CycleOfRuns}
-use Rattle.ocfl_scrub.specs.Running.{limits_of}
+use Rattle.ocfl_scrub.specs.{Call.{call_of}, Chaining.{CycleOfRuns}, Running.{limits_of}}
 use Rattle.ocfl_scrub.specs.Performing.{equal_limits}
 use Rattle.ocfl_scrub.proofs.ChainHeadline.{headline_of_whole}
 use Rattle.ocfl_scrub.proofs.performing.perform_cycle.Goals as goal

@@ -1,5 +1,4 @@
-use Rattle.ocfl_scrub.specs.Running.{limits_of}
-use Rattle.ocfl_scrub.specs.Starting.{part_of}
+use Rattle.ocfl_scrub.specs.{Running.{limits_of}, Starting.{part_of}}
 use Rattle.ocfl_scrub.proofs.KeptRuns.{goes_on_from}
 use Rattle.ocfl_scrub.proofs.running.make_pass.Goals as goal
 

@@ -1,6 +1,4 @@
-use Rattle.ocfl_scrub.specs.Call.{call_of}
-use Rattle.ocfl_scrub.specs.Running.{limits_of}
-use Rattle.ocfl_scrub.specs.Starting.{part_of}
+use Rattle.ocfl_scrub.specs.{Call.{call_of}, Running.{limits_of}, Starting.{part_of}}
 use Rattle.ocfl_scrub.proofs.KeptRuns.{begins_not, begun_ended, begun_lost, begun_on, ends_as}
 use Rattle.ocfl_scrub.proofs.RunLaws.{lent_place}
 use Rattle.ocfl_scrub.proofs.running.pass_from.Goals as goal

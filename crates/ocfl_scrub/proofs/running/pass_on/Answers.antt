@@ -1,16 +1,13 @@
 use Rattle.std.proofs.Common.{◌≤◌, ◌∙◌, ◌^◌, arith, length, refl, subst, sym}
 use Rattle.ocfl_tree.specs.Place.{Place}
-use Rattle.ocfl_scrub.specs.Call.{call_of}
-use Rattle.ocfl_scrub.specs.Running.{limits_of}
-use Rattle.ocfl_scrub.specs.Starting.{part_of}
+use Rattle.ocfl_scrub.specs.{Call.{call_of}, Running.{limits_of}, Starting.{part_of}}
 use Rattle.ocfl_scrub.proofs.KeptRuns.{ended_pass, missed_whole, pass_as, passes_as, spent_pass, stopped_pass}
 use Rattle.ocfl_scrub.proofs.KeptTurns.{on_way_first, way_ended, way_lost, way_missed, way_next, way_spent}
-use Rattle.ocfl_scrub.proofs.LoopLaws.{goes_further, next_short, sets_out}
-use Rattle.ocfl_scrub.proofs.MeterLaws.{paid_start}
+use Rattle.ocfl_scrub.proofs.{LoopLaws.{goes_further, next_short, sets_out}, MeterLaws.{paid_start}}
 use Rattle.ocfl_scrub.proofs.PassLaws.{lines_then}
 use Rattle.ocfl_scrub.proofs.RunTurns.{charged_item, not_within, within_both}
-use Rattle.ocfl_scrub.proofs.running.pass_on.Goals as goal
 use Rattle.ocfl_scrub.proofs.running.pass_on.Goals.{then-not-paid, else-not-paid+in-Err, else-not-paid+in-Ok+in-Ok-None, else-not-paid+in-Ok+in-Err-next_within}
+use Rattle.ocfl_scrub.proofs.running.pass_on.Goals as goal
 
 pub loop-alloc-init : goal.loop-alloc-init
 loop-alloc-init g c =

@@ -1,11 +1,8 @@
 use Rattle.std.proofs.Common.{◌≡◌, ◌≤◌, length}
 use Rattle.ocfl_walk.specs.Walks.{walk_size}
-use Rattle.ocfl_scrub.specs.Call.{WhereTold}
-use Rattle.ocfl_scrub.specs.Running.{limits_of, IsPaid}
-use Rattle.ocfl_scrub.specs.Beginning.{IsShort}
+use Rattle.ocfl_scrub.specs.{Call.{WhereTold}, Running.{limits_of, IsPaid}, Beginning.{IsShort}}
 use Rattle.ocfl_scrub.specs.Starting.{part_of}
-use Rattle.ocfl_scrub.proofs.KeptTurns.{IsOnWay}
-use Rattle.ocfl_scrub.proofs.LoopLaws.{IsUnderWay}
+use Rattle.ocfl_scrub.proofs.{KeptTurns.{IsOnWay}, LoopLaws.{IsUnderWay}}
 use Rattle.ocfl_scrub.proofs.running.pass_on.Given as goal
 
 abbrev pub invariant-loop-alloc : goal.invariant-loop-alloc

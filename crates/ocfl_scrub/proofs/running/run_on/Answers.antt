@@ -1,9 +1,7 @@
 use Rattle.std.proofs.Common.{◌≡◌, false, refl, true, arith}
-use Rattle.ocfl_scrub.specs.Running.{limits_of}
-use Rattle.ocfl_scrub.specs.Starting.{part_of}
+use Rattle.ocfl_scrub.specs.{Running.{limits_of}, Starting.{part_of}}
 use Rattle.ocfl_scrub.proofs.KeptRuns.{made_run, ready_after, ready_given, ready_left, runs_kept, tree_on}
-use Rattle.ocfl_scrub.proofs.MeterLaws.{paid_none}
-use Rattle.ocfl_scrub.proofs.RunLaws.{run_counted}
+use Rattle.ocfl_scrub.proofs.{MeterLaws.{paid_none}, RunLaws.{run_counted}}
 use Rattle.ocfl_scrub.proofs.TakeLaws.{nothing_written}
 use Rattle.ocfl_scrub.proofs.running.run_on.Goals as goal
 

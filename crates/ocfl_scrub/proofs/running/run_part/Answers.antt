@@ -1,6 +1,4 @@
-use Rattle.ocfl_scrub.specs.Call.{call_of}
-use Rattle.ocfl_scrub.specs.Running.{limits_of, place_in}
-use Rattle.ocfl_scrub.specs.Starting.{part_of}
+use Rattle.ocfl_scrub.specs.{Call.{call_of}, Running.{limits_of, place_in}, Starting.{part_of}}
 use Rattle.ocfl_scrub.proofs.KeptRuns.{begins_so, cleanly_so, ready_none}
 use Rattle.ocfl_scrub.proofs.running.run_part.Goals as goal
 

@@ -1,7 +1,6 @@
 use Rattle.std.proofs.Common.{◌≡◌, ◌≤◌, ◌∙◌, ℕ, Some, None, inl, sym, ap, subst, true, false, length, arith}
+use Rattle.std.proofs.{lemmas.Bool.{le-leb, lt-leb}, lemmas.Result.{err_from_is_err_and}}
 use Rattle.std.specs.Prelude.{nat_le}
-use Rattle.std.proofs.lemmas.Bool.{le-leb, lt-leb}
-use Rattle.std.proofs.lemmas.Result.{err_from_is_err_and}
 use Rattle.ocfl_split.specs.Internal.Directories.{IsLevel, AreListable}
 use Rattle.ocfl_split.specs.Splitting.{room_below, next_level, wider, kept, listed_within, ListsAll, ListsStop}
 use Rattle.ocfl_split.proofs.Below.{over_after}

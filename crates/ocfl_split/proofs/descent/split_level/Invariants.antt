@@ -2,8 +2,7 @@ use Rattle.std.proofs.Common.{◌≡◌}
 use Rattle.std.specs.Prelude.{IsTrue}
 use Rattle.ocfl_tree.specs.StorageRoot.{StorageRoot}
 use Rattle.ocfl_split.specs.Internal.Directories.{IsLevel}
-use Rattle.ocfl_split.proofs.Ranks.{IsNoneOrLevel}
-use Rattle.ocfl_split.proofs.Descents.{IsSplitSo}
+use Rattle.ocfl_split.proofs.{Ranks.{IsNoneOrLevel}, Descents.{IsSplitSo}}
 use Rattle.ocfl_split.proofs.descent.split_level.Given as goal
 
 abbrev pub invariant-loop-depth : goal.invariant-loop-depth

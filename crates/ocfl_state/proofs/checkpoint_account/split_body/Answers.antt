@@ -1,5 +1,4 @@
-use Rattle.std.proofs.Common.{refl, sym, codes, ◌∙◌}
-use Rattle.std.proofs.lemmas.List.{append_cancel_left}
+use Rattle.std.proofs.{Common.{refl, sym, codes, ◌∙◌}, lemmas.List.{append_cancel_left}}
 use Rattle.ocfl_state.proofs.CheckpointFields.{field_determines}
 use Rattle.ocfl_state.proofs.CheckpointTexts.{standing_determines}
 use Rattle.ocfl_state.proofs.checkpoint_account.split_body.Goals as goal

@@ -1,5 +1,4 @@
-use Rattle.std.proofs.Common.{◌-◌, length, drop, arith}
-use Rattle.std.proofs.lemmas.List.{take_all, length-drop}
+use Rattle.std.proofs.{Common.{◌-◌, length, drop, arith}, lemmas.List.{take_all, length-drop}}
 use Rattle.ocfl_state.proofs.checkpoint_decoding.after_front.Goals as goal
 
 pub returns-then-starts_with-clause-rest : goal.returns-then-starts_with-clause-rest

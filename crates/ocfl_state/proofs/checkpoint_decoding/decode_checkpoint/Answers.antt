@@ -1,5 +1,4 @@
-use Rattle.std.proofs.Common.{sym}
-use Rattle.std.proofs.lemmas.Result.{IfOk-weaker}
+use Rattle.std.proofs.{Common.{sym}, lemmas.Result.{IfOk-weaker}}
 use Rattle.ocfl_state.specs.CheckpointRefusal.{HasVersion}
 use Rattle.ocfl_state.proofs.CheckpointTexts.{IsCheckpointText-sealed}
 use Rattle.ocfl_state.proofs.CheckpointRefusals.{version_from_rest, refused_after_seal}

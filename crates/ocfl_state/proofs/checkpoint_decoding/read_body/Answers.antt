@@ -1,5 +1,4 @@
-use Rattle.std.proofs.Common.{refl}
-use Rattle.std.proofs.lemmas.Result.{IfOk-weaker}
+use Rattle.std.proofs.{Common.{refl}, lemmas.Result.{IfOk-weaker}}
 use Rattle.ocfl_state.proofs.CheckpointTexts.{parts_of_body, body_of_parts, no_body}
 use Rattle.ocfl_state.proofs.checkpoint_decoding.read_body.Goals as goal
 

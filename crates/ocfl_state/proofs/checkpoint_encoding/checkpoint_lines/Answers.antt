@@ -1,6 +1,5 @@
 use Rattle.std.proofs.Common.{◌≡◌, ◌++◌, [], ap, subst, ◌∙◌}
-use Rattle.ocfl_state.specs.Checkpoint.{Checkpoint, shown_text}
-use Rattle.ocfl_state.specs.CheckpointLines.{all_left}
+use Rattle.ocfl_state.specs.{Checkpoint.{Checkpoint, shown_text}, CheckpointLines.{all_left}}
 use Rattle.ocfl_state.proofs.CheckpointWriting.{written_whole}
 use Rattle.ocfl_state.proofs.checkpoint_encoding.checkpoint_lines.Goals as goal
 

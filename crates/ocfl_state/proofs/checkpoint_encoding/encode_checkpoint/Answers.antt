@@ -1,5 +1,4 @@
-use Rattle.std.proofs.Common.{◌++◌, codes, ap, ◌∙◌}
-use Rattle.std.proofs.lemmas.Result.{IfOk-weaker}
+use Rattle.std.proofs.{Common.{◌++◌, codes, ap, ◌∙◌}, lemmas.Result.{IfOk-weaker}}
 use Rattle.ocfl_tree.specs.Place.{Text}
 use Rattle.ocfl_state.specs.Checkpoint.{sha256_line}
 use Rattle.ocfl_state.proofs.checkpoint_encoding.encode_checkpoint.Goals as goal

@@ -1,5 +1,4 @@
-use Rattle.std.proofs.Common.{refl, sym, codes, ◌∙◌}
-use Rattle.std.proofs.lemmas.List.{append_cancel_left}
+use Rattle.std.proofs.{Common.{refl, sym, codes, ◌∙◌}, lemmas.List.{append_cancel_left}}
 use Rattle.ocfl_report.specs.Text.{place_text}
 use Rattle.ocfl_cursor.proofs.Texts.{text_eq-same}
 use Rattle.ocfl_state.proofs.CheckpointFields.{stood_path}

@@ -1,8 +1,6 @@
-use Rattle.std.proofs.Common.{◌∙◌}
-use Rattle.std.proofs.lemmas.Result.{IfOk-weaker, MatchResult-weaker}
+use Rattle.std.proofs.{Common.{◌∙◌}, lemmas.Result.{IfOk-weaker, MatchResult-weaker}}
 use Rattle.ocfl_state.specs.Checkpoint.{IsCheckpointText}
-use Rattle.ocfl_state.proofs.CheckpointTexts.{text_determines}
-use Rattle.ocfl_state.proofs.CheckpointRefusals.{only_memory}
+use Rattle.ocfl_state.proofs.{CheckpointTexts.{text_determines}, CheckpointRefusals.{only_memory}}
 use Rattle.ocfl_state.proofs.checkpoint_laws.checkpoint_reads_back.Goals as goal
 
 pub returns-in-Ok-clause-same : goal.returns-in-Ok-clause-same

@@ -1,5 +1,4 @@
-use Rattle.std.proofs.Common.{◌≤◌, length, All, subst, arith}
-use Rattle.std.proofs.lemmas.List.{take_all}
+use Rattle.std.proofs.{Common.{◌≤◌, length, All, subst, arith}, lemmas.List.{take_all}}
 use Rattle.std.proofs.lemmas.List.Elements.{All-more}
 use Rattle.ocfl_state.specs.Checkpoint.{IsLeft}
 use Rattle.ocfl_state.proofs.checkpoint_laws.each_left_fits.Goals as goal

@@ -1,7 +1,6 @@
 use Rattle.std.proofs.Common.{◌≡◌, ◌++◌, [], ◌∷◌, List, All, length, flat_map, sym, ap, subst, ◌∙◌, arith, length-append}
 use Rattle.std.proofs.lemmas.List.Elements.{All-nil, All-cons, All-append}
-use Rattle.ocfl_state.specs.Checkpoint.{IsLeft, left_text}
-use Rattle.ocfl_state.specs.declared.checkpoint_parts.Left.{Left}
+use Rattle.ocfl_state.specs.{Checkpoint.{IsLeft, left_text}, declared.checkpoint_parts.Left.{Left}}
 use Rattle.ocfl_state.proofs.CheckpointTexts.{lefts_next, lefts_more}
 use Rattle.ocfl_state.proofs.checkpoint_left.read_all_left.Goals as goal
 

@@ -1,6 +1,5 @@
 use Rattle.std.proofs.Common.{◌∙◌, ap, sym, subst, take, drop, arith}
-use Rattle.ocfl_state.specs.Content.{Content}
-use Rattle.ocfl_state.specs.Pieces.{PushesPart}
+use Rattle.ocfl_state.specs.{Content.{Content}, Pieces.{PushesPart}}
 use Rattle.ocfl_state.proofs.Readings.{passes_then, pushing_goes_on, pushing_stops_at}
 use Rattle.ocfl_state.proofs.comparing.push_report.Goals as goal
 

@@ -1,6 +1,5 @@
 use Rattle.std.proofs.Common.{◌≤◌, subst, length, arith}
-use Rattle.ocfl_state.specs.Content.{Content}
-use Rattle.ocfl_state.specs.Pieces.{HasRead}
+use Rattle.ocfl_state.specs.{Content.{Content}, Pieces.{HasRead}}
 use Rattle.ocfl_state.proofs.Resuming.{read_tail, tail_fits, resumed_all}
 use Rattle.ocfl_state.proofs.comparing.resume_digests.Goals as goal
 

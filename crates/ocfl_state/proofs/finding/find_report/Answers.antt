@@ -1,6 +1,5 @@
 use Rattle.std.proofs.Common.{subst, take}
-use Rattle.ocfl_state.specs.Content.{Content}
-use Rattle.ocfl_state.specs.Pieces.{Carries}
+use Rattle.ocfl_state.specs.{Content.{Content}, Pieces.{Carries}}
 use Rattle.ocfl_state.proofs.FoundReports.{found_whole, found_lost, begun_carried, begun_is_found}
 use Rattle.ocfl_state.proofs.finding.find_report.Goals as goal
 

@@ -1,5 +1,4 @@
-use Rattle.std.proofs.Common.{refl, sym, true≢false}
-use Rattle.std.proofs.lemmas.Bool.Decides.{Decides-eqb}
+use Rattle.std.proofs.{Common.{refl, sym, true≢false}, lemmas.Bool.Decides.{Decides-eqb}}
 use Rattle.std.proofs.lemmas.Option.{MatchOption-at_none, MatchOption-at_some}
 use Rattle.std.proofs.lemmas.Slice.Eq.{strip_prefix_is}
 use Rattle.ocfl_telling.proofs.list.begins_with.Goals as goal

@@ -1,7 +1,5 @@
-use Rattle.std.proofs.Common.{[], ◌∷◌, inr, refl}
-use Rattle.std.proofs.lemmas.Bool.Decides.{Decides-eqb}
-use Rattle.std.proofs.lemmas.Option.{MatchOption-at_some}
-use Rattle.std.proofs.lemmas.Slice.Eq.{strip_suffix_is}
+use Rattle.std.proofs.{Common.{[], ◌∷◌, inr, refl}, lemmas.Bool.Decides.{Decides-eqb}}
+use Rattle.std.proofs.{lemmas.Option.{MatchOption-at_some}, lemmas.Slice.Eq.{strip_suffix_is}}
 use Rattle.ocfl_telling.proofs.list.is_ended.Goals as goal
 
 pub returns-in-Some : goal.returns-in-Some

@@ -1,8 +1,8 @@
 use Rattle.std.proofs.Common.{◌≡◌, ◌≢◌, List, ℕ, [], ◌∷◌, ◌++◌, codes, refl, sym, subst}
-use Rattle.std.specs.Prelude.{IsNone}
 use Rattle.std.proofs.lemmas.Bool.Decides.{Decides-eqb}
 use Rattle.std.proofs.lemmas.Option.{MatchOption-at_none, MatchOption-at_some}
 use Rattle.std.proofs.lemmas.Slice.Eq.{strip_suffix_is}
+use Rattle.std.specs.Prelude.{IsNone}
 use Rattle.ocfl_report.specs.Text.{IsLineText}
 use Rattle.ocfl_telling.proofs.Lists.{branch_named, none_named, same_path}
 use Rattle.ocfl_telling.proofs.list.read_entry.Goals as goal

@@ -1,6 +1,5 @@
-use Rattle.std.proofs.Common.{None, Some, refl, sym, subst}
+use Rattle.std.proofs.{Common.{None, Some, refl, sym, subst}, lemmas.List.{append-nil}}
 use Rattle.std.specs.Prelude.{IsNone}
-use Rattle.std.proofs.lemmas.List.{append-nil}
 use Rattle.ocfl_telling.proofs.Lists.{row_cut, row_refused}
 use Rattle.ocfl_telling.proofs.list.take_row.Goals as goal
 

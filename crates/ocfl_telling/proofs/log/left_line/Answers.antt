@@ -1,7 +1,5 @@
-use Rattle.std.proofs.Common.{◌≡◌, ◌≤◌, ◌∙◌, ap, refl, arith}
-use Rattle.std.proofs.lemmas.Result.{IfOk-weaker}
-use Rattle.serde_json.specs.Data.{depth}
-use Rattle.serde_json.specs.View.{view}
+use Rattle.std.proofs.{Common.{◌≡◌, ◌≤◌, ◌∙◌, ap, refl, arith}, lemmas.Result.{IfOk-weaker}}
+use Rattle.serde_json.specs.{Data.{depth}, View.{view}}
 use Rattle.ocfl_telling.specs.Log.{left_data, left_with}
 use Rattle.ocfl_telling.proofs.log.left_line.Goals as goal
 

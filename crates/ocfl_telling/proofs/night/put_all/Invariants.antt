@@ -1,6 +1,5 @@
 use Rattle.std.proofs.Common.{◌≡◌, ◌++◌, map, take}
-use Rattle.ocfl_report.specs.Line.{line_of}
-use Rattle.ocfl_report.specs.Text.{lines_text}
+use Rattle.ocfl_report.specs.{Line.{line_of}, Text.{lines_text}}
 use Rattle.ocfl_telling.proofs.night.put_all.Given as goal
 
 abbrev pub invariant-loop-line : goal.invariant-loop-line

@@ -1,5 +1,4 @@
-use Rattle.std.proofs.Common.{lit<, tests, rules}
-use Rattle.std.proofs.lemmas.Iterator.Search.{all_from_yields_List}
+use Rattle.std.proofs.{Common.{lit<, tests, rules}, lemmas.Iterator.Search.{all_from_yields_List}}
 use Rattle.std.proofs.lemmas.Iterator.Splits.{YieldsList-from_str_split}
 use Rattle.ocfl_tree.specs.Path.{fits}
 use Rattle.ocfl_tree.proofs.path.all_fit.Goals as goal

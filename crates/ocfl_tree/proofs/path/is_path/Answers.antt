@@ -1,7 +1,5 @@
-use Rattle.std.proofs.Common.{◌≡◌, false, sym, ◌∙◌, ap, not}
-use Rattle.std.specs.Prelude.{◌==◌}
-use Rattle.std.specs.List.{list_any}
-use Rattle.std.proofs.lemmas.Bool.{not-true}
+use Rattle.std.proofs.{Common.{◌≡◌, false, sym, ◌∙◌, ap, not}, lemmas.Bool.{not-true}}
+use Rattle.std.specs.{Prelude.{◌==◌}, List.{list_any}}
 use Rattle.ocfl_tree.proofs.Orders.{true_not_false}
 use Rattle.ocfl_tree.proofs.PathNames.{place_from_tests, place_fits, place_has_no_zero}
 use Rattle.ocfl_tree.proofs.path.is_path.Goals as goal

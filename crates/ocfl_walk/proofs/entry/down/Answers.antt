@@ -1,5 +1,4 @@
-use Rattle.std.proofs.Common.{[], subst}
-use Rattle.std.proofs.lemmas.Result.{err_from_is_err_and}
+use Rattle.std.proofs.{Common.{[], subst}, lemmas.Result.{err_from_is_err_and}}
 use Rattle.ocfl_walk.specs.Internal.Entering.{LeadsOn}
 use Rattle.ocfl_walk.proofs.LeadsLaws.{around_on}
 use Rattle.ocfl_walk.proofs.DownLaws.{in_object, leads_in, leads_shut, leads_stop, shut_off, shut_unlisted}

@@ -1,5 +1,4 @@
-use Rattle.std.proofs.Common.{◌∙◌, arith}
-use Rattle.std.proofs.lemmas.Result.{err_from_is_err_and}
+use Rattle.std.proofs.{Common.{◌∙◌, arith}, lemmas.Result.{err_from_is_err_and}}
 use Rattle.ocfl_item.proofs.LooksCalls.{enters_at, root_listable}
 use Rattle.ocfl_walk.proofs.EnterLaws.{root_known, root_stops, root_unknown}
 use Rattle.ocfl_walk.proofs.entry.known_root.Goals as goal

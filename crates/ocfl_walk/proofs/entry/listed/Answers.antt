@@ -1,10 +1,8 @@
 use Rattle.std.proofs.Common.{◌≡◌, ◌++◌, ◌∷◌, [], true, sym, subst, ◌∙◌}
 use Rattle.std.proofs.lemmas.Result.{err_from_is_err_and}
 use Rattle.ocfl_item.specs.Ways.{is_listable}
-use Rattle.ocfl_item.proofs.LooksEntries.{listable_is}
-use Rattle.ocfl_item.proofs.LooksCalls.{enters_at}
-use Rattle.ocfl_walk.proofs.DescentLaws.{stops_memory}
-use Rattle.ocfl_walk.proofs.LeadsLaws.{may_depth}
+use Rattle.ocfl_item.proofs.{LooksEntries.{listable_is}, LooksCalls.{enters_at}}
+use Rattle.ocfl_walk.proofs.{DescentLaws.{stops_memory}, LeadsLaws.{may_depth}}
 use Rattle.ocfl_walk.proofs.entry.listed.Goals as goal
 
 pub returns-clause-told : goal.returns-clause-told

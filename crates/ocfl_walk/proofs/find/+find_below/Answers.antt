@@ -1,7 +1,5 @@
-use Rattle.std.proofs.Common.{◌∙◌, sym, subst}
-use Rattle.std.proofs.lemmas.Result.{err_from_is_err_and}
-use Rattle.ocfl_item.specs.Around.{IsPart}
-use Rattle.ocfl_item.specs.Ways.{IsAt}
+use Rattle.std.proofs.{Common.{◌∙◌, sym, subst}, lemmas.Result.{err_from_is_err_and}}
+use Rattle.ocfl_item.specs.{Around.{IsPart}, Ways.{IsAt}}
 use Rattle.ocfl_walk.proofs.FindLaws.{further, item_further, item_shut, item_stop, shut_table, shut_unseen}
 use Rattle.ocfl_walk.proofs.find.+find_below.Goals as goal
 

@@ -1,5 +1,4 @@
-use Rattle.std.proofs.Common.{◌≡◌, [], ◌∷◌, subst, None}
-use Rattle.std.proofs.lemmas.Result.{err_from_is_err_and}
+use Rattle.std.proofs.{Common.{◌≡◌, [], ◌∷◌, subst, None}, lemmas.Result.{err_from_is_err_and}}
 use Rattle.std.specs.Prelude.{Ok, Err}
 use Rattle.ocfl_tree.specs.Listing.{kind_in}
 use Rattle.ocfl_audit.specs.Zone.{zone}

@@ -1,8 +1,6 @@
-use Rattle.std.proofs.Common.{rules, ◌∙◌, ap, not}
-use Rattle.std.proofs.lemmas.Fn.{filter_same}
+use Rattle.std.proofs.{Common.{rules, ◌∙◌, ap, not}, lemmas.Fn.{filter_same}}
 use Rattle.std.specs.Ordering.{is_lt}
-use Rattle.ocfl_tree.specs.Place.{text_cmp}
-use Rattle.ocfl_tree.specs.declared.store.Entry.{Entry}
+use Rattle.ocfl_tree.specs.{Place.{text_cmp}, declared.store.Entry.{Entry}}
 use Rattle.ocfl_walk.specs.Standing.{back}
 use Rattle.ocfl_walk.proofs.Backs.{back_filter}
 use Rattle.ocfl_walk.proofs.listing.keep_from.Goals as goal

@@ -1,6 +1,5 @@
 use Rattle.std.proofs.Common.{◌∙◌, ap}
-use Rattle.ocfl_walk.specs.Standing.{piles_at}
-use Rattle.ocfl_walk.specs.Internal.Standing.{cut_top, trimmed}
+use Rattle.ocfl_walk.specs.{Standing.{piles_at}, Internal.Standing.{cut_top, trimmed}}
 use Rattle.ocfl_walk.proofs.stand.begin_at.Goals as goal
 
 pub returns : goal.returns

@@ -1,6 +1,5 @@
 use Rattle.std.proofs.Common.{◌≡◌, ◌∙◌, Some, ap, sym}
-use Rattle.ocfl_walk.specs.Standing.{piles_in}
-use Rattle.ocfl_walk.specs.Internal.Standing.{next_of, path_from}
+use Rattle.ocfl_walk.specs.{Standing.{piles_in}, Internal.Standing.{next_of, path_from}}
 use Rattle.ocfl_walk.proofs.Chosen.{tie}
 use Rattle.ocfl_walk.proofs.stand.choose.Goals as goal
 

@@ -1,8 +1,7 @@
 use Rattle.std.proofs.Common.{◌≡◌}
 use Rattle.arrayvec.specs.ArrayVec.{array_vec_len}
 use Rattle.ocfl_tree.specs.Place.{Place}
-use Rattle.ocfl_walk.specs.Standing.{piles_at}
-use Rattle.ocfl_walk.specs.Internal.Standing.{trimmed}
+use Rattle.ocfl_walk.specs.{Standing.{piles_at}, Internal.Standing.{trimmed}}
 use Rattle.ocfl_walk.proofs.stand.drop_empty.Given as goal
 
 abbrev pub invariant-loop-listings : goal.invariant-loop-listings

@@ -1,7 +1,6 @@
 use Rattle.std.proofs.Common.{◌≡◌, ◌∙◌, ap, arith, eq-eqb, sym}
 use Rattle.std.proofs.lemmas.Bool.{eqb-true, false≢true}
-use Rattle.ocfl_tree.specs.Path.{names_of}
-use Rattle.ocfl_tree.specs.Place.{text_eq}
+use Rattle.ocfl_tree.specs.{Path.{names_of}, Place.{text_eq}}
 use Rattle.ocfl_tree.proofs.Places.{text_eq-Decides}
 use Rattle.ocfl_walk.proofs.PlacedLaws.{next_fits, next_is}
 use Rattle.ocfl_walk.proofs.stand.is_next_entry.Goals as goal

@@ -1,8 +1,6 @@
-use Rattle.std.proofs.Common.{sym, refl, subst}
-use Rattle.std.proofs.lemmas.Result.{err_from_is_err_and}
+use Rattle.std.proofs.{Common.{sym, refl, subst}, lemmas.Result.{err_from_is_err_and}}
 use Rattle.ocfl_walk.specs.Internal.Standing.{IsAroundIf}
-use Rattle.ocfl_item.specs.Around.{IsMet}
-use Rattle.ocfl_item.specs.Meeting.{IsFairVisit, IsVisit, Meets}
+use Rattle.ocfl_item.specs.{Around.{IsMet}, Meeting.{IsFairVisit, IsVisit, Meets}}
 use Rattle.ocfl_walk.proofs.MeetLaws.{around_fair, table_met}
 use Rattle.ocfl_item.proofs.VisitLaws.{meet_nothing, meet_out}
 use Rattle.ocfl_item.specs.declared.fault.Fault.TheVariants as fault

@@ -1,5 +1,4 @@
-use Rattle.std.proofs.lemmas.List.{length-append}
-use Rattle.std.proofs.Common.{◌∙◌, [], ◌∷◌, ap, length}
+use Rattle.std.proofs.{lemmas.List.{length-append}, Common.{◌∙◌, [], ◌∷◌, ap, length}}
 use Rattle.ocfl_walk.proofs.PlacedLaws.{pushed_at}
 use Rattle.ocfl_walk.proofs.stand.push.Goals as goal
 

@@ -1,5 +1,4 @@
-use Rattle.sha2.specs.Sha256.{sha256}
-use Rattle.sha2.specs.Sha512.{sha512, sha512_256}
+use Rattle.sha2.specs.{Sha256.{sha256}, Sha512.{sha512, sha512_256}}
 use Rattle.ocfl_digest.proofs.HashersLemmas.{ended, by_algorithm}
 use Rattle.ocfl_digest.proofs.hashers.Hashers.end.Goals as goal
 

@@ -1,9 +1,7 @@
-use Rattle.std.proofs.Common.{ap}
-use Rattle.std.proofs.lemmas.Result.{err_from_is_err_and}
+use Rattle.std.proofs.{Common.{ap}, lemmas.Result.{err_from_is_err_and}}
 use Rattle.ocfl_tree.specs.Store.{Store}
 use Rattle.ocfl_folder.specs.Internal.Absence.{IsAbsent}
-use Rattle.ocfl_folder.proofs.Ways.{no_file}
-use Rattle.ocfl_folder.proofs.Answering.{opened_at}
+use Rattle.ocfl_folder.proofs.{Ways.{no_file}, Answering.{opened_at}}
 use Rattle.ocfl_folder.proofs.stand.Stand.file.Goals as goal
 
 pub returns-in_err-stand_in-2-clause-opened : goal.returns-in_err-stand_in-2-clause-opened

@@ -1,8 +1,7 @@
 use Rattle.std.proofs.Common.{◌≡◌, List, ◌∙◌, ap, subst, map}
 use Rattle.std.specs.Prelude.{IfOk}
-use Rattle.ocfl_inventory.specs.Table.{Table, Named, named}
+use Rattle.ocfl_inventory.specs.Table.{Table, Named, named, Triple}
 use Rattle.ocfl_inventory.specs.TripleView.{named_view, named_among}
-use Rattle.ocfl_inventory.specs.Table.{Triple}
 use Rattle.ocfl_inventory.proofs.table.Table.named.Goals as goal
 
 pub returns : goal.returns

@@ -1,11 +1,7 @@
 use Rattle.std.proofs.Common.{◌≡◌, List, sym, ◌∙◌, ap, subst, option_map, Option, Some, None, true, false, Bor}
-use Rattle.std.specs.Prelude.{slice_get}
-use Rattle.std.specs.List.Sorted.{IsPartitionPoint}
-use Rattle.std.specs.Ordering.{is_lt}
+use Rattle.std.specs.{Prelude.{slice_get}, List.Sorted.{IsPartitionPoint}, Ordering.{is_lt}}
 use Rattle.ocfl_tree.specs.Place.{Place, place_cmp}
-use Rattle.ocfl_inventory.specs.NextPath.{next_path}
-use Rattle.ocfl_inventory.specs.Table.{Table}
-use Rattle.ocfl_inventory.specs.Table.{Triple}
+use Rattle.ocfl_inventory.specs.{NextPath.{next_path}, Table.{Table, Triple}}
 use Rattle.ocfl_inventory.proofs.TableSearch.{found_at, first_of}
 use Rattle.ocfl_inventory.proofs.table.Table.next_after.Goals as goal
 

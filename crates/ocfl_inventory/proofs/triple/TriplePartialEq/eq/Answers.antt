@@ -1,9 +1,7 @@
-use Rattle.std.proofs.Common.{◌≡◌, sym, ◌∙◌, false}
+use Rattle.std.proofs.{Common.{◌≡◌, sym, ◌∙◌, false}, lemmas.Map.Text.{is_eq-slice_cmp}}
 use Rattle.std.specs.Ordering.{is_eq, eq_by_cmp}
-use Rattle.std.proofs.lemmas.Map.Text.{is_eq-slice_cmp}
 use Rattle.ocfl_tree.specs.Place.{text_cmp}
-use Rattle.ocfl_inventory.specs.Table.{Triple, triple_cmp}
-use Rattle.ocfl_inventory.specs.TripleView.{named_view}
+use Rattle.ocfl_inventory.specs.{Table.{Triple, triple_cmp}, TripleView.{named_view}}
 use Rattle.ocfl_inventory.proofs.TripleOrders.{digests_differ}
 use Rattle.ocfl_inventory.proofs.triple.TriplePartialEq.eq.Goals as goal
 

@@ -1,6 +1,5 @@
 use Rattle.std.proofs.Common.{◌≡◌, ◌∙◌, IfOk, ap, drop, map, subst}
-use Rattle.ocfl_inventory.specs.Table.{named}
-use Rattle.ocfl_inventory.specs.TripleView.{named_view}
+use Rattle.ocfl_inventory.specs.{Table.{named}, TripleView.{named_view}}
 use Rattle.ocfl_item.proofs.meeting.Around.named_at.Goals as goal
 
 pub returns : goal.returns

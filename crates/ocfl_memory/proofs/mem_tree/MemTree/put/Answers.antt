@@ -1,5 +1,4 @@
-use Rattle.std.proofs.Common.{◌∙◌, sym}
-use Rattle.std.proofs.lemmas.Result.{err_from_is_err_and}
+use Rattle.std.proofs.{Common.{◌∙◌, sym}, lemmas.Result.{err_from_is_err_and}}
 use Rattle.ocfl_memory.proofs.Changes.{kept_push, puts, refusal_found, not_refused}
 use Rattle.ocfl_memory.proofs.mem_tree.MemTree.put.Goals as goal
 

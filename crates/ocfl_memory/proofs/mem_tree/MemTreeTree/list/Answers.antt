@@ -1,5 +1,4 @@
-use Rattle.ocfl_memory.proofs.Listings.{apart_kept}
-use Rattle.ocfl_memory.proofs.Seen.{lists_seen, list_breaks}
+use Rattle.ocfl_memory.proofs.{Listings.{apart_kept}, Seen.{lists_seen, list_breaks}}
 use Rattle.ocfl_memory.proofs.mem_tree.MemTreeTree.list.Goals as goal
 
 pub returns-in-Ok-clause-ordinary : goal.returns-in-Ok-clause-ordinary

@@ -1,7 +1,5 @@
-use Rattle.std.proofs.Common.{◌∙◌, ap, sym}
-use Rattle.std.proofs.lemmas.Result.{IfOk-weaker}
-use Rattle.ocfl_night.specs.Leaving.{tried_by}
-use Rattle.ocfl_night.specs.declared.tally.Tally.{Tally}
+use Rattle.std.proofs.{Common.{◌∙◌, ap, sym}, lemmas.Result.{IfOk-weaker}}
+use Rattle.ocfl_night.specs.{Leaving.{tried_by}, declared.tally.Tally.{Tally}}
 use Rattle.ocfl_night.proofs.Branches.{untried}
 use Rattle.ocfl_night.proofs.tally.Tally.remedy.Goals as goal
 

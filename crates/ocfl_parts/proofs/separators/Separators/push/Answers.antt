@@ -1,6 +1,5 @@
 use Rattle.std.proofs.Common.{◌≡◌, [], ◌∷◌, ◌++◌, sym, subst, rules}
-use Rattle.ocfl_tree.specs.Ascending.{IsAscending}
-use Rattle.ocfl_tree.specs.Place.{place_cmp}
+use Rattle.ocfl_tree.specs.{Ascending.{IsAscending}, Place.{place_cmp}}
 use Rattle.ocfl_parts.specs.Separators.{AreSeparators}
 use Rattle.ocfl_parts.proofs.Orders.{AreSeparators-push, AreSeparators-had}
 use Rattle.ocfl_parts.proofs.separators.Separators.push.Goals as goal

@@ -1,7 +1,6 @@
 use Rattle.std.proofs.Common.{sym, ◌∙◌, ap}
 use Rattle.ocfl_report.specs.Text.{escape, place_text}
-use Rattle.ocfl_report.proofs.Bytes.{utf8_bytes}
-use Rattle.ocfl_report.proofs.Encoded.{percent_encode-escape}
+use Rattle.ocfl_report.proofs.{Bytes.{utf8_bytes}, Encoded.{percent_encode-escape}}
 use Rattle.ocfl_report.proofs.PathTexts.{path_text}
 use Rattle.ocfl_report.proofs.display.DisplayPlaceDisplay.fmt.Goals as goal
 

@@ -1,8 +1,6 @@
 use Rattle.std.proofs.Common.{◌∙◌, ap, ◌++◌, length}
-use Rattle.ocfl_state.specs.Crash.{MayTear}
-use Rattle.ocfl_state.specs.Memory.{History, after_append}
-use Rattle.ocfl_state.proofs.Images.{append, not_torn}
-use Rattle.ocfl_state.proofs.Histories.{changed}
+use Rattle.ocfl_state.specs.{Crash.{MayTear}, Memory.{History, after_append}}
+use Rattle.ocfl_state.proofs.{Images.{append, not_torn}, Histories.{changed}}
 use Rattle.ocfl_state.proofs.memory.MemStateStateFolder.append.Goals as goal
 
 pub returns-clause-crash : goal.returns-clause-crash

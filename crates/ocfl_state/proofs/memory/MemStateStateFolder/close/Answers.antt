@@ -1,8 +1,6 @@
 use Rattle.std.proofs.Common.{◌∙◌, ap, inl, refl}
-use Rattle.ocfl_state.specs.Crash.{IsMoved, MayMove}
-use Rattle.ocfl_state.specs.Memory.{History, after_close}
-use Rattle.ocfl_state.proofs.Images.{close, may_move}
-use Rattle.ocfl_state.proofs.Histories.{changed, stored}
+use Rattle.ocfl_state.specs.{Crash.{IsMoved, MayMove}, Memory.{History, after_close}}
+use Rattle.ocfl_state.proofs.{Images.{close, may_move}, Histories.{changed, stored}}
 use Rattle.ocfl_state.proofs.memory.MemStateStateFolder.close.Goals as goal
 
 pub returns-clause-crash : goal.returns-clause-crash

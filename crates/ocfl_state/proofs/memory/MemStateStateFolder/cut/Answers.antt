@@ -1,8 +1,6 @@
 use Rattle.std.proofs.Common.{◌∙◌, ap}
-use Rattle.ocfl_state.specs.Crash.{MayTear}
-use Rattle.ocfl_state.specs.Memory.{History, after_cut}
-use Rattle.ocfl_state.proofs.Images.{cut, not_torn}
-use Rattle.ocfl_state.proofs.Histories.{changed}
+use Rattle.ocfl_state.specs.{Crash.{MayTear}, Memory.{History, after_cut}}
+use Rattle.ocfl_state.proofs.{Images.{cut, not_torn}, Histories.{changed}}
 use Rattle.ocfl_state.proofs.memory.MemStateStateFolder.cut.Goals as goal
 
 pub returns-clause-crash : goal.returns-clause-crash

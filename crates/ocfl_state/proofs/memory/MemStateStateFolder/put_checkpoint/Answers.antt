@@ -1,8 +1,6 @@
 use Rattle.std.proofs.Common.{◌∙◌, ap, inl, refl}
-use Rattle.ocfl_state.specs.Crash.{IsPut, MayPut}
-use Rattle.ocfl_state.specs.Memory.{History, after_put}
-use Rattle.ocfl_state.proofs.Images.{put, may_put}
-use Rattle.ocfl_state.proofs.Histories.{changed, stored}
+use Rattle.ocfl_state.specs.{Crash.{IsPut, MayPut}, Memory.{History, after_put}}
+use Rattle.ocfl_state.proofs.{Images.{put, may_put}, Histories.{changed, stored}}
 use Rattle.ocfl_state.proofs.memory.MemStateStateFolder.put_checkpoint.Goals as goal
 
 pub returns-clause-crash : goal.returns-clause-crash

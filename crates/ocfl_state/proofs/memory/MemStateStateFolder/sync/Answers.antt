@@ -1,8 +1,6 @@
 use Rattle.std.proofs.Common.{◌∙◌, ap, refl}
-use Rattle.ocfl_state.specs.Crash.{Same}
-use Rattle.ocfl_state.specs.Memory.{History, Kept, kept_whole}
-use Rattle.ocfl_state.proofs.Images.{sync}
-use Rattle.ocfl_state.proofs.Histories.{changed}
+use Rattle.ocfl_state.specs.{Crash.{Same}, Memory.{History, Kept, kept_whole}}
+use Rattle.ocfl_state.proofs.{Images.{sync}, Histories.{changed}}
 use Rattle.ocfl_state.proofs.memory.MemStateStateFolder.sync.Goals as goal
 
 pub returns-clause-crash : goal.returns-clause-crash

@@ -1,7 +1,5 @@
-use Rattle.std.proofs.Common.{◌+◌, subst, arith}
-use Rattle.std.proofs.lemmas.List.{take_all}
-use Rattle.ocfl_state.specs.Content.{Bytes}
-use Rattle.ocfl_state.specs.Pieces.{Pushes}
+use Rattle.std.proofs.{Common.{◌+◌, subst, arith}, lemmas.List.{take_all}}
+use Rattle.ocfl_state.specs.{Content.{Bytes}, Pieces.{Pushes}}
 use Rattle.ocfl_state.proofs.PieceLaws.{pushes_slice}
 use Rattle.ocfl_state.proofs.pieces.ReportDigests.push_from.Goals as goal
 

@@ -1,6 +1,5 @@
 use Rattle.std.proofs.Common.{◌≡◌, [], ◌∷◌, ◌++◌, sym, subst, ◌∙◌}
-use Rattle.ocfl_report.specs.Line.{line_of}
-use Rattle.ocfl_report.specs.Text.{IsLineText}
+use Rattle.ocfl_report.specs.{Line.{line_of}, Text.{IsLineText}}
 use Rattle.ocfl_telling.proofs.Pieces.{line_refused, line_taken}
 use Rattle.ocfl_telling.proofs.found.Found.end_line.Goals as goal
 

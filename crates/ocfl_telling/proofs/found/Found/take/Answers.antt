@@ -1,6 +1,5 @@
 use Rattle.std.proofs.Common.{[], ◌∷◌, ◌++◌, append_assoc, refl, sym, subst}
-use Rattle.std.proofs.lemmas.List.{append-nil}
-use Rattle.std.proofs.lemmas.Result.{err_from_is_err_and}
+use Rattle.std.proofs.{lemmas.List.{append-nil}, lemmas.Result.{err_from_is_err_and}}
 use Rattle.ocfl_telling.specs.Found.{HasBadLine, IsAfter}
 use Rattle.ocfl_telling.proofs.Pieces.{bad_joined, cut_on, rest_joined, rest_kept}
 use Rattle.ocfl_telling.proofs.found.Found.take.Goals as goal

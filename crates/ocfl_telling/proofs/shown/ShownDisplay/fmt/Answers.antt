@@ -1,7 +1,6 @@
 use Rattle.std.proofs.Common.{sym, ◌∙◌, ap}
 use Rattle.ocfl_report.specs.Text.{escape}
-use Rattle.ocfl_report.proofs.Bytes.{utf8_bytes}
-use Rattle.ocfl_report.proofs.Encoded.{percent_encode-escape}
+use Rattle.ocfl_report.proofs.{Bytes.{utf8_bytes}, Encoded.{percent_encode-escape}}
 use Rattle.ocfl_telling.proofs.shown.ShownDisplay.fmt.Goals as goal
 
 pub returns-clause-writes : goal.returns-clause-writes

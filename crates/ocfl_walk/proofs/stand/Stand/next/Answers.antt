@@ -1,7 +1,5 @@
-use Rattle.std.proofs.Common.{refl, subst, inl}
-use Rattle.std.proofs.lemmas.Result.{err_from_is_err_and}
-use Rattle.ocfl_walk.specs.Standing.{piles_in, spot_of}
-use Rattle.ocfl_walk.specs.Internal.Walking.{GoesOn, IsBefore}
+use Rattle.std.proofs.{Common.{refl, subst, inl}, lemmas.Result.{err_from_is_err_and}}
+use Rattle.ocfl_walk.specs.{Standing.{piles_in, spot_of}, Internal.Walking.{GoesOn, IsBefore}}
 use Rattle.ocfl_walk.specs.declared.stand.Stand.{Stand}
 use Rattle.ocfl_walk.specs.declared.stand.Step.TheVariants as step
 use Rattle.ocfl_walk.proofs.Chosen.{goes_from, mid_at, mid_orderly, sizes, trim_stays}

@@ -1,8 +1,6 @@
 use Rattle.std.proofs.Common.{◌≡◌, IsTrue, Option}
-use Rattle.ocfl_tree.specs.Place.{Place}
-use Rattle.ocfl_tree.specs.StorageRoot.{StorageRoot}
-use Rattle.ocfl_walk.specs.Standing.{StandsAt, stand_size}
-use Rattle.ocfl_walk.specs.Internal.Standing.{IsOrderlyStand}
+use Rattle.ocfl_tree.specs.{Place.{Place}, StorageRoot.{StorageRoot}}
+use Rattle.ocfl_walk.specs.{Standing.{StandsAt, stand_size}, Internal.Standing.{IsOrderlyStand}}
 use Rattle.ocfl_walk.specs.Internal.Walking.{Onward, SoFar}
 use Rattle.ocfl_walk.proofs.stand.Stand.next.Given as goal
 

@@ -1,5 +1,4 @@
-use Rattle.std.proofs.Common.{[], sym, ◌∙◌, Some, None}
-use Rattle.std.proofs.lemmas.Result.{err_from_is_err_and}
+use Rattle.std.proofs.{Common.{[], sym, ◌∙◌, Some, None}, lemmas.Result.{err_from_is_err_and}}
 use Rattle.ocfl_walk.specs.Internal.Walking.{StepsOutTo}
 use Rattle.ocfl_walk.specs.declared.stand.Turn.TheVariants as turn
 use Rattle.ocfl_walk.proofs.Chosen.{at_first, chosen_base, chosen_begun, chosen_entry, chosen_path, kept_turn, no_memory}

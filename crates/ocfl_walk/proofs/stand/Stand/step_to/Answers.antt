@@ -1,11 +1,8 @@
 use Rattle.std.proofs.Common.{◌≡◌, ◌∙◌, ◌++◌, ◌∷◌, [], ap, refl, sym, subst, Some, false}
 use Rattle.std.proofs.lemmas.Result.{err_from_is_err_and}
-use Rattle.ocfl_walk.specs.Before.{place_before}
-use Rattle.ocfl_walk.specs.Ends.{is_past}
-use Rattle.ocfl_walk.specs.Standing.{IsStanding, piles_in, spot_of}
-use Rattle.ocfl_walk.specs.declared.stand.Stand.{Stand}
-use Rattle.ocfl_walk.proofs.Chosen.{no_memory}
-use Rattle.ocfl_walk.proofs.EndLaws.{not_past_down}
+use Rattle.ocfl_walk.specs.{Before.{place_before}, Ends.{is_past}}
+use Rattle.ocfl_walk.specs.{Standing.{IsStanding, piles_in, spot_of}, declared.stand.Stand.{Stand}}
+use Rattle.ocfl_walk.proofs.{Chosen.{no_memory}, EndLaws.{not_past_down}}
 use Rattle.ocfl_walk.proofs.FirstSteps.{cut_held, cut_in_order, cut_no_more, cut_trims, ends_at, entry_turn, goes_at_entry, goes_at_missing, missing_next, missing_turn, one_directory, stays_before, steps_at}
 use Rattle.ocfl_walk.proofs.StandLaws.{steps_out_to}
 use Rattle.ocfl_walk.proofs.stand.Stand.step_to.Goals as goal

@@ -1,9 +1,7 @@
-use Rattle.std.proofs.Common.{[], None}
-use Rattle.std.proofs.lemmas.Result.{err_from_is_err_and}
+use Rattle.std.proofs.{Common.{[], None}, lemmas.Result.{err_from_is_err_and}}
 use Rattle.ocfl_walk.proofs.MeetLaws.{ordinary}
 use Rattle.ocfl_walk.proofs.StandSteps.{base_goes_on, base_orderly, base_room, base_there, base_told}
-use Rattle.ocfl_walk.proofs.StartLaws.{near_first}
-use Rattle.ocfl_walk.proofs.WalkCallLaws.{meets_fails}
+use Rattle.ocfl_walk.proofs.{StartLaws.{near_first}, WalkCallLaws.{meets_fails}}
 use Rattle.ocfl_walk.proofs.stand.Stand.take_base.Goals as goal
 
 pub returns-in_err-item-clause-told : goal.returns-in_err-item-clause-told

@@ -1,5 +1,4 @@
-use Rattle.std.proofs.Common.{Some}
-use Rattle.std.proofs.lemmas.Result.{err_from_is_err_and}
+use Rattle.std.proofs.{Common.{Some}, lemmas.Result.{err_from_is_err_and}}
 use Rattle.ocfl_walk.proofs.DueTurns.{near_turn}
 use Rattle.ocfl_walk.proofs.StandSteps.{entry_around, entry_fits, entry_goes_on, entry_is_met, entry_orderly, entry_there, entry_told}
 use Rattle.ocfl_walk.proofs.WalkCallLaws.{meets_fails}

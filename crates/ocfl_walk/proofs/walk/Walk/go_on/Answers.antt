@@ -1,9 +1,6 @@
-use Rattle.std.proofs.Common.{◌∙◌, refl, subst, sym, Some}
-use Rattle.std.proofs.lemmas.Result.{err_from_is_err_and}
-use Rattle.ocfl_walk.specs.Internal.Walking.{GoesAt, StepsAt}
-use Rattle.ocfl_walk.specs.declared.walk.Walk.{Walk}
-use Rattle.ocfl_walk.proofs.OrderlyTests.{orderly_from, orderly_to}
-use Rattle.ocfl_walk.proofs.WalkCallLaws.{walks_over}
+use Rattle.std.proofs.{Common.{◌∙◌, refl, subst, sym, Some}, lemmas.Result.{err_from_is_err_and}}
+use Rattle.ocfl_walk.specs.{Internal.Walking.{GoesAt, StepsAt}, declared.walk.Walk.{Walk}}
+use Rattle.ocfl_walk.proofs.{OrderlyTests.{orderly_from, orderly_to}, WalkCallLaws.{walks_over}}
 use Rattle.ocfl_walk.proofs.WalkWords.{before, begins_end, begins_fails, begins_item, begins_then_told, goes_first, goes_ok, goes_then_ok, parts}
 use Rattle.ocfl_walk.proofs.walk.Walk.go_on.Goals as goal
 

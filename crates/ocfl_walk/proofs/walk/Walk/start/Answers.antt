@@ -1,8 +1,6 @@
-use Rattle.std.proofs.Common.{refl}
-use Rattle.std.proofs.lemmas.Result.{err_from_is_err_and}
+use Rattle.std.proofs.{Common.{refl}, lemmas.Result.{err_from_is_err_and}}
 use Rattle.ocfl_walk.proofs.FoundLaws.{start_at_none, start_fails_down, start_goes_down}
-use Rattle.ocfl_walk.proofs.OrderlyTests.{orderly_to}
-use Rattle.ocfl_walk.proofs.WalkWords.{opens_down, opens_nothing}
+use Rattle.ocfl_walk.proofs.{OrderlyTests.{orderly_to}, WalkWords.{opens_down, opens_nothing}}
 use Rattle.ocfl_walk.proofs.walk.Walk.start.Goals as goal
 
 pub invariant_of-result-2 : goal.invariant_of-result-2

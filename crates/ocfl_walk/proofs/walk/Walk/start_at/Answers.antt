@@ -1,11 +1,8 @@
 use Rattle.std.proofs.Common.{◌∙◌, ap, refl, sym, Some, false, length}
+use Rattle.std.proofs.{lemmas.List.{nil_from_length}, lemmas.Result.{err_from_is_err_and}}
 use Rattle.std.specs.Prelude.{MatchResult}
-use Rattle.std.proofs.lemmas.List.{nil_from_length}
-use Rattle.std.proofs.lemmas.Result.{err_from_is_err_and}
-use Rattle.ocfl_walk.specs.Before.{directory_of}
-use Rattle.ocfl_walk.specs.WalkCalls.{GoDownFails, GoesDown}
-use Rattle.ocfl_walk.specs.Walks.{Stands}
-use Rattle.ocfl_walk.specs.declared.walk.Walk.{Walk}
+use Rattle.ocfl_walk.specs.{Before.{directory_of}, WalkCalls.{GoDownFails, GoesDown}}
+use Rattle.ocfl_walk.specs.{Walks.{Stands}, declared.walk.Walk.{Walk}}
 use Rattle.ocfl_walk.proofs.BeforeLaws.{directory_is}
 use Rattle.ocfl_walk.proofs.FoundLaws.{answered_memory, start_fails_down, start_goes_down}
 use Rattle.ocfl_walk.proofs.OrderlyTests.{orderly_to}

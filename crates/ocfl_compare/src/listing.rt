@@ -5,7 +5,7 @@ ghost use Rattle.ocfl_report.specs.Text.{place_text};
 ghost use Rattle.ocfl_compare.specs.Listed.{IsList, IsObjectPlace, ListStopsRightly, path_in, is_trimmed, path_of, trimmed};
 
 use crate::reading::{ReadStop, read_text};
-use ocfl_report::{PlaceStop, read_place};
+use ocfl_report::{TextStop, read_place};
 use ocfl_tree::Place;
 use std::alloc::Global;
 use std::io::BufRead;
@@ -75,8 +75,8 @@ fn take_path(
     }
     let place = match read_place(alloc, path) {
         Ok(place) => place,
-        Err(PlaceStop::Bad) => return Err(ListStop::Line(number)),
-        Err(PlaceStop::Memory) => return Err(ListStop::Memory),
+        Err(TextStop::Bad) => return Err(ListStop::Line(number)),
+        Err(TextStop::Memory) => return Err(ListStop::Memory),
     };
     if place.depth() == 0 {
         return Err(ListStop::Line(number));

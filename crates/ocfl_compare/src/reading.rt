@@ -8,7 +8,7 @@ ghost use Rattle.ocfl_compare.specs.Internal.Reading.{GoesOn, HasRead, IsBelow, 
 ghost use Rattle.ocfl_compare.specs.{Internal.Telling.{IsTold, Tells}, Internal.Turns.{AreTaken}};
 
 use crate::told::{Told, nothing, tell};
-use ocfl_report::{Line, LineStop, read_line};
+use ocfl_report::{Line, TextStop, read_line};
 use ocfl_tree::Place;
 use std::alloc::{AllocError, Global};
 use std::cmp::Ordering;
@@ -92,8 +92,8 @@ fn take_text(alloc: Global, text: &[u8], reading: Reading) -> Result<Reading, Re
     };
     let line = match read_line(alloc, text) {
         Ok(line) => line,
-        Err(LineStop::Bad) => return Err(ReadStop::Line(count)),
-        Err(LineStop::Memory) => return Err(ReadStop::Memory),
+        Err(TextStop::Bad) => return Err(ReadStop::Line(count)),
+        Err(TextStop::Memory) => return Err(ReadStop::Memory),
     };
     if is_above(&reading.next, &line.place) {
         return Err(ReadStop::Line(count));

@@ -19,7 +19,7 @@ use crate::pieces::{after_prefix, before_line_feed, count_slashes, first_line};
 use crate::refused::Refused;
 use crate::seal::sealed_body;
 use crate::state::{MAX_NAMES, State};
-use ocfl_report::{PlaceStop, read_place};
+use ocfl_report::{TextStop, read_place};
 use ocfl_tree::{Place, is_bytes};
 use std::alloc::Global;
 
@@ -194,7 +194,7 @@ fn read_short_place(alloc: Global, path: &[u8]) -> Result<Place, Refused>
     }
     match read_place(alloc, path) {
         Ok(place) => Ok(place),
-        Err(PlaceStop::Bad) => Err(Refused::Malformed),
-        Err(PlaceStop::Memory) => Err(Refused::Memory),
+        Err(TextStop::Bad) => Err(Refused::Malformed),
+        Err(TextStop::Memory) => Err(Refused::Memory),
     }
 }

@@ -14,7 +14,7 @@ use crate::form::{BELOW, DIGEST, END, FROM, NO_WORD, PART_FIRST_LINE, START, Ver
 use crate::pieces::after_prefix;
 use crate::refused::{PartRefused, Refused};
 use crate::seal::sealed_body;
-use ocfl_report::{PlaceStop, read_place, split_once};
+use ocfl_report::{TextStop, read_place, split_once};
 use ocfl_tree::{Place, is_bytes};
 use std::alloc::Global;
 
@@ -133,7 +133,7 @@ fn read_end_place(alloc: Global, path: &[u8]) -> Result<Place, PartRefused>
 {
     match read_place(alloc, path) {
         Ok(place) => Ok(place),
-        Err(PlaceStop::Bad) => Err(PartRefused::Malformed),
-        Err(PlaceStop::Memory) => Err(PartRefused::Memory),
+        Err(TextStop::Bad) => Err(PartRefused::Malformed),
+        Err(TextStop::Memory) => Err(PartRefused::Memory),
     }
 }

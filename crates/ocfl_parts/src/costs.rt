@@ -4,7 +4,7 @@ ghost use Rattle.std.specs.Str.Parse.{digits_value};
 ghost use Rattle.ocfl_report.specs.{Line.{Line as ModelLine}, Text.{IsLineText}};
 ghost use Rattle.ocfl_parts.specs.Costs.{is_size, told_cost, told};
 
-use ocfl_report::{Code, LineStop, read_decimal, read_line};
+use ocfl_report::{Code, TextStop, read_decimal, read_line};
 use ocfl_tree::Place;
 use std::alloc::Global;
 
@@ -19,10 +19,10 @@ pub(crate) struct Told {
 }
 
 /// What the line says whose text the bytes are.
-pub(crate) fn read_told(alloc: Global, bytes: &[u8]) -> Result<Told, LineStop>
+pub(crate) fn read_told(alloc: Global, bytes: &[u8]) -> Result<Told, TextStop>
     ensures ok { IfOk result
         (λ said. (line : ModelLine) × IsLineText bytes.now line × (said ≡ told line)) }
-    ensures bad { result ≡ Err LineStop.Bad
+    ensures bad { result ≡ Err TextStop.Bad
         → (line : ModelLine) → IsLineText bytes.now line → ⊥ }
 {
     let line = read_line(alloc, bytes)?;

@@ -6,7 +6,7 @@ ghost use Rattle.ocfl_parts.specs.Parts.{max_separators, IsPartsText};
 ghost use Rattle.ocfl_parts.specs.Stop.{StopsRightly, LinesStop};
 
 use crate::separators::{MAX_SEPARATORS, PushStop, Separators};
-use ocfl_report::{PlaceStop, read_place, split_once};
+use ocfl_report::{TextStop, read_place, split_once};
 use std::alloc::Global;
 use std::io::{ErrorKind, Read};
 use thiserror::Error;
@@ -112,8 +112,8 @@ fn read_line<'a>(
     };
     let place = match read_place(alloc, path) {
         Ok(place) => place,
-        Err(PlaceStop::Bad) => return Err(PushStop::NotAbove),
-        Err(PlaceStop::Memory) => return Err(PushStop::Memory),
+        Err(TextStop::Bad) => return Err(PushStop::NotAbove),
+        Err(TextStop::Memory) => return Err(PushStop::Memory),
     };
     separators.push(place)?;
     Ok(rest)

@@ -12,7 +12,7 @@ ghost use Rattle.ocfl_parts.specs.declared.costs.Told.{Told as ModelTold};
 
 use crate::costs::{Told, read_told};
 use crate::separators::{MAX_SEPARATORS, Separators};
-use ocfl_report::LineStop;
+use ocfl_report::TextStop;
 use std::alloc::Global;
 use std::cmp::Ordering;
 use std::io::{BufRead, ErrorKind};
@@ -115,8 +115,8 @@ fn take_line(
 {
     let told = match read_told(alloc, text) {
         Ok(told) => told,
-        Err(LineStop::Bad) => return Err(SplitStop::Line(number)),
-        Err(LineStop::Memory) => return Err(SplitStop::Memory),
+        Err(TextStop::Bad) => return Err(SplitStop::Line(number)),
+        Err(TextStop::Memory) => return Err(SplitStop::Memory),
     };
     take_told(budget, number, told, cutter)
 }

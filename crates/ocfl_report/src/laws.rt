@@ -7,8 +7,9 @@ ghost use Rattle.ocfl_report.specs.declared.code.Code.TheVariants.{Clean, S07};
 ghost use Rattle.ocfl_report.specs.Text.{place_text, line_text, lines_text, text, IsLine};
 
 use crate::line::Line;
-use crate::path::{PlaceStop, put_place, read_place};
-use crate::reading::{LineStop, read_line};
+use crate::path::{put_place, read_place};
+use crate::reading::read_line;
+use crate::stop::TextStop;
 use ocfl_tree::Place;
 use ocfl_tree::laws::every_place_has_names;
 use std::alloc::Global;
@@ -20,9 +21,9 @@ pub fn text_determines_the_place()
 {}
 
 /// What is written of a place is read as that place, unless memory runs out.
-pub fn place_reads_back(alloc: Global, place: &Place) -> Result<Place, PlaceStop>
+pub fn place_reads_back(alloc: Global, place: &Place) -> Result<Place, TextStop>
     ensures same { IfOk result (λ read. read ≡ place.now) }
-    ensures never_bad { result ≢ Err PlaceStop.Bad }
+    ensures never_bad { result ≢ Err TextStop.Bad }
 {
     every_place_has_names(place);
     let mut written = Vec::new(alloc);
@@ -45,9 +46,9 @@ pub fn every_line_fits(line: &Line)
 }
 
 /// What is written of a line is read as that line, unless memory runs out.
-pub fn line_reads_back(alloc: Global, line: &Line) -> Result<Line, LineStop>
+pub fn line_reads_back(alloc: Global, line: &Line) -> Result<Line, TextStop>
     ensures same { IfOk result (λ read. line_of read ≡ line_of line.now) }
-    ensures never_bad { result ≢ Err LineStop.Bad }
+    ensures never_bad { result ≢ Err TextStop.Bad }
 {
     every_line_fits(line);
     let mut written = Vec::new(alloc);

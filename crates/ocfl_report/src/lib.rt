@@ -38,11 +38,13 @@ mod number;
 mod output;
 mod path;
 mod reading;
+mod stop;
 
 pub use code::Code;
 pub use display::DisplayPlace;
 pub use line::Line;
 pub use number::read_decimal;
 pub use output::{OutStop, write_all_of};
-pub use path::{PlaceStop, put_place, read_place};
-pub use reading::{LineStop, read_line, split_once};
+pub use path::{put_place, read_place};
+pub use reading::{read_line, split_once};
+pub use stop::TextStop;

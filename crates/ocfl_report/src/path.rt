@@ -5,27 +5,9 @@ ghost use Rattle.ocfl_tree.specs.{Place.{Place as ModelPlace}, Name.{IsPlace}};
 ghost use Rattle.ocfl_report.specs.Text.{place_text};
 
 use crate::escaped::{put_escaped, read_escaped};
+use crate::stop::TextStop;
 use ocfl_tree::Place;
 use std::alloc::{AllocError, Global};
-
-/// Why bytes were not read as a place.
-#[derive(Clone, Copy, Debug, PartialEq, Eq)]
-pub enum PlaceStop {
-    /// No place has this text.
-    Bad,
-    /// Memory was refused.
-    Memory,
-}
-
-impl From<AllocError> for PlaceStop {
-    ghost use Rattle.ocfl_report.specs.declared.path.PlaceStop.TheVariants.{Memory};
-
-    ghost from_gives = { λ _ stop. stop ≡ Memory };
-
-    fn from(_: AllocError) -> PlaceStop {
-        PlaceStop::Memory
-    }
-}
 
 /// Appends the place as a report has it: its names with `/` between them, and `.` for the root. In
 /// a name each control, `%`, DEL and byte outside ASCII becomes `%` and two capital hexadecimal
@@ -68,28 +50,28 @@ pub(crate) fn put_text(place: &Place, out: &mut Vec<u8>) -> Result<(), AllocErro
 
 /// The place whose text the bytes are, as [`put_place`] writes it.
 ///
-/// Each place has one text. Any other text is [`PlaceStop::Bad`]: one with an empty name, with `.`
+/// Each place has one text. Any other text is [`TextStop::Bad`]: one with an empty name, with `.`
 /// or `..` in a path, with small hexadecimal digits, with the escape of a byte that stays as it
 /// is, or with a name that is no UTF-8.
-pub fn read_place(alloc: Global, bytes: &[u8]) -> Result<Place, PlaceStop>
+pub fn read_place(alloc: Global, bytes: &[u8]) -> Result<Place, TextStop>
     ensures ok { IfOk result (λ place. bytes.now ≡ place_text place) }
     ensures names { IfOk result IsPlace }
-    ensures bad { result ≡ Err PlaceStop.Bad
+    ensures bad { result ≡ Err TextStop.Bad
         → (place : ModelPlace) → IsPlace place → bytes.now ≡ place_text place → ⊥ }
 {
     if is_root_text(bytes) {
         return Ok(Place::root(alloc));
     }
     if bytes.is_empty() {
-        return Err(PlaceStop::Bad);
+        return Err(TextStop::Bad);
     }
     // Escaping leaves a slash as it is, so that all names are read at once.
     let Some(path) = read_escaped(alloc, bytes)? else {
-        return Err(PlaceStop::Bad);
+        return Err(TextStop::Bad);
     };
     match Place::from_path(path.into_owned(alloc)?) {
         Some(place) => Ok(place),
-        None => Err(PlaceStop::Bad),
+        None => Err(TextStop::Bad),
     }
 }
 

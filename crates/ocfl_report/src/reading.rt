@@ -6,51 +6,29 @@ ghost use Rattle.ocfl_report.specs.{Line.{Line as ModelLine, line_of}, Text.{IsL
 use crate::code::read_code;
 use crate::escaped::read_escaped;
 use crate::line::Line;
-use crate::path::{PlaceStop, read_place};
-use std::alloc::{AllocError, Global};
-
-/// Why bytes were not read as a line.
-#[derive(Clone, Copy, Debug, PartialEq, Eq)]
-pub enum LineStop {
-    /// No line has this text.
-    Bad,
-    /// Memory was refused.
-    Memory,
-}
-
-impl From<AllocError> for LineStop {
-    ghost use Rattle.ocfl_report.specs.declared.reading.LineStop.TheVariants.{Memory};
-
-    ghost from_gives = { λ _ stop. stop ≡ Memory };
-
-    fn from(_: AllocError) -> LineStop {
-        LineStop::Memory
-    }
-}
+use crate::path::read_place;
+use crate::stop::TextStop;
+use std::alloc::Global;
 
 /// The line whose text the bytes are, its line feed included, as [`Line::put`] appends it.
 ///
-/// Each line has one text. Any other text is [`LineStop::Bad`]: one without its line feed, with
+/// Each line has one text. Any other text is [`TextStop::Bad`]: one without its line feed, with
 /// a code that is not known, with more or fewer tabs than two, with small hexadecimal digits, or
 /// with the escape of a byte that stays as it is.
-pub fn read_line(alloc: Global, bytes: &[u8]) -> Result<Line, LineStop>
+pub fn read_line(alloc: Global, bytes: &[u8]) -> Result<Line, TextStop>
     ensures ok { IfOk result (λ line. IsLineText bytes.now (line_of line)) }
-    ensures bad { result ≡ Err LineStop.Bad
+    ensures bad { result ≡ Err TextStop.Bad
         → (line : ModelLine) → IsLineText bytes.now line → ⊥ }
 {
     let Some(fields) = split_fields(bytes) else {
-        return Err(LineStop::Bad);
+        return Err(TextStop::Bad);
     };
     let Some(code) = read_code(fields.code) else {
-        return Err(LineStop::Bad);
+        return Err(TextStop::Bad);
     };
-    let place = match read_place(alloc, fields.place) {
-        Ok(place) => place,
-        Err(PlaceStop::Bad) => return Err(LineStop::Bad),
-        Err(PlaceStop::Memory) => return Err(LineStop::Memory),
-    };
+    let place = read_place(alloc, fields.place)?;
     let Some(detail) = read_escaped(alloc, fields.detail)? else {
-        return Err(LineStop::Bad);
+        return Err(TextStop::Bad);
     };
     let detail = detail.into_owned(alloc)?;
     Ok(Line {

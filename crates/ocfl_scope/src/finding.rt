@@ -7,7 +7,7 @@ use crate::scope::Scope;
 use crate::stop::ScopeStop;
 use ocfl_cursor::PartEnds;
 use ocfl_parts::{Separators, read_parts};
-use ocfl_report::{PlaceStop, read_place};
+use ocfl_report::{TextStop, read_place};
 use ocfl_tree::Place;
 use std::alloc::{AllocError, Global};
 use std::io::Read;
@@ -20,8 +20,8 @@ pub fn find_branch(alloc: Global, path: &str) -> Result<Scope, ScopeStop>
 {
     match read_place(alloc, path.as_bytes()) {
         Ok(place) => Ok(Scope::Branch(place)),
-        Err(PlaceStop::Bad) => Err(ScopeStop::BadPath),
-        Err(PlaceStop::Memory) => Err(ScopeStop::Memory),
+        Err(TextStop::Bad) => Err(ScopeStop::BadPath),
+        Err(TextStop::Memory) => Err(ScopeStop::Memory),
     }
 }
 

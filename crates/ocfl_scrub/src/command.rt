@@ -10,7 +10,7 @@ use crate::auditing::{AuditEnd, audit};
 use crate::checking::{AuditStatus, CheckEnd, check};
 use crate::note::Note;
 use ocfl_digest::Block;
-use ocfl_report::{PlaceStop, read_place};
+use ocfl_report::{TextStop, read_place};
 use ocfl_tree::Tree;
 use ocfl_walk::Fault;
 use std::alloc::Global;
@@ -45,8 +45,8 @@ pub fn checked<T: Tree, W: Write>(
 {
     match read_place(alloc, path.as_bytes()) {
         Ok(place) => describe_check(check(alloc, store, &place, block, out)),
-        Err(PlaceStop::Bad) => (2, Note::BadPath),
-        Err(PlaceStop::Memory) => (3, Note::OutOfMemory),
+        Err(TextStop::Bad) => (2, Note::BadPath),
+        Err(TextStop::Memory) => (3, Note::OutOfMemory),
     }
 }
 

@@ -13,7 +13,7 @@ use crate::checkpoint_parts::{Phase, TopNames};
 use crate::checkpoint_refused::NotDecoded;
 use hex::FromHex;
 use ocfl_cursor::after_prefix;
-use ocfl_report::{PlaceStop, read_decimal, read_place, split_once};
+use ocfl_report::{TextStop, read_decimal, read_place, split_once};
 use ocfl_tree::{Place, is_bytes};
 use std::alloc::Global;
 
@@ -152,8 +152,8 @@ pub(crate) fn read_spot(alloc: Global, text: &[u8]) -> Result<Place, NotDecoded>
 {
     match read_place(alloc, text) {
         Ok(place) => Ok(place),
-        Err(PlaceStop::Bad) => Err(NotDecoded::Malformed),
-        Err(PlaceStop::Memory) => Err(NotDecoded::Memory),
+        Err(TextStop::Bad) => Err(NotDecoded::Malformed),
+        Err(TextStop::Memory) => Err(NotDecoded::Memory),
     }
 }
 

@@ -6,7 +6,7 @@ ghost use Rattle.ocfl_telling.specs.{Gravest.{IsOf}, Known.{unknown}};
 
 use crate::gravest::Gravest;
 use crate::known::Known;
-use ocfl_report::{Line, LineStop, read_line, split_once};
+use ocfl_report::{Line, TextStop, read_line, split_once};
 use std::alloc::{AllocError, Global};
 
 /// Why the bytes of a report were not taken.
@@ -91,8 +91,8 @@ impl Found {
         put_end(part, &mut rest)?;
         let line = match read_line(alloc, rest.as_slice()) {
             Ok(line) => line,
-            Err(LineStop::Bad) => return Err(FoundStop::Bad),
-            Err(LineStop::Memory) => return Err(FoundStop::Memory),
+            Err(TextStop::Bad) => return Err(FoundStop::Bad),
+            Err(TextStop::Memory) => return Err(FoundStop::Memory),
         };
         add_unknown(&mut gravest, known, line)?;
         rest.clear();

@@ -6,7 +6,7 @@ ghost use Rattle.ocfl_telling.specs.List.{BeginsWith, HasFeed, IsEnded, IsEntry,
 ghost use Rattle.ocfl_telling.specs.declared.known.Entry.{Entry as ModelEntry};
 
 use crate::known::{Entry, Known, Reach};
-use ocfl_report::{Line, LineStop, read_line, split_once};
+use ocfl_report::{Line, TextStop, read_line, split_once};
 use std::alloc::{AllocError, Global};
 use std::io::{ErrorKind, Read};
 use thiserror::Error;
@@ -115,8 +115,8 @@ fn read_rows(alloc: Global, bytes: &[u8]) -> Result<Known, KnownStop>
         }
         match take_row(alloc, rest, &mut entries) {
             Ok(after) => rest = after,
-            Err(LineStop::Bad) => return Err(KnownStop::Line(number)),
-            Err(LineStop::Memory) => return Err(KnownStop::Memory),
+            Err(TextStop::Bad) => return Err(KnownStop::Line(number)),
+            Err(TextStop::Memory) => return Err(KnownStop::Memory),
         }
     }
     Err(KnownStop::Memory)
@@ -127,23 +127,23 @@ fn take_row<'a>(
     alloc: Global,
     text: &'a [u8],
     entries: &mut Vec<Entry>,
-) -> Result<&'a [u8], LineStop>
+) -> Result<&'a [u8], TextStop>
     ensures ok { IfOk result (λ after. (row : ModelRow) × IsRow row
         × (text.now ≡ row_text row ++ after.now)
         × (entries.new.items ≡ entries.old.items ++ entries_of (row ∷ []))) }
-    ensures bad { result ≡ Err LineStop.Bad
+    ensures bad { result ≡ Err TextStop.Bad
         → (row : ModelRow) (after : ModelText) → IsRow row → text.now ≢ row_text row ++ after }
 {
     let Some((row, after)) = split_once(text, b'\n') else {
-        return Err(LineStop::Bad);
+        return Err(TextStop::Bad);
     };
     if is_remark(row) {
         return Ok(after);
     }
     let entry = match read_entry(alloc, row) {
         Ok(Some(entry)) => entry,
-        Ok(None) => return Err(LineStop::Bad),
-        Err(_) => return Err(LineStop::Memory),
+        Ok(None) => return Err(TextStop::Bad),
+        Err(_) => return Err(TextStop::Memory),
     };
     put_entry(entry, entries)?;
     Ok(after)
@@ -223,7 +223,7 @@ fn read_as(alloc: Global, text: &[u8], end: &[u8]) -> Result<Option<Line>, Alloc
     whole.extend_from_slice(end)?;
     match read_line(alloc, whole.as_slice()) {
         Ok(line) => Ok(Some(line)),
-        Err(LineStop::Bad) => Ok(None),
-        Err(LineStop::Memory) => Err(AllocError),
+        Err(TextStop::Bad) => Ok(None),
+        Err(TextStop::Memory) => Err(AllocError),
     }
 }

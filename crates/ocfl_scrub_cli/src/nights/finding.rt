@@ -1,6 +1,6 @@
 //! The whole lines of findings that are named in a closing.
 
-use ocfl_report::{Code, Line, LineStop, read_line};
+use ocfl_report::{Code, Line, TextStop, read_line};
 use ocfl_telling::{Known, SHOWN};
 use std::alloc::{AllocError, Global};
 use std::io::{self, BufRead, ErrorKind};
@@ -60,8 +60,8 @@ fn finding_of(alloc: Global, text: &[u8]) -> io::Result<Option<Line>> {
     match read_line(alloc, text) {
         Ok(line) if line.is_finding() => Ok(Some(line)),
         Ok(_) => Ok(None),
-        Err(LineStop::Bad) => Err(io::Error::from(ErrorKind::InvalidData)),
-        Err(LineStop::Memory) => Err(io::Error::from(ErrorKind::OutOfMemory)),
+        Err(TextStop::Bad) => Err(io::Error::from(ErrorKind::InvalidData)),
+        Err(TextStop::Memory) => Err(io::Error::from(ErrorKind::OutOfMemory)),
     }
 }
 

@@ -1,7 +1,7 @@
 //! Whether a report can be that of a part.
 
 use ocfl_compare::ClosedPart;
-use ocfl_report::{LineStop, read_line};
+use ocfl_report::{TextStop, read_line};
 use ocfl_tree::Place;
 use std::alloc::Global;
 use std::io::{self, BufRead, ErrorKind};
@@ -23,8 +23,8 @@ fn lies_in(part: &ClosedPart, place: &Place) -> bool {
 fn place_of(alloc: Global, text: &[u8]) -> io::Result<Option<Place>> {
     match read_line(alloc, text) {
         Ok(line) => Ok(Some(line.place)),
-        Err(LineStop::Bad) => Ok(None),
-        Err(LineStop::Memory) => Err(io::Error::from(ErrorKind::OutOfMemory)),
+        Err(TextStop::Bad) => Ok(None),
+        Err(TextStop::Memory) => Err(io::Error::from(ErrorKind::OutOfMemory)),
     }
 }
 

@@ -1,7 +1,7 @@
 //! The output of a night: the bytes of its report come in, and what was found goes out.
 
 use crate::nights::stand::Standing;
-use ocfl_report::{LineStop, read_line, write_all_of};
+use ocfl_report::{TextStop, read_line, write_all_of};
 use ocfl_state::StateFile;
 use ocfl_telling::{Found, FoundStop, Gravest, Known, Night, night_text};
 use std::alloc::{AllocError, Global};
@@ -93,8 +93,8 @@ impl<'n, W: Write + Drop> Teller<'n, W> {
         if !self.rest.starts_with(CLEAN) {
             match read_line(self.alloc, self.rest.as_slice()) {
                 Ok(_) => self.keep_line()?,
-                Err(LineStop::Bad) => self.broken = self.broken.saturating_add(1),
-                Err(LineStop::Memory) => return Err(FoundStop::Memory),
+                Err(TextStop::Bad) => self.broken = self.broken.saturating_add(1),
+                Err(TextStop::Memory) => return Err(FoundStop::Memory),
             }
         }
         self.rest.clear();

@@ -3,7 +3,7 @@ use crate::tests::common::Runtime;
 use crate::tests::common::store::place_of;
 use ocfl_report::laws::line_reads_back;
 use ocfl_report::{
-    Code, Line, LineStop, OutStop, PlaceStop, put_place, read_decimal, read_line, read_place,
+    Code, Line, OutStop, TextStop, put_place, read_decimal, read_line, read_place,
     split_once, write_all_of,
 };
 use ocfl_tree::Place;
@@ -133,14 +133,14 @@ fn other_texts_are_bad(rt: HostRuntime) -> Result<(), Fail> {
     for text in cases {
         assert_eq!(rt;
             read_place(alloc, text.as_bytes()).err(),
-            Some(PlaceStop::Bad),
+            Some(TextStop::Bad),
             "{text}"
         );
     }
     let too_long = "a".repeat(alloc, 256)?;
     assert_eq!(rt;
         read_place(alloc, too_long.as_bytes()).err(),
-        Some(PlaceStop::Bad)
+        Some(TextStop::Bad)
     );
     Ok(())
 }
@@ -327,7 +327,7 @@ const NO_LINES: [(&str, &str); 37] = [
 fn other_lines_are_bad(rt: HostRuntime) {
     for (row, text) in NO_LINES {
         let read = read_line(rt.alloc(), text.as_bytes()).err();
-        assert_eq!(rt; read, Some(LineStop::Bad), "{row}");
+        assert_eq!(rt; read, Some(TextStop::Bad), "{row}");
     }
 }
 

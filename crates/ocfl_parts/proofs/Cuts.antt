@@ -1,5 +1,5 @@
 -- How one more line moves the cuts of a report.
-use Rattle.std.proofs.Common.{◌≡◌, ◌≢◌, ◌⊎◌, inl, inr, ℕ, ◌+◌, ◌-◌, ◌^◌, ◌<◌, ◌≤◌, List, [], ◌∷◌, ◌++◌, Bool, true, false, ◌↔◌, Option, Some, None, length, All, refl, sym, ap, subst, ◌∙◌, append_assoc, append-nil, arith}
+use Rattle.std.proofs.Common.{◌≡◌, ◌⊎◌, inl, inr, ℕ, ◌+◌, ◌-◌, ◌^◌, ◌<◌, ◌≤◌, List, [], ◌∷◌, ◌++◌, Bool, true, false, ◌↔◌, Option, Some, None, length, All, refl, sym, ap, subst, ◌∙◌, append_assoc, append-nil, arith}
 use Rattle.std.proofs.lemmas.Bool.{lt-ltb, le-ltb, ltb-true, ltb-false, ne_eqb}
 use Rattle.std.proofs.lemmas.List.Elements.{All-append, All-cons, All-nil}
 use Rattle.std.specs.{Prelude.{cond, ◌==◌, ◌||◌, nat_lt, min}, Ordering.{is_eq}}
@@ -94,10 +94,6 @@ item_stays b s t i items small h e = ap (λ x. cond x (cuts_from b (s + i.cost) 
     stays (inl z) = ap (λ x. x == 0 || nat_lt s b) z
     stays (inr l) = ap (λ x. i.cost == 0 || x) (lt-ltb s b l) ∙ or_true (i.cost == 0)
 
--- an item that begins the next part
-pub item_begins : (b s : ℕ) (i : Told) (items : List Told) → i.cost ≢ 0 → b ≤ s → cuts_from b s (i ∷ items) ≡ i.place ∷ cuts_from b i.cost items
-item_begins b s i items z h = λ j. cond (ne_eqb i.cost 0 z j || le-ltb s b h j) (cuts_from b (s + i.cost) items) (i.place ∷ cuts_from b i.cost items)
-
 -- ---- one line more
 
 module _ (b : ℕ) (small : b < 2 ^ 64) (done : List Line) (ps : List Place) (s : ℕ) (l : Line) (has : HasText l) where
@@ -136,8 +132,7 @@ module _ (b : ℕ) (small : b < 2 ^ 64) (done : List Line) (ps : List Place) (s 
     order = subst (λ p. (more : List Line) → AreInOrder (Some p) more ↔ AreInOrder None ((done ++ l ∷ []) ++ more)) (sym (place_cmp_exact i.place l.place e))
         (order_more (Some i) (λ g. not_equal (sym e ∙ g)) h.order);
     cuts = cuts_more (Some i) ps s (Some (record { place = i.place; cost = cost })) h.cuts (λ more. ap (λ xs. ps ++ xs) (same more));
-    below = h.below;
-    few = h.few;
+    below = h.below; few = h.few;
   }
     where
       not_equal : Equal ≡ Greater → ⊥
@@ -156,8 +151,7 @@ module _ (b : ℕ) (small : b < 2 ^ 64) (done : List Line) (ps : List Place) (s 
     texts = texts_more h.texts;
     order = order_more (Some i) (λ g. not_less (sym e ∙ g)) h.order;
     cuts = cuts_more (Some i) qs t (Some (told l)) h.cuts (λ more. apart more ∙ closes (items_from (Some (told l)) more));
-    below = above l.place has.place e;
-    few = few h.few;
+    below = above l.place has.place e; few = few h.few;
   }
     where
       not_less : Less ≡ Greater → ⊥
@@ -221,8 +215,7 @@ none_taken b ps e = record {
   texts = All-nil HasText;
   order = λ more. (λ k. k, λ k. k);
   cuts = λ more. ap (λ xs. xs ++ cuts b more) (sym e);
-  below = e;
-  few = omega (arith, ap length e);
+  below = e; few = omega (arith, ap length e);
 }
 
 -- a line that may not follow at its place may not follow

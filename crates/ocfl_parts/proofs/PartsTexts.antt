@@ -1,11 +1,10 @@
 -- The text of separators determines them.
-use Rattle.std.proofs.Common.{◌≡◌, ◌≢◌, ◌⊎◌, inl, inr, ℕ, ◌<◌, List, [], ◌∷◌, ◌++◌, All, length, refl, sym, ap, subst, ◌∙◌, append_assoc, append-nil, length-append, arith}
+use Rattle.std.proofs.Common.{◌≡◌, ◌≢◌, ◌⊎◌, inl, inr, ℕ, ◌<◌, List, [], ◌∷◌, ◌++◌, All, length, refl, sym, ap, subst, ◌∙◌, append_assoc, length-append, arith}
 use Rattle.std.proofs.lemmas.List.Elements.{All-head, All-tail, All-weaker}
-use Rattle.std.proofs.lemmas.List.Concat.{flat_map-append}
 use Rattle.ocfl_tree.specs.{Place.{Text, Place}, Name.{IsPlace}}
 use Rattle.ocfl_report.specs.Text.{place_text}
 use Rattle.ocfl_report.proofs.Bytes.{IsPrintable}
-use Rattle.ocfl_report.proofs.Separators.{first_parts, separated_not_empty, separator_is_there, texts_determine}
+use Rattle.ocfl_report.proofs.Separators.{first_parts, separated_not_empty, texts_determine}
 use Rattle.ocfl_report.proofs.PlaceTexts.{place_text_determines, place_text_printable}
 use Rattle.ocfl_parts.specs.Separators.{AreSeparators, part_line, parts_text}
 use Rattle.ocfl_parts.specs.Parts.{max_separators, max_bytes, IsPartsText, BeginsWith, IsFirstBad, HasMoreLines, IsBadLine}
@@ -32,17 +31,9 @@ parts_text_determines ps qs h k e = texts_determine IsPlace part_line first_line
 
 -- ---- one line more
 
--- the text of separators and one more
-pub parts_text-push : (ps : List Place) (p : Place) → parts_text (ps ++ p ∷ []) ≡ parts_text ps ++ part_line p
-parts_text-push ps p = flat_map-append part_line ps (p ∷ []) ∙ ap (λ t. parts_text ps ++ t) (append-nil (part_line p))
-
 -- what is before the line feed of a separator's line, and what follows it
 pub path_of_line : (text path rest : Text) (p : Place) (after : Text) → text ≡ path ++ 10 ∷ rest → All (λ b. b ≢ 10) path → IsPlace p → text ≡ part_line p ++ after → path ≡ place_text p
 path_of_line text path rest p after e first h f = (first_parts 10 path (place_text p) rest after first (path_one_line p h) (sym e ∙ f ∙ part_line-append p after)).0
-
--- without a line feed there is no line
-pub no_line : (text : Text) → All (λ b. b ≢ 10) text → (p : Place) (after : Text) → text ≢ part_line p ++ after
-no_line text none p after e = separator_is_there 10 (place_text p) after (subst (All (λ b. b ≢ 10)) (e ∙ part_line-append p after) none)
 
 -- if one place is refused as a separator, so is each with that text
 pub other_refused : (text path rest : Text) (before : List Place) (q : Place) → text ≡ path ++ 10 ∷ rest → All (λ b. b ≢ 10) path → path ≡ place_text q
@@ -52,15 +43,6 @@ other_refused text path rest before q e first is names refused p after k f =
     let name = names_last before p k.names in
     let same : p ≡ q = place_text_determines p q name names (sym (path_of_line text path rest p after e first name f) ∙ is) in
     refused (subst (λ x. AreSeparators (before ++ x ∷ [])) same k)
-
--- the lines that were read, and one more
-pub lines_read : (bytes rest left : Text) (ps qs : List Place) (p : Place) → bytes ≡ parts_text ps ++ rest → rest ≡ part_line p ++ left → qs ≡ ps ++ p ∷ [] → bytes ≡ parts_text qs ++ left
-lines_read bytes rest left ps qs p e f g =
-    e ∙ ap (λ t. parts_text ps ++ t) f ∙ sym (append_assoc (parts_text ps) (part_line p) left) ∙ ap (λ t. t ++ left) (sym (parts_text-push ps p) ∙ ap parts_text (sym g))
-
--- a line takes a byte at least
-pub line_shortens : (text left : Text) (p : Place) → text ≡ part_line p ++ left → length left < length text
-line_shortens text left p e = omega (arith, ap length e, length-append (part_line p) left, length-append (place_text p) (10 ∷ []))
 
 -- ---- separators that begin as others do
 

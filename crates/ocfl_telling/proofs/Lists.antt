@@ -1,15 +1,15 @@
 -- Lists of known findings, line by line.
-use Rattle.std.proofs.Common.{◌≡◌, ◌≢◌, ℕ, ◌+◌, ◌≤◌, List, [], ◌∷◌, ◌++◌, length, take, take_all, Option, Some, None, Result, Ok, Err, IfSome, IfOk, IfErr, sym, ap, subst, ◌∙◌, arith, append_assoc, length-take, length-append}
+use Rattle.std.proofs.Common.{◌≡◌, ◌≢◌, ℕ, ◌+◌, ◌≤◌, List, [], ◌∷◌, ◌++◌, length, take, take_all, Option, Some, None, IfSome, sym, ap, subst, ◌∙◌, arith, append_assoc, length-take, length-append}
 use Rattle.std.proofs.lemmas.Grind.{flat_map-append}
 use Rattle.std.proofs.lemmas.List.{append-nil, append_cancel_right}
 use Rattle.std.proofs.lemmas.List.Elements.{All-append, All-cons, All-nil, filter_map-append}
 use Rattle.std.specs.{Prelude.{All, codes}, Option.{option_map}}
 use Rattle.ocfl_tree.specs.Place.{Text}
-use Rattle.ocfl_report.proofs.Separators.{first_parts, separator_is_there}
-use Rattle.ocfl_telling.specs.List.{IsBadLine, IsEnded, IsEntry, IsEntryAs, IsKnownText, IsList, IsRemark, IsRow, IsSaid, KnownStopsRightly, Row, RowsStop, entries_of, max_bytes, row_text, rows_text}
+use Rattle.ocfl_report.proofs.Separators.{first_parts}
+use Rattle.ocfl_telling.specs.List.{IsBadLine, IsEntry, IsEntryAs, IsKnownText, IsRemark, IsRow, IsSaid, KnownStopsRightly, Row, entries_of, max_bytes, row_text, rows_text}
 use Rattle.ocfl_telling.specs.declared.known.Reach.{Reach}
 use Rattle.ocfl_telling.specs.declared.known.Reach.TheVariants.{One, Place, Branch}
-use Rattle.ocfl_telling.specs.{declared.known.Entry.{Entry}, declared.known.Known.{Known}}
+use Rattle.ocfl_telling.specs.{declared.known.Entry.{Entry}}
 use Rattle.ocfl_telling.specs.declared.list.KnownStop.{KnownStop}
 use Rattle.ocfl_telling.specs.declared.list.KnownStop.TheVariants.{Long, Read, Memory}
 use Rattle.ocfl_report.specs.{Line.{Line, line_of}, Text.{IsLineText}}
@@ -33,10 +33,6 @@ row_refused text part after e one plain none r rest h f =
     let same : part ≡ r.0 = (first_parts 10 part r.0 after rest one h.0 (sym e ∙ f ∙ append_assoc r.0 (10 ∷ []) rest)).0 in
     said_refused part r.1 plain none (subst (λ t. IsSaid t r.1) (sym same) h.1)
 
--- and neither does what has no line feed
-pub row_unended : (text : Text) → All (λ b. b ≢ 10) text → (r : Row) (rest : Text) → IsRow r → text ≢ row_text r ++ rest
-row_unended text none r rest h f = separator_is_there 10 r.0 rest (subst (All (λ b. b ≢ 10)) (f ∙ append_assoc r.0 (10 ∷ []) rest) none)
-
 -- ---- many lines
 
 -- the lines that were read, and one more
@@ -53,14 +49,6 @@ rows_all rs r h k = All-append IsRow rs (r ∷ []) h (All-cons IsRow r [] k (All
 
 pub rows_counted : (n : ℕ) (rs : List Row) (r : Row) → n ≡ length rs + 1 → n + 1 ≡ length (rs ++ r ∷ []) + 1
 rows_counted n rs r e = omega (arith, e, length-append rs (r ∷ []))
-
-pub list_read : (bytes rest : Text) (rs : List Row) (es : List Entry) → All IsRow rs → bytes ≡ rows_text rs ++ rest → rest ≡ [] → es ≡ entries_of rs → IsList bytes es
-list_read bytes rest rs es all e empty entries = record {
-  rows = rs;
-  are = all;
-  is = e ∙ ap (λ t. rows_text rs ++ t) empty ∙ append-nil (rows_text rs);
-  entries = entries;
-}
 
 -- ---- all bytes
 
@@ -97,20 +85,6 @@ known_read (Some b) read es is h =
 pub stop_read : (known : Option Text) (read : Text) (stop : KnownStop) → IsRead known read → KnownStopsRightly read stop → IfSome known (λ b. KnownStopsRightly b stop)
 stop_read None read stop is h = tt
 stop_read (Some b) read stop is h = stop_limited b stop (subst (λ t. KnownStopsRightly t stop) is h)
-
-pub known_of_rows : {E : Type 0} (b t : Text) (r : Result Known E) → length b ≤ max_bytes → IsEnded b t → IfOk r (λ k. IsList t k.entries.items) → IfOk r (λ k. IsKnownText b k.entries.items)
-known_of_rows b t (Ok k) short ended h = record { short = short; text = t; ended = ended; list = h }
-known_of_rows b t (Err e) short ended h = tt
-
-stop_of_rows : (b t : Text) (stop : KnownStop) → length b ≤ max_bytes → IsEnded b t → RowsStop t stop → KnownStopsRightly b stop
-stop_of_rows b t (stop.Line n) short ended h = record { short = short; text = t; ended = ended; row = h }
-stop_of_rows b t Long short ended h = absurd h
-stop_of_rows b t Read short ended h = tt
-stop_of_rows b t Memory short ended h = tt
-
-pub stops_of_rows : {A : Type 0} (b t : Text) (r : Result A KnownStop) → length b ≤ max_bytes → IsEnded b t → IfErr r (λ stop. RowsStop t stop) → IfErr r (λ stop. KnownStopsRightly b stop)
-stops_of_rows b t (Ok x) short ended h = tt
-stops_of_rows b t (Err stop) short ended h = stop_of_rows b t stop short ended h
 
 -- ---- what a line names
 

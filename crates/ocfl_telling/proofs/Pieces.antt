@@ -1,26 +1,14 @@
 -- Bytes of a report that come piece by piece.
-use Rattle.std.proofs.Common.{◌≡◌, ◌≢◌, List, [], ◌∷◌, ◌++◌, true, false, not, refl, ap, sym, subst, ◌∙◌, append_assoc}
+use Rattle.std.proofs.Common.{◌≡◌, ◌≢◌, List, [], ◌∷◌, ◌++◌, ap, sym, subst, ◌∙◌, append_assoc}
 use Rattle.std.proofs.{lemmas.Grind.{flat_map-append}, lemmas.List.{append-nil}}
-use Rattle.std.proofs.lemmas.List.Elements.{All-append, All-cons, All-nil, filter-append}
+use Rattle.std.proofs.lemmas.List.Elements.{All-append, All-cons, All-nil}
 use Rattle.std.specs.Prelude.{All}
 use Rattle.ocfl_tree.specs.Place.{Text}
 use Rattle.ocfl_report.specs.{Line.{Line}, Text.{IsLine, IsLineText, line_text, lines_text}}
 use Rattle.ocfl_report.proofs.LineTexts.{IsLine-from_text}
-use Rattle.ocfl_telling.specs.{Gravest.{IsOf}, Known.{is_known, unknown}}
+use Rattle.ocfl_telling.specs.{Gravest.{IsOf}, Known.{unknown}}
 use Rattle.ocfl_telling.specs.{Found.{AreAll, HasBadLine, IsAfter}, declared.found.Found.{Found}}
 use Rattle.ocfl_telling.specs.declared.known.Entry.{Entry}
-
--- a line that is known is left out
-pub unknown_same : (es : List Entry) (ls : List Line) (l : Line) → is_known es l ≡ true → unknown es (ls ++ l ∷ []) ≡ unknown es ls
-unknown_same es ls l h =
-    let none : unknown es (l ∷ []) ≡ [] = rw h refl in
-    filter-append (λ m. not (is_known es m)) ls (l ∷ []) ∙ ap (λ t. unknown es ls ++ t) none ∙ append-nil (unknown es ls)
-
--- and another is not
-pub unknown_more : (es : List Entry) (ls : List Line) (l : Line) → is_known es l ≡ false → unknown es (ls ++ l ∷ []) ≡ unknown es ls ++ l ∷ []
-unknown_more es ls l h =
-    let one : unknown es (l ∷ []) ≡ l ∷ [] = rw h refl in
-    filter-append (λ m. not (is_known es m)) ls (l ∷ []) ∙ ap (λ t. unknown es ls ++ t) one
 
 lines_more : (ls : List Line) (l : Line) → lines_text (ls ++ l ∷ []) ≡ lines_text ls ++ line_text l
 lines_more ls l = flat_map-append line_text ls (l ∷ []) ∙ ap (λ t. lines_text ls ++ t) (append-nil (line_text l))
@@ -50,10 +38,8 @@ line_refused es old b part after h one refused =
     let joined : b ++ (part ++ 10 ∷ []) ≡ lines_text h.lines ++ ((rest ++ part) ++ 10 ∷ []) =
     ap (λ t. t ++ (part ++ 10 ∷ [])) h.is ∙ append_assoc (lines_text h.lines) rest (part ++ 10 ∷ []) ∙ ap (λ t. lines_text h.lines ++ t) (sym (append_assoc rest part (10 ∷ []))) in
     record {
-      before = h.lines;
-      bad = rest ++ part;
-      after = after;
-      are = h.are;
+      before = h.lines; bad = rest ++ part;
+      after = after; are = h.are;
       is = ap (λ t. t ++ after) joined;
       one = All-append (λ c. c ≢ 10) rest part h.unended one;
       refused = refused;
@@ -63,8 +49,7 @@ line_refused es old b part after h one refused =
 pub rest_kept : (es : List Entry) (old new : Found) (b more : Text) → IsAfter es old b → All (λ c. c ≢ 10) more → new.rest.items ≡ old.rest.items ++ more
     → new.gravest ≡ old.gravest → IsAfter es new (b ++ more)
 rest_kept es old new b more h unended e same = record {
-  lines = h.lines;
-  are = h.are;
+  lines = h.lines; are = h.are;
   is = ap (λ t. t ++ more) h.is ∙ append_assoc (lines_text h.lines) old.rest.items more ∙ ap (λ t. lines_text h.lines ++ t) (sym e);
   unended = subst (All (λ c. c ≢ 10)) (sym e) (All-append (λ c. c ≢ 10) old.rest.items more h.unended unended);
   gravest = subst (λ g. IsOf g (unknown es h.lines)) (sym same) h.gravest;
@@ -73,8 +58,7 @@ rest_kept es old new b more h unended e same = record {
 -- at the end of a line all is taken
 pub all_taken : (es : List Entry) (f : Found) (b : Text) → f.rest.items ≡ [] → IsAfter es f b → AreAll es f.gravest b
 all_taken es f b empty h = record {
-  lines = h.lines;
-  are = h.are;
+  lines = h.lines; are = h.are;
   is = h.is ∙ ap (λ t. lines_text h.lines ++ t) empty ∙ append-nil (lines_text h.lines);
   gravest = h.gravest;
 }

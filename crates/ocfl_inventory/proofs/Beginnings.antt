@@ -1,40 +1,25 @@
 -- The places that a place begins, and conflicts among sorted places.
 use Rattle.std.proofs.Common.{◌≡◌, List, [], ◌∷◌, refl, sym, ◌∙◌, ap, true, false, Bool}
 use Rattle.std.specs.{Prelude.{◌&&◌}, List.{dedup}, List.Sorted.{IsPermutation}}
-use Rattle.std.specs.Ordering.{is_eq, is_lt, ordering_then, ordering_reverse}
+use Rattle.std.specs.Ordering.{is_lt, ordering_then, ordering_reverse}
 use Rattle.std.specs.Cmp.Lexicographic.{nat_list_cmp_total}
 use Rattle.std.specs.FinMap.{IsAntisymmetric, slice_cmp-IsAntisymmetric, nat_cmp-IsAntisymmetric}
 use Rattle.std.specs.declared.cmp.Ordering.{Ordering}
 use Rattle.std.specs.declared.cmp.Ordering.TheVariants.{Less, Equal, Greater}
 use Rattle.ocfl_tree.specs.Place.{Text, Place, text_cmp, text_eq, place_cmp, place_eq, begins}
 use Rattle.ocfl_inventory.specs.{Notes.{is_conflict, conflicts}, Internal.Beside.{hits}}
-use Rattle.ocfl_tree.proofs.Orders.{true_not_false, place_cmp_total, place_cmp_exact, below_from_greater}
-use Rattle.ocfl_inventory.proofs.{Runs.{IsUp, IsFront}, Once.{alike_itself, alike_is, sorted_hits}}
+use Rattle.ocfl_tree.proofs.{Places.{begins-itself}, Orders.{true_not_false, place_cmp_total, place_cmp_exact, below_from_greater}}
+use Rattle.ocfl_inventory.proofs.{Runs.{IsUp, IsFront, equal_itself}, Once.{alike_is, sorted_hits}}
 
 pub text_exact : IsAntisymmetric text_cmp
 text_exact = slice_cmp-IsAntisymmetric nat_cmp-IsAntisymmetric
 
-both : (a b : Bool) → a && b ≡ true → (a ≡ true) × (b ≡ true)
+pub both : (a b : Bool) → a && b ≡ true → (a ≡ true) × (b ≡ true)
 both true b h = (refl, h)
 both false b h = absurd (true_not_false (sym h))
 
-text_itself : (a : Text) → text_eq a a ≡ true
-text_itself = alike_itself nat_list_cmp_total text_exact
-
 same_text : (a b : Text) → text_eq a b ≡ true → a ≡ b
 same_text = alike_is nat_list_cmp_total text_exact
-
-equal_itself : (a : Text) → text_cmp a a ≡ Equal
-equal_itself a = by (text_cmp a a) (text_itself a)
-  where
-    by : (r : Ordering) → is_eq r ≡ true → r ≡ Equal
-    by Less e = absurd (true_not_false (sym e))
-    by Equal e = refl
-    by Greater e = absurd (true_not_false (sym e))
-
-begins_itself : (p : Place) → begins p p ≡ true
-begins_itself [] = refl
-begins_itself (a ∷ p) = rw (text_itself a) (begins_itself p)
 
 begins_later : (p q : Place) → begins p q ≡ true → is_lt (place_cmp q p) ≡ false
 begins_later [] [] h = refl
@@ -42,7 +27,7 @@ begins_later [] (b ∷ q) h = refl
 begins_later (a ∷ p) [] h = absurd (true_not_false (sym h))
 begins_later (a ∷ p) (b ∷ q) h =
     let w = both _ _ h in
-    let e : text_cmp b a ≡ Equal = ap (λ x. text_cmp x a) (sym (same_text a b w.0)) ∙ equal_itself a in
+    let e : text_cmp b a ≡ Equal = ap (λ x. text_cmp x a) (sym (same_text a b w.0)) ∙ equal_itself nat_list_cmp_total a in
     ap (λ r. is_lt (ordering_then r (place_cmp q p))) e ∙ begins_later p q w.1
 
 begins_between : (p q r : Place) → is_lt (place_cmp q p) ≡ false → is_lt (place_cmp r q) ≡ false → begins p r ≡ true → begins p q ≡ true
@@ -66,7 +51,7 @@ begins_between (a ∷ p) (b ∷ q) (c ∷ r) h k t =
         not_greater g = cc
 
 pub begins_front : IsFront place_cmp begins
-begins_front = record { itself = begins_itself; later = begins_later; between = begins_between }
+begins_front = record { itself = begins-itself; later = begins_later; between = begins_between }
 
 pub sorted_conflicts : (ps qs : List Place) → IsPermutation ps qs → IsUp place_cmp qs → dedup place_eq (hits begins qs) ≡ conflicts ps
 sorted_conflicts ps qs perm up = sorted_hits place_cmp_total place_cmp_exact begins_front (is_conflict ps) ps qs (λ p i. refl) perm up

@@ -67,11 +67,5 @@ lists_step s u k v ts front total e h so_far =
     let one : lists_of (members_view s) ≡ option_map (λ b. (string_bytes k, ts) ∷ b) (lists_of (members_view u)) = rw (e, ← h) in
     sym (ap (with_front front) one ∙ with_front_one front (string_bytes k, ts) (lists_of (members_view u))) ∙ so_far
 
-pub lists_stop : (s u : List Entry) (k : String Global) (v : Value) (front : Block) (total : Option Block) → s ≡ (k, v) ∷ u → None ≡ option_and_then texts_of (as_array (view v))
-    → with_front front (lists_of (members_view s)) ≡ total → None ≡ total
-lists_stop s u k v front total e h so_far =
-    let one : lists_of (members_view s) ≡ None = rw (e, ← h) in
-    sym (ap (with_front front) one) ∙ so_far
-
 pub lists_done : (s : List Entry) (front : Block) (total : Option Block) → s ≡ [] → with_front front (lists_of (members_view s)) ≡ total → Some front ≡ total
 lists_done s front total e so_far = sym (ap (λ ys. with_front front (lists_of (members_view ys))) e ∙ ap Some (append-nil front)) ∙ so_far

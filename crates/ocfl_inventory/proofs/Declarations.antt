@@ -8,7 +8,7 @@ use Rattle.std.specs.{Prelude.{◌&&◌, nat_eq, slice_get, is_some, All}, List.
 use Rattle.std.specs.List.Sorted.{IsPermutation}
 use Rattle.ocfl_tree.specs.{Place.{Text}, declared.store.Entry.{Entry}, declared.store.Kind.{Kind}}
 use Rattle.ocfl_tree.specs.declared.store.Kind.TheVariants.{File, Dir, Other}
-use Rattle.ocfl_tree.proofs.Orders.{true_not_false}
+use Rattle.ocfl_tree.proofs.{Bools.{and_first}, Orders.{true_not_false}}
 use Rattle.ocfl_inventory.proofs.Runs.{tally, tally_is}
 use Rattle.ocfl_inventory.specs.Declaration.{prefix, after_prefix, is_declaration, undeclared, known, several, declared, declared_by, version_named}
 use Rattle.ocfl_inventory.specs.Entries.{is_file, file_names, is_counted, unknown_by, IsNext, IsVersionOf, PointsAtOne}
@@ -43,12 +43,6 @@ module _ (level : Level) where
       ap (filter (is_counted level)) one ∙ ap (λ b. cond b (e ∷ filter (is_counted level) (drop (i + 1) es)) (filter (is_counted level) (drop (i + 1) es))) counts in
       (e, h, slice_get-get_or es i e h ∙ ap Some (sym is), counts, so_far ∙ two)
 
-  pub next_goes_on : (es : List Entry) (from i : ℕ) (e : Entry) → i < length es → e ≡ get_or es i e → is_counted level e ≡ false
-      → filter (is_counted level) (drop from es) ≡ filter (is_counted level) (drop i es) → filter (is_counted level) (drop from es) ≡ filter (is_counted level) (drop (i + 1) es)
-  next_goes_on es from i e h is counts so_far =
-      let one : drop i es ≡ e ∷ drop (i + 1) es = drop-cons es i e h ∙ (λ j. sym is j ∷ drop (sym (add-one i) j) es) in
-      so_far ∙ ap (filter (is_counted level)) one ∙ ap (λ b. cond b (e ∷ filter (is_counted level) (drop (i + 1) es)) (filter (is_counted level) (drop (i + 1) es))) counts
-
   pub none_declared : (es : List Entry) → IsNext level es 0 None → undeclared ≡ declared level (file_names es)
   none_declared es h = sym (ap (declared_by level) (counted_names es ∙ ap (map (λ e. e.name)) h))
 
@@ -64,13 +58,9 @@ module _ (level : Level) where
 
   pub prefix_fits : (n : Text) → is_declaration level n ≡ true → length (prefix level) ≤ length n
   prefix_fits n h =
-      let one : n ≡ prefix level ++ drop (length (prefix level)) n = (starts_is Decides-eqb n (prefix level) (starts_with nat_eq n (prefix level)) refl).0 (first _ _ h) in
+      let one : n ≡ prefix level ++ drop (length (prefix level)) n = (starts_is Decides-eqb n (prefix level) (starts_with nat_eq n (prefix level)) refl).0 (and_first _ _ h) in
       let two : length n ≡ length (prefix level) + length (drop (length (prefix level)) n) = ap length one ∙ length-append (prefix level) (drop (length (prefix level)) n) in
       omega (arith, two)
-    where
-      first : (a b : Bool) → a && b ≡ true → a ≡ true
-      first true b e = refl
-      first false b e = absurd (true_not_false (sym e))
 
   pub counted_fits : (e : Entry) → is_counted level e ≡ true → length (prefix level) ≤ length e.name
   counted_fits e h = prefix_fits e.name (by e.kind h)

@@ -7,12 +7,13 @@ use Rattle.std.specs.Prelude.{flat_map, Option, Some, None, option_map, filter_m
 use Rattle.std.specs.{List.{cons_option, dedup}, Cmp.{IsTotalOrder}, FinMap.{IsAntisymmetric}}
 use Rattle.std.specs.List.Retain.{IsFiltered, DiffersFromLast}
 use Rattle.std.specs.List.Sorted.{IsPermutation, IsSorted}
-use Rattle.std.specs.Ordering.{is_lt, eq_by_cmp, ordering_then, nat_cmp}
+use Rattle.std.specs.Ordering.{is_lt, eq_by_cmp, ordering_then}
 use Rattle.std.specs.declared.cmp.Ordering.{Ordering}
 use Rattle.std.specs.declared.cmp.Ordering.TheVariants.{Less, Equal, Greater}
-use Rattle.std.specs.Cmp.Lexicographic.{pointwise, slice_cmp, lists_ties, texts_ties, nat_list_cmp_total}
-use Rattle.ocfl_tree.specs.Place.{Text, Place, text_cmp, place_cmp, place_eq, begins}
+use Rattle.std.specs.Cmp.Lexicographic.{pointwise, nat_list_cmp_total}
+use Rattle.ocfl_tree.specs.Place.{Text, Place, text_cmp, place_cmp, begins}
 use Rattle.ocfl_tree.specs.{Ascending.{ascending}, Path.{elements, slashed}}
+use Rattle.ocfl_tree.proofs.Places.{place_eq-pointwise}
 use Rattle.ocfl_tree.proofs.Orders.{place_cmp_total, place_cmp_exact, ascending_unique, ascends_ascending, ascends_filter, among_ascending, among_filter, among_from_filter}
 use Rattle.ocfl_digest.specs.declared.algorithm.Algorithm.{Algorithm}
 use Rattle.ocfl_inventory.specs.{Note.{note, Note}, ListedPath.{is_kept, path_fault}}
@@ -49,14 +50,11 @@ triples_up xs s = subst (IsUp triple_cmp) (itself xs) (up_from_sorted triple_tot
     itself [] = refl
     itself (x ∷ xs) = ap (λ ys. x ∷ ys) (itself xs)
 
-same_place : (p q : Place) → pointwise (pointwise nat_eq) p q ≡ place_eq p q
-same_place = lists_ties (slice_cmp nat_cmp) texts_ties
-
 pub conflicting : (es : List Triple) (hs zs : List Place) → IsSorted triple_cmp es → hs ≡ hits begins (map (λ e. e.path) es)
     → IsFiltered (DiffersFromLast (pointwise (pointwise nat_eq))) [] hs zs → zs ≡ conflicts (map (λ e. e.path) es)
 conflicting es hs zs s h f =
     dedup_is (pointwise (pointwise nat_eq)) hs zs f
-    ∙ (λ i. dedup (λ p q. same_place p q i) (h i))
+    ∙ (λ i. dedup (λ p q. place_eq-pointwise p q i) (h i))
     ∙ sorted_conflicts (map (λ e. e.path) es) (map (λ e. e.path) es) (IsPermutation-refl (map (λ e. e.path) es)) (paths_up es s)
 
 pub conflicts_permuted : (es fs : List Triple) → IsPermutation es fs → IsSorted triple_cmp fs → conflicts (map (λ e. e.path) fs) ≡ conflicts (map (λ e. e.path) es)

@@ -1,7 +1,7 @@
 -- A sorted list with each element once, and what the sorts and dedups of code leave.
 use Rattle.std.proofs.Common.{◌≡◌, ◌↔◌, inl, inr, List, [], ◌∷◌, refl, sym, ◌∙◌, ap, subst, true, false, Bool, cond, ℕ, ◌+◌, ◌≤◌, ◌<◌, arith, filter, nat_le, leb-true, le-leb, map, length, get_or, add-one}
 use Rattle.std.proofs.lemmas.List.Sorted.{list_any-IsPermutation, sum_by-IsPermutation, IsPermutation-sym}
-use Rattle.std.specs.{Prelude.{◌||◌, count_by}, List.{list_any, dedup, dedup_from}}
+use Rattle.std.specs.{Prelude.{◌||◌, count_by}, List.{AllByRecursion, IsDistinct, list_any, dedup, dedup_from}}
 use Rattle.std.specs.{List.Sorted.{IsPermutation}, Ordering.{is_eq, is_lt}, Cmp.{IsTotalOrder}}
 use Rattle.std.specs.{FinMap.{IsAntisymmetric}, declared.cmp.Ordering.{Ordering}}
 use Rattle.std.specs.declared.cmp.Ordering.TheVariants.{Less, Equal, Greater}
@@ -52,6 +52,21 @@ module _ {A : Type 0} {cmp : A → A → Ordering} (o : IsTotalOrder cmp) (exact
       let head : is_lt (cmp (f y) (f x)) ≡ false = s 0 x (omega arith) in
       let rest : IsUp cmp (map f (y ∷ ys)) = up_from_sorted f (y ∷ ys) (λ k d h. simp add-one (simp add-one at (s (k + 1) d (omega arith)))) in
       ((head, chain (f x) (f y) (map f ys) head rest.0), rest)
+
+  -- if no two are alike, each is above the one before it
+  pub apart_up : (xs : List A) → IsUp cmp xs → IsDistinct alike xs → IsAscending cmp xs
+  unfolding IsDistinct
+  apart_up [] up d = tt
+  apart_up (x ∷ xs) up d = (over xs up.0 d.0, apart_up xs up.1 d.1)
+    where
+      over : (ys : List A) → IsUnder cmp x ys → AllByRecursion (λ y. alike x y ≡ false) ys → IsBeforeAll cmp x ys
+      over [] u a = tt
+      over (y ∷ ys) u a = (by (cmp x y) refl a.0, over ys u.1 a.1)
+        where
+          by : (r : Ordering) → cmp x y ≡ r → is_eq r ≡ false → cmp x y ≡ Less
+          by Less e f = e
+          by Equal e f = absurd (true_not_false f)
+          by Greater e f = absurd (true_not_false (sym (ap is_lt (below_from_greater o x y e)) ∙ u.0))
 
   -- ---- each once
 

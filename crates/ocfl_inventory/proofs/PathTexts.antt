@@ -1,6 +1,6 @@
 -- Paths and their elements.
-use Rattle.std.proofs.Common.{◌≡◌, ℕ, ◌+◌, ◌≤◌, ◌<◌, List, [], ◌∷◌, ◌++◌, Bool, true, false, refl, sym, ◌∙◌, ap, cond, map, Bor, length, Option, Some, None, arith, lit<, get_or, drop, drop-cons, add-one, append_assoc, filter_map}
-use Rattle.std.proofs.{lemmas.Bool.Decides.{nat_tests}, lemmas.List.{drop_all, append-nil}}
+use Rattle.std.proofs.Common.{◌≡◌, ℕ, ◌+◌, ◌<◌, List, [], ◌∷◌, ◌++◌, Bool, true, false, refl, sym, ◌∙◌, ap, cond, map, Bor, length, Option, Some, None, arith, lit<, get_or, drop, drop-cons, add-one, append_assoc, filter_map}
+use Rattle.std.proofs.lemmas.Bool.Decides.{nat_tests}
 use Rattle.std.proofs.lemmas.List.Splits.{slice_split_none, slice_split_first, length-slice_split}
 use Rattle.std.proofs.lemmas.List.Sums.{fails_before_first}
 use Rattle.std.proofs.lemmas.Str.Pattern.{IsSplitOnceResult, split_once_first}
@@ -93,7 +93,3 @@ faults_step content xs i d front total new h e so_far =
     joined : (o : Option Note) (ns : List Note) → cons_option o [] ++ ns ≡ cons_option o ns
     joined None ns = refl
     joined (Some n) ns = refl
-
-pub faults_done : (content : Text) (xs : List (Bor Text)) (i : ℕ) (front total : List Note) → length xs ≤ i
-    → front ++ filter_map (fault_note content) (map (λ x. x.now) (drop i xs)) ≡ total → front ≡ total
-faults_done content xs i front total h so_far = sym (ap (λ ys. front ++ filter_map (fault_note content) (map (λ x. x.now) ys)) (drop_all i xs h) ∙ append-nil front) ∙ so_far

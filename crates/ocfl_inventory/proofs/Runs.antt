@@ -1,12 +1,27 @@
 -- Sorted lists: what is beside its like, and each element once.
 use Rattle.std.proofs.Common.{◌≡◌, inl, inr, List, [], ◌∷◌, refl, sym, ◌∙◌, ap, subst, true, false, Bool, cond, ℕ, ◌+◌, ◌≤◌, arith}
 use Rattle.std.proofs.lemmas.List.Recursion.{is_count_by}
-use Rattle.std.specs.{Prelude.{count_by}, Ordering.{is_lt}, Cmp.{IsTotalOrder}}
+use Rattle.std.specs.{Prelude.{count_by}, Ordering.{is_lt, ordering_reverse}, Cmp.{IsTotalOrder}}
 use Rattle.std.specs.{FinMap.{IsAntisymmetric}, declared.cmp.Ordering.{Ordering}}
 use Rattle.std.specs.declared.cmp.Ordering.TheVariants.{Less, Equal, Greater}
 use Rattle.ocfl_tree.specs.Ascending.{IsAmong}
 use Rattle.ocfl_inventory.specs.Internal.Beside.{hits}
 use Rattle.ocfl_tree.proofs.Orders.{true_not_false, below_from_greater}
+
+-- ---- orderings
+
+pub less_from : (r : Ordering) → is_lt r ≡ true → r ≡ Less
+less_from Less e = refl
+less_from Equal e = cc
+less_from Greater e = cc
+
+equal_reversed : (r : Ordering) → r ≡ ordering_reverse r → r ≡ Equal
+equal_reversed Less e = cc
+equal_reversed Equal e = refl
+equal_reversed Greater e = cc
+
+pub equal_itself : {A : Type 0} {cmp : A → A → Ordering} → IsTotalOrder cmp → (x : A) → cmp x x ≡ Equal
+equal_itself {cmp = cmp} o x = equal_reversed (cmp x x) (o.antisymm x x)
 
 -- ---- counting by a recursion
 
@@ -18,14 +33,6 @@ pub tally_is : {A : Type 0} (p : A → Bool) (xs : List A) → tally p xs ≡ co
 tally_is p xs = is_count_by (tally p) p refl (λ x ys. refl) xs
 
 module _ {A : Type 0} (p : A → Bool) where
-  tally_there : (xs : List A) (z : A) → IsAmong xs z → p z ≡ true → 1 ≤ tally p xs
-  tally_there [] z i h = absurd i
-  tally_there (x ∷ xs) z i h = by (p x) refl i (λ j. tally_there xs z j h)
-    where
-      by : (b : Bool) → p x ≡ b → IsAmong (x ∷ xs) z → (IsAmong xs z → 1 ≤ tally p xs) → 1 ≤ cond b (1 + tally p xs) (tally p xs)
-      by true e j k = omega arith
-      by false e (inl f) k = absurd (true_not_false (sym h ∙ ap p f ∙ e))
-      by false e (inr j) k = k j
 
   pub tally_some : (xs : List A) → 1 ≤ tally p xs → (z : A) × (IsAmong xs z × (p z ≡ true))
   tally_some [] h = absurd (omega (arith, h))

@@ -14,9 +14,6 @@ use Rattle.ocfl_tree.proofs.PathOrders.{path_cmp_is, names_cmp, names_begin}
 use Rattle.ocfl_inventory.specs.Table.{Triple, triple_cmp, named_cmp}
 use Rattle.ocfl_inventory.specs.Internal.SharedFront.{IsBelow, behind}
 
-pub texts_cmp : (t u : Text) → path_cmp t u ≡ place_cmp (elements t) (elements u)
-texts_cmp = path_cmp_is
-
 -- ---- the order
 
 same_byte : (a : ℕ) → (a == a) ≡ true

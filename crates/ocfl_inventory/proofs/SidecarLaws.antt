@@ -1,24 +1,14 @@
 -- The computation reads just the grammar.
-use Rattle.std.proofs.Common.{◌≡◌, ◌↔◌, List, [], ◌∷◌, ◌++◌, refl, sym, ◌∙◌, ap, true, false, Bool, ℕ, zero, suc, ◌<◌, arith, take, drop, length, codes, Option, Some, None, ltb-true, lt-ltb, eqb-true, eq-eqb, leb-true, le-leb}
+use Rattle.std.proofs.Common.{◌≡◌, ◌↔◌, List, [], ◌∷◌, ◌++◌, refl, sym, ◌∙◌, ap, true, false, Bool, ℕ, ◌<◌, arith, take, drop, length, codes, Option, Some, None, ltb-true, lt-ltb, eqb-true, eq-eqb, leb-true, le-leb}
+use Rattle.std.proofs.lemmas.List.{take-append-drop}
 use Rattle.std.specs.Prelude.{◌≢◌, cond, option_and_then, ◌&&◌, ◌==◌, nat_lt, nat_le, nat_eq, Result, Ok, Err}
 use Rattle.std.specs.{List.{list_all, starts_with}, Cmp.Lexicographic.{bytes_decides}}
 use Rattle.hex.specs.{Hex.{decode_of}, declared.error.FromHexError.{FromHexError}}
 use Rattle.ocfl_tree.proofs.Bools.{and_both}
 use Rattle.ocfl_tree.specs.Place.{Text}
+use Rattle.ocfl_inventory.proofs.Beginnings.{both}
 use Rattle.ocfl_inventory.specs.Sidecar.{is_blank, is_tail, sidecar_digits, leading, IsSidecar, decoded, is_after_digits, sidecar_of_len, sidecar_of}
 use Rattle.ocfl_digest.specs.declared.algorithm.Algorithm.{Algorithm}
-
-true_not_false : true ≡ false → ⊥
-true_not_false e = cc
-
-both : (a b : Bool) → a && b ≡ true → (a ≡ true) × (b ≡ true)
-both true b h = (refl, h)
-both false b h = absurd (true_not_false (sym h))
-
-take_drop_joined : (n : ℕ) (xs : Text) → take n xs ++ drop n xs ≡ xs
-take_drop_joined zero xs = refl
-take_drop_joined (suc n) [] = refl
-take_drop_joined (suc n) (x ∷ xs) = ap (λ ys. x ∷ ys) (take_drop_joined n xs)
 
 take_front : (xs ys : Text) → take (length xs) (xs ++ ys) ≡ xs
 take_front [] ys = refl
@@ -91,19 +81,16 @@ module _ (n : ℕ) (b : Text) (d : List ℕ) (a : Algorithm) (digits_are : sidec
           → starts_with nat_eq name (codes "inventory.json") ≡ true → list_all is_tail (drop 14 name) ≡ true → decoded (take n b) ≡ Some d → IsSidecar b a d
       build h1 h2 h3 h4 h5 h6 =
           let spelled : codes "inventory.json" ≡ take 14 name = (bytes_decides _ _).0 h4 in
-          let name_is : name ≡ codes "inventory.json" ++ drop 14 name = sym (ap (λ x. x ++ drop 14 name) spelled ∙ take_drop_joined 14 name) in
+          let name_is : name ≡ codes "inventory.json" ++ drop 14 name = sym (ap (λ x. x ++ drop 14 name) spelled ∙ take-append-drop 14 name) in
           let rest_is : rest ≡ gap ++ (codes "inventory.json" ++ drop 14 name) = sym (taken_and_rest is_blank rest) ∙ ap (λ x. gap ++ x) name_is in
           record {
-            digits = take n b;
-            gap = gap;
-            tail = drop 14 name;
-            whole = sym (take_drop_joined n b) ∙ ap (λ x. take n b ++ x) rest_is;
+            digits = take n b; gap = gap; tail = drop 14 name;
+            whole = sym (take-append-drop n b) ∙ ap (λ x. take n b ++ x) rest_is;
             short = leb-true _ _ h1;
             as_many = digits_are ∙ ap Some (sym (eqb-true _ _ h2));
             is_digest = (decoded_some (take n b) d).0 h6;
             some_blank = length_nonempty gap (ltb-true _ _ h3);
-            blanks = all_taken is_blank rest;
-            ends = h5;
+            blanks = all_taken is_blank rest; ends = h5;
           }
 
       by : (t : Bool) → nat_le (length b) 4096 && (length (take n b) == n && is_after_digits (drop n b)) ≡ t → cond t (decoded (take n b)) None ≡ Some d → IsSidecar b a d

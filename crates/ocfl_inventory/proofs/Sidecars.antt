@@ -1,29 +1,9 @@
 -- Scanning a sidecar.
-use Rattle.std.proofs.Common.{◌≡◌, ℕ, suc, ◌+◌, ◌≤◌, ◌<◌, [], ◌∷◌, Bool, true, false, refl, sym, ◌∙◌, ap, cond, arith, take, drop, length, length-take, drop-cons, add-one, get_or, lt-ltb, ◌≢◌, nat_eq, None, codes}
-use Rattle.std.proofs.{lemmas.List.{drop_all}, lemmas.Bool.Decides.{nat_tests}}
+use Rattle.std.proofs.Common.{◌≡◌, ℕ, ◌<◌, Bool, true, false, refl, sym, ◌∙◌, ap, cond, arith, take, drop, length, length-take, lt-ltb, ◌≢◌, nat_eq, None, codes}
+use Rattle.std.proofs.lemmas.Bool.Decides.{nat_tests}
 use Rattle.std.specs.{Prelude.{nat_le, nat_lt, ◌==◌, ◌&&◌}, List.{starts_with, list_all}}
 use Rattle.ocfl_tree.specs.Place.{Text}
 use Rattle.ocfl_inventory.specs.Sidecar.{leading, is_blank, is_tail, decoded, is_after_digits, sidecar_of_len}
-
-pub leading_step : (p : ℕ → Bool) (t : Text) (i c : ℕ) (total : ℕ) → i < length t → p (get_or t i 0) ≡ true → i + length (leading p (drop i t)) ≡ total
-    → i + 1 + length (leading p (drop (i + 1) t)) ≡ total
-leading_step p t i c total h k so_far =
-    let one : drop i t ≡ get_or t i 0 ∷ drop (i + 1) t = drop-cons t i 0 h ∙ ap (λ n. get_or t i 0 ∷ drop n t) (sym (add-one i)) in
-    let two : leading p (drop i t) ≡ get_or t i 0 ∷ leading p (drop (i + 1) t) = ap (leading p) one ∙ ap (λ b. cond b (get_or t i 0 ∷ leading p (drop (i + 1) t)) []) k in
-    let three : length (leading p (drop i t)) ≡ suc (length (leading p (drop (i + 1) t))) = ap length two in
-    omega (arith, three, so_far)
-
-pub leading_stop : (p : ℕ → Bool) (t : Text) (i : ℕ) (total : ℕ) → i < length t → p (get_or t i 0) ≡ false → i + length (leading p (drop i t)) ≡ total → i ≡ total
-leading_stop p t i total h k so_far =
-    let one : drop i t ≡ get_or t i 0 ∷ drop (suc i) t = drop-cons t i 0 h in
-    let two : leading p (drop i t) ≡ [] = ap (leading p) one ∙ ap (λ b. cond b (get_or t i 0 ∷ leading p (drop (suc i) t)) []) k in
-    let three : length (leading p (drop i t)) ≡ 0 = ap length two in
-    omega (arith, three, so_far)
-
-pub leading_end : (p : ℕ → Bool) (t : Text) (i : ℕ) (total : ℕ) → length t ≤ i → i + length (leading p (drop i t)) ≡ total → i ≡ total
-leading_end p t i total h so_far =
-    let three : length (leading p (drop i t)) ≡ 0 = ap (λ ys. length (leading p ys)) (drop_all i t h) in
-    omega (arith, three, so_far)
 
 no_sidecar : (n : ℕ) (b : Text) → length (take n b) == n ≡ false → sidecar_of_len n b ≡ None
 no_sidecar n b h = by (nat_le (length b) 4096)

@@ -10,7 +10,7 @@ use Rattle.ocfl_tree.specs.Place.{Place, place_cmp, place_eq}
 use Rattle.ocfl_tree.specs.Ascending.{IsBeforeAll, IsAscending}
 use Rattle.ocfl_tree.proofs.Orders.{true_not_false, place_cmp_total, place_cmp_exact, below_from_greater, not_less_itself}
 use Rattle.ocfl_inventory.specs.Table.{Named, Triple, triple_cmp, named_cmp}
-use Rattle.ocfl_inventory.proofs.{Runs.{IsUnder, IsUp}, Once.{no_fall}}
+use Rattle.ocfl_inventory.proofs.{Runs.{IsUnder, IsUp, less_from}, Once.{no_fall}}
 
 -- ---- the paths do not fall
 
@@ -48,13 +48,8 @@ paths_at xs up i j d k l = up_at xs i j d (up_paths xs up) k l
 below_too : (p q r : Place) → is_lt (place_cmp q p) ≡ false → is_lt (place_cmp q r) ≡ true → is_lt (place_cmp p r) ≡ true
 below_too p q r h k = by (place_cmp p q) refl
   where
-    less : (o : Ordering) → is_lt o ≡ true → o ≡ Less
-    less Less e = refl
-    less Equal e = absurd (true_not_false (sym e))
-    less Greater e = absurd (true_not_false (sym e))
-
     by : (o : Ordering) → place_cmp p q ≡ o → is_lt (place_cmp p r) ≡ true
-    by Less e = ap is_lt (place_cmp_total.trans p q r e (less _ k))
+    by Less e = ap is_lt (place_cmp_total.trans p q r e (less_from _ k))
     by Equal e = ap (λ s. is_lt (place_cmp s r)) (place_cmp_exact p q e) ∙ k
     by Greater e = absurd (true_not_false (sym (ap is_lt (below_from_greater place_cmp_total p q e)) ∙ h))
 
@@ -62,7 +57,7 @@ pub parted_from : (xs : List Triple) (q : Place) → IsAscending triple_cmp xs �
     → is_lt (place_cmp (get_or xs j d).path q) ≡ true → is_lt (place_cmp (get_or xs i d).path q) ≡ true
 parted_from xs q up i j d k l h = below_too (get_or xs i d).path (get_or xs j d).path q (paths_at xs up i j d k l) h
 
-not_true : (b : Bool) → not b ≡ true → b ≡ false
+pub not_true : (b : Bool) → not b ≡ true → b ≡ false
 not_true true h = absurd (true_not_false (sym h))
 not_true false h = refl
 
@@ -92,20 +87,10 @@ module _ (q : Place) where
   IsHigh xs j = IsPartitionPoint (λ t. is_lt (place_cmp q t.path) ≡ false) (λ t. is_lt (place_cmp q t.path) ≡ true) xs j
 
   below_apart : (p : Place) → is_lt (place_cmp p q) ≡ true → place_eq p q ≡ false
-  below_apart p h = by (place_cmp p q) h
-    where
-      by : (o : Ordering) → is_lt o ≡ true → is_eq o ≡ false
-      by Less e = refl
-      by Equal e = absurd (true_not_false (sym e))
-      by Greater e = refl
+  below_apart p h = ap is_eq (less_from _ h)
 
   above_apart : (p : Place) → is_lt (place_cmp q p) ≡ true → place_eq p q ≡ false
-  above_apart p h = ap is_eq (place_cmp_total.antisymm p q) ∙ by (place_cmp q p) h
-    where
-      by : (o : Ordering) → is_lt o ≡ true → is_eq (ordering_reverse o) ≡ false
-      by Less e = refl
-      by Equal e = absurd (true_not_false (sym e))
-      by Greater e = absurd (true_not_false (sym e))
+  above_apart p h = ap is_eq (place_cmp_total.antisymm p q ∙ ap ordering_reverse (less_from _ h))
 
   between_same : (p : Place) → is_lt (place_cmp p q) ≡ false → is_lt (place_cmp q p) ≡ false → place_eq p q ≡ true
   between_same p h k = by (place_cmp p q) refl h
@@ -135,12 +120,7 @@ module _ (q : Place) where
       (λ k d a b. w.0 (suc k) d (omega arith) (omega arith), λ k d a b. w.1 (suc k) d (omega arith) (omega arith)))
 
   not_above : (p : Place) → is_lt (place_cmp p q) ≡ true → is_lt (place_cmp q p) ≡ false
-  not_above p h = ap is_lt (place_cmp_total.antisymm q p) ∙ by (place_cmp p q) h
-    where
-      by : (o : Ordering) → is_lt o ≡ true → is_lt (ordering_reverse o) ≡ false
-      by Less e = refl
-      by Equal e = absurd (true_not_false (sym e))
-      by Greater e = absurd (true_not_false (sym e))
+  not_above p h = ap is_lt (place_cmp_total.antisymm q p ∙ ap ordering_reverse (less_from _ h))
 
   both_below : (p : Place) → is_lt (place_cmp p q) ≡ true → is_lt (place_cmp q p) ≡ true → ⊥
   both_below p h k = true_not_false (sym k ∙ not_above p h)

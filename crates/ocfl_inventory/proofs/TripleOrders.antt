@@ -4,23 +4,16 @@ use Rattle.std.specs.{Ordering.{bool_cmp, is_eq, ordering_then}, FinMap.{IsAntis
 use Rattle.std.specs.declared.cmp.Ordering.{Ordering}
 use Rattle.std.specs.declared.cmp.Ordering.TheVariants.{Less, Equal, Greater}
 use Rattle.ocfl_digest.specs.Algorithm.{algorithm_cmp, algorithm_name, algorithm_named}
-use Rattle.ocfl_digest.specs.declared.algorithm.Algorithm.{Algorithm}
-use Rattle.ocfl_digest.specs.declared.algorithm.Algorithm.TheVariants.{Md5, Sha1, Sha256, Sha512, Sha512_256}
+use Rattle.ocfl_digest.proofs.Names.{named_by_name}
 use Rattle.ocfl_tree.specs.Place.{place_cmp, text_cmp}
 use Rattle.ocfl_tree.proofs.Orders.{place_cmp_exact}
 use Rattle.ocfl_inventory.specs.Table.{Triple, named_cmp, triple_cmp}
 use Rattle.ocfl_inventory.proofs.Beginnings.{text_exact}
 
 then_parts : (r s : Ordering) → ordering_then r s ≡ Equal → (r ≡ Equal) × (s ≡ Equal)
-then_parts Less s e = absurd (no_less e)
-  where
-    no_less : Less ≡ Equal → ⊥
-    no_less f = cc
+then_parts Less s e = absurd cc
 then_parts Equal s e = (refl, e)
-then_parts Greater s e = absurd (no_greater e)
-  where
-    no_greater : Greater ≡ Equal → ⊥
-    no_greater f = cc
+then_parts Greater s e = absurd cc
 
 bool_exact : IsAntisymmetric bool_cmp
 bool_exact true true e = refl
@@ -28,17 +21,10 @@ bool_exact false false e = refl
 bool_exact true false e = cc
 bool_exact false true e = cc
 
-named_known : (a : Algorithm) → algorithm_named (algorithm_name a) ≡ Some a
-named_known Md5 = refl
-named_known Sha1 = refl
-named_known Sha256 = refl
-named_known Sha512 = refl
-named_known Sha512_256 = refl
-
 algorithm_exact : IsAntisymmetric algorithm_cmp
 algorithm_exact a b e =
     let names : algorithm_name a ≡ algorithm_name b = text_exact (algorithm_name a) (algorithm_name b) e in
-    let same : Some a ≡ Some b = sym (named_known a) ∙ ap algorithm_named names ∙ named_known b in
+    let same : Some a ≡ Some b = sym (named_by_name a) ∙ ap algorithm_named names ∙ named_by_name b in
     cc
 
 named_exact : IsAntisymmetric named_cmp

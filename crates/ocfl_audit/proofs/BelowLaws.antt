@@ -1,44 +1,25 @@
 -- An ascending list of places, split by the names below one.
 use Rattle.std.proofs.Common.{◌≡◌, ◌⊎◌, inl, inr, List, [], ◌∷◌, ◌++◌, refl, sym, ◌∙◌, ap, subst, true, false, Bool, filter}
 use Rattle.std.specs.Prelude.{flat_map, ◌&&◌}
-use Rattle.std.specs.Ordering.{ordering_reverse, ordering_then, is_eq, is_lt}
+use Rattle.std.specs.Ordering.{ordering_then, is_eq, is_lt}
 use Rattle.std.specs.declared.cmp.Ordering.{Ordering}
-use Rattle.std.specs.{declared.cmp.Ordering.TheVariants.{Less, Equal, Greater}, Cmp.{IsTotalOrder}}
-use Rattle.std.specs.Cmp.Lexicographic.{nat_list_cmp_total}
-use Rattle.std.specs.FinMap.{IsAntisymmetric, slice_cmp-IsAntisymmetric, nat_cmp-IsAntisymmetric}
+use Rattle.std.specs.declared.cmp.Ordering.TheVariants.{Less, Equal, Greater}
 use Rattle.ocfl_tree.specs.Place.{Place, Text, text_cmp, text_eq, place_cmp, place_eq, begins}
 use Rattle.ocfl_tree.specs.Ascending.{IsBeforeAll, IsAscending, IsAmong}
 use Rattle.ocfl_tree.proofs.Orders.{place_cmp_total, place_cmp_exact, true_not_false, not_below_itself, not_both_below, before_each, ascending_unique, ascends_filter, among_filter, among_from_filter, among_left, among_right, among_flat_map}
 use Rattle.ocfl_tree.proofs.Stores.{among_either}
 use Rattle.ocfl_audit.proofs.AuditExists.{equal_from_test, place_from_test, append_one, append_nothing}
-
-pub text_cmp_total : IsTotalOrder text_cmp
-text_cmp_total = nat_list_cmp_total
-
-pub text_cmp_exact : IsAntisymmetric text_cmp
-text_cmp_exact = slice_cmp-IsAntisymmetric nat_cmp-IsAntisymmetric
+pub use Rattle.ocfl_tree.proofs.Places.{text_cmp_total, text_cmp_exact}
+pub use Rattle.ocfl_inventory.proofs.Runs.{equal_itself, less_from}
 
 pub text_from_test : (n m : Text) → text_eq n m ≡ true → n ≡ m
 text_from_test n m e = text_cmp_exact n m (equal_from_test _ e)
-
-equal_reversed : (r : Ordering) → r ≡ ordering_reverse r → r ≡ Equal
-equal_reversed Less e = cc
-equal_reversed Equal e = refl
-equal_reversed Greater e = cc
-
-pub equal_itself : {A : Type 0} {cmp : A → A → Ordering} → IsTotalOrder cmp → (x : A) → cmp x x ≡ Equal
-equal_itself {cmp = cmp} o x = equal_reversed (cmp x x) (o.antisymm x x)
 
 pub text_same : (n : Text) → text_eq n n ≡ true
 text_same n = ap is_eq (equal_itself text_cmp_total n)
 
 pub place_same : (p : Place) → place_eq p p ≡ true
 place_same p = ap is_eq (equal_itself place_cmp_total p)
-
-pub less_from : (r : Ordering) → is_lt r ≡ true → r ≡ Less
-less_from Less e = refl
-less_from Equal e = cc
-less_from Greater e = cc
 
 -- ---- beginnings
 

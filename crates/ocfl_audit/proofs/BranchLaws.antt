@@ -8,9 +8,10 @@ use Rattle.std.specs.declared.cmp.Ordering.{Ordering}
 use Rattle.std.specs.declared.cmp.Ordering.TheVariants.{Less, Equal, Greater}
 use Rattle.ocfl_tree.specs.Place.{Text, Place, text_cmp, text_eq, place_cmp, begins}
 use Rattle.ocfl_tree.specs.Name.{IsName, IsPlace}
-use Rattle.ocfl_tree.proofs.Places.{text_cmp_total, text_cmp_exact, text_eq-same}
+use Rattle.ocfl_tree.proofs.Places.{text_cmp_total, text_cmp_exact}
 use Rattle.ocfl_report.specs.Line.{Item}
 use Rattle.ocfl_audit.specs.{Walk.{items_under}, Parts.{lies_in, within, branch_end, enclosed}}
+use Rattle.ocfl_inventory.proofs.Runs.{equal_itself}
 use Rattle.ocfl_audit.proofs.PartLaws.{within_is}
 
 -- ---- names
@@ -47,12 +48,7 @@ no_nul [] h = All-nil (λ b. b ≢ 0)
 no_nul (b ∷ m) h = All-cons (λ b. b ≢ 0) b m (All-head (λ b. (b ≢ 47) × (b ≢ 0)) b m h).1 (no_nul m (All-tail (λ b. (b ≢ 47) × (b ≢ 0)) b m h))
 
 same_text : (n : Text) → text_cmp n n ≡ Equal
-same_text n = by (text_cmp n n) (text_eq-same n)
-  where
-    by : (r : Ordering) → is_eq r ≡ true → r ≡ Equal
-    by Less e = cc
-    by Equal e = refl
-    by Greater e = cc
+same_text = equal_itself text_cmp_total
 
 same_number : (b : ℕ) → nat_cmp b b ≡ Equal
 same_number b = sym (nat_cmp_is b b Equal refl)
@@ -63,7 +59,7 @@ longer_text (b ∷ n) = ap (λ r. ordering_then r (text_cmp n (n ++ 1 ∷ []))) 
 
 -- ---- places
 
-nothing_above : (q : Place) → is_lt (place_cmp q []) ≡ false
+pub nothing_above : (q : Place) → is_lt (place_cmp q []) ≡ false
 nothing_above [] = refl
 nothing_above (m ∷ q) = refl
 
@@ -144,12 +140,10 @@ end_is_name n h l =
     record {
       text = ∣ IsUtf8-append n (1 ∷ []) (IsUtf8-had n h.text) one_is_text ∣₁;
       fits = record {
-        not_empty = some n;
-        short = omega (arith, e, l);
+        not_empty = some n; short = omega (arith, e, l);
         plain = All-append (λ b. (b ≢ 47) × (b ≢ 0)) n (1 ∷ []) h.fits.plain
             (All-cons (λ b. (b ≢ 47) × (b ≢ 0)) 1 [] (λ k. omega (arith, k), λ k. omega (arith, k)) (All-nil (λ b. (b ≢ 47) × (b ≢ 0))));
-        not_dot = no_dot n h.fits.not_empty;
-        not_dots = no_dots n h.fits.not_empty;
+        not_dot = no_dot n h.fits.not_empty; not_dots = no_dots n h.fits.not_empty;
       };
     }
   where

@@ -15,7 +15,7 @@ false_not_true : false ≡ true → ⊥
 false_not_true e = cc
 
 -- an item that costs something is taken below both limits
-taken_test : (l : Limits) (s f c : ℕ) → may_take l s f c ≡ true → 0 < c → (s < l.budget) × (f < l.files)
+pub taken_test : (l : Limits) (s f c : ℕ) → may_take l s f c ≡ true → 0 < c → (s < l.budget) × (f < l.files)
 taken_test l s f c h p = by (c == 0) refl h
   where
     by : (t : Bool) → c == 0 ≡ t → (t || (nat_lt s l.budget && nat_lt f l.files)) ≡ true → (s < l.budget) × (f < l.files)
@@ -135,14 +135,14 @@ pub files_append : (xs ys : List Item) → total_files (xs ++ ys) ≡ total_file
 files_append [] ys = omega arith
 files_append (x ∷ xs) ys = let m = files_append xs ys in omega (arith, m)
 
-joined_parts : (items : List Item) (l : Limits) → cut items l ++ left items l ≡ items
-joined_parts items l = take-append-drop _ items
+pub cut_and_left : (items : List Item) (l : Limits) → cut items l ++ left items l ≡ items
+cut_and_left items l = take-append-drop _ items
 
 costs_of_parts : (items : List Item) (l : Limits) → total_cost items ≡ total_cost (cut items l) + total_cost (left items l)
-costs_of_parts items l = ap total_cost (sym (joined_parts items l)) ∙ cost_append (cut items l) (left items l)
+costs_of_parts items l = ap total_cost (sym (cut_and_left items l)) ∙ cost_append (cut items l) (left items l)
 
 files_of_parts : (items : List Item) (l : Limits) → total_files items ≡ total_files (cut items l) + total_files (left items l)
-files_of_parts items l = ap total_files (sym (joined_parts items l)) ∙ files_append (cut items l) (left items l)
+files_of_parts items l = ap total_files (sym (cut_and_left items l)) ∙ files_append (cut items l) (left items l)
 
 files_of_cost : (c : ℕ) → files_of c ≤ c
 files_of_cost c = by (c == 0) refl
@@ -296,11 +296,11 @@ module _ (b : ℕ) where
       by true e g k = k g
       by false e g k = let m = (left_over b s i.cost e).0 in omega (arith, m)
 
-cut_and_left : (items : List Item) (b : ℕ) → budget_cut items b ++ budget_left items b ≡ items
-cut_and_left items b = take-append-drop _ items
+budget_parts : (items : List Item) (b : ℕ) → budget_cut items b ++ budget_left items b ≡ items
+budget_parts items b = take-append-drop _ items
 
 cost_split : (items : List Item) (b : ℕ) → total_cost items ≡ total_cost (budget_cut items b) + total_cost (budget_left items b)
-cost_split items b = ap total_cost (sym (cut_and_left items b)) ∙ cost_append (budget_cut items b) (budget_left items b)
+cost_split items b = ap total_cost (sym (budget_parts items b)) ∙ cost_append (budget_cut items b) (budget_left items b)
 
 -- nothing, or something that costs
 abbrev HasCost : List Item → Type 0
@@ -343,7 +343,7 @@ joined_after [] (i ∷ items) (inr c) h = absurd (omega (arith, c, h))
 joined_after (b ∷ bs) [] c h = refl
 joined_after (b ∷ bs) (i ∷ items) c h =
     ap (λ xs. budget_cut (i ∷ items) b ++ xs)
-    (by (rest_fits (i ∷ items) b (sum_of bs) h (left_has_cost (i ∷ items) b)) (joined_after bs (budget_left (i ∷ items) b) (left_has_cost (i ∷ items) b))) ∙ cut_and_left (i ∷ items) b
+    (by (rest_fits (i ∷ items) b (sum_of bs) h (left_has_cost (i ∷ items) b)) (joined_after bs (budget_left (i ∷ items) b) (left_has_cost (i ∷ items) b))) ∙ budget_parts (i ∷ items) b
   where
     by : (budget_left (i ∷ items) b ≡ []) ⊎ (total_cost (budget_left (i ∷ items) b) ≤ sum_of bs)
         → (total_cost (budget_left (i ∷ items) b) ≤ sum_of bs → joined (budget_runs_after bs (budget_left (i ∷ items) b)) ≡ budget_left (i ∷ items) b)
@@ -353,7 +353,7 @@ joined_after (b ∷ bs) (i ∷ items) c h =
 
 pub runs_take_all : (b : ℕ) (bs : List ℕ) (items : List Item) → total_cost items ≤ b + sum_of bs → joined (budget_runs items (b ∷ bs)) ≡ items
 runs_take_all b bs items h =
-    ap (λ xs. budget_cut items b ++ xs) (by (rest_fits items b (sum_of bs) h (left_has_cost items b))) ∙ cut_and_left items b
+    ap (λ xs. budget_cut items b ++ xs) (by (rest_fits items b (sum_of bs) h (left_has_cost items b))) ∙ budget_parts items b
   where
     by : (budget_left items b ≡ []) ⊎ (total_cost (budget_left items b) ≤ sum_of bs) → joined (budget_runs_after bs (budget_left items b)) ≡ budget_left items b
     by (inl e) = ap (λ xs. joined (budget_runs_after bs xs)) e ∙ joined_nothing bs ∙ sym e
@@ -373,7 +373,7 @@ after_short zero (b ∷ bs) [] e = refl
 after_short zero (b ∷ bs) (i ∷ items) e = absurd cc
 after_short (suc k) (b ∷ bs) [] e = refl
 after_short (suc k) (b ∷ bs) (i ∷ items) e =
-    ap (λ xs. budget_cut (i ∷ items) b ∷ xs) (after_short k bs (budget_left (i ∷ items) b) (cancel (budget_cut (i ∷ items) b) _ _ (e ∙ sym (cut_and_left (i ∷ items) b))))
+    ap (λ xs. budget_cut (i ∷ items) b ∷ xs) (after_short k bs (budget_left (i ∷ items) b) (cancel (budget_cut (i ∷ items) b) _ _ (e ∙ sym (budget_parts (i ∷ items) b))))
 
 after_count : (bs : List ℕ) (items : List Item) → length (budget_runs_after bs items) ≤ length bs
 after_count [] items = omega arith
@@ -396,7 +396,7 @@ few_runs (suc k) [] items l m h = absurd (omega (arith, m))
 few_runs (suc k) (b ∷ bs) items l m h =
     let all : joined (budget_runs items (b ∷ take k bs)) ≡ items = runs_take_all b (take k bs) items h in
     let same : budget_runs items (b ∷ bs) ≡ budget_runs items (b ∷ take k bs) =
-    ap (λ xs. budget_cut items b ∷ xs) (after_short k bs (budget_left items b) (cancel (budget_cut items b) _ _ (all ∙ sym (cut_and_left items b)))) in
+    ap (λ xs. budget_cut items b ∷ xs) (after_short k bs (budget_left items b) (cancel (budget_cut items b) _ _ (all ∙ sym (budget_parts items b)))) in
     let n = after_count (take k bs) (budget_left items b) in
     let t = take_count k bs in
     let e : length (budget_runs items (b ∷ bs)) ≡ suc (length (budget_runs_after (take k bs) (budget_left items b))) = ap length same in
@@ -544,7 +544,7 @@ module _ (b n : ℕ) (some_budget : 1 ≤ b) (some_files : 1 ≤ n) where
   whole_after [] items a h = absurd (omega (arith, h))
   whole_after (l ∷ ls) [] a h = refl
   whole_after (l ∷ ls) (i ∷ items) a h =
-      ap (λ xs. cut (i ∷ items) l ++ xs) (by (left_over_or (left (i ∷ items) l)) (whole_after ls (left (i ∷ items) l) (All-tail (IsAtLeast b n) l ls a))) ∙ joined_parts (i ∷ items) l
+      ap (λ xs. cut (i ∷ items) l ++ xs) (by (left_over_or (left (i ∷ items) l)) (whole_after ls (left (i ∷ items) l) (All-tail (IsAtLeast b n) l ls a))) ∙ cut_and_left (i ∷ items) l
     where
       by : IsLeftOver (left (i ∷ items) l) → (due (left (i ∷ items) l) + 1 ≤ length ls → joined (runs_after ls (left (i ∷ items) l)) ≡ left (i ∷ items) l)
           → joined (runs_after ls (left (i ∷ items) l)) ≡ left (i ∷ items) l

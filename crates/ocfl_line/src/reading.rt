@@ -114,45 +114,6 @@ fn task_of(alloc: Global, name: &str, inner: &ArgMatches<'_>) -> Result<Option<T
     }))
 }
 
-/// What the matches of `split` ask for, or `None` if they ask for nothing.
-fn asked_split(alloc: Global, inner: &ArgMatches<'_>) -> Result<Option<Asked>, AllocError>
-    ensures found { IfOk result (λ o.
-        IfSome o (IsAsked (codes "split") (rows_of (found_of inner.now)))) }
-    ensures missing { IfOk result (λ o. IsNone o
-        → (a : AskedOf) → IsAsked (codes "split") (rows_of (found_of inner.now)) a → ⊥) }
-{
-    match split_by(alloc, inner)? {
-        Some(split) => Ok(Some(Asked::Split(split))),
-        None => Ok(None),
-    }
-}
-
-/// The same of `night`.
-fn asked_night(alloc: Global, inner: &ArgMatches<'_>) -> Result<Option<Asked>, AllocError>
-    ensures found { IfOk result (λ o.
-        IfSome o (IsAsked (codes "night") (rows_of (found_of inner.now)))) }
-    ensures missing { IfOk result (λ o. IsNone o
-        → (a : AskedOf) → IsAsked (codes "night") (rows_of (found_of inner.now)) a → ⊥) }
-{
-    match night_by(alloc, inner)? {
-        Some(night) => Ok(Some(Asked::Night(night))),
-        None => Ok(None),
-    }
-}
-
-/// The same of `join`.
-fn asked_join(alloc: Global, inner: &ArgMatches<'_>) -> Result<Option<Asked>, AllocError>
-    ensures found { IfOk result (λ o.
-        IfSome o (IsAsked (codes "join") (rows_of (found_of inner.now)))) }
-    ensures missing { IfOk result (λ o. IsNone o
-        → (a : AskedOf) → IsAsked (codes "join") (rows_of (found_of inner.now)) a → ⊥) }
-{
-    match join_by(alloc, inner)? {
-        Some(join) => Ok(Some(Asked::Join(join))),
-        None => Ok(None),
-    }
-}
-
 /// What the subcommand with this name and these matches asks for, or `None` if it is nothing.
 fn asked_of(alloc: Global, name: &str, inner: &ArgMatches<'_>) -> Result<Option<Asked>, AllocError>
     ensures found { IfOk result (λ o. IfSome o (IsAsked name.now (rows_of (found_of inner.now)))) }
@@ -160,13 +121,10 @@ fn asked_of(alloc: Global, name: &str, inner: &ArgMatches<'_>) -> Result<Option<
         → (a : AskedOf) → IsAsked name.now (rows_of (found_of inner.now)) a → ⊥) }
 {
     match name {
-        "split" => asked_split(alloc, inner),
-        "night" => asked_night(alloc, inner),
-        "join" => asked_join(alloc, inner),
-        _ => match task_of(alloc, name, inner)? {
-            Some(task) => Ok(Some(Asked::Task(task))),
-            None => Ok(None),
-        },
+        "split" => Ok(split_by(alloc, inner)?.map(Asked::Split)),
+        "night" => Ok(night_by(alloc, inner)?.map(Asked::Night)),
+        "join" => Ok(join_by(alloc, inner)?.map(Asked::Join)),
+        _ => Ok(task_of(alloc, name, inner)?.map(Asked::Task)),
     }
 }
 

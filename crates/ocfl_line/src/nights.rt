@@ -7,7 +7,7 @@ ghost use Rattle.ocfl_line.specs.declared.night.JoinAsked.{JoinAsked as JoinOf};
 ghost use Rattle.ocfl_line.specs.declared.night.NightAsked.{NightAsked as NightOf};
 ghost use Rattle.ocfl_line.specs.declared.night.NightBounds.{NightBounds as BoundsOf};
 
-use crate::budget::{read_amount, read_budget};
+use crate::budget::read_amount;
 use crate::choosing::chosen_by;
 use crate::ending::until_of;
 use crate::night::{JoinAsked, NightAsked, NightBounds};
@@ -28,16 +28,13 @@ fn size_of(inner: &ArgMatches<'_>, id: &str) -> Option<Option<u64>>
     }
 }
 
-/// The same of a budget.
+/// The same of a budget, which each size is.
 fn budget_of(inner: &ArgMatches<'_>, id: &str) -> Option<Option<Budget>>
     ensures found { IfSome result (MayHaveSize id.now (rows_of (found_of inner.now))) }
     ensures missing { IsNone result
         → (size : Option ℕ) → MayHaveSize id.now (rows_of (found_of inner.now)) size → ⊥ }
 {
-    match text_of(inner, id) {
-        Some(text) => Some(Some(read_budget(text)?)),
-        None => Some(None),
-    }
+    Some(size_of(inner, id)?.and_then(Budget::new))
 }
 
 /// What a night may do. `None` if one of its bounds cannot be read.

@@ -1,5 +1,6 @@
 //! Why one try of a call gave nothing.
-ghost use Rattle.std.specs.{Prelude.{◌≡◌, ◌≢◌, ◌↔◌, ◌∷◌, []}, IoError.{error_kind}};
+ghost use Rattle.std.specs.Prelude.{◌≡◌, ◌≢◌, ◌↔◌, ◌∷◌, [], Ok, Err, MatchOption, MatchResult};
+ghost use Rattle.std.specs.IoError.{error_kind};
 ghost use Rattle.ocfl_folder.specs.Internal.Absence.{IsAbsent};
 
 use crate::failure::Failure;
@@ -39,6 +40,20 @@ impl From<NameStop> for TryFault {
             NameStop::Bad => wrong("it holds an invalid name"),
             NameStop::Memory => TryFault::Failed(out_of_memory()),
         }
+    }
+}
+
+/// What one try of a call gave. `None` if it was interrupted, and may be tried again.
+pub(crate) fn unless_interrupted<T: Drop>(tried: Result<T, TryFault>) -> Result<Option<T>, Failure>
+    ensures { MatchResult result
+        (λ given. MatchOption given (tried ≡ Err TryFault.Interrupted)
+        (λ value. tried ≡ Ok value))
+        (λ failure. tried ≡ Err (TryFault.Failed failure)) }
+{
+    match tried {
+        Ok(value) => Ok(Some(value)),
+        Err(TryFault::Interrupted) => Ok(None),
+        Err(TryFault::Failed(failure)) => Err(failure),
     }
 }
 

@@ -8,7 +8,7 @@ ghost use Rattle.ocfl_folder.specs.Noted.{with_answer, with_read, with_room};
 
 use crate::answer::{Answer, ReadAnswer};
 use crate::failure::Failure;
-use crate::fault::{TryFault, too_often, wrong};
+use crate::fault::{TryFault, too_often, unless_interrupted, wrong};
 use crate::going::{descend, start, turn};
 use crate::node::Node;
 use crate::reading::{TRIES, list_here, open_here};
@@ -139,10 +139,8 @@ impl<S: System + Drop> Stand<S> {
             → at (S.state self.old.system).store.tree place.now ≢ Some dir) }
     {
         for _ in 0..TRIES {
-            match self.entries(place) {
-                Ok(entries) => return Ok(entries),
-                Err(TryFault::Interrupted) => {}
-                Err(TryFault::Failed(failure)) => return Err(failure),
+            if let Some(entries) = unless_interrupted(self.entries(place))? {
+                return Ok(entries);
             }
         }
         Err(too_often())
@@ -177,10 +175,8 @@ impl<S: System + Drop> Stand<S> {
             → at (S.state self.old.system).store.tree place.now ≢ Some (file bytes)) }
     {
         for _ in 0..TRIES {
-            match self.file(place) {
-                Ok(file) => return Ok(file),
-                Err(TryFault::Interrupted) => {}
-                Err(TryFault::Failed(failure)) => return Err(failure),
+            if let Some(file) = unless_interrupted(self.file(place))? {
+                return Ok(file);
             }
         }
         Err(too_often())

@@ -132,10 +132,10 @@ at_first root old X None st n k = k
 at_first root old X (Some p) st n k = absurd (let e : None ≡ Some p = sym n ∙ st.0 in cc)
 
 pub no_memory : (root : StorageRoot) (s : Store) (last : Option Place) (e : End) → s.tree ≡ root → FailsOut root s s last e fault.Memory
-no_memory root s last e over = fails_out_nothing root s last e fault.Memory over refl (λ q f. cc)
+no_memory root s last e over = fails_out_nothing root s last fault.Memory over refl (λ q f. cc) e
 
 pub no_memory_to : (root : StorageRoot) (s : Store) (last : Option Place) (x : Place) → s.tree ≡ root → FailsTo root s s last x fault.Memory
-no_memory_to root s last x over = fails_to_nothing root s last x fault.Memory over refl (λ q f. cc)
+no_memory_to root s last x over = fails_to_nothing root s last fault.Memory over refl (λ q f. cc) x
 
 -- ---- the turn before the end
 

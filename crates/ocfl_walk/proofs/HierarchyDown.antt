@@ -3,6 +3,7 @@ use Rattle.std.proofs.Common.{◌≡◌, ◌⊎◌, inl, inr, ℕ, ◌≤◌, Li
 use Rattle.std.specs.Prelude.{Result, Ok, Err}
 use Rattle.ocfl_tree.specs.{Place.{Text, Place, begins}, StorageRoot.{StorageRoot}, Store.{Store}}
 use Rattle.ocfl_tree.specs.declared.store.Entry.{Entry}
+use Rattle.ocfl_tree.proofs.Places.{begins-itself}
 use Rattle.ocfl_inventory.specs.{Declaration.{declared}, Table.{IsFit}}
 use Rattle.ocfl_inventory.specs.Entries.{file_names, meaning, PointsAtOne}
 use Rattle.ocfl_inventory.specs.declared.declaration.Declared.{Declared as MadeDeclared}
@@ -17,20 +18,16 @@ use Rattle.ocfl_walk.specs.Internal.Standing.{IsAroundIf}
 use Rattle.ocfl_walk.specs.Internal.Entering.{Leads, ListsBelow, Opens}
 use Rattle.ocfl_item.proofs.LooksCalls.{declared_entered, finds_object, no_known, undeclared_entered}
 use Rattle.ocfl_item.proofs.LooksZones.{unknown_no_table}
-use Rattle.ocfl_walk.proofs.OrderlyLaws.{begins_own}
 use Rattle.ocfl_walk.proofs.DownLaws.{leads_in, leads_listed, leads_object, leads_object_none, leads_object_stop, shut_object}
 
 -- ---- on any store
 
 pub fair_object : (e : Place) (f : Folder) (a : Around) → (a.place ≡ f.place) × IsFit a.table → IsFairFolder e f → IsFairFolder e f × IsAroundIf e (Some a)
-fair_object e f a k h = (
-  h,
-  record {
-    holds = subst (λ p. begins p e ≡ true) (sym (k.0 ∙ h.place)) (begins_own e);
-    depth = subst (λ p. length p ≤ max_listed_depth) (sym (k.0 ∙ h.place)) h.depth;
-    fit = k.1;
-  },
-)
+fair_object e f a k h = (h, record {
+  holds = subst (λ p. begins p e ≡ true) (sym (k.0 ∙ h.place)) (begins-itself e);
+  depth = subst (λ p. length p ≤ max_listed_depth) (sym (k.0 ∙ h.place)) h.depth;
+  fit = k.1;
+})
 
 pub fair_in : (e : Place) (f : Folder) (a : Option Around) → a ≡ None → IsFairFolder e f → IsFairFolder e f × IsAroundIf e a
 fair_in e f a none h = (h, subst (IsAroundIf e) (sym none) tt)

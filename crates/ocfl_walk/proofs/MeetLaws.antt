@@ -3,13 +3,13 @@ use Rattle.std.proofs.Common.{◌≡◌, [], ◌∷◌, ◌++◌, sym, ◌∙◌
 use Rattle.std.specs.Prelude.{cond, IfSome}
 use Rattle.ocfl_tree.specs.{Place.{Place, Text}, StorageRoot.{StorageRoot}}
 use Rattle.ocfl_tree.specs.{declared.store.Entry.{Entry}, Listing.{IsOrdinary}}
+use Rattle.ocfl_tree.proofs.Places.{begins-itself}
 use Rattle.ocfl_inventory.specs.Table.{IsFit, Table}
 use Rattle.ocfl_audit.specs.Trail.{is_head}
 use Rattle.ocfl_audit.specs.Zone.{skipped, hierarchy, inside, zone, table_at, object_declared, is_declared, max_listed_depth}
 use Rattle.ocfl_audit.specs.Walk.{is_extensions, step_zone}
 use Rattle.ocfl_item.specs.{declared.folder.Folder.{Folder}, Around.{IsMet, IsTableAround}}
 use Rattle.ocfl_item.specs.{Meeting.{IsFairFolder, IsTableAt}, declared.meeting.Around.{Around}}
-use Rattle.ocfl_walk.proofs.OrderlyLaws.{begins_own}
 use Rattle.ocfl_walk.specs.Internal.Standing.{IsAroundIf, around_of}
 use Rattle.ocfl_item.proofs.LooksZones.{inside_on}
 use Rattle.ocfl_audit.proofs.StepLaws.{zone_step}
@@ -36,7 +36,7 @@ table_met root d x entry (Some b) None m h = (m.part.0 ++ entry.name ∷ [], ap 
 
 pub around_fair : (x : Place) (a : Option Around) (table : Option Table) → IsAroundIf x a → IfSome table (λ t. IsFit t × (length x ≤ max_listed_depth)) → IsAroundIf x (around_of a x table)
 around_fair x a None h k = h
-around_fair x a (Some t) h k = record { holds = begins_own x; depth = k.1; fit = k.0 }
+around_fair x a (Some t) h k = record { holds = begins-itself x; depth = k.1; fit = k.0 }
 
 pub ordinary : (root : StorageRoot) (x : Place) (f : Option Folder) → IfSome f (λ g. IsFairFolder x g) → IfSome f (λ g. IsOrdinary g.entries.items)
 ordinary root x None h = h

@@ -1,12 +1,12 @@
 -- A stand stays in order, on any store.
 use Rattle.std.proofs.Common.{◌≡◌, ℕ, ◌+◌, ◌<◌, ◌≤◌, List, [], ◌∷◌, ◌++◌, refl, sym, ◌∙◌, ap, subst, true, map, Option, Some, None, length, append_assoc, arith}
-use Rattle.std.proofs.lemmas.List.{append-nil}
 use Rattle.std.specs.{Prelude.{IfSome}, Ordering.{ordering_then}, List.{AllByRecursion}}
 use Rattle.std.specs.declared.cmp.Ordering.{Ordering}
 use Rattle.std.specs.declared.cmp.Ordering.TheVariants.{Less, Equal, Greater}
 use Rattle.ocfl_tree.specs.Place.{Place, Text, text_cmp, place_cmp, begins}
 use Rattle.ocfl_tree.specs.{Ascending.{IsAscending, IsBeforeAll}, declared.store.Entry.{Entry}}
 use Rattle.ocfl_tree.specs.StorageRoot.{max_entries}
+use Rattle.ocfl_tree.proofs.Places.{begins-itself}
 use Rattle.ocfl_audit.specs.{Zone.{max_listed_depth}, Stack.{Frame}}
 use Rattle.ocfl_walk.specs.Standing.{Pile, back_onto, frames_of, size_of, weigh, entry_weight, paths_above, levels}
 use Rattle.ocfl_walk.specs.Internal.Standing.{IsAroundIf, IsChain, IsFairPile, IsFitIf, IsOrderly, IsOrderlyIf, IsTaken, left_of_folder, pushed, trimmed, trimmed_from}
@@ -95,16 +95,12 @@ pub own_names : (x : Place) (ns : List Text) → IsBeforeAll place_cmp x (map (�
 own_names x [] = tt
 own_names x (n ∷ ns) = (above_self x n [], own_names x ns)
 
-pub begins_own : (x : Place) → begins x x ≡ true
-begins_own x = subst (λ y. begins x y ≡ true) (append-nil x) (begins_front x [])
-
 -- with what is left of the listing of the last place on top
 pub orderly_top : (d : Place) (left : List Entry) (ps : List Pile) (a : Option Around) → length d ≤ max_listed_depth → IsAscending text_cmp (map (λ e. e.name) left) → length left ≤ max_entries
     → IsChain d (length d) (frames_of ps) → AllByRecursion (λ p. length p.1 ≤ max_entries) ps → IsAroundIf d a → IsOrderly d ((d, left) ∷ ps) a
 orderly_top d left ps a short up few chain fewer object = record {
-  chain = (begins_own d, omega (arith, short), own_names d (map (λ e. e.name) left), up, chain);
-  few = (few, fewer);
-  object = object;
+  chain = (begins-itself d, omega (arith, short), own_names d (map (λ e. e.name) left), up, chain);
+  few = (few, fewer); object = object;
 }
 
 module _ (last : Place) (ps new : List Pile) (entry : Entry) (a : Option Around) (h : IsOrderly last ps a) (t : IsTaken ps new entry) where

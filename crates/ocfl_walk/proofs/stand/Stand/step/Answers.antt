@@ -52,9 +52,7 @@ returns-in-Entry-clause-told g c = λ h root over last st.
 
 pub returns-in-Entry-clause-before : goal.returns-in-Entry-clause-before
 returns-in-Entry-clause-before g c =
-    stands_before c.args.end.now c.args.self.now c.take_entry.new.self c.in-Entry.place
-    (kept_turn c.args.end.now c.in_ok-turn.turn (turn.Entry c.in-Entry.place) (sym c.in-Entry.is ∙ c.unless_past.ensures) (λ e. cc)).1 c.take_entry.result
-    c.take_entry.ensures.goes_on c.take_entry.ensures.there
+    stands_before _ _ _ _ (kept_turn c.args.end.now c.in_ok-turn.turn (turn.Entry c.in-Entry.place) (sym c.in-Entry.is ∙ c.unless_past.ensures) (λ e. cc)).1 _ c.take_entry.ensures.goes_on c.take_entry.ensures.there
 
 pub returns-in-Path-clause-goes_on : goal.returns-in-Path-clause-goes_on
 returns-in-Path-clause-goes_on g c =
@@ -78,9 +76,7 @@ returns-in-Path-clause-told g c = λ h root over last st.
 
 pub returns-in-Path-clause-before : goal.returns-in-Path-clause-before
 returns-in-Path-clause-before g c =
-    stays_before c.args.end.now c.args.self.now c.take_missing.new.self c.in-Path.place
-    (kept_turn c.args.end.now c.in_ok-turn.turn (turn.Path c.in-Path.place) (sym c.in-Path.is ∙ c.unless_past.ensures) (λ e. cc)).1 c.take_missing.result
-    c.take_missing.ensures.goes_on c.take_missing.ensures.there
+    stays_before _ _ _ _ (kept_turn c.args.end.now c.in_ok-turn.turn (turn.Path c.in-Path.place) (sym c.in-Path.is ∙ c.unless_past.ensures) (λ e. cc)).1 _ c.take_missing.ensures.goes_on c.take_missing.ensures.there
 
 pub returns-in-End-clause-told : goal.returns-in-End-clause-told
 returns-in-End-clause-told g c = λ h root over last st.

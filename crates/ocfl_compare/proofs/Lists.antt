@@ -1,13 +1,13 @@
 -- The lines of a list, one by one.
 use Rattle.std.proofs.Common.{◌≡◌, ◌≢◌, ◌⊎◌, inl, inr, ℕ, ◌+◌, ◌-◌, ◌<◌, List, [], ◌∷◌, ◌++◌, Bool, true, false, Option, Some, None, IfSome, length, All, map, refl, sym, ap, subst, ◌∙◌, append_assoc, append-nil, length-append, arith}
-use Rattle.std.proofs.lemmas.List.Concat.{flat_map-append}
-use Rattle.std.proofs.lemmas.List.Elements.{All-append, All-nil}
+use Rattle.std.proofs.lemmas.{Bool.{or_right}, List.Concat.{flat_map-append}}
+use Rattle.std.proofs.lemmas.List.Elements.{All-append}
 use Rattle.std.specs.{Prelude.{⊤, cond, ◌==◌, ◌||◌, flat_map}, List.{onto_first}}
-use Rattle.std.specs.{Io.BufRead.{take_through}, Io.KnownBytes.{Consumes, IsAtEnd}}
+use Rattle.std.specs.{Io.BufRead.{take_through}, Io.KnownBytes.{Consumes}}
 use Rattle.ocfl_tree.specs.{Place.{Text, Place}, Name.{IsPlace}}
 use Rattle.ocfl_report.specs.Text.{place_text}
 use Rattle.ocfl_report.proofs.PlaceTexts.{place_text_determines}
-use Rattle.ocfl_compare.specs.Listed.{is_trimmed, trim_onto, trimmed, path_of, path_in, list_lines, listed_paths, IsObjectPlace, IsList, IsBadListLine, ListStopsRightly, max_lines}
+use Rattle.ocfl_compare.specs.Listed.{is_trimmed, trim_onto, trimmed, path_of, path_in, list_lines, IsObjectPlace, IsBadListLine, ListStopsRightly, max_lines}
 use Rattle.ocfl_compare.specs.declared.listing.ListStop.{ListStop}
 use Rattle.ocfl_compare.specs.declared.listing.ListStop.TheVariants.{Line, Long, Failed, Memory}
 
@@ -39,16 +39,15 @@ onto : (x : ℕ) (b after line : Text) → AreLinesOf b line after
 onto x b after line (inl h) = inl (ap (onto_first x) h)
 onto x b after line (inr h) = inr (h.0, (ap (onto_first x) h.1.0, filled x line))
 
+blank_end : (x : ℕ) (c : Bool) → cond (c || true) [] (x ∷ []) ≡ []
+blank_end x c = ap (λ b. cond b [] (x ∷ [])) (or_right c true refl)
+
 first : (b after : Text) → b ≡ take_through 10 b ++ after → b ≢ [] → Splits b (take_through 10 b) after
 first [] after e some = absurd (some refl)
 first (x ∷ []) after e some = by (x == 10) refl e
   where
     by : (z : Bool) → (x == 10) ≡ z → x ∷ [] ≡ cond z (x ∷ []) (x ∷ []) ++ after → Splits (x ∷ []) (cond z (x ∷ []) (x ∷ [])) after
-    by true f g = record { line = []; same = ap (λ c. cond (x == 47 || c) [] (x ∷ [])) f ∙ or_true (x == 47); lines = inl (ap (λ c. cond c ([] ∷ ([] ∷ [])) ((x ∷ []) ∷ [])) f ∙ ap (λ t. [] ∷ list_lines t) (tail_same x x [] after g)) }
-      where
-        or_true : (c : Bool) → cond (c || true) [] (x ∷ []) ≡ []
-        or_true true = refl
-        or_true false = refl
+    by true f g = record { line = []; same = ap (λ c. cond (x == 47 || c) [] (x ∷ [])) f ∙ blank_end x (x == 47); lines = inl (ap (λ c. cond c ([] ∷ ([] ∷ [])) ((x ∷ []) ∷ [])) f ∙ ap (λ t. [] ∷ list_lines t) (tail_same x x [] after g)) }
     by false f g = record { line = x ∷ []; same = refl; lines = inr (sym (tail_same x x [] after g), (ap (λ c. cond c ([] ∷ ([] ∷ [])) ((x ∷ []) ∷ [])) f, filled x [])) }
 first (x ∷ y ∷ b) after e some = by (x == 10) refl e (λ g. first (y ∷ b) after g (λ h. cc))
   where
@@ -56,18 +55,13 @@ first (x ∷ y ∷ b) after e some = by (x == 10) refl e (λ g. first (y ∷ b) 
         → Splits (x ∷ y ∷ b) (cond z (x ∷ []) (x ∷ take_through 10 (y ∷ b))) after
     by true f g k = record {
       line = [];
-      same = ap (λ c. cond (x == 47 || c) [] (x ∷ [])) f ∙ or_true (x == 47);
+      same = ap (λ c. cond (x == 47 || c) [] (x ∷ [])) f ∙ blank_end x (x == 47);
       lines = inl (ap (λ c. cond c ([] ∷ list_lines (y ∷ b)) (onto_first x (list_lines (y ∷ b)))) f ∙ ap (λ t. [] ∷ list_lines t) (tail_same x x (y ∷ b) after g));
     }
-      where
-        or_true : (c : Bool) → cond (c || true) [] (x ∷ []) ≡ []
-        or_true true = refl
-        or_true false = refl
     by false f g k =
         let rest = k (tail_same x x (y ∷ b) (take_through 10 (y ∷ b) ++ after) g) in
         record {
-          line = x ∷ rest.line;
-          same = ap (trim_onto x) rest.same;
+          line = x ∷ rest.line; same = ap (trim_onto x) rest.same;
           lines = subst (λ ls. (ls ≡ (x ∷ rest.line) ∷ list_lines after) ⊎ ((after ≡ []) × ((ls ≡ (x ∷ rest.line) ∷ []) × (x ∷ rest.line ≢ [])))) (sym (ap (λ c. cond c ([] ∷ list_lines (y ∷ b)) (onto_first x (list_lines (y ∷ b)))) f)) (onto x (y ∷ b) after rest.line rest.lines);
         }
 
@@ -87,9 +81,6 @@ pub record IsListed (b left : Text) (ps : List Place) (n : ℕ) : Type 0 where
   pub places : All IsObjectPlace ps
   pub paths : flat_map path_in done ≡ map place_text ps
   pub count : n ≡ length done + 1
-
-pub none_listed : (b : Text) (ps : List Place) (n : ℕ) → ps ≡ [] → n ≡ 1 → IsListed b b ps n
-none_listed b ps n e f = record { done = []; read = inl refl; places = subst (All IsObjectPlace) (sym e) (All-nil IsObjectPlace); paths = ap (map place_text) (sym e); count = f }
 
 lines_more : (b left after line : Text) (done : List Text) → left ≢ [] → AreRead b left done → AreLinesOf left line after → AreRead b after (done ++ line ∷ [])
 lines_more b left after line done some (inr h) k = absurd (some h.0)
@@ -128,24 +119,12 @@ module _ (b left after text : Text) (ps : List Place) (n : ℕ) (h : IsListed b 
   line_bad m e path bad =
       let stands = line_stands b left after split.line h.done not_empty h.read split.lines in
       record {
-        before = h.done;
-        line = split.line;
-        rest = stands.0;
-        listed = ps;
-        is = stands.1;
-        number = e ∙ h.count;
-        places = h.places;
-        paths = h.paths;
+        before = h.done; line = split.line; rest = stands.0;
+        listed = ps; is = stands.1; number = e ∙ h.count;
+        places = h.places; paths = h.paths;
         some = λ z. path (path_is ∙ z);
         bad = λ p o z. bad p o (path_is ∙ z);
       }
-
-pub all_listed : (b left : Text) (ps : List Place) (n : ℕ) → IsListed b left ps n → left ≡ [] → IsList b ps
-all_listed b left ps n h e = record { places = h.places; is = by h.read }
-  where
-    by : AreRead b left h.done → listed_paths b ≡ map place_text ps
-    by (inl k) = ap (flat_map path_in) (k ∙ ap (λ t. h.done ++ list_lines t) e) ∙ flat_map-append path_in h.done ([] ∷ []) ∙ append-nil (flat_map path_in h.done) ∙ h.paths
-    by (inr k) = ap (flat_map path_in) k.1.0 ∙ h.paths
 
 -- ---- more lines than a list has
 
@@ -174,22 +153,10 @@ split_some (x ∷ b) e = by (x == 10) e
 
 last_same : (xs ys : List Text) (x y : Text) → xs ++ x ∷ [] ≡ ys ++ y ∷ [] → x ≡ y
 last_same [] [] x y e = cc
-last_same [] (v ∷ []) x y e = absurd (by e)
-  where
-    by : x ∷ [] ≡ v ∷ (y ∷ []) → ⊥
-    by g = cc
-last_same [] (v ∷ w ∷ ys) x y e = absurd (by e)
-  where
-    by : x ∷ [] ≡ v ∷ (w ∷ (ys ++ y ∷ [])) → ⊥
-    by g = cc
-last_same (u ∷ []) [] x y e = absurd (by e)
-  where
-    by : u ∷ (x ∷ []) ≡ y ∷ [] → ⊥
-    by g = cc
-last_same (u ∷ t ∷ xs) [] x y e = absurd (by e)
-  where
-    by : u ∷ (t ∷ (xs ++ x ∷ [])) ≡ y ∷ [] → ⊥
-    by g = cc
+last_same [] (v ∷ []) x y e = let two : x ∷ [] ≡ v ∷ (y ∷ []) = e in cc
+last_same [] (v ∷ w ∷ ys) x y e = let two : x ∷ [] ≡ v ∷ (w ∷ (ys ++ y ∷ [])) = e in cc
+last_same (u ∷ []) [] x y e = let two : u ∷ (x ∷ []) ≡ y ∷ [] = e in cc
+last_same (u ∷ t ∷ xs) [] x y e = let two : u ∷ (t ∷ (xs ++ x ∷ [])) ≡ y ∷ [] = e in cc
 last_same (u ∷ xs) (v ∷ ys) x y e = last_same xs ys x y (by e)
   where
     by : u ∷ (xs ++ x ∷ []) ≡ v ∷ (ys ++ y ∷ []) → xs ++ x ∷ [] ≡ ys ++ y ∷ []
@@ -212,10 +179,6 @@ abbrev pub KnownListed : Option Text → Option Text → List Place → ℕ → 
 KnownListed None left ps n = ⊤
 KnownListed (Some b) None ps n = ⊥
 KnownListed (Some b) (Some left) ps n = IsListed b left ps n
-
-pub known_none : (known : Option Text) (ps : List Place) (n : ℕ) → ps ≡ [] → n ≡ 1 → KnownListed known known ps n
-known_none None ps n e f = tt
-known_none (Some b) ps n e f = none_listed b ps n e f
 
 pub known_more : (all left after : Option Text) (text bytes : Text) (ps : List Place) (n : ℕ) → KnownListed all left ps n → text ≢ [] → IfSome left (λ xs. text ≡ take_through 10 xs)
     → Consumes left after text → bytes ≡ text → (qs : List Place) (k : ℕ)
@@ -247,36 +210,10 @@ known_long (Some b) (Some left) ps n h e =
     let k = long b left ps n max_lines h e in
     record { before = k.0; line = k.1.0; rest = k.1.1.0; is = k.1.1.1.0; many = k.1.1.1.1.0; some = k.1.1.1.1.1 }
 
-pub known_all : (all left : Option Text) (ps : List Place) (n : ℕ) → KnownListed all left ps n → IsAtEnd left → IfSome all (λ b. IsList b ps)
-known_all None left ps n h end = tt
-known_all (Some b) None ps n h end = absurd h
-known_all (Some b) (Some left) ps n h end = all_listed b left ps n h end
-
-pub known_other : (all : Option Text) (stop : ListStop) → (stop ≡ Failed) ⊎ (stop ≡ Memory) → IfSome all (λ b. ListStopsRightly b stop)
-known_other None stop h = tt
-known_other (Some b) (Line n) (inl e) = cc
-known_other (Some b) (Line n) (inr e) = cc
-known_other (Some b) Long (inl e) = cc
-known_other (Some b) Long (inr e) = cc
-known_other (Some b) Failed h = tt
-known_other (Some b) Memory h = tt
-
 -- ---- one line
 
-pub no_path : (line path : Text) → path ≡ trimmed line → path_of path ≡ [] → path_in line ≡ map place_text []
-no_path line path e f = ap path_of (sym e) ∙ f
-
-pub one_path : (line path : Text) (p : Place) → path ≡ trimmed line → path_of path ≡ path ∷ [] → path ≡ place_text p → path_in line ≡ map place_text (p ∷ [])
-one_path line path p e f g = ap path_of (sym e) ∙ f ∙ ap (λ t. t ∷ []) g
-
-pub object_place : (p : Place) → IsPlace p → length p ≢ 0 → IsObjectPlace p
-object_place p names some = record { names = names; below = λ e. some (ap length e) }
-
 some_path : (line path : Text) → path ≡ trimmed line → path_of path ≡ path ∷ [] → path_in line ≢ []
-some_path line path e f z = by (sym (ap path_of (sym e) ∙ f) ∙ z)
-  where
-    by : path ∷ [] ≡ [] → ⊥
-    by h = cc
+some_path line path e f z = let two : path ∷ [] ≡ [] = sym (ap path_of (sym e) ∙ f) ∙ z in cc
 
 head_same : (x y : Text) → x ∷ [] ≡ y ∷ [] → x ≡ y
 head_same x y e = cc

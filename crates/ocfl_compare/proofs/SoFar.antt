@@ -1,6 +1,6 @@
 -- How one more place moves the comparison of two reports.
 use Rattle.std.proofs.Common.{◌≡◌, ◌≢◌, ◌⊎◌, inl, inr, ℕ, List, [], ◌∷◌, ◌++◌, Option, Some, None, IfSome, All, map, refl, sym, ap, subst, ◌∙◌, append_assoc, append-nil}
-use Rattle.std.proofs.lemmas.List.Concat.{flat_map-append}
+use Rattle.std.proofs.lemmas.{List.Concat.{flat_map-append}, Option.{IfSome_then}}
 use Rattle.std.proofs.lemmas.List.Elements.{All-append, All-cons, All-nil, All-head, All-tail, All-weaker}
 use Rattle.std.specs.{Prelude.{flat_map}, Io.KnownBytes.{Consumes, Appends, IsAtEnd}}
 use Rattle.std.specs.declared.cmp.Ordering.TheVariants.{Less}
@@ -15,8 +15,6 @@ use Rattle.ocfl_compare.specs.Internal.Turns.{AreTaken, Group, IsGroup, group_te
 use Rattle.ocfl_compare.specs.declared.question.Question.{Question}
 use Rattle.ocfl_compare.specs.declared.reading.ReadStop.{ReadStop}
 use Rattle.ocfl_compare.specs.declared.reading.ReadStop.TheVariants.{Line as BadLine, Failed, Memory}
-use Rattle.ocfl_compare.specs.declared.stop.CompareStop.{CompareStop}
-use Rattle.ocfl_compare.specs.declared.stop.CompareStop.TheVariants as stop
 use Rattle.ocfl_compare.proofs.Groups.{groups_said}
 
 -- ---- places
@@ -156,22 +154,16 @@ compared asked left b c n m w x b_next n_next b_count n_count next h =
 
 -- ---- stops
 
+-- a report stops as its reader does, whichever of the two it is
+stops_so : (k l : Text) (s : ReadStop) → (ReadStopsRightly k s → StopsRightly k l (before_stop s)) × (ReadStopsRightly l s → StopsRightly k l (now_stop s))
+stops_so k l (BadLine i) = (λ h. h, λ h. h)
+stops_so k l Failed = (λ h. tt, λ h. tt)
+stops_so k l Memory = (λ h. tt, λ h. tt)
+
 pub before_stops : (b n : Option Text) (s : ReadStop) → IfSome b (λ k. ReadStopsRightly k s) → IfSome b (λ k. IfSome n (λ l. StopsRightly k l (before_stop s)))
-before_stops None n s h = tt
-before_stops (Some k) None s h = tt
-before_stops (Some k) (Some l) (BadLine i) h = h
-before_stops (Some k) (Some l) Failed h = tt
-before_stops (Some k) (Some l) Memory h = tt
+before_stops b None s h = IfSome_then b h (λ k r. tt)
+before_stops b (Some l) s h = IfSome_then b h (λ k. (stops_so k l s).0)
 
 pub now_stops : (b n : Option Text) (s : ReadStop) → IfSome n (λ k. ReadStopsRightly k s) → IfSome b (λ k. IfSome n (λ l. StopsRightly k l (now_stop s)))
 now_stops None n s h = tt
-now_stops (Some k) None s h = tt
-now_stops (Some k) (Some l) (BadLine i) h = h
-now_stops (Some k) (Some l) Failed h = tt
-now_stops (Some k) (Some l) Memory h = tt
-
-pub other_stops : (b n : Option Text) (s : CompareStop) → (s ≡ stop.Output) ⊎ (s ≡ stop.Memory) → IfSome b (λ k. IfSome n (λ l. StopsRightly k l s))
-other_stops None n s h = tt
-other_stops (Some k) None s h = tt
-other_stops (Some k) (Some l) s (inl e) = subst (StopsRightly k l) (sym e) tt
-other_stops (Some k) (Some l) s (inr e) = subst (StopsRightly k l) (sym e) tt
+now_stops (Some k) n s h = IfSome_then n h (λ l. (stops_so k l s).1)

@@ -2,7 +2,7 @@
 use Rattle.std.proofs.Common.{◌≡◌, ◌≢◌, inl, inr, List, [], ◌∷◌, ◌++◌, ℕ, Bool, true, false, Option, Some, None, All, map, refl, sym, ap, subst, ◌∙◌, append_assoc, append-nil}
 use Rattle.std.proofs.lemmas.List.Concat.{flat_map-append}
 use Rattle.std.proofs.lemmas.List.Elements.{All-append, All-cons, All-nil}
-use Rattle.std.specs.{Prelude.{cond, ◌&&◌, ◌||◌, not, flat_map}, List.{list_any}}
+use Rattle.std.specs.{Prelude.{cond, ◌||◌, not, flat_map}, List.{list_any}}
 use Rattle.std.specs.declared.cmp.Ordering.{Ordering}
 use Rattle.std.specs.declared.cmp.Ordering.TheVariants.{Less, Equal, Greater}
 use Rattle.ocfl_tree.specs.Place.{Text, Place, place_cmp}
@@ -10,12 +10,10 @@ use Rattle.ocfl_tree.proofs.Orders.{place_cmp_exact, place_cmp_total, not_below_
 use Rattle.ocfl_report.specs.{Line.{Line, line_of}, Text.{code_text}, declared.code.Code.{Code}}
 use Rattle.ocfl_report.specs.declared.line.Line.{Line as MadeLine}
 use Rattle.ocfl_compare.specs.Kinds.{is_empty, tells_object, tells_file}
-use Rattle.ocfl_compare.specs.Changes.{has_code, with_code, codes_from, new_codes, Change, object_gone, file_gone, found, repaired, missing, when, changes_at, missing_at, answer_at, row_text, change_word, changes_text, is_left}
+use Rattle.ocfl_compare.specs.Changes.{has_code, with_code, codes_from, new_codes, Change, found, when, row_text, change_word, changes_text}
 use Rattle.ocfl_compare.specs.Internal.Reading.{listed, HasRead, IsNotAbove, IsBelow, IsAt, GoesOn}
-use Rattle.ocfl_compare.specs.Internal.Telling.{IsTold, new_text, told_changes, told_missing, told_answer}
-use Rattle.ocfl_compare.specs.Internal.Turns.{AreTaken, said_text}
-use Rattle.ocfl_compare.specs.declared.question.Question.{Question}
-use Rattle.ocfl_compare.specs.declared.question.Question.TheVariants.{Changed, Expected}
+use Rattle.ocfl_compare.specs.Internal.Telling.{IsTold, new_text}
+use Rattle.ocfl_compare.specs.Internal.Turns.{AreTaken}
 use Rattle.ocfl_compare.specs.declared.told.Told.{Told}
 
 -- ---- one more line
@@ -85,29 +83,6 @@ all_rows p a b c d start one two three four e f g h =
   where
     two_parts : (xs ys : List Change) → changes_text p (xs ++ ys) ≡ changes_text p xs ++ changes_text p ys
     two_parts xs ys = flat_map-append (λ x. row_text (change_word x) p) xs ys
-
--- what was told is what the lines say
-pub told_is : (before now : Told) (was is : List Line) → IsTold before was → IsTold now is → told_changes before now ≡ changes_at was is
-told_is before now was is h k = λ i.
-    when (k.absent i && h.object i) object_gone
-    ++ (when (k.absent i && h.file i) file_gone
-    ++ (map found (new_codes (h.findings i) (k.findings i))
-    ++ when (not (k.absent i) && (is_empty (k.findings i) && not (is_empty (h.findings i)))) repaired))
-
-missing_is : (before now : Told) (was is : List Line) → IsTold before was → IsTold now is → told_missing before now ≡ missing_at was is
-missing_is before now was is h k = λ i. when (not (k.object i) && h.object i) missing
-
-pub answer_is : (asked : Question) (before now : Told) (was is : List Line) → IsTold before was → IsTold now is → told_answer asked before now ≡ answer_at asked was is
-answer_is Changed before now was is h k = told_is before now was is h k
-answer_is Expected before now was is h k = missing_is before now was is h k
-
-pub said_here : (asked : Question) (left : List Place) (p : Place) (before now : Told) (was is : List Line) (old new : Text) → is_left left p ≡ false → IsTold before was → IsTold now is
-    → new ≡ old ++ changes_text p (told_answer asked before now) → new ≡ old ++ said_text asked left p was is
-said_here asked left p before now was is old new e h k f =
-    f ∙ ap (λ cs. old ++ changes_text p cs) (answer_is asked before now was is h k) ∙ ap (λ b. old ++ changes_text p (cond b [] (answer_at asked was is))) (sym e)
-
-pub said_not : (asked : Question) (left : List Place) (p : Place) (was is : List Line) (old : Text) → is_left left p ≡ true → old ≡ old ++ said_text asked left p was is
-said_not asked left p was is old e = sym (append-nil old) ∙ ap (λ b. old ++ changes_text p (cond b [] (answer_at asked was is))) (sym e)
 
 -- ---- lines of a place, one by one
 

@@ -1,5 +1,5 @@
 -- What a store is asked while declarations are read.
-use Rattle.std.proofs.Common.{◌≡◌, ◌⊎◌, inl, inr, ◌∙◌, ℕ, ◌+◌, true, false, List, [], ◌∷◌, ◌++◌, drop, length, refl, sym, ap, subst, Option, Some, None, append_assoc, append-nil}
+use Rattle.std.proofs.Common.{◌≡◌, ◌⊎◌, inl, inr, ◌∙◌, ℕ, true, false, List, [], ◌∷◌, ◌++◌, drop, length, refl, sym, ap, subst, Option, Some, None, append_assoc, append-nil}
 use Rattle.std.specs.{Prelude.{String, string_bytes}, Option.{option_map}}
 use Rattle.std.specs.declared.alloc.Global.{Global}
 use Rattle.ocfl_tree.specs.{Place.{Text, Place}, StorageRoot.{StorageRoot, file_at}}
@@ -91,10 +91,7 @@ file_there found digits (Some bytes) some e = (bytes, refl)
 
 pub unread_behind : (root : StorageRoot) (s t u : Store) (done : List Opening) (first listed : List Place) (p : Place) → Did s t done first 0 → IsUnread root t u [] p
     → first ≡ listed → IsUnread root s u listed p
-unread_behind root s t u done first listed p h (in_listing top is did) e = absurd (filled is)
-  where
-    filled : [] ≡ p ∷ [] → ⊥
-    filled g = cc
+unread_behind root s t u done first listed p h (in_listing top is did) e = let two : [] ≡ p ∷ [] = is in cc
 unread_behind root s t u done first listed p h (in_opening before given did) e =
     in_opening (done ++ before) given
     (subst (λ ls. Did s u ((done ++ before) ++ opening p given true ∷ []) ls 1) (append-nil first ∙ e)

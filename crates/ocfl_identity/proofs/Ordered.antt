@@ -1,11 +1,11 @@
 -- A sorted listing is the entries of the directory.
-use Rattle.std.proofs.Common.{◌≡◌, inl, inr, suc, ◌+◌, List, [], ◌∷◌, ◌++◌, refl, sym, ◌∙◌, ap, subst, Bool, true, false, Option, Some, None, arith, IsPermutation}
+use Rattle.std.proofs.Common.{◌≡◌, inl, inr, List, [], ◌∷◌, ◌++◌, refl, sym, ◌∙◌, ap, subst, Bool, true, false, Option, Some, None, arith, IsPermutation}
 use Rattle.std.proofs.lemmas.List.Elements.{All-from_recursion, recursion_from_All}
 use Rattle.std.proofs.lemmas.List.Sorted.{All-permutation, IsPermutation-sym, IsPermutation-map}
 use Rattle.std.proofs.lemmas.Map.Keys.{IsDistinct-IsPermutation}
-use Rattle.std.specs.Prelude.{◌&&◌, cond, filter, filter_map, option_and_then, option_map, slice_index_or}
+use Rattle.std.specs.Prelude.{◌&&◌, cond, filter, filter_map, option_and_then, option_map}
 use Rattle.std.specs.{List.{AllByRecursion, IsDistinct, cons_option}, List.Sorted.{IsSorted}}
-use Rattle.std.specs.{Ordering.{is_lt, is_eq, ordering_reverse}, declared.cmp.Ordering.{Ordering}}
+use Rattle.std.specs.{Ordering.{is_eq, ordering_reverse}, declared.cmp.Ordering.{Ordering}}
 use Rattle.std.specs.declared.cmp.Ordering.TheVariants.{Less, Equal, Greater}
 use Rattle.sha2.specs.Sha256.{sha256}
 use Rattle.hex.specs.Hex.{encode_lower}
@@ -15,10 +15,11 @@ use Rattle.ocfl_tree.specs.StorageRoot.{StorageRoot, Leaf, file, dir, other, at,
 use Rattle.ocfl_tree.specs.Listing.{IsListing, IsOrdinary, entries_in, entry_at, kind_at, kind_of}
 use Rattle.ocfl_tree.specs.{declared.store.Entry.{Entry}, declared.store.Kind.{Kind}}
 use Rattle.ocfl_tree.specs.declared.store.Kind.TheVariants.{Other}
-use Rattle.ocfl_tree.proofs.Orders.{ascending_unique, ascends_ascending, below_from_greater, true_not_false}
+use Rattle.ocfl_tree.proofs.Orders.{ascending_unique, ascends_ascending, true_not_false}
 use Rattle.ocfl_tree.proofs.{Places.{text_cmp_exact, text_cmp_total}, Listings.{listing_permutes}}
 use Rattle.ocfl_inventory.specs.{Declaration.{is_declaration}, Entries.{is_counted, is_file}}
 use Rattle.ocfl_inventory.specs.declared.declaration.Level.TheVariants.{Root}
+use Rattle.ocfl_inventory.proofs.Once.{apart_up, up_from_sorted}
 use Rattle.ocfl_identity.specs.Identity.{before_lines, declarations_among, declared_by, digits_of, names_of, sum_line, sum_lines}
 
 -- ---- names that ascend are distinct, and so are they in any order
@@ -43,27 +44,7 @@ distinct (n ∷ ns) h = (apart ns h.0, distinct ns h.1)
 -- ---- a sorted list of distinct names ascends
 
 rises : (es : List Entry) → IsSorted (λ e f. text_cmp e.name f.name) es → IsDistinct text_eq (names_of es) → IsAscending text_cmp (names_of es)
-unfolding IsDistinct
-rises [] s d = tt
-rises (x ∷ []) s d = (tt, tt)
-rises (x ∷ y ∷ es) s d =
-    let rest : IsAscending text_cmp (names_of (y ∷ es)) = rises (y ∷ es) (later s) d.1 in
-    let first : text_cmp x.name y.name ≡ Less = by (text_cmp x.name y.name) refl (s 0 x (omega arith) (omega arith)) in
-    ((first, further (names_of es) first rest.0), rest)
-  where
-    later : IsSorted (λ e f. text_cmp e.name f.name) (x ∷ y ∷ es) → IsSorted (λ e f. text_cmp e.name f.name) (y ∷ es)
-    later s k e l h =
-        let same : suc k + 1 ≡ suc (k + 1) = omega arith in
-        subst (λ j. is_lt (text_cmp (slice_index_or (x ∷ y ∷ es) j e).name (slice_index_or (y ∷ es) k e).name) ≡ false) same (s (suc k) e (omega arith) (omega (arith, h)))
-
-    by : (r : Ordering) → text_cmp x.name y.name ≡ r → is_lt (text_cmp y.name x.name) ≡ false → text_cmp x.name y.name ≡ Less
-    by Less e h = e
-    by Equal e h = absurd (true_not_false (sym (ap is_eq e) ∙ d.0.0))
-    by Greater e h = absurd (true_not_false (sym (ap is_lt (below_from_greater text_cmp_total x.name y.name e)) ∙ h))
-
-    further : (ns : List Text) → text_cmp x.name y.name ≡ Less → IsBeforeAll text_cmp y.name ns → IsBeforeAll text_cmp x.name ns
-    further [] b h = tt
-    further (n ∷ ns) b h = (text_cmp_total.trans x.name y.name n b h.0, further ns b h.1)
+rises es s = apart_up text_cmp_total text_cmp_exact (names_of es) (up_from_sorted text_cmp_total text_cmp_exact (λ e. e.name) es (λ k d h. s k d (omega arith) h))
 
 -- ---- the entries of a directory
 

@@ -1,6 +1,6 @@
 //! Why a night did nothing: a sentence for each reason.
 ghost use Rattle.std.specs.Prelude.{◌≡◌, IfOk, string_bytes};
-ghost use Rattle.ocfl_telling.specs.Refusal.{refusal_text as text_of_refusal, reason_text, ending_text, names_gone_text, other_declaration_text, other_part_text, other_root_text, root_changed_text};
+ghost use Rattle.ocfl_telling.specs.Refusal.{refusal_text as text_of_refusal, reason_text, ending_text, names_gone_text, other_declaration_text, other_part_text, other_root_text};
 
 use crate::shown::Shown;
 use std::alloc::{AllocError, Global};
@@ -47,15 +47,12 @@ pub enum Refusal<'a> {
 fn reason(
     alloc: Global,
     refusal: Refusal<'_>,
-    root: &str,
-    state: &str,
+    root: Shown<'_>,
+    state: Shown<'_>,
 ) -> Result<String, AllocError>
-    ensures { IfOk result
-        (λ text. string_bytes text ≡ reason_text refusal.entry root.now state.now) }
+    ensures { IfOk result (λ text. string_bytes text
+        ≡ reason_text refusal.entry root.entry.0.now state.entry.0.now) }
 {
-    let folders = (root, state);
-    let root = Shown(root);
-    let state = Shown(state);
     match refusal {
         Refusal::NoCheckpoint => format!(in alloc;
             "{state} has no checkpoint: is its file system mounted? For a first night, give \
@@ -76,70 +73,55 @@ fn reason(
         Refusal::NoRoot => format!(in alloc;
             "{root} does not declare itself a storage root: is its file system mounted?"
         ),
-        Refusal::OtherRoot(bound) => other_root(alloc, bound, folders),
-        Refusal::OtherDeclaration => other_declaration(alloc, folders),
-        Refusal::OtherPart => other_part(alloc, folders),
-        Refusal::NamesGone { gone, before } => names_gone(alloc, gone, before, folders.0),
-        Refusal::RootChanged => root_changed(alloc, folders.0),
+        Refusal::OtherRoot(bound) => other_root(alloc, bound, root, state),
+        Refusal::OtherDeclaration => other_declaration(alloc, root, state),
+        Refusal::OtherPart => other_part(alloc, root, state),
+        Refusal::NamesGone { gone, before } => names_gone(alloc, gone, before, root),
+        Refusal::RootChanged => format!(in alloc;
+            "{root} is not the storage root that the night began with: is its file system mounted?"
+        ),
         Refusal::Worn => format!(in alloc; "The number of the cycle in {state} can grow no more."),
     }
 }
 
 /// Of a folder that is another root's.
-fn other_root(alloc: Global, bound: &str, folders: (&str, &str)) -> Result<String, AllocError>
+fn other_root(
+    alloc: Global,
+    bound: &str,
+    root: Shown<'_>,
+    state: Shown<'_>,
+) -> Result<String, AllocError>
     ensures { IfOk result (λ text. string_bytes text
-        ≡ other_root_text bound.now folders.entry.0.now folders.entry.1.now) }
+        ≡ other_root_text bound.now root.entry.0.now state.entry.0.now) }
 {
-    format!(in alloc;
-        "{} belongs to the storage root {}, and this one is {}.",
-        Shown(folders.1),
-        Shown(bound),
-        Shown(folders.0)
-    )
+    let bound = Shown(bound);
+    format!(in alloc; "{state} belongs to the storage root {bound}, and this one is {root}.")
 }
 
 /// Of a root whose declaration is another one.
-fn other_declaration(alloc: Global, folders: (&str, &str)) -> Result<String, AllocError>
+fn other_declaration(alloc: Global, root: Shown<'_>, state: Shown<'_>) -> Result<String, AllocError>
     ensures { IfOk result (λ text. string_bytes text
-        ≡ other_declaration_text folders.entry.0.now folders.entry.1.now) }
+        ≡ other_declaration_text root.entry.0.now state.entry.0.now) }
 {
-    format!(in alloc;
-        "{}: the declaration of {} is not the one of before.",
-        Shown(folders.1),
-        Shown(folders.0)
-    )
+    format!(in alloc; "{state}: the declaration of {root} is not the one of before.")
 }
 
 /// Of a folder that is another part's.
-fn other_part(alloc: Global, folders: (&str, &str)) -> Result<String, AllocError>
+fn other_part(alloc: Global, root: Shown<'_>, state: Shown<'_>) -> Result<String, AllocError>
     ensures { IfOk result (λ text. string_bytes text
-        ≡ other_part_text folders.entry.0.now folders.entry.1.now) }
+        ≡ other_part_text root.entry.0.now state.entry.0.now) }
 {
-    format!(in alloc;
-        "{} belongs to another part of {}, or to all of it.",
-        Shown(folders.1),
-        Shown(folders.0)
-    )
+    format!(in alloc; "{state} belongs to another part of {root}, or to all of it.")
 }
 
 /// Of a root that lost most of its names.
-fn names_gone(alloc: Global, gone: u64, before: u64, root: &str) -> Result<String, AllocError>
-    ensures { IfOk result (λ text. string_bytes text ≡ names_gone_text gone before root.now) }
+fn names_gone(alloc: Global, gone: u64, before: u64, root: Shown<'_>) -> Result<String, AllocError>
+    ensures { IfOk result
+        (λ text. string_bytes text ≡ names_gone_text gone before root.entry.0.now) }
 {
     format!(in alloc;
-        "{gone} of the {before} names in {} are gone: is its file system mounted? --force-root \
-         runs it all the same.",
-        Shown(root)
-    )
-}
-
-/// Of a root that is another one now.
-fn root_changed(alloc: Global, root: &str) -> Result<String, AllocError>
-    ensures { IfOk result (λ text. string_bytes text ≡ root_changed_text root.now) }
-{
-    format!(in alloc;
-        "{} is not the storage root that the night began with: is its file system mounted?",
-        Shown(root)
+        "{gone} of the {before} names in {root} are gone: is its file system mounted? --force-root \
+         runs it all the same."
     )
 }
 
@@ -176,7 +158,7 @@ pub fn refusal_text(
     ensures { IfOk result
         (λ text. string_bytes text ≡ text_of_refusal refusal.entry root.now state.now) }
 {
-    let mut text = reason(alloc, refusal, root, state)?;
+    let mut text = reason(alloc, refusal, Shown(root), Shown(state))?;
     text.push_str(ending(refusal))?;
     Ok(text)
 }

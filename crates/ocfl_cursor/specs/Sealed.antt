@@ -12,6 +12,10 @@ first_line t = take_while (λ c. not (c == 10)) t
 abbrev pub seal_line : Text → Text → Text
 seal_line front body = front ++ encode_lower (sha256 body) ++ 10 ∷ []
 
+-- a body, and the line of this front that seals it
+abbrev pub with_seal : Text → Text → Text
+with_seal front body = body ++ seal_line front body
+
 -- the last 72 bytes are the line of this front of all before them
 abbrev pub is_sealed_by : Text → Text → Bool
 is_sealed_by front b = nat_le 72 (length b) && text_eq (drop (length b - 72) b) (seal_line front (take (length b - 72) b))

@@ -1,6 +1,6 @@
 //! Sealing stored texts by their last lines, and what such a line seals.
 ghost use Rattle.std.specs.Prelude.{◌≡◌, ◌++◌, IfOk, IfSome, is_some};
-ghost use Rattle.ocfl_cursor.specs.Sealed.{is_sealed_by, seal_line as line_of_seal};
+ghost use Rattle.ocfl_cursor.specs.Sealed.{is_sealed_by, seal_line as line_of_seal, with_seal};
 
 use ocfl_tree::is_bytes;
 use sha2::{Digest, Sha256};
@@ -30,8 +30,7 @@ pub fn sealed_text(
     first_line: &[u8],
     lines: &[u8],
 ) -> Result<Vec<u8>, AllocError>
-    ensures { IfOk result (λ text. text.items ≡ (first_line.now ++ lines.now)
-        ++ line_of_seal front (first_line.now ++ lines.now)) }
+    ensures { IfOk result (λ text. text.items ≡ with_seal front (first_line.now ++ lines.now)) }
 {
     let mut text = Vec::from_slice(alloc, first_line)?;
     text.extend_from_slice(lines)?;
@@ -42,7 +41,7 @@ pub fn sealed_text(
 
 /// What stands before the last line of a text, if that begins with this front and seals it.
 pub fn sealed_body(front: [u8; 7], text: &[u8]) -> Option<&[u8]>
-    ensures found { IfSome result (λ body. text.now ≡ body.now ++ line_of_seal front body.now) }
+    ensures found { IfSome result (λ body. text.now ≡ with_seal front body.now) }
     ensures sealed { is_some result ≡ is_sealed_by front text.now }
 {
     if text.len() < SEAL_LINE {

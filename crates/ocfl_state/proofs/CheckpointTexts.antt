@@ -6,10 +6,10 @@ use Rattle.hex.specs.Hex.{encode_lower}
 use Rattle.ocfl_tree.specs.{Place.{Text}, Name.{IsPlace}}
 use Rattle.ocfl_report.specs.Text.{place_text}
 use Rattle.ocfl_report.proofs.PlaceTexts.{place_text_determines}
-use Rattle.ocfl_cursor.specs.{Cursor.{IsCursor}, Part.{AreEnds}}
+use Rattle.ocfl_cursor.specs.{Cursor.{IsCursor}, Part.{AreEnds}, Sealed.{with_seal}}
 use Rattle.ocfl_cursor.specs.Lines.{stored_lines, AreStoredLines}
 use Rattle.ocfl_cursor.proofs.{Seals.{sealed_determines}, StoredLines.{stored_lines_determine}}
-use Rattle.ocfl_state.specs.Checkpoint.{Checkpoint, IsDigest, IsRoot, AreNames, IsMark, IsLeft, IsCheckpoint, path_text, names_text, phase_text, yes_or_no, stood_text, left_text, checkpoint_body, sha256_line, IsCheckpointText}
+use Rattle.ocfl_state.specs.Checkpoint.{Checkpoint, IsDigest, IsRoot, AreNames, IsMark, IsLeft, IsCheckpoint, path_text, names_text, phase_text, yes_or_no, stood_text, left_text, checkpoint_body, IsCheckpointText}
 use Rattle.ocfl_state.specs.CheckpointLines.{field_line, sizes_text, standing_text, IsStanding, mark_text, account_text, IsAccount, body_text, OneLine, left_fields, ArePartsOf, IsBodyOf}
 use Rattle.ocfl_state.specs.declared.checkpoint_account.Standing.{Standing}
 use Rattle.ocfl_state.specs.declared.checkpoint_account.Account.{Account}
@@ -292,11 +292,11 @@ body_determines body c d h k =
 -- ---- the last line
 
 -- a sealed text is a checkpoint's if what it seals is the checkpoint's body
-pub IsCheckpointText-sealed : (text body : Text) (c : Checkpoint) → text ≡ body ++ sha256_line body → IsBodyOf body c → IsCheckpointText text c
-IsCheckpointText-sealed text body c e h = record { keeps = h.keeps; is = e ∙ ap (λ b. b ++ sha256_line b) h.is }
+pub IsCheckpointText-sealed : (text body : Text) (c : Checkpoint) → text ≡ with_seal (codes "sha256 ") body → IsBodyOf body c → IsCheckpointText text c
+IsCheckpointText-sealed text body c e h = record { keeps = h.keeps; is = e ∙ ap (with_seal (codes "sha256 ")) h.is }
 
 -- and only then
-pub IsBodyOf-sealed : (text body : Text) (c : Checkpoint) → text ≡ body ++ sha256_line body → IsCheckpointText text c → IsBodyOf body c
+pub IsBodyOf-sealed : (text body : Text) (c : Checkpoint) → text ≡ with_seal (codes "sha256 ") body → IsCheckpointText text c → IsBodyOf body c
 IsBodyOf-sealed text body c e h = record { keeps = h.keeps; is = sealed_determines (codes "sha256 ") refl body (checkpoint_body c) (sym e ∙ h.is) }
 
 -- a text determines the checkpoint whose text it is

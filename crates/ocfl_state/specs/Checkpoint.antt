@@ -3,7 +3,7 @@ use Rattle.std.specs.Prelude.{◌≡◌, ℕ, ◌^◌, ◌<◌, ◌≤◌, List,
 use Rattle.hex.specs.Hex.{encode_lower, IsBytes}
 use Rattle.ocfl_tree.specs.{Place.{Text, Place}, Name.{IsPlace}}
 use Rattle.ocfl_report.specs.Text.{place_text}
-use Rattle.ocfl_cursor.specs.{Cursor.{Cursor, IsCursor}, Lines.{stored_lines}, Sealed.{seal_line}}
+use Rattle.ocfl_cursor.specs.{Cursor.{Cursor, IsCursor}, Lines.{stored_lines}, Sealed.{with_seal}}
 use Rattle.ocfl_cursor.specs.{Part.{AreEnds}, declared.ends.PartEnds.{PartEnds}}
 use Rattle.ocfl_state.specs.declared.checkpoint_parts.RootIdentity.{RootIdentity}
 use Rattle.ocfl_state.specs.declared.checkpoint_parts.TopNames.{TopNames}
@@ -119,11 +119,8 @@ shown_text c = lines_then (checkpoint_lines c) (flat_map left_text c.left ++ sto
 abbrev pub checkpoint_body : Checkpoint → Text
 checkpoint_body c = codes "ocfl-scrub checkpoint 1\n" ++ shown_text c
 
-abbrev pub sha256_line : Text → Text
-sha256_line body = seal_line (codes "sha256 ") body
-
 abbrev pub checkpoint_text : Checkpoint → Text
-checkpoint_text c = checkpoint_body c ++ sha256_line (checkpoint_body c)
+checkpoint_text c = with_seal (codes "sha256 ") (checkpoint_body c)
 
 -- the bytes are the text of this checkpoint
 pub record IsCheckpointText (b : Text) (c : Checkpoint) : Type 0 where

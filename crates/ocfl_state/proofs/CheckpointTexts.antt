@@ -10,7 +10,7 @@ use Rattle.ocfl_cursor.specs.{Cursor.{IsCursor}, Part.{AreEnds}, Sealed.{with_se
 use Rattle.ocfl_cursor.specs.Lines.{stored_lines, AreStoredLines}
 use Rattle.ocfl_cursor.proofs.{Seals.{sealed_determines}, StoredLines.{stored_lines_determine}}
 use Rattle.ocfl_state.specs.Checkpoint.{Checkpoint, IsDigest, IsRoot, AreNames, IsMark, IsLeft, IsCheckpoint, path_text, names_text, phase_text, yes_or_no, stood_text, left_text, checkpoint_body, IsCheckpointText}
-use Rattle.ocfl_state.specs.CheckpointLines.{field_line, sizes_text, standing_text, IsStanding, mark_text, account_text, IsAccount, body_text, OneLine, left_fields, ArePartsOf, IsBodyOf}
+use Rattle.ocfl_state.specs.CheckpointLines.{field_line, sizes_text, standing_text, IsStanding, mark_text, account_text, IsAccount, body_text, OneLine, left_fields, standing_of, account_of, ArePartsOf, IsBodyOf}
 use Rattle.ocfl_state.specs.declared.checkpoint_account.Standing.{Standing}
 use Rattle.ocfl_state.specs.declared.checkpoint_account.Account.{Account}
 use Rattle.ocfl_state.specs.declared.checkpoint_parts.TopNames.{TopNames}
@@ -172,13 +172,6 @@ lefts_determine (n ∷ ls) (m ∷ ms) r s h k l e =
 
 -- ---- the text before the last line
 
--- what its lines with a fixed number tell
-abbrev pub standing_of : Checkpoint → Standing
-standing_of c = record { declared = c.root.declared; names = c.names; phase = c.phase; whole = c.whole }
-
-abbrev pub account_of : Checkpoint → Account
-account_of c = record { report = c.report; told = c.told; left = length c.left }
-
 abbrev pub rest_of : Checkpoint → Text
 rest_of c = flat_map left_text c.left ++ stored_lines c.part c.cursor
 
@@ -197,25 +190,12 @@ pub parts_of_body : (path : Text) (s : Standing) (a : Account) (rest body : Text
 parts_of_body path s a rest body c one hs ha e h =
     let same = parts_determine path (path_text c.root.path) s (standing_of c) a (account_of c) rest (rest_of c) one (path_one_line c.root.path h.keeps.root.path)
     hs (IsStanding-of c h.keeps) ha (IsAccount-of c h.keeps) (sym e ∙ h.is ∙ body_parts c) in
-    record {
-      keeps = h.keeps;
-      path = same.path;
-      declared = ap (λ (x : Standing). x.declared) same.standing;
-      names = ap (λ (x : Standing). x.names) same.standing;
-      phase = ap (λ (x : Standing). x.phase) same.standing;
-      whole = ap (λ (x : Standing). x.whole) same.standing;
-      report = ap (λ (x : Account). x.report) same.account;
-      told = ap (λ (x : Account). x.told) same.account;
-      left = ap (λ (x : Account). x.left) same.account;
-      rest = same.rest;
-    }
+    record { keeps = h.keeps; path = same.path; standing = same.standing; account = same.account; rest = same.rest }
 
 -- and with such parts it is the body of the checkpoint
 pub body_of_parts : (path : Text) (s : Standing) (a : Account) (rest body : Text) (c : Checkpoint) → body ≡ body_text path s a rest → ArePartsOf path s a rest c → IsBodyOf body c
 body_of_parts path s a rest body c e h =
-    let standing : s ≡ standing_of c = λ i. record { declared = h.declared i; names = h.names i; phase = h.phase i; whole = h.whole i } in
-    let account : a ≡ account_of c = λ i. record { report = h.report i; told = h.told i; left = h.left i } in
-    record { keeps = h.keeps; is = e ∙ (λ i. body_text (h.path i) (standing i) (account i) (h.rest i)) ∙ sym (body_parts c) }
+    record { keeps = h.keeps; is = e ∙ (λ i. body_text (h.path i) (h.standing i) (h.account i) (h.rest i)) ∙ sym (body_parts c) }
 
 -- without such parts no text is a body
 pub no_body : (body : Text) → ((path : Text) (s : Standing) (a : Account) (rest : Text) → OneLine path → IsStanding s → IsAccount a → body ≡ body_text path s a rest → ⊥)
@@ -226,7 +206,7 @@ no_body body none c h =
 
 -- no checkpoint tells more than it has
 pub told_too_much : (path : Text) (s : Standing) (a : Account) (rest : Text) (c : Checkpoint) → a.report.bytes < a.told → ArePartsOf path s a rest c → ⊥
-told_too_much path s a rest c l h = omega (arith, l, h.keeps.told, h.told, ap (λ (m : ReportMark). m.bytes) h.report)
+told_too_much path s a rest c l h = omega (arith, l, h.keeps.told, ap (λ (x : Account). x.told) h.account, ap (λ (x : Account). x.report.bytes) h.account)
 
 -- what was read of the parts makes a checkpoint
 pub read_is_checkpoint : (path : Text) (s : Standing) (a : Account) (rest lines : Text) (c : Checkpoint) → IsStanding s → IsAccount a → a.told ≤ a.report.bytes
@@ -235,6 +215,8 @@ pub read_is_checkpoint : (path : Text) (s : Standing) (a : Account) (rest lines 
     → AreStoredLines c.part lines c.cursor → ArePartsOf path s a rest c
 read_is_checkpoint path s a rest lines c hs ha few declared names phase whole report told is spot found count lefts stored =
     let told_few : c.told ≤ c.report.bytes = omega (arith, few, told, ap (λ (m : ReportMark). m.bytes) report) in
+    let standing : standing_of c ≡ s = λ i. record { declared = declared i; names = names i; phase = phase i; whole = whole i } in
+    let account : account_of c ≡ a = λ i. record { report = report i; told = told i; left = count i } in
     record {
       keeps = record {
         root = record { path = spot; declared = subst IsDigest (sym declared) hs.declared };
@@ -247,13 +229,8 @@ read_is_checkpoint path s a rest lines c hs ha few declared names phase whole re
         cursor = stored.keeps;
       };
       path = is;
-      declared = sym declared;
-      names = sym names;
-      phase = sym phase;
-      whole = sym whole;
-      report = sym report;
-      told = sym told;
-      left = sym count;
+      standing = sym standing;
+      account = sym account;
       rest = found ∙ ap (λ t. flat_map left_text c.left ++ t) stored.are;
     }
 
@@ -261,22 +238,17 @@ read_is_checkpoint path s a rest lines c hs ha few declared names phase whole re
 pub parts_are_of_one : (path : Text) (s : Standing) (a : Account) (rest : Text) (c d : Checkpoint) → ArePartsOf path s a rest c → ArePartsOf path s a rest d → c ≡ d
 parts_are_of_one path s a rest c d h k =
     let at = path_determines c.root.path d.root.path h.keeps.root.path k.keeps.root.path (sym h.path ∙ k.path) in
-    let lefts = lefts_determine c.left d.left _ _ h.keeps.left k.keeps.left (sym h.left ∙ k.left) (sym h.rest ∙ k.rest) in
+    let standing : standing_of c ≡ standing_of d = sym h.standing ∙ k.standing in
+    let account : account_of c ≡ account_of d = sym h.account ∙ k.account in
+    let lefts = lefts_determine c.left d.left _ _ h.keeps.left k.keeps.left (ap (λ (x : Account). x.left) account) (sym h.rest ∙ k.rest) in
     let stored = stored_lines_determine c.part d.part c.cursor d.cursor h.keeps.part k.keeps.part h.keeps.cursor k.keeps.cursor lefts.1 in
-    let declared = sym h.declared ∙ k.declared in
-    let root : c.root ≡ d.root = λ i. record { path = at i; declared = declared i } in
-    let names = sym h.names ∙ k.names in
-    let phase = sym h.phase ∙ k.phase in
-    let whole = sym h.whole ∙ k.whole in
-    let report = sym h.report ∙ k.report in
-    let told = sym h.told ∙ k.told in
     λ i. record {
-      root = root i;
-      names = names i;
-      phase = phase i;
-      whole = whole i;
-      report = report i;
-      told = told i;
+      root = record { path = at i; declared = (standing i).declared };
+      names = (standing i).names;
+      phase = (standing i).phase;
+      whole = (standing i).whole;
+      report = (account i).report;
+      told = (account i).told;
       left = lefts.0 i;
       part = stored.0 i;
       cursor = stored.1 i;

@@ -76,17 +76,19 @@ OneLine t = All (λ b. b ≢ 10) t
 abbrev pub left_fields : Text → Text → Text → Text
 left_fields path stood rest = field_line (codes "left ") path (field_line [] stood rest)
 
+-- what the lines with a fixed number tell of a checkpoint
+abbrev pub standing_of : Checkpoint → Standing
+standing_of c = record { declared = c.root.declared; names = c.names; phase = c.phase; whole = c.whole }
+
+abbrev pub account_of : Checkpoint → Account
+account_of c = record { report = c.report; told = c.told; left = length c.left }
+
 -- what is read is that of this checkpoint
 pub record ArePartsOf (front : Text) (s : Standing) (a : Account) (back : Text) (c : Checkpoint) : Type 0 where
   pub keeps : IsCheckpoint c
   pub path : front ≡ path_text c.root.path
-  pub declared : s.declared ≡ c.root.declared
-  pub names : s.names ≡ c.names
-  pub phase : s.phase ≡ c.phase
-  pub whole : s.whole ≡ c.whole
-  pub report : a.report ≡ c.report
-  pub told : a.told ≡ c.told
-  pub left : a.left ≡ length c.left
+  pub standing : s ≡ standing_of c
+  pub account : a ≡ account_of c
   pub rest : back ≡ flat_map left_text c.left ++ stored_lines c.part c.cursor
 
 -- the text before the last line is that of this checkpoint

@@ -1,5 +1,6 @@
-use Rattle.std.proofs.Common.{sym, ◌∙◌}
+use Rattle.std.proofs.Common.{sym, ap, ◌∙◌}
 use Rattle.ocfl_cursor.specs.Lines.{stored_lines}
+use Rattle.ocfl_state.specs.declared.checkpoint_account.Account.{Account}
 use Rattle.ocfl_state.proofs.CheckpointTexts.{lefts_determine}
 use Rattle.ocfl_state.proofs.checkpoint_decoding.read_parts.Goals as goal
 
@@ -8,11 +9,11 @@ returns-in-Err-clause-malformed c = λ e d h. c.in-Err.ensures.malformed (cc e) 
 
 pub returns-in-Err-read_all_left-clause-malformed : goal.returns-in-Err-read_all_left-clause-malformed
 returns-in-Err-read_all_left-clause-malformed c = λ e d h.
-    c.in-Err-read_all_left.ensures.malformed (cc e) d.left (stored_lines d.part d.cursor) h.keeps.left (sym h.left) h.rest
+    c.in-Err-read_all_left.ensures.malformed (cc e) d.left (stored_lines d.part d.cursor) h.keeps.left (sym (ap (λ (x : Account). x.left) h.account)) h.rest
 
 pub returns-in-Err-read_cursor_lines-clause-malformed : goal.returns-in-Err-read_cursor_lines-clause-malformed
 returns-in-Err-read_cursor_lines-clause-malformed c = λ e d h.
     let read = c.in-Ok-read_all_left.read in
     let same = lefts_determine read.0.items d.left read.1.now (stored_lines d.part d.cursor) c.in-Ok-read_all_left.ensures.names h.keeps.left
-    (c.in-Ok-read_all_left.ensures.count ∙ h.left) (sym c.in-Ok-read_all_left.ensures.found ∙ h.rest) in
+    (c.in-Ok-read_all_left.ensures.count ∙ ap (λ (x : Account). x.left) h.account) (sym c.in-Ok-read_all_left.ensures.found ∙ h.rest) in
     c.in-Err-read_cursor_lines.ensures.malformed (cc e) d.part d.cursor (record { ends = h.keeps.part; keeps = h.keeps.cursor; are = same.1 })

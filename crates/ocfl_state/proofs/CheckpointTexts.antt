@@ -1,5 +1,5 @@
 -- The text of a checkpoint determines the checkpoint.
-use Rattle.std.proofs.Common.{◌≡◌, ℕ, ◌+◌, ◌*◌, ◌^◌, ◌<◌, ◌≤◌, List, [], ◌∷◌, ◌++◌, Bool, IfSome, All, length, take, codes, decimal, flat_map, refl, sym, ap, subst, ◌∙◌, append-nil, append_assoc, length-append, arith}
+use Rattle.std.proofs.Common.{◌≡◌, ℕ, ◌^◌, ◌<◌, ◌≤◌, List, [], ◌∷◌, ◌++◌, IfSome, All, length, codes, decimal, flat_map, refl, sym, ap, subst, ◌∙◌, append-nil, append_assoc, arith}
 use Rattle.std.proofs.{lemmas.Grind.{flat_map-append}, lemmas.List.{append_cancel_left}}
 use Rattle.std.proofs.lemmas.List.Elements.{All-head, All-tail}
 use Rattle.hex.specs.Hex.{encode_lower}
@@ -13,8 +13,6 @@ use Rattle.ocfl_state.specs.Checkpoint.{Checkpoint, IsDigest, IsRoot, AreNames, 
 use Rattle.ocfl_state.specs.CheckpointLines.{field_line, sizes_text, standing_text, IsStanding, mark_text, account_text, IsAccount, body_text, OneLine, left_fields, standing_of, account_of, ArePartsOf, IsBodyOf}
 use Rattle.ocfl_state.specs.declared.checkpoint_account.Standing.{Standing}
 use Rattle.ocfl_state.specs.declared.checkpoint_account.Account.{Account}
-use Rattle.ocfl_state.specs.declared.checkpoint_parts.TopNames.{TopNames}
-use Rattle.ocfl_state.specs.declared.checkpoint_parts.Phase.{Phase}
 use Rattle.ocfl_state.specs.declared.checkpoint_parts.ReportMark.{ReportMark}
 use Rattle.ocfl_state.specs.declared.checkpoint_parts.Left.{Left}
 use Rattle.ocfl_state.proofs.CheckpointFields.{field_determines, count_one_line, count_determines, digest_one_line, digest_determines, names_one_line, names_determine, phase_one_line, phase_determines, whole_one_line, whole_determines, sizes_one_line, sizes_determine, place_one_line, path_one_line, path_determines, stood_one_line, stood_determines}
@@ -30,21 +28,6 @@ pub count_line_determines : (front : Text) (m n : ℕ) (r s : Text) → m < 2 ^ 
 count_line_determines front m n r s h k e =
     let parts = field_determines front (decimal m) (decimal n) r s (count_one_line m h) (count_one_line n k) e in
     (count_determines m n h k parts.0, parts.1)
-
-pub names_line_determines : (front : Text) (m n : TopNames) (r s : Text) → AreNames m → AreNames n → field_line front (names_text m) r ≡ field_line front (names_text n) s → (m ≡ n) × (r ≡ s)
-names_line_determines front m n r s h k e =
-    let parts = field_determines front (names_text m) (names_text n) r s (names_one_line m h) (names_one_line n k) e in
-    (names_determine m n h k parts.0, parts.1)
-
-pub phase_line_determines : (front : Text) (p q : Phase) (r s : Text) → field_line front (phase_text p) r ≡ field_line front (phase_text q) s → (p ≡ q) × (r ≡ s)
-phase_line_determines front p q r s e =
-    let parts = field_determines front (phase_text p) (phase_text q) r s (phase_one_line p) (phase_one_line q) e in
-    (phase_determines p q parts.0, parts.1)
-
-pub whole_line_determines : (front : Text) (v w : Bool) (r s : Text) → field_line front (yes_or_no v) r ≡ field_line front (yes_or_no w) s → (v ≡ w) × (r ≡ s)
-whole_line_determines front v w r s e =
-    let parts = field_determines front (yes_or_no v) (yes_or_no w) r s (whole_one_line v) (whole_one_line w) e in
-    (whole_determines v w parts.0, parts.1)
 
 -- the size of the report in one line
 pub record SameSizes (m n m' n' : ℕ) (r s : Text) : Type 0 where
@@ -64,10 +47,13 @@ sizes_line_determines front m n m' n' r s h k h' k' e =
 pub standing_determines : (s t : Standing) (q r : Text) → IsStanding s → IsStanding t → standing_text s q ≡ standing_text t r → (s ≡ t) × (q ≡ r)
 standing_determines s t q r h k e =
     let first = digest_line_determines (codes "declared ") s.declared t.declared _ _ h.declared k.declared e in
-    let second = names_line_determines (codes "names ") s.names t.names _ _ h.names k.names first.1 in
-    let third = phase_line_determines (codes "phase ") s.phase t.phase _ _ second.1 in
-    let fourth = whole_line_determines (codes "whole ") s.whole t.whole q r third.1 in
-    ((λ i. record { declared = first.0 i; names = second.0 i; phase = third.0 i; whole = fourth.0 i }), fourth.1)
+    let second = field_determines (codes "names ") (names_text s.names) (names_text t.names) _ _ (names_one_line s.names h.names) (names_one_line t.names k.names) first.1 in
+    let third = field_determines (codes "phase ") (phase_text s.phase) (phase_text t.phase) _ _ (phase_one_line s.phase) (phase_one_line t.phase) second.1 in
+    let fourth = field_determines (codes "whole ") (yes_or_no s.whole) (yes_or_no t.whole) q r (whole_one_line s.whole) (whole_one_line t.whole) third.1 in
+    let names = names_determine s.names t.names h.names k.names second.0 in
+    let phase = phase_determines s.phase t.phase third.0 in
+    let whole = whole_determines s.whole t.whole fourth.0 in
+    ((λ i. record { declared = first.0 i; names = names i; phase = phase i; whole = whole i }), fourth.1)
 
 pub mark_determines : (m n : ReportMark) (r s : Text) → IsMark m → IsMark n → mark_text m r ≡ mark_text n s → (m ≡ n) × (r ≡ s)
 mark_determines m n r s h k e =

@@ -1,12 +1,10 @@
 //! Reading the lines of a checkpoint that have a fixed number.
-ghost use Rattle.std.specs.Prelude.{◌≡◌, ◌≢◌, ◌^◌, ◌<◌, ◌++◌, ℕ, All, List, IfSome, IsNone, Bool, decimal, codes};
+ghost use Rattle.std.specs.Prelude.{◌≡◌, ◌≢◌, ◌^◌, ◌<◌, ◌++◌, ℕ, All, List, IfSome, IsNone, decimal, codes};
 ghost use Rattle.hex.specs.Hex.{encode_lower};
-ghost use Rattle.ocfl_state.specs.Checkpoint.{IsDigest, AreNames, IsMark, names_text, phase_text, yes_or_no};
+ghost use Rattle.ocfl_state.specs.Checkpoint.{IsDigest, IsMark};
 ghost use Rattle.ocfl_state.specs.CheckpointLines.{field_line, sizes_text, standing_text, IsStanding, mark_text, account_text, IsAccount, body_text, OneLine};
 ghost use Rattle.ocfl_state.specs.declared.checkpoint_account.Standing.{Standing as ModelStanding};
 ghost use Rattle.ocfl_state.specs.declared.checkpoint_account.Account.{Account as ModelAccount};
-ghost use Rattle.ocfl_state.specs.declared.checkpoint_parts.TopNames.{TopNames as ModelNames};
-ghost use Rattle.ocfl_state.specs.declared.checkpoint_parts.Phase.{Phase as ModelPhase};
 ghost use Rattle.ocfl_state.specs.declared.checkpoint_parts.ReportMark.{ReportMark as ModelMark};
 
 use crate::checkpoint_fields::{
@@ -59,40 +57,6 @@ fn read_count_line<'a>(front: &[u8], text: &'a [u8]) -> Option<(u64, &'a [u8])>
     Some((read_count(field)?, rest))
 }
 
-/// Reads the line of the names in the top folder. Gives what follows it too.
-fn read_names_line(text: &[u8]) -> Option<(TopNames, &[u8])>
-    ensures found { IfSome result
-        (λ read. text.now ≡ field_line (codes "names ") (names_text read.0) read.1.now) }
-    ensures fits { IfSome result (λ read. AreNames read.0) }
-    ensures missing { IsNone result → (names : ModelNames) (rest : List ℕ) → AreNames names
-        → text.now ≢ field_line (codes "names ") (names_text names) rest }
-{
-    let (field, rest) = split_line(NAMES, text)?;
-    Some((read_names(field)?, rest))
-}
-
-/// Reads the line of the phase. Gives what follows it too.
-fn read_phase_line(text: &[u8]) -> Option<(Phase, &[u8])>
-    ensures found { IfSome result
-        (λ read. text.now ≡ field_line (codes "phase ") (phase_text read.0) read.1.now) }
-    ensures missing { IsNone result → (phase : ModelPhase) (rest : List ℕ)
-        → text.now ≢ field_line (codes "phase ") (phase_text phase) rest }
-{
-    let (field, rest) = split_line(PHASE, text)?;
-    Some((read_phase(field)?, rest))
-}
-
-/// Reads the line of whether the report is whole. Gives what follows it too.
-fn read_whole_line(text: &[u8]) -> Option<(bool, &[u8])>
-    ensures found { IfSome result
-        (λ read. text.now ≡ field_line (codes "whole ") (yes_or_no read.0) read.1.now) }
-    ensures missing { IsNone result → (whole : Bool) (rest : List ℕ)
-        → text.now ≢ field_line (codes "whole ") (yes_or_no whole) rest }
-{
-    let (field, rest) = split_line(WHOLE, text)?;
-    Some((read_whole(field)?, rest))
-}
-
 /// Reads the line of the report's size. Gives what follows it too.
 fn read_sizes_line(text: &[u8]) -> Option<((u64, u64), &[u8])>
     ensures found { IfSome result (λ read. text.now
@@ -114,14 +78,14 @@ pub(crate) fn read_standing(text: &[u8]) -> Option<(Standing, &[u8])>
         → IsStanding standing → text.now ≢ standing_text standing rest }
 {
     let (declared, rest) = read_digest_line(DECLARED, text)?;
-    let (names, rest) = read_names_line(rest)?;
-    let (phase, rest) = read_phase_line(rest)?;
-    let (whole, rest) = read_whole_line(rest)?;
+    let (names, rest) = split_line(NAMES, rest)?;
+    let (phase, rest) = split_line(PHASE, rest)?;
+    let (whole, rest) = split_line(WHOLE, rest)?;
     let standing = Standing {
         declared,
-        names,
-        phase,
-        whole,
+        names: read_names(names)?,
+        phase: read_phase(phase)?,
+        whole: read_whole(whole)?,
     };
     Some((standing, rest))
 }

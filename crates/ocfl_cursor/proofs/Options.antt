@@ -1,5 +1,5 @@
 -- Clauses on an option, by its two cases.
-use Rattle.std.proofs.Common.{◌≡◌, Option, None, Some, Result, Err, MatchOption, IfSome, IsNone}
+use Rattle.std.proofs.Common.{◌≡◌, Option, None, Some, Result, Ok, Err, MatchOption, IfSome, IsNone, IfErr, IsErrAnd, sym, subst}
 
 -- what a clause by cases says of a value
 pub IfSome-from_cases : {X : Type 0} (r : Option X) (P : Type 0) (Q : X → Type 0) → MatchOption r P Q → IfSome r Q
@@ -11,6 +11,12 @@ pub none_from_cases : {X : Type 0} (r : Option X) (P : Type 0) (Q : X → Type 0
 none_from_cases None P Q h e = h
 none_from_cases (Some x) P Q h e = cc
 
--- an error that is passed on is the error of the result
-pub passed_on : {A B E : Type 0} (r : Result A E) (passed error known : E) → r ≡ Err passed → passed ≡ error → r ≡ Err known → ◌≡◌ {A = Result B E} (Err error) (Err known)
-passed_on r passed error known p q e = cc
+-- an error that `?` passes on is the error of the result
+pub passed_on : {A B E : Type 0} (r : Result A E) (error known : E) → IsErrAnd r (λ e. e ≡ error) → r ≡ Err known → ◌≡◌ {A = Result B E} (Err error) (Err known)
+passed_on (Ok x) error known h e = absurd h
+passed_on (Err y) error known h e = cc
+
+-- and what is so of it is so of the result
+pub IfErr-passed : {A E : Type 0} (P : E → Type 0) (r : Result A E) (error : E) → IsErrAnd r (λ e. e ≡ error) → P error → IfErr r P
+IfErr-passed P (Ok x) error h p = tt
+IfErr-passed P (Err y) error h p = subst P (sym h) p

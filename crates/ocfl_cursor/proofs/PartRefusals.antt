@@ -1,11 +1,11 @@
 -- Why bytes are not the text of a part's cursor: what each answer tells.
-use Rattle.std.proofs.Common.{◌≡◌, ◌⊎◌, inl, inr, Result, Err, IfErr, ◌++◌, true, false, codes, refl, sym, ap, subst, ◌∙◌}
+use Rattle.std.proofs.Common.{◌≡◌, ◌⊎◌, inl, inr, ◌++◌, true, false, codes, refl, sym, ap, ◌∙◌}
 use Rattle.std.proofs.lemmas.Bool.{false≢true}
 use Rattle.ocfl_tree.specs.Place.{Text}
 use Rattle.ocfl_cursor.specs.Cursor.{Cursor, cursor_text, digest_line, version_one_text}
 use Rattle.ocfl_cursor.specs.Refusal.{not_cursor, is_cursor_front, is_sealed, IsTextOf}
 use Rattle.ocfl_cursor.specs.{Refused.{IsRefused}, Part.{part_body, IsPartText}}
-use Rattle.ocfl_cursor.specs.PartRefusal.{is_part_front, IsSealedPart, PartRefusedRightly}
+use Rattle.ocfl_cursor.specs.PartRefusal.{is_part_front, IsMalformedPart, PartRefusedRightly}
 use Rattle.ocfl_cursor.specs.{Shown.{PartUnshownRightly}, Internal.Part.{IsPartBody}}
 use Rattle.ocfl_cursor.specs.declared.ends.PartEnds.{PartEnds}
 use Rattle.ocfl_cursor.specs.declared.refused.PartRefused.{PartRefused}
@@ -31,33 +31,17 @@ only_memory e b c h Memory k = refl
 
 -- ---- an answer that comes after the seal
 
-sealed_part : (b body : Text) → is_part_front b ≡ true → b ≡ body ++ digest_line body → IsSealedPart b
-sealed_part b body front e = record { front = front; seal = is_sealed-sealed (codes "digest ") refl b body e }
+pub malformed_part : (b body : Text) → is_part_front b ≡ true → b ≡ body ++ digest_line body → ((f : PartEnds) (c : Cursor) → IsPartBody f body c → ⊥) → IsMalformedPart b
+malformed_part b body front is none =
+    record { sealed = record { front = front; seal = is_sealed-sealed (codes "digest ") refl b body is }; no_cursor = λ f c h. none f c (IsPartBody-sealed f b body c is h) }
 
-refused_after_seal : (e : PartEnds) (b body : Text) (r : PartRefused) → is_part_front b ≡ true → b ≡ body ++ digest_line body → (r ≡ Malformed) ⊎ (r ≡ Memory)
-    → (r ≡ Malformed → (f : PartEnds) (c : Cursor) → IsPartBody f body c → ⊥) → PartRefusedRightly e b r
-refused_after_seal e b body r front is (inl m) none =
-    subst (PartRefusedRightly e b) (sym m) (record { sealed = sealed_part b body front is; no_cursor = λ f c h. none m f c (IsPartBody-sealed f b body c is h) })
-refused_after_seal e b body r front is (inr m) none = subst (PartRefusedRightly e b) (sym m) (sealed_part b body front is)
-
--- the same of a result that passes an answer on
-pub part_refused : {A : Type 0} (e : PartEnds) (b body : Text) (r : Result A PartRefused) (passed known : PartRefused) → r ≡ Err passed → passed ≡ known
-    → is_part_front b ≡ true → b ≡ body ++ digest_line body
-    → (known ≡ Malformed) ⊎ (known ≡ Memory) → (known ≡ Malformed → (f : PartEnds) (c : Cursor) → IsPartBody f body c → ⊥) → IfErr r (λ s. PartRefusedRightly e b s)
-part_refused {A} e b body r passed known p q front is errors none =
-    subst (λ (s : Result A PartRefused). IfErr s (λ t. PartRefusedRightly e b t)) (sym (p ∙ ap Err q)) (refused_after_seal e b body known front is errors none)
-
--- as the text of any part's cursor
-part_unshown_after_seal : (b body : Text) (r : PartRefused) → is_part_front b ≡ true → b ≡ body ++ digest_line body → (r ≡ Malformed) ⊎ (r ≡ Memory)
-    → (r ≡ Malformed → (f : PartEnds) (c : Cursor) → IsPartBody f body c → ⊥) → PartUnshownRightly b r
-part_unshown_after_seal b body r front is (inl m) none =
-    subst (PartUnshownRightly b) (sym m) (record { sealed = sealed_part b body front is; no_cursor = λ f c h. none m f c (IsPartBody-sealed f b body c is h) })
-part_unshown_after_seal b body r front is (inr m) none = subst (PartUnshownRightly b) (sym m) (is_sealed-sealed (codes "digest ") refl b body is)
-
-pub part_unshown : {A : Type 0} (b body : Text) (r : Result A PartRefused) (passed known : PartRefused) → r ≡ Err passed → passed ≡ known → is_part_front b ≡ true → b ≡ body ++ digest_line body
-    → (known ≡ Malformed) ⊎ (known ≡ Memory) → (known ≡ Malformed → (f : PartEnds) (c : Cursor) → IsPartBody f body c → ⊥) → IfErr r (λ s. PartUnshownRightly b s)
-part_unshown {A} b body r passed known p q front is errors none =
-    subst (λ (s : Result A PartRefused). IfErr s (λ t. PartUnshownRightly b t)) (sym (p ∙ ap Err q)) (part_unshown_after_seal b body known front is errors none)
+-- to this part it is rightly refused, if it is to any
+pub refused_to_part : (e : PartEnds) (b : Text) (r : PartRefused) → is_part_front b ≡ true → PartUnshownRightly b r → PartRefusedRightly e b r
+refused_to_part e b NotCursor front h = absurd h
+refused_to_part e b Damaged front h = (front, h)
+refused_to_part e b Malformed front h = h
+refused_to_part e b OtherPart front h = absurd h
+refused_to_part e b Memory front h = record { front = front; seal = h }
 
 -- ---- parts and whole roots
 

@@ -1,5 +1,5 @@
 -- How long the text of a place is, and how many slashes it has.
-use Rattle.std.proofs.Common.{◌≡◌, ℕ, ◌+◌, ◌*◌, ◌/◌, ◌%◌, ◌<◌, ◌≤◌, [], ◌∷◌, ◌==◌, Bool, true, false, cond, length, map, count_by, ap, arith, length-append}
+use Rattle.std.proofs.Common.{◌≡◌, ℕ, ◌+◌, ◌*◌, ◌/◌, ◌%◌, ◌<◌, ◌≤◌, [], ◌∷◌, ◌==◌, Bool, true, false, cond, Result, Ok, Err, IfOk, subst, length, map, count_by, ap, arith, length-append}
 use Rattle.std.proofs.{lemmas.List.{length-map}, lemmas.List.Splits.{length-slice_split}}
 use Rattle.std.proofs.lemmas.List.Elements.{All-head, All-tail}
 use Rattle.std.specs.List.{slice_split, join_with_byte}
@@ -25,6 +25,11 @@ slashes-place_text n p h =
 pub few_names : (p : Place) → IsPlace p → slashes (place_text p) < 255 → length p ≤ 255
 few_names [] h l = omega arith
 few_names (n ∷ p) h l = omega (arith, slashes-place_text n p h)
+
+-- so it is if one was read of such a text
+pub short_place : {E : Type 0} (path : Text) (r : Result Place E) → slashes path < 255 → IfOk r (λ p. path ≡ place_text p) → IfOk r IsPlace → IfOk r (λ p. IsPlace p × (length p ≤ 255))
+short_place path (Ok p) few e h = (h, few_names p h (subst (λ t. slashes t < 255) e few))
+short_place path (Err stop) few e h = tt
 
 -- and a place of at most 255 names has such a text
 pub few_slashes : (p : Place) → IsPlace p → length p ≤ 255 → slashes (place_text p) < 255

@@ -1,14 +1,12 @@
 -- Why bytes are the text of no cursor: what each test tells.
-use Rattle.std.proofs.Common.{◌≡◌, ◌⊎◌, inl, inr, Result, Ok, Err, IfErr, ◌≤◌, ◌++◌, nat_eq, ◌&&◌, Bool, true, false, not, cond, length, drop, codes, refl, sym, ap, ap₂, subst, ◌∙◌, arith}
+use Rattle.std.proofs.Common.{◌≡◌, ◌⊎◌, inl, inr, ◌≤◌, ◌++◌, nat_eq, ◌&&◌, Bool, true, false, not, cond, length, drop, codes, refl, sym, ap, ap₂, ◌∙◌, arith}
 use Rattle.std.proofs.lemmas.Bool.{le-leb, false≢true}
 use Rattle.std.specs.List.{starts_with}
 use Rattle.ocfl_tree.specs.Place.{Text}
 use Rattle.ocfl_cursor.specs.Cursor.{Cursor, cursor_body, digest_line, cursor_text, version_one_body, version_one_text}
 use Rattle.ocfl_cursor.specs.Internal.Body.{IsBodyOf}
 use Rattle.ocfl_cursor.specs.Refusal.{Refusal, not_cursor, version, damaged, malformed, max_text, is_cursor_front, version_of, is_version, is_sealed, IsTextOf}
-use Rattle.ocfl_cursor.specs.{Sealed.{first_line}, Refused.{IsRefused, RefusedRightly}}
-use Rattle.ocfl_cursor.specs.declared.refused.Refused.{Refused}
-use Rattle.ocfl_cursor.specs.declared.refused.Refused.TheVariants.{Malformed, Memory}
+use Rattle.ocfl_cursor.specs.{Sealed.{first_line}, Refused.{IsRefused}}
 use Rattle.ocfl_cursor.proofs.{CursorTexts.{length-text, IsBodyOf-sealed}, Seals.{is_sealed-sealed}}
 
 -- ---- a cursor's text passes each test
@@ -77,15 +75,3 @@ refused_malformed b body front known e none =
 -- the version as what follows the front tells it
 pub known_version-from_rest : (b rest : Text) (r known : Bool) → rest ≡ drop 18 b → r ≡ is_version (first_line rest) → r ≡ known → is_version (version_of b) ≡ known
 known_version-from_rest b rest r known e f g = ap (λ t. is_version (first_line t)) (sym e) ∙ sym f ∙ g
-
--- what the last test refuses, memory aside
-pub RefusedRightly-malformed : (b body : Text) (e : Refused) → is_cursor_front b ≡ true → is_version (version_of b) ≡ true → b ≡ body ++ digest_line body
-    → (e ≡ Malformed) ⊎ (e ≡ Memory) → (e ≡ Malformed → (c : Cursor) → IsBodyOf body c → ⊥) → RefusedRightly b e
-RefusedRightly-malformed b body e front known is (inl m) none = subst (RefusedRightly b) (sym m) (refused_malformed b body front known is (none m))
-RefusedRightly-malformed b body e front known is (inr m) none = subst (RefusedRightly b) (sym m) tt
-
--- the same of a result
-pub refused_after_seal : {A : Type 0} (b body : Text) (r : Result A Refused) → is_cursor_front b ≡ true → is_version (version_of b) ≡ true → b ≡ body ++ digest_line body
-    → IfErr r (λ e. (e ≡ Malformed) ⊎ (e ≡ Memory)) → (r ≡ Err Malformed → (c : Cursor) → IsBodyOf body c → ⊥) → IfErr r (λ e. RefusedRightly b e)
-refused_after_seal b body (Ok x) front known is errors none = tt
-refused_after_seal b body (Err e) front known is errors none = RefusedRightly-malformed b body e front known is errors (λ m. none (ap Err m))

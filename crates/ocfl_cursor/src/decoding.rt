@@ -1,5 +1,5 @@
 //! Reading a cursor from its text, and why other bytes are refused.
-ghost use Rattle.std.specs.Prelude.{◌≡◌, ◌≢◌, ◌⊎◌, ◌≤◌, ℕ, List, ◌++◌, drop, length, is_some, IfOk, IfErr, IfSome, IsNone};
+ghost use Rattle.std.specs.Prelude.{◌≡◌, ◌≢◌, ◌≤◌, ℕ, List, ◌++◌, drop, length, is_some, IfOk, IfErr, IfSome, IsNone};
 ghost use Rattle.ocfl_tree.specs.{Name.{IsPlace}, Place.{Place as ModelPlace}};
 ghost use Rattle.ocfl_report.specs.Text.{place_text};
 ghost use Rattle.ocfl_cursor.specs.Cursor.{State as ModelState, Cursor as ModelCursor};
@@ -40,9 +40,13 @@ pub fn decode(alloc: Global, text: &[u8]) -> Result<Cursor, Refused>
     if !begins_with_version(rest) {
         return Err(Refused::Version);
     }
-    match sealed_body(DIGEST, text) {
-        Some(body) => read_body(alloc, body),
-        None => Err(Refused::Damaged),
+    let Some(body) = sealed_body(DIGEST, text) else {
+        return Err(Refused::Damaged);
+    };
+    match read_body(alloc, body) {
+        Ok(cursor) => Ok(cursor),
+        Err(TextStop::Bad) => Err(Refused::Malformed),
+        Err(TextStop::Memory) => Err(Refused::Memory),
     }
 }
 
@@ -72,32 +76,29 @@ fn is_version(text: &[u8]) -> bool
 }
 
 /// The cursor of which this is the text before its digest line.
-fn read_body(alloc: Global, body: &[u8]) -> Result<Cursor, Refused>
+fn read_body(alloc: Global, body: &[u8]) -> Result<Cursor, TextStop>
     ensures cursor { IfOk result (λ cursor. IsBodyOf body.now cursor) }
-    ensures malformed { result ≡ Err Refused.Malformed
-        → (c : ModelCursor) → IsBodyOf body.now c → ⊥ }
-    ensures errors { IfErr result (λ e. (e ≡ Refused.Malformed) ⊎ (e ≡ Refused.Memory)) }
+    ensures bad { result ≡ Err TextStop.Bad → (c : ModelCursor) → IsBodyOf body.now c → ⊥ }
 {
     match read_first_line(body) {
         Some((version, lines)) => read_lines(alloc, version, lines),
-        None => Err(Refused::Malformed),
+        None => Err(TextStop::Bad),
     }
 }
 
 /// The cursor whose text has these lines between its first and its last.
-pub(crate) fn read_lines(alloc: Global, version: Version, lines: &[u8]) -> Result<Cursor, Refused>
+pub(crate) fn read_lines(alloc: Global, version: Version, lines: &[u8]) -> Result<Cursor, TextStop>
     ensures cursor { IfOk result (λ cursor. AreLinesOf version lines.now cursor) }
-    ensures malformed { result ≡ Err Refused.Malformed
+    ensures bad { result ≡ Err TextStop.Bad
         → (c : ModelCursor) → AreLinesOf version lines.now c → ⊥ }
-    ensures errors { IfErr result (λ e. (e ≡ Refused.Malformed) ⊎ (e ≡ Refused.Memory)) }
 {
     let Some((counts, line)) = read_counts(version, lines) else {
-        return Err(Refused::Malformed);
+        return Err(TextStop::Bad);
     };
     let state = read_state(alloc, line)?;
     match Cursor::from_parts(counts.cycle, counts.runs, counts.spent, counts.files, state) {
         Some(cursor) => Ok(cursor),
-        None => Err(Refused::Malformed),
+        None => Err(TextStop::Bad),
     }
 }
 
@@ -159,14 +160,12 @@ fn read_files(version: Version, text: &[u8]) -> Option<(u128, &[u8])>
 }
 
 /// Reads the line that says where the next run begins.
-fn read_state(alloc: Global, line: &[u8]) -> Result<State, Refused>
+fn read_state(alloc: Global, line: &[u8]) -> Result<State, TextStop>
     ensures state { IfOk result (λ state. IsStateLine line.now (state_of state)) }
-    ensures malformed { result ≡ Err Refused.Malformed
-        → (s : ModelState) → IsStateLine line.now s → ⊥ }
-    ensures errors { IfErr result (λ e. (e ≡ Refused.Malformed) ⊎ (e ≡ Refused.Memory)) }
+    ensures bad { result ≡ Err TextStop.Bad → (s : ModelState) → IsStateLine line.now s → ⊥ }
 {
     let Some(line) = before_line_feed(line) else {
-        return Err(Refused::Malformed);
+        return Err(TextStop::Bad);
     };
     if is_bytes(line, START) {
         return Ok(State::Start);
@@ -175,26 +174,21 @@ fn read_state(alloc: Global, line: &[u8]) -> Result<State, Refused>
         return Ok(State::Ended);
     }
     let Some(path) = after_prefix(AFTER, line) else {
-        return Err(Refused::Malformed);
+        return Err(TextStop::Bad);
     };
     Ok(State::After(read_short_place(alloc, path)?))
 }
 
 /// The place of at most 255 names that has this path.
-fn read_short_place(alloc: Global, path: &[u8]) -> Result<Place, Refused>
+fn read_short_place(alloc: Global, path: &[u8]) -> Result<Place, TextStop>
     ensures place { IfOk result (λ place. path.now ≡ place_text place) }
     ensures names { IfOk result (λ place. IsPlace place × (length place ≤ 255)) }
-    ensures malformed { result ≡ Err Refused.Malformed → (p : ModelPlace)
+    ensures bad { result ≡ Err TextStop.Bad → (p : ModelPlace)
         → IsPlace p → length p ≤ 255 → path.now ≢ place_text p }
-    ensures errors { IfErr result (λ e. (e ≡ Refused.Malformed) ⊎ (e ≡ Refused.Memory)) }
 {
     // So that no memory is asked for that no cursor's place needs.
     if count_slashes(path) >= MAX_NAMES {
-        return Err(Refused::Malformed);
+        return Err(TextStop::Bad);
     }
-    match read_place(alloc, path) {
-        Ok(place) => Ok(place),
-        Err(TextStop::Bad) => Err(Refused::Malformed),
-        Err(TextStop::Memory) => Err(Refused::Memory),
-    }
+    read_place(alloc, path)
 }

@@ -1,10 +1,10 @@
 //! Reading a part's cursor from its text, and why other bytes are refused.
-ghost use Rattle.std.specs.Prelude.{◌≡◌, ◌≢◌, ◌⊎◌, All, List, ℕ, ◌++◌, Option, IfOk, IfErr, IsTrue, ◌↔◌, codes};
-ghost use Rattle.ocfl_tree.specs.{Name.{IsPlace}, Place.{Place as ModelPlace}};
-ghost use Rattle.ocfl_report.specs.Text.{place_text};
+ghost use Rattle.std.specs.Prelude.{◌≡◌, ◌≢◌, true, All, List, ℕ, ◌++◌, Option, IfOk, IfErr, IsTrue, ◌↔◌, codes};
+ghost use Rattle.ocfl_tree.specs.Place.{Place as ModelPlace};
 ghost use Rattle.ocfl_cursor.specs.Cursor.{Cursor as ModelCursor};
 ghost use Rattle.ocfl_cursor.specs.Part.{HasNames, AreEnds, end_text, end_line, ends_lines, IsPartText};
-ghost use Rattle.ocfl_cursor.specs.{PartRefusal.{PartRefusedRightly}, Internal.Part.{IsPartBody}};
+ghost use Rattle.ocfl_cursor.specs.{PartRefusal.{is_part_front, PartRefusedRightly}, Internal.Part.{IsPartBody}};
+ghost use Rattle.ocfl_cursor.specs.Shown.{PartUnshownRightly};
 ghost use Rattle.ocfl_cursor.specs.declared.ends.PartEnds.{PartEnds as ModelEnds};
 
 use crate::cursor::Cursor;
@@ -12,7 +12,7 @@ use crate::decoding::read_lines;
 use crate::ends::{PartEnds, is_same_part};
 use crate::form::{BELOW, DIGEST, END, FROM, NO_WORD, PART_FIRST_LINE, START, Version};
 use crate::pieces::after_prefix;
-use crate::refused::{PartRefused, Refused};
+use crate::refused::PartRefused;
 use crate::seal::sealed_body;
 use ocfl_report::{TextStop, read_place, split_once};
 use ocfl_tree::{Place, is_bytes};
@@ -29,10 +29,7 @@ pub fn decode_part(alloc: Global, text: &[u8], ends: &PartEnds) -> Result<Cursor
     if !text.starts_with(PART_FIRST_LINE) {
         return Err(PartRefused::NotCursor);
     }
-    let Some(body) = sealed_body(DIGEST, text) else {
-        return Err(PartRefused::Damaged);
-    };
-    let (named, cursor) = read_part_body(alloc, body)?;
+    let (named, cursor) = read_part_text(alloc, text)?;
     if is_same_part(&named, ends) {
         Ok(cursor)
     } else {
@@ -40,31 +37,44 @@ pub fn decode_part(alloc: Global, text: &[u8], ends: &PartEnds) -> Result<Cursor
     }
 }
 
+/// The part and its cursor whose text the bytes are, which begin as one.
+pub(crate) fn read_part_text(alloc: Global, text: &[u8]) -> Result<(PartEnds, Cursor), PartRefused>
+    requires front { is_part_front text.now ≡ true }
+    ensures part { IfOk result (λ read. IsPartText read.0 text.now read.1) }
+    ensures refused { IfErr result (λ refused. PartUnshownRightly text.now refused) }
+{
+    let Some(body) = sealed_body(DIGEST, text) else {
+        return Err(PartRefused::Damaged);
+    };
+    match read_part_body(alloc, body) {
+        Ok(read) => Ok(read),
+        Err(TextStop::Bad) => Err(PartRefused::Malformed),
+        Err(TextStop::Memory) => Err(PartRefused::Memory),
+    }
+}
+
 /// The part and its cursor of which this is the text before its digest line.
-pub(crate) fn read_part_body(alloc: Global, body: &[u8]) -> Result<(PartEnds, Cursor), PartRefused>
+fn read_part_body(alloc: Global, body: &[u8]) -> Result<(PartEnds, Cursor), TextStop>
     ensures part { IfOk result (λ read. IsPartBody read.0 body.now read.1) }
-    ensures malformed { result ≡ Err PartRefused.Malformed
+    ensures bad { result ≡ Err TextStop.Bad
         → (e : ModelEnds) (c : ModelCursor) → IsPartBody e body.now c → ⊥ }
-    ensures errors { IfErr result (λ e. (e ≡ PartRefused.Malformed) ⊎ (e ≡ PartRefused.Memory)) }
 {
     let Some(lines) = after_prefix(PART_FIRST_LINE, body) else {
-        return Err(PartRefused::Malformed);
+        return Err(TextStop::Bad);
     };
     let (ends, lines) = read_ends(alloc, lines)?;
     match read_lines(alloc, Version::Two, lines) {
         Ok(cursor) => Ok((ends, cursor)),
-        Err(Refused::Malformed) => Err(PartRefused::Malformed),
-        Err(_) => Err(PartRefused::Memory),
+        Err(why) => Err(why),
     }
 }
 
 /// Reads the lines of both ends. Gives what follows them too.
-pub(crate) fn read_ends(alloc: Global, lines: &[u8]) -> Result<(PartEnds, &[u8]), PartRefused>
+pub(crate) fn read_ends(alloc: Global, lines: &[u8]) -> Result<(PartEnds, &[u8]), TextStop>
     ensures found { IfOk result (λ read. lines.now ≡ ends_lines read.0 ++ read.1.now) }
     ensures names { IfOk result (λ read. AreEnds read.0) }
-    ensures malformed { result ≡ Err PartRefused.Malformed → (e : ModelEnds) (rest : List ℕ)
+    ensures bad { result ≡ Err TextStop.Bad → (e : ModelEnds) (rest : List ℕ)
         → AreEnds e → lines.now ≢ ends_lines e ++ rest }
-    ensures errors { IfErr result (λ e. (e ≡ PartRefused.Malformed) ⊎ (e ≡ PartRefused.Memory)) }
 {
     let (from, rest) = read_end(alloc, FROM, START, lines)?;
     let (below, rest) = read_end(alloc, BELOW, END, rest)?;
@@ -77,40 +87,38 @@ fn read_end<'a>(
     front: &[u8],
     word: &[u8],
     text: &'a [u8],
-) -> Result<(Option<Place>, &'a [u8]), PartRefused>
+) -> Result<(Option<Place>, &'a [u8]), TextStop>
     requires one_line { All (λ b. b ≢ 10) word.now }
     ensures found { IfOk result
         (λ read. text.now ≡ end_line front.now word.now read.0 ++ read.1.now) }
     ensures names { IfOk result (λ read. HasNames read.0) }
-    ensures malformed { result ≡ Err PartRefused.Malformed
+    ensures bad { result ≡ Err TextStop.Bad
         → (end : Option ModelPlace) (rest : List ℕ) → HasNames end
         → text.now ≢ end_line front.now word.now end ++ rest }
-    ensures errors { IfErr result (λ e. (e ≡ PartRefused.Malformed) ⊎ (e ≡ PartRefused.Memory)) }
 {
     let Some(line) = after_prefix(front, text) else {
-        return Err(PartRefused::Malformed);
+        return Err(TextStop::Bad);
     };
     let Some((end, rest)) = split_once(line, b'\n') else {
-        return Err(PartRefused::Malformed);
+        return Err(TextStop::Bad);
     };
     Ok((read_end_text(alloc, word, end)?, rest))
 }
 
 /// The end that has this text.
-fn read_end_text(alloc: Global, word: &[u8], text: &[u8]) -> Result<Option<Place>, PartRefused>
+fn read_end_text(alloc: Global, word: &[u8], text: &[u8]) -> Result<Option<Place>, TextStop>
     ensures end { IfOk result (λ end. text.now ≡ end_text word.now end) }
     ensures names { IfOk result HasNames }
-    ensures malformed { result ≡ Err PartRefused.Malformed → (end : Option ModelPlace)
+    ensures bad { result ≡ Err TextStop.Bad → (end : Option ModelPlace)
         → HasNames end → text.now ≢ end_text word.now end }
-    ensures errors { IfErr result (λ e. (e ≡ PartRefused.Malformed) ⊎ (e ≡ PartRefused.Memory)) }
 {
     if is_bytes(text, word) {
         return Ok(None);
     }
     if is_place_of_word(word, text) {
-        return Ok(Some(read_end_place(alloc, word)?));
+        return Ok(Some(read_place(alloc, word)?));
     }
-    Ok(Some(read_end_place(alloc, text)?))
+    Ok(Some(read_place(alloc, text)?))
 }
 
 /// Whether the text is the word with `./` before it.
@@ -120,20 +128,5 @@ fn is_place_of_word(word: &[u8], text: &[u8]) -> bool
     match after_prefix(NO_WORD, text) {
         Some(path) => is_bytes(path, word),
         None => false,
-    }
-}
-
-/// The place that has this path.
-fn read_end_place(alloc: Global, path: &[u8]) -> Result<Place, PartRefused>
-    ensures place { IfOk result (λ place. path.now ≡ place_text place) }
-    ensures names { IfOk result IsPlace }
-    ensures malformed { result ≡ Err PartRefused.Malformed
-        → (place : ModelPlace) → IsPlace place → path.now ≢ place_text place }
-    ensures errors { IfErr result (λ e. (e ≡ PartRefused.Malformed) ⊎ (e ≡ PartRefused.Memory)) }
-{
-    match read_place(alloc, path) {
-        Ok(place) => Ok(place),
-        Err(TextStop::Bad) => Err(PartRefused::Malformed),
-        Err(TextStop::Memory) => Err(PartRefused::Memory),
     }
 }

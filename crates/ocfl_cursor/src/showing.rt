@@ -6,12 +6,11 @@ ghost use Rattle.ocfl_cursor.specs.{Internal.Part.{ArePartTextLines}, Stop.{max_
 
 use crate::decoding::decode;
 use crate::encoding::cursor_lines;
-use crate::form::{DIGEST, MAX_PART_TEXT, PART_FIRST_LINE};
-use crate::part_decoding::read_part_body;
+use crate::form::{MAX_PART_TEXT, PART_FIRST_LINE};
+use crate::part_decoding::read_part_text;
 use crate::part_encoding::part_lines;
 use crate::reading::{CursorStop, read_limited};
 use crate::refused::{PartRefused, Refused};
-use crate::seal::sealed_body;
 use std::alloc::Global;
 use std::io::Read;
 
@@ -82,10 +81,7 @@ fn lines_of_part(alloc: Global, text: &[u8]) -> Result<Vec<u8>, PartRefused>
     ensures lines { IfOk result (λ lines. ArePartTextLines text.now lines.items) }
     ensures refused { IfErr result (λ refused. PartUnshownRightly text.now refused) }
 {
-    let Some(body) = sealed_body(DIGEST, text) else {
-        return Err(PartRefused::Damaged);
-    };
-    let (ends, cursor) = read_part_body(alloc, body)?;
+    let (ends, cursor) = read_part_text(alloc, text)?;
     match part_lines(alloc, &ends, &cursor) {
         Ok(lines) => Ok(lines),
         Err(_) => Err(PartRefused::Memory),

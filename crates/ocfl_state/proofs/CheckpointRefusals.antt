@@ -1,12 +1,12 @@
 -- Why bytes are the text of no checkpoint: what each test tells.
-use Rattle.std.proofs.Common.{◌≡◌, ◌⊎◌, inl, inr, Result, Ok, Err, IfErr, Bool, true, drop, codes, refl, sym, ap, subst, ◌∙◌}
+use Rattle.std.proofs.Common.{◌≡◌, Bool, true, drop, codes, refl, sym, ap, ◌∙◌}
 use Rattle.std.proofs.lemmas.Bool.{false≢true}
 use Rattle.ocfl_tree.specs.Place.{Text, text_eq}
 use Rattle.ocfl_cursor.specs.Sealed.{first_line, with_seal}
 use Rattle.ocfl_cursor.proofs.Seals.{is_sealed-sealed}
 use Rattle.ocfl_state.specs.Checkpoint.{Checkpoint, checkpoint_body, IsCheckpointText}
 use Rattle.ocfl_state.specs.CheckpointLines.{IsBodyOf}
-use Rattle.ocfl_state.specs.CheckpointRefusal.{is_checkpoint_front, is_version_read, is_sealed, HasVersion, RefusedRightly}
+use Rattle.ocfl_state.specs.CheckpointRefusal.{is_checkpoint_front, is_version_read, HasVersion, IsSealedCheckpoint, IsMalformed, RefusedRightly}
 use Rattle.ocfl_state.specs.declared.checkpoint_refused.NotDecoded.{NotDecoded}
 use Rattle.ocfl_state.specs.declared.checkpoint_refused.NotDecoded.TheVariants.{NotCheckpoint, Version, Damaged, Malformed, Memory}
 use Rattle.ocfl_state.proofs.CheckpointTexts.{IsBodyOf-sealed}
@@ -15,19 +15,15 @@ use Rattle.ocfl_state.proofs.CheckpointTexts.{IsBodyOf-sealed}
 pub version_from_rest : (b rest : Text) (r known : Bool) → rest ≡ drop 22 b → r ≡ text_eq (first_line rest) (codes "1") → r ≡ known → is_version_read b ≡ known
 version_from_rest b rest r known e f g = ap (λ t. text_eq (first_line t) (codes "1")) (sym e) ∙ sym f ∙ g
 
--- what the last test refuses, memory aside
-refused_rightly : (b body : Text) (e : NotDecoded) → HasVersion b → b ≡ with_seal (codes "sha256 ") body → (e ≡ Malformed) ⊎ (e ≡ Memory)
-    → (e ≡ Malformed → (c : Checkpoint) → IsBodyOf body c → ⊥) → RefusedRightly b e
-refused_rightly b body e begins is (inl m) none =
-    subst (RefusedRightly b) (sym m)
-    (record { sealed = record { begins = begins; seal = is_sealed-sealed (codes "sha256 ") refl b body is }; no_checkpoint = λ c h. none m c (IsBodyOf-sealed b body c is h) })
-refused_rightly b body e begins is (inr m) none = subst (RefusedRightly b) (sym m) (record { begins = begins; seal = is_sealed-sealed (codes "sha256 ") refl b body is })
+pub HasVersion-read : (b rest : Text) (r : Bool) → true ≡ is_checkpoint_front b → rest ≡ drop 22 b → r ≡ text_eq (first_line rest) (codes "1") → r ≡ true → HasVersion b
+HasVersion-read b rest r front e f g = record { front = sym front; version = version_from_rest b rest r true e f g }
 
--- the same of a result
-pub refused_after_seal : {A : Type 0} (b body : Text) (r : Result A NotDecoded) → HasVersion b → b ≡ with_seal (codes "sha256 ") body → IfErr r (λ e. (e ≡ Malformed) ⊎ (e ≡ Memory))
-    → (r ≡ Err Malformed → (c : Checkpoint) → IsBodyOf body c → ⊥) → IfErr r (λ e. RefusedRightly b e)
-refused_after_seal b body (Ok x) begins is errors none = tt
-refused_after_seal b body (Err e) begins is errors none = refused_rightly b body e begins is errors (λ m. none (ap Err m))
+-- what the last line seals is sealed
+pub sealed_checkpoint : (b body : Text) → HasVersion b → b ≡ with_seal (codes "sha256 ") body → IsSealedCheckpoint b
+sealed_checkpoint b body begins is = record { begins = begins; seal = is_sealed-sealed (codes "sha256 ") refl b body is }
+
+pub refused_malformed : (b body : Text) → HasVersion b → b ≡ with_seal (codes "sha256 ") body → ((c : Checkpoint) → IsBodyOf body c → ⊥) → IsMalformed b
+refused_malformed b body begins is none = record { sealed = sealed_checkpoint b body begins is; no_checkpoint = λ c h. none c (IsBodyOf-sealed b body c is h) }
 
 -- ---- a checkpoint's text is refused for want of memory alone
 

@@ -1,9 +1,7 @@
 //! Reading a checkpoint from its text, and why other bytes are refused.
-ghost use Rattle.std.specs.Prelude.{◌≡◌, ◌⊎◌, Option, Err, IfOk, IfErr, IfSome, is_some, drop, codes};
+ghost use Rattle.std.specs.Prelude.{◌≡◌, Err, IfOk, IfErr, IfSome, is_some, drop, codes};
 ghost use Rattle.ocfl_tree.specs.Place.{text_eq};
-ghost use Rattle.ocfl_cursor.specs.{Cursor.{Cursor as ModelCursor}, Lines.{AreStoredLines}};
 ghost use Rattle.ocfl_cursor.specs.Sealed.{first_line as first_line_of};
-ghost use Rattle.ocfl_cursor.specs.declared.ends.PartEnds.{PartEnds as ModelEnds};
 ghost use Rattle.ocfl_state.specs.Checkpoint.{Checkpoint as ModelCheckpoint, IsCheckpointText};
 ghost use Rattle.ocfl_state.specs.CheckpointLines.{ArePartsOf, IsBodyOf, IsStanding, IsAccount};
 ghost use Rattle.ocfl_state.specs.CheckpointRefusal.{RefusedRightly, is_checkpoint_front};
@@ -15,7 +13,8 @@ use crate::checkpoint_form::{FRONT, SHA256, VERSION};
 use crate::checkpoint_left::read_all_left;
 use crate::checkpoint_parts::RootIdentity;
 use crate::checkpoint_refused::NotDecoded;
-use ocfl_cursor::{Cursor, PartEnds, Refused, first_line, read_stored_lines, sealed_body};
+use ocfl_cursor::{first_line, read_stored_lines, sealed_body};
+use ocfl_report::TextStop;
 use ocfl_tree::is_bytes;
 use std::alloc::Global;
 
@@ -33,9 +32,13 @@ pub fn decode_checkpoint(alloc: Global, text: &[u8]) -> Result<Checkpoint, NotDe
     if !has_version(rest) {
         return Err(NotDecoded::Version);
     }
-    match sealed_body(SHA256, text) {
-        Some(body) => read_body(alloc, body),
-        None => Err(NotDecoded::Damaged),
+    let Some(body) = sealed_body(SHA256, text) else {
+        return Err(NotDecoded::Damaged);
+    };
+    match read_body(alloc, body) {
+        Ok(checkpoint) => Ok(checkpoint),
+        Err(TextStop::Bad) => Err(NotDecoded::Malformed),
+        Err(TextStop::Memory) => Err(NotDecoded::Memory),
     }
 }
 
@@ -59,32 +62,29 @@ fn has_version(text: &[u8]) -> bool
 }
 
 /// The checkpoint of which this is the text before its last line.
-pub(crate) fn read_body(alloc: Global, body: &[u8]) -> Result<Checkpoint, NotDecoded>
+pub(crate) fn read_body(alloc: Global, body: &[u8]) -> Result<Checkpoint, TextStop>
     ensures checkpoint { IfOk result (λ checkpoint. IsBodyOf body.now checkpoint) }
-    ensures malformed { result ≡ Err NotDecoded.Malformed
-        → (c : ModelCheckpoint) → IsBodyOf body.now c → ⊥ }
-    ensures errors { IfErr result (λ e. (e ≡ NotDecoded.Malformed) ⊎ (e ≡ NotDecoded.Memory)) }
+    ensures bad { result ≡ Err TextStop.Bad → (c : ModelCheckpoint) → IsBodyOf body.now c → ⊥ }
 {
     match split_body(body) {
         Some(parts) => read_parts(alloc, parts),
-        None => Err(NotDecoded::Malformed),
+        None => Err(TextStop::Bad),
     }
 }
 
 /// The checkpoint with these parts.
-fn read_parts(alloc: Global, parts: Parts<'_>) -> Result<Checkpoint, NotDecoded>
+fn read_parts(alloc: Global, parts: Parts<'_>) -> Result<Checkpoint, TextStop>
     requires standing { IsStanding parts.standing }
     requires account { IsAccount parts.account }
     ensures checkpoint { IfOk result (λ checkpoint. ArePartsOf parts.entry.path.now
         parts.entry.standing parts.entry.account parts.entry.rest.now checkpoint) }
-    ensures malformed { result ≡ Err NotDecoded.Malformed → (c : ModelCheckpoint)
+    ensures bad { result ≡ Err TextStop.Bad → (c : ModelCheckpoint)
         → ArePartsOf parts.entry.path.now parts.entry.standing parts.entry.account
         parts.entry.rest.now c → ⊥ }
-    ensures errors { IfErr result (λ e. (e ≡ NotDecoded.Malformed) ⊎ (e ≡ NotDecoded.Memory)) }
 {
     let account = parts.account;
     if account.told > account.report.bytes {
-        return Err(NotDecoded::Malformed);
+        return Err(TextStop::Bad);
     }
     let path = match read_path(alloc, parts.path) {
         Ok(path) => path,
@@ -94,7 +94,7 @@ fn read_parts(alloc: Global, parts: Parts<'_>) -> Result<Checkpoint, NotDecoded>
         Ok(read) => read,
         Err(why) => return Err(why),
     };
-    let (part, cursor) = match read_cursor_lines(alloc, lines) {
+    let (part, cursor) = match read_stored_lines(alloc, lines) {
         Ok(read) => read,
         Err(why) => return Err(why),
     };
@@ -111,18 +111,4 @@ fn read_parts(alloc: Global, parts: Parts<'_>) -> Result<Checkpoint, NotDecoded>
         part,
         cursor,
     })
-}
-
-/// The part, if there is one, and the cursor of these lines.
-fn read_cursor_lines(alloc: Global, lines: &[u8]) -> Result<(Option<PartEnds>, Cursor), NotDecoded>
-    ensures lines { IfOk result (λ read. AreStoredLines read.0 lines.now read.1) }
-    ensures malformed { result ≡ Err NotDecoded.Malformed
-        → (part : Option ModelEnds) (c : ModelCursor) → AreStoredLines part lines.now c → ⊥ }
-    ensures errors { IfErr result (λ e. (e ≡ NotDecoded.Malformed) ⊎ (e ≡ NotDecoded.Memory)) }
-{
-    match read_stored_lines(alloc, lines) {
-        Ok(read) => Ok(read),
-        Err(Refused::Malformed) => Err(NotDecoded::Malformed),
-        Err(_) => Err(NotDecoded::Memory),
-    }
 }

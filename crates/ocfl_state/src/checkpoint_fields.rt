@@ -1,8 +1,7 @@
 //! Reading the fields of a checkpoint's lines.
-ghost use Rattle.std.specs.Prelude.{◌≡◌, ◌≢◌, ◌⊎◌, ◌^◌, ◌<◌, ℕ, All, List, IfOk, IfErr, IfSome, IsNone, Bool, Err, Option, decimal, if◌then◌else◌};
+ghost use Rattle.std.specs.Prelude.{◌≡◌, ◌≢◌, ◌^◌, ◌<◌, ℕ, All, List, IfOk, IfSome, IsNone, Bool, Err, Option, decimal, if◌then◌else◌};
 ghost use Rattle.hex.specs.Hex.{encode_lower, IsBytes};
 ghost use Rattle.ocfl_tree.specs.{Name.{IsPlace}, Place.{Place as ModelPlace}};
-ghost use Rattle.ocfl_report.specs.Text.{place_text};
 ghost use Rattle.ocfl_state.specs.Checkpoint.{IsDigest, AreNames, path_text, names_text, phase_text, yes_or_no, stood_text};
 ghost use Rattle.ocfl_state.specs.CheckpointLines.{field_line, sizes_text};
 ghost use Rattle.ocfl_state.specs.declared.checkpoint_parts.TopNames.{TopNames as ModelNames};
@@ -10,7 +9,6 @@ ghost use Rattle.ocfl_state.specs.declared.checkpoint_parts.Phase.{Phase as Mode
 
 use crate::checkpoint_form::{AFTER, CLOSING, NO, OPEN, SLASH, START, YES};
 use crate::checkpoint_parts::{Phase, TopNames};
-use crate::checkpoint_refused::NotDecoded;
 use hex::FromHex;
 use ocfl_cursor::after_prefix;
 use ocfl_report::{TextStop, read_decimal, read_place, split_once};
@@ -142,60 +140,43 @@ pub(crate) fn read_whole(word: &[u8]) -> Option<bool>
     is_first(word, YES, NO)
 }
 
-/// The place that has this text.
-pub(crate) fn read_spot(alloc: Global, text: &[u8]) -> Result<Place, NotDecoded>
-    ensures place { IfOk result (λ place. text.now ≡ place_text place) }
-    ensures names { IfOk result IsPlace }
-    ensures malformed { result ≡ Err NotDecoded.Malformed
-        → (place : ModelPlace) → IsPlace place → text.now ≢ place_text place }
-    ensures errors { IfErr result (λ e. (e ≡ NotDecoded.Malformed) ⊎ (e ≡ NotDecoded.Memory)) }
-{
-    match read_place(alloc, text) {
-        Ok(place) => Ok(place),
-        Err(TextStop::Bad) => Err(NotDecoded::Malformed),
-        Err(TextStop::Memory) => Err(NotDecoded::Memory),
-    }
-}
-
 /// The names of a path from `/` on.
-pub(crate) fn read_path(alloc: Global, path: &[u8]) -> Result<Place, NotDecoded>
+pub(crate) fn read_path(alloc: Global, path: &[u8]) -> Result<Place, TextStop>
     ensures place { IfOk result (λ place. path.now ≡ path_text place) }
     ensures names { IfOk result IsPlace }
-    ensures malformed { result ≡ Err NotDecoded.Malformed
+    ensures bad { result ≡ Err TextStop.Bad
         → (place : ModelPlace) → IsPlace place → path.now ≢ path_text place }
-    ensures errors { IfErr result (λ e. (e ≡ NotDecoded.Malformed) ⊎ (e ≡ NotDecoded.Memory)) }
 {
     if is_bytes(path, SLASH) {
         return Ok(Place::root(alloc));
     }
     let Some(names) = after_prefix(SLASH, path) else {
-        return Err(NotDecoded::Malformed);
+        return Err(TextStop::Bad);
     };
-    let place = match read_spot(alloc, names) {
+    let place = match read_place(alloc, names) {
         Ok(place) => place,
         Err(why) => return Err(why),
     };
     if place.depth() == 0 {
-        return Err(NotDecoded::Malformed);
+        return Err(TextStop::Bad);
     }
     Ok(place)
 }
 
 /// Where the cursor was: `start`, or `after ` and a place.
-pub(crate) fn read_stood(alloc: Global, line: &[u8]) -> Result<Option<Place>, NotDecoded>
+pub(crate) fn read_stood(alloc: Global, line: &[u8]) -> Result<Option<Place>, TextStop>
     ensures place { IfOk result (λ stood. line.now ≡ stood_text stood) }
     ensures names { IfOk result (λ stood. IfSome stood IsPlace) }
-    ensures malformed { result ≡ Err NotDecoded.Malformed
+    ensures bad { result ≡ Err TextStop.Bad
         → (stood : Option ModelPlace) → IfSome stood IsPlace → line.now ≢ stood_text stood }
-    ensures errors { IfErr result (λ e. (e ≡ NotDecoded.Malformed) ⊎ (e ≡ NotDecoded.Memory)) }
 {
     if is_bytes(line, START) {
         return Ok(None);
     }
     let Some(path) = after_prefix(AFTER, line) else {
-        return Err(NotDecoded::Malformed);
+        return Err(TextStop::Bad);
     };
-    match read_spot(alloc, path) {
+    match read_place(alloc, path) {
         Ok(place) => Ok(Some(place)),
         Err(why) => Err(why),
     }

@@ -1,13 +1,13 @@
 //! Reading the lines of the branches that were left out of a checkpoint's cycle.
-ghost use Rattle.std.specs.Prelude.{◌≡◌, ◌≢◌, ◌⊎◌, ℕ, List, ◌++◌, All, Err, IfOk, IfErr, length, flat_map, IfSome, IsNone, OnOk, ◌∷◌, []};
+ghost use Rattle.std.specs.Prelude.{◌≡◌, ◌≢◌, ℕ, List, ◌++◌, All, Err, IfOk, IfErr, length, flat_map, IfSome, IsNone, OnOk, ◌∷◌, []};
 ghost use Rattle.ocfl_state.specs.Checkpoint.{IsLeft, left_text};
 ghost use Rattle.ocfl_state.specs.CheckpointLines.{left_fields, OneLine};
 ghost use Rattle.ocfl_state.specs.declared.checkpoint_parts.Left.{Left as ModelLeft};
 
-use crate::checkpoint_fields::{read_spot, read_stood, split_line};
+use crate::checkpoint_fields::{read_stood, split_line};
 use crate::checkpoint_form::LEFT;
 use crate::checkpoint_parts::Left;
-use crate::checkpoint_refused::NotDecoded;
+use ocfl_report::{TextStop, read_place};
 use std::alloc::Global;
 
 /// Reads the lines of `count` branches. Gives what follows them too.
@@ -15,14 +15,13 @@ pub(crate) fn read_all_left(
     alloc: Global,
     count: u64,
     text: &[u8],
-) -> Result<(Vec<Left>, &[u8]), NotDecoded>
+) -> Result<(Vec<Left>, &[u8]), TextStop>
     ensures found { IfOk result
         (λ read. text.now ≡ flat_map left_text read.0.items ++ read.1.now) }
     ensures count { IfOk result (λ read. length read.0.items ≡ count) }
     ensures names { IfOk result (λ read. All IsLeft read.0.items) }
-    ensures malformed { result ≡ Err NotDecoded.Malformed → (ls : List ModelLeft) (rest : List ℕ)
+    ensures bad { result ≡ Err TextStop.Bad → (ls : List ModelLeft) (rest : List ℕ)
         → All IsLeft ls → length ls ≡ count → text.now ≢ flat_map left_text ls ++ rest }
-    ensures errors { IfErr result (λ e. (e ≡ NotDecoded.Malformed) ⊎ (e ≡ NotDecoded.Memory)) }
 {
     let mut left = Vec::new(alloc);
     let mut rest = text;
@@ -40,28 +39,27 @@ pub(crate) fn read_all_left(
 }
 
 /// Appends a branch. The only refusal is `Memory`.
-fn push_left(one: Left, left: &mut Vec<Left>) -> Result<(), NotDecoded>
+fn push_left(one: Left, left: &mut Vec<Left>) -> Result<(), TextStop>
     ensures ok { OnOk result (left.new.items ≡ left.old.items ++ one ∷ []) }
-    ensures err { IfErr result (λ e. e ≡ NotDecoded.Memory) }
+    ensures err { IfErr result (λ e. e ≡ TextStop.Memory) }
 {
     match left.push(one) {
         Ok(()) => Ok(()),
-        Err(_) => Err(NotDecoded::Memory),
+        Err(_) => Err(TextStop::Memory),
     }
 }
 
 /// Reads the lines of a branch. Gives what follows them too.
-fn read_left(alloc: Global, text: &[u8]) -> Result<(Left, &[u8]), NotDecoded>
+fn read_left(alloc: Global, text: &[u8]) -> Result<(Left, &[u8]), TextStop>
     ensures found { IfOk result (λ read. text.now ≡ left_text read.0 ++ read.1.now) }
     ensures names { IfOk result (λ read. IsLeft read.0) }
-    ensures malformed { result ≡ Err NotDecoded.Malformed → (l : ModelLeft) (rest : List ℕ)
+    ensures bad { result ≡ Err TextStop.Bad → (l : ModelLeft) (rest : List ℕ)
         → IsLeft l → text.now ≢ left_text l ++ rest }
-    ensures errors { IfErr result (λ e. (e ≡ NotDecoded.Malformed) ⊎ (e ≡ NotDecoded.Memory)) }
 {
     let Some((path, stood, rest)) = split_left(text) else {
-        return Err(NotDecoded::Malformed);
+        return Err(TextStop::Bad);
     };
-    let place = match read_spot(alloc, path) {
+    let place = match read_place(alloc, path) {
         Ok(place) => place,
         Err(why) => return Err(why),
     };

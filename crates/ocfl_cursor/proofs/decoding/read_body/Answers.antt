@@ -6,9 +6,9 @@ pub returns-in-Some-clause-cursor : goal.returns-in-Some-clause-cursor
 returns-in-Some-clause-cursor c =
     IfOk-weaker c.read_lines.result _ _ (λ d h. body_from_lines c.in-Some.version c.args.body.now c.in-Some.lines.now d c.in-Some.ensures.found h) c.read_lines.ensures.cursor
 
-pub returns-in-Some-clause-malformed : goal.returns-in-Some-clause-malformed
-returns-in-Some-clause-malformed c = λ e d h.
-    c.read_lines.ensures.malformed e d (lines_from_body c.in-Some.version c.args.body.now c.in-Some.lines.now d c.in-Some.ensures.found h)
+pub returns-in-Some-clause-bad : goal.returns-in-Some-clause-bad
+returns-in-Some-clause-bad c = λ e d h.
+    c.read_lines.ensures.bad e d (lines_from_body c.in-Some.version c.args.body.now c.in-Some.lines.now d c.in-Some.ensures.found h)
 
-pub returns-in-None-clause-malformed : goal.returns-in-None-clause-malformed
-returns-in-None-clause-malformed c = λ _. no_body c.args.body.now (c.in-None.ensures.missing refl)
+pub returns-in-None-clause-bad : goal.returns-in-None-clause-bad
+returns-in-None-clause-bad c = λ _. no_body c.args.body.now (c.in-None.ensures.missing refl)

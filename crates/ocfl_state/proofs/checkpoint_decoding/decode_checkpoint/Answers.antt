@@ -1,25 +1,27 @@
-use Rattle.std.proofs.{Common.{sym}, lemmas.Result.{IfOk-weaker}}
-use Rattle.ocfl_state.specs.CheckpointRefusal.{HasVersion}
+use Rattle.std.proofs.Common.{sym}
 use Rattle.ocfl_state.proofs.CheckpointTexts.{IsCheckpointText-sealed}
-use Rattle.ocfl_state.proofs.CheckpointRefusals.{version_from_rest, refused_after_seal}
+use Rattle.ocfl_state.proofs.CheckpointRefusals.{version_from_rest, HasVersion-read, sealed_checkpoint, refused_malformed}
 use Rattle.ocfl_state.proofs.checkpoint_decoding.decode_checkpoint.Goals as goal
 
 pub returns-then-not-has_version-clause-refused : goal.returns-then-not-has_version-clause-refused
 returns-then-not-has_version-clause-refused c =
     (sym c.in-Some.ensures.found, version_from_rest c.args.text.now c.in-Some.rest.now _ _ c.in-Some.ensures.rest c.has_version.ensures c.if-not-has_version.true)
 
-pub returns-in-None-clause-refused : goal.returns-in-None-clause-refused
-returns-in-None-clause-refused c =
-    let known = version_from_rest c.args.text.now c.in-Some.rest.now _ _ c.in-Some.ensures.rest c.has_version.ensures c.if-not-has_version.false in
-    let begins : HasVersion c.args.text.now = record { front = sym c.in-Some.ensures.found; version = known } in
-    (begins, sym c.in-None.ensures.sealed)
+pub returns-in_default-sealed_body-clause-refused : goal.returns-in_default-sealed_body-clause-refused
+returns-in_default-sealed_body-clause-refused c =
+    let begins = HasVersion-read c.args.text.now c.in-Some.rest.now _ c.in-Some.ensures.found c.in-Some.ensures.rest c.has_version.ensures c.if-not-has_version.false in
+    (begins, sym c.in_default-sealed_body.ensures.sealed)
 
-pub returns-in-Some-sealed_body-clause-checkpoint : goal.returns-in-Some-sealed_body-clause-checkpoint
-returns-in-Some-sealed_body-clause-checkpoint c =
-    IfOk-weaker c.read_body.result _ _ (λ d h. IsCheckpointText-sealed c.args.text.now c.in-Some-sealed_body.body.now d c.in-Some-sealed_body.ensures.found h) c.read_body.ensures.checkpoint
+pub returns-in-Ok-clause-checkpoint : goal.returns-in-Ok-clause-checkpoint
+returns-in-Ok-clause-checkpoint c =
+    IsCheckpointText-sealed c.args.text.now c.in-Some-sealed_body.body.now c.in-Ok.checkpoint c.in-Some-sealed_body.ensures.found c.in-Ok.ensures.checkpoint
 
-pub returns-in-Some-sealed_body-clause-refused : goal.returns-in-Some-sealed_body-clause-refused
-returns-in-Some-sealed_body-clause-refused c =
-    let known = version_from_rest c.args.text.now c.in-Some.rest.now _ _ c.in-Some.ensures.rest c.has_version.ensures c.if-not-has_version.false in
-    let begins : HasVersion c.args.text.now = record { front = sym c.in-Some.ensures.found; version = known } in
-    refused_after_seal c.args.text.now c.in-Some-sealed_body.body.now c.read_body.result begins c.in-Some-sealed_body.ensures.found c.read_body.ensures.errors c.read_body.ensures.malformed
+pub returns-in-Err-Bad-clause-refused : goal.returns-in-Err-Bad-clause-refused
+returns-in-Err-Bad-clause-refused c =
+    let begins = HasVersion-read c.args.text.now c.in-Some.rest.now _ c.in-Some.ensures.found c.in-Some.ensures.rest c.has_version.ensures c.if-not-has_version.false in
+    refused_malformed c.args.text.now c.in-Some-sealed_body.body.now begins c.in-Some-sealed_body.ensures.found (c.in-Err-Bad.ensures.bad (cc c.in-Err-Bad.field-0-is))
+
+pub returns-in-Err-Memory-clause-refused : goal.returns-in-Err-Memory-clause-refused
+returns-in-Err-Memory-clause-refused c =
+    let begins = HasVersion-read c.args.text.now c.in-Some.rest.now _ c.in-Some.ensures.found c.in-Some.ensures.rest c.has_version.ensures c.if-not-has_version.false in
+    sealed_checkpoint c.args.text.now c.in-Some-sealed_body.body.now begins c.in-Some-sealed_body.ensures.found

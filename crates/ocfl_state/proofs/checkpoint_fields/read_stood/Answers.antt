@@ -7,12 +7,12 @@ use Rattle.ocfl_state.proofs.checkpoint_fields.read_stood.Goals as goal
 pub returns-then-is_bytes-clause-place : goal.returns-then-is_bytes-clause-place
 returns-then-is_bytes-clause-place c = text_eq-same _ _ (sym c.is_bytes.ensures ∙ c.if-is_bytes.true)
 
-pub returns-in_default-clause-malformed : goal.returns-in_default-clause-malformed
-returns-in_default-clause-malformed c = λ _ s h f.
+pub returns-in_default-clause-bad : goal.returns-in_default-clause-bad
+returns-in_default-clause-bad c = λ _ s h f.
     let stood = stood_path c.args.line.now s (sym c.is_bytes.ensures ∙ c.if-is_bytes.false) h f in
     c.in_default.ensures.missing refl (place_text stood.place) stood.is
 
-pub returns-in-Err-clause-malformed : goal.returns-in-Err-clause-malformed
-returns-in-Err-clause-malformed c = λ e s h f.
+pub returns-in-Err-clause-bad : goal.returns-in-Err-clause-bad
+returns-in-Err-clause-bad c = λ e s h f.
     let stood = stood_path c.args.line.now s (sym c.is_bytes.ensures ∙ c.if-is_bytes.false) h f in
-    c.in-Err.ensures.malformed (cc e) stood.place stood.names (append_cancel_left (codes "after ") _ _ (sym c.in-Some.ensures.found ∙ stood.is))
+    c.in-Err.ensures.bad (cc e) stood.place stood.names (append_cancel_left (codes "after ") _ _ (sym c.in-Some.ensures.found ∙ stood.is))

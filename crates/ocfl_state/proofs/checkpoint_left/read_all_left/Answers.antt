@@ -4,10 +4,10 @@ use Rattle.ocfl_state.specs.{Checkpoint.{IsLeft, left_text}, declared.checkpoint
 use Rattle.ocfl_state.proofs.CheckpointTexts.{lefts_next, lefts_more}
 use Rattle.ocfl_state.proofs.checkpoint_left.read_all_left.Goals as goal
 
-pub returns-in-Err-clause-malformed : goal.returns-in-Err-clause-malformed
-returns-in-Err-clause-malformed c = λ e ls rest h count f.
+pub returns-in-Err-clause-bad : goal.returns-in-Err-clause-bad
+returns-in-Err-clause-bad c = λ e ls rest h count f.
     let next = lefts_next c.branches.left.items ls c.branches.rest.now rest c.branches.invariant.names h (omega (arith, count)) (sym c.branches.invariant.read ∙ f) in
-    c.in-Err.ensures.malformed (cc e) next.left next.rest next.names next.is
+    c.in-Err.ensures.bad (cc e) next.left next.rest next.names next.is
 
 pub branches-preserved : goal.branches-preserved
 branches-preserved c =

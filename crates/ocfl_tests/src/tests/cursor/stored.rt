@@ -9,6 +9,7 @@ use ocfl_cursor::{
     no_stored_part_is_refused, part_lines, read_part_cursor, read_shown, read_stored_lines,
     stored_lines, text_determines_what_is_shown,
 };
+use ocfl_report::TextStop;
 use std::test::Fail;
 
 /// The text of a cursor of the part from `o/v1/content/b` on, before its digest line.
@@ -203,7 +204,7 @@ fn lines_of_cursors_are_read_by_themselves(rt: HostRuntime) -> Result<(), Fail> 
         ),
     ] {
         let refused = read_stored_lines(alloc, lines.as_bytes()).err();
-        assert_eq!(rt; refused, Some(Refused::Malformed), "{row}");
+        assert_eq!(rt; refused, Some(TextStop::Bad), "{row}");
     }
     Ok(())
 }

@@ -37,6 +37,16 @@ all_read b read is few =
 more_than_read : (b read : Text) → read ≡ take part_limit b → max_part_text < length read → max_part_text < length b
 more_than_read b read is many = omega (arith, length-take part_limit b, ap length is)
 
+-- so what is so of the bytes that are read is so of all
+pub of_all : (P : Text → Type 0) (known : Option Text) (read : Text) → IsReadTo part_limit known read → length read ≤ max_part_text → P read → IfSome known P
+of_all P None read is few h = tt
+of_all P (Some b) read is few h = subst P (all_read b read is few) h
+
+-- or what is so of too many bytes
+pub of_more : (P : Text → Type 0) (known : Option Text) (read : Text) → IsReadTo part_limit known read → max_part_text < length read → ((b : Text) → max_part_text < length b → P b) → IfSome known P
+of_more P None read is many h = tt
+of_more P (Some b) read is many h = h b (more_than_read b read is many)
+
 too_many : (b : Text) → max_part_text < length b → is_read_as_part b ≡ false
 too_many b many = and_right (is_part_front b) (nat_le (length b) max_part_text) (lt-leb (length b) max_part_text many)
 
@@ -55,51 +65,27 @@ stops_as_refused e b Memory few h = tt
 
 module _ (known : Option Text) (read : Text) where
   pub part_text_read : (e : PartEnds) (c : Cursor) → IsReadTo part_limit known read → length read ≤ max_part_text → IsPartText e read c → IfSome known (λ b. IsPartText e b c)
-  part_text_read e c is few h = by known is
-    where
-      by : (k : Option Text) → IsReadTo part_limit k read → IfSome k (λ b. IsPartText e b c)
-      by None g = tt
-      by (Some b) g = subst (λ t. IsPartText e t c) (all_read b read g few) h
+  part_text_read e c is few h = of_all (λ b. IsPartText e b c) known read is few h
 
   pub part_stops_read : (e : PartEnds) (r : PartRefused) → IsReadTo part_limit known read → length read ≤ max_part_text → PartRefusedRightly e read r
       → IfSome known (λ b. PartStopsRightly e b (part.Refused r))
-  part_stops_read e r is few h = by known is
-    where
-      by : (k : Option Text) → IsReadTo part_limit k read → IfSome k (λ b. PartStopsRightly e b (part.Refused r))
-      by None g = tt
-      by (Some b) g = subst (λ t. PartStopsRightly e t (part.Refused r)) (all_read b read g few) (stops_as_refused e read r few h)
+  part_stops_read e r is few h = of_all (λ b. PartStopsRightly e b (part.Refused r)) known read is few (stops_as_refused e read r few h)
 
   pub part_stops_too_many : (e : PartEnds) → IsReadTo part_limit known read → max_part_text < length read → IfSome known (λ b. PartStopsRightly e b (part.Refused NotCursor))
-  part_stops_too_many e is many = by known is
-    where
-      by : (k : Option Text) → IsReadTo part_limit k read → IfSome k (λ b. PartStopsRightly e b (part.Refused NotCursor))
-      by None g = tt
-      by (Some b) g = too_many b (more_than_read b read g many)
+  part_stops_too_many e is many = of_more (λ b. PartStopsRightly e b (part.Refused NotCursor)) known read is many too_many
 
   -- ---- what is shown
 
   pub shown_read : (lines : Text) → IsReadTo part_limit known read → length read ≤ max_part_text → AreShown read lines → IsShownFrom known lines
-  shown_read lines is few h = record { bytes = read; are = h; stored = by known is }
-    where
-      by : (k : Option Text) → IsReadTo part_limit k read → IfSome k (λ b. b ≡ read)
-      by None g = tt
-      by (Some b) g = sym (all_read b read g few)
+  shown_read lines is few h = record { bytes = read; are = h; stored = of_all (λ b. b ≡ read) known read is few refl }
 
   pub unshown_read : (why : ShowStop) → IsReadTo part_limit known read → length read ≤ max_part_text → UnshownRightly read why → IfSome known (λ b. UnshownRightly b why)
-  unshown_read why is few h = by known is
-    where
-      by : (k : Option Text) → IsReadTo part_limit k read → IfSome k (λ b. UnshownRightly b why)
-      by None g = tt
-      by (Some b) g = subst (λ t. UnshownRightly t why) (all_read b read g few) h
+  unshown_read why is few h = of_all (λ b. UnshownRightly b why) known read is few h
 
   pub unshown_too_many : IsReadTo part_limit known read → max_part_text < length read → IfSome known (λ b. UnshownRightly b (show.Whole (stop.Refused refused.NotCursor)))
-  unshown_too_many is many = by known is
-    where
-      by : (k : Option Text) → IsReadTo part_limit k read → IfSome k (λ b. UnshownRightly b (show.Whole (stop.Refused refused.NotCursor)))
-      by None g = tt
-      by (Some b) g =
-          let more : max_part_text < length b = more_than_read b read g many in
-          (too_many b more, refused_not_cursor b (too_long b (omega (arith, more))))
+  unshown_too_many is many =
+      of_more (λ b. UnshownRightly b (show.Whole (stop.Refused refused.NotCursor))) known read is many
+      (λ b more. (too_many b more, refused_not_cursor b (too_long b (omega (arith, more)))))
 
 -- ---- a stop before any bytes are refused says nothing of them
 

@@ -34,8 +34,9 @@ pub fn read_cursor<R: Read>(alloc: Global, reader: &mut R) -> Result<Cursor, Cur
     }
 }
 
-/// All the bytes of a reader, or the first of them, as many as the limit.
-pub(crate) fn read_limited<R: Read>(
+/// All the bytes of a reader, or the first of them, as many as the limit. It answers `Read` if the
+/// reader fails, and `Refused::Memory` if memory is refused.
+pub fn read_limited<R: Read>(
     alloc: Global,
     reader: &mut R,
     limit: u64,

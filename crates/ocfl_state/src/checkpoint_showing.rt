@@ -1,5 +1,5 @@
 //! Showing a stored checkpoint, or a stored cursor.
-ghost use Rattle.std.specs.Prelude.{◌≡◌, ◌⊎◌, take, IfOk, IfErr, IfSome};
+ghost use Rattle.std.specs.Prelude.{IfOk, IfErr, IfSome};
 ghost use Rattle.ocfl_cursor.specs.Shown.{AreShown as AreCursorLines, UnshownRightly};
 ghost use Rattle.ocfl_state.specs.CheckpointRefusal.{RefusedRightly};
 ghost use Rattle.ocfl_state.specs.CheckpointShown.{AreShown, HiddenRightly, AreCheckpointLines, IsOfText};
@@ -8,9 +8,9 @@ use crate::checkpoint_decoding::decode_checkpoint;
 use crate::checkpoint_encoding::checkpoint_lines;
 use crate::checkpoint_form::FRONT;
 use crate::checkpoint_refused::NotDecoded;
-use ocfl_cursor::{ShowStop, read_shown};
+use ocfl_cursor::{CursorStop, ShowStop, read_limited, read_shown};
 use std::alloc::Global;
-use std::io::{ErrorKind, Read};
+use std::io::Read;
 
 /// How many bytes are shown of at most, as of a cursor alone.
 const MAX_SHOWN: usize = 67_108_864;
@@ -85,27 +85,13 @@ pub fn read_stored<R: Read>(alloc: Global, reader: &mut R) -> Result<Vec<u8>, No
     ensures refused { IfErr result (λ why. IfSome (R.remaining reader.old)
         (λ all. HiddenRightly all why)) }
 {
-    let bytes = match read_limited(alloc, reader) {
+    let bytes = match read_limited(alloc, reader, MAX_SHOWN as u64 + 1) {
         Ok(bytes) => bytes,
-        Err(why) => return Err(why),
+        Err(CursorStop::Read) => return Err(NotShown::Read),
+        Err(CursorStop::Refused(_)) => return Err(NotShown::Memory),
     };
     if bytes.len() > MAX_SHOWN {
         return Err(NotShown::Long);
     }
     show_stored(alloc, &bytes)
-}
-
-/// All the bytes of a reader, or the first 67,108,865 of them.
-fn read_limited<R: Read>(alloc: Global, reader: &mut R) -> Result<Vec<u8>, NotShown>
-    ensures bytes { IfOk result
-        (λ bytes. IfSome (R.remaining reader.old) (λ all. bytes.items ≡ take 67108865 all)) }
-    ensures stop { IfErr result (λ why. (why ≡ NotShown.Read) ⊎ (why ≡ NotShown.Memory)) }
-{
-    let mut bytes = Vec::new(alloc);
-    let mut limited = Read::take(reader, MAX_SHOWN as u64 + 1);
-    match limited.read_to_end(&mut bytes) {
-        Ok(_) => Ok(bytes),
-        Err(error) if error.kind() == ErrorKind::OutOfMemory => Err(NotShown::Memory),
-        Err(_) => Err(NotShown::Read),
-    }
 }

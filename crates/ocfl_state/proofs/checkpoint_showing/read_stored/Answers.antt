@@ -1,26 +1,32 @@
 use Rattle.std.proofs.Common.{◌≤◌, ◌<◌, length, arith, subst}
 use Rattle.std.proofs.lemmas.Result.{MatchResult-weaker, IfOk-weaker}
-use Rattle.ocfl_state.specs.CheckpointShown.{AreShown, HiddenRightly}
-use Rattle.ocfl_state.proofs.CheckpointShowing.{shown_read, hidden_read, long_read, hidden_early}
+use Rattle.ocfl_cursor.proofs.PartLimited.{of_all, of_more}
+use Rattle.ocfl_state.specs.CheckpointShown.{AreShown, HiddenRightly, max_shown}
+use Rattle.ocfl_state.specs.declared.checkpoint_showing.NotShown.TheVariants.{Long}
+use Rattle.ocfl_state.proofs.CheckpointShowing.{always}
 use Rattle.ocfl_state.proofs.checkpoint_showing.read_stored.Goals as goal
 
-pub returns-in-Err-clause-refused : goal.returns-in-Err-clause-refused
-returns-in-Err-clause-refused g c = hidden_early (g.R.Read.remaining c.args.reader.now) c.in-Err.why c.in-Err.ensures.stop
+pub returns-in-Err-Read-clause-refused : goal.returns-in-Err-Read-clause-refused
+returns-in-Err-Read-clause-refused g c = always (g.R.Read.remaining c.args.reader.now)
+
+pub returns-in-Err-Refused-clause-refused : goal.returns-in-Err-Refused-clause-refused
+returns-in-Err-Refused-clause-refused g c = always (g.R.Read.remaining c.args.reader.now)
 
 pub returns-then-len-gt-MAX_SHOWN-clause-refused : goal.returns-then-len-gt-MAX_SHOWN-clause-refused
 returns-then-len-gt-MAX_SHOWN-clause-refused g c =
-    let many : 67108864 < length c.in-Ok.bytes.items = omega arith in
-    long_read (g.R.Read.remaining c.args.reader.now) c.in-Ok.bytes.items c.in-Ok.ensures.bytes many
+    let many : max_shown < length c.in-Ok.bytes.items = omega arith in
+    of_more (λ all. HiddenRightly all Long) (g.R.Read.remaining c.args.reader.now) c.in-Ok.bytes.items c.in-Ok.ensures.bytes many (λ all more. more)
 
 pub returns-clause-lines : goal.returns-clause-lines
 returns-clause-lines g c =
-    let few : length c.in-Ok.bytes.items ≤ 67108864 = omega arith in
+    let few : length c.in-Ok.bytes.items ≤ max_shown = omega arith in
     IfOk-weaker c.show_stored.result _ _
-    (λ lines h. shown_read (g.R.Read.remaining c.args.reader.now) c.in-Ok.bytes.items lines.items c.in-Ok.ensures.bytes few
+    (λ lines h. of_all (λ all. AreShown all lines.items) (g.R.Read.remaining c.args.reader.now) c.in-Ok.bytes.items c.in-Ok.ensures.bytes few
     (subst (λ t. AreShown t lines.items) c.deref.ensures.value h)) c.show_stored.ensures.lines
 
 pub returns-clause-refused : goal.returns-clause-refused
 returns-clause-refused g c =
-    let few : length c.in-Ok.bytes.items ≤ 67108864 = omega arith in
+    let few : length c.in-Ok.bytes.items ≤ max_shown = omega arith in
     MatchResult-weaker c.show_stored.result c.show_stored.ensures.refused (λ _ h. h)
-    (λ why h. hidden_read (g.R.Read.remaining c.args.reader.now) c.in-Ok.bytes.items why c.in-Ok.ensures.bytes few (subst (λ t. HiddenRightly t why) c.deref.ensures.value h))
+    (λ why h. of_all (λ all. HiddenRightly all why) (g.R.Read.remaining c.args.reader.now) c.in-Ok.bytes.items c.in-Ok.ensures.bytes few
+    (subst (λ t. HiddenRightly t why) c.deref.ensures.value h))

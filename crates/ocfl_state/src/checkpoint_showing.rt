@@ -38,15 +38,9 @@ pub fn show_stored(alloc: Global, text: &[u8]) -> Result<Vec<u8>, NotShown>
     ensures of_text { IfErr result IsOfText }
 {
     if text.starts_with(FRONT) {
-        match lines_of_checkpoint(alloc, text) {
-            Ok(lines) => Ok(lines),
-            Err(refused) => Err(NotShown::Checkpoint(refused)),
-        }
+        lines_of_checkpoint(alloc, text).map_err(NotShown::Checkpoint)
     } else {
-        match lines_of_cursor(alloc, text) {
-            Ok(lines) => Ok(lines),
-            Err(why) => Err(NotShown::Cursor(why)),
-        }
+        lines_of_cursor(alloc, text).map_err(NotShown::Cursor)
     }
 }
 

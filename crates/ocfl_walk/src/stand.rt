@@ -1,5 +1,7 @@
 //! Where a walk stands, and its steps.
-ghost use Rattle.std.specs.Prelude.{◌≡◌, ◌≢◌, ◌<◌, ◌∷◌, ◌++◌, [], false, Option, Some, None, ◌↔◌, IsTrue, IfOk, IfErr, IfSome, MatchOption, MatchResult, ◌+◌, length, take};
+ghost use Rattle.std.specs.Prelude.{◌≡◌, ◌≢◌, ◌<◌, ◌∷◌, ◌++◌, [], false, Option, Some, None, ◌↔◌};
+ghost use Rattle.std.specs.Prelude.{IsTrue, IfOk, IfErr, IfSome, MatchOption, MatchResult, ◌+◌};
+ghost use Rattle.std.specs.Prelude.{length, take};
 ghost use Rattle.std.specs.{Ordering.{is_lt}, declared.cmp.Ordering.TheVariants.{Less}};
 ghost use Rattle.arrayvec.specs.ArrayVec.{array_vec_len};
 ghost use Rattle.ocfl_tree.specs.{Place.{Place as Spot, place_cmp}, StorageRoot.{StorageRoot}};
@@ -7,11 +9,16 @@ ghost use Rattle.ocfl_tree.specs.Store.{Store, IfTold};
 ghost use Rattle.ocfl_audit.specs.{Walk.{seen_names}, Zone.{seen}};
 ghost use Rattle.ocfl_item.specs.{Ways.{IsWayFault}, Around.{IsMet, IsNamedIn, IsTableAround}};
 ghost use Rattle.ocfl_item.specs.Meeting.{IsFairVisit, IsVisit, MeetFails, Meets};
-ghost use Rattle.ocfl_walk.specs.Standing.{StandsAt, frames_of, levels, pile_of, piles_at, piles_in, stand_size};
-ghost use Rattle.ocfl_walk.specs.Internal.Standing.{IsAroundIf, IsBelowNext, IsHeld, IsOrderlyStand, IsTaken, IsTurn, around_of, cut_top, next_of, path_from, popped, pushed, still, trimmed, turn_before, turn_of};
+ghost use Rattle.ocfl_walk.specs.Standing.{StandsAt, frames_of, levels, pile_of, piles_at};
+ghost use Rattle.ocfl_walk.specs.Standing.{piles_in, stand_size};
+ghost use Rattle.ocfl_walk.specs.Internal.Standing.{IsAroundIf, IsBelowNext, IsHeld};
+ghost use Rattle.ocfl_walk.specs.Internal.Standing.{IsOrderlyStand, IsTaken, IsTurn, around_of};
+ghost use Rattle.ocfl_walk.specs.Internal.Standing.{cut_top, next_of, path_from, popped, pushed};
+ghost use Rattle.ocfl_walk.specs.Internal.Standing.{still, trimmed, turn_before, turn_of};
 ghost use Rattle.ocfl_walk.specs.{Before.{place_before}, Ends.{is_past}};
-ghost use Rattle.ocfl_walk.specs.Internal.Walking.{step_from, GoesOn, GoesTo, IsBefore, IsFairMet, GoesAt, IsMeeting, NextGoesOn, NextTold, StepsAtTo, StepsOutTo, StepsTo};
-ghost use Rattle.ocfl_walk.specs.WalkCalls.{FailsOut};
+ghost use Rattle.ocfl_walk.specs.Internal.Walking.{step_from, GoesOn, GoesTo, IsBefore, IsFairMet};
+ghost use Rattle.ocfl_walk.specs.Internal.Walking.{GoesAt, IsMeeting, NextGoesOn, NextOutTo};
+ghost use Rattle.ocfl_walk.specs.Internal.Walking.{StepsAtTo, StepsOutTo, StepsTo};
 
 use crate::end::End;
 use crate::listing::{keep_from, sorted_if};
@@ -469,7 +476,7 @@ impl Stand {
         }
     }
 
-    /// Takes the next place, if it is not past the end, where no empty listing is on top.
+    /// Takes the next place, if it is not past the end. No empty listing may be on top.
     fn step<T: Tree>(&mut self, alloc: Global, store: &mut T, end: &End) -> Result<Step, Fault>
         requires orderly { IsOrderlyStand self.old }
         requires trim { trimmed (piles_in self.old.last self.old.listings.items)
@@ -505,9 +512,9 @@ impl Stand {
         ensures goes_on { IfOk result (λ o. NextGoesOn self.old self.new o) }
         ensures before { IfOk result (λ o. IfSome o (λ p. is_past end.now p.place ≡ false)) }
         ensures told { IfTold T.told (T.state store.old) (λ root.
-            (last : Option Spot) → StandsAt root self.old last → MatchResult result
-            (λ o. NextTold root (T.state store.old) (T.state store.new) last end.now self.new o)
-            (λ why. FailsOut root (T.state store.old) (T.state store.new) last end.now why)) }
+            (last : Option Spot) → StandsAt root self.old last
+            → NextOutTo root (T.state store.old) (T.state store.new) last end.now self.new
+            result) }
     {
         loop {
             drop_empty(&mut self.listings);

@@ -117,6 +117,9 @@ abbrev pub NextTold : StorageRoot → Store → Store → Option Place → End �
 NextTold root s t last e new None = WalksOut root s t last e × (before_end e (due root last) ≡ []) × HasEnded root e new
 NextTold root s t last e new (Some p) = Walks root s t last (Some p.place) × StandsAt root new (Some p.place) × IsNext root last p
 
+abbrev pub NextOutTo : StorageRoot → Store → Store → Option Place → End → Stand → Result (Option Pending) Fault → Type 0
+NextOutTo root s t last e new r = MatchResult r (λ o. NextTold root s t last e new o) (λ why. FailsOut root s t last e why)
+
 abbrev pub NextGoesOn : Stand → Stand → Option Pending → Type 0
 NextGoesOn old new None = ⊤
 NextGoesOn old new (Some p) = (new.last ≡ Some p.place) × IsBeyond old.last p.place × (stand_size new < stand_size old) × (length p.place ≤ 255)

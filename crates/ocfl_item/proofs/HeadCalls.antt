@@ -6,7 +6,7 @@ use Rattle.std.specs.Prelude.{cond, IfOk, ◌||◌, not, nat_le, AllPairs, Resul
 use Rattle.std.specs.declared.alloc.Global.{Global}
 use Rattle.ocfl_tree.proofs.Places.{text_eq-Decides}
 use Rattle.ocfl_tree.specs.{Place.{Text, Place, text_eq}, StorageRoot.{StorageRoot, file_at}}
-use Rattle.ocfl_tree.specs.{Store.{Store}, declared.store.Entry.{Entry}}
+use Rattle.ocfl_tree.specs.{Listing.{IsListing}, Store.{Store}, declared.store.Entry.{Entry}}
 use Rattle.ocfl_inventory.specs.Note.{Note, plain}
 use Rattle.ocfl_inventory.specs.Declaration.{Declared, undeclared, known, unknown, several, declaration_name}
 use Rattle.ocfl_inventory.specs.{Entries.{meaning}, Reading.{algorithm_of}, Table.{Table, table_of}}
@@ -20,16 +20,16 @@ use Rattle.ocfl_digest.specs.declared.bounded.Bounded.TheVariants as bounded
 use Rattle.ocfl_inventory.specs.declared.declaration.Level.TheVariants as level
 use Rattle.ocfl_audit.specs.Zone.{skipped, hierarchy, inside, zone, root_declared, object_declared, inventory_name, inventory_limit, table_at, is_known}
 use Rattle.ocfl_audit.specs.Head.{on, or_clean, is_exact_declaration, sidecar_name, sidecars_notes, inventory_part, inventory_file_notes, head_notes_by}
-use Rattle.ocfl_audit.specs.{Lines.{notes, notes_in}, Trail.{is_object_meta}}
+use Rattle.ocfl_audit.specs.{Lines.{notes, notes_in}, Trail.{is_meta, is_object_meta}}
 use Rattle.ocfl_item.specs.{Internal.Lines.{Adds, HasLines}, Ways.{IsObject}}
-use Rattle.ocfl_item.specs.Internal.Ways.{ReadsTable, IsDeclared, IsHeadOf}
+use Rattle.ocfl_item.specs.Internal.Ways.{ReadsTable, IsDeclared, IsHeadOf, IsListedObject}
 use Rattle.ocfl_item.specs.HeadFiles.{OpensJust, ReadsFiles, FilesStop}
 use Rattle.ocfl_item.specs.Internal.HeadFiles.{IsFileAt, ReadsFile, ReadsSome, head_files, head_names, sidecars_for, table_in}
 use Rattle.ocfl_item.specs.{declared.fault.Fault.{Fault}, declared.lines.PlaceLines.{PlaceLines}}
 use Rattle.ocfl_item.specs.declared.fault.Fault.TheVariants as fault
 use Rattle.ocfl_item.proofs.HeadTrails.{inventory_alone, inventory_opened}
 use Rattle.ocfl_item.proofs.LinesLaws.{adds_both, has_more}
-use Rattle.ocfl_item.proofs.FileLaws.{files_then, some_of, some_more, stop_more, stop_then, memory_after, some_is_meta, stop_is_meta}
+use Rattle.ocfl_item.proofs.FileLaws.{file_is_meta, files_then, some_of, some_more, stop_more, stop_then, memory_after, some_is_meta, stop_is_meta}
 use Rattle.ocfl_audit.proofs.PathLaws.{notes_at}
 
 -- ---- the table
@@ -220,16 +220,15 @@ head_files_meta root o (known v) = by (file_at root (o ++ inventory_name ∷ [])
     by None = bounded_by false
     by (Some bytes) = bounded_by (nat_le (length bytes) inventory_limit)
 
-pub declaration_is_meta : (n : Text) (v : Version) → n ≡ declaration_name level.Object v → is_object_meta (n ∷ []) ≡ true
-declaration_is_meta n v e = ap (λ m. is_object_meta (m ∷ [])) e ∙ by v
-  where
-    by : (v : Version) → is_object_meta (declaration_name level.Object v ∷ []) ≡ true
-    by V1_0 = refl
-    by V1_1 = refl
+pub declaration_is_meta : (v : Version) → is_object_meta (declaration_name level.Object v ∷ []) ≡ true
+declaration_is_meta V1_0 = refl
+declaration_is_meta V1_1 = refl
 
-pub head_declaration : (root : StorageRoot) (o : Place) (s t : Store) (n m : Text) (limit : ℕ) (r : Result (Option Bounded) Fault) → n ≡ m
-    → ReadsFile root s t o n limit r → ReadsFile root s t o m limit r
-head_declaration root o s t n m limit r e h = subst (λ x. ReadsFile root s t o x limit r) e h
+-- a file of an object was read, by a name that is the same
+pub reads_as : (root : StorageRoot) (o : Place) (es : List Entry) (s t : Store) (n m : Text) (limit : ℕ) (r : Result (Option Bounded) Fault) → n ≡ m → is_object_meta (m ∷ []) ≡ true
+    → IsListedObject root o es → (IsListing root o es → is_meta root (o ++ n ∷ []) ≡ true → ReadsFile root s t o n limit r) → ReadsFile root s t o m limit r
+reads_as root o es s t n m limit r e meta here read =
+    subst (λ x. ReadsFile root s t o x limit r) e (read here.listing (file_is_meta root o n here.zone (ap (λ x. is_object_meta (x ∷ [])) e ∙ meta)))
 
 module _ (root : StorageRoot) (o : Place) (z : zone root o ≡ inside o []) (v : Version) where
   pub known_lines : (none a b c : PlaceLines) → object_declared root o ≡ known v → HasLines none []

@@ -1,7 +1,7 @@
 -- Which of an object's own files were opened.
 use Rattle.std.proofs.Common.{◌≡◌, List, [], ◌∷◌, ◌++◌, refl, sym, ◌∙◌, ap, subst, true, false, ℕ, Option, Some, None, length}
 use Rattle.std.proofs.lemmas.Bool.{le-leb}
-use Rattle.std.specs.Prelude.{cond, IfOk, MatchResult, Result, Ok, Err, Vec}
+use Rattle.std.specs.Prelude.{cond, Ok, Vec}
 use Rattle.std.specs.declared.alloc.Global.{Global}
 use Rattle.ocfl_tree.specs.{Place.{Text, Place}, StorageRoot.{StorageRoot, file_at}, Store.{Store}}
 use Rattle.ocfl_tree.specs.declared.store.Entry.{Entry}
@@ -9,29 +9,28 @@ use Rattle.ocfl_digest.specs.declared.algorithm.Algorithm.TheVariants.{Sha256, S
 use Rattle.ocfl_digest.specs.declared.bounded.Bounded.{Bounded}
 use Rattle.ocfl_digest.specs.declared.bounded.Bounded.TheVariants as bounded
 use Rattle.ocfl_inventory.specs.Declaration.{Declared, declaration_name, undeclared, known, unknown, several}
-use Rattle.ocfl_inventory.specs.{Entries.{meaning}, Reading.{algorithm_of}, Table.{Table, table_of}}
+use Rattle.ocfl_inventory.specs.Entries.{meaning}
 use Rattle.ocfl_inventory.specs.declared.declaration.Declared.{Declared as MadeDeclared}
 use Rattle.ocfl_inventory.specs.declared.declaration.Version.{Version}
 use Rattle.ocfl_inventory.specs.declared.declaration.Declared.TheVariants as made
 use Rattle.ocfl_inventory.specs.declared.declaration.Level.TheVariants as level
-use Rattle.ocfl_audit.specs.Head.{inventory_file_notes, inventory_part, sidecar_name, sidecars_notes}
+use Rattle.ocfl_audit.specs.Head.{sidecar_name}
 use Rattle.ocfl_audit.specs.Zone.{inventory_name, inventory_limit, object_declared, is_known}
-use Rattle.ocfl_item.specs.HeadFiles.{FilesStop, OpensJust, ReadsFiles, files_there}
-use Rattle.ocfl_item.specs.Internal.HeadFiles.{IsFileAt, ReadsFile, head_files, inventory_files, sidecars_for, table_in}
-use Rattle.ocfl_item.specs.{Internal.Lines.{Adds}, Ways.{IsObject}}
+use Rattle.ocfl_item.specs.HeadFiles.{FilesStop, ReadsFiles, files_there}
+use Rattle.ocfl_item.specs.Internal.HeadFiles.{IsFileAt, ReadsFile, head_files, inventory_files, sidecars_for}
 use Rattle.ocfl_item.specs.Internal.Ways.{IsDeclared, IsListedObject}
-use Rattle.ocfl_item.specs.{declared.fault.Fault.{Fault}, declared.lines.PlaceLines.{PlaceLines}}
+use Rattle.ocfl_item.specs.declared.fault.Fault.{Fault}
 use Rattle.ocfl_item.specs.declared.fault.Fault.TheVariants as fault
 use Rattle.ocfl_item.proofs.FileLaws.{files_then, memory_after, some_of, stop_more, stop_then}
-use Rattle.ocfl_item.proofs.HeadCalls.{inventory_lines, inventory_table, later_stops, not_within}
+use Rattle.ocfl_item.proofs.HeadCalls.{later_stops, not_within}
 use Rattle.ocfl_item.proofs.LooksCalls.{memory_no_store}
 use Rattle.ocfl_tree.proofs.Stores.{did_nothing}
 
 abbrev both : List Text
 both = sidecar_name Sha256 ∷ sidecar_name Sha512 ∷ []
 
-pub listed_object : (root : StorageRoot) (o : Place) (es : List Entry) → IsObject root o es → IsListedObject root o es
-listed_object root o es h = record { listing = h.listing; zone = h.zone }
+pub listed_object : (root : StorageRoot) (o : Place) (es : List Entry) (m : MadeDeclared) → IsDeclared root o es m → IsListedObject root o es
+listed_object root o es m h = record { listing = h.listing; zone = h.zone }
 
 module _ (root : StorageRoot) (o : Place) where
   -- ---- which sidecars are read
@@ -57,25 +56,6 @@ module _ (root : StorageRoot) (o : Place) where
   pub sidecars_stop : (s t u : Store) (f : Option Bounded) (why : Fault) → sidecars_for (file_at root (o ++ inventory_name ∷ [])) ≡ both
       → ReadsFile root s t o inventory_name inventory_limit (Ok f) → FilesStop root t u o both why → FilesStop root s u o (inventory_files root o) why
   sidecars_stop s t u f why e h k = subst (λ ns. FilesStop root s u o (inventory_name ∷ ns) why) (sym e) (later_stops root o s t u inventory_name both inventory_limit f why h k)
-
-  -- what adding an inventory's lines gives, if its bytes were read: its table, and the lines
-  abbrev ReadsWhole : Store → Store → PlaceLines → PlaceLines → Text → Result (Option Table) Fault → Type 0
-  ReadsWhole s t old new bytes r =
-      MatchResult r (λ table. ReadsFiles root s t o both × (table ≡ table_of bytes)
-      × Adds old new (sidecars_notes root o bytes ++ inventory_part root o bytes (algorithm_of bytes))) (λ why. FilesStop root s t o both why)
-
-  pub whole_opens : (s t u : Store) (f : Option Bounded) (old new : PlaceLines) (bytes : Text) (r : Result (Option Table) Fault)
-      → sidecars_for (file_at root (o ++ inventory_name ∷ [])) ≡ both → ReadsFile root s t o inventory_name inventory_limit (Ok f)
-      → ReadsWhole t u old new bytes r → OpensJust root s u o (inventory_files root o) r
-  whole_opens s t u f old new bytes (Ok table) e h k = with_sidecars s t u f e h k.0
-  whole_opens s t u f old new bytes (Err why) e h k = sidecars_stop s t u f why e h k
-
-  pub whole_told : (s t : Store) (old new : PlaceLines) (v : Vec ℕ Global) (bytes : Text) (r : Result (Option Table) Fault)
-      → IsFileAt root (o ++ inventory_name ∷ []) inventory_limit (Some (bounded.Whole v)) → bytes ≡ v.items
-      → ReadsWhole s t old new bytes r
-      → IfOk r (λ table. (table ≡ table_in (file_at root (o ++ inventory_name ∷ []))) × Adds old new (inventory_file_notes root o (file_at root (o ++ inventory_name ∷ []))))
-  whole_told s t old new v bytes (Ok table) is same k = (inventory_table root o v bytes table is same k.1, inventory_lines root o old new v bytes is same k.2)
-  whole_told s t old new v bytes (Err why) is same k = tt
 
   pub one_memory : (s t : Store) (n : Text) (limit : ℕ) (f : Option Bounded) → ReadsFile root s t o n limit (Ok f) → FilesStop root s t o (n ∷ []) fault.Memory
   one_memory s t n limit f h = memory_after root o s t (n ∷ []) (some_of root o s t (n ∷ []) h.gives.0)
@@ -104,33 +84,28 @@ module _ (root : StorageRoot) (o : Place) where
     opened = (files_there root o ns, refl);
   }
 
-  -- ---- a known version
+-- ---- a known version
 
-  pub declaration_stops : (s t : Store) (v : Version) (why : Fault) → FilesStop root s t o (declaration_name level.Object v ∷ []) why → FilesStop root s t o (head_files root o (known v)) why
-  declaration_stops s t v why h = stop_more root o s t (declaration_name level.Object v ∷ []) (inventory_files root o) why h
+module _ (root : StorageRoot) (o : Place) (es : List Entry) (m : MadeDeclared) (v : Version) (is : m ≡ made.One v) (here : IsDeclared root o es m) where
+  pub declared_known : object_declared root o ≡ known v
+  declared_known = sym here.says ∙ ap (meaning level.Object es) is
 
-  pub inventory_stops : (s t u : Store) (v : Version) (why : Fault) → ReadsFiles root s t o (declaration_name level.Object v ∷ [])
-      → FilesStop root t u o (inventory_files root o) why → FilesStop root s u o (head_files root o (known v)) why
-  inventory_stops s t u v why h k = stop_then root o s t u (declaration_name level.Object v ∷ []) (inventory_files root o) why h k
+  names_are : head_files root o (known v) ≡ head_files root o (object_declared root o)
+  names_are = ap (head_files root o) (sym declared_known)
 
-  pub head_opened : (s t u : Store) (v : Version) → ReadsFiles root s t o (declaration_name level.Object v ∷ [])
-      → ReadsFiles root t u o (inventory_files root o) → ReadsFiles root s u o (head_files root o (known v))
-  head_opened s t u v h k = files_then root o s t u (declaration_name level.Object v ∷ []) (inventory_files root o) h k
+  pub declaration_stops : (s t : Store) (why : Fault) → FilesStop root s t o (declaration_name level.Object v ∷ []) why → FilesStop root s t o (head_files root o (object_declared root o)) why
+  declaration_stops s t why h = subst (λ ns. FilesStop root s t o ns why) names_are (stop_more root o s t (declaration_name level.Object v ∷ []) (inventory_files root o) why h)
 
-  pub head_memory : (s t u : Store) (v : Version) → ReadsFiles root s t o (declaration_name level.Object v ∷ [])
-      → ReadsFiles root t u o (inventory_files root o) → FilesStop root s u o (head_files root o (known v)) fault.Memory
-  head_memory s t u v h k = memory_after root o s u (head_files root o (known v)) (some_of root o s u (head_files root o (known v)) (head_opened s t u v h k))
+  pub inventory_stops : (s t u : Store) (why : Fault) → ReadsFiles root s t o (declaration_name level.Object v ∷ [])
+      → FilesStop root t u o (inventory_files root o) why → FilesStop root s u o (head_files root o (object_declared root o)) why
+  inventory_stops s t u why h k = subst (λ ns. FilesStop root s u o ns why) names_are (stop_then root o s t u (declaration_name level.Object v ∷ []) (inventory_files root o) why h k)
 
-  pub known_object : (es : List Entry) (m : MadeDeclared) (v : Version) → m ≡ made.One v → IsDeclared root o es m → IsObject root o es
-  known_object es m v is h = record {
-    listing = h.listing;
-    way = h.way;
-    listable = h.listable;
-    zone = h.zone;
-    known = ap is_known (sym h.says ∙ ap (meaning level.Object es) is);
-  }
+  pub head_opened : (s t u : Store) → ReadsFiles root s t o (declaration_name level.Object v ∷ [])
+      → ReadsFiles root t u o (inventory_files root o) → ReadsFiles root s u o (head_files root o (object_declared root o))
+  head_opened s t u h k = subst (ReadsFiles root s u o) names_are (files_then root o s t u (declaration_name level.Object v ∷ []) (inventory_files root o) h k)
 
-  pub known_opens : {A : Type 0} (es : List Entry) (m : MadeDeclared) (v : Version) (s t : Store) (r : Result A Fault) → m ≡ made.One v → IsDeclared root o es m
-      → OpensJust root s t o (head_files root o (known v)) r
-      → OpensJust root s t o (head_files root o (object_declared root o)) r
-  known_opens es m v s t r is h k = subst (λ d. OpensJust root s t o (head_files root o d) r) (sym (ap (meaning level.Object es) is) ∙ h.says) k
+  pub head_memory : (s t u : Store) → ReadsFiles root s t o (declaration_name level.Object v ∷ [])
+      → ReadsFiles root t u o (inventory_files root o) → FilesStop root s u o (head_files root o (object_declared root o)) fault.Memory
+  head_memory s t u h k =
+      let names = head_files root o (object_declared root o) in
+      memory_after root o s u names (some_of root o s u names (head_opened s t u h k))

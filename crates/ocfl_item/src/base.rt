@@ -37,12 +37,7 @@ fn known_code(version: Version, declaration: &Option<Bounded>) -> Code
 }
 
 /// The item of a storage root of known version.
-fn known_item<T: Tree>(
-    alloc: Global,
-    store: &mut T,
-    folder: &Folder,
-    version: Version,
-) -> Result<Pending, Fault>
+fn known_item<T: Tree>(store: &mut T, folder: &Folder, version: Version) -> Result<Pending, Fault>
     ensures only { IfErr result (λ why. IsWayFault why) }
     ensures place { IfOk result (λ item. item.place ≡ folder.now.place) }
     ensures told { IfTold T.told (T.state store.old) (λ root.
@@ -54,20 +49,20 @@ fn known_item<T: Tree>(
         (declaration_name_of level.Root version ∷ []) result) }
 {
     let name = declaration_name(Level::Root, version);
-    let code = known_code(version, &read_file(alloc, store, folder, name, SIDE_LIMIT)?);
-    let lines = PlaceLines::plain(alloc, folder.place.try_clone()?, code)?;
+    let code = known_code(version, &read_file(store, folder, name, SIDE_LIMIT)?);
+    let lines = PlaceLines::plain(folder.alloc(), folder.place.try_clone()?, code)?;
     Ok(Pending::of_lines(lines))
 }
 
 /// The item of a storage root that is not of one known version.
-fn stopped_item(alloc: Global, folder: &Folder, declared: Declared) -> Result<Pending, AllocError>
+fn stopped_item(folder: &Folder, declared: Declared) -> Result<Pending, AllocError>
     ensures place { IfOk result (λ item. item.place ≡ folder.now.place) }
     ensures told { (root : StorageRoot)
         → IsBase root folder.now.place folder.now.entries.items declared
         → is_known (meaning level.Root folder.now.entries.items declared) ≡ false
         → IfOk result (λ item. IsPending root item) }
 {
-    let lines = stopped_lines(alloc, folder, Level::Root, declared)?;
+    let lines = stopped_lines(folder, Level::Root, declared)?;
     Ok(Pending::of_lines(lines))
 }
 
@@ -81,11 +76,11 @@ pub fn visit_base<T: Tree>(alloc: Global, store: &mut T) -> Result<Visit, Fault>
     let folder = list(store, Place::root(alloc))?;
     match declaration(&folder.entries, Level::Root) {
         Declared::One(version) => {
-            let item = known_item(alloc, store, &folder, version)?;
+            let item = known_item(store, &folder, version)?;
             Ok(Visit::of_folder(Some(item), folder))
         }
         declared => {
-            let item = stopped_item(alloc, &folder, declared)?;
+            let item = stopped_item(&folder, declared)?;
             Ok(Visit::of_item(Some(item)))
         }
     }

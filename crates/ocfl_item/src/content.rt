@@ -44,7 +44,7 @@ fn known_lines(
 {
     let mut lines = PlaceLines::new(alloc, place);
     add_sight(&mut lines, sight)?;
-    add_missing(alloc, &mut lines, named)?;
+    add_missing(&mut lines, named)?;
     Ok(lines)
 }
 

@@ -4,7 +4,8 @@ ghost use Rattle.std.specs.Prelude.{◌≡◌, ◌≤◌, ◌++◌, ◌∷◌, [
 ghost use Rattle.ocfl_tree.specs.Place.{Place as ModelPlace, Text, text_eq};
 ghost use Rattle.ocfl_tree.specs.StorageRoot.{StorageRoot};
 ghost use Rattle.ocfl_inventory.specs.Note.{note};
-ghost use Rattle.ocfl_inventory.specs.Declaration.{after_prefix, declaration_name as name_of_declaration, prefix};
+ghost use Rattle.ocfl_inventory.specs.Declaration.{after_prefix};
+ghost use Rattle.ocfl_inventory.specs.Declaration.{declaration_name as name_of_declaration, prefix};
 ghost use Rattle.ocfl_inventory.specs.{Entries.{meaning, PointsAtOne}, Sidecar.{side_limit}};
 ghost use Rattle.ocfl_digest.specs.Bounded.{IsBoundedTo};
 ghost use Rattle.ocfl_audit.specs.{Zone.{is_known}, Head.{is_exact_declaration}};
@@ -18,7 +19,7 @@ use ocfl_digest::Bounded;
 use ocfl_inventory::{Declared, Level, Version, declaration_bytes, version_in_name};
 use ocfl_report::Code;
 use ocfl_tree::{Entry, is_bytes};
-use std::alloc::{AllocError, Global};
+use std::alloc::AllocError;
 
 /// Whether these few bytes are all that a file has.
 fn is_file(bytes: &[u8], file: &Bounded) -> bool
@@ -45,12 +46,7 @@ pub(crate) fn is_exact(level: Level, version: Version, declaration: &Option<Boun
 }
 
 /// Appends the line of a version that is not known.
-fn add_unknown(
-    alloc: Global,
-    lines: &mut PlaceLines,
-    level: Level,
-    declaration: &str,
-) -> Result<(), AllocError>
+fn add_unknown(lines: &mut PlaceLines, level: Level, declaration: &str) -> Result<(), AllocError>
     ensures place { OnOk result (lines.new.place ≡ lines.old.place) }
     ensures lines { (rest : Text) → declaration.now ≡ prefix level ++ rest
         → OnOk result (Adds lines.old lines.new
@@ -58,7 +54,7 @@ fn add_unknown(
 {
     match version_in_name(level, declaration) {
         Some(version) => {
-            let detail = String::from_str(alloc, version)?;
+            let detail = String::from_str(lines.alloc(), version)?;
             lines.add(Code::S01, detail)
         }
         None => Ok(()),
@@ -68,7 +64,6 @@ fn add_unknown(
 /// Appends the line of a storage root or of an object that declares nothing, several versions, or
 /// one that is not known.
 fn add_stop(
-    alloc: Global,
     lines: &mut PlaceLines,
     level: Level,
     entries: &[Entry],
@@ -91,7 +86,7 @@ fn add_stop(
             Level::Object => lines.add_plain(Code::E003),
         },
         Declared::Unknown(index) => match entries.get(index) {
-            Some(entry) => add_unknown(alloc, lines, level, entry.name.as_str()),
+            Some(entry) => add_unknown(lines, level, entry.name.as_str()),
             None => Ok(()),
         },
         Declared::One(_) => Ok(()),
@@ -101,7 +96,6 @@ fn add_stop(
 /// The lines of a storage root or of an object that declares nothing, several versions, or one that
 /// is not known.
 pub(crate) fn stopped_lines(
-    alloc: Global,
     folder: &Folder,
     level: Level,
     declared: Declared,
@@ -114,7 +108,7 @@ pub(crate) fn stopped_lines(
         (declared_notes root folder.now.place level
         (meaning level folder.now.entries.items declared))) }
 {
-    let mut lines = PlaceLines::new(alloc, folder.place.try_clone()?);
-    add_stop(alloc, &mut lines, level, &folder.entries, declared)?;
+    let mut lines = PlaceLines::new(folder.alloc(), folder.place.try_clone()?);
+    add_stop(&mut lines, level, &folder.entries, declared)?;
     Ok(lines)
 }

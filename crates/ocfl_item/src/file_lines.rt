@@ -4,7 +4,8 @@ ghost use Rattle.hex.specs.Hex.{encode_lower};
 ghost use Rattle.ocfl_tree.specs.Place.{Text};
 ghost use Rattle.ocfl_inventory.specs.{Note.{Note, plain}, TripleView.{named_view}};
 ghost use Rattle.ocfl_digest.specs.{Digest.{digest_bytes_of}, Digests.{digest_in}};
-ghost use Rattle.ocfl_audit.specs.Lines.{is_in_manifest as is_named_in_manifest, or_bytes, unnamed_notes, wrong_notes};
+ghost use Rattle.ocfl_audit.specs.Lines.{is_in_manifest as is_named_in_manifest, or_bytes};
+ghost use Rattle.ocfl_audit.specs.Lines.{unnamed_notes, wrong_notes};
 ghost use Rattle.ocfl_item.specs.Internal.FileLines.{HasDigests, wrong_by};
 ghost use Rattle.ocfl_item.specs.Internal.Lines.{Adds, HasLines};
 
@@ -39,35 +40,19 @@ pub(crate) fn add_unnamed(lines: &mut PlaceLines, named: &[Named]) -> Result<(),
 }
 
 /// Appends the line of a named digest, unless it is the one that was found.
-fn add_unless_found(
-    alloc: Global,
-    lines: &mut PlaceLines,
-    named: &Named,
-    found: &[u8],
-) -> Result<(), AllocError>
+fn add_unless_found(lines: &mut PlaceLines, named: &Named, found: &[u8]) -> Result<(), AllocError>
     ensures { OnOk result (Adds lines.old lines.new
         (wrong_by (encode_lower found.now) (named_view named.now))) }
 {
     if is_hex_of(&named.digest, found) {
         return Ok(());
     }
-    let found = hex_of(alloc, found)?;
-    lines.add_mismatch(
-        alloc,
-        code_of(named),
-        named.algorithm,
-        &named.digest,
-        &found,
-    )
+    let found = hex_of(lines.alloc(), found)?;
+    lines.add_mismatch(code_of(named), named.algorithm, &named.digest, &found)
 }
 
 /// Appends the line of a named digest, unless it is the file's.
-fn add_wrong(
-    alloc: Global,
-    lines: &mut PlaceLines,
-    named: &Named,
-    digests: &Digests,
-) -> Result<(), AllocError>
+fn add_wrong(lines: &mut PlaceLines, named: &Named, digests: &Digests) -> Result<(), AllocError>
     ensures place { OnOk result (lines.new.place ≡ lines.old.place) }
     ensures lines { (bytes : Text) → digest_in digests.now named.now.algorithm
         ≡ Some (digest_bytes_of named.now.algorithm bytes)
@@ -75,14 +60,13 @@ fn add_wrong(
         (wrong_notes bytes (named_view named.now ∷ []))) }
 {
     match digests.get(named.algorithm) {
-        Some(found) => add_unless_found(alloc, lines, named, found),
+        Some(found) => add_unless_found(lines, named, found),
         None => Ok(()),
     }
 }
 
 /// Appends a line for each named digest that is not the file's.
 fn add_each_wrong(
-    alloc: Global,
     lines: &mut PlaceLines,
     named: &[Named],
     digests: &Digests,
@@ -93,13 +77,13 @@ fn add_each_wrong(
         (wrong_notes bytes (map named_view named.now))) }
 {
     for entry in named {
-        add_wrong(alloc, lines, entry, digests)?;
+        add_wrong(lines, entry, digests)?;
     }
     Ok(())
 }
 
 /// Appends the line of a clean file of `count` bytes, if there is no line.
-fn add_clean_file(alloc: Global, lines: &mut PlaceLines, count: u64) -> Result<(), AllocError>
+fn add_clean_file(lines: &mut PlaceLines, count: u64) -> Result<(), AllocError>
     ensures place { OnOk result (lines.new.place ≡ lines.old.place) }
     ensures lines { (bytes : Text) (ns : List Note) → count ≡ length bytes → HasLines lines.old ns
         → OnOk result (HasLines lines.new (or_bytes bytes ns)) }
@@ -107,7 +91,7 @@ fn add_clean_file(alloc: Global, lines: &mut PlaceLines, count: u64) -> Result<(
     if !lines.remarks.is_empty() {
         return Ok(());
     }
-    let detail = count.to_string(alloc)?;
+    let detail = count.to_string(lines.alloc())?;
     lines.add(Code::Clean, detail)
 }
 
@@ -128,8 +112,8 @@ pub(crate) fn hashed_lines(
 {
     let mut lines = PlaceLines::new(alloc, place);
     add_unnamed(&mut lines, named)?;
-    add_each_wrong(alloc, &mut lines, named, digests)?;
-    add_clean_file(alloc, &mut lines, count)?;
+    add_each_wrong(&mut lines, named, digests)?;
+    add_clean_file(&mut lines, count)?;
     Ok(lines)
 }
 

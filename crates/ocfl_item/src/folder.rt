@@ -1,10 +1,12 @@
 //! Directories as a store lists them, from the storage root down.
-ghost use Rattle.std.specs.Prelude.{◌≡◌, ◌&&◌, ◌∷◌, [], nat_le, suc, length, true, IfOk, IfErr, MatchResult, codes, nat_eq};
+ghost use Rattle.std.specs.Prelude.{◌≡◌, ◌&&◌, ◌∷◌, [], nat_le, suc, length, true, IfOk, IfErr};
+ghost use Rattle.std.specs.Prelude.{MatchResult, codes, nat_eq};
 ghost use Rattle.ocfl_tree.specs.{Place.{text_eq}, Listing.{IsOrdinary, kind_in}, Store.{IfTold}};
 ghost use Rattle.ocfl_inventory.specs.Declaration.{declared as declared_by_files};
 ghost use Rattle.ocfl_inventory.specs.Entries.{file_names};
 ghost use Rattle.ocfl_audit.specs.Zone.{max_listed_depth};
-ghost use Rattle.ocfl_item.specs.Ways.{IsWayFault, Stops, Enters, IsHead, is_extensions_name, is_dir_kind, is_listable};
+ghost use Rattle.ocfl_item.specs.Ways.{IsWayFault, Stops, Enters, IsHead, is_extensions_name};
+ghost use Rattle.ocfl_item.specs.Ways.{is_dir_kind, is_listable};
 ghost use Rattle.ocfl_item.specs.Internal.Ways.{fault_by, head_by as head_by_declared};
 
 use crate::fault::Fault;
@@ -30,6 +32,13 @@ impl MadeWith<Global> for Folder {
             place: Place::root(alloc),
             entries: Vec::new(alloc),
         }
+    }
+}
+
+impl Folder {
+    /// The allocator of the entries.
+    pub(crate) fn alloc(&self) -> Global {
+        *self.entries.allocator()
     }
 }
 

@@ -1,5 +1,6 @@
 //! The lines of an object's head, from files that were read before.
-ghost use Rattle.std.specs.Prelude.{◌≡◌, ◌++◌, ◌∷◌, [], List, true, false, not, is_some, map, option_map, Some, IfSome, IfOk, OnOk};
+ghost use Rattle.std.specs.Prelude.{◌≡◌, ◌++◌, ◌∷◌, [], List, true, false, not, is_some, map};
+ghost use Rattle.std.specs.Prelude.{option_map, Some, IfSome, IfOk, OnOk};
 ghost use Rattle.hex.specs.Hex.{encode_lower};
 ghost use Rattle.ocfl_tree.specs.Place.{Place as ModelPlace, Text, text_eq};
 ghost use Rattle.ocfl_tree.specs.StorageRoot.{StorageRoot};
@@ -13,9 +14,12 @@ ghost use Rattle.ocfl_digest.specs.{Bounded.{IsBoundedTo}, Digest.{digest_bytes_
 ghost use Rattle.ocfl_digest.specs.{Digests.{digest_in}, Wanted.{wants}};
 ghost use Rattle.ocfl_digest.specs.declared.algorithm.Algorithm.TheVariants.{Sha256, Sha512};
 ghost use Rattle.ocfl_inventory.specs.declared.declaration.Level.TheVariants as level;
-ghost use Rattle.ocfl_audit.specs.Head.{digest_of, is_exact_declaration, on, or_clean, sidecar_name, sidecar_at, mismatch, sidecar_notes, are_sidecars_missing, sidecars_notes, inventory_part};
+ghost use Rattle.ocfl_audit.specs.Head.{digest_of, is_exact_declaration, on, or_clean};
+ghost use Rattle.ocfl_audit.specs.Head.{sidecar_name, sidecar_at, mismatch, sidecar_notes};
+ghost use Rattle.ocfl_audit.specs.Head.{are_sidecars_missing, sidecars_notes, inventory_part};
 ghost use Rattle.ocfl_item.specs.Internal.HeadFiles.{IsFileAt};
-ghost use Rattle.ocfl_item.specs.Internal.HeadLines.{AreSidecars, HasDigestFor, is_other_there, named_notes};
+ghost use Rattle.ocfl_item.specs.Internal.HeadLines.{AreSidecars, HasDigestFor, is_other_there};
+ghost use Rattle.ocfl_item.specs.Internal.HeadLines.{named_notes};
 ghost use Rattle.ocfl_item.specs.Internal.Lines.{Adds, HasLines};
 
 use crate::declarations::is_exact;
@@ -25,7 +29,7 @@ use ocfl_digest::{Algorithm, Bounded, Digests, Wanted, hash_bytes};
 use ocfl_inventory::{Level, Remark, Sum, Table, Version, read_inventory, sidecar};
 use ocfl_report::Code;
 use ocfl_tree::is_bytes;
-use std::alloc::{AllocError, Global};
+use std::alloc::AllocError;
 
 /// What was read of the sidecars of an inventory, if they are there.
 #[derive(Drop)]
@@ -58,7 +62,6 @@ pub(crate) fn add_declaration(
 
 /// Appends the line of a sidecar whose digest is not the one that was found.
 fn add_unless_found(
-    alloc: Global,
     lines: &mut PlaceLines,
     algorithm: Algorithm,
     wanted: &[u8],
@@ -71,14 +74,13 @@ fn add_unless_found(
     if is_bytes(wanted, found) {
         return Ok(());
     }
-    let wanted = hex_of(alloc, wanted)?;
-    let found = hex_of(alloc, found)?;
-    lines.add_mismatch(alloc, Code::E060, algorithm, &wanted, &found)
+    let wanted = hex_of(lines.alloc(), wanted)?;
+    let found = hex_of(lines.alloc(), found)?;
+    lines.add_mismatch(Code::E060, algorithm, &wanted, &found)
 }
 
 /// Appends the line of a sidecar whose digest is not that of the inventory.
 fn add_unless_equal(
-    alloc: Global,
     lines: &mut PlaceLines,
     digests: &Digests,
     algorithm: Algorithm,
@@ -93,7 +95,7 @@ fn add_unless_equal(
         (digest_of algorithm inventory)))) }
 {
     match digests.get(algorithm) {
-        Some(found) => add_unless_found(alloc, lines, algorithm, sum.bytes(), found),
+        Some(found) => add_unless_found(lines, algorithm, sum.bytes(), found),
         None => Ok(()),
     }
 }
@@ -112,7 +114,6 @@ fn sum_of(algorithm: Algorithm, file: &Bounded) -> Option<Sum>
 /// Appends the line of a sidecar: it is not of the form, or does not have the digest of the
 /// inventory.
 fn add_sidecar(
-    alloc: Global,
     lines: &mut PlaceLines,
     digests: &Digests,
     algorithm: Algorithm,
@@ -129,9 +130,9 @@ fn add_sidecar(
         return Ok(());
     };
     match sum_of(algorithm, file) {
-        Some(sum) => add_unless_equal(alloc, lines, digests, algorithm, &sum),
+        Some(sum) => add_unless_equal(lines, digests, algorithm, &sum),
         None => {
-            let detail = String::from_str(alloc, algorithm.name())?;
+            let detail = String::from_str(lines.alloc(), algorithm.name())?;
             lines.add(Code::E061, detail)
         }
     }
@@ -168,7 +169,6 @@ fn wanted_by(sidecars: &Sidecars) -> Wanted
 /// Appends the lines of the sidecars: neither is there, or what is wrong with those that are. One
 /// pass over the inventory gives the digests for both.
 fn add_sidecars(
-    alloc: Global,
     lines: &mut PlaceLines,
     inventory: &[u8],
     sidecars: &Sidecars,
@@ -180,8 +180,8 @@ fn add_sidecars(
 {
     add_unless_any(lines, sidecars)?;
     let digests = hash_bytes(inventory, wanted_by(sidecars));
-    add_sidecar(alloc, lines, &digests, Algorithm::Sha256, &sidecars.short)?;
-    add_sidecar(alloc, lines, &digests, Algorithm::Sha512, &sidecars.long)
+    add_sidecar(lines, &digests, Algorithm::Sha256, &sidecars.short)?;
+    add_sidecar(lines, &digests, Algorithm::Sha512, &sidecars.long)
 }
 
 /// Whether the sidecar of an inventory's algorithm is missing while the other is there.
@@ -200,7 +200,6 @@ fn has_other(algorithm: Algorithm, sidecars: &Sidecars) -> bool
 /// Appends the line of a sidecar that is missing while the other is there, if an algorithm is
 /// named.
 fn add_missing_sidecar(
-    alloc: Global,
     lines: &mut PlaceLines,
     algorithm: Option<Algorithm>,
     sidecars: &Sidecars,
@@ -217,7 +216,7 @@ fn add_missing_sidecar(
     if !has_other(algorithm, sidecars) {
         return Ok(());
     }
-    let detail = String::from_str(alloc, algorithm.name())?;
+    let detail = String::from_str(lines.alloc(), algorithm.name())?;
     lines.add(Code::E058, detail)
 }
 
@@ -235,7 +234,6 @@ fn add_remarks(lines: &mut PlaceLines, remarks: Vec<Remark>) -> Result<(), Alloc
 /// Appends the lines of what an inventory says, after that of the sidecar of its algorithm, and
 /// gives its table.
 fn add_read(
-    alloc: Global,
     lines: &mut PlaceLines,
     inventory: &[u8],
     sidecars: &Sidecars,
@@ -247,8 +245,8 @@ fn add_read(
     ensures table { IfOk result (λ table. table ≡ table_of inventory.now) }
     ensures fit { IfOk result (λ table. IfSome table (λ t. IsFit t)) }
 {
-    let read = read_inventory(alloc, inventory)?;
-    add_missing_sidecar(alloc, lines, read.algorithm, sidecars)?;
+    let read = read_inventory(lines.alloc(), inventory)?;
+    add_missing_sidecar(lines, read.algorithm, sidecars)?;
     add_remarks(lines, read.remarks)?;
     Ok(read.table)
 }
@@ -256,7 +254,6 @@ fn add_read(
 /// Appends the lines of an object's inventory, and of its sidecars (OCFL 1.1, 3.5 Inventory and 3.6
 /// Inventory Digest), and gives its table. The bytes are all that the inventory has.
 pub(crate) fn add_inventory(
-    alloc: Global,
     lines: &mut PlaceLines,
     bytes: &[u8],
     sidecars: &Sidecars,
@@ -269,8 +266,8 @@ pub(crate) fn add_inventory(
         (sidecars_notes root o bytes.now
         ++ inventory_part root o bytes.now (algorithm_in bytes.now))) }
 {
-    add_sidecars(alloc, lines, bytes, sidecars)?;
-    add_read(alloc, lines, bytes, sidecars)
+    add_sidecars(lines, bytes, sidecars)?;
+    add_read(lines, bytes, sidecars)
 }
 
 /// Appends the line of a clean head, if there is no line.

@@ -49,6 +49,11 @@ impl PlaceLines {
         Ok(lines)
     }
 
+    /// The allocator of the lines.
+    pub(crate) fn alloc(&self) -> Global {
+        *self.remarks.allocator()
+    }
+
     /// Appends a line.
     pub(crate) fn add(&mut self, code: Code, detail: String) -> Result<(), AllocError>
         ensures { OnOk result (Adds self.old self.new (note code (string_bytes detail) ∷ [])) }
@@ -61,14 +66,13 @@ impl PlaceLines {
     pub(crate) fn add_plain(&mut self, code: Code) -> Result<(), AllocError>
         ensures { OnOk result (Adds self.old self.new (plain code ∷ [])) }
     {
-        let detail = String::from_str(*self.remarks.allocator(), "-")?;
+        let detail = String::from_str(self.alloc(), "-")?;
         self.add(code, detail)
     }
 
     /// Appends the line of a digest that is not the one that was found.
     pub(crate) fn add_mismatch(
         &mut self,
-        alloc: Global,
         code: Code,
         algorithm: Algorithm,
         wanted: &str,
@@ -77,7 +81,7 @@ impl PlaceLines {
         ensures { OnOk result (Adds self.old self.new
             (mismatch code algorithm wanted.now found.now ∷ [])) }
     {
-        let detail = format!(in alloc; "{} {} {}", algorithm.name(), wanted, found)?;
+        let detail = format!(in self.alloc(); "{} {} {}", algorithm.name(), wanted, found)?;
         self.add(code, detail)
     }
 

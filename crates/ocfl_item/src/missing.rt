@@ -8,7 +8,7 @@ ghost use Rattle.ocfl_item.specs.Internal.Lines.{Adds, is_repeated, is_same_bloc
 
 use crate::lines::{PlaceLines, code_of};
 use ocfl_inventory::Named;
-use std::alloc::{AllocError, Global};
+use std::alloc::AllocError;
 
 /// Whether two digests are named in one block and of one algorithm.
 fn is_same(named: &Named, other: &Named) -> bool
@@ -17,11 +17,11 @@ fn is_same(named: &Named, other: &Named) -> bool
     named.fixity == other.fixity && named.algorithm == other.algorithm
 }
 
-fn add_missing_line(alloc: Global, lines: &mut PlaceLines, named: &Named) -> Result<(), AllocError>
+fn add_missing_line(lines: &mut PlaceLines, named: &Named) -> Result<(), AllocError>
     ensures { OnOk result (Adds lines.old lines.new
         (missing_note (named_view named.now) ∷ [])) }
 {
-    let detail = format!(in alloc; "{} missing", named.algorithm.name())?;
+    let detail = format!(in lines.alloc(); "{} missing", named.algorithm.name())?;
     lines.add(code_of(named), detail)
 }
 
@@ -37,7 +37,6 @@ fn is_repetition(before: Option<&Named>, named: &Named) -> bool
 
 /// Appends the line for a missing file's block and algorithm, unless the one before has it.
 fn add_next_missing(
-    alloc: Global,
     lines: &mut PlaceLines,
     before: Option<&Named>,
     named: &Named,
@@ -49,15 +48,11 @@ fn add_next_missing(
     if is_repetition(before, named) {
         return Ok(());
     }
-    add_missing_line(alloc, lines, named)
+    add_missing_line(lines, named)
 }
 
 /// Appends the lines for a missing file, one for each block and algorithm that names it.
-pub(crate) fn add_missing(
-    alloc: Global,
-    lines: &mut PlaceLines,
-    named: &[Named],
-) -> Result<(), AllocError>
+pub(crate) fn add_missing(lines: &mut PlaceLines, named: &[Named]) -> Result<(), AllocError>
     ensures place { OnOk result (lines.new.place ≡ lines.old.place) }
     ensures lines { IsAscending named_cmp (map named_view named.now)
         → OnOk result (Adds lines.old lines.new
@@ -65,7 +60,7 @@ pub(crate) fn add_missing(
 {
     let mut before = None;
     for entry in named {
-        add_next_missing(alloc, lines, before, entry)?;
+        add_next_missing(lines, before, entry)?;
         before = Some(entry);
     }
     Ok(())

@@ -1,20 +1,23 @@
 //! An object's own files: its declaration, its inventory and the sidecars. They are read for its
 //! head with its table, or for the table alone; a file of the storage root is read in the same way.
-ghost use Rattle.std.specs.Prelude.{◌≡◌, ◌∷◌, ◌++◌, [], true, false, IfErr, IfOk, IfSome, MatchOption, MatchResult, OnOk, not};
+ghost use Rattle.std.specs.Prelude.{◌≡◌, ◌∷◌, ◌++◌, [], true, false, IfErr, IfOk, IfSome};
+ghost use Rattle.std.specs.Prelude.{MatchOption, MatchResult, OnOk, not};
 ghost use Rattle.ocfl_tree.specs.{StorageRoot.{file_at}, Listing.{IsListing, kind_in}};
 ghost use Rattle.ocfl_tree.specs.Store.{IfTold};
 ghost use Rattle.ocfl_inventory.specs.Note.{plain};
-ghost use Rattle.ocfl_inventory.specs.Declaration.{declaration_name as declaration_name_of, known};
-ghost use Rattle.ocfl_inventory.specs.{Reading.{algorithm_of}, Sidecar.{side_limit}};
+ghost use Rattle.ocfl_inventory.specs.Declaration.{declaration_name as declaration_name_of};
+ghost use Rattle.ocfl_inventory.specs.Sidecar.{side_limit};
 ghost use Rattle.ocfl_inventory.specs.Table.{IsFit, table_of};
 ghost use Rattle.ocfl_digest.specs.declared.algorithm.Algorithm.TheVariants.{Sha256, Sha512};
 ghost use Rattle.ocfl_inventory.specs.declared.declaration.Level.TheVariants as level;
-ghost use Rattle.ocfl_audit.specs.Head.{inventory_file_notes, inventory_part, is_exact_declaration, on, sidecars_notes, sidecar_name as sidecar_name_of};
+ghost use Rattle.ocfl_audit.specs.Head.{inventory_file_notes, is_exact_declaration, on};
+ghost use Rattle.ocfl_audit.specs.Head.{sidecar_name as sidecar_name_of};
 ghost use Rattle.ocfl_audit.specs.Trail.{is_meta};
 ghost use Rattle.ocfl_audit.specs.Zone.{inside, inventory_name, object_declared, table_at, zone};
 ghost use Rattle.ocfl_item.specs.HeadFiles.{FilesStop, OpensJust, ReadsFiles};
-ghost use Rattle.ocfl_item.specs.Internal.HeadFiles.{IsFileAt, ReadsFile, head_files, inventory_files, table_in};
-ghost use Rattle.ocfl_item.specs.{Internal.Lines.{Adds}, Internal.Visiting.{HeadRead}};
+ghost use Rattle.ocfl_item.specs.Internal.HeadFiles.{IsFileAt, ReadsFile, head_files};
+ghost use Rattle.ocfl_item.specs.Internal.HeadFiles.{inventory_files, table_in};
+ghost use Rattle.ocfl_item.specs.Internal.Lines.{Adds};
 ghost use Rattle.ocfl_item.specs.Ways.{IsObject, IsWayFault};
 ghost use Rattle.ocfl_item.specs.Internal.Ways.{IsDeclared, IsHeadOf, IsListedObject, is_file_kind};
 
@@ -66,7 +69,6 @@ fn place_of_file(folder: &Folder, name: &str) -> Result<Option<Place>, AllocErro
 
 /// What a file of a directory holds within a limit, if it is there.
 pub(crate) fn read_file<T: Tree>(
-    alloc: Global,
     store: &mut T,
     folder: &Folder,
     name: &str,
@@ -82,30 +84,14 @@ pub(crate) fn read_file<T: Tree>(
     let Some(place) = place_of_file(folder, name)? else {
         return Ok(None);
     };
-    match read_bounded(alloc, store, &place, limit) {
+    match read_bounded(folder.alloc(), store, &place, limit) {
         Ok(file) => Ok(Some(file)),
         Err(trouble) => Err(fault_at(place, trouble)),
     }
 }
 
-/// What the sidecar of an algorithm holds, if it is there.
-fn read_sidecar<T: Tree>(
-    alloc: Global,
-    store: &mut T,
-    folder: &Folder,
-    algorithm: Algorithm,
-) -> Result<Option<Bounded>, Fault>
-    ensures only { IfErr result (λ why. IsWayFault why) }
-    ensures told { IfTold T.told (T.state store.old) (λ root.
-        IsListing root folder.now.place folder.now.entries.items
-        → is_meta root (folder.now.place ++ sidecar_name_of algorithm ∷ []) ≡ true
-        → ReadsFile root (T.state store.old) (T.state store.new) folder.now.place
-        (sidecar_name_of algorithm) side_limit result) }
-{
-    read_file(alloc, store, folder, sidecar_name(algorithm), SIDE_LIMIT)
-}
-
-fn read_sidecars<T: Tree>(alloc: Global, store: &mut T, folder: &Folder) -> Result<Sidecars, Fault>
+/// What the sidecars hold that are there.
+fn read_sidecars<T: Tree>(store: &mut T, folder: &Folder) -> Result<Sidecars, Fault>
     ensures only { IfErr result (λ why. IsWayFault why) }
     ensures told { IfTold T.told (T.state store.old) (λ root.
         IsListedObject root folder.now.place folder.now.entries.items
@@ -117,40 +103,13 @@ fn read_sidecars<T: Tree>(alloc: Global, store: &mut T, folder: &Folder) -> Resu
         (λ why. FilesStop root (T.state store.old) (T.state store.new) folder.now.place
         (sidecar_name_of Sha256 ∷ sidecar_name_of Sha512 ∷ []) why)) }
 {
-    let short = read_sidecar(alloc, store, folder, Algorithm::Sha256)?;
-    let long = read_sidecar(alloc, store, folder, Algorithm::Sha512)?;
+    let short = read_file(store, folder, sidecar_name(Algorithm::Sha256), SIDE_LIMIT)?;
+    let long = read_file(store, folder, sidecar_name(Algorithm::Sha512), SIDE_LIMIT)?;
     Ok(Sidecars { short, long })
-}
-
-/// Appends the lines of an inventory, of which these bytes were read, and of its sidecars.
-fn add_whole_inventory<T: Tree>(
-    alloc: Global,
-    store: &mut T,
-    folder: &Folder,
-    lines: &mut PlaceLines,
-    bytes: &[u8],
-) -> Result<Option<Table>, Fault>
-    ensures only { IfErr result (λ why. IsWayFault why) }
-    ensures fit { IfOk result (λ table. IfSome table (λ t. IsFit t)) }
-    ensures place { OnOk result (lines.new.place ≡ lines.old.place) }
-    ensures told { IfTold T.told (T.state store.old) (λ root.
-        IsListedObject root folder.now.place folder.now.entries.items
-        → MatchResult result
-        (λ table. ReadsFiles root (T.state store.old) (T.state store.new) folder.now.place
-        (sidecar_name_of Sha256 ∷ sidecar_name_of Sha512 ∷ [])
-        × (table ≡ table_of bytes.now)
-        × Adds lines.old lines.new (sidecars_notes root folder.now.place bytes.now
-        ++ inventory_part root folder.now.place bytes.now (algorithm_of bytes.now)))
-        (λ why. FilesStop root (T.state store.old) (T.state store.new) folder.now.place
-        (sidecar_name_of Sha256 ∷ sidecar_name_of Sha512 ∷ []) why)) }
-{
-    let sidecars = read_sidecars(alloc, store, folder)?;
-    Ok(add_inventory(alloc, lines, bytes, &sidecars)?)
 }
 
 /// Appends the lines of an object's inventory and its sidecars.
 fn add_inventory_file<T: Tree>(
-    alloc: Global,
     store: &mut T,
     folder: &Folder,
     lines: &mut PlaceLines,
@@ -170,7 +129,7 @@ fn add_inventory_file<T: Tree>(
         → OpensJust root (T.state store.old) (T.state store.new) folder.now.place
         (inventory_files root folder.now.place) result) }
 {
-    match read_file(alloc, store, folder, INVENTORY_NAME, INVENTORY_LIMIT)? {
+    match read_file(store, folder, INVENTORY_NAME, INVENTORY_LIMIT)? {
         None => {
             lines.add_plain(Code::E063)?;
             Ok(None)
@@ -179,13 +138,15 @@ fn add_inventory_file<T: Tree>(
             lines.add_plain(Code::S02)?;
             Ok(None)
         }
-        Some(Bounded::Whole(bytes)) => add_whole_inventory(alloc, store, folder, lines, &bytes),
+        Some(Bounded::Whole(bytes)) => {
+            let sidecars = read_sidecars(store, folder)?;
+            Ok(add_inventory(lines, &bytes, &sidecars)?)
+        }
     }
 }
 
 /// Appends the line of an object's declaration, if that is not exact.
 fn add_declaration_file<T: Tree>(
-    alloc: Global,
     store: &mut T,
     folder: &Folder,
     lines: &mut PlaceLines,
@@ -205,42 +166,15 @@ fn add_declaration_file<T: Tree>(
         (declaration_name_of level.Object version ∷ []) why)) }
 {
     let name = declaration_name(Level::Object, version);
-    let declaration = read_file(alloc, store, folder, name, SIDE_LIMIT)?;
+    let declaration = read_file(store, folder, name, SIDE_LIMIT)?;
     add_declaration(lines, version, &declaration)?;
     Ok(())
-}
-
-/// The lines of an object of known version, and its table if they do not stop.
-fn known_head<T: Tree>(
-    alloc: Global,
-    store: &mut T,
-    folder: &Folder,
-    version: Version,
-) -> Result<(PlaceLines, Option<Table>), Fault>
-    ensures only { IfErr result (λ why. IsWayFault why) }
-    ensures fit { IfOk result (λ p. IfSome p.1 (λ t. IsFit t)) }
-    ensures place { IfOk result (λ p. p.0.place ≡ folder.now.place) }
-    ensures told { IfTold T.told (T.state store.old) (λ root.
-        IsObject root folder.now.place folder.now.entries.items
-        → object_declared root folder.now.place ≡ known version
-        → IfOk result (IsHeadOf root folder.now.place)) }
-    ensures opened { IfTold T.told (T.state store.old) (λ root.
-        IsObject root folder.now.place folder.now.entries.items
-        → OpensJust root (T.state store.old) (T.state store.new) folder.now.place
-        (head_files root folder.now.place (known version)) result) }
-{
-    let mut lines = PlaceLines::new(alloc, folder.place.try_clone()?);
-    add_declaration_file(alloc, store, folder, &mut lines, version)?;
-    let table = add_inventory_file(alloc, store, folder, &mut lines)?;
-    add_clean(&mut lines)?;
-    Ok((lines, table))
 }
 
 /// The lines of an object as a whole, and its table if they do not stop (OCFL 1.1, 3 OCFL
 /// Object). The inventory is read and parsed once for both, and the sidecars are opened only if
 /// it is there within its limit.
 pub(crate) fn head_lines<T: Tree>(
-    alloc: Global,
     store: &mut T,
     folder: &Folder,
     declared: Declared,
@@ -250,17 +184,21 @@ pub(crate) fn head_lines<T: Tree>(
     ensures place { IfOk result (λ p. p.0.place ≡ folder.now.place) }
     ensures told { IfTold T.told (T.state store.old) (λ root.
         IsDeclared root folder.now.place folder.now.entries.items declared
-        → HeadRead root (T.state store.old) (T.state store.new) folder.now.place result) }
+        → IfOk result (IsHeadOf root folder.now.place)) }
     ensures opened { IfTold T.told (T.state store.old) (λ root.
         IsDeclared root folder.now.place folder.now.entries.items declared
         → OpensJust root (T.state store.old) (T.state store.new) folder.now.place
         (head_files root folder.now.place (object_declared root folder.now.place)) result) }
 {
-    if let Declared::One(version) = declared {
-        return known_head(alloc, store, folder, version);
-    }
-    let lines = stopped_lines(alloc, folder, Level::Object, declared)?;
-    Ok((lines, None))
+    let Declared::One(version) = declared else {
+        let lines = stopped_lines(folder, Level::Object, declared)?;
+        return Ok((lines, None));
+    };
+    let mut lines = PlaceLines::new(folder.alloc(), folder.place.try_clone()?);
+    add_declaration_file(store, folder, &mut lines, version)?;
+    let table = add_inventory_file(store, folder, &mut lines)?;
+    add_clean(&mut lines)?;
+    Ok((lines, table))
 }
 
 /// The table of an inventory, if nothing stops.
@@ -289,7 +227,7 @@ pub fn table_of_object<T: Tree>(
         (inventory_name ∷ []) result) }
     ensures fit { IfOk result (λ o. IfSome o (λ t. IsFit t)) }
 {
-    match read_file(alloc, store, folder, INVENTORY_NAME, INVENTORY_LIMIT)? {
+    match read_file(store, folder, INVENTORY_NAME, INVENTORY_LIMIT)? {
         Some(Bounded::Whole(bytes)) => Ok(read_table(alloc, &bytes)?),
         Some(Bounded::Over) => Ok(None),
         None => Ok(None),

@@ -9,7 +9,8 @@ ghost use Rattle.ocfl_audit.specs.{Lines.{listed_dir_notes}, Walk.{seen_names}};
 ghost use Rattle.ocfl_item.specs.{Ways.{IsWayFault}, Internal.Ways.{IsDeclared}};
 ghost use Rattle.ocfl_item.specs.Internal.Content.{IsSight, content_at};
 ghost use Rattle.ocfl_item.specs.Meeting.{IsFairVisit, IsVisit, Visits};
-ghost use Rattle.ocfl_item.specs.Internal.Visiting.{HasRole, IsDirectoryAt, IsEntryAt, IsListedAt, IsPlainAt, IsUndeclaredAt, VisitsHead};
+ghost use Rattle.ocfl_item.specs.Internal.Visiting.{HasRole, IsDirectoryAt, IsEntryAt, IsListedAt};
+ghost use Rattle.ocfl_item.specs.Internal.Visiting.{IsPlainAt, IsUndeclaredAt, VisitsHead};
 
 use crate::content::{content_item, content_item_at};
 use crate::fault::Fault;
@@ -91,12 +92,7 @@ fn visit_listed<T: Tree>(alloc: Global, store: &mut T, place: Place) -> Result<V
 }
 
 /// An object: its head, and what is below if that does not stop.
-fn visit_object<T: Tree>(
-    alloc: Global,
-    store: &mut T,
-    folder: Folder,
-    declared: Declared,
-) -> Result<Visit, Fault>
+fn visit_object<T: Tree>(store: &mut T, folder: Folder, declared: Declared) -> Result<Visit, Fault>
     ensures only { IfErr result (λ why. IsWayFault why) }
     ensures fair { length folder.place ≤ max_listed_depth → IsOrdinary folder.entries.items
         → IfOk result (λ v. IsFairVisit folder.place v) }
@@ -104,7 +100,7 @@ fn visit_object<T: Tree>(
         IsDeclared root folder.place folder.entries.items declared
         → VisitsHead root (T.state store.old) (T.state store.new) folder.place result) }
 {
-    let (lines, table) = head_lines(alloc, store, &folder, declared)?;
+    let (lines, table) = head_lines(store, &folder, declared)?;
     let item = Some(Pending::of_lines(lines));
     match table {
         Some(table) => Ok(Visit {
@@ -117,7 +113,7 @@ fn visit_object<T: Tree>(
 }
 
 /// A directory of the storage hierarchy that declares nothing.
-fn visit_undeclared(alloc: Global, folder: Folder) -> Result<Visit, Fault>
+fn visit_undeclared(folder: Folder) -> Result<Visit, Fault>
     ensures only { IfErr result (λ why. why ≡ Fault.Memory) }
     ensures fair { length folder.place ≤ max_listed_depth → IsOrdinary folder.entries.items
         → IfOk result (λ v. IsFairVisit folder.place v) }
@@ -126,7 +122,7 @@ fn visit_undeclared(alloc: Global, folder: Folder) -> Result<Visit, Fault>
         → IfOk result (λ v. IsVisit root folder.place v) }
 {
     if folder.entries.is_empty() {
-        return visit_plain(alloc, folder.place, Code::E073);
+        return visit_plain(folder.alloc(), folder.place, Code::E073);
     }
     Ok(Visit::of_folder(None, folder))
 }
@@ -144,8 +140,8 @@ fn visit_directory<T: Tree>(alloc: Global, store: &mut T, place: Place) -> Resul
     }
     let folder = list(store, place)?;
     match declaration(&folder.entries, Level::Object) {
-        Declared::None => visit_undeclared(alloc, folder),
-        declared => visit_object(alloc, store, folder, declared),
+        Declared::None => visit_undeclared(folder),
+        declared => visit_object(store, folder, declared),
     }
 }
 

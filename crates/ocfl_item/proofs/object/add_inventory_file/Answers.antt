@@ -1,7 +1,7 @@
 use Rattle.std.proofs.{Common.{refl}, lemmas.Result.{err_from_is_err_and}}
-use Rattle.ocfl_item.proofs.HeadCalls.{first_stops, first_memory, over_file, no_inventory_lines, long_inventory_lines, no_inventory_table, long_inventory_table}
-use Rattle.ocfl_item.proofs.FileLaws.{file_is_meta}
-use Rattle.ocfl_item.proofs.HeadOpens.{inventory_alone, sidecars_none, sidecars_over, sidecars_within, whole_opens, whole_told}
+use Rattle.ocfl_item.proofs.HeadCalls.{first_memory, first_stops, inventory_lines, inventory_table, long_inventory_lines, long_inventory_table, no_inventory_lines, no_inventory_table, over_file}
+use Rattle.ocfl_item.proofs.FileLaws.{file_is_meta, memory_after, some_of}
+use Rattle.ocfl_item.proofs.HeadOpens.{inventory_alone, sidecars_none, sidecars_over, sidecars_stop, sidecars_within, with_sidecars}
 use Rattle.ocfl_item.proofs.object.add_inventory_file.Goals as goal
 
 pub returns-in_ok-add_plain-in-None-clause-told : goal.returns-in_ok-add_plain-in-None-clause-told
@@ -15,11 +15,15 @@ returns-in_ok-add_plain-in-Some-Over-clause-told g c = λ h root over here.
     let read = rw (c.in-Some-Over.is, c.in-Some-Over.field-0-is) at c.in_ok-read_file.ensures.told h root over here.listing (file_is_meta root _ _ here.zone refl) in
     (long_inventory_table root _ read.gives.1, long_inventory_lines root _ c.args.lines.now c.add_plain-in-Some-Over.new.self read.gives.1 c.in_ok-add_plain-in-Some-Over.ensures)
 
-pub returns-in-Some-Whole-clause-told : goal.returns-in-Some-Whole-clause-told
-returns-in-Some-Whole-clause-told g c = λ h root over here.
+pub returns-in_ok-add_inventory-in-Some-Whole-clause-told :
+    goal.returns-in_ok-add_inventory-in-Some-Whole-clause-told
+returns-in_ok-add_inventory-in-Some-Whole-clause-told g c = λ h root over here.
     let read = rw (c.in-Some-Whole.is, c.in-Some-Whole.field-0-is) at c.in_ok-read_file.ensures.told h root over here.listing (file_is_meta root _ _ here.zone refl) in
-    whole_told root _ _ _ c.args.lines.now c.add_whole_inventory.new.lines c.in-Some-Whole.bytes _ _ read.gives.1 c.deref.ensures.value
-    (c.add_whole_inventory.ensures.told h root (over_file root _ _ _ _ _ _ read) here)
+    let sides = c.in_ok-sidecars-in-Some-Whole.ensures.told h root (over_file root _ _ _ _ _ _ read) here in
+    let added = c.in_ok-add_inventory-in-Some-Whole.ensures in (
+      inventory_table root _ c.in-Some-Whole.bytes _ _ read.gives.1 c.deref.ensures.value added.table,
+      inventory_lines root _ c.args.lines.now c.add_inventory.new.lines c.in-Some-Whole.bytes _ read.gives.1 c.deref.ensures.value (added.lines root _ (sides.1, sides.2)),
+    )
 
 pub returns-in_err-read_file-clause-opened : goal.returns-in_err-read_file-clause-opened
 returns-in_err-read_file-clause-opened g c = λ h root over here.
@@ -50,8 +54,26 @@ returns-in_ok-add_plain-in-Some-Over-clause-opened g c = λ h root over here.
     let read = rw (c.in-Some-Over.is, c.in-Some-Over.field-0-is) at c.in_ok-read_file.ensures.told h root over here.listing (file_is_meta root _ _ here.zone refl) in
     inventory_alone root _ _ _ (sidecars_over root _ read.gives.1) read.gives.0
 
-pub returns-in-Some-Whole-clause-opened : goal.returns-in-Some-Whole-clause-opened
-returns-in-Some-Whole-clause-opened g c = λ h root over here.
+pub returns-in_err-sidecars-in-Some-Whole-clause-opened :
+    goal.returns-in_err-sidecars-in-Some-Whole-clause-opened
+returns-in_err-sidecars-in-Some-Whole-clause-opened g c = λ h root over here.
+    let p = err_from_is_err_and c.from_residual-in_err-sidecars-in-Some-Whole.result c.from_residual-in_err-sidecars-in-Some-Whole.ensures.1 in
     let read = rw (c.in-Some-Whole.is, c.in-Some-Whole.field-0-is) at c.in_ok-read_file.ensures.told h root over here.listing (file_is_meta root _ _ here.zone refl) in
-    whole_opens root _ _ _ _ _ c.args.lines.now c.add_whole_inventory.new.lines _ c.add_whole_inventory.result
-    (sidecars_within root _ c.in-Some-Whole.bytes read.gives.1) read (c.add_whole_inventory.ensures.told h root (over_file root _ _ _ _ _ _ read) here)
+    rw (p.1, p.2)
+    (sidecars_stop root _ _ _ _ _ _ (sidecars_within root _ c.in-Some-Whole.bytes read.gives.1) read (c.in_err-sidecars-in-Some-Whole.ensures.told h root (over_file root _ _ _ _ _ _ read) here))
+
+pub returns-in_err-add_inventory-in-Some-Whole-clause-opened :
+    goal.returns-in_err-add_inventory-in-Some-Whole-clause-opened
+returns-in_err-add_inventory-in-Some-Whole-clause-opened g c = λ h root over here.
+    let p = err_from_is_err_and c.from_residual-in_err-add_inventory-in-Some-Whole.result c.from_residual-in_err-add_inventory-in-Some-Whole.ensures.1 in
+    let read = rw (c.in-Some-Whole.is, c.in-Some-Whole.field-0-is) at c.in_ok-read_file.ensures.told h root over here.listing (file_is_meta root _ _ here.zone refl) in
+    let sides = c.in_ok-sidecars-in-Some-Whole.ensures.told h root (over_file root _ _ _ _ _ _ read) here in
+    rw (p.1, p.2)
+    (memory_after root _ _ _ _ (some_of root _ _ _ _ (with_sidecars root _ _ _ _ _ (sidecars_within root _ c.in-Some-Whole.bytes read.gives.1) read sides.0)))
+
+pub returns-in_ok-add_inventory-in-Some-Whole-clause-opened :
+    goal.returns-in_ok-add_inventory-in-Some-Whole-clause-opened
+returns-in_ok-add_inventory-in-Some-Whole-clause-opened g c = λ h root over here.
+    let read = rw (c.in-Some-Whole.is, c.in-Some-Whole.field-0-is) at c.in_ok-read_file.ensures.told h root over here.listing (file_is_meta root _ _ here.zone refl) in
+    let sides = c.in_ok-sidecars-in-Some-Whole.ensures.told h root (over_file root _ _ _ _ _ _ read) here in
+    with_sidecars root _ _ _ _ _ (sidecars_within root _ c.in-Some-Whole.bytes read.gives.1) read sides.0

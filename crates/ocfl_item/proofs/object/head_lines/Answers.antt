@@ -1,45 +1,64 @@
-use Rattle.std.proofs.{Common.{◌∙◌, ap, sym}, lemmas.Result.{err_from_is_err_and}}
-use Rattle.ocfl_inventory.specs.{Entries.{meaning}, declared.declaration.Level.TheVariants.{Object}}
-use Rattle.ocfl_item.proofs.{HeadCalls.{stopped_head}, HeadLaws.{unknown_stops}}
-use Rattle.ocfl_item.proofs.HeadOpens.{known_object, known_opens, none_memory, stop_opens_none}
-use Rattle.ocfl_item.proofs.HeadReads.{head_read_from}
+use Rattle.std.proofs.{Common.{◌∙◌}, lemmas.Result.{err_from_is_err_and}}
+use Rattle.ocfl_inventory.specs.declared.declaration.Level.TheVariants.{Object}
+use Rattle.ocfl_item.proofs.{HeadCalls.{known_lines, known_table, stopped_head}, HeadLaws.{unknown_stops}}
+use Rattle.ocfl_item.proofs.HeadOpens.{declaration_stops, declared_known, head_memory, head_opened, inventory_stops, listed_object, none_memory, stop_opens_none}
 use Rattle.ocfl_item.proofs.object.head_lines.Goals as goal
 
-pub returns-in-One : goal.returns-in-One
-returns-in-One g c =
-    let made = c.known_head in
-    let v = c.in-One.version in
-    record {
-      only = made.ensures.only;
-      fit = made.ensures.fit;
-      place = made.ensures.place;
-      told = λ h root over here.
-          let object = known_object root _ _ _ v c.in-One.is here in
-          let opened = known_opens root _ _ _ v _ _ made.result c.in-One.is here (made.ensures.opened h root over object) in
-          head_read_from root _ _ _ made.result here.zone opened (made.ensures.told h root over object (sym here.says ∙ ap (meaning Object _) c.in-One.is));
-      opened = λ h root over here. known_opens root _ _ _ v _ _ made.result c.in-One.is here (made.ensures.opened h root over (known_object root _ _ _ v c.in-One.is here));
-    }
-
-pub returns-in_err-lines : goal.returns-in_err-lines
-returns-in_err-lines g c =
+pub returns-in_err-lines-clause-opened : goal.returns-in_err-lines-clause-opened
+returns-in_err-lines-clause-opened g c = λ h root over here.
     let p = err_from_is_err_and c.from_residual.result c.from_residual.ensures.1 in
-    rw (p.1, p.2) (record {
-      only = (λ e. cc, λ e. cc);
-      fit = tt;
-      place = tt;
-      told =
-          λ h root over here. head_read_from root _ _ _ _ here.zone (none_memory root _ _ _ over) tt;
-      opened = λ h root over here. none_memory root _ _ _ over;
-    })
+    rw (p.1, p.2) (none_memory root _ _ _ over)
 
-pub returns : goal.returns
-returns g c = record {
+pub returns-in_default : goal.returns-in_default
+returns-in_default g c = record {
   only = tt;
   fit = tt;
   place = c.in_ok-lines.ensures.place;
   told = λ h root over here.
       let stops = unknown_stops Object _ _ c.in_default.not-One here.points in
-      head_read_from root _ _ _ _ here.zone (stop_opens_none root _ _ c.args.declared _ over here stops)
-      (stopped_head root _ _ c.args.declared c.in_ok-lines.lines here stops (c.in_ok-lines.ensures.lines root stops here.points));
+      stopped_head root _ _ c.args.declared c.in_ok-lines.lines here stops (c.in_ok-lines.ensures.lines root stops here.points);
   opened = λ h root over here. stop_opens_none root _ _ c.args.declared _ over here (unknown_stops Object _ _ c.in_default.not-One here.points);
+}
+
+pub returns-in_err-try_clone-clause-opened : goal.returns-in_err-try_clone-clause-opened
+returns-in_err-try_clone-clause-opened g c = λ h root over here.
+    let p = err_from_is_err_and c.from_residual-in_err-try_clone.result c.from_residual-in_err-try_clone.ensures.1 in
+    rw (p.1, p.2) (none_memory root _ _ _ over)
+
+pub returns-in_err-add_declaration_file-clause-opened :
+    goal.returns-in_err-add_declaration_file-clause-opened
+returns-in_err-add_declaration_file-clause-opened g c = λ h root over here.
+    let p = err_from_is_err_and c.from_residual-in_err-add_declaration_file.result c.from_residual-in_err-add_declaration_file.ensures.1 in
+    rw (p.1, p.2) (declaration_stops root _ _ _ _ c.in-One.is here _ _ _ (c.in_err-add_declaration_file.ensures.told h root over (listed_object root _ _ _ here)))
+
+pub returns-in_err-table-clause-opened : goal.returns-in_err-table-clause-opened
+returns-in_err-table-clause-opened g c = λ h root over here.
+    let p = err_from_is_err_and c.from_residual-in_err-table.result c.from_residual-in_err-table.ensures.1 in
+    let read = c.in_ok-add_declaration_file.ensures.told h root over (listed_object root _ _ _ here) in
+    rw (p.1, p.2)
+    (inventory_stops root _ _ _ _ c.in-One.is here _ _ _ _ read.0 (c.in_err-table.ensures.opened h root (read.0.did.tree ∙ read.0.over) (listed_object root _ _ _ here)))
+
+pub returns-in_err-add_clean-clause-opened : goal.returns-in_err-add_clean-clause-opened
+returns-in_err-add_clean-clause-opened g c = λ h root over here.
+    let p = err_from_is_err_and c.from_residual-in_err-add_clean.result c.from_residual-in_err-add_clean.ensures.1 in
+    let read = c.in_ok-add_declaration_file.ensures.told h root over (listed_object root _ _ _ here) in
+    rw (p.1, p.2)
+    (head_memory root _ _ _ _ c.in-One.is here _ _ _ read.0 (c.in_ok-table.ensures.opened h root (read.0.did.tree ∙ read.0.over) (listed_object root _ _ _ here)))
+
+pub returns : goal.returns
+returns g c = record {
+  only = tt;
+  fit = c.in_ok-table.ensures.fit;
+  place = c.in_ok-add_clean.ensures.place ∙ c.in_ok-table.ensures.place ∙ c.in_ok-add_declaration_file.ensures.place ∙ c.new-lines.ensures.place ∙ c.in_ok-try_clone.ensures;
+  told = λ h root over here.
+      let known = declared_known root _ _ _ _ c.in-One.is here in
+      let read = c.in_ok-add_declaration_file.ensures.told h root over (listed_object root _ _ _ here) in
+      let more = c.in_ok-table.ensures.told h root (read.0.did.tree ∙ read.0.over) (listed_object root _ _ _ here) in (
+        known_lines root _ here.zone c.in-One.version c.new-lines.result c.add_declaration_file.new.lines c.add_inventory_file.new.lines c.add_clean.new.lines
+            known c.new-lines.ensures.lines read.1 more.1 c.in_ok-add_clean.ensures.lines,
+        known_table root _ c.in-One.version _ known more.0,
+      );
+  opened = λ h root over here.
+      let read = c.in_ok-add_declaration_file.ensures.told h root over (listed_object root _ _ _ here) in
+      head_opened root _ _ _ _ c.in-One.is here _ _ _ read.0 (c.in_ok-table.ensures.opened h root (read.0.did.tree ∙ read.0.over) (listed_object root _ _ _ here));
 }

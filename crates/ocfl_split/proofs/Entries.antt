@@ -1,10 +1,8 @@
 -- From a listing to the directories of the hierarchy right below its place.
-use Rattle.std.proofs.Common.{◌≡◌, inl, inr, zero, suc, ◌+◌, List, [], ◌∷◌, ◌++◌, refl, sym, ◌∙◌, ap, subst, true, false, Bool, Option, Some, None, arith, map, filter, All, IsPermutation}
+use Rattle.std.proofs.Common.{◌≡◌, inl, inr, zero, suc, List, [], ◌∷◌, ◌++◌, refl, sym, ◌∙◌, ap, subst, true, false, Bool, Option, Some, None, arith, map, filter, All, IsPermutation}
 use Rattle.std.proofs.lemmas.List.Sorted.{All-permutation, IsPermutation-sym}
-use Rattle.std.specs.Prelude.{cond, not, ◌&&◌, option_map, filter_map, slice_index_or}
-use Rattle.std.specs.{List.{IsDistinct}, List.Sorted.{IsSorted}, Ordering.{is_lt}}
-use Rattle.std.specs.declared.cmp.Ordering.{Ordering}
-use Rattle.std.specs.declared.cmp.Ordering.TheVariants.{Less, Equal, Greater}
+use Rattle.std.specs.Prelude.{cond, not, ◌&&◌, option_map, filter_map}
+use Rattle.std.specs.{List.Sorted.{IsSorted}}
 use Rattle.ocfl_tree.specs.Place.{Place, Text, text_cmp, text_eq, place_cmp, child_name}
 use Rattle.ocfl_tree.specs.Ascending.{IsAscending, IsAmong, IsBeforeAll}
 use Rattle.ocfl_tree.specs.StorageRoot.{StorageRoot, Leaf, file, dir, other, at, is_dir, is_dir_leaf, names_in}
@@ -12,8 +10,9 @@ use Rattle.ocfl_tree.specs.Listing.{AreApart, IsListing, IsOrdinary, kind_at, ki
 use Rattle.ocfl_tree.specs.{declared.store.Entry.{Entry}, declared.store.Kind.{Kind}}
 use Rattle.ocfl_tree.specs.declared.store.Kind.TheVariants as kind
 use Rattle.ocfl_tree.proofs.Bools.{and_first, and_second, and_both}
-use Rattle.ocfl_tree.proofs.Places.{text_eq-Decides, text_eq-same, not_decided, differ}
-use Rattle.ocfl_tree.proofs.Orders.{below_from_greater, place_cmp_total, place_cmp_exact, ascending_unique, ascends_ascending, ascends_filter, among_filter, among_from_filter, among_map}
+use Rattle.ocfl_tree.proofs.Places.{text_eq-Decides, text_eq-same, not_decided}
+use Rattle.ocfl_tree.proofs.Orders.{place_cmp_total, place_cmp_exact, ascending_unique, ascends_ascending, ascends_filter, among_filter, among_from_filter, among_map}
+use Rattle.ocfl_inventory.proofs.Once.{apart_up, up_from_sorted}
 use Rattle.ocfl_audit.proofs.AuditExists.{some_not_none}
 use Rattle.ocfl_audit.proofs.BelowLaws.{text_cmp_total, text_cmp_exact, above_name}
 use Rattle.ocfl_audit.proofs.WayLaws.{entry_named}
@@ -24,33 +23,10 @@ use Rattle.ocfl_split.specs.Internal.Directories.{is_directory_entry, directorie
 
 -- ---- by ascending names
 
-below_all : (x y : Text) (ns : List Text) → text_cmp x y ≡ Less → IsBeforeAll text_cmp y ns → IsBeforeAll text_cmp x ns
-below_all x y [] b h = tt
-below_all x y (n ∷ ns) b h = (text_cmp_total.trans x y n b h.0, below_all x y ns b h.1)
-
-rises : (es : List Entry) → IsSorted (λ e f. text_cmp e.name f.name) es → IsDistinct text_eq (names_of es) → IsAscending text_cmp (names_of es)
-unfolding IsDistinct
-rises [] s d = tt
-rises (x ∷ []) s d = (tt, tt)
-rises (x ∷ y ∷ es) s d =
-    let rest : IsAscending text_cmp (names_of (y ∷ es)) = rises (y ∷ es) (later s) d.1 in
-    let below : text_cmp x.name y.name ≡ Less = by (text_cmp y.name x.name) refl (s 0 x (omega arith) (omega arith)) in
-    ((below, below_all x.name y.name (names_of es) below rest.0), rest)
-  where
-    later : IsSorted (λ e f. text_cmp e.name f.name) (x ∷ y ∷ es) → IsSorted (λ e f. text_cmp e.name f.name) (y ∷ es)
-    later s k e l h =
-        let same : suc k + 1 ≡ suc (k + 1) = omega arith in
-        subst (λ j. is_lt (text_cmp (slice_index_or (x ∷ y ∷ es) j e).name (slice_index_or (y ∷ es) k e).name) ≡ false) same (s (suc k) e (omega arith) (omega (arith, h)))
-
-    by : (r : Ordering) → text_cmp y.name x.name ≡ r → is_lt r ≡ false → text_cmp x.name y.name ≡ Less
-    by Less e h = absurd cc
-    by Equal e h = absurd (differ _ _ (text_eq-Decides x.name y.name) d.0.0 (sym (text_cmp_exact y.name x.name e)))
-    by Greater e h = below_from_greater text_cmp_total y.name x.name e
-
 -- a listing that was sorted
 pub names_rise : (es fs : List Entry) → IsOrdinary es → IsPermutation es fs → IsSorted (λ e f. text_cmp e.name f.name) fs → IsAscending text_cmp (names_of fs)
 names_rise es fs ordinary moved sorted =
-    rises fs sorted (names_differ es fs ordinary moved)
+    apart_up text_cmp_total text_cmp_exact (names_of fs) (up_from_sorted text_cmp_total text_cmp_exact (λ e. e.name) fs (λ k d h. sorted k d (omega arith) h)) (names_differ es fs ordinary moved)
 
 -- ---- the directories among entries
 

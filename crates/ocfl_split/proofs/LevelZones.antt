@@ -127,10 +127,7 @@ module _ (root : StorageRoot) where
 
       by : (b : Bool) → is_declared (object_declared root (d ++ x ∷ [])) ≡ b → is_declared (object_declared root (d ++ x ∷ [])) ≡ false
       by false e = e
-      by true e = absurd (apart (sym z ∙ step ∙ ap (λ b. cond b (inside (d ++ x ∷ []) []) hierarchy) e))
-        where
-          apart : hierarchy ≡ inside (d ++ x ∷ []) [] → ⊥
-          apart w = cc
+      by true e = let two : hierarchy ≡ inside (d ++ x ∷ []) [] = sym z ∙ step ∙ ap (λ b. cond b (inside (d ++ x ∷ []) []) hierarchy) e in cc
 
   known : zone root [] ≡ hierarchy → is_known (root_declared root) ≡ true
   known z = by (is_known (root_declared root)) refl z

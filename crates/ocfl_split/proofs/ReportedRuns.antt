@@ -143,13 +143,9 @@ module _ (b : ℕ) (some : 1 ≤ b) where
           let enough = on.enough in
           let overrun = on.overrun in
           record {
-            before = i ∷ on.before;
-            file = on.file;
-            after = on.after;
+            before = i ∷ on.before; file = on.file; after = on.after;
             are = ap (λ xs. i ∷ xs) on.are;
-            free = on.free;
-            enough = omega (arith, enough);
-            overrun = omega (arith, overrun);
+            free = on.free; enough = omega (arith, enough); overrun = omega (arith, overrun);
           }
       more false e later =
           let spent = ltb-false (s + i.cost) b e in
@@ -175,10 +171,7 @@ module _ (b : ℕ) (some : 1 ≤ b) where
 
   -- a run after which another follows left something
   left_some : (n : ℕ) (rest : List Item) (next : List Item) (later : List (List Item)) → budget_runs_after (replicate n b) rest ≡ next ∷ later → rest ≢ []
-  left_some n rest next later h e = no (sym h ∙ ap (budget_runs_after (replicate n b)) e ∙ no_runs n)
-    where
-      no : next ∷ later ≡ [] → ⊥
-      no q = cc
+  left_some n rest next later h e = let two : next ∷ later ≡ [] = sym h ∙ ap (budget_runs_after (replicate n b)) e ∙ no_runs n in cc
 
   not_nothing : (before : List (List Item)) (run : List Item) (later : List (List Item)) → [] ≡ before ++ run ∷ later → ⊥
   not_nothing [] run later h = cc

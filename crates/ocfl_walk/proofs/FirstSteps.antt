@@ -1,5 +1,6 @@
 -- The first step of a walk that begins at a place.
 use Rattle.std.proofs.Common.{◌≡◌, ◌≢◌, ◌<◌, ◌≤◌, [], ◌∷◌, ◌++◌, refl, sym, ◌∙◌, ap, subst, true, false, Option, Some, None, Result, Ok, Err, length, arith}
+use Rattle.std.proofs.lemmas.Option.{same_Some}
 use Rattle.std.specs.{declared.alloc.Global.{Global}, Prelude.{IfOk, IfSome, Vec}, Ordering.{is_lt}}
 use Rattle.std.specs.declared.cmp.Ordering.{Ordering}
 use Rattle.std.specs.declared.cmp.Ordering.TheVariants.{Less, Equal, Greater}
@@ -209,10 +210,7 @@ goes_less old new x (Ok step.End) g h l = absurd h
 pub stays_before : (e : End) (old new : Stand) (x : Place) → is_past e x ≡ false → (r : Result Step Fault) → IfOk r (λ q. GoesAt old new q)
     → IfOk r (λ q. GoesTo new x q) → IfOk r (λ q. IsBefore e new q)
 stays_before e old new x n (Err why) g h = tt
-stays_before e old new x n (Ok (step.Item p)) g h = let same : p.place ≡ x = one (sym g.0 ∙ h) in ap (is_past e) same ∙ n
-  where
-    one : {y z : Place} → Some y ≡ Some z → y ≡ z
-    one f = cc
+stays_before e old new x n (Ok (step.Item p)) g h = let same : p.place ≡ x = same_Some _ _ (sym g.0 ∙ h) in ap (is_past e) same ∙ n
 stays_before e old new x n (Ok step.Nothing) g h = tt
 stays_before e old new x n (Ok step.End) g h = tt
 

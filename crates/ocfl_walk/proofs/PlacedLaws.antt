@@ -3,7 +3,7 @@ use Rattle.std.specs.declared.alloc.Global.{Global}
 use Rattle.std.specs.Prelude.{Vec, ◌==◌, IfSome, MatchOption, cond, nat_le, min, option_map, slice_get}
 use Rattle.std.specs.Option.{option_to_list}
 use Rattle.std.proofs.Common.{◌≡◌, ℕ, zero, suc, ◌+◌, ◌-◌, ◌<◌, ◌≤◌, List, [], ◌∷◌, ◌++◌, refl, sym, ◌∙◌, ap, subst, true, false, Bool, Option, Some, None, length, take, drop, arith, vec_len}
-use Rattle.std.proofs.lemmas.Bool.{leb-true, leb-false, le-leb}
+use Rattle.std.proofs.lemmas.{Bool.{leb-true, leb-false, le-leb}, Option.{same_Some}}
 use Rattle.std.proofs.lemmas.List.{length-append, length-take, length-take-le, nil_from_length, same_from_push, take-append-drop, take-append-le, take_min}
 use Rattle.std.proofs.Math.Seq.{take-append_seam, take-length}
 use Rattle.ocfl_tree.specs.{Place.{Place, Text, begins}, declared.store.Entry.{Entry}}
@@ -98,16 +98,13 @@ module _ (last x d : Place) (n m : Text) (k : ℕ) (is : x ≡ d ++ n ∷ []) (o
 
   pub next_fits : o ≡ Some x → (n ≡ m) × (begins d last ≡ true) × (length x - 1 ≡ min (length last) k)
   next_fits e =
-      let w = same_from_push (take k last) d m n (one (sym next ∙ e) ∙ is) in
+      let w = same_from_push (take k last) d m n (same_Some _ _ (sym next ∙ e) ∙ is) in
       let long = ap length w.0 in
       let least = length-take k last in (
         sym w.1,
         subst (λ y. begins y last ≡ true) w.0 (subst (λ y. begins (take k last) y ≡ true) (take-append-drop k last) (begins_front (take k last) (drop k last))),
         omega (arith, depth, long, least),
       )
-    where
-      one : {y z : Place} → Some y ≡ Some z → y ≡ z
-      one f = cc
 
 -- the deepest listing's entry is taken off
 pub taken_here : (p : Place) (vs old new : List (Vec Entry Global)) (v w : Vec Entry Global) (o : Option Entry) → old ≡ vs ++ v ∷ [] → new ≡ vs ++ w ∷ [] → v.items ≡ w.items ++ option_to_list o

@@ -1,6 +1,6 @@
 -- Where a walk stands after a step, on a told tree.
 use Rattle.std.proofs.Common.{◌≡◌, inl, inr, ◌<◌, List, [], ◌∷◌, ◌++◌, sym, ◌∙◌, ap, subst, false, Option, Some, None, arith}
-use Rattle.std.proofs.lemmas.List.{append-nil}
+use Rattle.std.proofs.lemmas.{List.{append-nil}, Option.{same_Some}}
 use Rattle.std.specs.Prelude.{IfOk, Result, Ok, Err, option_map}
 use Rattle.ocfl_tree.specs.{Place.{Place}, StorageRoot.{StorageRoot}, Store.{Store}}
 use Rattle.ocfl_tree.specs.declared.store.Entry.{Entry}
@@ -80,14 +80,8 @@ onward_item old mid new p (inr h) g = (g.0, after_on old.last h.0 p.place h.2 (s
 
 module _ (root : StorageRoot) (s t : Store) (last : Option Place) (e : End) (x : Place) (new : Stand) where
   pub step_out : (r : Step) → GoesTo new x r → is_past e x ≡ false → Steps root s t last new r → StepsOut root s t last e new r
-  step_out (step.Item p) g n h = let same : x ≡ p.place = by (sym g ∙ h.1.0) in (h.0, h.1, h.2, ap (is_past e) (sym same) ∙ n, h.3)
-    where
-      by : {y : Place} → Some x ≡ Some y → x ≡ y
-      by f = cc
-  step_out step.Nothing g n h = let same : x ≡ h.0 = by (sym g ∙ h.2.0) in (h.0, h.1, h.2, h.3, ap (is_past e) (sym same) ∙ n, h.4)
-    where
-      by : {y : Place} → Some x ≡ Some y → x ≡ y
-      by f = cc
+  step_out (step.Item p) g n h = let same : x ≡ p.place = same_Some _ _ (sym g ∙ h.1.0) in (h.0, h.1, h.2, ap (is_past e) (sym same) ∙ n, h.3)
+  step_out step.Nothing g n h = let same : x ≡ h.0 = same_Some _ _ (sym g ∙ h.2.0) in (h.0, h.1, h.2, h.3, ap (is_past e) (sym same) ∙ n, h.4)
   step_out step.End g n h = absurd g
 
   pub steps_out_to : (r : Result Step Fault) → IfOk r (λ q. GoesTo new x q) → IsBeyond last x → is_past e x ≡ false → StepsTo root s t last x new r → StepsOutTo root s t last e new r
@@ -99,11 +93,8 @@ pub stands_before : (e : End) (old new : Stand) (x : Place) → is_past e x ≡ 
 stands_before e old new x n (Err why) g h = tt
 stands_before e old new x n (Ok q) g h = by q g h
   where
-    same : {y z : Place} → Some y ≡ Some z → y ≡ z
-    same f = cc
-
     by : (q : Step) → GoesOn old new q → GoesTo new x q → IsBefore e new q
-    by (step.Item p) g h = ap (is_past e) (same (sym g.0 ∙ h)) ∙ n
+    by (step.Item p) g h = ap (is_past e) (same_Some _ _ (sym g.0 ∙ h)) ∙ n
     by step.Nothing g h = tt
     by step.End g h = tt
 

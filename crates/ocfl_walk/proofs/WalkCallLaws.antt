@@ -1,6 +1,7 @@
 -- What the calls of a walk did adds up.
-use Rattle.std.proofs.Common.{◌≡◌, [], ◌++◌, refl, sym, ◌∙◌, subst, false, Option, Some, None}
+use Rattle.std.proofs.Common.{◌≡◌, List, [], ◌++◌, refl, sym, ◌∙◌, subst, false, Option, Some, None}
 use Rattle.ocfl_tree.specs.{Place.{Place}, StorageRoot.{StorageRoot}, Store.{Store, Did}}
+use Rattle.ocfl_tree.specs.declared.store.Opening.{Opening}
 use Rattle.ocfl_audit.specs.{Head.{on}, Trail.{heads_of, reads_inventory}}
 use Rattle.ocfl_audit.specs.Between.{IsBeyond, IsWithin, is_looked_into, looked_between, read_between}
 use Rattle.ocfl_audit.proofs.BetweenLaws.{looked_on, read_on}
@@ -12,6 +13,10 @@ use Rattle.ocfl_walk.specs.WalkCalls.{FailsOut, Walks, WalkFails, WalksOut}
 use Rattle.ocfl_walk.specs.{Internal.Walking.{FailsTo}, declared.end.End.{End}}
 use Rattle.ocfl_walk.proofs.EndLaws.{all_kept, looked_out, read_out}
 use Rattle.ocfl_item.specs.declared.fault.Fault.TheVariants as fault
+
+-- the same with the lists of what was looked into and which inventories were read written otherwise
+pub audits_as : {root : StorageRoot} {s t : Store} {ps ls ms hs js : List Place} {os : List Opening} → ls ≡ ms → hs ≡ js → Audits root s t ps ls hs os → Audits root s t ps ms js os
+audits_as {root} {s} {t} {ps} {ls} {ms} {hs} {js} {os} e f a = subst (λ xs. Audits root s t ps xs js os) e (subst (λ xs. Audits root s t ps ls xs os) f a)
 
 -- from one place to the next just what is at that one is looked into and read
 pub record IsNear (root : StorageRoot) (from : Option Place) (x : Place) : Type 0 where
@@ -40,10 +45,7 @@ module _ (root : StorageRoot) (s t u : Store) (from : Option Place) (b : Place) 
   pub walks_on : (to : Option Place) → IsWithin to b → Walks root s t from (Some b) → Walks root t u (Some b) to → Walks root s u from to
   walks_on to within v w = record {
     trail = v.trail ++ w.trail;
-    audits =
-        subst (λ ls. Audits root s u [] ls (read_between root from to) (v.trail ++ w.trail)) (looked_on root from to b beyond within)
-        (subst (λ hs. Audits root s u [] (looked_between root from (Some b) ++ looked_between root (Some b) to) hs (v.trail ++ w.trail)) (read_on root from to b beyond within)
-        (audits_on root s t u [] [] _ _ _ _ v.trail w.trail v.audits w.audits));
+    audits = audits_as (looked_on root from to b beyond within) (read_on root from to b beyond within) (audits_on root s t u [] [] _ _ _ _ v.trail w.trail v.audits w.audits);
   }
 
   pub walks_fail : (why : Fault) → Walks root s t from (Some b) → WalkFails root t u (Some b) why → WalkFails root s u from why
@@ -76,10 +78,7 @@ module _ (root : StorageRoot) (s t u : Store) (from : Option Place) (b : Place) 
   pub walks_out : Walks root s t from (Some b) → WalksOut root t u (Some b) e → WalksOut root s u from e
   walks_out v w = record {
     trail = v.trail ++ w.trail;
-    audits =
-        subst (λ ls. Audits root s u [] ls (before_end e (read_between root from None)) (v.trail ++ w.trail)) (looked_out e root from b beyond before)
-        (subst (λ hs. Audits root s u [] (looked_between root from (Some b) ++ before_end e (looked_between root (Some b) None)) hs (v.trail ++ w.trail)) (read_out e root from b beyond before)
-        (audits_on root s t u [] [] _ _ _ _ v.trail w.trail v.audits w.audits));
+    audits = audits_as (looked_out e root from b beyond before) (read_out e root from b beyond before) (audits_on root s t u [] [] _ _ _ _ v.trail w.trail v.audits w.audits);
   }
 
   pub walks_fail_out : (why : Fault) → Walks root s t from (Some b) → FailsOut root t u (Some b) e why → FailsOut root s u from e why
@@ -97,10 +96,7 @@ module _ (root : StorageRoot) (s t u : Store) (from : Option Place) (b : Place) 
 -- if nothing is left before the end nothing is done
 pub walks_out_nothing : (root : StorageRoot) (s : Store) (from : Option Place) (e : End) → s.tree ≡ root → before_end e (looked_between root from None) ≡ []
     → before_end e (read_between root from None) ≡ [] → WalksOut root s s from e
-walks_out_nothing root s from e over looked read = record {
-  trail = [];
-  audits = subst (λ ls. Audits root s s [] ls (before_end e (read_between root from None)) []) (sym looked) (subst (λ hs. Audits root s s [] [] hs []) (sym read) (audits_nothing root s over));
-}
+walks_out_nothing root s from e over looked read = record { trail = []; audits = audits_as (sym looked) (sym read) (audits_nothing root s over) }
 
 module _ (root : StorageRoot) (s : Store) (from : Option Place) (why : Fault) (over : s.tree ≡ root) (none : failures_by why ≡ 0) (not : (q : Place) → why ≡ fault.Store q → ⊥) where
   pub fails_out_nothing : (e : End) → FailsOut root s s from e why
@@ -120,9 +116,7 @@ module _ (root : StorageRoot) (s t : Store) (from : Option Place) (e : End) (und
   pub walks_all : WalksOut root s t from e → Walks root s t from None
   walks_all w = record {
     trail = w.trail;
-    audits =
-        subst (λ ls. Audits root s t [] ls (read_between root from None) w.trail) (all_kept e under below (looked_between root from None))
-        (subst (λ hs. Audits root s t [] (before_end e (looked_between root from None)) hs w.trail) (all_kept e under below (read_between root from None)) w.audits);
+    audits = audits_as (all_kept e under below (looked_between root from None)) (all_kept e under below (read_between root from None)) w.audits;
   }
 
   pub fails_all : (why : Fault) → FailsOut root s t from e why → WalkFails root s t from why

@@ -6,12 +6,12 @@ use Rattle.ocfl_tree.specs.{Place.{Place}, StorageRoot.{StorageRoot}, Store.{Sto
 use Rattle.ocfl_tree.specs.declared.store.Opening.{Opening}
 use Rattle.ocfl_report.specs.{Line.{Item, found}, Text.{text}}
 use Rattle.ocfl_audit.specs.{Audit.{audit, item_of}, Due.{item_places, due, items_at}}
-use Rattle.ocfl_audit.specs.{Trail.{unread_of}, Between.{read_between}, Parts.{Part, whole, within}}
+use Rattle.ocfl_audit.specs.{Trail.{unread_of}, Parts.{Part, whole, within}}
 use Rattle.ocfl_audit.proofs.{DueLaws.{after_is_due}, Trails.{unread_behind}}
 use Rattle.ocfl_item.specs.{Looking.{IsFront}, Ways.{IsWayFault}, Auditing.{Audits}}
 use Rattle.ocfl_item.specs.{declared.fault.Fault.{Fault}, declared.fault.Fault.TheVariants.{Output}}
-use Rattle.ocfl_walk.specs.{Ends.{before_end}, WalkCalls.{GoesDown, GoDownFails}}
-use Rattle.ocfl_walk.proofs.FoundLaws.{none_hashed}
+use Rattle.ocfl_walk.specs.{WalkCalls.{GoesDown, GoDownFails}}
+use Rattle.ocfl_walk.proofs.{FoundLaws.{none_hashed}, WalkCallLaws.{audits_as}}
 use Rattle.ocfl_scrub.specs.{Call.{call_of}, Taking.{PartOf}}
 use Rattle.ocfl_scrub.specs.{Written.{places, last_of, StopsWithin}, Running.{items_above_in}}
 use Rattle.ocfl_scrub.specs.Starting.{items_in, end_of, entry, stand, looked_in, read_in, LooksOver, StopsLooking}
@@ -65,16 +65,13 @@ module _ (root : StorageRoot) (part : Part) (s t u : Store) (old new : Option (L
       let all : List Place = due_in root (end_of part) (stand root part None) in
       let items : items_at root h.trail all ≡ items_in root (g.trail ++ h.trail) part = sym (above_at root part s t None g h.trail) in
       let at_places : all ≡ places (items_in root (g.trail ++ h.trail) part) = sym (places_of_items root h.trail all) ∙ ap places items in
-      let below : Audits root t u all (looked_in root part None None) (read_in root part None None) h.trail =
-      subst (λ hs. Audits root t u all (looked_in root part None None) hs h.trail) (read_all root part None)
-      (subst (λ ls. Audits root t u all ls (before_end (end_of part) (read_between root (stand root part None) None)) h.trail) (looked_all root part None) h.audits) in
+      let below : Audits root t u all (looked_in root part None None) (read_in root part None None) h.trail = audits_as (looked_all root part None) (read_all root part None) h.audits in
       record {
         trail = g.trail ++ h.trail;
         looks = subst (λ ps. LooksOver (call_of root s u old new) part None None ps (g.trail ++ h.trail)) at_places (looks_over root part s t u old new None g None all h.trail
             (taken_lie root part None g.listed g.all_listed None all [] (sym (append-nil all)) (λ p d b k. tt)) below);
         wrote = subst (λ is. Appends old new (text is)) items h.wrote;
-        last_is = last_is ∙ ap (last_of None) at_places;
-        found_is = h.found_is ∙ ap found items;
+        last_is = last_is ∙ ap (last_of None) at_places; found_is = h.found_is ∙ ap found items;
       }
 
   pub halt_part : (why : Fault) (h : Halts root (end_of part) t u old new (stand root part None) stood finding why) → last ≡ last_of None h.done
@@ -88,13 +85,11 @@ module _ (root : StorageRoot) (part : Part) (s t u : Store) (old new : Option (L
       record {
         trail = g.trail ++ h.trail;
         stops = record {
-          whole = items_at root h.trail h.done;
-          others = items_at root h.trail left;
+          whole = items_at root h.trail h.done; others = items_at root h.trail left;
           items_are = above_are root part s t None g h.trail h.done left h.due_are;
           begun = h.begun;
           one = subst (IsFront h.begun) (sym (places_of_items root h.trail (take 1 left)) ∙ ap places next) h.one;
-          part = h.part;
-          wrote = h.wrote;
+          part = h.part; wrote = h.wrote;
           part_of = subst (λ is. PartOf why (text is) h.part) next h.part_of;
           last_is = last_is ∙ ap (last_of None) whole_places;
         };
@@ -106,13 +101,10 @@ module _ (root : StorageRoot) (part : Part) (s t u : Store) (old new : Option (L
 -- nothing went out
 unfoldable pub nothing_out : (items : List Item) (old : Option (List ℕ)) (last : Option Place) (why : Fault) → why ≢ Output → StopsWithin items old old last last why
 nothing_out items old last why other = record {
-  whole = [];
-  others = items;
-  items_are = refl;
-  begun = [];
+  whole = []; others = items;
+  items_are = refl; begun = [];
   one = (places (take 1 items), refl);
-  part = [];
-  wrote = Appends-nil old;
+  part = []; wrote = Appends-nil old;
   part_of = nothing_of why other (text (take 1 items));
   last_is = refl;
 }

@@ -1,19 +1,15 @@
 -- What is paid for is cut.
 use Rattle.std.proofs.Common.{◌≡◌, ℕ, zero, suc, ◌+◌, ◌<◌, ◌≤◌, List, [], ◌∷◌, ◌++◌, refl, sym, ◌∙◌, ap, subst, true, false, Bool, Some, None, Option, append-nil, length, take, drop, arith, eqb-true, ltb-true, ltb-false}
-use Rattle.std.proofs.{lemmas.Bool.{eqb-false, lt-ltb}, lemmas.List.{take-append-drop}}
+use Rattle.std.proofs.{lemmas.Bool.{eqb-false, lt-ltb, or_right}}
 use Rattle.std.specs.Prelude.{if◌then◌else◌, cond, ◌==◌, ◌||◌, ◌&&◌, nat_lt}
 use Rattle.ocfl_tree.specs.{Place.{Place}, StorageRoot.{StorageRoot, Leaf, file, dir, other}}
-use Rattle.ocfl_tree.proofs.Bools.{and_first, and_second}
 use Rattle.ocfl_report.specs.Line.{Item}
 use Rattle.ocfl_inventory.specs.Table.{Named}
 use Rattle.ocfl_audit.specs.{Zone.{seen}, Lines.{named_at, cost_of, cost, is_hashed}}
 use Rattle.ocfl_audit.specs.Audit.{total_cost}
 use Rattle.ocfl_audit.specs.Runs.{Limits, files_of, total_files, may_take, cut_len, cut, left}
+pub use Rattle.ocfl_audit.proofs.RunLaws.{cut_and_left, taken_test}
 use Rattle.ocfl_scrub.proofs.Paying.{Paid}
-
--- what a cut takes and what it leaves are all there is
-pub cut_and_left : (items : List Item) (l : Limits) → cut items l ++ left items l ≡ items
-cut_and_left items l = take-append-drop _ items
 
 -- ---- cuts
 
@@ -30,10 +26,6 @@ module _ (l : Limits) where
         paid_append (s + x.cost) (f + files_of x.cost) xs ys h.1
             (subst (λ n. Paid l n (f + files_of x.cost + total_files xs) ys) e (subst (λ n. Paid l (s + (x.cost + total_cost xs)) n ys) g k)),
       )
-
-  pub paid_left : (s f : ℕ) (xs ys : List Item) → Paid l s f (xs ++ ys) → Paid l s f xs
-  paid_left s f [] ys h = tt
-  paid_left s f (x ∷ xs) ys h = (h.0, paid_left (s + x.cost) (f + files_of x.cost) xs ys h.1)
 
   paid_len : (s f : ℕ) (xs ys : List Item) → Paid l s f xs → cut_len l s f (xs ++ ys) ≡ length xs + cut_len l (s + total_cost xs) (f + total_files xs) ys
   paid_len s f [] ys h =
@@ -87,11 +79,7 @@ module _ (l : Limits) where
 -- ---- the test before an item
 
 pub test_paid : (l : Limits) (s f c : ℕ) → s < l.budget → f < l.files → may_take l s f c ≡ true
-test_paid l s f c h k = ap (λ t. c == 0 || (t && nat_lt f l.files)) (lt-ltb s l.budget h) ∙ ap (λ t. c == 0 || t) (lt-ltb f l.files k) ∙ by (c == 0)
-  where
-    by : (t : Bool) → (t || true) ≡ true
-    by true = refl
-    by false = refl
+test_paid l s f c h k = ap (λ t. c == 0 || (t && nat_lt f l.files)) (lt-ltb s l.budget h) ∙ ap (λ t. c == 0 || t) (lt-ltb f l.files k) ∙ or_right (c == 0) true refl
 
 pub test_free : (l : Limits) (s f c : ℕ) → c ≡ 0 → may_take l s f c ≡ true
 test_free l s f c h = ap (λ n. n == 0 || (nat_lt s l.budget && nat_lt f l.files)) h
@@ -141,14 +129,6 @@ no_cost (i ∷ items) h =
     let m : total_cost items ≡ 0 = omega (arith, h) in
     let z = no_cost items m in
     ap (λ n. cond (n == 0) i.cost n) z ∙ (let k : i.cost ≡ 0 = omega (arith, h) in k)
-
-pub taken_test : (l : Limits) (s f c : ℕ) → may_take l s f c ≡ true → 0 < c → (s < l.budget) × (f < l.files)
-taken_test l s f c h p = by (c == 0) refl h
-  where
-    by : (t : Bool) → c == 0 ≡ t → (t || (nat_lt s l.budget && nat_lt f l.files)) ≡ true → (s < l.budget) × (f < l.files)
-    by true e g = let z : c ≡ 0 = eqb-true c 0 e in absurd (omega (arith, z, p))
-    by false e g =
-        (ltb-true s l.budget (and_first (nat_lt s l.budget) (nat_lt f l.files) g), ltb-true f l.files (and_second (nat_lt s l.budget) (nat_lt f l.files) g))
 
 zero_costs : (items : List Item) → last_cost items ≡ 0 → total_cost items ≡ 0
 zero_costs [] h = refl

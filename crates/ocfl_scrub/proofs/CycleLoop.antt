@@ -47,10 +47,7 @@ stopped_wrote end why last_end e f other g = let same : why ≡ Output = cc in o
 -- ---- cursors
 
 pub new_unended : (c : Cursor) → c ≡ new_cursor → c.state ≢ ended
-new_unended c e f = start_not_ended (sym (ap (λ x. x.state) e) ∙ f)
-  where
-    start_not_ended : start ≡ ended → ⊥
-    start_not_ended g = cc
+new_unended c e f = let two : start ≡ ended = sym (ap (λ x. x.state) e) ∙ f in cc
 
 begun_same : (c : Cursor) (s : State) → s ≢ ended → begun_in c s ≡ c
 begun_same c start h = refl

@@ -1,9 +1,10 @@
 -- A walk that is kept: what it stands for, and a way on which it could have come there.
-use Rattle.std.proofs.Common.{◌≡◌, ℕ, List, [], ◌∷◌, refl, sym, ◌∙◌, ap, subst, true, false, Bool, Some, None, Option}
+use Rattle.std.proofs.Common.{◌≡◌, ℕ, List, [], ◌∷◌, refl, sym, ◌∙◌, ap, subst, true, Bool, Some, None, Option}
 use Rattle.std.specs.Prelude.{IfSome, not}
 use Rattle.ocfl_tree.specs.{Place.{Text, Place}, Ascending.{IsAmong}, StorageRoot.{StorageRoot}}
 use Rattle.ocfl_tree.specs.Store.{Store, Did}
 use Rattle.ocfl_tree.proofs.Orders.{among_from_filter, among_left}
+use Rattle.ocfl_inventory.proofs.TableSearch.{not_true}
 use Rattle.ocfl_audit.specs.{Due.{due}, Parts.{Part, lies_in}, Runs.{Limits}}
 use Rattle.ocfl_item.proofs.AuditingLaws.{audits_meta, front_all, front_none, near_none, none_once}
 use Rattle.ocfl_walk.specs.{Ends.{is_past}, WalkCalls.{GoesDown, IsRootFirst, way_of}}
@@ -29,17 +30,12 @@ module _ {root : StorageRoot} {part : Part} {s t : Store} {old new : Option (Lis
       stood_at root part from last h.stood p.done p.last_is h.last_is (λ q i.
       let inside = among_from_filter (λ z. not (is_past (end_of part) z)) p.done q (subst (λ ps. IsAmong ps q) (sym p.inside) i) in
       due_lies root part from q (subst (λ ps. IsAmong ps q) (sym p.due_are) (among_left p.done (due root h.stood) q i)) (not_true (is_past (end_of part) q) inside.1))
-    where
-      not_true : (b : Bool) → not b ≡ true → b ≡ false
-      not_true true e = absurd (let two : false ≡ true = e in cc)
-      not_true false e = refl
 
 module _ {root : StorageRoot} {part : Part} {s t : Store} {old new : Option (List ℕ)} {from last : Option Place} {l : Limits} {spent files : ℕ} {finding : Bool} where
   -- a run above the last item may go on with it
   pub met_ready : (m : Met) → HasMet root part s t old new m.walk m.item from last l spent files finding → IsMet root part last m
   met_ready m h = record {
-    before = h.there;
-    after = t;
+    before = h.there; after = t;
     gives = subst (λ o. Gives root h.there t o m.walk (Some m.item)) (stood_is h.paid) h.item.gives;
     in_front = h.item.in_front;
   }
@@ -54,12 +50,8 @@ all_listed root way = record { tree = root; rest = None; openings = []; listings
 
 did_list : (root : StorageRoot) (way : List Place) → Did (nothing_asked root) (all_listed root way) [] way 0
 did_list root way = record {
-  tree = refl;
-  openings_are = refl;
-  listings_are = refl;
-  failures_are = refl;
-  failed = [];
-  failed_are = refl;
+  tree = refl; openings_are = refl; listings_are = refl;
+  failures_are = refl; failed = []; failed_are = refl;
   failed_among = λ p i. absurd i;
   each_failed = refl;
 }
@@ -71,15 +63,12 @@ root_listed (Some (n ∷ q)) = (_, refl)
 
 goes_down : (root : StorageRoot) (p : Option Place) → GoesDown root (nothing_asked root) (all_listed root (way_of p)) p
 goes_down root p = record {
-  trail = [];
-  listed = way_of p;
-  heads = [];
+  trail = []; listed = way_of p; heads = [];
   audits = audits_meta root (nothing_asked root) (all_listed root (way_of p)) (way_of p) [] [] refl (did_list root (way_of p)) refl refl refl (near_none root (way_of p));
   root_first = root_listed p;
   all_listed = λ d i reached. i;
   listed_front = front_all (way_of p);
-  heads_front = front_none _;
-  once = none_once;
+  heads_front = front_none _; once = none_once;
 }
 
 -- with this left of the open file and of the largest read
@@ -89,17 +78,13 @@ ahead_of root part from m rest largest h =
     let begun : Store = all_listed root (way_of (entry part from)) in
     let w = walks_with root h.before h.after begun refl rest largest (stand root part from) (Some m.item.place) h.gives.0 in (
       nothing_asked root,
-      (
-        w.0,
-        (
-          w.1.0,
-          w.1.1,
-          record {
-            begun = begun;
-            down = goes_down root (entry part from);
-            gives = (w.1.2, h.gives.1, h.gives.2, h.gives.3);
-            in_front = h.in_front;
-          },
-        ),
-      ),
+      (w.0, (
+        w.1.0,
+        w.1.1,
+        record {
+          begun = begun; down = goes_down root (entry part from);
+          gives = (w.1.2, h.gives.1, h.gives.2, h.gives.3);
+          in_front = h.in_front;
+        },
+      )),
     )

@@ -21,7 +21,7 @@ use Rattle.ocfl_scrub.specs.declared.running.RunStatus.{RunStatus}
 use Rattle.ocfl_scrub.specs.declared.running.RunStatus.TheVariants as status
 use Rattle.ocfl_scrub.proofs.{AlikeLaws.{alike_same, alike_tree}, AuditsJoined.{audits_over}}
 use Rattle.ocfl_scrub.proofs.{CycleRuns.{HasReport, has_report}, KeptLaws.{ahead_of}}
-use Rattle.ocfl_scrub.proofs.{KeptTurns.{pass_is, pass_of}, LoopLaws.{GivesNext}}
+use Rattle.ocfl_scrub.proofs.{KeptTurns.{pass_of}, LoopLaws.{GivesNext}}
 use Rattle.ocfl_scrub.proofs.{MeterLaws.{paid_within}, RunLaws.{not_run, runs_cleanly, runs_from}}
 use Rattle.ocfl_scrub.proofs.RunTurns.{run_ended, run_lost, stands_first}
 
@@ -33,9 +33,7 @@ module _ (old new : Option (List ℕ)) (limits : MadeLimits) (last : Option Plac
   spent_pass kept lines = record {
     whole = λ e. cc;
     works = λ e. cc;
-    short = short;
-    paid = paid;
-    fits = fits;
+    short = short; paid = paid; fits = fits;
     lines = λ n. lines;
     spent = λ e. (kept.item.place, refl);
     unspent = λ n. absurd (n refl);
@@ -45,9 +43,7 @@ module _ (old new : Option (List ℕ)) (limits : MadeLimits) (last : Option Plac
   ended_pass lines = record {
     whole = λ e. cc;
     works = λ e. cc;
-    short = short;
-    paid = paid;
-    fits = fits;
+    short = short; paid = paid; fits = fits;
     lines = λ n. lines;
     spent = λ e. absurd (let two : status.Ended ≡ status.Spent = e in cc);
     unspent = λ n. refl;
@@ -57,9 +53,7 @@ module _ (old new : Option (List ℕ)) (limits : MadeLimits) (last : Option Plac
   stopped_pass why whole lines = record {
     whole = λ e. whole (let two : status.Stopped why ≡ status.Stopped fault.Broken = e in cc);
     works = λ e. cc;
-    short = short;
-    paid = paid;
-    fits = fits;
+    short = short; paid = paid; fits = fits;
     lines = λ n. lines (λ e. n (ap status.Stopped e));
     spent = λ e. absurd (let two : status.Stopped why ≡ status.Spent = e in cc);
     unspent = λ n. refl;
@@ -69,20 +63,6 @@ module _ (old new : Option (List ℕ)) (limits : MadeLimits) (last : Option Plac
 pub missed_whole : (why : Fault) → (why ≡ fault.Memory) ⊎ (why ≡ fault.Output) → why ≢ fault.Broken
 missed_whole why (inl e) h = let two : fault.Memory ≡ fault.Broken = sym e ∙ h in cc
 missed_whole why (inr e) h = let two : fault.Output ≡ fault.Broken = sym e ∙ h in cc
-
--- ---- as a pass says
-
-pub pass_as : (old new : Option (List ℕ)) (limits : MadeLimits) (pass : Pass) (last : Option Place) (spent files : ℕ) (finding : Bool) (end : RunStatus) (kept : Option Met) → pass.last ≡ last → pass.spent ≡ spent
-    → pass.files ≡ files → pass.found ≡ finding → pass.end ≡ end → pass.met ≡ kept → IsPass old new limits (pass_of last spent files finding end kept) → IsPass old new limits pass
-pass_as old new limits pass last spent files finding end kept e f g h i j is = subst (λ p. IsPass old new limits p) (pass_is pass last spent files finding end kept e f g h i j) is
-
-pub passes_as : (call : Call) (part : Part) (m : Met) (from : Option Place) (l : Limits) (pass : Pass) (last : Option Place) (spent files : ℕ) (finding : Bool) (end : RunStatus) (kept : Option Met) → pass.last ≡ last → pass.spent ≡ spent
-    → pass.files ≡ files → pass.found ≡ finding → pass.end ≡ end → pass.met ≡ kept → PassesOn call part m from l (pass_of last spent files finding end kept) → PassesOn call part m from l pass
-passes_as call part m from l pass last spent files finding end kept e f g h i j is = subst (λ p. PassesOn call part m from l p) (pass_is pass last spent files finding end kept e f g h i j) is
-
-pub ends_as : (call : Call) (part : Part) (from : Option Place) (l : Limits) (pass : Pass) (last : Option Place) (spent files : ℕ) (finding : Bool) (end : RunStatus) (kept : Option Met) → pass.last ≡ last → pass.spent ≡ spent
-    → pass.files ≡ files → pass.found ≡ finding → pass.end ≡ end → pass.met ≡ kept → EndsAt call part from l (pass_of last spent files finding end kept) → EndsAt call part from l pass
-ends_as call part from l pass last spent files finding end kept e f g h i j ends = subst (λ p. EndsAt call part from l p) (pass_is pass last spent files finding end kept e f g h i j) ends
 
 -- ---- a walk that begins
 
@@ -140,15 +120,9 @@ module _ (root : StorageRoot) (part : Part) (s t : Store) (old new : Option (Lis
       let x = ahead_of root part from m s.rest s.largest is in
       let y = h.ends x.0 x.1.0 x.1.1.0 x.1.1.1 x.1.1.2 in
       record {
-        before = x.0;
-        begun = x.1.1.2.begun;
-        there = x.1.0;
-        behind = y.0;
-        down = x.1.1.2.down;
-        way = x.1.1.2.gives.0;
-        alike = y.1.0;
-        ends = y.1.1;
-        looks = h.looks is;
+        before = x.0; begun = x.1.1.2.begun; there = x.1.0;
+        behind = y.0; down = x.1.1.2.down; way = x.1.1.2.gives.0;
+        alike = y.1.0; ends = y.1.1; looks = h.looks is;
       }
 
   -- ---- what is left
@@ -174,10 +148,8 @@ module _ (root : StorageRoot) (part : Part) (s t : Store) (old new : Option (Lis
       → RunsOn (call_of root s t old new) part o c l (record { cursor = reached; spent = pass.spent; files = pass.files; found = pass.found; end = pass.end })
   runs_on None pass c b begins h reached state e f = runs_from root part s t old new c b from pass.last l pass.spent pass.files pass.found pass.end begins h.0 reached state e f
   runs_on (Some p) pass c b begins h reached state e f = record {
-    before = h.before;
-    begun = h.begun;
-    there = h.there;
-    behind = h.behind;
+    before = h.before; begun = h.begun;
+    there = h.there; behind = h.behind;
     down = subst (λ x. GoesDown root h.before h.begun (entry part x)) begins.from_is h.down;
     way = subst (λ x. Walks root h.begun h.there (stand root part x) (Some p)) begins.from_is h.way;
     alike = h.alike;

@@ -39,10 +39,6 @@ module _ {A : Type 0} where
 -- ---- one list cut in two by a test that holds from some element on
 
 module _ {A : Type 0} where
-  -- if it holds of an element it holds of all later ones
-  abbrev pub HoldsOn : (A → Bool) → List A → Type 0
-  HoldsOn test [] = Unit {0}
-  HoldsOn test (x ∷ xs) = (test x ≡ true → AllByRecursion (λ y. test y ≡ true) xs) × HoldsOn test xs
 
   none_left : (test : A → Bool) (xs : List A) → AllByRecursion (λ y. test y ≡ true) xs → filter (λ y. not (test y)) xs ≡ []
   none_left test [] h = refl

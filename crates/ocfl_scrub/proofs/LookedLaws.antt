@@ -13,6 +13,7 @@ use Rattle.ocfl_item.proofs.AuditingLaws.{audits_fail, audits_nothing, audits_on
 use Rattle.ocfl_walk.specs.{Before.{place_before}, Ends.{before_end, is_past}}
 use Rattle.ocfl_walk.specs.{WalkCalls.{FailsOut, Walks, WalksOut}, Walks.{Stands}}
 use Rattle.ocfl_walk.specs.declared.walk.Walk.{Walk}
+use Rattle.ocfl_walk.proofs.WalkCallLaws.{audits_as}
 use Rattle.ocfl_scrub.specs.{Call.{call_of}, Keeping.{IsMet, LooksAbove}}
 use Rattle.ocfl_scrub.specs.Starting.{due_within, end_of, first_place, looked_in, read_in, stand, stand_by}
 use Rattle.ocfl_scrub.specs.{Taking.{Misses, Takes}, declared.kept.Met.{Met}}
@@ -59,13 +60,10 @@ pub looked_first : (root : StorageRoot) (part : Part) (s : Store) (from : Option
 looked_first root part s from m over h = record {
   looked = record {
     gone = gone_self (end_of part) (Some m.item.place);
-    done = [];
-    trail = [];
-    audits = subst (λ hs. Audits root s s [] (looked_between root (Some m.item.place) (Some m.item.place)) hs []) (sym (read_self root (Some m.item.place)))
-        (subst (λ ls. Audits root s s [] ls [] []) (sym (looked_self root (Some m.item.place))) (audits_nothing root s over));
+    done = []; trail = [];
+    audits = audits_as (sym (looked_self root (Some m.item.place))) (sym (read_self root (Some m.item.place))) (audits_nothing root s over);
   };
-  pending = h.gives.2;
-  stands = h.gives.1;
+  pending = h.gives.2; stands = h.gives.1;
 }
 
 module _ {root : StorageRoot} {part : Part} {s t : Store} {p q : Place} (h : Looked root part s t p q) where
@@ -74,22 +72,17 @@ module _ {root : StorageRoot} {part : Part} {s t : Store} {p q : Place} (h : Loo
 
   pub looked_took : (v : Store) (old new : Option (List ℕ)) (cost : ℕ) (more : Bool) → Takes (call_of root t v old new) q cost more → Looked root part s v p q
   looked_took v old new cost more k = record {
-    gone = h.gone;
-    done = h.done ++ q ∷ [];
-    trail = h.trail ++ k.trail;
-    audits = subst (λ hs. Audits root s v (h.done ++ q ∷ []) (looked_between root (Some p) (Some q)) hs (h.trail ++ k.trail)) (append-nil (read_between root (Some p) (Some q)))
-        (subst (λ ls. Audits root s v (h.done ++ q ∷ []) ls (read_between root (Some p) (Some q) ++ []) (h.trail ++ k.trail)) (append-nil (looked_between root (Some p) (Some q)))
-        (audits_on root s t v h.done (q ∷ []) _ [] _ [] h.trail k.trail h.audits k.audits));
+    gone = h.gone; done = h.done ++ q ∷ []; trail = h.trail ++ k.trail;
+    audits = audits_as (append-nil (looked_between root (Some p) (Some q))) (append-nil (read_between root (Some p) (Some q)))
+        (audits_on root s t v h.done (q ∷ []) _ [] _ [] h.trail k.trail h.audits k.audits);
   }
 
   pub looked_on : (v : Store) (r : Place) → IsBeyond (Some q) r → is_past (end_of part) r ≡ false → Walks root t v (Some q) (Some r) → Looked root part s v p r
   looked_on v r far before w = record {
     gone = gone_next (end_of part) (Some p) (Some q) r h.gone far before;
-    done = h.done ++ [];
-    trail = h.trail ++ w.trail;
-    audits = subst (λ hs. Audits root s v (h.done ++ []) (looked_between root (Some p) (Some r)) hs (h.trail ++ w.trail)) (read_next root (end_of part) (Some p) (Some q) h.gone r far)
-        (subst (λ ls. Audits root s v (h.done ++ []) ls (read_between root (Some p) (Some q) ++ read_between root (Some q) (Some r)) (h.trail ++ w.trail)) (looked_next root (end_of part) (Some p) (Some q) h.gone r far)
-        (audits_on root s t v h.done [] _ _ _ _ h.trail w.trail h.audits w.audits));
+    done = h.done ++ []; trail = h.trail ++ w.trail;
+    audits = audits_as (looked_next root (end_of part) (Some p) (Some q) h.gone r far) (read_next root (end_of part) (Some p) (Some q) h.gone r far)
+        (audits_on root s t v h.done [] _ _ _ _ h.trail w.trail h.audits w.audits);
   }
 
   -- ---- what was looked at in all
@@ -115,11 +108,8 @@ module _ {root : StorageRoot} {part : Part} {s t : Store} {p q : Place} (h : Loo
       above : (listed heads : List Place) (os : List Opening) (f : ℕ) → Did s v os listed f → heads_of root os ≡ heads → IsFront listed (looked_in root part (Some p) None)
           → IsFront heads (read_in root part (Some p) None) → LooksAbove (call_of root s v old new) part p
       above listed heads os f did are front heads_front = record {
-        listed = listed;
-        trail = os;
-        listings_are = did.listings_are;
-        openings_are = did.openings_are;
-        listed_front = front;
+        listed = listed; trail = os; listings_are = did.listings_are;
+        openings_are = did.openings_are; listed_front = front;
         heads_front = subst (λ hs. IsFront hs (read_in root part (Some p) None)) (sym are) heads_front;
       }
 

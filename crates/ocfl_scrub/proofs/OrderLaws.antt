@@ -1,16 +1,15 @@
 -- What an audit opens and lists ascends.
-use Rattle.std.proofs.Common.{◌≡◌, ◌≢◌, ◌↔◌, List, [], ◌∷◌, refl, true, Option, Some, None, not, map}
-use Rattle.std.specs.Ordering.{is_lt}
+use Rattle.std.proofs.Common.{◌≡◌, ◌≢◌, ◌↔◌, List, [], ◌∷◌, refl, true, Option, None, not}
 use Rattle.ocfl_tree.specs.{Place.{Place, place_cmp}, Ascending.{ascending, IsAscending, IsAmong}}
 use Rattle.ocfl_tree.specs.StorageRoot.{StorageRoot}
-use Rattle.ocfl_tree.proofs.Orders.{place_cmp_total, place_cmp_exact, ascends_filter, ascends_ascending, among_ascending, among_filter, among_from_filter}
+use Rattle.ocfl_tree.proofs.Orders.{place_cmp_exact, ascends_filter, among_ascending, among_filter, among_from_filter}
 use Rattle.ocfl_inventory.specs.Note.{Note}
 use Rattle.ocfl_audit.specs.Audit.{candidates}
-use Rattle.ocfl_audit.specs.Between.{up_to, between, is_looked_into, looked_between, read_between}
-use Rattle.ocfl_audit.specs.Due.{places_after, item_places, hashed_among}
-use Rattle.ocfl_audit.specs.{Lines.{is_empty, is_hashed, notes}, Trail.{reads_inventory}}
-use Rattle.ocfl_audit.proofs.{AuditExists.{notes_candidate}, PathLaws.{hashed_lines}}
-use Rattle.ocfl_scrub.proofs.PassLaws.{items_ascend}
+use Rattle.ocfl_audit.specs.Between.{looked_between, read_between}
+use Rattle.ocfl_audit.specs.Due.{item_places, hashed_among}
+use Rattle.ocfl_audit.specs.{Lines.{is_empty, is_hashed, notes}}
+use Rattle.ocfl_audit.proofs.{AuditExists.{notes_candidate}, BetweenLaws.{between_ascends, directories_ascend, objects_ascend}}
+use Rattle.ocfl_audit.proofs.{PartLaws.{items_ascend}, PathLaws.{hashed_lines}}
 
 pub hashed_ascend : (root : StorageRoot) → IsAscending place_cmp (hashed_among root (item_places root))
 unfolding hashed_among
@@ -33,22 +32,10 @@ hashed_all root p = (
   λ i. (among_from_filter (is_hashed root) (item_places root) p i).1,
 )
 
-between_ascends : (ps : List Place) (from to : Option Place) → IsAscending place_cmp ps → IsAscending place_cmp (between ps from to)
-between_ascends ps from to h = up_to_ascends (places_after ps from) to (after_ascends from)
-  where
-    after_ascends : (from : Option Place) → IsAscending place_cmp (places_after ps from)
-    after_ascends None = h
-    after_ascends (Some a) = ascends_filter place_cmp (λ q. is_lt (place_cmp a q)) ps h
-
-    up_to_ascends : (qs : List Place) (to : Option Place) → IsAscending place_cmp qs → IsAscending place_cmp (up_to qs to)
-    up_to_ascends qs None k = k
-    up_to_ascends qs (Some b) k = ascends_filter place_cmp (λ p. not (is_lt (place_cmp b p))) qs k
-
 pub looked_ascend : (root : StorageRoot) (from to : Option Place) → IsAscending place_cmp (looked_between root from to)
 unfolding looked_between
-looked_ascend root from to = between_ascends _ from to (ascends_filter place_cmp (is_looked_into root) (ascending place_cmp (candidates root)) (ascends_ascending place_cmp_total (candidates root)))
+looked_ascend root from to = between_ascends _ (directories_ascend root) from to
 
 pub read_ascend : (root : StorageRoot) (from to : Option Place) → IsAscending place_cmp (read_between root from to)
 unfolding read_between
-read_ascend root from to =
-    between_ascends _ from to (ascends_filter place_cmp (reads_inventory root) (ascending place_cmp (map (λ e. e.0) root)) (ascends_ascending place_cmp_total (map (λ e. e.0) root)))
+read_ascend root from to = between_ascends _ (objects_ascend root) from to

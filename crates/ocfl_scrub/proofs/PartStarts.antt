@@ -16,7 +16,7 @@ use Rattle.ocfl_audit.specs.Parts.{Part, is_from, is_below, lies_in, within, pla
 use Rattle.ocfl_audit.specs.Trail.{unread_of}
 use Rattle.ocfl_audit.proofs.AuditExists.{audit_is}
 use Rattle.ocfl_audit.proofs.BelowLaws.{less_from, begins_rest, cmp_behind}
-use Rattle.ocfl_audit.proofs.{BetweenLaws.{from_between}, DueLaws.{after_is_due}}
+use Rattle.ocfl_audit.proofs.{BetweenLaws.{from_between}, BranchLaws.{nothing_above}, DueLaws.{after_is_due}}
 use Rattle.ocfl_audit.proofs.Lists.{map_filter, filter_same}
 use Rattle.ocfl_audit.proofs.PartLaws.{and_true, and_false, filter_twice, within_is, places_within_is, part_goes_on}
 use Rattle.ocfl_walk.specs.Before.{directory_of, place_before, places_from}
@@ -34,15 +34,11 @@ pub unless_root_is : (g b : Place) → unless_root g ≡ Some b → g ≡ b
 unless_root_is [] b e = absurd (let two : None ≡ Some b = e in cc)
 unless_root_is (n ∷ g) b e = let two : Some (n ∷ g) ≡ Some b = e in cc
 
-pub nothing_less : (x : Place) → is_lt (place_cmp x []) ≡ false
-nothing_less [] = refl
-nothing_less (n ∷ x) = refl
-
 -- what begins with a place is not less than it
 begins_not_less : (u x : Place) → begins u x ≡ true → is_lt (place_cmp x u) ≡ false
 begins_not_less u x h =
     let r = begins_rest u x h in
-    subst (λ z. is_lt (place_cmp z u) ≡ false) (sym r.1) (ap is_lt (ap (place_cmp (u ++ r.0)) (sym (append-nil u)) ∙ cmp_behind u r.0 []) ∙ nothing_less r.0)
+    subst (λ z. is_lt (place_cmp z u) ≡ false) (sym r.1) (ap is_lt (ap (place_cmp (u ++ r.0)) (sym (append-nil u)) ∙ cmp_behind u r.0 []) ∙ nothing_above r.0)
 
 module _ (part : Part) (x : Place) where
   -- above the greater of both is above the branch's place
@@ -130,7 +126,7 @@ module _ (part : Part) where
       by [] e =
           ap (λ g. before_end (end_of part) (from_first (unless_root g) xs)) e
           ∙ filter_same _ _ (λ x. sym (lies_exact part x ∙ ap (λ g. not (is_lt (place_cmp x g)) && not (is_past (end_of part) x)) e
-          ∙ ap (λ b. not b && not (is_past (end_of part) x)) (nothing_less x))) xs
+          ∙ ap (λ b. not b && not (is_past (end_of part) x)) (nothing_above x))) xs
       by (n ∷ g) e =
           ap (λ h. before_end (end_of part) (from_first (unless_root h) xs)) e
           ∙ filter_twice (λ z. not (is_past (end_of part) z)) (λ q. not (is_lt (place_cmp q (n ∷ g)))) xs

@@ -4,23 +4,22 @@ use Rattle.std.proofs.KnownBytes.{Appends-nil, Appends-trans}
 use Rattle.std.specs.{Prelude.{cond, ◌||◌}, List.{list_any}, Ordering.{is_lt}}
 use Rattle.std.specs.{Io.KnownBytes.{Appends}, declared.cmp.Ordering.{Ordering}}
 use Rattle.std.specs.declared.cmp.Ordering.TheVariants.{Less, Equal, Greater}
-use Rattle.ocfl_tree.specs.{Place.{Place, place_cmp}, Ascending.{ascending, IsAscending, IsAmong}}
+use Rattle.ocfl_tree.specs.{Place.{Place, place_cmp}, Ascending.{IsAscending, IsAmong}}
 use Rattle.ocfl_tree.specs.{StorageRoot.{StorageRoot}, Store.{Store}}
 use Rattle.ocfl_tree.specs.declared.store.Opening.{Opening}
-use Rattle.ocfl_tree.proofs.Orders.{place_cmp_total, place_cmp_exact, not_less_itself, below_from_greater, true_not_false, among_left, among_right, ascends_filter, ascends_ascending, among_from_filter}
+use Rattle.ocfl_tree.proofs.Orders.{place_cmp_total, place_cmp_exact, not_less_itself, below_from_greater, true_not_false, among_left, among_right, ascends_filter, among_from_filter}
 use Rattle.ocfl_tree.proofs.Stores.{among_either}
 use Rattle.ocfl_report.specs.Line.{Line, Item, has_finding, found, is_finding_code}
 use Rattle.ocfl_report.specs.Text.{lines_text, text, line_text}
-use Rattle.ocfl_audit.specs.{Audit.{candidates}, Lines.{is_empty, notes}}
 use Rattle.ocfl_audit.specs.{Due.{item_places, due, items_at, hashed_among}, Trail.{content_trail}}
 use Rattle.ocfl_audit.specs.Between.{IsBeyond, IsWithin, looked_between, read_between}
 use Rattle.ocfl_audit.proofs.{BelowLaws.{less_from}, BetweenLaws.{among_between, from_between}}
-use Rattle.ocfl_audit.proofs.Trails.{filter_append}
+use Rattle.ocfl_audit.proofs.{PartLaws.{items_ascend}, Trails.{filter_append}}
 use Rattle.ocfl_item.specs.{Auditing.{Audits, Fails}, declared.fault.Fault.{Fault}}
 use Rattle.ocfl_item.specs.declared.fault.Fault.TheVariants.{Output}
 use Rattle.ocfl_walk.specs.{WalkCalls.{Walks, WalksOut, FailsOut}, Ends.{is_past, before_end}}
 use Rattle.ocfl_walk.specs.declared.end.End.{End}
-use Rattle.ocfl_walk.proofs.BeforeLaws.{not_below}
+use Rattle.ocfl_walk.proofs.{BeforeLaws.{not_below}, WalkCallLaws.{audits_as}}
 use Rattle.ocfl_scrub.specs.{Call.{call_of}, Taking.{WritesLines, PartOf, Takes, Misses}}
 use Rattle.ocfl_scrub.specs.Written.{last_of}
 use Rattle.ocfl_scrub.proofs.Passing.{up_to_last, due_in, Passes, Finishes, Halts}
@@ -58,10 +57,6 @@ lines_then old mid new a b either h k e =
 
 -- ---- what is due
 
-pub items_ascend : (root : StorageRoot) → IsAscending place_cmp (item_places root)
-unfolding item_places
-items_ascend root = ascends_filter place_cmp (λ p. not (is_empty (notes root None p))) (ascending place_cmp (candidates root)) (ascends_ascending place_cmp_total (candidates root))
-
 pub due_ascends : (root : StorageRoot) (last : Option Place) → IsAscending place_cmp (due root last)
 unfolding due
 due_ascends root None = items_ascend root
@@ -93,9 +88,7 @@ module _ (root : StorageRoot) (p : Place) (w : List Opening) (meta : content_tra
 module _ (root : StorageRoot) (t u v : Store) (last to : Option Place) (w : Walks root t u last to) where
   walk_then : (qs : List Place) (os : List Opening) → Audits root u v qs [] [] os → Audits root t v qs (looked_between root last to) (read_between root last to) (w.trail ++ os)
   walk_then qs os k =
-      subst (λ hs. Audits root t v qs (looked_between root last to) hs (w.trail ++ os)) (append-nil (read_between root last to))
-      (subst (λ ls. Audits root t v qs ls (read_between root last to ++ []) (w.trail ++ os)) (append-nil (looked_between root last to))
-      (audits_on root t u v [] qs (looked_between root last to) [] (read_between root last to) [] w.trail os w.audits k))
+      audits_as (append-nil (looked_between root last to)) (append-nil (read_between root last to)) (audits_on root t u v [] qs _ [] _ [] w.trail os w.audits k)
 
   walk_then_fails : (qs : List Place) (os : List Opening) (why : Fault) → Fails root u v qs [] [] os why
       → Fails root t v qs (looked_between root last to) (read_between root last to) (w.trail ++ os) why
@@ -160,13 +153,9 @@ module _ (root : StorageRoot) (from : Option Place) where
 
 unfoldable pub passes_none : (root : StorageRoot) (e : End) (s : Store) (old : Option (List ℕ)) (from : Option Place) → s.tree ≡ root → Passes root e s s old old from from false
 passes_none root e s old from over = record {
-  done = [];
-  trail = [];
-  audits = subst (λ hs. Audits root s s [] (up_to_last (looked_between root) from from) hs []) (sym (read_self root from))
-      (subst (λ ls. Audits root s s [] ls [] []) (sym (looked_self root from)) (audits_nothing root s over));
-  due_are = refl;
-  inside = refl;
-  last_is = refl;
+  done = []; trail = [];
+  audits = audits_as (sym (looked_self root from)) (sym (read_self root from)) (audits_nothing root s over);
+  due_are = refl; inside = refl; last_is = refl;
   wrote = subst (λ is. Appends old old (text is)) (sym (no_items root [])) (Appends-nil old);
   found_is = sym (ap found (no_items root []));
 }
@@ -220,12 +209,8 @@ module _ (root : StorageRoot) (e : End) (s t u : Store) (old mid : Option (List 
         let both = taken_there cost more k in
         let same = took_items cost more k in
         record {
-          done = h.done ++ p ∷ [];
-          trail = h.trail ++ (w.trail ++ k.trail);
-          audits = subst (λ hs. Audits root s v (h.done ++ p ∷ []) (looked_between root from (Some p)) hs (h.trail ++ (w.trail ++ k.trail))) (read_next root e from last low p up)
-              (subst (λ ls. Audits root s v (h.done ++ p ∷ []) ls (up_to_last (read_between root) from last ++ read_between root last (Some p))
-              (h.trail ++ (w.trail ++ k.trail))) (looked_next root e from last low p up)
-              (audits_on root s t v h.done (p ∷ []) _ _ _ _ h.trail (w.trail ++ k.trail) h.audits both));
+          done = h.done ++ p ∷ []; trail = h.trail ++ (w.trail ++ k.trail);
+          audits = audits_as (looked_next root e from last low p up) (read_next root e from last low p up) (audits_on root s t v h.done (p ∷ []) _ _ _ _ h.trail (w.trail ++ k.trail) h.audits both);
           due_are = due_with ∙ sym (append_assoc h.done (p ∷ []) (due root (Some p)));
           inside = filter_append (λ z. not (is_past e z)) h.done (p ∷ []) ∙ ap (λ ps. ps ++ before_end e (p ∷ [])) h.inside ∙ ap (λ b. h.done ++ cond (not b) (p ∷ []) []) in_front;
           last_is = sym (last_append from h.done p);
@@ -259,19 +244,15 @@ module _ (root : StorageRoot) (e : End) (s t u : Store) (old mid : Option (List 
         let next : items_at root k.trail (p ∷ []) ≡ items_at root trail (take 1 (due_in root e last)) =
         sym (ap (items_at root trail) next_is ∙ items_behind root h.trail (w.trail ++ k.trail) h.done (p ∷ []) with_ascends h.audits.opened ∙ walked_items root p w.trail w.audits.opened k.trail) in
         record {
-          done = h.done;
-          begun = k.begun;
-          trail = trail;
+          done = h.done; begun = k.begun; trail = trail;
           listed = up_to_last (looked_between root) from last ++ looked_between root last (Some p);
           heads = up_to_last (read_between root) from last ++ read_between root last (Some p);
           fails = audits_fail root s t v h.done k.begun _ _ _ _ h.trail (w.trail ++ k.trail) why h.audits both;
           listed_front = front_behind _ _ _ _ (looked_end root e from last low) (looked_front root e last p up in_front);
           heads_front = front_behind _ _ _ _ (read_end root e from last low) (read_front root e last p up in_front);
           there = λ q i d j. subst (λ ds. IsAmong ds d) (sym (looked_next root e from last low p up)) (listed_further root from e q p d (up_to_next q (among_more h.done k.begun (p ∷ []) k.one.0 q k.one.1 i)) j);
-          due_are = halves;
-          one = (k.one.0, next_is ∙ k.one.1);
-          last_is = h.last_is;
-          part = k.part;
+          due_are = halves; one = (k.one.0, next_is ∙ k.one.1);
+          last_is = h.last_is; part = k.part;
           wrote = subst (λ is. Appends old new (text is ++ k.part)) (sym before) (Appends-trans old mid new _ _ h.wrote k.wrote);
           part_of = subst (λ is. PartOf why (text is) k.part) next k.part_of;
           found_is = h.found_is ∙ ap found (sym before);
@@ -292,9 +273,7 @@ module _ (root : StorageRoot) (e : End) (s t u : Store) (old mid : Option (List 
       let trail : List Opening = h.trail ++ w.trail in
       let before : items_at root trail h.done ≡ items_at root h.trail h.done = walked_on w.trail w.fails.opened in
       record {
-        done = h.done;
-        begun = [];
-        trail = trail;
+        done = h.done; begun = []; trail = trail;
         listed = up_to_last (looked_between root) from last ++ w.listed;
         heads = up_to_last (read_between root) from last ++ w.heads;
         fails = audits_fail root s t u h.done [] _ _ _ _ h.trail w.trail why h.audits w.fails;
@@ -304,8 +283,7 @@ module _ (root : StorageRoot) (e : End) (s t u : Store) (old mid : Option (List 
             (listed_to_last root from e h.done done_ascends q (subst (λ qs. IsAmong qs q) (append-nil h.done) i) d j last h.last_is);
         due_are = halves;
         one = (take 1 (due_in root e last), refl);
-        last_is = h.last_is;
-        part = [];
+        last_is = h.last_is; part = [];
         wrote = subst (λ xs. Appends old mid xs) (sym (append-nil (text (items_at root trail h.done))))
             (subst (λ is. Appends old mid (text is)) (sym before) h.wrote);
         part_of = nothing_of why other (text (items_at root trail (take 1 (due_in root e last))));
@@ -328,8 +306,7 @@ module _ (root : StorageRoot) (e : End) (s t u : Store) (old mid : Option (List 
       record {
         trail = trail;
         audits = subst (λ ps. Audits root s u ps (before_end e (looked_between root from None)) (before_end e (read_between root from None)) trail) (append-nil h.done ∙ done_is)
-            (subst (λ hs. Audits root s u (h.done ++ []) (before_end e (looked_between root from None)) hs trail) (read_end root e from last low)
-            (subst (λ ls. Audits root s u (h.done ++ []) ls (up_to_last (read_between root) from last ++ before_end e (read_between root last None)) trail) (looked_end root e from last low) joined));
+            (audits_as (looked_end root e from last low) (read_end root e from last low) joined);
         last_is = h.last_is ∙ ap (last_of from) done_is;
         wrote = subst (λ is. Appends old mid (text is)) before h.wrote;
         found_is = h.found_is ∙ ap found before;

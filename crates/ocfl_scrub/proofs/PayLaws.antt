@@ -11,8 +11,9 @@ use Rattle.ocfl_item.specs.{Auditing.{Audits}, declared.fault.Fault.{Fault}}
 use Rattle.ocfl_item.specs.declared.fault.Fault.TheVariants.{Output}
 use Rattle.ocfl_walk.specs.{WalkCalls.{Walks, WalksOut, FailsOut}, Ends.{is_past}}
 use Rattle.ocfl_walk.specs.declared.end.End.{End}
+use Rattle.ocfl_walk.proofs.WalkCallLaws.{audits_as}
 use Rattle.ocfl_scrub.specs.{Call.{call_of}, Taking.{Takes, Misses}}
-use Rattle.ocfl_scrub.proofs.Passing.{up_to_last, due_in}
+use Rattle.ocfl_scrub.proofs.Passing.{due_in}
 use Rattle.ocfl_scrub.proofs.Paying.{Paid, Counts, IsWithinBoth, Pays, PaysAll, PaysUpTo, PaysHalting}
 use Rattle.ocfl_scrub.proofs.BetweenLaws.{HasGoneOn, looked_next, read_next}
 use Rattle.ocfl_scrub.proofs.CutLaws.{paid_append, test_paid, test_free, free_costs}
@@ -108,20 +109,15 @@ module _ (root : StorageRoot) (end : End) (s t u : Store) (old mid : Option (Lis
         let before : items_at root trail g.done ≡ items_at root g.trail g.done = walked_on root end s t u old mid from last finding low g w.trail w.audits.opened in
         let joined = audits_on root s t u g.done [] _ _ _ _ g.trail w.trail g.audits w.audits in
         record {
-          next = p;
-          done = g.done;
-          trail = trail;
+          next = p; done = g.done; trail = trail;
           audits = subst (λ ps. Audits root s u ps (looked_between root from (Some p)) (read_between root from (Some p)) trail) (append-nil g.done)
-              (subst (λ hs. Audits root s u (g.done ++ []) (looked_between root from (Some p)) hs trail) (read_next root end from last low p up)
-              (subst (λ ls. Audits root s u (g.done ++ []) ls (up_to_last (read_between root) from last ++ read_between root last (Some p)) trail) (looked_next root end from last low p up) joined));
+              (audits_as (looked_next root end from last low p up) (read_next root end from last low p up) joined);
           due_are = halves root end s t u old mid from last finding low g ∙ ap (λ ps. g.done ++ ps) (due_next root end s t u old mid from last finding low g p up least in_front w u mid);
-          in_front = in_front;
-          last_is = g.last_is;
+          in_front = in_front; last_is = g.last_is;
           wrote = subst (λ is. Appends old mid (text is)) (sym before) g.wrote;
           found_is = g.found_is ∙ ap found (sym before);
           counts = counts_same l spent files _ _ before h.counts;
-          hashed = hashed;
-          reached = reached;
+          hashed = hashed; reached = reached;
         }
 
   -- the walk did not get there

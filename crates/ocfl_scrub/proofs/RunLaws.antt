@@ -7,13 +7,14 @@ use Rattle.ocfl_tree.specs.{StorageRoot.{StorageRoot}, Store.{Store}}
 use Rattle.ocfl_tree.specs.declared.store.Opening.{Opening}
 use Rattle.ocfl_report.specs.{Line.{Item, found}, Text.{text}}
 use Rattle.ocfl_audit.specs.{Audit.{audit, after, total_cost, given_by}, Lines.{is_hashed}}
-use Rattle.ocfl_audit.specs.{Due.{items_at}, Between.{IsWithin, read_between}, Parts.{Part, within}}
+use Rattle.ocfl_audit.specs.{Due.{items_at}, Between.{IsWithin}, Parts.{Part, within}}
 use Rattle.ocfl_audit.specs.Trail.{unread_of}
 use Rattle.ocfl_audit.specs.Runs.{Limits, files_of, total_files, cut_len, cut, left}
 use Rattle.ocfl_cursor.specs.{Cursor.{State, Cursor, IsShortPlace, IsCursor}, Moves.{after_run}}
 use Rattle.ocfl_item.specs.{Looking.{IsFront}, Ways.{IsWayFault}, Auditing.{Audits}}
 use Rattle.ocfl_item.specs.{declared.fault.Fault.{Fault}, declared.fault.Fault.TheVariants.{Output}}
-use Rattle.ocfl_walk.specs.{WalkCalls.{GoesDown, GoDownFails}, Ends.{before_end}}
+use Rattle.ocfl_walk.specs.{WalkCalls.{GoesDown, GoDownFails}}
+use Rattle.ocfl_walk.proofs.WalkCallLaws.{audits_as}
 use Rattle.ocfl_scrub.specs.{Call.{call_of}, Taking.{PartOf}, Written.{places, last_of, Figures}}
 use Rattle.ocfl_scrub.specs.Running.{items_above_in, taken_in, rest_in, first_of, place_in, RunsWithin, RunStopsWithin, RunEndsWithin, RunsFromWithin, RunsCleanWithin, RunsCleanlyWithin, IsPaid, begun, state_after}
 use Rattle.ocfl_scrub.specs.Starting.{end_of, entry, stand, looked_in, read_in, LooksOver, StopsLooking}
@@ -114,8 +115,7 @@ module _ (root : StorageRoot) (part : Part) (s t u : Store) (old new : Option (L
       let k = h.finishes in
       let all : List Place = due_in root (end_of part) (stand root part from) in
       runs_of k.trail all [] (sym (append-nil all)) h.counts None (nothing_stops root k.trail l spent files) (none_first root k.trail) (λ p d b n. tt)
-      (subst (λ hs. Audits root t u all (looked_in root part from None) hs k.trail) (read_all root part from)
-      (subst (λ ls. Audits root t u all ls (before_end (end_of part) (read_between root (stand root part from) None)) k.trail) (looked_all root part from) k.audits)) k.wrote k.found_is last_is
+      (audits_as (looked_all root part from) (read_all root part from) k.audits) k.wrote k.found_is last_is
 
   -- the limits were reached
   pub spent_all : (h : PaysUpTo root (end_of part) t u old new (stand root part from) stood l spent files finding) → last ≡ last_of from h.done
@@ -123,8 +123,7 @@ module _ (root : StorageRoot) (part : Part) (s t u : Store) (old new : Option (L
   spent_all h last_is =
       runs_of h.trail h.done (h.next ∷ due_in root (end_of part) (Some h.next)) h.due_are h.counts (Some h.next)
       (unpaid_stops root h.trail l spent files h.next _ h.hashed h.reached) (some_first root h.trail h.next _) (λ p d b n. before_next p h.next d b.0 n)
-      (subst (λ hs. Audits root t u h.done (looked_in root part from (Some h.next)) hs h.trail) (read_to root part from h.next h.in_front)
-      (subst (λ ls. Audits root t u h.done ls (read_between root (stand root part from) (Some h.next)) h.trail) (looked_to root part from h.next h.in_front) h.audits)) h.wrote h.found_is last_is
+      (audits_as (looked_to root part from h.next h.in_front) (read_to root part from h.next h.in_front) h.audits) h.wrote h.found_is last_is
 
   -- there was a fault
   pub stopped : (why : Fault) (h : PaysHalting root (end_of part) t u old new (stand root part from) stood l spent files finding why) → last ≡ last_of from h.halts.done
@@ -151,14 +150,10 @@ module _ (root : StorageRoot) (part : Part) (s t u : Store) (old new : Option (L
       record {
         trail = trail;
         stops = record {
-          whole = whole;
-          others = others;
+          whole = whole; others = others;
           items_are = ap (λ is. cut is l) (are k.trail k.done due_left k.due_are) ∙ paid_begins l whole later h.counts.paid;
-          begun = k.begun;
-          one = ends.0;
-          part = k.part;
-          wrote = k.wrote;
-          part_of = ends.1;
+          begun = k.begun; one = ends.0; part = k.part;
+          wrote = k.wrote; part_of = ends.1;
           last_is = last_is ∙ ap (last_of from) whole_places;
         };
         figures = record { spent_is = h.counts.spent_is; files_is = h.counts.files_is; found_is = k.found_is };
@@ -223,12 +218,8 @@ run_counted b l spent files state h room fits p short =
     let f = h.files in
     let m = paid_files l spent files p in
     record {
-      first = h.first;
-      cycle = h.cycle;
-      runs = room;
-      spent = omega (arith, s, fits);
-      files = omega (arith, f, m);
-      place = short;
+      first = h.first; cycle = h.cycle; runs = room;
+      spent = omega (arith, s, fits); files = omega (arith, f, m); place = short;
     }
 
 module _ (root : StorageRoot) (part : Part) (s t : Store) (old new : Option (List ℕ)) (c b : Cursor) (from last : Option Place) (l : Limits) (spent files : ℕ)
@@ -240,7 +231,6 @@ module _ (root : StorageRoot) (part : Part) (s t : Store) (old new : Option (Lis
   pub runs_from : (reached : Cursor) (state : State) → reached ≡ after_run b spent files state → state ≡ state_after end last
       → RunsFromWithin (call_of root s t old new) part c l (record { cursor = reached; spent = spent; files = files; found = finding; end = end })
   runs_from reached state e f = record {
-    last = last;
-    run = begun_there;
+    last = last; run = begun_there;
     cursor_is = e ∙ ap (λ x. after_run x spent files state) h.begun_is ∙ ap (λ x. after_run (begun c) spent files x) f;
   }

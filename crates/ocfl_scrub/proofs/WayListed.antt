@@ -10,10 +10,11 @@ use Rattle.ocfl_tree.specs.{StorageRoot.{StorageRoot}, Store.{Store}}
 use Rattle.ocfl_tree.proofs.Bools.{and_second}
 use Rattle.ocfl_tree.proofs.Orders.{among_filter, among_from_filter, among_left, among_map, among_right, below_from_greater, not_below_itself, place_cmp_exact, place_cmp_total, true_not_false}
 use Rattle.ocfl_tree.proofs.{Stores.{among_either}, Places.{text_cmp_exact}}
+use Rattle.ocfl_inventory.proofs.TableSearch.{not_true}
 use Rattle.ocfl_audit.specs.Between.{IsBeyond, IsWithin, is_looked_into, looked_between}
 use Rattle.ocfl_audit.specs.{Due.{due}, Lines.{is_hashed}, Parts.{Part, lies_in}, Walk.{is_reached}}
 use Rattle.ocfl_audit.proofs.BelowLaws.{above_self, less_from}
-use Rattle.ocfl_audit.proofs.BetweenLaws.{among_between, is_directory}
+use Rattle.ocfl_audit.proofs.{BetweenLaws.{among_between, is_directory}, BranchLaws.{nothing_above}}
 use Rattle.ocfl_audit.proofs.PartLaws.{places_within_is}
 use Rattle.ocfl_item.specs.{Auditing.{LiesIn}, Looking.{way_to}, declared.fault.Fault.{Fault}}
 use Rattle.ocfl_walk.specs.{Before.{directory_of}, Ends.{is_past}}
@@ -23,7 +24,7 @@ use Rattle.ocfl_walk.proofs.EndLaws.{not_past_down}
 use Rattle.ocfl_scrub.specs.Starting.{FilesLieIn, due_within, end_of, entry, entry_by, first_place, greater_of, is_before, looked_in, stand, unless_root}
 use Rattle.ocfl_scrub.proofs.{DirectoryLaws.{has_directory, hashed_within}, Lists.{ascends_across}}
 use Rattle.ocfl_scrub.proofs.Passing.{Halts, due_in}
-use Rattle.ocfl_scrub.proofs.PartStarts.{due_starts, due_within_ascends, lies_exact, looked_starts, not_less_first, nothing_less, unless_root_is}
+use Rattle.ocfl_scrub.proofs.PartStarts.{due_starts, due_within_ascends, lies_exact, looked_starts, not_less_first, unless_root_is}
 use Rattle.ocfl_scrub.proofs.PassLaws.{among_beyond, looked_further, not_less_or, take_nothing}
 use Rattle.ocfl_scrub.proofs.WayOrder.{way_parts}
 
@@ -49,10 +50,6 @@ among_way (n ∷ d) q = subst (λ w. IsAmong w (n ∷ d)) (sym (way_parts n (d +
 none_is : (g : Place) → unless_root g ≡ None → g ≡ []
 none_is [] e = refl
 none_is (n ∷ g) e = absurd (let two : Some (n ∷ g) ≡ None = e in cc)
-
-not_true : (b : Bool) → not b ≡ true → b ≡ false
-not_true true h = absurd (true_not_false (sym h))
-not_true false h = refl
 
 among_first : (ps : List Place) (p : Place) → IsAmong (take 1 ps) p → IsAmong ps p
 among_first [] p i = absurd i
@@ -154,7 +151,7 @@ module _ (d p : Place) (n : Text) (is : p ≡ d ++ n ∷ []) where
         by : (o : Option Place) → first_place part ≡ o → IsPlaced from (entry_by (first_place part) from)
         by None e =
             subst (λ o. IsPlaced from (entry_by o from)) (sym e)
-            (all (on_or_after from l) (subst (λ g. is_lt (place_cmp d g) ≡ false) (sym (none_is (greater_of part.under part.from) e)) (nothing_less d)))
+            (all (on_or_after from l) (subst (λ g. is_lt (place_cmp d g) ≡ false) (sym (none_is (greater_of part.under part.from) e)) (nothing_above d)))
         by (Some b) e = subst (λ o. IsPlaced from (entry_by o from)) (sym e) (at b (is_before from b) e refl)
 
 -- ---- what was listed

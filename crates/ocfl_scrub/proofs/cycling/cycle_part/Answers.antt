@@ -36,8 +36,7 @@ returns-in-Ended-clause-any_store g c =
 pub returns-in-Ended-clause-told : goal.returns-in-Ended-clause-told
 returns-in-Ended-clause-told g c told root over short =
     let e = c.cycle_end-in-Ended.ensures in
-    let next = limits_next c.args.limits.now c.loop-one.one-index c.one-item.result c.loop-one-test.true c.one-item.is in
-    cycle_ended root (part_of c.args.part.now) _ _ _ _ _ _ _ _ _ (c.loop-one.invariant.told told root over short) _ _ _ _ _ _ _ next c.in-Ok.ensures.same
+    cycle_ended root (part_of c.args.part.now) _ _ _ _ _ _ _ _ _ (c.loop-one.invariant.told told root over short) _ _ _ _ _ _ _ (limits_next _ _ _ c.loop-one-test.true c.one-item.is) c.in-Ok.ensures.same
     (λ reached. c.run_part-reached.ensures.told told root reached short (ended_not_worn _ c.in-Ended.is)) c.either-found.ensures _ e.runs e.cursor e.found e.end c.in-Ended.is
 
 pub returns-in-Stopped-clause-any_store : goal.returns-in-Stopped-clause-any_store
@@ -50,8 +49,7 @@ returns-in-Stopped-clause-any_store g c =
 pub returns-in-Stopped-clause-told : goal.returns-in-Stopped-clause-told
 returns-in-Stopped-clause-told g c told root over short =
     let e = c.cycle_end-in-Stopped.ensures in
-    let next = limits_next c.args.limits.now c.loop-one.one-index c.one-item.result c.loop-one-test.true c.one-item.is in
-    cycle_stopped root (part_of c.args.part.now) _ _ _ _ _ _ _ _ _ (c.loop-one.invariant.told told root over short) _ _ _ _ _ _ _ next c.in-Ok.ensures.same
+    cycle_stopped root (part_of c.args.part.now) _ _ _ _ _ _ _ _ _ (c.loop-one.invariant.told told root over short) _ _ _ _ _ _ _ (limits_next _ _ _ c.loop-one-test.true c.one-item.is) c.in-Ok.ensures.same
     (λ reached. c.run_part-reached.ensures.told told root reached short (stopped_not_worn _ _ c.in-Stopped.is)) c.either-found.ensures _ _ e.runs e.cursor e.found e.end c.in-Stopped.is
 
 pub loop-one-preserved : goal.loop-one-preserved
@@ -71,8 +69,7 @@ loop-one-preserved g c =
       untouched = λ e. absurd (omega (arith, e));
       lines = lines_then _ _ _ _ _ _ i.lines (c.run_part-reached.ensures.any_store.lines (spent_wrote _ going)) c.either-found.ensures;
       told = λ told root over short.
-          let next = limits_next c.args.limits.now c.loop-one.one-index c.one-item.result c.loop-one-test.true c.one-item.is in
-          chain_goes_on root (part_of c.args.part.now) _ _ _ _ _ _ _ _ _ (i.told told root over short) _ _ _ _ _ _ _ next c.in-Ok.ensures.same
+          chain_goes_on root (part_of c.args.part.now) _ _ _ _ _ _ _ _ _ (i.told told root over short) _ _ _ _ _ _ _ (limits_next _ _ _ c.loop-one-test.true c.one-item.is) c.in-Ok.ensures.same
           (λ reached. c.run_part-reached.ensures.told told root reached short (spent_not_worn _ going)) c.either-found.ensures going;
     }
 

@@ -15,10 +15,8 @@ returns-clause-told g c told root over short =
     let same : map limits_of c.deref.result.now ≡ equal_limits c.args.limits c.args.count = ap (map limits_of) (c.deref.ensures.value ∙ c.in-Ok.ensures) in
     let cycles : CycleOfRuns (call_of root s t old new) (equal_limits c.args.limits c.args.count) end = subst (λ ls. CycleOfRuns (call_of root s t old new) ls end) same (e.told told root over short) in
     inl (record {
-      ran = end;
-      cycles = cycles;
+      ran = end; cycles = cycles;
       headline = headline_of_whole (call_of root s t old new) (equal_limits c.args.limits c.args.count) end cycles;
-      count_is = e.any_store.runs_are;
-      spent_is = e.any_store.spent_is;
+      count_is = e.any_store.runs_are; spent_is = e.any_store.spent_is;
       says = c.describe_cycle.ensures.note;
     })

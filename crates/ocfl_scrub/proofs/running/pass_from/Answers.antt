@@ -1,49 +1,31 @@
-use Rattle.ocfl_scrub.specs.{Call.{call_of}, Running.{limits_of}, Starting.{part_of}}
-use Rattle.ocfl_scrub.proofs.KeptRuns.{begins_not, begun_ended, begun_lost, begun_on, ends_as}
-use Rattle.ocfl_scrub.proofs.RunLaws.{lent_place}
+use Rattle.std.proofs.Common.{subst}
+use Rattle.ocfl_scrub.specs.{Passes.{EndsAt}, Running.{limits_of}, Starting.{part_of}}
+use Rattle.ocfl_scrub.proofs.KeptRuns.{begins_not, begun_ended, begun_lost, begun_on}
+use Rattle.ocfl_scrub.proofs.{KeptTurns.{pass_is}, RunLaws.{lent_place}}
 use Rattle.ocfl_scrub.proofs.running.pass_from.Goals as goal
 
 pub returns-in-Err-clause-told : goal.returns-in-Err-clause-told
 returns-in-Err-clause-told g c told root over short =
-    let part = part_of c.args.part.now in
     let e = c.no_pass.ensures in
-    let s = g.T.Tree.state c.args.store.now in
-    let t = g.T.Tree.state c.set_out.new.store in
-    let old = g.W.Write.contents c.args.out.now in
-    ends_as (call_of root s t old old) part c.args.from (limits_of c.args.limits) c.no_pass.result _ _ _ _ _ _ e.last e.spent e.files e.found e.end e.met
-    (begins_not root part s t old c.args.from (limits_of c.args.limits) c.in-Err.why c.in-Err.ensures.only (rw (lent_place _ _ c.as_ref.ensures.value) at (c.in-Err.ensures.told told root over)))
+    subst (EndsAt _ (part_of c.args.part.now) c.args.from (limits_of c.args.limits)) (pass_is c.no_pass.result _ _ _ _ _ _ e.last e.spent e.files e.found e.end e.met)
+    (begins_not root _ _ _ _ _ _ c.in-Err.why c.in-Err.ensures.only (rw (lent_place _ _ c.as_ref.ensures.value) at (c.in-Err.ensures.told told root over)))
 
 pub returns-in-Ok-Some-clause-told : goal.returns-in-Ok-Some-clause-told
 returns-in-Ok-Some-clause-told g c told root over short =
-    let part = part_of c.args.part.now in
-    let s = g.T.Tree.state c.args.store.now in
-    let t = g.T.Tree.state c.set_out.new.store in
-    let u = g.T.Tree.state c.next_within.new.store in
-    let old = g.W.Write.contents c.args.out.now in
     let there = rw (lent_place _ _ c.as_ref.ensures.value) at (c.in-Ok.ensures.told told root over) in
-    begun_on root part s t u old c.args.from (limits_of c.args.limits) c.in-Ok.walk c.in-Ok.ensures.live there _ c.in-Ok-Some.field-0 (c.in-Ok-Some.ensures.told told root) c.in-Ok-Some.field-0-is c.in-Ok-Some.ensures.before
-    (g.T.Tree.state c.pass_on.new.store) (g.W.Write.contents c.pass_on.new.out) c.pass_on.result (λ same. c.pass_on.ensures.told told root same short)
+    begun_on root (part_of c.args.part.now) _ _ _ _ c.args.from (limits_of c.args.limits) c.in-Ok.walk c.in-Ok.ensures.live there _ c.in-Ok-Some.field-0 (c.in-Ok-Some.ensures.told told root) c.in-Ok-Some.field-0-is
+    c.in-Ok-Some.ensures.before _ _ c.pass_on.result (λ same. c.pass_on.ensures.told told root same short)
 
 pub returns-in-Ok-None-clause-told : goal.returns-in-Ok-None-clause-told
 returns-in-Ok-None-clause-told g c told root over short =
-    let part = part_of c.args.part.now in
     let e = c.no_pass-in-Ok-None.ensures in
-    let s = g.T.Tree.state c.args.store.now in
-    let t = g.T.Tree.state c.set_out.new.store in
-    let u = g.T.Tree.state c.next_within.new.store in
-    let old = g.W.Write.contents c.args.out.now in
     let there = rw (lent_place _ _ c.as_ref.ensures.value) at (c.in-Ok.ensures.told told root over) in
-    ends_as (call_of root s u old old) part c.args.from (limits_of c.args.limits) c.no_pass-in-Ok-None.result _ _ _ _ _ _ e.last e.spent e.files e.found e.end e.met
-    (begun_ended root part s t u old c.args.from (limits_of c.args.limits) c.in-Ok.walk c.in-Ok.ensures.live there c.next_within.new.self c.in-Ok-None.field-0 (c.in-Ok-None.ensures.told told root) c.in-Ok-None.field-0-is)
+    subst (EndsAt _ (part_of c.args.part.now) c.args.from (limits_of c.args.limits)) (pass_is c.no_pass-in-Ok-None.result _ _ _ _ _ _ e.last e.spent e.files e.found e.end e.met)
+    (begun_ended root _ _ _ _ _ _ _ c.in-Ok.walk c.in-Ok.ensures.live there c.next_within.new.self c.in-Ok-None.field-0 (c.in-Ok-None.ensures.told told root) c.in-Ok-None.field-0-is)
 
 pub returns-in-Err-next_within-clause-told : goal.returns-in-Err-next_within-clause-told
 returns-in-Err-next_within-clause-told g c told root over short =
-    let part = part_of c.args.part.now in
     let e = c.no_pass-in-Err-next_within.ensures in
-    let s = g.T.Tree.state c.args.store.now in
-    let t = g.T.Tree.state c.set_out.new.store in
-    let u = g.T.Tree.state c.next_within.new.store in
-    let old = g.W.Write.contents c.args.out.now in
     let there = rw (lent_place _ _ c.as_ref.ensures.value) at (c.in-Ok.ensures.told told root over) in
-    ends_as (call_of root s u old old) part c.args.from (limits_of c.args.limits) c.no_pass-in-Err-next_within.result _ _ _ _ _ _ e.last e.spent e.files e.found e.end e.met
-    (begun_lost root part s t u old c.args.from (limits_of c.args.limits) c.in-Ok.walk c.in-Ok.ensures.live there c.in-Err-next_within.why c.in-Err-next_within.ensures.only (c.in-Err-next_within.ensures.told told root))
+    subst (EndsAt _ (part_of c.args.part.now) c.args.from (limits_of c.args.limits)) (pass_is c.no_pass-in-Err-next_within.result _ _ _ _ _ _ e.last e.spent e.files e.found e.end e.met)
+    (begun_lost root _ _ _ _ _ _ _ c.in-Ok.walk c.in-Ok.ensures.live there c.in-Err-next_within.why c.in-Err-next_within.ensures.only (c.in-Err-next_within.ensures.told told root))

@@ -1,8 +1,8 @@
 use Rattle.std.proofs.Common.{◌≤◌, ◌∙◌, ◌^◌, arith, length, refl, subst, sym}
 use Rattle.ocfl_tree.specs.Place.{Place}
-use Rattle.ocfl_scrub.specs.{Call.{call_of}, Running.{limits_of}, Starting.{part_of}}
-use Rattle.ocfl_scrub.proofs.KeptRuns.{ended_pass, missed_whole, pass_as, passes_as, spent_pass, stopped_pass}
-use Rattle.ocfl_scrub.proofs.KeptTurns.{on_way_first, way_ended, way_lost, way_missed, way_next, way_spent}
+use Rattle.ocfl_scrub.specs.{Call.{call_of}, Passes.{IsPass, PassesOn}, Running.{limits_of}, Starting.{part_of}}
+use Rattle.ocfl_scrub.proofs.KeptRuns.{ended_pass, missed_whole, spent_pass, stopped_pass}
+use Rattle.ocfl_scrub.proofs.KeptTurns.{on_way_first, pass_is, way_ended, way_lost, way_missed, way_next, way_spent}
 use Rattle.ocfl_scrub.proofs.{LoopLaws.{goes_further, next_short, sets_out}, MeterLaws.{paid_start}}
 use Rattle.ocfl_scrub.proofs.PassLaws.{lines_then}
 use Rattle.ocfl_scrub.proofs.RunTurns.{charged_item, not_within, within_both}
@@ -14,9 +14,7 @@ loop-alloc-init g c =
     let meter = c.new-meter.ensures in
     record {
       way = sets_out _ _ c.args.met.live;
-      short = c.requires.short;
-      near = c.args.met.short;
-      limits = meter.limits;
+      short = c.requires.short; near = c.args.met.short; limits = meter.limits;
       paid = paid_start _ _ _ meter.spent meter.files;
       told = λ told root over short. on_way_first root (part_of c.args.part.now) _ _ c.args.met c.args.from _ _ _ meter.spent meter.files over;
     }
@@ -48,7 +46,7 @@ returns-clause-any_store g c =
     let bound = e.bound.spent in
     let budget = e.bound.budget.1 in
     let fits : c.if-not-paid.meter.spent ≤ 2 ^ 63 = omega (arith, bound, budget) in
-    pass_as _ _ c.args.limits c.pass_end.result _ _ _ _ _ _ e.last e.spent e.files e.found e.end e.met
+    subst (IsPass _ _ c.args.limits) (pass_is c.pass_end.result _ _ _ _ _ _ e.last e.spent e.files e.found e.end e.met)
     (elim c.if-not-paid.branch [
       | then-not-paid w ↦ let small = rw w.meter-is at fits in
           rw (w.out-is, w.last-is, w.meter-is, w.found-is, w.end-is)
@@ -59,17 +57,15 @@ returns-clause-any_store g c =
           (λ n. rw (w.in-Err.ensures.unwritten n) i.way.lines))
       | else-not-paid+in-Ok+in-Ok-None w ↦ let small = rw w.meter-is at fits in
           let took = w.in-Ok.ensures in
-          let may = c.pays-paid.ensures.paid w.if-not-paid.false in
           rw (w.out-is, w.last-is, w.meter-is, w.found-is, w.end-is)
           (ended_pass _ _ c.args.limits _ _ _ _ (subst (λ (p : Place). length p ≤ 255) (sym took.place) i.near)
-          (charged_item _ c.loop-alloc.meter _ _ _ _ i.limits i.paid took.cost may w.charge.ensures.spent w.charge.ensures.files) small
+          (charged_item _ c.loop-alloc.meter _ _ _ _ i.limits i.paid took.cost (c.pays-paid.ensures.paid w.if-not-paid.false) w.charge.ensures.spent w.charge.ensures.files) small
           (lines_then _ _ _ _ _ _ i.way.lines took.lines w.either-found.ensures))
       | else-not-paid+in-Ok+in-Err-next_within w ↦ let small = rw w.meter-is at fits in
           let took = w.in-Ok.ensures in
-          let may = c.pays-paid.ensures.paid w.if-not-paid.false in
           rw (w.out-is, w.last-is, w.meter-is, w.found-is, w.end-is)
           (stopped_pass _ _ c.args.limits _ _ _ _ (subst (λ (p : Place). length p ≤ 255) (sym took.place) i.near)
-          (charged_item _ c.loop-alloc.meter _ _ _ _ i.limits i.paid took.cost may w.charge.ensures.spent w.charge.ensures.files) small
+          (charged_item _ c.loop-alloc.meter _ _ _ _ i.limits i.paid took.cost (c.pays-paid.ensures.paid w.if-not-paid.false) w.charge.ensures.spent w.charge.ensures.files) small
           w.in-Err-next_within.why (w.in-Err-next_within.ensures.only i.way.live).1
           (λ n. lines_then _ _ _ _ _ _ i.way.lines took.lines w.either-found.ensures))
     ])
@@ -81,7 +77,7 @@ returns-clause-told g c told root over short =
     let part = part_of c.args.part.now in
     let way = i.told told root over short in
     let call = call_of root (g.T.Tree.state c.args.store.now) (g.T.Tree.state c.if-not-paid.store) (g.W.Write.contents c.args.out.now) (g.W.Write.contents c.if-not-paid.out) in
-    passes_as call part c.args.met c.args.from (limits_of c.args.limits) c.pass_end.result _ _ _ _ _ _ e.last e.spent e.files e.found e.end e.met
+    subst (PassesOn call part c.args.met c.args.from (limits_of c.args.limits)) (pass_is c.pass_end.result _ _ _ _ _ _ e.last e.spent e.files e.found e.end e.met)
     (elim c.if-not-paid.branch [
       | then-not-paid w ↦ let unpaid = c.pays-paid.ensures.unpaid w.if-not-paid.true in
           rw (w.store-is, w.out-is, w.last-is, w.meter-is, w.found-is, w.end-is)

@@ -1,5 +1,5 @@
 -- What the words of a command line ask for.
-use Rattle.std.specs.Prelude.{◌≡◌, ◌↔◌, ℕ, ◌≤◌, ◌<◌, ◌^◌, List, Option, Some, None, IsSomeAnd, IsTrue, String, codes, option_map, string_bytes}
+use Rattle.std.specs.Prelude.{◌≡◌, ◌↔◌, ℕ, ◌≤◌, ◌<◌, ◌^◌, List, Option, Some, None, IfSome, IsNone, IsSomeAnd, IsTrue, String, codes, option_map, string_bytes}
 use Rattle.std.specs.declared.alloc.Global.{Global}
 use Rattle.std.specs.Str.Parse.{IsNumeral, digits_value, without_leading_plus}
 use Rattle.clap.specs.Words.{Row, Text, first_of, one_of}
@@ -18,6 +18,11 @@ use Rattle.ocfl_line.specs.{declared.night.JoinAsked.{JoinAsked}, declared.task.
 use Rattle.ocfl_deed.specs.declared.deed.Deed.{Deed}
 use Rattle.ocfl_deed.specs.declared.deed.Deed.TheVariants.{Audit, Run, Cycle, Check, Show}
 use Rattle.ocfl_line.specs.declared.task.Asked.TheVariants as asked
+
+-- what is read is so, and where nothing is read, nothing is so
+pub record IsRead {A : Type 0} (P : A → Type 0) (o : Option A) : Type 0 where
+  pub found : IfSome o P
+  pub missing : IsNone o → (a : A) → P a → ⊥
 
 -- the text writes this number: decimal digits, which a plus sign may precede
 abbrev pub IsNumberText : ℕ → Text → Type 0

@@ -1,6 +1,7 @@
 //! The text of a size: of a budget, or of the most files of a run.
-ghost use Rattle.std.specs.Prelude.{◌≡◌, ℕ, IfSome, IsNone, map, take, drop};
+ghost use Rattle.std.specs.Prelude.{◌≡◌, map};
 ghost use Rattle.std.specs.{Char.{is_ascii_digit}, List.{prefix_len}};
+ghost use Rattle.ocfl_line.specs.Asks.{IsRead};
 ghost use Rattle.ocfl_line.specs.Budget.{IsSizeText, beside, digits_of, unit_of, unit_size as size_of_unit};
 
 use ocfl_cursor::Budget;
@@ -58,8 +59,7 @@ fn split_digits(text: &str) -> (&str, &str)
 
 /// The budget that a text writes, as `read_amount` reads it.
 pub(crate) fn read_budget(text: &str) -> Option<Budget>
-    ensures found { IfSome result (IsSizeText text.now) }
-    ensures missing { IsNone result → (n : ℕ) → IsSizeText text.now n → ⊥ }
+    ensures { IsRead (IsSizeText text.now) result }
 {
     Budget::new(read_amount(text)?)
 }
@@ -67,8 +67,7 @@ pub(crate) fn read_budget(text: &str) -> Option<Budget>
 /// The size that a text writes: 1 to 2^62, as digits alone or with a unit. `None` if it writes
 /// none.
 pub(crate) fn read_amount(text: &str) -> Option<u64>
-    ensures found { IfSome result (IsSizeText text.now) }
-    ensures missing { IsNone result → (n : ℕ) → IsSizeText text.now n → ⊥ }
+    ensures { IsRead (IsSizeText text.now) result }
 {
     let (digits, unit) = split_digits(text);
     let size = unit_size(unit)?;

@@ -1,8 +1,7 @@
 //! Which items of a storage root are chosen by the arguments that `clap` found.
-ghost use Rattle.std.specs.Prelude.{IfOk, IfSome, IsNone, codes};
+ghost use Rattle.std.specs.Prelude.{IfOk, codes};
 ghost use Rattle.clap.specs.Words.{found_of, rows_of};
-ghost use Rattle.ocfl_line.specs.Asks.{HasText, IsChosen};
-ghost use Rattle.ocfl_line.specs.declared.task.Chosen.{Chosen as ChosenOf};
+ghost use Rattle.ocfl_line.specs.Asks.{HasText, IsChosen, IsRead};
 
 use crate::task::Chosen;
 use crate::values::{copied, count_of, is_left_out};
@@ -15,9 +14,7 @@ const MAX_PARTS: u64 = 100001;
 /// Which items are chosen, or `None` if the arguments do not go together: a part needs both the
 /// file of the separators and its number, and is not chosen beside a branch.
 pub(crate) fn chosen_by(alloc: Global, inner: &ArgMatches<'_>) -> Result<Option<Chosen>, AllocError>
-    ensures found { IfOk result (λ o. IfSome o (IsChosen (rows_of (found_of inner.now)))) }
-    ensures missing { IfOk result (λ o. IsNone o
-        → (c : ChosenOf) → IsChosen (rows_of (found_of inner.now)) c → ⊥) }
+    ensures { IfOk result (IsRead (IsChosen (rows_of (found_of inner.now)))) }
 {
     if let Some(parts) = copied(alloc, inner, "parts")? {
         return Ok(part_of(inner, parts));
@@ -34,9 +31,7 @@ pub(crate) fn chosen_by(alloc: Global, inner: &ArgMatches<'_>) -> Result<Option<
 /// The part of this file that is chosen, or `None` if there is no number, or a branch too.
 fn part_of(inner: &ArgMatches<'_>, parts: String) -> Option<Chosen>
     requires { HasText (codes "parts") (rows_of (found_of inner.now)) parts }
-    ensures found { IfSome result (IsChosen (rows_of (found_of inner.now))) }
-    ensures missing { IsNone result
-        → (c : ChosenOf) → IsChosen (rows_of (found_of inner.now)) c → ⊥ }
+    ensures { IsRead (IsChosen (rows_of (found_of inner.now))) result }
 {
     if !is_left_out(inner, "under") {
         return None;

@@ -1,8 +1,7 @@
 //! When a night begins no further run, by the arguments that `clap` found.
-ghost use Rattle.std.specs.Prelude.{IfSome, IsNone, codes};
+ghost use Rattle.std.specs.Prelude.{codes};
 ghost use Rattle.clap.specs.Words.{found_of, rows_of};
-ghost use Rattle.ocfl_line.specs.Asks.{IsLeftOut, IsUntil};
-ghost use Rattle.ocfl_line.specs.declared.night.Until.{Until as UntilOf};
+ghost use Rattle.ocfl_line.specs.Asks.{IsLeftOut, IsRead, IsUntil};
 
 use crate::night::Until;
 use crate::time_of_day::read_time;
@@ -15,9 +14,7 @@ const MAX_HOURS: u64 = 24;
 /// When a night begins no further run, or `None` where more than one end is given, or one that is
 /// no time.
 pub(crate) fn until_of(inner: &ArgMatches<'_>) -> Option<Until>
-    ensures found { IfSome result (IsUntil (rows_of (found_of inner.now))) }
-    ensures missing { IsNone result
-        → (until : UntilOf) → IsUntil (rows_of (found_of inner.now)) until → ⊥ }
+    ensures { IsRead (IsUntil (rows_of (found_of inner.now))) result }
 {
     if !is_left_out(inner, "hours") {
         return hours_alone(inner);
@@ -34,9 +31,7 @@ pub(crate) fn until_of(inner: &ArgMatches<'_>) -> Option<Until>
 /// The end after some hours, or `None` if another one is given too.
 fn hours_alone(inner: &ArgMatches<'_>) -> Option<Until>
     requires { IsLeftOut (codes "hours") (rows_of (found_of inner.now)) → ⊥ }
-    ensures found { IfSome result (IsUntil (rows_of (found_of inner.now))) }
-    ensures missing { IsNone result
-        → (until : UntilOf) → IsUntil (rows_of (found_of inner.now)) until → ⊥ }
+    ensures { IsRead (IsUntil (rows_of (found_of inner.now))) result }
 {
     if !is_left_out(inner, "until") || !is_left_out(inner, "end") {
         return None;
@@ -49,9 +44,7 @@ fn hours_alone(inner: &ArgMatches<'_>) -> Option<Until>
 fn time_alone(inner: &ArgMatches<'_>) -> Option<Until>
     requires hours { IsLeftOut (codes "hours") (rows_of (found_of inner.now)) }
     requires until { IsLeftOut (codes "until") (rows_of (found_of inner.now)) → ⊥ }
-    ensures found { IfSome result (IsUntil (rows_of (found_of inner.now))) }
-    ensures missing { IsNone result
-        → (until : UntilOf) → IsUntil (rows_of (found_of inner.now)) until → ⊥ }
+    ensures { IsRead (IsUntil (rows_of (found_of inner.now))) result }
 {
     if !is_left_out(inner, "end") {
         return None;
@@ -66,9 +59,7 @@ fn end_alone(inner: &ArgMatches<'_>) -> Option<Until>
     requires hours { IsLeftOut (codes "hours") (rows_of (found_of inner.now)) }
     requires until { IsLeftOut (codes "until") (rows_of (found_of inner.now)) }
     requires end { IsLeftOut (codes "end") (rows_of (found_of inner.now)) → ⊥ }
-    ensures found { IfSome result (IsUntil (rows_of (found_of inner.now))) }
-    ensures missing { IsNone result
-        → (until : UntilOf) → IsUntil (rows_of (found_of inner.now)) until → ⊥ }
+    ensures { IsRead (IsUntil (rows_of (found_of inner.now))) result }
 {
     Some(Until::At(number_of(inner, "end")?))
 }

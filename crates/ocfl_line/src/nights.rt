@@ -1,11 +1,8 @@
 //! What the arguments that `clap` found ask for of nights.
-ghost use Rattle.std.specs.Prelude.{◌↔◌, ℕ, Option, String, IfOk, IfSome, IsNone, IsTrue};
+ghost use Rattle.std.specs.Prelude.{◌↔◌, String, IfOk, IfSome, IsNone, IsTrue};
 ghost use Rattle.std.specs.declared.alloc.Global.{Global};
 ghost use Rattle.clap.specs.Words.{found_of, rows_of};
-ghost use Rattle.ocfl_line.specs.Asks.{ExpectsOfPart, HasBounds, HasText, IsJoin, IsNight, MayHaveSize};
-ghost use Rattle.ocfl_line.specs.declared.night.JoinAsked.{JoinAsked as JoinOf};
-ghost use Rattle.ocfl_line.specs.declared.night.NightAsked.{NightAsked as NightOf};
-ghost use Rattle.ocfl_line.specs.declared.night.NightBounds.{NightBounds as BoundsOf};
+ghost use Rattle.ocfl_line.specs.Asks.{ExpectsOfPart, HasBounds, HasText, IsJoin, IsNight, IsRead, MayHaveSize};
 
 use crate::budget::read_amount;
 use crate::choosing::chosen_by;
@@ -18,9 +15,7 @@ use std::alloc::{AllocError, Global};
 
 /// The size of an option, `Some(None)` if it is left out, and `None` if its text is no size.
 fn size_of(inner: &ArgMatches<'_>, id: &str) -> Option<Option<u64>>
-    ensures found { IfSome result (MayHaveSize id.now (rows_of (found_of inner.now))) }
-    ensures missing { IsNone result
-        → (size : Option ℕ) → MayHaveSize id.now (rows_of (found_of inner.now)) size → ⊥ }
+    ensures { IsRead (MayHaveSize id.now (rows_of (found_of inner.now))) result }
 {
     match text_of(inner, id) {
         Some(text) => Some(Some(read_amount(text)?)),
@@ -30,18 +25,14 @@ fn size_of(inner: &ArgMatches<'_>, id: &str) -> Option<Option<u64>>
 
 /// The same of a budget, which each size is.
 fn budget_of(inner: &ArgMatches<'_>, id: &str) -> Option<Option<Budget>>
-    ensures found { IfSome result (MayHaveSize id.now (rows_of (found_of inner.now))) }
-    ensures missing { IsNone result
-        → (size : Option ℕ) → MayHaveSize id.now (rows_of (found_of inner.now)) size → ⊥ }
+    ensures { IsRead (MayHaveSize id.now (rows_of (found_of inner.now))) result }
 {
     Some(size_of(inner, id)?.and_then(Budget::new))
 }
 
 /// What a night may do. `None` if one of its bounds cannot be read.
 fn bounds_of(inner: &ArgMatches<'_>) -> Option<NightBounds>
-    ensures found { IfSome result (HasBounds (rows_of (found_of inner.now))) }
-    ensures missing { IsNone result
-        → (bounds : BoundsOf) → HasBounds (rows_of (found_of inner.now)) bounds → ⊥ }
+    ensures { IsRead (HasBounds (rows_of (found_of inner.now))) result }
 {
     let budget = budget_of(inner, "budget")?;
     let files = size_of(inner, "files")?;
@@ -90,9 +81,7 @@ pub(crate) fn night_by(
     alloc: Global,
     inner: &ArgMatches<'_>,
 ) -> Result<Option<NightAsked>, AllocError>
-    ensures found { IfOk result (λ o. IfSome o (IsNight (rows_of (found_of inner.now)))) }
-    ensures missing { IfOk result (λ o. IsNone o
-        → (night : NightOf) → IsNight (rows_of (found_of inner.now)) night → ⊥) }
+    ensures { IfOk result (IsRead (IsNight (rows_of (found_of inner.now)))) }
 {
     if expects_of_part(inner) {
         return Ok(None);
@@ -126,9 +115,7 @@ pub(crate) fn join_by(
     alloc: Global,
     inner: &ArgMatches<'_>,
 ) -> Result<Option<JoinAsked>, AllocError>
-    ensures found { IfOk result (λ o. IfSome o (IsJoin (rows_of (found_of inner.now)))) }
-    ensures missing { IfOk result (λ o. IsNone o
-        → (join : JoinOf) → IsJoin (rows_of (found_of inner.now)) join → ⊥) }
+    ensures { IfOk result (IsRead (IsJoin (rows_of (found_of inner.now)))) }
 {
     match both_of(alloc, inner, "parts", "state")? {
         Some((parts, state)) => Ok(Some(JoinAsked { parts, state })),

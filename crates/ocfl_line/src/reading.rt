@@ -1,11 +1,7 @@
 //! What the arguments that `clap` found ask for.
-ghost use Rattle.std.specs.Prelude.{ℕ, IfOk, IfSome, IsNone, codes};
+ghost use Rattle.std.specs.Prelude.{IfOk, codes};
 ghost use Rattle.clap.specs.Words.{found_of, rows_of, subcommand_rows_of};
-ghost use Rattle.ocfl_cursor.specs.declared.limits.Limits.{Limits as LimitsOf};
-ghost use Rattle.ocfl_line.specs.Asks.{Asks, HasLimits, HasRuns, IsAsked, IsDeed, IsTask};
-ghost use Rattle.ocfl_line.specs.declared.task.Task.{Task as TaskOf};
-ghost use Rattle.ocfl_line.specs.declared.task.Asked.{Asked as AskedOf};
-ghost use Rattle.ocfl_deed.specs.declared.deed.Deed.{Deed as DeedOf};
+ghost use Rattle.ocfl_line.specs.Asks.{Asks, HasLimits, HasRuns, IsAsked, IsDeed, IsRead, IsTask};
 
 use crate::budget::{read_amount, read_budget};
 use crate::choosing::chosen_by;
@@ -23,9 +19,7 @@ const MAX_RUNS: u64 = 100000;
 
 /// The limits of a run, or `None` if the text of one of them is no size.
 fn limits_of(inner: &ArgMatches<'_>) -> Option<Limits>
-    ensures found { IfSome result (HasLimits (rows_of (found_of inner.now))) }
-    ensures missing { IsNone result
-        → (limits : LimitsOf) → HasLimits (rows_of (found_of inner.now)) limits → ⊥ }
+    ensures { IsRead (HasLimits (rows_of (found_of inner.now))) result }
 {
     let budget = read_budget(text_of(inner, "budget")?)?;
     let files = FileLimit::new(read_amount(text_of(inner, "files")?)?)?;
@@ -34,18 +28,14 @@ fn limits_of(inner: &ArgMatches<'_>) -> Option<Limits>
 
 /// The most runs of a cycle.
 fn runs_of(inner: &ArgMatches<'_>) -> Option<usize>
-    ensures found { IfSome result (HasRuns (rows_of (found_of inner.now))) }
-    ensures missing { IsNone result
-        → (runs : ℕ) → HasRuns (rows_of (found_of inner.now)) runs → ⊥ }
+    ensures { IsRead (HasRuns (rows_of (found_of inner.now))) result }
 {
     count_of(inner, "runs", MAX_RUNS)
 }
 
 /// One run, or `None` if its limits are not given.
 fn run_of(inner: &ArgMatches<'_>) -> Option<Deed>
-    ensures found { IfSome result (IsDeed (codes "run") (rows_of (found_of inner.now))) }
-    ensures missing { IsNone result
-        → (d : DeedOf) → IsDeed (codes "run") (rows_of (found_of inner.now)) d → ⊥ }
+    ensures { IsRead (IsDeed (codes "run") (rows_of (found_of inner.now))) result }
 {
     let limits = limits_of(inner)?;
     Some(Deed::Run(limits))
@@ -53,19 +43,14 @@ fn run_of(inner: &ArgMatches<'_>) -> Option<Deed>
 
 /// A cycle, or `None` if its limits or its runs are not given.
 fn cycle_of(inner: &ArgMatches<'_>) -> Option<Deed>
-    ensures found { IfSome result (IsDeed (codes "cycle") (rows_of (found_of inner.now))) }
-    ensures missing { IsNone result
-        → (d : DeedOf) → IsDeed (codes "cycle") (rows_of (found_of inner.now)) d → ⊥ }
+    ensures { IsRead (IsDeed (codes "cycle") (rows_of (found_of inner.now))) result }
 {
     Some(Deed::Cycle(limits_of(inner)?, runs_of(inner)?))
 }
 
 /// The check of a place, or `None` if its path is not given.
 fn check_of(alloc: Global, inner: &ArgMatches<'_>) -> Result<Option<Deed>, AllocError>
-    ensures found { IfOk result (λ o.
-        IfSome o (IsDeed (codes "check") (rows_of (found_of inner.now)))) }
-    ensures missing { IfOk result (λ o. IsNone o
-        → (d : DeedOf) → IsDeed (codes "check") (rows_of (found_of inner.now)) d → ⊥) }
+    ensures { IfOk result (IsRead (IsDeed (codes "check") (rows_of (found_of inner.now)))) }
 {
     match copied(alloc, inner, "path")? {
         Some(path) => Ok(Some(Deed::Check(path))),
@@ -75,9 +60,7 @@ fn check_of(alloc: Global, inner: &ArgMatches<'_>) -> Result<Option<Deed>, Alloc
 
 /// The deed of the subcommand with this name and these matches, or `None` if they ask for none.
 fn deed_of(alloc: Global, name: &str, inner: &ArgMatches<'_>) -> Result<Option<Deed>, AllocError>
-    ensures found { IfOk result (λ o. IfSome o (IsDeed name.now (rows_of (found_of inner.now)))) }
-    ensures missing { IfOk result (λ o. IsNone o
-        → (d : DeedOf) → IsDeed name.now (rows_of (found_of inner.now)) d → ⊥) }
+    ensures { IfOk result (IsRead (IsDeed name.now (rows_of (found_of inner.now)))) }
 {
     match name {
         "audit" => Ok(Some(Deed::Audit)),
@@ -92,9 +75,7 @@ fn deed_of(alloc: Global, name: &str, inner: &ArgMatches<'_>) -> Result<Option<D
 /// The deed of the subcommand with this name and these matches, with what it is done with, or
 /// `None` if they ask for none.
 fn task_of(alloc: Global, name: &str, inner: &ArgMatches<'_>) -> Result<Option<Task>, AllocError>
-    ensures found { IfOk result (λ o. IfSome o (IsTask name.now (rows_of (found_of inner.now)))) }
-    ensures missing { IfOk result (λ o. IsNone o
-        → (t : TaskOf) → IsTask name.now (rows_of (found_of inner.now)) t → ⊥) }
+    ensures { IfOk result (IsRead (IsTask name.now (rows_of (found_of inner.now)))) }
 {
     let Some(deed) = deed_of(alloc, name, inner)? else {
         return Ok(None);
@@ -116,9 +97,7 @@ fn task_of(alloc: Global, name: &str, inner: &ArgMatches<'_>) -> Result<Option<T
 
 /// What the subcommand with this name and these matches asks for, or `None` if it is nothing.
 fn asked_of(alloc: Global, name: &str, inner: &ArgMatches<'_>) -> Result<Option<Asked>, AllocError>
-    ensures found { IfOk result (λ o. IfSome o (IsAsked name.now (rows_of (found_of inner.now)))) }
-    ensures missing { IfOk result (λ o. IsNone o
-        → (a : AskedOf) → IsAsked name.now (rows_of (found_of inner.now)) a → ⊥) }
+    ensures { IfOk result (IsRead (IsAsked name.now (rows_of (found_of inner.now)))) }
 {
     match name {
         "split" => Ok(split_by(alloc, inner)?.map(Asked::Split)),
@@ -130,9 +109,7 @@ fn asked_of(alloc: Global, name: &str, inner: &ArgMatches<'_>) -> Result<Option<
 
 /// What is asked for by matches, or `None` if they ask for nothing.
 pub(crate) fn asked_by(alloc: Global, matches: &ArgMatches<'_>) -> Result<Option<Asked>, AllocError>
-    ensures found { IfOk result (λ o. IfSome o (Asks (subcommand_rows_of matches.now))) }
-    ensures missing { IfOk result (λ o. IsNone o
-        → (a : AskedOf) → Asks (subcommand_rows_of matches.now) a → ⊥) }
+    ensures { IfOk result (IsRead (Asks (subcommand_rows_of matches.now))) }
 {
     match matches.subcommand() {
         Some((name, inner)) => asked_of(alloc, name, inner),

@@ -1,8 +1,7 @@
 //! How a storage root is to be split by the arguments that `clap` found.
-ghost use Rattle.std.specs.Prelude.{IfOk, IfSome, IsNone, codes};
+ghost use Rattle.std.specs.Prelude.{IfOk, codes};
 ghost use Rattle.clap.specs.Words.{found_of, rows_of};
-ghost use Rattle.ocfl_line.specs.Asks.{HasText, IsLeftOut, IsSplit};
-ghost use Rattle.ocfl_line.specs.declared.task.Split.{Split as SplitOf};
+ghost use Rattle.ocfl_line.specs.Asks.{HasText, IsLeftOut, IsRead, IsSplit};
 
 use crate::budget::read_amount;
 use crate::task::Split;
@@ -15,9 +14,7 @@ const MAX_COUNT: u64 = 100000;
 
 /// How the storage root is split, or `None` if the arguments are not just those of one way.
 pub(crate) fn split_by(alloc: Global, inner: &ArgMatches<'_>) -> Result<Option<Split>, AllocError>
-    ensures found { IfOk result (λ o. IfSome o (IsSplit (rows_of (found_of inner.now)))) }
-    ensures missing { IfOk result (λ o. IsNone o
-        → (s : SplitOf) → IsSplit (rows_of (found_of inner.now)) s → ⊥) }
+    ensures { IfOk result (IsRead (IsSplit (rows_of (found_of inner.now)))) }
 {
     if let Some(root) = copied(alloc, inner, "root")? {
         return Ok(listing_of(inner, root));
@@ -31,9 +28,7 @@ pub(crate) fn split_by(alloc: Global, inner: &ArgMatches<'_>) -> Result<Option<S
 /// The split by listing this folder, or `None` if there is no count, or anything of a report.
 fn listing_of(inner: &ArgMatches<'_>, root: String) -> Option<Split>
     requires { HasText (codes "root") (rows_of (found_of inner.now)) root }
-    ensures found { IfSome result (IsSplit (rows_of (found_of inner.now))) }
-    ensures missing { IsNone result
-        → (s : SplitOf) → IsSplit (rows_of (found_of inner.now)) s → ⊥ }
+    ensures { IsRead (IsSplit (rows_of (found_of inner.now))) result }
 {
     if !is_left_out(inner, "budget") || !is_left_out(inner, "report") {
         return None;
@@ -46,9 +41,7 @@ fn listing_of(inner: &ArgMatches<'_>, root: String) -> Option<Split>
 fn report_of(inner: &ArgMatches<'_>, report: String) -> Option<Split>
     requires report { HasText (codes "report") (rows_of (found_of inner.now)) report }
     requires no_root { IsLeftOut (codes "root") (rows_of (found_of inner.now)) }
-    ensures found { IfSome result (IsSplit (rows_of (found_of inner.now))) }
-    ensures missing { IsNone result
-        → (s : SplitOf) → IsSplit (rows_of (found_of inner.now)) s → ⊥ }
+    ensures { IsRead (IsSplit (rows_of (found_of inner.now))) result }
 {
     if !is_left_out(inner, "count") {
         return None;

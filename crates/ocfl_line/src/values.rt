@@ -1,7 +1,7 @@
 //! The texts and numbers of the arguments that `clap` found.
 ghost use Rattle.std.specs.Prelude.{◌≡◌, ◌↔◌, ℕ, ◌<◌, ◌^◌, IfOk, IfSome, IsNone, IsTrue, option_map, string_bytes};
 ghost use Rattle.clap.specs.Words.{found_of, first_of, rows_of};
-ghost use Rattle.ocfl_line.specs.Asks.{HasCount, HasNumber, IsGiven, IsLeftOut};
+ghost use Rattle.ocfl_line.specs.Asks.{HasCount, HasNumber, IsGiven, IsLeftOut, IsRead};
 
 use clap::ArgMatches;
 use std::alloc::{AllocError, Global};
@@ -56,9 +56,7 @@ pub(crate) fn number_of(inner: &ArgMatches<'_>, id: &str) -> Option<u64>
 
 /// The number of an option, from 1 up to this one.
 pub(crate) fn count_of(inner: &ArgMatches<'_>, id: &str, most: u64) -> Option<usize>
-    ensures found { IfSome result (HasCount id.now most (rows_of (found_of inner.now))) }
-    ensures missing { IsNone result
-        → (n : ℕ) → HasCount id.now most (rows_of (found_of inner.now)) n → ⊥ }
+    ensures { IsRead (HasCount id.now most (rows_of (found_of inner.now))) result }
 {
     let number = number_of(inner, id)?;
     if 1 <= number && number <= most {

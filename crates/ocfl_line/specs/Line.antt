@@ -6,7 +6,7 @@ use Rattle.clap.specs.{declared.builder.arg.Arg.{Arg}, declared.builder.command.
 use Rattle.clap.specs.declared.builder.command.Command.TheViews.{out-Command}
 use Rattle.clap.specs.declared.builder.value_parser.ValueParser.TheVariants as vp
 use Rattle.ocfl_line.specs.declared.command.Argument.{Argument}
-use Rattle.ocfl_line.specs.declared.command.Argument.TheVariants.{Root, Path, File, Cursor, Budget, Files, Runs, Quiet, Under, Parts, Part, Count, AnyRoot, AnyBudget, Report, State, NightBudget, NightFiles, Slice, Hours, Until, End, Known, Expected, Create, ForceRoot, StopAtFaults, AllParts, PartStates}
+use Rattle.ocfl_line.specs.declared.command.Argument.TheVariants.{Needed, Optional, Wanted, Named, Flag, Root, Cursor, Budget, Files, Runs, Quiet, Parts, Part, Count, Hours, End}
 
 abbrev pub most_runs : ℕ
 most_runs = 100000
@@ -94,35 +94,22 @@ end_rule = record (named_rule (codes "end")) { parser = Some (vp.Unsigned 0 1844
 
 -- the rule of each argument of the program
 abbrev pub rule_for : Argument → Rule
+rule_for (Needed id value help) = needed_rule id.now
+rule_for (Optional id value help) = optional_rule id.now
+rule_for (Wanted id value help) = wanted_rule id.now
+rule_for (Named id value help) = named_rule id.now
+rule_for (Flag id help) = flag_rule id.now
 rule_for Root = root_rule
-rule_for Path = path_rule
-rule_for File = file_rule
 rule_for Cursor = cursor_rule
 rule_for Budget = budget_rule
 rule_for Files = files_rule
 rule_for Runs = runs_rule
 rule_for Quiet = flag_rule (codes "quiet")
-rule_for Under = named_rule (codes "under")
 rule_for Parts = named_rule (codes "parts")
 rule_for Part = part_rule
 rule_for Count = count_rule
-rule_for AnyRoot = optional_rule (codes "root")
-rule_for AnyBudget = named_rule (codes "budget")
-rule_for Report = named_rule (codes "report")
-rule_for State = wanted_rule (codes "state")
-rule_for NightBudget = named_rule (codes "budget")
-rule_for NightFiles = named_rule (codes "files")
-rule_for Slice = named_rule (codes "slice")
 rule_for Hours = hours_rule
-rule_for Until = named_rule (codes "until")
 rule_for End = end_rule
-rule_for Known = named_rule (codes "known")
-rule_for Expected = named_rule (codes "expected")
-rule_for Create = flag_rule (codes "create")
-rule_for ForceRoot = flag_rule (codes "force-root")
-rule_for StopAtFaults = flag_rule (codes "stop-at-faults")
-rule_for AllParts = wanted_rule (codes "parts")
-rule_for PartStates = wanted_rule (codes "state")
 
 -- the argument is one that `clap` reads by this rule, for its own subcommand alone
 abbrev pub IsArg : Rule → Arg → Type 0

@@ -4,9 +4,8 @@ ghost use Rattle.clap.specs.Words.{App, with_subcommand};
 ghost use Rattle.ocfl_line.specs.Line.{IsArg, IsCommand, app_with, bare_app, budget_rule, count_rule, cursor_rule, end_rule, files_rule, flag_rule, hours_rule, line_app, named_rule, needed_rule, optional_rule, part_rule, rule_for, runs_rule, wanted_rule};
 
 use crate::command::Argument::{
-    AllParts, AnyBudget, AnyRoot, Budget, Count, Create, Cursor, End, Expected, File, Files,
-    ForceRoot, Hours, Known, NightBudget, NightFiles, Part, PartStates, Parts, Path, Quiet, Report,
-    Root, Runs, Slice, State, StopAtFaults, Under, Until,
+    Budget, Count, Cursor, End, Files, Flag, Hours, Named, Needed, Optional, Part, Parts, Quiet,
+    Root, Runs, Wanted,
 };
 use clap::{Arg, ArgAction, Command, value_parser};
 use std::alloc::{AllocError, Global};
@@ -27,59 +26,36 @@ Exit status:
   4  cursor refused
   75 another night holds the lock";
 
-/// An argument of a subcommand.
+/// An argument of a subcommand. One that a single subcommand takes comes with its id, which is the
+/// name of an option too, with what its value is called, and with what help says of it.
 #[derive(Clone, Copy)]
-enum Argument {
+enum Argument<'a> {
+    /// Must be given.
+    Needed(&'a str, &'a str, &'a str),
+    /// May be left out.
+    Optional(&'a str, &'a str, &'a str),
+    /// An option that must be given.
+    Wanted(&'a str, &'a str, &'a str),
+    /// An option that may be left out.
+    Named(&'a str, &'a str, &'a str),
+    /// An option without a value.
+    Flag(&'a str, &'a str),
     Root,
-    Path,
-    File,
     Cursor,
     Budget,
     Files,
     Runs,
     Quiet,
-    /// The place of a branch.
-    Under,
     /// The file of the separators.
     Parts,
     /// Which of the parts.
     Part,
     /// How many parts.
     Count,
-    /// The folder of the storage root, or none.
-    AnyRoot,
-    /// A budget, or none.
-    AnyBudget,
-    /// The file of a report.
-    Report,
-    /// The state folder.
-    State,
-    /// How much a night spends, or none.
-    NightBudget,
-    /// How many files a night starts, or none.
-    NightFiles,
-    /// How much each run of a night spends, or none.
-    Slice,
     /// How many hours.
     Hours,
-    /// A time of day.
-    Until,
     /// A time in seconds.
     End,
-    /// The file of findings that are known.
-    Known,
-    /// The file of the objects that must be there.
-    Expected,
-    /// Whether a state folder is begun in.
-    Create,
-    /// Whether another storage root is taken.
-    ForceRoot,
-    /// Whether no branch is left out.
-    StopAtFaults,
-    /// The file of the separators, of which all parts are taken.
-    AllParts,
-    /// The folder of the parts' state folders.
-    PartStates,
 }
 
 // What help says of each.
@@ -249,39 +225,26 @@ fn flag<'a>(alloc: Global, id: &'a str, help: &'a str) -> Arg<'a>
 }
 
 /// The argument as `clap` takes it.
-fn arg_of<'a>(alloc: Global, argument: Argument) -> Arg<'a>
-    ensures { IsArg (rule_for argument) result }
+fn arg_of<'a>(alloc: Global, argument: Argument<'a>) -> Arg<'a>
+    ensures { IsArg (rule_for argument.entry) result }
 {
     match argument {
+        Needed(id, value, help) => needed(alloc, id, value, help),
+        Optional(id, value, help) => optional(alloc, id, value, help),
+        Wanted(id, value, help) => wanted(alloc, id, value, help),
+        Named(id, value, help) => named(alloc, id, value, help),
+        Flag(id, help) => flag(alloc, id, help),
         Root => needed(alloc, "root", "ROOT", ROOT),
-        Path => needed(alloc, "path", "PATH", PATH),
-        File => needed(alloc, "file", "FILE", FILE),
         Cursor => cursor_option(alloc),
         Budget => budget_option(alloc),
         Files => files_option(alloc),
         Runs => runs_option(alloc),
         Quiet => flag(alloc, "quiet", QUIET),
-        Under => named(alloc, "under", "PLACE", UNDER),
         Parts => named(alloc, "parts", "FILE", PARTS),
         Part => part_option(alloc),
         Count => count_option(alloc),
-        AnyRoot => optional(alloc, "root", "ROOT", ROOT),
-        AnyBudget => named(alloc, "budget", "N", ANY_BUDGET),
-        Report => named(alloc, "report", "FILE", REPORT),
-        State => wanted(alloc, "state", "DIR", STATE),
-        NightBudget => named(alloc, "budget", "N", NIGHT_BUDGET),
-        NightFiles => named(alloc, "files", "N", NIGHT_FILES),
-        Slice => named(alloc, "slice", "N", SLICE),
         Hours => hours_option(alloc),
-        Until => named(alloc, "until", "HH:MM", UNTIL),
         End => end_option(alloc),
-        Known => named(alloc, "known", "FILE", KNOWN),
-        Expected => named(alloc, "expected", "FILE", EXPECTED),
-        Create => flag(alloc, "create", CREATE),
-        ForceRoot => flag(alloc, "force-root", FORCE_ROOT),
-        StopAtFaults => flag(alloc, "stop-at-faults", STOP_AT_FAULTS),
-        AllParts => wanted(alloc, "parts", "FILE", PARTS),
-        PartStates => wanted(alloc, "state", "DIR", PART_STATES),
     }
 }
 
@@ -311,7 +274,7 @@ fn build_subcommand<'a>(
     alloc: Global,
     name: &'a str,
     help: Help<'a>,
-    arguments: &[Argument],
+    arguments: &[Argument<'a>],
 ) -> Result<Command<'a>, AllocError>
     ensures { IfOk result (IsCommand (app_with name.now (map rule_for arguments.now))) }
 {
@@ -331,7 +294,7 @@ fn add_subcommand<'a>(
     alloc: Global,
     name: &'a str,
     help: Help<'a>,
-    arguments: &[Argument],
+    arguments: &[Argument<'a>],
 ) -> Result<Command<'a>, AllocError>
     // `clap` reads the result as the command with this subcommand after its others.
     ensures { IfOk result (λ new. (app : App) → IsCommand app command.entry
@@ -412,37 +375,51 @@ Example:
 };
 
 // The arguments of the subcommands.
-const AUDIT_ARGUMENTS: &[Argument] = &[Under, Parts, Part, Quiet, Root];
-
-const RUN_ARGUMENTS: &[Argument] = &[Cursor, Budget, Files, Parts, Part, Quiet, Root];
-
-const CYCLE_ARGUMENTS: &[Argument] = &[Budget, Files, Runs, Quiet, Root];
-
-const NIGHT_ARGUMENTS: &[Argument] = &[
-    State,
-    NightBudget,
-    NightFiles,
-    Slice,
-    Hours,
-    Until,
-    End,
+const AUDIT_ARGUMENTS: &[Argument<'static>] = &[
+    Named("under", "PLACE", UNDER),
     Parts,
     Part,
-    Known,
-    Expected,
-    Create,
-    ForceRoot,
-    StopAtFaults,
+    Quiet,
     Root,
 ];
 
-const CHECK_ARGUMENTS: &[Argument] = &[Root, Path];
+const RUN_ARGUMENTS: &[Argument<'static>] = &[Cursor, Budget, Files, Parts, Part, Quiet, Root];
 
-const SPLIT_ARGUMENTS: &[Argument] = &[Count, AnyBudget, Report, AnyRoot];
+const CYCLE_ARGUMENTS: &[Argument<'static>] = &[Budget, Files, Runs, Quiet, Root];
 
-const JOIN_ARGUMENTS: &[Argument] = &[AllParts, PartStates];
+const NIGHT_ARGUMENTS: &[Argument<'static>] = &[
+    Wanted("state", "DIR", STATE),
+    Named("budget", "N", NIGHT_BUDGET),
+    Named("files", "N", NIGHT_FILES),
+    Named("slice", "N", SLICE),
+    Hours,
+    Named("until", "HH:MM", UNTIL),
+    End,
+    Parts,
+    Part,
+    Named("known", "FILE", KNOWN),
+    Named("expected", "FILE", EXPECTED),
+    Flag("create", CREATE),
+    Flag("force-root", FORCE_ROOT),
+    Flag("stop-at-faults", STOP_AT_FAULTS),
+    Root,
+];
 
-const SHOW_ARGUMENTS: &[Argument] = &[File];
+const CHECK_ARGUMENTS: &[Argument<'static>] = &[Root, Needed("path", "PATH", PATH)];
+
+const SPLIT_ARGUMENTS: &[Argument<'static>] = &[
+    Count,
+    Named("budget", "N", ANY_BUDGET),
+    Named("report", "FILE", REPORT),
+    Optional("root", "ROOT", ROOT),
+];
+
+const JOIN_ARGUMENTS: &[Argument<'static>] = &[
+    Wanted("parts", "FILE", PARTS),
+    Wanted("state", "DIR", PART_STATES),
+];
+
+const SHOW_ARGUMENTS: &[Argument<'static>] = &[Needed("file", "FILE", FILE)];
 
 // The program's own texts, without its subcommands.
 fn bare_command<'a>(alloc: Global) -> Command<'a>

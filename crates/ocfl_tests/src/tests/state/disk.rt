@@ -30,6 +30,21 @@ fn expect_text<R: Runtime + Files>(rt: &R, path: &str, want: &str) -> Result<(),
     Ok(())
 }
 
+/// Of these cycles some are closed, with the checkpoint that there was then.
+fn expect_closed(rt: &impl Runtime, folder: &mut Folder) -> Result<(), Fail> {
+    for (cycle, closed, want) in [
+        (6, false, None),
+        (7, true, Some("two")),
+        (8, true, Some("three")),
+        (10, false, None),
+    ] {
+        assert_eq!(rt; folder.has_closed(cycle)?, closed, "{cycle}");
+        let kept = folder.kept_checkpoint(cycle)?;
+        assert_eq!(rt; kept.as_deref(), want.map(str::as_bytes), "{cycle}");
+    }
+    Ok(())
+}
+
 #[test]
 fn calls_change_the_files(rt: HostRuntime) -> Result<(), Fail> {
     fresh(&rt, "calls")?;
@@ -62,13 +77,7 @@ fn calls_change_the_files(rt: HostRuntime) -> Result<(), Fail> {
     assert_eq!(rt; folder.close(8, true).err(), Some(Trouble::Taken));
     folder.close(9, true)?;
     expect_text(&rt, "calls/reports/cycle-000009", "")?;
-    for (cycle, want) in [(6, None), (7, Some("two")), (8, Some("three"))] {
-        let kept = folder.kept_checkpoint(cycle)?;
-        assert_eq!(rt; kept.as_deref(), want.map(str::as_bytes), "{cycle}");
-    }
-    for (cycle, want) in [(6, false), (7, true), (8, true), (10, false)] {
-        assert_eq!(rt; folder.has_closed(cycle)?, want, "{cycle}");
-    }
+    expect_closed(&rt, &mut folder)?;
     assert!(rt; folder.reason().is_none());
     fs::remove_dir_all(&rt, "calls")?;
     Ok(())

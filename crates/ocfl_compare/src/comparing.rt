@@ -7,13 +7,13 @@ ghost use Rattle.ocfl_compare.specs.Compared.{IsAnswered, IsCompared};
 ghost use Rattle.ocfl_compare.specs.declared.question.Question.{Question as ModelQuestion};
 ghost use Rattle.ocfl_compare.specs.{CompareStop.{StopsRightly}, Internal.Reading.{IsNextPlace}};
 ghost use Rattle.ocfl_compare.specs.Internal.Telling.{IsTold};
-ghost use Rattle.ocfl_compare.specs.Internal.Turns.{IsSoFar, before_stop, now_stop, said_text};
+ghost use Rattle.ocfl_compare.specs.Internal.Turns.{IfBothSome, IsSoFar, before_stop, now_stop};
+ghost use Rattle.ocfl_compare.specs.Internal.Turns.{said_text};
 
 use crate::question::Question;
-use crate::reading::{ReadStop, Reading, Taken, next_place, read_next, take_place};
-use crate::rows::put_said;
+use crate::reading::{ReadStop, Reading, Taken, next_place, read_next, take_place, unread};
+use crate::rows::{Sides, put_said};
 use crate::stop::CompareStop;
-use crate::told::Told;
 use ocfl_report::write_all_of;
 use ocfl_tree::Place;
 use std::alloc::Global;
@@ -67,15 +67,10 @@ pub(crate) fn answer<R: BufRead, S: BufRead, W: Write>(
     left: &[Place],
     out: &mut W,
 ) -> Result<(), CompareStop>
-    ensures answered { OnOk result
-        (IfSome (R.remaining before.old) (λ before_bytes.
-        IfSome (S.remaining now.old) (λ now_bytes.
-        IsAnswered asked left.now before_bytes now_bytes
-        (W.contents out.old) (W.contents out.new)))) }
+    ensures answered { OnOk result (IfBothSome (R.remaining before.old) (S.remaining now.old)
+        (λ b n. IsAnswered asked left.now b n (W.contents out.old) (W.contents out.new))) }
     ensures refused { IfErr result (λ stop.
-        IfSome (R.remaining before.old) (λ before_bytes.
-        IfSome (S.remaining now.old) (λ now_bytes.
-        StopsRightly before_bytes now_bytes stop))) }
+        IfBothSome (R.remaining before.old) (S.remaining now.old) (λ b n. StopsRightly b n stop)) }
 {
     let mut text = Vec::new(alloc);
     let mut both = begin(alloc, before, now, &mut text)?;
@@ -104,23 +99,13 @@ fn begin<R: BufRead, S: BufRead>(
         (R.remaining before.old) (R.remaining before.new) both.before.next both.before.count
         (S.remaining now.old) (S.remaining now.new) both.now.next both.now.count w w) }
     ensures refused { IfErr result (λ stop.
-        IfSome (R.remaining before.old) (λ before_bytes.
-        IfSome (S.remaining now.old) (λ now_bytes.
-        StopsRightly before_bytes now_bytes stop))) }
+        IfBothSome (R.remaining before.old) (S.remaining now.old) (λ b n. StopsRightly b n stop)) }
 {
-    let unread = Reading {
-        next: None,
-        count: 0,
-    };
-    let first = match read_next(alloc, before, text, unread) {
+    let first = match read_next(alloc, before, text, unread()) {
         Ok(reading) => reading,
         Err(stop) => return Err(of_before(stop)),
     };
-    let unread = Reading {
-        next: None,
-        count: 0,
-    };
-    let second = match read_next(alloc, now, text, unread) {
+    let second = match read_next(alloc, now, text, unread()) {
         Ok(reading) => reading,
         Err(stop) => return Err(of_now(stop)),
     };
@@ -151,8 +136,7 @@ fn turn<R: BufRead, S: BufRead, W: Write>(
     ensures refused { IfErr result (λ stop. (b n w : Option (List ℕ))
         → IsSoFar asked left.now b (R.remaining before.old) both.before.next both.before.count
         n (S.remaining now.old) both.now.next both.now.count w (W.contents out.old)
-        → IfSome b (λ before_bytes. IfSome n (λ now_bytes.
-        StopsRightly before_bytes now_bytes stop))) }
+        → IfBothSome b n (λ before_bytes now_bytes. StopsRightly before_bytes now_bytes stop)) }
 {
     let was = match take_place(alloc, place, before, text, both.before) {
         Ok(taken) => taken,
@@ -162,7 +146,12 @@ fn turn<R: BufRead, S: BufRead, W: Write>(
         Ok(taken) => taken,
         Err(stop) => return Err(of_now(stop)),
     };
-    say(asked, left, place, &was.told, &is.told, text, out)?;
+    let sides = Sides {
+        place,
+        before: &was.told,
+        now: &is.told,
+    };
+    say(asked, left, sides, text, out)?;
     Ok(Both {
         before: was.reading,
         now: is.reading,
@@ -173,21 +162,19 @@ fn turn<R: BufRead, S: BufRead, W: Write>(
 fn say<W: Write>(
     asked: Question,
     left: &[Place],
-    place: &Place,
-    before: &Told,
-    now: &Told,
+    sides: Sides<'_>,
     rows: &mut Vec<u8>,
     out: &mut W,
 ) -> Result<(), CompareStop>
     ensures ok { OnOk result ((was : List ModelLine) (is : List ModelLine)
-        → IsTold before.now was → IsTold now.now is
+        → IsTold sides.entry.before.now was → IsTold sides.entry.now.now is
         → Appends (W.contents out.old) (W.contents out.new)
-        (said_text asked left.now place.now was is)) }
+        (said_text asked left.now sides.entry.place.now was is)) }
     ensures stop { IfErr result (λ stop.
         (stop ≡ CompareStop.Output) ⊎ (stop ≡ CompareStop.Memory)) }
 {
     rows.clear();
-    if put_said(asked, left, place, before, now, rows).is_err() {
+    if put_said(asked, left, sides, rows).is_err() {
         return Err(CompareStop::Memory);
     }
     match write_all_of(out, rows.as_slice()) {

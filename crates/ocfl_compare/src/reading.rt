@@ -1,10 +1,13 @@
 //! Reading a report line by line.
-ghost use Rattle.std.specs.Prelude.{◌≡◌, ◌≢◌, ◌⊎◌, ◌+◌, List, ℕ, [], ◌++◌, Option, None, true, false, IfOk, IfErr, IfSome, OnOk, option_map};
+ghost use Rattle.std.specs.Prelude.{◌≡◌, ◌≢◌, ◌⊎◌, ◌+◌, List, ℕ, [], ◌++◌, Option, None, true};
+ghost use Rattle.std.specs.Prelude.{false, IfOk, IfErr, IfSome, OnOk, option_map};
 ghost use Rattle.std.specs.{Io.BufRead.{take_through}, Io.KnownBytes.{Consumes, IsAtEnd}};
 ghost use Rattle.std.specs.declared.cmp.Ordering.TheVariants.{Greater};
 ghost use Rattle.ocfl_tree.specs.Place.{place_cmp};
 ghost use Rattle.ocfl_report.specs.Line.{Line as ModelLine};
-ghost use Rattle.ocfl_compare.specs.Internal.Reading.{GoesOn, HasRead, IsBelow, IsNotAbove, IsReading, IsNextLine, IsNextPlace, IsOpen, IsUnfit, ReadStopsRightly, is_after, listed};
+ghost use Rattle.ocfl_compare.specs.Internal.Reading.{GoesOn, HasRead, IsBelow, IsNotAbove};
+ghost use Rattle.ocfl_compare.specs.Internal.Reading.{IsReading, IsNextLine, IsNextPlace, IsOpen};
+ghost use Rattle.ocfl_compare.specs.Internal.Reading.{IsUnfit, ReadStopsRightly, is_after, listed};
 ghost use Rattle.ocfl_compare.specs.{Internal.Telling.{IsTold, Tells}, Internal.Turns.{AreTaken}};
 
 use crate::told::{Told, nothing, tell};
@@ -32,6 +35,17 @@ pub(crate) enum ReadStop {
     Failed,
     /// Memory was refused.
     Memory,
+}
+
+/// A report of which nothing is read.
+pub(crate) fn unread() -> Reading
+    ensures next { result.next ≡ None }
+    ensures count { result.count ≡ 0 }
+{
+    Reading {
+        next: None,
+        count: 0,
+    }
 }
 
 /// Takes the line that was read last, and reads the next one.

@@ -4,7 +4,8 @@ ghost use Rattle.std.specs.List.{list_any};
 ghost use Rattle.ocfl_tree.specs.Place.{Place as ModelPlace};
 ghost use Rattle.ocfl_report.specs.Line.{Line as ModelLine};
 ghost use Rattle.ocfl_compare.specs.Changes.{changes_text, is_left as is_left_out, row_text};
-ghost use Rattle.ocfl_compare.specs.Internal.Telling.{IsTold, new_text, told_answer, told_changes, told_repaired};
+ghost use Rattle.ocfl_compare.specs.Internal.Telling.{IsTold, new_text, told_answer, told_changes};
+ghost use Rattle.ocfl_compare.specs.Internal.Telling.{told_repaired};
 ghost use Rattle.ocfl_compare.specs.Internal.Turns.{said_text};
 
 use crate::question::Question;
@@ -13,23 +14,30 @@ use ocfl_report::{Code, put_place};
 use ocfl_tree::Place;
 use std::alloc::AllocError;
 
+/// What two reports say of a place.
+#[derive(Clone, Copy)]
+pub(crate) struct Sides<'a> {
+    pub(crate) place: &'a Place,
+    pub(crate) before: &'a Told,
+    pub(crate) now: &'a Told,
+}
+
 /// Appends the answer of a place, if it was not left out.
 pub(crate) fn put_said(
     asked: Question,
     left: &[Place],
-    place: &Place,
-    before: &Told,
-    now: &Told,
+    sides: Sides<'_>,
     rows: &mut Vec<u8>,
 ) -> Result<(), AllocError>
     ensures { OnOk result ((was : List ModelLine) (is : List ModelLine)
-        → IsTold before.now was → IsTold now.now is
-        → rows.new.items ≡ rows.old.items ++ said_text asked left.now place.now was is) }
+        → IsTold sides.entry.before.now was → IsTold sides.entry.now.now is
+        → rows.new.items
+        ≡ rows.old.items ++ said_text asked left.now sides.entry.place.now was is) }
 {
-    if is_left(left, place) {
+    if is_left(left, sides.place) {
         return Ok(());
     }
-    put_answer(asked, place, before, now, rows)
+    put_answer(asked, sides, rows)
 }
 
 /// Whether the place was left out, or is below one that was.
@@ -40,32 +48,25 @@ fn is_left(left: &[Place], place: &Place) -> bool
 }
 
 /// Appends the answer of a place.
-fn put_answer(
-    asked: Question,
-    place: &Place,
-    before: &Told,
-    now: &Told,
-    rows: &mut Vec<u8>,
-) -> Result<(), AllocError>
-    ensures { OnOk result (rows.new.items
-        ≡ rows.old.items ++ changes_text place.now (told_answer asked before.now now.now)) }
+fn put_answer(asked: Question, sides: Sides<'_>, rows: &mut Vec<u8>) -> Result<(), AllocError>
+    ensures { OnOk result (rows.new.items ≡ rows.old.items
+        ++ changes_text sides.entry.place.now
+        (told_answer asked sides.entry.before.now sides.entry.now.now)) }
 {
+    let Sides { place, before, now } = sides;
     match asked {
-        Question::Changed => put_changes(place, before, now, rows),
+        Question::Changed => put_changes(sides, rows),
         Question::Expected => put_row_if(!now.object && before.object, "expected", place, rows),
     }
 }
 
 /// Appends a row for each change.
-fn put_changes(
-    place: &Place,
-    before: &Told,
-    now: &Told,
-    rows: &mut Vec<u8>,
-) -> Result<(), AllocError>
-    ensures { OnOk result (rows.new.items
-        ≡ rows.old.items ++ changes_text place.now (told_changes before.now now.now)) }
+fn put_changes(sides: Sides<'_>, rows: &mut Vec<u8>) -> Result<(), AllocError>
+    ensures { OnOk result (rows.new.items ≡ rows.old.items
+        ++ changes_text sides.entry.place.now
+        (told_changes sides.entry.before.now sides.entry.now.now)) }
 {
+    let Sides { place, before, now } = sides;
     put_row_if(is_gone(before.object, now), "object", place, rows)?;
     put_row_if(is_gone(before.file, now), "file", place, rows)?;
     put_new(

@@ -1,5 +1,5 @@
 -- How far two reports are compared.
-use Rattle.std.specs.Prelude.{◌≡◌, ◌≢◌, ◌⊎◌, ℕ, List, [], ◌++◌, All, map, flat_map, Option, if◌then◌else◌}
+use Rattle.std.specs.Prelude.{◌≡◌, ◌≢◌, ◌⊎◌, ℕ, List, [], ◌++◌, All, map, flat_map, Option, IfSome, if◌then◌else◌}
 use Rattle.std.specs.Io.KnownBytes.{Appends}
 use Rattle.ocfl_tree.specs.{Place.{Text, Place, place_cmp}, Ascending.{IsAscending}}
 use Rattle.ocfl_report.specs.{Line.{Line}, declared.line.Line.{Line as MadeLine}}
@@ -10,6 +10,10 @@ use Rattle.ocfl_compare.specs.declared.reading.ReadStop.{ReadStop}
 use Rattle.ocfl_compare.specs.declared.reading.ReadStop.TheVariants.{Line as BadLine, Failed, Memory}
 use Rattle.ocfl_compare.specs.declared.stop.CompareStop.{CompareStop}
 use Rattle.ocfl_compare.specs.declared.stop.CompareStop.TheVariants as stop
+
+-- what is said of the bytes of two reports, if those of both are known
+abbrev pub IfBothSome : Option Text → Option Text → (Text → Text → Type 0) → Type 0
+IfBothSome b n Says = IfSome b (λ before. IfSome n (λ now. Says before now))
 
 -- these lines of the place were taken, so that the next line is another one, unless there are none
 pub record AreTaken (p : Place) (all left : Option Text) (done own : List Line) (first next : Option MadeLine) (count : ℕ) : Type 0 where

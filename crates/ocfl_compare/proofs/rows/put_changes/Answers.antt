@@ -7,9 +7,9 @@ use Rattle.ocfl_compare.proofs.rows.put_changes.Goals as goal
 
 pub returns : goal.returns
 returns c =
-    let p = c.args.place.now in
-    let before = c.args.before.now in
-    let now = c.args.now.now in
+    let p = c.args.sides.place.now in
+    let before = c.args.sides.before.now in
+    let now = c.args.sides.now.now in
     all_rows p (when (now.absent && before.object) object_gone) (when (now.absent && before.file) file_gone) (map found (new_codes before.findings.items now.findings.items))
     (when (told_repaired before now) repaired) c.args.rows.now.items c.put_row_if.new.rows.items c.put_row_if-2.new.rows.items c.put_new.new.rows.items c.put_row_if-3.new.rows.items
     (one_row p c.is_gone.result (now.absent && before.object) object_gone c.args.rows.now.items c.put_row_if.new.rows.items c.is_gone.ensures c.in_ok-put_row_if.ensures)

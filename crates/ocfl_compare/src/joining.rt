@@ -1,7 +1,9 @@
 //! Joining the closed reports of all parts of a storage root.
-ghost use Rattle.std.specs.Prelude.{◌≡◌, ◌≢◌, ◌+◌, ◌++◌, None, Some, IfErr, IfOk, IfSome, OnOk, length, max, option_map};
+ghost use Rattle.std.specs.Prelude.{◌≡◌, ◌≢◌, ◌+◌, ◌++◌, None, Some, IfErr, IfOk, IfSome, OnOk};
+ghost use Rattle.std.specs.Prelude.{length, max, option_map};
 ghost use Rattle.std.specs.Io.KnownBytes.{Appends};
-ghost use Rattle.ocfl_compare.specs.Joined.{closed_fault, fault_of, has_ends, missing_of, named, part_at, same_end};
+ghost use Rattle.ocfl_compare.specs.Joined.{closed_fault, fault_of, has_ends, missing_of, named};
+ghost use Rattle.ocfl_compare.specs.Joined.{part_at, same_end};
 ghost use Rattle.ocfl_compare.specs.declared.joining.PartFault.{PartFault as ModelFault};
 
 use ocfl_parts::Separators;

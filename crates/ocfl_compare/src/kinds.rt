@@ -1,7 +1,8 @@
 //! What a line of a report is about.
 ghost use Rattle.std.specs.Prelude.{◌≡◌};
 ghost use Rattle.ocfl_report.specs.Line.{line_of};
-ghost use Rattle.ocfl_compare.specs.Kinds.{is_dash as is_dash_text, is_file_code as file_code, is_head_code as head_code, tells_file, tells_object};
+ghost use Rattle.ocfl_compare.specs.Kinds.{is_dash as is_dash_text, is_file_code as file_code};
+ghost use Rattle.ocfl_compare.specs.Kinds.{is_head_code as head_code, tells_file, tells_object};
 
 use ocfl_report::{Code, Line};
 use ocfl_tree::is_text;

@@ -4,7 +4,8 @@ ghost use Rattle.std.specs.List.{list_any};
 ghost use Rattle.ocfl_tree.specs.{Ascending.{IsAmong}, Place.{Place, Text}};
 ghost use Rattle.ocfl_parts.specs.Separators.{end_of_part, start_of_part};
 ghost use Rattle.ocfl_compare.specs.{Joined.{fault_of}, declared.joining.ClosedPart.{ClosedPart}};
-ghost use Rattle.ocfl_compare.specs.Changes.{changes_at, comparison_text, file_gone, finding_codes, found, lines_at, object_gone};
+ghost use Rattle.ocfl_compare.specs.Changes.{changes_at, comparison_text, file_gone, finding_codes};
+ghost use Rattle.ocfl_compare.specs.Changes.{found, lines_at, object_gone};
 ghost use Rattle.ocfl_compare.specs.Kinds.{tells_file, tells_object};
 ghost use Rattle.ocfl_report.specs.Line.{Line};
 

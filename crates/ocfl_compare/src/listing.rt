@@ -1,8 +1,10 @@
 //! Reading a list of objects.
-ghost use Rattle.std.specs.Prelude.{◌≡◌, ◌≢◌, ℕ, ◌+◌, List, [], ◌∷◌, ◌++◌, All, map, IfErr, IfOk, ◌<◌, true, false, length, IfSome, IsNone, OnOk};
+ghost use Rattle.std.specs.Prelude.{◌≡◌, ◌≢◌, ℕ, ◌+◌, List, [], ◌∷◌, ◌++◌, All, map, IfErr, IfOk};
+ghost use Rattle.std.specs.Prelude.{◌<◌, true, false, length, IfSome, IsNone, OnOk};
 ghost use Rattle.ocfl_tree.specs.Place.{Place as ModelPlace};
 ghost use Rattle.ocfl_report.specs.Text.{place_text};
-ghost use Rattle.ocfl_compare.specs.Listed.{IsList, IsObjectPlace, ListStopsRightly, path_in, is_trimmed, path_of, trimmed};
+ghost use Rattle.ocfl_compare.specs.Listed.{IsList, IsObjectPlace, ListStopsRightly, path_in};
+ghost use Rattle.ocfl_compare.specs.Listed.{is_trimmed, path_of, trimmed};
 
 use crate::reading::{ReadStop, read_text};
 use ocfl_report::{TextStop, read_place};

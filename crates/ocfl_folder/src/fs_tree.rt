@@ -1,8 +1,10 @@
 //! A folder of the file system as a store.
-ghost use Rattle.std.specs.Prelude.{◌≡◌, ◌≢◌, ◌≤◌, ◌↔◌, IfOk, IfErr, OnOk, OnErr, IsSome, None, length, take, max, Err, IsTrue, Some, MatchResult};
+ghost use Rattle.std.specs.Prelude.{◌≡◌, ◌≢◌, ◌≤◌, ◌↔◌, IfOk, IfErr, OnOk, OnErr, IsSome, None};
+ghost use Rattle.std.specs.Prelude.{length, take, max, Err, IsTrue, Some, MatchResult};
 ghost use Rattle.std.specs.Option.{option_map};
 ghost use Rattle.ocfl_tree.specs.Listing.{IsOrdinary};
-ghost use Rattle.ocfl_tree.specs.Calls.{Lists, ListFails, Opens, OpenFails, Reads, ReadFails, Closes};
+ghost use Rattle.ocfl_tree.specs.Calls.{Lists, ListFails, Opens, OpenFails, Reads, ReadFails};
+ghost use Rattle.ocfl_tree.specs.Calls.{Closes};
 ghost use Rattle.ocfl_folder.specs.{Faults.{IsKept}, Noted.{with_rest, with_answer}};
 
 use crate::answer::{Answer, ReadAnswer};

@@ -1,5 +1,6 @@
 //! Going from one directory of a folder to another, name by name.
-ghost use Rattle.std.specs.Prelude.{◌≡◌, ◌≢◌, ◌≤◌, ◌-◌, ◌++◌, ◌∷◌, [], IsTrue, IfOk, IfErr, OnOk, MatchResult, Some, None, length, take};
+ghost use Rattle.std.specs.Prelude.{◌≡◌, ◌≢◌, ◌≤◌, ◌-◌, ◌++◌, ◌∷◌, [], IsTrue, IfOk, IfErr, OnOk};
+ghost use Rattle.std.specs.Prelude.{MatchResult, Some, None, length, take};
 ghost use Rattle.ocfl_tree.specs.{Place.{Text, Place as Spot}, StorageRoot.{at}, Listing.{kind_at}};
 ghost use Rattle.ocfl_folder.specs.{System.{IfHere}, Internal.Absence.{IsAbsent}};
 

@@ -1,5 +1,6 @@
 //! Listing the directory that a system is in, and opening a file there.
-ghost use Rattle.std.specs.Prelude.{◌≡◌, ◌≢◌, ◌++◌, ◌∷◌, [], IsTrue, IfOk, OnOk, IfErr, MatchResult, ◌≤◌, ◌<◌, Some, None, length, take};
+ghost use Rattle.std.specs.Prelude.{◌≡◌, ◌≢◌, ◌++◌, ◌∷◌, [], IsTrue, IfOk, OnOk, IfErr};
+ghost use Rattle.std.specs.Prelude.{MatchResult, ◌≤◌, ◌<◌, Some, None, length, take};
 ghost use Rattle.ocfl_tree.specs.{StorageRoot.{file, at}, Listing.{IsListing, IsOrdinary, kind_at}};
 ghost use Rattle.ocfl_folder.specs.{System.{IfHere, Gives}, Internal.Covering.{Adds, Covers}};
 ghost use Rattle.ocfl_folder.specs.Internal.Absence.{IsAbsent};

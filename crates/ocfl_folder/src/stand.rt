@@ -1,5 +1,6 @@
 //! Which directory a folder is in.
-ghost use Rattle.std.specs.Prelude.{◌≡◌, ◌≢◌, IsTrue, IfOk, IfErr, OnOk, [], MatchResult, Some, None, List, ℕ};
+ghost use Rattle.std.specs.Prelude.{◌≡◌, ◌≢◌, IsTrue, IfOk, IfErr, OnOk, [], MatchResult, Some};
+ghost use Rattle.std.specs.Prelude.{None, List, ℕ};
 ghost use Rattle.ocfl_tree.specs.{StorageRoot.{file, dir, at}, Listing.{IsListing, IsOrdinary}};
 ghost use Rattle.ocfl_tree.specs.declared.store.Trouble.TheVariants.{Absent};
 ghost use Rattle.ocfl_tree.specs.{Place.{Place as Spot}, Path.{names_of}};

@@ -1,5 +1,6 @@
 //! The calls of the system that a folder makes.
-ghost use Rattle.std.specs.Prelude.{◌≡◌, ◌≢◌, ◌≤◌, ◌<◌, ◌++◌, ◌∷◌, [], Bool, IsTrue, List, Some, None, IfOk, IfErr, OnOk, MatchResult, length, take};
+ghost use Rattle.std.specs.Prelude.{◌≡◌, ◌≢◌, ◌≤◌, ◌<◌, ◌++◌, ◌∷◌, [], Bool, IsTrue, List, Some};
+ghost use Rattle.std.specs.Prelude.{None, IfOk, IfErr, OnOk, MatchResult, length, take};
 ghost use Rattle.std.specs.IoError.{error_kind};
 ghost use Rattle.std.specs.declared.io.ErrorKind.TheVariants.{NotFound, Interrupted};
 ghost use Rattle.ocfl_tree.specs.{Place.{Text, Place as Spot}, StorageRoot.{file, dir, at}};

@@ -1,5 +1,6 @@
 //! The digest of what declares a storage root.
-ghost use Rattle.std.specs.Prelude.{◌≡◌, ◌≢◌, ◌++◌, ◌∷◌, [], IsTrue, IfOk, IfErr, List, ℕ, string_bytes};
+ghost use Rattle.std.specs.Prelude.{◌≡◌, ◌≢◌, ◌++◌, ◌∷◌, [], IsTrue, IfOk, IfErr, List, ℕ};
+ghost use Rattle.std.specs.Prelude.{string_bytes};
 ghost use Rattle.std.specs.Option.{option_map};
 ghost use Rattle.sha2.specs.Hashers.{Holds256};
 ghost use Rattle.hex.specs.Hex.{encode_lower};
@@ -7,7 +8,8 @@ ghost use Rattle.ocfl_tree.specs.{Place.{Place as ModelPlace}, Store.{Did, IfTol
 ghost use Rattle.ocfl_tree.specs.StorageRoot.{file_at};
 ghost use Rattle.ocfl_digest.specs.Digests.{digest_in};
 ghost use Rattle.ocfl_digest.specs.declared.algorithm.Algorithm.TheVariants.{Sha256 as OfSha256};
-ghost use Rattle.ocfl_identity.specs.Identity.{IsUnread, declared_by, digits_of, openings_of, sum_line};
+ghost use Rattle.ocfl_identity.specs.Identity.{IsUnread, declared_by, digits_of, openings_of};
+ghost use Rattle.ocfl_identity.specs.Identity.{sum_line};
 
 use crate::identity::NoIdentity;
 use ocfl_digest::{Algorithm, Block, Cause, Digests, Wanted, hash_open};

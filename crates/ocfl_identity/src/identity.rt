@@ -3,7 +3,8 @@ ghost use Rattle.std.specs.Prelude.{◌≡◌, ◌≢◌, ◌↔◌, ◌∷◌, 
 ghost use Rattle.ocfl_tree.specs.{Place.{Place as ModelPlace}, Listing.{entries_in}};
 ghost use Rattle.ocfl_tree.specs.Store.{Did, IfTold};
 ghost use Rattle.ocfl_identity.specs.declared.identity.NoIdentity.TheVariants.{Memory};
-ghost use Rattle.ocfl_identity.specs.Identity.{IsIdentityOf, IsUnread, declarations_among, declared_by, openings_of};
+ghost use Rattle.ocfl_identity.specs.Identity.{IsIdentityOf, IsUnread, declarations_among};
+ghost use Rattle.ocfl_identity.specs.Identity.{declared_by, openings_of};
 
 use crate::declared::hash_declarations;
 use crate::gathered::{declarations, hash_names, sort};

@@ -1,5 +1,6 @@
 //! Digests in hexadecimal digits.
-ghost use Rattle.std.specs.Prelude.{◌≡◌, ◌≢◌, ◌∷◌, ◌/◌, ◌%◌, IfOk, MatchOption, slice_index, string_bytes};
+ghost use Rattle.std.specs.Prelude.{◌≡◌, ◌≢◌, ◌∷◌, ◌/◌, ◌%◌, IfOk, MatchOption, slice_index};
+ghost use Rattle.std.specs.Prelude.{string_bytes};
 ghost use Rattle.hex.specs.Hex.{encode_lower, lower_digits};
 ghost use Rattle.ocfl_tree.specs.Place.{Text, text_eq};
 

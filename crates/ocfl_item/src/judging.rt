@@ -1,5 +1,6 @@
 //! Judging an item: its lines and its cost.
-ghost use Rattle.std.specs.Prelude.{◌≡◌, ◌≢◌, ◌≤◌, ◌<◌, ◌+◌, ◌^◌, ◌++◌, ◌∷◌, [], IfErr, IfOk, IsTrue, MatchResult, None, false, length, map, max, true};
+ghost use Rattle.std.specs.Prelude.{◌≡◌, ◌≢◌, ◌≤◌, ◌<◌, ◌+◌, ◌^◌, ◌++◌, ◌∷◌, [], IfErr, IfOk};
+ghost use Rattle.std.specs.Prelude.{IsTrue, MatchResult, None, false, length, map, max, true};
 ghost use Rattle.ocfl_tree.specs.{Place.{Text}, Store.{IfTold}};
 ghost use Rattle.ocfl_inventory.specs.{Note.{plain}, TripleView.{named_view}};
 ghost use Rattle.ocfl_audit.specs.Lines.{or_bytes, unnamed_notes, wrong_notes};

@@ -1,5 +1,6 @@
 //! What calls did adds up, what stopped them, and which files are short.
-ghost use Rattle.std.specs.Prelude.{◌≡◌, ◌↔◌, ◌⊎◌, ◌<◌, ◌+◌, ◌++◌, ◌∷◌, [], ℕ, List, Some, length, true, false};
+ghost use Rattle.std.specs.Prelude.{◌≡◌, ◌↔◌, ◌⊎◌, ◌<◌, ◌+◌, ◌++◌, ◌∷◌, [], ℕ, List, Some, length};
+ghost use Rattle.std.specs.Prelude.{true, false};
 ghost use Rattle.ocfl_tree.specs.{Place.{Place, Text}, Ascending.{IsAmong}, Store.{Store}};
 ghost use Rattle.ocfl_tree.specs.StorageRoot.{StorageRoot, file_at};
 ghost use Rattle.ocfl_tree.specs.declared.store.Opening.{Opening};

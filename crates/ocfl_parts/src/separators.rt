@@ -1,5 +1,6 @@
 //! Separators: places in strictly ascending order.
-ghost use Rattle.std.specs.Prelude.{◌≡◌, ◌↔◌, ◌+◌, ◌≤◌, ◌++◌, ◌∷◌, [], length, option_map, IsTrue, IsSome, IfSome, OnOk, OnErr};
+ghost use Rattle.std.specs.Prelude.{◌≡◌, ◌↔◌, ◌+◌, ◌≤◌, ◌++◌, ◌∷◌, [], length, option_map, IsTrue};
+ghost use Rattle.std.specs.Prelude.{IsSome, IfSome, OnOk, OnErr};
 ghost use Rattle.ocfl_tree.specs.{Ascending.{IsAscending}, Place.{place_cmp}};
 ghost use Rattle.ocfl_parts.specs.Separators.{AreSeparators, end_of_part, start_of_part};
 

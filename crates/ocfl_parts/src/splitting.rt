@@ -1,5 +1,6 @@
 //! Splitting a storage root by what a report of it says that its items cost.
-ghost use Rattle.std.specs.Prelude.{◌≡◌, ◌≢◌, ◌+◌, ◌≤◌, ◌<◌, List, [], ◌∷◌, ◌++◌, length, ◌⊎◌, true, false, IfOk, IfErr, IfSome, OnOk};
+ghost use Rattle.std.specs.Prelude.{◌≡◌, ◌≢◌, ◌+◌, ◌≤◌, ◌<◌, List, [], ◌∷◌, ◌++◌, length, ◌⊎◌};
+ghost use Rattle.std.specs.Prelude.{true, false, IfOk, IfErr, IfSome, OnOk};
 ghost use Rattle.std.specs.{Io.BufRead.{take_through}, Io.KnownBytes.{Consumes}};
 ghost use Rattle.std.specs.declared.cmp.Ordering.TheVariants.{Less};
 ghost use Rattle.ocfl_tree.specs.{Place.{Place as ModelPlace, place_cmp}, Name.{IsPlace}};
@@ -7,7 +8,8 @@ ghost use Rattle.ocfl_report.specs.{Line.{Line as ModelLine}, Text.{IsLineText}}
 ghost use Rattle.ocfl_parts.specs.{Parts.{max_separators}, Separators.{AreSeparators}};
 ghost use Rattle.ocfl_parts.specs.Splits.{HasText, IsSplit, cuts, cuts_from};
 ghost use Rattle.ocfl_parts.specs.{SplitStop.{SplitStopsRightly}, Costs.{told}};
-ghost use Rattle.ocfl_parts.specs.Internal.Cutting.{AreBelow, IsCutSoFar, StopsAtEnd, TakesNot, TakesNotPlace};
+ghost use Rattle.ocfl_parts.specs.Internal.Cutting.{AreBelow, IsCutSoFar, StopsAtEnd, TakesNot};
+ghost use Rattle.ocfl_parts.specs.Internal.Cutting.{TakesNotPlace};
 ghost use Rattle.ocfl_parts.specs.declared.costs.Told.{Told as ModelTold};
 
 use crate::costs::{Told, read_told};

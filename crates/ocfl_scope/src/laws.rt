@@ -1,5 +1,6 @@
 //! The laws of parts by their numbers, and of the scope that is found.
-ghost use Rattle.std.specs.Prelude.{◌≡◌, ◌⊎◌, ◌↔◌, ◌+◌, ◌≤◌, ℕ, List, [], Some, IsSome, length, map};
+ghost use Rattle.std.specs.Prelude.{◌≡◌, ◌⊎◌, ◌↔◌, ◌+◌, ◌≤◌, ℕ, List, [], Some, IsSome, length};
+ghost use Rattle.std.specs.Prelude.{map};
 ghost use Rattle.ocfl_tree.specs.Place.{Place, Text};
 ghost use Rattle.ocfl_cursor.specs.declared.ends.PartEnds.{PartEnds};
 ghost use Rattle.ocfl_audit.specs.Parts.{parts_of};

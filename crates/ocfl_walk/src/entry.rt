@@ -1,12 +1,16 @@
 //! Where a walk begins: the listings on the way to a place, of each what is above that place.
-ghost use Rattle.std.specs.Prelude.{◌≡◌, ◌∷◌, ◌++◌, [], length, None, Some, IfOk, IfErr, IfSome, MatchOption, MatchResult};
+ghost use Rattle.std.specs.Prelude.{◌≡◌, ◌∷◌, ◌++◌, [], length, None, Some, IfOk, IfErr, IfSome};
+ghost use Rattle.std.specs.Prelude.{MatchOption, MatchResult};
 ghost use Rattle.ocfl_tree.specs.{StorageRoot.{StorageRoot}, Store.{Store, IfTold}};
 ghost use Rattle.ocfl_tree.specs.{Place.{Place as Spot, Text}, Listing.{IsListing}};
 ghost use Rattle.ocfl_inventory.specs.Table.{IsFit};
 ghost use Rattle.ocfl_audit.specs.Zone.{zone};
 ghost use Rattle.ocfl_item.specs.{Around.{IsPart}, Meeting.{IsFairFolder}};
 ghost use Rattle.ocfl_item.specs.Ways.{Enters, IsAt, IsObject, IsWayFault, Stops, way_below};
-ghost use Rattle.ocfl_walk.specs.Internal.Entering.{StaysOut, Comes, DescendFails, IsBrought, IsComing, Opens, IsFairWay, Leads, LeadsOn, ListsBelow, ListsRoot, Starts, StartFails, may_open};
+ghost use Rattle.ocfl_walk.specs.Internal.Entering.{StaysOut, Comes, DescendFails, IsBrought};
+ghost use Rattle.ocfl_walk.specs.Internal.Entering.{IsComing, Opens, IsFairWay, Leads, LeadsOn};
+ghost use Rattle.ocfl_walk.specs.Internal.Entering.{ListsBelow, ListsRoot, Starts, StartFails};
+ghost use Rattle.ocfl_walk.specs.Internal.Entering.{may_open};
 ghost use Rattle.ocfl_walk.specs.Standing.{StandsAt, piles_in};
 ghost use Rattle.ocfl_walk.specs.Internal.Standing.{IsAroundIf, IsOrderly, IsOrderlyStand};
 

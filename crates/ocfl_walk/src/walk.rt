@@ -1,5 +1,6 @@
 //! The walk: items in order, from a stack of sorted listings and the table of one object.
-ghost use Rattle.std.specs.Prelude.{◌≡◌, ◌≢◌, ◌∷◌, ◌++◌, [], Option, option_map, true, false, None, Some, Err, IfOk, IfErr, IfSome, MatchResult};
+ghost use Rattle.std.specs.Prelude.{◌≡◌, ◌≢◌, ◌∷◌, ◌++◌, [], Option, option_map, true, false, None};
+ghost use Rattle.std.specs.Prelude.{Some, Err, IfOk, IfErr, IfSome, MatchResult};
 ghost use Rattle.ocfl_tree.specs.{Place.{Place as Spot}, Store.{IfTold}};
 ghost use Rattle.ocfl_item.specs.Ways.{IsWayFault};
 ghost use Rattle.ocfl_walk.specs.{Before.{directory_of, place_before}, Ends.{is_past}};
@@ -29,7 +30,8 @@ pub struct Walk {
 }
 
 impl Walk {
-    ghost use Rattle.ocfl_walk.specs.Walks.{Gives, GivesOut, GoesOn, IsBroken, IsLive, OpensInventories, Stands, last_of};
+    ghost use Rattle.ocfl_walk.specs.Walks.{Gives, GivesOut, GoesOn, IsBroken, IsLive};
+    ghost use Rattle.ocfl_walk.specs.Walks.{OpensInventories, Stands, last_of};
 
     /// A walk over the items above a place, whether or not there is one at it, or over all of them.
     ///

@@ -57,7 +57,7 @@ module _ {F : Type 0} (may_leave : F → Outcomes) (moment : F → ℕ) (left_si
   all_sound outcomes [] sound are = tt
   all_sound outcomes (n ∷ nights) sound are =
       let all = are.1 (λ c left. sound c (are.0 c left)) in
-      let each : (c : Content) → left_since n.ended (moment n.began) c → IsSound part c = λ c left. since_sound part (may_leave n.began) (Some n.before) (Some n.said) c (all.each c left) in
+      let each : (c : Content) → left_since n.ended (moment n.began) c → IsSound part c = λ c left. since_sound (all.each c left) in
       (each, all_sound (left_since n.ended (moment n.began)) nights each are.2)
 
   pub all_whole : (nights : List (Night F)) → AtAnyMoment moment left_since (IsSound part) nights → AtAnyMoment moment left_since (λ c. AreWhole part c.closed) nights

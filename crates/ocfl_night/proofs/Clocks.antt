@@ -23,12 +23,12 @@ may_none None a = tt
 may_none (Some end) a = omega arith
 
 -- nothing was asked, and nothing begun
-pub none_begun : (end : Option ℕ) (answers : List ℕ) (count : ℕ) → BeginsInTime end answers answers count count
-none_begun end answers count = record { asked = []; are = sym (append-nil answers); begun = 0; few = may_none end []; counted = omega arith }
+pub none_begun : {end : Option ℕ} {answers : List ℕ} {count : ℕ} → BeginsInTime end answers answers count count
+none_begun {end} {answers} = record { asked = []; are = sym (append-nil answers); begun = 0; few = may_none end []; counted = omega arith }
 
 -- and then more
-pub begun_on : (end : Option ℕ) (a b c : List ℕ) (k m n : ℕ) → BeginsInTime end a b k m → BeginsInTime end b c m n → BeginsInTime end a c k n
-begun_on end a b c k m n p q = record {
+pub begun_on : {end : Option ℕ} {a b c : List ℕ} {k m n : ℕ} → BeginsInTime end a b k m → BeginsInTime end b c m n → BeginsInTime end a c k n
+begun_on {end} {a} p q = record {
   asked = p.asked ++ q.asked;
   are = q.are ∙ ap (λ (l : List ℕ). l ++ q.asked) p.are ∙ append_assoc a p.asked q.asked;
   begun = p.begun + q.begun;
@@ -50,5 +50,5 @@ pub asked_once : (end : Option ℕ) (a : ℕ) (old : List ℕ) (n : ℕ) → is_
 asked_once None a old n before = record { asked = a ∷ []; are = refl; begun = 1; few = tt; counted = omega arith }
 asked_once (Some end) a old n before = asked_before end a old n before
 
-pub fewer : (end : Option ℕ) (a b : List ℕ) (k m n : ℕ) → BeginsInTime end a b k m → n ≤ m → BeginsInTime end a b k n
-fewer end a b k m n p le = record { asked = p.asked; are = p.are; begun = p.begun; few = p.few; counted = omega (arith, p.counted, le) }
+pub fewer : {end : Option ℕ} {a b : List ℕ} {k m n : ℕ} → BeginsInTime end a b k m → n ≤ m → BeginsInTime end a b k n
+fewer p le = record { asked = p.asked; are = p.are; begun = p.begun; few = p.few; counted = omega (arith, p.counted, le) }

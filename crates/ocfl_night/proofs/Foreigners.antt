@@ -1,33 +1,31 @@
 -- Whose a checkpoint is.
-use Rattle.std.proofs.Common.{◌≡◌, ◌⊎◌, inl, inr, Bool, false, Some, List, ℕ, [], sym, ◌∙◌, ap, subst, arith}
-use Rattle.ocfl_tree.specs.{Listing.{entries_in}, Place.{Text}, StorageRoot.{StorageRoot}}
-use Rattle.ocfl_identity.specs.Identity.{IsIdentityOf, declared_by, declarations_among}
+use Rattle.std.proofs.Common.{◌≡◌, inl, inr, Bool, false, Some, sym, ◌∙◌, ap, subst, arith}
+use Rattle.ocfl_tree.specs.{Place.{Text}, StorageRoot.{StorageRoot}}
+use Rattle.ocfl_identity.specs.Identity.{IsIdentityOf, declared_by}
 use Rattle.ocfl_identity.specs.declared.identity.Identity.{Identity}
 use Rattle.ocfl_state.specs.{Checkpoint.{Checkpoint, IsCheckpointText}, Content.{Content}}
 use Rattle.ocfl_state.proofs.CheckpointTexts.{text_determines}
-use Rattle.ocfl_night.specs.Site.{IsAnothers, IsForeign, IsOther, IsOtherThan, IsOwn, IsSameRoot}
+use Rattle.ocfl_night.specs.Site.{IsForeign, IsOther, IsOtherThan, IsOwn, IsSameRoot}
 use Rattle.ocfl_night.specs.{Sound.{IsAt}, declared.site.Site.{Site}}
 
 -- a folder is at one checkpoint
-pub at_once : (c : Content) (k found : Checkpoint) → IsAt found c → IsAt k c → found ≡ k
-at_once c k found a b =
+pub at_once : {c : Content} {k found : Checkpoint} → IsAt found c → IsAt k c → found ≡ k
+at_once {k = k} {found} a b =
     let same : a.bytes ≡ b.bytes = cc (a.is, b.is) in
     text_determines b.bytes found k (subst (λ (t : Text). IsCheckpointText t found) same a.text) b.text
 
-not_other : (id : Identity) (k : Checkpoint) → IsSameRoot id k → IsOther id k → ⊥
-not_other id k same (inl other) = other same.declared
-not_other id k same (inr gone) = omega (arith, same.names, gone)
+not_other : {id : Identity} {k : Checkpoint} → IsSameRoot id k → IsOther id k → ⊥
+not_other same (inl other) = other same.declared
+not_other same (inr gone) = omega (arith, same.names, gone)
 
 -- one that was taken is not foreign
-pub not_foreign : (site : Site) (id : Identity) (force : Bool) (k : Checkpoint) → IsOwn site k → (force ≡ false → IsSameRoot id k) → IsForeign site id force k → ⊥
-not_foreign site id force k own same (inl (inl path)) = path own.path
-not_foreign site id force k own same (inl (inr part)) = part own.part
-not_foreign site id force k own same (inr other) = not_other id k (same other.0) other.1
+not_foreign : {site : Site} {id : Identity} {force : Bool} {k : Checkpoint} → IsOwn site k → (force ≡ false → IsSameRoot id k) → IsForeign site id force k → ⊥
+not_foreign own same (inl (inl path)) = path own.path
+not_foreign own same (inl (inr part)) = part own.part
+not_foreign own same (inr other) = not_other (same other.0) other.1
 
-pub own_at : (site : Site) (id : Identity) (force : Bool) (c : Content) (k found : Checkpoint) → IsAt found c → IsAt k c → IsOwn site found → (force ≡ false → IsSameRoot id found) → IsForeign site id force k → ⊥
-own_at site id force c k found a b own same foreign =
-    let is = at_once c k found a b in
-    not_foreign site id force found own same (subst (λ (x : Checkpoint). IsForeign site id force x) (sym is) foreign)
+pub own_at : {site : Site} {id : Identity} {force : Bool} {c : Content} {k found : Checkpoint} → IsAt found c → IsAt k c → IsOwn site found → (force ≡ false → IsSameRoot id found) → IsForeign site id force k → ⊥
+own_at {site} {id} {force} a b own same foreign = not_foreign own same (subst (λ (x : Checkpoint). IsForeign site id force x) (sym (at_once a b)) foreign)
 
 -- of a storage root, by its identity
 pub other_by : (root : StorageRoot) (id : Identity) (k : Checkpoint) → IsIdentityOf root id → IsOtherThan root k → IsOther id k

@@ -1,5 +1,5 @@
 -- A report that is another one than its checkpoint says.
-use Rattle.std.proofs.Common.{◌≡◌, ◌⊎◌, ◌↔◌, inl, inr, [], take, refl, sym, ◌∙◌, ap, subst, arith, Bool, true, false}
+use Rattle.std.proofs.Common.{◌≡◌, ◌↔◌, inl, inr, [], take, refl, sym, ◌∙◌, ap, subst, arith, Bool, true, false}
 use Rattle.std.proofs.lemmas.List.{append-nil, take_all, length-take}
 use Rattle.std.specs.Prelude.{IsTrue, IsSome, Option, None, not}
 use Rattle.ocfl_tree.specs.Place.{Text}
@@ -11,7 +11,7 @@ use Rattle.ocfl_state.specs.declared.checkpoint_parts.ReportMark.{ReportMark}
 use Rattle.ocfl_state.specs.declared.finding.FoundReport.{FoundReport}
 use Rattle.ocfl_state.specs.declared.finding.FoundReport.TheVariants.{Whole, Lost}
 use Rattle.ocfl_state.specs.declared.pieces.ReportDigests.{ReportDigests}
-use Rattle.ocfl_night.specs.Sound.{IsOpen, IsClosing, IsMoved, Stands}
+use Rattle.ocfl_night.specs.Sound.{Stands}
 use Rattle.ocfl_night.specs.Steps.{BeginsAs, IsChanged}
 use Rattle.ocfl_night.proofs.Sound.{shut_closing}
 
@@ -32,7 +32,7 @@ whole_has_tail found digests P is fits = (subst (λ (f : FoundReport). IsWhole f
 pub begins_as : (part : Part) (t : Text) (k : Checkpoint) (c : Content) → Stands part t k c → (k.phase ≡ Closing → is_closed c.closed k.cursor.cycle ≡ false) → BeginsAs k.report c.report
 begins_as part t k c (inl o) there = record { text = o.text; is = o.report; begins = o.begins }
 begins_as part t k c (inr (inl w)) there = record { text = c.report; is = w.report; begins = ([], sym (append-nil c.report)) }
-begins_as part t k c (inr (inr w)) there = let shut = shut_closing part t k c w in let open_still = there w.phase in absurd (cc (shut, open_still))
+begins_as part t k c (inr (inr w)) there = let shut = shut_closing w in let open_still = there w.phase in absurd (cc (shut, open_still))
 
 -- ---- a report that is cut to the length of a mark
 

@@ -3,13 +3,13 @@ use Rattle.std.proofs.Common.{◌≡◌, ◌≢◌, ◌⊎◌, inl, inr, ℕ, �
 use Rattle.std.proofs.lemmas.List.{append-nil, take_all, take-append-le, length-drop}
 use Rattle.ocfl_tree.specs.{Place.{Text, Place}, StorageRoot.{StorageRoot}}
 use Rattle.ocfl_audit.specs.{Lines.{is_empty}, Parts.{Part}}
-use Rattle.ocfl_cursor.specs.Cursor.{Cursor, new_cursor}
+use Rattle.ocfl_cursor.specs.Cursor.{Cursor}
 use Rattle.ocfl_scrub.specs.{Running.{place_in, begun}, declared.running.RunEnd.{RunEnd}}
 use Rattle.ocfl_scrub.specs.declared.running.RunStatus.{RunStatus}
 use Rattle.ocfl_scrub.specs.declared.running.RunStatus.TheVariants as status
-use Rattle.ocfl_state.specs.Checkpoint.{Checkpoint, IsCheckpointText}
-use Rattle.ocfl_state.specs.Content.{Content, Closed, with_checkpoint, with_report, moved, is_closed}
-use Rattle.ocfl_state.specs.Crash.{Outcomes, Step, Begins, Only, Passes, LeavesOnly}
+use Rattle.ocfl_state.specs.Checkpoint.{Checkpoint}
+use Rattle.ocfl_state.specs.Content.{Content, Closed, with_report, moved, is_closed}
+use Rattle.ocfl_state.specs.Crash.{Outcomes, Step, Begins, Only, Same, Passes, LeavesOnly}
 use Rattle.ocfl_state.specs.Pieces.{summary_of}
 use Rattle.ocfl_state.specs.declared.checkpoint_parts.Phase.TheVariants.{Open, Closing}
 use Rattle.ocfl_state.specs.declared.checkpoint_parts.Left.{Left}
@@ -19,10 +19,11 @@ use Rattle.ocfl_state.specs.declared.checkpoint_parts.TopNames.{TopNames}
 use Rattle.ocfl_state.proofs.CheckpointTexts.{text_determines}
 use Rattle.ocfl_night.specs.Chain.{RootRun, joined, part_after, Led, LedToEnd, IsWholeReport, AreClosed}
 use Rattle.ocfl_night.specs.Sound.{closed_text, IsOpen, IsClosing, IsMoved, Stands, IsNew, IsMarked, IsSoundAt, IsAt, IsSettled, IsReady, IsOneMore}
-use Rattle.ocfl_night.specs.Site.{no_report}
-use Rattle.ocfl_night.specs.Steps.{closes_whole, left_at, with_left, KeepsFront, MayCheckpoint, IsCheckpointPut, IsMoveDone, MayMoveAt, IsRun, IsNext, unsaid, with_all_told}
-use Rattle.ocfl_night.proofs.Moments.{leaves, two_calls}
-use Rattle.ocfl_night.proofs.Chains.{led_on, led_to_end, leave_on, joined_on, same_cycle, ended_cursor, next_cycle_begun, closed_up, closed_on, not_closed, last_closed, closed_text_on, nothing, take_nothing}
+use Rattle.ocfl_night.specs.{Site.{first_checkpoint}, declared.site.Site.{Site}}
+use Rattle.ocfl_identity.specs.declared.identity.Identity.{Identity}
+use Rattle.ocfl_night.specs.Steps.{begun_anew, closes_whole, left_at, with_left, KeepsFront, MayCheckpoint, IsCheckpointPut, IsMoveDone, MayMoveAt, IsRun, IsNext, unsaid, with_all_told}
+use Rattle.ocfl_night.proofs.Moments.{OnlyNow, leaves, left_after, joined_moments, only_same}
+use Rattle.ocfl_night.proofs.Chains.{led_on, led_to_end, leave_on, joined_on, same_cycle, ended_cursor, next_cycle_begun, closed_up, closed_on, not_closed, last_closed, closed_text_on, take_nothing}
 
 -- how long a report is of which a checkpoint has the summary
 pub long : (text : Text) (m : ReportMark) → m ≡ summary_of text → m.bytes ≡ length text
@@ -33,72 +34,73 @@ pub record Holds (part : Part) (t : Text) (k : Checkpoint) (c : Content) : Type 
   pub at : IsAt k c
   pub stands : Stands part t k c
 
-pub sound_holds : (part : Part) (t : Text) (k : Checkpoint) (c : Content) → Holds part t k c → IsSoundAt part t c
-sound_holds part t k c h =
-    subst (λ (o : Option (List ℕ)). MatchOption o (IsNew t c) (λ bytes. IsMarked part t bytes c)) (sym h.at.is) (record { checkpoint = k; is = h.at.text; stands = h.stands })
+-- a checkpoint with these bytes is as it says, or there is none and no night was there
+abbrev Says : Part → Text → Content → Option (List ℕ) → Type 0
+Says part t c o = MatchOption o (IsNew t c) (λ bytes. IsMarked part t bytes c)
 
-pub holds_sound : (part : Part) (t : Text) (k : Checkpoint) (c : Content) → IsSoundAt part t c → IsAt k c → Holds part t k c
-holds_sound part t k c sound at =
-    let marked : IsMarked part t at.bytes c = subst (λ (o : Option (List ℕ)). MatchOption o (IsNew t c) (λ bytes. IsMarked part t bytes c)) at.is sound in
-    let same : marked.checkpoint ≡ k = text_determines at.bytes marked.checkpoint k marked.is at.text in
-    record { at = at; stands = subst (λ (x : Checkpoint). Stands part t x c) same marked.stands }
+module _ {part : Part} {t : Text} {c : Content} where
+  pub sound_holds : {k : Checkpoint} → Holds part t k c → IsSoundAt part t c
+  sound_holds {k} h = subst (Says part t c) (sym h.at.is) (record { checkpoint = k; is = h.at.text; stands = h.stands })
 
-pub new_sound : (part : Part) (t : Text) (c : Content) → IsSoundAt part t c → c.checkpoint ≡ None → IsNew t c
-new_sound part t c sound none = subst (λ (o : Option (List ℕ)). MatchOption o (IsNew t c) (λ bytes. IsMarked part t bytes c)) none sound
+  pub holds_sound : {k : Checkpoint} → IsSoundAt part t c → IsAt k c → Holds part t k c
+  holds_sound {k} sound at =
+      let marked : IsMarked part t at.bytes c = subst (Says part t c) at.is sound in
+      let same : marked.checkpoint ≡ k = text_determines at.bytes marked.checkpoint k marked.is at.text in
+      record { at = at; stands = subst (λ (x : Checkpoint). Stands part t x c) same marked.stands }
 
-pub sound_new : (part : Part) (t : Text) (c : Content) → c.checkpoint ≡ None → IsNew t c → IsSoundAt part t c
-sound_new part t c none new = subst (λ (o : Option (List ℕ)). MatchOption o (IsNew t c) (λ bytes. IsMarked part t bytes c)) (sym none) new
+  -- what a checkpoint says of the root is no matter here, nor its bytes
+  pub stands_as : {k : Checkpoint} {root : RootIdentity} {names : TopNames} {bytes : Option (List ℕ)} → Stands part t k c → Stands part t (record k { root = root; names = names }) (record c { checkpoint = bytes })
+  stands_as (inl o) = inl (record { phase = o.phase; first = o.first; runs = o.runs; starts = o.starts; chain = o.chain; text = o.text; report = o.report; begins = o.begins; is_whole = o.is_whole; told = o.told; told_is = o.told_is; earlier = o.earlier })
+  stands_as (inr (inl w)) = inr (inl (record { phase = w.phase; first = w.first; runs = w.runs; starts = w.starts; chain = w.chain; ends = w.ends; report = w.report; is_whole = w.is_whole; told = w.told; told_is = w.told_is; earlier = w.earlier }))
+  stands_as (inr (inr w)) = inr (inr (record { phase = w.phase; ends = w.ends; counted = w.counted; empty = w.empty; told = w.told; told_is = w.told_is; earlier = w.earlier }))
 
-pub marked_put : (part : Part) (t : Text) (k : Checkpoint) (d c : Content) (bytes : List ℕ) → Stands part t k d → IsCheckpointText bytes k → c ≡ with_checkpoint bytes d → Holds part t k c
-marked_put part t k d c bytes stands text put = subst (λ (x : Content). Holds part t k x) (sym put) (record { at = record { bytes = bytes; is = refl; text = text }; stands = by stands })
-  where
-    by : Stands part t k d → Stands part t k (with_checkpoint bytes d)
-    by (inl o) = inl (record { phase = o.phase; first = o.first; runs = o.runs; starts = o.starts; chain = o.chain; text = o.text; report = o.report; begins = o.begins; is_whole = o.is_whole; told = o.told; told_is = o.told_is; earlier = o.earlier })
-    by (inr (inl w)) = inr (inl (record { phase = w.phase; first = w.first; runs = w.runs; starts = w.starts; chain = w.chain; ends = w.ends; report = w.report; is_whole = w.is_whole; told = w.told; told_is = w.told_is; earlier = w.earlier }))
-    by (inr (inr w)) = inr (inr (record { phase = w.phase; ends = w.ends; counted = w.counted; empty = w.empty; told = w.told; told_is = w.told_is; earlier = w.earlier }))
+  pub renamed : {k next : Checkpoint} {root : RootIdentity} {names : TopNames} → next ≡ record k { root = root; names = names } → Stands part t k c → Stands part t next c
+  renamed is stands = subst (λ (x : Checkpoint). Stands part t x c) (sym is) (stands_as stands)
 
--- the old checkpoint or the new one
-pub sound_mark : (part : Part) (t : Text) (k : Checkpoint) (d c : Content) → IsSoundAt part t d → Stands part t k d → MayCheckpoint k d c → IsSoundAt part t c
-sound_mark part t k d c sound stands (inl same) = subst (λ (x : Content). IsSoundAt part t x) (sym same) sound
-sound_mark part t k d c sound stands (inr put) = sound_holds part t k c (marked_put part t k d c put.0 stands put.1.0 put.1.1)
+pub new_sound : (part : Part) {t : Text} {c : Content} → IsSoundAt part t c → c.checkpoint ≡ None → IsNew t c
+new_sound part {t} {c} sound none = subst (Says part t c) none sound
+
+pub sound_new : (part : Part) {t : Text} {c : Content} → c.checkpoint ≡ None → IsNew t c → IsSoundAt part t c
+sound_new part {t} {c} none new = subst (Says part t c) (sym none) new
+
+module _ {part : Part} {t : Text} {k : Checkpoint} {d c : Content} where
+  pub marked_put : Stands part t k d → IsCheckpointPut k d c → Holds part t k c
+  marked_put stands put = subst (Holds part t k) (sym put.put) (record { at = record { bytes = put.bytes; is = refl; text = put.text }; stands = stands_as stands })
+
+  -- the old checkpoint or the new one
+  pub sound_mark : IsSoundAt part t d → Stands part t k d → MayCheckpoint k d c → IsSoundAt part t c
+  sound_mark sound stands (inl same) = subst (IsSoundAt part t) (sym same) sound
+  sound_mark sound stands (inr (bytes, (text, put))) = sound_holds (marked_put stands (record { bytes = bytes; text = text; put = put }))
 
 -- ---- phases
 
-pub open_of : (part : Part) (t : Text) (k : Checkpoint) (c : Content) → k.phase ≡ Open → Stands part t k c → IsOpen part t k c
-open_of part t k c is (inl o) = o
-open_of part t k c is (inr (inl w)) = absurd (cc (is, w.phase))
-open_of part t k c is (inr (inr w)) = absurd (cc (is, w.phase))
+module _ {part : Part} {t : Text} {k : Checkpoint} {c : Content} where
+  pub open_of : k.phase ≡ Open → Stands part t k c → IsOpen part t k c
+  open_of is (inl o) = o
+  open_of is (inr (inl w)) = absurd (cc (is, w.phase))
+  open_of is (inr (inr w)) = absurd (cc (is, w.phase))
 
-pub closing_of : (part : Part) (t : Text) (k : Checkpoint) (c : Content) → k.phase ≡ Closing → Stands part t k c → IsClosing part t k c ⊎ IsMoved part t k c
-closing_of part t k c is (inl o) = absurd (cc (is, o.phase))
-closing_of part t k c is (inr w) = w
+  pub closing_of : k.phase ≡ Closing → Stands part t k c → IsClosing part t k c ⊎ IsMoved part t k c
+  closing_of is (inl o) = absurd (cc (is, o.phase))
+  closing_of is (inr w) = w
 
 -- the checkpoint stays
-pub moved_at : (k : Checkpoint) (d c : Content) → c.checkpoint ≡ d.checkpoint → IsAt k d → IsAt k c
-moved_at k d c same at = record { bytes = at.bytes; is = same ∙ at.is; text = at.text }
+moved_at : {k : Checkpoint} {d c : Content} → c.checkpoint ≡ d.checkpoint → IsAt k d → IsAt k c
+moved_at same at = record { bytes = at.bytes; is = same ∙ at.is; text = at.text }
 
--- a cut, or a torn text after the checkpoint's bytes
-open_keeps : (part : Part) (t : Text) (k : Checkpoint) (n : ℕ) (d c : Content) → k.report.bytes ≤ n → KeepsFront n d c → IsOpen part t k d → IsOpen part t k c
-open_keeps part t k n d c le keeps o = record {
-  phase = o.phase;
-  first = o.first;
-  runs = o.runs;
-  starts = o.starts;
-  chain = o.chain;
-  text = o.text;
-  report = o.report;
-  begins = keeps.front o.text (omega (arith, long o.text k.report o.report, le)) o.begins;
-  is_whole = o.is_whole;
-  told = o.told;
-  told_is = o.told_is ∙ ap (λ (l : List Closed). closed_text l ++ take k.told o.text) (sym keeps.closed);
-  earlier = subst (λ (l : List Closed). AreClosed part 1 l (begun k.cursor).cycle) (sym keeps.closed) o.earlier;
-}
+-- the report is another one after the checkpoint's bytes
+reopened : {part : Part} {t : Text} {k : Checkpoint} {d c : Content} (o : IsOpen part t k d) → Begins o.text c.report → c.closed ≡ d.closed → IsOpen part t k c
+reopened {part} {t} {k} o begins closed =
+    let told_is = o.told_is ∙ ap (λ (l : List Closed). closed_text l ++ take k.told o.text) (sym closed) in
+    let earlier = subst (λ (l : List Closed). AreClosed part 1 l (begun k.cursor).cycle) (sym closed) o.earlier in
+    record { phase = o.phase; first = o.first; runs = o.runs; starts = o.starts; chain = o.chain; text = o.text; report = o.report; begins = begins; is_whole = o.is_whole; told = o.told; told_is = told_is; earlier = earlier }
 
-pub torn : (part : Part) (t : Text) (k : Checkpoint) (n : ℕ) (d c : Content) → k.phase ≡ Open → k.report.bytes ≤ n → Holds part t k d → KeepsFront n d c → Holds part t k c
-torn part t k n d c is le h keeps = record {
-  at = moved_at k d c keeps.checkpoint h.at;
-  stands = inl (open_keeps part t k n d c le keeps (open_of part t k d is h.stands));
-}
+-- it is torn there
+pub torn : {part : Part} {t : Text} {k : Checkpoint} {n : ℕ} {d c : Content} → k.phase ≡ Open → k.report.bytes ≤ n → Holds part t k d → KeepsFront n d c → Holds part t k c
+torn {k = k} is le h keeps =
+    let o = open_of is h.stands in
+    let begins = keeps.front o.text (omega (arith, long o.text k.report o.report, le)) o.begins in
+    record { at = moved_at keeps.checkpoint h.at; stands = inl (reopened o begins keeps.closed) }
 
 -- ---- texts
 
@@ -112,8 +114,8 @@ begins_exact front text b long =
     b.1 ∙ ap (λ (l : Text). front ++ l) (none_left b.0 left) ∙ append-nil front
 
 -- the report of a checkpoint after which there is nothing
-pub exact_text : (part : Part) (t : Text) (k : Checkpoint) (c : Content) → (o : IsOpen part t k c) → length c.report ≡ k.report.bytes → c.report ≡ o.text
-exact_text part t k c o exact = begins_exact o.text c.report o.begins (exact ∙ long o.text k.report o.report)
+exact_text : {part : Part} {t : Text} {k : Checkpoint} {c : Content} (o : IsOpen part t k c) → length c.report ≡ k.report.bytes → c.report ≡ o.text
+exact_text {k = k} {c = c} o exact = begins_exact o.text c.report o.begins (exact ∙ long o.text k.report o.report)
 
 -- ---- the checkpoint after a run
 
@@ -121,13 +123,13 @@ pub record After_run (part : Part) (t : Text) (next : Checkpoint) (c : Content) 
   pub stands : Stands part t next c
   pub exact : next.phase ≡ Open → length c.report ≡ next.report.bytes
 
-module _ (part : Part) (t : Text) (k next : Checkpoint) (root : StorageRoot) (ran : RunEnd) (d c : Content) (lines : Text) (o : IsOpen part t k d) (exact : length d.report ≡ k.report.bytes)
+module _ {part : Part} {t : Text} {k next : Checkpoint} {root : StorageRoot} {ran : RunEnd} {d c : Content} {lines : Text} (o : IsOpen part t k d) (exact : length d.report ≡ k.report.bytes)
     (e : IsRun (part_after part k.left) k.cursor root lines ran) (grown : c ≡ with_report (d.report ++ lines) d) (n : IsNext k ran (summary_of c.report) next) where
   abbrev r : RootRun
   r = record { root = root; run = e.run }
 
   now : c.report ≡ o.text ++ e.run.report
-  now = ap (λ (x : Content). x.report) grown ∙ ap (λ (l : Text). d.report ++ l) e.lines_are ∙ ap (λ (l : Text). l ++ e.run.report) (exact_text part t k d o exact)
+  now = ap (λ (x : Content). x.report) grown ∙ ap (λ (l : Text). d.report ++ l) e.lines_are ∙ ap (λ (l : Text). l ++ e.run.report) (exact_text o exact)
 
   closed : c.closed ≡ d.closed
   closed = ap (λ (x : Content). x.closed) grown
@@ -196,112 +198,116 @@ module _ (part : Part) (t : Text) (k next : Checkpoint) (root : StorageRoot) (ra
   by (status.Stopped why) is = goes (λ x. absurd (cc (is, x)))
   by status.Worn is = goes (λ x. absurd (cc (is, x)))
 
-  pub after_run : After_run part t next c
+  after_run : After_run part t next c
   after_run = by e.run.ran.end refl
 
 -- ---- a folder at a checkpoint
 
-module _ {F : Type 0} {seen : F → Content} {may_leave : F → Outcomes} where
-  pub ready_holds : (part : Part) (t : Text) (k : Checkpoint) (f : F) → IsReady seen may_leave part t k f → (c : Content) → may_leave f c → Holds part t k c
-  ready_holds part t k f r c left = subst (λ (x : Content). Holds part t k x) (sym (r.only c left)) (record { at = r.at; stands = r.stands })
+module _ {F : Type 0} {seen : F → Content} {may_leave : F → Outcomes} {part : Part} {t : Text} {k : Checkpoint} {f : F} where
+  pub settled_holds : IsSettled seen may_leave part t k f → (c : Content) → may_leave f c → Holds part t k c
+  settled_holds r c left = subst (Holds part t k) (sym (r.only c left)) (record { at = r.at; stands = r.stands })
 
-  pub settled_holds : (part : Part) (t : Text) (k : Checkpoint) (f : F) → IsSettled seen may_leave part t k f → (c : Content) → may_leave f c → Holds part t k c
-  settled_holds part t k f r c left = subst (λ (x : Content). Holds part t k x) (sym (r.only c left)) (record { at = r.at; stands = r.stands })
+  pub settled_sound : IsSettled seen may_leave part t k f → (c : Content) → may_leave f c → IsSoundAt part t c
+  settled_sound r c left = sound_holds (settled_holds r c left)
 
-  pub put_ready : (part : Part) (t : Text) (next : Checkpoint) (g h : F) → IsCheckpointPut next (seen g) (seen h) → Stands part t next (seen g) → (next.phase ≡ Open → length (seen g).report ≡ next.report.bytes) → Only (seen h) (may_leave h) → IsReady seen may_leave part t next h
-  put_ready part t next g h put stands exact only =
-      let holds = marked_put part t next (seen g) (seen h) put.bytes stands put.text put.put in
+  settled : IsReady seen may_leave part t k f → IsSettled seen may_leave part t k f
+  settled r = record { at = r.at; stands = r.stands; only = r.only }
+
+  pub ready_holds : IsReady seen may_leave part t k f → (c : Content) → may_leave f c → Holds part t k c
+  ready_holds r c left = settled_holds (settled r) c left
+
+  pub ready_sound : IsReady seen may_leave part t k f → (c : Content) → may_leave f c → IsSoundAt part t c
+  ready_sound r c left = settled_sound (settled r) c left
+
+  -- a call changed nothing
+  pub ready_on : {moment : F → ℕ} {left_since : F → ℕ → Outcomes} {g : F} → IsReady seen may_leave part t k f → seen g ≡ seen f → Passes may_leave moment left_since Same f g → IsReady seen may_leave part t k g
+  ready_on r same p = record {
+    at = subst (IsAt k) (sym same) r.at;
+    stands = subst (Stands part t k) (sym same) r.stands;
+    exact = λ is. ap (λ (x : Content). length x.report) same ∙ r.exact is;
+    only = only_same seen p same r.only;
+  }
+
+  -- a checkpoint was put
+  pub put_ready : {d : Content} → IsCheckpointPut k d (seen f) → Stands part t k d → (k.phase ≡ Open → length d.report ≡ k.report.bytes) → Only (seen f) (may_leave f) → IsReady seen may_leave part t k f
+  put_ready put stands exact only =
+      let holds = marked_put stands put in
       record { at = holds.at; stands = holds.stands; exact = λ is. ap (λ (x : Content). length x.report) put.put ∙ exact is; only = only }
 
-module _ {F : Type 0} {seen : F → Content} {may_leave : F → Outcomes} {moment : F → ℕ} {left_since : F → ℕ → Outcomes} where
-  -- something is done with the report after the checkpoint's bytes, and then a checkpoint that holds
-  -- there is put
-  pub moments : (A : Step) (part : Part) (t : Text) (k next : Checkpoint) (f g h : F) → ((x : F) (c : Content) → left_since x (moment x) c → may_leave x c)
-      → IsReady seen may_leave part t k f → ((d c : Content) → Holds part t k d → A d c → Holds part t k c) → Passes may_leave moment left_since A f g
-      → Only (seen g) (may_leave g) → Stands part t next (seen g) → Passes may_leave moment left_since (MayCheckpoint next) g h → LeavesOnly moment left_since f h (IsSoundAt part t)
-  moments A part t k next f g h only_now ready keeps p only stands q =
-      two_calls A (MayCheckpoint next) (IsSoundAt part t) f g h only_now
-      (λ c n. sound_holds part t k c (ready_holds part t k f ready c n))
-      (λ d c n a. sound_holds part t k c (keeps d c (ready_holds part t k f ready d n) a))
-      p
-      (λ d c n mark.
-      let is = only d n in
-      let from = p.now d n in
-      sound_mark part t next d c (sound_holds part t k d (keeps from.0 d (ready_holds part t k f ready from.0 from.1) from.2)) (subst (λ (x : Content). Stands part t next x) (sym is) stands) mark)
-      q
+  -- what is torn is after the checkpoint's bytes
+  pub torn_sound : {n : ℕ} → k.phase ≡ Open → k.report.bytes ≤ n → IsSettled seen may_leave part t k f → (d c : Content) → may_leave f d → KeepsFront n d c → IsSoundAt part t c
+  torn_sound is le r d c left keeps = sound_holds (torn is le (settled_holds r d left) keeps)
 
-module _ {F : Type 0} {may_leave : F → Outcomes} {moment : F → ℕ} {left_since : F → ℕ → Outcomes} where
-  -- of that, the first part alone
-  pub first_moments : (A : Step) (part : Part) (t : Text) (k : Checkpoint) (f g : F) → ((x : F) (c : Content) → left_since x (moment x) c → may_leave x c)
-      → ((c : Content) → may_leave f c → Holds part t k c) → ((d c : Content) → Holds part t k d → A d c → Holds part t k c) → Passes may_leave moment left_since A f g → LeavesOnly moment left_since f g (IsSoundAt part t)
-  first_moments A part t k f g only_now ready keeps p =
-      leaves A (IsSoundAt part t) f g (only_now f)
-      (λ c n. sound_holds part t k c (ready c n))
-      (λ d c n a. sound_holds part t k c (keeps d c (ready d n) a))
-      p
-
-module _ {F : Type 0} {seen : F → Content} {may_leave : F → Outcomes} where
-  -- a run after the checkpoint's bytes
-  pub run_keeps : (part : Part) (t : Text) (k : Checkpoint) (f : F) → k.phase ≡ Open → IsReady seen may_leave part t k f → (d c : Content) → Holds part t k d → KeepsFront (length (seen f).report) d c → Holds part t k c
-  run_keeps part t k f is r d c h keeps = torn part t k (length (seen f).report) d c is (omega (arith, r.exact is)) h keeps
+  pub run_sound : k.phase ≡ Open → IsReady seen may_leave part t k f → (d c : Content) → may_leave f d → KeepsFront (length (seen f).report) d c → IsSoundAt part t c
+  run_sound is r d c left keeps = torn_sound is (omega (arith, r.exact is)) (settled r) d c left keeps
 
   -- the checkpoint has the mark of the whole report
-  pub ready_mark : (part : Part) (t : Text) (k : Checkpoint) (f : F) → k.phase ≡ Open → IsReady seen may_leave part t k f → k.report ≡ summary_of (seen f).report
-  ready_mark part t k f is r =
-      let o = open_of part t k (seen f) is r.stands in
-      o.report ∙ ap summary_of (sym (exact_text part t k (seen f) o (r.exact is)))
+  pub ready_mark : k.phase ≡ Open → IsReady seen may_leave part t k f → k.report ≡ summary_of (seen f).report
+  ready_mark is r =
+      let o = open_of is r.stands in
+      o.report ∙ ap summary_of (sym (exact_text o (r.exact is)))
 
-  pub after_extended : (part : Part) (t : Text) (k next : Checkpoint) (root : StorageRoot) (ran : RunEnd) (lines : Text) (f g : F) → k.phase ≡ Open → IsReady seen may_leave part t k f
-      → IsRun (part_after part k.left) k.cursor root lines ran → seen g ≡ with_report ((seen f).report ++ lines) (seen f) → IsNext k ran (summary_of (seen g).report) next → After_run part t next (seen g)
-  after_extended part t k next root ran lines f g is r e grown n = after_run part t k next root ran (seen f) (seen g) lines (open_of part t k (seen f) is r.stands) (r.exact is) e grown n
+  pub after_extended : {next : Checkpoint} {root : StorageRoot} {ran : RunEnd} {lines : Text} {c : Content} {mark report : ReportMark} → k.phase ≡ Open → IsReady seen may_leave part t k f
+      → IsRun (part_after part k.left) k.cursor root lines ran → c ≡ with_report ((seen f).report ++ lines) (seen f)
+      → mark ≡ k.report → (mark ≡ summary_of (seen f).report → report ≡ summary_of c.report) → IsNext k ran report next → After_run part t next c
+  after_extended {next} {ran = ran} is r run grown marked keeps n =
+      after_run (open_of is r.stands) (r.exact is) run grown (subst (λ (m : ReportMark). IsNext k ran m next) (keeps (marked ∙ ready_mark is r)) n)
+
+-- a checkpoint was put after another one
+pub put_on : {F : Type 0} {seen : F → Content} {may_leave : F → Outcomes} {part : Part} {t u : Text} {k next : Checkpoint} {f h : F} → IsReady seen may_leave part t k f → Stands part u next (seen f) → IsCheckpointPut next (seen f) (seen h)
+    → next.report.bytes ≡ k.report.bytes → next.phase ≡ k.phase → Only (seen h) (may_leave h) → IsReady seen may_leave part u next h
+put_on r stands put bytes phase only = put_ready put stands (λ is. r.exact (sym phase ∙ is) ∙ sym bytes) only
+
+module _ {F : Type 0} {may_leave : F → Outcomes} {moment : F → ℕ} {left_since : F → ℕ → Outcomes} (only_now : OnlyNow may_leave moment left_since) {part : Part} {t : Text} {k : Checkpoint} {shown : Content} {g h : F} where
+  -- a checkpoint is put
+  pub mark_moments : ((c : Content) → may_leave g c → IsSoundAt part t c) → Only shown (may_leave g) → Stands part t k shown → Passes may_leave moment left_since (MayCheckpoint k) g h → LeavesOnly moment left_since g h (IsSoundAt part t)
+  mark_moments here only stands p = leaves only_now here (λ d c n mark. sound_mark (here d n) (subst (Stands part t k) (sym (only d n)) stands) mark) p
+
+  -- and before it something else is done
+  pub mark_after : {step : Step} {f : F} → ((c : Content) → may_leave f c → IsSoundAt part t c) → ((d c : Content) → may_leave f d → step d c → IsSoundAt part t c) → Passes may_leave moment left_since step f g
+      → Only shown (may_leave g) → Stands part t k shown → Passes may_leave moment left_since (MayCheckpoint k) g h → LeavesOnly moment left_since f h (IsSoundAt part t)
+  mark_after here after p only stands q = joined_moments (leaves only_now here after p) (mark_moments (left_after after p) only stands q)
+
+-- a checkpoint is put after another one
+pub put_moments : {F : Type 0} {seen : F → Content} {may_leave : F → Outcomes} {moment : F → ℕ} {left_since : F → ℕ → Outcomes} {part : Part} {t : Text} {k next : Checkpoint} {f h : F} → OnlyNow may_leave moment left_since
+    → IsReady seen may_leave part t k f → Stands part t next (seen f) → Passes may_leave moment left_since (MayCheckpoint next) f h → LeavesOnly moment left_since f h (IsSoundAt part t)
+put_moments only_now r stands p = mark_moments only_now (ready_sound r) r.only stands p
 
 -- ---- opening
 
 -- what is cut is after the checkpoint's bytes
-pub cut_open : (part : Part) (t : Text) (k : Checkpoint) (d c : Content) → k.phase ≡ Open → Holds part t k d → c ≡ with_report (take k.report.bytes d.report) d → Holds part t k c × (length c.report ≡ k.report.bytes)
-cut_open part t k d c is h cut =
-    let o = open_of part t k d is h.stands in
+pub cut_open : {part : Part} {t : Text} {k : Checkpoint} {d c : Content} → k.phase ≡ Open → Holds part t k d → c ≡ with_report (take k.report.bytes d.report) d → Holds part t k c × (length c.report ≡ k.report.bytes)
+cut_open {k = k} {d} {c} is h cut =
+    let o = open_of is h.stands in
     let n = k.report.bytes in
     let counted = long o.text k.report o.report in
     let same : take n d.report ≡ o.text = ap (take n) o.begins.1 ∙ take-append-le n o.text o.begins.0 (omega (arith, counted)) ∙ take_all n o.text (omega (arith, counted)) in
     let report : c.report ≡ o.text = ap (λ (x : Content). x.report) cut ∙ same in
-    let closed : c.closed ≡ d.closed = ap (λ (x : Content). x.closed) cut in (
-      record {
-        at = moved_at k d c (ap (λ (x : Content). x.checkpoint) cut) h.at;
-        stands = inl (record {
-          phase = o.phase;
-          first = o.first;
-          runs = o.runs;
-          starts = o.starts;
-          chain = o.chain;
-          text = o.text;
-          report = o.report;
-          begins = ([], report ∙ sym (append-nil o.text));
-          is_whole = o.is_whole;
-          told = o.told;
-          told_is = o.told_is ∙ ap (λ (l : List Closed). closed_text l ++ take k.told o.text) (sym closed);
-          earlier = subst (λ (l : List Closed). AreClosed part 1 l (begun k.cursor).cycle) (sym closed) o.earlier;
-        });
-      },
-      ap length report ∙ sym counted,
-    )
+    let open_still = reopened o ([], report ∙ sym (append-nil o.text)) (ap (λ (x : Content). x.closed) cut) in
+    (record { at = moved_at (ap (λ (x : Content). x.checkpoint) cut) h.at; stands = inl open_still }, ap length report ∙ sym counted)
 
--- the first checkpoint
-pub first_stands : (part : Part) (k : Checkpoint) (c : Content) → k.phase ≡ Open → k.report ≡ no_report → k.told ≡ 0 → k.left ≡ [] → k.cursor ≡ new_cursor → IsNew [] c → Stands part [] k c
-first_stands part k c phase report told left cursor new = inl (record {
-  phase = phase;
-  first = new_cursor;
+-- there is nothing of a cycle's report yet
+fresh_stands : {part : Part} {t : Text} {c : Content} (k : Checkpoint) → place_in k.cursor.state ≡ None → t ≡ closed_text c.closed → AreClosed part 1 c.closed (begun k.cursor).cycle → Stands part t (begun_anew k) c
+fresh_stands {c = c} k starts told_is earlier = inl (record {
+  phase = refl;
+  first = k.cursor;
   runs = [];
-  starts = refl;
-  chain = subst (λ (l : List Left). Led part new_cursor [] l k.cursor) (sym left) cursor;
+  starts = starts;
+  chain = refl;
   text = [];
-  report = report;
+  report = refl;
   begins = (c.report, refl);
   is_whole = λ is. refl;
-  told = omega (arith, told);
-  told_is = sym (ap (λ (l : List Closed). closed_text l ++ take k.told nothing) new.closed ∙ take_nothing k.told);
-  earlier = subst (λ (x : Cursor). AreClosed part 1 c.closed (begun x).cycle) (sym cursor) (subst (λ (l : List Closed). AreClosed part 1 l 1) (sym new.closed) refl);
+  told = omega arith;
+  told_is = told_is ∙ sym (ap (λ (l : Text). closed_text c.closed ++ l) (take_nothing 0) ∙ append-nil (closed_text c.closed));
+  earlier = earlier;
 })
+
+-- the first checkpoint
+pub first_stands : {part : Part} {k : Checkpoint} {c : Content} (site : Site) (id : Identity) → k ≡ first_checkpoint site id → IsNew [] c → Stands part [] k c
+first_stands {part} {k} {c} site id is new =
+    subst (λ (x : Checkpoint). Stands part [] x c) (sym is)
+    (fresh_stands (first_checkpoint site id) refl (sym (ap closed_text new.closed)) (subst (λ (l : List Closed). AreClosed part 1 l 1) (sym new.closed) refl))
 
 -- ---- closing
 
@@ -313,10 +319,13 @@ closes_by true [] both = (refl, refl)
 closes_by true (l ∷ left) both = absurd (both_ways (sym both))
 closes_by false left both = absurd (both_ways (sym both))
 
-pub shut_closing : (part : Part) (t : Text) (k : Checkpoint) (d : Content) → IsMoved part t k d → is_closed d.closed k.cursor.cycle ≡ true
-shut_closing part t k d w = last_closed part 1 k.cursor.cycle d.closed w.earlier w.counted
+module _ {part : Part} {t : Text} {k : Checkpoint} {d : Content} where
+  pub shut_closing : IsMoved part t k d → is_closed d.closed k.cursor.cycle ≡ true
+  shut_closing w = last_closed part 1 k.cursor.cycle d.closed w.earlier w.counted
 
-module _ (part : Part) (t : Text) (k : Checkpoint) (d c : Content) (is : k.phase ≡ Closing) (told : k.told ≡ k.report.bytes) (h : Holds part t k d) where
+  not_shut : IsClosing part t k d → is_closed d.closed k.cursor.cycle ≡ false
+  not_shut w = not_closed part 1 k.cursor.cycle k.cursor.cycle d.closed w.earlier (omega arith)
+
   whole_report : IsClosing part t k d → (k.whole ≡ true) × (k.left ≡ []) → IsWholeReport part (record { cycle = k.cursor.cycle; whole = closes_whole k; report = d.report })
   whole_report w both = record {
     first = w.first;
@@ -328,79 +337,52 @@ module _ (part : Part) (t : Text) (k : Checkpoint) (d c : Content) (is : k.phase
     report = w.is_whole both.0;
   }
 
-  after_move : IsClosing part t k d → c ≡ moved k.cursor.cycle (closes_whole k) d → IsMoved part t k c
-  after_move w put =
-      let x : Closed = record { cycle = k.cursor.cycle; whole = closes_whole k; report = d.report } in
-      let closed : c.closed ≡ d.closed ++ x ∷ [] = ap (λ (y : Content). y.closed) put in
-      record {
-        phase = is;
-        ends = w.ends;
-        counted = closed_up part 1 k.cursor.cycle d.closed w.earlier;
-        empty = ap (λ (y : Content). y.report) put;
-        told = told;
-        told_is = w.told_is ∙ ap (λ (l : Text). closed_text d.closed ++ l) (take_all k.told d.report (omega (arith, told, long d.report k.report w.report))) ∙ sym (ap closed_text closed ∙ closed_text_on d.closed x);
-        earlier = subst (λ (l : List Closed). AreClosed part 1 l (k.cursor.cycle + 1)) (sym closed) (closed_on part 1 k.cursor.cycle d.closed x w.earlier refl (λ whole. whole_report w (closes_by k.whole k.left whole)));
-      }
+  module _ {c : Content} (is : k.phase ≡ Closing) (told : k.told ≡ k.report.bytes) where
+    after_move : IsClosing part t k d → c ≡ moved k.cursor.cycle (closes_whole k) d → IsMoved part t k c
+    after_move w put =
+        let x : Closed = record { cycle = k.cursor.cycle; whole = closes_whole k; report = d.report } in
+        let closed : c.closed ≡ d.closed ++ x ∷ [] = ap (λ (y : Content). y.closed) put in
+        record {
+          phase = is;
+          ends = w.ends;
+          counted = closed_up part 1 k.cursor.cycle d.closed w.earlier;
+          empty = ap (λ (y : Content). y.report) put;
+          told = told;
+          told_is = w.told_is ∙ ap (λ (l : Text). closed_text d.closed ++ l) (take_all k.told d.report (omega (arith, told, long d.report k.report w.report))) ∙ sym (ap closed_text closed ∙ closed_text_on d.closed x);
+          earlier = subst (λ (l : List Closed). AreClosed part 1 l (k.cursor.cycle + 1)) (sym closed) (closed_on part 1 k.cursor.cycle d.closed x w.earlier refl (λ whole. whole_report w (closes_by k.whole k.left whole)));
+        }
 
-  not_shut : IsClosing part t k d → is_closed d.closed k.cursor.cycle ≡ false
-  not_shut w = not_closed part 1 k.cursor.cycle k.cursor.cycle d.closed w.earlier (omega arith)
+    pub move_done : Stands part t k d → IsMoveDone k.cursor.cycle (closes_whole k) d c → IsMoved part t k c
+    move_done stands done = both (closing_of is stands) done
+      where
+        both : IsClosing part t k d ⊎ IsMoved part t k d → IsMoveDone k.cursor.cycle (closes_whole k) d c → IsMoved part t k c
+        both (inl w) (inl was) = absurd (cc (not_shut w, was.0))
+        both (inl w) (inr now) = after_move w now.1
+        both (inr w) (inl was) = subst (IsMoved part t k) (sym was.1) w
+        both (inr w) (inr now) = absurd (cc (shut_closing w, now.0))
 
-  stays_moved : IsMoved part t k d → c ≡ d → IsMoved part t k c
-  stays_moved w same = subst (λ (x : Content). IsMoved part t k x) (sym same) w
-
-  pub move_done : IsMoveDone k.cursor.cycle (closes_whole k) d c → IsMoved part t k c
-  move_done done = both (closing_of part t k d is h.stands) done
-    where
-      both : IsClosing part t k d ⊎ IsMoved part t k d → IsMoveDone k.cursor.cycle (closes_whole k) d c → IsMoved part t k c
-      both (inl w) (inl was) = absurd (cc (not_shut w, was.0))
-      both (inl w) (inr now) = after_move w now.1
-      both (inr w) (inl was) = stays_moved w was.1
-      both (inr w) (inr now) = absurd (cc (shut_closing part t k d w, now.0))
-
-  moved_holds : IsMoved part t k c → c.checkpoint ≡ d.checkpoint → Holds part t k c
-  moved_holds w same = record { at = moved_at k d c same h.at; stands = inr (inr w) }
-
-  pub move_holds : (shown : Content) → d ≡ shown → MayMoveAt k.cursor.cycle (closes_whole k) shown d c → Holds part t k c
-  move_holds shown same (inl stayed) = subst (λ (x : Content). Holds part t k x) (sym stayed) h
-  move_holds shown same (inr now) = moved_holds (move_done (inr (ap (λ (x : Content). is_closed x.closed k.cursor.cycle) same ∙ now.0, now.1))) (ap (λ (x : Content). x.checkpoint) now.1)
+    pub move_holds : {shown : Content} → Holds part t k d → d ≡ shown → MayMoveAt k.cursor.cycle (closes_whole k) shown d c → Holds part t k c
+    move_holds h same (inl stayed) = subst (Holds part t k) (sym stayed) h
+    move_holds h same (inr now) = record {
+      at = moved_at (ap (λ (x : Content). x.checkpoint) now.1) h.at;
+      stands = inr (inr (move_done h.stands (inr (ap (λ (x : Content). is_closed x.closed k.cursor.cycle) same ∙ now.0, now.1))));
+    }
 
 -- the next cycle begins at the cursor that ended the last one
-pub next_stands : (part : Part) (t : Text) (k next : Checkpoint) (c : Content) → IsMoved part t k c → next.phase ≡ Open → next.report ≡ no_report → next.told ≡ 0 → next.left ≡ [] → next.cursor ≡ k.cursor → Stands part t next c
-next_stands part t k next c w phase report told left cursor = inl (record {
-  phase = phase;
-  first = k.cursor;
-  runs = [];
-  starts = ap place_in w.ends;
-  chain = subst (λ (l : List Left). Led part k.cursor [] l next.cursor) (sym left) cursor;
-  text = [];
-  report = report;
-  begins = (c.report, refl);
-  is_whole = λ is. refl;
-  told = omega (arith, told);
-  told_is = w.told_is ∙ sym (ap (λ (l : Text). closed_text c.closed ++ l) (take_nothing next.told) ∙ append-nil (closed_text c.closed));
-  earlier = subst (λ (x : Cursor). AreClosed part 1 c.closed (begun x).cycle) (sym cursor) (subst (λ (m : ℕ). AreClosed part 1 c.closed m) (sym (next_cycle_begun k.cursor w.ends)) w.earlier);
-})
+pub next_stands : {part : Part} {t : Text} {k next : Checkpoint} {c : Content} → next ≡ begun_anew k → IsMoved part t k c → Stands part t next c
+next_stands {part} {t} {k} {next} {c} is w =
+    subst (λ (x : Checkpoint). Stands part t x c) (sym is)
+    (fresh_stands k (ap place_in w.ends) w.told_is (subst (λ (m : ℕ). AreClosed part 1 c.closed m) (sym (next_cycle_begun k.cursor w.ends)) w.earlier))
 
 -- ---- leaving a branch out
 
 -- the checkpoint that names it
-pub left_stands : (part : Part) (t : Text) (k : Checkpoint) (branch : Place) (c : Content) → k.phase ≡ Open → Stands part t k c → Stands part t (with_left branch k) c
-left_stands part t k branch c is stands =
-    let o = open_of part t k c is stands in
-    inl (record {
-      phase = o.phase;
-      first = o.first;
-      runs = o.runs;
-      starts = o.starts;
-      chain = leave_on part o.first k.cursor o.runs k.left (left_at branch k) o.chain refl;
-      text = o.text;
-      report = o.report;
-      begins = o.begins;
-      is_whole = o.is_whole;
-      told = o.told;
-      told_is = o.told_is;
-      earlier = o.earlier;
-    })
+pub left_stands : {part : Part} {t : Text} {k next : Checkpoint} {c : Content} (branch : Place) → next ≡ with_left branch k → k.phase ≡ Open → Stands part t k c → Stands part t next c
+left_stands {part} {t} {k} {c = c} branch same is stands =
+    let o = open_of is stands in
+    let chain = leave_on part o.first k.cursor o.runs k.left (left_at branch k) o.chain refl in
+    subst (λ (x : Checkpoint). Stands part t x c) (sym same)
+    (inl (record { phase = o.phase; first = o.first; runs = o.runs; starts = o.starts; chain = chain; text = o.text; report = o.report; begins = o.begins; is_whole = o.is_whole; told = o.told; told_is = o.told_is; earlier = o.earlier }))
 
 -- ---- saying
 
@@ -408,78 +390,29 @@ more_of : (report : Text) (told bytes : ℕ) → bytes ≡ length report → tol
 more_of report told bytes long le =
     ap (λ (l : Text). take told report ++ l) (take_all (bytes - told) (drop told report) (omega (arith, length-drop told report, long, le))) ∙ take-append-drop told report ∙ sym (take_all bytes report (omega (arith, long)))
 
-module _ (part : Part) (t : Text) (k : Checkpoint) (c : Content) (some : k.told ≡ k.report.bytes → ⊥) (exact : k.phase ≡ Open → length c.report ≡ k.report.bytes) where
-  told_now : (text : Text) → k.report.bytes ≡ length text → k.told ≤ k.report.bytes → c.report ≡ text → t ≡ closed_text c.closed ++ take k.told text → t ++ unsaid k c ≡ closed_text c.closed ++ take k.report.bytes text
-  told_now text counted le same is =
-      ap (λ (l : Text). l ++ unsaid k c) is
-      ∙ append_assoc (closed_text c.closed) (take k.told text) (unsaid k c)
-      ∙ ap (λ (l : Text). closed_text c.closed ++ l) (ap (λ (l : Text). take k.told text ++ take (k.report.bytes - k.told) (drop k.told l)) same ∙ more_of text k.told k.report.bytes counted le)
+told_now : (t : Text) (k : Checkpoint) (c : Content) (text : Text) → k.report.bytes ≡ length text → k.told ≤ k.report.bytes → c.report ≡ text → t ≡ closed_text c.closed ++ take k.told text → t ++ unsaid k c ≡ closed_text c.closed ++ take k.report.bytes text
+told_now t k c text counted le same is =
+    ap (λ (l : Text). l ++ unsaid k c) is
+    ∙ append_assoc (closed_text c.closed) (take k.told text) (unsaid k c)
+    ∙ ap (λ (l : Text). closed_text c.closed ++ l) (ap (λ (l : Text). take k.told text ++ take (k.report.bytes - k.told) (drop k.told l)) same ∙ more_of text k.told k.report.bytes counted le)
 
-  pub said_stands : Stands part t k c → Stands part (t ++ unsaid k c) (with_all_told k) c
-  said_stands (inl o) = inl (record {
-    phase = o.phase;
-    first = o.first;
-    runs = o.runs;
-    starts = o.starts;
-    chain = o.chain;
-    text = o.text;
-    report = o.report;
-    begins = o.begins;
-    is_whole = o.is_whole;
-    told = omega arith;
-    told_is = told_now o.text (long o.text k.report o.report) o.told (exact_text part t k c o (exact o.phase)) o.told_is;
-    earlier = o.earlier;
-  })
-  said_stands (inr (inl w)) = inr (inl (record {
-    phase = w.phase;
-    first = w.first;
-    runs = w.runs;
-    starts = w.starts;
-    chain = w.chain;
-    ends = w.ends;
-    report = w.report;
-    is_whole = w.is_whole;
-    told = omega arith;
-    told_is = told_now c.report (long c.report k.report w.report) w.told refl w.told_is;
-    earlier = w.earlier;
-  }))
+module _ {part : Part} {t : Text} {k : Checkpoint} {c : Content} (some : k.told ≡ k.report.bytes → ⊥) (exact : k.phase ≡ Open → length c.report ≡ k.report.bytes) where
+  said_stands : Stands part t k c → Stands part (t ++ unsaid k c) (with_all_told k) c
+  said_stands (inl o) =
+      let told_is = told_now t k c o.text (long o.text k.report o.report) o.told (exact_text o (exact o.phase)) o.told_is in
+      inl (record { phase = o.phase; first = o.first; runs = o.runs; starts = o.starts; chain = o.chain; text = o.text; report = o.report; begins = o.begins; is_whole = o.is_whole; told = omega arith; told_is = told_is; earlier = o.earlier })
+  said_stands (inr (inl w)) =
+      let told_is = told_now t k c c.report (long c.report k.report w.report) w.told refl w.told_is in
+      inr (inl (record { phase = w.phase; first = w.first; runs = w.runs; starts = w.starts; chain = w.chain; ends = w.ends; report = w.report; is_whole = w.is_whole; told = omega arith; told_is = told_is; earlier = w.earlier }))
   said_stands (inr (inr w)) = absurd (some w.told)
 
--- ---- the root
-
--- what a checkpoint says of the root is no matter here
-pub root_stands : (part : Part) (t : Text) (k : Checkpoint) (root : RootIdentity) (names : TopNames) (c : Content) → Stands part t k c → Stands part t (record k { root = root; names = names }) c
-root_stands part t k root names c (inl o) = inl (record { phase = o.phase; first = o.first; runs = o.runs; starts = o.starts; chain = o.chain; text = o.text; report = o.report; begins = o.begins; is_whole = o.is_whole; told = o.told; told_is = o.told_is; earlier = o.earlier })
-root_stands part t k root names c (inr (inl w)) = inr (inl (record { phase = w.phase; first = w.first; runs = w.runs; starts = w.starts; chain = w.chain; ends = w.ends; report = w.report; is_whole = w.is_whole; told = w.told; told_is = w.told_is; earlier = w.earlier }))
-root_stands part t k root names c (inr (inr w)) = inr (inr (record { phase = w.phase; ends = w.ends; counted = w.counted; empty = w.empty; told = w.told; told_is = w.told_is; earlier = w.earlier }))
+pub said_by : {F : Type 0} {seen : F → Content} {may_leave : F → Outcomes} {part : Part} {t : Text} {k next : Checkpoint} {f : F} → next ≡ with_all_told k → (k.told ≡ k.report.bytes → ⊥) → IsReady seen may_leave part t k f → Stands part (t ++ unsaid k (seen f)) next (seen f)
+said_by {seen = seen} {part = part} {t} {k} {f = f} is some r = subst (λ (x : Checkpoint). Stands part (t ++ unsaid k (seen f)) x (seen f)) (sym is) (said_stands some r.exact r.stands)
 
 -- ---- a report is closed
 
-module _ {F : Type 0} {seen : F → Content} {may_leave : F → Outcomes} {moment : F → ℕ} {left_since : F → ℕ → Outcomes}
-    (part : Part) (t : Text) (k : Checkpoint) (f g : F) (only_now : (x : F) (c : Content) → left_since x (moment x) c → may_leave x c)
-    (is : k.phase ≡ Closing) (told : k.told ≡ k.report.bytes) (r : IsReady seen may_leave part t k f) (p : Passes may_leave moment left_since (MayMoveAt k.cursor.cycle (closes_whole k) (seen f)) f g) where
-  here : (c : Content) → may_leave f c → IsSoundAt part t c
-  here c n = sound_holds part t k c (ready_holds part t k f r c n)
-
-  first : (d c : Content) → may_leave f d → MayMoveAt k.cursor.cycle (closes_whole k) (seen f) d c → IsSoundAt part t c
-  first d c n a = sound_holds part t k c (move_holds part t k d c is told (ready_holds part t k f r d n) (seen f) (r.only d n) a)
-
-  pub moving : LeavesOnly moment left_since f g (IsSoundAt part t)
-  moving = leaves (MayMoveAt k.cursor.cycle (closes_whole k) (seen f)) (IsSoundAt part t) f g (only_now f) here first p
-
-  pub is_moved : IsMoveDone k.cursor.cycle (closes_whole k) (seen f) (seen g) → IsMoved part t k (seen g)
-  is_moved done = move_done part t k (seen f) (seen g) is told (record { at = r.at; stands = r.stands }) done
-
-  pub closing : (next : Checkpoint) (h : F) → Only (seen g) (may_leave g) → Stands part t next (seen g) → Passes may_leave moment left_since (MayCheckpoint next) g h → LeavesOnly moment left_since f h (IsSoundAt part t)
-  closing next h only stands q =
-      two_calls (MayMoveAt k.cursor.cycle (closes_whole k) (seen f)) (MayCheckpoint next) (IsSoundAt part t) f g h only_now here first p
-      (λ d c n mark.
-      let from = p.now d n in
-      sound_mark part t next d c (first from.0 d from.1 from.2) (subst (λ (x : Content). Stands part t next x) (sym (only d n)) stands) mark)
-      q
-
-pub one_more : (part : Part) (t : Text) (k next : Checkpoint) (a b c : Content) → IsMoveDone k.cursor.cycle (closes_whole k) a b → IsMoved part t k b → IsCheckpointPut next b c → IsOneMore part k.cursor.cycle a.closed c.closed
-one_more part t k next a b c done w put = record {
+pub one_more : {part : Part} {t : Text} {k next : Checkpoint} {a b c : Content} → IsMoveDone k.cursor.cycle (closes_whole k) a b → IsMoved part t k b → IsCheckpointPut next b c → IsOneMore part k.cursor.cycle a.closed c.closed
+one_more {part} {k = k} {a = a} {b} {c} done w put = record {
   now = subst (λ (l : List Closed). AreClosed part 1 l (k.cursor.cycle + 1)) (sym same) w.earlier;
   before = by done;
 }

@@ -7,4 +7,4 @@ pub returns-then-is_stopped-clause-same : goal.returns-then-is_stopped-clause-sa
 returns-then-is_stopped-clause-same g c = λ told n.
     let end = c.args.plan.now.end in
     let old = g.C.Clock.answers c.args.clock.now in
-    subst (λ (a : List ℕ). BeginsInTime end old a n n) (sym (c.is_stopped.ensures told)) (none_begun end old n)
+    subst (λ (a : List ℕ). BeginsInTime end old a n n) (sym (c.is_stopped.ensures told)) none_begun

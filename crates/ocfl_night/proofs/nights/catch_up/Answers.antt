@@ -1,48 +1,26 @@
 use Rattle.std.proofs.Common.{◌∙◌, ap, sym}
 use Rattle.ocfl_state.specs.Checkpoint.{Checkpoint}
-use Rattle.ocfl_night.specs.Sound.{IsFound, IsHeard, IsHeardSince}
 use Rattle.ocfl_night.proofs.Moments.{joined_moments, leaves_weaker}
-use Rattle.ocfl_night.proofs.Heard.{found_heard, grew_none}
+use Rattle.ocfl_night.proofs.Heard.{found_heard, grew_none, since_found}
 use Rattle.ocfl_night.proofs.nights.catch_up.Goals as goal
 
 pub returns-in_err-opened-clause-heard : goal.returns-in_err-opened-clause-heard
-returns-in_err-opened-clause-heard g c = λ told part kept.
-    let f = c.args.folder.now in
-    let may = g.S.StateFolder.may_leave f in
-    let s = g.W.Write.contents c.args.out.now in
-    leaves_weaker (IsFound part may) (IsHeardSince part may s s) f c.open.new.folder (λ x h. found_heard part may s s x (grew_none s) h) (c.open.ensures.any_moment told part kept)
+returns-in_err-opened-clause-heard g c = λ told part kept. leaves_weaker (λ x h. found_heard (grew_none _) h) (c.open.ensures.any_moment told part kept)
 
 pub returns-in_err-speak-clause-heard : goal.returns-in_err-speak-clause-heard
 returns-in_err-speak-clause-heard g c = λ told part kept.
-    let f = c.args.folder.now in
-    let a = c.open.new.folder in
-    let b = c.speak.new.folder in
-    let may = g.S.StateFolder.may_leave f in
-    let s0 = g.W.Write.contents c.args.out.now in
-    let s1 = g.W.Write.contents c.speak.new.out in
     let r = c.in_ok-opened.ensures.ready told part kept in
-    joined_moments (IsHeardSince part may s0 s1) f a b
-    (leaves_weaker (IsFound part may) (IsHeardSince part may s0 s1) f a (λ x h. found_heard part may s0 s1 x c.speak.ensures.grew h) (c.open.ensures.any_moment told part kept))
-    (leaves_weaker (IsHeard part r.t s0 s1) (IsHeardSince part may s0 s1) a b (λ x h. record { from = r.from; was = r.was; t = r.t; before = r.before; heard = h }) (c.speak.ensures.heard told part r.t r.ready))
+    joined_moments (leaves_weaker (λ x h. found_heard c.speak.ensures.grew h) (c.open.ensures.any_moment told part kept)) (leaves_weaker (λ x h. since_found r h) (c.speak.ensures.heard told part r.t r.ready))
 
 pub returns-clause-heard : goal.returns-clause-heard
 returns-clause-heard g c = λ told part kept.
-    let f = c.args.folder.now in
-    let a = c.open.new.folder in
-    let b = c.speak.new.folder in
-    let may = g.S.StateFolder.may_leave f in
-    let s0 = g.W.Write.contents c.args.out.now in
-    let s1 = g.W.Write.contents c.speak.new.out in
     let r = c.in_ok-opened.ensures.ready told part kept in
-    joined_moments (IsHeardSince part may s0 s1) f a b
-    (leaves_weaker (IsFound part may) (IsHeardSince part may s0 s1) f a (λ x h. found_heard part may s0 s1 x c.speak.ensures.grew h) (c.open.ensures.any_moment told part kept))
-    (leaves_weaker (IsHeard part r.t s0 s1) (IsHeardSince part may s0 s1) a b (λ x h. record { from = r.from; was = r.was; t = r.t; before = r.before; heard = h }) (c.speak.ensures.heard told part r.t r.ready))
+    joined_moments (leaves_weaker (λ x h. found_heard c.speak.ensures.grew h) (c.open.ensures.any_moment told part kept)) (leaves_weaker (λ x h. since_found r h) (c.speak.ensures.heard told part r.t r.ready))
 
 pub returns-clause-ready : goal.returns-clause-ready
 returns-clause-ready g c = λ told part kept.
     let r = c.in_ok-opened.ensures.ready told part kept in
-    let h = c.in_ok-speak.ensures.ready told part r.t r.ready in
-    record { from = r.from; was = r.was; t = r.t; before = r.before; heard = h }
+    record { from = r.from; was = r.was; t = r.t; before = r.before; heard = c.in_ok-speak.ensures.ready told part r.t r.ready }
 
 pub returns-clause-all : goal.returns-clause-all
 returns-clause-all g c =

@@ -1,26 +1,17 @@
 use Rattle.std.proofs.Common.{◌≡◌, ◌≤◌, [], ⊎_elim, All, Bool, Global, Vec, length, subst, sym}
 use Rattle.std.specs.Prelude.{IsTrue}
 use Rattle.ocfl_tree.specs.Place.{Place}
-use Rattle.ocfl_night.specs.{Leaving.{has_end}, Site.{part_at}, Sound.{IsSound, IsHeardSince}}
+use Rattle.ocfl_night.specs.Leaving.{has_end}
 use Rattle.ocfl_night.proofs.{Moments.{leaves_weaker}, Heard.{none_ok, on_ok, since_sound}}
 use Rattle.ocfl_night.proofs.nights.night.Goals as goal
 
 pub returns-clause-any_moment : goal.returns-clause-any_moment
-returns-clause-any_moment g c = λ told tells root over short kept.
-    let part = part_at c.args.site.now.ends in
-    let may = g.S.StateFolder.may_leave c.args.folder.now in
-    let s0 = g.W.Write.contents c.args.out.now in
-    let s1 = g.W.Write.contents c.go_through-through.new.out in
-    leaves_weaker (IsHeardSince part may s0 s1) (IsSound part) c.args.folder.now c.go_through-through.new.folder (since_sound part may s0 s1) (c.go_through-through.ensures.heard told tells root over short kept)
+returns-clause-any_moment g c = λ told tells root over short kept. leaves_weaker (λ x h. since_sound h) (c.go_through-through.ensures.heard told tells root over short kept)
 
 pub returns-clause-kept : goal.returns-clause-kept
 returns-clause-kept g c = λ told tells root over short kept d left.
-    let part = part_at c.args.site.now.ends in
-    let may = g.S.StateFolder.may_leave c.args.folder.now in
-    let s0 = g.W.Write.contents c.args.out.now in
-    let s1 = g.W.Write.contents c.go_through-through.new.out in
     let heard = c.go_through-through.ensures.heard told tells root over short kept in
-    since_sound part may s0 s1 d (heard.each d (g.met.S.StateFolder.counts_now told c.go_through-through.new.folder (g.S.StateFolder.moment c.args.folder.now) d heard.later left))
+    since_sound (heard.each d (g.met.S.StateFolder.counts_now told c.go_through-through.new.folder (g.S.StateFolder.moment c.args.folder.now) d heard.later left))
 
 pub returns-clause-ended : goal.returns-clause-ended
 returns-clause-ended g c = λ told tells root over short kept cycle is. c.go_through-through.ensures.ended told tells root over short kept cycle (c.account.ensures.ended cycle is)

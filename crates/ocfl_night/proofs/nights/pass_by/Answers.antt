@@ -1,19 +1,16 @@
 use Rattle.std.proofs.Common.{◌∙◌, ap, sym}
 use Rattle.ocfl_night.specs.Leaving.{checkpoint_by, pause_by}
-use Rattle.ocfl_night.proofs.TakingUp.{ready_moments}
+use Rattle.ocfl_night.proofs.{Moments.{unmoved}, Sound.{ready_sound}}
 use Rattle.ocfl_night.proofs.nights.pass_by.Goals as goal
 
 pub returns-then-ne-clause-any_moment : goal.returns-then-ne-clause-any_moment
-returns-then-ne-clause-any_moment g c = λ told part t r.
-    ready_moments g.S.StateFolder.seen g.S.StateFolder.may_leave g.S.StateFolder.moment g.S.StateFolder.left_since (g.met.S.StateFolder.only_now told) part t c.args.checkpoint c.args.folder.now r
+returns-then-ne-clause-any_moment g c = λ told part t r. unmoved (g.met.S.StateFolder.only_now told) (ready_sound r)
 
 pub returns-in_err-remedy-clause-any_moment : goal.returns-in_err-remedy-clause-any_moment
-returns-in_err-remedy-clause-any_moment g c = λ told part t r.
-    ready_moments g.S.StateFolder.seen g.S.StateFolder.may_leave g.S.StateFolder.moment g.S.StateFolder.left_since (g.met.S.StateFolder.only_now told) part t c.args.checkpoint c.args.folder.now r
+returns-in_err-remedy-clause-any_moment g c = λ told part t r. unmoved (g.met.S.StateFolder.only_now told) (ready_sound r)
 
 pub returns-in-TryAgain-clause-any_moment : goal.returns-in-TryAgain-clause-any_moment
-returns-in-TryAgain-clause-any_moment g c = λ told part t r.
-    ready_moments g.S.StateFolder.seen g.S.StateFolder.may_leave g.S.StateFolder.moment g.S.StateFolder.left_since (g.met.S.StateFolder.only_now told) part t c.args.checkpoint c.args.folder.now r
+returns-in-TryAgain-clause-any_moment g c = λ told part t r. unmoved (g.met.S.StateFolder.only_now told) (ready_sound r)
 
 pub returns-in-TryAgain-clause-checkpoint : goal.returns-in-TryAgain-clause-checkpoint
 returns-in-TryAgain-clause-checkpoint g c = λ there. ap (checkpoint_by c.args.checkpoint) (sym c.in-TryAgain.is ∙ c.in_ok-remedy.ensures.is)
@@ -22,8 +19,7 @@ pub returns-in-TryAgain-clause-pause : goal.returns-in-TryAgain-clause-pause
 returns-in-TryAgain-clause-pause g c = λ there. ap (pause_by c.args.place) (sym c.in-TryAgain.is ∙ c.in_ok-remedy.ensures.is)
 
 pub returns-in-Halt-clause-any_moment : goal.returns-in-Halt-clause-any_moment
-returns-in-Halt-clause-any_moment g c = λ told part t r.
-    ready_moments g.S.StateFolder.seen g.S.StateFolder.may_leave g.S.StateFolder.moment g.S.StateFolder.left_since (g.met.S.StateFolder.only_now told) part t c.args.checkpoint c.args.folder.now r
+returns-in-Halt-clause-any_moment g c = λ told part t r. unmoved (g.met.S.StateFolder.only_now told) (ready_sound r)
 
 pub returns-in-Halt-clause-checkpoint : goal.returns-in-Halt-clause-checkpoint
 returns-in-Halt-clause-checkpoint g c = λ there. ap (checkpoint_by c.args.checkpoint) (sym c.in-Halt.is ∙ c.in_ok-remedy.ensures.is)

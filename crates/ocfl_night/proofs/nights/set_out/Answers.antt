@@ -1,40 +1,37 @@
-use Rattle.std.proofs.Common.{◌∙◌, inl, inr, refl}
-use Rattle.ocfl_state.specs.Crash.{Same}
-use Rattle.ocfl_night.proofs.{Moments.{stayed}, Foreigners.{other_by}}
+use Rattle.std.proofs.Common.{◌∙◌, inl, inr}
+use Rattle.ocfl_night.proofs.{Moments.{untouched}, Foreigners.{other_by}}
 use Rattle.ocfl_night.proofs.Heard.{begun_heard, grew_none}
 use Rattle.ocfl_night.proofs.nights.set_out.Goals as goal
 
 pub returns-in_err-part-clause-heard : goal.returns-in_err-part-clause-heard
-returns-in_err-part-clause-heard g c = λ told part kept.
-    begun_heard part (g.W.Write.contents c.args.out.now) c.args.folder.now (g.met.S.StateFolder.only_now told) kept
+returns-in_err-part-clause-heard g c = λ told part kept. begun_heard (g.met.S.StateFolder.only_now told) kept
 
 pub returns-in_err-identity-clause-heard : goal.returns-in_err-identity-clause-heard
-returns-in_err-identity-clause-heard g c = λ told part kept.
-    begun_heard part (g.W.Write.contents c.args.out.now) c.args.folder.now (g.met.S.StateFolder.only_now told) kept
+returns-in_err-identity-clause-heard g c = λ told part kept. begun_heard (g.met.S.StateFolder.only_now told) kept
 
 pub returns-in_err-part-clause-grew : goal.returns-in_err-part-clause-grew
-returns-in_err-part-clause-grew g c = grew_none (g.W.Write.contents c.args.out.now)
+returns-in_err-part-clause-grew g c = grew_none _
 
 pub returns-in_err-identity-clause-grew : goal.returns-in_err-identity-clause-grew
-returns-in_err-identity-clause-grew g c = grew_none (g.W.Write.contents c.args.out.now)
+returns-in_err-identity-clause-grew g c = grew_none _
 
 pub returns-in_err-part-clause-another : goal.returns-in_err-part-clause-another
-returns-in_err-part-clause-another g c = λ told k at others. record { same = refl; crash = stayed Same (λ c. refl) c.args.folder.now }
+returns-in_err-part-clause-another g c = λ told k at others. untouched
 
 pub returns-in_err-part-clause-other_root : goal.returns-in_err-part-clause-other_root
-returns-in_err-part-clause-other_root g c = λ told tells root over k at other force. record { same = refl; crash = stayed Same (λ c. refl) c.args.folder.now }
+returns-in_err-part-clause-other_root g c = λ told tells root over k at other force. untouched
 
 pub returns-in_err-part-clause-undeclared : goal.returns-in_err-part-clause-undeclared
-returns-in_err-part-clause-undeclared g c = λ told tells root over none. record { same = refl; crash = stayed Same (λ c. refl) c.args.folder.now }
+returns-in_err-part-clause-undeclared g c = λ told tells root over none. untouched
 
 pub returns-in_err-identity-clause-another : goal.returns-in_err-identity-clause-another
-returns-in_err-identity-clause-another g c = λ told k at others. record { same = refl; crash = stayed Same (λ c. refl) c.args.folder.now }
+returns-in_err-identity-clause-another g c = λ told k at others. untouched
 
 pub returns-in_err-identity-clause-other_root : goal.returns-in_err-identity-clause-other_root
-returns-in_err-identity-clause-other_root g c = λ told tells root over k at other force. record { same = refl; crash = stayed Same (λ c. refl) c.args.folder.now }
+returns-in_err-identity-clause-other_root g c = λ told tells root over k at other force. untouched
 
 pub returns-in_err-identity-clause-undeclared : goal.returns-in_err-identity-clause-undeclared
-returns-in_err-identity-clause-undeclared g c = λ told tells root over none. record { same = refl; crash = stayed Same (λ c. refl) c.args.folder.now }
+returns-in_err-identity-clause-undeclared g c = λ told tells root over none. untouched
 
 pub returns-in_err-checkpoint-clause-another : goal.returns-in_err-checkpoint-clause-another
 returns-in_err-checkpoint-clause-another g c = λ told k at others. c.catch_up.ensures.foreign told k at (inl others)

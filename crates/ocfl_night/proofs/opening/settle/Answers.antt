@@ -1,35 +1,25 @@
-use Rattle.std.proofs.{Common.{◌∙◌, ℕ, ap, refl, sym, subst, take}, lemmas.Result.{IfOk-weaker}}
-use Rattle.ocfl_state.specs.{Content.{Content, with_report, is_closed}, Crash.{Passes}}
-use Rattle.ocfl_night.specs.Steps.{IsChanged, KeepsFront}
-use Rattle.ocfl_night.proofs.{Lost.{cut_changed}, TakingUp.{cut_moments, cut_ready}}
+use Rattle.std.proofs.Common.{◌∙◌, ℕ, ap, arith, refl, sym, subst, take}
+use Rattle.std.proofs.lemmas.Result.{IfOk-weaker}
+use Rattle.ocfl_state.specs.Content.{Content, with_report, is_closed}
+use Rattle.ocfl_night.specs.Steps.{IsChanged}
+use Rattle.ocfl_night.proofs.{Lost.{cut_changed}, Moments.{leaves}}
+use Rattle.ocfl_night.proofs.{Sound.{settled_sound, torn_sound}, TakingUp.{cut_ready}}
 use Rattle.ocfl_night.proofs.opening.settle.Goals as goal
 
 pub returns-in_err-trim-in-Open-clause-any_moment : goal.returns-in_err-trim-in-Open-clause-any_moment
 returns-in_err-trim-in-Open-clause-any_moment g c = λ told part t r.
-    let f = c.args.folder.now in
-    let h = c.trim.new.folder in
-    let may = g.S.StateFolder.may_leave in
-    let moment = g.S.StateFolder.moment in
-    let left = g.S.StateFolder.left_since in
-    let crash = subst (λ (n : ℕ). Passes may moment left (KeepsFront n) f h) c.bytes_of.ensures (c.trim.ensures.crash told) in
-    cut_moments g.S.StateFolder.seen may moment left (g.met.S.StateFolder.only_now told) part t c.args.checkpoint.now f h (sym c.phase_of.ensures ∙ c.in-Open.is) r crash
+    leaves (g.met.S.StateFolder.only_now told) (settled_sound r) (torn_sound (sym c.phase_of.ensures ∙ c.in-Open.is) (omega arith) r) (c.trim.ensures.crash told)
 
 pub returns-in_ok-trim-in-Open-clause-any_moment : goal.returns-in_ok-trim-in-Open-clause-any_moment
 returns-in_ok-trim-in-Open-clause-any_moment g c = λ told part t r.
-    let f = c.args.folder.now in
-    let h = c.trim.new.folder in
-    let may = g.S.StateFolder.may_leave in
-    let moment = g.S.StateFolder.moment in
-    let left = g.S.StateFolder.left_since in
-    let crash = subst (λ (n : ℕ). Passes may moment left (KeepsFront n) f h) c.bytes_of.ensures (c.trim.ensures.crash told) in
-    cut_moments g.S.StateFolder.seen may moment left (g.met.S.StateFolder.only_now told) part t c.args.checkpoint.now f h (sym c.phase_of.ensures ∙ c.in-Open.is) r crash
+    leaves (g.met.S.StateFolder.only_now told) (settled_sound r) (torn_sound (sym c.phase_of.ensures ∙ c.in-Open.is) (omega arith) r) (c.trim.ensures.crash told)
 
 pub returns-in_ok-trim-in-Open-clause-ready : goal.returns-in_ok-trim-in-Open-clause-ready
 returns-in_ok-trim-in-Open-clause-ready g c = λ told part t r.
     let s = g.S.StateFolder.seen in
     let f = c.args.folder.now in
     let cut = c.in_ok-trim-in-Open.ensures.cut told ∙ ap (λ (n : ℕ). with_report (take n (s f).report) (s f)) c.bytes_of.ensures in
-    cut_ready s g.S.StateFolder.may_leave g.S.StateFolder.moment g.S.StateFolder.left_since (g.met.S.StateFolder.only_now told) part t c.args.checkpoint.now f c.trim.new.folder (sym c.phase_of.ensures ∙ c.in-Open.is) r cut (c.in_ok-trim-in-Open.ensures.only told)
+    cut_ready (sym c.phase_of.ensures ∙ c.in-Open.is) r cut (c.in_ok-trim-in-Open.ensures.only told)
 
 pub returns-in_ok-trim-in-Open-clause-there : goal.returns-in_ok-trim-in-Open-clause-there
 returns-in_ok-trim-in-Open-clause-there g c = λ told it is.

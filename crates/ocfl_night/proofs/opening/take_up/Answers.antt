@@ -1,9 +1,9 @@
 use Rattle.std.proofs.Common.{◌∙◌, ap, refl, sym, subst}
 use Rattle.ocfl_state.specs.{Content.{Content}, Pieces.{HasTail}}
 use Rattle.ocfl_state.specs.declared.checkpoint_parts.ReportMark.{ReportMark}
-use Rattle.ocfl_night.specs.{Sound.{IsSoundAt}, Steps.{BeginsAs}}
-use Rattle.ocfl_night.proofs.{Lost.{begins_as}, Moments.{joined_moments}}
-use Rattle.ocfl_night.proofs.TakingUp.{ready_unchanged, ready_on}
+use Rattle.ocfl_night.specs.Steps.{BeginsAs}
+use Rattle.ocfl_night.proofs.{Lost.{begins_as}, Moments.{joined_moments, unchanged}}
+use Rattle.ocfl_night.proofs.Sound.{ready_on, ready_sound}
 use Rattle.ocfl_night.proofs.opening.take_up.Goals as goal
 
 pub returns-then-not-branch-clause-ready : goal.returns-then-not-branch-clause-ready
@@ -11,28 +11,20 @@ returns-then-not-branch-clause-ready g c = λ told part t r. (refl, c.in_ok-sett
 
 pub returns-in_err-find_lost-clause-any_moment : goal.returns-in_err-find_lost-clause-any_moment
 returns-in_err-find_lost-clause-any_moment g c = λ told part t r.
-    let a = c.settle.new.folder in
-    let b = c.find_lost.new.folder in
-    joined_moments (IsSoundAt part t) c.args.folder.now a b (c.settle.ensures.any_moment told part t r)
-    (ready_unchanged g.S.StateFolder.seen g.S.StateFolder.may_leave g.S.StateFolder.moment g.S.StateFolder.left_since (g.met.S.StateFolder.only_now told) part t c.args.checkpoint.now a b (c.in_ok-settle.ensures.ready told part t r) (c.find_lost.ensures.crash told))
+    joined_moments (c.settle.ensures.any_moment told part t r) (unchanged (g.met.S.StateFolder.only_now told) (ready_sound (c.in_ok-settle.ensures.ready told part t r)) (c.find_lost.ensures.crash told))
 
 pub returns-clause-any_moment : goal.returns-clause-any_moment
 returns-clause-any_moment g c = λ told part t r.
-    let a = c.settle.new.folder in
-    let b = c.find_lost.new.folder in
-    joined_moments (IsSoundAt part t) c.args.folder.now a b (c.settle.ensures.any_moment told part t r)
-    (ready_unchanged g.S.StateFolder.seen g.S.StateFolder.may_leave g.S.StateFolder.moment g.S.StateFolder.left_since (g.met.S.StateFolder.only_now told) part t c.args.checkpoint.now a b (c.in_ok-settle.ensures.ready told part t r) (c.find_lost.ensures.crash told))
+    joined_moments (c.settle.ensures.any_moment told part t r) (unchanged (g.met.S.StateFolder.only_now told) (ready_sound (c.in_ok-settle.ensures.ready told part t r)) (c.find_lost.ensures.crash told))
 
 pub returns-clause-ready : goal.returns-clause-ready
 returns-clause-ready g c = λ told part t r.
     let s = g.S.StateFolder.seen in
-    let k = c.args.checkpoint.now in
     let a = c.settle.new.folder in
-    let b = c.find_lost.new.folder in
     let ready = c.in_ok-settle.ensures.ready told part t r in
-    let there = begins_as part t k (s a) ready.stands (c.in_ok-settle.ensures.there told c.if-not-branch.false) in (
+    let there = begins_as part t c.args.checkpoint.now (s a) ready.stands (c.in_ok-settle.ensures.there told c.if-not-branch.false) in (
       c.in_ok-find_lost.ensures.kept told (subst (λ (m : ReportMark). BeginsAs m (s a).report) (sym c.report_of.ensures) there),
-      ready_on s g.S.StateFolder.may_leave g.S.StateFolder.moment g.S.StateFolder.left_since (g.met.S.StateFolder.only_now told) part t k a b ready (c.find_lost.ensures.seen told) (c.find_lost.ensures.crash told),
+      ready_on ready (c.find_lost.ensures.seen told) (c.find_lost.ensures.crash told),
     )
 
 pub returns-clause-lost : goal.returns-clause-lost

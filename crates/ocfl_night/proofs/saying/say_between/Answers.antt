@@ -1,11 +1,11 @@
 use Rattle.std.proofs.{Common.{◌∙◌, subst, take, drop, arith}, KnownBytes.{Appends-trans}}
 use Rattle.std.specs.Io.KnownBytes.{Appends}
-use Rattle.ocfl_state.specs.{Content.{Content}, Crash.{Same}}
-use Rattle.ocfl_night.proofs.{Heard.{grew_on}, Moments.{passed, same_joins}, Pieces.{piece_on}}
+use Rattle.ocfl_state.specs.Content.{Content}
+use Rattle.ocfl_night.proofs.{Heard.{grew_on}, Moments.{same_first}, Pieces.{piece_on}}
 use Rattle.ocfl_night.proofs.saying.say_between.Goals as goal
 
 pub returns-in_err-at-clause-grew : goal.returns-in_err-at-clause-grew
-returns-in_err-at-clause-grew g c = grew_on (g.W.Write.contents c.args.out.now) (g.W.Write.contents c.loop-at.out) (g.W.Write.contents c.say_piece.new.out) c.loop-at.invariant.grew c.say_piece.ensures.grew
+returns-in_err-at-clause-grew g c = grew_on _ _ _ c.loop-at.invariant.grew c.say_piece.ensures.grew
 
 pub loop-at-preserved : goal.loop-at-preserved
 loop-at-preserved g c =
@@ -22,5 +22,5 @@ loop-at-preserved g c =
       said = λ told. subst (Appends s0 s2) (piece_on (g.S.StateFolder.seen c.args.folder.now).report c.args.start at count inv.from) (Appends-trans s0 s1 s2 _ _ (inv.said told) (subst (λ (x : Content). Appends s1 s2 (take count (drop at x.report))) (inv.seen told) (c.in_ok-at.ensures.said told)));
       grew = grew_on s0 s1 s2 inv.grew c.say_piece.ensures.grew;
       seen = λ told. c.say_piece.ensures.seen told ∙ inv.seen told;
-      crash = λ told. passed Same c.args.folder.now c.loop-at.folder c.say_piece.new.folder same_joins (inv.crash told) (c.say_piece.ensures.crash told);
+      crash = λ told. same_first (λ d c same. same) (inv.crash told) (c.say_piece.ensures.crash told);
     }

@@ -1,57 +1,47 @@
-use Rattle.std.proofs.Common.{◌∙◌, ap, sym, subst}
-use Rattle.ocfl_tree.specs.Place.{Text}
-use Rattle.ocfl_audit.specs.Parts.{Part}
-use Rattle.ocfl_cursor.specs.Cursor.{Cursor}
-use Rattle.ocfl_scrub.specs.Starting.{part_of}
+use Rattle.std.proofs.Common.{◌≡◌, ◌∙◌, ap, sym}
+use Rattle.ocfl_tree.specs.StorageRoot.{StorageRoot}
+use Rattle.ocfl_scrub.specs.{Keeping.{IsReady}, Running.{place_in}, Starting.{part_of}}
 use Rattle.ocfl_state.specs.Checkpoint.{Checkpoint}
-use Rattle.ocfl_night.specs.{Chain.{part_after}, Steps.{IsRun}}
-use Rattle.ocfl_night.proofs.{KeptWalks.{walk_from, walk_made}, TakingUp.{ready_moments}}
+use Rattle.ocfl_night.specs.{Chain.{part_after}, Steps.{IsWalkAt}}
+use Rattle.ocfl_night.proofs.{Extending.{run_at}, KeptWalks.{walk_from, walk_made}}
+use Rattle.ocfl_night.proofs.{Moments.{unmoved}, Sound.{ready_sound}}
+use Rattle.ocfl_night.proofs.slicing.slice.Given as given
+use Rattle.ocfl_night.proofs.slicing.slice.Goals.{In_ok-rest}
 use Rattle.ocfl_night.proofs.slicing.slice.Goals as goal
 
+-- the run is made of what comes after the branches that were left out
+rest_is : (g : given.Over) (c : In_ok-rest g) → part_of c.in_ok-rest.rest ≡ part_after (part_of c.args.part.now) c.args.checkpoint.left
+rest_is g c = c.in_ok-rest.ensures ∙ ap (part_after (part_of c.args.part.now)) (c.as_slice.ensures.value ∙ ap (λ (x : Checkpoint). x.left) c.checkpoint.view_is)
+
+-- and goes on with the walk that is kept
+goes_on : (g : given.Over) (c : In_ok-rest g) (root : StorageRoot) → IsWalkAt root (part_of c.args.part.now) c.args.checkpoint c.args.kept.now → IsReady root (part_of c.in_ok-rest.rest) (place_in c.in_ok-cursor.cursor.state) c.args.kept.now
+goes_on g c root walk = walk_from root c.args.kept.now _ (part_of c.args.part.now) c.args.checkpoint _ (rest_is g c) c.in_ok-cursor.ensures walk
+
 pub returns-in_err-cursor-clause-any_moment : goal.returns-in_err-cursor-clause-any_moment
-returns-in_err-cursor-clause-any_moment g c = λ told tells root over short walk t r. ready_moments g.S.StateFolder.seen g.S.StateFolder.may_leave g.S.StateFolder.moment g.S.StateFolder.left_since (g.met.S.StateFolder.only_now told) (part_of c.args.part.now) t c.args.checkpoint c.args.folder.now r
+returns-in_err-cursor-clause-any_moment g c = λ told tells root over short walk t r. unmoved (g.met.S.StateFolder.only_now told) (ready_sound r)
 
 pub returns-in_err-rest-clause-any_moment : goal.returns-in_err-rest-clause-any_moment
-returns-in_err-rest-clause-any_moment g c = λ told tells root over short walk t r. ready_moments g.S.StateFolder.seen g.S.StateFolder.may_leave g.S.StateFolder.moment g.S.StateFolder.left_since (g.met.S.StateFolder.only_now told) (part_of c.args.part.now) t c.args.checkpoint c.args.folder.now r
+returns-in_err-rest-clause-any_moment g c = λ told tells root over short walk t r. unmoved (g.met.S.StateFolder.only_now told) (ready_sound r)
 
 pub returns-clause-any_moment : goal.returns-clause-any_moment
 returns-clause-any_moment g c = λ told tells root over short walk t r.
-    let part = part_of c.args.part.now in
-    let k = c.args.checkpoint in
-    let there = c.in_ok-rest.ensures ∙ ap (part_after part) (c.as_slice.ensures.value ∙ ap (λ (x : Checkpoint). x.left) c.checkpoint.view_is) in
-    let at = walk_from root c.args.kept.now (part_of c.in_ok-rest.rest) part k c.in_ok-cursor.cursor there c.in_ok-cursor.ensures walk in
-    let made = subst (λ (l : Text). IsRun (part_of c.in_ok-rest.rest) c.in_ok-cursor.cursor root l c.in-Ok.made.0) (sym c.deref.ensures.value) (c.in-Ok.ensures.run tells root over short at) in
-    let run = subst (λ (y : Part). IsRun y k.cursor root c.deref.result.now c.in-Ok.made.0) there (subst (λ (x : Cursor). IsRun (part_of c.in_ok-rest.rest) x root c.deref.result.now c.in-Ok.made.0) c.in_ok-cursor.ensures made) in
-    c.keep.ensures.any_moment told part root run t r
+    let at = (goal.at.returns-clause-any_moment g c).In_ok-rest in
+    let made = c.in-Ok.ensures.run tells root over short (goes_on g at root walk) in
+    c.keep.ensures.any_moment told (part_of c.args.part.now) root (run_at (rest_is g at) c.in_ok-cursor.ensures (sym c.deref.ensures.value) made) t r
 
 pub returns-clause-ready : goal.returns-clause-ready
 returns-clause-ready g c = λ told tells root over short walk t r.
-    let part = part_of c.args.part.now in
-    let k = c.args.checkpoint in
-    let there = c.in_ok-rest.ensures ∙ ap (part_after part) (c.as_slice.ensures.value ∙ ap (λ (x : Checkpoint). x.left) c.checkpoint.view_is) in
-    let at = walk_from root c.args.kept.now (part_of c.in_ok-rest.rest) part k c.in_ok-cursor.cursor there c.in_ok-cursor.ensures walk in
-    let made = subst (λ (l : Text). IsRun (part_of c.in_ok-rest.rest) c.in_ok-cursor.cursor root l c.in-Ok.made.0) (sym c.deref.ensures.value) (c.in-Ok.ensures.run tells root over short at) in
-    let run = subst (λ (y : Part). IsRun y k.cursor root c.deref.result.now c.in-Ok.made.0) there (subst (λ (x : Cursor). IsRun (part_of c.in_ok-rest.rest) x root c.deref.result.now c.in-Ok.made.0) c.in_ok-cursor.ensures made) in
-    c.keep.ensures.ready told part root run t r
+    let at = (goal.at.returns-clause-ready g c).In_ok-rest in
+    let made = c.in-Ok.ensures.run tells root over short (goes_on g at root walk) in
+    c.keep.ensures.ready told (part_of c.args.part.now) root (run_at (rest_is g at) c.in_ok-cursor.ensures (sym c.deref.ensures.value) made) t r
 
 pub returns-in-Err-clause-root : goal.returns-in-Err-clause-root
-returns-in-Err-clause-root g c = λ tells root over short walk.
-    let part = part_of c.args.part.now in
-    let k = c.args.checkpoint in
-    let there = c.in_ok-rest.ensures ∙ ap (part_after part) (c.as_slice.ensures.value ∙ ap (λ (x : Checkpoint). x.left) c.checkpoint.view_is) in
-    c.make_run.ensures.root tells root over short (walk_from root c.args.kept.now (part_of c.in_ok-rest.rest) part k c.in_ok-cursor.cursor there c.in_ok-cursor.ensures walk)
+returns-in-Err-clause-root g c = λ tells root over short walk. c.make_run.ensures.root tells root over short (goes_on g (goal.at.returns-in-Err-clause-root g c).In_ok-rest root walk)
 
 pub returns-clause-root : goal.returns-clause-root
-returns-clause-root g c = λ tells root over short walk.
-    let part = part_of c.args.part.now in
-    let k = c.args.checkpoint in
-    let there = c.in_ok-rest.ensures ∙ ap (part_after part) (c.as_slice.ensures.value ∙ ap (λ (x : Checkpoint). x.left) c.checkpoint.view_is) in
-    c.make_run.ensures.root tells root over short (walk_from root c.args.kept.now (part_of c.in_ok-rest.rest) part k c.in_ok-cursor.cursor there c.in_ok-cursor.ensures walk)
+returns-clause-root g c = λ tells root over short walk. c.make_run.ensures.root tells root over short (goes_on g (goal.at.returns-clause-root g c).In_ok-rest root walk)
 
 pub returns-clause-walk : goal.returns-clause-walk
 returns-clause-walk g c = λ tells root over short walk.
-    let part = part_of c.args.part.now in
-    let k = c.args.checkpoint in
-    let there = c.in_ok-rest.ensures ∙ ap (part_after part) (c.as_slice.ensures.value ∙ ap (λ (x : Checkpoint). x.left) c.checkpoint.view_is) in
-    let at = walk_from root c.args.kept.now (part_of c.in_ok-rest.rest) part k c.in_ok-cursor.cursor there c.in_ok-cursor.ensures walk in
-    walk_made root part k c.in-Ok.made.0 c.keep.result c.keep.ensures.next c.make_run.new.kept (part_of c.in_ok-rest.rest) there (c.in-Ok.ensures.walk tells root over short at)
+    let at = (goal.at.returns-clause-walk g c).In_ok-rest in
+    walk_made root (part_of c.args.part.now) c.args.checkpoint c.in-Ok.made.0 c.keep.result c.keep.ensures.next c.make_run.new.kept (part_of c.in_ok-rest.rest) (rest_is g at) (c.in-Ok.ensures.walk tells root over short (goes_on g at root walk))

@@ -7,7 +7,7 @@ use Rattle.ocfl_tree.specs.{Place.{Text, Place}, StorageRoot.{StorageRoot}}
 use Rattle.ocfl_audit.specs.Parts.{Part}
 use Rattle.ocfl_cursor.specs.{Cursor.{Cursor, State, ended}, Moves.{after_run}}
 use Rattle.ocfl_scrub.specs.Running.{place_in, begun, begun_in, state_after}
-use Rattle.ocfl_scrub.specs.{Joining.{PartRun, Ran}, declared.running.RunEnd.{RunEnd}}
+use Rattle.ocfl_scrub.specs.Joining.{PartRun, Ran}
 use Rattle.ocfl_scrub.specs.declared.running.RunStatus.{RunStatus}
 use Rattle.ocfl_scrub.specs.declared.running.RunStatus.TheVariants as status
 use Rattle.ocfl_state.specs.{Content.{Closed, is_closed}, declared.checkpoint_parts.Left.{Left}}

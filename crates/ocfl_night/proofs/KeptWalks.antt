@@ -1,7 +1,7 @@
 -- The walk that is kept from one slice to the next.
 use Rattle.std.proofs.Common.{◌≡◌, Err, List, None, Ok, Option, Result, subst, sym}
 use Rattle.std.specs.Prelude.{IfOk}
-use Rattle.ocfl_tree.specs.{Place.{Place}, StorageRoot.{StorageRoot}}
+use Rattle.ocfl_tree.specs.StorageRoot.{StorageRoot}
 use Rattle.ocfl_audit.specs.Parts.{Part}
 use Rattle.ocfl_cursor.specs.Cursor.{Cursor}
 use Rattle.ocfl_scrub.specs.{Keeping.{IsReady, IsReadyIn}, Running.{place_in}}

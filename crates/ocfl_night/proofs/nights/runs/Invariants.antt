@@ -1,4 +1,4 @@
-use Rattle.std.proofs.Common.{◌≡◌, ℕ}
+use Rattle.std.proofs.Common.{◌≡◌}
 use Rattle.ocfl_tree.specs.{Place.{Text}, Store.{IfTold}}
 use Rattle.ocfl_item.specs.Judging.{HasShortFiles}
 use Rattle.std.specs.Prelude.{IsTrue}

@@ -1,5 +1,5 @@
-use Rattle.std.proofs.Common.{◌≡◌, ◌∙◌, ℕ, ◌+◌, List, sym, subst, true}
-use Rattle.ocfl_night.specs.Clock.{BeginsInTime, is_before}
+use Rattle.std.proofs.Common.{◌∙◌, ℕ, ◌+◌, List, sym, subst}
+use Rattle.ocfl_night.specs.Clock.{BeginsInTime}
 use Rattle.ocfl_night.proofs.Clocks.{asked_in_vain, asked_once}
 use Rattle.ocfl_night.proofs.nights.time_before_end.Goals as goal
 

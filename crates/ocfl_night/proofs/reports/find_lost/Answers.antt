@@ -1,4 +1,4 @@
-use Rattle.std.proofs.Common.{ap, take}
+use Rattle.std.proofs.Common.{take}
 use Rattle.ocfl_state.specs.Pieces.{Carries, HasTail}
 use Rattle.ocfl_night.proofs.Lost.{not_lost, lost_has, whole_has_tail}
 use Rattle.ocfl_night.proofs.reports.find_lost.Goals as goal

@@ -80,25 +80,6 @@ fn flush<W: Write>(out: &mut W) -> Result<(), Stop>
     }
 }
 
-/// Says the report's bytes from one offset to another, and flushes the output.
-fn say<S: StateFolder, W: Write>(
-    folder: &mut S,
-    out: &mut W,
-    start: u64,
-    end: u64,
-) -> Result<(), Stop>
-    requires { start ≤ end }
-    ensures said { IsTrue S.told → OnOk result (Appends (W.contents out.old)
-        (W.contents out.new) (take (end - start) (drop start (S.seen folder.old).report))) }
-    ensures grew { (more : List ℕ) × Appends (W.contents out.old) (W.contents out.new) more }
-    ensures seen { IsTrue S.told → S.seen folder.new ≡ S.seen folder.old }
-    ensures crash { IsTrue S.told
-        → Passes S.may_leave S.moment S.left_since Same folder.old folder.new }
-{
-    say_between(folder, out, start, end)?;
-    flush(out)
-}
-
 /// Says what was not said of the report, and flushes the output.
 fn say_rest<S: StateFolder, W: Write>(
     folder: &mut S,
@@ -113,7 +94,8 @@ fn say_rest<S: StateFolder, W: Write>(
     ensures crash { IsTrue S.told
         → Passes S.may_leave S.moment S.left_since Same folder.old folder.new }
 {
-    say(folder, out, told_of(checkpoint), bytes_of(checkpoint))
+    say_between(folder, out, told_of(checkpoint), bytes_of(checkpoint))?;
+    flush(out)
 }
 
 /// Says what was not said of the report, and then puts a checkpoint that says so.

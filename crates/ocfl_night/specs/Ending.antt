@@ -1,5 +1,5 @@
 -- Why runs, slices and nights end, and what they count.
-use Rattle.std.specs.Prelude.{◌≡◌, ◌⊎◌, ℕ, false, Option, Some, None, Result, Ok, Err}
+use Rattle.std.specs.Prelude.{◌≡◌, ◌⊎◌, ℕ, false, Option, Some, None, Result, Ok, Err, ⊤}
 use Rattle.ocfl_tree.specs.Place.{Place}
 use Rattle.ocfl_item.specs.declared.fault.Fault.TheVariants as fault
 use Rattle.ocfl_cursor.specs.{Cursor.{Cursor, State}, Moves.{after_run}}
@@ -7,6 +7,8 @@ use Rattle.ocfl_cursor.specs.declared.limits.Limits.{Limits}
 use Rattle.ocfl_scrub.specs.{Running.{IsPaid, begun, limits_of}, declared.running.RunEnd.{RunEnd}}
 use Rattle.ocfl_scrub.specs.declared.running.RunStatus.{RunStatus}
 use Rattle.ocfl_scrub.specs.declared.running.RunStatus.TheVariants as status
+use Rattle.ocfl_state.specs.declared.checkpoint_parts.Phase.{Phase}
+use Rattle.ocfl_state.specs.declared.checkpoint_parts.Phase.TheVariants.{Open, Closing}
 use Rattle.ocfl_state.specs.{Checkpoint.{Checkpoint}, declared.folder.Trouble.TheVariants.{Memory}}
 use Rattle.ocfl_night.specs.{declared.plan.Halt.{Halt}, declared.plan.Pause.{Pause}}
 use Rattle.ocfl_night.specs.{declared.refusal.NotOpened.{NotOpened}, declared.slicing.Made.{Made}}
@@ -54,6 +56,11 @@ abbrev pub halt_after : Option ℕ → Pause → Halt
 halt_after (Some cycle) p = halt.CycleEnded cycle
 halt_after None p = halt_of p
 
+-- the cycle that has ended by a checkpoint of this phase
+abbrev pub cycle_ended : Phase → ℕ → Option ℕ
+cycle_ended Open cycle = None
+cycle_ended Closing cycle = Some cycle
+
 -- what ended a night
 abbrev pub ended_by : Result Halt NotOpened → Halt
 ended_by (Ok h) = h
@@ -76,12 +83,19 @@ pub record IsMadeBy (ran : RunEnd) (made : Made) : Type 0 where
   pub end : made.end ≡ slice_end ran.end
   pub cursor : made.checkpoint.cursor ≡ ran.cursor
 
--- nothing is kept of a slice
+-- after a run the root was gone, or another one, or could not be looked at
+abbrev pub IsAway : SliceEnd → Type 0
+IsAway slice.RootChanged = ⊤
+IsAway (slice.Unread p) = ⊤
+IsAway end = ⊥
+
+-- nothing is kept of a slice, since after it the root was not that of before
 pub record IsUnkept (k : Checkpoint) (made : Made) : Type 0 where
   pub checkpoint : made.checkpoint ≡ k
   pub spent : made.spent ≡ 0
   pub files : made.files ≡ 0
   pub found : made.found ≡ false
+  pub away : IsAway made.end
 
 -- what a slice made is what a run within these limits did, or nothing is kept of it
 abbrev pub IsSlice : Checkpoint → Limits → Made → Type 0

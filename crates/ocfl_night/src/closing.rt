@@ -5,6 +5,7 @@ ghost use Rattle.ocfl_tree.specs.Place.{Text};
 ghost use Rattle.ocfl_state.specs.{Content.{is_closed}, Crash.{LeavesOnly, Only, Passes}};
 ghost use Rattle.ocfl_state.specs.Pieces.{summary_of};
 ghost use Rattle.ocfl_state.specs.declared.checkpoint_parts.Phase.TheVariants.{Closing};
+ghost use Rattle.ocfl_night.specs.Ending.{cycle_ended};
 ghost use Rattle.ocfl_night.specs.Sound.{IsAllSaid, IsOneMore, IsReady, IsSoundAt};
 ghost use Rattle.ocfl_night.specs.Steps.{IsMoveDone, MayMoveAt, closes_whole};
 
@@ -102,6 +103,8 @@ pub fn finish<S: StateFolder>(
         → IsReady S.seen S.may_leave part t checkpoint folder.old
         → checkpoint.told ≡ checkpoint.report.bytes
         → OnOk result (IsAllSaid (S.seen folder.new)) }
+    ensures ended { IfOk result (λ ended. ended
+        ≡ cycle_ended checkpoint.phase checkpoint.cursor.cycle) }
 {
     match phase_of(&checkpoint) {
         Phase::Open => Ok(None),

@@ -12,7 +12,7 @@ ghost use Rattle.ocfl_state.specs.Pieces.{summary_of};
 ghost use Rattle.ocfl_state.specs.declared.checkpoint_parts.ReportMark.{ReportMark as ModelMark};
 ghost use Rattle.ocfl_state.specs.declared.checkpoint_parts.Phase.TheVariants.{Closing, Open};
 ghost use Rattle.ocfl_night.specs.Chain.{part_after};
-ghost use Rattle.ocfl_night.specs.Ending.{IsMadeBy, IsSlice, IsUnkept, KeepsTo, lost_by, slice_end};
+ghost use Rattle.ocfl_night.specs.Ending.{IsAway, IsMadeBy, IsSlice, IsUnkept, KeepsTo, lost_by, slice_end};
 ghost use Rattle.ocfl_night.specs.{Site.{IsStill}, Sound.{IsReady, IsSoundAt}};
 ghost use Rattle.ocfl_night.specs.Steps.{IsNext, IsRun, IsWalkAt, KeepsFront};
 
@@ -188,7 +188,7 @@ fn unkept(checkpoint: Checkpoint, why: NotKept) -> Result<Made, Stop>
 
 /// A slice of which nothing is kept, and that ended so.
 fn unmade(checkpoint: Checkpoint, end: SliceEnd) -> Made
-    ensures { IsUnkept checkpoint result }
+    ensures { IsAway end → IsUnkept checkpoint result }
 {
     Made {
         checkpoint,

@@ -1,4 +1,8 @@
 //! Why a night ended early.
+ghost use Rattle.std.specs.Prelude.{◌≡◌};
+ghost use Rattle.ocfl_state.specs.declared.folder.Trouble.TheVariants.{Memory};
+ghost use Rattle.ocfl_night.specs.declared.stop.Stop.TheVariants.{Folder};
+
 use ocfl_state::Trouble;
 use ocfl_tree::Place;
 use std::alloc::AllocError;
@@ -25,12 +29,16 @@ pub enum Stop {
 }
 
 impl From<Trouble> for Stop {
+    ghost from_gives = { λ why e. e ≡ Folder why };
+
     fn from(trouble: Trouble) -> Stop {
         Stop::Folder(trouble)
     }
 }
 
 impl From<AllocError> for Stop {
+    ghost from_gives = { λ _ e. e ≡ Folder Memory };
+
     fn from(_error: AllocError) -> Stop {
         Stop::Folder(Trouble::Memory)
     }

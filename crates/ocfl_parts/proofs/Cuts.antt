@@ -1,6 +1,6 @@
 -- How one more line moves the cuts of a report.
 use Rattle.std.proofs.Common.{◌≡◌, ◌⊎◌, inl, inr, ℕ, ◌+◌, ◌-◌, ◌^◌, ◌<◌, ◌≤◌, List, [], ◌∷◌, ◌++◌, Bool, true, false, ◌↔◌, Option, Some, None, length, All, refl, sym, ap, subst, ◌∙◌, append_assoc, append-nil, arith}
-use Rattle.std.proofs.lemmas.Bool.{lt-ltb, le-ltb, ltb-true, ltb-false, ne_eqb}
+use Rattle.std.proofs.lemmas.Bool.{lt-ltb, le-ltb, ltb-true, ltb-false, ne_eqb, or_right}
 use Rattle.std.proofs.lemmas.List.Elements.{All-append, All-cons, All-nil}
 use Rattle.std.specs.{Prelude.{cond, ◌==◌, ◌||◌, nat_lt, min}, Ordering.{is_eq}}
 use Rattle.std.specs.declared.cmp.Ordering.TheVariants.{Less, Equal, Greater}
@@ -86,13 +86,9 @@ pub item_stays : (b s t : ℕ) (i : Told) (items : List Told) → b < 2 ^ 64 →
 item_stays b s t i items small h e = ap (λ x. cond x (cuts_from b (s + i.cost) items) (i.place ∷ cuts_from b i.cost items)) (stays h)
     ∙ begun_alike b (s + i.cost) t items (saturated b s i.cost t small e)
   where
-    or_true : (z : Bool) → (z || true) ≡ true
-    or_true true = refl
-    or_true false = refl
-
     stays : (i.cost ≡ 0) ⊎ (s < b) → (i.cost == 0 || nat_lt s b) ≡ true
     stays (inl z) = ap (λ x. x == 0 || nat_lt s b) z
-    stays (inr l) = ap (λ x. i.cost == 0 || x) (lt-ltb s b l) ∙ or_true (i.cost == 0)
+    stays (inr l) = ap (λ x. i.cost == 0 || x) (lt-ltb s b l) ∙ or_right (i.cost == 0) true refl
 
 -- ---- one line more
 
@@ -130,14 +126,11 @@ module _ (b : ℕ) (small : b < 2 ^ 64) (done : List Line) (ps : List Place) (s 
   joins i cost e f h = record {
     texts = texts_more h.texts;
     order = subst (λ p. (more : List Line) → AreInOrder (Some p) more ↔ AreInOrder None ((done ++ l ∷ []) ++ more)) (sym (place_cmp_exact i.place l.place e))
-        (order_more (Some i) (λ g. not_equal (sym e ∙ g)) h.order);
+        (order_more (Some i) (λ g. let two : Equal ≡ Greater = sym e ∙ g in cc) h.order);
     cuts = cuts_more (Some i) ps s (Some (record { place = i.place; cost = cost })) h.cuts (λ more. ap (λ xs. ps ++ xs) (same more));
     below = h.below; few = h.few;
   }
     where
-      not_equal : Equal ≡ Greater → ⊥
-      not_equal g = cc
-
       same : (more : List Line) → cuts_from b s (items_from (Some i) (l ∷ more)) ≡ cuts_from b s (items_from (Some (record { place = i.place; cost = cost })) more)
       same more =
           ap (λ o. cuts_from b s (cond (is_eq o) (items_from (Some (record { place = i.place; cost = i.cost + told_cost l.code l.detail })) more) (i ∷ items_from (Some (told l)) more))) e
@@ -149,14 +142,11 @@ module _ (b : ℕ) (small : b < 2 ^ 64) (done : List Line) (ps : List Place) (s 
       → IsCutSoFar b (done ++ l ∷ []) qs t (Some (told l))
   goes_on i qs t e closes above few h = record {
     texts = texts_more h.texts;
-    order = order_more (Some i) (λ g. not_less (sym e ∙ g)) h.order;
+    order = order_more (Some i) (λ g. let two : Less ≡ Greater = sym e ∙ g in cc) h.order;
     cuts = cuts_more (Some i) qs t (Some (told l)) h.cuts (λ more. apart more ∙ closes (items_from (Some (told l)) more));
     below = above l.place has.place e; few = few h.few;
   }
     where
-      not_less : Less ≡ Greater → ⊥
-      not_less g = cc
-
       apart : (more : List Line) → ps ++ cuts_from b s (items_from (Some i) (l ∷ more)) ≡ ps ++ cuts_from b s (i ∷ items_from (Some (told l)) more)
       apart more = ap (λ o. ps ++ cuts_from b s
           (cond (is_eq o) (items_from (Some (record { place = i.place; cost = i.cost + told_cost l.code l.detail })) more) (i ∷ items_from (Some (told l)) more))) e

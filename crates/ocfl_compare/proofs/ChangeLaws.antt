@@ -58,20 +58,8 @@ none_found z other [] i = i
 none_found z other (c ∷ cs) (inl e) = other c e
 none_found z other (c ∷ cs) (inr i) = none_found z other cs i
 
-object_is_no_code : (c : Code) → object_gone ≡ found c → ⊥
-object_is_no_code c e = cc
-
 object_is_no_file : object_gone ≡ file_gone → ⊥
 object_is_no_file e = cc
-
-object_is_no_repair : object_gone ≡ repaired → ⊥
-object_is_no_repair e = cc
-
-file_is_no_code : (c : Code) → file_gone ≡ found c → ⊥
-file_is_no_code c e = cc
-
-file_is_no_repair : file_gone ≡ repaired → ⊥
-file_is_no_repair e = cc
 
 left_of : {P Q : Type 0} → P ⊎ Q → (Q → ⊥) → P
 left_of (inl p) none = p
@@ -125,7 +113,7 @@ module _ (before now : List Line) where
       not_second i = object_is_no_file (among_when (is_empty now && list_any tells_file before) file_gone object_gone i).1
 
       not_later : IsAmong (second ++ (third ++ fourth)) object_gone → ⊥
-      not_later i = none_later object_gone object_is_no_code object_is_no_repair (right_of (among_either second (third ++ fourth) object_gone i) not_second)
+      not_later i = none_later object_gone (λ c e. cc) (λ e. cc) (right_of (among_either second (third ++ fourth) object_gone i) not_second)
 
   pub file_gone_is : IsAmong (changes_at before now) file_gone ↔ (now ≡ []) × (list_any tells_file before ≡ true)
   file_gone_is =
@@ -138,7 +126,7 @@ module _ (before now : List Line) where
       not_first i = object_is_no_file (sym (among_when (is_empty now && list_any tells_object before) object_gone file_gone i).1)
 
       in_second : IsAmong (second ++ (third ++ fourth)) file_gone → IsAmong second file_gone
-      in_second i = left_of (among_either second (third ++ fourth) file_gone i) (none_later file_gone file_is_no_code file_is_no_repair)
+      in_second i = left_of (among_either second (third ++ fourth) file_gone i) (none_later file_gone (λ c e. cc) (λ e. cc))
 
 -- ---- from nothing
 

@@ -9,7 +9,7 @@ use Rattle.ocfl_report.proofs.Separators.{first_parts}
 use Rattle.ocfl_telling.specs.List.{IsBadLine, IsEntry, IsEntryAs, IsKnownText, IsRemark, IsRow, IsSaid, KnownStopsRightly, Row, entries_of, max_bytes, row_text, rows_text}
 use Rattle.ocfl_telling.specs.declared.known.Reach.{Reach}
 use Rattle.ocfl_telling.specs.declared.known.Reach.TheVariants.{One, Place, Branch}
-use Rattle.ocfl_telling.specs.{declared.known.Entry.{Entry}}
+use Rattle.ocfl_telling.specs.declared.known.Entry.{Entry}
 use Rattle.ocfl_telling.specs.declared.list.KnownStop.{KnownStop}
 use Rattle.ocfl_telling.specs.declared.list.KnownStop.TheVariants.{Long, Read, Memory}
 use Rattle.ocfl_report.specs.{Line.{Line, line_of}, Text.{IsLineText}}

@@ -9,26 +9,6 @@ use crate::known::Known;
 use ocfl_report::{Line, TextStop, read_line, split_once};
 use std::alloc::{AllocError, Global};
 
-/// Why the bytes of a report were not taken.
-#[derive(Clone, Copy, Debug, PartialEq, Eq)]
-pub enum FoundStop {
-    /// One of their lines is not a line of a report.
-    Bad,
-    /// Memory was refused.
-    Memory,
-}
-
-impl From<AllocError> for FoundStop {
-    ghost use Rattle.std.specs.Prelude.{◌≡◌};
-    ghost use Rattle.ocfl_telling.specs.declared.found.FoundStop.TheVariants.{Memory};
-
-    ghost from_gives = { λ _ stop. stop ≡ Memory };
-
-    fn from(_: AllocError) -> FoundStop {
-        FoundStop::Memory
-    }
-}
-
 /// What was found in the bytes of a report so far.
 #[derive(Debug, Drop)]
 pub struct Found {
@@ -56,12 +36,12 @@ impl Found {
 
     /// Takes the next bytes, which may begin and end within a line, and leaves out what is known.
     /// It holds one line, and at most 20 findings of each weight. To be called with one list each
-    /// time.
-    pub fn take(self, alloc: Global, known: &Known, bytes: &[u8]) -> Result<Found, FoundStop>
+    /// time. [`TextStop::Bad`] if one of their lines is not a line of a report.
+    pub fn take(self, alloc: Global, known: &Known, bytes: &[u8]) -> Result<Found, TextStop>
         ensures ok { IfOk result (λ found. (b : ModelText)
             → IsAfter known.now.entries.items self b
             → IsAfter known.now.entries.items found (b ++ bytes.now)) }
-        ensures bad { result ≡ Err FoundStop.Bad → (b : ModelText)
+        ensures bad { result ≡ Err TextStop.Bad → (b : ModelText)
             → IsAfter known.now.entries.items self b → HasBadLine (b ++ bytes.now) }
     {
         let mut found = self;
@@ -75,12 +55,12 @@ impl Found {
     }
 
     /// Takes the end of a line, up to its line feed.
-    fn end_line(self, alloc: Global, known: &Known, part: &[u8]) -> Result<Found, FoundStop>
+    fn end_line(self, alloc: Global, known: &Known, part: &[u8]) -> Result<Found, TextStop>
         requires { All (λ c. c ≢ 10) part.now }
         ensures ok { IfOk result (λ found. (b : ModelText)
             → IsAfter known.now.entries.items self b
             → IsAfter known.now.entries.items found (b ++ (part.now ++ 10 ∷ []))) }
-        ensures bad { result ≡ Err FoundStop.Bad → (b after : ModelText)
+        ensures bad { result ≡ Err TextStop.Bad → (b after : ModelText)
             → IsAfter known.now.entries.items self b
             → HasBadLine (b ++ (part.now ++ 10 ∷ []) ++ after) }
     {
@@ -89,25 +69,21 @@ impl Found {
             mut rest,
         } = self;
         put_end(part, &mut rest)?;
-        let line = match read_line(alloc, rest.as_slice()) {
-            Ok(line) => line,
-            Err(TextStop::Bad) => return Err(FoundStop::Bad),
-            Err(TextStop::Memory) => return Err(FoundStop::Memory),
-        };
+        let line = read_line(alloc, rest.as_slice())?;
         add_unknown(&mut gravest, known, line)?;
         rest.clear();
         Ok(Found { gravest, rest })
     }
 
-    /// The findings of all the bytes. [`FoundStop::Bad`] if the last line has no line feed.
-    pub fn end(self) -> Result<Gravest, FoundStop>
+    /// The findings of all the bytes. [`TextStop::Bad`] if the last line has no line feed.
+    pub fn end(self) -> Result<Gravest, TextStop>
         ensures ok { IfOk result (λ g. (known : List ModelEntry) (b : ModelText)
             → IsAfter known self b → AreAll known g b) }
         ensures bad { OnErr result (self.rest.items ≢ []) }
-        ensures memory { result ≢ Err FoundStop.Memory }
+        ensures memory { result ≢ Err TextStop.Memory }
     {
         if !self.rest.is_empty() {
-            return Err(FoundStop::Bad);
+            return Err(TextStop::Bad);
         }
         Ok(self.gravest)
     }

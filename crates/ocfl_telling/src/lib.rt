@@ -19,7 +19,7 @@ mod stop;
 mod weight;
 
 pub use closing::{Closing, Gone, Kind, closing_text};
-pub use found::{Found, FoundStop};
+pub use found::Found;
 pub use gravest::{Gravest, Kept, SHOWN};
 pub use known::{Entry, Known, Reach};
 pub use list::{KnownStop, read_known};

@@ -1,9 +1,10 @@
 //! The whole lines of findings that are named in a closing.
 
-use ocfl_report::{Code, Line, TextStop, read_line};
+use crate::nights::telling::error_of;
+use ocfl_report::{Code, Line, read_line};
 use ocfl_telling::{Known, SHOWN};
 use std::alloc::{AllocError, Global};
-use std::io::{self, BufRead, ErrorKind};
+use std::io::{self, BufRead};
 
 /// How the lines of a report begin that find nothing.
 const CLEAN: &[u8] = b"ok\t";
@@ -60,8 +61,7 @@ fn finding_of(alloc: Global, text: &[u8]) -> io::Result<Option<Line>> {
     match read_line(alloc, text) {
         Ok(line) if line.is_finding() => Ok(Some(line)),
         Ok(_) => Ok(None),
-        Err(TextStop::Bad) => Err(io::Error::from(ErrorKind::InvalidData)),
-        Err(TextStop::Memory) => Err(io::Error::from(ErrorKind::OutOfMemory)),
+        Err(stop) => Err(error_of(stop)),
     }
 }
 

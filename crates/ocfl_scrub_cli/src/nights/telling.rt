@@ -3,7 +3,7 @@
 use crate::nights::stand::Standing;
 use ocfl_report::{TextStop, read_line, write_all_of};
 use ocfl_state::StateFile;
-use ocfl_telling::{Found, FoundStop, Gravest, Known, Night, night_text};
+use ocfl_telling::{Found, Gravest, Known, Night, night_text};
 use std::alloc::{AllocError, Global};
 use std::cell::Cell;
 use std::io::{self, ErrorKind, Write};
@@ -80,21 +80,21 @@ impl<'n, W: Write + Drop> Teller<'n, W> {
     }
 
     /// Takes a line that is a report's, with its line feed.
-    fn keep_line(&mut self) -> Result<(), FoundStop> {
+    fn keep_line(&mut self) -> Result<(), TextStop> {
         let Some(found) = self.found.take() else {
-            return Err(FoundStop::Bad);
+            return Err(TextStop::Bad);
         };
         self.found = Some(found.take(self.alloc, self.known, self.rest.as_slice())?);
         Ok(())
     }
 
     /// Takes a line, with its line feed.
-    fn end_line(&mut self) -> Result<(), FoundStop> {
+    fn end_line(&mut self) -> Result<(), TextStop> {
         if !self.rest.starts_with(CLEAN) {
             match read_line(self.alloc, self.rest.as_slice()) {
                 Ok(_) => self.keep_line()?,
                 Err(TextStop::Bad) => self.broken = self.broken.saturating_add(1),
-                Err(TextStop::Memory) => return Err(FoundStop::Memory),
+                Err(TextStop::Memory) => return Err(TextStop::Memory),
             }
         }
         self.rest.clear();
@@ -102,7 +102,7 @@ impl<'n, W: Write + Drop> Teller<'n, W> {
     }
 
     /// Takes the next bytes, which may begin and end within a line.
-    fn take(&mut self, bytes: &[u8]) -> Result<(), FoundStop> {
+    fn take(&mut self, bytes: &[u8]) -> Result<(), TextStop> {
         for piece in bytes.split_inclusive(|&byte| byte == b'\n') {
             self.rest.extend_from_slice(piece)?;
             if piece.ends_with(b"\n") {
@@ -113,14 +113,14 @@ impl<'n, W: Write + Drop> Teller<'n, W> {
     }
 
     /// Takes what was found, which is said then.
-    fn take_found(&mut self) -> Result<Found, FoundStop> {
+    fn take_found(&mut self) -> Result<Found, TextStop> {
         if !self.rest.is_empty() {
             self.broken = self.broken.saturating_add(1);
             self.rest.clear();
         }
         match self.found.take() {
             Some(found) => Ok(found),
-            None => Err(FoundStop::Bad),
+            None => Err(TextStop::Bad),
         }
     }
 
@@ -160,10 +160,11 @@ impl<W: Write + Drop> Write for Teller<'_, W> {
     }
 }
 
-fn error_of(stop: FoundStop) -> io::Error {
+/// The error of a reader of reports.
+pub(crate) fn error_of(stop: TextStop) -> io::Error {
     match stop {
-        FoundStop::Bad => io::Error::from(ErrorKind::InvalidData),
-        FoundStop::Memory => io::Error::from(ErrorKind::OutOfMemory),
+        TextStop::Bad => io::Error::from(ErrorKind::InvalidData),
+        TextStop::Memory => io::Error::from(ErrorKind::OutOfMemory),
     }
 }
 

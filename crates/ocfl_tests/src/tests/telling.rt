@@ -1,11 +1,11 @@
 //! What a night says and logs.
 use crate::tests::common::Runtime;
 use crate::tests::common::store::place_of;
-use ocfl_report::{Line, read_line};
+use ocfl_report::{Line, TextStop, read_line};
 use ocfl_telling::laws::{all_findings_are_ordered, findings_have_weights};
 use ocfl_telling::{
-    Closing, ClosingRow, Entry, Found, FoundStop, Gone, Gravest, Kind, Known, KnownStop, LeftRow,
-    Night, NightRow, Reach, Refusal, RefusalRow, SliceRow, Stands, Stop, Weight, closing_line,
+    Closing, ClosingRow, Entry, Found, Gone, Gravest, Kind, Known, KnownStop, LeftRow, Night,
+    NightRow, Reach, Refusal, RefusalRow, SliceRow, Stands, Stop, Weight, closing_line,
     closing_text, left_line, night_line, night_text, read_known, refusal_line, refusal_text,
     slice_line, stop_text, weigh,
 };
@@ -36,12 +36,7 @@ fn codes_have_weights(rt: HostRuntime) -> Result<(), Fail> {
 }
 
 /// What is found in a report that comes in pieces of `piece` bytes.
-fn found_in(
-    alloc: Global,
-    known: &Known,
-    report: &str,
-    piece: usize,
-) -> Result<Gravest, FoundStop> {
+fn found_in(alloc: Global, known: &Known, report: &str, piece: usize) -> Result<Gravest, TextStop> {
     let mut found = Found::new(alloc);
     let mut rest = report.as_bytes();
     for _ in 0..report.len() {
@@ -159,7 +154,7 @@ fn bytes_of_no_report_are_refused(rt: HostRuntime) -> Result<(), Fail> {
     for report in ["ok\t.\t-", "ok\t.\n", broken, "\n"] {
         for piece in [1, 1000] {
             let stop = found_in(alloc, &Known::new(alloc), report, piece).err();
-            assert_eq!(rt; stop, Some(FoundStop::Bad), "{report}");
+            assert_eq!(rt; stop, Some(TextStop::Bad), "{report}");
         }
     }
     Ok(())

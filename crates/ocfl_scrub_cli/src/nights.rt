@@ -40,7 +40,7 @@ use ocfl_folder::FsTree;
 use ocfl_line::NightAsked;
 use ocfl_night::{Halt, NightEnd, Plan, Site, night, status_found, status_of};
 use ocfl_state::{FsState, Reason, StateFile};
-use ocfl_telling::Known;
+use ocfl_telling::{Known, NightRow};
 use std::alloc::{AllocError, Global};
 use std::cell::Cell;
 use std::fs::File;
@@ -375,18 +375,19 @@ where
         }
     }
     let program = running_digest(rt).ok();
-    let account = Account {
-        began: given.began,
-        ended: seconds_now(rt),
+    let ended = seconds_now(rt);
+    let row = NightRow {
+        time: ended,
+        night: given.began,
         status,
         runs: made.end.runs,
         cost: made.end.spent,
+        seconds: ended.saturating_sub(given.began),
         findings: made.findings,
         left: u64::try_from(made.end.left.len()).unwrap_or(u64::MAX),
         program: text_of(&program).unwrap_or(""),
-        said,
     };
-    log_night(rt, folder, names.state, account, lost)
+    log_night(rt, folder, names.state, Account { row, said }, lost)
 }
 
 /// Logs a night that failed before its folder was opened, if nights were made in that folder. What
@@ -403,18 +404,20 @@ where
     }
     if let Ok(mut folder) = FsState::open(rt, state, false) {
         let program = running_digest(rt).ok();
-        let account = Account {
-            began,
-            ended: seconds_now(rt),
+        let ended = seconds_now(rt);
+        let row = NightRow {
+            time: ended,
+            night: began,
             status: failure.status,
             runs: 0,
             cost: 0,
+            seconds: ended.saturating_sub(began),
             findings: 0,
             left: 0,
             program: text_of(&program).unwrap_or(""),
-            said: Some(said.as_str()),
         };
-        log_night(rt, &mut folder, state, account, None);
+        let said = Some(said.as_str());
+        log_night(rt, &mut folder, state, Account { row, said }, None);
     }
 }
 

@@ -123,46 +123,24 @@ impl<'a, R: Files<File = File> + AllocGlobal + Clock> Journal<'a, R> {
 /// What the log says of a night.
 #[derive(Clone, Copy)]
 pub(crate) struct Account<'a> {
-    /// When it began and ended, in seconds since the epoch.
-    pub(crate) began: u64,
-    pub(crate) ended: u64,
-    pub(crate) status: u8,
-    /// How many runs it made, and what they cost.
-    pub(crate) runs: u64,
-    pub(crate) cost: u64,
-    /// How many findings it said.
-    pub(crate) findings: u64,
-    /// How many branches it left out.
-    pub(crate) left: u64,
-    /// The digest of the program, or nothing if that is not known.
-    pub(crate) program: &'a str,
+    pub(crate) row: NightRow<'a>,
     /// Why it stopped or was refused, if so.
     pub(crate) said: Option<&'a str>,
 }
 
 /// The lines on a night: one on why it stopped, if it did, and one on all of it.
 fn lines_of(alloc: Global, account: Account<'_>) -> Result<String, AllocError> {
+    let Account { row, said } = account;
     let mut lines = String::new(alloc);
-    if let Some(said) = account.said {
-        let row = RefusalRow {
-            time: account.ended,
-            night: account.began,
-            status: account.status,
+    if let Some(said) = said {
+        let refusal = RefusalRow {
+            time: row.time,
+            night: row.night,
+            status: row.status,
             said,
         };
-        lines.push_str(refusal_line(alloc, &row)?.as_str())?;
+        lines.push_str(refusal_line(alloc, &refusal)?.as_str())?;
     }
-    let row = NightRow {
-        time: account.ended,
-        night: account.began,
-        status: account.status,
-        runs: account.runs,
-        cost: account.cost,
-        seconds: account.ended.saturating_sub(account.began),
-        findings: account.findings,
-        left: account.left,
-        program: account.program,
-    };
     lines.push_str(night_line(alloc, &row)?.as_str())?;
     Ok(lines)
 }
@@ -216,7 +194,7 @@ where
     F: Files<File = File> + AllocGlobal + Clone + Drop,
 {
     match append_all(rt.alloc(), folder, state, account, lost) {
-        Ok(()) => account.status,
-        Err(failure) => account.status.max(say_failure(rt, &failure)),
+        Ok(()) => account.row.status,
+        Err(failure) => account.row.status.max(say_failure(rt, &failure)),
     }
 }

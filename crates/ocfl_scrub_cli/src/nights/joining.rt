@@ -269,38 +269,6 @@ where
     }
 }
 
-/// Writes the report of a part behind those before it.
-fn join_one<R, W>(
-    rt: &R,
-    asked: &JoinAsked,
-    separators: &Separators,
-    root: &[u8],
-    number: usize,
-    part: &ClosedPart,
-    out: &mut W,
-) -> Result<(), Failure>
-where
-    R: Files<File = File> + AllocGlobal,
-    W: Write,
-{
-    let alloc = rt.alloc();
-    let path = path_of(alloc, asked.state.as_str(), number)?;
-    refuse_unsound(rt, path.as_str(), number, part)?;
-    let mut report = open_there(rt, path.as_str(), number, part.cycle)?;
-    match join_part(
-        separators,
-        root,
-        part.cycle,
-        number,
-        part,
-        &mut report.file,
-        out,
-    ) {
-        Ok(()) => Ok(()),
-        Err(stop) => Err(Failure::stopped(format!(in alloc; "part {number}: {stop}\n")?)),
-    }
-}
-
 /// An output that takes the bytes that a file has, and fails at others.
 #[derive(Drop)]
 struct Same {
@@ -323,75 +291,98 @@ impl Write for Same {
     }
 }
 
-/// Refuses a file in place of the joined report that has other bytes than all of them.
-fn refuse_other<R>(
-    rt: &R,
-    asked: &JoinAsked,
-    separators: &Separators,
-    parts: &[Option<ClosedPart>],
-    path: &str,
-) -> Result<(), Failure>
-where
-    R: Files<File = File> + AllocGlobal,
-{
-    let alloc = rt.alloc();
-    let mut same = match File::open(rt, path) {
-        Ok(there) => Same { there },
-        Err(error) => return Err(file_failure(alloc, path, &error)?),
-    };
-    let joined = join_into(rt, asked, separators, parts, &mut same);
-    let mut more = [0; 1];
-    if joined.is_ok() && matches!(same.there.read(&mut more), Ok(0)) {
-        return Ok(());
-    }
-    Err(Failure::stopped(format!(in alloc; "{}: is not the joined report\n", Shown(path))?))
+/// The reports of a cycle that are joined.
+#[derive(Clone, Copy)]
+struct Joining<'a> {
+    /// The state folder of all parts.
+    state: &'a str,
+    separators: &'a Separators,
+    /// Which storage root they are of.
+    root: &'a [u8],
+    parts: &'a [Option<ClosedPart>],
 }
 
-/// Writes all of them, one after the other.
-fn join_into<R, W>(
-    rt: &R,
-    asked: &JoinAsked,
-    separators: &Separators,
-    parts: &[Option<ClosedPart>],
-    out: &mut W,
-) -> Result<(), Failure>
-where
-    R: Files<File = File> + AllocGlobal,
-    W: Write,
-{
-    let root = root_of(parts);
-    for (index, part) in parts.iter().enumerate() {
-        if let Some(part) = part {
-            let number = index.saturating_add(1);
-            join_one(rt, asked, separators, root, number, part, out)?;
+impl Joining<'_> {
+    /// Writes the report of a part behind those before it.
+    fn write_one<R, W>(
+        &self,
+        rt: &R,
+        number: usize,
+        part: &ClosedPart,
+        out: &mut W,
+    ) -> Result<(), Failure>
+    where
+        R: Files<File = File> + AllocGlobal,
+        W: Write,
+    {
+        let alloc = rt.alloc();
+        let path = path_of(alloc, self.state, number)?;
+        refuse_unsound(rt, path.as_str(), number, part)?;
+        let mut report = open_there(rt, path.as_str(), number, part.cycle)?;
+        match join_part(
+            self.separators,
+            self.root,
+            part.cycle,
+            number,
+            part,
+            &mut report.file,
+            out,
+        ) {
+            Ok(()) => Ok(()),
+            Err(stop) => Err(Failure::stopped(format!(in alloc; "part {number}: {stop}\n")?)),
         }
     }
-    Ok(())
-}
 
-/// Joins all of them into a file.
-fn join_all<R>(
-    rt: &R,
-    asked: &JoinAsked,
-    separators: &Separators,
-    parts: &[Option<ClosedPart>],
-    path: &str,
-) -> Result<(), Failure>
-where
-    R: Files<File = File> + AllocGlobal,
-{
-    let mut out = make_file(rt, path)?;
-    join_into(rt, asked, separators, parts, &mut out)?;
-    match out.sync_all() {
-        Ok(()) => Ok(()),
-        Err(error) => Err(file_failure(rt.alloc(), path, &error)?),
+    /// Writes all of them, one after the other.
+    fn write_all<R, W>(&self, rt: &R, out: &mut W) -> Result<(), Failure>
+    where
+        R: Files<File = File> + AllocGlobal,
+        W: Write,
+    {
+        for (index, part) in self.parts.iter().enumerate() {
+            if let Some(part) = part {
+                self.write_one(rt, index.saturating_add(1), part, out)?;
+            }
+        }
+        Ok(())
+    }
+
+    /// Joins all of them into a file.
+    fn join_into<R>(&self, rt: &R, path: &str) -> Result<(), Failure>
+    where
+        R: Files<File = File> + AllocGlobal,
+    {
+        let mut out = make_file(rt, path)?;
+        self.write_all(rt, &mut out)?;
+        match out.sync_all() {
+            Ok(()) => Ok(()),
+            Err(error) => Err(file_failure(rt.alloc(), path, &error)?),
+        }
+    }
+
+    /// Refuses a file in place of the joined report that has other bytes than all of them.
+    fn refuse_other<R>(&self, rt: &R, path: &str) -> Result<(), Failure>
+    where
+        R: Files<File = File> + AllocGlobal,
+    {
+        let alloc = rt.alloc();
+        let mut same = match File::open(rt, path) {
+            Ok(there) => Same { there },
+            Err(error) => return Err(file_failure(alloc, path, &error)?),
+        };
+        let joined = self.write_all(rt, &mut same);
+        let mut more = [0; 1];
+        if joined.is_ok() && matches!(same.there.read(&mut more), Ok(0)) {
+            return Ok(());
+        }
+        Err(Failure::stopped(format!(in alloc; "{}: is not the joined report\n", Shown(path))?))
     }
 }
 
 /// Joins the reports of a cycle, unless they are joined already, and gives the status.
 fn join_cycle<R>(
     rt: &R,
-    asked: &JoinAsked,
+    state: &str,
     separators: &Separators,
     all: Vec<Option<Facts>>,
     cycle: u64,
@@ -399,13 +390,20 @@ fn join_cycle<R>(
 where
     R: Files<File = File> + AllocGlobal + Eprint,
 {
-    let (alloc, state) = (rt.alloc(), asked.state.as_str());
+    let alloc = rt.alloc();
     let path = format!(in alloc; "{state}/{}", StateFile::Whole(cycle))?;
     let is_made = cycle > 0 && is_there(rt, path.as_str());
     let parts = closed_parts(rt, state, all, cycle)?;
-    let missing = find_missing(alloc, separators, root_of(&parts), cycle, &parts)?;
+    let root = root_of(&parts);
+    let missing = find_missing(alloc, separators, root, cycle, &parts)?;
+    let joining = Joining {
+        state,
+        separators,
+        root,
+        parts: &parts,
+    };
     if is_made && missing.is_empty() {
-        refuse_other(rt, asked, separators, &parts, path.as_str())?;
+        joining.refuse_other(rt, path.as_str())?;
     }
     if is_made {
         // Of parts that were tidied away nothing can be compared.
@@ -419,7 +417,7 @@ where
         rt,
         format!(in alloc; "{state}/{}", StateFile::Reports)?.as_str(),
     )?;
-    join_all(rt, asked, separators, &parts, made.as_str())?;
+    joining.join_into(rt, made.as_str())?;
     put_made(rt, made.as_str(), path.as_str())?;
     Ok(0)
 }
@@ -431,9 +429,10 @@ where
 {
     let separators = read_separators(rt, asked.parts.as_str())?;
     let count = separators.len().saturating_add(1);
-    let all = read_all(rt, asked.state.as_str(), count)?;
+    let state = asked.state.as_str();
+    let all = read_all(rt, state, count)?;
     let cycle = last_of_all(&all);
-    join_cycle(rt, asked, &separators, all, cycle)
+    join_cycle(rt, state, &separators, all, cycle)
 }
 
 /// Joins the reports of all parts of the last cycle that all of them have closed, and gives the

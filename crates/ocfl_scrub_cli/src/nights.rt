@@ -18,7 +18,7 @@ mod state;
 mod telling;
 mod timing;
 
-use crate::nights::closing::{About, first_untold, tell_closing};
+use crate::nights::closing::Closings;
 use crate::nights::ending::{ending_text, is_own, left_text, lost_text};
 use crate::nights::failing::{Failure, say_failure, say_text};
 pub(crate) use crate::nights::joining::join_parts;
@@ -225,16 +225,11 @@ fn status_told<R: Eprint>(rt: &R, told: Result<u8, Failure>) -> u8 {
 
 /// Says what the cycles found whose closing was not said: the last one before the night, and the
 /// one that it closed. Gives the status.
-fn tell_closings<'a, R>(
-    rt: &'a R,
-    folder: &mut FsState<&'a R>,
-    about: &About<'_>,
-    before: u64,
-    made: &Made,
-) -> u8
+fn tell_closings<R>(closings: &mut Closings<'_, '_, R>, before: u64, made: &Made) -> u8
 where
     R: Files<File = File> + AllocGlobal + Clock + Print + Eprint,
 {
+    let rt = closings.rt;
     let mut out = io::writer(rt);
     let closed = match &made.end.end {
         Halt::Refused(_) => return 0,
@@ -242,11 +237,11 @@ where
         _ => 0,
     };
     let mut earlier = 0;
-    for cycle in first_untold(rt, folder, about.names.state, before)..=before {
-        let told = tell_closing(rt, folder, about, cycle, 0, &mut out);
+    for cycle in closings.first_untold(before)..=before {
+        let told = closings.tell(cycle, 0, &mut out);
         earlier = earlier.max(status_told(rt, told));
     }
-    let now = tell_closing(rt, folder, about, closed, made.left, &mut out);
+    let now = closings.tell(closed, made.left, &mut out);
     earlier.max(status_told(rt, now))
 }
 
@@ -317,19 +312,21 @@ where
         clear(rt);
     }
     let said = say_ending(rt, &mut folder, names, &made)?;
-    let about = About {
+    let mut closings = Closings {
+        rt,
+        folder,
         names,
         known: &given.known,
         expected: text_of(&given.asked.expected),
         night: given.began,
     };
-    let closings = tell_closings(rt, &mut folder, &about, began.last_closed(), &made);
+    let told = tell_closings(&mut closings, began.last_closed(), &made);
     let found = status_found(is_partial(&made), made.findings);
-    let status = status_of(&made.end.end).max(found).max(closings);
+    let status = status_of(&made.end.end).max(found).max(told);
     let said = text_of(&said);
     Ok(log_made(
         rt,
-        &mut folder,
+        &mut closings.folder,
         given,
         names,
         &made,

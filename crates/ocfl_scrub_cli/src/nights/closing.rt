@@ -26,13 +26,15 @@ use std::time::Clock;
 /// How many cycles back a whole report is looked for at most.
 const MOST_BACK: u64 = 1_000;
 
-/// With what a closing is said.
-#[derive(Clone, Copy)]
-pub(crate) struct About<'a> {
-    pub(crate) names: Names<'a>,
-    pub(crate) known: &'a Known,
+/// With what closings are told.
+#[derive(Drop)]
+pub(crate) struct Closings<'a, 'n, R: Files<File = File> + AllocGlobal> {
+    pub(crate) rt: &'a R,
+    pub(crate) folder: FsState<&'a R>,
+    pub(crate) names: Names<'n>,
+    pub(crate) known: &'n Known,
     /// The file of the objects that must be there.
-    pub(crate) expected: Option<&'a str>,
+    pub(crate) expected: Option<&'n str>,
     /// When the night began.
     pub(crate) night: u64,
 }
@@ -59,89 +61,6 @@ struct Pair {
     left: u64,
 }
 
-/// Opens the closed report of a cycle.
-fn open_report<R>(
-    alloc: Global,
-    folder: &mut FsState<R>,
-    state: &str,
-    cycle: u64,
-) -> Result<Option<OpenReport>, Failure>
-where
-    R: Files<File = File> + AllocGlobal + Clone + Drop,
-{
-    match folder.open_closed(cycle) {
-        Ok(found) => Ok(found),
-        Err(_) => Err(folder_failure(alloc, state, folder.reason())?),
-    }
-}
-
-/// The number of the last cycle before this one whose report is whole. 0 if no report is.
-fn find_before<R>(
-    alloc: Global,
-    folder: &mut FsState<R>,
-    state: &str,
-    cycle: u64,
-) -> Result<u64, Failure>
-where
-    R: Files<File = File> + AllocGlobal + Clone + Drop,
-{
-    for back in 1..MOST_BACK {
-        let before = cycle.saturating_sub(back);
-        if before == 0 {
-            return Ok(0);
-        }
-        if let Some(report) = open_report(alloc, folder, state, before)? {
-            if report.whole {
-                return Ok(before);
-            }
-        }
-    }
-    Ok(0)
-}
-
-/// A reader of the closed report of a cycle.
-fn reader_of<R>(
-    alloc: Global,
-    folder: &mut FsState<R>,
-    state: &str,
-    cycle: u64,
-) -> Result<BufReader<File>, Failure>
-where
-    R: Files<File = File> + AllocGlobal + Clone + Drop,
-{
-    let Some(report) = open_report(alloc, folder, state, cycle)? else {
-        return Err(Failure::stopped(format!(in alloc;
-            "the report of cycle {cycle} is gone from {}\n",
-            Shown(state)
-        )?));
-    };
-    match BufReader::new(alloc, report.file) {
-        Ok(reader) => Ok(reader),
-        Err(_) => Err(Failure::from(AllocError)),
-    }
-}
-
-/// Refuses the whole report of a cycle, one of a pair, that is not as it was closed.
-fn refuse_changed<R>(
-    alloc: Global,
-    folder: &mut FsState<R>,
-    state: &str,
-    pair: &Pair,
-    changed: u64,
-) -> Result<(), Failure>
-where
-    R: Files<File = File> + AllocGlobal + Clone + Drop,
-{
-    if is_as_closed(alloc, folder, state, changed)? {
-        return Ok(());
-    }
-    let (cycle, before) = (pair.cycle, pair.before);
-    Err(Failure::stopped(format!(in alloc;
-        "the report of cycle {cycle} was not compared with that of cycle {before}: that of cycle \
-         {changed} was changed since it was closed\n"
-    )?))
-}
-
 /// Why two reports were not compared.
 fn uncompared(alloc: Global, pair: &Pair, stop: CompareStop) -> Result<Failure, AllocError> {
     if stop == CompareStop::Memory {
@@ -151,58 +70,6 @@ fn uncompared(alloc: Global, pair: &Pair, stop: CompareStop) -> Result<Failure, 
     Ok(Failure::stopped(format!(in alloc;
         "the report of cycle {cycle} was not compared with that of cycle {before}: {stop}\n"
     )?))
-}
-
-/// Writes what changed since the report before.
-fn compare_pair<R, W>(
-    alloc: Global,
-    folder: &mut FsState<R>,
-    state: &str,
-    pair: &Pair,
-    rows: &mut Rows<'_, W>,
-) -> Result<(), Failure>
-where
-    R: Files<File = File> + AllocGlobal + Clone + Drop,
-    W: Write + Drop,
-{
-    if pair.before == 0 {
-        return Ok(());
-    }
-    refuse_changed(alloc, folder, state, pair, pair.before)?;
-    if pair.whole {
-        refuse_changed(alloc, folder, state, pair, pair.cycle)?;
-    }
-    let mut before = reader_of(alloc, folder, state, pair.before)?;
-    let mut now = reader_of(alloc, folder, state, pair.cycle)?;
-    match compare(alloc, &mut before, &mut now, &[], rows) {
-        Ok(()) => Ok(()),
-        Err(stop) => Err(uncompared(alloc, pair, stop)?),
-    }
-}
-
-/// Writes which objects of a list have no line in the report.
-fn look_for_expected<R, F, W>(
-    rt: &R,
-    folder: &mut FsState<F>,
-    about: &About<'_>,
-    pair: &Pair,
-    rows: &mut Rows<'_, W>,
-) -> Result<(), Failure>
-where
-    R: Files + AllocGlobal,
-    F: Files<File = File> + AllocGlobal + Clone + Drop,
-    W: Write + Drop,
-{
-    let Some(file) = about.expected else {
-        return Ok(());
-    };
-    let alloc = rt.alloc();
-    let mut listed = read_expected(rt, file)?;
-    let mut report = reader_of(alloc, folder, about.names.state, pair.cycle)?;
-    match find_expected(alloc, &mut listed, &mut report, &[], rows) {
-        Ok(()) => Ok(()),
-        Err(stop) => Err(uncompared(alloc, pair, stop)?),
-    }
 }
 
 /// The paths of a cycle's files.
@@ -226,77 +93,6 @@ fn list_path(alloc: Global, state: &str, cycle: u64) -> Result<String, AllocErro
     format!(in alloc; "{state}/{}/gone-{cycle:06}", StateFile::Reports)
 }
 
-/// What changed since the last whole report, with the list of what is gone beside its place.
-fn find_changes<R, F>(
-    rt: &R,
-    folder: &mut FsState<F>,
-    about: &About<'_>,
-    pair: &Pair,
-    paths: &Paths,
-) -> Result<Changes, Failure>
-where
-    R: Files<File = File> + AllocGlobal,
-    F: Files<File = File> + AllocGlobal + Clone + Drop,
-{
-    let alloc = rt.alloc();
-    let list = make_file(rt, paths.new_list.as_str())?;
-    let mut rows = Rows {
-        alloc,
-        known: about.known,
-        changes: Changes::new(alloc),
-        list,
-    };
-    if pair.whole {
-        compare_pair(alloc, folder, about.names.state, pair, &mut rows)?;
-        look_for_expected(rt, folder, about, pair, &mut rows)?;
-    }
-    let Rows { changes, list, .. } = rows;
-    match list.sync_all() {
-        Ok(()) => Ok(changes),
-        Err(error) => Err(file_failure(alloc, paths.new_list.as_str(), &error)?),
-    }
-}
-
-/// The findings of the report of a cycle, with the whole lines of these.
-fn find_in<R>(
-    alloc: Global,
-    folder: &mut FsState<R>,
-    state: &str,
-    cycle: u64,
-    named: &[Line],
-    known: &Known,
-) -> Result<Findings, Failure>
-where
-    R: Files<File = File> + AllocGlobal + Clone + Drop,
-{
-    let mut report = reader_of(alloc, folder, state, cycle)?;
-    match find_lines(alloc, &mut report, named, known) {
-        Ok(found) => Ok(found),
-        Err(error) => Err(Failure::stopped(format!(in alloc;
-            "the report of cycle {cycle} in {}: {error}\n",
-            Shown(state)
-        )?)),
-    }
-}
-
-/// The whole lines of what is repaired, as the report before has them.
-fn find_repaired<R>(
-    alloc: Global,
-    folder: &mut FsState<R>,
-    state: &str,
-    pair: &Pair,
-    changes: &Changes,
-) -> Result<Vec<Line>, Failure>
-where
-    R: Files<File = File> + AllocGlobal + Clone + Drop,
-{
-    if changes.repaired.is_empty() {
-        return Ok(Vec::new(alloc));
-    }
-    let none = Known::new(alloc);
-    Ok(find_in(alloc, folder, state, pair.before, &changes.repaired, &none)?.lines)
-}
-
 /// What a closed cycle found, in its parts.
 #[derive(Debug, Drop)]
 struct Account {
@@ -313,40 +109,6 @@ impl Account {
             .appeared_count
             .saturating_sub(self.findings.known)
     }
-}
-
-/// Finds all that is said of a closed cycle.
-fn find_account<R, F>(
-    rt: &R,
-    folder: &mut FsState<F>,
-    about: &About<'_>,
-    pair: &Pair,
-    paths: &Paths,
-) -> Result<Account, Failure>
-where
-    R: Files<File = File> + AllocGlobal,
-    F: Files<File = File> + AllocGlobal + Clone + Drop,
-{
-    let (alloc, state) = (rt.alloc(), about.names.state);
-    let changes = find_changes(rt, folder, about, pair, paths)?;
-    let findings = if pair.whole {
-        find_in(
-            alloc,
-            folder,
-            state,
-            pair.cycle,
-            &changes.appeared,
-            about.known,
-        )?
-    } else {
-        Findings::new(alloc)
-    };
-    let repaired = find_repaired(alloc, folder, state, pair, &changes)?;
-    Ok(Account {
-        changes,
-        findings,
-        repaired,
-    })
 }
 
 /// What is said of a closed cycle.
@@ -384,41 +146,6 @@ fn say<W: Write>(alloc: Global, out: &mut W, text: &[u8]) -> Result<(), Failure>
     Err(Failure::stopped(String::from_str(alloc, "output failed\n")?))
 }
 
-/// Appends a line on the closing to the log.
-fn log_closing<R, F>(
-    rt: &R,
-    folder: &mut FsState<F>,
-    about: &About<'_>,
-    pair: &Pair,
-    paths: &Paths,
-    account: &Account,
-) -> Result<(), Failure>
-where
-    R: AllocGlobal + Clock,
-    F: Files<File = File> + AllocGlobal + Clone + Drop,
-{
-    let (alloc, state) = (rt.alloc(), about.names.state);
-    let line = closing_line(
-        alloc,
-        &ClosingRow {
-            time: seconds_now(rt),
-            night: about.night,
-            cycle: pair.cycle,
-            report: paths.report.as_str(),
-            whole: pair.whole,
-            findings: account.findings.count,
-            appeared: account.appeared(),
-            repaired: account.changes.repaired_count,
-            gone: account.changes.gone_count,
-            left: pair.left,
-        },
-    )?;
-    match folder.append_log(line.as_bytes()) {
-        Ok(()) => Ok(()),
-        Err(_) => Err(folder_failure(alloc, state, folder.reason())?),
-    }
-}
-
 /// The status of a night that closed a cycle: 3 if its report is not whole, 1 if something is
 /// new or gone, else 0.
 fn status_of(whole: bool, account: &Account) -> u8 {
@@ -432,86 +159,242 @@ fn status_of(whole: bool, account: &Account) -> u8 {
     }
 }
 
-/// Says what a closed cycle found, and then puts its list in place.
-fn tell_pair<R, F, W>(
-    rt: &R,
-    folder: &mut FsState<F>,
-    about: &About<'_>,
-    pair: &Pair,
-    out: &mut W,
-) -> Result<u8, Failure>
-where
-    R: Files<File = File> + AllocGlobal + Clock,
-    F: Files<File = File> + AllocGlobal + Clone + Drop,
-    W: Write,
-{
-    let alloc = rt.alloc();
-    let paths = paths_of(alloc, about.names.state, pair)?;
-    let account = find_account(rt, folder, about, pair, &paths)?;
-    say(alloc, out, &text_of(alloc, pair, &paths, &account)?)?;
-    put_made(rt, paths.new_list.as_str(), paths.list.as_str())?;
-    log_closing(rt, folder, about, pair, &paths, &account)?;
-    Ok(status_of(pair.whole, &account))
-}
-
-/// Whether the closed report of a cycle is there, and its list is not.
-fn is_untold<R, F>(rt: &R, folder: &mut FsState<F>, state: &str, cycle: u64) -> bool
-where
-    R: Files + AllocGlobal,
-    F: Files<File = File> + AllocGlobal + Clone + Drop,
-{
-    let is_closed = matches!(folder.open_closed(cycle), Ok(Some(_)));
-    match list_path(rt.alloc(), state, cycle) {
-        Ok(list) => is_closed && !is_there(rt, list.as_str()),
-        Err(_) => false,
+impl<R: Files<File = File> + AllocGlobal + Clock> Closings<'_, '_, R> {
+    /// Why the last call on the folder failed.
+    fn folder_failed(&self) -> Result<Failure, AllocError> {
+        folder_failure(self.rt.alloc(), self.names.state, self.folder.reason())
     }
-}
 
-/// The first of the cycles up to this one whose closings were not said, one after the other.
-pub(crate) fn first_untold<R, F>(rt: &R, folder: &mut FsState<F>, state: &str, cycle: u64) -> u64
-where
-    R: Files + AllocGlobal,
-    F: Files<File = File> + AllocGlobal + Clone + Drop,
-{
-    let mut first = cycle;
-    for _ in 0..MOST_BACK {
-        if first < 2 || !is_untold(rt, folder, state, first - 1) {
-            return first;
+    /// Opens the closed report of a cycle.
+    fn open_report(&mut self, cycle: u64) -> Result<Option<OpenReport>, Failure> {
+        match self.folder.open_closed(cycle) {
+            Ok(found) => Ok(found),
+            Err(_) => Err(self.folder_failed()?),
         }
-        first -= 1;
     }
-    first
-}
 
-/// Says what a closed cycle found, unless that was said, and gives the status. `cycle` is 0 if
-/// no cycle was closed, and `left` is how many branches were left out of it.
-pub(crate) fn tell_closing<R, F, W>(
-    rt: &R,
-    folder: &mut FsState<F>,
-    about: &About<'_>,
-    cycle: u64,
-    left: u64,
-    out: &mut W,
-) -> Result<u8, Failure>
-where
-    R: Files<File = File> + AllocGlobal + Clock,
-    F: Files<File = File> + AllocGlobal + Clone + Drop,
-    W: Write,
-{
-    let (alloc, state) = (rt.alloc(), about.names.state);
-    let list = list_path(alloc, state, cycle)?;
-    if cycle == 0 || is_there(rt, list.as_str()) {
-        return Ok(0);
+    /// The number of the last cycle before this one whose report is whole. 0 if no report is.
+    fn find_before(&mut self, cycle: u64) -> Result<u64, Failure> {
+        for back in 1..MOST_BACK {
+            let before = cycle.saturating_sub(back);
+            if before == 0 {
+                return Ok(0);
+            }
+            if let Some(report) = self.open_report(before)? {
+                if report.whole {
+                    return Ok(before);
+                }
+            }
+        }
+        Ok(0)
     }
-    // A report that was taken away cannot be compared.
-    let Some(closed) = open_report(alloc, folder, state, cycle)? else {
-        return Ok(0);
-    };
-    let pair = Pair {
-        cycle,
-        whole: closed.whole,
-        before: find_before(alloc, folder, state, cycle)?,
-        left,
-    };
-    tell_pair(rt, folder, about, &pair, out)
+
+    /// A reader of the closed report of a cycle.
+    fn reader_of(&mut self, cycle: u64) -> Result<BufReader<File>, Failure> {
+        let alloc = self.rt.alloc();
+        let Some(report) = self.open_report(cycle)? else {
+            return Err(Failure::stopped(format!(in alloc;
+                "the report of cycle {cycle} is gone from {}\n",
+                Shown(self.names.state)
+            )?));
+        };
+        match BufReader::new(alloc, report.file) {
+            Ok(reader) => Ok(reader),
+            Err(_) => Err(Failure::from(AllocError)),
+        }
+    }
+
+    /// Refuses the whole report of a cycle, one of a pair, that is not as it was closed.
+    fn refuse_changed(&mut self, pair: &Pair, changed: u64) -> Result<(), Failure> {
+        let alloc = self.rt.alloc();
+        if is_as_closed(alloc, &mut self.folder, self.names.state, changed)? {
+            return Ok(());
+        }
+        let (cycle, before) = (pair.cycle, pair.before);
+        Err(Failure::stopped(format!(in alloc;
+            "the report of cycle {cycle} was not compared with that of cycle {before}: that of \
+             cycle {changed} was changed since it was closed\n"
+        )?))
+    }
+
+    /// Writes what changed since the report before.
+    fn compare_pair<W>(&mut self, pair: &Pair, rows: &mut Rows<'_, W>) -> Result<(), Failure>
+    where
+        W: Write + Drop,
+    {
+        if pair.before == 0 {
+            return Ok(());
+        }
+        self.refuse_changed(pair, pair.before)?;
+        if pair.whole {
+            self.refuse_changed(pair, pair.cycle)?;
+        }
+        let alloc = self.rt.alloc();
+        let mut before = self.reader_of(pair.before)?;
+        let mut now = self.reader_of(pair.cycle)?;
+        match compare(alloc, &mut before, &mut now, &[], rows) {
+            Ok(()) => Ok(()),
+            Err(stop) => Err(uncompared(alloc, pair, stop)?),
+        }
+    }
+
+    /// Writes which objects of a list have no line in the report.
+    fn look_for_expected<W>(&mut self, pair: &Pair, rows: &mut Rows<'_, W>) -> Result<(), Failure>
+    where
+        W: Write + Drop,
+    {
+        let Some(file) = self.expected else {
+            return Ok(());
+        };
+        let alloc = self.rt.alloc();
+        let mut listed = read_expected(self.rt, file)?;
+        let mut report = self.reader_of(pair.cycle)?;
+        match find_expected(alloc, &mut listed, &mut report, &[], rows) {
+            Ok(()) => Ok(()),
+            Err(stop) => Err(uncompared(alloc, pair, stop)?),
+        }
+    }
+
+    /// What changed since the last whole report, with the list of what is gone beside its place.
+    fn find_changes(&mut self, pair: &Pair, paths: &Paths) -> Result<Changes, Failure> {
+        let alloc = self.rt.alloc();
+        let list = make_file(self.rt, paths.new_list.as_str())?;
+        let mut rows = Rows {
+            alloc,
+            known: self.known,
+            changes: Changes::new(alloc),
+            list,
+        };
+        if pair.whole {
+            self.compare_pair(pair, &mut rows)?;
+            self.look_for_expected(pair, &mut rows)?;
+        }
+        let Rows { changes, list, .. } = rows;
+        match list.sync_all() {
+            Ok(()) => Ok(changes),
+            Err(error) => Err(file_failure(alloc, paths.new_list.as_str(), &error)?),
+        }
+    }
+
+    /// The findings of the report of a cycle, with the whole lines of these.
+    fn find_in(&mut self, cycle: u64, named: &[Line], known: &Known) -> Result<Findings, Failure> {
+        let alloc = self.rt.alloc();
+        let mut report = self.reader_of(cycle)?;
+        match find_lines(alloc, &mut report, named, known) {
+            Ok(found) => Ok(found),
+            Err(error) => Err(Failure::stopped(format!(in alloc;
+                "the report of cycle {cycle} in {}: {error}\n",
+                Shown(self.names.state)
+            )?)),
+        }
+    }
+
+    /// The whole lines of what is repaired, as the report before has them.
+    fn find_repaired(&mut self, pair: &Pair, changes: &Changes) -> Result<Vec<Line>, Failure> {
+        let alloc = self.rt.alloc();
+        if changes.repaired.is_empty() {
+            return Ok(Vec::new(alloc));
+        }
+        let none = Known::new(alloc);
+        Ok(self.find_in(pair.before, &changes.repaired, &none)?.lines)
+    }
+
+    /// Finds all that is said of a closed cycle.
+    fn find_account(&mut self, pair: &Pair, paths: &Paths) -> Result<Account, Failure> {
+        let changes = self.find_changes(pair, paths)?;
+        let findings = if pair.whole {
+            self.find_in(pair.cycle, &changes.appeared, self.known)?
+        } else {
+            Findings::new(self.rt.alloc())
+        };
+        let repaired = self.find_repaired(pair, &changes)?;
+        Ok(Account {
+            changes,
+            findings,
+            repaired,
+        })
+    }
+
+    /// Appends a line on the closing to the log.
+    fn log_closing(
+        &mut self,
+        pair: &Pair,
+        paths: &Paths,
+        account: &Account,
+    ) -> Result<(), Failure> {
+        let line = closing_line(
+            self.rt.alloc(),
+            &ClosingRow {
+                time: seconds_now(self.rt),
+                night: self.night,
+                cycle: pair.cycle,
+                report: paths.report.as_str(),
+                whole: pair.whole,
+                findings: account.findings.count,
+                appeared: account.appeared(),
+                repaired: account.changes.repaired_count,
+                gone: account.changes.gone_count,
+                left: pair.left,
+            },
+        )?;
+        match self.folder.append_log(line.as_bytes()) {
+            Ok(()) => Ok(()),
+            Err(_) => Err(self.folder_failed()?),
+        }
+    }
+
+    /// Says what a closed cycle found, and then puts its list in place.
+    fn tell_pair<W: Write>(&mut self, pair: &Pair, out: &mut W) -> Result<u8, Failure> {
+        let alloc = self.rt.alloc();
+        let paths = paths_of(alloc, self.names.state, pair)?;
+        let account = self.find_account(pair, &paths)?;
+        say(alloc, out, &text_of(alloc, pair, &paths, &account)?)?;
+        put_made(self.rt, paths.new_list.as_str(), paths.list.as_str())?;
+        self.log_closing(pair, &paths, &account)?;
+        Ok(status_of(pair.whole, &account))
+    }
+
+    /// Whether the closed report of a cycle is there, and its list is not.
+    fn is_untold(&mut self, cycle: u64) -> bool {
+        let is_closed = matches!(self.folder.open_closed(cycle), Ok(Some(_)));
+        match list_path(self.rt.alloc(), self.names.state, cycle) {
+            Ok(list) => is_closed && !is_there(self.rt, list.as_str()),
+            Err(_) => false,
+        }
+    }
+
+    /// The first of the cycles up to this one whose closings were not said, one after the other.
+    pub(crate) fn first_untold(&mut self, cycle: u64) -> u64 {
+        let mut first = cycle;
+        for _ in 0..MOST_BACK {
+            if first < 2 || !self.is_untold(first - 1) {
+                return first;
+            }
+            first -= 1;
+        }
+        first
+    }
+
+    /// Says what a closed cycle found, unless that was said, and gives the status. `cycle` is 0 if
+    /// no cycle was closed, and `left` is how many branches were left out of it.
+    pub(crate) fn tell<W>(&mut self, cycle: u64, left: u64, out: &mut W) -> Result<u8, Failure>
+    where
+        W: Write,
+    {
+        let list = list_path(self.rt.alloc(), self.names.state, cycle)?;
+        if cycle == 0 || is_there(self.rt, list.as_str()) {
+            return Ok(0);
+        }
+        // A report that was taken away cannot be compared.
+        let Some(closed) = self.open_report(cycle)? else {
+            return Ok(0);
+        };
+        let pair = Pair {
+            cycle,
+            whole: closed.whole,
+            before: self.find_before(cycle)?,
+            left,
+        };
+        self.tell_pair(&pair, out)
+    }
 }

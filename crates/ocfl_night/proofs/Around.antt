@@ -3,7 +3,7 @@ use Rattle.std.proofs.Common.{◌≡◌, ◌≢◌, ℕ, ◌≤◌, List, [], �
 use Rattle.std.proofs.lemmas.List.{append-nil, append_cancel_left}
 use Rattle.std.proofs.{lemmas.List.Concat.{flat_map-append}, lemmas.List.Elements.{filter-append}}
 use Rattle.std.proofs.lemmas.List.Filters.{length-filter_both}
-use Rattle.std.specs.{Prelude.{filter, not, cond, ◌&&◌}, List.{AllByRecursion}, Ordering.{is_lt}}
+use Rattle.std.specs.{Prelude.{filter, not, cond, ◌&&◌, slice_get}, List.{AllByRecursion, last_or}, Ordering.{is_lt}}
 use Rattle.ocfl_tree.specs.{Place.{Text, Place, place_cmp}, StorageRoot.{StorageRoot}}
 use Rattle.ocfl_tree.specs.declared.store.Opening.{Opening}
 use Rattle.ocfl_report.specs.{Line.{Item}, Text.{text}}
@@ -11,8 +11,8 @@ use Rattle.ocfl_audit.specs.{Audit.{Unread, audit, after}, Parts.{Part, within}}
 use Rattle.ocfl_audit.specs.{Runs.{Limits, cut, left}, Trail.{unread_of}}
 use Rattle.ocfl_audit.proofs.{PartLaws.{filter_twice}, Lists.{filter_same}}
 use Rattle.ocfl_cursor.specs.Cursor.{Cursor}
-use Rattle.ocfl_scrub.specs.{Call.{Call, known_call}, Written.{places, last_of}}
-use Rattle.ocfl_scrub.specs.Running.{place_in, state_after, first_of, RunEndsWithin}
+use Rattle.ocfl_scrub.specs.{Call.{Call, known_call}, Written.{places}}
+use Rattle.ocfl_scrub.specs.Running.{place_in, state_after, RunEndsWithin}
 use Rattle.ocfl_scrub.specs.Joining.{PartRun, Ran, items_out}
 use Rattle.ocfl_scrub.specs.declared.running.RunStatus.{RunStatus}
 use Rattle.ocfl_scrub.specs.declared.running.RunStatus.TheVariants as status
@@ -113,7 +113,7 @@ module _ (root : StorageRoot) (part : Part) where
         let h = run.1 in
         let empty : unread_of root h.trail ≡ [] = none h.trail h.looks.audits.did.openings_are in
         let items : List Item = after (within part (audit root [])) from in
-        let last_is : last ≡ last_of from (places (cut items limits)) = h.last_is ∙ ap (λ (u : Unread). last_of from (places (cut (after (within part (audit root u)) from) limits))) empty in
+        let last_is : last ≡ last_or from (places (cut items limits)) = h.last_is ∙ ap (λ (u : Unread). last_or from (places (cut (after (within part (audit root u)) from) limits))) empty in
         let rest : after (within part (audit root [])) last ≡ left items limits =
         ap (after (within part (audit root []))) last_is ∙ after_front root [] part from (cut items limits) (left items limits) (sym (cut_and_left items limits)) in
         (cut items limits, (is ∙ ap (λ (u : Unread). text (cut (after (within part (audit root u)) from) limits)) empty, ap (λ (is : List Item). cut items limits ++ is) rest ∙ cut_and_left items limits))
@@ -135,7 +135,7 @@ module _ (root : StorageRoot) (part : Part) where
         let from : Option Place = place_in c.state in
         let empty : unread_of root run.trail ≡ [] = none run.trail run.looks.audits.did.openings_are in
         let items : List Item = after (within part (audit root [])) from in
-        let next : None ≡ first_of (left items limits) = run.next_is ∙ ap (λ (u : Unread). first_of (left (after (within part (audit root u)) from) limits)) empty in
+        let next : None ≡ slice_get (places (left items limits)) 0 = run.next_is ∙ ap (λ (u : Unread). slice_get (places (left (after (within part (audit root u)) from) limits)) 0) empty in
         let whole : cut items limits ≡ items = sym (append-nil (cut items limits)) ∙ ap (λ (is : List Item). cut items limits ++ is) (sym (no_first (left items limits) next)) ∙ cut_and_left items limits in
         is ∙ ap (λ (u : Unread). text (cut (after (within part (audit root u)) from) limits)) empty ∙ ap text whole
     all_by last limits spent files finding status.Spent run ends is = absurd (cc ends)

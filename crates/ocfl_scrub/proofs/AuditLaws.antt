@@ -1,7 +1,7 @@
 -- A pass over all items of a part is its audit, and the whole is one part.
 use Rattle.std.proofs.Common.{◌≡◌, ◌≢◌, ℕ, zero, suc, ◌+◌, List, [], ◌∷◌, ◌++◌, refl, sym, ◌∙◌, ap, subst, Bool, false, None, Option, length, map, take, append-nil, arith}
 use Rattle.std.proofs.KnownBytes.{Appends-nil}
-use Rattle.std.specs.Io.KnownBytes.{Appends}
+use Rattle.std.specs.{Io.KnownBytes.{Appends}, List.{last_or}}
 use Rattle.ocfl_tree.specs.{Place.{Place}, StorageRoot.{StorageRoot}, Store.{Store}}
 use Rattle.ocfl_tree.specs.declared.store.Opening.{Opening}
 use Rattle.ocfl_report.specs.{Line.{Item, found}, Text.{text}}
@@ -13,8 +13,8 @@ use Rattle.ocfl_item.specs.{declared.fault.Fault.{Fault}, declared.fault.Fault.T
 use Rattle.ocfl_walk.specs.{WalkCalls.{GoesDown, GoDownFails}}
 use Rattle.ocfl_walk.proofs.{FoundLaws.{none_hashed}, WalkCallLaws.{audits_as}}
 use Rattle.ocfl_scrub.specs.{Call.{call_of}, Taking.{PartOf}}
-use Rattle.ocfl_scrub.specs.{Written.{places, last_of, StopsWithin}, Running.{items_above_in}}
-use Rattle.ocfl_scrub.specs.Starting.{items_in, end_of, entry, stand, looked_in, read_in, LooksOver, StopsLooking}
+use Rattle.ocfl_scrub.specs.Written.{places, StopsWithin}
+use Rattle.ocfl_scrub.specs.Starting.{end_of, entry, stand, looked_in, read_in, LooksOver, StopsLooking, items_in}
 use Rattle.ocfl_scrub.specs.WholeAudit.{AuditsWithin, AuditStopsWithin, AuditEndsWithin}
 use Rattle.ocfl_scrub.specs.declared.checking.AuditStatus.{AuditStatus}
 use Rattle.ocfl_scrub.specs.declared.checking.AuditStatus.TheVariants.{Ended, Stopped}
@@ -49,32 +49,32 @@ module _ (root : StorageRoot) (part : Part) (s t : Store) (from : Option Place) 
   walked os ps = ap (λ v. map (item_of root v) ps) (unread_behind root g.trail os (g.audits.opened ∙ none_hashed root))
 
   -- the items of the part are those of what is due before the end
-  pub above_at : (os : List Opening) → items_above_in root (g.trail ++ os) part from ≡ items_at root os (due_in root (end_of part) (stand root part from))
+  pub above_at : (os : List Opening) → items_in root (g.trail ++ os) part from ≡ items_at root os (due_in root (end_of part) (stand root part from))
   above_at os = above_in root part from (g.trail ++ os) ∙ ap (items_at root (g.trail ++ os)) (sym (due_starts root part from)) ∙ walked os (due_in root (end_of part) (stand root part from))
 
   pub above_are : (os : List Opening) (done later : List Place) → due_in root (end_of part) (stand root part from) ≡ done ++ later
-      → items_above_in root (g.trail ++ os) part from ≡ items_at root os done ++ items_at root os later
+      → items_in root (g.trail ++ os) part from ≡ items_at root os done ++ items_at root os later
   above_are os done later due_are = above_at os ∙ ap (items_at root os) due_are ∙ items_append root os done later
 
 -- ---- a pass over all items of a part
 
 module _ (root : StorageRoot) (part : Part) (s t u : Store) (old new : Option (List ℕ)) (stood last : Option Place) (finding : Bool) (g : GoesDown root s t (entry part None)) where
   pub finish_part : (h : Finishes root (end_of part) t u old new (stand root part None) stood finding)
-      → last ≡ last_of None (due_in root (end_of part) (stand root part None)) → AuditsWithin (call_of root s u old new) part last finding
+      → last ≡ last_or None (due_in root (end_of part) (stand root part None)) → AuditsWithin (call_of root s u old new) part last finding
   finish_part h last_is =
       let all : List Place = due_in root (end_of part) (stand root part None) in
-      let items : items_at root h.trail all ≡ items_in root (g.trail ++ h.trail) part = sym (above_at root part s t None g h.trail) in
-      let at_places : all ≡ places (items_in root (g.trail ++ h.trail) part) = sym (places_of_items root h.trail all) ∙ ap places items in
+      let items : items_at root h.trail all ≡ items_in root (g.trail ++ h.trail) part None = sym (above_at root part s t None g h.trail) in
+      let at_places : all ≡ places (items_in root (g.trail ++ h.trail) part None) = sym (places_of_items root h.trail all) ∙ ap places items in
       let below : Audits root t u all (looked_in root part None None) (read_in root part None None) h.trail = audits_as (looked_all root part None) (read_all root part None) h.audits in
       record {
         trail = g.trail ++ h.trail;
         looks = subst (λ ps. LooksOver (call_of root s u old new) part None None ps (g.trail ++ h.trail)) at_places (looks_over root part s t u old new None g None all h.trail
             (taken_lie root part None g.listed g.all_listed None all [] (sym (append-nil all)) (λ p d b k. tt)) below);
         wrote = subst (λ is. Appends old new (text is)) items h.wrote;
-        last_is = last_is ∙ ap (last_of None) at_places; found_is = h.found_is ∙ ap found items;
+        last_is = last_is ∙ ap (last_or None) at_places; found_is = h.found_is ∙ ap found items;
       }
 
-  pub halt_part : (why : Fault) (h : Halts root (end_of part) t u old new (stand root part None) stood finding why) → last ≡ last_of None h.done
+  pub halt_part : (why : Fault) (h : Halts root (end_of part) t u old new (stand root part None) stood finding why) → last ≡ last_or None h.done
       → AuditStopsWithin (call_of root s u old new) part last finding why
   halt_part why h last_is =
       let left : List Place = due_in root (end_of part) stood in
@@ -91,7 +91,7 @@ module _ (root : StorageRoot) (part : Part) (s t u : Store) (old new : Option (L
           one = subst (IsFront h.begun) (sym (places_of_items root h.trail (take 1 left)) ∙ ap places next) h.one;
           part = h.part; wrote = h.wrote;
           part_of = subst (λ is. PartOf why (text is) h.part) next h.part_of;
-          last_is = last_is ∙ ap (last_of None) whole_places;
+          last_is = last_is ∙ ap (last_or None) whole_places;
         };
         found_is = h.found_is;
         looks = subst (λ ps. StopsLooking (call_of root s u old new) part None (ps ++ h.begun) (g.trail ++ h.trail) why) whole_places
@@ -115,14 +115,14 @@ pub unstarted : (root : StorageRoot) (part : Part) (s t : Store) (old : Option (
 unfolding nothing_out
 unstarted root part s t old why only g = record {
   trail = g.trail;
-  stops = nothing_out (items_in root g.trail part) old None why only.0;
+  stops = nothing_out (items_in root g.trail part None) old None why only.0;
   found_is = refl;
   looks = stops_above root part s t old old None why g;
 }
 
 -- ---- the whole is one part
 
-pub all_places : (root : StorageRoot) (os : List Opening) → places (items_in root os whole) ≡ item_places root
+pub all_places : (root : StorageRoot) (os : List Opening) → places (items_in root os whole None) ≡ item_places root
 all_places root os = ap places (after_is_due root os None) ∙ places_of_items root os (due root None) ∙ due_all root
 
 -- ---- if no failure was counted

@@ -1,6 +1,6 @@
 -- One turn of the loop of an audit of a part.
 use Rattle.std.proofs.Common.{◌≡◌, ℕ, List, refl, sym, ◌∙◌, ap, subst, false, Bool, Some, None, Option}
-use Rattle.std.specs.Prelude.{◌||◌, IfSome}
+use Rattle.std.specs.{Prelude.{◌||◌, IfSome}, List.{last_or}}
 use Rattle.ocfl_tree.specs.{Place.{Place}, StorageRoot.{StorageRoot}, Store.{Store}}
 use Rattle.ocfl_audit.specs.Parts.{Part}
 use Rattle.ocfl_walk.specs.{Ends.{is_past}, WalkCalls.{GoesDown, FailsOut}}
@@ -9,7 +9,6 @@ use Rattle.ocfl_item.specs.{Pending.{IsPending}, Ways.{IsWayFault}, declared.fau
 use Rattle.ocfl_item.specs.declared.pending.Pending.{Pending}
 use Rattle.ocfl_scrub.specs.{Call.{call_of}, Starting.{end_of, entry, stand}}
 use Rattle.ocfl_scrub.specs.{Taking.{Takes, Misses}, WholeAudit.{AuditsWithin, AuditStopsWithin}}
-use Rattle.ocfl_scrub.specs.Written.{last_of}
 use Rattle.ocfl_scrub.proofs.AuditsJoined.{audits_over}
 use Rattle.ocfl_scrub.proofs.{BetweenLaws.{HasGoneOn, gone_self, gone_next}, Passing.{Passes}}
 use Rattle.ocfl_scrub.proofs.AuditLaws.{finish_part, halt_part}
@@ -25,7 +24,7 @@ pub record HasTaken (root : StorageRoot) (part : Part) (s t : Store) (old new : 
   pub stands : Stands root walk stood
   pub beyond : HasGoneOn (end_of part) (stand root part None) stood
   pub passes : Passes root (end_of part) begun t old new (stand root part None) stood finding
-  pub last_is : last ≡ last_of None passes.done
+  pub last_is : last ≡ last_or None passes.done
 
 pub nothing_taken : (root : StorageRoot) (part : Part) (s t : Store) (old : Option (List ℕ)) (walk : Walk) → GoesDown root s t (entry part None)
     × Stands root walk (stand root part None) → HasTaken root part s t old old walk None false
@@ -47,7 +46,7 @@ module _ {root : StorageRoot} {s t : Store} {old mid : Option (List ℕ)} {walk 
         let gives : GivesOut root t u h.stood (end_of part) next None = subst (GivesOut root t u h.stood (end_of part) next) is (gave (passes_over h.passes) way.live h.stood h.stands) in
         let all = all_done root (end_of part) h.begun t u old mid (stand root part None) h.stood finding h.beyond h.passes gives.1 in
         finish_part root part s h.begun u old mid h.stood last finding h.down
-        (passes_finish root (end_of part) h.begun t u old mid (stand root part None) h.stood finding h.beyond h.passes gives.0 gives.1) (h.last_is ∙ ap (last_of None) all)
+        (passes_finish root (end_of part) h.begun t u old mid (stand root part None) h.stood finding h.beyond h.passes gives.0 gives.1) (h.last_is ∙ ap (last_or None) all)
 
     module _ {q : Pending} (is : o ≡ Some q) (before : IfSome o (λ p. is_past (end_of part) p.place ≡ false)) (v : Store) (new : Option (List ℕ)) where
       item : GivesItem root (end_of part) t u h.stood next q

@@ -1,7 +1,7 @@
 -- The headline of a cycle by its runs: if no failure was counted, each starts a file only below
 -- its limits.
 use Rattle.std.proofs.Common.{◌≡◌, ◌⊎◌, inl, inr, ℕ, zero, suc, ◌+◌, ◌<◌, ◌≤◌, List, [], ◌∷◌, sym, ◌∙◌, ap, subst, true, false, Bool, Some, None, Option, take, length, arith}
-use Rattle.std.specs.{Prelude.{slice_get}, Io.KnownBytes.{Appends}}
+use Rattle.std.specs.{Prelude.{slice_get}, Io.KnownBytes.{Appends}, List.{last_or}}
 use Rattle.ocfl_tree.specs.{Place.{Place}, StorageRoot.{StorageRoot}, Store.{Store}}
 use Rattle.ocfl_report.specs.{Line.{Item}, Text.{text}}
 use Rattle.ocfl_audit.specs.{Audit.{audit, after, total_cost}, Due.{hashed_among}}
@@ -10,10 +10,10 @@ use Rattle.ocfl_audit.specs.Runs.{Limits, files_of, total_files, StaysWithin, cu
 use Rattle.ocfl_audit.specs.Trail.{unread_of}
 use Rattle.ocfl_cursor.specs.Cursor.{Cursor, new_cursor}
 use Rattle.ocfl_scrub.specs.Call.{Call, call_of, IsUnfailing}
-use Rattle.ocfl_scrub.specs.Chaining.{MadeRun, IsMadeOf, CycleOfRunsWithin, CycleOfRuns}
+use Rattle.ocfl_scrub.specs.Chaining.{MadeRun, IsMadeOf, CycleOfRunsWithin}
 use Rattle.ocfl_scrub.specs.Cycling.{StartsBelow, EachStartsBelow, HeadlineOf, HeadlineOfPart}
-use Rattle.ocfl_scrub.specs.Running.{first_of, place_in, state_after, RunsWithin, RunEndsWithin, RunsFromWithin}
-use Rattle.ocfl_scrub.specs.{Together.{CyclesToWithin}, Written.{places, last_of}}
+use Rattle.ocfl_scrub.specs.Running.{place_in, state_after, RunsWithin, RunEndsWithin, RunsFromWithin}
+use Rattle.ocfl_scrub.specs.{Together.{CyclesToWithin}, Written.{places}}
 use Rattle.ocfl_scrub.specs.declared.cycling.CycleEnd.{CycleEnd}
 use Rattle.ocfl_scrub.specs.declared.cycling.CycleStatus.{CycleStatus}
 use Rattle.ocfl_scrub.specs.declared.running.RunStatus.{RunStatus}
@@ -75,14 +75,14 @@ module _ (root : StorageRoot) (part : Part) where
 
   record Step (k : Call) (from : Option Place) (l : Limits) (next last : Option Place) : Type 0 where
     below : StartsBelow l k (cut (above from) l)
-    next_is : next ≡ first_of (left (above from) l)
+    next_is : next ≡ slice_get (places (left (above from) l)) 0
     goes_on : above last ≡ left (above from) l
 
   step : (s t : Store) (old new : Option (List ℕ)) (from last : Option Place) (l : Limits) (spent files : ℕ) (finding : Bool) (next : Option Place)
       → RunsWithin (call_of root s t old new) part from last l spent files finding next → t.failures ≡ s.failures → Step (call_of root s t old new) from l next last
   step s t old new from last l spent files finding next h same =
       let none : unread_of root h.trail ≡ [] = none_left (unread_of root h.trail) s.failures (sym same ∙ h.looks.audits.did.failures_are) in
-      let last_is : last ≡ last_of from (places (cut (above from) l)) = h.last_is ∙ ap (λ u. last_of from (places (cut (after (within part (audit root u)) from) l))) none in
+      let last_is : last ≡ last_or from (places (cut (above from) l)) = h.last_is ∙ ap (λ u. last_or from (places (cut (after (within part (audit root u)) from) l))) none in
       record {
         below = record {
           wrote = subst (λ u. Appends old new (text (cut (after (within part (audit root u)) from) l))) none h.wrote;
@@ -90,7 +90,7 @@ module _ (root : StorageRoot) (part : Part) where
           files = h.looks.audits.opened ∙ ap (λ u. hashed_among root (places (cut (after (within part (audit root u)) from) l))) none;
           below = stays_within l (cut (above from) l) (cut_paid l (above from));
         };
-        next_is = h.next_is ∙ ap (λ u. first_of (left (after (within part (audit root u)) from) l)) none;
+        next_is = h.next_is ∙ ap (λ u. slice_get (places (left (after (within part (audit root u)) from) l)) 0) none;
         goes_on = ap above last_is ∙ after_front root [] part from (cut (above from) l) (left (above from) l) (sym (cut_and_left (above from) l));
       }
 
@@ -180,5 +180,5 @@ module _ (call : Call) (part : Part) (limits : List Limits) (ran : CycleEnd) (h 
   pub headline_of_part : HeadlineOfPart call part limits ran.runs ran.end
   headline_of_part = by_end ran.end (together call part limits ran h) a.ends
 
-pub headline_of_whole : (call : Call) (limits : List Limits) (ran : CycleEnd) → CycleOfRuns call limits ran → IsUnfailing call → HeadlineOf call limits ran.runs ran.end
+pub headline_of_whole : (call : Call) (limits : List Limits) (ran : CycleEnd) → CycleOfRunsWithin call whole limits ran → IsUnfailing call → HeadlineOf call limits ran.runs ran.end
 headline_of_whole call limits ran h same = headline_of_part call whole limits ran h same

@@ -6,9 +6,9 @@ use Rattle.ocfl_audit.specs.{Lines.{is_empty}, Parts.{Part}, Runs.{Limits}}
 use Rattle.ocfl_cursor.specs.{Cursor.{State, Cursor, new_cursor}, Moves.{after_run}}
 use Rattle.ocfl_item.specs.{declared.fault.Fault.{Fault}, declared.fault.Fault.TheVariants.{Memory}}
 use Rattle.ocfl_scrub.specs.Call.{Call, call_of}
-use Rattle.ocfl_scrub.specs.Running.{place_in, state_at, state_after, begun_in, RunEndsWithin, RunsFromWithin}
+use Rattle.ocfl_scrub.specs.Running.{place_in, state_after, begun_in, RunEndsWithin, RunsFromWithin}
 use Rattle.ocfl_scrub.specs.{Starting.{due_within}, Chaining.{MadeRun, IsMadeOf, CycleOfRunsWithin}}
-use Rattle.ocfl_scrub.specs.Together.{CyclesToWithin, cycle_state, cycle_cursor}
+use Rattle.ocfl_scrub.specs.Together.{CyclesToWithin, state_at, cycle_state, cycle_cursor}
 use Rattle.ocfl_scrub.specs.declared.running.RunStatus.{RunStatus}
 use Rattle.ocfl_scrub.specs.declared.cycling.CycleEnd.{CycleEnd}
 use Rattle.ocfl_scrub.specs.declared.cycling.CycleStatus.{CycleStatus}

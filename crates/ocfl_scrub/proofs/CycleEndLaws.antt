@@ -1,7 +1,7 @@
 -- A cycle over a part said of its audit alone, the headline, and the whole as one part.
 use Rattle.std.proofs.Common.{◌≡◌, ℕ, zero, suc, ◌+◌, ◌-◌, ◌<◌, ◌≤◌, List, [], ◌∷◌, ◌++◌, refl, sym, ◌∙◌, ap, subst, true, false, Bool, None, Option, append-nil, length, length-append, map, take, arith}
 use Rattle.std.proofs.{lemmas.List.{length-map}, KnownBytes.{Appends-nil}}
-use Rattle.std.specs.Io.KnownBytes.{Appends}
+use Rattle.std.specs.{Io.KnownBytes.{Appends}, List.{last_or}}
 use Rattle.ocfl_tree.proofs.Orders.{true_not_false}
 use Rattle.ocfl_item.proofs.AuditingLaws.{audits_nothing}
 use Rattle.ocfl_tree.specs.{Place.{Place}, StorageRoot.{StorageRoot}, Store.{Store}}
@@ -15,8 +15,8 @@ use Rattle.ocfl_audit.proofs.ObjectLaws.{inventories_read}
 use Rattle.ocfl_audit.proofs.RunLaws.{large_whole, large_few, limits_join, limits_few}
 use Rattle.ocfl_item.specs.{Looking.{IsFront}, Auditing.{Audits, Fails}}
 use Rattle.ocfl_item.specs.declared.fault.Fault.{Fault}
-use Rattle.ocfl_scrub.specs.{Call.{Call, call_of}, Written.{places, last_of, Figures}}
-use Rattle.ocfl_scrub.specs.{Starting.{items_in, due_within}, Chaining.{IsMadeOf}}
+use Rattle.ocfl_scrub.specs.{Call.{Call, call_of}, Written.{places, Figures}}
+use Rattle.ocfl_scrub.specs.{Starting.{due_within, items_in}, Chaining.{IsMadeOf}}
 use Rattle.ocfl_scrub.specs.Cycling.{enough, EachStartsBelow, Headline}
 use Rattle.ocfl_scrub.specs.Together.{runs_in, all_in, inventories_in, CyclesWithin, CycleStopsWithin}
 use Rattle.ocfl_scrub.proofs.{AuditLaws.{places_of_items, none_left}, NextLaws.{root_is_due}}
@@ -57,14 +57,14 @@ sum_front (suc k) (b ∷ bs) = let m = sum_front k bs in omega (arith, m)
 
 -- ---- a cycle over a part
 
-part_is : (root : StorageRoot) (part : Part) (os : List Opening) → items_in root os part ≡ items_at root os (due_within root part None)
+part_is : (root : StorageRoot) (part : Part) (os : List Opening) → items_in root os part None ≡ items_at root os (due_within root part None)
 part_is root part os = above_in root part None os
 
 module _ (root : StorageRoot) (part : Part) (s t : Store) (old new : Option (List ℕ)) (last : Option Place) (limits : List Limits) (spent files : ℕ) (finding : Bool) (count : ℕ) where
   pub cycles : (ended : Bool) → Parts root part s t old new None last limits spent files finding count ended → CyclesWithin (call_of root s t old new) part last limits spent files finding count ended
   cycles ended h =
       let k = h.took in
-      let items : List Item = items_in root k.trail part in
+      let items : List Item = items_in root k.trail part None in
       let are : all_in root k.trail part limits ≡ items_at root k.trail k.done = ap (λ is. joined (runs is limits)) (part_is root part k.trail) ∙ h.runs_are in
       let at_places : k.done ≡ places (all_in root k.trail part limits) = sym (ap places are ∙ places_of_items root k.trail k.done) in
       let counted : count ≡ length (runs_in root k.trail part limits) = h.count_is ∙ ap (λ is. length (runs is limits)) (sym (part_is root part k.trail)) in
@@ -79,7 +79,7 @@ module _ (root : StorageRoot) (part : Part) (s t : Store) (old new : Option (Lis
         wrote = subst (λ is. Appends old new (text is)) (sym are) k.wrote;
         figures = subst (λ is. Figures is spent files finding) (sym are) k.figures;
         count_is = counted;
-        last_is = k.last_is ∙ ap (last_of None) at_places;
+        last_is = k.last_is ∙ ap (last_or None) at_places;
         ends_is = (λ e. (h.made e, are ∙ ap (items_at root k.trail) (done_all e) ∙ sym (part_is root part k.trail)), λ e. to_end e.1);
         few = λ b n p q large. let m = large_few b n p q limits items large in omega (arith, counted, m);
         suffice = λ b n p q large fits. to_end (large_whole b n p q limits items large fits);
@@ -102,7 +102,7 @@ module _ (root : StorageRoot) (part : Part) (s t : Store) (old new : Option (Lis
           items_are = ap (λ is. joined (take count (runs is limits))) (part_is root part h.trail) ∙ h.runs_begin;
           begun = h.begun; one = h.one; part = h.gone;
           wrote = h.wrote; part_of = h.part_of;
-          last_is = h.last_is ∙ ap (last_of None) at_places;
+          last_is = h.last_is ∙ ap (last_or None) at_places;
         };
         runs_before = subst (λ is. IsFront (joined (take (count - 1) (runs is limits))) whole) (sym (part_is root part h.trail)) h.runs_before;
         figures = h.figures; listed = h.listed; heads = h.heads;

@@ -6,8 +6,8 @@ use Rattle.ocfl_tree.proofs.Lists.{drop_item}
 use Rattle.ocfl_cursor.specs.Cursor.{State, start, behind, ended, Cursor, new_cursor}
 use Rattle.ocfl_cursor.specs.{Moves.{after_run}, declared.limits.Limits.{Limits as MadeLimits}}
 use Rattle.ocfl_item.specs.{declared.fault.Fault.{Fault}, declared.fault.Fault.TheVariants.{Output}}
-use Rattle.ocfl_scrub.specs.Taking.{WritesLines}
-use Rattle.ocfl_scrub.specs.Running.{limits_of, state_at, state_after, begun_in, begun}
+use Rattle.ocfl_scrub.specs.{Taking.{WritesLines}, Together.{state_at}}
+use Rattle.ocfl_scrub.specs.Running.{limits_of, state_after, begun_in, begun}
 use Rattle.ocfl_scrub.specs.declared.running.RunStatus.{RunStatus}
 use Rattle.ocfl_scrub.specs.declared.cycling.CycleStatus.{CycleStatus}
 use Rattle.ocfl_scrub.specs.declared.running.RunStatus.TheVariants as run

@@ -3,7 +3,7 @@
 use Rattle.std.proofs.Common.{◌≡◌, ◌≢◌, ◌⊎◌, inl, inr, ℕ, suc, ◌+◌, ◌*◌, ◌/◌, ◌≤◌, List, [], ◌∷◌, ◌++◌, refl, sym, ◌∙◌, ap, subst, true, false, Bool, Some, None, Option, append-nil, append_assoc, All, map, filter, not, take, drop, length, suc-mul, arith, ltb-false}
 use Rattle.std.proofs.lemmas.List.{map-append, append_cancel_left, take-append-drop}
 use Rattle.std.proofs.{lemmas.List.Elements.{All-head, All-tail}, lemmas.Nat.{le-div}}
-use Rattle.std.specs.{Prelude.{cond, flat_map, ◌==◌, ◌||◌, ◌&&◌, nat_lt}, List.{AllByRecursion}}
+use Rattle.std.specs.{Prelude.{cond, flat_map, ◌==◌, ◌||◌, ◌&&◌, nat_lt, slice_get}, List.{AllByRecursion, last_or}}
 use Rattle.std.specs.{Ordering.{is_lt, is_eq}, declared.cmp.Ordering.{Ordering}}
 use Rattle.std.specs.declared.cmp.Ordering.TheVariants.{Less, Equal, Greater}
 use Rattle.ocfl_tree.specs.Place.{Text, Place, place_cmp, place_eq}
@@ -15,7 +15,7 @@ use Rattle.ocfl_report.specs.{Line.{Item}, Text.{text}}
 use Rattle.ocfl_audit.specs.Audit.{Unread, given_by, audit, after, item_of, total_cost}
 use Rattle.ocfl_audit.specs.Due.{item_places, due, items_at, hashed_among}
 use Rattle.ocfl_audit.specs.Parts.{Part, lies_in, within, places_within, parts_of, unread_in, together}
-use Rattle.ocfl_audit.specs.Runs.{Limits, total_files, may_take, IsAtLeast}
+use Rattle.ocfl_audit.specs.Runs.{Limits, total_files, may_take, IsAtLeast, left}
 use Rattle.ocfl_audit.specs.Trail.{content_trail, content_openings, unread_of}
 use Rattle.ocfl_audit.proofs.{ApartLaws.{apart_texts, unread_is}, DueLaws.{audit_by_places}}
 use Rattle.ocfl_audit.proofs.Lists.{map_filter}
@@ -25,8 +25,8 @@ use Rattle.ocfl_cursor.specs.Cursor.{State, start, behind, ended, Cursor}
 use Rattle.ocfl_item.specs.{declared.fault.Fault.{Fault}, declared.fault.Fault.TheVariants.{Output}}
 use Rattle.ocfl_scrub.specs.Call.{Call, known_call}
 use Rattle.ocfl_scrub.specs.Joining.{PartRun, Ran, AreOneCycle, cursor_after, is_taken, left_by, unread_by, unread_together, is_stopped, unstopped, items_out, reports_of, PartCycle, IsWholeCycle}
-use Rattle.ocfl_scrub.specs.Running.{place_in, begun, begun_in, state_at, state_after, first_of, items_above_in, taken_in, rest_in, RunsWithin, RunStopsWithin, RunEndsWithin, RunsFromWithin}
-use Rattle.ocfl_scrub.specs.{Starting.{due_within}, Written.{places, last_of}}
+use Rattle.ocfl_scrub.specs.Running.{place_in, begun, begun_in, state_after, taken_in, RunsWithin, RunStopsWithin, RunEndsWithin, RunsFromWithin}
+use Rattle.ocfl_scrub.specs.{Starting.{due_within, items_in}, Together.{state_at}, Written.{places}}
 use Rattle.ocfl_scrub.specs.declared.running.RunEnd.{RunEnd}
 use Rattle.ocfl_scrub.specs.declared.running.RunStatus.{RunStatus}
 use Rattle.ocfl_scrub.specs.declared.running.RunStatus.TheVariants as status
@@ -94,7 +94,7 @@ left_reached l s f c h = by (c == 0) h
     by true k = absurd (true_not_false k)
     by false k = which (nat_lt s l.budget) (nat_lt f l.files) refl refl k
 
-reached_by : (l : Limits) (s f : ℕ) (items : List Item) (p : Place) → Some p ≡ first_of items → IsStop l s f items → (l.budget ≤ s) ⊎ (l.files ≤ f)
+reached_by : (l : Limits) (s f : ℕ) (items : List Item) (p : Place) → Some p ≡ slice_get (places items) 0 → IsStop l s f items → (l.budget ≤ s) ⊎ (l.files ≤ f)
 reached_by l s f [] p e h = absurd cc
 reached_by l s f (i ∷ items) p e h = left_reached l s f i.cost h
 
@@ -168,12 +168,12 @@ less_true : (r : Ordering) → r ≡ Less → is_lt r ≡ true
 less_true r e = ap is_lt e
 
 -- each of some places in order is taken if the cursor is after the last
-taken_to_last : (from : Option Place) (ps : List Place) (p : Place) → IsAscending place_cmp ps → IsAmong ps p → is_taken (state_at (last_of from ps)) p ≡ true
+taken_to_last : (from : Option Place) (ps : List Place) (p : Place) → IsAscending place_cmp ps → IsAmong ps p → is_taken (state_at (last_or from ps)) p ≡ true
 taken_to_last from [] p up i = absurd i
 taken_to_last from (x ∷ xs) p up (inr i) = taken_to_last (Some x) xs p up.1 i
 taken_to_last from (x ∷ xs) p up (inl e) = subst (λ o. is_taken (state_at o) p ≡ true) (sym last.1.0) (ap not (by last.1.1))
   where
-    last : (q : Place) × ((last_of (Some x) xs ≡ Some q) × IsAmong (x ∷ xs) q)
+    last : (q : Place) × ((last_or (Some x) xs ≡ Some q) × IsAmong (x ∷ xs) q)
     last = last_among x xs
 
     by : IsAmong (x ∷ xs) last.0 → is_lt (place_cmp last.0 p) ≡ false
@@ -245,7 +245,7 @@ module _ (root : StorageRoot) (part : Part) where
     state_is end e = ap (λ x. x.state) w.runs.cursor_is ∙ ap (λ x. state_after x last) e
 
     -- the first of what was due
-    module _ (os : List Opening) (out rest : List Item) (split : items_above_in root os part from ≡ out ++ rest) (last_is : last ≡ last_of from (places out))
+    module _ (os : List Opening) (out rest : List Item) (split : items_in root os part from ≡ out ++ rest) (last_is : last ≡ last_or from (places out))
         (same : os ≡ r.opened) where
       abbrev done : List Place
       done = places out
@@ -263,15 +263,15 @@ module _ (root : StorageRoot) (part : Part) where
       taken_before p i = subst (λ l. is_taken (state_at l) p ≡ true) (sym last_is) (taken_to_last from done p up i)
 
     -- it took the cut
-    cut_split : (os : List Opening) → items_above_in root os part from ≡ taken_in root os part from r.limits ++ rest_in root os part from r.limits
-    cut_split os = sym (cut_and_left (items_above_in root os part from) r.limits)
+    cut_split : (os : List Opening) → items_in root os part from ≡ taken_in root os part from r.limits ++ left (items_in root os part from) r.limits
+    cut_split os = sym (cut_and_left (items_in root os part from) r.limits)
 
     ended_takes : (h : RunsWithin call part from last r.limits r.ran.spent r.ran.files r.ran.found None) → r.report ≡ text (taken_in root h.trail part from r.limits)
         → r.ran.end ≡ status.Ended → Takes c r
     ended_takes h report e =
         let same = trail_is h.trail h.looks.audits.did.openings_are in
         let out : List Item = taken_in root h.trail part from r.limits in
-        let rest : List Item = rest_in root h.trail part from r.limits in
+        let rest : List Item = left (items_in root h.trail part from) r.limits in
         let split = cut_split h.trail in
         let state : r.ran.cursor.state ≡ ended = state_is status.Ended e in
         let none : due_within root part last ≡ [] = sym (places_of_items root h.trail (due_within root part last))
@@ -292,7 +292,7 @@ module _ (root : StorageRoot) (part : Part) where
     spent_takes next h report e =
         let same = trail_is h.trail h.looks.audits.did.openings_are in
         let out : List Item = taken_in root h.trail part from r.limits in
-        let rest : List Item = rest_in root h.trail part from r.limits in
+        let rest : List Item = left (items_in root h.trail part from) r.limits in
         let split = cut_split h.trail in
         let state : r.ran.cursor.state ≡ state_at last = state_is status.Spent e in
         record {
@@ -304,31 +304,31 @@ module _ (root : StorageRoot) (part : Part) where
           ends = inl state;
           goes_on = λ f. ap place_in state ∙ place_there last;
           spends = λ f. subst (λ is. (r.limits.budget ≤ total_cost is) ⊎ (r.limits.files ≤ total_files is)) (out_is h.trail out rest split h.last_is same)
-              (reached_by r.limits (total_cost out) (total_files out) rest next h.next_is (cut_stops r.limits (items_above_in root h.trail part from)));
+              (reached_by r.limits (total_cost out) (total_files out) rest next h.next_is (cut_stops r.limits (items_in root h.trail part from)));
         }
 
     -- it stopped, maybe in a further one
     module _ (why : Fault) (h : RunStopsWithin call part from last r.limits r.ran.spent r.ran.files r.ran.found why) where
       abbrev unwritten : List Item
-      unwritten = h.stops.others ++ rest_in root h.trail part from r.limits
+      unwritten = h.stops.others ++ left (items_in root h.trail part from) r.limits
 
       abbrev unbegun : List Place
-      unbegun = (h.stops.one.0 ++ places (drop 1 h.stops.others)) ++ places (rest_in root h.trail part from r.limits)
+      unbegun = (h.stops.one.0 ++ places (drop 1 h.stops.others)) ++ places (left (items_in root h.trail part from) r.limits)
 
-      stop_split : items_above_in root h.trail part from ≡ h.stops.whole ++ unwritten
-      stop_split = sym (cut_and_left (items_above_in root h.trail part from) r.limits) ∙ ap (λ is. is ++ rest_in root h.trail part from r.limits) h.stops.items_are
-          ∙ append_assoc h.stops.whole h.stops.others (rest_in root h.trail part from r.limits)
+      stop_split : items_in root h.trail part from ≡ h.stops.whole ++ unwritten
+      stop_split = sym (cut_and_left (items_in root h.trail part from) r.limits) ∙ ap (λ is. is ++ left (items_in root h.trail part from) r.limits) h.stops.items_are
+          ∙ append_assoc h.stops.whole h.stops.others (left (items_in root h.trail part from) r.limits)
 
       next_first : places h.stops.others ≡ h.stops.begun ++ (h.stops.one.0 ++ places (drop 1 h.stops.others))
       next_first = ap places (sym (take-append-drop 1 h.stops.others)) ∙ map-append (λ i. i.place) (take 1 h.stops.others) (drop 1 h.stops.others)
           ∙ ap (λ ps. ps ++ places (drop 1 h.stops.others)) h.stops.one.1 ∙ append_assoc h.stops.begun h.stops.one.0 (places (drop 1 h.stops.others))
 
       due_next : due_within root part last ≡ h.stops.begun ++ unbegun
-      due_next = ap (due_within root part) h.stops.last_is ∙ sym (places_of_items root h.trail (due_within root part (last_of from (places h.stops.whole))))
+      due_next = ap (due_within root part) h.stops.last_is ∙ sym (places_of_items root h.trail (due_within root part (last_or from (places h.stops.whole))))
           ∙ ap places (rest_is root part h.trail from h.stops.whole unwritten stop_split)
-          ∙ map-append (λ i. i.place) h.stops.others (rest_in root h.trail part from r.limits)
-          ∙ ap (λ ps. ps ++ places (rest_in root h.trail part from r.limits)) next_first
-          ∙ append_assoc h.stops.begun (h.stops.one.0 ++ places (drop 1 h.stops.others)) (places (rest_in root h.trail part from r.limits))
+          ∙ map-append (λ i. i.place) h.stops.others (left (items_in root h.trail part from) r.limits)
+          ∙ ap (λ ps. ps ++ places (left (items_in root h.trail part from) r.limits)) next_first
+          ∙ append_assoc h.stops.begun (h.stops.one.0 ++ places (drop 1 h.stops.others)) (places (left (items_in root h.trail part from) r.limits))
 
       stopped_takes : r.report ≡ text h.stops.whole → r.ran.end ≡ status.Stopped why → Takes c r
       stopped_takes report e =
@@ -380,7 +380,7 @@ module _ (root : StorageRoot) (part : Part) where
             let same = trail_is h.trail h.looks.audits.did.openings_are in
             let out : List Item = taken_in root h.trail part from r.limits in
             due_there h.trail (places out) (due_within root part last)
-            (due_parts_are h.trail out (rest_in root h.trail part from r.limits) (cut_split h.trail) h.last_is same) same h.looks.audits.opened
+            (due_parts_are h.trail out (left (items_in root h.trail part from) r.limits) (cut_split h.trail) h.last_is same) same h.looks.audits.opened
 
         stopped : (why : Fault) → RunStopsWithin call part from last r.limits r.ran.spent r.ran.files r.ran.found why → AreDue
         stopped why h =

@@ -1,7 +1,7 @@
 -- Runs of a part one after the other take what it has, and the parts of a root take the audit.
 use Rattle.std.proofs.Common.{◌≡◌, ℕ, suc, ◌+◌, ◌≤◌, ◌/◌, List, [], ◌∷◌, ◌++◌, refl, sym, ◌∙◌, ap, subst, Some, None, Option, append-nil, All, map, length, false, arith}
 use Rattle.std.proofs.lemmas.List.{map-append, append_cancel_left}
-use Rattle.std.specs.{Prelude.{flat_map}, List.{AllByRecursion}}
+use Rattle.std.specs.{Prelude.{flat_map, slice_get}, List.{AllByRecursion, last_or}}
 use Rattle.ocfl_tree.specs.{Place.{Place, place_cmp}, Ascending.{IsAscending}}
 use Rattle.ocfl_tree.specs.StorageRoot.{StorageRoot}
 use Rattle.ocfl_report.specs.{Line.{Item}, Text.{text}}
@@ -14,15 +14,15 @@ use Rattle.ocfl_audit.proofs.PartLaws.{texts_join, hashed_join, within_by_places
 use Rattle.ocfl_audit.proofs.RunLaws.{large_few}
 use Rattle.ocfl_item.proofs.AuditingLaws.{hashed_append}
 use Rattle.ocfl_cursor.specs.Cursor.{Cursor}
-use Rattle.ocfl_scrub.specs.{Call.{known_call}, Written.{places, last_of}}
-use Rattle.ocfl_scrub.specs.Running.{first_of, place_in, state_after, RunsWithin, RunEndsWithin}
+use Rattle.ocfl_scrub.specs.{Call.{known_call}, Written.{places}}
+use Rattle.ocfl_scrub.specs.Running.{place_in, state_after, RunsWithin, RunEndsWithin}
 use Rattle.ocfl_scrub.specs.Joining.{PartRun, RanWell, AreRuns, reports_of, opened_by, PartCycle, IsPartCycle}
 use Rattle.ocfl_scrub.specs.declared.running.RunStatus.TheVariants as status
 use Rattle.ocfl_scrub.proofs.{AuditLaws.{none_left}, CutLaws.{cut_and_left}, PassLaws.{text_append}}
 use Rattle.ocfl_scrub.proofs.{RunLaws.{no_first}, RunPlaces.{after_front}, RunsJoined.{runs_go_on}}
 use Rattle.ocfl_scrub.proofs.ChainLaws.{place_there}
 
-pub some_first : (items : List Item) (p : Place) → Some p ≡ first_of items → is_empty items ≡ false
+pub some_first : (items : List Item) (p : Place) → Some p ≡ slice_get (places items) 0 → is_empty items ≡ false
 some_first [] p e = absurd cc
 some_first (i ∷ items) p e = refl
 
@@ -35,7 +35,7 @@ module _ (root : StorageRoot) (part : Part) where
   record Step (c : Cursor) (r : PartRun) (next last : Option Place) : Type 0 where
     wrote : r.report ≡ text (cut (above (place_in c.state)) r.limits)
     opened : content_trail root r.opened ≡ hashed_among root (places (cut (above (place_in c.state)) r.limits))
-    next_is : next ≡ first_of (left (above (place_in c.state)) r.limits)
+    next_is : next ≡ slice_get (places (left (above (place_in c.state)) r.limits)) 0
     goes_on : above last ≡ left (above (place_in c.state)) r.limits
 
   step : (c : Cursor) (r : PartRun) (next last : Option Place) (w : RanWell root part c r)
@@ -44,11 +44,11 @@ module _ (root : StorageRoot) (part : Part) where
       let from : Option Place = place_in c.state in
       let none : unread_of root h.trail ≡ [] = none_left (unread_of root h.trail) w.before.failures (sym w.unfailing ∙ h.looks.audits.did.failures_are) in
       let same_trail : r.opened ≡ h.trail = append_cancel_left w.before.openings r.opened h.trail (sym w.opened_is ∙ h.looks.audits.did.openings_are) in
-      let last_is : last ≡ last_of from (places (cut (above from) r.limits)) = h.last_is ∙ ap (λ u. last_of from (places (cut (after (within part (audit root u)) from) r.limits))) none in
+      let last_is : last ≡ last_or from (places (cut (above from) r.limits)) = h.last_is ∙ ap (λ u. last_or from (places (cut (after (within part (audit root u)) from) r.limits))) none in
       record {
         wrote = append_cancel_left w.old r.report (text (cut (above from) r.limits)) (h.wrote ∙ ap (λ u. w.old ++ text (cut (after (within part (audit root u)) from) r.limits)) none);
         opened = ap (content_trail root) same_trail ∙ h.looks.audits.opened ∙ ap (λ u. hashed_among root (places (cut (after (within part (audit root u)) from) r.limits))) none;
-        next_is = h.next_is ∙ ap (λ u. first_of (left (after (within part (audit root u)) from) r.limits)) none;
+        next_is = h.next_is ∙ ap (λ u. slice_get (places (left (after (within part (audit root u)) from) r.limits)) 0) none;
         goes_on = ap above last_is ∙ after_front root [] part from (cut (above from) r.limits) (left (above from) r.limits) (sym (cut_and_left (above from) r.limits));
       }
 

@@ -1,6 +1,6 @@
 -- A walk that is kept: what it stands for, and a way on which it could have come there.
 use Rattle.std.proofs.Common.{◌≡◌, ℕ, List, [], ◌∷◌, refl, sym, ◌∙◌, ap, subst, true, Bool, Some, None, Option}
-use Rattle.std.specs.Prelude.{IfSome, not}
+use Rattle.std.specs.{Prelude.{IfSome, not}, List.{last_or}}
 use Rattle.ocfl_tree.specs.{Place.{Text, Place}, Ascending.{IsAmong}, StorageRoot.{StorageRoot}}
 use Rattle.ocfl_tree.specs.Store.{Store, Did}
 use Rattle.ocfl_tree.proofs.Orders.{among_from_filter, among_left}
@@ -10,13 +10,13 @@ use Rattle.ocfl_item.proofs.AuditingLaws.{audits_meta, front_all, front_none, ne
 use Rattle.ocfl_walk.specs.{Ends.{is_past}, WalkCalls.{GoesDown, IsRootFirst, way_of}}
 use Rattle.ocfl_walk.specs.Walks.{Gives}
 use Rattle.ocfl_scrub.specs.{Keeping.{IsMet}, Passes.{IsAhead}, Starting.{end_of, entry, stand}}
-use Rattle.ocfl_scrub.specs.{Written.{last_of}, declared.kept.Met.{Met}}
+use Rattle.ocfl_scrub.specs.declared.kept.Met.{Met}
 use Rattle.ocfl_scrub.proofs.{AlikeLaws.{walks_with}, LookedLaws.{due_lies, stand_there}}
 use Rattle.ocfl_scrub.proofs.{PassLaws.{last_among}, RunTurns.{HasMet, HasPaid}}
 
 -- ---- where it stands after a run
 
-stood_at : (root : StorageRoot) (part : Part) (from last stood : Option Place) (done : List Place) → stood ≡ last_of (stand root part from) done → last ≡ last_of from done
+stood_at : (root : StorageRoot) (part : Part) (from last stood : Option Place) (done : List Place) → stood ≡ last_or (stand root part from) done → last ≡ last_or from done
     → ((q : Place) → IsAmong done q → lies_in part q ≡ true) → stood ≡ stand root part last
 stood_at root part from last stood [] e f lie = e ∙ ap (stand root part) (sym f)
 stood_at root part from last stood (p ∷ ps) e f lie =

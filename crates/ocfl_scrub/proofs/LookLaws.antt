@@ -8,6 +8,7 @@ use Rattle.ocfl_item.specs.declared.fault.Fault.{Fault}
 use Rattle.ocfl_item.proofs.AuditingLaws.{audits_fail, audits_on}
 use Rattle.ocfl_walk.specs.WalkCalls.{GoesDown, GoDownFails}
 use Rattle.ocfl_scrub.specs.Call.{call_of}
+use Rattle.ocfl_scrub.proofs.WayOrder.{way_is, held_in}
 use Rattle.ocfl_scrub.specs.Starting.{FilesLieIn, entry, looked_in, read_in, LooksOver, StopsLooking}
 
 module _ (root : StorageRoot) (part : Part) (s t u : Store) (old new : Option (List ℕ)) (from : Option Place) (g : GoesDown root s t (entry part from)) where
@@ -17,7 +18,8 @@ module _ (root : StorageRoot) (part : Part) (s t u : Store) (old new : Option (L
   looks_over to done os files k = record {
     down = g.listed; held = g.heads;
     audits = audits_on root s t u [] done g.listed (looked_in root part from to) g.heads (read_in root part from to) g.trail os g.audits k;
-    down_front = g.listed_front; files_lie = files; held_front = g.heads_front;
+    down_front = subst (IsFront g.listed) (way_is part from) g.listed_front;
+    files_lie = files; held_front = subst (IsFront g.heads) (held_in part from root) g.heads_front;
   }
 
   pub stops_looking : (why : Fault) (begun listed heads : List Place) (os : List Opening) → Fails root t u begun listed heads os why
@@ -27,7 +29,8 @@ module _ (root : StorageRoot) (part : Part) (s t u : Store) (old new : Option (L
     down = g.listed; listed = listed;
     held = g.heads; heads = heads;
     fails = audits_fail root s t u [] begun g.listed listed g.heads heads g.trail os why g.audits k;
-    down_front = g.listed_front; listed_front = listed_front; held_front = g.heads_front;
+    down_front = subst (IsFront g.listed) (way_is part from) g.listed_front;
+    listed_front = listed_front; held_front = subst (IsFront g.heads) (held_in part from root) g.heads_front;
     heads_front = heads_front; files_lie = files;
   }
 
@@ -41,7 +44,8 @@ stops_above root part s t old new from why g =
       down = g.listed; listed = [];
       held = g.heads; heads = [];
       fails = subst (λ ls. Fails root s t [] ls (g.heads ++ []) g.trail why) (sym (append-nil g.listed)) (subst (λ hs. Fails root s t [] g.listed hs g.trail why) (sym (append-nil g.heads)) g.fails);
-      down_front = g.listed_front; listed_front = no_directory;
-      held_front = g.heads_front; heads_front = no_head;
+      down_front = subst (IsFront g.listed) (way_is part from) g.listed_front;
+    listed_front = no_directory;
+      held_front = subst (IsFront g.heads) (held_in part from root) g.heads_front; heads_front = no_head;
       files_lie = λ p i h. absurd i;
     }

@@ -1,5 +1,5 @@
 -- What is opened lies where it was listed.
-use Rattle.std.proofs.Common.{◌≡◌, ◌⊎◌, inl, inr, ℕ, List, [], ◌∷◌, ◌++◌, refl, sym, ap, subst, Bool, true, false, Option, Some, None, not, append-nil}
+use Rattle.std.proofs.Common.{◌≡◌, ◌⊎◌, inl, inr, ℕ, List, [], ◌∷◌, ◌++◌, refl, sym, ap, subst, Bool, true, false, Option, Some, None, not, append-nil, ◌∙◌}
 use Rattle.ocfl_tree.specs.{Place.{Place}, Ascending.{IsAmong}, StorageRoot.{StorageRoot}}
 use Rattle.ocfl_tree.specs.declared.store.Opening.{Opening}
 use Rattle.ocfl_tree.proofs.Orders.{among_filter, among_from_filter, among_left, among_map}
@@ -15,12 +15,13 @@ use Rattle.ocfl_walk.specs.WalkCalls.{way_of}
 use Rattle.ocfl_walk.proofs.WayDownLaws.{on_way}
 use Rattle.ocfl_scrub.specs.{Call.{Call}, Checking.{CheckEnds}, Openings.{OpensNear, OpensWithin}}
 use Rattle.ocfl_scrub.specs.Running.{RunEndsWithin}
-use Rattle.ocfl_scrub.specs.Starting.{FilesLieIn, LooksOver, StopsLooking, entry, looked_in}
+use Rattle.ocfl_scrub.specs.Starting.{FilesLieIn, LooksOver, StopsLooking, entry, looked_in, way_in}
 use Rattle.ocfl_scrub.specs.WholeAudit.{AuditEndsWithin}
 use Rattle.ocfl_scrub.specs.declared.checking.AuditStatus.{AuditStatus}
 use Rattle.ocfl_scrub.specs.declared.running.RunStatus.{RunStatus}
 use Rattle.ocfl_scrub.specs.declared.checking.AuditStatus.TheVariants as end
 use Rattle.ocfl_scrub.specs.declared.running.RunStatus.TheVariants as run
+use Rattle.ocfl_scrub.proofs.WayOrder.{way_is}
 
 from_hashed : (root : StorageRoot) (ps : List Place) (p : Place) → IsAmong (hashed_among root ps) p → IsAmong ps p × (is_hashed root p ≡ true)
 unfolding hashed_among
@@ -50,12 +51,12 @@ from_way None d i = absurd i
 from_way (Some e) d i = let k = on_way e d i in (k.0, ap (λ y. Some y) k.1)
 
 module _ (call : Call) (part : Part) (from : Option Place) where
-  there_by : (down listed : List Place) → IsFront down (way_of (entry part from)) → (to : Option Place) → IsFront listed (looked_in call.root part from to) → (d : Place)
+  there_by : (down listed : List Place) → IsFront down (way_in part from) → (to : Option Place) → IsFront listed (looked_in call.root part from to) → (d : Place)
       → IsAmong (down ++ listed) d → (lies_in part d ≡ true) ⊎ ((q : Place) × (entry part from ≡ Some (d ++ q)))
   there_by down listed h to k d i = by (among_either down listed d i)
     where
       by : IsAmong down d ⊎ IsAmong listed d → (lies_in part d ≡ true) ⊎ ((q : Place) × (entry part from ≡ Some (d ++ q)))
-      by (inl j) = inr (from_way (entry part from) d (subst (λ l. IsAmong l d) (sym h.1) (among_left down h.0 d j)))
+      by (inl j) = inr (from_way (entry part from) d (subst (λ l. IsAmong l d) (sym h.1 ∙ sym (way_is part from)) (among_left down h.0 d j)))
       by (inr j) =
           let whole : IsAmong (places_within part (looked_between call.root from to)) d = subst (λ l. IsAmong l d) (sym k.1) (among_left listed k.0 d j) in
           inl (among_from_filter (lies_in part) (looked_between call.root from to) d (subst (λ l. IsAmong l d) (places_within_is part (looked_between call.root from to)) whole)).1

@@ -4,7 +4,8 @@ use Rattle.std.specs.Prelude.{cond, ◌==◌}
 use Rattle.ocfl_tree.specs.Place.{Place}
 use Rattle.ocfl_report.specs.Line.{Item}
 use Rattle.ocfl_audit.specs.{Audit.{total_cost}, Parts.{Part}, Runs.{Limits, cut}}
-use Rattle.ocfl_scrub.specs.{Call.{Call}, Running.{items_above_in, taken_in, RunsWithin}}
+use Rattle.ocfl_scrub.specs.Starting.{items_in}
+use Rattle.ocfl_scrub.specs.{Call.{Call}, Running.{taken_in, RunsWithin}}
 use Rattle.ocfl_audit.proofs.RunLaws.{cost_append}
 use Rattle.ocfl_scrub.proofs.{CutLaws.{last_cost, no_cost, paid_passes}, PartLaws.{cut_paid}}
 
@@ -24,7 +25,7 @@ pub less_than_the_last : (call : Call) (part : Part) (from to next : Option Plac
     (run : RunsWithin call part from to limits spent files finding next) (front behind : List Item) (last : Item)
     → taken_in call.root run.trail part from limits ≡ front ++ last ∷ behind → 0 < last.cost → total_cost behind ≡ 0 → spent < limits.budget + last.cost
 less_than_the_last call part from to next limits spent files finding run front behind last are h k =
-    let items : List Item = items_above_in call.root run.trail part from in
+    let items : List Item = items_in call.root run.trail part from in
     let a : spent ≡ total_cost (cut items limits) = run.figures.spent_is in
     let e : total_cost (cut items limits) ≡ total_cost (front ++ last ∷ behind) = ap total_cost are in
     let f = cost_append front (last ∷ behind) in

@@ -23,8 +23,7 @@ use Rattle.ocfl_walk.specs.Before.{directory_of, place_before, places_from}
 use Rattle.ocfl_walk.specs.Ends.{is_above_branch, is_at_bound, is_past, before_end}
 use Rattle.ocfl_walk.proofs.BeforeLaws.{below_from, due_from, looked_from, read_from, not_below}
 use Rattle.ocfl_walk.proofs.EndLaws.{all_left, not_past_down}
-use Rattle.ocfl_scrub.specs.Starting.{end_of, greater_of, unless_root, first_place, is_before, entry_by, entry, stand_by, stand, due_within, looked_in, read_in}
-use Rattle.ocfl_scrub.specs.Running.{items_above_in}
+use Rattle.ocfl_scrub.specs.Starting.{end_of, greater_of, unless_root, first_place, is_before, entry_by, entry, stand_by, stand, due_within, looked_in, read_in, items_in}
 use Rattle.ocfl_scrub.proofs.OrderLaws.{looked_ascend, read_ascend}
 use Rattle.ocfl_scrub.proofs.PassLaws.{due_ascends, not_less_or}
 
@@ -232,7 +231,7 @@ module _ (root : StorageRoot) (part : Part) (above : Option Place) where
     read_to = sym read_before ∙ read_starts (Some next)
 
   -- the items of the part above the place
-  pub above_in : (os : List Opening) → items_above_in root os part above ≡ items_at root os (due_within root part above)
+  pub above_in : (os : List Opening) → items_in root os part above ≡ items_at root os (due_within root part above)
   unfolding items_at
   above_in os =
       part_goes_on part above (audit root (unread_of root os)) ∙ ap (within part) (after_is_due root os above)

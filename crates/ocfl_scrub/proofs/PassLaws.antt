@@ -1,7 +1,7 @@
 -- A pass, item by item, and its ends.
 use Rattle.std.proofs.Common.{◌≡◌, ◌≢◌, ◌⊎◌, inl, inr, ℕ, List, [], ◌∷◌, ◌++◌, refl, sym, ◌∙◌, ap, subst, true, false, Bool, Some, None, Option, append-nil, append_assoc, take, not}
 use Rattle.std.proofs.KnownBytes.{Appends-nil, Appends-trans}
-use Rattle.std.specs.{Prelude.{cond, ◌||◌}, List.{list_any}, Ordering.{is_lt}}
+use Rattle.std.specs.{Prelude.{cond, ◌||◌}, List.{list_any, last_or}, Ordering.{is_lt}}
 use Rattle.std.specs.{Io.KnownBytes.{Appends}, declared.cmp.Ordering.{Ordering}}
 use Rattle.std.specs.declared.cmp.Ordering.TheVariants.{Less, Equal, Greater}
 use Rattle.ocfl_tree.specs.{Place.{Place, place_cmp}, Ascending.{IsAscending, IsAmong}}
@@ -9,8 +9,8 @@ use Rattle.ocfl_tree.specs.{StorageRoot.{StorageRoot}, Store.{Store}}
 use Rattle.ocfl_tree.specs.declared.store.Opening.{Opening}
 use Rattle.ocfl_tree.proofs.Orders.{place_cmp_total, place_cmp_exact, not_less_itself, below_from_greater, true_not_false, among_left, among_right, ascends_filter, among_from_filter}
 use Rattle.ocfl_tree.proofs.Stores.{among_either}
-use Rattle.ocfl_report.specs.Line.{Line, Item, has_finding, found, is_finding_code}
-use Rattle.ocfl_report.specs.Text.{lines_text, text, line_text}
+use Rattle.ocfl_report.specs.Line.{Item, has_finding, found}
+use Rattle.ocfl_report.specs.Text.{lines_text, text}
 use Rattle.ocfl_audit.specs.{Due.{item_places, due, items_at, hashed_among}, Trail.{content_trail}}
 use Rattle.ocfl_audit.specs.Between.{IsBeyond, IsWithin, looked_between, read_between}
 use Rattle.ocfl_audit.proofs.{BelowLaws.{less_from}, BetweenLaws.{among_between, from_between}}
@@ -21,7 +21,6 @@ use Rattle.ocfl_walk.specs.{WalkCalls.{Walks, WalksOut, FailsOut}, Ends.{is_past
 use Rattle.ocfl_walk.specs.declared.end.End.{End}
 use Rattle.ocfl_walk.proofs.{BeforeLaws.{not_below}, WalkCallLaws.{audits_as}}
 use Rattle.ocfl_scrub.specs.{Call.{call_of}, Taking.{WritesLines, PartOf, Takes, Misses}}
-use Rattle.ocfl_scrub.specs.Written.{last_of}
 use Rattle.ocfl_scrub.proofs.Passing.{up_to_last, due_in, Passes, Finishes, Halts}
 use Rattle.ocfl_scrub.proofs.Lists.{flat_append, ascends_left}
 use Rattle.ocfl_scrub.proofs.AuditsJoined.{items_before, items_behind, items_then}
@@ -48,12 +47,11 @@ found_append xs ys = any_append has_finding xs ys
 -- ---- on every store
 
 pub lines_then : (old mid new : Option (List ℕ)) (a b either : Bool) → WritesLines old mid a → WritesLines mid new b → either ≡ (a || b) → WritesLines old new either
-lines_then old mid new a b either h k e =
-    let test = λ (l : Line). is_finding_code l.code in (
-      h.0 ++ k.0,
-      subst (Appends old new) (sym (flat_append line_text h.0 k.0)) (Appends-trans old mid new _ _ h.1 k.1),
-      e ∙ ap (λ x. x || b) h.2 ∙ ap (λ x. list_any test h.0 || x) k.2 ∙ sym (any_append test h.0 k.0),
-    )
+lines_then old mid new a b either h k e = (
+  h.0 ++ k.0,
+  subst (Appends old new) (sym (text_append h.0 k.0)) (Appends-trans old mid new _ _ h.1 k.1),
+  e ∙ ap (λ x. x || b) h.2 ∙ ap (λ x. found h.0 || x) k.2 ∙ sym (found_append h.0 k.0),
+)
 
 -- ---- what is due
 
@@ -66,7 +64,7 @@ pub front_ascends : (root : StorageRoot) (from : Option Place) (ps qs rest : Lis
 front_ascends root from ps qs rest e =
     ascends_left place_cmp (ps ++ qs) rest (subst (IsAscending place_cmp) (e ∙ sym (append_assoc ps qs rest)) (due_ascends root from))
 
-pub last_append : (from : Option Place) (ps : List Place) (p : Place) → last_of from (ps ++ p ∷ []) ≡ Some p
+pub last_append : (from : Option Place) (ps : List Place) (p : Place) → last_or from (ps ++ p ∷ []) ≡ Some p
 last_append from [] p = refl
 last_append from (q ∷ ps) p = last_append (Some q) ps p
 
@@ -111,12 +109,12 @@ not_less_or x a b h k = by (place_cmp a b) (place_cmp x b) refl refl
     by Greater Greater e f = refl
 
 -- after one place there is a last one
-pub last_among : (p : Place) (ps : List Place) → (m : Place) × ((last_of (Some p) ps ≡ Some m) × IsAmong (p ∷ ps) m)
+pub last_among : (p : Place) (ps : List Place) → (m : Place) × ((last_or (Some p) ps ≡ Some m) × IsAmong (p ∷ ps) m)
 last_among p [] = (p, (refl, inl refl))
 last_among p (q ∷ ps) = let h = last_among q ps in (h.0, (h.1.0, inr h.1.1))
 
 -- the last of some places is not less than any of them
-last_upper : (from : Option Place) (ps : List Place) → IsAscending place_cmp ps → (p : Place) → IsAmong ps p → (m : Place) × ((last_of from ps ≡ Some m) × (is_lt (place_cmp m p) ≡ false))
+last_upper : (from : Option Place) (ps : List Place) → IsAscending place_cmp ps → (p : Place) → IsAmong ps p → (m : Place) × ((last_or from ps ≡ Some m) × (is_lt (place_cmp m p) ≡ false))
 last_upper from [] up p i = absurd i
 last_upper from (q ∷ []) up p (inl e) = (q, (refl, subst (λ x. is_lt (place_cmp q x) ≡ false) (sym e) (not_less_itself place_cmp_total q)))
 last_upper from (q ∷ []) up p (inr i) = absurd i
@@ -145,7 +143,7 @@ module _ (root : StorageRoot) (from : Option Place) where
         looked_further (Some m) p d (λ k. not_less_or m p d n k) (among_from_filter (λ z. not (is_past e z)) (looked_between root from (Some p)) d i).0
 
     pub listed_to_last : (done : List Place) → IsAscending place_cmp done → (p : Place) → IsAmong done p → (d : Place) → IsAmong (before_end e (looked_between root from (Some p))) d
-        → (last : Option Place) → last ≡ last_of from done → IsAmong (up_to_last (looked_between root) from last) d
+        → (last : Option Place) → last ≡ last_or from done → IsAmong (up_to_last (looked_between root) from last) d
     listed_to_last done up p i d j last is =
         let k = last_upper from done up p i in subst (λ o. IsAmong (up_to_last (looked_between root) from o) d) (sym (is ∙ k.1.0)) (listed_further p k.0 d k.1.1 j)
 
@@ -307,7 +305,7 @@ module _ (root : StorageRoot) (e : End) (s t u : Store) (old mid : Option (List 
         trail = trail;
         audits = subst (λ ps. Audits root s u ps (before_end e (looked_between root from None)) (before_end e (read_between root from None)) trail) (append-nil h.done ∙ done_is)
             (audits_as (looked_end root e from last low) (read_end root e from last low) joined);
-        last_is = h.last_is ∙ ap (last_of from) done_is;
+        last_is = h.last_is ∙ ap (last_or from) done_is;
         wrote = subst (λ is. Appends old mid (text is)) before h.wrote;
         found_is = h.found_is ∙ ap found before;
       }

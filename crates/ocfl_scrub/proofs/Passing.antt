@@ -1,6 +1,6 @@
 -- What a pass over the items above a place and before an end does: it takes one after the other.
 use Rattle.std.specs.Prelude.{◌≡◌, ℕ, List, [], ◌++◌, Bool, Option, Some, None, take}
-use Rattle.std.specs.Io.KnownBytes.{Appends}
+use Rattle.std.specs.{Io.KnownBytes.{Appends}, List.{last_or}}
 use Rattle.ocfl_tree.specs.{Place.{Text, Place}, Ascending.{IsAmong}, StorageRoot.{StorageRoot}}
 use Rattle.ocfl_tree.specs.{Store.{Store}, declared.store.Opening.{Opening}}
 use Rattle.ocfl_report.specs.{Line.{found}, Text.{text}}
@@ -8,7 +8,7 @@ use Rattle.ocfl_audit.specs.{Due.{due, items_at}, Between.{looked_between, read_
 use Rattle.ocfl_item.specs.{Looking.{IsFront}, Auditing.{Audits, Fails}}
 use Rattle.ocfl_item.specs.declared.fault.Fault.{Fault}
 use Rattle.ocfl_walk.specs.{Ends.{before_end}, declared.end.End.{End}}
-use Rattle.ocfl_scrub.specs.{Taking.{PartOf}, Written.{last_of}}
+use Rattle.ocfl_scrub.specs.Taking.{PartOf}
 
 -- what is between a place and the last one taken: nothing if there is none
 abbrev pub up_to_last : (Option Place → Option Place → List Place) → Option Place → Option Place → List Place
@@ -26,7 +26,7 @@ pub record Passes (root : StorageRoot) (e : End) (s t : Store) (old new : Option
   pub audits : Audits root s t done (up_to_last (looked_between root) from last) (up_to_last (read_between root) from last) trail
   pub due_are : due root from ≡ done ++ due root last
   pub inside : before_end e done ≡ done
-  pub last_is : last ≡ last_of from done
+  pub last_is : last ≡ last_or from done
   pub wrote : Appends old new (text (items_at root trail done))
   pub found_is : finding ≡ found (items_at root trail done)
 
@@ -34,7 +34,7 @@ pub record Passes (root : StorageRoot) (e : End) (s t : Store) (old new : Option
 pub record Finishes (root : StorageRoot) (e : End) (s t : Store) (old new : Option (List ℕ)) (from last : Option Place) (finding : Bool) : Type 0 where
   pub trail : List Opening
   pub audits : Audits root s t (due_in root e from) (before_end e (looked_between root from None)) (before_end e (read_between root from None)) trail
-  pub last_is : last ≡ last_of from (due_in root e from)
+  pub last_is : last ≡ last_or from (due_in root e from)
   pub wrote : Appends old new (text (items_at root trail (due_in root e from)))
   pub found_is : finding ≡ found (items_at root trail (due_in root e from))
 
@@ -53,7 +53,7 @@ pub record Halts (root : StorageRoot) (e : End) (s t : Store) (old new : Option 
   pub there : (p : Place) → IsAmong (done ++ begun) p → (d : Place) → IsAmong (before_end e (looked_between root from (Some p))) d → IsAmong listed d
   pub due_are : due_in root e from ≡ done ++ due_in root e last
   pub one : IsFront begun (take 1 (due_in root e last))
-  pub last_is : last ≡ last_of from done
+  pub last_is : last ≡ last_or from done
   pub part : Text
   pub wrote : Appends old new (text (items_at root trail done) ++ part)
   pub part_of : PartOf why (text (items_at root trail (take 1 (due_in root e last)))) part

@@ -1,6 +1,6 @@
 -- A pass whose items are paid for, one after the other.
 use Rattle.std.specs.Prelude.{◌≡◌, ◌≢◌, ◌⊎◌, ◌<◌, ◌+◌, ℕ, List, [], ◌∷◌, ◌++◌, Bool, true, false, Option, Some, take, ⊤}
-use Rattle.std.specs.Io.KnownBytes.{Appends}
+use Rattle.std.specs.{Io.KnownBytes.{Appends}, List.{last_or}}
 use Rattle.ocfl_tree.specs.{Place.{Place}, StorageRoot.{StorageRoot}, Store.{Store}}
 use Rattle.ocfl_tree.specs.declared.store.Opening.{Opening}
 use Rattle.ocfl_report.specs.{Line.{Item, found}, Text.{text}}
@@ -10,7 +10,6 @@ use Rattle.ocfl_audit.specs.Runs.{Limits, files_of, total_files, may_take}
 use Rattle.ocfl_item.specs.{Auditing.{Audits}, declared.fault.Fault.{Fault}}
 use Rattle.ocfl_item.specs.declared.fault.Fault.TheVariants as fault
 use Rattle.ocfl_walk.specs.{Ends.{is_past}, declared.end.End.{End}}
-use Rattle.ocfl_scrub.specs.Written.{last_of}
 use Rattle.ocfl_scrub.proofs.Passing.{due_in, Passes, Finishes, Halts}
 
 -- each of the items may be taken after this was spent and these files were started
@@ -47,7 +46,7 @@ pub record PaysUpTo (root : StorageRoot) (e : End) (s t : Store) (old new : Opti
   pub audits : Audits root s t done (looked_between root from (Some next)) (read_between root from (Some next)) trail
   pub due_are : due_in root e from ≡ done ++ next ∷ due_in root e (Some next)
   pub in_front : is_past e next ≡ false
-  pub last_is : last ≡ last_of from done
+  pub last_is : last ≡ last_or from done
   pub wrote : Appends old new (text (items_at root trail done))
   pub found_is : finding ≡ found (items_at root trail done)
   pub counts : Counts limits spent files (items_at root trail done)

@@ -2,6 +2,7 @@
 use Rattle.std.proofs.Common.{◌≡◌, ◌≢◌, ◌≤◌, ◌<◌, ◌+◌, ◌-◌, ◌/◌, ℕ, List, [], ◌∷◌, ◌++◌, Bool, true, false, not, Option, Some, None, Vec, String, string_bytes, replicate, length, take, map, All, AllPairs, sym, ap, subst, ◌∙◌, ◌⊎◌, inl, inr, arith}
 use Rattle.std.proofs.{lemmas.Bool.{false≢true}, lemmas.List.{map-append}}
 use Rattle.std.specs.declared.alloc.Global.{Global}
+use Rattle.std.specs.{List.{last_or}, Prelude.{slice_get}}
 use Rattle.ocfl_tree.specs.{Place.{Place, place_cmp}, Name.{IsPlace}, Ascending.{IsAscending}}
 use Rattle.ocfl_tree.specs.{StorageRoot.{StorageRoot}, Store.{Store}}
 use Rattle.ocfl_tree.specs.declared.store.Opening.{Opening}
@@ -15,10 +16,10 @@ use Rattle.ocfl_item.specs.{Looking.{failures_by, way_to}, declared.fault.Fault.
 use Rattle.ocfl_item.specs.declared.fault.Fault.TheVariants as fault
 use Rattle.ocfl_walk.specs.WalkCalls.{holder, way_of}
 use Rattle.ocfl_scrub.specs.Call.{Call, known_call, IsUnfailing}
-use Rattle.ocfl_scrub.specs.Written.{places, last_of, StopsWithin}
-use Rattle.ocfl_scrub.specs.Running.{first_of, begun_in, begun, place_in, state_at, state_after, limits_of, Runs, RunStops, RunEnds, RunsFrom, RunsCleanly}
-use Rattle.ocfl_scrub.specs.{Chaining.{CycleOfRuns}, Cycling.{HeadlineOf}}
-use Rattle.ocfl_scrub.specs.Together.{Cycles, CycleStops, CycleEnds, CyclesTo}
+use Rattle.ocfl_scrub.specs.Written.{places, StopsWithin}
+use Rattle.ocfl_scrub.specs.Running.{begun_in, begun, place_in, state_after, limits_of, Runs, RunStops, RunEnds, RunsFrom, RunsCleanly}
+use Rattle.ocfl_scrub.specs.{Chaining.{CycleOfRunsWithin}, Cycling.{HeadlineOf}}
+use Rattle.ocfl_scrub.specs.Together.{state_at, Cycles, CycleStops, CycleEnds, CyclesTo}
 use Rattle.ocfl_scrub.specs.Checking.{Checks, CheckStops, CheckEnds}
 use Rattle.ocfl_scrub.specs.WholeAudit.{AuditsAll, AuditStops, AuditEnds}
 use Rattle.ocfl_scrub.specs.Noting.{status_of, IsAuditNote, IsCheckNote, IsCycleNote, IsRunNote, ChecksWithNote, CyclesWithNote}
@@ -33,18 +34,19 @@ use Rattle.ocfl_deed.specs.declared.deed.Deed.TheVariants as deed
 use Rattle.ocfl_scrub.proofs.LooksOnce.{lists_once, reads_once, stops_list_once, stops_read_once}
 use Rattle.ocfl_scrub.proofs.{AuditLaws.{all_places}, CycleEndLaws.{few_inventories, some_run}}
 use Rattle.ocfl_scrub.proofs.{Lists.{nothing_front}, PassLaws.{last_append}}
+use Rattle.ocfl_scrub.proofs.WayOrder.{way_is, held_in}
 use Rattle.ocfl_scrub.specs.declared.checking.AuditStatus.TheVariants as end
 use Rattle.ocfl_scrub.specs.declared.running.RunStatus.TheVariants as run
 use Rattle.ocfl_scrub.specs.declared.cycling.CycleStatus.TheVariants as cycle
 use Rattle.ocfl_scrub.specs.declared.note.Note.TheVariants as note
 
-last_item : (from : Option Place) (front : List Item) (i : Item) → last_of from (places (front ++ i ∷ [])) ≡ Some i.place
-last_item from front i = ap (last_of from) (map-append (λ j. j.place) front (i ∷ [])) ∙ last_append from (places front) i.place
+last_item : (from : Option Place) (front : List Item) (i : Item) → last_or from (places (front ++ i ∷ [])) ≡ Some i.place
+last_item from front i = ap (last_or from) (map-append (λ j. j.place) front (i ∷ [])) ∙ last_append from (places front) i.place
 
 -- the last place, by the items that were taken
-last_said : (from last : Option Place) (items : List Item) → last ≡ last_of from (places items)
+last_said : (from last : Option Place) (items : List Item) → last ≡ last_or from (places items)
     → (items ≡ [] → last ≡ from) × ((front : List Item) (i : Item) → items ≡ front ++ i ∷ [] → last ≡ Some i.place)
-last_said from last items is = ((λ e. is ∙ ap (λ xs. last_of from (places xs)) e), λ front i e. is ∙ ap (λ xs. last_of from (places xs)) e ∙ last_item from front i)
+last_said from last items is = ((λ e. is ∙ ap (λ xs. last_or from (places xs)) e), λ front i e. is ∙ ap (λ xs. last_or from (places xs)) e ∙ last_item from front i)
 
 -- what went out before a stop, after what is known of the calls
 stop_wrote : (before : List ℕ) {items : List Item} {written : List ℕ} {from last : Option Place} {why : Fault} {Did : Type 0}
@@ -127,7 +129,7 @@ audit_listed call last finding h =
     h.looks.audits.did.listings_are ∙ ap (λ l. call.before.listings ++ (l ++ looked_between call.root None None)) (nothing_front h.looks.down h.looks.down_front)
 
 pub audit_ended_at : (call : Call) (last : Option Place) (finding : Bool) (front : List Place) (p : Place) → AuditsAll call last finding → item_places call.root ≡ front ++ p ∷ [] → last ≡ Some p
-audit_ended_at call last finding front p h e = h.last_is ∙ ap (last_of None) (all_places call.root h.trail ∙ e) ∙ last_append None front p
+audit_ended_at call last finding front p h e = h.last_is ∙ ap (last_or None) (all_places call.root h.trail ∙ e) ∙ last_append None front p
 
 pub stopped_audit_wrote : (root : StorageRoot) (s t : Store) (before written : List ℕ) (last : Option Place) (finding : Bool) (why : Fault)
     → AuditStops (known_call root s t before written) last finding why → (trail : List Opening)
@@ -185,7 +187,9 @@ pub run_listed : (call : Call) (from last next : Option Place) (limits : Limits)
     → Runs call from last limits spent files finding next → (down : List Place)
     × ((rest : List Place) × ((call.after.listings ≡ call.before.listings ++ (down ++ looked_between call.root from next))
     × ((way_of from ≡ down ++ rest) × (IsAscending place_cmp (down ++ looked_between call.root from next)))))
-run_listed call from last next limits spent files finding h = (h.looks.down, (h.looks.down_front.0, (h.looks.audits.did.listings_are, (h.looks.down_front.1, lists_once call whole from next _ h.trail h.looks))))
+run_listed call from last next limits spent files finding h =
+    let way = way_is whole from ∙ h.looks.down_front.1 in
+    (h.looks.down, (h.looks.down_front.0, (h.looks.audits.did.listings_are, (way, lists_once call whole from next _ h.trail h.looks))))
 
 pub run_read : (call : Call) (from last next : Option Place) (limits : Limits) (spent files : ℕ) (finding : Bool)
     → Runs call from last limits spent files finding next → (trail : List Opening)
@@ -193,14 +197,16 @@ pub run_read : (call : Call) (from last next : Option Place) (limits : Limits) (
     × ((call.after.openings ≡ call.before.openings ++ trail)
     × ((heads_of call.root trail ≡ held ++ read_between call.root from next) × ((holder call.root from ≡ held ++ rest) × (IsAscending place_cmp (held ++ read_between call.root from next)))))))
 run_read call from last next limits spent files finding h =
-    (h.trail, (h.looks.held, (h.looks.held_front.0, (h.looks.audits.did.openings_are, (h.looks.audits.heads_are, (h.looks.held_front.1, reads_once call whole from next _ h.trail h.looks))))))
+    let held = held_in whole from call.root ∙ h.looks.held_front.1 in
+    (h.trail, (h.looks.held, (h.looks.held_front.0, (h.looks.audits.did.openings_are, (h.looks.audits.heads_are, (held, reads_once call whole from next _ h.trail h.looks))))))
 
 pub run_went_to : (call : Call) (from last next : Option Place) (limits : Limits) (spent files : ℕ) (finding : Bool)
     → Runs call from last limits spent files finding next → (trail : List Opening)
     × ((call.after.openings ≡ call.before.openings ++ trail)
     × ((left (after (audit call.root (unread_of call.root trail)) from) limits ≡ [] → next ≡ None)
     × ((i : Item) (items : List Item) → left (after (audit call.root (unread_of call.root trail)) from) limits ≡ i ∷ items → next ≡ Some i.place)))
-run_went_to call from last next limits spent files finding h = (h.trail, (h.looks.audits.did.openings_are, ((λ e. h.next_is ∙ ap first_of e), λ i items e. h.next_is ∙ ap first_of e)))
+run_went_to call from last next limits spent files finding h =
+    (h.trail, (h.looks.audits.did.openings_are, ((λ e. h.next_is ∙ ap (λ xs. slice_get (places xs) 0) e), λ i items e. h.next_is ∙ ap (λ xs. slice_get (places xs) 0) e)))
 
 pub run_ended_at : (call : Call) (from last next : Option Place) (limits : Limits) (spent files : ℕ) (finding : Bool)
     → Runs call from last limits spent files finding next → (trail : List Opening)
@@ -235,7 +241,8 @@ pub stopped_run_listed : (call : Call) (from last : Option Place) (limits : Limi
     × ((rest : List Place) × ((call.after.listings ≡ call.before.listings ++ (down ++ listed))
     × ((way_of from ≡ down ++ below) × ((looked_between call.root from None ≡ listed ++ rest) × (IsAscending place_cmp (down ++ listed))))))))
 stopped_run_listed call from last limits spent files finding why h =
-    (h.looks.down, (h.looks.down_front.0, (h.looks.listed, (h.looks.listed_front.0, (h.looks.fails.did.listings_are, (h.looks.down_front.1, (h.looks.listed_front.1, stops_list_once call whole from _ h.trail why h.looks)))))))
+    let way = way_is whole from ∙ h.looks.down_front.1 in
+    (h.looks.down, (h.looks.down_front.0, (h.looks.listed, (h.looks.listed_front.0, (h.looks.fails.did.listings_are, (way, (h.looks.listed_front.1, stops_list_once call whole from _ h.trail why h.looks)))))))
 
 pub stopped_run_read : (call : Call) (from last : Option Place) (limits : Limits) (spent files : ℕ) (finding : Bool) (why : Fault)
     → RunStops call from last limits spent files finding why → (trail : List Opening)
@@ -248,7 +255,7 @@ stopped_run_read call from last limits spent files finding why h = (h.trail, (h.
   h.looks.heads,
   (
     h.looks.heads_front.0,
-    (h.looks.fails.did.openings_are, (h.looks.fails.did.failures_are, (h.looks.fails.heads_are, (h.looks.held_front.1, (h.looks.heads_front.1, stops_read_once call whole from _ h.trail why h.looks))))),
+    (h.looks.fails.did.openings_are, (h.looks.fails.did.failures_are, (h.looks.fails.heads_are, (held_in whole from call.root ∙ h.looks.held_front.1, (h.looks.heads_front.1, stops_read_once call whole from _ h.trail why h.looks))))),
   ),
 ))))
 
@@ -511,7 +518,7 @@ check_performed call known path p status n stored names e h =
 
 pub cycle_performed : (call : Call) (known : Option (Option (List ℕ))) (limits : MadeLimits) (count : ℕ) (status : ℕ) (n : Note)
     (stored : Option (Vec ℕ Global)) → Performs call known (deed.Cycle limits count) status n stored
-    → ((ran : CycleEnd) × (CycleOfRuns call (map limits_of (replicate count limits)) ran
+    → ((ran : CycleEnd) × (CycleOfRunsWithin call whole (map limits_of (replicate count limits)) ran
     × ((ran.runs ≡ ran.cursor.runs)
     × ((ran.spent ≡ ran.cursor.spent)
     × (IsCycleNote ran.runs ran.spent ran.found ran.end status n

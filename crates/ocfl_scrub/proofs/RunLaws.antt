@@ -1,7 +1,7 @@
 -- A pass over a part that is paid for is a run.
 use Rattle.std.proofs.Common.{◌≡◌, ◌≢◌, ◌⊎◌, inl, inr, ℕ, suc, ◌+◌, ◌<◌, ◌≤◌, ◌^◌, List, [], ◌∷◌, ◌++◌, refl, sym, ◌∙◌, ap, subst, true, false, Bool, Some, None, Option, append-nil, take, Bor, arith}
-use Rattle.std.specs.{Prelude.{cond}, Option.{option_map, option_copied}, Io.KnownBytes.{Appends}}
-use Rattle.std.specs.Ordering.{is_lt}
+use Rattle.std.specs.{Prelude.{cond, slice_get}, Option.{option_map, option_copied}, Io.KnownBytes.{Appends}}
+use Rattle.std.specs.{Ordering.{is_lt}, List.{last_or}}
 use Rattle.ocfl_tree.specs.{Place.{Text, Place, place_cmp}, Ascending.{IsBeforeAll}}
 use Rattle.ocfl_tree.specs.{StorageRoot.{StorageRoot}, Store.{Store}}
 use Rattle.ocfl_tree.specs.declared.store.Opening.{Opening}
@@ -15,7 +15,7 @@ use Rattle.ocfl_item.specs.{Looking.{IsFront}, Ways.{IsWayFault}, Auditing.{Audi
 use Rattle.ocfl_item.specs.{declared.fault.Fault.{Fault}, declared.fault.Fault.TheVariants.{Output}}
 use Rattle.ocfl_walk.specs.{WalkCalls.{GoesDown, GoDownFails}}
 use Rattle.ocfl_walk.proofs.WalkCallLaws.{audits_as}
-use Rattle.ocfl_scrub.specs.{Call.{call_of}, Taking.{PartOf}, Written.{places, last_of, Figures}}
+use Rattle.ocfl_scrub.specs.{Call.{call_of}, Taking.{PartOf}, Written.{places, last_or, Figures}}
 use Rattle.ocfl_scrub.specs.Running.{items_above_in, taken_in, rest_in, first_of, place_in, RunsWithin, RunStopsWithin, RunEndsWithin, RunsFromWithin, RunsCleanWithin, RunsCleanlyWithin, IsPaid, begun, state_after}
 use Rattle.ocfl_scrub.specs.Starting.{end_of, entry, stand, looked_in, read_in, LooksOver, StopsLooking}
 use Rattle.ocfl_scrub.specs.{Beginning.{Begins}, declared.running.RunStatus.{RunStatus}}
@@ -41,11 +41,11 @@ unpaid_stops : (root : StorageRoot) (os : List Opening) (l : Limits) (spent file
 unfolding items_at
 unpaid_stops root os l spent files p ps h k = test_unpaid l spent files _ (hashed_costs root (given_by (unread_of root os) p) p h) k
 
-none_first : (root : StorageRoot) (os : List Opening) → None ≡ first_of (items_at root os [])
+none_first : (root : StorageRoot) (os : List Opening) → None ≡ slice_get (places (items_at root os [])) 0
 unfolding items_at
 none_first root os = refl
 
-some_first : (root : StorageRoot) (os : List Opening) (p : Place) (ps : List Place) → Some p ≡ first_of (items_at root os (p ∷ ps))
+some_first : (root : StorageRoot) (os : List Opening) (p : Place) (ps : List Place) → Some p ≡ slice_get (places (items_at root os (p ∷ ps))) 0
 unfolding items_at
 some_first root os p ps = refl
 
@@ -77,7 +77,7 @@ next_of (inr c) f = inr c
 module _ (root : StorageRoot) (part : Part) (s t u : Store) (old new : Option (List ℕ)) (from stood last : Option Place) (l : Limits)
     (spent files : ℕ) (finding : Bool) (g : GoesDown root s t (entry part from)) where
   module _ (os : List Opening) (done later : List Place) (due_are : due_in root (end_of part) (stand root part from) ≡ done ++ later) where
-    are : items_above_in root (g.trail ++ os) part from ≡ items_at root os done ++ items_at root os later
+    are : items_in root (g.trail ++ os) part from ≡ items_at root os done ++ items_at root os later
     are = above_are root part s t from g os done later due_are
 
     module _ (counts : Counts l spent files (items_at root os done)) where
@@ -90,11 +90,12 @@ module _ (root : StorageRoot) (part : Part) (s t u : Store) (old new : Option (L
         taken_are : taken_in root (g.trail ++ os) part from l ≡ items_at root os done
         taken_are = ap (λ is. cut is l) are ∙ cut_of_paid l _ _ counts.paid stop_there
 
-        rest_are : rest_in root (g.trail ++ os) part from l ≡ items_at root os later
+        rest_are : left (items_in root (g.trail ++ os) part from) l ≡ items_at root os later
         rest_are = ap (λ is. left is l) are ∙ left_of_paid l _ _ counts.paid stop_there
 
-        runs_of : next ≡ first_of (items_at root os later) → ((p d : Place) → IsBeforeAll place_cmp p later → is_lt (place_cmp p d) ≡ false → IsWithin next d) → Audits root t u done (looked_in root part from next) (read_in root part from next) os
-            → Appends old new (text (items_at root os done)) → finding ≡ found (items_at root os done) → last ≡ last_of from done
+        runs_of : next ≡ slice_get (places (items_at root os later)) 0 → ((p d : Place) → IsBeforeAll place_cmp p later → is_lt (place_cmp p d) ≡ false → IsWithin next d)
+            → Audits root t u done (looked_in root part from next) (read_in root part from next) os
+            → Appends old new (text (items_at root os done)) → finding ≡ found (items_at root os done) → last ≡ last_or from done
             → RunsWithin (call_of root s u old new) part from last l spent files finding next
         runs_of next_is far k wrote found_is last_is =
             let at_places : places (taken_in root (g.trail ++ os) part from l) ≡ done = ap places taken_are ∙ places_of_items root os done in
@@ -104,12 +105,12 @@ module _ (root : StorageRoot) (part : Part) (s t u : Store) (old new : Option (L
                   (taken_lie root part from g.listed g.all_listed next done later due_are far) k);
               wrote = subst (λ is. Appends old new (text is)) (sym taken_are) wrote;
               figures = subst (λ is. Figures is spent files finding) (sym taken_are) (record { spent_is = counts.spent_is; files_is = counts.files_is; found_is = found_is });
-              last_is = last_is ∙ ap (last_of from) (sym at_places);
-              next_is = next_is ∙ ap first_of (sym rest_are);
+              last_is = last_is ∙ ap (last_or from) (sym at_places);
+              next_is = next_is ∙ ap (λ xs. slice_get (places xs) 0) (sym rest_are);
             }
 
   -- all were taken
-  pub ended : (h : PaysAll root (end_of part) t u old new (stand root part from) stood l spent files finding) → last ≡ last_of from (due_in root (end_of part) (stand root part from))
+  pub ended : (h : PaysAll root (end_of part) t u old new (stand root part from) stood l spent files finding) → last ≡ last_or from (due_in root (end_of part) (stand root part from))
       → RunsWithin (call_of root s u old new) part from last l spent files finding None
   ended h last_is =
       let k = h.finishes in
@@ -118,7 +119,7 @@ module _ (root : StorageRoot) (part : Part) (s t u : Store) (old new : Option (L
       (audits_as (looked_all root part from) (read_all root part from) k.audits) k.wrote k.found_is last_is
 
   -- the limits were reached
-  pub spent_all : (h : PaysUpTo root (end_of part) t u old new (stand root part from) stood l spent files finding) → last ≡ last_of from h.done
+  pub spent_all : (h : PaysUpTo root (end_of part) t u old new (stand root part from) stood l spent files finding) → last ≡ last_or from h.done
       → RunsWithin (call_of root s u old new) part from last l spent files finding (Some h.next)
   spent_all h last_is =
       runs_of h.trail h.done (h.next ∷ due_in root (end_of part) (Some h.next)) h.due_are h.counts (Some h.next)
@@ -126,7 +127,7 @@ module _ (root : StorageRoot) (part : Part) (s t u : Store) (old new : Option (L
       (audits_as (looked_to root part from h.next h.in_front) (read_to root part from h.next h.in_front) h.audits) h.wrote h.found_is last_is
 
   -- there was a fault
-  pub stopped : (why : Fault) (h : PaysHalting root (end_of part) t u old new (stand root part from) stood l spent files finding why) → last ≡ last_of from h.halts.done
+  pub stopped : (why : Fault) (h : PaysHalting root (end_of part) t u old new (stand root part from) stood l spent files finding why) → last ≡ last_or from h.halts.done
       → RunStopsWithin (call_of root s u old new) part from last l spent files finding why
   stopped why h last_is =
       let k = h.halts in
@@ -154,7 +155,7 @@ module _ (root : StorageRoot) (part : Part) (s t u : Store) (old new : Option (L
           items_are = ap (λ is. cut is l) (are k.trail k.done due_left k.due_are) ∙ paid_begins l whole later h.counts.paid;
           begun = k.begun; one = ends.0; part = k.part;
           wrote = k.wrote; part_of = ends.1;
-          last_is = last_is ∙ ap (last_of from) whole_places;
+          last_is = last_is ∙ ap (last_or from) whole_places;
         };
         figures = record { spent_is = h.counts.spent_is; files_is = h.counts.files_is; found_is = k.found_is };
         looks = subst (λ ps. StopsLooking (call_of root s u old new) part from (ps ++ k.begun) trail why) whole_places
@@ -179,11 +180,11 @@ not_run root part s t old from l why only g = record {
 
 -- ---- if no failure was counted
 
-pub no_first : (items : List Item) → None ≡ first_of items → items ≡ []
+pub no_first : (items : List Item) → None ≡ slice_get (places items) 0 → items ≡ []
 no_first [] e = refl
 no_first (i ∷ items) e = absurd cc
 
-a_first : (items : List Item) (p : Place) → Some p ≡ first_of items → items ≢ []
+a_first : (items : List Item) (p : Place) → Some p ≡ slice_get (places items) 0 → items ≢ []
 a_first [] p e f = absurd cc
 a_first (i ∷ items) p e f = cc
 

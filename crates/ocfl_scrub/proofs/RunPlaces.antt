@@ -1,22 +1,22 @@
 -- One run of a part's cycle, by its places.
 use Rattle.std.proofs.Common.{◌≡◌, ℕ, ◌+◌, ◌≤◌, List, [], ◌∷◌, ◌++◌, refl, sym, ◌∙◌, ap, subst, Bool, Some, None, Option, map, length, length-append, arith}
 use Rattle.std.proofs.lemmas.List.{map-append}
-use Rattle.std.specs.Io.KnownBytes.{Appends}
+use Rattle.std.specs.{Io.KnownBytes.{Appends}, List.{last_or}, Prelude.{slice_get}}
 use Rattle.ocfl_tree.specs.{Place.{Place, place_cmp}, Ascending.{IsAscending}}
 use Rattle.ocfl_tree.specs.{StorageRoot.{StorageRoot}, Store.{Store}}
 use Rattle.ocfl_tree.specs.declared.store.Opening.{Opening}
 use Rattle.ocfl_report.specs.{Line.{Item}, Text.{text}}
 use Rattle.ocfl_audit.specs.{Audit.{Unread, audit, after, item_of, total_cost}, Trail.{unread_of}}
-use Rattle.ocfl_audit.specs.{Due.{items_at}, Parts.{Part, within}, Runs.{Limits, total_files}}
+use Rattle.ocfl_audit.specs.{Due.{items_at}, Parts.{Part, within}, Runs.{Limits, total_files, left}}
 use Rattle.ocfl_audit.proofs.AfterLaws.{after_is_end, after_item}
 use Rattle.ocfl_item.specs.{Looking.{IsFront}, Auditing.{Audits}}
 use Rattle.ocfl_walk.specs.WalkCalls.{holder}
-use Rattle.ocfl_scrub.specs.{Call.{call_of}, Written.{places, last_of, Figures}}
-use Rattle.ocfl_scrub.specs.Running.{items_above_in, taken_in, rest_in, first_of, RunsWithin}
-use Rattle.ocfl_scrub.specs.Starting.{entry, due_within, read_in}
+use Rattle.ocfl_scrub.specs.{Call.{call_of}, Written.{places, Figures}}
+use Rattle.ocfl_scrub.specs.Running.{taken_in, RunsWithin}
+use Rattle.ocfl_scrub.specs.Starting.{entry, due_within, read_in, items_in}
 use Rattle.ocfl_scrub.proofs.{Paying.{Paid}, PartStarts.{above_in, items_ascend}}
 use Rattle.ocfl_scrub.proofs.{AuditLaws.{places_of_items}, CutLaws.{IsStop, cut_and_left}}
-use Rattle.ocfl_scrub.proofs.PartLaws.{cut_paid, cut_stops}
+use Rattle.ocfl_scrub.proofs.{PartLaws.{cut_paid, cut_stops}, WayOrder.{held_in}}
 
 -- ---- the items above a place, in two parts
 
@@ -38,7 +38,7 @@ module _ (root : StorageRoot) (unread : Unread) (part : Part) where
       after_next w.0 x rest (w.1 ∙ ap (λ is. w.0 ++ is) e)
 
   -- after the last of a front comes what follows it
-  pub after_front : (from : Option Place) (xs ys : List Item) → after (within part (audit root unread)) from ≡ xs ++ ys → after (within part (audit root unread)) (last_of from (places xs)) ≡ ys
+  pub after_front : (from : Option Place) (xs ys : List Item) → after (within part (audit root unread)) from ≡ xs ++ ys → after (within part (audit root unread)) (last_or from (places xs)) ≡ ys
   after_front from [] ys e = e
   after_front from (x ∷ xs) ys e = after_front (Some x.place) xs ys (after_one from x (xs ++ ys) e)
 
@@ -55,26 +55,22 @@ module _ (root : StorageRoot) (part : Part) (os : List Opening) where
       ∙ ap (λ i. i ∷ map (item_of root (unread_of root os)) (places xs)) f ∙ ap (λ is. x ∷ is) (front_items ps xs ys g)
 
   -- a front of the items above a place, and the rest
-  module _ (from : Option Place) (xs ys : List Item) (split : items_above_in root os part from ≡ xs ++ ys) where
+  module _ (from : Option Place) (xs ys : List Item) (split : items_in root os part from ≡ xs ++ ys) where
     above_is : items_at root os (due_within root part from) ≡ xs ++ ys
     above_is = sym (above_in root part from os) ∙ split
 
     pub front_is : items_at root os (places xs) ≡ xs
     front_is = front_items (due_within root part from) xs ys above_is
 
-    pub rest_is : items_at root os (due_within root part (last_of from (places xs))) ≡ ys
-    rest_is = sym (above_in root part (last_of from (places xs)) os) ∙ after_front root (unread_of root os) part from xs ys split
+    pub rest_is : items_at root os (due_within root part (last_or from (places xs))) ≡ ys
+    rest_is = sym (above_in root part (last_or from (places xs)) os) ∙ after_front root (unread_of root os) part from xs ys split
 
-    pub due_parts : due_within root part from ≡ places xs ++ due_within root part (last_of from (places xs))
+    pub due_parts : due_within root part from ≡ places xs ++ due_within root part (last_or from (places xs))
     due_parts =
         sym (places_of_items root os (due_within root part from)) ∙ ap places above_is ∙ map-append (λ i. i.place) xs ys
-        ∙ ap (λ ps. places xs ++ ps) (ap places (sym rest_is) ∙ places_of_items root os (due_within root part (last_of from (places xs))))
+        ∙ ap (λ ps. places xs ++ ps) (ap places (sym rest_is) ∙ places_of_items root os (due_within root part (last_or from (places xs))))
 
 -- ---- one run
-
-abbrev pub first_place : List Place → Option Place
-first_place [] = None
-first_place (p ∷ ps) = Some p
 
 -- from s to t the places above from were audited up to last, and their items went out, with these
 -- figures
@@ -85,7 +81,7 @@ pub record Took (root : StorageRoot) (part : Part) (s t : Store) (old new : Opti
   pub heads : List Place
   pub audits : Audits root s t done listed heads trail
   pub due_are : due_within root part from ≡ done ++ due_within root part last
-  pub last_is : last ≡ last_of from done
+  pub last_is : last ≡ last_or from done
   pub wrote : Appends old new (text (items_at root trail done))
   pub figures : Figures (items_at root trail done) spent files finding
 
@@ -93,7 +89,7 @@ pub record Took (root : StorageRoot) (part : Part) (s t : Store) (old new : Opti
 pub record Turn (root : StorageRoot) (part : Part) (s t : Store) (old new : Option (List ℕ)) (from last : Option Place) (limits : Limits)
     (spent files : ℕ) (finding : Bool) (next : Option Place) : Type 0 where
   pub took : Took root part s t old new from last spent files finding
-  pub next_is : next ≡ first_place (due_within root part last)
+  pub next_is : next ≡ slice_get (due_within root part last) 0
   pub paid : Paid limits 0 0 (items_at root took.trail took.done)
   pub stops : IsStop limits (total_cost (items_at root took.trail took.done)) (total_files (items_at root took.trail took.done)) (items_at root took.trail (due_within root part last))
   pub read : length took.heads ≤ length (holder root (entry part from)) + length (read_in root part from next)
@@ -101,19 +97,15 @@ pub record Turn (root : StorageRoot) (part : Part) (s t : Store) (old new : Opti
 pub front_length : {A : Type 0} (xs ys : List A) → IsFront xs ys → length xs ≤ length ys
 front_length xs ys f = let e : length ys ≡ length xs + length f.0 = ap length f.1 ∙ length-append xs f.0 in omega (arith, e)
 
-first_places : (items : List Item) → first_of items ≡ first_place (places items)
-first_places [] = refl
-first_places (i ∷ items) = refl
-
 module _ (root : StorageRoot) (part : Part) (s t : Store) (old new : Option (List ℕ)) (from last : Option Place) (limits : Limits) (spent files : ℕ) (finding : Bool) where
   pub turn_of : (next : Option Place) → RunsWithin (call_of root s t old new) part from last limits spent files finding next → Turn root part s t old new from last limits spent files finding next
   turn_of next h =
       let cut_items : List Item = taken_in root h.trail part from limits in
-      let left_items : List Item = rest_in root h.trail part from limits in
-      let above : List Item = items_above_in root h.trail part from in
+      let left_items : List Item = left (items_in root h.trail part from) limits in
+      let above : List Item = items_in root h.trail part from in
       let split : above ≡ cut_items ++ left_items = sym (cut_and_left above limits) in
       let done : List Place = places cut_items in
-      let is_last : last_of from done ≡ last = sym h.last_is in
+      let is_last : last_or from done ≡ last = sym h.last_is in
       let taken_is : cut_items ≡ items_at root h.trail done = sym (front_is root part h.trail from cut_items left_items split) in
       let left_is : left_items ≡ items_at root h.trail (due_within root part last) =
       sym (rest_is root part h.trail from cut_items left_items split) ∙ ap (λ l. items_at root h.trail (due_within root part l)) is_last in
@@ -127,8 +119,10 @@ module _ (root : StorageRoot) (part : Part) (s t : Store) (old new : Option (Lis
           wrote = subst (λ is. Appends old new (text is)) taken_is h.wrote;
           figures = subst (λ is. Figures is spent files finding) taken_is h.figures;
         };
-        next_is = h.next_is ∙ first_places left_items ∙ ap first_place (ap places left_is ∙ places_of_items root h.trail (due_within root part last));
+        next_is = h.next_is ∙ ap (λ ps. slice_get ps 0) (ap places left_is ∙ places_of_items root h.trail (due_within root part last));
         paid = subst (Paid limits 0 0) taken_is (cut_paid limits above);
         stops = subst (IsStop limits _ _) left_is (subst (λ is. IsStop limits (total_cost is) (total_files is) left_items) taken_is (cut_stops limits above));
-        read = let f = front_length h.looks.held (holder root (entry part from)) h.looks.held_front in let e = length-append h.looks.held (read_in root part from next) in omega (arith, e, f);
+        read =
+            let f = front_length h.looks.held (holder root (entry part from)) (subst (IsFront h.looks.held) (sym (held_in part from root)) h.looks.held_front) in
+            let e = length-append h.looks.held (read_in root part from next) in omega (arith, e, f);
       }

@@ -1,6 +1,6 @@
 -- One turn of the loop of a run.
 use Rattle.std.proofs.Common.{◌≡◌, ℕ, ◌+◌, List, refl, sym, ◌∙◌, ap, subst, true, false, Bool, Some, None, Option}
-use Rattle.std.specs.Prelude.{◌≢◌, ◌||◌}
+use Rattle.std.specs.{Prelude.{◌≢◌, ◌||◌}, List.{last_or}}
 use Rattle.ocfl_tree.specs.{Place.{Place}, StorageRoot.{StorageRoot}, Store.{Store}}
 use Rattle.ocfl_audit.specs.{Due.{due}, Lines.{is_hashed}, Parts.{Part}, Runs.{Limits, files_of}}
 use Rattle.ocfl_cursor.specs.Meter.{Meter, MayStart}
@@ -13,7 +13,7 @@ use Rattle.ocfl_item.specs.declared.pending.Pending.{Pending}
 use Rattle.ocfl_scrub.specs.{Call.{call_of}, Passes.{IsAhead}}
 use Rattle.ocfl_scrub.specs.Running.{limits_of, IsPaid, RunsWithin, RunStopsWithin}
 use Rattle.ocfl_scrub.specs.{Starting.{end_of, entry, stand}, Taking.{Takes, Misses}}
-use Rattle.ocfl_scrub.specs.{Written.{last_of}, declared.kept.Met.{Met}}
+use Rattle.ocfl_scrub.specs.declared.kept.Met.{Met}
 use Rattle.ocfl_scrub.proofs.{AuditsJoined.{audits_over}, MeterLaws.{paid_item}}
 use Rattle.ocfl_scrub.proofs.Paying.{IsWithinBoth, Pays}
 use Rattle.ocfl_scrub.proofs.PayLaws.{pays_none, pays_took, pays_missed, pays_lost, pays_up_to, pays_finish}
@@ -47,7 +47,7 @@ pub record HasPaid (root : StorageRoot) (part : Part) (s t : Store) (old new : O
   pub down : GoesDown root s begun (entry part from)
   pub beyond : HasGoneOn (end_of part) (stand root part from) stood
   pub pays : Pays root (end_of part) begun t old new (stand root part from) stood l spent files finding
-  pub last_is : last ≡ last_of from pays.passes.done
+  pub last_is : last ≡ last_or from pays.passes.done
 
 -- and the walk stands there still
 pub record HasStood (root : StorageRoot) (part : Part) (s t : Store) (old new : Option (List ℕ)) (walk : Walk) (from last : Option Place) (l : Limits) (spent files : ℕ) (finding : Bool) : Type 0 where
@@ -92,7 +92,7 @@ module _ {root : StorageRoot} {s t : Store} {old mid : Option (List ℕ)} {walk 
       let k = h.paid in
       let all = all_done root (end_of part) k.begun t u old mid (stand root part from) k.stood finding k.beyond k.pays.passes gives.1 in
       ended root part s k.begun u old mid from k.stood last l spent files finding k.down
-      (pays_finish root (end_of part) k.begun t u old mid (stand root part from) k.stood l spent files finding k.beyond k.pays gives.0 gives.1) (k.last_is ∙ ap (last_of from) all)
+      (pays_finish root (end_of part) k.begun t u old mid (stand root part from) k.stood l spent files finding k.beyond k.pays gives.0 gives.1) (k.last_is ∙ ap (last_or from) all)
 
   -- the walk did not get to its next item
   pub run_lost : (why : Fault) → why ≢ Output → FailsOut root t u h.paid.stood (end_of part) why → RunStopsWithin (call_of root s u old mid) part from last l spent files finding why

@@ -2,7 +2,7 @@
 use Rattle.std.proofs.Common.{◌≡◌, inl, inr, ℕ, zero, suc, ◌+◌, ◌-◌, ◌<◌, ◌≤◌, List, [], ◌∷◌, ◌++◌, refl, sym, ◌∙◌, ap, subst, true, false, Bool, Some, None, Option, append-nil, append_assoc, length, length-append, take, drop, arith}
 use Rattle.std.proofs.lemmas.List.{map-append, take-append-drop}
 use Rattle.std.proofs.KnownBytes.{Appends-nil, Appends-trans}
-use Rattle.std.specs.{Prelude.{◌||◌, cond, filter}, Io.KnownBytes.{Appends}}
+use Rattle.std.specs.{Prelude.{◌||◌, cond, filter, slice_get}, Io.KnownBytes.{Appends}, List.{last_or}}
 use Rattle.ocfl_tree.specs.{Place.{Text, Place, place_cmp}, Ascending.{IsAscending, IsAmong}}
 use Rattle.ocfl_tree.specs.{StorageRoot.{StorageRoot}, Store.{Store}}
 use Rattle.ocfl_tree.specs.declared.store.Opening.{Opening}
@@ -15,9 +15,9 @@ use Rattle.ocfl_audit.specs.Runs.{Limits, total_files, cut, left, runs, runs_aft
 use Rattle.ocfl_item.specs.{Looking.{IsFront}, Auditing.{Fails}, declared.fault.Fault.{Fault}}
 use Rattle.ocfl_item.specs.declared.fault.Fault.TheVariants.{Memory, Store as AtStore}
 use Rattle.ocfl_walk.specs.WalkCalls.{holder, holder_of}
-use Rattle.ocfl_scrub.specs.{Call.{call_of}, Taking.{PartOf}, Written.{places, last_of, Figures}}
-use Rattle.ocfl_scrub.specs.Running.{items_above_in, rest_in as rest_of, RunStopsWithin}
-use Rattle.ocfl_scrub.specs.Starting.{entry, due_within, read_in}
+use Rattle.ocfl_scrub.specs.{Call.{call_of}, Taking.{PartOf}, Written.{places, Figures}}
+use Rattle.ocfl_scrub.specs.Running.{RunStopsWithin}
+use Rattle.ocfl_scrub.specs.Starting.{entry, due_within, read_in, items_in}
 use Rattle.ocfl_scrub.specs.declared.cycling.CycleStatus.{CycleStatus}
 use Rattle.ocfl_scrub.specs.declared.cycling.CycleStatus.TheVariants.{Ended, Spent, Stopped}
 use Rattle.ocfl_scrub.proofs.{PartStarts.{above_in, due_within_ascends}, Lists.{ascends_left}}
@@ -26,7 +26,8 @@ use Rattle.ocfl_scrub.proofs.PassLaws.{text_append, found_append, no_items, take
 use Rattle.ocfl_scrub.proofs.{TakeLaws.{nothing_of, memory_other}, AuditLaws.{places_of_items}}
 use Rattle.ocfl_scrub.proofs.CutLaws.{IsStop, cut_of_paid, left_of_paid, cut_and_left}
 use Rattle.ocfl_scrub.proofs.{PartLaws.{stop_alike, stop_hashed}, NextLaws.{read_parts}}
-use Rattle.ocfl_scrub.proofs.RunPlaces.{Took, Turn, first_place, front_is, rest_is, due_parts, front_length}
+use Rattle.ocfl_scrub.proofs.WayOrder.{held_in}
+use Rattle.ocfl_scrub.proofs.RunPlaces.{Took, Turn, front_is, rest_is, due_parts, front_length}
 use Rattle.ocfl_item.proofs.AuditingLaws.{audits_fail, audits_nothing, audits_on}
 use Rattle.ocfl_audit.proofs.RunLaws.{cost_append, files_append}
 
@@ -60,7 +61,7 @@ pub record PartsStop (root : StorageRoot) (part : Part) (s t : Store) (old new :
   pub heads : List Place
   pub fails : Fails root s t (done ++ begun) listed heads trail why
   pub due_are : due_within root part from ≡ (done ++ begun) ++ rest
-  pub last_is : last ≡ last_of from done
+  pub last_is : last ≡ last_or from done
   pub runs_begin : joined (take count (runs (items_at root trail (due_within root part from)) limits)) ≡ items_at root trail done ++ others
   pub runs_before : IsFront (joined (take (count - 1) (runs (items_at root trail (due_within root part from)) limits))) (items_at root trail done)
   pub one : IsFront begun (places (take 1 others))
@@ -78,7 +79,7 @@ PartsEnd root part s t old new from last limits spent files finding count (Stopp
 
 -- ---- lists
 
-last_then : (from : Option Place) (ps qs : List Place) → last_of (last_of from ps) qs ≡ last_of from (ps ++ qs)
+last_then : (from : Option Place) (ps qs : List Place) → last_or (last_or from ps) qs ≡ last_or from (ps ++ qs)
 last_then from [] qs = refl
 last_then from (p ∷ ps) qs = last_then (Some p) ps qs
 
@@ -176,7 +177,7 @@ parts_unbegun root part s old last limits over =
 
 -- ---- one run alone
 
-first_none : (ps : List Place) → None ≡ first_place ps → ps ≡ []
+first_none : (ps : List Place) → None ≡ slice_get ps 0 → ps ≡ []
 first_none [] e = refl
 first_none (p ∷ ps) e = absurd cc
 
@@ -207,20 +208,20 @@ module _ (root : StorageRoot) (part : Part) (s t : Store) (old mid : Option (Lis
       → PartsStop root part s t old mid from mid_last (l ∷ ls) spent files finding 1 why
   parts_stopped why h =
       let w = h.stops in
-      let above : List Item = items_above_in root h.trail part from in
-      let left_items : List Item = rest_of root h.trail part from l in
+      let above : List Item = items_in root h.trail part from in
+      let left_items : List Item = left (items_in root h.trail part from) l in
       let later : List (List Item) = runs_after ls (left (items_at root h.trail (due_within root part from)) l) in
       let split : above ≡ w.whole ++ (w.others ++ left_items) =
       sym (cut_and_left above l) ∙ ap (λ is. is ++ left_items) w.items_are ∙ append_assoc w.whole w.others left_items in
       let done : List Place = places w.whole in
       let done_is : w.whole ≡ items_at root h.trail done = sym (front_is root part h.trail from w.whole (w.others ++ left_items) split) in
-      let next_is : due_within root part (last_of from done) ≡ places (w.others ++ left_items) =
-      sym (places_of_items root h.trail (due_within root part (last_of from done))) ∙ ap places (rest_is root part h.trail from w.whole (w.others ++ left_items) split) in
+      let next_is : due_within root part (last_or from done) ≡ places (w.others ++ left_items) =
+      sym (places_of_items root h.trail (due_within root part (last_or from done))) ∙ ap places (rest_is root part h.trail from w.whole (w.others ++ left_items) split) in
       let first : places w.others ≡ w.begun ++ (w.one.0 ++ places (drop 1 w.others)) =
       ap places (sym (take-append-drop 1 w.others)) ∙ map-append (λ i. i.place) (take 1 w.others) (drop 1 w.others)
       ∙ ap (λ ps. ps ++ places (drop 1 w.others)) w.one.1 ∙ append_assoc w.begun w.one.0 (places (drop 1 w.others)) in
       let behind : List Place = (w.one.0 ++ places (drop 1 w.others)) ++ places left_items in
-      let next_begun : due_within root part (last_of from done) ≡ w.begun ++ behind =
+      let next_begun : due_within root part (last_or from done) ≡ w.begun ++ behind =
       next_is ∙ map-append (λ i. i.place) w.others left_items ∙ ap (λ ps. ps ++ places left_items) first ∙ append_assoc w.begun (w.one.0 ++ places (drop 1 w.others)) (places left_items) in
       record {
         done = done; begun = w.begun; rest = behind;
@@ -238,7 +239,7 @@ module _ (root : StorageRoot) (part : Part) (s t : Store) (old mid : Option (Lis
         read = record {
           none = λ e. absurd (omega (arith, e));
           some = λ e.
-              let f = front_length h.looks.held (holder root (entry part from)) h.looks.held_front in
+              let f = front_length h.looks.held (holder root (entry part from)) (subst (IsFront h.looks.held) (sym (held_in part from root)) h.looks.held_front) in
               let g = front_length h.looks.heads (read_in root part from None) h.looks.heads_front in
               let m = length-append h.looks.held h.looks.heads in
               omega (arith, f, g, m);
@@ -260,7 +261,7 @@ holder_one root (Some p) = by (zone root p)
     by hierarchy = omega arith
     by (inside o q) = one o (reads_inventory root o)
 
-first_some : (next : Place) (ps : List Place) → Some next ≡ first_place ps → (behind : List Place) × (ps ≡ next ∷ behind)
+first_some : (next : Place) (ps : List Place) → Some next ≡ slice_get ps 0 → (behind : List Place) × (ps ≡ next ∷ behind)
 first_some next [] e = absurd cc
 first_some next (p ∷ ps) e = let same : p ≡ next = cc in (ps, ap (λ q. q ∷ ps) same)
 
@@ -350,7 +351,7 @@ module _ (root : StorageRoot) (part : Part) (s t : Store) (old mid : Option (Lis
             listed = a.listed ++ b.listed; heads = a.heads ++ b.heads;
             audits = audits_on root s t u a.done b.done a.listed b.listed a.heads b.heads a.trail b.trail a.audits b.audits;
             due_are = due_are;
-            last_is = b.last_is ∙ ap (λ x. last_of x b.done) a.last_is ∙ last_then from a.done b.done;
+            last_is = b.last_is ∙ ap (λ x. last_or x b.done) a.last_is ∙ last_then from a.done b.done;
             wrote = subst (Appends old new) (sym (text_append first second) ∙ ap text (sym same)) (Appends-trans old mid new _ _ a.wrote b.wrote);
             figures = figures_then same a.figures b.figures;
           };
@@ -387,7 +388,7 @@ module _ (root : StorageRoot) (part : Part) (s t : Store) (old mid : Option (Lis
           fails = subst (λ ps. Fails root s u ps (h.took.listed ++ k.listed) (h.took.heads ++ k.heads) (h.took.trail ++ k.trail) why) (sym both)
               (audits_fail root s t u h.took.done (k.done ++ k.begun) h.took.listed k.listed h.took.heads k.heads h.took.trail k.trail why h.took.audits k.fails);
           due_are = due_are ∙ ap (λ qs. qs ++ k.rest) (sym both);
-          last_is = k.last_is ∙ ap (λ x. last_of x k.done) h.took.last_is ∙ last_then from h.took.done k.done;
+          last_is = k.last_is ∙ ap (λ x. last_or x k.done) h.took.last_is ∙ last_then from h.took.done k.done;
           runs_begin = ap (λ xs. joined (take (1 + count) xs)) are ∙ joined_more count first later ∙ ap (λ is. first ++ is) k.runs_begin
               ∙ sym (append_assoc first second k.others) ∙ ap (λ is. is ++ k.others) (sym same);
           runs_before = subst (IsFront (joined (take (1 + count - 1) (runs (items_at root (h.took.trail ++ k.trail) (due_within root part from)) (l ∷ ls))))) (sym same)

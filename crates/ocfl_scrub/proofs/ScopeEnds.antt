@@ -1,7 +1,7 @@
 -- What a command within a scope ends with.
 use Rattle.std.proofs.Common.{◌≡◌, refl, sym, ◌∙◌, ap, ℕ, ◌≤◌, List, [], ◌∷◌, ◌++◌, length, Option, Some, None, Vec, inl, inr}
 use Rattle.std.proofs.lemmas.Bool.{true≢false}
-use Rattle.std.specs.{Prelude.{◌≢◌, ◌⊎◌}, declared.alloc.Global.{Global}}
+use Rattle.std.specs.{Prelude.{◌≢◌, ◌⊎◌}, declared.alloc.Global.{Global}, List.{last_or}}
 use Rattle.ocfl_tree.specs.{Place.{Text, Place}, declared.store.Opening.{Opening}}
 use Rattle.ocfl_report.specs.Line.{Item}
 use Rattle.ocfl_audit.specs.{Audit.{audit}, Parts.{branch, within}, Trail.{unread_of}}
@@ -18,7 +18,7 @@ use Rattle.ocfl_item.specs.declared.fault.Fault.TheVariants as fault
 use Rattle.ocfl_scrub.specs.{Call.{Call}, Noting.{IsStopNote}}
 use Rattle.ocfl_scrub.specs.Performing.{HandsBack, IsSaid, Performs, RefusesRightly}
 use Rattle.ocfl_scrub.specs.Scoping.{BranchAudited, HandsBackIn, IsBranchNote, IsSaidIn, PartRefusesRightly, PerformsIn, RefusesRightlyIn}
-use Rattle.ocfl_scrub.specs.{WholeAudit.{AuditEndsWithin}, Written.{places, last_of}}
+use Rattle.ocfl_scrub.specs.{WholeAudit.{AuditEndsWithin}, Written.{places}}
 use Rattle.ocfl_scrub.specs.{declared.checking.AuditStatus.{AuditStatus}, declared.note.Note.{Note}}
 use Rattle.ocfl_scrub.specs.declared.checking.AuditStatus.TheVariants as end
 use Rattle.ocfl_scrub.specs.declared.note.Note.TheVariants as note
@@ -56,11 +56,11 @@ no_stop fault.Output n (inr e) h = cc
 no_stop fault.Broken n e h = h
 
 -- after one place there is a last one
-last_of_more : (p : Place) (ps : List Place) → last_of (Some p) ps ≡ None → ⊥
+last_of_more : (p : Place) (ps : List Place) → last_or (Some p) ps ≡ None → ⊥
 last_of_more p [] e = cc
 last_of_more p (q ∷ ps) e = last_of_more q ps e
 
-no_items : (items : List Item) → last_of None (places items) ≡ None → items ≡ []
+no_items : (items : List Item) → last_or None (places items) ≡ None → items ≡ []
 no_items [] e = refl
 no_items (i ∷ items) e = absurd (last_of_more i.place (places items) e)
 
@@ -82,7 +82,7 @@ module _ (call : Call) (p : Place) (status : ℕ) where
     where
       by : (how : AuditStatus) (last : Option Place) → AuditEndsWithin call (branch p) last h.audits.ran.found how → IsBranchNote h.audits.ran.found how last status note.Nothing → Ended call p (λ items. items ≢ [])
       by end.Ended None a says = absurd (let e = says.1 in cc)
-      by end.Ended (Some q) a says = (a.trail, (a.looks.audits.did.openings_are, λ none. let last = a.last_is ∙ ap (λ items. last_of None (places items)) none in cc))
+      by end.Ended (Some q) a says = (a.trail, (a.looks.audits.did.openings_are, λ none. let last = a.last_is ∙ ap (λ items. last_or None (places items)) none in cc))
       by (end.Stopped why) last a says = absurd (no_stop why note.Nothing (inr refl) says.1)
 
 -- ---- cursors of parts

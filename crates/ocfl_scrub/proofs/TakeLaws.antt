@@ -1,14 +1,14 @@
 -- One item, judged and written.
 use Rattle.std.proofs.Common.{◌≡◌, ◌≢◌, ℕ, ◌+◌, List, [], ◌∷◌, refl, sym, ◌∙◌, ap, subst, true, false, Bool, Option, take, append-nil, arith}
 use Rattle.std.proofs.KnownBytes.{Appends-nil}
-use Rattle.std.specs.{Prelude.{cond, ◌||◌}, Io.KnownBytes.{Appends}}
+use Rattle.std.specs.{Prelude.{cond, ◌||◌}, List.{list_any}, Io.KnownBytes.{Appends}}
 use Rattle.ocfl_tree.specs.{Place.{Text, Place}, StorageRoot.{StorageRoot}, Store.{Store, Did}}
-use Rattle.ocfl_report.specs.{Line.{Line, found}, Text.{lines_text, text}}
+use Rattle.ocfl_report.specs.{Line.{Line, Item, is_finding_code, has_finding, found}, Text.{lines_text, text}}
 use Rattle.ocfl_audit.specs.{Audit.{total_cost}, Due.{hashed_among, items_at}}
 use Rattle.ocfl_item.specs.{Looking.{IsFront, failures_by}, Auditing.{Fails}}
 use Rattle.ocfl_item.specs.{Judging.{Judges, JudgeFails}, declared.fault.Fault.{Fault}}
 use Rattle.ocfl_item.specs.declared.fault.Fault.TheVariants.{Store as AtStore, Memory, Output}
-use Rattle.ocfl_scrub.specs.{Call.{call_of}, Taking.{WritesLines, PartOf, Takes, Misses, finds}}
+use Rattle.ocfl_scrub.specs.{Call.{call_of}, Taking.{WritesLines, PartOf, Takes, Misses}}
 use Rattle.ocfl_walk.proofs.FoundLaws.{none_hashed}
 
 pub or_none : (b : Bool) → (b || false) ≡ b
@@ -21,8 +21,10 @@ pub nothing_written : (old : Option (List ℕ)) → WritesLines old old false
 nothing_written old = ([], Appends-nil old, refl)
 
 pub lines_written : (old new : Option (List ℕ)) (lines : List Line) (piece : List ℕ) (finding : Bool) → piece ≡ lines_text lines → Appends old new piece
-    → finding ≡ finds lines → WritesLines old new finding
-lines_written old new lines piece finding e sent found_is = (lines, subst (Appends old new) e sent, found_is)
+    → finding ≡ list_any (λ l. is_finding_code l.code) lines → WritesLines old new finding
+lines_written old new lines piece finding e sent found_is =
+    let item : Item = record { place = []; lines = lines; cost = 0 } in
+    (item ∷ [], subst (Appends old new) (e ∙ sym (append-nil (lines_text lines))) sent, found_is ∙ sym (or_none (has_finding item)))
 
 -- ---- on a store that tells its tree
 
@@ -48,10 +50,10 @@ module _ (root : StorageRoot) (s t : Store) (p : Place) (lines : List Line) (cos
   judged_text : lines_text lines ≡ text (items_at root j.trail (p ∷ []))
   judged_text = sym (ap text j.item ∙ append-nil (lines_text lines))
 
-  judged_found : found (items_at root j.trail (p ∷ [])) ≡ finds lines
-  judged_found = ap found j.item ∙ or_none (finds lines)
+  judged_found : found (items_at root j.trail (p ∷ [])) ≡ list_any (λ l. is_finding_code l.code) lines
+  judged_found = ap found j.item ∙ or_none (list_any (λ l. is_finding_code l.code) lines)
 
-  pub judged_takes : (old new : Option (List ℕ)) (piece : List ℕ) (finding : Bool) → piece ≡ lines_text lines → finding ≡ finds lines
+  pub judged_takes : (old new : Option (List ℕ)) (piece : List ℕ) (finding : Bool) → piece ≡ lines_text lines → finding ≡ list_any (λ l. is_finding_code l.code) lines
       → Appends old new piece → Takes (call_of root s t old new) p cost finding
   judged_takes old new piece finding e f sent = record {
     trail = j.trail; audits = j.audits; alone = j.alone;

@@ -8,7 +8,7 @@ use Rattle.ocfl_tree.specs.Place.{Text, Place, place_cmp, text_cmp}
 use Rattle.ocfl_tree.specs.Ascending.{IsAmong, IsAscending, IsBeforeAll}
 use Rattle.ocfl_tree.specs.{StorageRoot.{StorageRoot}, Store.{Store}}
 use Rattle.ocfl_tree.proofs.Bools.{and_second}
-use Rattle.ocfl_tree.proofs.Orders.{among_filter, among_from_filter, among_left, among_map, among_right, below_from_greater, not_below_itself, place_cmp_exact, place_cmp_total, true_not_false}
+use Rattle.ocfl_tree.proofs.Orders.{among_filter, among_from_filter, among_left, among_right, below_from_greater, not_below_itself, place_cmp_exact, place_cmp_total, true_not_false}
 use Rattle.ocfl_tree.proofs.{Stores.{among_either}, Places.{text_cmp_exact}}
 use Rattle.ocfl_inventory.proofs.TableSearch.{not_true}
 use Rattle.ocfl_audit.specs.Between.{IsBeyond, IsWithin, is_looked_into, looked_between}
@@ -26,7 +26,7 @@ use Rattle.ocfl_scrub.proofs.{DirectoryLaws.{has_directory, hashed_within}, List
 use Rattle.ocfl_scrub.proofs.Passing.{Halts, due_in}
 use Rattle.ocfl_scrub.proofs.PartStarts.{due_starts, due_within_ascends, lies_exact, looked_starts, not_less_first, unless_root_is}
 use Rattle.ocfl_scrub.proofs.PassLaws.{among_beyond, looked_further, not_less_or, take_nothing}
-use Rattle.ocfl_scrub.proofs.WayOrder.{way_parts}
+use Rattle.ocfl_scrub.proofs.WayOrder.{among_way}
 
 -- ---- places from a directory on, and before what is right in it, are in it
 
@@ -41,11 +41,6 @@ within_it : (d a : Place) (n : Text) → is_lt (place_cmp a d) ≡ false → pla
 within_it [] a n h k = (a, refl)
 within_it (m ∷ d) [] n h k = absurd (true_not_false h)
 within_it (m ∷ d) (x ∷ a) n h k = name_behind m x d a n (within_it d a n) (text_cmp x m) refl h k
-
-among_way : (d q : Place) → IsAmong (way_to (d ++ q)) d
-among_way [] [] = inl refl
-among_way [] (n ∷ q) = inl refl
-among_way (n ∷ d) q = subst (λ w. IsAmong w (n ∷ d)) (sym (way_parts n (d ++ q))) (inr (among_map (λ x. n ∷ x) (way_to (d ++ q)) d (among_way d q)))
 
 none_is : (g : Place) → unless_root g ≡ None → g ≡ []
 none_is [] e = refl

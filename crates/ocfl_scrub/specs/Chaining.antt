@@ -1,7 +1,7 @@
 -- A cycle, of the whole or of a part, as the runs that it made, each from the cursor that the one
 -- before it answered.
 use Rattle.std.specs.{Prelude.{◌≡◌, ◌≤◌, ◌⊎◌, List, [], ◌∷◌, ◌++◌, map, length}, List.{list_any}}
-use Rattle.ocfl_audit.specs.{Parts.{Part, whole}, Runs.{Limits}}
+use Rattle.ocfl_audit.specs.{Parts.{Part}, Runs.{Limits}}
 use Rattle.ocfl_cursor.specs.Cursor.{Cursor, new_cursor}
 use Rattle.ocfl_item.specs.declared.fault.Fault.{Fault}
 use Rattle.ocfl_item.specs.declared.fault.Fault.TheVariants as fault
@@ -57,7 +57,3 @@ pub record CycleOfRunsWithin (call : Call) (part : Part) (limits : List Limits) 
   pub ends : ChainEnds runs end unused ran.end
   pub count_is : ran.runs ≡ length runs
   pub found_is : ran.found ≡ list_any (λ r. r.ran.found) runs
-
--- of the whole
-abbrev pub CycleOfRuns : Call → List Limits → CycleEnd → Type 0
-CycleOfRuns call limits ran = CycleOfRunsWithin call whole limits ran

@@ -15,13 +15,13 @@ use Rattle.ocfl_scrub.specs.{Call.{Call, IsUnfailing}, Taking.{WritesLines}, Che
 use Rattle.ocfl_scrub.specs.{WholeAudit.{AuditEndsWithin}, declared.auditing.AuditEnd.{AuditEnd}}
 use Rattle.ocfl_scrub.specs.declared.checking.CheckEnd.{CheckEnd}
 use Rattle.ocfl_scrub.specs.declared.checking.AuditStatus.{AuditStatus}
-use Rattle.ocfl_scrub.specs.{Running.{RunsFromWithin, RunsCleanlyWithin}, Chaining.{CycleOfRuns}}
+use Rattle.ocfl_scrub.specs.{Running.{RunsFromWithin, RunsCleanlyWithin}, Chaining.{CycleOfRunsWithin}}
 use Rattle.ocfl_scrub.specs.{Cycling.{HeadlineOf}, declared.running.RunEnd.{RunEnd}}
 use Rattle.ocfl_scrub.specs.declared.running.RunStatus.{RunStatus}
 use Rattle.ocfl_scrub.specs.declared.cycling.CycleEnd.{CycleEnd}
 use Rattle.ocfl_scrub.specs.{declared.cycling.CycleStatus.{CycleStatus}, declared.note.Note.{Note}}
 use Rattle.ocfl_scrub.specs.declared.checking.AuditStatus.TheVariants as end
-use Rattle.ocfl_audit.specs.{Parts.{Part}, Runs.{Limits}}
+use Rattle.ocfl_audit.specs.{Parts.{Part, whole}, Runs.{Limits}}
 use Rattle.ocfl_scrub.specs.declared.running.RunStatus.TheVariants as run
 use Rattle.ocfl_scrub.specs.declared.cycling.CycleStatus.TheVariants as cycle
 use Rattle.ocfl_scrub.specs.declared.note.Note.TheVariants as note
@@ -213,7 +213,7 @@ pub record RunsWithNote (call : Call) (part : Part) (text_of : Cursor → Text) 
 -- a cycle was made, and the status and the text are those of the cycle
 pub record CyclesWithNote (call : Call) (limits : List Limits) (status : ℕ) (n : Note) : Type 0 where
   pub ran : CycleEnd
-  pub cycles : CycleOfRuns call limits ran
+  pub cycles : CycleOfRunsWithin call whole limits ran
   pub headline : IsUnfailing call → HeadlineOf call limits ran.runs ran.end
   pub count_is : ran.runs ≡ ran.cursor.runs
   pub spent_is : ran.spent ≡ ran.cursor.spent

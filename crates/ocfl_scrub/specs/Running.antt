@@ -1,6 +1,7 @@
 -- What one run does: of a part of a storage root it takes what is above its cursor's place, as far
 -- as its limits allow.
-use Rattle.std.specs.Prelude.{◌≡◌, ◌≢◌, ◌↔◌, ◌<◌, ◌≤◌, ◌+◌, ◌^◌, ℕ, List, [], ◌∷◌, ◌++◌, Bool, false, Option, Some, None, length, ⊤}
+use Rattle.std.specs.Prelude.{◌≡◌, ◌≢◌, ◌↔◌, ◌<◌, ◌≤◌, ◌+◌, ◌^◌, ℕ, List, [], ◌∷◌, ◌++◌, Bool, false, Option, Some, None, length, slice_get, ⊤}
+use Rattle.std.specs.{List.{last_or}, Option.{option_map_or}}
 use Rattle.ocfl_tree.specs.{Place.{Place}, StorageRoot.{StorageRoot}}
 use Rattle.ocfl_tree.specs.declared.store.Opening.{Opening}
 use Rattle.ocfl_report.specs.{Line.{Item}, Text.{text}}
@@ -12,8 +13,8 @@ use Rattle.ocfl_cursor.specs.declared.limits.Limits.{Limits as MadeLimits}
 use Rattle.ocfl_item.specs.declared.fault.Fault.{Fault}
 use Rattle.ocfl_item.specs.declared.fault.Fault.TheVariants as fault
 use Rattle.ocfl_scrub.specs.{Call.{Call, Writes}, Taking.{WritesLines}}
-use Rattle.ocfl_scrub.specs.Starting.{items_in, LooksOver, StopsLooking}
-use Rattle.ocfl_scrub.specs.Written.{places, last_of, Figures, StopsWithin}
+use Rattle.ocfl_scrub.specs.Starting.{LooksOver, StopsLooking, items_in}
+use Rattle.ocfl_scrub.specs.Written.{places, Figures, StopsWithin}
 use Rattle.ocfl_scrub.specs.declared.running.RunEnd.{RunEnd}
 use Rattle.ocfl_scrub.specs.declared.running.RunStatus.{RunStatus}
 use Rattle.ocfl_scrub.specs.declared.running.RunStatus.TheVariants as status
@@ -30,13 +31,9 @@ place_in (behind p) = Some p
 place_in _ = None
 
 -- where the last item that was taken leaves the cursor
-abbrev pub state_at : Option Place → State
-state_at None = start
-state_at (Some p) = behind p
-
 abbrev pub state_after : RunStatus → Option Place → State
 state_after status.Ended last = ended
-state_after _ last = state_at last
+state_after _ last = option_map_or behind last start
 
 -- the cursor that a run begins with: that of the next cycle where the last one has ended
 abbrev pub begun_in : Cursor → State → Cursor
@@ -87,20 +84,9 @@ pub record RunsOnAnyStore {S O : Type 0} (contents : O → Option (List ℕ)) (b
 
 -- ---- of a store that tells its tree
 
--- the items of a part above a place, where a trail shows what could not be read
-abbrev pub items_above_in : StorageRoot → List Opening → Part → Option Place → List Item
-items_above_in root trail part from = after (items_in root trail part) from
-
--- those of them that the limits allow, and those that they leave
+-- the items of a part above a place that the limits allow
 abbrev pub taken_in : StorageRoot → List Opening → Part → Option Place → Limits → List Item
-taken_in root trail part from limits = cut (items_above_in root trail part from) limits
-
-abbrev pub rest_in : StorageRoot → List Opening → Part → Option Place → Limits → List Item
-rest_in root trail part from limits = left (items_above_in root trail part from) limits
-
-abbrev pub first_of : List Item → Option Place
-first_of [] = None
-first_of (i ∷ items) = Some i.place
+taken_in root trail part from limits = cut (items_in root trail part from) limits
 
 -- a run of a part took the cut of its limits. Each hashed file of it was opened once, in order, and
 -- it looked up to the first item that is left
@@ -109,8 +95,8 @@ pub record RunsWithin (call : Call) (part : Part) (from last : Option Place) (li
   pub looks : LooksOver call part from next (places (taken_in call.root trail part from limits)) trail
   pub wrote : Writes call (text (taken_in call.root trail part from limits))
   pub figures : Figures (taken_in call.root trail part from limits) spent files finding
-  pub last_is : last ≡ last_of from (places (taken_in call.root trail part from limits))
-  pub next_is : next ≡ first_of (rest_in call.root trail part from limits)
+  pub last_is : last ≡ last_or from (places (taken_in call.root trail part from limits))
+  pub next_is : next ≡ slice_get (places (left (items_in call.root trail part from) limits)) 0
 
 -- it stopped: the first items of the cut went out whole, and of the next at most a proper beginning
 pub record RunStopsWithin (call : Call) (part : Part) (from last : Option Place) (limits : Limits) (spent files : ℕ) (finding : Bool) (why : Fault) : Type 0 where

@@ -1,16 +1,16 @@
 -- Where a walk over a part of a storage root begins, and what of the root is looked at from there
 -- on.
-use Rattle.std.specs.Prelude.{◌≡◌, List, [], ◌∷◌, ◌++◌, Bool, true, Option, Some, None, if◌then◌else◌}
-use Rattle.std.specs.Ordering.{is_lt}
+use Rattle.std.specs.Prelude.{◌≡◌, List, [], ◌∷◌, ◌++◌, Bool, true, Option, Some, None, filter, if◌then◌else◌}
+use Rattle.std.specs.{Ordering.{is_lt}, Option.{option_map_or}}
 use Rattle.ocfl_tree.specs.{Place.{Place, place_cmp}, Ascending.{IsAmong}}
 use Rattle.ocfl_tree.specs.{StorageRoot.{StorageRoot}, declared.store.Opening.{Opening}}
 use Rattle.ocfl_report.specs.Line.{Item}
-use Rattle.ocfl_audit.specs.{Audit.{audit}, Due.{due}, Lines.{is_hashed}}
-use Rattle.ocfl_audit.specs.Between.{looked_between, read_between}
-use Rattle.ocfl_audit.specs.{Parts.{Part, within, places_within}, Trail.{unread_of}}
-use Rattle.ocfl_item.specs.{Looking.{IsFront}, Auditing.{Audits, Fails, LiesIn}}
+use Rattle.ocfl_audit.specs.{Audit.{audit, after}, Due.{due}, Lines.{is_hashed}}
+use Rattle.ocfl_audit.specs.{Between.{looked_between, read_between}, Zone.{beginnings}}
+use Rattle.ocfl_audit.specs.{Parts.{Part, within, places_within}, Trail.{reads_inventory, unread_of}}
+use Rattle.ocfl_item.specs.{Looking.{IsFront, way_to}, Auditing.{Audits, Fails, LiesIn}}
 use Rattle.ocfl_item.specs.declared.fault.Fault.{Fault}
-use Rattle.ocfl_walk.specs.{WalkCalls.{way_of, holder}, Before.{directory_of, place_before}}
+use Rattle.ocfl_walk.specs.Before.{directory_of, place_before}
 use Rattle.ocfl_walk.specs.declared.end.End.{End}
 use Rattle.ocfl_scrub.specs.{Call.{Call}, declared.part.Part.{Part as MadePart}}
 
@@ -38,8 +38,7 @@ first_place part = unless_root (greater_of part.under part.from)
 
 -- less than a place, or not given
 abbrev pub is_before : Option Place → Place → Bool
-is_before None first = true
-is_before (Some p) first = is_lt (place_cmp p first)
+is_before above first = option_map_or (λ p. is_lt (place_cmp p first)) above true
 
 -- where the walk goes down to: the place above which items are taken, and the directory of the
 -- part's first place if that is greater, since what is at that place is met
@@ -49,6 +48,13 @@ entry_by (Some first) above = if is_before above first then directory_of first e
 
 abbrev pub entry : Part → Option Place → Option Place
 entry part above = entry_by (first_place part) above
+
+-- the directories on the way down to there
+abbrev pub way_by : Place → Option Place → List Place
+way_by first above = if is_before above first then beginnings first else option_map_or way_to above []
+
+abbrev pub way_in : Part → Option Place → List Place
+way_in part above = way_by (greater_of part.under part.from) above
 
 -- and the place after which it then stands
 abbrev pub stand_by : StorageRoot → Option Place → Option Place → Option Place
@@ -62,9 +68,10 @@ stand root part above = stand_by root (first_place part) above
 abbrev pub due_within : StorageRoot → Part → Option Place → List Place
 due_within root part from = places_within part (due root from)
 
--- the items of a part, where a trail shows what could not be read
-abbrev pub items_in : StorageRoot → List Opening → Part → List Item
-items_in root trail part = within part (audit root (unread_of root trail))
+-- the items of a part above a place, where a trail shows what could not be read; all of them for
+-- the start
+abbrev pub items_in : StorageRoot → List Opening → Part → Option Place → List Item
+items_in root trail part from = after (within part (audit root (unread_of root trail))) from
 
 -- the directories of a part that are looked into between two places, and its objects whose
 -- inventories are read
@@ -82,16 +89,16 @@ FilesLieIn root places dirs = (p : Place) → IsAmong places p → is_hashed roo
 
 -- it audited these places, the first of the part's above one, and came to another. Listed were the
 -- first directories on the way down to where it began, and those of the part between the two places,
--- in order: among them the directory of each file. Read were at most the inventory of the object
--- that holds the place gone down to, and those of the part between the two places. None of these is
--- listed or read twice, since what is gone down to lies before what is above it (a law of `parts`).
+-- in order: among them the directory of each file. Read were at most the inventory of an object on
+-- that way, and those of the part between the two places. None of these is listed or read twice,
+-- since what is on the way lies before what is above it (a law of `parts`).
 pub record LooksOver (call : Call) (part : Part) (from to : Option Place) (audited : List Place) (trail : List Opening) : Type 0 where
   pub down : List Place
   pub held : List Place
   pub audits : Audits call.root call.before call.after audited (down ++ looked_in call.root part from to) (held ++ read_in call.root part from to) trail
-  pub down_front : IsFront down (way_of (entry part from))
+  pub down_front : IsFront down (way_in part from)
   pub files_lie : FilesLieIn call.root audited (down ++ looked_in call.root part from to)
-  pub held_front : IsFront held (holder call.root (entry part from))
+  pub held_front : IsFront held (filter (reads_inventory call.root) (way_in part from))
 
 -- it stopped, and had begun with these places: the directory of each file was listed
 pub record StopsLooking (call : Call) (part : Part) (from : Option Place) (begun : List Place) (trail : List Opening) (why : Fault) : Type 0 where
@@ -100,8 +107,8 @@ pub record StopsLooking (call : Call) (part : Part) (from : Option Place) (begun
   pub held : List Place
   pub heads : List Place
   pub fails : Fails call.root call.before call.after begun (down ++ listed) (held ++ heads) trail why
-  pub down_front : IsFront down (way_of (entry part from))
+  pub down_front : IsFront down (way_in part from)
   pub listed_front : IsFront listed (looked_in call.root part from None)
-  pub held_front : IsFront held (holder call.root (entry part from))
+  pub held_front : IsFront held (filter (reads_inventory call.root) (way_in part from))
   pub heads_front : IsFront heads (read_in call.root part from None)
   pub files_lie : FilesLieIn call.root begun (down ++ listed)

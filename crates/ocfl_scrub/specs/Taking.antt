@@ -1,21 +1,18 @@
 -- What judging one item and writing its lines does.
 use Rattle.std.specs.Prelude.{◌≡◌, ◌≢◌, ◌<◌, ℕ, List, [], ◌∷◌, Bool, length, take, Option}
-use Rattle.std.specs.{List.{list_any}, Io.KnownBytes.{Appends}}
+use Rattle.std.specs.Io.KnownBytes.{Appends}
 use Rattle.ocfl_tree.specs.{Place.{Text, Place}, declared.store.Opening.{Opening}}
-use Rattle.ocfl_report.specs.{Line.{Line, is_finding_code, found}, Text.{lines_text, text}}
+use Rattle.ocfl_report.specs.{Line.{Item, found}, Text.{text}}
 use Rattle.ocfl_audit.specs.{Audit.{total_cost}, Trail.{places_of}, Due.{hashed_among, items_at}}
 use Rattle.ocfl_item.specs.{Looking.{IsFront}, Auditing.{Audits, Fails}}
 use Rattle.ocfl_item.specs.declared.fault.Fault.{Fault}
 use Rattle.ocfl_item.specs.declared.fault.Fault.TheVariants as fault
 use Rattle.ocfl_scrub.specs.Call.{Call, Writes}
 
--- whether a line is a finding
-abbrev pub finds : List Line → Bool
-finds lines = list_any (λ l. is_finding_code l.code) lines
-
--- on every store: the text of some lines went out, and it is said whether one of them is a finding
+-- on every store: the text of some items went out, and it is said whether a line of one is a
+-- finding
 abbrev pub WritesLines : Option (List ℕ) → Option (List ℕ) → Bool → Type 0
-WritesLines old new finding = (lines : List Line) × Appends old new (lines_text lines) × (finding ≡ finds lines)
+WritesLines old new finding = (items : List Item) × Appends old new (text items) × (finding ≡ found items)
 
 -- a proper beginning of what was to go out, and nothing if it was not the output that failed
 pub record PartOf (why : Fault) (whole part : Text) : Type 0 where

@@ -1,18 +1,23 @@
 -- What the runs of a cycle do together.
 use Rattle.std.specs.Prelude.{◌≡◌, ◌<◌, ◌≤◌, ◌+◌, ◌-◌, ◌↔◌, ℕ, List, ◌++◌, Bool, true, false, Option, None, All, map, take, length}
+use Rattle.std.specs.{List.{last_or}, Option.{option_map_or}}
 use Rattle.ocfl_tree.specs.{Place.{Place}, StorageRoot.{StorageRoot}}
 use Rattle.ocfl_tree.specs.declared.store.Opening.{Opening}
 use Rattle.ocfl_report.specs.{Line.{Item}, Text.{text}}
 use Rattle.ocfl_audit.specs.{Audit.{total_cost}, Parts.{Part, whole}}
 use Rattle.ocfl_audit.specs.Runs.{Limits, runs, joined, IsAtLeast, FilesFit, sum_of}
-use Rattle.ocfl_cursor.specs.Cursor.{State, ended, Cursor}
+use Rattle.ocfl_cursor.specs.Cursor.{State, start, behind, ended, Cursor}
 use Rattle.ocfl_item.specs.{Looking.{IsFront}, Auditing.{Audits, Fails}}
 use Rattle.ocfl_item.specs.declared.fault.Fault.{Fault}
 use Rattle.ocfl_walk.specs.WalkCalls.{holder}
-use Rattle.ocfl_scrub.specs.{Call.{Call, Writes}, Starting.{entry, items_in, read_in}}
-use Rattle.ocfl_scrub.specs.{Written.{places, last_of, Figures, StopsWithin}, Running.{state_at}}
+use Rattle.ocfl_scrub.specs.{Call.{Call, Writes}, Starting.{entry, read_in, items_in}}
+use Rattle.ocfl_scrub.specs.Written.{places, Figures, StopsWithin}
 use Rattle.ocfl_scrub.specs.{Cycling.{enough}, declared.cycling.CycleStatus.{CycleStatus}}
 use Rattle.ocfl_scrub.specs.declared.cycling.CycleStatus.TheVariants as status
+
+-- where the last item that was taken leaves the cursor of a cycle that has not ended
+abbrev pub state_at : Option Place → State
+state_at last = option_map_or behind last start
 
 abbrev pub cycle_state : CycleStatus → Option Place → State
 cycle_state status.Ended last = ended
@@ -25,7 +30,7 @@ cycle_cursor count spent files state = record { cycle = 1; runs = count; spent =
 
 -- the runs of the audit of a part, if a trail shows what could not be read
 abbrev pub runs_in : StorageRoot → List Opening → Part → List Limits → List (List Item)
-runs_in root trail part limits = runs (items_in root trail part) limits
+runs_in root trail part limits = runs (items_in root trail part None) limits
 
 -- what they take together
 abbrev pub all_in : StorageRoot → List Opening → Part → List Limits → List Item
@@ -49,11 +54,11 @@ pub record CyclesWithin (call : Call) (part : Part) (last : Option Place) (limit
   pub wrote : Writes call (text (all_in call.root trail part limits))
   pub figures : Figures (all_in call.root trail part limits) spent files finding
   pub count_is : count ≡ length (runs_in call.root trail part limits)
-  pub last_is : last ≡ last_of None (places (all_in call.root trail part limits))
-  pub ends_is : (ends ≡ true) ↔ ((1 ≤ count) × (all_in call.root trail part limits ≡ items_in call.root trail part))
-  pub few : (b n : ℕ) → 1 ≤ b → 1 ≤ n → All (IsAtLeast b n) limits → count ≤ enough (items_in call.root trail part) b n
-  pub suffice : (b n : ℕ) → 1 ≤ b → 1 ≤ n → All (IsAtLeast b n) limits → enough (items_in call.root trail part) b n ≤ length limits → ends ≡ true
-  pub by_sum : (k : ℕ) → 1 ≤ k → k ≤ length limits → FilesFit (items_in call.root trail part) limits → total_cost (items_in call.root trail part) ≤ sum_of (take k (map (λ l. l.budget) limits)) → (ends ≡ true) × (count ≤ k)
+  pub last_is : last ≡ last_or None (places (all_in call.root trail part limits))
+  pub ends_is : (ends ≡ true) ↔ ((1 ≤ count) × (all_in call.root trail part limits ≡ items_in call.root trail part None))
+  pub few : (b n : ℕ) → 1 ≤ b → 1 ≤ n → All (IsAtLeast b n) limits → count ≤ enough (items_in call.root trail part None) b n
+  pub suffice : (b n : ℕ) → 1 ≤ b → 1 ≤ n → All (IsAtLeast b n) limits → enough (items_in call.root trail part None) b n ≤ length limits → ends ≡ true
+  pub by_sum : (k : ℕ) → 1 ≤ k → k ≤ length limits → FilesFit (items_in call.root trail part None) limits → total_cost (items_in call.root trail part None) ≤ sum_of (take k (map (λ l. l.budget) limits)) → (ends ≡ true) × (count ≤ k)
 
 -- what the first n runs take together
 abbrev pub first_in : StorageRoot → List Opening → Part → List Limits → ℕ → List Item

@@ -1,13 +1,13 @@
 -- What the audit of a storage root, or of a part of it, does.
-use Rattle.std.specs.Prelude.{◌≡◌, ◌≢◌, ℕ, List, ◌++◌, Bool, false, Option, None}
+use Rattle.std.specs.{Prelude.{◌≡◌, ◌≢◌, ℕ, List, ◌++◌, Bool, false, Option, None}, List.{last_or}}
 use Rattle.ocfl_tree.specs.{Place.{Place}, declared.store.Opening.{Opening}}
 use Rattle.ocfl_report.specs.{Line.{found}, Text.{text}}
 use Rattle.ocfl_audit.specs.Parts.{Part, whole}
 use Rattle.ocfl_item.specs.declared.fault.Fault.{Fault}
 use Rattle.ocfl_item.specs.declared.fault.Fault.TheVariants as fault
 use Rattle.ocfl_scrub.specs.{Call.{Call, Writes}, Taking.{WritesLines}}
-use Rattle.ocfl_scrub.specs.Starting.{items_in, LooksOver, StopsLooking}
-use Rattle.ocfl_scrub.specs.Written.{places, last_of, StopsWithin}
+use Rattle.ocfl_scrub.specs.Starting.{LooksOver, StopsLooking, items_in}
+use Rattle.ocfl_scrub.specs.Written.{places, StopsWithin}
 use Rattle.ocfl_scrub.specs.declared.auditing.AuditEnd.{AuditEnd}
 use Rattle.ocfl_scrub.specs.declared.checking.AuditStatus.{AuditStatus}
 use Rattle.ocfl_scrub.specs.declared.checking.AuditStatus.TheVariants as end
@@ -23,16 +23,16 @@ pub record AuditsOnAnyStore {O : Type 0} (contents : O → Option (List ℕ)) (o
 -- the text of the audit of a part was written: each hashed file in it was opened once, in order
 pub record AuditsWithin (call : Call) (part : Part) (last : Option Place) (finding : Bool) : Type 0 where
   pub trail : List Opening
-  pub looks : LooksOver call part None None (places (items_in call.root trail part)) trail
-  pub wrote : Writes call (text (items_in call.root trail part))
-  pub last_is : last ≡ last_of None (places (items_in call.root trail part))
-  pub found_is : finding ≡ found (items_in call.root trail part)
+  pub looks : LooksOver call part None None (places (items_in call.root trail part None)) trail
+  pub wrote : Writes call (text (items_in call.root trail part None))
+  pub last_is : last ≡ last_or None (places (items_in call.root trail part None))
+  pub found_is : finding ≡ found (items_in call.root trail part None)
 
 -- it stopped: the first items of the part went out whole, and of the next at most a proper
 -- beginning
 pub record AuditStopsWithin (call : Call) (part : Part) (last : Option Place) (finding : Bool) (why : Fault) : Type 0 where
   pub trail : List Opening
-  pub stops : StopsWithin (items_in call.root trail part) call.old call.new None last why
+  pub stops : StopsWithin (items_in call.root trail part None) call.old call.new None last why
   pub found_is : finding ≡ found stops.whole
   pub looks : StopsLooking call part None (places stops.whole ++ stops.begun) trail why
 

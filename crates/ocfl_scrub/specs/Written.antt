@@ -1,6 +1,6 @@
 -- What was written of some items.
-use Rattle.std.specs.Prelude.{◌≡◌, ℕ, List, [], ◌∷◌, ◌++◌, Bool, Option, Some, map, take}
-use Rattle.std.specs.Io.KnownBytes.{Appends}
+use Rattle.std.specs.Prelude.{◌≡◌, ℕ, List, ◌++◌, Bool, Option, map, take}
+use Rattle.std.specs.{Io.KnownBytes.{Appends}, List.{last_or}}
 use Rattle.ocfl_tree.specs.Place.{Text, Place}
 use Rattle.ocfl_report.specs.{Line.{Item, found}, Text.{text}}
 use Rattle.ocfl_audit.specs.{Audit.{total_cost}, Runs.{total_files}}
@@ -9,11 +9,6 @@ use Rattle.ocfl_scrub.specs.Taking.{PartOf}
 
 abbrev pub places : List Item → List Place
 places items = map (λ i. i.place) items
-
--- the last of the places, or else the one before them
-abbrev pub last_of : Option Place → List Place → Option Place
-last_of last [] = last
-last_of last (p ∷ ps) = last_of (Some p) ps
 
 -- what items cost, how many of them are files that were read, and whether a line of one is a
 -- finding
@@ -33,4 +28,4 @@ pub record StopsWithin (items : List Item) (old new : Option (List ℕ)) (from l
   pub part : Text
   pub wrote : Appends old new (text whole ++ part)
   pub part_of : PartOf why (text (take 1 others)) part
-  pub last_is : last ≡ last_of from (places whole)
+  pub last_is : last ≡ last_or from (places whole)

@@ -1,8 +1,9 @@
 //! A cycle of runs from the first item of a storage root, or of a part of it, each with limits of
 //! its own.
 ghost use Rattle.std.specs.Prelude.{◌≡◌, ◌≤◌, false, map, IfErr, IfOk};
+ghost use Rattle.ocfl_audit.specs.Parts.{whole};
 ghost use Rattle.ocfl_cursor.specs.Cursor.{new_cursor};
-ghost use Rattle.ocfl_scrub.specs.{Call.{WhereTold}, Chaining.{CycleOfRuns, CycleOfRunsWithin}};
+ghost use Rattle.ocfl_scrub.specs.{Call.{WhereTold}, Chaining.{CycleOfRunsWithin}};
 ghost use Rattle.ocfl_scrub.specs.{Cycling.{CyclesOnAnyStore}, Running.{limits_of}};
 ghost use Rattle.ocfl_scrub.specs.Starting.{part_of};
 
@@ -63,7 +64,7 @@ pub fn cycle<T: Tree, W: Write>(
     ensures any_store { CyclesOnAnyStore W.contents store.old store.new out.old out.new
         limits.now result }
     ensures told { WhereTold T.told T.state W.contents store.old store.new out.old out.new (λ call.
-        CycleOfRuns call (map limits_of limits.now) result) }
+        CycleOfRunsWithin call whole (map limits_of limits.now) result) }
 {
     let whole = Part::whole(alloc);
     cycle_part(alloc, store, &whole, limits, block, out)

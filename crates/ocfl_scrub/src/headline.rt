@@ -1,9 +1,9 @@
 //! The main promise: what a cycle keeps while the root stays unchanged and every call succeeds. It
 //! follows from what the contract of a cycle says of its runs (`told`).
 ghost use Rattle.std.specs.Prelude.{List};
-ghost use Rattle.ocfl_audit.specs.{Parts.{Part}, Runs.{Limits}};
+ghost use Rattle.ocfl_audit.specs.{Parts.{Part, whole}, Runs.{Limits}};
 ghost use Rattle.ocfl_scrub.specs.Call.{Call, IsUnfailing};
-ghost use Rattle.ocfl_scrub.specs.Chaining.{CycleOfRuns, CycleOfRunsWithin};
+ghost use Rattle.ocfl_scrub.specs.Chaining.{CycleOfRunsWithin};
 ghost use Rattle.ocfl_scrub.specs.Cycling.{HeadlineOf, HeadlineOfPart};
 ghost use Rattle.ocfl_scrub.specs.declared.cycling.CycleEnd.{CycleEnd};
 
@@ -14,7 +14,7 @@ ghost use Rattle.ocfl_scrub.specs.declared.cycling.CycleEnd.{CycleEnd};
 /// each rounded down, and one more. So too of a part, by what the audit has there.
 pub fn a_cycle_keeps_the_headline()
     ensures whole { (call : Call) (limits : List Limits) (ran : CycleEnd)
-        → CycleOfRuns call limits ran → IsUnfailing call
+        → CycleOfRunsWithin call whole limits ran → IsUnfailing call
         → HeadlineOf call limits ran.runs ran.end }
     ensures part { (call : Call) (part : Part) (limits : List Limits) (ran : CycleEnd)
         → CycleOfRunsWithin call part limits ran → IsUnfailing call

@@ -10,7 +10,7 @@ ghost use Rattle.ocfl_audit.specs.{Lines.{is_empty}, Audit.{audit, after, total_
 ghost use Rattle.ocfl_audit.specs.Due.{hashed_among, item_places};
 ghost use Rattle.ocfl_audit.specs.Trail.{content_trail, heads_of, inventories, unread_of};
 ghost use Rattle.ocfl_audit.specs.{Walk.{item_at}, Between.{looked_between, read_between}};
-ghost use Rattle.ocfl_audit.specs.Parts.{Part};
+ghost use Rattle.ocfl_audit.specs.Parts.{Part, whole};
 ghost use Rattle.ocfl_audit.specs.Runs.{Limits, cut, left, runs, joined, total_files, IsAtLeast, FilesFit, sum_of};
 ghost use Rattle.ocfl_item.specs.{Looking.{failures_by, way_to}, declared.fault.Fault.{Fault}};
 ghost use Rattle.ocfl_item.specs.declared.fault.Fault.TheVariants as fault;
@@ -22,7 +22,7 @@ ghost use Rattle.ocfl_deed.specs.declared.deed.Deed.{Deed};
 ghost use Rattle.ocfl_deed.specs.declared.deed.Deed.TheVariants as deed;
 ghost use Rattle.ocfl_scrub.specs.Call.{Call, IsUnfailing, known_call};
 ghost use Rattle.ocfl_scrub.specs.Running.{place_in, limits_of, Runs, RunStops, RunEnds, RunsFrom, ArePaid, IsWorn, RunsCleanly, RunsOnAnyStore, begun, state_after};
-ghost use Rattle.ocfl_scrub.specs.Chaining.{CycleOfRuns, CycleOfRunsWithin};
+ghost use Rattle.ocfl_scrub.specs.Chaining.{CycleOfRunsWithin};
 ghost use Rattle.ocfl_scrub.specs.Cycling.{CyclesOnAnyStore, HeadlineOf};
 ghost use Rattle.ocfl_scrub.specs.Together.{Cycles, CycleStops, CycleEnds, CyclesTo, CyclesToWithin};
 ghost use Rattle.ocfl_scrub.specs.Checking.{Checks, CheckStops, CheckEnds};
@@ -484,7 +484,7 @@ pub fn a_command_does_what_it_is_asked_for()
     ensures cycle { (call : Call) (known : Option (Option (List ℕ))) (limits : MadeLimits)
         (count : ℕ) (status : ℕ) (n : Note) (stored : Option (Vec ℕ Global))
         → Performs call known (deed.Cycle limits count) status n stored → ((ran : CycleEnd)
-        × (CycleOfRuns call (map limits_of (replicate count limits)) ran
+        × (CycleOfRunsWithin call whole (map limits_of (replicate count limits)) ran
         × ((ran.runs ≡ ran.cursor.runs) × ((ran.spent ≡ ran.cursor.spent)
         × (IsCycleNote ran.runs ran.spent ran.found ran.end status n × (IsUnfailing call
         → HeadlineOf call (map limits_of (replicate count limits)) ran.runs ran.end)))))) ⊎ ((status

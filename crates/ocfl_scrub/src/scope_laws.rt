@@ -34,10 +34,10 @@ pub fn an_empty_branch_has_no_item()
     ensures empty { (call : Call) (p : Place) (status : ℕ)
         → BranchAudited call p status note.EmptyBranch → (trail : List Opening)
         × ((call.after.openings ≡ call.before.openings ++ trail)
-        × (items_in call.root trail (branch p) ≡ [])) }
+        × (items_in call.root trail (branch p) None ≡ [])) }
     ensures some { (call : Call) (p : Place) (status : ℕ) → BranchAudited call p status note.Nothing
         → (trail : List Opening) × ((call.after.openings ≡ call.before.openings ++ trail)
-        × (items_in call.root trail (branch p) ≢ [])) }
+        × (items_in call.root trail (branch p) None ≢ [])) }
 {}
 
 /// A run of a part refuses its own cursor, of at most 67,108,864 bytes, only for want of memory. It

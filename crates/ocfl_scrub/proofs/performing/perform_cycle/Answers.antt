@@ -1,5 +1,6 @@
 use Rattle.std.proofs.Common.{◌≡◌, subst, inl, ◌∙◌, ap, map}
-use Rattle.ocfl_scrub.specs.{Call.{call_of}, Chaining.{CycleOfRuns}, Running.{limits_of}}
+use Rattle.ocfl_audit.specs.Parts.{whole}
+use Rattle.ocfl_scrub.specs.{Call.{call_of}, Chaining.{CycleOfRunsWithin}, Running.{limits_of}}
 use Rattle.ocfl_scrub.specs.Performing.{equal_limits}
 use Rattle.ocfl_scrub.proofs.ChainHeadline.{headline_of_whole}
 use Rattle.ocfl_scrub.proofs.performing.perform_cycle.Goals as goal
@@ -13,7 +14,8 @@ returns-clause-told g c told root over short =
     let new = g.W.Write.contents c.cycle.new.out in
     let end = c.cycle.result in
     let same : map limits_of c.deref.result.now ≡ equal_limits c.args.limits c.args.count = ap (map limits_of) (c.deref.ensures.value ∙ c.in-Ok.ensures) in
-    let cycles : CycleOfRuns (call_of root s t old new) (equal_limits c.args.limits c.args.count) end = subst (λ ls. CycleOfRuns (call_of root s t old new) ls end) same (e.told told root over short) in
+    let cycles : CycleOfRunsWithin (call_of root s t old new) whole (equal_limits c.args.limits c.args.count) end =
+    subst (λ ls. CycleOfRunsWithin (call_of root s t old new) whole ls end) same (e.told told root over short) in
     inl (record {
       ran = end; cycles = cycles;
       headline = headline_of_whole (call_of root s t old new) (equal_limits c.args.limits c.args.count) end cycles;

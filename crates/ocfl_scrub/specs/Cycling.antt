@@ -9,8 +9,7 @@ use Rattle.ocfl_cursor.specs.Cursor.{ended, new_cursor}
 use Rattle.ocfl_cursor.specs.declared.limits.Limits.{Limits as MadeLimits}
 use Rattle.ocfl_item.specs.declared.fault.Fault.TheVariants as fault
 use Rattle.ocfl_scrub.specs.{Call.{Call, Writes}, Chaining.{IsMadeOf}, Taking.{WritesLines}}
-use Rattle.ocfl_scrub.specs.{Written.{places}, declared.cycling.CycleEnd.{CycleEnd}}
-use Rattle.ocfl_scrub.specs.declared.cycling.CycleStatus.{CycleStatus}
+use Rattle.ocfl_scrub.specs.{Written.{places}, Types.{CycleEnd, CycleStatus}}
 use Rattle.ocfl_scrub.specs.declared.cycling.CycleStatus.TheVariants as status
 
 -- what a cycle does on any store, by what the store and the output are before it and after it

@@ -15,8 +15,7 @@ use Rattle.ocfl_scope.specs.declared.scope.Scope.TheVariants as scope
 use Rattle.ocfl_scope.specs.Numbered.{part_between}
 use Rattle.ocfl_scrub.specs.{Call.{Call, known_call}, Joining.{PartRun, items_out}}
 use Rattle.ocfl_scrub.specs.{Running.{limits_of, place_in}, Scoping.{PartRunPerformed, PerformsIn}}
-use Rattle.ocfl_scrub.specs.{declared.note.Note.{Note}, declared.performing.Performed.{Performed}}
-use Rattle.ocfl_scrub.specs.declared.running.RunEnd.{RunEnd}
+use Rattle.ocfl_scrub.specs.Types.{Note, Performed, RunEnd}
 use Rattle.ocfl_scrub.specs.declared.note.Note.TheVariants as note
 
 -- ---- one call

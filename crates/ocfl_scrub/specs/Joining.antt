@@ -8,10 +8,8 @@ use Rattle.ocfl_report.specs.{Line.{Item}, Text.{text}}
 use Rattle.ocfl_audit.specs.{Audit.{Unread, after}, Parts.{Part}, Runs.{Limits}}
 use Rattle.ocfl_audit.specs.Trail.{content_trail, unread_of}
 use Rattle.ocfl_cursor.specs.Cursor.{State, start, behind, ended, Cursor}
-use Rattle.ocfl_scrub.specs.Call.{Call, known_call}
+use Rattle.ocfl_scrub.specs.{Call.{Call, known_call}, Types.{RunEnd, RunStatus}}
 use Rattle.ocfl_scrub.specs.Running.{place_in, taken_in, RunEndsWithin, RunsFromWithin}
-use Rattle.ocfl_scrub.specs.declared.running.RunEnd.{RunEnd}
-use Rattle.ocfl_scrub.specs.declared.running.RunStatus.{RunStatus}
 use Rattle.ocfl_scrub.specs.declared.running.RunStatus.TheVariants as status
 
 -- what a run was given, what it wrote and opened, and what it answered

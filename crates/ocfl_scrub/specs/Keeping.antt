@@ -6,11 +6,10 @@ use Rattle.ocfl_audit.specs.{Parts.{Part}, Runs.{Limits}, Trail.{heads_of}}
 use Rattle.ocfl_cursor.specs.Cursor.{Cursor}
 use Rattle.ocfl_item.specs.Looking.{IsFront}
 use Rattle.ocfl_walk.specs.{Ends.{is_past}, WalkCalls.{GoesDown, Walks}, Walks.{Gives}}
-use Rattle.ocfl_scrub.specs.{Alike.{IsAlike}, Call.{Call, call_of}}
+use Rattle.ocfl_scrub.specs.{Alike.{IsAlike}, Call.{Call, call_of}, Types.{RunEnd}}
 use Rattle.ocfl_scrub.specs.Running.{RunsFromWithin, place_in}
 use Rattle.ocfl_scrub.specs.Starting.{end_of, entry, looked_in, read_in, stand}
 use Rattle.ocfl_scrub.specs.{declared.kept.KeptWalk.{KeptWalk}, declared.kept.Met.{Met}}
-use Rattle.ocfl_scrub.specs.declared.running.RunEnd.{RunEnd}
 
 -- the place of the item that the walk met, and none where the next run begins a walk
 abbrev pub met_in : Option Met → Option Place

@@ -12,14 +12,10 @@ use Rattle.ocfl_cursor.specs.declared.showing.ShowStop.TheVariants as show
 use Rattle.ocfl_item.specs.declared.fault.Fault.{Fault}
 use Rattle.ocfl_item.specs.declared.fault.Fault.TheVariants as fault
 use Rattle.ocfl_scrub.specs.{Call.{Call, IsUnfailing}, Taking.{WritesLines}, Checking.{CheckEnds}}
-use Rattle.ocfl_scrub.specs.{WholeAudit.{AuditEndsWithin}, declared.auditing.AuditEnd.{AuditEnd}}
-use Rattle.ocfl_scrub.specs.declared.checking.CheckEnd.{CheckEnd}
-use Rattle.ocfl_scrub.specs.declared.checking.AuditStatus.{AuditStatus}
+use Rattle.ocfl_scrub.specs.WholeAudit.{AuditEndsWithin}
 use Rattle.ocfl_scrub.specs.{Running.{RunsFromWithin, RunsCleanlyWithin}, Chaining.{CycleOfRunsWithin}}
-use Rattle.ocfl_scrub.specs.{Cycling.{HeadlineOf}, declared.running.RunEnd.{RunEnd}}
-use Rattle.ocfl_scrub.specs.declared.running.RunStatus.{RunStatus}
-use Rattle.ocfl_scrub.specs.declared.cycling.CycleEnd.{CycleEnd}
-use Rattle.ocfl_scrub.specs.{declared.cycling.CycleStatus.{CycleStatus}, declared.note.Note.{Note}}
+use Rattle.ocfl_scrub.specs.Cycling.{HeadlineOf}
+use Rattle.ocfl_scrub.specs.Types.{AuditEnd, AuditStatus, CheckEnd, CycleEnd, CycleStatus, Note, RunEnd, RunStatus}
 use Rattle.ocfl_scrub.specs.declared.checking.AuditStatus.TheVariants as end
 use Rattle.ocfl_audit.specs.{Parts.{Part, whole}, Runs.{Limits}}
 use Rattle.ocfl_scrub.specs.declared.running.RunStatus.TheVariants as run

@@ -17,9 +17,7 @@ use Rattle.ocfl_scope.specs.Finding.{IsNoPath}
 use Rattle.ocfl_scrub.specs.Call.{Call, Writes, IsUnfailing}
 use Rattle.ocfl_scrub.specs.Noting.{IsStatus, status_of, IsAuditSaid, IsCheckSaid, IsRunSaid, IsCycleSaid, IsFileSaid, IsShowSaid, IsRefused, IsAuditNote, IsRunNote, IsUnreadNote, WritesWhole, WritesWithStatus, AuditsWithNote, ChecksWithNote, RunsWithNote, CyclesWithNote}
 use Rattle.ocfl_scrub.specs.Running.{IsPaid, IsWorn, begun, limits_of, state_after}
-use Rattle.ocfl_scrub.specs.declared.auditing.AuditEnd.{AuditEnd}
-use Rattle.ocfl_scrub.specs.declared.performing.Performed.{Performed}
-use Rattle.ocfl_scrub.specs.{declared.running.RunEnd.{RunEnd}, declared.note.Note.{Note}}
+use Rattle.ocfl_scrub.specs.Types.{AuditEnd, Note, Performed, RunEnd}
 use Rattle.ocfl_scrub.specs.declared.note.Note.TheVariants as note
 
 -- ---- the cursor that is read

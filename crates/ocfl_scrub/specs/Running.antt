@@ -12,11 +12,9 @@ use Rattle.ocfl_cursor.specs.Moves.{next_cycle, after_run}
 use Rattle.ocfl_cursor.specs.declared.limits.Limits.{Limits as MadeLimits}
 use Rattle.ocfl_item.specs.declared.fault.Fault.{Fault}
 use Rattle.ocfl_item.specs.declared.fault.Fault.TheVariants as fault
-use Rattle.ocfl_scrub.specs.{Call.{Call, Writes}, Taking.{WritesLines}}
+use Rattle.ocfl_scrub.specs.{Call.{Call, Writes}, Taking.{WritesLines}, Types.{RunEnd, RunStatus}}
 use Rattle.ocfl_scrub.specs.Starting.{LooksOver, StopsLooking, items_in}
 use Rattle.ocfl_scrub.specs.Written.{places, Figures, StopsWithin}
-use Rattle.ocfl_scrub.specs.declared.running.RunEnd.{RunEnd}
-use Rattle.ocfl_scrub.specs.declared.running.RunStatus.{RunStatus}
 use Rattle.ocfl_scrub.specs.declared.running.RunStatus.TheVariants as status
 
 -- the limits that a run is given

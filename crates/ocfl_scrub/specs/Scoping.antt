@@ -11,11 +11,10 @@ use Rattle.ocfl_deed.specs.declared.deed.Deed.{Deed}
 use Rattle.ocfl_deed.specs.declared.deed.Deed.TheVariants as deed
 use Rattle.ocfl_scope.specs.{Numbered.{part_between}, declared.scope.Scope.{Scope}}
 use Rattle.ocfl_scope.specs.declared.scope.Scope.TheVariants as scope
-use Rattle.ocfl_scrub.specs.Call.{Call}
+use Rattle.ocfl_scrub.specs.{Call.{Call}, Types.{AuditStatus, Note}}
 use Rattle.ocfl_scrub.specs.Noting.{IsAuditSaid, IsRunSaid, IsAuditNote, IsPartRefusedNote}
 use Rattle.ocfl_scrub.specs.Performing.{IfRead, IsSaid, RefusesRightly, HandedBack, HandsBack, PartAudited, OutOfMemoryFirst, RunMade, RunUnmade, RunUnread, RunWorn, Performs}
-use Rattle.ocfl_scrub.specs.{Running.{limits_of}, declared.checking.AuditStatus.{AuditStatus}}
-use Rattle.ocfl_scrub.specs.declared.note.Note.{Note}
+use Rattle.ocfl_scrub.specs.Running.{limits_of}
 use Rattle.ocfl_scrub.specs.declared.checking.AuditStatus.TheVariants as end
 use Rattle.ocfl_scrub.specs.declared.note.Note.TheVariants as note
 

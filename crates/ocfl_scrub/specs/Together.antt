@@ -11,8 +11,8 @@ use Rattle.ocfl_item.specs.{Looking.{IsFront}, Auditing.{Audits, Fails}}
 use Rattle.ocfl_item.specs.declared.fault.Fault.{Fault}
 use Rattle.ocfl_walk.specs.WalkCalls.{holder}
 use Rattle.ocfl_scrub.specs.{Call.{Call, Writes}, Starting.{entry, read_in, items_in}}
-use Rattle.ocfl_scrub.specs.Written.{places, Figures, StopsWithin}
-use Rattle.ocfl_scrub.specs.{Cycling.{enough}, declared.cycling.CycleStatus.{CycleStatus}}
+use Rattle.ocfl_scrub.specs.{Written.{places, Figures, StopsWithin}, Types.{CycleStatus}}
+use Rattle.ocfl_scrub.specs.Cycling.{enough}
 use Rattle.ocfl_scrub.specs.declared.cycling.CycleStatus.TheVariants as status
 
 -- where the last item that was taken leaves the cursor of a cycle that has not ended

@@ -7,9 +7,7 @@ use Rattle.ocfl_item.specs.declared.fault.Fault.{Fault}
 use Rattle.ocfl_item.specs.declared.fault.Fault.TheVariants as fault
 use Rattle.ocfl_scrub.specs.{Call.{Call, Writes}, Taking.{WritesLines}}
 use Rattle.ocfl_scrub.specs.Starting.{LooksOver, StopsLooking, items_in}
-use Rattle.ocfl_scrub.specs.Written.{places, StopsWithin}
-use Rattle.ocfl_scrub.specs.declared.auditing.AuditEnd.{AuditEnd}
-use Rattle.ocfl_scrub.specs.declared.checking.AuditStatus.{AuditStatus}
+use Rattle.ocfl_scrub.specs.{Written.{places, StopsWithin}, Types.{AuditEnd, AuditStatus}}
 use Rattle.ocfl_scrub.specs.declared.checking.AuditStatus.TheVariants as end
 
 -- what an audit does on any store, by what the output is before it and after it

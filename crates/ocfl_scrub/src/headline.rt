@@ -2,10 +2,9 @@
 //! follows from what the contract of a cycle says of its runs (`told`).
 ghost use Rattle.std.specs.Prelude.{List};
 ghost use Rattle.ocfl_audit.specs.{Parts.{Part, whole}, Runs.{Limits}};
-ghost use Rattle.ocfl_scrub.specs.Call.{Call, IsUnfailing};
+ghost use Rattle.ocfl_scrub.specs.{Call.{Call, IsUnfailing}, Types.{CycleEnd}};
 ghost use Rattle.ocfl_scrub.specs.Chaining.{CycleOfRunsWithin};
 ghost use Rattle.ocfl_scrub.specs.Cycling.{HeadlineOf, HeadlineOfPart};
-ghost use Rattle.ocfl_scrub.specs.declared.cycling.CycleEnd.{CycleEnd};
 
 /// The reports of a cycle's runs, joined, are the cuts of the audit by their limits; each run
 /// starts a file only while its cost is below its budget and its files are below its limit. If the

@@ -29,10 +29,7 @@ ghost use Rattle.ocfl_scrub.specs.Noting.{IsAuditNote, IsAuditSaid, IsCheckNote,
 ghost use Rattle.ocfl_scrub.specs.Performing.{IsKept, IsKeptBy, IsSilent, IsWhole, HandsBack, IsWithoutFile, RefusesRightly, ShowsWith, UnshownSaid};
 ghost use Rattle.ocfl_scrub.specs.Scoping.{IsBranchNote, IsBranchSaid, IsPartRunSaid, IsPartUnreadNote};
 ghost use Rattle.ocfl_scrub.specs.Running.{IsPaid, RunsWithin, begun, limits_of, state_after, taken_in};
-ghost use Rattle.ocfl_scrub.specs.declared.checking.AuditStatus.{AuditStatus};
-ghost use Rattle.ocfl_scrub.specs.declared.cycling.CycleStatus.{CycleStatus};
-ghost use Rattle.ocfl_scrub.specs.declared.note.Note.{Note};
-ghost use Rattle.ocfl_scrub.specs.declared.running.RunStatus.{RunStatus};
+ghost use Rattle.ocfl_scrub.specs.Types.{AuditStatus, CycleStatus, Note, RunStatus};
 ghost use Rattle.ocfl_scrub.specs.declared.cycling.CycleStatus.TheVariants as cycle;
 ghost use Rattle.ocfl_scrub.specs.declared.note.Note.TheVariants as note;
 ghost use Rattle.ocfl_scrub.specs.declared.running.RunStatus.TheVariants as run;

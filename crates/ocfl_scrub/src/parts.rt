@@ -18,10 +18,7 @@ ghost use Rattle.ocfl_scrub.specs.{Checking.{CheckEnds}, Openings.{OpensNear, Op
 ghost use Rattle.ocfl_scrub.specs.Running.{RunEndsWithin, RunsFromWithin, begun, place_in};
 ghost use Rattle.ocfl_scrub.specs.Joining.{AreOneCycle, AreRuns, IsPartCycle, IsWholeCycle, PartCycle, PartRun, Ran, cursor_after, is_taken, left_by, opened_by, reports_of, unread_together, unstopped};
 ghost use Rattle.ocfl_scrub.specs.{Keeping.{RunsOn}, WholeAudit.{AuditEndsWithin}};
-ghost use Rattle.ocfl_scrub.specs.declared.checking.AuditStatus.{AuditStatus};
-ghost use Rattle.ocfl_scrub.specs.declared.cycling.CycleEnd.{CycleEnd};
-ghost use Rattle.ocfl_scrub.specs.declared.running.RunEnd.{RunEnd};
-ghost use Rattle.ocfl_scrub.specs.declared.running.RunStatus.{RunStatus};
+ghost use Rattle.ocfl_scrub.specs.Types.{AuditStatus, CycleEnd, RunEnd, RunStatus};
 ghost use Rattle.ocfl_scrub.specs.declared.cycling.CycleStatus.TheVariants as cycle;
 ghost use Rattle.ocfl_scrub.specs.declared.running.RunStatus.TheVariants as run;
 

@@ -9,10 +9,10 @@ ghost use Rattle.ocfl_cursor.specs.declared.refused.PartRefused.{PartRefused};
 ghost use Rattle.ocfl_cursor.specs.declared.refused.PartRefused.TheVariants as refused;
 ghost use Rattle.ocfl_deed.specs.declared.deed.Deed.{Deed};
 ghost use Rattle.ocfl_scope.specs.declared.scope.Scope.TheVariants as scope;
-ghost use Rattle.ocfl_scrub.specs.Call.{Call};
+ghost use Rattle.ocfl_scrub.specs.{Call.{Call}, Types.{Note}};
 ghost use Rattle.ocfl_scrub.specs.Performing.{HandsBack, IsSaid, Performs, RefusesRightly};
 ghost use Rattle.ocfl_scrub.specs.Scoping.{BranchAudited, HandsBackIn, IsSaidIn, PartRefusesRightly, PerformsIn, RefusesRightlyIn};
-ghost use Rattle.ocfl_scrub.specs.{Starting.{items_in}, declared.note.Note.{Note}};
+ghost use Rattle.ocfl_scrub.specs.Starting.{items_in};
 ghost use Rattle.ocfl_scrub.specs.declared.note.Note.TheVariants as note;
 
 /// Within the whole storage root a command ends as it does without a scope.

@@ -140,10 +140,12 @@ end_is_name n h l =
     record {
       text = ∣ IsUtf8-append n (1 ∷ []) (IsUtf8-had n h.text) one_is_text ∣₁;
       fits = record {
-        not_empty = some n; short = omega (arith, e, l);
+        not_empty = some n;
+        short = omega (arith, e, l);
         plain = All-append (λ b. (b ≢ 47) × (b ≢ 0)) n (1 ∷ []) h.fits.plain
             (All-cons (λ b. (b ≢ 47) × (b ≢ 0)) 1 [] (λ k. omega (arith, k), λ k. omega (arith, k)) (All-nil (λ b. (b ≢ 47) × (b ≢ 0))));
-        not_dot = no_dot n h.fits.not_empty; not_dots = no_dots n h.fits.not_empty;
+        not_dot = no_dot n h.fits.not_empty;
+        not_dots = no_dots n h.fits.not_empty;
       };
     }
   where

@@ -52,7 +52,8 @@ module _ (root : StorageRoot) where
           → shows_entries root (zone root (n ∷ d)) ≡ e → (a && (b && (c && e))) ≡ true → IsLookedInto root (n ∷ d)
       by true true true true f g k l m = record {
         is_seen = ap (λ x. cond x (at root (n ∷ d)) None) f ∙ dir_from (at root (n ∷ d)) k;
-        depth = leb-true _ _ g; shows = shows (n ∷ d) l;
+        depth = leb-true _ _ g;
+        shows = shows (n ∷ d) l;
       }
       by true true true false f g k l m = absurd (true_not_false (sym m))
       by true true false e f g k l m = absurd (true_not_false (sym m))

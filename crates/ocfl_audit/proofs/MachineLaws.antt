@@ -69,7 +69,9 @@ module _ (root : StorageRoot) (closed : IsClosed root) where
           let e = entry_seen root d n (m n (inl refl)) in
           let p = stack_pops root closed last d n ns fs e.0 g e.1 in
           record {
-            above_last = p.0; none_seen = p.1.0; stack = p.1.1;
+            above_last = p.0;
+            none_seen = p.1.0;
+            stack = p.1.1;
             listed = ((λ x i. i), ((λ x i. m x (inr i)), l.1));
             candidate = seen_candidate root (d ++ n ∷ []) e.0 e.1;
           }
@@ -146,10 +148,12 @@ module _ (root : StorageRoot) (closed : IsClosed root) where
   path_taken : (last b : Place) (fs : List Frame) → IsStack root last fs → IsListed root fs → IsPath last b → NoneSeenBetween root last b
       → ((leaf : Leaf) → seen root b ≡ Some leaf → ⊥) → IsNext last (b, fs)
   path_taken last b fs h l p none unseen = record {
-    above_last = p.above_last; none_seen = none;
+    above_last = p.above_last;
+    none_seen = none;
     none_named = p.none_named b (not_below_itself place_cmp_total b);
     stack = stack_stays root closed last b fs h p.above_last (by (seen root b) unseen) none;
-    listed = l; candidate = p.candidate;
+    listed = l;
+    candidate = p.candidate;
   }
     where
       by : (o : Option Leaf) → ((leaf : Leaf) → o ≡ Some leaf → ⊥) → o ≡ None
@@ -160,9 +164,12 @@ module _ (root : StorageRoot) (closed : IsClosed root) where
       → PathIs last p → NextIs last (lesser fs e p)
   both last fs h l None e None p = (e, p)
   both last fs h l (Some k) e None p = record {
-    above_last = e.above_last; none_seen = e.none_seen;
+    above_last = e.above_last;
+    none_seen = e.none_seen;
     none_named = path_off root last k.0 p;
-    stack = e.stack; listed = e.listed; candidate = e.candidate;
+    stack = e.stack;
+    listed = e.listed;
+    candidate = e.candidate;
   }
   both last fs h l None e (Some b) p = path_taken last b fs h l p (λ q leaf s m g. e q leaf s m) (λ leaf s. e b leaf s p.above_last)
   both last fs h l (Some k) e (Some b) p = by (is_lt (place_cmp b k.0)) refl
@@ -172,9 +179,12 @@ module _ (root : StorageRoot) (closed : IsClosed root) where
           let below : place_cmp b k.0 ≡ Less = less_from _ f in
           path_taken last b fs h l p (λ q leaf s m g. e.none_seen q leaf s m (place_cmp_total.trans q b k.0 g below)) (λ leaf s. e.none_seen b leaf s p.above_last below)
       by false f = record {
-        above_last = e.above_last; none_seen = e.none_seen;
+        above_last = e.above_last;
+        none_seen = e.none_seen;
         none_named = p.none_named k.0 (λ g. true_not_false (sym (ap is_lt g) ∙ f));
-        stack = e.stack; listed = e.listed; candidate = e.candidate;
+        stack = e.stack;
+        listed = e.listed;
+        candidate = e.candidate;
       }
 
   pub next_place_is : (last : Place) (fs : List Frame) → IsStack root last fs → IsListed root fs → NextIs last (next_place root last fs)

@@ -100,8 +100,10 @@ module _ (root : StorageRoot) where
           let is = zone_is root o o [] h in
           let parts = zone_parts o o [] h in
           record {
-            in_root = parts.0; below_root = is.below;
-            not_in_extensions = parts.1.0; declares = is.declares;
+            in_root = parts.0;
+            below_root = is.below;
+            not_in_extensions = parts.1.0;
+            declares = is.declares;
             outermost = λ b n q e some. false_from_ne_true (is_declared (object_declared root b)) (λ d. no_inner [] b n q o some d (ap (object_zone root []) (sym e) ∙ parts.1.1));
           }
 

@@ -132,9 +132,14 @@ named_path root p some = by (zone root p) refl some
         let d = deep_path k.0.content q (ap (is_content_path k.0.content) m.is ∙ (kept_short k.0.content m.text m.kept).0) in
         let shape : q ≡ d.0 ∷ d.1.0 ∷ d.1.1.0 ∷ d.1.1.1.0 = d.1.1.1.1 in
         record {
-          object = o; table = t; version = d.0;
-          content = d.1.0; name = d.1.1.0; rest = d.1.1.1.0;
-          lies = z ∙ ap (inside o) shape; has = e;
+          object = o;
+          table = t;
+          version = d.0;
+          content = d.1.0;
+          name = d.1.1.0;
+          rest = d.1.1.1.0;
+          lies = z ∙ ap (inside o) shape;
+          has = e;
           among = subst (IsAmong (paths_of t)) shape (path_among t q names);
         }
 

@@ -175,7 +175,8 @@ pub searched : (left ps qs : List Place) (b n : Text) (old new : Option Text) �
 searched left ps qs b n old new perm sorted names e h =
     let same_list : h.before ≡ map as_object qs = same_lines h.before (map as_object qs) h.is_before.are (objects_report qs names sorted) (sym h.is_before.is ∙ e) in
     record {
-      lines = h.now; report = h.is_now;
+      lines = h.now;
+      report = h.is_now;
       written = subst (Appends old new) (ap (λ ls. answers_text Expected left ls h.now) same_list ∙ answer_rows left ps qs h.now perm) h.written;
     }
 

@@ -61,7 +61,8 @@ first (x ∷ y ∷ b) after e some = by (x == 10) refl e (λ g. first (y ∷ b) 
     by false f g k =
         let rest = k (tail_same x x (y ∷ b) (take_through 10 (y ∷ b) ++ after) g) in
         record {
-          line = x ∷ rest.line; same = ap (trim_onto x) rest.same;
+          line = x ∷ rest.line;
+          same = ap (trim_onto x) rest.same;
           lines = subst (λ ls. (ls ≡ (x ∷ rest.line) ∷ list_lines after) ⊎ ((after ≡ []) × ((ls ≡ (x ∷ rest.line) ∷ []) × (x ∷ rest.line ≢ [])))) (sym (ap (λ c. cond c ([] ∷ list_lines (y ∷ b)) (onto_first x (list_lines (y ∷ b)))) f)) (onto x (y ∷ b) after rest.line rest.lines);
         }
 
@@ -119,9 +120,14 @@ module _ (b left after text : Text) (ps : List Place) (n : ℕ) (h : IsListed b 
   line_bad m e path bad =
       let stands = line_stands b left after split.line h.done not_empty h.read split.lines in
       record {
-        before = h.done; line = split.line; rest = stands.0;
-        listed = ps; is = stands.1; number = e ∙ h.count;
-        places = h.places; paths = h.paths;
+        before = h.done;
+        line = split.line;
+        rest = stands.0;
+        listed = ps;
+        is = stands.1;
+        number = e ∙ h.count;
+        places = h.places;
+        paths = h.paths;
         some = λ z. path (path_is ∙ z);
         bad = λ p o z. bad p o (path_is ∙ z);
       }

@@ -43,10 +43,13 @@ module _ (separators : List Place) (root : Text) (cycle number : ℕ) (part : Cl
   closed_right e =
       let k = four_tests (text_eq part.root.items root) (has_ends part (start_of_part separators number) (end_of_part separators number)) (part.cycle == cycle) part.whole e in
       let from = same_end part.from (start_of_part separators number) in
-      let below = same_end part.below (end_of_part separators number) in ((text_eq-Decides part.root.items root).0 k.0, (
-        end_from_same part.from (start_of_part separators number) (and_first from below k.1.0),
-        (end_from_same part.below (end_of_part separators number) (and_second from below k.1.0), (eqb-true part.cycle cycle k.1.1.0, k.1.1.1)),
-      ))
+      let below = same_end part.below (end_of_part separators number) in (
+        (text_eq-Decides part.root.items root).0 k.0,
+        (
+          end_from_same part.from (start_of_part separators number) (and_first from below k.1.0),
+          (end_from_same part.below (end_of_part separators number) (and_second from below k.1.0), (eqb-true part.cycle cycle k.1.1.0, k.1.1.1)),
+        ),
+      )
 
   pub part_right : fault_of separators root cycle number (Some part) ≡ None → right
   part_right e = by (is_part separators number) e

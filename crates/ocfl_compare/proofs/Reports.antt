@@ -72,8 +72,10 @@ module _ (all left after : Option Text) (done : List Line) (next : Option MadeLi
       by None rest c l = tt
       by (Some b) None c l = absurd c
       by (Some b) (Some rest) c l = record {
-        before = done ++ listed next; rest = rest;
-        are = h.lines; is = c;
+        before = done ++ listed next;
+        rest = rest;
+        are = h.lines;
+        is = c;
         more = λ g. some (l ∙ ap (take_through 10) g);
         number = f ∙ ap (λ x. x + 1) h.counted;
         bad = λ m more are g.

@@ -33,7 +33,6 @@ pub tally_is : {A : Type 0} (p : A → Bool) (xs : List A) → tally p xs ≡ co
 tally_is p xs = is_count_by (tally p) p refl (λ x ys. refl) xs
 
 module _ {A : Type 0} (p : A → Bool) where
-
   pub tally_some : (xs : List A) → 1 ≤ tally p xs → (z : A) × (IsAmong xs z × (p z ≡ true))
   tally_some [] h = absurd (omega (arith, h))
   tally_some (x ∷ xs) h = by (p x) refl h (tally_some xs)

@@ -84,13 +84,16 @@ module _ (n : ℕ) (b : Text) (d : List ℕ) (a : Algorithm) (digits_are : sidec
           let name_is : name ≡ codes "inventory.json" ++ drop 14 name = sym (ap (λ x. x ++ drop 14 name) spelled ∙ take-append-drop 14 name) in
           let rest_is : rest ≡ gap ++ (codes "inventory.json" ++ drop 14 name) = sym (taken_and_rest is_blank rest) ∙ ap (λ x. gap ++ x) name_is in
           record {
-            digits = take n b; gap = gap; tail = drop 14 name;
+            digits = take n b;
+            gap = gap;
+            tail = drop 14 name;
             whole = sym (take-append-drop n b) ∙ ap (λ x. take n b ++ x) rest_is;
             short = leb-true _ _ h1;
             as_many = digits_are ∙ ap Some (sym (eqb-true _ _ h2));
             is_digest = (decoded_some (take n b) d).0 h6;
             some_blank = length_nonempty gap (ltb-true _ _ h3);
-            blanks = all_taken is_blank rest; ends = h5;
+            blanks = all_taken is_blank rest;
+            ends = h5;
           }
 
       by : (t : Bool) → nat_le (length b) 4096 && (length (take n b) == n && is_after_digits (drop n b)) ≡ t → cond t (decoded (take n b)) None ≡ Some d → IsSidecar b a d

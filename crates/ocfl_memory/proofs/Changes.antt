@@ -47,8 +47,10 @@ no_refusal nodes (k ∷ p) h =
     by d n e None h true i false j none =
         let above : parent (k ∷ p) ≡ d = ap parent e ∙ parent-append d n in
         record {
-          d = d; n = n;
-          below = e; free = h;
+          d = d;
+          n = n;
+          below = e;
+          free = h;
           directory = ap (at nodes) (sym above) ∙ dir_from_leaf (at nodes (parent (k ∷ p))) i;
           room = subst (λ q. length (names_in nodes q) < 1000000) above (leb-false 1000000 (length (names_in nodes (parent (k ∷ p)))) j);
         }

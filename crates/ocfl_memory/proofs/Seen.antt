@@ -22,9 +22,14 @@ module _ (nodes : StorageRoot) (o : Option OpenFile) (os : List Opening) (ls us 
       → us' ≡ us ++ zs → f' ≡ f + n → ((q : Place) → IsAmong zs q → IsAmong ys q) → n ≡ failed_openings xs + length zs
       → Did (seen nodes o os ls us f l g).store (seen nodes o' os' ls' us' f' l h).store xs ys n
   did_so o' os' ls' us' f' h xs ys zs n opened listed noted more among each = record {
-    tree = refl; openings_are = opened; listings_are = listed;
-    failures_are = more; failed = zs; failed_are = noted;
-    failed_among = among; each_failed = each;
+    tree = refl;
+    openings_are = opened;
+    listings_are = listed;
+    failures_are = more;
+    failed = zs;
+    failed_are = noted;
+    failed_among = among;
+    each_failed = each;
   }
 
   pub lists_seen : (ls' : List Place) (p : Place) (es : List Entry) → IsKept nodes os o → stands_at nodes p ≡ Some dir → es ≡ kept_in nodes p → ls' ≡ ls ++ p ∷ []
@@ -32,7 +37,8 @@ module _ (nodes : StorageRoot) (o : Option OpenFile) (os : List Opening) (ls us 
   lists_seen ls' p es k is same added = record {
     entries = rw same (kept_is_listing nodes p (k.rooted p ∙ is));
     did = did_so o os ls' us f h [] (p ∷ []) [] 0 (sym (append-nil os)) added (sym (append-nil us)) (omega arith) (λ q i. absurd i) refl;
-    rest = refl; largest = refl;
+    rest = refl;
+    largest = refl;
   }
 
   pub list_breaks : (ls' us' : List Place) (p : Place) → ls' ≡ ls ++ p ∷ [] → us' ≡ us ++ p ∷ []
@@ -40,7 +46,8 @@ module _ (nodes : StorageRoot) (o : Option OpenFile) (os : List Opening) (ls us 
   list_breaks ls' us' p added noted = record {
     fails = record {
       did = did_so None os ls' us' (f + 1) h [] (p ∷ []) (p ∷ []) 1 (sym (append-nil os)) added noted refl (λ q i. i) refl;
-      closed = refl; largest = refl;
+      closed = refl;
+      largest = refl;
     };
     absent = λ is. absurd cc;
   }
@@ -49,7 +56,8 @@ module _ (nodes : StorageRoot) (o : Option OpenFile) (os : List Opening) (ls us 
       → Opens (seen nodes o os ls us f l g).store (seen nodes (Some (record { index = i; offset = 0 })) os' ls us f l h).store p
   opens_seen os' p i k is added = record {
     bytes = bytes_in (leaf_at nodes i);
-    is_file = k.rooted p ∙ is; rest = refl;
+    is_file = k.rooted p ∙ is;
+    rest = refl;
     did = did_so (Some (record { index = i; offset = 0 })) os' ls us f h (opening p 0 false ∷ []) [] [] 0 added (sym (append-nil ls)) (sym (append-nil us)) (omega arith) (λ q j. absurd j)
         refl;
     largest = refl;
@@ -59,7 +67,8 @@ module _ (nodes : StorageRoot) (o : Option OpenFile) (os : List Opening) (ls us 
   open_breaks os' p added = record {
     fails = record {
       did = did_so None os' ls us (f + 1) h (opening p 0 true ∷ []) [] [] 1 added (sym (append-nil ls)) (sym (append-nil us)) refl (λ q i. i) refl;
-      closed = refl; largest = refl;
+      closed = refl;
+      largest = refl;
     };
     absent = λ is. absurd cc;
   }
@@ -97,8 +106,11 @@ pub read_breaks : (nodes : StorageRoot) (o : Option OpenFile) (r : OpenFile) (os
 read_breaks nodes o r os os' ls us f l l' g h is k noted =
     let open_file = is_open nodes os o r is k in
     record {
-      tree = refl; closed = refl; listings_are = refl;
-      failed_listings_are = refl; failures_are = refl;
+      tree = refl;
+      closed = refl;
+      listings_are = refl;
+      failed_listings_are = refl;
+      failures_are = refl;
       absent = λ e. absurd cc;
       device = λ _. (
         λ none. some_not_none _ (sym (some_rest nodes o r is) ∙ none),
@@ -137,7 +149,9 @@ reads_seen nodes o r os os' ls us f l l' n room g h given all is k rest enough s
       tree = refl;
       openings_are = noted open_file.front open_file.last open_file.is_last ∙ sym (change_last-append (with_given n) open_file.front open_file.last)
           ∙ ap (change_last (with_given n)) (sym open_file.is_last) ∙ ap (λ m. change_last (with_given m) os) (sym long);
-      listings_are = refl; failed_are = refl; failures_are = refl;
+      listings_are = refl;
+      failed_are = refl;
+      failures_are = refl;
     }
 
 pub rest_slice : (offset : ℕ) (xs : Text) → take (length xs - offset) (drop offset xs) ≡ drop offset xs

@@ -128,7 +128,8 @@ module _ (b : ℕ) (small : b < 2 ^ 64) (done : List Line) (ps : List Place) (s 
     order = subst (λ p. (more : List Line) → AreInOrder (Some p) more ↔ AreInOrder None ((done ++ l ∷ []) ++ more)) (sym (place_cmp_exact i.place l.place e))
         (order_more (Some i) (λ g. let two : Equal ≡ Greater = sym e ∙ g in cc) h.order);
     cuts = cuts_more (Some i) ps s (Some (record { place = i.place; cost = cost })) h.cuts (λ more. ap (λ xs. ps ++ xs) (same more));
-    below = h.below; few = h.few;
+    below = h.below;
+    few = h.few;
   }
     where
       same : (more : List Line) → cuts_from b s (items_from (Some i) (l ∷ more)) ≡ cuts_from b s (items_from (Some (record { place = i.place; cost = cost })) more)
@@ -144,7 +145,8 @@ module _ (b : ℕ) (small : b < 2 ^ 64) (done : List Line) (ps : List Place) (s 
     texts = texts_more h.texts;
     order = order_more (Some i) (λ g. let two : Less ≡ Greater = sym e ∙ g in cc) h.order;
     cuts = cuts_more (Some i) qs t (Some (told l)) h.cuts (λ more. apart more ∙ closes (items_from (Some (told l)) more));
-    below = above l.place has.place e; few = few h.few;
+    below = above l.place has.place e;
+    few = few h.few;
   }
     where
       apart : (more : List Line) → ps ++ cuts_from b s (items_from (Some i) (l ∷ more)) ≡ ps ++ cuts_from b s (i ∷ items_from (Some (told l)) more)
@@ -205,7 +207,8 @@ none_taken b ps e = record {
   texts = All-nil HasText;
   order = λ more. (λ k. k, λ k. k);
   cuts = λ more. ap (λ xs. xs ++ cuts b more) (sym e);
-  below = e; few = omega (arith, ap length e);
+  below = e;
+  few = omega (arith, ap length e);
 }
 
 -- a line that may not follow at its place may not follow

@@ -93,8 +93,10 @@ module _ (b : ℕ) (done : List Line) (ps : List Place) (s : ℕ) (item : Option
   line_read None left number text bytes stop read count line some e h = tt
   line_read (Some k) None number text bytes stop read count line some e h = absurd read
   line_read (Some k) (Some rest) number text bytes (BadLine n) read count line some e h = record {
-    before = done; rest = rest;
-    are = lines; is = read;
+    before = done;
+    rest = rest;
+    are = lines;
+    is = read;
     more = λ f. some (line ∙ ap (take_through 10) f);
     number = h.0 ∙ count;
     bad = λ l after are f.

@@ -19,10 +19,13 @@ nothing_of s = record { openings = []; listings = []; failed = []; failures = 0;
 
 nothing_added : (s t : Store) → s.rest ≡ t.rest → s.largest ≡ t.largest → s ≡ with_added (nothing_of t) s
 nothing_added s t rest largest = λ i. record {
-  tree = s.tree; rest = rest i;
-  openings = sym (append-nil s.openings) i; listings = sym (append-nil s.listings) i;
+  tree = s.tree;
+  rest = rest i;
+  openings = sym (append-nil s.openings) i;
+  listings = sym (append-nil s.listings) i;
   failed_listings = sym (append-nil s.failed_listings) i;
-  failures = none i; largest = largest i;
+  failures = none i;
+  largest = largest i;
 }
   where
     none : s.failures ≡ s.failures + 0
@@ -33,18 +36,23 @@ alike_start s a rest largest = record { added = nothing_of s; here = nothing_add
 
 abbrev both_of : Added → Added → Added
 both_of d e = record {
-  openings = d.openings ++ e.openings; listings = d.listings ++ e.listings;
-  failed = d.failed ++ e.failed; failures = d.failures + e.failures;
-  rest = e.rest; largest = e.largest;
+  openings = d.openings ++ e.openings;
+  listings = d.listings ++ e.listings;
+  failed = d.failed ++ e.failed;
+  failures = d.failures + e.failures;
+  rest = e.rest;
+  largest = e.largest;
 }
 
 both_added : (s : Store) (d e : Added) → with_added e (with_added d s) ≡ with_added (both_of d e) s
 both_added s d e = λ i. record {
-  tree = s.tree; rest = e.rest;
+  tree = s.tree;
+  rest = e.rest;
   openings = append_assoc s.openings d.openings e.openings i;
   listings = append_assoc s.listings d.listings e.listings i;
   failed_listings = append_assoc s.failed_listings d.failed e.failed i;
-  failures = sum i; largest = e.largest;
+  failures = sum i;
+  largest = e.largest;
 }
   where
     sum : (s.failures + d.failures) + e.failures ≡ s.failures + (d.failures + e.failures)
@@ -85,18 +93,27 @@ module _ (s t a : Store) (os : List Opening) (ls : List Place) (f : ℕ) (h : Di
   alike_did = record {
     added = added_with t.rest t.largest;
     here = λ i. record {
-      tree = h.tree i; rest = t.rest; openings = h.openings_are i;
-      listings = h.listings_are i; failed_listings = h.failed_are i;
-      failures = h.failures_are i; largest = t.largest;
+      tree = h.tree i;
+      rest = t.rest;
+      openings = h.openings_are i;
+      listings = h.listings_are i;
+      failed_listings = h.failed_are i;
+      failures = h.failures_are i;
+      largest = t.largest;
     };
     there = refl;
   }
 
   pub did_there : (rest : Option Text) (largest : ℕ) → Did a (done_with rest largest) os ls f
   did_there rest largest = record {
-    tree = refl; openings_are = refl; listings_are = refl;
-    failures_are = refl; failed = h.failed; failed_are = refl;
-    failed_among = h.failed_among; each_failed = h.each_failed;
+    tree = refl;
+    openings_are = refl;
+    listings_are = refl;
+    failures_are = refl;
+    failed = h.failed;
+    failed_are = refl;
+    failed_among = h.failed_among;
+    each_failed = h.each_failed;
   }
 
 module _ (root : StorageRoot) (s t a : Store) (over : a.tree ≡ root) where
@@ -105,8 +122,10 @@ module _ (root : StorageRoot) (s t a : Store) (over : a.tree ≡ root) where
   audits_with rest largest ps ls hs os h = record {
     over = over;
     did = did_there s t a os ls (length (unread_of root os)) h.did rest largest;
-    read = h.read; opened = h.opened;
-    heads_are = h.heads_are; near = h.near;
+    read = h.read;
+    opened = h.opened;
+    heads_are = h.heads_are;
+    near = h.near;
   }
 
   failed_there : (b : Store) (ls : List Place) (os : List Opening) (q : Place) (fs : List Place) → t.failed_listings ≡ s.failed_listings ++ fs → b.failed_listings ≡ a.failed_listings ++ fs
@@ -122,7 +141,9 @@ module _ (root : StorageRoot) (s t a : Store) (over : a.tree ≡ root) where
   fails_there ps ls hs os why h = record {
     over = over;
     did = did_there s t a os ls (length (unread_of root os) + failures_by why) h.did t.rest t.largest;
-    opened = h.opened; heads_are = h.heads_are; near = h.near;
+    opened = h.opened;
+    heads_are = h.heads_are;
+    near = h.near;
     store = λ q e. let w = h.store q e in (w.0, failed_there _ ls os q h.did.failed h.did.failed_are refl w.1);
   }
 
@@ -146,11 +167,20 @@ module _ (root : StorageRoot) (s t a : Store) (over : a.tree ≡ root) where
 
   pub lost_elsewhere : (from : Option Place) (e : End) (why : Fault) → FailsOut root s t from e why → (b : Store) × (IsAlike s t a b × FailsOut root a b from e why)
   lost_elsewhere from e why w =
-      let b : Store = elsewhere s t a _ _ _ w.fails.did in
-      (b, (alike_did s t a _ _ _ w.fails.did, record {
-        trail = w.trail; listed = w.listed; heads = w.heads; fails = fails_there _ _ _ _ why w.fails;
-        listed_front = w.listed_front; heads_front = w.heads_front;
-      }))
+      let b : Store = elsewhere s t a _ _ _ w.fails.did in (
+        b,
+        (
+          alike_did s t a _ _ _ w.fails.did,
+          record {
+            trail = w.trail;
+            listed = w.listed;
+            heads = w.heads;
+            fails = fails_there _ _ _ _ why w.fails;
+            listed_front = w.listed_front;
+            heads_front = w.heads_front;
+          },
+        ),
+      )
 
   pub gives_elsewhere : (last : Option Place) (e : End) (next : Walk) (o : Option Pending) → GivesOut root s t last e next o → (b : Store) × (IsAlike s t a b × GivesOut root a b last e next o)
   gives_elsewhere last e next None g = let w = out_elsewhere last e g.0 in (w.0, (w.1.0, (w.1.1, g.1, g.2)))
@@ -161,17 +191,37 @@ module _ (root : StorageRoot) (s t a : Store) (over : a.tree ≡ root) where
   pub takes_elsewhere : (old new : Option (List ℕ)) (p : Place) (cost : ℕ) (more : Bool) → Takes (call_of root s t old new) p cost more
       → (b : Store) × (IsAlike s t a b × Takes (call_of root a b old new) p cost more)
   takes_elsewhere old new p cost more k =
-      let b : Store = elsewhere s t a _ _ _ k.audits.did in
-      (b, (alike_did s t a _ _ _ k.audits.did, record {
-        trail = k.trail; audits = audits_with t.rest t.largest _ _ _ _ k.audits;
-        alone = k.alone; wrote = k.wrote; cost_is = k.cost_is; found_is = k.found_is;
-      }))
+      let b : Store = elsewhere s t a _ _ _ k.audits.did in (
+        b,
+        (
+          alike_did s t a _ _ _ k.audits.did,
+          record {
+            trail = k.trail;
+            audits = audits_with t.rest t.largest _ _ _ _ k.audits;
+            alone = k.alone;
+            wrote = k.wrote;
+            cost_is = k.cost_is;
+            found_is = k.found_is;
+          },
+        ),
+      )
 
   pub misses_elsewhere : (old new : Option (List ℕ)) (p : Place) (why : Fault) → Misses (call_of root s t old new) p why
       → (b : Store) × (IsAlike s t a b × Misses (call_of root a b old new) p why)
   misses_elsewhere old new p why k =
-      let b : Store = elsewhere s t a _ _ _ k.fails.did in
-      (b, (alike_did s t a _ _ _ k.fails.did, record {
-        trail = k.trail; begun = k.begun; one = k.one; fails = fails_there _ _ _ _ why k.fails;
-        alone = k.alone; part = k.part; wrote = k.wrote; part_of = k.part_of;
-      }))
+      let b : Store = elsewhere s t a _ _ _ k.fails.did in (
+        b,
+        (
+          alike_did s t a _ _ _ k.fails.did,
+          record {
+            trail = k.trail;
+            begun = k.begun;
+            one = k.one;
+            fails = fails_there _ _ _ _ why k.fails;
+            alone = k.alone;
+            part = k.part;
+            wrote = k.wrote;
+            part_of = k.part_of;
+          },
+        ),
+      )

@@ -71,7 +71,8 @@ module _ (root : StorageRoot) (part : Part) (s t u : Store) (old new : Option (L
         looks = subst (λ ps. LooksOver (call_of root s u old new) part None None ps (g.trail ++ h.trail)) at_places (looks_over root part s t u old new None g None all h.trail
             (taken_lie root part None g.listed g.all_listed None all [] (sym (append-nil all)) (λ p d b k. tt)) below);
         wrote = subst (λ is. Appends old new (text is)) items h.wrote;
-        last_is = last_is ∙ ap (last_or None) at_places; found_is = h.found_is ∙ ap found items;
+        last_is = last_is ∙ ap (last_or None) at_places;
+        found_is = h.found_is ∙ ap found items;
       }
 
   pub halt_part : (why : Fault) (h : Halts root (end_of part) t u old new (stand root part None) stood finding why) → last ≡ last_or None h.done
@@ -85,11 +86,13 @@ module _ (root : StorageRoot) (part : Part) (s t u : Store) (old new : Option (L
       record {
         trail = g.trail ++ h.trail;
         stops = record {
-          whole = items_at root h.trail h.done; others = items_at root h.trail left;
+          whole = items_at root h.trail h.done;
+          others = items_at root h.trail left;
           items_are = above_are root part s t None g h.trail h.done left h.due_are;
           begun = h.begun;
           one = subst (IsFront h.begun) (sym (places_of_items root h.trail (take 1 left)) ∙ ap places next) h.one;
-          part = h.part; wrote = h.wrote;
+          part = h.part;
+          wrote = h.wrote;
           part_of = subst (λ is. PartOf why (text is) h.part) next h.part_of;
           last_is = last_is ∙ ap (last_or None) whole_places;
         };
@@ -101,10 +104,13 @@ module _ (root : StorageRoot) (part : Part) (s t u : Store) (old new : Option (L
 -- nothing went out
 unfoldable pub nothing_out : (items : List Item) (old : Option (List ℕ)) (last : Option Place) (why : Fault) → why ≢ Output → StopsWithin items old old last last why
 nothing_out items old last why other = record {
-  whole = []; others = items;
-  items_are = refl; begun = [];
+  whole = [];
+  others = items;
+  items_are = refl;
+  begun = [];
   one = (places (take 1 items), refl);
-  part = []; wrote = Appends-nil old;
+  part = [];
+  wrote = Appends-nil old;
   part_of = nothing_of why other (text (take 1 items));
   last_is = refl;
 }

@@ -30,8 +30,10 @@ pub nothing_taken : (root : StorageRoot) (part : Part) (s t : Store) (old : Opti
     × Stands root walk (stand root part None) → HasTaken root part s t old old walk None false
 unfolding passes_none
 nothing_taken root part s t old walk there = record {
-  begun = t; stood = stand root part None;
-  down = there.0; stands = there.1;
+  begun = t;
+  stood = stand root part None;
+  down = there.0;
+  stands = there.1;
   beyond = gone_self (end_of part) (stand root part None);
   passes = passes_none root (end_of part) t old (stand root part None) (audits_over there.0.audits);
   last_is = refl;
@@ -57,8 +59,10 @@ module _ {root : StorageRoot} {s t : Store} {old mid : Option (List ℕ)} {walk 
           → HasTaken root part s v old new next (Some place) either
       unfolding passes_took
       audit_took place cost more either e f takes = subst (λ p. HasTaken root part s v old new next (Some p) either) (sym e) (record {
-        begun = h.begun; stood = Some q.place;
-        down = h.down; stands = item.gives.1;
+        begun = h.begun;
+        stood = Some q.place;
+        down = h.down;
+        stands = item.gives.1;
         beyond = gone_next (end_of part) (stand root part None) h.stood q.place h.beyond item.above item.in_front;
         passes = passes_took root (end_of part) h.begun t u old mid (stand root part None) h.stood finding h.beyond h.passes q.place item.above item.gives.3
             item.in_front item.gives.0 v new cost more either (takes (walked_over item.gives.0) item.gives.2) f;

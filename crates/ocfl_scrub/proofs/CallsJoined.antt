@@ -85,7 +85,9 @@ stored_says : (e : PartEnds) (whole : Bool) (c : Cursor) (spent : ℕ) (finding 
     → IsStoredNote (part_text e) c spent finding how status n stored → SaysMade whole n → Handed e whole c how stored
 stored_says e whole c spent finding how status n None h says = unmade_says whole n note.OutOfMemory h.1 (λ x. x) says
 stored_says e whole c spent finding how status n (Some bytes) h says = record {
-  handed = bytes.items; handed_is = refl; text_is = h.0;
+  handed = bytes.items;
+  handed_is = refl;
+  text_is = h.0;
   ended = ran_says whole c spent finding how status n h.1 says;
 }
 
@@ -124,7 +126,9 @@ module _ (root : StorageRoot) (e : PartEnds) where
       by (inl m) =
           let r = m.runs in
           record {
-            from = m.from; begins = m.begins; ran = r.ran;
+            from = m.from;
+            begins = m.begins;
+            ran = r.ran;
             well = record { before = h.before; behind = h.behind; old = h.old; runs = r.runs; opened_is = h.opened_is; unfailing = h.unfailing };
             keeps = r.keeps;
             back = stored_says e whole r.ran.cursor r.ran.spent r.ran.found r.ran.end c.said.status c.said.note c.said.cursor r.says says;
@@ -159,16 +163,22 @@ module _ (root : StorageRoot) (e : PartEnds) where
   are_made stored (c ∷ []) h =
       let k = is_run stored true c h.0 h.1 in
       record {
-        from = k.from; begins = k.begins; runs = run_of c k.ran ∷ [];
-        are = (k.well, k.back.ended); reports = refl; opened = refl;
-        limits = refl; count = refl;
+        from = k.from;
+        begins = k.begins;
+        runs = run_of c k.ran ∷ [];
+        are = (k.well, k.back.ended);
+        reports = refl;
+        opened = refl;
+        limits = refl;
+        count = refl;
       }
   are_made stored (c ∷ d ∷ calls) h =
       let k = is_run stored false c h.0 h.1.0 in
       let later = are_made (handed_by c) (d ∷ calls) h.1.1 in
       let same : later.from ≡ k.ran.cursor = read_back stored false c k later.from later.begins in
       record {
-        from = k.from; begins = k.begins;
+        from = k.from;
+        begins = k.begins;
         runs = run_of c k.ran ∷ later.runs;
         are = one_more k.from (run_of c k.ran) later.runs k.well k.back.ended (subst (λ x. AreRuns root (part_between e) x later.runs) same later.are);
         reports = ap (λ x. c.report ++ x) later.reports;

@@ -126,7 +126,8 @@ module _ (root : StorageRoot) (e : PartEnds) where
           → HasRun (known_call root h.before h.behind h.old (h.old ++ (c.call.report ++ h.cut))) e (bytes_stored stored) (limits_of c.call.limits) c.call.said.status c.call.said.note c.call.said.cursor p c.ran c.call.report
           → IsRun stored c
       by (inl m) has = subst (λ x. IsRun stored (record { call = c.call; ran = x })) has.0 (record {
-        from = m.from; begins = m.begins;
+        from = m.from;
+        begins = m.begins;
         ran = record { before = h.before; behind = h.behind; old = h.old; cut = h.cut; runs = m.runs.runs; report_is = has.1; opened_is = h.opened_is };
         keeps = m.runs.keeps;
         back = back_of e m.runs.ran.cursor m.runs.ran.spent m.runs.ran.found m.runs.ran.end c.call.said.status c.call.said.note c.call.said.cursor h.handed m.runs.says;
@@ -164,9 +165,11 @@ module _ (root : StorageRoot) (e : PartEnds) where
       let later = are_runs (handed_by c.call) (d ∷ calls) h.1.1 in
       let same : later.from ≡ c.ran.cursor = read_back stored c k later.from later.begins in
       record {
-        from = k.from; begins = k.begins;
+        from = k.from;
+        begins = k.begins;
         are = (k.ran, (not_ended stored c k h.1.0, subst (λ x. AreOneCycle root (part_between e) x (runs_made (d ∷ calls))) same later.are));
-        last_is = later.last_is; ends = later.ends;
+        last_is = later.last_is;
+        ends = later.ends;
       }
 
   pub calls_next : (stored : Option Text) (calls : List MadeCall) → AreMadeCalls root e stored calls → SayEnded calls → BeginsCycle e (stored_last stored calls)

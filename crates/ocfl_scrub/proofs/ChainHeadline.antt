@@ -86,7 +86,8 @@ module _ (root : StorageRoot) (part : Part) where
       record {
         below = record {
           wrote = subst (λ u. Appends old new (text (cut (after (within part (audit root u)) from) l))) none h.wrote;
-          trail = h.trail; opened = h.looks.audits.did.openings_are;
+          trail = h.trail;
+          opened = h.looks.audits.did.openings_are;
           files = h.looks.audits.opened ∙ ap (λ u. hashed_among root (places (cut (after (within part (audit root u)) from) l))) none;
           below = stays_within l (cut (above from) l) (cut_paid l (above from));
         };

@@ -88,7 +88,9 @@ module _ (root : StorageRoot) (part : Part) where
   none_spent : (s : Store) (old : Option (List ℕ)) (c : Cursor) (from : Option Place) (unused : List Limits) → s.tree ≡ root → c.state ≡ state_at from
       → is_empty (due_within root part from) ≡ false → unused ≡ [] → Comes s s old old c from unused [] cycle.Spent
   none_spent s old c from unused over there some none = record {
-    last = from; spent = 0; files = 0;
+    last = from;
+    spent = 0;
+    files = 0;
     ends = subst (λ ls. PartsEnd root part s s old old from from ls 0 0 false 0 cycle.Spent) (sym none) (parts_none root part s old from over some);
     cursor_is = moved_none c (state_at from) there;
   }
@@ -96,7 +98,9 @@ module _ (root : StorageRoot) (part : Part) where
   none_begun : (s : Store) (old : Option (List ℕ)) (c : Cursor) (from : Option Place) (unused : List Limits) (why : Fault) → s.tree ≡ root → c.state ≡ state_at from
       → why ≡ Memory → Comes s s old old c from unused [] (cycle.Stopped why)
   none_begun s old c from unused why over there is = record {
-    last = from; spent = 0; files = 0;
+    last = from;
+    spent = 0;
+    files = 0;
     ends = subst (λ w. PartsEnd root part s s old old from from unused 0 0 false 0 (cycle.Stopped w)) (sym is) (parts_unbegun root part s old from unused over);
     cursor_is = moved_none c (state_at from) there;
   }
@@ -150,7 +154,9 @@ module _ (root : StorageRoot) (part : Part) where
       then : (rest : List MadeRun) (ls : List Limits) (end : CycleStatus) → Comes u t mid new r.ran.cursor now.last ls rest end
           → Comes s t old new c from (r.limits ∷ ls) (r ∷ rest) end
       then rest ls end k = record {
-        last = k.last; spent = r.ran.spent + k.spent; files = r.ran.files + k.files;
+        last = k.last;
+        spent = r.ran.spent + k.spent;
+        files = r.ran.files + k.files;
         ends = subst (λ n. PartsEnd root part s t old new from k.last (r.limits ∷ ls) (r.ran.spent + k.spent) (r.ran.files + k.files) (r.ran.found || found_by rest) n end)
             (let n : 1 + length rest ≡ suc (length rest) = omega arith in n)
             (ends_then root part s u old mid from now.last r.limits r.ran.spent r.ran.files r.ran.found ls next turn t new k.last k.spent k.files (found_by rest) (length rest) end k.ends);
@@ -163,7 +169,9 @@ module _ (root : StorageRoot) (part : Part) where
       alone : (end : CycleStatus) (how : RunStatus) → r.ran.end ≡ how → cycle_state end now.last ≡ state_after how now.last
           → PartsEnd root part s u old mid from now.last (r.limits ∷ unused) r.ran.spent r.ran.files r.ran.found 1 end → Comes s t old new c from (r.limits ∷ unused) (r ∷ []) end
       alone end how e f k = record {
-        last = now.last; spent = r.ran.spent; files = r.ran.files;
+        last = now.last;
+        spent = r.ran.spent;
+        files = r.ran.files;
         ends = subst (λ v. PartsEnd root part s t old new from now.last (r.limits ∷ unused) r.ran.spent r.ran.files v 1 end) (sym (or_none r.ran.found))
             (subst (λ x. PartsEnd root part s x old new from now.last (r.limits ∷ unused) r.ran.spent r.ran.files r.ran.found 1 end) (sym same.0)
             (subst (λ x. PartsEnd root part s u old x from now.last (r.limits ∷ unused) r.ran.spent r.ran.files r.ran.found 1 end) (sym same.1) k));

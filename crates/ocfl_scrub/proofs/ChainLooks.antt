@@ -32,10 +32,16 @@ module _ (root : StorageRoot) (part : Part) where
     all_added (r ∷ rest) c s t old new h m =
         let k = now root part s old c r h.0 m.0 in
         let first = one s r.call.after old r.call.new (place_in c.state) k.last r.limits r.ran.spent r.ran.files r.ran.found r.ran.end k.run in
-        let more = all_added rest r.ran.cursor r.call.after t r.call.new new h.1 m.1 in (first.0 ∷ more.0, (ap suc more.1.0, (
-          more.1.1.0 ∙ ap (λ xs. xs ++ flat_map (λ x. x) more.0) first.1.0 ∙ append_assoc (of s) first.0 (flat_map (λ x. x) more.0),
-          (first.1.1, more.1.1.1),
-        )))
+        let more = all_added rest r.ran.cursor r.call.after t r.call.new new h.1 m.1 in (
+          first.0 ∷ more.0,
+          (
+            ap suc more.1.0,
+            (
+              more.1.1.0 ∙ ap (λ xs. xs ++ flat_map (λ x. x) more.0) first.1.0 ∙ append_assoc (of s) first.0 (flat_map (λ x. x) more.0),
+              (first.1.1, more.1.1.1),
+            ),
+          ),
+        )
 
   lists_all : (made : List MadeRun) (c : Cursor) (s t : Store) (old new : Option (List ℕ)) → AreMade part c made → IsMadeOf (call_of root s t old new) (calls_of made)
       → (looks : List (List Place)) × ((length looks ≡ length made) × ((t.listings ≡ s.listings ++ flat_map (λ ls. ls) looks) × AllByRecursion (IsAscending place_cmp) looks))

@@ -106,18 +106,28 @@ apart call part limits ran h =
     let k = chain_apart part call new_cursor ran.cursor run.Spent h.end h.runs h.chained in
     let e = all_apart part call new_cursor ran.cursor h.end h.runs h.chained in
     record {
-      over = h.over; runs = h.runs; chained = k.0;
-      made_of = k.1.0; unused = h.unused;
-      limits_are = h.limits_are; spent = e.0;
+      over = h.over;
+      runs = h.runs;
+      chained = k.0;
+      made_of = k.1.0;
+      unused = h.unused;
+      limits_are = h.limits_are;
+      spent = e.0;
       ends = subst (λ x. ChainEnds h.runs x h.unused ran.end) (sym e.1) h.ends;
-      count_is = h.count_is; cursor_is = k.1.1; found_is = h.found_is;
+      count_is = h.count_is;
+      cursor_is = k.1.1;
+      found_is = h.found_is;
     }
 
 pub put_together : (call : Call) (part : Part) (limits : List Limits) (ran : CycleEnd) → Apart call part limits ran → CycleOfRunsWithin call part limits ran
 put_together call part limits ran a = record {
-  over = a.over; runs = a.runs; end = end_from run.Spent a.runs;
+  over = a.over;
+  runs = a.runs;
+  end = end_from run.Spent a.runs;
   chained = chain_of part call new_cursor ran.cursor run.Spent a.runs a.chained a.made_of a.cursor_is (spent_from a.runs a.spent);
-  unused = a.unused; limits_are = a.limits_are;
+  unused = a.unused;
+  limits_are = a.limits_are;
   ends = subst (λ x. ChainEnds a.runs x a.unused ran.end) (sym (end_is a.runs)) a.ends;
-  count_is = a.count_is; found_is = a.found_is;
+  count_is = a.count_is;
+  found_is = a.found_is;
 }

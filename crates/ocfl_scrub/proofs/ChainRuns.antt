@@ -94,7 +94,8 @@ pub record ChainSoFar (root : StorageRoot) (part : Part) (s t : Store) (old mid 
 pub chain_begins : (root : StorageRoot) (part : Part) (s : Store) (old : Option (List ℕ)) (all : List Limits) (c : Cursor) (count : ℕ) → c ≡ new_cursor → count ≡ 0 → s.tree ≡ root
     → ChainSoFar root part s s old old all all c false count
 chain_begins root part s old all c count is none over = record {
-  began = over; over = over;
+  began = over;
+  over = over;
   chain = record { runs = []; chained = tt; made_of = (refl, refl); limits_are = refl; count_is = none; cursor_is = is; found_is = refl };
   spent = tt;
 }
@@ -104,11 +105,16 @@ module _ (root : StorageRoot) (part : Part) (s t : Store) (old mid : Option (Lis
   cycle_is : (k : Chain root part s t old mid limits all c finding count) (ran : CycleEnd) (end : CycleStatus) → ran.runs ≡ count → ran.cursor ≡ c → ran.found ≡ finding → ran.end ≡ end
       → s.tree ≡ root → AreSpent k.runs → LastEnds k.runs limits end → CycleOfRunsWithin (call_of root s t old mid) part all ran
   cycle_is k ran end counted cursor found end_is over spent ends = put_together (call_of root s t old mid) part all ran (record {
-    over = over; runs = k.runs; chained = k.chained;
-    made_of = k.made_of; unused = limits;
-    limits_are = k.limits_are; spent = spent;
+    over = over;
+    runs = k.runs;
+    chained = k.chained;
+    made_of = k.made_of;
+    unused = limits;
+    limits_are = k.limits_are;
+    spent = spent;
     ends = subst (LastEnds k.runs limits) (sym end_is) ends;
-    count_is = counted ∙ k.count_is; cursor_is = cursor ∙ k.cursor_is;
+    count_is = counted ∙ k.count_is;
+    cursor_is = cursor ∙ k.cursor_is;
     found_is = found ∙ k.found_is;
   })
 
@@ -126,7 +132,8 @@ module _ (root : StorageRoot) (part : Part) (s t : Store) (old mid : Option (Lis
       counted cursor found end_is g.began (spent_all g.chain.runs g.spent) (inr (record {
         memory = refl;
         made = let n = g.chain.count_is in omega (arith, n, some);
-        spent = end_all g.chain.runs g.spent; further = more;
+        spent = end_all g.chain.runs g.spent;
+        further = more;
       }))
 
   -- one more run
@@ -157,7 +164,8 @@ module _ (root : StorageRoot) (part : Part) (s t : Store) (old mid : Option (Lis
     chain_goes_on e = record {
       began = g.began;
       over = run_over root part t u mid new _ _ l made.spent made.files made.found made.end did.run;
-      chain = grown; spent = all_more g.chain.runs this g.spent e;
+      chain = grown;
+      spent = all_more g.chain.runs this g.spent e;
     }
 
     pub cycle_ended : (ran : CycleEnd) → ran.runs ≡ count + 1 → ran.cursor ≡ made.cursor → ran.found ≡ either → ran.end ≡ cycle.Ended → made.end ≡ run.Ended

@@ -123,12 +123,17 @@ module _ (root : StorageRoot) (p : Place) where
     nothing_there old g none =
         let e : checked_item root g.trail p ≡ [] = none_item root g.trail p none in
         record {
-          trail = g.trail; listed = g.listed; heads = g.heads;
+          trail = g.trail;
+          listed = g.listed;
+          heads = g.heads;
           audits = record {
-            over = g.audits.over; did = g.audits.did; read = g.audits.read;
+            over = g.audits.over;
+            did = g.audits.did;
+            read = g.audits.read;
             opened = g.audits.opened ∙ none_hashed root
                 ∙ sym (lines_free root p none);
-            heads_are = g.audits.heads_are; near = g.audits.near;
+            heads_are = g.audits.heads_are;
+            near = g.audits.near;
           };
           files_lie = checked_lie root s t p g;
           just = record { listed_front = g.listed_front; heads_front = g.heads_front; once = g.once };
@@ -139,11 +144,16 @@ module _ (root : StorageRoot) (p : Place) where
 
     pub not_gone_down : (old : Option (List ℕ)) (why : Fault) → IsWayFault why → GoDownFails root s t (Some p) why → CheckStops (call_of root s t old old) p why
     not_gone_down old why only g = record {
-      trail = g.trail; begun = []; one = (p ∷ [], refl);
-      listed = g.listed; heads = g.heads; fails = g.fails;
+      trail = g.trail;
+      begun = [];
+      one = (p ∷ [], refl);
+      listed = g.listed;
+      heads = g.heads;
+      fails = g.fails;
       files_lie = λ q i h. absurd i;
       just = record { listed_front = g.listed_front; heads_front = g.heads_front; once = g.once };
-      part = []; wrote = Appends-nil old;
+      part = [];
+      wrote = Appends-nil old;
       part_of = nothing_of why only.0 (text (checked_item root g.trail p));
     }
 
@@ -158,7 +168,9 @@ module _ (root : StorageRoot) (p : Place) where
     down_and_taken cost finding k =
         let items : checked_item root (g.trail ++ k.trail) p ≡ items_at root k.trail (p ∷ []) = joined_item root g.trail k.trail p meta some in
         record {
-          trail = g.trail ++ k.trail; listed = g.listed; heads = g.heads;
+          trail = g.trail ++ k.trail;
+          listed = g.listed;
+          heads = g.heads;
           audits = audits_as (append-nil g.listed) (append-nil g.heads) (audits_on root s t u [] (p ∷ []) g.listed [] g.heads [] g.trail k.trail g.audits k.audits);
           files_lie = checked_lie root s t p g;
           just = just_then k.trail (one_or_none root p k.trail k.alone);
@@ -171,14 +183,18 @@ module _ (root : StorageRoot) (p : Place) where
     down_and_missed why k =
         let items : checked_item root (g.trail ++ k.trail) p ≡ items_at root k.trail (p ∷ []) = joined_item root g.trail k.trail p meta some in
         record {
-          trail = g.trail ++ k.trail; begun = k.begun; one = k.one;
-          listed = g.listed; heads = g.heads;
+          trail = g.trail ++ k.trail;
+          begun = k.begun;
+          one = k.one;
+          listed = g.listed;
+          heads = g.heads;
           fails = subst (λ hs. Fails root s u k.begun g.listed hs (g.trail ++ k.trail) why) (append-nil g.heads)
               (subst (λ ls. Fails root s u k.begun ls (g.heads ++ []) (g.trail ++ k.trail) why) (append-nil g.listed)
               (audits_fail root s t u [] k.begun g.listed [] g.heads [] g.trail k.trail why g.audits k.fails));
           files_lie = front_lies root s t p g k.begun k.one.0 k.one.1;
           just = just_then k.trail (one_of_front root p k.begun k.one.0 k.trail k.one.1 k.alone);
-          part = k.part; wrote = k.wrote;
+          part = k.part;
+          wrote = k.wrote;
           part_of = subst (λ is. PartOf why (text is) k.part) (sym items) k.part_of;
         }
 

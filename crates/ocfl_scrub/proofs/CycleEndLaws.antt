@@ -73,7 +73,9 @@ module _ (root : StorageRoot) (part : Part) (s t : Store) (old new : Option (Lis
       let done_all : ended ≡ true → k.done ≡ due_within root part None =
       λ e. sym (k.due_are ∙ ap (λ qs. k.done ++ qs) (nothing (due_within root part last) (sym h.ended_is ∙ e)) ∙ append-nil k.done) in
       record {
-        trail = k.trail; listed = k.listed; heads = k.heads;
+        trail = k.trail;
+        listed = k.listed;
+        heads = k.heads;
         audits = subst (λ ps. Audits root s t ps k.listed k.heads k.trail) at_places k.audits;
         inventories_read = h.read.some;
         wrote = subst (λ is. Appends old new (text is)) (sym are) k.wrote;
@@ -95,17 +97,24 @@ module _ (root : StorageRoot) (part : Part) (s t : Store) (old new : Option (Lis
       let whole : List Item = items_at root h.trail h.done in
       let at_places : h.done ≡ places whole = sym (places_of_items root h.trail h.done) in
       record {
-        trail = h.trail; made = some;
+        trail = h.trail;
+        made = some;
         count_fits = subst (λ is. count ≤ length (runs is limits)) (sym (part_is root part h.trail)) h.count_fits;
         stops = record {
-          whole = whole; others = h.others;
+          whole = whole;
+          others = h.others;
           items_are = ap (λ is. joined (take count (runs is limits))) (part_is root part h.trail) ∙ h.runs_begin;
-          begun = h.begun; one = h.one; part = h.gone;
-          wrote = h.wrote; part_of = h.part_of;
+          begun = h.begun;
+          one = h.one;
+          part = h.gone;
+          wrote = h.wrote;
+          part_of = h.part_of;
           last_is = h.last_is ∙ ap (last_or None) at_places;
         };
         runs_before = subst (λ is. IsFront (joined (take (count - 1) (runs is limits))) whole) (sym (part_is root part h.trail)) h.runs_before;
-        figures = h.figures; listed = h.listed; heads = h.heads;
+        figures = h.figures;
+        listed = h.listed;
+        heads = h.heads;
         fails = subst (λ ps. Fails root s t (ps ++ h.begun) h.listed h.heads h.trail why) at_places h.fails;
         inventories_read = h.read.some some;
       }
@@ -118,10 +127,13 @@ module _ (root : StorageRoot) (part : Part) (s t : Store) (old new : Option (Lis
   part_headline ends h calls made_of below same =
       let none : unread_of root h.trail ≡ [] = none_left (unread_of root h.trail) s.failures (sym same ∙ h.audits.did.failures_are) in
       record {
-        trail = h.trail; opened = h.audits.did.openings_are;
+        trail = h.trail;
+        opened = h.audits.did.openings_are;
         reports = subst (λ u. Appends old new (text (joined (runs (within part (audit root u)) limits)))) none h.wrote;
         each_run = h.count_is ∙ ap (λ u. length (runs (within part (audit root u)) limits)) none;
-        calls = calls; made_of = made_of; starts_below = below;
+        calls = calls;
+        made_of = made_of;
+        starts_below = below;
         all_items = λ e. subst (λ u. Appends old new (text (within part (audit root u)))) none (subst (λ is. Appends old new (text is)) (h.ends_is.0 e).1 h.wrote);
         opened_once = λ e. h.audits.opened ∙ ap (λ is. hashed_among root (places is)) (h.ends_is.0 e).1 ∙ ap (λ u. hashed_among root (places (within part (audit root u)))) none;
         ends_within = λ b n p q large fits. (
@@ -134,12 +146,15 @@ module _ (root : StorageRoot) (part : Part) (s t : Store) (old new : Option (Lis
 pub cycles_none : (root : StorageRoot) (part : Part) (s : Store) (old : Option (List ℕ)) (limits : List Limits) → limits ≡ [] → s.tree ≡ root
     → CyclesWithin (call_of root s s old old) part None limits 0 0 false 0 false
 cycles_none root part s old limits e over = subst (λ ls. CyclesWithin (call_of root s s old old) part None ls 0 0 false 0 false) (sym e) (record {
-  trail = []; listed = []; heads = [];
+  trail = [];
+  listed = [];
+  heads = [];
   audits = audits_nothing root s over;
   inventories_read = λ some. absurd (omega (arith, some));
   wrote = Appends-nil old;
   figures = record { spent_is = refl; files_is = refl; found_is = refl };
-  count_is = refl; last_is = refl;
+  count_is = refl;
+  last_is = refl;
   ends_is = (λ f. absurd cc, λ f. let some = f.0 in absurd (omega (arith, some)));
   few = λ b n p q large. omega arith;
   suffice = λ b n p q large fits. absurd (omega (arith, fits));

@@ -131,8 +131,11 @@ module _ (b n : ℕ) (r : PartRun) (rest : List PartRun) (xs ys : List Item) (la
       let low = m.costs in
       let lower = m.files in
       record {
-        by_cost = by_cost; by_files = by_files; at_end = m.at_end;
-        count_is = count; once = m.once;
+        by_cost = by_cost;
+        by_files = by_files;
+        at_end = m.at_end;
+        count_is = count;
+        once = m.once;
         costs = omega (arith, c, low, costs);
         files = omega (arith, f, lower, files);
       }
@@ -157,9 +160,13 @@ module _ (b n : ℕ) (r : PartRun) (rest : List PartRun) (xs ys : List Item) (la
 
 counted_ended : (b n : ℕ) (r : PartRun) (xs : List Item) → r.ran.end ≡ status.Ended → Counted b n (r ∷ []) xs
 counted_ended b n r xs e = record {
-  by_cost = 0; by_files = 0; at_end = 1;
+  by_cost = 0;
+  by_files = 0;
+  at_end = 1;
   count_is = went_on r [] status.Ended e refl;
-  once = omega arith; costs = omega arith; files = omega arith;
+  once = omega arith;
+  costs = omega arith;
+  files = omega arith;
 }
 
 -- ---- what was taken
@@ -277,7 +284,8 @@ module _ (root : StorageRoot) (part : Part) where
         let none : due_within root part last ≡ [] = sym (places_of_items root h.trail (due_within root part last))
         ∙ ap (λ l. places (items_at root h.trail (due_within root part l))) h.last_is ∙ ap places (rest_is root part h.trail from out rest split) ∙ ap places (no_first rest h.next_is) in
         record {
-          done = places out; last = last;
+          done = places out;
+          last = last;
           due_are = due_parts_are h.trail out rest split h.last_is same;
           report = report ∙ ap text (out_is h.trail out rest split h.last_is same);
           taken = λ p i. ap (λ s. is_taken s p) state;
@@ -296,7 +304,8 @@ module _ (root : StorageRoot) (part : Part) where
         let split = cut_split h.trail in
         let state : r.ran.cursor.state ≡ state_at last = state_is status.Spent e in
         record {
-          done = places out; last = last;
+          done = places out;
+          last = last;
           due_are = due_parts_are h.trail out rest split h.last_is same;
           report = report ∙ ap text (out_is h.trail out rest split h.last_is same);
           taken = λ p i. ap (λ s. is_taken s p) state ∙ taken_before h.trail out rest split h.last_is same p i;
@@ -336,7 +345,8 @@ module _ (root : StorageRoot) (part : Part) where
           let same = trail_is h.trail h.looks.fails.did.openings_are in
           let state : r.ran.cursor.state ≡ state_at last = state_is (status.Stopped why) e in
           record {
-            done = places k.whole; last = last;
+            done = places k.whole;
+            last = last;
             due_are = due_parts_are h.trail k.whole unwritten stop_split k.last_is same;
             report = report ∙ ap text (out_is h.trail k.whole unwritten stop_split k.last_is same);
             taken = λ p i. ap (λ s. is_taken s p) state ∙ taken_before h.trail k.whole unwritten stop_split k.last_is same p i;
@@ -486,7 +496,9 @@ module _ (root : StorageRoot) (part : Part) where
       let items_is : map (item_of root (unread_together root (r ∷ []))) k.done ≡ map (item_of root (unread_of root r.opened)) k.done =
       ap (λ u. map (item_of root u) k.done) own_is ∙ own_items c r k in
       record {
-        done = k.done; last = k.last; due_are = k.due_are;
+        done = k.done;
+        last = k.last;
+        due_are = k.due_are;
         reports = append-nil r.report ∙ k.report ∙ ap text (sym items_is);
         among = λ p i. own_among c r k p (subst (λ u. IsAmong (unread_places u) p) own_is i);
         ends = k.ends;
@@ -505,7 +517,9 @@ module _ (root : StorageRoot) (part : Part) where
       let second : List Item = map (item_of root later) m.done in
       let both : map (item_of root (unread_by root r ++ later)) (k.done ++ m.done) ≡ first ++ second = both_items c r k later m.done up m.among in
       record {
-        done = k.done ++ m.done; last = m.last; due_are = due_are;
+        done = k.done ++ m.done;
+        last = m.last;
+        due_are = due_are;
         reports = ap (λ x. x ++ reports_of (q ∷ rest)) k.report ∙ ap (λ x. text first ++ x) m.reports ∙ sym (text_append first second) ∙ ap text (sym both);
         among = both_among c r k later m.done up m.among;
         ends = m.ends;
@@ -637,7 +651,8 @@ module _ (root : StorageRoot) (s t : Store) (old new : Text) (part : Part) (c : 
     cut = [];
     wrote = h.run.wrote ∙ ap (λ x. old ++ x) (sym (append-nil (text (taken_in root h.run.trail part (place_in c.state) l))));
     uncut = λ f. refl;
-    opened = h.run.trail; opened_is = h.run.looks.audits.did.openings_are;
+    opened = h.run.trail;
+    opened_is = h.run.looks.audits.did.openings_are;
   }
   report_at status.Spent h = record {
     cut = [];
@@ -647,9 +662,11 @@ module _ (root : StorageRoot) (s t : Store) (old new : Text) (part : Part) (c : 
     opened_is = h.run.1.looks.audits.did.openings_are;
   }
   report_at (status.Stopped why) h = record {
-    cut = h.run.stops.part; wrote = h.run.stops.wrote;
+    cut = h.run.stops.part;
+    wrote = h.run.stops.wrote;
     uncut = λ f. no_part why (λ e. f (ap status.Stopped e)) (text (take 1 h.run.stops.others)) h.run.stops.part h.run.stops.part_of;
-    opened = h.run.trail; opened_is = h.run.looks.fails.did.openings_are;
+    opened = h.run.trail;
+    opened_is = h.run.looks.fails.did.openings_are;
   }
   report_at status.Worn h = absurd h.run
 

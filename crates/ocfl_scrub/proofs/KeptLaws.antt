@@ -35,7 +35,8 @@ module _ {root : StorageRoot} {part : Part} {s t : Store} {old new : Option (Lis
   -- a run above the last item may go on with it
   pub met_ready : (m : Met) → HasMet root part s t old new m.walk m.item from last l spent files finding → IsMet root part last m
   met_ready m h = record {
-    before = h.there; after = t;
+    before = h.there;
+    after = t;
     gives = subst (λ o. Gives root h.there t o m.walk (Some m.item)) (stood_is h.paid) h.item.gives;
     in_front = h.item.in_front;
   }
@@ -50,8 +51,12 @@ all_listed root way = record { tree = root; rest = None; openings = []; listings
 
 did_list : (root : StorageRoot) (way : List Place) → Did (nothing_asked root) (all_listed root way) [] way 0
 did_list root way = record {
-  tree = refl; openings_are = refl; listings_are = refl;
-  failures_are = refl; failed = []; failed_are = refl;
+  tree = refl;
+  openings_are = refl;
+  listings_are = refl;
+  failures_are = refl;
+  failed = [];
+  failed_are = refl;
   failed_among = λ p i. absurd i;
   each_failed = refl;
 }
@@ -63,12 +68,15 @@ root_listed (Some (n ∷ q)) = (_, refl)
 
 goes_down : (root : StorageRoot) (p : Option Place) → GoesDown root (nothing_asked root) (all_listed root (way_of p)) p
 goes_down root p = record {
-  trail = []; listed = way_of p; heads = [];
+  trail = [];
+  listed = way_of p;
+  heads = [];
   audits = audits_meta root (nothing_asked root) (all_listed root (way_of p)) (way_of p) [] [] refl (did_list root (way_of p)) refl refl refl (near_none root (way_of p));
   root_first = root_listed p;
   all_listed = λ d i reached. i;
   listed_front = front_all (way_of p);
-  heads_front = front_none _; once = none_once;
+  heads_front = front_none _;
+  once = none_once;
 }
 
 -- with this left of the open file and of the largest read
@@ -78,13 +86,17 @@ ahead_of root part from m rest largest h =
     let begun : Store = all_listed root (way_of (entry part from)) in
     let w = walks_with root h.before h.after begun refl rest largest (stand root part from) (Some m.item.place) h.gives.0 in (
       nothing_asked root,
-      (w.0, (
-        w.1.0,
-        w.1.1,
-        record {
-          begun = begun; down = goes_down root (entry part from);
-          gives = (w.1.2, h.gives.1, h.gives.2, h.gives.3);
-          in_front = h.in_front;
-        },
-      )),
+      (
+        w.0,
+        (
+          w.1.0,
+          w.1.1,
+          record {
+            begun = begun;
+            down = goes_down root (entry part from);
+            gives = (w.1.2, h.gives.1, h.gives.2, h.gives.3);
+            in_front = h.in_front;
+          },
+        ),
+      ),
     )

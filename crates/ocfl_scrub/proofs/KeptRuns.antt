@@ -33,7 +33,9 @@ module _ (old new : Option (List ℕ)) (limits : MadeLimits) (last : Option Plac
   spent_pass kept lines = record {
     whole = λ e. cc;
     works = λ e. cc;
-    short = short; paid = paid; fits = fits;
+    short = short;
+    paid = paid;
+    fits = fits;
     lines = λ n. lines;
     spent = λ e. (kept.item.place, refl);
     unspent = λ n. absurd (n refl);
@@ -43,7 +45,9 @@ module _ (old new : Option (List ℕ)) (limits : MadeLimits) (last : Option Plac
   ended_pass lines = record {
     whole = λ e. cc;
     works = λ e. cc;
-    short = short; paid = paid; fits = fits;
+    short = short;
+    paid = paid;
+    fits = fits;
     lines = λ n. lines;
     spent = λ e. absurd (let two : status.Ended ≡ status.Spent = e in cc);
     unspent = λ n. refl;
@@ -53,7 +57,9 @@ module _ (old new : Option (List ℕ)) (limits : MadeLimits) (last : Option Plac
   stopped_pass why whole lines = record {
     whole = λ e. whole (let two : status.Stopped why ≡ status.Stopped fault.Broken = e in cc);
     works = λ e. cc;
-    short = short; paid = paid; fits = fits;
+    short = short;
+    paid = paid;
+    fits = fits;
     lines = λ n. lines (λ e. n (ap status.Stopped e));
     spent = λ e. absurd (let two : status.Stopped why ≡ status.Spent = e in cc);
     unspent = λ n. refl;
@@ -120,9 +126,15 @@ module _ (root : StorageRoot) (part : Part) (s t : Store) (old new : Option (Lis
       let x = ahead_of root part from m s.rest s.largest is in
       let y = h.ends x.0 x.1.0 x.1.1.0 x.1.1.1 x.1.1.2 in
       record {
-        before = x.0; begun = x.1.1.2.begun; there = x.1.0;
-        behind = y.0; down = x.1.1.2.down; way = x.1.1.2.gives.0;
-        alike = y.1.0; ends = y.1.1; looks = h.looks is;
+        before = x.0;
+        begun = x.1.1.2.begun;
+        there = x.1.0;
+        behind = y.0;
+        down = x.1.1.2.down;
+        way = x.1.1.2.gives.0;
+        alike = y.1.0;
+        ends = y.1.1;
+        looks = h.looks is;
       }
 
   -- ---- what is left
@@ -148,8 +160,10 @@ module _ (root : StorageRoot) (part : Part) (s t : Store) (old new : Option (Lis
       → RunsOn (call_of root s t old new) part o c l (record { cursor = reached; spent = pass.spent; files = pass.files; found = pass.found; end = pass.end })
   runs_on None pass c b begins h reached state e f = runs_from root part s t old new c b from pass.last l pass.spent pass.files pass.found pass.end begins h.0 reached state e f
   runs_on (Some p) pass c b begins h reached state e f = record {
-    before = h.before; begun = h.begun;
-    there = h.there; behind = h.behind;
+    before = h.before;
+    begun = h.begun;
+    there = h.there;
+    behind = h.behind;
     down = subst (λ x. GoesDown root h.before h.begun (entry part x)) begins.from_is h.down;
     way = subst (λ x. Walks root h.begun h.there (stand root part x) (Some p)) begins.from_is h.way;
     alike = h.alike;

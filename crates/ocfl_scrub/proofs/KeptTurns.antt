@@ -43,8 +43,12 @@ pass_of last spent files finding end kept = record { last = last; spent = spent;
 pub pass_is : (pass : Pass) (last : Option Place) (spent files : ℕ) (finding : Bool) (end : RunStatus) (kept : Option Met) → pass.last ≡ last → pass.spent ≡ spent → pass.files ≡ files
     → pass.found ≡ finding → pass.end ≡ end → pass.met ≡ kept → pass_of last spent files finding end kept ≡ pass
 pass_is pass last spent files finding end kept e f g h i j = λ x. record {
-  last = sym e x; spent = sym f x; files = sym g x;
-  found = sym h x; end = sym i x; met = sym j x;
+  last = sym e x;
+  spent = sym f x;
+  files = sym g x;
+  found = sym h x;
+  end = sym i x;
+  met = sym j x;
 }
 
 module _ {root : StorageRoot} {s t : Store} {old mid : Option (List ℕ)} {m : Met} {walk : Walk} {q : Pending} {from last : Option Place} {l : Limits} {spent files : ℕ} {finding : Bool} (part : Part)
@@ -116,7 +120,8 @@ module _ {root : StorageRoot} {s t : Store} {old mid : Option (List ℕ)} {m : M
                     let gives : GivesOut root v w (Some q.place) (end_of part) next (Some r) = subst (GivesOut root v w (Some q.place) (end_of part) next) is (gave (looked_over there) live (Some q.place) k.stands) in
                     record {
                       looked = looked_on there w r.place (due_beyond root (Some q.place) r.place (due root (Some r.place)) gives.3) in_front gives.0;
-                      pending = gives.2; stands = gives.1;
+                      pending = gives.2;
+                      stands = gives.1;
                     };
                 meets = λ d a rest largest ahead.
                     let x = stood d a rest largest ahead in

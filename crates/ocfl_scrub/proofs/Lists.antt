@@ -39,7 +39,6 @@ module _ {A : Type 0} where
 -- ---- one list cut in two by a test that holds from some element on
 
 module _ {A : Type 0} where
-
   none_left : (test : A → Bool) (xs : List A) → AllByRecursion (λ y. test y ≡ true) xs → filter (λ y. not (test y)) xs ≡ []
   none_left test [] h = refl
   none_left test (x ∷ xs) h = ap (λ b. cond (not b) (x ∷ filter (λ y. not (test y)) xs) (filter (λ y. not (test y)) xs)) h.0 ∙ none_left test xs h.1

@@ -16,22 +16,28 @@ module _ (root : StorageRoot) (part : Part) (s t u : Store) (old new : Option (L
       → FilesLieIn root done (g.listed ++ looked_in root part from to) → Audits root t u done (looked_in root part from to) (read_in root part from to) os
       → LooksOver (call_of root s u old new) part from to done (g.trail ++ os)
   looks_over to done os files k = record {
-    down = g.listed; held = g.heads;
+    down = g.listed;
+    held = g.heads;
     audits = audits_on root s t u [] done g.listed (looked_in root part from to) g.heads (read_in root part from to) g.trail os g.audits k;
     down_front = subst (IsFront g.listed) (way_is part from) g.listed_front;
-    files_lie = files; held_front = subst (IsFront g.heads) (held_in part from root) g.heads_front;
+    files_lie = files;
+    held_front = subst (IsFront g.heads) (held_in part from root) g.heads_front;
   }
 
   pub stops_looking : (why : Fault) (begun listed heads : List Place) (os : List Opening) → Fails root t u begun listed heads os why
       → IsFront listed (looked_in root part from None) → IsFront heads (read_in root part from None) → FilesLieIn root begun (g.listed ++ listed)
       → StopsLooking (call_of root s u old new) part from begun (g.trail ++ os) why
   stops_looking why begun listed heads os k listed_front heads_front files = record {
-    down = g.listed; listed = listed;
-    held = g.heads; heads = heads;
+    down = g.listed;
+    listed = listed;
+    held = g.heads;
+    heads = heads;
     fails = audits_fail root s t u [] begun g.listed listed g.heads heads g.trail os why g.audits k;
     down_front = subst (IsFront g.listed) (way_is part from) g.listed_front;
-    listed_front = listed_front; held_front = subst (IsFront g.heads) (held_in part from root) g.heads_front;
-    heads_front = heads_front; files_lie = files;
+    listed_front = listed_front;
+    held_front = subst (IsFront g.heads) (held_in part from root) g.heads_front;
+    heads_front = heads_front;
+    files_lie = files;
   }
 
 -- it did not come to where it begins
@@ -41,11 +47,14 @@ stops_above root part s t old new from why g =
     let no_directory : IsFront [] (looked_in root part from None) = (looked_in root part from None, refl) in
     let no_head : IsFront [] (read_in root part from None) = (read_in root part from None, refl) in
     record {
-      down = g.listed; listed = [];
-      held = g.heads; heads = [];
+      down = g.listed;
+      listed = [];
+      held = g.heads;
+      heads = [];
       fails = subst (λ ls. Fails root s t [] ls (g.heads ++ []) g.trail why) (sym (append-nil g.listed)) (subst (λ hs. Fails root s t [] g.listed hs g.trail why) (sym (append-nil g.heads)) g.fails);
       down_front = subst (IsFront g.listed) (way_is part from) g.listed_front;
-    listed_front = no_directory;
-      held_front = subst (IsFront g.heads) (held_in part from root) g.heads_front; heads_front = no_head;
+      listed_front = no_directory;
+      held_front = subst (IsFront g.heads) (held_in part from root) g.heads_front;
+      heads_front = no_head;
       files_lie = λ p i h. absurd i;
     }

@@ -60,10 +60,12 @@ pub looked_first : (root : StorageRoot) (part : Part) (s : Store) (from : Option
 looked_first root part s from m over h = record {
   looked = record {
     gone = gone_self (end_of part) (Some m.item.place);
-    done = []; trail = [];
+    done = [];
+    trail = [];
     audits = audits_as (sym (looked_self root (Some m.item.place))) (sym (read_self root (Some m.item.place))) (audits_nothing root s over);
   };
-  pending = h.gives.2; stands = h.gives.1;
+  pending = h.gives.2;
+  stands = h.gives.1;
 }
 
 module _ {root : StorageRoot} {part : Part} {s t : Store} {p q : Place} (h : Looked root part s t p q) where
@@ -72,7 +74,9 @@ module _ {root : StorageRoot} {part : Part} {s t : Store} {p q : Place} (h : Loo
 
   pub looked_took : (v : Store) (old new : Option (List ℕ)) (cost : ℕ) (more : Bool) → Takes (call_of root t v old new) q cost more → Looked root part s v p q
   looked_took v old new cost more k = record {
-    gone = h.gone; done = h.done ++ q ∷ []; trail = h.trail ++ k.trail;
+    gone = h.gone;
+    done = h.done ++ q ∷ [];
+    trail = h.trail ++ k.trail;
     audits = audits_as (append-nil (looked_between root (Some p) (Some q))) (append-nil (read_between root (Some p) (Some q)))
         (audits_on root s t v h.done (q ∷ []) _ [] _ [] h.trail k.trail h.audits k.audits);
   }
@@ -80,7 +84,8 @@ module _ {root : StorageRoot} {part : Part} {s t : Store} {p q : Place} (h : Loo
   pub looked_on : (v : Store) (r : Place) → IsBeyond (Some q) r → is_past (end_of part) r ≡ false → Walks root t v (Some q) (Some r) → Looked root part s v p r
   looked_on v r far before w = record {
     gone = gone_next (end_of part) (Some p) (Some q) r h.gone far before;
-    done = h.done ++ []; trail = h.trail ++ w.trail;
+    done = h.done ++ [];
+    trail = h.trail ++ w.trail;
     audits = audits_as (looked_next root (end_of part) (Some p) (Some q) h.gone r far) (read_next root (end_of part) (Some p) (Some q) h.gone r far)
         (audits_on root s t v h.done [] _ _ _ _ h.trail w.trail h.audits w.audits);
   }
@@ -108,8 +113,11 @@ module _ {root : StorageRoot} {part : Part} {s t : Store} {p q : Place} (h : Loo
       above : (listed heads : List Place) (os : List Opening) (f : ℕ) → Did s v os listed f → heads_of root os ≡ heads → IsFront listed (looked_in root part (Some p) None)
           → IsFront heads (read_in root part (Some p) None) → LooksAbove (call_of root s v old new) part p
       above listed heads os f did are front heads_front = record {
-        listed = listed; trail = os; listings_are = did.listings_are;
-        openings_are = did.openings_are; listed_front = front;
+        listed = listed;
+        trail = os;
+        listings_are = did.listings_are;
+        openings_are = did.openings_are;
+        listed_front = front;
         heads_front = subst (λ hs. IsFront hs (read_in root part (Some p) None)) (sym are) heads_front;
       }
 

@@ -65,7 +65,8 @@ module _ (call : Call) (part : Part) (from : Option Place) where
   looks_near to audited trail h = record {
     listed = h.down ++ looked_in call.root part from to;
     opens = record {
-      trail = trail; openings_are = h.audits.did.openings_are;
+      trail = trail;
+      openings_are = h.audits.did.openings_are;
       listings_are = h.audits.did.listings_are;
       near = all_near call.root audited (h.down ++ looked_in call.root part from to) trail h.audits.opened h.audits.near h.files_lie;
     };
@@ -76,7 +77,8 @@ module _ (call : Call) (part : Part) (from : Option Place) where
   stops_near begun trail why h = record {
     listed = h.down ++ h.listed;
     opens = record {
-      trail = trail; openings_are = h.fails.did.openings_are;
+      trail = trail;
+      openings_are = h.fails.did.openings_are;
       listings_are = h.fails.did.listings_are;
       near = all_near call.root begun (h.down ++ h.listed) trail h.fails.opened h.fails.near h.files_lie;
     };
@@ -105,11 +107,17 @@ module _ (call : Call) (p : Place) where
   Opens = (listed : List Place) × (OpensNear call.before call.after listed × ((d : Place) → IsAmong listed d → (q : Place) × (p ≡ d ++ q)))
 
   pub check_opens : (item finding : Bool) (e : AuditStatus) → CheckEnds call p item finding e → Opens
-  check_opens item finding end.Ended h = (h.listed, (
-    record { trail = h.trail; openings_are = h.audits.did.openings_are; listings_are = h.audits.did.listings_are; near = all_near call.root (p ∷ []) h.listed h.trail h.audits.opened h.audits.near h.files_lie },
-    on_its_way h.listed h.just.listed_front,
-  ))
-  check_opens item finding (end.Stopped why) h = (h.listed, (
-    record { trail = h.trail; openings_are = h.fails.did.openings_are; listings_are = h.fails.did.listings_are; near = all_near call.root h.begun h.listed h.trail h.fails.opened h.fails.near h.files_lie },
-    on_its_way h.listed h.just.listed_front,
-  ))
+  check_opens item finding end.Ended h = (
+    h.listed,
+    (
+      record { trail = h.trail; openings_are = h.audits.did.openings_are; listings_are = h.audits.did.listings_are; near = all_near call.root (p ∷ []) h.listed h.trail h.audits.opened h.audits.near h.files_lie },
+      on_its_way h.listed h.just.listed_front,
+    ),
+  )
+  check_opens item finding (end.Stopped why) h = (
+    h.listed,
+    (
+      record { trail = h.trail; openings_are = h.fails.did.openings_are; listings_are = h.fails.did.listings_are; near = all_near call.root h.begun h.listed h.trail h.fails.opened h.fails.near h.files_lie },
+      on_its_way h.listed h.just.listed_front,
+    ),
+  )

@@ -151,9 +151,12 @@ module _ (root : StorageRoot) (from : Option Place) where
 
 unfoldable pub passes_none : (root : StorageRoot) (e : End) (s : Store) (old : Option (List ℕ)) (from : Option Place) → s.tree ≡ root → Passes root e s s old old from from false
 passes_none root e s old from over = record {
-  done = []; trail = [];
+  done = [];
+  trail = [];
   audits = audits_as (sym (looked_self root from)) (sym (read_self root from)) (audits_nothing root s over);
-  due_are = refl; inside = refl; last_is = refl;
+  due_are = refl;
+  inside = refl;
+  last_is = refl;
   wrote = subst (λ is. Appends old old (text is)) (sym (no_items root [])) (Appends-nil old);
   found_is = sym (ap found (no_items root []));
 }
@@ -207,7 +210,8 @@ module _ (root : StorageRoot) (e : End) (s t u : Store) (old mid : Option (List 
         let both = taken_there cost more k in
         let same = took_items cost more k in
         record {
-          done = h.done ++ p ∷ []; trail = h.trail ++ (w.trail ++ k.trail);
+          done = h.done ++ p ∷ [];
+          trail = h.trail ++ (w.trail ++ k.trail);
           audits = audits_as (looked_next root e from last low p up) (read_next root e from last low p up) (audits_on root s t v h.done (p ∷ []) _ _ _ _ h.trail (w.trail ++ k.trail) h.audits both);
           due_are = due_with ∙ sym (append_assoc h.done (p ∷ []) (due root (Some p)));
           inside = filter_append (λ z. not (is_past e z)) h.done (p ∷ []) ∙ ap (λ ps. ps ++ before_end e (p ∷ [])) h.inside ∙ ap (λ b. h.done ++ cond (not b) (p ∷ []) []) in_front;
@@ -242,15 +246,19 @@ module _ (root : StorageRoot) (e : End) (s t u : Store) (old mid : Option (List 
         let next : items_at root k.trail (p ∷ []) ≡ items_at root trail (take 1 (due_in root e last)) =
         sym (ap (items_at root trail) next_is ∙ items_behind root h.trail (w.trail ++ k.trail) h.done (p ∷ []) with_ascends h.audits.opened ∙ walked_items root p w.trail w.audits.opened k.trail) in
         record {
-          done = h.done; begun = k.begun; trail = trail;
+          done = h.done;
+          begun = k.begun;
+          trail = trail;
           listed = up_to_last (looked_between root) from last ++ looked_between root last (Some p);
           heads = up_to_last (read_between root) from last ++ read_between root last (Some p);
           fails = audits_fail root s t v h.done k.begun _ _ _ _ h.trail (w.trail ++ k.trail) why h.audits both;
           listed_front = front_behind _ _ _ _ (looked_end root e from last low) (looked_front root e last p up in_front);
           heads_front = front_behind _ _ _ _ (read_end root e from last low) (read_front root e last p up in_front);
           there = λ q i d j. subst (λ ds. IsAmong ds d) (sym (looked_next root e from last low p up)) (listed_further root from e q p d (up_to_next q (among_more h.done k.begun (p ∷ []) k.one.0 q k.one.1 i)) j);
-          due_are = halves; one = (k.one.0, next_is ∙ k.one.1);
-          last_is = h.last_is; part = k.part;
+          due_are = halves;
+          one = (k.one.0, next_is ∙ k.one.1);
+          last_is = h.last_is;
+          part = k.part;
           wrote = subst (λ is. Appends old new (text is ++ k.part)) (sym before) (Appends-trans old mid new _ _ h.wrote k.wrote);
           part_of = subst (λ is. PartOf why (text is) k.part) next k.part_of;
           found_is = h.found_is ∙ ap found (sym before);
@@ -271,7 +279,9 @@ module _ (root : StorageRoot) (e : End) (s t u : Store) (old mid : Option (List 
       let trail : List Opening = h.trail ++ w.trail in
       let before : items_at root trail h.done ≡ items_at root h.trail h.done = walked_on w.trail w.fails.opened in
       record {
-        done = h.done; begun = []; trail = trail;
+        done = h.done;
+        begun = [];
+        trail = trail;
         listed = up_to_last (looked_between root) from last ++ w.listed;
         heads = up_to_last (read_between root) from last ++ w.heads;
         fails = audits_fail root s t u h.done [] _ _ _ _ h.trail w.trail why h.audits w.fails;
@@ -281,7 +291,8 @@ module _ (root : StorageRoot) (e : End) (s t u : Store) (old mid : Option (List 
             (listed_to_last root from e h.done done_ascends q (subst (λ qs. IsAmong qs q) (append-nil h.done) i) d j last h.last_is);
         due_are = halves;
         one = (take 1 (due_in root e last), refl);
-        last_is = h.last_is; part = [];
+        last_is = h.last_is;
+        part = [];
         wrote = subst (λ xs. Appends old mid xs) (sym (append-nil (text (items_at root trail h.done))))
             (subst (λ is. Appends old mid (text is)) (sym before) h.wrote);
         part_of = nothing_of why other (text (items_at root trail (take 1 (due_in root e last))));

@@ -109,15 +109,19 @@ module _ (root : StorageRoot) (end : End) (s t u : Store) (old mid : Option (Lis
         let before : items_at root trail g.done ≡ items_at root g.trail g.done = walked_on root end s t u old mid from last finding low g w.trail w.audits.opened in
         let joined = audits_on root s t u g.done [] _ _ _ _ g.trail w.trail g.audits w.audits in
         record {
-          next = p; done = g.done; trail = trail;
+          next = p;
+          done = g.done;
+          trail = trail;
           audits = subst (λ ps. Audits root s u ps (looked_between root from (Some p)) (read_between root from (Some p)) trail) (append-nil g.done)
               (audits_as (looked_next root end from last low p up) (read_next root end from last low p up) joined);
           due_are = halves root end s t u old mid from last finding low g ∙ ap (λ ps. g.done ++ ps) (due_next root end s t u old mid from last finding low g p up least in_front w u mid);
-          in_front = in_front; last_is = g.last_is;
+          in_front = in_front;
+          last_is = g.last_is;
           wrote = subst (λ is. Appends old mid (text is)) (sym before) g.wrote;
           found_is = g.found_is ∙ ap found (sym before);
           counts = counts_same l spent files _ _ before h.counts;
-          hashed = hashed; reached = reached;
+          hashed = hashed;
+          reached = reached;
         }
 
   -- the walk did not get there

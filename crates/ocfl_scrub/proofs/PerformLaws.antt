@@ -45,9 +45,14 @@ module _ {S O : Type 0} {contents : O → Option (List ℕ)} {before after : S} 
       → (ran.end ≡ run.Worn → (said.status ≡ 3) × IsNone said.cursor)
       → (ran.end ≢ run.Worn → IsStoredNote text_of ran.cursor ran.spent ran.found ran.end said.status said.note said.cursor) → Made Begins text_of (limits_of limits) from ran said
   made_by begins keeps worn_says worn_ends says = record {
-    begins = begins; paid = r.paid; keeps = keeps;
-    leads = r.cursor; is_worn = r.worn.0; worn_says = worn_says;
-    worn_ends = worn_ends; says = says;
+    begins = begins;
+    paid = r.paid;
+    keeps = keeps;
+    leads = r.cursor;
+    is_worn = r.worn.0;
+    worn_says = worn_says;
+    worn_ends = worn_ends;
+    says = says;
   }
 
   pub worn_silent : (state : S → Store) → ran.end ≡ run.Worn → (state after ≡ state before) × (contents new ≡ contents old)
@@ -78,7 +83,8 @@ module _ {S O : Type 0} {contents : O → Option (List ℕ)} {before after : S} 
     silent = λ h. r.worn_silent (worn (silent_worn said.note says h));
     show_calls = λ e. absurd (let two : deed.Run limits ≡ deed.Show = e in cc);
     show_ends = λ e. absurd (let two : deed.Run limits ≡ deed.Show = e in cc);
-    unshown = tt; kept = kept;
+    unshown = tt;
+    kept = kept;
     without_file = no_file_failed known limits said.note says;
     bad_path = tt;
     bad_path_silent = λ h. absurd h;
@@ -100,9 +106,15 @@ module _ {Begins : Cursor → Type 0} {text_of : Cursor → Text} {limits : Limi
       by (Some v) ends says =
           let unworn : ran.end ≢ run.Worn = λ e. let gone = (ends e).1 in cc in
           record {
-            from = from; begins = h.begins; ran = ran;
-            paid = h.paid; last = (h.leads unworn).0; cursor_is = (h.leads unworn).1;
-            keeps = h.keeps; handed_is = (says unworn).0; says = (says unworn).1;
+            from = from;
+            begins = h.begins;
+            ran = ran;
+            paid = h.paid;
+            last = (h.leads unworn).0;
+            cursor_is = (h.leads unworn).1;
+            keeps = h.keeps;
+            handed_is = (says unworn).0;
+            says = (says unworn).1;
           }
 
   -- the same run on a store that tells its tree
@@ -115,15 +127,19 @@ module _ {Begins : Cursor → Type 0} {text_of : Cursor → Text} {limits : Limi
       by : (ran.end ≡ run.Worn) ⊎ (ran.end ≢ run.Worn) → RunMade Begins text_of call part limits said.status said.note said.cursor ⊎ RunUnmade Why call said.cursor
       by (inl worn) = inr (record {
         why = unmade (record { from = from; begins = h.begins; worn = h.is_worn worn; status_is = (h.worn_ends worn).0; says = h.worn_says worn });
-        uncalled = (silent worn).0; unwritten = (silent worn).1; unkept = (h.worn_ends worn).1;
+        uncalled = (silent worn).0;
+        unwritten = (silent worn).1;
+        unkept = (h.worn_ends worn).1;
       })
       by (inr went) = inl (record {
-        from = from; begins = h.begins;
+        from = from;
+        begins = h.begins;
         runs = record {
           ran = ran;
           runs = subst (λ q. RunsFromWithin call q from limits ran) same (runs went);
           clean = λ f. subst (λ q. RunsCleanlyWithin call q from limits ran.spent ran.files ran.found ran.end) same (clean f);
-          keeps = h.keeps; says = h.says went;
+          keeps = h.keeps;
+          says = h.says went;
         };
       })
 

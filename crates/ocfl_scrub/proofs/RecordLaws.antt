@@ -119,10 +119,16 @@ audit_wrote root s t before written last finding h = (h.trail, (h.looks.audits.d
 pub audit_opened : (call : Call) (last : Option Place) (finding : Bool) → AuditsAll call last finding → (trail : List Opening)
     × ((call.after.openings ≡ call.before.openings ++ trail)
     × ((content_trail call.root trail ≡ hashed_among call.root (item_places call.root)) × (heads_of call.root trail ≡ read_between call.root None None)))
-audit_opened call last finding h = (h.trail, (h.looks.audits.did.openings_are, (
-  h.looks.audits.opened ∙ ap (hashed_among call.root) (all_places call.root h.trail),
-  h.looks.audits.heads_are ∙ ap (λ l. l ++ read_between call.root None None) (nothing_front h.looks.held h.looks.held_front),
-)))
+audit_opened call last finding h = (
+  h.trail,
+  (
+    h.looks.audits.did.openings_are,
+    (
+      h.looks.audits.opened ∙ ap (hashed_among call.root) (all_places call.root h.trail),
+      h.looks.audits.heads_are ∙ ap (λ l. l ++ read_between call.root None None) (nothing_front h.looks.held h.looks.held_front),
+    ),
+  ),
+)
 
 pub audit_listed : (call : Call) (last : Option Place) (finding : Bool) → AuditsAll call last finding → call.after.listings ≡ call.before.listings ++ looked_between call.root None None
 audit_listed call last finding h =
@@ -151,10 +157,13 @@ stopped_audit_opened call last finding why h =
 
 pub stopped_audit_listed : (call : Call) (last : Option Place) (finding : Bool) (why : Fault) → AuditStops call last finding why → (listed : List Place)
     × ((rest : List Place) × ((call.after.listings ≡ call.before.listings ++ listed) × (looked_between call.root None None ≡ listed ++ rest)))
-stopped_audit_listed call last finding why h = (h.looks.listed, (
-  h.looks.listed_front.0,
-  (h.looks.fails.did.listings_are ∙ ap (λ l. call.before.listings ++ (l ++ h.looks.listed)) (nothing_front h.looks.down h.looks.down_front), h.looks.listed_front.1),
-))
+stopped_audit_listed call last finding why h = (
+  h.looks.listed,
+  (
+    h.looks.listed_front.0,
+    (h.looks.fails.did.listings_are ∙ ap (λ l. call.before.listings ++ (l ++ h.looks.listed)) (nothing_front h.looks.down h.looks.down_front), h.looks.listed_front.1),
+  ),
+)
 
 pub stopped_audit_read : (call : Call) (last : Option Place) (finding : Bool) (why : Fault) → AuditStops call last finding why → (trail : List Opening)
     × ((rest : List Place) × ((call.after.openings ≡ call.before.openings ++ trail)
@@ -251,13 +260,22 @@ pub stopped_run_read : (call : Call) (from last : Option Place) (limits : Limits
     × ((call.after.openings ≡ call.before.openings ++ trail)
     × ((call.after.failures ≡ call.before.failures + (length (unread_of call.root trail) + failures_by why))
     × ((heads_of call.root trail ≡ held ++ heads) × ((holder call.root from ≡ held ++ below) × ((read_between call.root from None ≡ heads ++ rest) × (IsAscending place_cmp (held ++ heads)))))))))))
-stopped_run_read call from last limits spent files finding why h = (h.trail, (h.looks.held, (h.looks.held_front.0, (
-  h.looks.heads,
+stopped_run_read call from last limits spent files finding why h = (
+  h.trail,
   (
-    h.looks.heads_front.0,
-    (h.looks.fails.did.openings_are, (h.looks.fails.did.failures_are, (h.looks.fails.heads_are, (held_in whole from call.root ∙ h.looks.held_front.1, (h.looks.heads_front.1, stops_read_once call whole from _ h.trail why h.looks))))),
+    h.looks.held,
+    (
+      h.looks.held_front.0,
+      (
+        h.looks.heads,
+        (
+          h.looks.heads_front.0,
+          (h.looks.fails.did.openings_are, (h.looks.fails.did.failures_are, (h.looks.fails.heads_are, (held_in whole from call.root ∙ h.looks.held_front.1, (h.looks.heads_front.1, stops_read_once call whole from _ h.trail why h.looks))))),
+        ),
+      ),
+    ),
   ),
-))))
+)
 
 pub stopped_run_ended_at : (call : Call) (from last : Option Place) (limits : Limits) (spent files : ℕ) (finding : Bool) (why : Fault)
     → RunStops call from last limits spent files finding why → (trail : List Opening)
@@ -336,10 +354,16 @@ pub stopped_cycle_counted : (call : Call) (last : Option Place) (limits : List L
     × ((1 ≤ count) × ((count ≤ length (runs (audit call.root (unread_of call.root trail)) limits))
     × ((spent ≡ total_cost whole) × ((whole ≡ joined (take (count - 1) (runs (audit call.root (unread_of call.root trail)) limits)) ++ rest)
     × (length (heads_of call.root trail) < length (inventories call.root) + count))))))))
-stopped_cycle_counted call last limits spent files finding count why h = (h.trail, (h.stops.whole, (
-  h.runs_before.0,
-  (h.fails.did.openings_are, (h.made, (h.count_fits, (h.figures.spent_is, (h.runs_before.1, fewer _ _ _ h.fails.heads_are (few_inventories call.root count h.heads h.inventories_read)))))),
-)))
+stopped_cycle_counted call last limits spent files finding count why h = (
+  h.trail,
+  (
+    h.stops.whole,
+    (
+      h.runs_before.0,
+      (h.fails.did.openings_are, (h.made, (h.count_fits, (h.figures.spent_is, (h.runs_before.1, fewer _ _ _ h.fails.heads_are (few_inventories call.root count h.heads h.inventories_read)))))),
+    ),
+  ),
+)
 
 pub stopped_cycle_opened : (call : Call) (last : Option Place) (limits : List Limits) (spent files : ℕ) (finding : Bool) (count : ℕ) (why : Fault)
     → CycleStops call last limits spent files finding count why → (trail : List Opening)

@@ -151,10 +151,14 @@ module _ (root : StorageRoot) (part : Part) (s t u : Store) (old new : Option (L
       record {
         trail = trail;
         stops = record {
-          whole = whole; others = others;
+          whole = whole;
+          others = others;
           items_are = ap (λ is. cut is l) (are k.trail k.done due_left k.due_are) ∙ paid_begins l whole later h.counts.paid;
-          begun = k.begun; one = ends.0; part = k.part;
-          wrote = k.wrote; part_of = ends.1;
+          begun = k.begun;
+          one = ends.0;
+          part = k.part;
+          wrote = k.wrote;
+          part_of = ends.1;
           last_is = last_is ∙ ap (last_or from) whole_places;
         };
         figures = record { spent_is = h.counts.spent_is; files_is = h.counts.files_is; found_is = k.found_is };
@@ -219,8 +223,12 @@ run_counted b l spent files state h room fits p short =
     let f = h.files in
     let m = paid_files l spent files p in
     record {
-      first = h.first; cycle = h.cycle; runs = room;
-      spent = omega (arith, s, fits); files = omega (arith, f, m); place = short;
+      first = h.first;
+      cycle = h.cycle;
+      runs = room;
+      spent = omega (arith, s, fits);
+      files = omega (arith, f, m);
+      place = short;
     }
 
 module _ (root : StorageRoot) (part : Part) (s t : Store) (old new : Option (List ℕ)) (c b : Cursor) (from last : Option Place) (l : Limits) (spent files : ℕ)
@@ -232,6 +240,7 @@ module _ (root : StorageRoot) (part : Part) (s t : Store) (old new : Option (Lis
   pub runs_from : (reached : Cursor) (state : State) → reached ≡ after_run b spent files state → state ≡ state_after end last
       → RunsFromWithin (call_of root s t old new) part c l (record { cursor = reached; spent = spent; files = files; found = finding; end = end })
   runs_from reached state e f = record {
-    last = last; run = begun_there;
+    last = last;
+    run = begun_there;
     cursor_is = e ∙ ap (λ x. after_run x spent files state) h.begun_is ∙ ap (λ x. after_run (begun c) spent files x) f;
   }

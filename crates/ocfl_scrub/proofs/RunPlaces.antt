@@ -111,7 +111,9 @@ module _ (root : StorageRoot) (part : Part) (s t : Store) (old new : Option (Lis
       sym (rest_is root part h.trail from cut_items left_items split) ∙ ap (λ l. items_at root h.trail (due_within root part l)) is_last in
       record {
         took = record {
-          done = done; trail = h.trail; listed = _;
+          done = done;
+          trail = h.trail;
+          listed = _;
           heads = h.looks.held ++ read_in root part from next;
           audits = h.looks.audits;
           due_are = due_parts root part h.trail from cut_items left_items split ∙ ap (λ l. done ++ due_within root part l) is_last;

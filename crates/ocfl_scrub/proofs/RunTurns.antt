@@ -64,7 +64,9 @@ nothing_paid : (root : StorageRoot) (part : Part) (s t : Store) (old : Option (L
     → GoesDown root s t (entry part from) → HasPaid root part s t old old from from l spent files false
 unfolding passes_none pays_none
 nothing_paid root part s t old from l spent files e f down = record {
-  begun = t; stood = stand root part from; down = down;
+  begun = t;
+  stood = stand root part from;
+  down = down;
   beyond = gone_self (end_of part) (stand root part from);
   pays = pays_none root (end_of part) t old (stand root part from) l spent files (audits_over down.audits) e f;
   last_is = refl;
@@ -105,7 +107,8 @@ module _ {root : StorageRoot} {s t : Store} {old mid : Option (List ℕ)} {walk 
   pub run_meets : (next : Walk) (q : Pending) → GivesOut root t u h.paid.stood (end_of part) next (Some q) → is_past (end_of part) q.place ≡ false
       → HasMet root part s u old mid next q from last l spent files finding
   run_meets next q gives before = record {
-    there = t; paid = h.paid;
+    there = t;
+    paid = h.paid;
     item = record { gives = gives; above = due_beyond root h.paid.stood q.place (due root (Some q.place)) gives.3; in_front = before };
   }
 
@@ -130,7 +133,9 @@ module _ {root : StorageRoot} {s u : Store} {old mid : Option (List ℕ)} {walk 
         let k = h.paid in
         subst (λ p. HasStood root part s v old new walk from (Some p) l charged started either) (sym e) (record {
           paid = record {
-            begun = k.begun; stood = Some q.place; down = k.down;
+            begun = k.begun;
+            stood = Some q.place;
+            down = k.down;
             beyond = gone_next (end_of part) (stand root part from) k.stood q.place k.beyond h.item.above h.item.in_front;
             pays = pays_took root (end_of part) k.begun h.there u old mid (stand root part from) k.stood l spent files finding k.beyond k.pays q.place h.item.above
                 h.item.gives.3 h.item.in_front h.item.gives.0 v new (hashed_too may) cost charged started more either takes f g i;

@@ -139,13 +139,18 @@ pub parts_none : (root : StorageRoot) (part : Part) (s : Store) (old : Option (L
 unfolding items_at
 parts_none root part s old last over some = record {
   took = record {
-    done = []; trail = [];
-    listed = []; heads = [];
+    done = [];
+    trail = [];
+    listed = [];
+    heads = [];
     audits = audits_nothing root s over;
-    due_are = refl; last_is = refl; wrote = Appends-nil old;
+    due_are = refl;
+    last_is = refl;
+    wrote = Appends-nil old;
     figures = record { spent_is = refl; files_is = refl; found_is = refl };
   };
-  runs_are = refl; count_is = refl;
+  runs_are = refl;
+  count_is = refl;
   read = record { none = λ e. refl; some = λ e. absurd (omega (arith, e)) };
   ended_is = sym some;
   made = λ e. absurd cc;
@@ -162,13 +167,21 @@ parts_unbegun root part s old last limits over =
     let none = audits_nothing root s over in
     let all : List (List Item) = runs (items_at root [] (due_within root part last)) limits in
     record {
-      done = []; begun = []; rest = due_within root part last;
-      trail = []; others = [];
-      listed = []; heads = [];
+      done = [];
+      begun = [];
+      rest = due_within root part last;
+      trail = [];
+      others = [];
+      listed = [];
+      heads = [];
       fails = record { over = over; did = none.did; opened = none.opened; heads_are = refl; near = none.near; store = λ q e. absurd (not_of_store q e) };
-      due_are = refl; last_is = refl; runs_begin = joined_none all;
-      runs_before = front_none all []; one = ([], refl);
-      gone = []; wrote = Appends-nil old;
+      due_are = refl;
+      last_is = refl;
+      runs_begin = joined_none all;
+      runs_before = front_none all [];
+      one = ([], refl);
+      gone = [];
+      wrote = Appends-nil old;
       part_of = nothing_of Memory memory_other [];
       count_fits = omega arith;
       figures = record { spent_is = refl; files_is = refl; found_is = refl };
@@ -224,17 +237,23 @@ module _ (root : StorageRoot) (part : Part) (s t : Store) (old mid : Option (Lis
       let next_begun : due_within root part (last_or from done) ≡ w.begun ++ behind =
       next_is ∙ map-append (λ i. i.place) w.others left_items ∙ ap (λ ps. ps ++ places left_items) first ∙ append_assoc w.begun (w.one.0 ++ places (drop 1 w.others)) (places left_items) in
       record {
-        done = done; begun = w.begun; rest = behind;
-        trail = h.trail; others = w.others;
-        listed = h.looks.down ++ h.looks.listed; heads = h.looks.held ++ h.looks.heads;
+        done = done;
+        begun = w.begun;
+        rest = behind;
+        trail = h.trail;
+        others = w.others;
+        listed = h.looks.down ++ h.looks.listed;
+        heads = h.looks.held ++ h.looks.heads;
         fails = h.looks.fails;
         due_are = due_parts root part h.trail from w.whole (w.others ++ left_items) split ∙ ap (λ ps. done ++ ps) next_begun ∙ sym (append_assoc done w.begun behind);
         last_is = w.last_is;
         runs_begin = joined_one _ later ∙ ap (λ is. cut is l) (sym (above_in root part from h.trail)) ∙ w.items_are ∙ ap (λ is. is ++ w.others) done_is;
         runs_before = front_none (cut (items_at root h.trail (due_within root part from)) l ∷ later) (items_at root h.trail done);
-        one = w.one; gone = w.part;
+        one = w.one;
+        gone = w.part;
         wrote = subst (λ is. Appends old mid (text is ++ w.part)) done_is w.wrote;
-        part_of = w.part_of; count_fits = omega arith;
+        part_of = w.part_of;
+        count_fits = omega arith;
         figures = subst (λ is. Figures is spent files finding) done_is h.figures;
         read = record {
           none = λ e. absurd (omega (arith, e));
@@ -283,7 +302,8 @@ module _ (root : StorageRoot) (part : Part) (s t : Store) (old mid : Option (Lis
       let opened_here : ℕ = total_files (items_at root h.took.trail h.took.done) in
       let first = first_some next (due_within root part mid_last) h.next_is in
       record {
-        behind = first.0; due_is = first.1;
+        behind = first.0;
+        due_is = first.1;
         hashed =
             stop_hashed root h.took.trail l spent_here opened_here next first.0 (subst (λ qs. IsStop l spent_here opened_here (items_at root h.took.trail qs)) first.1 h.stops);
       }
@@ -347,8 +367,10 @@ module _ (root : StorageRoot) (part : Part) (s t : Store) (old mid : Option (Lis
         let are = runs_then b.trail b.done (due_within root part last) b.audits.opened b.due_are in
         record {
           took = record {
-            done = a.done ++ b.done; trail = a.trail ++ b.trail;
-            listed = a.listed ++ b.listed; heads = a.heads ++ b.heads;
+            done = a.done ++ b.done;
+            trail = a.trail ++ b.trail;
+            listed = a.listed ++ b.listed;
+            heads = a.heads ++ b.heads;
             audits = audits_on root s t u a.done b.done a.listed b.listed a.heads b.heads a.trail b.trail a.audits b.audits;
             due_are = due_are;
             last_is = b.last_is ∙ ap (λ x. last_or x b.done) a.last_is ∙ last_then from a.done b.done;
@@ -358,7 +380,8 @@ module _ (root : StorageRoot) (part : Part) (s t : Store) (old mid : Option (Lis
           runs_are = ap joined are ∙ ap (λ is. first ++ is) k.runs_are ∙ sym same;
           count_is = let n : length (runs (items_at root (a.trail ++ b.trail) (due_within root part from)) (l ∷ ls)) ≡ suc
               (length (runs (items_at root b.trail (due_within root part mid_last)) ls)) = ap length are in let c = k.count_is in omega (arith, n, c);
-          read = reads_then b.heads count k.read; ended_is = k.ended_is;
+          read = reads_then b.heads count k.read;
+          ended_is = k.ended_is;
           made = λ e. omega arith;
         }
 
@@ -382,9 +405,13 @@ module _ (root : StorageRoot) (part : Part) (s t : Store) (old mid : Option (Lis
         let texts : text first ++ (text second ++ k.gone) ≡ text (items_at root (h.took.trail ++ k.trail) (h.took.done ++ k.done)) ++ k.gone =
         sym (append_assoc (text first) (text second) k.gone) ∙ ap (λ xs. xs ++ k.gone) (sym (text_append first second) ∙ ap text (sym same)) in
         record {
-          done = h.took.done ++ k.done; begun = k.begun; rest = k.rest;
-          trail = h.took.trail ++ k.trail; others = k.others;
-          listed = h.took.listed ++ k.listed; heads = h.took.heads ++ k.heads;
+          done = h.took.done ++ k.done;
+          begun = k.begun;
+          rest = k.rest;
+          trail = h.took.trail ++ k.trail;
+          others = k.others;
+          listed = h.took.listed ++ k.listed;
+          heads = h.took.heads ++ k.heads;
           fails = subst (λ ps. Fails root s u ps (h.took.listed ++ k.listed) (h.took.heads ++ k.heads) (h.took.trail ++ k.trail) why) (sym both)
               (audits_fail root s t u h.took.done (k.done ++ k.begun) h.took.listed k.listed h.took.heads k.heads h.took.trail k.trail why h.took.audits k.fails);
           due_are = due_are ∙ ap (λ qs. qs ++ k.rest) (sym both);
@@ -393,7 +420,8 @@ module _ (root : StorageRoot) (part : Part) (s t : Store) (old mid : Option (Lis
               ∙ sym (append_assoc first second k.others) ∙ ap (λ is. is ++ k.others) (sym same);
           runs_before = subst (IsFront (joined (take (1 + count - 1) (runs (items_at root (h.took.trail ++ k.trail) (due_within root part from)) (l ∷ ls))))) (sym same)
               (subst (λ xs. IsFront (joined (take (1 + count - 1) xs)) (first ++ second)) (sym are) (front_more count first later second k.runs_before));
-          one = k.one; gone = k.gone;
+          one = k.one;
+          gone = k.gone;
           wrote = subst (Appends old new) texts (Appends-trans old mid new _ _ h.took.wrote k.wrote);
           part_of = k.part_of;
           count_fits = let n : length (runs (items_at root (h.took.trail ++ k.trail) (due_within root part from)) (l ∷ ls)) ≡ suc

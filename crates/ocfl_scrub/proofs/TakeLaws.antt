@@ -56,7 +56,9 @@ module _ (root : StorageRoot) (s t : Store) (p : Place) (lines : List Line) (cos
   pub judged_takes : (old new : Option (List ℕ)) (piece : List ℕ) (finding : Bool) → piece ≡ lines_text lines → finding ≡ list_any (λ l. is_finding_code l.code) lines
       → Appends old new piece → Takes (call_of root s t old new) p cost finding
   judged_takes old new piece finding e f sent = record {
-    trail = j.trail; audits = j.audits; alone = j.alone;
+    trail = j.trail;
+    audits = j.audits;
+    alone = j.alone;
     wrote = subst (Appends old new) (e ∙ judged_text) sent;
     cost_is = sym (ap total_cost j.item ∙ (let z : cost + 0 ≡ cost = omega arith in z));
     found_is = f ∙ sym judged_found;
@@ -66,16 +68,22 @@ module _ (root : StorageRoot) (s t : Store) (p : Place) (lines : List Line) (cos
   judged_fails why other = record {
     over = j.audits.over;
     did = subst (Did s t j.trail []) (other.0 _) j.audits.did;
-    opened = j.audits.opened; heads_are = j.audits.heads_are; near = j.audits.near;
+    opened = j.audits.opened;
+    heads_are = j.audits.heads_are;
+    near = j.audits.near;
     store = λ q e. absurd (other.1 q e);
   }
 
   -- no room for the text
   pub judged_memory : (old : Option (List ℕ)) → Misses (call_of root s t old old) p Memory
   judged_memory old = record {
-    trail = j.trail; begun = p ∷ []; one = ([], refl);
+    trail = j.trail;
+    begun = p ∷ [];
+    one = ([], refl);
     fails = judged_fails Memory memory_none;
-    alone = j.alone; part = []; wrote = Appends-nil old;
+    alone = j.alone;
+    part = [];
+    wrote = Appends-nil old;
     part_of = nothing_of Memory memory_other (text (items_at root j.trail (p ∷ [])));
   }
 
@@ -90,9 +98,12 @@ none_or_hashed root p false = sym (none_hashed root)
 -- the item was not judged
 pub unjudged : (root : StorageRoot) (s t : Store) (old : Option (List ℕ)) (p : Place) → JudgeFails root s t p → Misses (call_of root s t old old) p Memory
 unjudged root s t old p j = record {
-  trail = j.trail; begun = cond j.part (p ∷ []) [];
-  one = front_of_one p j.part; fails = j.fails;
+  trail = j.trail;
+  begun = cond j.part (p ∷ []) [];
+  one = front_of_one p j.part;
+  fails = j.fails;
   alone = j.alone ∙ none_or_hashed root p j.part;
-  part = []; wrote = Appends-nil old;
+  part = [];
+  wrote = Appends-nil old;
   part_of = nothing_of Memory memory_other (text (items_at root j.trail (p ∷ [])));
 }

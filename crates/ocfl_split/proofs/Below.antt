@@ -28,8 +28,10 @@ failed_last root s t ls q (in_opening before given e none) = absurd (never_empty
 module _ (root : StorageRoot) where
   pub listing_stops : (s t : Store) (d p : Place) (why : Fault) → p ≡ d → Stops root s t (p ∷ []) [] why → ListsStop root s t (d ∷ []) why
   listing_stops s t d p why same h = subst (λ x. ListsStop root s t (x ∷ []) why) same (record {
-    over = h.goes.over; listings = h.goes.listings;
-    did = h.goes.did; front = h.goes.listed;
+    over = h.goes.over;
+    listings = h.goes.listings;
+    did = h.goes.did;
+    front = h.goes.listed;
     last = λ q e. (failed_last root s t h.goes.listings q (h.store q e).1).0;
     failed = λ q e. (failed_last root s t h.goes.listings q (h.store q e).1).1;
   })
@@ -50,7 +52,8 @@ module _ (root : StorageRoot) where
 
   pub stops_on : (s t u : Store) (ds es : List Place) (why : Fault) → ListsAll root s t ds → ListsStop root t u es why → ListsStop root s u (ds ++ es) why
   stops_on s t u ds es why h k = record {
-    over = h.over; listings = ds ++ k.listings;
+    over = h.over;
+    listings = ds ++ k.listings;
     did = did_then s t u [] [] ds k.listings (failures_by why) h.did k.did;
     front = (k.front.0, ap (λ xs. ds ++ xs) k.front.1 ∙ sym (append_assoc ds k.listings k.front.0));
     last = λ q e. let l = k.last q e in (ds ++ l.0, ap (λ xs. ds ++ xs) l.1 ∙ sym (append_assoc ds l.0 (q ∷ [])));
@@ -59,9 +62,12 @@ module _ (root : StorageRoot) where
 
   pub stops_before : (s t : Store) (es more : List Place) (why : Fault) → ListsStop root s t es why → ListsStop root s t (es ++ more) why
   stops_before s t es more why k = record {
-    over = k.over; listings = k.listings; did = k.did;
+    over = k.over;
+    listings = k.listings;
+    did = k.did;
     front = (k.front.0 ++ more, ap (λ xs. xs ++ more) k.front.1 ∙ append_assoc k.listings k.front.0 more);
-    last = k.last; failed = k.failed;
+    last = k.last;
+    failed = k.failed;
   }
 
   pub over_after : (s t : Store) (ds : List Place) → ListsAll root s t ds → t.tree ≡ root

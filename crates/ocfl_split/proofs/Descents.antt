@@ -111,8 +111,11 @@ module _ (root : StorageRoot) (count : ℕ) where
   unfolding split_level listed_for
   split_begins s above ds over f e = subst (λ xs. IsSplitSo root s s count 0 xs ds) (sym f) (subst (IsSplitSo root s s count 0 []) (sym e) (record {
     directories = AreDirectories-is root ([] ∷ []) top;
-    done = []; lists = lists_none root s over; few = inl refl;
-    left = refl; listed = refl;
+    done = [];
+    lists = lists_none root s over;
+    few = inl refl;
+    left = refl;
+    listed = refl;
   }))
     where
       top : (z : Place) → IsAmong ([] ∷ []) z → is_dir root z ≡ true
@@ -179,7 +182,8 @@ module _ (root : StorageRoot) (count : ℕ) where
           → ListsAll root t u (listed_within root room ds) → IsSplitSo root s u count (n + 1) keep next
       split_on keep next is f k = subst (λ xs. IsSplitSo root s u count (n + 1) xs next) (sym is) (record {
         directories = AreDirectories-is root next (λ z i. level_directories root ds z (subst (λ xs. IsAmong xs z) (next_some _ (level_below root ds) next some) i));
-        done = so.done ++ now; lists = all_now k;
+        done = so.done ++ now;
+        lists = all_now k;
         few = inr (kept_few above ds next count above_few (leb-false count (length ds) h));
         left = so.left ∙ ap (λ i. level_from i root count above ds) down ∙ level_on root count above ds (127 - n) next h some
             ∙ ap (λ i. level_from i root count (kept (wider above ds) next) next) same;

@@ -59,7 +59,8 @@ module _ (root : StorageRoot) where
     reached = omega arith;
     widest = λ k l. let same : 0 ≡ k = omega (arith, l) in subst (λ i. width i ≤ width 0) same (omega arith);
     lowest = λ k l m. absurd (omega (arith, l, m));
-    is = refl; holds = refl;
+    is = refl;
+    holds = refl;
   }
 
   module _ (m n : ℕ) (above : List Place) (so : IsWidest root m n above) where
@@ -114,7 +115,8 @@ module _ (root : StorageRoot) (count : ℕ) where
   unfolding level_from
   found_from zero m n above fewer some so sum =
       record {
-        number = n; is = so.is;
+        number = n;
+        is = so.is;
         level =
             record { last = m; reached = so.reached; some = some; fewer = fewer; widest = so.widest; lowest = so.lowest; ends = inr (inr (inr (omega (arith, sum)))) };
       }

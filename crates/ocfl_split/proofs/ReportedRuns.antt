@@ -143,9 +143,13 @@ module _ (b : ℕ) (some : 1 ≤ b) where
           let enough = on.enough in
           let overrun = on.overrun in
           record {
-            before = i ∷ on.before; file = on.file; after = on.after;
+            before = i ∷ on.before;
+            file = on.file;
+            after = on.after;
             are = ap (λ xs. i ∷ xs) on.are;
-            free = on.free; enough = omega (arith, enough); overrun = omega (arith, overrun);
+            free = on.free;
+            enough = omega (arith, enough);
+            overrun = omega (arith, overrun);
           }
       more false e later =
           let spent = ltb-false (s + i.cost) b e in

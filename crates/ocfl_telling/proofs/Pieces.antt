@@ -38,8 +38,10 @@ line_refused es old b part after h one refused =
     let joined : b ++ (part ++ 10 ∷ []) ≡ lines_text h.lines ++ ((rest ++ part) ++ 10 ∷ []) =
     ap (λ t. t ++ (part ++ 10 ∷ [])) h.is ∙ append_assoc (lines_text h.lines) rest (part ++ 10 ∷ []) ∙ ap (λ t. lines_text h.lines ++ t) (sym (append_assoc rest part (10 ∷ []))) in
     record {
-      before = h.lines; bad = rest ++ part;
-      after = after; are = h.are;
+      before = h.lines;
+      bad = rest ++ part;
+      after = after;
+      are = h.are;
       is = ap (λ t. t ++ after) joined;
       one = All-append (λ c. c ≢ 10) rest part h.unended one;
       refused = refused;
@@ -49,7 +51,8 @@ line_refused es old b part after h one refused =
 pub rest_kept : (es : List Entry) (old new : Found) (b more : Text) → IsAfter es old b → All (λ c. c ≢ 10) more → new.rest.items ≡ old.rest.items ++ more
     → new.gravest ≡ old.gravest → IsAfter es new (b ++ more)
 rest_kept es old new b more h unended e same = record {
-  lines = h.lines; are = h.are;
+  lines = h.lines;
+  are = h.are;
   is = ap (λ t. t ++ more) h.is ∙ append_assoc (lines_text h.lines) old.rest.items more ∙ ap (λ t. lines_text h.lines ++ t) (sym e);
   unended = subst (All (λ c. c ≢ 10)) (sym e) (All-append (λ c. c ≢ 10) old.rest.items more h.unended unended);
   gravest = subst (λ g. IsOf g (unknown es h.lines)) (sym same) h.gravest;
@@ -58,7 +61,8 @@ rest_kept es old new b more h unended e same = record {
 -- at the end of a line all is taken
 pub all_taken : (es : List Entry) (f : Found) (b : Text) → f.rest.items ≡ [] → IsAfter es f b → AreAll es f.gravest b
 all_taken es f b empty h = record {
-  lines = h.lines; are = h.are;
+  lines = h.lines;
+  are = h.are;
   is = h.is ∙ ap (λ t. lines_text h.lines ++ t) empty ∙ append-nil (lines_text h.lines);
   gravest = h.gravest;
 }

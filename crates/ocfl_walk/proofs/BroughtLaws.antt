@@ -66,8 +66,10 @@ module _ {d : Place} {es : List Entry} {ps qs : List Pile} {a : Option Around} {
         let deeper : length d < length (d ++ n ∷ []) = omega (arith, length_one d n) in
         let next : IsComing (d ++ n ∷ []) inner.entries.items ((d, left) ∷ ps) a' = record {
           chain = chain_above [] (length (d ++ n ∷ [])) deeper;
-          short = fair.depth; ordinary = fair.entries;
-          few = (few_left, h.few); object = object;
+          short = fair.depth;
+          ordinary = fair.entries;
+          few = (few_left, h.few);
+          object = object;
         } in
         subst (λ p. IsComing p inner.entries.items qs a') (sym fair.place) (subst (λ xs. IsComing (d ++ n ∷ []) inner.entries.items xs a') (sym top) next)
 
@@ -76,7 +78,8 @@ module _ {d : Place} {es : List Entry} {ps qs : List Pile} {a : Option Around} {
     stop_orderly r q a' e same =
         let here : IsOrderly (d ++ n ∷ r) ((d, left) ∷ ps) a = record {
           chain = chain_above r levels (omega (arith, h.short));
-          few = (few_left, h.few); object = around_on d n r a h.object;
+          few = (few_left, h.few);
+          object = around_on d n r a h.object;
         } in
         subst (λ x. IsOrderly (d ++ x) qs a') (sym e) (subst (λ x. IsOrderly (d ++ n ∷ r) qs x) (sym same) (subst (λ xs. IsOrderly (d ++ n ∷ r) xs a) (sym top) here))
 
@@ -128,7 +131,9 @@ module _ {root : StorageRoot} {d : Place} {es : List Entry} {ps qs : List Pile} 
     brought_stop : (r : Place) (a : Option Around) → IsShut root d n r a → IsBrought root d (n ∷ r) ps qs a
     brought_stop r a h = record {
       stack = ap (seen_left (seen_places root)) frames_are ∙ sym (start_stops root (seen_places root) (d ++ n ∷ []) r ((d, above_of n (seen_names root d)) ∷ frames_of ps) h.out);
-      listed = listed_left; entries = entries_left; table = h.table;
+      listed = listed_left;
+      entries = entries_left;
+      table = h.table;
     }
 
     module _ (s t : Store) (r q : Place) (is : q ≡ n ∷ r) (old new : Option Around) where

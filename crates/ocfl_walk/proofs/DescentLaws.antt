@@ -78,7 +78,8 @@ module _ (root : StorageRoot) where
   -- one after the other
   abbrev pub calls_then : (s t u : Store) (f : ℕ) → Calls root s t 0 → Calls root t u f → Calls root s u f
   calls_then s t u f h g = record {
-    over = h.over; trail = h.trail ++ g.trail;
+    over = h.over;
+    trail = h.trail ++ g.trail;
     listings = h.listings ++ g.listings;
     did = did_then s t u h.trail g.trail h.listings g.listings f h.did g.did;
     read = λ e. read_behind root h.trail g.trail (h.read refl) (g.read e);
@@ -133,7 +134,8 @@ module _ (root : StorageRoot) where
   -- one directory was listed
   abbrev pub descends_one : (s t : Store) (d : Place) (way may : List Place) → s.tree ≡ root → Did s t [] (d ∷ []) 0 → Descends root s t (d ∷ way) way may may 0
   descends_one s t d way may over did = record {
-    calls = lists_calls s t (d ∷ []) 0 over did; only = refl;
+    calls = lists_calls s t (d ∷ []) 0 over did;
+    only = refl;
     listed = ([], sym (append-nil (d ∷ way)));
     heads = ([], sym (append-nil may));
     near = near_none root (d ∷ []);
@@ -161,7 +163,9 @@ module _ (root : StorageRoot) where
       record {
         goes = record {
           calls = lists_calls s t h.goes.listings (failures_by why) h.goes.over h.goes.did;
-          only = refl; listed = listed; heads = (may, refl);
+          only = refl;
+          listed = listed;
+          heads = (may, refl);
           near = near_none root h.goes.listings;
         };
         store = h.store;
@@ -199,14 +203,17 @@ module _ (root : StorageRoot) where
   opens_read : (s t : Store) (o : Place) (m : Opens root s t o) → AreInventories root m.reads.trail → OpensIn root s t o 0
   opens_read s t o m only = record {
     calls = record {
-      over = m.reads.over; trail = m.reads.trail;
-      listings = []; did = m.reads.did;
+      over = m.reads.over;
+      trail = m.reads.trail;
+      listings = [];
+      did = m.reads.did;
       read = λ e. m.reads.read;
       meta = m.reads.meta.meta;
       reached =
           own_inventory_reached root o m.reads.trail m.heads;
     };
-    only = only; unlisted = refl;
+    only = only;
+    unlisted = refl;
     heads = opens_front o m.reads.trail m.heads;
     near = inventory_near o m.reads.trail only m.heads;
   }
@@ -218,8 +225,12 @@ module _ (root : StorageRoot) where
         gives = record {
           goes = record {
             calls = record {
-              over = k.stops.goes.over; trail = k.trail; listings = k.stops.goes.listings;
-              did = k.stops.goes.did; read = k.stops.goes.read; meta = k.meta.meta;
+              over = k.stops.goes.over;
+              trail = k.trail;
+              listings = k.stops.goes.listings;
+              did = k.stops.goes.did;
+              read = k.stops.goes.read;
+              meta = k.meta.meta;
               reached = own_inventory_reached root o k.trail r.gives.0.heads;
             };
             only = r.gives.1;

@@ -53,8 +53,10 @@ module _ (root : StorageRoot) where
   turn_by last x fs over sight path stack listed =
       let steps = due_steps last x (walk_takes root (is_closed root) [] last x over sight path) in
       record {
-        above = over; none_seen = sight;
-        stack = stack; listed = listed;
+        above = over;
+        none_seen = sight;
+        stack = stack;
+        listed = listed;
         some = λ s. steps ∙ ap (λ ps. ps ++ due root (Some x)) (item_some root x _ refl s);
         none = λ s. steps ∙ ap (λ ps. ps ++ due root (Some x)) (item_none root x s);
       }

@@ -114,7 +114,8 @@ module _ (root : StorageRoot) where
   standing_nothing : (p : Place) → is_known (root_declared root) ≡ false → IsStanding root p [] None
   standing_nothing p h = record {
     stack = sym (start_stops root (seen_places root) [] p [] (unknown_out h)) ∙ stack_starts root (is_closed root) p;
-    listed = tt; entries = tt;
+    listed = tt;
+    entries = tt;
     table = plain_table root p (plain_unknown root p h);
   }
 
@@ -128,7 +129,9 @@ module _ (root : StorageRoot) where
       (subst (λ x. IsBrought root x q [] new a) root_is (subst (λ x. IsBrought root d q (piles_of x) new a) none h)) in
       record {
         stack = k.stack ∙ stack_starts root (is_closed root) p;
-        listed = k.listed tt; entries = k.entries tt; table = k.table;
+        listed = k.listed tt;
+        entries = k.entries tt;
+        table = k.table;
       }
 
   pub stands_start : (s : Stand) (p : Place) → s.listings.items ≡ [] → s.around ≡ None → s.last ≡ Some p → is_known (root_declared root) ≡ false → StandsAt root s (Some p)

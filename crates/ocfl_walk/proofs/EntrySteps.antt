@@ -113,7 +113,8 @@ module _ (root : StorageRoot) where
       let entries : HaveEntries root ((t.place, entry ∷ t.rest) ∷ t.others) = subst (HaveEntries root) t.old_is h.entries in
       let reached = name_reached t.place entry.name (listed.0 entry.name (inl refl)) in
       record {
-        is = e; reached = reached;
+        is = e;
+        reached = reached;
         part = subst (λ y. IsPart root t.place (still a y)) (sym e) (part_is last t.place entry.name a h.table (old_chain last ps new entry a o t).0 reached (entry_after last ps new entry a o t));
         kind = entries.0.0;
       }

@@ -263,7 +263,8 @@ module _ (root : StorageRoot) where
       → entry.name ≡ n → kind_in es n ≡ Some entry.kind → IsMet root d a entry e
   listed_met d e n es a entry at part is name there = record {
     is = is ∙ ap (λ x. d ++ x ∷ []) (sym name);
-    reached = at.reached; part = part;
+    reached = at.reached;
+    part = part;
     kind = ap (kind_at root d) name ∙ sym (at.listing.each n) ∙ there;
   }
 

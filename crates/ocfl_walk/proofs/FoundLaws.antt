@@ -53,18 +53,27 @@ module _ (root : StorageRoot) where
         (once : AllPairs (λ a b. a.place ≢ b.place) trail) (way : IsFront listed (way_to p)) (heads : IsFront (heads_of root trail) (holder root (Some p))) (near : LieIn root listed trail) where
       went : Did s t trail listed 0 → IsMetadataRead root trail → IsRootFirst listed → AreAllListed root (way_to p) listed → GoesDown root s t (Some p)
       went did read first all = record {
-        trail = trail; listed = listed; heads = heads_of root trail;
+        trail = trail;
+        listed = listed;
+        heads = heads_of root trail;
         audits = record { over = over; did = did_well s t trail listed meta did; read = read; opened = meta ∙ sym (none_hashed root); heads_are = refl; near = near };
-        root_first = first; all_listed = all; listed_front = way;
-        heads_front = heads; once = once;
+        root_first = first;
+        all_listed = all;
+        listed_front = way;
+        heads_front = heads;
+        once = once;
       }
 
       went_wrong : (why : Fault) → ((q : Place) → why ≡ fault.Store q → (is_hashed root q ≡ false) × FailedAt root s t listed trail q)
           → Did s t trail listed (failures_by why) → GoDownFails root s t (Some p) why
       went_wrong why store did = record {
-        trail = trail; listed = listed; heads = heads_of root trail;
+        trail = trail;
+        listed = listed;
+        heads = heads_of root trail;
         fails = record { over = over; did = did_so s t trail listed (failures_by why) meta did; opened = meta ∙ sym (none_hashed root); heads_are = refl; near = near; store = store };
-        listed_front = way; heads_front = heads; once = once;
+        listed_front = way;
+        heads_front = heads;
+        once = once;
       }
 
     -- of the object that holds it the inventory is read only if its head reads it
@@ -163,8 +172,13 @@ module _ (root : StorageRoot) where
 -- with no place given nothing is done
 pub start_at_none : (root : StorageRoot) (s : Store) → s.tree ≡ root → GoesDown root s s None
 start_at_none root s over = record {
-  trail = []; listed = []; heads = [];
-  audits = audits_nothing root s over; root_first = tt;
+  trail = [];
+  listed = [];
+  heads = [];
+  audits = audits_nothing root s over;
+  root_first = tt;
   all_listed = λ d i k. absurd i;
-  listed_front = front_all []; heads_front = front_all []; once = none_once;
+  listed_front = front_all [];
+  heads_front = front_all [];
+  once = none_once;
 }

@@ -23,11 +23,14 @@ use Rattle.ocfl_walk.proofs.DownLaws.{leads_in, leads_listed, leads_object, lead
 -- ---- on any store
 
 pub fair_object : (e : Place) (f : Folder) (a : Around) → (a.place ≡ f.place) × IsFit a.table → IsFairFolder e f → IsFairFolder e f × IsAroundIf e (Some a)
-fair_object e f a k h = (h, record {
-  holds = subst (λ p. begins p e ≡ true) (sym (k.0 ∙ h.place)) (begins-itself e);
-  depth = subst (λ p. length p ≤ max_listed_depth) (sym (k.0 ∙ h.place)) h.depth;
-  fit = k.1;
-})
+fair_object e f a k h = (
+  h,
+  record {
+    holds = subst (λ p. begins p e ≡ true) (sym (k.0 ∙ h.place)) (begins-itself e);
+    depth = subst (λ p. length p ≤ max_listed_depth) (sym (k.0 ∙ h.place)) h.depth;
+    fit = k.1;
+  },
+)
 
 pub fair_in : (e : Place) (f : Folder) (a : Option Around) → a ≡ None → IsFairFolder e f → IsFairFolder e f × IsAroundIf e a
 fair_in e f a none h = (h, subst (IsAroundIf e) (sym none) tt)

@@ -100,7 +100,8 @@ pub orderly_top : (d : Place) (left : List Entry) (ps : List Pile) (a : Option A
     → IsChain d (length d) (frames_of ps) → AllByRecursion (λ p. length p.1 ≤ max_entries) ps → IsAroundIf d a → IsOrderly d ((d, left) ∷ ps) a
 orderly_top d left ps a short up few chain fewer object = record {
   chain = (begins-itself d, omega (arith, short), own_names d (map (λ e. e.name) left), up, chain);
-  few = (few, fewer); object = object;
+  few = (few, fewer);
+  object = object;
 }
 
 module _ (last : Place) (ps new : List Pile) (entry : Entry) (a : Option Around) (h : IsOrderly last ps a) (t : IsTaken ps new entry) where

@@ -44,7 +44,9 @@ onward last b a h e = by (table.next_path a.table (Some (drop (length a.place) l
         let k = found (λ p. is_lt (place_cmp (drop (length a.place) last) p)) (paths_of a.table) q f in
         let is : b ≡ a.place ++ q = cc in
         record {
-          path = q; is = is; among = k.1;
+          path = q;
+          is = is;
+          among = k.1;
           above = (λ i. place_cmp (rest.1 i) (is i)) ∙ cmp_behind a.place rest.0 q ∙ ap (λ r. place_cmp r q) (sym inner) ∙ less_from _ k.0;
         }
 

@@ -139,7 +139,9 @@ module _ (root : StorageRoot) where
   pub standing_trimmed : (last : Place) (ps : List Pile) (a : Option Around) → IsStanding root last ps a → IsStanding root last (trimmed ps) a
   standing_trimmed last ps a h = record {
     stack = left_trimmed (seen_places root) ps ∙ h.stack;
-    listed = listed_trimmed ps h.listed; entries = entries_trimmed ps h.entries; table = h.table;
+    listed = listed_trimmed ps h.listed;
+    entries = entries_trimmed ps h.entries;
+    table = h.table;
   }
 
   -- ---- the turn

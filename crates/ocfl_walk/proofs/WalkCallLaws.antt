@@ -35,7 +35,9 @@ module _ (root : StorageRoot) (s t : Store) (from : Option Place) (x : Place) (n
 
   pub meets_fails : (why : Fault) → MeetFails root s t x why → FailsTo root s t from x why
   meets_fails why m = record {
-    trail = m.trail; listed = m.listings; heads = heads_of root m.trail;
+    trail = m.trail;
+    listed = m.listings;
+    heads = heads_of root m.trail;
     fails = fails_meta root s t m.listings (heads_of root m.trail) m.trail why m.over m.did m.meta refl m.near m.store;
     listed_front = subst (IsFront m.listings) (sym near.looked) m.listed;
     heads_front = subst (IsFront (heads_of root m.trail)) (sym near.read) m.heads;
@@ -67,8 +69,10 @@ walks_over root s t from to w = w.audits.did.tree ∙ w.audits.over
 module _ (root : StorageRoot) (s t u : Store) (from : Option Place) (b : Place) (e : End) (beyond : IsBeyond from b) (before : is_past e b ≡ false) where
   pub fails_out : (why : Fault) → FailsTo root s t from b why → FailsOut root s t from e why
   fails_out why f = record {
-    trail = f.trail; listed = f.listed;
-    heads = f.heads; fails = f.fails;
+    trail = f.trail;
+    listed = f.listed;
+    heads = f.heads;
+    fails = f.fails;
     listed_front = front_more f.listed (looked_between root from (Some b)) (before_end e (looked_between root (Some b) None))
         (before_end e (looked_between root from None)) (looked_out e root from b beyond before) f.listed_front;
     heads_front = front_more f.heads (read_between root from (Some b)) (before_end e (read_between root (Some b) None))
@@ -101,14 +105,22 @@ walks_out_nothing root s from e over looked read = record { trail = []; audits =
 module _ (root : StorageRoot) (s : Store) (from : Option Place) (why : Fault) (over : s.tree ≡ root) (none : failures_by why ≡ 0) (not : (q : Place) → why ≡ fault.Store q → ⊥) where
   pub fails_out_nothing : (e : End) → FailsOut root s s from e why
   fails_out_nothing e = record {
-    trail = []; listed = []; heads = []; fails = fails_nothing root s why over none not;
-    listed_front = front_none _; heads_front = front_none _;
+    trail = [];
+    listed = [];
+    heads = [];
+    fails = fails_nothing root s why over none not;
+    listed_front = front_none _;
+    heads_front = front_none _;
   }
 
   pub fails_to_nothing : (to : Place) → FailsTo root s s from to why
   fails_to_nothing to = record {
-    trail = []; listed = []; heads = []; fails = fails_nothing root s why over none not;
-    listed_front = front_none _; heads_front = front_none _;
+    trail = [];
+    listed = [];
+    heads = [];
+    fails = fails_nothing root s why over none not;
+    listed_front = front_none _;
+    heads_front = front_none _;
   }
 
 -- to the end of the whole
@@ -121,8 +133,10 @@ module _ (root : StorageRoot) (s t : Store) (from : Option Place) (e : End) (und
 
   pub fails_all : (why : Fault) → FailsOut root s t from e why → WalkFails root s t from why
   fails_all why f = record {
-    trail = f.trail; listed = f.listed;
-    heads = f.heads; fails = f.fails;
+    trail = f.trail;
+    listed = f.listed;
+    heads = f.heads;
+    fails = f.fails;
     listed_front = subst (IsFront f.listed) (all_kept e under below (looked_between root from None)) f.listed_front;
     heads_front = subst (IsFront f.heads) (all_kept e under below (read_between root from None)) f.heads_front;
   }

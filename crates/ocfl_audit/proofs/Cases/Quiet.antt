@@ -59,8 +59,11 @@ audit_512 inventory more unread = audit_is root (codes "o") [] inventory (beside
 -- the text of items that can be had with less
 abbrev pub told : String → (items quick : List Item) → items ≡ quick → Text → Case
 told name items quick is_quick wanted = record {
-  name = name; shown = text items; quick = text quick;
-  is_quick = ap text is_quick; wanted = wanted;
+  name = name;
+  shown = text items;
+  quick = text quick;
+  is_quick = ap text is_quick;
+  wanted = wanted;
 }
 
 -- the text of the audit of such an object

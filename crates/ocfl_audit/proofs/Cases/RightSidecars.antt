@@ -59,12 +59,16 @@ right_form : (a : Algorithm) (d : List ℕ) (n : ℕ) → IsBytes d → length d
 right_form a d n bytes size few counts =
     let digits : length (encode_lower d) ≡ 2 * n = length-encode_with lower_digits d ∙ ap (λ k. 2 * k) size in
     (sidecar_is (encode_lower d ++ codes " inventory.json\n") a d).1 (record {
-      digits = encode_lower d; gap = 32 ∷ [];
-      tail = 10 ∷ []; whole = refl;
+      digits = encode_lower d;
+      gap = 32 ∷ [];
+      tail = 10 ∷ [];
+      whole = refl;
       short = omega (arith, length-append (encode_lower d) (codes " inventory.json\n"));
-      as_many = counts ∙ ap Some (sym digits); is_digest = decode_of-encode_lower d bytes;
+      as_many = counts ∙ ap Some (sym digits);
+      is_digest = decode_of-encode_lower d bytes;
       some_blank = λ e. cc;
-      blanks = refl; ends = refl;
+      blanks = refl;
+      ends = refl;
     })
 
 no_notes : (a : Algorithm) (bytes s : Text) → sidecar_of a s ≡ Some (digest_bytes_of a bytes) → sidecar_notes a bytes (Some s) ≡ []

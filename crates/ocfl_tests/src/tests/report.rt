@@ -3,8 +3,8 @@ use crate::tests::common::Runtime;
 use crate::tests::common::store::place_of;
 use ocfl_report::laws::line_reads_back;
 use ocfl_report::{
-    Code, Line, OutStop, TextStop, put_place, read_decimal, read_line, read_place,
-    split_once, write_all_of,
+    Code, Line, OutStop, TextStop, put_place, read_decimal, read_line, read_place, split_once,
+    write_all_of,
 };
 use ocfl_tree::Place;
 use std::alloc::Global;

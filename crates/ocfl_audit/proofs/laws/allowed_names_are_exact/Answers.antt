@@ -3,6 +3,7 @@ use Rattle.ocfl_audit.proofs.laws.allowed_names_are_exact.Goals as goal
 
 pub returns : goal.returns
 returns c = record {
-  object_files = object_files; stray_directories = object_directories;
+  object_files = object_files;
+  stray_directories = object_directories;
   version_files = version_files;
 }

@@ -3,6 +3,7 @@ use Rattle.ocfl_audit.proofs.laws.items_go_by_name.Goals as goal
 
 pub returns : goal.returns
 returns c = record {
-  by_name = by_name; names = names_ascend;
+  by_name = by_name;
+  names = names_ascend;
   here = λ root unread d. item_here root unread d;
 }

@@ -5,5 +5,6 @@ pub returns : goal.returns
 returns c = record {
   items = λ root unread separators up. items_join root separators up unread;
   texts = λ root unread separators up. texts_join root separators up unread;
-  hashed = hashed_join; places = places_join;
+  hashed = hashed_join;
+  places = places_join;
 }

@@ -45,7 +45,8 @@ loop-number-preserved g c =
     let inv = c.loop-number.invariant in
     let next = c.in_ok-cutter.ensures.ok inv.done inv.cut in
     record {
-      done = inv.done ++ next.0 ∷ []; cut = next.2;
+      done = inv.done ++ next.0 ∷ [];
+      cut = next.2;
       number = omega (arith, inv.number, length-append inv.done (next.0 ∷ []));
       read = more_read (g.R.Read.remaining c.args.report.now) (g.R.Read.remaining c.loop-number.report) (g.R.Read.remaining c.read_text.new.report) inv.done
           next.0 c.read_text.new.text.items c.deref.result.now inv.read c.in_ok-read_text.ensures.rest c.deref.ensures.value next.1;

@@ -7,7 +7,8 @@ returns-clause-well g c told root over short limits e stored old report opened r
   behind = g.T.Tree.state c.perform_part.new.store;
   old = old;
   performs = as_told root _ _ _ _ _ _ _ _ _ _ _ _ c.perform_part.result before behind run part known (c.perform_part.ensures.told told root over short);
-  opened_is = openings; unfailing = unfailing;
+  opened_is = openings;
+  unfailing = unfailing;
 }
 
 pub returns-clause-handed_back : goal.returns-clause-handed_back

@@ -14,9 +14,14 @@ returns-in-Check-clause-any_store g c =
     let e = c.checked.ensures in
     let said = c.without_cursor-in-Check.ensures in
     record {
-      status = search rules; silent = search rules; show_calls = search rules;
-      show_ends = search rules; unshown = search rules;
-      kept = search rules; without_file = search rules;
+      status = search rules;
+      silent = search rules;
+      show_calls = search rules;
+      show_ends = search rules;
+      unshown = search rules;
+      kept = search rules;
+      without_file = search rules;
       bad_path = path_refused _ _ _ _ _ _ _ c.in-Check.is c.as_str.ensures.value said.status said.note (λ none. (e.bad none).0) e.only_bad;
-      bad_path_silent = search rules; lines = search rules;
+      bad_path_silent = search rules;
+      lines = search rules;
     }

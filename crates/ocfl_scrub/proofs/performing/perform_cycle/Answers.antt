@@ -17,8 +17,10 @@ returns-clause-told g c told root over short =
     let cycles : CycleOfRunsWithin (call_of root s t old new) whole (equal_limits c.args.limits c.args.count) end =
     subst (λ ls. CycleOfRunsWithin (call_of root s t old new) whole ls end) same (e.told told root over short) in
     inl (record {
-      ran = end; cycles = cycles;
+      ran = end;
+      cycles = cycles;
       headline = headline_of_whole (call_of root s t old new) (equal_limits c.args.limits c.args.count) end cycles;
-      count_is = e.any_store.runs_are; spent_is = e.any_store.spent_is;
+      count_is = e.any_store.runs_are;
+      spent_is = e.any_store.spent_is;
       says = c.describe_cycle.ensures.note;
     })

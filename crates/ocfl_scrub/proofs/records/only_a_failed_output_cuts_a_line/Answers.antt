@@ -3,6 +3,7 @@ use Rattle.ocfl_scrub.proofs.records.only_a_failed_output_cuts_a_line.Goals as g
 
 pub returns : goal.returns
 returns c = record {
-  stopped = uncut_by_a_stop; memory = uncut_by_memory;
+  stopped = uncut_by_a_stop;
+  memory = uncut_by_memory;
   check = λ s t old new known path said h. h.lines.none;
 }

@@ -14,7 +14,9 @@ loop-alloc-init g c =
     let meter = c.new-meter.ensures in
     record {
       way = sets_out _ _ c.args.met.live;
-      short = c.requires.short; near = c.args.met.short; limits = meter.limits;
+      short = c.requires.short;
+      near = c.args.met.short;
+      limits = meter.limits;
       paid = paid_start _ _ _ meter.spent meter.files;
       told = λ told root over short. on_way_first root (part_of c.args.part.now) _ _ c.args.met c.args.from _ _ _ meter.spent meter.files over;
     }

@@ -10,7 +10,8 @@ loop-part-init c = record {
   start = λ l. refl;
   rule = subst AreSeparators (sym c.new-separators.ensures) AreSeparators-nil;
   above = begins c.new-separators.result c.args.level.now (1 * length c.args.level.now / c.min-parts.result) c.new-separators.ensures c.requires.ascend;
-  cut = c.new-separators.ensures; long = ap length c.new-separators.ensures;
+  cut = c.new-separators.ensures;
+  long = ap length c.new-separators.ensures;
 }
 
 pub add-requires-clause-above : goal.add-requires-clause-above

@@ -59,7 +59,9 @@ returns-in-Nothing-clause-told g c = λ h root over last st.
     let parts_are = parts root c.args.self.now c.in-Some.name (sym c.take.ensures.value ∙ c.in-Some.is) last st in
     let first = before root c.args.self.now c.in-Some.name (sym c.take.ensures.value ∙ c.in-Some.is) last st in
     let new : Walk = record {
-      alloc = c.args.self.now.alloc; stand = c.next-in-Nothing.new.self; first = c.take.new.self;
+      alloc = c.args.self.now.alloc;
+      stand = c.next-in-Nothing.new.self;
+      first = c.take.new.self;
       broken =
           c.args.self.now.broken;
       orderly = orderly_to c.next-in-Nothing.new.self c.next-in-Nothing.ensures.orderly;

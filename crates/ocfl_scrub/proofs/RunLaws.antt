@@ -15,9 +15,9 @@ use Rattle.ocfl_item.specs.{Looking.{IsFront}, Ways.{IsWayFault}, Auditing.{Audi
 use Rattle.ocfl_item.specs.{declared.fault.Fault.{Fault}, declared.fault.Fault.TheVariants.{Output}}
 use Rattle.ocfl_walk.specs.{WalkCalls.{GoesDown, GoDownFails}}
 use Rattle.ocfl_walk.proofs.WalkCallLaws.{audits_as}
-use Rattle.ocfl_scrub.specs.{Call.{call_of}, Taking.{PartOf}, Written.{places, last_or, Figures}}
-use Rattle.ocfl_scrub.specs.Running.{items_above_in, taken_in, rest_in, first_of, place_in, RunsWithin, RunStopsWithin, RunEndsWithin, RunsFromWithin, RunsCleanWithin, RunsCleanlyWithin, IsPaid, begun, state_after}
-use Rattle.ocfl_scrub.specs.Starting.{end_of, entry, stand, looked_in, read_in, LooksOver, StopsLooking}
+use Rattle.ocfl_scrub.specs.{Call.{call_of}, Taking.{PartOf}, Written.{places, Figures}}
+use Rattle.ocfl_scrub.specs.Running.{taken_in, place_in, RunsWithin, RunStopsWithin, RunEndsWithin, RunsFromWithin, RunsCleanWithin, RunsCleanlyWithin, IsPaid, begun, state_after}
+use Rattle.ocfl_scrub.specs.Starting.{end_of, entry, stand, looked_in, read_in, LooksOver, StopsLooking, items_in}
 use Rattle.ocfl_scrub.specs.{Beginning.{Begins}, declared.running.RunStatus.{RunStatus}}
 use Rattle.ocfl_scrub.specs.declared.running.RunStatus.TheVariants.{Ended, Spent, Stopped, Worn}
 use Rattle.ocfl_scrub.proofs.Paying.{Paid, Counts, IsWithinBoth, PaysAll, PaysUpTo, PaysHalting}

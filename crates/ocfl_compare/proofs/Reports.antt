@@ -1,5 +1,5 @@
 -- What the lines that were read say of a report.
-use Rattle.std.proofs.Common.{◌≡◌, ◌≢◌, ◌⊎◌, inl, inr, ℕ, ◌+◌, List, [], ◌∷◌, ◌++◌, true, false, Option, Some, None, IfSome, length, All, refl, sym, ap, subst, ◌∙◌, append-nil, length-append}
+use Rattle.std.proofs.Common.{◌≡◌, ◌≢◌, inl, inr, ℕ, ◌+◌, List, [], ◌∷◌, ◌++◌, true, false, Option, Some, None, IfSome, length, All, refl, sym, ap, subst, ◌∙◌, append-nil, length-append}
 use Rattle.std.proofs.lemmas.List.Elements.{All-append, All-cons, All-nil, All-head, All-tail}
 use Rattle.std.specs.{Io.BufRead.{take_through}, Io.KnownBytes.{Consumes, IsAtEnd}}
 use Rattle.std.specs.{Ordering.{is_gt, is_lt}, declared.cmp.Ordering.{Ordering}}
@@ -112,13 +112,6 @@ read_end all left after done next count text h end c e =
     }
 
 -- ---- no line
-
-pub other_stop : (all : Option Text) (stop : ReadStop) → (stop ≡ Failed) ⊎ (stop ≡ Memory) → IfSome all (λ b. ReadStopsRightly b stop)
-other_stop None stop h = tt
-other_stop (Some b) (BadLine n) (inl e) = cc
-other_stop (Some b) (BadLine n) (inr e) = cc
-other_stop (Some b) Failed h = tt
-other_stop (Some b) Memory h = tt
 
 pub stop_read : (all left : Option Text) (done : List Line) (next : Option MadeLine) (count : ℕ) (text bytes : Text) (stop : ReadStop) → IsOpen done next → IsReading all left done next count
     → IfSome left (λ xs. text ≡ take_through 10 xs) → text ≢ [] → bytes ≡ text → ((n : ℕ) → stop ≡ BadLine n → (n ≡ count + 1) × IsUnfit bytes next) → IfSome all (λ b. ReadStopsRightly b stop)

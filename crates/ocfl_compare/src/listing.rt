@@ -6,8 +6,7 @@ ghost use Rattle.ocfl_report.specs.Text.{place_text};
 ghost use Rattle.ocfl_compare.specs.Listed.{IsList, IsObjectPlace, ListStopsRightly, path_in};
 ghost use Rattle.ocfl_compare.specs.Listed.{is_trimmed, path_of, trimmed};
 
-use crate::reading::{ReadStop, read_text};
-use ocfl_report::{TextStop, read_place};
+use ocfl_report::{InputStop, TextStop, read_next_line, read_place};
 use ocfl_tree::Place;
 use std::alloc::Global;
 use std::io::BufRead;
@@ -46,11 +45,11 @@ pub fn read_list<R: BufRead>(alloc: Global, list: &mut R) -> Result<Vec<Place>, 
     let mut places = Vec::new(alloc);
     let mut text = Vec::new(alloc);
     for number in 1..MAX_LINES + 2 {
-        match read_text(list, &mut text) {
+        match read_next_line(list, &mut text) {
             Ok(true) => take_path(alloc, number, text.as_slice(), &mut places)?,
             Ok(false) => return Ok(places),
-            Err(ReadStop::Memory) => return Err(ListStop::Memory),
-            Err(_) => return Err(ListStop::Failed),
+            Err(InputStop::Memory) => return Err(ListStop::Memory),
+            Err(InputStop::Failed) => return Err(ListStop::Failed),
         }
     }
     Err(ListStop::Long)

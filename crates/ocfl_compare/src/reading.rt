@@ -1,7 +1,6 @@
 //! Reading a report line by line.
-ghost use Rattle.std.specs.Prelude.{◌≡◌, ◌≢◌, ◌⊎◌, ◌+◌, List, ℕ, [], ◌++◌, Option, None, true};
-ghost use Rattle.std.specs.Prelude.{false, IfOk, IfErr, IfSome, OnOk, option_map};
-ghost use Rattle.std.specs.{Io.BufRead.{take_through}, Io.KnownBytes.{Consumes, IsAtEnd}};
+ghost use Rattle.std.specs.Prelude.{◌≡◌, ◌≢◌, ◌⊎◌, ◌+◌, List, ℕ, ◌++◌, Option, None};
+ghost use Rattle.std.specs.Prelude.{false, IfOk, IfErr, IfSome, option_map};
 ghost use Rattle.std.specs.declared.cmp.Ordering.TheVariants.{Greater};
 ghost use Rattle.ocfl_tree.specs.Place.{place_cmp};
 ghost use Rattle.ocfl_report.specs.Line.{Line as ModelLine};
@@ -11,11 +10,11 @@ ghost use Rattle.ocfl_compare.specs.Internal.Reading.{IsUnfit, ReadStopsRightly,
 ghost use Rattle.ocfl_compare.specs.{Internal.Telling.{IsTold, Tells}, Internal.Turns.{AreTaken}};
 
 use crate::told::{Told, nothing, tell};
-use ocfl_report::{Line, TextStop, read_line};
+use ocfl_report::{InputStop, Line, TextStop, read_line, read_next_line};
 use ocfl_tree::Place;
 use std::alloc::{AllocError, Global};
 use std::cmp::Ordering;
-use std::io::{BufRead, ErrorKind};
+use std::io::BufRead;
 
 /// How far a report is read.
 #[derive(Drop)]
@@ -66,31 +65,14 @@ pub(crate) fn read_next<R: BufRead>(
         → IsReading all (R.remaining report.old) done reading.next reading.count
         → IfSome all (λ bytes. ReadStopsRightly bytes stop)) }
 {
-    if !read_text(report, text)? {
-        return Ok(Reading {
+    match read_next_line(report, text) {
+        Ok(true) => take_text(alloc, text.as_slice(), reading),
+        Ok(false) => Ok(Reading {
             next: None,
             count: reading.count,
-        });
-    }
-    take_text(alloc, text.as_slice(), reading)
-}
-
-/// Reads the next line with its line feed, or whatever is left. Gives false at the end.
-pub(crate) fn read_text<R: BufRead>(report: &mut R, text: &mut Vec<u8>) -> Result<bool, ReadStop>
-    ensures line { OnOk result
-        (IfSome (R.remaining report.old) (λ bytes. text.new.items ≡ take_through 10 bytes)) }
-    ensures rest { OnOk result
-        (Consumes (R.remaining report.old) (R.remaining report.new) text.new.items) }
-    ensures more { IfOk result (λ more. more ≡ true → text.new.items ≢ []) }
-    ensures none { IfOk result (λ more. more ≡ false → text.new.items ≡ []) }
-    ensures end { IfOk result (λ more. more ≡ false → IsAtEnd (R.remaining report.old)) }
-    ensures stop { IfErr result (λ stop. (stop ≡ ReadStop.Failed) ⊎ (stop ≡ ReadStop.Memory)) }
-{
-    text.clear();
-    match report.read_until(b'\n', text) {
-        Ok(count) => Ok(count > 0),
-        Err(error) if error.kind() == ErrorKind::OutOfMemory => Err(ReadStop::Memory),
-        Err(_) => Err(ReadStop::Failed),
+        }),
+        Err(InputStop::Failed) => Err(ReadStop::Failed),
+        Err(InputStop::Memory) => Err(ReadStop::Memory),
     }
 }
 

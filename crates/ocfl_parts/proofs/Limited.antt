@@ -1,9 +1,9 @@
 -- What the first bytes of a reader tell of all of them, if one more is read than the text of
 -- separators can have.
-use Rattle.std.proofs.Common.{◌≡◌, ◌⊎◌, inl, inr, ℕ, ◌<◌, ◌≤◌, [], ◌++◌, List, length, take, take_all, Option, Some, None, Result, Ok, Err, IfSome, IfOk, IfErr, subst, ◌∙◌, arith, length-take}
+use Rattle.std.proofs.Common.{◌≡◌, ◌⊎◌, inl, inr, ℕ, ◌<◌, ◌≤◌, List, length, take, take_all, Option, Some, None, Result, Ok, Err, IfSome, IfOk, IfErr, subst, arith, length-take}
 use Rattle.std.proofs.lemmas.Bool.{cases_lt}
-use Rattle.std.specs.Option.{option_map}
 use Rattle.ocfl_tree.specs.Place.{Text, Place}
+use Rattle.ocfl_report.proofs.Inputs.{IsReadTo, all_read}
 use Rattle.ocfl_parts.specs.Separators.{AreSeparators, parts_text}
 use Rattle.ocfl_parts.specs.Parts.{max_separators, max_bytes, IsPartsText, IsBadLine, HasMoreLines}
 use Rattle.ocfl_parts.specs.{Stop.{StopsRightly, LinesStop}, declared.reading.PartsStop.{PartsStop}}
@@ -15,25 +15,14 @@ limit = 16777217
 
 -- the bytes that were read are the first of those
 abbrev pub IsRead : Option Text → Text → Type 0
-IsRead known read = IfSome known (λ b. read ≡ take limit b)
-
--- as reading to the end tells
-pub IsRead-to_end : (known : Option Text) (n : ℕ) (read before : Text) → n ≡ limit → before ≡ [] → IfSome (option_map (take n) known) (λ t. read ≡ before ++ t) → IsRead known read
-IsRead-to_end None n read before l e h = tt
-IsRead-to_end (Some b) n read before l e h = h ∙ (λ i. e i ++ take (l i) b)
-
--- if no more bytes were read than there may be, all were read
-all_read : (b : Text) → length (take limit b) ≤ max_bytes → take limit b ≡ b
-all_read b short =
-    let whole : length b ≤ limit = omega (arith, short, length-take limit b) in
-    take_all limit b whole
+IsRead known read = IsReadTo limit known read
 
 parts_limited : (b : Text) (ps : List Place) → IsPartsText (take limit b) ps → IsPartsText b ps
-parts_limited b ps h = subst (λ t. IsPartsText t ps) (all_read b h.short) h
+parts_limited b ps h = subst (λ t. IsPartsText t ps) (all_read limit max_bytes b (omega arith) h.short) h
 
 -- a stop at what was read is one at all bytes
 stop_limited : (b : Text) (stop : PartsStop) → StopsRightly (take limit b) stop → StopsRightly b stop
-stop_limited b (Line n) h = subst (λ t. IsBadLine t n) (all_read b h.short) h
+stop_limited b (Line n) h = subst (λ t. IsBadLine t n) (all_read limit max_bytes b (omega arith) h.short) h
 stop_limited b Long (inl l) = inl (omega (arith, l, length-take limit b))
 stop_limited b Long (inr h) = by (cases_lt limit (length b))
   where

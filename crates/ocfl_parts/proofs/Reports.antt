@@ -1,14 +1,15 @@
 -- What the lines that were read say of all bytes of a reader.
 use Rattle.std.proofs.Common.{◌≡◌, ◌≢◌, ℕ, ◌+◌, ◌≤◌, List, [], ◌∷◌, ◌++◌, Option, Some, None, IfSome, length, All, refl, sym, ap, subst, ◌∙◌, append_assoc, append-nil, arith}
 use Rattle.std.proofs.lemmas.Bool.{ne_eqb}
-use Rattle.std.proofs.lemmas.List.Elements.{All-append, All-cons, All-head, All-tail, All-weaker}
+use Rattle.std.proofs.lemmas.List.Elements.{All-append, All-cons, All-head, All-tail}
 use Rattle.std.proofs.lemmas.List.Concat.{flat_map-append}
-use Rattle.std.specs.{Prelude.{cond}, Io.BufRead.{take_through}, Io.KnownBytes.{Consumes}}
+use Rattle.std.specs.{Prelude.{cond}, Io.BufRead.{take_through}, Io.KnownBytes.{Consumes, IsAtEnd}}
 use Rattle.ocfl_tree.specs.Place.{Text, Place}
 use Rattle.ocfl_report.specs.Line.{Line}
 use Rattle.ocfl_report.specs.Text.{code_text, place_text, escape, line_text, lines_text, IsLineText}
-use Rattle.ocfl_report.proofs.{Bytes.{IsPrintable, utf8_bytes}, Escapes.{escape_printable}}
-use Rattle.ocfl_report.proofs.{CodeTexts.{code_text_printable}, PlaceTexts.{place_text_printable}}
+use Rattle.ocfl_report.proofs.{Bytes.{utf8_bytes}, Escapes.{escape_printable}}
+use Rattle.ocfl_report.proofs.{CodeTexts.{code_text_printable}, LineTexts.{no_line_feed}}
+use Rattle.ocfl_report.proofs.PlaceTexts.{place_text_printable}
 use Rattle.ocfl_parts.specs.Parts.{max_separators}
 use Rattle.ocfl_parts.specs.Splits.{HasText, AreInOrder, AreLines, cuts, IsSplit}
 use Rattle.ocfl_parts.specs.SplitStop.{SplitStopsRightly}
@@ -25,9 +26,6 @@ first_line_is (x ∷ front) rest h =
     ap (λ z. cond z (x ∷ []) (x ∷ take_through 10 (front ++ 10 ∷ rest))) (ne_eqb x 10 (All-head (λ b. b ≢ 10) x front h))
     ∙ ap (λ t. x ∷ t) (first_line_is front rest (All-tail (λ b. b ≢ 10) x front h))
 
-one_line : (t : Text) → All IsPrintable t → All (λ b. b ≢ 10) t
-one_line t h = All-weaker IsPrintable (λ b. b ≢ 10) (λ b k. omega (arith, k)) t h
-
 -- a line's text without its line feed
 abbrev fields : Line → Text
 fields l = code_text l.code ++ 9 ∷ place_text l.place ++ 9 ∷ escape l.detail
@@ -36,9 +34,9 @@ fields_one_line : (l : Line) → HasText l → All (λ b. b ≢ 10) (fields l)
 fields_one_line l h =
     let P : ℕ → Type 0 = λ b. b ≢ 10 in
     let tab : 9 ≢ 10 = λ e. omega (arith, e) in
-    let code = one_line (code_text l.code) (code_text_printable l.code) in
-    let place = All-cons P 9 (place_text l.place) tab (one_line (place_text l.place) (place_text_printable l.place h.place)) in
-    let detail = All-cons P 9 (escape l.detail) tab (one_line (escape l.detail) (escape_printable l.detail (utf8_bytes l.detail h.detail))) in
+    let code = no_line_feed (code_text l.code) (code_text_printable l.code) in
+    let place = All-cons P 9 (place_text l.place) tab (no_line_feed (place_text l.place) (place_text_printable l.place h.place)) in
+    let detail = All-cons P 9 (escape l.detail) tab (no_line_feed (escape l.detail) (escape_printable l.detail (utf8_bytes l.detail h.detail))) in
     All-append P (code_text l.code ++ 9 ∷ place_text l.place) (9 ∷ escape l.detail) (All-append P (code_text l.code) (9 ∷ place_text l.place) code place) detail
 
 -- if bytes begin with the text of a line, that is their first line
@@ -72,7 +70,7 @@ module _ (b : ℕ) (done : List Line) (ps : List Place) (s : ℕ) (item : Option
   lines : AreLines done
   lines = are_lines b done ps s item h ((h.order []).0 tt)
 
-  pub split_read : (known left : Option Text) (qs : List Place) → Consumes known left (lines_text done) → IfSome left (λ bytes. bytes ≡ []) → (qs ≡ cuts b done)
+  pub split_read : (known left : Option Text) (qs : List Place) → Consumes known left (lines_text done) → IsAtEnd left → (qs ≡ cuts b done)
       × (length qs ≤ max_separators) → IfSome known (λ bytes. IsSplit b bytes qs)
   split_read None left qs read end is = tt
   split_read (Some k) None qs read end is = absurd read

@@ -1,5 +1,5 @@
 //! Reading separators from their text, and why other bytes are refused.
-ghost use Rattle.std.specs.Prelude.{◌≡◌, ◌≢◌, ◌⊎◌, ℕ, List, ◌++◌, ◌∷◌, [], ◌≤◌, length, take, IfOk};
+ghost use Rattle.std.specs.Prelude.{◌≡◌, ◌≢◌, ℕ, List, ◌++◌, ◌∷◌, [], ◌≤◌, length, IfOk};
 ghost use Rattle.std.specs.Prelude.{IfErr, IfSome, OnOk, OnErr};
 ghost use Rattle.ocfl_tree.specs.Place.{Place as ModelPlace};
 ghost use Rattle.ocfl_parts.specs.Separators.{AreSeparators, part_line, parts_text};
@@ -7,9 +7,9 @@ ghost use Rattle.ocfl_parts.specs.Parts.{max_separators, IsPartsText};
 ghost use Rattle.ocfl_parts.specs.Stop.{StopsRightly, LinesStop};
 
 use crate::separators::{MAX_SEPARATORS, PushStop, Separators};
-use ocfl_report::{TextStop, read_place, split_once};
+use ocfl_report::{InputStop, TextStop, read_limited, read_place, split_once};
 use std::alloc::Global;
-use std::io::{ErrorKind, Read};
+use std::io::Read;
 use thiserror::Error;
 
 /// How many bytes the text of separators has at most.
@@ -41,23 +41,10 @@ pub fn read_parts<R: Read>(alloc: Global, reader: &mut R) -> Result<Separators, 
     ensures refused { IfErr result
         (λ stop. IfSome (R.remaining reader.old) (λ bytes. StopsRightly bytes stop)) }
 {
-    let bytes = read_limited(alloc, reader)?;
-    read_text(alloc, &bytes)
-}
-
-/// All the bytes of a reader, or the first of them, one more than the text can have.
-fn read_limited<R: Read>(alloc: Global, reader: &mut R) -> Result<Vec<u8>, PartsStop>
-    ensures bytes { IfOk result
-        (λ bytes. IfSome (R.remaining reader.old) (λ all. bytes.items ≡ take 16777217 all)) }
-    ensures stop { IfErr result
-        (λ stop. (stop ≡ PartsStop.Read) ⊎ (stop ≡ PartsStop.Memory)) }
-{
-    let mut bytes = Vec::new(alloc);
-    let mut limited = Read::take(reader, MAX_BYTES as u64 + 1);
-    match limited.read_to_end(&mut bytes) {
-        Ok(_) => Ok(bytes),
-        Err(error) if error.kind() == ErrorKind::OutOfMemory => Err(PartsStop::Memory),
-        Err(_) => Err(PartsStop::Read),
+    match read_limited(alloc, reader, MAX_BYTES as u64 + 1) {
+        Ok(bytes) => read_text(alloc, &bytes),
+        Err(InputStop::Failed) => Err(PartsStop::Read),
+        Err(InputStop::Memory) => Err(PartsStop::Memory),
     }
 }
 

@@ -1,7 +1,6 @@
 //! Splitting a storage root by what a report of it says that its items cost.
-ghost use Rattle.std.specs.Prelude.{◌≡◌, ◌≢◌, ◌+◌, ◌≤◌, ◌<◌, List, [], ◌∷◌, ◌++◌, length, ◌⊎◌};
-ghost use Rattle.std.specs.Prelude.{true, false, IfOk, IfErr, IfSome, OnOk};
-ghost use Rattle.std.specs.{Io.BufRead.{take_through}, Io.KnownBytes.{Consumes}};
+ghost use Rattle.std.specs.Prelude.{◌≡◌, ◌+◌, ◌≤◌, ◌<◌, List, [], ◌∷◌, ◌++◌, length, ◌⊎◌};
+ghost use Rattle.std.specs.Prelude.{IfOk, IfErr, IfSome, OnOk};
 ghost use Rattle.std.specs.declared.cmp.Ordering.TheVariants.{Less};
 ghost use Rattle.ocfl_tree.specs.{Place.{Place as ModelPlace, place_cmp}, Name.{IsPlace}};
 ghost use Rattle.ocfl_report.specs.{Line.{Line as ModelLine}, Text.{IsLineText}};
@@ -14,10 +13,10 @@ ghost use Rattle.ocfl_parts.specs.declared.costs.Told.{Told as ModelTold};
 
 use crate::costs::{Told, read_told};
 use crate::separators::{MAX_SEPARATORS, Separators};
-use ocfl_report::TextStop;
+use ocfl_report::{InputStop, TextStop, read_next_line};
 use std::alloc::Global;
 use std::cmp::Ordering;
-use std::io::{BufRead, ErrorKind};
+use std::io::BufRead;
 use thiserror::Error;
 
 /// Why a report was not split.
@@ -71,31 +70,14 @@ pub fn split_by<R: BufRead>(
     };
     let mut text = Vec::new(alloc);
     for number in 1..u64::MAX {
-        if !read_text(report, &mut text)? {
-            return end(budget, cutter);
+        match read_next_line(report, &mut text) {
+            Ok(true) => cutter = take_line(alloc, budget, number, &text, cutter)?,
+            Ok(false) => return end(budget, cutter),
+            Err(InputStop::Failed) => return Err(SplitStop::Read),
+            Err(InputStop::Memory) => return Err(SplitStop::Memory),
         }
-        cutter = take_line(alloc, budget, number, &text, cutter)?;
     }
     Err(SplitStop::Read)
-}
-
-/// Reads the next line with its line feed, or whatever is left. Gives false at the end.
-fn read_text<R: BufRead>(report: &mut R, text: &mut Vec<u8>) -> Result<bool, SplitStop>
-    ensures line { OnOk result
-        (IfSome (R.remaining report.old) (λ bytes. text.new.items ≡ take_through 10 bytes)) }
-    ensures rest { OnOk result
-        (Consumes (R.remaining report.old) (R.remaining report.new) text.new.items) }
-    ensures more { IfOk result (λ more. more ≡ true → text.new.items ≢ []) }
-    ensures end { IfOk result (λ more. more ≡ false
-        → IfSome (R.remaining report.old) (λ bytes. bytes ≡ [])) }
-    ensures stop { IfErr result (λ stop. (stop ≡ SplitStop.Read) ⊎ (stop ≡ SplitStop.Memory)) }
-{
-    text.clear();
-    match report.read_until(b'\n', text) {
-        Ok(count) => Ok(count > 0),
-        Err(error) if error.kind() == ErrorKind::OutOfMemory => Err(SplitStop::Memory),
-        Err(_) => Err(SplitStop::Read),
-    }
 }
 
 /// Takes one more line.

@@ -7,6 +7,7 @@ pub mod CodeTexts
 pub mod PlaceTexts
 pub mod ReadPaths
 pub mod Parts
+pub mod Inputs
 pub mod PathTexts
 pub mod LineTexts
 pub mod Fields

@@ -21,7 +21,7 @@ pub no_tab : (t : Text) → All IsPrintable t → All (λ b. b ≢ 9) t
 no_tab t h = All-weaker IsPrintable (λ b. b ≢ 9) (λ b k. omega (arith, k)) t h
 
 -- printable text has no line feed
-no_line_feed : (t : Text) → All IsPrintable t → All (λ b. b ≢ 10) t
+pub no_line_feed : (t : Text) → All IsPrintable t → All (λ b. b ≢ 10) t
 no_line_feed t h = All-weaker IsPrintable (λ b. b ≢ 10) (λ b k. omega (arith, k)) t h
 
 -- if two texts are equal, so are the lines that they begin with, and so is what follows these

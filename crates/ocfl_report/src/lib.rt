@@ -27,11 +27,14 @@
 //!   lines.
 //! - Output that ends well sent all bytes. Output that stops sent exactly the first `gone` bytes,
 //!   fewer than all (`write_all_of`).
+//! - Input is read up to a limit, or to the end of the next line, byte for byte (`read_limited`,
+//!   `read_next_line`).
 #![tactic(auto)]
 
 mod code;
 mod display;
 mod escaped;
+mod input;
 pub mod laws;
 mod line;
 mod number;
@@ -42,6 +45,7 @@ mod stop;
 
 pub use code::Code;
 pub use display::DisplayPlace;
+pub use input::{InputStop, read_limited, read_next_line};
 pub use line::Line;
 pub use number::read_decimal;
 pub use output::{OutStop, write_all_of};

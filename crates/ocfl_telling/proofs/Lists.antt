@@ -1,11 +1,11 @@
 -- Lists of known findings, line by line.
-use Rattle.std.proofs.Common.{◌≡◌, ◌≢◌, ℕ, ◌+◌, ◌≤◌, List, [], ◌∷◌, ◌++◌, length, take, take_all, Option, Some, None, IfSome, sym, ap, subst, ◌∙◌, arith, append_assoc, length-take, length-append}
+use Rattle.std.proofs.Common.{◌≡◌, ◌≢◌, ℕ, ◌+◌, List, [], ◌∷◌, ◌++◌, length, take, Option, Some, None, IfSome, sym, ap, subst, ◌∙◌, arith, append_assoc, length-take, length-append}
 use Rattle.std.proofs.lemmas.Grind.{flat_map-append}
 use Rattle.std.proofs.lemmas.List.{append-nil, append_cancel_right}
 use Rattle.std.proofs.lemmas.List.Elements.{All-append, All-cons, All-nil, filter_map-append}
-use Rattle.std.specs.{Prelude.{All, codes}, Option.{option_map}}
+use Rattle.std.specs.Prelude.{All, codes}
 use Rattle.ocfl_tree.specs.Place.{Text}
-use Rattle.ocfl_report.proofs.Separators.{first_parts}
+use Rattle.ocfl_report.proofs.{Inputs.{IsReadTo, all_read}, Separators.{first_parts}}
 use Rattle.ocfl_telling.specs.List.{IsBadLine, IsEntry, IsEntryAs, IsKnownText, IsRemark, IsRow, IsSaid, KnownStopsRightly, Row, entries_of, max_bytes, row_text, rows_text}
 use Rattle.ocfl_telling.specs.declared.known.Reach.{Reach}
 use Rattle.ocfl_telling.specs.declared.known.Reach.TheVariants.{One, Place, Branch}
@@ -52,26 +52,15 @@ rows_counted n rs r e = omega (arith, e, length-append rs (r ∷ []))
 
 -- ---- all bytes
 
--- how many bytes are read at most
+-- the bytes that were read are the first of those, one more than a list can have
 abbrev pub limit : ℕ
 limit = 16777217
 
--- the bytes that were read are the first of those
 abbrev pub IsRead : Option Text → Text → Type 0
-IsRead known read = IfSome known (λ b. read ≡ take limit b)
-
--- as reading to the end tells
-pub IsRead-to_end : (known : Option Text) (n : ℕ) (read before : Text) → n ≡ limit → before ≡ [] → IfSome (option_map (take n) known) (λ t. read ≡ before ++ t) → IsRead known read
-IsRead-to_end None n read before l e h = tt
-IsRead-to_end (Some b) n read before l e h = h ∙ (λ i. e i ++ take (l i) b)
-
-all_read : (b : Text) → length (take limit b) ≤ max_bytes → take limit b ≡ b
-all_read b short =
-    let whole : length b ≤ limit = omega (arith, short, length-take limit b) in
-    take_all limit b whole
+IsRead known read = IsReadTo limit known read
 
 stop_limited : (b : Text) (stop : KnownStop) → KnownStopsRightly (take limit b) stop → KnownStopsRightly b stop
-stop_limited b (stop.Line n) h = subst (λ t. IsBadLine t n) (all_read b h.short) h
+stop_limited b (stop.Line n) h = subst (λ t. IsBadLine t n) (all_read limit max_bytes b (omega arith) h.short) h
 stop_limited b Long h = omega (arith, h, length-take limit b)
 stop_limited b Read h = tt
 stop_limited b Memory h = tt
@@ -80,7 +69,7 @@ pub known_read : (known : Option Text) (read : Text) (es : List Entry) → IsRea
 known_read None read es is h = tt
 known_read (Some b) read es is h =
     let limited : IsKnownText (take limit b) es = subst (λ t. IsKnownText t es) is h in
-    subst (λ t. IsKnownText t es) (all_read b limited.short) limited
+    subst (λ t. IsKnownText t es) (all_read limit max_bytes b (omega arith) limited.short) limited
 
 pub stop_read : (known : Option Text) (read : Text) (stop : KnownStop) → IsRead known read → KnownStopsRightly read stop → IfSome known (λ b. KnownStopsRightly b stop)
 stop_read None read stop is h = tt

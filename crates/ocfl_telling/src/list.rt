@@ -1,14 +1,14 @@
 //! Reading a list of known findings from its text.
-ghost use Rattle.std.specs.Prelude.{◌≡◌, ◌≢◌, ◌⊎◌, ◌↔◌, ◌++◌, ◌∷◌, [], take, IfOk, IfErr, IfSome, IsNone, IsTrue, OnOk};
+ghost use Rattle.std.specs.Prelude.{◌≡◌, ◌≢◌, ◌⊎◌, ◌↔◌, ◌++◌, ◌∷◌, [], IfOk, IfErr, IfSome, IsNone, IsTrue, OnOk};
 ghost use Rattle.ocfl_tree.specs.Place.{Text as ModelText};
 ghost use Rattle.ocfl_report.specs.{Line.{Line as ModelLine, line_of}, Text.{IsLineText}};
 ghost use Rattle.ocfl_telling.specs.List.{BeginsWith, HasFeed, IsEnded, IsEntry, IsKnownText, IsList, IsRemark, IsRow, NamesLoss, KnownStopsRightly, Row as ModelRow, RowsStop, entries_of, row_text};
 ghost use Rattle.ocfl_telling.specs.declared.known.Entry.{Entry as ModelEntry};
 
 use crate::known::{Entry, Known, Reach};
-use ocfl_report::{Line, TextStop, read_line, split_once};
+use ocfl_report::{InputStop, Line, TextStop, read_limited, read_line, split_once};
 use std::alloc::{AllocError, Global};
-use std::io::{ErrorKind, Read};
+use std::io::Read;
 use thiserror::Error;
 
 /// How many bytes a list has at most.
@@ -43,8 +43,11 @@ pub fn read_known<R: Read>(alloc: Global, reader: &mut R) -> Result<Known, Known
     ensures refused { IfErr result
         (λ stop. IfSome (R.remaining reader.old) (λ bytes. KnownStopsRightly bytes stop)) }
 {
-    let bytes = read_limited(alloc, reader)?;
-    read_text(alloc, bytes)
+    match read_limited(alloc, reader, MAX_BYTES as u64 + 1) {
+        Ok(bytes) => read_text(alloc, bytes),
+        Err(InputStop::Failed) => Err(KnownStop::Read),
+        Err(InputStop::Memory) => Err(KnownStop::Memory),
+    }
 }
 
 /// The list whose text the bytes are.
@@ -83,22 +86,6 @@ fn is_ended(bytes: &[u8]) -> bool
     match bytes.strip_suffix(b"\n") {
         Some(_) => true,
         None => false,
-    }
-}
-
-/// All the bytes of a reader, or the first of them, one more than a list can have.
-fn read_limited<R: Read>(alloc: Global, reader: &mut R) -> Result<Vec<u8>, KnownStop>
-    ensures bytes { IfOk result
-        (λ bytes. IfSome (R.remaining reader.old) (λ all. bytes.items ≡ take 16777217 all)) }
-    ensures stop { IfErr result
-        (λ stop. (stop ≡ KnownStop.Read) ⊎ (stop ≡ KnownStop.Memory)) }
-{
-    let mut bytes = Vec::new(alloc);
-    let mut limited = Read::take(reader, MAX_BYTES as u64 + 1);
-    match limited.read_to_end(&mut bytes) {
-        Ok(_) => Ok(bytes),
-        Err(error) if error.kind() == ErrorKind::OutOfMemory => Err(KnownStop::Memory),
-        Err(_) => Err(KnownStop::Read),
     }
 }
 

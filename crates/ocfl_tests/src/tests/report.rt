@@ -1,14 +1,15 @@
 //! Codes, the text of places and lines, and output that stops.
 use crate::tests::common::Runtime;
+use crate::tests::common::input::{Slow, Then, failures};
 use crate::tests::common::store::place_of;
 use ocfl_report::laws::line_reads_back;
 use ocfl_report::{
-    Code, Line, OutStop, TextStop, put_place, read_decimal, read_line, read_place, split_once,
-    write_all_of,
+    Code, InputStop, Line, OutStop, TextStop, put_place, read_decimal, read_limited, read_line,
+    read_next_line, read_place, split_once, write_all_of,
 };
 use ocfl_tree::Place;
 use std::alloc::Global;
-use std::io::{self, ErrorKind, Write};
+use std::io::{self, BufReader, ErrorKind, Write};
 use std::test::Fail;
 
 /// What a call of `write` does.
@@ -434,6 +435,70 @@ fn output_stops(rt: HostRuntime) -> Result<(), Fail> {
         assert_eq!(rt; answer, Err(OutStop { gone }), "{row}");
         assert_eq!(rt; out.taken.as_slice(), &b"abcdefgh"[..gone], "{row}");
         assert_eq!(rt; out.calls, calls, "{row}");
+    }
+    Ok(())
+}
+
+#[test]
+fn first_bytes_are_read(rt: HostRuntime) -> Result<(), Fail> {
+    let alloc = rt.alloc();
+    let left = b"abcdefgh".as_slice();
+    for (limit, wanted) in [(0, ""), (7, "abcdefg"), (8, "abcdefgh"), (9, "abcdefgh")] {
+        let mut reader = Slow {
+            left,
+            then: Then::Ends,
+        };
+        let bytes = read_limited(alloc, &mut reader, limit).ok().ok_or("bytes")?;
+        assert_eq!(rt; bytes.as_slice(), wanted.as_bytes(), "{limit}");
+    }
+    let mut endless = Slow {
+        left,
+        then: Then::GoesOn,
+    };
+    let bytes = read_limited(alloc, &mut endless, 9).ok().ok_or("bytes")?;
+    assert_eq!(rt; bytes.as_slice(), b"abcdefgh\0".as_slice());
+    Ok(())
+}
+
+#[test]
+fn lines_are_read_one_by_one(rt: HostRuntime) -> Result<(), Fail> {
+    let alloc = rt.alloc();
+    let left = b"a\n\nbcdef\r\nend".as_slice();
+    let slow = Slow {
+        left,
+        then: Then::Ends,
+    };
+    let mut reader = BufReader::new(alloc, slow)?;
+    let mut text = Vec::from_slice(alloc, b"what was read before")?;
+    for wanted in ["a\n", "\n", "bcdef\r\n", "end"] {
+        assert_eq!(rt;
+            read_next_line(&mut reader, &mut text),
+            Ok(true),
+            "{wanted:?}"
+        );
+        assert_eq!(rt; text.as_slice(), wanted.as_bytes(), "{wanted:?}");
+    }
+    assert_eq!(rt; read_next_line(&mut reader, &mut text), Ok(false));
+    assert!(rt; text.is_empty());
+    Ok(())
+}
+
+#[test]
+fn failed_readers_are_told(rt: HostRuntime) -> Result<(), Fail> {
+    let alloc = rt.alloc();
+    for (row, kind, wanted) in failures(InputStop::Failed, InputStop::Memory) {
+        let then = Then::Fails(kind);
+        let left = b"ab".as_slice();
+        let read = read_limited(alloc, &mut Slow { left, then }, 9);
+        assert_eq!(rt; read.err(), Some(wanted), "{row}");
+        let mut reader = BufReader::new(alloc, Slow { left, then })?;
+        let mut text = Vec::new(alloc);
+        assert_eq!(rt;
+            read_next_line(&mut reader, &mut text),
+            Err(wanted),
+            "{row}"
+        );
+        assert_eq!(rt; text.as_slice(), left, "{row}");
     }
     Ok(())
 }

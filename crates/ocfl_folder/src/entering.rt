@@ -1,6 +1,5 @@
 //! The system, whose process goes into the directories of a folder.
-ghost use Rattle.std.specs.Prelude.{◌≡◌, ◌≤◌, [], None, IfOk, length, false};
-ghost use Rattle.ocfl_tree.specs.Store.{empty_store};
+ghost use Rattle.std.specs.Prelude.{◌≡◌, ◌≤◌, IfOk, length};
 
 use crate::answer::{Answer, ReadAnswer};
 use crate::dir_names::DirNames;
@@ -32,14 +31,6 @@ impl<R: Files + Env + AllocGlobal + Drop> System for Entering<R> {
     type File = Opened<R::File>;
 
     type Names = DirNames<R::Dir>;
-
-    ghost told = { false };
-
-    ghost state = { λ _. record { store = empty_store; here = None } };
-
-    ghost rest = { λ _. [] };
-
-    ghost left = { λ _. [] };
 
     fn start(&mut self) -> io::Result<()> {
         self.rt.set_current_dir(self.root.as_str())

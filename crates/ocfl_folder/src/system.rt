@@ -1,10 +1,10 @@
 //! The calls of the system that a folder makes.
-ghost use Rattle.std.specs.Prelude.{◌≡◌, ◌≢◌, ◌≤◌, ◌<◌, ◌++◌, ◌∷◌, [], Bool, IsTrue, List, Some};
+ghost use Rattle.std.specs.Prelude.{◌≡◌, ◌≢◌, ◌≤◌, ◌<◌, ◌++◌, ◌∷◌, [], Bool, false, IsTrue, List, Some};
 ghost use Rattle.std.specs.Prelude.{None, IfOk, IfErr, OnOk, MatchResult, length, take};
 ghost use Rattle.std.specs.IoError.{error_kind};
 ghost use Rattle.std.specs.declared.io.ErrorKind.TheVariants.{NotFound, Interrupted};
 ghost use Rattle.ocfl_tree.specs.{Place.{Text, Place as Spot}, StorageRoot.{file, dir, at}};
-ghost use Rattle.ocfl_tree.specs.Listing.{kind_at};
+ghost use Rattle.ocfl_tree.specs.{Listing.{kind_at}, Store.{empty_store}};
 ghost use Rattle.ocfl_folder.specs.System.{Standing, IfHere, AreNames, Gives};
 ghost use Rattle.ocfl_folder.specs.Noted.{with_answer, with_read, with_room};
 
@@ -16,7 +16,8 @@ use std::io;
 /// What a folder asks of the system. It is in one directory, and what it asks for is there, by
 /// its last name alone.
 ///
-/// A system that tells its tree tells what is in the folder, and in which directory it is.
+/// A system that tells its tree tells what is in the folder, and in which directory it is. One
+/// that states nothing of it does not tell it.
 /// The tree stays as it is. Links are told as what is neither a file nor a directory, and the calls
 /// show them as such; only `start`, `enter` and `open` follow one.
 pub trait System {
@@ -26,15 +27,15 @@ pub trait System {
     type Names: Drop;
 
     /// Whether the system tells its tree. Of one that does not, the clauses say little.
-    ghost told: { Bool };
+    ghost told: { Bool } = { false };
 
-    ghost state: { Self → Standing };
+    ghost state: { Self → Standing } = { λ _. record { store = empty_store; here = None } };
 
     /// What is left of an open file.
-    ghost rest: { Self.File → Text };
+    ghost rest: { Self.File → Text } = { λ _. [] };
 
     /// The names that a listing has still to give.
-    ghost left: { Self.Names → List Text };
+    ghost left: { Self.Names → List Text } = { λ _. [] };
 
     /// Goes to the folder itself by its own path, where a link may lead to it.
     fn start(&mut self) -> io::Result<()>

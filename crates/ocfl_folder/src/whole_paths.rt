@@ -1,6 +1,5 @@
 //! The system, asked by whole paths.
-ghost use Rattle.std.specs.Prelude.{◌≡◌, ◌≤◌, [], None, IfOk, length, false};
-ghost use Rattle.ocfl_tree.specs.Store.{empty_store};
+ghost use Rattle.std.specs.Prelude.{◌≡◌, ◌≤◌, IfOk, length};
 
 use crate::answer::{Answer, ReadAnswer};
 use crate::dir_names::DirNames;
@@ -50,14 +49,6 @@ impl<R: Files + AllocGlobal + Drop> System for WholePaths<R> {
     type File = Opened<R::File>;
 
     type Names = DirNames<R::Dir>;
-
-    ghost told = { false };
-
-    ghost state = { λ _. record { store = empty_store; here = None } };
-
-    ghost rest = { λ _. [] };
-
-    ghost left = { λ _. [] };
 
     fn start(&mut self) -> io::Result<()> {
         if !self.rt.metadata(self.root.as_str())?.is_dir() {

@@ -1,7 +1,4 @@
 //! A system in memory, with links, in which things are exchanged between two calls, and calls fail.
-ghost use Rattle.std.specs.Prelude.{[], None, false};
-ghost use Rattle.ocfl_tree.specs.Store.{empty_store};
-
 use ocfl_folder::{Answer, FsTree, Node, ReadAnswer, Seen, System};
 use ocfl_tree::{Kind, Name, Place, Tree, Trouble};
 use std::alloc::Global;
@@ -237,14 +234,6 @@ impl System for MemSystem {
     type File = MemFile;
 
     type Names = Vec<&'static str>;
-
-    ghost told = { false };
-
-    ghost state = { λ _. record { store = empty_store; here = None } };
-
-    ghost rest = { λ _. [] };
-
-    ghost left = { λ _. [] };
 
     fn start(&mut self) -> io::Result<()> {
         self.call()?.goes(TOP, "root")

@@ -1,12 +1,12 @@
 //! The interface of a state folder.
-ghost use Rattle.std.specs.Prelude.{◌≡◌, ◌≢◌, ◌↔◌, ◌≤◌, ◌++◌, ◌*◌, Bool, IsTrue, IfOk, IfSome, OnOk, ℕ, List, Option, Err, length, take};
+ghost use Rattle.std.specs.Prelude.{◌≡◌, ◌≢◌, ◌↔◌, ◌≤◌, ◌++◌, ◌*◌, Bool, false, IsTrue, IfOk, IfSome, OnOk, ℕ, List, Option, Err, length, take, ⊤};
 ghost use Rattle.std.specs.Option.{option_map};
-ghost use Rattle.ocfl_state.specs.Content.{Content, Bytes, with_checkpoint, with_report, moved, is_closed};
+ghost use Rattle.ocfl_state.specs.Content.{Content, Bytes, empty, with_checkpoint, with_report, moved, is_closed};
 ghost use Rattle.ocfl_state.specs.Crash.{Outcomes, Same, IsPut, MayPut, IsMoved, MayMove, MayTear, Only, Follows, Passes};
 ghost use Rattle.ocfl_state.specs.Calls.{HasCause, HasCauseOr, ClosesRightly, IsReadOf, bytes_of, HasLong, IsLong, most_checkpoint};
 ghost use Rattle.ocfl_state.specs.declared.folder.Trouble.TheVariants.{Memory};
 
-use std::alloc::{AllocError, AllocFailed};
+use std::alloc::AllocError;
 
 /// How many bytes a checkpoint has at most: 1 MiB.
 pub const MOST_CHECKPOINT: usize = 1_048_576;
@@ -29,37 +29,30 @@ impl From<AllocError> for Trouble {
     }
 }
 
-impl<T: Drop> From<AllocFailed<T>> for Trouble {
-    ghost from_gives = { λ _ e. e ≡ Memory };
-
-    fn from(_error: AllocFailed<T>) -> Trouble {
-        Trouble::Memory
-    }
-}
-
 /// What the nights over one storage root keep on a disk: a checkpoint, the report of the open
 /// cycle, and the closed reports of earlier cycles.
 ///
 /// A crash may come at any moment, in a call or between two. After any trouble but `Taken` the
 /// folder holds one of the contents that a crash in that call may leave: open it again.
 pub trait StateFolder {
-    /// Whether the folder is as the clauses say. Of one that is not told, they say nothing.
-    ghost told: { Bool };
+    /// Whether the folder is as the clauses say. Of one that is not told, they say nothing. One
+    /// that states none of these is not told.
+    ghost told: { Bool } = { false };
 
     /// What reads show.
-    ghost seen: { Self → Content };
+    ghost seen: { Self → Content } = { λ _. empty };
 
     /// What a crash at this moment may leave.
-    ghost may_leave: { Self → Outcomes };
+    ghost may_leave: { Self → Outcomes } = { λ _ _. ⊤ };
 
     /// The moment, as a number that does not fall.
-    ghost moment: { Self → ℕ };
+    ghost moment: { Self → ℕ } = { λ _. 0 };
 
     /// What a crash at some moment from that one on might have left, in a call or between two.
-    ghost left_since: { Self → ℕ → Outcomes };
+    ghost left_since: { Self → ℕ → Outcomes } = { λ _ _ _. ⊤ };
 
     /// How often the disk has failed.
-    ghost faults: { Self → ℕ };
+    ghost faults: { Self → ℕ } = { λ _. 0 };
 
     /// The checkpoint's bytes, at most [`MOST_CHECKPOINT`]; `None` if there is no checkpoint.
     /// `Failed` if what is there is longer.

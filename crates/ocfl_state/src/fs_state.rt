@@ -1,6 +1,6 @@
 //! A state folder of the file system.
-ghost use Rattle.std.specs.Prelude.{◌≡◌, ◌≤◌, ◌⊎◌, ⊤, false, IfOk, IfSome, OnOk, IfErr, None, Ok, length};
-ghost use Rattle.ocfl_state.specs.{Calls.{most_checkpoint}, Reasons.{IsKept}, Content.{empty}};
+ghost use Rattle.std.specs.Prelude.{◌≡◌, ◌≤◌, ◌⊎◌, IfOk, IfSome, OnOk, IfErr, None, Ok, length};
+ghost use Rattle.ocfl_state.specs.{Calls.{most_checkpoint}, Reasons.{IsKept}};
 
 use crate::disk::{Disk, for_appending, for_reading, of_file, wrong};
 use crate::folder::{MOST_CHECKPOINT, StateFolder, Trouble};
@@ -366,18 +366,6 @@ impl<R: Files<File = File> + AllocGlobal + Clone + Drop> FsState<R> {
 }
 
 impl<R: Files<File = File> + AllocGlobal + Clone + Drop> StateFolder for FsState<R> {
-    ghost told = { false };
-
-    ghost seen = { λ _. empty };
-
-    ghost may_leave = { λ _ _. ⊤ };
-
-    ghost moment = { λ _. 0 };
-
-    ghost left_since = { λ _ _ _. ⊤ };
-
-    ghost faults = { λ _. 0 };
-
     ghost stays = { λ told folder. tt };
 
     ghost counts_now = { λ told folder t c le now. tt };

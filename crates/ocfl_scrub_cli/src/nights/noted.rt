@@ -1,7 +1,4 @@
 //! A state folder whose checkpoints are noted as they are put.
-ghost use Rattle.std.specs.Prelude.{⊤, false};
-ghost use Rattle.ocfl_state.specs.Content.{empty};
-
 use crate::nights::logging::Journal;
 use crate::nights::stand::Standing;
 use ocfl_state::{Checkpoint, FsState, StateFolder, Trouble, decode_checkpoint};
@@ -45,18 +42,6 @@ impl<R: Files<File = File> + AllocGlobal + Clock> Noting<'_, R> {
 
 /// Does what the folder does.
 impl<R: Files<File = File> + AllocGlobal + Clock> StateFolder for Noting<'_, R> {
-    ghost told = { false };
-
-    ghost seen = { λ _. empty };
-
-    ghost may_leave = { λ _ _. ⊤ };
-
-    ghost moment = { λ _. 0 };
-
-    ghost left_since = { λ _ _ _. ⊤ };
-
-    ghost faults = { λ _. 0 };
-
     ghost stays = { λ told folder. tt };
 
     ghost counts_now = { λ told folder t c le now. tt };

@@ -323,7 +323,6 @@ where
     let told = tell_closings(&mut closings, began.last_closed(), &made);
     let found = status_found(is_partial(&made), made.findings);
     let status = status_of(&made.end.end).max(found).max(told);
-    let said = text_of(&said);
     Ok(log_made(
         rt,
         &mut closings.folder,
@@ -331,7 +330,7 @@ where
         names,
         &made,
         status,
-        said,
+        text_of(&said),
         lost.get(),
     ))
 }

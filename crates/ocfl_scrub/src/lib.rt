@@ -77,9 +77,9 @@
 //!
 //! # What is proved of a cycle
 //!
-//! - `cycle` is a chain of runs (`CycleOfRunsWithin`): the first from a new cursor, one for each of the
-//!   first limits, each from the cursor, the store and the output that the one before left. All but
-//!   the last were ended by their limits. Count, cursor and `found` are theirs.
+//! - `cycle` is a chain of runs (`CycleOfRunsWithin`): the first from a new cursor, one for each of
+//!   the first limits, each from the cursor, the store and the output that the one before left. All
+//!   but the last were ended by their limits. Count, cursor and `found` are theirs.
 //! - So `cycle` writes what the runs of its limits take of the audit, one after the other, and
 //!   returns the cursor of the last (`CyclesTo`, `Cycles`, by `a_cycle_does_what_its_runs_do`). It
 //!   ends the cycle exactly if that is the whole audit.

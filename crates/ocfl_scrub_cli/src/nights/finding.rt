@@ -1,13 +1,10 @@
 //! The whole lines of findings that are named in a closing.
 
-use crate::nights::telling::error_of;
+use crate::nights::telling::{CLEAN, error_of};
 use ocfl_report::{Code, Line, read_line};
 use ocfl_telling::{Known, SHOWN};
 use std::alloc::{AllocError, Global};
 use std::io::{self, BufRead};
-
-/// How the lines of a report begin that find nothing.
-const CLEAN: &[u8] = b"ok\t";
 
 /// What a report has of findings that are named.
 #[derive(Debug, Drop)]

@@ -21,7 +21,7 @@ pub(crate) struct Names<'a> {
 }
 
 /// How the lines of a report begin that find nothing.
-const CLEAN: &[u8] = b"ok\t";
+pub(crate) const CLEAN: &[u8] = b"ok\t";
 
 /// An output that takes the bytes of a report, and says at each flush what was found in them since
 /// the one before, without what is known.

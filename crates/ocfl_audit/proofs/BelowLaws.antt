@@ -6,11 +6,13 @@ use Rattle.std.specs.declared.cmp.Ordering.{Ordering}
 use Rattle.std.specs.declared.cmp.Ordering.TheVariants.{Less, Equal, Greater}
 use Rattle.ocfl_tree.specs.Place.{Place, Text, text_cmp, text_eq, place_cmp, place_eq, begins}
 use Rattle.ocfl_tree.specs.Ascending.{IsBeforeAll, IsAscending, IsAmong}
+use Rattle.ocfl_audit.specs.Head.{on}
 use Rattle.ocfl_tree.proofs.Orders.{place_cmp_total, place_cmp_exact, true_not_false, not_below_itself, not_both_below, before_each, ascending_unique, ascends_filter, among_filter, among_from_filter, among_left, among_right, among_flat_map}
 use Rattle.ocfl_tree.proofs.Stores.{among_either}
 use Rattle.ocfl_audit.proofs.AuditExists.{equal_from_test, place_from_test, append_one, append_nothing}
 pub use Rattle.ocfl_tree.proofs.Places.{text_cmp_total, text_cmp_exact}
-pub use Rattle.ocfl_inventory.proofs.Runs.{equal_itself, less_from}
+pub use Rattle.ocfl_tree.proofs.Orders.{less_from}
+pub use Rattle.ocfl_inventory.proofs.Runs.{equal_itself}
 
 pub text_from_test : (n m : Text) → text_eq n m ≡ true → n ≡ m
 text_from_test n m e = text_cmp_exact n m (equal_from_test _ e)
@@ -20,6 +22,10 @@ text_same n = ap is_eq (equal_itself text_cmp_total n)
 
 pub place_same : (p : Place) → place_eq p p ≡ true
 place_same p = ap is_eq (equal_itself place_cmp_total p)
+
+pub on_ascends : (b : Bool) (p : Place) → IsAscending place_cmp (on b p)
+on_ascends true p = (tt, tt)
+on_ascends false p = tt
 
 -- ---- beginnings
 

@@ -7,6 +7,7 @@ use Rattle.std.specs.declared.cmp.Ordering.{Ordering}
 use Rattle.std.specs.declared.cmp.Ordering.TheVariants.{Less, Equal, Greater}
 use Rattle.ocfl_tree.specs.{Place.{Place, place_cmp}, Ascending.{ascending, IsAscending, IsAmong}}
 use Rattle.ocfl_tree.specs.StorageRoot.{StorageRoot, dir, at, is_dir}
+use Rattle.ocfl_tree.proofs.Trees.{dir_from_leaf}
 use Rattle.ocfl_tree.proofs.Orders.{place_cmp_total, place_cmp_exact, true_not_false, below_from_greater, not_below_itself, not_less_itself, ascending_unique, among_ascending, among_filter, among_from_filter, among_left, among_right, ascends_filter, ascends_ascending}
 use Rattle.ocfl_tree.proofs.Bools.{and_first, and_second}
 use Rattle.ocfl_audit.specs.Zone.{Zone, skipped, hierarchy, inside, zone, is_entered, is_listed_zone, seen, max_listed_depth, beginnings}
@@ -15,8 +16,8 @@ use Rattle.ocfl_audit.specs.Stack.{NoneSeenBetween, NoneSeenAbove}
 use Rattle.ocfl_audit.specs.Trail.{is_head, reads_inventory}
 use Rattle.ocfl_audit.specs.Between.{IsBeyond, IsWithin, between, up_to, is_looked_into, shows_entries, looked_between, read_between}
 use Rattle.ocfl_audit.proofs.AuditExists.{seen_candidate, object_key, zone_is}
-use Rattle.ocfl_audit.proofs.BelowLaws.{less_from, from_append, ascends_append}
-use Rattle.ocfl_audit.proofs.{WayLaws.{dir_from, head_seen, is_closed}, WalkLaws.{none_among}}
+use Rattle.ocfl_audit.proofs.BelowLaws.{less_from, on_ascends, from_append, ascends_append}
+use Rattle.ocfl_audit.proofs.{WayLaws.{head_seen, is_closed}, WalkLaws.{none_among}}
 
 -- ---- what is between two places, by order alone
 
@@ -111,12 +112,8 @@ module _ (ps : List Place) where
         → ((y : Place) → IsAmong ps y → IsBeyond from y → place_cmp y b ≡ Less → ⊥)
         → between ps from (Some b) ≡ on test b
     between_step from b test l here out none =
-        ascending_unique place_cmp_total place_cmp_exact _ _ (between_ascends from (Some b)) (single test) (λ z. (to z test refl, back z test refl))
+        ascending_unique place_cmp_total place_cmp_exact _ _ (between_ascends from (Some b)) (on_ascends test b) (λ z. (to z test refl, back z test refl))
       where
-        single : (t : Bool) → IsAscending place_cmp (on t b)
-        single true = (tt, tt)
-        single false = tt
-
         same : (z : Place) → IsAmong ps z → IsBeyond from z → is_lt (place_cmp b z) ≡ false → z ≡ b
         same z i f n = by (place_cmp z b) refl
           where
@@ -160,7 +157,7 @@ module _ (root : StorageRoot) where
       let short = nat_le (length (n ∷ d)) max_listed_depth in
       let rest = and_second way (short && (is_dir root (n ∷ d) && shows_entries root (zone root (n ∷ d)))) h in
       let there = and_first (is_dir root (n ∷ d)) (shows_entries root (zone root (n ∷ d))) (and_second short (is_dir root (n ∷ d) && shows_entries root (zone root (n ∷ d))) rest) in
-      ap (λ b. cond b (at root (n ∷ d)) None) (and_first way (short && (is_dir root (n ∷ d) && shows_entries root (zone root (n ∷ d)))) h) ∙ dir_from (at root (n ∷ d)) there
+      ap (λ b. cond b (at root (n ∷ d)) None) (and_first way (short && (is_dir root (n ∷ d) && shows_entries root (zone root (n ∷ d)))) h) ∙ dir_from_leaf (at root (n ∷ d)) there
 
   pub head_zone : (p : Place) (z : Zone) → zone root p ≡ z → is_head z ≡ true → (o : Place) × (zone root p ≡ inside o [])
   head_zone p skipped e h = absurd (true_not_false (sym h))
@@ -192,7 +189,7 @@ module _ (root : StorageRoot) where
       let way = list_all (is_entered root) (beginnings p) in
       let entered = and_second way (is_entered root p) h in
       let there = and_first (is_dir root p) (is_listed_zone root (zone root p)) (and_second (nat_le (length p) max_listed_depth) (is_dir root p && is_listed_zone root (zone root p)) entered) in
-      ap (λ b. cond b (at root p) None) (and_first way (is_entered root p) h) ∙ dir_from (at root p) there
+      ap (λ b. cond b (at root p) None) (and_first way (is_entered root p) h) ∙ dir_from_leaf (at root p) there
 
   pub is_directory : (p : Place) → is_looked_into root p ≡ true → IsAmong (directories root) p
   is_directory p h = among_filter (is_looked_into root) (ascending place_cmp (candidates root)) p

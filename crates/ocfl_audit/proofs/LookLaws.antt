@@ -4,13 +4,13 @@ use Rattle.std.proofs.lemmas.Bool.{le-leb}
 use Rattle.std.specs.{Prelude.{cond, ◌&&◌, nat_le, length}, List.{list_all}}
 use Rattle.ocfl_tree.specs.Place.{Place, Text}
 use Rattle.ocfl_tree.specs.StorageRoot.{StorageRoot, dir, at, is_dir, is_dir_leaf}
-use Rattle.ocfl_tree.proofs.Orders.{true_not_false}
+use Rattle.ocfl_tree.proofs.{Orders.{true_not_false}, Trees.{dir_from_leaf}}
 use Rattle.ocfl_inventory.specs.Table.{Table}
 use Rattle.ocfl_audit.specs.Zone.{Zone, skipped, hierarchy, inside, zone, seen, table_at, is_entered, is_listed_in_object, beginnings}
 use Rattle.ocfl_audit.specs.Between.{shows_entries, is_looked_into}
 use Rattle.ocfl_audit.specs.Objects.{ShowsEntries, of_hierarchy, object_root, listed_in_object, IsLookedInto}
 use Rattle.ocfl_audit.proofs.AuditExists.{some_not_none, append_nothing, zone_is}
-use Rattle.ocfl_audit.proofs.{ObjectLaws.{object_by_zone}, WayLaws.{dir_from}}
+use Rattle.ocfl_audit.proofs.ObjectLaws.{object_by_zone}
 
 module _ (root : StorageRoot) where
   shows : (p : Place) → shows_entries root (zone root p) ≡ true → ShowsEntries root p
@@ -51,7 +51,7 @@ module _ (root : StorageRoot) where
       by : (a b c e : Bool) → list_all (is_entered root) (beginnings (n ∷ d)) ≡ a → nat_le (length (n ∷ d)) 127 ≡ b → is_dir root (n ∷ d) ≡ c
           → shows_entries root (zone root (n ∷ d)) ≡ e → (a && (b && (c && e))) ≡ true → IsLookedInto root (n ∷ d)
       by true true true true f g k l m = record {
-        is_seen = ap (λ x. cond x (at root (n ∷ d)) None) f ∙ dir_from (at root (n ∷ d)) k;
+        is_seen = ap (λ x. cond x (at root (n ∷ d)) None) f ∙ dir_from_leaf (at root (n ∷ d)) k;
         depth = leb-true _ _ g;
         shows = shows (n ∷ d) l;
       }

@@ -9,7 +9,7 @@ use Rattle.ocfl_inventory.specs.{Note.{Note, plain}, ListedPath.{is_version_name
 use Rattle.ocfl_inventory.specs.Declaration.{is_declaration}
 use Rattle.ocfl_inventory.specs.declared.declaration.Level.TheVariants.{Object}
 use Rattle.ocfl_report.specs.declared.code.Code.TheVariants.{E001, E015, S05}
-use Rattle.ocfl_tree.proofs.Orders.{true_not_false}
+use Rattle.ocfl_tree.proofs.{Orders.{true_not_false}, Trees.{dir_from_leaf}}
 use Rattle.ocfl_digest.specs.declared.algorithm.Algorithm.TheVariants.{Sha256, Sha512}
 use Rattle.ocfl_audit.specs.Zone.{Zone, skipped, hierarchy, inside, zone, inventory_name, max_listed_depth, is_in_extensions}
 use Rattle.ocfl_audit.specs.Head.{on, sidecar_name}
@@ -19,7 +19,7 @@ use Rattle.ocfl_audit.specs.Trail.{is_root_meta, is_meta_zone, is_meta, content_
 use Rattle.ocfl_audit.specs.Objects.{IsObjectRoot, IsInventoryFile, inventory, sidecar_sha256, sidecar_sha512, IsObjectFile, declaration, of_inventory, IsMetadata, of_root, of_object}
 use Rattle.ocfl_audit.proofs.AuditExists.{append_nothing, zone_is, place_from_test}
 use Rattle.ocfl_audit.proofs.BelowLaws.{text_from_test, text_same, place_same}
-use Rattle.ocfl_audit.proofs.{WayLaws.{dir_from, is_closed, zone_part}, NextLaws.{zone_longer}}
+use Rattle.ocfl_audit.proofs.{WayLaws.{is_closed, zone_part}, NextLaws.{zone_longer}}
 use Rattle.ocfl_audit.proofs.{ObjectLaws.{object_by_zone}, Trails.{filter_append}}
 
 -- ---- names of files
@@ -117,7 +117,7 @@ in_extensions root (n ∷ p) = (to, λ k. ap (is_in_extensions root) k.1.0 ∙ a
         by : (b : Bool) → text_eq n (codes "extensions") ≡ b → (b && is_dir root (n ∷ [])) ≡ true → (q : Place) × ((n ∷ p ≡ codes "extensions" ∷ q) × (at root (codes "extensions" ∷ []) ≡ Some dir))
         by true e k =
             let same = text_from_test n (codes "extensions") e in
-            (p, (ap (λ m. m ∷ p) same, ap (λ m. at root (m ∷ [])) (sym same) ∙ dir_from (at root (n ∷ [])) k))
+            (p, (ap (λ m. m ∷ p) same, ap (λ m. at root (m ∷ [])) (sym same) ∙ dir_from_leaf (at root (n ∷ [])) k))
         by false e k = absurd (true_not_false (sym k))
 
 module _ (root : StorageRoot) where

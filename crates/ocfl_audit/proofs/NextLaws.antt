@@ -14,7 +14,7 @@ use Rattle.ocfl_audit.specs.Walk.{is_reached, seen_names, IsClosed, item_at, ste
 use Rattle.ocfl_audit.specs.Stack.{Frame, seen_places, seen_in, seen_left, listed_at, NoneSeenBetween, NoPathBetween, NoneSeenAbove, NoPathAbove, Ahead, in_sight, in_table, in_later}
 use Rattle.ocfl_audit.proofs.StepLaws.{zone_step}
 use Rattle.ocfl_audit.proofs.AuditExists.{append_one, append_nothing, zone_is, seen_candidate, place_from_test}
-use Rattle.ocfl_audit.proofs.BelowLaws.{text_cmp_total, text_cmp_exact, place_same, under, above, less_from, above_self, begins_rest, text_same, equal_itself, split_names, split_self, split_after}
+use Rattle.ocfl_audit.proofs.BelowLaws.{text_cmp_total, text_cmp_exact, on_ascends, place_same, under, above, less_from, above_self, begins_rest, text_same, equal_itself, split_names, split_self, split_after}
 use Rattle.ocfl_audit.proofs.WayLaws.{seen_way, Reason, by_sight, by_table, reason, head_seen, zone_part}
 use Rattle.ocfl_audit.proofs.WalkLaws.{item_places, places_ascend, audit_places, filter_items, place_has, has_place, none_among}
 use Rattle.ocfl_tree.proofs.Orders.{place_cmp_total, place_cmp_exact, true_not_false, below_from_greater, ascending_unique, among_ascending, among_filter, among_from_filter, ascends_filter, ascends_ascending}
@@ -113,12 +113,8 @@ module _ (root : StorageRoot) where
 
   seen_here : (d : Place) → filter (place_eq d) (seen_places root) ≡ on (is_some (seen root d)) d
   seen_here d = ascending_unique place_cmp_total place_cmp_exact _ _ (ascends_filter place_cmp (place_eq d) (seen_places root) seen_ascend)
-      (alone (is_some (seen root d))) (λ z. (to z, from z (seen root d) refl))
+      (on_ascends (is_some (seen root d)) d) (λ z. (to z, from z (seen root d) refl))
     where
-      alone : (b : Bool) → IsAscending place_cmp (on b d)
-      alone true = (tt, tt)
-      alone false = tt
-
       to : (z : Place) → IsAmong (filter (place_eq d) (seen_places root)) z → IsAmong (on (is_some (seen root d)) d) z
       to z i =
           let k = among_from_filter (place_eq d) (seen_places root) z i in

@@ -11,11 +11,12 @@ use Rattle.ocfl_inventory.specs.Table.{Table, paths_of}
 use Rattle.ocfl_audit.specs.Zone.{hierarchy, inside, zone, table_at, seen, is_entered, is_listed_zone, max_listed_depth, beginnings}
 use Rattle.ocfl_audit.specs.Walk.{is_reached, seen_names, IsClosed}
 use Rattle.ocfl_audit.specs.Stack.{Frame, seen_places, seen_in, seen_left, listed_at, NoneSeenBetween, NoPathBetween, NoneSeenAbove, NoPathAbove, IsStack, IsNextPath}
+use Rattle.ocfl_tree.proofs.Trees.{at-append}
 use Rattle.ocfl_tree.proofs.Orders.{ascending_unique, ascends_ascending, place_cmp_total, place_cmp_exact, true_not_false, not_below_itself, not_both_below, below_from_greater, before_each, among_ascending, among_filter, among_from_filter, ascends_filter}
 use Rattle.ocfl_tree.proofs.Places.{append-child_name}
 use Rattle.ocfl_audit.proofs.AuditExists.{zone_is}
 use Rattle.ocfl_audit.proofs.BelowLaws.{text_cmp_total, text_cmp_exact, place_same, above, less_from, cmp_behind}
-use Rattle.ocfl_audit.proofs.{StepLaws.{seen_step, reached_step}, WayLaws.{at_step}}
+use Rattle.ocfl_audit.proofs.StepLaws.{seen_step, reached_step}
 use Rattle.ocfl_audit.proofs.NextLaws.{seen_ascend, seen_from, seen_to, least_above, same_above, listed_is, listing_step}
 
 -- ---- an entry of a listing is seen
@@ -53,7 +54,7 @@ pub entry_seen : (root : StorageRoot) (d : Place) (n : Text) → IsAmong (seen_n
 entry_seen root d n i = by (is_reached root d) refl i
   where
     there : (leaf : Leaf) × (lookup root (d ++ n ∷ []) ≡ Some leaf) → is_reached root d ≡ true → (leaf : Leaf) × (seen root (d ++ n ∷ []) ≡ Some leaf)
-    there k e = (k.0, seen_step root d n ∙ ap (λ b. cond b (at root (d ++ n ∷ [])) None) e ∙ at_step root d n ∙ ap (λ b. cond b (lookup root (d ++ n ∷ [])) None) (entered_dir root d e) ∙ k.1)
+    there k e = (k.0, seen_step root d n ∙ ap (λ b. cond b (at root (d ++ n ∷ [])) None) e ∙ at-append root d n ∙ ap (λ b. cond b (lookup root (d ++ n ∷ [])) None) (entered_dir root d e) ∙ k.1)
 
     by : (b : Bool) → is_reached root d ≡ b → IsAmong (cond b (names_in root d) []) n → (leaf : Leaf) × (seen root (d ++ n ∷ []) ≡ Some leaf)
     by true e j = there (key_lookup root (d ++ n ∷ []) (key_from_entry d n root ((among_ascending text_cmp_exact _ n).1 j))) e

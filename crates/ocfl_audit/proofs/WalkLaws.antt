@@ -1,5 +1,6 @@
 -- The audit, taken name by name.
 use Rattle.std.proofs.Common.{◌≡◌, ◌≢◌, inl, inr, ℕ, zero, suc, ◌<◌, List, [], ◌∷◌, ◌++◌, refl, sym, ◌∙◌, ap, subst, true, false, Bool, map, filter, Some, arith, length, append_assoc, append-nil}
+use Rattle.std.proofs.lemmas.List.{map-append}
 use Rattle.std.specs.{Prelude.{cond, flat_map}, Ordering.{is_lt}}
 use Rattle.ocfl_tree.specs.Place.{Place, Text, text_cmp, place_cmp, place_eq, begins}
 use Rattle.ocfl_tree.specs.{Ascending.{ascending, IsAscending, IsAmong}, StorageRoot.{StorageRoot}}
@@ -10,22 +11,21 @@ use Rattle.ocfl_audit.specs.Walk.{items_under, items_of_place, seen_names, path_
 use Rattle.ocfl_audit.specs.Stack.{Frame, left_of, entered_at}
 use Rattle.ocfl_tree.proofs.Orders.{place_cmp_total, place_cmp_exact, ascending_unique, among_ascending, among_filter, among_from_filter, ascends_filter, ascends_ascending}
 use Rattle.ocfl_audit.proofs.AuditExists.{place_from_test, append_one, append_nothing, lines_from_notes, notes_candidate}
-use Rattle.ocfl_audit.proofs.BelowLaws.{text_cmp_total, place_same, under, above, begins_rest, split_names, split_self, split_after}
+use Rattle.ocfl_audit.proofs.BelowLaws.{text_cmp_total, on_ascends, place_same, under, above, begins_rest, split_names, split_self, split_after}
 use Rattle.ocfl_audit.proofs.WayLaws.{item_way}
 
 -- ---- lists
 
 module _ {A B : Type 0} where
-  map_append : (f : A → B) (xs ys : List A) → map f (xs ++ ys) ≡ map f xs ++ map f ys
-  map_append f [] ys = refl
-  map_append f (x ∷ xs) ys = ap (λ l. f x ∷ l) (map_append f xs ys)
-
   map_flat_map : {C : Type 0} (f : A → B) (g : C → List A) (xs : List C) → map f (flat_map g xs) ≡ flat_map (λ x. map f (g x)) xs
   map_flat_map f g [] = refl
-  map_flat_map f g (x ∷ xs) = map_append f (g x) (flat_map g xs) ∙ ap (λ l. map f (g x) ++ l) (map_flat_map f g xs)
+  map_flat_map f g (x ∷ xs) = map-append f (g x) (flat_map g xs) ∙ ap (λ l. map f (g x) ++ l) (map_flat_map f g xs)
 
   flat_map_alike : (g h : A → List B) (xs : List A) → ((x : A) → g x ≡ h x) → flat_map g xs ≡ flat_map h xs
   flat_map_alike g h xs e = λ i. flat_map (λ x. e x i) xs
+
+append_at : {A : Type 0} {a b c e : List A} → a ≡ b → c ≡ e → a ++ c ≡ b ++ e
+append_at p q = λ i. p i ++ q i
 
 pub none_among : (xs : List Place) → ((z : Place) → IsAmong xs z → ⊥) → xs ≡ []
 none_among [] h = refl
@@ -91,12 +91,8 @@ module _ (root : StorageRoot) (unread : Unread) where
 
   here_places : (d : Place) → filter (place_eq d) item_places ≡ on (has_lines (item_of root unread d)) d
   here_places d = ascending_unique place_cmp_total place_cmp_exact _ _ (ascends_filter place_cmp (place_eq d) item_places places_ascend)
-      (alone (has_lines (item_of root unread d))) (λ z. (to z, from z (has_lines (item_of root unread d)) refl))
+      (on_ascends (has_lines (item_of root unread d)) d) (λ z. (to z, from z (has_lines (item_of root unread d)) refl))
     where
-      alone : (b : Bool) → IsAscending place_cmp (on b d)
-      alone true = (tt, tt)
-      alone false = tt
-
       to : (z : Place) → IsAmong (filter (place_eq d) item_places) z → IsAmong (on (has_lines (item_of root unread d)) d) z
       to z i =
           let k = among_from_filter (place_eq d) item_places z i in
@@ -127,11 +123,8 @@ module _ (root : StorageRoot) (closed : IsClosed root) (unread : Unread) where
   pub items_by_name : (d : Place) → items_under d (audit root unread) ≡ item_at root unread d ++ flat_map (λ n. items_under (d ++ n ∷ []) (audit root unread)) (names_below root d)
   items_by_name d =
       under_places root unread d ∙ ap (map (item_of root unread)) (split_names (item_places root unread) (places_ascend root unread) d (names_below root d) (names_ascend root d) (cover d))
-      ∙ map_append (item_of root unread) (filter (place_eq d) (item_places root unread)) (flat_map (λ n. under (item_places root unread) (d ++ n ∷ [])) (names_below root d))
+      ∙ map-append (item_of root unread) (filter (place_eq d) (item_places root unread)) (flat_map (λ n. under (item_places root unread) (d ++ n ∷ [])) (names_below root d))
       ∙ (λ i. append_at (sym (kept_items root unread (place_eq d)) ∙ item_here root unread d) (sym (parts_places root unread d (names_below root d))) i)
-    where
-      append_at : {a b c e : List Item} → a ≡ b → c ≡ e → a ++ c ≡ b ++ e
-      append_at p q = λ i. p i ++ q i
 
   -- those above d itself
   pub items_after_self : (d : Place) → after (items_under d (audit root unread)) (Some d) ≡ flat_map (λ n. items_under (d ++ n ∷ []) (audit root unread)) (names_below root d)
@@ -147,11 +140,8 @@ module _ (root : StorageRoot) (closed : IsClosed root) (unread : Unread) where
   items_after_name d n q =
       after_places root unread d (d ++ n ∷ q)
       ∙ ap (map (item_of root unread)) (split_after (item_places root unread) (places_ascend root unread) d (names_below root d) (names_ascend root d) (cover d) n q)
-      ∙ map_append (item_of root unread) (filter (above (d ++ n ∷ q)) (under (item_places root unread) (d ++ n ∷ []))) _
+      ∙ map-append (item_of root unread) (filter (above (d ++ n ∷ q)) (under (item_places root unread) (d ++ n ∷ []))) _
       ∙ append_at (sym (after_places root unread (d ++ n ∷ []) (d ++ n ∷ q))) (sym (parts_places root unread d (filter (λ m. is_lt (text_cmp n m)) (names_below root d))))
-    where
-      append_at : {a b c e : List Item} → a ≡ b → c ≡ e → a ++ c ≡ b ++ e
-      append_at p q = λ i. p i ++ q i
 
   -- ---- the walk
 
@@ -187,9 +177,6 @@ module _ (root : StorageRoot) (closed : IsClosed root) (unread : Unread) where
       (flat_map_alike (λ m. walk k root unread (d ++ m ∷ [])) (λ m. items_under (d ++ m ∷ []) (audit root unread))
       (filter (λ m. is_lt (text_cmp n m)) (names_below root d)) (λ m. walk_under k (d ++ m ∷ []) (deeper k d m h)))
       ∙ sym (items_after_name d n q)
-    where
-      append_at : {a b c e : List Item} → a ≡ b → c ≡ e → a ++ c ≡ b ++ e
-      append_at p q = λ i. p i ++ q i
 
   pub under_root : items_under [] (audit root unread) ≡ audit root unread
   under_root = all (audit root unread)

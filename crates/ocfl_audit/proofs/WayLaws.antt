@@ -1,17 +1,17 @@
 -- The way down to each item: every name on it is seen by a listing, or is in a table.
 use Rattle.std.proofs.Common.{◌≡◌, ◌≢◌, ◌⊎◌, inl, inr, ℕ, ◌+◌, ◌≤◌, List, [], ◌∷◌, ◌++◌, refl, sym, ◌∙◌, ap, subst, true, false, Bool, map, Option, Some, None, arith, length, append_assoc}
 use Rattle.std.proofs.{lemmas.Bool.{leb-true, le-leb}, lemmas.List.{length-append}}
-use Rattle.std.specs.Prelude.{cond, ◌&&◌, ◌||◌, not, nat_le, filter_map, if◌then◌else◌}
+use Rattle.std.specs.Prelude.{cond, ◌&&◌, ◌||◌, not, nat_le, filter_map}
 use Rattle.std.specs.List.{list_all, cons_option}
 use Rattle.ocfl_tree.specs.{Place.{Place, Text, child_name}, Ascending.{IsAmong}}
-use Rattle.ocfl_tree.specs.StorageRoot.{StorageRoot, Leaf, file, dir, other, lookup, at_below, at, is_dir, is_dir_leaf, names_in}
+use Rattle.ocfl_tree.specs.StorageRoot.{StorageRoot, Leaf, dir, lookup, at, is_dir, is_dir_leaf, names_in}
 use Rattle.ocfl_inventory.specs.{Declaration.{undeclared, declared}, Table.{Table, paths_of}}
 use Rattle.ocfl_inventory.specs.declared.declaration.Level.TheVariants.{Object}
 use Rattle.ocfl_audit.specs.Zone.{Zone, skipped, hierarchy, inside, object_zone, object_declared, root_declared, is_in_extensions, zone, table_at, seen, max_listed_depth, is_entered, is_listed_zone, beginnings, files_in, is_known, is_declared}
 use Rattle.ocfl_audit.specs.Lines.{notes, notes_in, hierarchy_notes, within_notes, object_notes}
 use Rattle.ocfl_audit.specs.Walk.{is_reached, seen_names, next_name, names_of_table, path_names_in, path_names, names_below, IsClosed, step_zone}
 use Rattle.ocfl_tree.proofs.Bools.{and_first, and_second, and_both}
-use Rattle.ocfl_tree.proofs.Orders.{true_not_false, among_ascending, among_left, among_right}
+use Rattle.ocfl_tree.proofs.{Orders.{true_not_false, among_ascending, among_left, among_right}, Trees.{at-append, dir_from_leaf}}
 use Rattle.ocfl_tree.proofs.Places.{child_name-append}
 use Rattle.ocfl_audit.proofs.AuditExists.{some_not_none, append_one, append_nothing, not_empty, among_keys, at_lookup, object_at, zone_is, path_among, missing_named}
 use Rattle.ocfl_audit.proofs.StepLaws.{object_zone_step, all_beginnings_step, and_assoc, all_map}
@@ -68,32 +68,12 @@ entry_named root d n leaf h = (among_ascending text_cmp_exact (filter_map (λ e.
 
 -- ---- what is one name further
 
-at_below_step : (root : StorageRoot) (front : Place) (m : Text) (p : Place) (n : Text)
-    → at_below root front m (p ++ n ∷ []) ≡ (if is_dir_leaf (at_below root front m p) then lookup root (front ++ m ∷ p ++ n ∷ []) else None)
-at_below_step root front m [] n = refl
-at_below_step root front m (k ∷ p) n = by (is_dir_leaf (lookup root (front ++ m ∷ []))) (at_below_step root (front ++ m ∷ []) k p n)
-  where
-    by : (b : Bool) → at_below root (front ++ m ∷ []) k (p ++ n ∷ []) ≡ cond (is_dir_leaf (at_below root (front ++ m ∷ []) k p)) (lookup root ((front ++ m ∷ []) ++ k ∷ p ++ n ∷ [])) None
-        → cond b (at_below root (front ++ m ∷ []) k (p ++ n ∷ [])) None ≡ cond (is_dir_leaf (cond b (at_below root (front ++ m ∷ []) k p) None)) (lookup root (front ++ m ∷ k ∷ p ++ n ∷ [])) None
-    by true h = h ∙ ap (λ x. cond (is_dir_leaf (at_below root (front ++ m ∷ []) k p)) (lookup root x) None) (ap (λ x. x ++ n ∷ []) (append_one front (k ∷ p) m))
-    by false h = refl
-
-pub at_step : (root : StorageRoot) (d : Place) (n : Text) → at root (d ++ n ∷ []) ≡ (if is_dir_leaf (at root d) then lookup root (d ++ n ∷ []) else None)
-at_step root [] n = refl
-at_step root (m ∷ d) n = at_below_step root [] m d n
-
-pub dir_from : (leaf : Option Leaf) → is_dir_leaf leaf ≡ true → leaf ≡ Some dir
-dir_from None h = absurd (true_not_false (sym h))
-dir_from (Some (file bytes)) h = absurd (true_not_false (sym h))
-dir_from (Some dir) h = refl
-dir_from (Some other) h = absurd (true_not_false (sym h))
-
 -- above each place there is a directory
 pub is_closed : (root : StorageRoot) → IsClosed root
-is_closed root d n leaf h = by (is_dir_leaf (at root d)) refl (sym (at_step root d n) ∙ h)
+is_closed root d n leaf h = by (is_dir_leaf (at root d)) refl (sym (at-append root d n) ∙ h)
   where
     by : (b : Bool) → is_dir_leaf (at root d) ≡ b → cond b (lookup root (d ++ n ∷ [])) None ≡ Some leaf → at root d ≡ Some dir
-    by true e f = dir_from (at root d) e
+    by true e f = dir_from_leaf (at root d) e
     by false e f = absurd (some_not_none leaf f)
 
 -- ---- closed trees

@@ -1,13 +1,14 @@
 -- How one more place moves the comparison of two reports.
-use Rattle.std.proofs.Common.{◌≡◌, ◌≢◌, ◌⊎◌, inl, inr, ℕ, List, [], ◌∷◌, ◌++◌, Option, Some, None, IfSome, All, map, refl, sym, ap, subst, ◌∙◌, append_assoc, append-nil}
+use Rattle.std.proofs.Common.{◌≡◌, ◌≢◌, ◌⊎◌, inl, inr, ℕ, List, [], ◌∷◌, ◌++◌, Option, Some, None, IfSome, All, map, sym, ap, subst, ◌∙◌, append_assoc, append-nil}
 use Rattle.std.proofs.lemmas.{List.Concat.{flat_map-append}, Option.{IfSome_then}}
 use Rattle.std.proofs.lemmas.List.Elements.{All-append, All-cons, All-nil, All-head, All-tail, All-weaker}
-use Rattle.std.specs.{Prelude.{flat_map}, Io.KnownBytes.{Consumes, Appends, IsAtEnd}}
+use Rattle.std.specs.{Prelude.{flat_map}, Io.KnownBytes.{Appends, IsAtEnd}}
 use Rattle.std.specs.declared.cmp.Ordering.TheVariants.{Less}
 use Rattle.ocfl_tree.specs.{Place.{Text, Place, place_cmp}, Ascending.{IsBeforeAll, IsAscending}}
 use Rattle.ocfl_tree.proofs.Orders.{place_cmp_total, not_below_itself}
 use Rattle.ocfl_report.specs.{Line.{Line}, Text.{lines_text}, declared.line.Line.{Line as MadeLine}}
 use Rattle.ocfl_parts.specs.Splits.{HasText, AreLines}
+use Rattle.ocfl_parts.proofs.Reports.{none_read}
 use Rattle.ocfl_compare.specs.{Changes.{answers_text}, Compared.{IsReport, IsAnswered}}
 use Rattle.ocfl_compare.specs.CompareStop.{StopsRightly}
 use Rattle.ocfl_compare.specs.Internal.Reading.{IsReading, HasRead, IsBelow, IsAt, IsNextPlace, ReadStopsRightly}
@@ -56,10 +57,6 @@ written_more (Some x) (Some y) (Some z) s t h k = k ∙ ap (λ u. u ++ t) h ∙ 
 none_written : (a : Option Text) → Appends a a []
 none_written None = tt
 none_written (Some x) = sym (append-nil x)
-
-none_consumed : (a : Option Text) → Consumes a a []
-none_consumed None = tt
-none_consumed (Some x) = refl
 
 flat_one : {A : Type 0} (f : Group → List A) (gs : List Group) (g : Group) → flat_map f (gs ++ g ∷ []) ≡ flat_map f gs ++ f g
 flat_one f gs g = flat_map-append f gs (g ∷ []) ∙ ap (λ t. flat_map f gs ++ t) (append-nil (f g))
@@ -117,7 +114,7 @@ module _ (asked : Question) (left : List Place) (p : Place) (b c d n m o w x y :
 pub nothing_read : (all : Option Text) (next : Option MadeLine) (count : ℕ) → next ≡ None → count ≡ 0 → IsReading all all [] next count
 nothing_read all next count e f =
     subst (λ o. IsReading all all [] o count) (sym e)
-    (record { lines = record { texts = All-nil HasText; order = tt }; read = none_consumed all; counted = f })
+    (record { lines = record { texts = All-nil HasText; order = tt }; read = none_read all; counted = f })
 
 pub begun : (asked : Question) (left : List Place) (b c n m w : Option Text) (b_next n_next : Option MadeLine) (b_count n_count : ℕ) → HasRead b c [] b_next b_count → HasRead n m [] n_next n_count
     → IsSoFar asked left b c b_next b_count n m n_next n_count w w

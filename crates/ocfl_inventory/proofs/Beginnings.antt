@@ -3,23 +3,19 @@ use Rattle.std.proofs.Common.{◌≡◌, List, [], ◌∷◌, refl, sym, ◌∙�
 use Rattle.std.specs.{Prelude.{◌&&◌}, List.{dedup}, List.Sorted.{IsPermutation}}
 use Rattle.std.specs.Ordering.{is_lt, ordering_then, ordering_reverse}
 use Rattle.std.specs.Cmp.Lexicographic.{nat_list_cmp_total}
-use Rattle.std.specs.FinMap.{IsAntisymmetric, slice_cmp-IsAntisymmetric, nat_cmp-IsAntisymmetric}
 use Rattle.std.specs.declared.cmp.Ordering.{Ordering}
 use Rattle.std.specs.declared.cmp.Ordering.TheVariants.{Less, Equal, Greater}
 use Rattle.ocfl_tree.specs.Place.{Text, Place, text_cmp, text_eq, place_cmp, place_eq, begins}
 use Rattle.ocfl_inventory.specs.{Notes.{is_conflict, conflicts}, Internal.Beside.{hits}}
-use Rattle.ocfl_tree.proofs.{Places.{begins-itself}, Orders.{true_not_false, place_cmp_total, place_cmp_exact, below_from_greater}}
+use Rattle.ocfl_tree.proofs.{Places.{begins-itself, text_cmp_exact}, Orders.{true_not_false, place_cmp_total, place_cmp_exact, below_from_greater}}
 use Rattle.ocfl_inventory.proofs.{Runs.{IsUp, IsFront, equal_itself}, Once.{alike_is, sorted_hits}}
-
-pub text_exact : IsAntisymmetric text_cmp
-text_exact = slice_cmp-IsAntisymmetric nat_cmp-IsAntisymmetric
 
 pub both : (a b : Bool) → a && b ≡ true → (a ≡ true) × (b ≡ true)
 both true b h = (refl, h)
 both false b h = absurd (true_not_false (sym h))
 
 same_text : (a b : Text) → text_eq a b ≡ true → a ≡ b
-same_text = alike_is nat_list_cmp_total text_exact
+same_text = alike_is nat_list_cmp_total text_cmp_exact
 
 begins_later : (p q : Place) → begins p q ≡ true → is_lt (place_cmp q p) ≡ false
 begins_later [] [] h = refl

@@ -14,6 +14,7 @@ use Rattle.std.specs.Cmp.Lexicographic.{pointwise, nat_list_cmp_total}
 use Rattle.ocfl_tree.specs.Place.{Text, Place, text_cmp, place_cmp, begins}
 use Rattle.ocfl_tree.specs.{Ascending.{ascending}, Path.{elements, slashed}}
 use Rattle.ocfl_tree.proofs.Places.{place_eq-pointwise}
+use Rattle.ocfl_tree.proofs.Places.{text_cmp_exact}
 use Rattle.ocfl_tree.proofs.Orders.{place_cmp_total, place_cmp_exact, ascending_unique, ascends_ascending, ascends_filter, among_ascending, among_filter, among_from_filter}
 use Rattle.ocfl_digest.specs.declared.algorithm.Algorithm.{Algorithm}
 use Rattle.ocfl_inventory.specs.{Note.{note, Note}, ListedPath.{is_kept, path_fault}}
@@ -27,7 +28,7 @@ use Rattle.ocfl_inventory.specs.{Internal.TripleOrder.{triple_total}, Internal.B
 use Rattle.ocfl_report.specs.declared.code.Code.{Code}
 use Rattle.ocfl_report.specs.declared.code.Code.TheVariants.{E096, E101, S07}
 use Rattle.ocfl_inventory.proofs.{Runs.{IsUp}, Once.{up_from_sorted, sorted_once, among_permuted}}
-use Rattle.ocfl_inventory.proofs.Beginnings.{text_exact, sorted_conflicts}
+use Rattle.ocfl_inventory.proofs.Beginnings.{sorted_conflicts}
 use Rattle.ocfl_inventory.proofs.TripleOrders.{triple_exact}
 
 -- ---- sorted triples
@@ -101,7 +102,7 @@ module _ (content : Text) where
       by (Some code) e h = ap (λ o. cons_option (option_map (λ c. note c t) o) (filter_map (fault_note content) (filter (is_bad content) ts))) e ∙ ap (λ ns. note code t ∷ ns) h
 
   pub faults_of_bad : (ts : List Text) → fault_notes content (filter (is_bad content) ts) ≡ fault_notes content ts
-  faults_of_bad ts = ap (filter_map (fault_note content)) (ascending_filter text_cmp nat_list_cmp_total text_exact (is_bad content) ts) ∙ faults_left (ascending text_cmp ts)
+  faults_of_bad ts = ap (filter_map (fault_note content)) (ascending_filter text_cmp nat_list_cmp_total text_cmp_exact (is_bad content) ts) ∙ faults_left (ascending text_cmp ts)
 
   pub bad_listed : (b : Block) → bad_texts content b ≡ filter (is_bad content) (listed b)
   bad_listed [] = refl

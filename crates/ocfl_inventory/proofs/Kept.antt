@@ -8,10 +8,10 @@ use Rattle.std.specs.Cmp.Lexicographic.{texts_ties, pointwise}
 use Rattle.ocfl_report.specs.declared.code.Code.TheVariants.{E099, E100, S06}
 use Rattle.ocfl_tree.specs.{Place.{Text, Place, text_eq}, Name.{IsPlace}}
 use Rattle.ocfl_tree.specs.Path.{elements, names_of, fits}
-use Rattle.ocfl_tree.proofs.{Orders.{true_not_false}, Paths.{elements-append}}
+use Rattle.ocfl_tree.proofs.{Orders.{true_not_false}, PathNames.{has_zero}, Paths.{elements-append}}
 use Rattle.ocfl_tree.proofs.PathNames.{names_are, place_from_tests, place_fits, place_has_no_zero}
 use Rattle.ocfl_inventory.specs.ListedPath.{is_empty_or_dots, is_too_long_or_nul, is_content_path, is_kept, is_too_long}
-use Rattle.ocfl_inventory.proofs.PathTexts.{too_long_or_nul_is, has_zero}
+use Rattle.ocfl_inventory.proofs.PathTexts.{too_long_or_nul_is}
 
 -- ---- a name by its tests
 

@@ -1,24 +1,20 @@
 -- Paths and their elements.
-use Rattle.std.proofs.Common.{◌≡◌, ℕ, ◌+◌, ◌<◌, List, [], ◌∷◌, ◌++◌, Bool, true, false, refl, sym, ◌∙◌, ap, cond, map, Bor, length, Option, Some, None, arith, lit<, get_or, drop, drop-cons, add-one, append_assoc, filter_map}
+use Rattle.std.proofs.Common.{◌≡◌, ℕ, ◌+◌, ◌<◌, List, [], ◌∷◌, ◌++◌, Bool, true, false, refl, sym, ◌∙◌, ap, map, Bor, length, Option, Some, None, arith, lit<, get_or, drop, drop-cons, add-one, append_assoc, filter_map}
 use Rattle.std.proofs.lemmas.Bool.Decides.{nat_tests}
 use Rattle.std.proofs.lemmas.List.Splits.{slice_split_none, slice_split_first, length-slice_split}
 use Rattle.std.proofs.lemmas.List.Sums.{fails_before_first}
 use Rattle.std.proofs.lemmas.Str.Pattern.{IsSplitOnceResult, split_once_first}
 use Rattle.std.specs.Prelude.{◌==◌, ◌||◌, ◌&&◌, nat_le, nat_lt, count_by}
-use Rattle.std.specs.List.{cons_option, list_any, list_all, onto_first, position_or_len, before_first, after_first}
+use Rattle.std.specs.List.{cons_option, list_any, list_all, position_or_len, before_first, after_first}
 use Rattle.std.specs.{Option.{MatchOption}, Str.{all_ascii_digits}, Char.{is_ascii_digit}}
 use Rattle.ocfl_inventory.specs.{Note.{Note}, Notes.{fault_note}}
 use Rattle.ocfl_inventory.specs.ListedPath.{is_too_long_or_nul, is_version_name, is_content_path, is_too_long}
 use Rattle.ocfl_tree.specs.{Place.{Text, Place, text_eq}, Path.{elements}}
-use Rattle.ocfl_tree.proofs.PathOrders.{some_element, slash_is}
+use Rattle.ocfl_tree.proofs.{PathNames.{has_zero, zeros}, PathOrders.{some_element}}
 
 pub digits_are : (bs : Text) → all_ascii_digits bs ≡ list_all is_ascii_digit bs
 digits_are [] = refl
 digits_are (c ∷ bs) = ap (λ b. is_ascii_digit c && b) (digits_are bs)
-
-or_assoc : (a b c : Bool) → ((a || b) || c) ≡ (a || (b || c))
-or_assoc true b c = refl
-or_assoc false b c = refl
 
 -- ---- how many elements
 
@@ -40,23 +36,8 @@ any_either p q (x ∷ xs) = ap (λ b. (p x || q x) || b) (any_either p q xs) ∙
     by false true false d = refl
     by false false c d = refl
 
-abbrev pub has_zero : Text → Bool
-has_zero n = list_any (λ b. b == 0) n
-
-zero_behind : (c : ℕ) (xs : Place) → (xs ≡ [] → ⊥) → list_any has_zero (onto_first c xs) ≡ (c == 0 || list_any has_zero xs)
-zero_behind c [] h = absurd (h refl)
-zero_behind c (x ∷ xs) h = or_assoc (c == 0) (has_zero x) (list_any has_zero xs)
-
-zero_somewhere : (t : Text) → list_any has_zero (elements t) ≡ has_zero t
-zero_somewhere [] = refl
-zero_somewhere (c ∷ t) = by (c == 47) refl (zero_somewhere t)
-  where
-    by : (b : Bool) → (c == 47) ≡ b → list_any has_zero (elements t) ≡ has_zero t → list_any has_zero (cond b ([] ∷ elements t) (onto_first c (elements t))) ≡ (c == 0 || has_zero t)
-    by true e h = h ∙ ap (λ d. d == 0 || has_zero t) (sym (slash_is c e))
-    by false e h = zero_behind c (elements t) (some_element t) ∙ ap (λ b. c == 0 || b) h
-
 pub too_long_or_nul_is : (t : Text) → list_any is_too_long_or_nul (elements t) ≡ (list_any is_too_long (elements t) || list_any (λ b. b == 0) t)
-too_long_or_nul_is t = any_either is_too_long has_zero (elements t) ∙ ap (λ b. list_any is_too_long (elements t) || b) (zero_somewhere t)
+too_long_or_nul_is t = any_either is_too_long has_zero (elements t) ∙ ap (λ b. list_any is_too_long (elements t) || b) (zeros t)
 
 -- ---- the first elements
 

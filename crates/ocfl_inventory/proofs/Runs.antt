@@ -10,11 +10,6 @@ use Rattle.ocfl_tree.proofs.Orders.{true_not_false, below_from_greater}
 
 -- ---- orderings
 
-pub less_from : (r : Ordering) → is_lt r ≡ true → r ≡ Less
-less_from Less e = refl
-less_from Equal e = cc
-less_from Greater e = cc
-
 equal_reversed : (r : Ordering) → r ≡ ordering_reverse r → r ≡ Equal
 equal_reversed Less e = cc
 equal_reversed Equal e = refl

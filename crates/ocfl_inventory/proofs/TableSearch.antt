@@ -8,9 +8,9 @@ use Rattle.std.specs.declared.cmp.Ordering.{Ordering}
 use Rattle.std.specs.declared.cmp.Ordering.TheVariants.{Less, Equal, Greater}
 use Rattle.ocfl_tree.specs.Place.{Place, place_cmp, place_eq}
 use Rattle.ocfl_tree.specs.Ascending.{IsBeforeAll, IsAscending}
-use Rattle.ocfl_tree.proofs.Orders.{true_not_false, place_cmp_total, place_cmp_exact, below_from_greater, not_less_itself}
+use Rattle.ocfl_tree.proofs.Orders.{true_not_false, place_cmp_total, place_cmp_exact, below_from_greater, less_from, not_less_itself}
 use Rattle.ocfl_inventory.specs.Table.{Named, Triple, triple_cmp, named_cmp}
-use Rattle.ocfl_inventory.proofs.{Runs.{IsUnder, IsUp, less_from}, Once.{no_fall}}
+use Rattle.ocfl_inventory.proofs.{Runs.{IsUnder, IsUp}, Once.{no_fall}}
 
 -- ---- the paths do not fall
 

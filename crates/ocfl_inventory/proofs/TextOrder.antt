@@ -9,7 +9,7 @@ use Rattle.ocfl_tree.specs.{Place.{Text, text_cmp, text_eq}, Ascending.{ascendin
 use Rattle.ocfl_inventory.specs.{Notes.{repeated}, Internal.Beside.{hits}}
 use Rattle.ocfl_inventory.proofs.Runs.{IsUp}
 use Rattle.ocfl_inventory.proofs.Once.{up_from_sorted, sorted_once, sorted_hits, alike_front}
-use Rattle.ocfl_inventory.proofs.Beginnings.{text_exact}
+use Rattle.ocfl_tree.proofs.Places.{text_cmp_exact}
 
 abbrev pub lent : List (Bor Text) → List Text
 lent xs = map (λ t. t.now) xs
@@ -38,17 +38,17 @@ lent_dedup xs ys h = ap lent (dedup_is same_lent xs ys h) ∙ by xs
     by (x ∷ xs) = lent_dedup_from x xs
 
 lent_up : (xs : List (Bor Text)) → lent_sorted xs → IsUp text_cmp (lent xs)
-lent_up xs s = up_from_sorted nat_list_cmp_total text_exact (λ t. t.now) xs (λ k d h. s k d (omega arith) h)
+lent_up xs s = up_from_sorted nat_list_cmp_total text_cmp_exact (λ t. t.now) xs (λ k d h. s k d (omega arith) h)
 
 pub texts_once : (xs ys zs : List (Bor Text)) → IsPermutation xs ys → lent_sorted ys → IsFiltered (DiffersFromLast same_lent) [] ys zs → lent zs ≡ ascending text_cmp (lent xs)
-texts_once xs ys zs p s f = lent_dedup ys zs f ∙ sorted_once nat_list_cmp_total text_exact (lent xs) (lent ys) (IsPermutation-map (λ t. t.now) xs ys p) (lent_up ys s)
+texts_once xs ys zs p s f = lent_dedup ys zs f ∙ sorted_once nat_list_cmp_total text_cmp_exact (lent xs) (lent ys) (IsPermutation-map (λ t. t.now) xs ys p) (lent_up ys s)
 
 pub keys_repeated : (xs ys hs zs : List Text) → IsPermutation xs ys → IsSorted text_cmp ys → hs ≡ hits text_eq ys
     → IsFiltered (DiffersFromLast (eq_by_cmp text_cmp)) [] hs zs → zs ≡ repeated text_cmp text_eq xs
 keys_repeated xs ys hs zs p s h f =
     dedup_is (eq_by_cmp text_cmp) hs zs f ∙ ap (dedup text_eq) h
-    ∙ sorted_hits nat_list_cmp_total text_exact (alike_front nat_list_cmp_total text_exact) _ xs ys (λ z i. refl) p
-    (subst (IsUp text_cmp) (itself ys) (up_from_sorted nat_list_cmp_total text_exact (λ t. t) ys (λ k d l. s k d (omega arith) l)))
+    ∙ sorted_hits nat_list_cmp_total text_cmp_exact (alike_front nat_list_cmp_total text_cmp_exact) _ xs ys (λ z i. refl) p
+    (subst (IsUp text_cmp) (itself ys) (up_from_sorted nat_list_cmp_total text_cmp_exact (λ t. t) ys (λ k d l. s k d (omega arith) l)))
   where
     itself : (ts : List Text) → map (λ t. t) ts ≡ ts
     itself [] = refl

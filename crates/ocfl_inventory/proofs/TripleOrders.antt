@@ -6,9 +6,8 @@ use Rattle.std.specs.declared.cmp.Ordering.TheVariants.{Less, Equal, Greater}
 use Rattle.ocfl_digest.specs.Algorithm.{algorithm_cmp, algorithm_name, algorithm_named}
 use Rattle.ocfl_digest.proofs.Names.{named_by_name}
 use Rattle.ocfl_tree.specs.Place.{place_cmp, text_cmp}
-use Rattle.ocfl_tree.proofs.Orders.{place_cmp_exact}
+use Rattle.ocfl_tree.proofs.{Orders.{place_cmp_exact}, Places.{text_cmp_exact}}
 use Rattle.ocfl_inventory.specs.Table.{Triple, named_cmp, triple_cmp}
-use Rattle.ocfl_inventory.proofs.Beginnings.{text_exact}
 
 then_parts : (r s : Ordering) → ordering_then r s ≡ Equal → (r ≡ Equal) × (s ≡ Equal)
 then_parts Less s e = absurd cc
@@ -23,7 +22,7 @@ bool_exact false true e = cc
 
 algorithm_exact : IsAntisymmetric algorithm_cmp
 algorithm_exact a b e =
-    let names : algorithm_name a ≡ algorithm_name b = text_exact (algorithm_name a) (algorithm_name b) e in
+    let names : algorithm_name a ≡ algorithm_name b = text_cmp_exact (algorithm_name a) (algorithm_name b) e in
     let same : Some a ≡ Some b = sym (named_by_name a) ∙ ap algorithm_named names ∙ named_by_name b in
     cc
 
@@ -33,7 +32,7 @@ named_exact a b e =
     let v = then_parts _ _ w.1 in
     let one = bool_exact a.fixity b.fixity w.0 in
     let two = algorithm_exact a.algorithm b.algorithm v.0 in
-    let three = text_exact a.digest b.digest v.1 in
+    let three = text_cmp_exact a.digest b.digest v.1 in
     λ i. record { fixity = one i; algorithm = two i; digest = three i }
 
 pub triple_exact : IsAntisymmetric triple_cmp

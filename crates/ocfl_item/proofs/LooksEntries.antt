@@ -15,9 +15,10 @@ use Rattle.ocfl_inventory.specs.{Entries.{is_file, file_names}, declared.declara
 use Rattle.ocfl_audit.specs.{Zone.{max_listed_depth, files_in}, Lines.{is_empty}}
 use Rattle.ocfl_item.specs.{Ways.{is_dir_kind, is_listable}, Internal.Ways.{is_file_kind}}
 use Rattle.ocfl_tree.proofs.Orders.{true_not_false, not_below_itself, before_each, ascends_ascending, among_ascending, ascends_filter, among_filter, among_from_filter}
+use Rattle.ocfl_tree.proofs.Trees.{at-append}
 use Rattle.ocfl_audit.proofs.AuditExists.{some_not_none}
 use Rattle.ocfl_audit.proofs.BelowLaws.{text_cmp_total, text_cmp_exact, text_from_test, text_same, place_same}
-use Rattle.ocfl_audit.proofs.WayLaws.{entry_named, at_step}
+use Rattle.ocfl_audit.proofs.WayLaws.{entry_named}
 
 -- ---- the entry of a name
 
@@ -135,7 +136,7 @@ named_from (e ∷ root) d n i = by (child_name d e.0) refl i (named_from root d 
 pub name_there : (root : StorageRoot) (d : Place) (n : Text) → at root d ≡ Some dir → IsAmong (names_in root d) n → (leaf : Leaf) × (at root (d ++ n ∷ []) ≡ Some leaf)
 name_there root d n is i =
     let k = named_from root d n ((among_ascending text_cmp_exact (filter_map (λ e. child_name d e.0) root) n).1 i) in
-    (k.0, at_step root d n ∙ ap (λ x. cond (is_dir_leaf x) (lookup root (d ++ n ∷ [])) None) is ∙ k.1)
+    (k.0, at-append root d n ∙ ap (λ x. cond (is_dir_leaf x) (lookup root (d ++ n ∷ [])) None) is ∙ k.1)
 
 pub emptied : (root : StorageRoot) (d : Place) (es : List Entry) → IsListing root d es → es ≡ [] → is_empty (names_in root d) ≡ true
 emptied root d es h e = by (names_in root d) refl

@@ -11,9 +11,9 @@ use Rattle.ocfl_memory.specs.MemTree.{parent, put_refusal, after_put, Puts, Remo
 use Rattle.ocfl_memory.specs.{Internal.Kept.{IsKept, seen}, declared.build.BuildStop.{BuildStop}}
 use Rattle.ocfl_memory.specs.declared.build.BuildStop.TheVariants.{Exists, NoParent, Full}
 use Rattle.ocfl_memory.specs.declared.mem_tree.OpenFile.{OpenFile}
-use Rattle.ocfl_tree.proofs.{Places.{append-child_name}, Trees.{some_not_none, at_in_dir}}
+use Rattle.ocfl_tree.proofs.{Places.{append-child_name}, Trees.{dir_from_leaf, some_not_none, at_in_dir}}
 use Rattle.ocfl_memory.proofs.Listings.{length-names_in}
-use Rattle.ocfl_memory.proofs.Trees.{dir_from_leaf, front_last, parent-append, rooted_from_above, rooted_push, put_leaves, once_push, is_left, removal_leaves, rooted_left, once_left}
+use Rattle.ocfl_memory.proofs.Trees.{front_last, parent-append, rooted_from_above, rooted_push, put_leaves, once_push, is_left, removal_leaves, rooted_left, once_left}
 
 -- the refusal that was found is that of the tree
 pub refusal_found : (nodes : StorageRoot) (os : List Opening) (o : Option OpenFile) (p : Place) → IsKept nodes os o → kept_refusal nodes p ≡ put_refusal nodes p

@@ -2,18 +2,12 @@
 use Rattle.std.proofs.Common.{◌≡◌, ◌≢◌, Bool, true, false, cond, not, [], ◌∷◌, ◌++◌, Option, Some, None, sym, ◌∙◌, ap, refl, append_assoc, filter}
 use Rattle.std.proofs.lemmas.List.{same_from_push}
 use Rattle.ocfl_tree.specs.Place.{Text, Place, place_eq, begins}
-use Rattle.ocfl_tree.specs.StorageRoot.{StorageRoot, Leaf, file, dir, other, lookup, is_dir_leaf, at_below, at}
+use Rattle.ocfl_tree.specs.StorageRoot.{StorageRoot, Leaf, dir, lookup, is_dir_leaf, at_below, at}
 use Rattle.ocfl_memory.specs.MemTree.{parent, after_put, after_removal}
 use Rattle.ocfl_memory.specs.Internal.Nodes.{stands_at, AreOnce}
 use Rattle.ocfl_tree.proofs.Places.{place_eq-Decides, differ, begins-longer}
 use Rattle.ocfl_tree.proofs.Lists.{lookup_here, lookup_other}
-use Rattle.ocfl_tree.proofs.Trees.{some_not_none, at-append, at_in_dir}
-
-pub dir_from_leaf : (o : Option Leaf) → is_dir_leaf o ≡ true → o ≡ Some dir
-dir_from_leaf None e = absurd cc
-dir_from_leaf (Some (file bytes)) e = absurd cc
-dir_from_leaf (Some dir) e = refl
-dir_from_leaf (Some other) e = absurd cc
+use Rattle.ocfl_tree.proofs.Trees.{dir_from_leaf, some_not_none, at-append, at_in_dir}
 
 -- every place but the root is right below another
 pub front_last : (n : Text) (p : Place) → (d : Place) × (m : Text) × (n ∷ p ≡ d ++ m ∷ [])

@@ -1,15 +1,14 @@
 -- Places in order, and one more above the last.
-use Rattle.std.proofs.Common.{◌≡◌, ℕ, zero, suc, ◌-◌, ◌+◌, ◌<◌, List, [], ◌∷◌, ◌++◌, Bool, true, IsTrue, ◌↔◌, Some, length, take, take_all, get_or, All, refl, sym, ap, subst, ◌∙◌, arith}
+use Rattle.std.proofs.Common.{◌≡◌, ℕ, zero, suc, ◌-◌, ◌+◌, ◌<◌, List, [], ◌∷◌, ◌++◌, Bool, IsTrue, ◌↔◌, Some, length, take, take_all, get_or, All, sym, ap, subst, ◌∙◌, arith}
 use Rattle.std.proofs.Props.{props}
 use Rattle.std.specs.{Coded.{Unit-prop}, List.{slice_get}, Ordering.{is_lt}}
-use Rattle.std.specs.declared.cmp.Ordering.{Ordering}
-use Rattle.std.specs.declared.cmp.Ordering.TheVariants.{Less, Equal, Greater}
+use Rattle.std.specs.declared.cmp.Ordering.TheVariants.{Less}
 use mathlib.Core.Logic.{∥∥₁_elim}
 use Rattle.std.proofs.lemmas.List.{take_more}
 use Rattle.std.proofs.lemmas.List.Elements.{All-append, All-cons, All-nil, All-head, All-tail}
 use Rattle.ocfl_tree.specs.{Place.{Place, place_cmp}, Name.{IsPlace}}
 use Rattle.ocfl_tree.specs.Ascending.{IsBeforeAll, IsAscending}
-use Rattle.ocfl_tree.proofs.Orders.{place_cmp_total}
+use Rattle.ocfl_tree.proofs.Orders.{less_from, place_cmp_total}
 use Rattle.ocfl_parts.specs.Separators.{AreSeparators}
 
 -- ---- one more place
@@ -43,16 +42,11 @@ ascend_other : (ps : List Place) (q p : Place) → IsAscending place_cmp (ps ++ 
 ascend_other [] q p h l = (tt, tt)
 ascend_other (x ∷ ps) q p h l = (before_other x ps q p h.0 l, ascend_other ps q p h.1 l)
 
-is_lt-Less : (o : Ordering) → is_lt o ≡ true → o ≡ Less
-is_lt-Less Less e = refl
-is_lt-Less Equal e = cc
-is_lt-Less Greater e = cc
-
 -- the test of it
 pub above_last : (r : Bool) (qs ps : List Place) (l p : Place) → qs ≡ ps ++ l ∷ [] → r ≡ is_lt (place_cmp l p) → IsAscending place_cmp qs → IsTrue r ↔ IsAscending place_cmp (qs ++ p ∷ [])
 above_last r qs ps l p e f h =
     let P : List Place → Type 0 = λ xs. IsAscending place_cmp xs → IsTrue r ↔ IsAscending place_cmp (xs ++ p ∷ []) in
-    subst P (sym e) (λ k. (λ t. ascend_more ps l p k (is_lt-Less _ (sym f ∙ t)), λ m. f ∙ ap is_lt (last_below ps l p m))) h
+    subst P (sym e) (λ k. (λ t. ascend_more ps l p k (less_from _ (sym f ∙ t)), λ m. f ∙ ap is_lt (last_below ps l p m))) h
 
 get_or_there : (xs : List Place) (i : ℕ) (l : Place) → slice_get xs i ≡ Some l → get_or xs i l ≡ l
 get_or_there [] i l e = cc

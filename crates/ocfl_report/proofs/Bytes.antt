@@ -1,10 +1,10 @@
 -- What holds of each byte of a text: of UTF-8, of a name, and by a test.
-use Rattle.std.proofs.Common.{◌≡◌, ℕ, ◌+◌, ◌/◌, ◌<◌, ◌≤◌, ◌&&◌, nat_le, nat_lt, leb-true, List, [], ◌∷◌, get_or, Fits, w8, Bool, true, false, cond, ltb, ltb-true, refl, subst, All, IsUtf8, arith}
+use Rattle.std.proofs.Common.{◌≡◌, ℕ, zero, suc, ◌+◌, ◌/◌, ◌<◌, ◌≤◌, ◌&&◌, nat_le, nat_lt, leb-true, List, [], ◌∷◌, ◌++◌, get_or, Fits, w8, Bool, true, false, cond, ltb, ltb-true, refl, subst, All, IsUtf8, arith}
 use Rattle.std.proofs.Math.Utf8.{scalar, scalars, next, encode, encodes, scalar_cases}
 use Rattle.std.proofs.lemmas.Bool.{and_parts}
 use Rattle.std.proofs.lemmas.List.Elements.{All-from_recursion, All-append, All-cons, All-nil, All-from_get_or}
 use Rattle.std.proofs.lemmas.Str.{IsUtf8-had}
-use Rattle.std.specs.List.{list_all}
+use Rattle.std.specs.{Prelude.{slice_index}, List.{list_all}, Int.{bytes_high_first, byte_at}}
 use Rattle.ocfl_tree.specs.{Place.{Text}, Name.{IsName}}
 
 -- what a byte can be
@@ -61,3 +61,26 @@ utf8_bytes t h = subst (All IsByte) h.1.1 (encodes_bytes h.0 h.1.0)
 -- a name consists of bytes
 pub name_bytes : (n : Text) → IsName n → All (λ b. b < 256) n
 name_bytes n h = utf8_bytes n (IsUtf8-had n h.text)
+
+-- ---- bytes by their places
+
+abbrev pub AreBytes : Text → Type 0
+AreBytes xs = (i : ℕ) → slice_index xs i < 256
+
+pub bytes_append : (xs ys : Text) → AreBytes xs → AreBytes ys → AreBytes (xs ++ ys)
+bytes_append [] ys h k i = k i
+bytes_append (x ∷ xs) ys h k zero = h 0
+bytes_append (x ∷ xs) ys h k (suc i) = bytes_append xs ys (λ j. h (suc j)) k i
+
+pub no_bytes_are : AreBytes []
+no_bytes_are i = let h : 0 < 256 = omega arith in h
+
+byte_is : (k n : ℕ) → byte_at k n < 256
+byte_is zero n = omega arith
+byte_is (suc k) n = omega arith
+
+-- the bytes of a number, the highest of them first
+pub bytes_of_number : (k n : ℕ) → AreBytes (bytes_high_first k n)
+bytes_of_number zero n i = no_bytes_are i
+bytes_of_number (suc k) n zero = byte_is k n
+bytes_of_number (suc k) n (suc i) = bytes_of_number k n i

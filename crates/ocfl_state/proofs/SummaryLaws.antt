@@ -2,12 +2,13 @@
 use Rattle.std.proofs.Common.{◌≡◌, ◌≢◌, ◌⊎◌, inl, inr, ⊎_elim, ℕ, zero, suc, ◌+◌, ◌*◌, ◌/◌, ◌<◌, [], ◌∷◌, ◌++◌, length, take, drop, refl, sym, ◌∙◌, ap, arith, length-append, Ok}
 use Rattle.std.proofs.lemmas.List.{take-append-drop, drop_at, take_at}
 use Rattle.std.proofs.lemmas.Bool.Decides.{eqb_tells}
-use Rattle.std.specs.{Prelude.{Result, Err, replicate}, Int.{bytes_high_first, byte_at}}
+use Rattle.std.specs.Prelude.{Result, Err, replicate}
 use Rattle.sha2.specs.Sha256 as s256
 use Rattle.sha2.proofs.Facts256.{length-sha256}
 use Rattle.hex.specs.Hex.{encode_lower, decode_of, lower_digits, IsBytes}
 use Rattle.hex.specs.declared.error.FromHexError.{FromHexError}
 use Rattle.hex.proofs.HexLemmas.{decode_of-encode_lower, length-encode_with}
+use Rattle.ocfl_report.proofs.Bytes.{bytes_append, bytes_of_number, no_bytes_are}
 use Rattle.ocfl_state.specs.Content.{Bytes}
 use Rattle.ocfl_state.specs.Pieces.{piece_size, no_pieces, before_piece, piece_at, chained, whole_pieces, rest_of, tail_of, summary_of, Collision}
 use Rattle.ocfl_state.specs.declared.checkpoint_parts.ReportMark.{ReportMark}
@@ -43,27 +44,10 @@ pub same_rest_or_collision : (report other : Bytes) → tail_of report ≡ tail_
 same_rest_or_collision report other same = same_or_shown (rest_of report) (rest_of other) same
 
 -- a digest's values are bytes
-bytes_append : (xs ys : Bytes) → IsBytes xs → IsBytes ys → IsBytes (xs ++ ys)
-bytes_append [] ys h k i = k i
-bytes_append (x ∷ xs) ys h k zero = h 0
-bytes_append (x ∷ xs) ys h k (suc i) = bytes_append xs ys (λ j. h (suc j)) k i
-
-no_bytes_are : IsBytes []
-no_bytes_are i = let h : 0 < 256 = omega arith in h
-
 zeros_are_bytes : (n : ℕ) → IsBytes (replicate n 0)
 zeros_are_bytes zero i = no_bytes_are i
 zeros_are_bytes (suc n) zero = let h : 0 < 256 = omega arith in h
 zeros_are_bytes (suc n) (suc i) = zeros_are_bytes n i
-
-byte_is : (k n : ℕ) → byte_at k n < 256
-byte_is zero n = omega arith
-byte_is (suc k) n = omega arith
-
-bytes_of_number : (k n : ℕ) → IsBytes (bytes_high_first k n)
-bytes_of_number zero n i = no_bytes_are i
-bytes_of_number (suc k) n zero = byte_is k n
-bytes_of_number (suc k) n (suc i) = bytes_of_number k n i
 
 digest_bytes_are : (h : Bytes) (n : ℕ) → IsBytes (s256.digest_bytes h n)
 unfolding s256.digest_bytes

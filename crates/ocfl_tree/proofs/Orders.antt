@@ -23,6 +23,11 @@ not_less Less h = absurd (h refl)
 not_less Equal h = refl
 not_less Greater h = refl
 
+pub less_from : (r : Ordering) → is_lt r ≡ true → r ≡ Less
+less_from Less e = refl
+less_from Equal e = cc
+less_from Greater e = cc
+
 less_not_greater : Less ≡ Greater → ⊥
 less_not_greater e = cc
 

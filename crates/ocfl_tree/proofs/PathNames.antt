@@ -67,7 +67,7 @@ utf8_elements t u = utf8_within (suc (length t)) t (omega arith) u
 abbrev has_slash : Text → Bool
 has_slash n = list_any (λ b. b == 47) n
 
-abbrev has_zero : Text → Bool
+abbrev pub has_zero : Text → Bool
 has_zero n = list_any (λ b. b == 0) n
 
 no_slash_behind : (c : ℕ) (xs : Place) → (xs ≡ [] → ⊥) → (c == 47) ≡ false → list_any has_slash xs ≡ false → list_any has_slash (onto_first c xs) ≡ false
@@ -90,7 +90,7 @@ zero_behind c (x ∷ xs) k = by (c == 0)
     by true = refl
     by false = refl
 
-zeros : (t : Text) → list_any has_zero (elements t) ≡ has_zero t
+pub zeros : (t : Text) → list_any has_zero (elements t) ≡ has_zero t
 zeros [] = refl
 zeros (c ∷ t) = by (c == 47) refl (zeros t)
   where

@@ -1,10 +1,16 @@
 -- What lies where in a tree, and after a put or a removal.
-use Rattle.std.proofs.Common.{◌≡◌, ◌≢◌, Bool, true, false, cond, [], ◌∷◌, ◌++◌, Some, None, ◌∙◌, ap, refl, append_assoc}
+use Rattle.std.proofs.Common.{◌≡◌, ◌≢◌, Bool, true, false, cond, [], ◌∷◌, ◌++◌, Option, Some, None, ◌∙◌, ap, refl, append_assoc}
 use Rattle.ocfl_tree.specs.Place.{Text, Place}
-use Rattle.ocfl_tree.specs.StorageRoot.{StorageRoot, dir, lookup, is_dir_leaf, at_below, at}
+use Rattle.ocfl_tree.specs.StorageRoot.{StorageRoot, Leaf, file, dir, other, lookup, is_dir_leaf, at_below, at}
 
 pub some_not_none : {A : Type 0} (x : A) → Some x ≢ None
 some_not_none x e = cc
+
+pub dir_from_leaf : (leaf : Option Leaf) → is_dir_leaf leaf ≡ true → leaf ≡ Some dir
+dir_from_leaf None h = absurd cc
+dir_from_leaf (Some (file bytes)) h = absurd cc
+dir_from_leaf (Some dir) h = refl
+dir_from_leaf (Some other) h = absurd cc
 
 -- what is right below a directory is what is looked up there
 at_below-append : (root : StorageRoot) (front : Place) (n : Text) (p : Place) (m : Text)

@@ -1,7 +1,6 @@
 -- A right sidecar has no lines, whatever its digest is: worked cases need not compute the digests
 -- of their inventories.
-use Rattle.std.proofs.Common.{◌≡◌, ℕ, zero, suc, ◌<◌, ◌≤◌, ◌*◌, List, [], ◌∷◌, ◌++◌, length, codes, refl, sym, ◌∙◌, ap, arith, length-append, Some}
-use Rattle.std.specs.Int.{bytes_high_first, byte_at}
+use Rattle.std.proofs.Common.{◌≡◌, ℕ, zero, suc, ◌≤◌, ◌*◌, List, [], ◌∷◌, ◌++◌, length, codes, refl, sym, ◌∙◌, ap, arith, length-append, Some}
 use Rattle.hex.specs.Hex.{IsBytes, encode_lower, lower_digits}
 use Rattle.hex.proofs.HexLemmas.{decode_of-encode_lower, length-encode_with}
 use Rattle.sha2.specs.Sha256 as s256
@@ -9,6 +8,7 @@ use Rattle.sha2.specs.Sha512 as s512
 use Rattle.sha2.proofs.{Facts256.{length-sha256}, Facts512.{length-sha512}}
 use Rattle.ocfl_tree.specs.Place.{Text}
 use Rattle.ocfl_tree.proofs.Places.{text_eq-same}
+use Rattle.ocfl_report.proofs.Bytes.{bytes_append, bytes_of_number, no_bytes_are}
 use Rattle.ocfl_digest.specs.{Digest.{digest_bytes_of}, declared.algorithm.Algorithm.{Algorithm}}
 use Rattle.ocfl_digest.specs.declared.algorithm.Algorithm.TheVariants.{Sha256, Sha512}
 use Rattle.ocfl_inventory.specs.Sidecar.{sidecar_digits, sidecar_of}
@@ -17,23 +17,6 @@ use Rattle.ocfl_audit.specs.Head.{sidecar_notes}
 use Rattle.ocfl_audit.proofs.Cases.Trees.{right_sidecar_256, right_sidecar_512}
 
 -- ---- the digests are bytes
-
-bytes_append : (xs ys : List ℕ) → IsBytes xs → IsBytes ys → IsBytes (xs ++ ys)
-bytes_append [] ys h k i = k i
-bytes_append (x ∷ xs) ys h k zero = h 0
-bytes_append (x ∷ xs) ys h k (suc i) = bytes_append xs ys (λ j. h (suc j)) k i
-
-no_bytes_are : IsBytes []
-no_bytes_are i = let h : 0 < 256 = omega arith in h
-
-byte_is : (k n : ℕ) → byte_at k n < 256
-byte_is zero n = omega arith
-byte_is (suc k) n = omega arith
-
-bytes_of_number : (k n : ℕ) → IsBytes (bytes_high_first k n)
-bytes_of_number zero n i = no_bytes_are i
-bytes_of_number (suc k) n zero = byte_is k n
-bytes_of_number (suc k) n (suc i) = bytes_of_number k n i
 
 digest_bytes_256 : (h : List ℕ) (n : ℕ) → IsBytes (s256.digest_bytes h n)
 unfolding s256.digest_bytes

@@ -6,10 +6,6 @@ use Rattle.jiff_core.proofs.SignedLemmas.{signed_arith}
 use Rattle.jiff_tz.specs.declared.timezone.TimeZone.{TimeZone}
 use Rattle.ocfl_clock.specs.Clock.{Comes, ComesTo, IsNextTime, clock_at, shifted}
 
--- before the first such time there is none
-pub none_before : (of_day before after : ℕ) → after < of_day → Comes of_day before after → ⊥
-none_before of_day before after l h = omega (arith, l, h.1)
-
 -- the clock shows it
 pub shown_now : (of_day before after : ℕ) → of_day ≤ after → (after - of_day) % 86400 ≡ 0 → Comes of_day before after
 shown_now of_day before after l e =

@@ -1,5 +1,5 @@
 -- What the lines of one place say together, and its text.
-use Rattle.std.proofs.Common.{◌≡◌, ◌≢◌, inl, inr, List, [], ◌∷◌, ◌++◌, ℕ, Bool, true, false, Option, Some, None, All, map, refl, sym, ap, subst, ◌∙◌, append_assoc, append-nil}
+use Rattle.std.proofs.Common.{◌≡◌, ◌≢◌, inl, List, [], ◌∷◌, ◌++◌, ℕ, Bool, true, false, Option, Some, None, All, map, refl, sym, ap, subst, ◌∙◌, append_assoc, append-nil}
 use Rattle.std.proofs.lemmas.List.Concat.{flat_map-append}
 use Rattle.std.proofs.lemmas.List.Elements.{All-append, All-cons, All-nil}
 use Rattle.std.specs.{Prelude.{cond, ◌||◌, not, flat_map}, List.{list_any}}
@@ -108,13 +108,6 @@ taken_more p all left after done own first next later count k h t r = record {
   here = All-append (λ l. p ≡ l.place) own (listed next) t.here (at_listed p next h);
   some = inl (at_more p next own h);
   reading = subst (λ ls. HasRead all after ls later k) (append_assoc done own (listed next)) r;
-}
-
-pub none_taken : (p : Place) (all left : Option Text) (done : List Line) (first : Option MadeLine) (count : ℕ) → HasRead all left done first count → AreTaken p all left done [] first first count
-none_taken p all left done first count h = record {
-  here = All-nil (λ l. p ≡ l.place);
-  some = inr refl;
-  reading = subst (λ ls. HasRead all left ls first count) (sym (append-nil done)) h;
 }
 
 -- the line after one of this place

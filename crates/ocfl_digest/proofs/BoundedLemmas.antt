@@ -2,12 +2,12 @@
 use Rattle.std.proofs.Common.{◌≡◌, ◌≢◌, ℕ, ◌+◌, ◌-◌, ◌*◌, ◌<◌, ◌≤◌, min, max, Bool, false, [], ◌∷◌, ◌++◌, length, inl, inr, sym, ◌∙◌, subst, refl, append-nil, length-append, arith}
 use Rattle.std.specs.Prelude.{IsTrue}
 use Rattle.ocfl_tree.specs.{Place.{Text, Place}, StorageRoot.{StorageRoot}, Store.{Store, Did}}
-use Rattle.ocfl_tree.specs.Calls.{Opens, OpenFails, Reads, ReadFails, Closes, opening}
+use Rattle.ocfl_tree.specs.Calls.{OpenFails, Reads, ReadFails, Closes, opening}
 use Rattle.ocfl_tree.specs.{Reading.{IsReading}, declared.store.Trouble.{Trouble}}
 use Rattle.ocfl_tree.specs.declared.store.Trouble.TheVariants.{Device, Absent, Memory}
 use Rattle.ocfl_digest.specs.Bounded.{IsBoundedTo, ReadsBounded, StopsReading}
 use Rattle.ocfl_digest.specs.declared.bounded.Bounded.{Bounded}
-use Rattle.ocfl_tree.proofs.Reading.{reading_opens, reading_reads, reading_fails, reading_ends, file_at-at, file_at-none}
+use Rattle.ocfl_tree.proofs.Reading.{reading_reads, reading_fails, reading_ends, file_at-at, file_at-none}
 use Rattle.ocfl_tree.proofs.Stores.{did_closed}
 
 -- these bytes, no more than limit, were given since s
@@ -16,13 +16,6 @@ pub record IsBounding (told : Bool) (s t : Store) (p : Place) (limit : ℕ) (byt
   pub reading : IsTrue told → IsReading s t p bytes
   -- the first read asked for all it may
   pub asks : IsTrue told → t.largest ≡ max s.largest (min (min 4096 (limit + 1)) (4096 * length bytes))
-
-pub bounding_opens : (told : Bool) (s t : Store) (p : Place) (limit : ℕ) → (IsTrue told → Opens s t p) → IsBounding told s t p limit []
-bounding_opens told s t p limit opens = record {
-  within = omega arith;
-  reading = λ is. reading_opens s t p (opens is);
-  asks = λ is. let same = (opens is).largest in omega (arith, same);
-}
 
 -- the room of the next read
 abbrev pub IsRoom : ℕ → ℕ → ℕ → Type 0

@@ -3,7 +3,7 @@ use Rattle.std.proofs.Common.{◌≡◌, ◌≢◌, ℕ, ◌+◌, ◌-◌, ◌*�
 use Rattle.std.specs.Prelude.{IsTrue}
 use Rattle.ocfl_tree.specs.{Place.{Text, Place}, StorageRoot.{StorageRoot, file_at}}
 use Rattle.ocfl_tree.specs.Store.{Store, Did}
-use Rattle.ocfl_tree.specs.Calls.{Opens, OpenFails, Reads, ReadFails, Closes, opening}
+use Rattle.ocfl_tree.specs.Calls.{OpenFails, Reads, ReadFails, Closes, opening}
 use Rattle.ocfl_tree.specs.{Reading.{IsReading}, declared.store.Trouble.{Trouble}}
 use Rattle.ocfl_tree.specs.declared.store.Trouble.TheVariants.{Device, Absent, Memory}
 use Rattle.ocfl_digest.specs.{Digests.{AreDigests, AreDigestsOfSome}, Internal.Hashers.{AreFed}}
@@ -12,7 +12,7 @@ use Rattle.ocfl_digest.specs.{Stop.{cause_of}, declared.digests.Digests.{Digests
 use Rattle.ocfl_digest.specs.declared.hashers.Hashers.{Hashers}
 use Rattle.ocfl_digest.specs.declared.stop.Cause.TheVariants.{TooLong}
 use Rattle.ocfl_digest.specs.declared.wanted.Wanted.{Wanted}
-use Rattle.ocfl_tree.proofs.Reading.{reading_opens, reading_reads, reading_fails, reading_ends, file_at-at, file_at-none, same_some}
+use Rattle.ocfl_tree.proofs.Reading.{reading_reads, reading_fails, reading_ends, file_at-at, file_at-none, same_some}
 use Rattle.ocfl_tree.proofs.Stores.{did_closed}
 
 -- the largest read so far, if n bytes were given in reads that ask for 65,536
@@ -31,16 +31,6 @@ pub record IsHashing (told : Bool) (s t : Store) (p : Place) (w : Wanted) (h : H
 no_length : (xs : List ℕ) → length xs ≡ 0 → xs ≡ []
 no_length [] e = refl
 no_length (x ∷ xs) e = absurd (omega arith)
-
-pub hashing_opens : (told : Bool) (s t : Store) (p : Place) (w : Wanted) (h : Hashers) → (IsTrue told → Opens s t p) → AreFed w [] h → IsHashing told s t p w h 0
-hashing_opens told s t p w h opens fed = record {
-  bytes = [];
-  length_is = refl;
-  fed = fed;
-  short = omega arith;
-  reading = λ is. reading_opens s t p (opens is);
-  asks = λ is. let same = (opens is).largest in omega (arith, same);
-}
 
 -- the room of the next read
 abbrev pub room_after : ℕ → ℕ

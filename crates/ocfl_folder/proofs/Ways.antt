@@ -3,8 +3,8 @@ use Rattle.std.proofs.Common.{◌≡◌, ◌≢◌, ℕ, ◌+◌, ◌-◌, ◌<�
 use Rattle.std.proofs.lemmas.List.{take_more, take-append-drop}
 use Rattle.std.specs.Option.{option_map}
 use Rattle.ocfl_tree.specs.Place.{Text, Place, text_eq}
-use Rattle.ocfl_tree.specs.StorageRoot.{StorageRoot, Leaf, file, dir, other, lookup, is_dir_leaf, at}
-use Rattle.ocfl_tree.specs.{Listing.{kind_of, kind_at}, declared.store.Kind.TheVariants.{File, Dir}}
+use Rattle.ocfl_tree.specs.StorageRoot.{StorageRoot, Leaf, file, lookup, is_dir_leaf, at}
+use Rattle.ocfl_tree.specs.Listing.{kind_of, kind_at}
 use Rattle.ocfl_tree.proofs.{Places.{text_eq-Decides}, Trees.{some_not_none, at-append}}
 
 -- ---- what a look at a kind shows
@@ -15,28 +15,6 @@ leaf_none (Some leaf) h = absurd cc
 
 pub nothing_there : (root : StorageRoot) (p : Place) (n : Text) → kind_at root p n ≡ None → at root (p ++ n ∷ []) ≡ None
 nothing_there root p n h = leaf_none (at root (p ++ n ∷ [])) h
-
-leaf_dir : (o : Option Leaf) → option_map kind_of o ≡ Some Dir → o ≡ Some dir
-leaf_dir None h = absurd cc
-leaf_dir (Some (file bytes)) h = absurd cc
-leaf_dir (Some dir) h = refl
-leaf_dir (Some other) h = absurd cc
-
-pub dir_there : (root : StorageRoot) (p : Place) (n : Text) → kind_at root p n ≡ Some Dir → at root (p ++ n ∷ []) ≡ Some dir
-dir_there root p n h = leaf_dir (at root (p ++ n ∷ [])) h
-
-pub record IsFileAt (o : Option Leaf) : Type 0 where
-  pub bytes : Text
-  pub is : o ≡ Some (file bytes)
-
-leaf_file : (o : Option Leaf) → option_map kind_of o ≡ Some File → IsFileAt o
-leaf_file None h = absurd cc
-leaf_file (Some (file bytes)) h = record { bytes = bytes; is = refl }
-leaf_file (Some dir) h = absurd cc
-leaf_file (Some other) h = absurd cc
-
-pub file_there : (root : StorageRoot) (p : Place) (n : Text) → kind_at root p n ≡ Some File → IsFileAt (at root (p ++ n ∷ []))
-file_there root p n h = leaf_file (at root (p ++ n ∷ [])) h
 
 -- ---- nothing is below nothing
 

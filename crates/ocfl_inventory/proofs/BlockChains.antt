@@ -1,34 +1,16 @@
 -- Reading the blocks of the algorithms one after the other.
-use Rattle.std.proofs.Common.{◌≡◌, ◌+◌, ◌<◌, ℕ, zero, suc, List, [], ◌∷◌, ◌++◌, Bool, true, false, cond, Option, Some, None, option_map, length, drop, get_or, refl, sym, ap, subst, ◌∙◌}
-use Rattle.std.proofs.lemmas.List.{drop_more, append-nil}
-use Rattle.std.proofs.lemmas.Iterator.Adapters.{option_map_id}
+use Rattle.std.proofs.Common.{◌≡◌, ◌+◌, ◌<◌, ℕ, zero, suc, List, [], ◌∷◌, Bool, true, false, cond, Option, Some, None, length, drop, get_or, refl, sym, ap, subst, ◌∙◌}
+use Rattle.std.proofs.lemmas.List.{drop_more}
 use Rattle.std.specs.{Prelude.{option_and_then, ⊤}, List.{AllByRecursion}}
 use Rattle.ocfl_tree.specs.Place.{text_eq}
-use Rattle.serde_json.specs.{Data.{Data, Members}, Find.{get_member}}
+use Rattle.serde_json.specs.Data.{Data, Members}
 use Rattle.ocfl_digest.specs.Algorithm.{algorithm_name, supported}
 use Rattle.ocfl_digest.specs.declared.algorithm.Algorithm.{Algorithm}
-use Rattle.ocfl_inventory.specs.Reading.{Block, block_of, blocks_for}
+use Rattle.ocfl_inventory.specs.Reading.{Block, blocks_for}
 use Rattle.ocfl_inventory.specs.Internal.Parts.{value_for, values_for, with_block, with_blocks}
-use Rattle.ocfl_inventory.proofs.Blocks.{with_front, with_front_one}
 
 abbrev Blocks : Type 0
 Blocks = List (Algorithm × Block)
-
--- after some blocks, those that are read one after the other are those that are read
-blocks_behind : (ms : Members) (algorithms : List Algorithm) (front : Blocks)
-    → with_blocks front (values_for algorithms ms) ≡ with_front front (blocks_for ms algorithms)
-blocks_behind ms [] front = ap Some (sym (append-nil front))
-blocks_behind ms (a ∷ rest) front = at (blocks_behind ms rest) (get_member (algorithm_name a) ms) refl
-  where
-    at : ((f : Blocks) → with_blocks f (values_for rest ms) ≡ with_front f (blocks_for ms rest)) → (o : Option Data) → get_member (algorithm_name a) ms ≡ o
-        → with_blocks front (values_for (a ∷ rest) ms) ≡ with_front front (blocks_for ms (a ∷ rest))
-    at more None e = rw e (more front)
-    at more (Some d) e = rw e (of (block_of d))
-      where
-        of : (o : Option Block) → option_and_then (λ blocks. with_blocks blocks (values_for rest ms)) (option_map (λ b. front ++ (a, b) ∷ []) o)
-            ≡ with_front front (option_and_then (λ b. option_map (λ bs. (a, b) ∷ bs) (blocks_for ms rest)) o)
-        of None = refl
-        of (Some b) = more (front ++ (a, b) ∷ []) ∙ sym (with_front_one front (a, b) (blocks_for ms rest))
 
 -- the names of algorithms differ
 abbrev AreApart : List Algorithm → Type 0
@@ -48,12 +30,6 @@ all_apart = ((refl, (refl, (refl, (refl, tt)))), ((refl, (refl, (refl, tt))), ((
 pub record AreLeft (ms now : Members) (front : Blocks) (algorithms : List Algorithm) : Type 0 where
   pub untouched : AllByRecursion (λ a. value_for a now ≡ value_for a ms) algorithms
   pub reads : with_blocks front (values_for algorithms ms) ≡ blocks_for ms supported
-
-pub all_left : (ms : Members) (front : Blocks) → front ≡ [] → AreLeft ms ms front supported
-all_left ms front none = record {
-  untouched = (refl, (refl, (refl, (refl, (refl, tt)))));
-  reads = rw none (blocks_behind ms supported [] ∙ option_map_id (blocks_for ms supported));
-}
 
 module _ (ms now new : Members) (a : Algorithm) (others : (b : Algorithm) → text_eq (algorithm_name b) (algorithm_name a) ≡ false → value_for b new ≡ value_for b now) where
   still_untouched : (rest : List Algorithm) → AllByRecursion (λ b. text_eq (algorithm_name b) (algorithm_name a) ≡ false) rest

@@ -11,7 +11,7 @@ use Rattle.ocfl_tree.specs.declared.store.Kind.TheVariants.{File, Dir, Other}
 use Rattle.ocfl_tree.proofs.{Bools.{and_first}, Orders.{true_not_false}}
 use Rattle.ocfl_inventory.proofs.Runs.{tally, tally_is}
 use Rattle.ocfl_inventory.specs.Declaration.{prefix, after_prefix, is_declaration, undeclared, known, several, declared, declared_by, version_named}
-use Rattle.ocfl_inventory.specs.Entries.{is_file, file_names, is_counted, unknown_by, IsNext, IsVersionOf, PointsAtOne}
+use Rattle.ocfl_inventory.specs.Entries.{is_file, file_names, is_counted, unknown_by, IsNext, IsVersionOf}
 use Rattle.ocfl_inventory.specs.declared.declaration.Level.{Level}
 use Rattle.ocfl_inventory.specs.declared.declaration.Version.{Version}
 use Rattle.ocfl_inventory.specs.declared.declaration.Declared.TheVariants as made
@@ -103,9 +103,6 @@ module _ (level : Level) where
       → declared level (file_names es) ≡ version_named (after_prefix level x.name) → IsVersionOf (after_prefix level x.name) r → r ≡ None
       → unknown_by level (slice_get es i) ≡ declared level (file_names es)
   unknown_is es i x r n is h k e = ap (unknown_by level) (slice_get-get_or es i x n ∙ ap Some (sym is)) ∙ sym (h ∙ subst (IsVersionOf (after_prefix level x.name)) e k)
-
-  pub points : (es : List Entry) (i : ℕ) (x : Entry) → i < length es → x ≡ get_or es i x → is_counted level x ≡ true → PointsAtOne level es (made.Unknown i)
-  points es i x n is h = (x, slice_get-get_or es i x n ∙ ap Some (sym is), h)
 
 -- ---- the order of the names
 

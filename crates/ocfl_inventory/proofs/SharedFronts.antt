@@ -52,11 +52,6 @@ starts_shared text other b h e =
 pub shared_so_far : (text other : Text) (n : ℕ) → take n text ≡ take n other → other ≡ take n text ++ drop n other
 shared_so_far text other n h = sym (take-append-drop n other) ∙ ap (λ t. t ++ drop n other) (sym h)
 
-pub shared_more : (text other : Text) (i a b : ℕ) → i < length text → i < length other → a ≡ get_or text i 0 → b ≡ get_or other i 0 → a ≡ b
-    → take i text ≡ take i other → take (i + 1) text ≡ take (i + 1) other
-shared_more text other i a b h k e f same so_far =
-    take_more text i 0 h ∙ (λ j. so_far j ++ (sym e ∙ same ∙ f) j ∷ []) ∙ sym (take_more other i 0 k)
-
 -- ---- going over triples
 
 shorter : (front : Text) (n : ℕ) (t : Triple) → IsBelow front t → IsBelow (take n front) t

@@ -32,9 +32,6 @@ object_refused bytes h = by (is_utf8 bytes) refl
     by true e = rw (h (IsUtf8-from_is_utf8 bytes e))
     by false e = refl
 
-pub stops_by : {Y : Type 0} (e : InventoryStop) (n : Note) (reading : Reading Y) → Says e n → reading ≡ Err n → Fails e reading
-stops_by e n reading s h = fails_by e n reading h s
-
 pub other_algorithm : (t : Text) (a b : Bool) → a ≡ bytes_eq t (codes "sha512") → b ≡ bytes_eq t (codes "sha256") → a ≡ false → b ≡ false → digest_algorithm t ≡ Err (note E025 t)
 other_algorithm t a b h k f g =
     let one : text_eq t (codes "sha512") ≡ false = is_eq-slice_cmp t (codes "sha512") ∙ sym h ∙ f in

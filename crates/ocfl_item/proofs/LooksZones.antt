@@ -7,7 +7,7 @@ use Rattle.ocfl_tree.specs.Place.{Text, Place, text_eq}
 use Rattle.ocfl_tree.specs.StorageRoot.{StorageRoot, Leaf, file, dir, other, at, file_at, is_dir, is_dir_leaf}
 use Rattle.ocfl_tree.specs.{Listing.{kind_in, IsOrdinary, IsListing}, declared.store.Entry.{Entry}}
 use Rattle.ocfl_inventory.specs.{Declaration.{undeclared, declared}, Entries.{file_names}}
-use Rattle.ocfl_inventory.specs.{Table.{Table, table_of}, ListedPath.{is_version_name}}
+use Rattle.ocfl_inventory.specs.Table.{Table, table_of}
 use Rattle.ocfl_inventory.specs.declared.declaration.Level.TheVariants as level
 use Rattle.ocfl_audit.specs.Zone.{Zone, skipped, hierarchy, inside, object_zone, object_declared, root_declared, is_in_extensions, zone, inventory_name, inventory_limit, table_at, max_listed_depth, is_entered, is_listed_zone, is_listed_in_object, seen, beginnings, files_in, is_known, is_declared}
 use Rattle.ocfl_audit.specs.Walk.{step_zone, is_extensions, is_reached}
@@ -216,9 +216,6 @@ open_object root o es t h is = record {
   zone = h.zone;
   table = is;
 }
-
-version_content : (v c content : Text) → is_version_name v ≡ true → (b : Bool) → text_eq c content ≡ b → is_version_name v && text_eq c content ≡ b
-version_content v c content h b k = ap (λ x. x && text_eq c content) h ∙ k
 
 pub zone_of_entered : (root : StorageRoot) (d : Place) → is_entered root d ≡ true → is_listed_zone root (zone root d) ≡ true
 zone_of_entered root d h = and_second (is_dir root d) (is_listed_zone root (zone root d)) (and_second (nat_le (length d) max_listed_depth) (is_dir root d && is_listed_zone root (zone root d)) h)

@@ -1,6 +1,6 @@
 -- What is met at an entry.
 use Rattle.std.proofs.Common.{◌≡◌, ◌≢◌, ◌<◌, ◌≤◌, List, [], ◌∷◌, ◌++◌, refl, sym, ◌∙◌, ap, subst, true, false, Bool, Option, Some, None, arith, length, map}
-use Rattle.std.proofs.lemmas.Bool.{le-leb, lt-ltb, le-ltb, lt-leb}
+use Rattle.std.proofs.lemmas.Bool.{le-leb, lt-ltb, le-ltb}
 use Rattle.std.specs.Prelude.{cond, nat_lt, nat_le, option_map, Result, Ok, Err, IfErr, IfOk, ◌&&◌, ◌||◌, not, codes}
 use Rattle.std.specs.List.{list_all}
 use Rattle.ocfl_tree.specs.Place.{Place, Text, text_eq}
@@ -56,9 +56,6 @@ plain_unhashed root e code l h at are = unhashed_at root l e at (λ g. filled (s
     filled g = cc
 
 -- ---- directories
-
-pub deep_unlistable : (root : StorageRoot) (e : Place) → 127 < length e → is_listable root e ≡ false
-deep_unlistable root e h = ap (λ b. b && is_dir root e) (lt-leb (length e) 127 h)
 
 pub reached_here : (root : StorageRoot) (e : Place) → IsListedAt root e → length e ≤ 127 → is_reached root e ≡ true
 reached_here root e h short = and_both (list_all (is_entered root) (beginnings e)) (is_entered root e) h.way (entered_from root e (listable_here root e h short) h.listed)

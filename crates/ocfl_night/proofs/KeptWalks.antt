@@ -34,13 +34,3 @@ pub walk_made : (root : StorageRoot) (part : Part) (k : Checkpoint) (ran : RunEn
     → IsReady root rest (place_in ran.cursor.state) kept → IfOk made (λ m. IsWalkAt root part m.checkpoint kept)
 walk_made root part k ran (Ok m) h kept rest there walk = walk_next root part k m.checkpoint ran h.0 h.1 kept rest there walk
 walk_made root part k ran (Err e) h kept rest there walk = tt
-
--- whatever comes, if none is kept
-module _ (root : StorageRoot) (part : Part) (kept : KeptWalk) (none : kept.met ≡ None) where
-  pub walk_any : {B E : Type 0} (next : Result (Checkpoint × B) E) → IfOk next (λ n. IsWalkAt root part n.0 kept)
-  walk_any (Ok n) = walk_none root part n.0 kept none
-  walk_any (Err e) = tt
-
-  pub walk_unmade : (made : Result Made Stop) → IfOk made (λ m. IsWalkAt root part m.checkpoint kept)
-  walk_unmade (Ok m) = walk_none root part m.checkpoint kept none
-  walk_unmade (Err e) = tt

@@ -78,13 +78,6 @@ module _ {F : Type 0} {may_leave : F → Outcomes} {moment : F → ℕ} {left_si
     before = λ t c le left. ⊎_elim (λ was. inl was) (λ from. inr (after from.0 c from.1 from.2)) (p.meanwhile t c le left);
   }
 
-  -- two calls, or two runs of them, where a crash leaves what has P in each
-  pub two_calls : {A B : Step} {P : Outcomes} {f g h : F} → ((c : Content) → may_leave f c → P c)
-      → ((d c : Content) → may_leave f d → A d c → P c) → Passes may_leave moment left_since A f g
-      → ((d c : Content) → may_leave g d → B d c → P c) → Passes may_leave moment left_since B g h → LeavesOnly moment left_since f h P
-  two_calls here first p second q =
-      joined_moments (leaves here first p) (leaves (left_after first p) second q)
-
   -- nothing is changed
   pub unchanged : {P : Outcomes} {f g : F} → ((c : Content) → may_leave f c → P c) → Passes may_leave moment left_since Same f g → LeavesOnly moment left_since f g P
   unchanged {P} here p = leaves here (λ d c n same. subst P (sym same) (here d n)) p

@@ -1,5 +1,5 @@
 -- A list that is taken piece by piece, and what holds of a refusal.
-use Rattle.std.proofs.Common.{◌≡◌, ℕ, ◌+◌, ◌-◌, ◌≤◌, List, ◌++◌, length, take, drop, sym, ap, ◌∙◌, arith, length-drop, Result, Ok, Err, OnErr}
+use Rattle.std.proofs.Common.{◌≡◌, ℕ, ◌+◌, ◌-◌, ◌≤◌, List, ◌++◌, length, take, drop, sym, ap, ◌∙◌, arith, length-drop}
 use Rattle.std.proofs.{lemmas.List.{take_rest}, Math.Seq.{take-add}}
 
 -- a beginning, and then a beginning of the rest
@@ -11,8 +11,3 @@ pub within_both : (xs : List ℕ) (i n : ℕ) → i ≤ length xs → n ≤ leng
 within_both xs i n h k =
     let rest = ap length (take_rest xs i) ∙ length-drop i xs in
     omega (arith, rest)
-
--- what holds anyway holds if a call was refused
-pub on_err : {T E P : Type 0} (r : Result T E) → P → OnErr r P
-on_err (Ok x) p = tt
-on_err (Err e) p = p

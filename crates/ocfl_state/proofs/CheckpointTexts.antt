@@ -1,13 +1,13 @@
 -- The text of a checkpoint determines the checkpoint.
-use Rattle.std.proofs.Common.{◌≡◌, ℕ, ◌^◌, ◌<◌, ◌≤◌, List, [], ◌∷◌, ◌++◌, IfSome, All, length, codes, decimal, flat_map, refl, sym, ap, subst, ◌∙◌, append-nil, append_assoc, arith}
+use Rattle.std.proofs.Common.{◌≡◌, ℕ, ◌^◌, ◌<◌, ◌≤◌, List, [], ◌∷◌, ◌++◌, IfSome, All, length, codes, decimal, flat_map, refl, sym, ap, ◌∙◌, append-nil, append_assoc, arith}
 use Rattle.std.proofs.{lemmas.Grind.{flat_map-append}, lemmas.List.{append_cancel_left}}
 use Rattle.std.proofs.lemmas.List.Elements.{All-head, All-tail}
 use Rattle.hex.specs.Hex.{encode_lower}
-use Rattle.ocfl_tree.specs.{Place.{Text}, Name.{IsPlace}}
+use Rattle.ocfl_tree.specs.Place.{Text}
 use Rattle.ocfl_report.specs.Text.{place_text}
 use Rattle.ocfl_report.proofs.PlaceTexts.{place_text_determines}
 use Rattle.ocfl_cursor.specs.{Cursor.{IsCursor}, Part.{AreEnds}, Sealed.{with_seal}}
-use Rattle.ocfl_cursor.specs.Lines.{stored_lines, AreStoredLines}
+use Rattle.ocfl_cursor.specs.Lines.{stored_lines}
 use Rattle.ocfl_cursor.proofs.{Seals.{sealed_determines}, StoredLines.{stored_lines_determine}}
 use Rattle.ocfl_state.specs.Checkpoint.{Checkpoint, IsDigest, IsRoot, AreNames, IsMark, IsLeft, IsCheckpoint, path_text, names_text, phase_text, yes_or_no, stood_text, left_text, checkpoint_body, IsCheckpointText}
 use Rattle.ocfl_state.specs.CheckpointLines.{field_line, sizes_text, standing_text, IsStanding, mark_text, account_text, IsAccount, body_text, OneLine, left_fields, standing_of, account_of, ArePartsOf, IsBodyOf}
@@ -189,36 +189,6 @@ pub no_body : (body : Text) → ((path : Text) (s : Standing) (a : Account) (res
 no_body body none c h =
     none (path_text c.root.path) (standing_of c) (account_of c) (rest_of c) (path_one_line c.root.path h.keeps.root.path) (IsStanding-of c h.keeps)
     (IsAccount-of c h.keeps) (h.is ∙ body_parts c)
-
--- no checkpoint tells more than it has
-pub told_too_much : (path : Text) (s : Standing) (a : Account) (rest : Text) (c : Checkpoint) → a.report.bytes < a.told → ArePartsOf path s a rest c → ⊥
-told_too_much path s a rest c l h = omega (arith, l, h.keeps.told, ap (λ (x : Account). x.told) h.account, ap (λ (x : Account). x.report.bytes) h.account)
-
--- what was read of the parts makes a checkpoint
-pub read_is_checkpoint : (path : Text) (s : Standing) (a : Account) (rest lines : Text) (c : Checkpoint) → IsStanding s → IsAccount a → a.told ≤ a.report.bytes
-    → c.root.declared ≡ s.declared → c.names ≡ s.names → c.phase ≡ s.phase → c.whole ≡ s.whole → c.report ≡ a.report → c.told ≡ a.told
-    → path ≡ path_text c.root.path → IsPlace c.root.path → rest ≡ flat_map left_text c.left ++ lines → length c.left ≡ a.left → All IsLeft c.left
-    → AreStoredLines c.part lines c.cursor → ArePartsOf path s a rest c
-read_is_checkpoint path s a rest lines c hs ha few declared names phase whole report told is spot found count lefts stored =
-    let told_few : c.told ≤ c.report.bytes = omega (arith, few, told, ap (λ (m : ReportMark). m.bytes) report) in
-    let standing : standing_of c ≡ s = λ i. record { declared = declared i; names = names i; phase = phase i; whole = whole i } in
-    let account : account_of c ≡ a = λ i. record { report = report i; told = told i; left = count i } in
-    record {
-      keeps = record {
-        root = record { path = spot; declared = subst IsDigest (sym declared) hs.declared };
-        names = subst AreNames (sym names) hs.names;
-        report = subst IsMark (sym report) ha.report;
-        told = told_few;
-        left = lefts;
-        count = omega (arith, count, ha.left);
-        part = stored.ends;
-        cursor = stored.keeps;
-      };
-      path = is;
-      standing = sym standing;
-      account = sym account;
-      rest = found ∙ ap (λ t. flat_map left_text c.left ++ t) stored.are;
-    }
 
 -- checkpoints with the same parts are the same
 pub parts_are_of_one : (path : Text) (s : Standing) (a : Account) (rest : Text) (c d : Checkpoint) → ArePartsOf path s a rest c → ArePartsOf path s a rest d → c ≡ d

@@ -1,10 +1,10 @@
 -- Bytes are appended between calls that change nothing, and the digests of the report go on.
-use Rattle.std.proofs.Common.{◌≡◌, ◌≢◌, ◌↔◌, true, false, inl, inr, ⊎_elim, ℕ, ◌^◌, ◌<◌, ◌++◌, length, take, refl, sym, ap, subst, arith}
+use Rattle.std.proofs.Common.{◌≡◌, inl, inr, ⊎_elim, ℕ, ◌^◌, ◌<◌, ◌++◌, length, take, refl, sym, ap, subst, arith}
 use Rattle.std.proofs.lemmas.List.{take_all}
-use Rattle.std.specs.Prelude.{Option, Some, None, IfSome, IsSome}
+use Rattle.std.specs.Prelude.{Option, Some, IfSome}
 use Rattle.ocfl_state.specs.Content.{Bytes, Content, with_report}
 use Rattle.ocfl_state.specs.Crash.{Outcomes, Same, MayTear, After, Passes}
-use Rattle.ocfl_state.specs.Pieces.{Carries, HasTail, rest_of, summary_of, tail_of}
+use Rattle.ocfl_state.specs.Pieces.{Carries, rest_of, summary_of}
 use Rattle.ocfl_state.specs.declared.checkpoint_parts.ReportMark.{ReportMark}
 use Rattle.ocfl_state.specs.declared.pieces.ReportDigests.{ReportDigests}
 
@@ -14,15 +14,6 @@ same_torn : (n m : ℕ) (d c : Content) → Same d c → MayTear n m d c
 same_torn n m d c same = subst (λ (x : Content). MayTear n m d x) (sym same) (record { checkpoint = refl; closed = refl; front = λ text le begins. begins; no_longer = omega arith })
 
 module _ {F : Type 0} {may_leave : F → Outcomes} {moment : F → ℕ} {left_since : F → ℕ → Outcomes} where
-  -- no call that changes anything
-  pub not_torn_yet : (n m : ℕ) {a b : F} → Passes may_leave moment left_since Same a b → Passes may_leave moment left_since (MayTear n m) a b
-  not_torn_yet n m p = record {
-    later = p.later;
-    now = λ c may. let from = p.now c may in (from.0, from.1, same_torn n m from.0 c from.2);
-    meanwhile = λ t c le since. ⊎_elim (λ was. inl was) (λ from. inr (from.0, from.1, same_torn n m from.0 c from.2)) (p.meanwhile t c le since);
-    keeps = p.keeps;
-  }
-
   -- such a call before
   pub then_torn : (n m : ℕ) {a b z : F} → Passes may_leave moment left_since Same a b → Passes may_leave moment left_since (MayTear n m) b z → Passes may_leave moment left_since (MayTear n m) a z
   then_torn n m {a} {b} {z} first second = record {
@@ -79,15 +70,3 @@ resumed_on mark report found digests same is carried =
 -- the report is as long as the range of its length allows
 pub in_range : (c d : Content) (bytes : Bytes) (long : ℕ) → c ≡ with_report (d.report ++ bytes) d → long ≡ length c.report → long < 2 ^ 64 → length (d.report ++ bytes) < 2 ^ 64
 in_range c d bytes long grown is short = omega (arith, is, short, ap (λ (x : Content). length x.report) grown)
-
--- ---- why bytes are not appended
-
--- a report is found to be another one only if its mark is another one
-pub another_mark : (mark : ReportMark) (report : Bytes) (found : Option ReportDigests) → found ≡ None → (IsSome found ↔ HasTail mark report) → mark ≢ summary_of report
-another_mark mark report found none fits same = lost ((subst (λ (o : Option ReportDigests). IsSome o ↔ HasTail mark report) none fits).1 tail)
-  where
-    lost : false ≡ true → ⊥
-    lost e = cc
-
-    tail : HasTail mark report
-    tail = subst (λ (m : ReportMark). HasTail m report) (sym same) (record { long = omega arith; tail = ap tail_of (sym (take_all (length report) report (omega arith))) })

@@ -1,7 +1,7 @@
 -- How the first findings of each weight grow by a line.
 use Rattle.std.proofs.Common.{◌≡◌, ◌+◌, ◌^◌, ◌<◌, List, [], ◌∷◌, ◌++◌, Bool, true, false, length, refl, ap, sym, subst, ◌∙◌, arith}
 use Rattle.std.proofs.{lemmas.List.{append-nil}, lemmas.List.Elements.{filter-append}}
-use Rattle.std.specs.{Prelude.{Some, None}, List.{filter}}
+use Rattle.std.specs.{Prelude.{Some}, List.{filter}}
 use Rattle.ocfl_report.specs.Line.{Line}
 use Rattle.ocfl_telling.specs.Weight.{weight_of, has_weight, is_weight}
 use Rattle.ocfl_telling.specs.Gravest.{IsFirst, IsOf, by_weight, of_weight}
@@ -34,15 +34,6 @@ stays k w ls l h f = subst (IsFirst k) (sym (of_same w ls l h)) f
 
 grows : (k : Kept) (w : Weight) (ls : List Line) (l : Line) → is_weight w (weight_of l.code) ≡ true → IsFirst k (of_weight w ls ++ l ∷ []) → IsFirst k (of_weight w (ls ++ l ∷ []))
 grows k w ls l h f = subst (IsFirst k) (sym (of_more w ls l h)) f
-
--- no finding
-pub none_more : (g : Gravest) (ls : List Line) (l : Line) → weight_of l.code ≡ None → IsOf g ls → IsOf g (ls ++ l ∷ [])
-none_more g ls l e h = record {
-  bytes = stays g.bytes Bytes ls l (ap (is_weight Bytes) e) h.bytes;
-  objects = stays g.objects Object ls l (ap (is_weight Object) e) h.objects;
-  records = stays g.records Record ls l (ap (is_weight Record) e) h.records;
-  positions = stays g.positions Position ls l (ap (is_weight Position) e) h.positions;
-}
 
 pub bytes_more : (g : Gravest) (k : Kept) (ls : List Line) (l : Line) → weight_of l.code ≡ Some Bytes → IsFirst k (of_weight Bytes ls ++ l ∷ []) → IsOf g ls
     → IsOf (record { bytes = k; objects = g.objects; records = g.records; positions = g.positions }) (ls ++ l ∷ [])

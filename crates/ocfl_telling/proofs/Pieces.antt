@@ -7,7 +7,7 @@ use Rattle.ocfl_tree.specs.Place.{Text}
 use Rattle.ocfl_report.specs.{Line.{Line}, Text.{IsLine, IsLineText, line_text, lines_text}}
 use Rattle.ocfl_report.proofs.LineTexts.{IsLine-from_text}
 use Rattle.ocfl_telling.specs.{Gravest.{IsOf}, Known.{unknown}}
-use Rattle.ocfl_telling.specs.{Found.{AreAll, HasBadLine, IsAfter}, declared.found.Found.{Found}}
+use Rattle.ocfl_telling.specs.{Found.{HasBadLine, IsAfter}, declared.found.Found.{Found}}
 use Rattle.ocfl_telling.specs.declared.known.Entry.{Entry}
 
 lines_more : (ls : List Line) (l : Line) → lines_text (ls ++ l ∷ []) ≡ lines_text ls ++ line_text l
@@ -56,15 +56,6 @@ rest_kept es old new b more h unended e same = record {
   is = ap (λ t. t ++ more) h.is ∙ append_assoc (lines_text h.lines) old.rest.items more ∙ ap (λ t. lines_text h.lines ++ t) (sym e);
   unended = subst (All (λ c. c ≢ 10)) (sym e) (All-append (λ c. c ≢ 10) old.rest.items more h.unended unended);
   gravest = subst (λ g. IsOf g (unknown es h.lines)) (sym same) h.gravest;
-}
-
--- at the end of a line all is taken
-pub all_taken : (es : List Entry) (f : Found) (b : Text) → f.rest.items ≡ [] → IsAfter es f b → AreAll es f.gravest b
-all_taken es f b empty h = record {
-  lines = h.lines;
-  are = h.are;
-  is = h.is ∙ ap (λ t. lines_text h.lines ++ t) empty ∙ append-nil (lines_text h.lines);
-  gravest = h.gravest;
 }
 
 -- ---- pieces

@@ -94,9 +94,6 @@ same_kinds (x ∷ xs) ys h k same =
     by n false t s = sym (ap (λ b. cond b (Some x.kind) (kind_in xs n)) t) ∙ s ∙ sym (ap (λ b. cond b None (kind_in ys n)) t)
 
 module _ (root : StorageRoot) (d : Place) where
-  entries_of : List Text → List Entry
-  entries_of ns = filter_map (entry_at root d) ns
-
   kind_in_none : (ns : List Text) (n : Text) → kind_at root d n ≡ None → kind_in (filter_map (entry_at root d) ns) n ≡ None
   kind_in_none [] n h = refl
   kind_in_none (m ∷ ns) n h = by (kind_at root d m) refl (kind_in_none ns n h)

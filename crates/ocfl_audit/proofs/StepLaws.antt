@@ -55,7 +55,7 @@ zone_step root (m ∷ d) n = by (not (is_known (root_declared root)) || is_in_ex
     by true h = refl
     by false h = h
 
-length_step : (d : Place) (n : Text) → length (d ++ n ∷ []) ≡ suc (length d)
+pub length_step : (d : Place) (n : Text) → length (d ++ n ∷ []) ≡ suc (length d)
 length_step [] n = refl
 length_step (m ∷ d) n = ap suc (length_step d n)
 

@@ -5,8 +5,7 @@ use Rattle.std.proofs.lemmas.List.Sorted.{All-permutation, IsPermutation-sym, Is
 use Rattle.std.proofs.lemmas.Map.Keys.{IsDistinct-IsPermutation}
 use Rattle.std.specs.Prelude.{◌&&◌, cond, filter, filter_map, option_and_then, option_map}
 use Rattle.std.specs.{List.{AllByRecursion, IsDistinct, cons_option}, List.Sorted.{IsSorted}}
-use Rattle.std.specs.{Ordering.{is_eq, ordering_reverse}, declared.cmp.Ordering.{Ordering}}
-use Rattle.std.specs.declared.cmp.Ordering.TheVariants.{Less, Equal, Greater}
+use Rattle.std.specs.Ordering.{is_eq}
 use Rattle.sha2.specs.Sha256.{sha256}
 use Rattle.hex.specs.Hex.{encode_lower}
 use Rattle.ocfl_tree.specs.Place.{Place, Text, child_name, text_cmp, text_eq}
@@ -16,21 +15,13 @@ use Rattle.ocfl_tree.specs.Listing.{IsListing, IsOrdinary, entries_in, entry_at,
 use Rattle.ocfl_tree.specs.{declared.store.Entry.{Entry}, declared.store.Kind.{Kind}}
 use Rattle.ocfl_tree.specs.declared.store.Kind.TheVariants.{Other}
 use Rattle.ocfl_tree.proofs.Orders.{ascending_unique, ascends_ascending, true_not_false}
-use Rattle.ocfl_tree.proofs.{Places.{text_cmp_exact, text_cmp_total}, Listings.{listing_permutes}}
+use Rattle.ocfl_tree.proofs.{Places.{text_cmp_exact, text_cmp_total, text_eq_turns}, Listings.{listing_permutes}}
 use Rattle.ocfl_inventory.specs.{Declaration.{is_declaration}, Entries.{is_counted, is_file}}
 use Rattle.ocfl_inventory.specs.declared.declaration.Level.TheVariants.{Root}
 use Rattle.ocfl_inventory.proofs.Once.{apart_up, up_from_sorted}
 use Rattle.ocfl_identity.specs.Identity.{before_lines, declarations_among, declared_by, digits_of, names_of, sum_line, sum_lines}
 
 -- ---- names that ascend are distinct, and so are they in any order
-
-turns : (n m : Text) → text_eq n m ≡ text_eq m n
-turns n m = by (text_cmp n m) ∙ ap is_eq (sym (text_cmp_total.antisymm m n))
-  where
-    by : (r : Ordering) → is_eq r ≡ is_eq (ordering_reverse r)
-    by Less = refl
-    by Equal = refl
-    by Greater = refl
 
 distinct : (ns : List Text) → IsAscending text_cmp ns → IsDistinct text_eq ns
 unfolding IsDistinct
@@ -129,8 +120,8 @@ sorted_listing root d es fs ordinary h m sorted =
     of_name xs ys k = IsPermutation-map (λ e. e.name) xs ys k
 
     apart : IsDistinct text_eq (names_of fs)
-    apart = IsDistinct-IsPermutation text_eq turns (names_of es) (names_of fs) (of_name es fs m)
-        (IsDistinct-IsPermutation text_eq turns (names_of (entries_in root d)) (names_of es) (of_name _ es here) (distinct _ (entries_ascend root d)))
+    apart = IsDistinct-IsPermutation text_eq text_eq_turns (names_of es) (names_of fs) (of_name es fs m)
+        (IsDistinct-IsPermutation text_eq text_eq_turns (names_of (entries_in root d)) (names_of es) (of_name _ es here) (distinct _ (entries_ascend root d)))
 
     names : names_of fs ≡ names_of (entries_in root d)
     names = ascending_unique text_cmp_total text_cmp_exact (names_of fs) (names_of (entries_in root d)) (rises fs sorted apart) (entries_ascend root d)

@@ -9,7 +9,7 @@ use Rattle.ocfl_tree.specs.Place.{place_cmp, text_cmp}
 use Rattle.ocfl_tree.proofs.{Orders.{place_cmp_exact}, Places.{text_cmp_exact}}
 use Rattle.ocfl_inventory.specs.Table.{Triple, named_cmp, triple_cmp}
 
-then_parts : (r s : Ordering) → ordering_then r s ≡ Equal → (r ≡ Equal) × (s ≡ Equal)
+pub then_parts : (r s : Ordering) → ordering_then r s ≡ Equal → (r ≡ Equal) × (s ≡ Equal)
 then_parts Less s e = absurd cc
 then_parts Equal s e = (refl, e)
 then_parts Greater s e = absurd cc

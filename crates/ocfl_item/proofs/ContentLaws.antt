@@ -14,7 +14,7 @@ use Rattle.ocfl_item.specs.declared.sight.Sight.TheVariants as sight
 use Rattle.ocfl_tree.proofs.Orders.{true_not_false}
 use Rattle.ocfl_audit.proofs.AuditExists.{some_not_none, zone_is, path_among}
 use Rattle.ocfl_audit.proofs.BoundLaws.{table_from_inventory, kept_paths, kept_short}
-use Rattle.ocfl_audit.proofs.PathLaws.{deep_path}
+use Rattle.ocfl_audit.proofs.PathLaws.{deep_path, notes_at}
 use Rattle.ocfl_item.proofs.NamedLaws.{named_ascend}
 
 pub record IsContent (root : StorageRoot) (p : Place) (ns : List Named) : Type 0 where
@@ -26,18 +26,14 @@ filled_front : (o q : Place) → [] ≡ o ++ q → o ≡ []
 filled_front [] q e = refl
 filled_front (n ∷ o) q e = absurd cc
 
-notes_by_zone : (root : StorageRoot) (u : Option ℕ) (p : Place) → p ≢ [] → notes root u p ≡ notes_in root p u (zone root p)
-notes_by_zone root u [] h = absurd (h refl)
-notes_by_zone root u (n ∷ p) h = refl
-
-not_root : (root : StorageRoot) (p o q : Place) → zone root p ≡ inside o q → p ≢ []
+pub not_root : (root : StorageRoot) (p o q : Place) → zone root p ≡ inside o q → p ≢ []
 not_root root p o q z e = let is = zone_is root p o q z in is.below (filled_front o q (sym e ∙ is.whole))
 
 -- the lines of a place that a table may name
 pub content_by_table : (root : StorageRoot) (p o : Place) (v c n : Text) (r : Place) (t : Table) → zone root p ≡ inside o (v ∷ c ∷ n ∷ r)
     → table_at root o ≡ Some t → IsContent root p (named t (v ∷ c ∷ n ∷ r))
 content_by_table root p o v c n r t z h = record {
-  lines = λ u. notes_by_zone root u p (not_root root p o _ z) ∙ ap (notes_in root p u) z ∙ ap (λ y. object_notes root p u y (v ∷ c ∷ n ∷ r)) h;
+  lines = λ u. notes_at root u p (not_root root p o _ z) ∙ ap (notes_in root p u) z ∙ ap (λ y. object_notes root p u y (v ∷ c ∷ n ∷ r)) h;
   digests = ap (named_in root) z ∙ ap named_of h;
   ascend = let k = table_from_inventory root o t h in subst (λ x. IsAscending named_cmp (named x (v ∷ c ∷ n ∷ r))) (sym k.1) (named_ascend k.0 _);
 }

@@ -2,7 +2,7 @@
 use Rattle.std.proofs.Common.{◌≡◌, ◌≢◌, ◌⊎◌, inl, inr, ℕ, suc, ◌+◌, ◌<◌, List, [], ◌∷◌, ◌++◌, refl, sym, ◌∙◌, ap, subst, true, false, Bool, filter, Option, Some, None, length, drop, get_or, drop-cons, add-one, arith}
 use Rattle.std.proofs.lemmas.Bool.{eqb-true}
 use Rattle.std.specs.Prelude.{cond, ◌&&◌, nat_le, ◌==◌, is_some, filter_map, option_and_then, ⊤}
-use Rattle.std.specs.{Char.{is_ascii_digit}, Str.{all_ascii_digits}, List.{cons_option, list_all}}
+use Rattle.std.specs.List.{cons_option}
 use Rattle.std.specs.Option.{option_map}
 use Rattle.ocfl_tree.specs.Place.{Text, Place, text_cmp, text_eq, place_eq, child_name}
 use Rattle.ocfl_tree.specs.Ascending.{IsAmong, IsAscending}
@@ -15,10 +15,10 @@ use Rattle.ocfl_inventory.specs.{Entries.{is_file, file_names}, declared.declara
 use Rattle.ocfl_audit.specs.{Zone.{max_listed_depth, files_in}, Lines.{is_empty}}
 use Rattle.ocfl_item.specs.{Ways.{is_dir_kind, is_listable}, Internal.Ways.{is_file_kind}}
 use Rattle.ocfl_tree.proofs.Orders.{true_not_false, not_below_itself, before_each, ascends_ascending, among_ascending, ascends_filter, among_filter, among_from_filter}
-use Rattle.ocfl_tree.proofs.Trees.{at-append}
+use Rattle.ocfl_tree.proofs.{Places.{append-child_name}, Trees.{at-append}}
 use Rattle.ocfl_audit.proofs.AuditExists.{some_not_none}
 use Rattle.ocfl_audit.proofs.BelowLaws.{text_cmp_total, text_cmp_exact, text_from_test, text_same, place_same}
-use Rattle.ocfl_audit.proofs.WayLaws.{entry_named}
+use Rattle.ocfl_audit.proofs.{StepLaws.{length_step}, WayLaws.{entry_named}}
 
 -- ---- the entry of a name
 
@@ -34,9 +34,6 @@ kind_found es i e n b h is so_far test holds = sym (so_far ∙ kind_at_index es 
 pub kind_goes_on : (es : List Entry) (i : ℕ) (e : Entry) (n : Text) (b : Bool) → i < length es → e ≡ get_or es i e → kind_in es n ≡ kind_in (drop i es) n
     → b ≡ text_eq e.name n → b ≡ false → kind_in es n ≡ kind_in (drop (i + 1) es) n
 kind_goes_on es i e n b h is so_far test fails = so_far ∙ kind_at_index es i e n h is ∙ ap (λ x. cond x (Some e.kind) (kind_in (drop (i + 1) es) n)) (sym test ∙ fails)
-
-pub named_same : (n m : Text) → text_eq n m ≡ true → n ≡ m
-named_same n m e = text_from_test n m e
 
 pub file_kind : (k : Kind) → k ≡ File → is_file_kind (Some k) ≡ true
 file_kind k e = ap (λ x. is_file_kind (Some x)) e
@@ -92,26 +89,11 @@ module _ (root : StorageRoot) (d : Place) (n : Text) (es : List Entry) (h : IsLi
       by (Some dir) e = ap (option_and_then bytes_of) e
       by (Some other) e = ap (option_and_then bytes_of) e
 
-length_step : (d : Place) (n : Text) → length (d ++ n ∷ []) ≡ suc (length d)
-length_step [] n = refl
-length_step (m ∷ d) n = ap suc (length_step d n)
-
 pub listable_is : (root : StorageRoot) (d : Place) (n : Text) (es : List Entry) → IsListing root d es
     → nat_le (suc (length d)) max_listed_depth && is_dir_kind (kind_in es n) ≡ is_listable root (d ++ n ∷ [])
 listable_is root d n es h = λ i. nat_le (sym (length_step d n) i) max_listed_depth && dir_there root d n es h i
 
 -- ---- whether a listing is empty
-
-child_place : (d p : Place) (n : Text) → child_name d p ≡ Some n → p ≡ d ++ n ∷ []
-child_place [] [] n h = absurd (some_not_none n h)
-child_place [] (m ∷ []) n h = let e : m ≡ n = cc in ap (λ x. x ∷ []) e
-child_place [] (m ∷ k ∷ p) n h = absurd (some_not_none n h)
-child_place (a ∷ d) [] n h = absurd (some_not_none n h)
-child_place (a ∷ d) (m ∷ p) n h = by (text_eq a m) refl h (child_place d p n)
-  where
-    by : (b : Bool) → text_eq a m ≡ b → cond b (child_name d p) None ≡ Some n → (child_name d p ≡ Some n → p ≡ d ++ n ∷ []) → m ∷ p ≡ a ∷ d ++ n ∷ []
-    by true e f k = λ i. sym (text_from_test a m e) i ∷ k f i
-    by false e f k = absurd (some_not_none n f)
 
 named_from : (root : StorageRoot) (d : Place) (n : Text) → IsAmong (filter_map (λ e. child_name d e.0) root) n → (leaf : Leaf) × (lookup root (d ++ n ∷ []) ≡ Some leaf)
 named_from [] d n i = absurd i
@@ -129,7 +111,7 @@ named_from (e ∷ root) d n i = by (child_name d e.0) refl i (named_from root d 
         → (leaf : Leaf) × (lookup (e ∷ root) (d ++ n ∷ []) ≡ Some leaf)
     by None f j k = later (k j)
     by (Some m) f (inl g) k =
-        let there : e.0 ≡ d ++ n ∷ [] = child_place d e.0 m f ∙ ap (λ x. d ++ x ∷ []) (sym g) in
+        let there : e.0 ≡ d ++ n ∷ [] = append-child_name d e.0 m f ∙ ap (λ x. d ++ x ∷ []) (sym g) in
         (e.1, ap (λ b. cond b (Some e.1) (lookup root (d ++ n ∷ []))) (ap (λ x. place_eq x (d ++ n ∷ [])) there ∙ place_same (d ++ n ∷ [])))
     by (Some m) f (inr j) k = later (k j)
 
@@ -267,12 +249,6 @@ module _ (root : StorageRoot) (d : Place) (es : List Entry) (ordinary : IsOrdina
       (ascends_filter text_cmp (λ n. is_some (file_at root (d ++ n ∷ []))) (names_in root d) (ascends_ascending text_cmp_total (filter_map (λ e. child_name d e.0) root)))))
       (λ z i. let k = among_from_filter (is_declaration level) (file_names es) z i in among_filter (is_declaration level) (files_in root d) z (listed_to_model z k.0) k.1)
       (λ z i. let k = among_from_filter (is_declaration level) (files_in root d) z i in among_filter (is_declaration level) (file_names es) z (model_to_listed z k.0) k.1)
-
--- ---- names of versions
-
-pub digits_are : (bytes : Text) → all_ascii_digits bytes ≡ list_all is_ascii_digit bytes
-digits_are [] = refl
-digits_are (c ∷ bytes) = ap (λ b. is_ascii_digit c && b) (digits_are bytes)
 
 -- ---- the length that a listing has
 

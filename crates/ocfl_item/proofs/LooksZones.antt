@@ -1,10 +1,10 @@
 -- Zones, and what is seen, on the way down to a place.
-use Rattle.std.proofs.Common.{◌≡◌, ◌+◌, ◌≤◌, List, [], ◌∷◌, ◌++◌, refl, sym, ◌∙◌, ap, true, false, Bool, Option, Some, None, arith, length}
+use Rattle.std.proofs.Common.{◌≡◌, ◌+◌, ◌≤◌, List, [], ◌∷◌, ◌++◌, refl, sym, ◌∙◌, ap, true, false, Bool, Some, None, arith, length}
 use Rattle.std.proofs.{lemmas.Bool.{leb-true, le-leb}, lemmas.List.{length-append}}
 use Rattle.std.specs.Prelude.{cond, ◌&&◌, ◌||◌, not, nat_le, option_and_then, codes}
 use Rattle.std.specs.List.{list_all}
 use Rattle.ocfl_tree.specs.Place.{Text, Place, text_eq}
-use Rattle.ocfl_tree.specs.StorageRoot.{StorageRoot, Leaf, file, dir, other, at, file_at, is_dir, is_dir_leaf}
+use Rattle.ocfl_tree.specs.StorageRoot.{StorageRoot, dir, at, file_at, is_dir, is_dir_leaf}
 use Rattle.ocfl_tree.specs.{Listing.{kind_in, IsOrdinary, IsListing}, declared.store.Entry.{Entry}}
 use Rattle.ocfl_inventory.specs.{Declaration.{undeclared, declared}, Entries.{file_names}}
 use Rattle.ocfl_inventory.specs.Table.{Table, table_of}
@@ -16,6 +16,7 @@ use Rattle.ocfl_item.specs.Ways.{is_listable, is_extensions_name, IsAt, InHierar
 use Rattle.ocfl_item.specs.Internal.Ways.{IsOpenObject}
 use Rattle.ocfl_item.specs.declared.sight.Sight.TheVariants as sight
 use Rattle.ocfl_tree.proofs.{Bools.{and_first, and_second, and_both}, Orders.{true_not_false}}
+pub use Rattle.ocfl_tree.proofs.Trees.{dir_from_leaf}
 use Rattle.ocfl_audit.proofs.AuditExists.{append_one, append_nothing, object_at}
 use Rattle.ocfl_audit.proofs.StepLaws.{zone_step, reached_step, seen_step}
 use Rattle.ocfl_audit.proofs.WayLaws.{is_closed, way_dir, object_short, reached_front}
@@ -29,14 +30,8 @@ false_from false h = refl
 
 -- ---- directories that may be listed
 
-pub leaf_dir : (leaf : Option Leaf) → is_dir_leaf leaf ≡ true → leaf ≡ Some dir
-leaf_dir None h = absurd (true_not_false (sym h))
-leaf_dir (Some (file bytes)) h = absurd (true_not_false (sym h))
-leaf_dir (Some dir) h = refl
-leaf_dir (Some other) h = absurd (true_not_false (sym h))
-
 pub listable_dir : (root : StorageRoot) (d : Place) → is_listable root d ≡ true → at root d ≡ Some dir
-listable_dir root d h = leaf_dir (at root d) (and_second (nat_le (length d) max_listed_depth) (is_dir root d) h)
+listable_dir root d h = dir_from_leaf (at root d) (and_second (nat_le (length d) max_listed_depth) (is_dir root d) h)
 
 pub listable_object : (root : StorageRoot) (d : Place) → is_listable root d ≡ true → object_declared root d ≡ declared level.Object (files_in root d)
 listable_object root d h =

@@ -9,6 +9,7 @@ use Rattle.std.specs.declared.cmp.Ordering.TheVariants.{Less, Equal, Greater}
 use Rattle.ocfl_report.specs.declared.code.Code.TheVariants.{E092, E093}
 use Rattle.ocfl_tree.specs.{Place.{Text, text_cmp}, Ascending.{IsAscending, insert_once, ascending}}
 use Rattle.ocfl_inventory.specs.{Remark.{remark_view}, Note.{note, Note}, Table.{Named, named_cmp}}
+use Rattle.ocfl_inventory.proofs.TripleOrders.{then_parts}
 use Rattle.ocfl_inventory.specs.TripleView.{named_view}
 use Rattle.ocfl_inventory.specs.declared.triple.Named.{Named as MadeNamed}
 use Rattle.ocfl_digest.specs.Algorithm.{algorithm_name, algorithm_cmp}
@@ -27,11 +28,6 @@ block_cmp_total = then_total (on_total (λ n. n.fixity) bool_cmp_total) (on_tota
 
 -- ---- digests of one block and algorithm have one line
 
-alike_parts : (a b : Ordering) → ordering_then a b ≡ Equal → (a ≡ Equal) × (b ≡ Equal)
-alike_parts Less b e = absurd cc
-alike_parts Equal b e = (refl, e)
-alike_parts Greater b e = absurd cc
-
 same_flag : (a b : Bool) → bool_cmp a b ≡ Equal → a ≡ b
 same_flag true true e = refl
 same_flag true false e = absurd cc
@@ -43,7 +39,7 @@ same_text s t e = slice_cmp-IsAntisymmetric nat_cmp-IsAntisymmetric s t e
 
 same_line : (m n : Named) → block_cmp m n ≡ Equal → missing_note m ≡ missing_note n
 same_line m n e =
-    let parts = alike_parts (bool_cmp m.fixity n.fixity) (algorithm_cmp m.algorithm n.algorithm) e in
+    let parts = then_parts (bool_cmp m.fixity n.fixity) (algorithm_cmp m.algorithm n.algorithm) e in
     let flags : m.fixity ≡ n.fixity = same_flag m.fixity n.fixity parts.0 in
     let names : algorithm_name m.algorithm ≡ algorithm_name n.algorithm = same_text _ _ parts.1 in
     (λ i. note (if flags i then E093 else E092) (names i ++ codes " missing"))

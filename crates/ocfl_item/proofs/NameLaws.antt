@@ -5,7 +5,7 @@ use Rattle.std.proofs.lemmas.Map.Keys.{IsDistinct-IsPermutation}
 use Rattle.std.specs.{Prelude.{cond}, List.{AllByRecursion, IsDistinct}}
 use Rattle.ocfl_tree.specs.{Place.{Text, text_eq}, Listing.{AreApart, IsOrdinary, kind_in}}
 use Rattle.ocfl_tree.specs.declared.store.Entry.{Entry}
-use Rattle.ocfl_tree.proofs.Places.{text_eq-Decides, not_decided, differ}
+use Rattle.ocfl_tree.proofs.Places.{text_eq-Decides, text_eq_turns, not_decided, differ}
 use Rattle.ocfl_audit.proofs.AuditExists.{some_not_none}
 
 abbrev pub names_of : List Entry → List Text
@@ -25,15 +25,6 @@ distinct_apart (e ∷ es) h = (apart es h.0, distinct_apart es h.1)
             → (text_eq e.name f.name ≡ false) × AllByRecursion (λ n. text_eq e.name n ≡ false) (names_of fs)
         by true t k more = absurd (some_not_none f.kind (sym k))
         by false t k more = (not_decided _ _ (text_eq-Decides e.name f.name) (λ same. differ _ _ (text_eq-Decides f.name e.name) t (sym same)), more k)
-
-text_eq_turns : (n m : Text) → text_eq n m ≡ text_eq m n
-text_eq_turns n m = by (text_eq n m) refl (text_eq m n) refl
-  where
-    by : (a : Bool) → text_eq n m ≡ a → (b : Bool) → text_eq m n ≡ b → a ≡ b
-    by true e true f = refl
-    by false e false f = refl
-    by true e false f = absurd (differ _ _ (text_eq-Decides m n) f (sym ((text_eq-Decides n m).0 e)))
-    by false e true f = absurd (differ _ _ (text_eq-Decides n m) e (sym ((text_eq-Decides m n).0 f)))
 
 pub names_differ : (es fs : List Entry) → IsOrdinary es → IsPermutation es fs → IsDistinct text_eq (names_of fs)
 names_differ es fs ordinary moved =

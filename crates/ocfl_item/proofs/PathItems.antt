@@ -1,10 +1,10 @@
 -- The item at a place at which nothing is seen.
-use Rattle.std.proofs.Common.{◌≡◌, ◌≢◌, inl, inr, Bool, true, false, List, [], ◌∷◌, refl, sym, subst, ◌∙◌, ap, Option, Some, None, length, drop, map}
+use Rattle.std.proofs.Common.{◌≡◌, ◌≢◌, List, [], ◌∷◌, refl, sym, subst, ◌∙◌, ap, Option, Some, None, length, drop, map}
 use Rattle.std.proofs.Math.Seq.{drop-append_seam}
-use Rattle.std.specs.{Prelude.{IfSome, cond, filter_map}, List.{cons_option}}
-use Rattle.ocfl_tree.specs.{Place.{Place, Text, place_eq}, Ascending.{IsAmong}}
+use Rattle.std.specs.Prelude.{IfSome}
+use Rattle.ocfl_tree.specs.Place.{Place, Text}
 use Rattle.ocfl_tree.specs.StorageRoot.{StorageRoot, dir}
-use Rattle.ocfl_inventory.specs.Table.{Table, Named, Triple, named, paths_of}
+use Rattle.ocfl_inventory.specs.Table.{Table, Named, named}
 use Rattle.ocfl_inventory.specs.TripleView.{named_view}
 use Rattle.ocfl_inventory.specs.declared.triple.Named.{Named as MadeNamed}
 use Rattle.ocfl_audit.specs.Zone.{Zone, skipped, hierarchy, inside, zone, seen, table_at}
@@ -12,7 +12,7 @@ use Rattle.ocfl_audit.specs.Lines.{content_notes, hierarchy_notes, named_at, nam
 use Rattle.ocfl_item.specs.Internal.Content.{content_at, content_in}
 use Rattle.ocfl_item.specs.{Around.{IsNamedIn, IsTableAround}, declared.meeting.Around.{Around}}
 use Rattle.ocfl_item.specs.declared.pending.Pending.{Pending}
-use Rattle.ocfl_audit.proofs.AuditExists.{append_nothing, place_from_test, some_not_none, zone_is}
+use Rattle.ocfl_audit.proofs.AuditExists.{append_nothing, path_among, some_not_none, zone_is}
 use Rattle.ocfl_audit.proofs.{PathLaws.{named_path, notes_at}, WayLaws.{head_seen, is_closed}}
 
 abbrev named_of : Place → Option Table → List Named
@@ -23,24 +23,10 @@ pub some_named : (ns : List MadeNamed) → ns ≢ [] → map named_view ns ≢ [
 some_named [] h e = h refl
 some_named (n ∷ ns) h e = absurd cc
 
--- a path that digests are named for is one of the table's
-pub path_of_named : (t : Table) (q : Place) → named t q ≢ [] → IsAmong (paths_of t) q
-path_of_named t q some = by t.triples some
-  where
-    by : (es : List Triple) → filter_map (λ e. cond (place_eq e.path q) (Some e.named) None) es ≢ [] → IsAmong (map (λ e. e.path) es) q
-    by [] n = absurd (n refl)
-    by (e ∷ es) n = go (place_eq e.path q) refl n (by es)
-      where
-        go : (b : Bool) → place_eq e.path q ≡ b
-            → cons_option (cond b (Some e.named) None) (filter_map (λ x. cond (place_eq x.path q) (Some x.named) None) es) ≢ []
-            → (filter_map (λ x. cond (place_eq x.path q) (Some x.named) None) es ≢ [] → IsAmong (map (λ x. x.path) es) q) → IsAmong (map (λ x. x.path) (e ∷ es)) q
-        go true f m k = inl (sym (place_from_test e.path q f))
-        go false f m k = inr (k m)
-
 -- if digests are named the table names the place
 pub named_in_table : (p : Place) (around : Option Around) (a : Around) → around ≡ Some a → named a.table (drop (length a.place) p) ≢ [] → (o : Option Pending) → IfSome o (λ _. IsNamedIn p around)
 named_in_table p around a is some None = tt
-named_in_table p around a is some (Some m) = subst (IsNamedIn p) (sym is) (path_of_named a.table (drop (length a.place) p) some)
+named_in_table p around a is some (Some m) = subst (IsNamedIn p) (sym is) (path_among a.table (drop (length a.place) p) some)
 
 module _ (root : StorageRoot) (p : Place) where
   inside_named : (o q : Place) (x : Option Table) → zone root p ≡ inside o q → table_at root o ≡ x → named_at root p ≡ named_of q x

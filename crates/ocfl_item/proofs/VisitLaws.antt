@@ -1,5 +1,5 @@
 -- What is met at an entry.
-use Rattle.std.proofs.Common.{◌≡◌, ◌≢◌, ◌<◌, ◌≤◌, List, [], ◌∷◌, ◌++◌, refl, sym, ◌∙◌, ap, subst, true, false, Bool, Option, Some, None, arith, length, map}
+use Rattle.std.proofs.Common.{◌≡◌, ◌≢◌, ◌<◌, ◌≤◌, List, [], ◌∷◌, refl, sym, ◌∙◌, ap, subst, true, false, Bool, Option, Some, None, arith, length, map}
 use Rattle.std.proofs.lemmas.Bool.{le-leb, lt-ltb, le-ltb}
 use Rattle.std.specs.Prelude.{cond, nat_lt, nat_le, option_map, Result, Ok, Err, IfErr, IfOk, ◌&&◌, ◌||◌, not, codes}
 use Rattle.std.specs.List.{list_all}
@@ -31,12 +31,12 @@ use Rattle.ocfl_item.specs.{declared.pending.Pending.{Pending}, declared.visit.V
 use Rattle.ocfl_item.specs.declared.fault.Fault.TheVariants as fault
 use Rattle.ocfl_item.specs.declared.role.Role.TheVariants as role
 use Rattle.ocfl_item.specs.declared.sight.Sight.TheVariants as sight
-use Rattle.ocfl_item.proofs.LooksZones.{leaf_dir, entered_from}
+use Rattle.ocfl_item.proofs.{ContentLaws.{not_root}, LooksZones.{dir_from_leaf, entered_from}}
 use Rattle.ocfl_item.proofs.LooksEntries.{emptied, not_emptied}
 use Rattle.ocfl_item.proofs.AuditingLaws.{front_all, front_none, near_none, none_once}
 use Rattle.ocfl_item.proofs.ShutLaws.{listed_shows, looked_at, no_head_unread, shut_no_dir, shut_zone}
 use Rattle.ocfl_item.proofs.LinesLaws.{unhashed_at}
-use Rattle.ocfl_audit.proofs.{PathLaws.{named_path, notes_at}, AuditExists.{IsInside, zone_is}}
+use Rattle.ocfl_audit.proofs.PathLaws.{named_path, notes_at}
 
 -- ---- the item of one line
 
@@ -253,7 +253,7 @@ no_dir_shut root e k h not = shut_no_dir root e (no_dir root e k h not)
 
 module _ (root : StorageRoot) (e : Place) (h : IsListedAt root e) where
   seen_dir : seen root e ≡ Some dir
-  seen_dir = seen_entry root e h.way ∙ leaf_dir (at root e) h.directory
+  seen_dir = seen_entry root e h.way ∙ dir_from_leaf (at root e) h.directory
 
   pub deep_sight : 127 < length e → IsSight root e sight.DeepDir
   deep_sight deep = (seen_dir, deep_notes root e (plain E024 ∷ []) deep)
@@ -323,16 +323,6 @@ named_short root e o q z short = by (named_at root e) refl
         let k = named_path root e (λ g. filled n ns (sym h ∙ g)) in
         let long : length q ≡ length (k.version ∷ k.content ∷ k.name ∷ k.rest) = ap (λ x. length (path_in x)) (sym z ∙ k.lies) in
         absurd (omega (arith, long, short))
-
-not_root : (root : StorageRoot) (p o q : Place) → zone root p ≡ inside o q → p ≢ []
-not_root root p o q z e = filled (zone_is root p o q z)
-  where
-    front : (o q : Place) → [] ≡ o ++ q → o ≡ []
-    front [] q g = refl
-    front (n ∷ o) q g = absurd cc
-
-    filled : IsInside root p o q → ⊥
-    filled is = is.below (front o q (sym e ∙ is.whole))
 
 pub object_plain : (root : StorageRoot) (e o : Place) (n : Text) (t : Table) → zone root e ≡ inside o (n ∷ []) → table_at root o ≡ Some t → IsPlainAt root e (object_entry_notes root e n (seen root e))
 object_plain root e o n t z h = record {

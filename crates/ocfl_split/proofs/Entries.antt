@@ -17,7 +17,7 @@ use Rattle.ocfl_audit.proofs.AuditExists.{some_not_none}
 use Rattle.ocfl_audit.proofs.BelowLaws.{text_cmp_total, text_cmp_exact, above_name}
 use Rattle.ocfl_audit.proofs.WayLaws.{entry_named}
 use Rattle.ocfl_item.specs.Ways.{is_dir_kind, is_extensions_name}
-use Rattle.ocfl_item.proofs.{LooksZones.{leaf_dir}, NameLaws.{names_of, names_differ}}
+use Rattle.ocfl_item.proofs.{LooksZones.{dir_from_leaf}, NameLaws.{names_of, names_differ}}
 use Rattle.ocfl_split.specs.Levels.{directories_in}
 use Rattle.ocfl_split.specs.Internal.Directories.{is_directory_entry, directories_among, IsBelow}
 
@@ -131,7 +131,7 @@ module _ (root : StorageRoot) (d : Place) (es fs : List Entry) (ordinary : IsOrd
       let is_kind : k.0.kind ≡ kind.Dir = kind_is_dir k.0.kind (and_first (is_dir_kind (Some k.0.kind)) (not (is_extensions_name d k.0.name)) f.1) in
       let listed : kind_at root d k.0.name ≡ Some kind.Dir = sym (h.each k.0.name) ∙ own_kind es ordinary.once k.0 (among_moved fs es (IsPermutation-sym es fs moved) k.0 f.0) ∙ ap Some is_kind in
       let directory : is_dir root (d ++ k.0.name ∷ []) ≡ true = leaf_is_dir (at root (d ++ k.0.name ∷ [])) listed in
-      let named = entry_named root d k.0.name dir (leaf_dir (at root (d ++ k.0.name ∷ [])) directory) in
+      let named = entry_named root d k.0.name dir (dir_from_leaf (at root (d ++ k.0.name ∷ [])) directory) in
       let kept = among_filter of_tree (names_in root d) k.0.name named
       (and_both (is_dir root (d ++ k.0.name ∷ [])) (not (is_extensions_name d k.0.name)) directory (and_second (is_dir_kind (Some k.0.kind)) (not (is_extensions_name d k.0.name)) f.1)) in
       subst (IsAmong (directories_in root d)) (sym k.2) (among_map (λ n. d ++ n ∷ []) (filter of_tree (names_in root d)) k.0.name kept)
@@ -140,7 +140,7 @@ module _ (root : StorageRoot) (d : Place) (es fs : List Entry) (ordinary : IsOrd
   from_tree z i =
       let k = among_from_map (λ n. d ++ n ∷ []) (filter of_tree (names_in root d)) z i in
       let f = among_from_filter of_tree (names_in root d) k.0 k.1 in
-      let directory : at root (d ++ k.0 ∷ []) ≡ Some dir = leaf_dir (at root (d ++ k.0 ∷ [])) (and_first (is_dir root (d ++ k.0 ∷ [])) (not (is_extensions_name d k.0)) f.1) in
+      let directory : at root (d ++ k.0 ∷ []) ≡ Some dir = dir_from_leaf (at root (d ++ k.0 ∷ [])) (and_first (is_dir root (d ++ k.0 ∷ [])) (not (is_extensions_name d k.0)) f.1) in
       let e = entry_of es k.0 kind.Dir (h.each k.0 ∙ ap (option_map kind_of) directory) in
       let out : not (is_extensions_name d e.0.name) ≡ true = ap (λ n. not (is_extensions_name d n)) e.2 ∙ and_second (is_dir root (d ++ k.0 ∷ [])) (not (is_extensions_name d k.0)) f.1 in
       let kept = among_filter (is_directory_entry d) fs e.0 (among_moved es fs moved e.0 e.1)

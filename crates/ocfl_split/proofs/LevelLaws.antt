@@ -7,7 +7,7 @@ use Rattle.ocfl_tree.specs.{Place.{Place}, Ascending.{IsAmong}}
 use Rattle.ocfl_tree.specs.StorageRoot.{StorageRoot, dir, at, is_dir}
 use Rattle.ocfl_tree.proofs.Orders.{true_not_false}
 use Rattle.ocfl_audit.proofs.BelowLaws.{from_append}
-use Rattle.ocfl_item.proofs.LooksZones.{leaf_dir}
+use Rattle.ocfl_item.proofs.LooksZones.{dir_from_leaf}
 use Rattle.ocfl_split.specs.Levels.{level, level_below}
 use Rattle.ocfl_split.specs.Splitting.{max_held, held, room_below, next_level, wider, kept, level_from, split_level, firsts, separators_of, IsSplitLevel}
 use Rattle.ocfl_split.proofs.Descents.{level_directories}
@@ -209,7 +209,7 @@ separator_in_level root count p h = first_among (split_level root count) (min co
 pub separator_there : (root : StorageRoot) (count : ℕ) (p : Place) → IsAmong (separators_of root count) p → at root p ≡ Some dir
 separator_there root count p h =
     let k = one_level root count in
-    leaf_dir (at root p) (level_there root k.0 p (subst (λ xs. IsAmong xs p) k.1.0 (separator_in_level root count p h)))
+    dir_from_leaf (at root p) (level_there root k.0 p (subst (λ xs. IsAmong xs p) k.1.0 (separator_in_level root count p h)))
 
 pub none_above_has_enough : (root : StorageRoot) (count n k : ℕ) → IsSplitLevel root count n → k < n → length (level root k) < count
 none_above_has_enough root count n k h l =

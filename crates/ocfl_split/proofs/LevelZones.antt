@@ -12,7 +12,7 @@ use Rattle.ocfl_audit.specs.Walk.{step_zone, is_extensions}
 use Rattle.ocfl_audit.proofs.{BelowLaws.{from_flat_map}, ObjectLaws.{object_by_zone}}
 use Rattle.ocfl_audit.proofs.{StepLaws.{zone_step}, WayLaws.{is_closed, way_dir, entry_named}}
 use Rattle.ocfl_item.specs.Ways.{is_extensions_name}
-use Rattle.ocfl_item.proofs.LooksZones.{leaf_dir, root_hierarchy}
+use Rattle.ocfl_item.proofs.LooksZones.{dir_from_leaf, root_hierarchy}
 use Rattle.ocfl_split.specs.Levels.{leads_on, directories_in, directories_below, level, LiesInHierarchy}
 use Rattle.ocfl_split.proofs.{Entries.{among_from_map}, Below.{never_empty}}
 
@@ -156,7 +156,7 @@ module _ (root : StorageRoot) where
       → IsAmong (directories_below root d) (d ++ x ∷ [])
   among_here d x n l t e z =
       let test = λ (m : Text). is_dir root (d ++ m ∷ []) && not (is_extensions_name d m) in
-      let named = entry_named root d x dir (leaf_dir (at root (d ++ x ∷ [])) t) in
+      let named = entry_named root d x dir (dir_from_leaf (at root (d ++ x ∷ [])) t) in
       let kept = among_filter test (names_in root d) x named (and_both (is_dir root (d ++ x ∷ [])) (not (is_extensions_name d x)) t (ap not (no_extensions d x t e))) in
       subst (λ b. IsAmong (cond b (directories_in root d) []) (d ++ x ∷ [])) (sym (leads d n l z)) (among_map (λ m. d ++ m ∷ []) (filter test (names_in root d)) x kept)
 
@@ -175,11 +175,11 @@ module _ (root : StorageRoot) where
       top : (d : Place) (x : Text) → length d ≡ 0 → is_dir root (d ++ x ∷ []) ≡ true → zone root d ≡ hierarchy → IsAmong ([] ∷ []) d
       top [] x m u z = inl refl
       top (y ∷ d) x m u z = absurd (omega (arith, m))
-  up (suc n) p l t k = lift (suc n) p l t k (λ d x m u z. up n d m (ap is_dir_leaf (way_dir root (is_closed root) d x [] dir (leaf_dir (at root (d ++ x ∷ [])) u))) (inl z))
+  up (suc n) p l t k = lift (suc n) p l t k (λ d x m u z. up n d m (ap is_dir_leaf (way_dir root (is_closed root) d x [] dir (dir_from_leaf (at root (d ++ x ∷ [])) u))) (inl z))
 
   pub level_is : (n : ℕ) (p : Place) → IsAmong (level root (n + 1)) p ↔ ((length p ≡ n + 1) × LiesInHierarchy root p)
   level_is n p = (
-    λ i. let k = down n p (subst (λ j. IsAmong (level root j) p) (sym same) i) in (k.0 ∙ same, record { directory = leaf_dir (at root p) k.1; part = k.2 }),
+    λ i. let k = down n p (subst (λ j. IsAmong (level root j) p) (sym same) i) in (k.0 ∙ same, record { directory = dir_from_leaf (at root p) k.1; part = k.2 }),
     λ h. subst (λ j. IsAmong (level root j) p) same (up n p (h.0 ∙ sym same) (ap is_dir_leaf h.1.directory) h.1.part),
   )
     where

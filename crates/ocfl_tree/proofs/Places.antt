@@ -43,6 +43,15 @@ pub differ : (b : Bool) (P : Type 0) → Decides b P → b ≡ false → P → �
 differ true P d e h = cc
 differ false P d e h = let t = d.1 h in cc
 
+pub text_eq_turns : (n m : Text) → text_eq n m ≡ text_eq m n
+text_eq_turns n m = by (text_eq n m) refl (text_eq m n) refl
+  where
+    by : (a : Bool) → text_eq n m ≡ a → (b : Bool) → text_eq m n ≡ b → a ≡ b
+    by true e true f = refl
+    by false e false f = refl
+    by true e false f = absurd (differ _ _ (text_eq-Decides m n) f (sym ((text_eq-Decides n m).0 e)))
+    by false e true f = absurd (differ _ _ (text_eq-Decides n m) e (sym ((text_eq-Decides m n).0 f)))
+
 -- a place right below another
 pub child_name-append : (d : Place) (n : Text) → child_name d (d ++ n ∷ []) ≡ Some n
 child_name-append [] n = refl

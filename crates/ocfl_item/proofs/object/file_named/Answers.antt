@@ -1,7 +1,8 @@
 use Rattle.std.proofs.{Common.{◌≡◌, ◌∙◌, ap, sym, refl}, lemmas.List.{at_drop_all}}
 use Rattle.ocfl_tree.specs.{Place.{text_eq}, Listing.{kind_in}}
+use Rattle.ocfl_audit.proofs.BelowLaws.{text_from_test}
 use Rattle.ocfl_item.specs.Internal.Ways.{is_file_kind}
-use Rattle.ocfl_item.proofs.LooksEntries.{kind_found, kind_goes_on, named_same, file_kind, other_kind}
+use Rattle.ocfl_item.proofs.LooksEntries.{kind_found, kind_goes_on, file_kind, other_kind}
 use Rattle.ocfl_item.proofs.object.file_named.Goals as goal
 
 pub loop-entry-init : goal.loop-entry-init
@@ -10,7 +11,7 @@ loop-entry-init c = refl
 pub returns-in-File : goal.returns-in-File
 returns-in-File c =
     let is : c.is_text.result ≡ text_eq c.entry-item.result.name c.args.name.now = c.is_text.ensures ∙ ap (λ x. text_eq x c.args.name.now) c.as_str.ensures.value in (
-      named_same c.entry-item.result.name c.args.name.now (sym is ∙ c.if-is_text.true),
+      text_from_test c.entry-item.result.name c.args.name.now (sym is ∙ c.if-is_text.true),
       sym (ap is_file_kind (kind_found c.args.entries.now c.loop-entry.entry-index c.entry-item.result c.args.name.now c.is_text.result c.loop-entry-test.true
           c.entry-item.is c.loop-entry.invariant is c.if-is_text.true)) ∙ file_kind c.entry-item.result.kind c.in-File.is,
     )

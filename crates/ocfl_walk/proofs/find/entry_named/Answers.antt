@@ -1,6 +1,7 @@
 use Rattle.std.proofs.{Common.{◌≡◌, ◌∙◌, sym, refl}, lemmas.List.{at_drop_all}}
 use Rattle.ocfl_tree.specs.{Place.{text_eq}, Listing.{kind_in}}
-use Rattle.ocfl_item.proofs.LooksEntries.{kind_found, kind_goes_on, named_same}
+use Rattle.ocfl_audit.proofs.BelowLaws.{text_from_test}
+use Rattle.ocfl_item.proofs.LooksEntries.{kind_found, kind_goes_on}
 use Rattle.ocfl_walk.proofs.find.entry_named.Goals as goal
 
 pub loop-entry-init : goal.loop-entry-init
@@ -9,7 +10,7 @@ loop-entry-init c = refl
 pub returns-then-is_text : goal.returns-then-is_text
 returns-then-is_text c =
     let is : c.is_text.result ≡ text_eq c.entry-item.result.name c.args.name.now = c.is_text.ensures ∙ (λ i. text_eq (c.as_str.ensures.value i) (c.as_str-in-loop-entry.ensures.value i)) in (
-      named_same c.entry-item.result.name c.args.name.now (sym is ∙ c.if-is_text.true),
+      text_from_test c.entry-item.result.name c.args.name.now (sym is ∙ c.if-is_text.true),
       sym (kind_found c.args.entries.now c.loop-entry.entry-index c.entry-item.result c.args.name.now c.is_text.result c.loop-entry-test.true c.entry-item.is
           c.loop-entry.invariant is c.if-is_text.true),
     )

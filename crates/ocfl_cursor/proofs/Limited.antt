@@ -1,16 +1,16 @@
 -- What the first bytes of a reader tell of all of them, if one more is read than a cursor's text
 -- can have.
-use Rattle.std.proofs.Common.{◌≡◌, ◌⊎◌, inl, inr, ℕ, ◌<◌, ◌≤◌, [], ◌++◌, nat_eq, nat_le, false, min, length, take, codes, Option, Some, None, IfSome, sym, subst, ◌∙◌, arith, length-take}
+use Rattle.std.proofs.Common.{◌≡◌, ◌⊎◌, inl, inr, ℕ, ◌<◌, ◌≤◌, nat_eq, nat_le, false, min, length, take, codes, Option, Some, None, IfSome, sym, subst, ◌∙◌, arith, length-take}
 use Rattle.std.proofs.{lemmas.Bool.{lt-leb, and_right, cases_lt}, lemmas.List.{take_all}}
-use Rattle.std.specs.{List.{starts_with}, Option.{option_map}}
+use Rattle.std.specs.List.{starts_with}
 use Rattle.ocfl_tree.specs.Place.{Text}
+pub use Rattle.ocfl_report.proofs.Inputs.{IsReadTo}
 use Rattle.ocfl_cursor.specs.Cursor.{Cursor}
 use Rattle.ocfl_cursor.specs.Refusal.{Refusal, not_cursor, max_text, is_cursor_front, IsTextOf}
 use Rattle.ocfl_cursor.specs.{Refused.{IsRefused, RefusedRightly}, Stop.{StopsRightly}}
 use Rattle.ocfl_cursor.specs.declared.refused.Refused.{Refused}
 use Rattle.ocfl_cursor.specs.declared.refused.Refused.TheVariants.{NotCursor, Version, Damaged, Malformed, Memory}
-use Rattle.ocfl_cursor.specs.declared.reading.CursorStop.{CursorStop}
-use Rattle.ocfl_cursor.specs.declared.reading.CursorStop.TheVariants.{Read, Refused as Refuses}
+use Rattle.ocfl_cursor.specs.declared.reading.CursorStop.TheVariants.{Refused as Refuses}
 use Rattle.ocfl_cursor.proofs.{CursorTexts.{length-text}, Refusals.{refused_not_cursor}}
 
 -- how many bytes are read at most
@@ -50,17 +50,9 @@ RefusedRightly-limited b Memory h = tt
 
 -- ---- of a reader's bytes, if they are known
 
--- the bytes that were read are the first of those, up to a limit
-abbrev pub IsReadTo : ℕ → Option Text → Text → Type 0
-IsReadTo most known read = IfSome known (λ b. read ≡ take most b)
-
+-- the bytes that were read are the first of those
 abbrev pub IsRead : Option Text → Text → Type 0
 IsRead known read = IsReadTo limit known read
-
--- as reading to the end tells
-pub IsRead-to_end : (most : ℕ) (known : Option Text) (n : ℕ) (read before : Text) → n ≡ most → before ≡ [] → IfSome (option_map (take n) known) (λ t. read ≡ before ++ t) → IsReadTo most known read
-IsRead-to_end most None n read before l e h = tt
-IsRead-to_end most (Some b) n read before l e h = h ∙ (λ i. e i ++ take (l i) b)
 
 pub IsTextOf-read : (known : Option Text) (read : Text) (c : Cursor) → IsRead known read → IsTextOf read c → IfSome known (λ b. IsTextOf b c)
 IsTextOf-read None read c is h = tt
@@ -69,9 +61,3 @@ IsTextOf-read (Some b) read c is h = IsTextOf-limited b c (subst (λ t. IsTextOf
 pub StopsRightly-read : (known : Option Text) (read : Text) (e : Refused) → IsRead known read → RefusedRightly read e → IfSome known (λ b. StopsRightly b (Refuses e))
 StopsRightly-read None read e is h = tt
 StopsRightly-read (Some b) read e is h = RefusedRightly-limited b e (subst (λ t. RefusedRightly t e) is h)
-
--- a stop that comes before any bytes are refused says nothing of them
-pub StopsRightly-early : (known : Option Text) (stop : CursorStop) → (stop ≡ Read) ⊎ (stop ≡ Refuses Memory) → IfSome known (λ b. StopsRightly b stop)
-StopsRightly-early None stop h = tt
-StopsRightly-early (Some b) stop (inl e) = subst (StopsRightly b) (sym e) tt
-StopsRightly-early (Some b) stop (inr e) = subst (StopsRightly b) (sym e) tt

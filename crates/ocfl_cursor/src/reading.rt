@@ -6,8 +6,9 @@ use crate::cursor::Cursor;
 use crate::decoding::decode;
 use crate::form::MAX_TEXT;
 use crate::refused::Refused;
+use ocfl_report::InputStop;
 use std::alloc::Global;
-use std::io::{ErrorKind, Read};
+use std::io::Read;
 
 /// Why no cursor was read.
 #[derive(Clone, Copy, Debug, PartialEq, Eq)]
@@ -46,13 +47,9 @@ pub fn read_limited<R: Read>(
     ensures stop { IfErr result
         (λ stop. (stop ≡ CursorStop.Read) ⊎ (stop ≡ CursorStop.Refused Refused.Memory)) }
 {
-    let mut bytes = Vec::new(alloc);
-    let mut limited = Read::take(reader, limit);
-    match limited.read_to_end(&mut bytes) {
-        Ok(_) => Ok(bytes),
-        Err(error) if error.kind() == ErrorKind::OutOfMemory => {
-            Err(CursorStop::Refused(Refused::Memory))
-        }
-        Err(_) => Err(CursorStop::Read),
+    match ocfl_report::read_limited(alloc, reader, limit) {
+        Ok(bytes) => Ok(bytes),
+        Err(InputStop::Failed) => Err(CursorStop::Read),
+        Err(InputStop::Memory) => Err(CursorStop::Refused(Refused::Memory)),
     }
 }

@@ -1,8 +1,0 @@
-use Rattle.std.proofs.Common.{ap, subst}
-use Rattle.ocfl_cursor.proofs.Limited.{IsReadTo, IsRead-to_end}
-use Rattle.ocfl_cursor.proofs.reading.read_limited.Goals as goal
-
-pub returns-in-Ok-clause-bytes : goal.returns-in-Ok-clause-bytes
-returns-in-Ok-clause-bytes g c =
-    let same = ap (λ r. g.R.Read.remaining r.now) c.take-limited.ensures.inner in
-    subst (λ known. IsReadTo c.args.limit known c.read_to_end.new.buf.items) same (IsRead-to_end c.args.limit _ _ _ _ c.take-limited.ensures.limit c.new-bytes.ensures.items c.in-Ok.ensures.bytes)

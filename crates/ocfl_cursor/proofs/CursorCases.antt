@@ -1,10 +1,14 @@
 -- Worked cases: cursors, their text, and why bytes are none.
 use Rattle.std.proofs.Common.{◌≡◌, ◌==◌, ◌+◌, ◌-◌, ◌∙◌, ℕ, zero, suc, List, [], ◌∷◌, ◌++◌, codes, refl, sym, ap, ap₂, inr, arith, length, map, replicate, take, drop, get_or}
-use Rattle.std.specs.{Prelude.{◌&&◌, if◌then◌else◌, nat_le, not}, List.{slice_split}}
+use Rattle.std.specs.{Prelude.{◌&&◌, nat_le}, List.{slice_split}}
 use Prim.Native.String.{String}
 use Rattle.ocfl_tree.specs.Place.{Text, Place, text_eq}
 use Rattle.ocfl_cursor.specs.Cursor.{start, behind, ended, Cursor, IsCursor, new_cursor, cursor_lines, cursor_body, cursor_text, digest_line, version_one_body, version_one_text}
-use Rattle.ocfl_cursor.specs.Refusal.{Refusal, not_cursor, version, damaged, malformed, refusal, is_cursor_front, is_version, version_of, IsTextOf}
+use Rattle.ocfl_cursor.specs.Refusal.{refusal, is_cursor_front, is_version_read, IsTextOf}
+use Rattle.ocfl_cursor.specs.Refused.{first_reason}
+use Rattle.ocfl_cursor.specs.declared.refused.Refused.{Refused}
+use Rattle.ocfl_cursor.specs.declared.refused.Refused.TheVariants.{NotA, Version, Damaged, Malformed}
+use Rattle.ocfl_cursor.specs.declared.refused.TextKind.TheVariants as kind
 use Rattle.ocfl_cursor.proofs.OnLiterals.{cursor_on_literals}
 
 -- a place by its text
@@ -152,7 +156,7 @@ abbrev sealed : String → Text
 sealed body = codes body ++ digest_line (codes body)
 
 -- Seen to refuse: *version* before *not a cursor*.
-no_bytes_at_all : refusal [] ≡ not_cursor
+no_bytes_at_all : refusal [] ≡ NotA kind.Cursor
 no_bytes_at_all = refl
 
 -- n, and what follows, k in all
@@ -165,17 +169,17 @@ abbrev whole : Text
 whole = codes "ocfl-scrub cursor 1\ncycle 3\nruns 2\nspent 9\nafter o/v1/content/c\ndigest 822836e04ff6618e0a7571237f0049f590a6f9890506f09338f0505902d351d7\n"
 
 -- cut after n bytes
-abbrev cut_to : ℕ → Refusal
+abbrev cut_to : ℕ → Refused
 cut_to n = refusal (take n whole)
 
 -- within the first line, in front of the version, and anywhere after it
 -- Seen to refuse: *version* before *not a cursor*; version 1 of a cursor is refused.
-cut_anywhere : map cut_to (upward 0 136) ≡ replicate 18 not_cursor ++ version ∷ replicate 117 damaged
+cut_anywhere : map cut_to (upward 0 136) ≡ replicate 18 (NotA kind.Cursor) ++ Version ∷ replicate 117 Damaged
 unfolding cursor_on_literals
 cut_anywhere = refl
 
 -- the byte at n made another
-abbrev changed_at : ℕ → Refusal
+abbrev changed_at : ℕ → Refused
 changed_at n = refusal (take n whole ++ 33 ∷ drop (n + 1) whole)
 
 -- a text with a byte changed, and what its last line is to be the digest of
@@ -194,10 +198,9 @@ unfolding cursor_on_literals
 last_line_is = refl
 
 -- the refusal of bytes if that is the line that they are to end with
-abbrev refusal_by : Text → Text → Refusal
-refusal_by line b = if not (is_cursor_front b) then not_cursor
-    else (if not (is_version (version_of b)) then version
-    else (if not (nat_le 72 (length b) && text_eq (drop (length b - 72) b) line) then damaged else malformed))
+abbrev refusal_by : Text → Text → Refused
+refusal_by line b =
+    first_reason kind.Cursor (is_cursor_front b) (is_version_read b) (nat_le 72 (length b) && text_eq (drop (length b - 72) b) line)
 
 same_refusal : (b : Text) → front_of b ≡ front_of whole → refusal b ≡ refusal_by last_line b
 same_refusal b e = ap (λ line. refusal_by line b) (ap digest_line e ∙ last_line_is)
@@ -209,81 +212,81 @@ same_refusals (n ∷ ns) e =
     ap₂ (λ x xs. x ∷ xs) (same_refusal (changed n) (ap (λ xs. get_or xs 0 []) e)) (same_refusals ns (ap (drop 1) e))
 
 -- in the last line
-changed_in_last_line : map changed_at (upward 64 72) ≡ replicate 72 damaged
+changed_in_last_line : map changed_at (upward 64 72) ≡ replicate 72 Damaged
 changed_in_last_line = same_refusals (upward 64 72) refl ∙ refl
 
 -- and in front of it
-changed_in_front : map changed_at (upward 0 64) ≡ replicate 18 not_cursor ++ version ∷ version ∷ replicate 44 damaged
+changed_in_front : map changed_at (upward 0 64) ≡ replicate 18 (NotA kind.Cursor) ++ Version ∷ Version ∷ replicate 44 Damaged
 unfolding cursor_on_literals
 changed_in_front = refl
 
-in_two : (f : ℕ → Refusal) → map f (upward 0 136) ≡ map f (upward 0 64) ++ map f (upward 64 72)
+in_two : (f : ℕ → Refused) → map f (upward 0 136) ≡ map f (upward 0 64) ++ map f (upward 64 72)
 in_two f = refl
 
 -- in the first line, in the version or the line feed after it, and anywhere else
-changed_anywhere : map changed_at (upward 0 136) ≡ replicate 18 not_cursor ++ version ∷ version ∷ replicate 116 damaged
+changed_anywhere : map changed_at (upward 0 136) ≡ replicate 18 (NotA kind.Cursor) ++ Version ∷ Version ∷ replicate 116 Damaged
 changed_anywhere = in_two changed_at ∙ ap₂ ◌++◌ changed_in_front changed_in_last_line
 
-byte_behind_the_text : refusal (whole ++ 10 ∷ []) ≡ damaged
+byte_behind_the_text : refusal (whole ++ 10 ∷ []) ≡ Damaged
 unfolding cursor_on_literals
 byte_behind_the_text = refl
 
 -- its digits in capitals
-digest_in_capitals : refusal (codes "ocfl-scrub cursor 1\ncycle 3\nruns 2\nspent 9\nafter o/v1/content/c\ndigest 822836E04FF6618E0A7571237F0049F590A6F9890506F09338F0505902D351D7\n") ≡ damaged
+digest_in_capitals : refusal (codes "ocfl-scrub cursor 1\ncycle 3\nruns 2\nspent 9\nafter o/v1/content/c\ndigest 822836E04FF6618E0A7571237F0049F590A6F9890506F09338F0505902D351D7\n") ≡ Damaged
 unfolding cursor_on_literals
 digest_in_capitals = refl
 
 -- Seen to refuse: a third version of a cursor.
-version_of_the_future : refusal (codes "ocfl-scrub cursor 3\ncycle 3\nruns 2\nspent 9\nafter o/v1/content/c\n") ≡ version
+version_of_the_future : refusal (codes "ocfl-scrub cursor 3\ncycle 3\nruns 2\nspent 9\nafter o/v1/content/c\n") ≡ Version
 version_of_the_future = refl
 
 -- the version is looked at before the last line
 -- Seen to refuse: a third version of a cursor.
-sealed_version_of_the_future : refusal (sealed "ocfl-scrub cursor 3\ncycle 3\nruns 2\nspent 9\nafter o/v1/content/c\n") ≡ version
+sealed_version_of_the_future : refusal (sealed "ocfl-scrub cursor 3\ncycle 3\nruns 2\nspent 9\nafter o/v1/content/c\n") ≡ Version
 unfolding cursor_on_literals
 sealed_version_of_the_future = refl
 
 -- a text of version 1 whose first line is made that of version 2
-version_one_made_two : refusal (codes "ocfl-scrub cursor 2\ncycle 3\nruns 2\nspent 9\nafter o/v1/content/c\ndigest 822836e04ff6618e0a7571237f0049f590a6f9890506f09338f0505902d351d7\n") ≡ damaged
+version_one_made_two : refusal (codes "ocfl-scrub cursor 2\ncycle 3\nruns 2\nspent 9\nafter o/v1/content/c\ndigest 822836e04ff6618e0a7571237f0049f590a6f9890506f09338f0505902d351d7\n") ≡ Damaged
 unfolding cursor_on_literals
 version_one_made_two = refl
 
-version_with_a_zero : refusal (sealed "ocfl-scrub cursor 01\ncycle 1\nruns 0\nspent 0\nstart\n") ≡ version
+version_with_a_zero : refusal (sealed "ocfl-scrub cursor 01\ncycle 1\nruns 0\nspent 0\nstart\n") ≡ Version
 unfolding cursor_on_literals
 version_with_a_zero = refl
 
 -- bytes that are no cursor's text are then malformed
 -- Seen to refuse: version 1 of a cursor is refused.
-leading_zero : refusal (sealed "ocfl-scrub cursor 1\ncycle 03\nruns 2\nspent 9\nafter o/v1/content/c\n") ≡ malformed
+leading_zero : refusal (sealed "ocfl-scrub cursor 1\ncycle 03\nruns 2\nspent 9\nafter o/v1/content/c\n") ≡ Malformed
 unfolding cursor_on_literals
 leading_zero = refl
 
-sealed_cycle_too_large : refusal (sealed "ocfl-scrub cursor 1\ncycle 18446744073709551616\nruns 1\nspent 0\nstart\n") ≡ malformed
+sealed_cycle_too_large : refusal (sealed "ocfl-scrub cursor 1\ncycle 18446744073709551616\nruns 1\nspent 0\nstart\n") ≡ Malformed
 unfolding cursor_on_literals
 sealed_cycle_too_large = refl
 
-sealed_spent_too_large : refusal (sealed "ocfl-scrub cursor 1\ncycle 1\nruns 1\nspent 9223372036854775809\nstart\n") ≡ malformed
+sealed_spent_too_large : refusal (sealed "ocfl-scrub cursor 1\ncycle 1\nruns 1\nspent 9223372036854775809\nstart\n") ≡ Malformed
 unfolding cursor_on_literals
 sealed_spent_too_large = refl
 
-first_line_alone : refusal (sealed "ocfl-scrub cursor 1\n") ≡ malformed
+first_line_alone : refusal (sealed "ocfl-scrub cursor 1\n") ≡ Malformed
 unfolding cursor_on_literals
 first_line_alone = refl
 
-sealed_files_above_spent : refusal (sealed "ocfl-scrub cursor 2\ncycle 3\nruns 2\nspent 9\nfiles 10\nafter o/v1/content/c\n") ≡ malformed
+sealed_files_above_spent : refusal (sealed "ocfl-scrub cursor 2\ncycle 3\nruns 2\nspent 9\nfiles 10\nafter o/v1/content/c\n") ≡ Malformed
 unfolding cursor_on_literals
 sealed_files_above_spent = refl
 
-version_two_without_files : refusal (sealed "ocfl-scrub cursor 2\ncycle 3\nruns 2\nspent 9\nafter o/v1/content/c\n") ≡ malformed
+version_two_without_files : refusal (sealed "ocfl-scrub cursor 2\ncycle 3\nruns 2\nspent 9\nafter o/v1/content/c\n") ≡ Malformed
 unfolding cursor_on_literals
 version_two_without_files = refl
 
-version_one_with_files : refusal (sealed "ocfl-scrub cursor 1\ncycle 3\nruns 2\nspent 9\nfiles 0\nafter o/v1/content/c\n") ≡ malformed
+version_one_with_files : refusal (sealed "ocfl-scrub cursor 1\ncycle 3\nruns 2\nspent 9\nfiles 0\nafter o/v1/content/c\n") ≡ Malformed
 unfolding cursor_on_literals
 version_one_with_files = refl
 
 -- 262,145 bytes that begin as a cursor
 -- Seen to refuse: a cursor may have 262,145 bytes.
-text_too_long : refusal (codes "ocfl-scrub cursor 1\n" ++ replicate 262125 49) ≡ not_cursor
+text_too_long : refusal (codes "ocfl-scrub cursor 1\n" ++ replicate 262125 49) ≡ NotA kind.Cursor
 unfolding cursor_on_literals
 text_too_long = refl

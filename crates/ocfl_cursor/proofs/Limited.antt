@@ -1,25 +1,23 @@
 -- What the first bytes of a reader tell of all of them, if one more is read than a cursor's text
 -- can have.
-use Rattle.std.proofs.Common.{◌≡◌, ◌⊎◌, inl, inr, ℕ, ◌<◌, ◌≤◌, nat_eq, nat_le, false, min, length, take, codes, Option, Some, None, IfSome, sym, subst, ◌∙◌, arith, length-take}
-use Rattle.std.proofs.{lemmas.Bool.{lt-leb, and_right, cases_lt}, lemmas.List.{take_all}}
-use Rattle.std.specs.List.{starts_with}
+use Rattle.std.proofs.Common.{◌≡◌, ◌⊎◌, inl, inr, ℕ, ◌<◌, ◌≤◌, min, length, take, Option, Some, None, IfSome, sym, subst, ◌∙◌, arith, length-take}
+use Rattle.std.proofs.{lemmas.Bool.{cases_lt}, lemmas.List.{take_all}}
 use Rattle.ocfl_tree.specs.Place.{Text}
 pub use Rattle.ocfl_report.proofs.Inputs.{IsReadTo}
 use Rattle.ocfl_cursor.specs.Cursor.{Cursor}
-use Rattle.ocfl_cursor.specs.Refusal.{Refusal, not_cursor, max_text, is_cursor_front, IsTextOf}
-use Rattle.ocfl_cursor.specs.{Refused.{IsRefused, RefusedRightly}, Stop.{StopsRightly}}
+use Rattle.ocfl_cursor.specs.Refusal.{max_text, refusal, IsTextOf, RefusedRightly}
+use Rattle.ocfl_cursor.specs.Stop.{StopsRightly}
+use Rattle.ocfl_cursor.specs.declared.reading.CursorStop.{CursorStop}
+use Rattle.ocfl_cursor.specs.declared.reading.CursorStop.TheVariants.{Read, Refused as Refuses}
 use Rattle.ocfl_cursor.specs.declared.refused.Refused.{Refused}
-use Rattle.ocfl_cursor.specs.declared.refused.Refused.TheVariants.{NotCursor, Version, Damaged, Malformed, Memory}
-use Rattle.ocfl_cursor.specs.declared.reading.CursorStop.TheVariants.{Refused as Refuses}
-use Rattle.ocfl_cursor.proofs.{CursorTexts.{length-text}, Refusals.{refused_not_cursor}}
+use Rattle.ocfl_cursor.specs.declared.refused.Refused.TheVariants.{NotA, Version, Damaged, Malformed, Memory}
+use Rattle.ocfl_cursor.specs.declared.refused.TextKind.TheVariants as kind
+use Rattle.ocfl_cursor.proofs.CursorTexts.{length-text}
+use Rattle.ocfl_cursor.proofs.Refusals.{first_or_memory, refused_not_cursor, too_long}
 
 -- how many bytes are read at most
 abbrev pub limit : ℕ
 limit = 262145
-
--- a text that is too long does not begin as a cursor's
-pub too_long : (b : Text) → max_text < length b → is_cursor_front b ≡ false
-too_long b l = and_right (starts_with nat_eq b (codes "ocfl-scrub cursor ")) (nat_le (length b) max_text) (lt-leb (length b) max_text l)
 
 -- what is read is a cursor's text only if it is all
 IsTextOf-limited : (b : Text) (c : Cursor) → IsTextOf (take limit b) c → IsTextOf b c
@@ -30,23 +28,28 @@ IsTextOf-limited b c h =
     read-short : min limit (length b) < 196000
     read-short = omega (arith, length-take limit b, length-text (take limit b) c h)
 
--- what is read is refused for the same reason as all of it
-IsRefused-limited : (b : Text) (r : Refusal) → IsRefused (take limit b) r → IsRefused b r
-IsRefused-limited b r h = by (cases_lt limit (length b))
-  where
-    by : (limit < length b) ⊎ (length b ≤ limit) → IsRefused b r
-    by (inr l) = subst (λ t. IsRefused t r) (take_all limit b l) h
-    by (inl l) =
-        let part : max_text < length (take limit b) = omega (arith, length-take limit b) in
-        let same : not_cursor ≡ r = sym (refused_not_cursor (take limit b) (too_long (take limit b) part)).reason ∙ h.reason in
-        subst (IsRefused b) same (refused_not_cursor b (too_long b (omega arith)))
+-- what is refused stops the reading of it
+stops_as_refused : (b : Text) (why : Refused) → RefusedRightly b why → StopsRightly b (Refuses why)
+stops_as_refused b (NotA t) h = h
+stops_as_refused b Version h = h
+stops_as_refused b Damaged h = h
+stops_as_refused b Malformed h = h
+stops_as_refused b Memory h = tt
 
-RefusedRightly-limited : (b : Text) (e : Refused) → RefusedRightly (take limit b) e → RefusedRightly b e
-RefusedRightly-limited b NotCursor h = IsRefused-limited b _ h
-RefusedRightly-limited b Version h = IsRefused-limited b _ h
-RefusedRightly-limited b Damaged h = IsRefused-limited b _ h
-RefusedRightly-limited b Malformed h = IsRefused-limited b _ h
-RefusedRightly-limited b Memory h = tt
+-- what is read is refused for the same reason as all of it
+StopsRightly-limited : (b : Text) (why : Refused) → RefusedRightly (take limit b) why → StopsRightly b (Refuses why)
+StopsRightly-limited b why h = by (cases_lt limit (length b))
+  where
+    long : limit < length b → (why ≡ Memory) ⊎ ((why ≡ refusal (take limit b)) × ((c : Cursor) × IsTextOf (take limit b) c → ⊥)) → StopsRightly b (Refuses why)
+    long l (inl e) = subst (λ w. StopsRightly b (Refuses w)) (sym e) tt
+    long l (inr k) =
+        let part : max_text < length (take limit b) = omega (arith, length-take limit b) in
+        let same : NotA kind.Cursor ≡ why = (refused_not_cursor (take limit b) (too_long (take limit b) part)).0 ∙ sym k.0 in
+        subst (λ w. StopsRightly b (Refuses w)) same (refused_not_cursor b (too_long b (omega arith)))
+
+    by : (limit < length b) ⊎ (length b ≤ limit) → StopsRightly b (Refuses why)
+    by (inr l) = stops_as_refused b why (subst (λ t. RefusedRightly t why) (take_all limit b l) h)
+    by (inl l) = long l (first_or_memory _ _ why h)
 
 -- ---- of a reader's bytes, if they are known
 
@@ -60,4 +63,10 @@ IsTextOf-read (Some b) read c is h = IsTextOf-limited b c (subst (λ t. IsTextOf
 
 pub StopsRightly-read : (known : Option Text) (read : Text) (e : Refused) → IsRead known read → RefusedRightly read e → IfSome known (λ b. StopsRightly b (Refuses e))
 StopsRightly-read None read e is h = tt
-StopsRightly-read (Some b) read e is h = RefusedRightly-limited b e (subst (λ t. RefusedRightly t e) is h)
+StopsRightly-read (Some b) read e is h = StopsRightly-limited b e (subst (λ t. RefusedRightly t e) is h)
+
+-- a stop that comes before any bytes are refused says nothing of them
+pub StopsRightly-early : (known : Option Text) (stop : CursorStop) → (stop ≡ Read) ⊎ (stop ≡ Refuses Memory) → IfSome known (λ b. StopsRightly b stop)
+StopsRightly-early None stop h = tt
+StopsRightly-early (Some b) stop (inl e) = subst (StopsRightly b) (sym e) tt
+StopsRightly-early (Some b) stop (inr e) = subst (StopsRightly b) (sym e) tt

@@ -11,15 +11,15 @@ use Rattle.ocfl_cursor.specs.declared.ends.PartEnds.{PartEnds}
 use Rattle.ocfl_cursor.specs.declared.part_reading.PartCursorStop.{PartCursorStop}
 use Rattle.ocfl_cursor.specs.declared.reading.CursorStop.{CursorStop}
 use Rattle.ocfl_cursor.specs.declared.refused.PartRefused.{PartRefused}
-use Rattle.ocfl_cursor.specs.declared.refused.PartRefused.TheVariants.{NotCursor, Damaged, Malformed, OtherPart, Memory}
+use Rattle.ocfl_cursor.specs.declared.refused.PartRefused.TheVariants.{Text as Unread, OtherPart}
+use Rattle.ocfl_cursor.specs.declared.refused.Refused.TheVariants.{NotA, Version, Damaged, Malformed, Memory}
 use Rattle.ocfl_cursor.specs.declared.showing.ShowStop.{ShowStop}
 use Rattle.ocfl_cursor.specs.declared.part_reading.PartCursorStop.TheVariants as part
 use Rattle.ocfl_cursor.specs.declared.reading.CursorStop.TheVariants as stop
-use Rattle.ocfl_cursor.specs.declared.refused.Refused.TheVariants as refused
+use Rattle.ocfl_cursor.specs.declared.refused.TextKind.TheVariants as kind
 use Rattle.ocfl_cursor.specs.declared.showing.ShowStop.TheVariants as show
-use Rattle.ocfl_cursor.proofs.Limited.{IsReadTo, too_long}
-use Rattle.ocfl_cursor.proofs.PartRefusals.{front-part_text, only_memory}
-use Rattle.ocfl_cursor.proofs.Refusals.{refused_not_cursor}
+use Rattle.ocfl_cursor.proofs.{Limited.{IsReadTo}, PartRefusals.{front-part_text, only_memory}}
+use Rattle.ocfl_cursor.proofs.Refusals.{begun, not_begun, refused_not_cursor, too_long}
 
 -- how many bytes are read at most
 abbrev pub part_limit : ℕ
@@ -57,11 +57,14 @@ read_as_part b front few = ap₂ (λ r s. r && s) front (le-leb (length b) max_p
 
 -- why it is refused that is read whole
 stops_as_refused : (e : PartEnds) (b : Text) (r : PartRefused) → length b ≤ max_part_text → PartRefusedRightly e b r → PartStopsRightly e b (part.Refused r)
-stops_as_refused e b NotCursor few h = ap (λ r. r && nat_le (length b) max_part_text) h
-stops_as_refused e b Damaged few h = (read_as_part b h.0 few, h)
-stops_as_refused e b Malformed few h = (read_as_part b h.sealed.front few, h)
+stops_as_refused e b (Unread (NotA k)) few h =
+    let none = not_begun kind.Cursor k _ true _ h.0 in
+    (none.0, ap (λ r. r && nat_le (length b) max_part_text) none.1)
+stops_as_refused e b (Unread Version) few h = (read_as_part b (begun kind.Cursor Version _ true _ (λ k e. cc) h.0) few, h)
+stops_as_refused e b (Unread Damaged) few h = (read_as_part b (begun kind.Cursor Damaged _ true _ (λ k e. cc) h.0) few, h)
+stops_as_refused e b (Unread Malformed) few h = (read_as_part b (begun kind.Cursor Malformed _ true _ (λ k e. cc) h.0) few, h)
+stops_as_refused e b (Unread Memory) few h = tt
 stops_as_refused e b OtherPart few h = (read_as_part b (front-part_text h.ends b h.cursor h.is) few, h)
-stops_as_refused e b Memory few h = tt
 
 module _ (known : Option Text) (read : Text) where
   pub part_text_read : (e : PartEnds) (c : Cursor) → IsReadTo part_limit known read → length read ≤ max_part_text → IsPartText e read c → IfSome known (λ b. IsPartText e b c)
@@ -71,8 +74,8 @@ module _ (known : Option Text) (read : Text) where
       → IfSome known (λ b. PartStopsRightly e b (part.Refused r))
   part_stops_read e r is few h = of_all (λ b. PartStopsRightly e b (part.Refused r)) known read is few (stops_as_refused e read r few h)
 
-  pub part_stops_too_many : (e : PartEnds) → IsReadTo part_limit known read → max_part_text < length read → IfSome known (λ b. PartStopsRightly e b (part.Refused NotCursor))
-  part_stops_too_many e is many = of_more (λ b. PartStopsRightly e b (part.Refused NotCursor)) known read is many too_many
+  pub part_stops_too_many : (e : PartEnds) → IsReadTo part_limit known read → max_part_text < length read → IfSome known (λ b. PartStopsRightly e b (part.Refused (Unread (NotA kind.Cursor))))
+  part_stops_too_many e is many = of_more (λ b. PartStopsRightly e b (part.Refused (Unread (NotA kind.Cursor)))) known read is many (λ b more. (refl, too_many b more))
 
   -- ---- what is shown
 
@@ -82,19 +85,19 @@ module _ (known : Option Text) (read : Text) where
   pub unshown_read : (why : ShowStop) → IsReadTo part_limit known read → length read ≤ max_part_text → UnshownRightly read why → IfSome known (λ b. UnshownRightly b why)
   unshown_read why is few h = of_all (λ b. UnshownRightly b why) known read is few h
 
-  pub unshown_too_many : IsReadTo part_limit known read → max_part_text < length read → IfSome known (λ b. UnshownRightly b (show.Whole (stop.Refused refused.NotCursor)))
+  pub unshown_too_many : IsReadTo part_limit known read → max_part_text < length read → IfSome known (λ b. UnshownRightly b (show.Whole (stop.Refused (NotA kind.Cursor))))
   unshown_too_many is many =
-      of_more (λ b. UnshownRightly b (show.Whole (stop.Refused refused.NotCursor))) known read is many
+      of_more (λ b. UnshownRightly b (show.Whole (stop.Refused (NotA kind.Cursor)))) known read is many
       (λ b more. (too_many b more, refused_not_cursor b (too_long b (omega (arith, more)))))
 
 -- ---- a stop before any bytes are refused says nothing of them
 
-pub part_stops_early : (known : Option Text) (e : PartEnds) (why : PartCursorStop) → (why ≡ part.Read) ⊎ (why ≡ part.Refused Memory) → IfSome known (λ b. PartStopsRightly e b why)
+pub part_stops_early : (known : Option Text) (e : PartEnds) (why : PartCursorStop) → (why ≡ part.Read) ⊎ (why ≡ part.Refused (Unread Memory)) → IfSome known (λ b. PartStopsRightly e b why)
 part_stops_early None e why h = tt
 part_stops_early (Some b) e why (inl s) = subst (PartStopsRightly e b) (sym s) tt
 part_stops_early (Some b) e why (inr s) = subst (PartStopsRightly e b) (sym s) tt
 
-pub unshown_early : (known : Option Text) (why : CursorStop) → (why ≡ stop.Read) ⊎ (why ≡ stop.Refused refused.Memory) → IfSome known (λ b. UnshownRightly b (show.Whole why))
+pub unshown_early : (known : Option Text) (why : CursorStop) → (why ≡ stop.Read) ⊎ (why ≡ stop.Refused Memory) → IfSome known (λ b. UnshownRightly b (show.Whole why))
 unshown_early None why h = tt
 unshown_early (Some b) why (inl s) = subst (λ w. UnshownRightly b (show.Whole w)) (sym s) tt
 unshown_early (Some b) why (inr s) = subst (λ w. UnshownRightly b (show.Whole w)) (sym s) tt
@@ -102,10 +105,11 @@ unshown_early (Some b) why (inr s) = subst (λ w. UnshownRightly b (show.Whole w
 -- ---- the text of a part's cursor that is not too long is refused for want of memory alone
 
 pub only_memory_stops : (b : Text) (e : PartEnds) (c : Cursor) → IsPartText e b c → length b ≤ max_part_text → (why : PartCursorStop) → PartStopsRightly e b why
-    → (why ≡ part.Read) ⊎ (why ≡ part.Refused Memory)
+    → (why ≡ part.Read) ⊎ (why ≡ part.Refused (Unread Memory))
 only_memory_stops b e c h few part.Read k = inl refl
-only_memory_stops b e c h few (part.Refused NotCursor) k = absurd (true≢false (sym (read_as_part b (front-part_text e b c h) few) ∙ k))
-only_memory_stops b e c h few (part.Refused Damaged) k = inr (ap (λ r. part.Refused r) (only_memory e b c h Damaged k.1))
-only_memory_stops b e c h few (part.Refused Malformed) k = inr (ap (λ r. part.Refused r) (only_memory e b c h Malformed k.1))
-only_memory_stops b e c h few (part.Refused OtherPart) k = inr (ap (λ r. part.Refused r) (only_memory e b c h OtherPart k.1))
-only_memory_stops b e c h few (part.Refused Memory) k = inr refl
+only_memory_stops b e c h few (part.Refused (Unread (NotA t))) k = absurd (true≢false (sym (read_as_part b (front-part_text e b c h) few) ∙ k.1))
+only_memory_stops b e c h few (part.Refused (Unread Version)) k = inr (ap part.Refused (only_memory e b c h (Unread Version) k.1))
+only_memory_stops b e c h few (part.Refused (Unread Damaged)) k = inr (ap part.Refused (only_memory e b c h (Unread Damaged) k.1))
+only_memory_stops b e c h few (part.Refused (Unread Malformed)) k = inr (ap part.Refused (only_memory e b c h (Unread Malformed) k.1))
+only_memory_stops b e c h few (part.Refused (Unread Memory)) k = inr refl
+only_memory_stops b e c h few (part.Refused OtherPart) k = inr (ap part.Refused (only_memory e b c h OtherPart k.1))

@@ -2,8 +2,8 @@ pub mod Sealed
 pub mod Cursor
 pub mod State
 pub mod Moves
-pub mod Refusal
 pub mod Refused
+pub mod Refusal
 pub mod Part
 pub mod PartRefusal
 pub mod Stop

@@ -2,13 +2,10 @@
 use Rattle.std.specs.Prelude.{◌≡◌, ◌⊎◌, true, false, Option, IfSome, ⊤}
 use Rattle.ocfl_tree.specs.Place.{Text}
 use Rattle.ocfl_cursor.specs.{Cursor.{Cursor, cursor_lines}, Part.{part_lines, IsPartText}}
-use Rattle.ocfl_cursor.specs.{PartRefusal.{IsMalformedPart}, Refusal.{is_sealed, IsTextOf}}
-use Rattle.ocfl_cursor.specs.{Refused.{RefusedRightly}, Stop.{is_read_as_part}}
-use Rattle.ocfl_cursor.specs.declared.ends.PartEnds.{PartEnds}
-use Rattle.ocfl_cursor.specs.declared.refused.PartRefused.{PartRefused}
+use Rattle.ocfl_cursor.specs.{PartRefusal.{AnyPartRefusedRightly}, Refusal.{IsTextOf, RefusedRightly}}
+use Rattle.ocfl_cursor.specs.{Stop.{is_read_as_part}, declared.ends.PartEnds.{PartEnds}}
 use Rattle.ocfl_cursor.specs.declared.showing.ShowStop.{ShowStop}
 use Rattle.ocfl_cursor.specs.declared.reading.CursorStop.TheVariants as stop
-use Rattle.ocfl_cursor.specs.declared.refused.PartRefused.TheVariants as part
 use Rattle.ocfl_cursor.specs.declared.refused.Refused.TheVariants as refused
 use Rattle.ocfl_cursor.specs.declared.showing.ShowStop.TheVariants as show
 
@@ -39,21 +36,14 @@ pub record IsShownFrom (known : Option Text) (lines : Text) : Type 0 where
 
 -- ---- why nothing is shown
 
--- as the text of a part's cursor, for which memory is asked once its digest line is right
-abbrev pub PartUnshownRightly : Text → PartRefused → Type 0
-PartUnshownRightly b part.Damaged = is_sealed b ≡ false
-PartUnshownRightly b part.Malformed = IsMalformedPart b
-PartUnshownRightly b part.Memory = is_sealed b ≡ true
-PartUnshownRightly b r = ⊥
-
 -- by the kind that the first line names, the bytes are rightly refused, unless the reader failed or
 -- memory was refused
 abbrev pub UnshownRightly : Text → ShowStop → Type 0
 UnshownRightly b (show.Whole stop.Read) = ⊤
 UnshownRightly b (show.Whole (stop.Refused refused.Memory)) = ⊤
-UnshownRightly b (show.Whole (stop.Refused e)) = (is_read_as_part b ≡ false) × RefusedRightly b e
-UnshownRightly b (show.Part r) = (is_read_as_part b ≡ true) × PartUnshownRightly b r
+UnshownRightly b (show.Whole (stop.Refused why)) = (is_read_as_part b ≡ false) × RefusedRightly b why
+UnshownRightly b (show.Part why) = (is_read_as_part b ≡ true) × AnyPartRefusedRightly b why
 
 -- the reader failed, or memory was refused
 abbrev pub IsOfNoBytes : ShowStop → Type 0
-IsOfNoBytes why = (why ≡ show.Whole stop.Read) ⊎ ((why ≡ show.Whole (stop.Refused refused.Memory)) ⊎ (why ≡ show.Part part.Memory))
+IsOfNoBytes why = (why ≡ show.Whole stop.Read) ⊎ ((why ≡ show.Whole (stop.Refused refused.Memory)) ⊎ (why ≡ show.Part refused.Memory))

@@ -1,18 +1,21 @@
 -- What it says of a reader's bytes that no cursor was read.
 use Rattle.std.specs.Prelude.{◌≡◌, ℕ, ◌&&◌, nat_le, Bool, true, false, length, ⊤}
 use Rattle.ocfl_tree.specs.Place.{Text}
-use Rattle.ocfl_cursor.specs.PartRefusal.{is_part_front, PartRefusedRightly}
-use Rattle.ocfl_cursor.specs.{Refused.{RefusedRightly}, declared.ends.PartEnds.{PartEnds}}
+use Rattle.ocfl_cursor.specs.{PartRefusal.{is_part_front, PartRefusedRightly}, Refusal.{RefusedRightly}}
+use Rattle.ocfl_cursor.specs.declared.ends.PartEnds.{PartEnds}
 use Rattle.ocfl_cursor.specs.declared.part_reading.PartCursorStop.{PartCursorStop}
 use Rattle.ocfl_cursor.specs.declared.reading.CursorStop.{CursorStop}
-use Rattle.ocfl_cursor.specs.declared.reading.CursorStop.TheVariants.{Read, Refused}
 use Rattle.ocfl_cursor.specs.declared.part_reading.PartCursorStop.TheVariants as part
-use Rattle.ocfl_cursor.specs.declared.refused.PartRefused.TheVariants as refused
+use Rattle.ocfl_cursor.specs.declared.reading.CursorStop.TheVariants.{Read, Refused}
+use Rattle.ocfl_cursor.specs.declared.refused.PartRefused.TheVariants.{Text as Unread}
+use Rattle.ocfl_cursor.specs.declared.refused.Refused.TheVariants.{NotA, Memory}
+use Rattle.ocfl_cursor.specs.declared.refused.TextKind.TheVariants as kind
 
 -- the bytes are rightly refused, unless the reader failed or memory was refused
 abbrev pub StopsRightly : Text → CursorStop → Type 0
 StopsRightly b Read = ⊤
-StopsRightly b (Refused e) = RefusedRightly b e
+StopsRightly b (Refused Memory) = ⊤
+StopsRightly b (Refused why) = RefusedRightly b why
 
 -- ---- as the cursor of a part
 
@@ -27,6 +30,6 @@ is_read_as_part b = is_part_front b && nat_le (length b) max_part_text
 -- to this part the bytes are rightly refused, unless the reader failed or memory was refused
 abbrev pub PartStopsRightly : PartEnds → Text → PartCursorStop → Type 0
 PartStopsRightly e b part.Read = ⊤
-PartStopsRightly e b (part.Refused refused.Memory) = ⊤
-PartStopsRightly e b (part.Refused refused.NotCursor) = is_read_as_part b ≡ false
-PartStopsRightly e b (part.Refused r) = (is_read_as_part b ≡ true) × PartRefusedRightly e b r
+PartStopsRightly e b (part.Refused (Unread Memory)) = ⊤
+PartStopsRightly e b (part.Refused (Unread (NotA t))) = (t ≡ kind.Cursor) × (is_read_as_part b ≡ false)
+PartStopsRightly e b (part.Refused why) = (is_read_as_part b ≡ true) × PartRefusedRightly e b why

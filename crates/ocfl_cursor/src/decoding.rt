@@ -1,23 +1,22 @@
 //! Reading a cursor from its text, and why other bytes are refused.
-ghost use Rattle.std.specs.Prelude.{◌≡◌, ◌≢◌, ◌≤◌, ℕ, List, ◌++◌, drop, length, is_some, IfOk, IfErr, IfSome, IsNone};
+ghost use Rattle.std.specs.Prelude.{◌≡◌, ◌≢◌, ◌≤◌, ℕ, List, ◌++◌, length, IfOk, IfErr, IfSome, IsNone};
 ghost use Rattle.ocfl_tree.specs.{Name.{IsPlace}, Place.{Place as ModelPlace}};
 ghost use Rattle.ocfl_report.specs.Text.{place_text};
 ghost use Rattle.ocfl_cursor.specs.Cursor.{State as ModelState, Cursor as ModelCursor};
 ghost use Rattle.ocfl_cursor.specs.State.{state_of};
 ghost use Rattle.ocfl_cursor.specs.Internal.Body.{version_line, files_line, FilesFit, CountsFit, counts_text, IsStateLine, AreLinesOf, IsBodyOf};
-ghost use Rattle.ocfl_cursor.specs.Refusal.{IsTextOf, is_cursor_front, is_version, refusal, malformed};
-ghost use Rattle.ocfl_cursor.specs.{Refused.{RefusedRightly}, Sealed.{first_line as first_line_of}};
+ghost use Rattle.ocfl_cursor.specs.Refusal.{IsTextOf, RefusedRightly};
 ghost use Rattle.ocfl_cursor.specs.declared.form.Version.{Version as ModelVersion};
 
 use crate::cursor::Cursor;
 use crate::form::{
     AFTER, CYCLE, DIGEST, ENDED, FILES, FIRST_LINE_ONE, FIRST_LINE_TWO, FRONT, MAX_TEXT, RUNS,
-    SPENT, START, VERSION_ONE, VERSION_TWO, Version,
+    SPENT, START, VERSIONS, Version,
 };
 use crate::number::{read_number, read_small_number};
-use crate::pieces::{after_prefix, before_line_feed, count_slashes, first_line};
-use crate::refused::Refused;
-use crate::seal::sealed_body;
+use crate::pieces::{after_prefix, before_line_feed, count_slashes};
+use crate::refused::{Refused, TextKind};
+use crate::seal::body_of;
 use crate::state::{MAX_NAMES, State};
 use ocfl_report::{TextStop, read_place};
 use ocfl_tree::{Place, is_bytes};
@@ -29,50 +28,15 @@ use std::alloc::Global;
 /// for only to make the place that the cursor holds; if that is refused the answer is `Memory`.
 pub fn decode(alloc: Global, text: &[u8]) -> Result<Cursor, Refused>
     ensures cursor { IfOk result (λ cursor. IsTextOf text.now cursor) }
-    ensures refused { IfErr result (λ refused. RefusedRightly text.now refused) }
 
     // Memory is asked for only once the bytes have passed every test that goes before.
-    ensures memory { result ≡ Err Refused.Memory → refusal text.now ≡ malformed }
+    ensures refused { IfErr result (λ refused. RefusedRightly text.now refused) }
 {
-    let Some(rest) = after_front(text) else {
-        return Err(Refused::NotCursor);
-    };
-    if !begins_with_version(rest) {
-        return Err(Refused::Version);
+    if text.len() > MAX_TEXT {
+        return Err(Refused::NotA(TextKind::Cursor));
     }
-    let Some(body) = sealed_body(DIGEST, text) else {
-        return Err(Refused::Damaged);
-    };
-    match read_body(alloc, body) {
-        Ok(cursor) => Ok(cursor),
-        Err(TextStop::Bad) => Err(Refused::Malformed),
-        Err(TextStop::Memory) => Err(Refused::Memory),
-    }
-}
-
-/// What follows the front of a text. `None` if it does not begin as a cursor's, or is too long.
-fn after_front(text: &[u8]) -> Option<&[u8]>
-    ensures found { is_some result ≡ is_cursor_front text.now }
-    ensures rest { IfSome result (λ rest. rest.now ≡ drop 18 text.now) }
-{
-    if text.len() > MAX_TEXT || !text.starts_with(FRONT) {
-        return None;
-    }
-    Some(&text[FRONT.len()..])
-}
-
-/// Whether the text up to the first line feed, or all of it, is a known version.
-fn begins_with_version(text: &[u8]) -> bool
-    ensures { result ≡ is_version (first_line_of text.now) }
-{
-    is_version(first_line(text))
-}
-
-/// Whether the text is a known version.
-fn is_version(text: &[u8]) -> bool
-    ensures { result ≡ is_version text.now }
-{
-    is_bytes(text, VERSION_ONE) || is_bytes(text, VERSION_TWO)
+    let body = body_of(TextKind::Cursor, FRONT, VERSIONS, DIGEST, text)?;
+    Ok(read_body(alloc, body)?)
 }
 
 /// The cursor of which this is the text before its digest line.

@@ -13,10 +13,8 @@ pub(crate) enum Version {
     Two,
 }
 
-// What follows the front in each, up to the first line feed.
-pub(crate) const VERSION_ONE: &[u8] = b"1";
-
-pub(crate) const VERSION_TWO: &[u8] = b"2";
+/// What follows the front in each, up to the first line feed.
+pub(crate) const VERSIONS: &[u8] = b"12";
 
 // The first line of each.
 pub(crate) const FIRST_LINE_ONE: &[u8] = b"ocfl-scrub cursor 1\n";

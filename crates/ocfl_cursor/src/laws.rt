@@ -4,12 +4,13 @@ ghost use Rattle.ocfl_cursor.specs.Cursor.{Cursor as ModelCursor, State as Model
 ghost use Rattle.ocfl_cursor.specs.Meter.{Meter as ModelMeter, IsMeter, MayStart};
 ghost use Rattle.ocfl_cursor.specs.{Moves.{after_run}, Part.{IsPartText}};
 ghost use Rattle.ocfl_cursor.specs.PartRefusal.{PartRefusedRightly};
-ghost use Rattle.ocfl_cursor.specs.{Refusal.{IsTextOf, not_cursor}, Refused.{IsRefused}};
+ghost use Rattle.ocfl_cursor.specs.Refusal.{IsTextOf, RefusedRightly};
 ghost use Rattle.ocfl_cursor.specs.Shown.{AreShown, IsOfNoBytes, UnshownRightly};
 ghost use Rattle.ocfl_cursor.specs.Stop.{PartStopsRightly, max_part_text};
 ghost use Rattle.ocfl_cursor.specs.declared.ends.PartEnds.{PartEnds as ModelEnds};
 ghost use Rattle.ocfl_cursor.specs.declared.showing.ShowStop.{ShowStop as ModelShowStop};
 ghost use Rattle.ocfl_cursor.specs.declared.refused.PartRefused.{PartRefused as ModelRefused};
+ghost use Rattle.ocfl_cursor.specs.declared.refused.TextKind.TheVariants as kind;
 ghost use Rattle.ocfl_cursor.specs.declared.part_reading.PartCursorStop as part_stop;
 
 use crate::cursor::Cursor;
@@ -32,10 +33,8 @@ pub fn cursor_reads_back(alloc: Global, cursor: &Cursor) -> Result<Cursor, Refus
     ensures same { IfOk result (λ read. read ≡ cursor.now) }
     ensures not_refused { IfErr result (λ refused. refused ≡ Refused.Memory) }
 {
-    match encode(alloc, cursor) {
-        Ok(text) => decode(alloc, &text),
-        Err(_) => Err(Refused::Memory),
-    }
+    let text = encode(alloc, cursor)?;
+    decode(alloc, &text)
 }
 
 /// A text determines the part and the cursor whose text it is.
@@ -47,7 +46,7 @@ pub fn text_determines_the_part()
 /// The text of a part's cursor is refused to that part for want of memory alone.
 pub fn no_part_is_refused()
     ensures { (b : List ℕ) (e : ModelEnds) (c : ModelCursor) → IsPartText e b c
-        → (r : ModelRefused) → PartRefusedRightly e b r → r ≡ PartRefused.Memory }
+        → (r : ModelRefused) → PartRefusedRightly e b r → r ≡ PartRefused.Text Refused.Memory }
 {}
 
 /// The reader of a whole root's cursor refuses a part's cursor, and the reader of a part's cursor
@@ -55,9 +54,9 @@ pub fn no_part_is_refused()
 #[tactic(auto, using(crate::proofs::PartRefusals::part_is_no_whole, crate::proofs::PartRefusals::whole_is_no_part))]
 pub fn parts_and_whole_are_apart()
     ensures part { (b : List ℕ) (e : ModelEnds) (c : ModelCursor) → IsPartText e b c
-        → IsRefused b not_cursor }
+        → RefusedRightly b (Refused.NotA kind.Cursor) }
     ensures whole { (b : List ℕ) (e : ModelEnds) (c : ModelCursor) → IsTextOf b c
-        → PartRefusedRightly e b PartRefused.NotCursor }
+        → PartRefusedRightly e b (PartRefused.Text (Refused.NotA kind.Cursor)) }
 {}
 
 /// A reader's bytes that are the text of a part's cursor are refused to that part for want of
@@ -65,7 +64,7 @@ pub fn parts_and_whole_are_apart()
 pub fn no_stored_part_is_refused()
     ensures { (b : List ℕ) (e : ModelEnds) (c : ModelCursor) → IsPartText e b c
         → length b ≤ max_part_text → (why : part_stop.PartCursorStop) → PartStopsRightly e b why
-        → (why ≡ PartCursorStop.Read) ⊎ (why ≡ PartCursorStop.Refused PartRefused.Memory) }
+        → (why ≡ PartCursorStop.Read) ⊎ (why ≡ PartCursorStop.Refused (PartRefused.Text Refused.Memory)) }
 {}
 
 /// A text determines what is shown of it. If lines can be shown of it, only a failing reader or
@@ -83,11 +82,11 @@ pub fn part_reads_back(
     cursor: &Cursor,
 ) -> Result<Cursor, PartRefused>
     ensures same { IfOk result (λ read. read ≡ cursor.now) }
-    ensures not_refused { IfErr result (λ refused. refused ≡ PartRefused.Memory) }
+    ensures not_refused { IfErr result (λ refused. refused ≡ PartRefused.Text Refused.Memory) }
 {
     match encode_part(alloc, ends, cursor) {
         Ok(text) => decode_part(alloc, &text, ends),
-        Err(_) => Err(PartRefused::Memory),
+        Err(_) => Err(PartRefused::Text(Refused::Memory)),
     }
 }
 

@@ -19,8 +19,9 @@
 //! - `read_shown` gives the lines that are shown of a stored cursor, of the whole or of any part.
 //!   It refuses other bytes by the kind that their first line names.
 //! - `sealed_text` ends a text with the line that seals it, and `sealed_body` gives what stands
-//!   before a last line exactly where that seals it. Checkpoints are sealed and read by these calls
-//!   too, by `after_prefix`, by `first_line` and by `read_limited`.
+//!   before a last line exactly where that seals it. `body_of` looks at the front and the version
+//!   first, and gives the first reason that applies. Checkpoints are sealed and read by these calls
+//!   too, by `after_prefix` and by `read_limited`.
 //! - A meter starts a file only while less than the budget is spent and fewer files than their
 //!   limit are started. It adds exactly what is charged, and cannot overflow. It counts as one file
 //!   exactly what costs something.
@@ -63,7 +64,7 @@ pub use part_encoding::{encode_part, part_lines};
 pub use part_reading::{PartCursorStop, read_part_cursor};
 pub use pieces::{after_prefix, first_line};
 pub use reading::{CursorStop, read_cursor, read_limited};
-pub use refused::{PartRefused, Refused};
-pub use seal::{sealed_body, sealed_text};
+pub use refused::{PartRefused, Refused, TextKind};
+pub use seal::{body_of, sealed_body, sealed_text};
 pub use showing::{ShowStop, read_shown};
 pub use state::State;

@@ -43,10 +43,7 @@ pub fn read_stored_lines(
     if lines.starts_with(FROM) {
         return read_part_lines(alloc, lines);
     }
-    match read_lines(alloc, Version::Two, lines) {
-        Ok(cursor) => Ok((None, cursor)),
-        Err(why) => Err(why),
-    }
+    Ok((None, read_lines(alloc, Version::Two, lines)?))
 }
 
 /// The part and its cursor whose lines these are.
@@ -56,12 +53,6 @@ fn read_part_lines(alloc: Global, lines: &[u8]) -> Result<(Option<PartEnds>, Cur
     ensures bad { result ≡ Err TextStop.Bad
         → (part : Option ModelEnds) (c : ModelCursor) → AreStoredLines part lines.now c → ⊥ }
 {
-    let (ends, rest) = match read_ends(alloc, lines) {
-        Ok(read) => read,
-        Err(why) => return Err(why),
-    };
-    match read_lines(alloc, Version::Two, rest) {
-        Ok(cursor) => Ok((Some(ends), cursor)),
-        Err(why) => Err(why),
-    }
+    let (ends, rest) = read_ends(alloc, lines)?;
+    Ok((Some(ends), read_lines(alloc, Version::Two, rest)?))
 }

@@ -3,8 +3,8 @@ ghost use Rattle.std.specs.Prelude.{◌≡◌, ◌≢◌, true, All, List, ℕ, 
 ghost use Rattle.ocfl_tree.specs.Place.{Place as ModelPlace};
 ghost use Rattle.ocfl_cursor.specs.Cursor.{Cursor as ModelCursor};
 ghost use Rattle.ocfl_cursor.specs.Part.{HasNames, AreEnds, end_text, end_line, ends_lines, IsPartText};
-ghost use Rattle.ocfl_cursor.specs.{PartRefusal.{is_part_front, PartRefusedRightly}, Internal.Part.{IsPartBody}};
-ghost use Rattle.ocfl_cursor.specs.Shown.{PartUnshownRightly};
+ghost use Rattle.ocfl_cursor.specs.PartRefusal.{AnyPartRefusedRightly, PartRefusedRightly};
+ghost use Rattle.ocfl_cursor.specs.Internal.Part.{IsPartBody};
 ghost use Rattle.ocfl_cursor.specs.declared.ends.PartEnds.{PartEnds as ModelEnds};
 
 use crate::cursor::Cursor;
@@ -12,7 +12,7 @@ use crate::decoding::read_lines;
 use crate::ends::{PartEnds, is_same_part};
 use crate::form::{BELOW, DIGEST, END, FROM, NO_WORD, PART_FIRST_LINE, START, Version};
 use crate::pieces::after_prefix;
-use crate::refused::PartRefused;
+use crate::refused::{PartRefused, Refused, TextKind};
 use crate::seal::sealed_body;
 use ocfl_report::{TextStop, read_place, split_once};
 use ocfl_tree::{Place, is_bytes};
@@ -26,9 +26,6 @@ pub fn decode_part(alloc: Global, text: &[u8], ends: &PartEnds) -> Result<Cursor
     ensures cursor { IfOk result (λ cursor. IsPartText ends.now text.now cursor) }
     ensures refused { IfErr result (λ refused. PartRefusedRightly ends.now text.now refused) }
 {
-    if !text.starts_with(PART_FIRST_LINE) {
-        return Err(PartRefused::NotCursor);
-    }
     let (named, cursor) = read_part_text(alloc, text)?;
     if is_same_part(&named, ends) {
         Ok(cursor)
@@ -37,20 +34,18 @@ pub fn decode_part(alloc: Global, text: &[u8], ends: &PartEnds) -> Result<Cursor
     }
 }
 
-/// The part and its cursor whose text the bytes are, which begin as one.
-pub(crate) fn read_part_text(alloc: Global, text: &[u8]) -> Result<(PartEnds, Cursor), PartRefused>
-    requires front { is_part_front text.now ≡ true }
+/// The part and its cursor whose text the bytes are.
+pub(crate) fn read_part_text(alloc: Global, text: &[u8]) -> Result<(PartEnds, Cursor), Refused>
     ensures part { IfOk result (λ read. IsPartText read.0 text.now read.1) }
-    ensures refused { IfErr result (λ refused. PartUnshownRightly text.now refused) }
+    ensures refused { IfErr result (λ refused. AnyPartRefusedRightly text.now refused) }
 {
-    let Some(body) = sealed_body(DIGEST, text) else {
-        return Err(PartRefused::Damaged);
-    };
-    match read_part_body(alloc, body) {
-        Ok(read) => Ok(read),
-        Err(TextStop::Bad) => Err(PartRefused::Malformed),
-        Err(TextStop::Memory) => Err(PartRefused::Memory),
+    if !text.starts_with(PART_FIRST_LINE) {
+        return Err(Refused::NotA(TextKind::Cursor));
     }
+    let Some(body) = sealed_body(DIGEST, text) else {
+        return Err(Refused::Damaged);
+    };
+    Ok(read_part_body(alloc, body)?)
 }
 
 /// The part and its cursor of which this is the text before its digest line.
@@ -63,10 +58,7 @@ fn read_part_body(alloc: Global, body: &[u8]) -> Result<(PartEnds, Cursor), Text
         return Err(TextStop::Bad);
     };
     let (ends, lines) = read_ends(alloc, lines)?;
-    match read_lines(alloc, Version::Two, lines) {
-        Ok(cursor) => Ok((ends, cursor)),
-        Err(why) => Err(why),
-    }
+    Ok((ends, read_lines(alloc, Version::Two, lines)?))
 }
 
 /// Reads the lines of both ends. Gives what follows them too.

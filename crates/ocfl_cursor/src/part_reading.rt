@@ -7,7 +7,7 @@ use crate::ends::PartEnds;
 use crate::form::MAX_PART_TEXT;
 use crate::part_decoding::decode_part;
 use crate::reading::{CursorStop, read_limited};
-use crate::refused::PartRefused;
+use crate::refused::{PartRefused, Refused, TextKind};
 use std::alloc::Global;
 use std::io::Read;
 
@@ -39,7 +39,7 @@ pub fn read_part_cursor<R: Read>(
         Err(why) => return Err(part_stop(why)),
     };
     if bytes.len() > MAX_PART_TEXT {
-        return Err(PartCursorStop::Refused(PartRefused::NotCursor));
+        return Err(PartCursorStop::Refused(PartRefused::Text(Refused::NotA(TextKind::Cursor))));
     }
     match decode_part(alloc, &bytes, ends) {
         Ok(cursor) => Ok(cursor),
@@ -50,10 +50,10 @@ pub fn read_part_cursor<R: Read>(
 /// Why the bytes of a reader could not be read: it failed, or memory was refused.
 fn part_stop(why: CursorStop) -> PartCursorStop
     ensures { (result ≡ PartCursorStop.Read)
-        ⊎ (result ≡ PartCursorStop.Refused PartRefused.Memory) }
+        ⊎ (result ≡ PartCursorStop.Refused (PartRefused.Text Refused.Memory)) }
 {
     match why {
         CursorStop::Read => PartCursorStop::Read,
-        CursorStop::Refused(_) => PartCursorStop::Refused(PartRefused::Memory),
+        CursorStop::Refused(_) => PartCursorStop::Refused(PartRefused::Text(Refused::Memory)),
     }
 }

@@ -1,7 +1,11 @@
 //! Sealing stored texts by their last lines, and what such a line seals.
-ghost use Rattle.std.specs.Prelude.{◌≡◌, ◌++◌, IfOk, IfSome, is_some};
+ghost use Rattle.std.specs.Prelude.{◌≡◌, ◌++◌, IfErr, IfOk, IfSome, IsOk, is_some};
+ghost use Rattle.ocfl_cursor.specs.Refused.{IsRefused, is_version, reason_by};
 ghost use Rattle.ocfl_cursor.specs.Sealed.{is_sealed_by, seal_line as line_of_seal, with_seal};
+ghost use Rattle.ocfl_cursor.specs.declared.refused.Refused.TheVariants.{Malformed};
 
+use crate::pieces::{after_prefix, first_line};
+use crate::refused::{Refused, TextKind};
 use ocfl_tree::is_bytes;
 use sha2::{Digest, Sha256};
 use std::alloc::{AllocError, Global};
@@ -52,5 +56,45 @@ pub fn sealed_body(front: [u8; 7], text: &[u8]) -> Option<&[u8]>
         Some(body)
     } else {
         None
+    }
+}
+
+/// What stands before the last line of a text of this kind, if it begins with the front, has one
+/// of these digits as its version, and ends with a line of the front `seal` that seals it.
+///
+/// Other bytes are refused for the first reason that applies: `NotA`, `Version` or `Damaged`.
+pub fn body_of<'a>(
+    kind: TextKind,
+    front: &[u8],
+    digits: &[u8],
+    seal: [u8; 7],
+    text: &'a [u8],
+) -> Result<&'a [u8], Refused>
+    ensures body { IfOk result (λ body. text.now ≡ with_seal seal body.now) }
+    ensures passed { IsOk result
+        → reason_by kind front.now digits.now seal text.now ≡ Malformed }
+    ensures refused { IfErr result (λ why. IsRefused
+        (reason_by kind front.now digits.now seal text.now)
+        (reason_by kind front.now digits.now seal text.now ≡ Malformed) why) }
+{
+    let Some(rest) = after_prefix(front, text) else {
+        return Err(Refused::NotA(kind));
+    };
+    if !is_version(digits, first_line(rest)) {
+        return Err(Refused::Version);
+    }
+    let Some(body) = sealed_body(seal, text) else {
+        return Err(Refused::Damaged);
+    };
+    Ok(body)
+}
+
+/// Whether the text is one of these digits.
+fn is_version(digits: &[u8], text: &[u8]) -> bool
+    ensures { result ≡ is_version digits.now text.now }
+{
+    match text {
+        [digit] => digits.contains(digit),
+        _ => false,
     }
 }

@@ -1,7 +1,7 @@
 //! Showing a stored cursor, whether of a whole root or of one part.
-ghost use Rattle.std.specs.Prelude.{◌≡◌, ◌≤◌, length, true, IfOk, IfErr, IfSome};
-ghost use Rattle.ocfl_cursor.specs.{PartRefusal.{is_part_front}, Refused.{RefusedRightly}};
-ghost use Rattle.ocfl_cursor.specs.Shown.{AreShown, AreWholeLines, IsShownFrom, PartUnshownRightly, UnshownRightly};
+ghost use Rattle.std.specs.Prelude.{◌≤◌, length, IfOk, IfErr, IfSome};
+ghost use Rattle.ocfl_cursor.specs.{PartRefusal.{AnyPartRefusedRightly}, Refusal.{RefusedRightly}};
+ghost use Rattle.ocfl_cursor.specs.Shown.{AreShown, AreWholeLines, IsShownFrom, UnshownRightly};
 ghost use Rattle.ocfl_cursor.specs.{Internal.Part.{ArePartTextLines}, Stop.{max_part_text}};
 
 use crate::decoding::decode;
@@ -10,7 +10,7 @@ use crate::form::{MAX_PART_TEXT, PART_FIRST_LINE};
 use crate::part_decoding::read_part_text;
 use crate::part_encoding::part_lines;
 use crate::reading::{CursorStop, read_limited};
-use crate::refused::{PartRefused, Refused};
+use crate::refused::{Refused, TextKind};
 use std::alloc::Global;
 use std::io::Read;
 
@@ -21,7 +21,7 @@ pub enum ShowStop {
     /// their first line is not that of a part's cursor, or they are more than 67,108,864.
     Whole(CursorStop),
     /// The first line is that of a part's cursor, and the bytes are refused as one, or memory was.
-    Part(PartRefused),
+    Part(Refused),
 }
 
 /// Reads a stored cursor, of a whole root or of any part, from all the bytes of a reader. Gives the
@@ -39,7 +39,7 @@ pub fn read_shown<R: Read>(alloc: Global, reader: &mut R) -> Result<Vec<u8>, Sho
         Err(why) => return Err(ShowStop::Whole(why)),
     };
     if bytes.len() > MAX_PART_TEXT {
-        return Err(ShowStop::Whole(CursorStop::Refused(Refused::NotCursor)));
+        return Err(ShowStop::Whole(CursorStop::Refused(Refused::NotA(TextKind::Cursor))));
     }
     shown_lines(alloc, &bytes)
 }
@@ -69,21 +69,14 @@ fn lines_of_whole(alloc: Global, text: &[u8]) -> Result<Vec<u8>, Refused>
     ensures refused { IfErr result (λ refused. RefusedRightly text.now refused) }
 {
     let cursor = decode(alloc, text)?;
-    match cursor_lines(alloc, &cursor) {
-        Ok(lines) => Ok(lines),
-        Err(_) => Err(Refused::Memory),
-    }
+    Ok(cursor_lines(alloc, &cursor)?)
 }
 
 /// The lines of the part's cursor whose text the bytes are.
-fn lines_of_part(alloc: Global, text: &[u8]) -> Result<Vec<u8>, PartRefused>
-    requires front { is_part_front text.now ≡ true }
+fn lines_of_part(alloc: Global, text: &[u8]) -> Result<Vec<u8>, Refused>
     ensures lines { IfOk result (λ lines. ArePartTextLines text.now lines.items) }
-    ensures refused { IfErr result (λ refused. PartUnshownRightly text.now refused) }
+    ensures refused { IfErr result (λ refused. AnyPartRefusedRightly text.now refused) }
 {
     let (ends, cursor) = read_part_text(alloc, text)?;
-    match part_lines(alloc, &ends, &cursor) {
-        Ok(lines) => Ok(lines),
-        Err(_) => Err(PartRefused::Memory),
-    }
+    Ok(part_lines(alloc, &ends, &cursor)?)
 }

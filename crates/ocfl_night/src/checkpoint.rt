@@ -6,10 +6,10 @@ ghost use Rattle.ocfl_night.specs.Steps.{IsCheckpointPut, MayCheckpoint, begun_a
 
 use crate::refusal::{NotOpened, Refusal};
 use crate::stop::Stop;
-use ocfl_cursor::{Cursor, State};
+use ocfl_cursor::{Cursor, Refused, State};
 use ocfl_state::{
-    Checkpoint, NotDecoded, Phase, ReportDigests, ReportMark, StateFolder, Trouble,
-    decode_checkpoint, encode_checkpoint, every_checkpoint_fits,
+    Checkpoint, Phase, ReportDigests, ReportMark, StateFolder, Trouble, decode_checkpoint,
+    encode_checkpoint, every_checkpoint_fits,
 };
 use std::alloc::{AllocError, Global};
 
@@ -169,13 +169,13 @@ pub fn put_checkpoint<S: StateFolder>(
 }
 
 /// Why bytes are not taken for a checkpoint.
-fn not_read(why: NotDecoded) -> NotOpened {
+fn not_read(why: Refused) -> NotOpened {
     match why {
-        NotDecoded::NotCheckpoint => NotOpened::Refused(Refusal::NotCheckpoint),
-        NotDecoded::Version => NotOpened::Refused(Refusal::Version),
-        NotDecoded::Damaged => NotOpened::Refused(Refusal::Damaged),
-        NotDecoded::Malformed => NotOpened::Refused(Refusal::Malformed),
-        NotDecoded::Memory => NotOpened::Troubled(Stop::Folder(Trouble::Memory)),
+        Refused::NotA(_) => NotOpened::Refused(Refusal::NotCheckpoint),
+        Refused::Version => NotOpened::Refused(Refusal::Version),
+        Refused::Damaged => NotOpened::Refused(Refusal::Damaged),
+        Refused::Malformed => NotOpened::Refused(Refusal::Malformed),
+        Refused::Memory => NotOpened::Troubled(Stop::Folder(Trouble::Memory)),
     }
 }
 

@@ -13,7 +13,8 @@ use Rattle.ocfl_cursor.specs.declared.ends.PartEnds.{PartEnds}
 use Rattle.ocfl_cursor.specs.declared.part_reading.PartCursorStop.{PartCursorStop}
 use Rattle.ocfl_cursor.specs.declared.refused.PartRefused.{PartRefused}
 use Rattle.ocfl_cursor.specs.declared.part_reading.PartCursorStop.TheVariants as stop
-use Rattle.ocfl_cursor.specs.declared.refused.PartRefused.TheVariants as refused
+use Rattle.ocfl_cursor.specs.declared.refused.PartRefused.TheVariants as part
+use Rattle.ocfl_cursor.specs.declared.refused.Refused.TheVariants as refused
 use Rattle.ocfl_cursor.proofs.PartTexts.{part_text_determines}
 use Rattle.ocfl_item.specs.declared.fault.Fault.{Fault}
 use Rattle.ocfl_item.specs.declared.fault.Fault.TheVariants as fault
@@ -51,11 +52,12 @@ stop_says whole fault.Output n h says = unmade_says whole n note.OutputFailed h 
 stop_says whole fault.Broken n h says = h
 
 refused_says : (whole : Bool) (why : PartRefused) (status : ℕ) (n : Note) → IsPartRefusedNote why status n → SaysMade whole n → ⊥
-refused_says whole refused.Memory status n h says = unmade_says whole n note.OutOfMemory h.1 (λ x. x) says
-refused_says whole refused.NotCursor status n h says = unmade_says whole n (note.PartCursorRefused refused.NotCursor) h.1 (λ x. x) says
-refused_says whole refused.Damaged status n h says = unmade_says whole n (note.PartCursorRefused refused.Damaged) h.1 (λ x. x) says
-refused_says whole refused.Malformed status n h says = unmade_says whole n (note.PartCursorRefused refused.Malformed) h.1 (λ x. x) says
-refused_says whole refused.OtherPart status n h says = unmade_says whole n (note.PartCursorRefused refused.OtherPart) h.1 (λ x. x) says
+refused_says whole (part.Text refused.Memory) status n h says = unmade_says whole n note.OutOfMemory h.1 (λ x. x) says
+refused_says whole (part.Text (refused.NotA t)) status n h says = unmade_says whole n (note.PartCursorRefused (part.Text (refused.NotA t))) h.1 (λ x. x) says
+refused_says whole (part.Text refused.Version) status n h says = unmade_says whole n (note.PartCursorRefused (part.Text refused.Version)) h.1 (λ x. x) says
+refused_says whole (part.Text refused.Damaged) status n h says = unmade_says whole n (note.PartCursorRefused (part.Text refused.Damaged)) h.1 (λ x. x) says
+refused_says whole (part.Text refused.Malformed) status n h says = unmade_says whole n (note.PartCursorRefused (part.Text refused.Malformed)) h.1 (λ x. x) says
+refused_says whole part.OtherPart status n h says = unmade_says whole n (note.PartCursorRefused part.OtherPart) h.1 (λ x. x) says
 
 unread_says : (whole : Bool) (why : PartCursorStop) (status : ℕ) (n : Note) → IsPartUnreadNote why status n → SaysMade whole n → ⊥
 unread_says whole stop.Read status n h says = unmade_says whole n note.CursorFileFailed h.1 (λ x. x) says

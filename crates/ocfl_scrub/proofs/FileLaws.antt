@@ -5,13 +5,13 @@ use Rattle.std.specs.{Prelude.{◌≢◌, ◌↔◌, if◌then◌else◌}, decla
 use Rattle.ocfl_tree.specs.Place.{Text, Place}
 use Rattle.ocfl_cursor.specs.Cursor.{Cursor, new_cursor, cursor_lines, cursor_text}
 use Rattle.ocfl_cursor.specs.{Moves.{after_run}, Part.{IsPartText, part_lines}}
-use Rattle.ocfl_cursor.specs.{Refusal.{Refusal, refusal, IsTextOf}, Shown.{AreShown, IsShownFrom}}
+use Rattle.ocfl_cursor.specs.{Refusal.{refusal, IsTextOf}, Shown.{AreShown, IsShownFrom}}
 use Rattle.ocfl_cursor.specs.{Stop.{max_part_text}, declared.ends.PartEnds.{PartEnds}}
-use Rattle.ocfl_cursor.specs.{Refused.{reason}, declared.limits.Limits.{Limits as MadeLimits}}
+use Rattle.ocfl_cursor.specs.declared.limits.Limits.{Limits as MadeLimits}
 use Rattle.ocfl_cursor.specs.declared.refused.PartRefused.{PartRefused}
 use Rattle.ocfl_cursor.specs.declared.refused.Refused.{Refused}
 use Rattle.ocfl_cursor.proofs.PartLimited.{read_as_part}
-use Rattle.ocfl_cursor.proofs.PartRefusals.{front-part_text, seal-part_text}
+use Rattle.ocfl_cursor.proofs.{PartRefusals.{front-part_text}, Refusals.{only_memory}}
 use Rattle.ocfl_audit.specs.Runs.{Limits}
 use Rattle.ocfl_cursor.specs.declared.refused.PartRefused.TheVariants as part
 use Rattle.ocfl_cursor.specs.declared.refused.Refused.TheVariants as refused
@@ -27,34 +27,31 @@ use Rattle.ocfl_scrub.specs.declared.running.RunStatus.TheVariants as run
 
 -- ---- what is refused
 
-unsome : (x y : Refusal) → Some x ≡ Some y → y ≡ x
-unsome x y e = cc
+refused_so : (bytes : Text) (why : Refused) → ((why ≡ refusal bytes) × (((c : Cursor) × IsTextOf bytes c) → ⊥)) ↔ (((c : Cursor) → IsTextOf bytes c → ⊥) × (why ≡ refusal bytes))
+refused_so bytes why = (λ h. (λ c is. h.1 (c, is), h.0), λ k. (k.1, λ one. k.0 one.0 one.1))
 
 pub refused_for : (bytes : Text) (why : Refused) → why ≢ refused.Memory
-    → RefusesRightly (Some (Some bytes)) (note.CursorRefused why) ↔ (((c : Cursor) → IsTextOf bytes c → ⊥) × (reason why ≡ Some (refusal bytes)))
+    → RefusesRightly (Some (Some bytes)) (note.CursorRefused why) ↔ (((c : Cursor) → IsTextOf bytes c → ⊥) × (why ≡ refusal bytes))
 refused_for bytes refused.Memory some = absurd (some refl)
-refused_for bytes refused.NotCursor some = (λ h. (h.no_cursor, ap Some (sym h.reason)), λ k. record { no_cursor = k.0; reason = unsome _ _ k.1 })
-refused_for bytes refused.Version some = (λ h. (h.no_cursor, ap Some (sym h.reason)), λ k. record { no_cursor = k.0; reason = unsome _ _ k.1 })
-refused_for bytes refused.Damaged some = (λ h. (h.no_cursor, ap Some (sym h.reason)), λ k. record { no_cursor = k.0; reason = unsome _ _ k.1 })
-refused_for bytes refused.Malformed some = (λ h. (h.no_cursor, ap Some (sym h.reason)), λ k. record { no_cursor = k.0; reason = unsome _ _ k.1 })
+refused_for bytes (refused.NotA t) some = refused_so bytes (refused.NotA t)
+refused_for bytes refused.Version some = refused_so bytes refused.Version
+refused_for bytes refused.Damaged some = refused_so bytes refused.Damaged
+refused_for bytes refused.Malformed some = refused_so bytes refused.Malformed
 
 -- a part's cursor that is to be shown is not refused as that of a whole root
 pub no_whole_refused : (e : PartEnds) (bytes : Text) (c : Cursor) (why : Refused) → IsPartText e bytes c → length bytes ≤ max_part_text → why ≢ refused.Memory
     → UnshownSaid deed.Show (Some (Some bytes)) (note.CursorRefused why) → ⊥
 no_whole_refused e bytes c refused.Memory is few some h = some refl
-no_whole_refused e bytes c refused.NotCursor is few some h = true≢false (sym (read_as_part bytes (front-part_text e bytes c is) few) ∙ h.0)
+no_whole_refused e bytes c (refused.NotA t) is few some h = true≢false (sym (read_as_part bytes (front-part_text e bytes c is) few) ∙ h.0)
 no_whole_refused e bytes c refused.Version is few some h = true≢false (sym (read_as_part bytes (front-part_text e bytes c is) few) ∙ h.0)
 no_whole_refused e bytes c refused.Damaged is few some h = true≢false (sym (read_as_part bytes (front-part_text e bytes c is) few) ∙ h.0)
 no_whole_refused e bytes c refused.Malformed is few some h = true≢false (sym (read_as_part bytes (front-part_text e bytes c is) few) ∙ h.0)
 
 -- nor as that of a part
-pub no_part_refused : (e : PartEnds) (bytes : Text) (c : Cursor) (why : PartRefused) → IsPartText e bytes c → why ≢ part.Memory
+pub no_part_refused : (e : PartEnds) (bytes : Text) (c : Cursor) (why : PartRefused) → IsPartText e bytes c → why ≢ part.Text refused.Memory
     → RefusesRightly (Some (Some bytes)) (note.PartCursorRefused why) → ⊥
-no_part_refused e bytes c part.NotCursor is some h = h.1
-no_part_refused e bytes c part.Damaged is some h = true≢false (sym (seal-part_text e bytes c is) ∙ h.1)
-no_part_refused e bytes c part.Malformed is some h = h.1.no_cursor e c is
-no_part_refused e bytes c part.OtherPart is some h = h.1
-no_part_refused e bytes c part.Memory is some h = some refl
+no_part_refused e bytes c (part.Text why) is some h = some (ap part.Text (only_memory _ _ why (e, (c, is)) h.1))
+no_part_refused e bytes c part.OtherPart is some h = h
 
 -- ---- without a file
 

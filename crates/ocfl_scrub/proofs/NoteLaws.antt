@@ -113,10 +113,10 @@ after_failures (note.PartCursorRefused why) = neither (λ h. let e = h.0 in omeg
 
 -- a cursor is refused, and not for want of memory
 abbrev IsRefusedCursor : Note → Type 0
-IsRefusedCursor n = ((why : Refused) × ((n ≡ note.CursorRefused why) × (why ≢ refused.Memory))) ⊎ ((why : PartRefused) × ((n ≡ note.PartCursorRefused why) × (why ≢ part.Memory)))
+IsRefusedCursor n = ((why : Refused) × ((n ≡ note.CursorRefused why) × (why ≢ refused.Memory))) ⊎ ((why : PartRefused) × ((n ≡ note.PartCursorRefused why) × (why ≢ part.Text refused.Memory)))
 
 pub of_refused_cursors : (n : Note)
-    → IsStatus 4 n ↔ (((why : Refused) × ((n ≡ note.CursorRefused why) × (why ≢ refused.Memory))) ⊎ ((why : PartRefused) × ((n ≡ note.PartCursorRefused why) × (why ≢ part.Memory))))
+    → IsStatus 4 n ↔ (((why : Refused) × ((n ≡ note.CursorRefused why) × (why ≢ refused.Memory))) ⊎ ((why : PartRefused) × ((n ≡ note.PartCursorRefused why) × (why ≢ part.Text refused.Memory))))
 of_refused_cursors note.Nothing = neither (not_small 2) (none_of (λ h. let e = h.1.0 in cc) (λ h. let e = h.1.0 in cc))
 of_refused_cursors note.NoItem = neither (λ e. omega (arith, e)) (none_of (λ h. let e = h.1.0 in cc) (λ h. let e = h.1.0 in cc))
 of_refused_cursors note.EmptyBranch = neither (λ e. omega (arith, e)) (none_of (λ h. let e = h.1.0 in cc) (λ h. let e = h.1.0 in cc))
@@ -251,21 +251,22 @@ module _ (a b : ℕ) (m n : Note) where
   pub unread_says_one : (why : CursorStop) → IsUnreadNote why a m → IsUnreadNote why b n → (a ≡ b) × (m ≡ n)
   unread_says_one stop.Read h k = (h.0 ∙ sym k.0, h.1 ∙ sym k.1)
   unread_says_one (stop.Refused refused.Memory) h k = (h.0 ∙ sym k.0, h.1 ∙ sym k.1)
-  unread_says_one (stop.Refused refused.NotCursor) h k = (h.0 ∙ sym k.0, h.1 ∙ sym k.1)
+  unread_says_one (stop.Refused (refused.NotA t)) h k = (h.0 ∙ sym k.0, h.1 ∙ sym k.1)
   unread_says_one (stop.Refused refused.Version) h k = (h.0 ∙ sym k.0, h.1 ∙ sym k.1)
   unread_says_one (stop.Refused refused.Damaged) h k = (h.0 ∙ sym k.0, h.1 ∙ sym k.1)
   unread_says_one (stop.Refused refused.Malformed) h k = (h.0 ∙ sym k.0, h.1 ∙ sym k.1)
 
   part_refused_says_one : (why : PartRefused) → IsPartRefusedNote why a m → IsPartRefusedNote why b n → (a ≡ b) × (m ≡ n)
-  part_refused_says_one part.Memory h k = (h.0 ∙ sym k.0, h.1 ∙ sym k.1)
-  part_refused_says_one part.NotCursor h k = (h.0 ∙ sym k.0, h.1 ∙ sym k.1)
-  part_refused_says_one part.Damaged h k = (h.0 ∙ sym k.0, h.1 ∙ sym k.1)
-  part_refused_says_one part.Malformed h k = (h.0 ∙ sym k.0, h.1 ∙ sym k.1)
+  part_refused_says_one (part.Text refused.Memory) h k = (h.0 ∙ sym k.0, h.1 ∙ sym k.1)
+  part_refused_says_one (part.Text (refused.NotA t)) h k = (h.0 ∙ sym k.0, h.1 ∙ sym k.1)
+  part_refused_says_one (part.Text refused.Version) h k = (h.0 ∙ sym k.0, h.1 ∙ sym k.1)
+  part_refused_says_one (part.Text refused.Damaged) h k = (h.0 ∙ sym k.0, h.1 ∙ sym k.1)
+  part_refused_says_one (part.Text refused.Malformed) h k = (h.0 ∙ sym k.0, h.1 ∙ sym k.1)
   part_refused_says_one part.OtherPart h k = (h.0 ∙ sym k.0, h.1 ∙ sym k.1)
 
   pub unshown_says_one : (why : ShowStop) → IsUnshownNote why a m → IsUnshownNote why b n → (a ≡ b) × (m ≡ n)
   unshown_says_one (show.Whole why) h k = unread_says_one why h k
-  unshown_says_one (show.Part why) h k = part_refused_says_one why h k
+  unshown_says_one (show.Part why) h k = part_refused_says_one (part.Text why) h k
 
   pub branch_says_one : (finding : Bool) (how : AuditStatus) (last : Option Place) → IsBranchNote finding how last a m → IsBranchNote finding how last b n → (a ≡ b) × (m ≡ n)
   branch_says_one finding end.Ended None h k = (h.0 ∙ sym k.0, h.1 ∙ sym k.1)
@@ -308,7 +309,7 @@ cycle_said status n e h = absurd h
 
 -- no cursor was read
 unread_said : (status : ℕ) (why : Refused) → (status ≡ 4) × (why ≢ refused.Memory) → (how : CursorStop) × IsUnreadNote how status (note.CursorRefused why)
-unread_said status refused.NotCursor e = (stop.Refused refused.NotCursor, (e.0, refl))
+unread_said status (refused.NotA t) e = (stop.Refused (refused.NotA t), (e.0, refl))
 unread_said status refused.Version e = (stop.Refused refused.Version, (e.0, refl))
 unread_said status refused.Damaged e = (stop.Refused refused.Damaged, (e.0, refl))
 unread_said status refused.Malformed e = (stop.Refused refused.Malformed, (e.0, refl))
@@ -337,12 +338,13 @@ run_said status (note.CursorRefused why) e h = inr (unread_said status why e)
 run_said status n e h = inl (ran_said status n e h)
 
 -- why a part's cursor is refused, as its text says
-part_refused_said : (status : ℕ) (why : PartRefused) → (status ≡ 4) × (why ≢ part.Memory) → IsPartRefusedNote why status (note.PartCursorRefused why)
-part_refused_said status part.NotCursor e = (e.0, refl)
-part_refused_said status part.Damaged e = (e.0, refl)
-part_refused_said status part.Malformed e = (e.0, refl)
+part_refused_said : (status : ℕ) (why : PartRefused) → (status ≡ 4) × (why ≢ part.Text refused.Memory) → IsPartRefusedNote why status (note.PartCursorRefused why)
+part_refused_said status (part.Text (refused.NotA t)) e = (e.0, refl)
+part_refused_said status (part.Text refused.Version) e = (e.0, refl)
+part_refused_said status (part.Text refused.Damaged) e = (e.0, refl)
+part_refused_said status (part.Text refused.Malformed) e = (e.0, refl)
+part_refused_said status (part.Text refused.Memory) e = absurd (e.1 refl)
 part_refused_said status part.OtherPart e = (e.0, refl)
-part_refused_said status part.Memory e = absurd (e.1 refl)
 
 pub show_said : (status : ℕ) (n : Note) → IsStatus status n → IsShowSaid n → (n ≡ note.Nothing) ⊎ ((n ≡ note.OutputFailed) ⊎ ((how : ShowStop) × IsUnshownNote how status n))
 show_said status note.Nothing e h = inl refl
@@ -350,7 +352,8 @@ show_said status note.OutputFailed e h = inr (inl refl)
 show_said status note.OutOfMemory e h = inr (inr (show.Whole (stop.Refused refused.Memory), (e, refl)))
 show_said status note.CursorFileFailed e h = inr (inr (show.Whole stop.Read, (e, refl)))
 show_said status (note.CursorRefused why) e h = let how = unread_said status why e in inr (inr (show.Whole how.0, how.1))
-show_said status (note.PartCursorRefused why) e h = inr (inr (show.Part why, part_refused_said status why e))
+show_said status (note.PartCursorRefused (part.Text why)) e h = inr (inr (show.Part why, part_refused_said status (part.Text why) e))
+show_said status (note.PartCursorRefused part.OtherPart) e h = absurd h
 show_said status n e h = absurd h
 
 pub branch_said : (status : ℕ) (n : Note) → IsStatus status n → IsBranchSaid n → (finding : Bool) × ((how : AuditStatus) × ((last : Option Place) × IsBranchNote finding how last status n))

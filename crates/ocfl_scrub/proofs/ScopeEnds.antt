@@ -1,16 +1,18 @@
 -- What a command within a scope ends with.
-use Rattle.std.proofs.Common.{◌≡◌, refl, sym, ◌∙◌, ap, ℕ, ◌≤◌, List, [], ◌∷◌, ◌++◌, length, Option, Some, None, Vec, inl, inr}
+use Rattle.std.proofs.Common.{◌≡◌, refl, sym, ◌∙◌, ap, ℕ, ◌≤◌, ◌&&◌, nat_le, true, List, [], ◌∷◌, ◌++◌, length, Option, Some, None, Vec, inl, inr}
 use Rattle.std.proofs.lemmas.Bool.{true≢false}
 use Rattle.std.specs.{Prelude.{◌≢◌, ◌⊎◌}, declared.alloc.Global.{Global}, List.{last_or}}
 use Rattle.ocfl_tree.specs.{Place.{Text, Place}, declared.store.Opening.{Opening}}
 use Rattle.ocfl_report.specs.Line.{Item}
 use Rattle.ocfl_audit.specs.{Audit.{audit}, Parts.{branch, within}, Trail.{unread_of}}
 use Rattle.ocfl_cursor.specs.{Cursor.{Cursor}, Part.{IsPartText}, Refusal.{IsTextOf}}
-use Rattle.ocfl_cursor.specs.{Stop.{max_part_text}, declared.ends.PartEnds.{PartEnds}}
+use Rattle.ocfl_cursor.specs.{Stop.{is_read_as_part, max_part_text}, declared.ends.PartEnds.{PartEnds}}
 use Rattle.ocfl_cursor.specs.declared.refused.PartRefused.{PartRefused}
-use Rattle.ocfl_cursor.specs.declared.refused.PartRefused.TheVariants as refused
+use Rattle.ocfl_cursor.specs.declared.refused.PartRefused.TheVariants as part
+use Rattle.ocfl_cursor.specs.declared.refused.Refused.TheVariants as refused
+use Rattle.ocfl_cursor.specs.declared.refused.TextKind.TheVariants as kind
 use Rattle.ocfl_cursor.proofs.PartLimited.{read_as_part}
-use Rattle.ocfl_cursor.proofs.PartRefusals.{front-part_text, only_memory, seal-part_text, whole_is_no_part}
+use Rattle.ocfl_cursor.proofs.PartRefusals.{front-part_text, only_memory, whole_has_no_part_front}
 use Rattle.ocfl_deed.specs.declared.deed.Deed.{Deed}
 use Rattle.ocfl_deed.specs.declared.deed.Deed.TheVariants as deed
 use Rattle.ocfl_item.specs.declared.fault.Fault.{Fault}
@@ -88,25 +90,32 @@ module _ (call : Call) (p : Place) (status : ℕ) where
 -- ---- cursors of parts
 
 pub own_cursor : (e : PartEnds) (b : Text) (c : Cursor) (why : PartRefused) → IsPartText e b c → length b ≤ max_part_text
-    → PartRefusesRightly e (Some (Some b)) (note.PartCursorRefused why) → why ≡ refused.Memory
-own_cursor e b c refused.NotCursor h few k = absurd (true≢false (sym (read_as_part b (front-part_text e b c h) few) ∙ k))
-own_cursor e b c refused.Damaged h few k = only_memory e b c h refused.Damaged k.1
-own_cursor e b c refused.Malformed h few k = only_memory e b c h refused.Malformed k.1
-own_cursor e b c refused.OtherPart h few k = only_memory e b c h refused.OtherPart k.1
-own_cursor e b c refused.Memory h few k = refl
+    → PartRefusesRightly e (Some (Some b)) (note.PartCursorRefused why) → why ≡ part.Text refused.Memory
+own_cursor e b c (part.Text (refused.NotA t)) h few k = absurd (true≢false (sym (read_as_part b (front-part_text e b c h) few) ∙ k.1))
+own_cursor e b c (part.Text refused.Version) h few k = only_memory e b c h (part.Text refused.Version) k.1
+own_cursor e b c (part.Text refused.Damaged) h few k = only_memory e b c h (part.Text refused.Damaged) k.1
+own_cursor e b c (part.Text refused.Malformed) h few k = only_memory e b c h (part.Text refused.Malformed) k.1
+own_cursor e b c (part.Text refused.Memory) h few k = refl
+own_cursor e b c part.OtherPart h few k = only_memory e b c h part.OtherPart k.1
 
 pub cursor_of_a_part : (e f : PartEnds) (b : Text) (c : Cursor) (why : PartRefused) → IsPartText f b c → length b ≤ max_part_text
-    → PartRefusesRightly e (Some (Some b)) (note.PartCursorRefused why) → (why ≡ refused.OtherPart) ⊎ (why ≡ refused.Memory)
-cursor_of_a_part e f b c refused.NotCursor h few k = absurd (true≢false (sym (read_as_part b (front-part_text f b c h) few) ∙ k))
-cursor_of_a_part e f b c refused.Damaged h few k = absurd (true≢false (sym (seal-part_text f b c h) ∙ k.1.1))
-cursor_of_a_part e f b c refused.Malformed h few k = absurd (k.1.no_cursor f c h)
-cursor_of_a_part e f b c refused.OtherPart h few k = inl refl
-cursor_of_a_part e f b c refused.Memory h few k = inr refl
+    → PartRefusesRightly e (Some (Some b)) (note.PartCursorRefused why) → (why ≡ part.OtherPart) ⊎ (why ≡ part.Text refused.Memory)
+cursor_of_a_part e f b c (part.Text (refused.NotA t)) h few k = absurd (true≢false (sym (read_as_part b (front-part_text f b c h) few) ∙ k.1))
+cursor_of_a_part e f b c (part.Text refused.Version) h few k = absurd (k.1.1 (f, (c, h)))
+cursor_of_a_part e f b c (part.Text refused.Damaged) h few k = absurd (k.1.1 (f, (c, h)))
+cursor_of_a_part e f b c (part.Text refused.Malformed) h few k = absurd (k.1.1 (f, (c, h)))
+cursor_of_a_part e f b c (part.Text refused.Memory) h few k = inr refl
+cursor_of_a_part e f b c part.OtherPart h few k = inl refl
+
+-- the text of a whole root's cursor is not read as that of a part
+not_read : (b : Text) (c : Cursor) → IsTextOf b c → is_read_as_part b ≡ true → ⊥
+not_read b c h k = true≢false (sym k ∙ ap (λ r. r && nat_le (length b) max_part_text) (whole_has_no_part_front b c h))
 
 pub cursor_of_the_whole : (e : PartEnds) (b : Text) (c : Cursor) (why : PartRefused) → IsTextOf b c
-    → PartRefusesRightly e (Some (Some b)) (note.PartCursorRefused why) → (why ≡ refused.NotCursor) ⊎ (why ≡ refused.Memory)
-cursor_of_the_whole e b c refused.NotCursor h k = inl refl
-cursor_of_the_whole e b c refused.Damaged h k = absurd (true≢false (sym k.1.0 ∙ whole_is_no_part b c h))
-cursor_of_the_whole e b c refused.Malformed h k = absurd (true≢false (sym k.1.sealed.front ∙ whole_is_no_part b c h))
-cursor_of_the_whole e b c refused.OtherPart h k = absurd (true≢false (sym (front-part_text k.1.ends b k.1.cursor k.1.is) ∙ whole_is_no_part b c h))
-cursor_of_the_whole e b c refused.Memory h k = inr refl
+    → PartRefusesRightly e (Some (Some b)) (note.PartCursorRefused why) → (why ≡ part.Text (refused.NotA kind.Cursor)) ⊎ (why ≡ part.Text refused.Memory)
+cursor_of_the_whole e b c (part.Text (refused.NotA t)) h k = inl (ap (λ t. part.Text (refused.NotA t)) k.0)
+cursor_of_the_whole e b c (part.Text refused.Version) h k = absurd (not_read b c h k.0)
+cursor_of_the_whole e b c (part.Text refused.Damaged) h k = absurd (not_read b c h k.0)
+cursor_of_the_whole e b c (part.Text refused.Malformed) h k = absurd (not_read b c h k.0)
+cursor_of_the_whole e b c (part.Text refused.Memory) h k = inr refl
+cursor_of_the_whole e b c part.OtherPart h k = absurd (not_read b c h k.0)

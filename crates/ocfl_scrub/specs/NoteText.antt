@@ -2,10 +2,7 @@
 use Rattle.std.specs.{Prelude.{◌++◌, [], Bool, true, false, codes}, Fmt.{decimal}}
 use Rattle.ocfl_tree.specs.Place.{Text}
 use Rattle.ocfl_report.specs.Text.{place_text}
-use Rattle.ocfl_cursor.specs.declared.refused.PartRefused.{PartRefused}
-use Rattle.ocfl_cursor.specs.declared.refused.Refused.{Refused}
-use Rattle.ocfl_cursor.specs.declared.refused.PartRefused.TheVariants as part
-use Rattle.ocfl_cursor.specs.declared.refused.Refused.TheVariants as refused
+use Rattle.ocfl_cursor.specs.{PartRefusal.{part_refused_text}, Refused.{refused_text}}
 use Rattle.ocfl_scrub.specs.Types.{Note}
 use Rattle.ocfl_scrub.specs.declared.note.Note.TheVariants as note
 
@@ -13,20 +10,6 @@ use Rattle.ocfl_scrub.specs.declared.note.Note.TheVariants as note
 abbrev pub end_text : Bool → Text
 end_text true = codes "ended"
 end_text false = codes "open"
-
-abbrev pub refused_text : Refused → Text
-refused_text refused.NotCursor = codes "not a cursor"
-refused_text refused.Version = codes "version"
-refused_text refused.Damaged = codes "damaged"
-refused_text refused.Malformed = codes "malformed"
-refused_text refused.Memory = codes "out of memory"
-
-abbrev pub part_refused_text : PartRefused → Text
-part_refused_text part.NotCursor = refused_text refused.NotCursor
-part_refused_text part.Damaged = refused_text refused.Damaged
-part_refused_text part.Malformed = refused_text refused.Malformed
-part_refused_text part.OtherPart = codes "another part"
-part_refused_text part.Memory = refused_text refused.Memory
 
 abbrev pub note_text : Note → Text
 note_text note.Nothing = []

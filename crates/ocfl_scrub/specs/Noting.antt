@@ -43,7 +43,7 @@ IsStatus status (note.CycleMade runs cost ended) = (status ≡ 0) ⊎ (status �
 IsStatus status note.CursorWorn = status ≡ 3
 IsStatus status note.CursorFileFailed = status ≡ 3
 IsStatus status (note.CursorRefused why) = (status ≡ 4) × (why ≢ refused.Memory)
-IsStatus status (note.PartCursorRefused why) = (status ≡ 4) × (why ≢ part.Memory)
+IsStatus status (note.PartCursorRefused why) = (status ≡ 4) × (why ≢ part.Text refused.Memory)
 
 -- what is said after a stop
 abbrev pub IsStopSaid : Note → Type 0
@@ -93,6 +93,7 @@ IsRunSaid n = IsRanSaid n
 abbrev pub IsShowSaid : Note → Type 0
 IsShowSaid note.Nothing = ⊤
 IsShowSaid note.OutputFailed = ⊤
+IsShowSaid (note.PartCursorRefused part.OtherPart) = ⊥
 IsShowSaid n = IsUnreadSaid n
 
 -- a path that is no place's, or one that could not be read because memory ran out
@@ -165,20 +166,17 @@ IsCycleNote runs spent finding (cycle.Stopped why) status n = (status ≡ 3) × 
 abbrev pub IsUnreadNote : CursorStop → ℕ → Note → Type 0
 IsUnreadNote stop.Read status n = (status ≡ 3) × (n ≡ note.CursorFileFailed)
 IsUnreadNote (stop.Refused refused.Memory) status n = (status ≡ 3) × (n ≡ note.OutOfMemory)
-IsUnreadNote (stop.Refused refused.NotCursor) status n = (status ≡ 4) × (n ≡ note.CursorRefused refused.NotCursor)
-IsUnreadNote (stop.Refused refused.Version) status n = (status ≡ 4) × (n ≡ note.CursorRefused refused.Version)
-IsUnreadNote (stop.Refused refused.Damaged) status n = (status ≡ 4) × (n ≡ note.CursorRefused refused.Damaged)
-IsUnreadNote (stop.Refused refused.Malformed) status n = (status ≡ 4) × (n ≡ note.CursorRefused refused.Malformed)
+IsUnreadNote (stop.Refused why) status n = (status ≡ 4) × (n ≡ note.CursorRefused why)
 
 -- what it is ended with if the cursor of a part is refused
 abbrev pub IsPartRefusedNote : PartRefused → ℕ → Note → Type 0
-IsPartRefusedNote part.Memory status n = (status ≡ 3) × (n ≡ note.OutOfMemory)
+IsPartRefusedNote (part.Text refused.Memory) status n = (status ≡ 3) × (n ≡ note.OutOfMemory)
 IsPartRefusedNote why status n = (status ≡ 4) × (n ≡ note.PartCursorRefused why)
 
 -- what it is ended with if nothing is shown
 abbrev pub IsUnshownNote : ShowStop → ℕ → Note → Type 0
 IsUnshownNote (show.Whole why) status n = IsUnreadNote why status n
-IsUnshownNote (show.Part why) status n = IsPartRefusedNote why status n
+IsUnshownNote (show.Part why) status n = IsPartRefusedNote (part.Text why) status n
 
 -- the place was checked, and the status and the text are those of the check
 pub record ChecksWithNote (call : Call) (p : Place) (status : ℕ) (n : Note) : Type 0 where

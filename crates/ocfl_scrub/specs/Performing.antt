@@ -10,6 +10,7 @@ use Rattle.ocfl_cursor.specs.{Stop.{StopsRightly}, declared.limits.Limits.{Limit
 use Rattle.ocfl_cursor.specs.declared.reading.CursorStop.{CursorStop}
 use Rattle.ocfl_cursor.specs.declared.showing.ShowStop.{ShowStop}
 use Rattle.ocfl_cursor.specs.declared.reading.CursorStop.TheVariants as stop
+use Rattle.ocfl_cursor.specs.declared.refused.PartRefused.TheVariants as part
 use Rattle.ocfl_cursor.specs.declared.showing.ShowStop.TheVariants as show
 use Rattle.ocfl_deed.specs.declared.deed.Deed.{Deed}
 use Rattle.ocfl_deed.specs.declared.deed.Deed.TheVariants as deed
@@ -53,7 +54,8 @@ UnshownWith known why = IfRead ⊥ (λ bytes. UnshownRightly bytes why) known
 -- what is said to be refused is rightly refused, as the cursor of a part if that is to be shown
 abbrev pub RefusesRightly : Option (Option Text) → Note → Type 0
 RefusesRightly known (note.CursorRefused why) = StopsWith known (stop.Refused why)
-RefusesRightly known (note.PartCursorRefused why) = UnshownWith known (show.Part why)
+RefusesRightly known (note.PartCursorRefused (part.Text why)) = UnshownWith known (show.Part why)
+RefusesRightly known (note.PartCursorRefused part.OtherPart) = ⊥
 RefusesRightly known n = ⊤
 
 -- a cursor that is to be shown is refused by the kind that its first line names

@@ -123,10 +123,8 @@ fn handed_on(alloc: Global, cursor: &Cursor, runs: usize) -> Result<Cursor, Refu
     if runs == 0 {
         return Ok(Cursor::new());
     }
-    match encode(alloc, cursor) {
-        Ok(text) => decode(alloc, &text),
-        Err(_) => Err(Refused::Memory),
-    }
+    let text = encode(alloc, cursor)?;
+    decode(alloc, &text)
 }
 
 fn cycle_end(cursor: Cursor, runs: usize, found: bool, end: CycleStatus) -> CycleEnd

@@ -11,7 +11,7 @@ ghost use Rattle.ocfl_audit.specs.{Trail.{content_trail}, Between.{looked_betwee
 ghost use Rattle.ocfl_audit.specs.{Due.{hashed_among, item_places}, Lines.{is_hashed}};
 ghost use Rattle.ocfl_cursor.specs.Cursor.{Cursor, new_cursor, cursor_lines, cursor_text};
 ghost use Rattle.ocfl_cursor.specs.{Moves.{after_run}, Part.{IsPartText, part_lines}};
-ghost use Rattle.ocfl_cursor.specs.{Refusal.{IsTextOf, refusal}, Refused.{reason}};
+ghost use Rattle.ocfl_cursor.specs.Refusal.{IsTextOf, refusal};
 ghost use Rattle.ocfl_cursor.specs.Stop.{max_part_text};
 ghost use Rattle.ocfl_cursor.specs.declared.limits.Limits.{Limits as MadeLimits};
 ghost use Rattle.ocfl_cursor.specs.declared.reading.CursorStop.{CursorStop};
@@ -20,7 +20,7 @@ ghost use Rattle.ocfl_cursor.specs.declared.part_reading.PartCursorStop.{PartCur
 ghost use Rattle.ocfl_cursor.specs.declared.refused.PartRefused.{PartRefused};
 ghost use Rattle.ocfl_cursor.specs.declared.showing.ShowStop.{ShowStop};
 ghost use Rattle.ocfl_cursor.specs.declared.refused.Refused.{Refused};
-ghost use Rattle.ocfl_cursor.specs.declared.refused.PartRefused.TheVariants as parts;
+ghost use Rattle.ocfl_cursor.specs.declared.refused.PartRefused.TheVariants as part;
 ghost use Rattle.ocfl_cursor.specs.declared.refused.Refused.TheVariants as refused;
 ghost use Rattle.ocfl_deed.specs.declared.deed.Deed.{Deed};
 ghost use Rattle.ocfl_deed.specs.declared.deed.Deed.TheVariants as deed;
@@ -79,7 +79,7 @@ pub fn statuses_say_how_a_command_ended()
         ↔ (IsStopSaid n ⊎ ((n ≡ note.CursorWorn) ⊎ (n ≡ note.CursorFileFailed))) }
     ensures refused { (n : Note) → IsStatus 4 n
         ↔ (((why : Refused) × ((n ≡ note.CursorRefused why) × (why ≢ refused.Memory)))
-        ⊎ ((why : PartRefused) × ((n ≡ note.PartCursorRefused why) × (why ≢ parts.Memory)))) }
+        ⊎ ((why : PartRefused) × ((n ≡ note.PartCursorRefused why) × (why ≢ part.Text refused.Memory)))) }
     ensures no_other { (status : ℕ) (n : Note) → IsStatus status n → status ≤ 4 }
 {}
 
@@ -161,7 +161,7 @@ pub fn each_command_speaks_of_its_own_ends()
 pub fn only_other_bytes_are_refused()
     ensures refused { (bytes : List ℕ) (why : Refused) → why ≢ refused.Memory
         → RefusesRightly (Some (Some bytes)) (note.CursorRefused why)
-        ↔ (((c : Cursor) → IsTextOf bytes c → ⊥) × (reason why ≡ Some (refusal bytes))) }
+        ↔ (((c : Cursor) → IsTextOf bytes c → ⊥) × (why ≡ refusal bytes)) }
     ensures without_reader { (why : Refused) → RefusesRightly None (note.CursorRefused why) → ⊥ }
 {}
 
@@ -172,7 +172,7 @@ pub fn a_parts_cursor_is_shown()
         → IsPartText e bytes c → length bytes ≤ max_part_text → why ≢ refused.Memory
         → UnshownSaid deed.Show (Some (Some bytes)) (note.CursorRefused why) → ⊥ }
     ensures part { (e : PartEnds) (bytes : List ℕ) (c : Cursor) (why : PartRefused)
-        → IsPartText e bytes c → why ≢ parts.Memory
+        → IsPartText e bytes c → why ≢ part.Text refused.Memory
         → RefusesRightly (Some (Some bytes)) (note.PartCursorRefused why) → ⊥ }
 {}
 

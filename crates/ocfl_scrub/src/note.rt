@@ -1,6 +1,6 @@
 //! What a command says on standard error.
 ghost use Rattle.std.specs.Prelude.{◌≡◌, Some};
-ghost use Rattle.ocfl_scrub.specs.NoteText.{end_text, note_text, part_refused_text, refused_text};
+ghost use Rattle.ocfl_scrub.specs.NoteText.{end_text, note_text};
 
 use ocfl_cursor::{PartRefused, Refused};
 use ocfl_report::DisplayPlace;
@@ -80,10 +80,8 @@ impl fmt::Display for Note {
             }
             Note::CursorWorn => f.write_str("cursor worn"),
             Note::CursorFileFailed => f.write_str("cursor file failed"),
-            Note::CursorRefused(why) => write!(f, "cursor refused: {}", refused_word(*why)),
-            Note::PartCursorRefused(why) => {
-                write!(f, "cursor refused: {}", part_refused_word(*why))
-            }
+            Note::CursorRefused(why) => write!(f, "cursor refused: {why}"),
+            Note::PartCursorRefused(why) => write!(f, "cursor refused: {why}"),
         }
     }
 }
@@ -93,30 +91,4 @@ fn end_word(ended: bool) -> &'static str
     ensures { result.now ≡ end_text ended }
 {
     if ended { "ended" } else { "open" }
-}
-
-// Why bytes are refused.
-fn refused_word(why: Refused) -> &'static str
-    ensures { result.now ≡ refused_text why }
-{
-    match why {
-        Refused::NotCursor => "not a cursor",
-        Refused::Version => "version",
-        Refused::Damaged => "damaged",
-        Refused::Malformed => "malformed",
-        Refused::Memory => "out of memory",
-    }
-}
-
-// Why bytes are refused as a part's cursor.
-fn part_refused_word(why: PartRefused) -> &'static str
-    ensures { result.now ≡ part_refused_text why }
-{
-    match why {
-        PartRefused::NotCursor => refused_word(Refused::NotCursor),
-        PartRefused::Damaged => refused_word(Refused::Damaged),
-        PartRefused::Malformed => refused_word(Refused::Malformed),
-        PartRefused::OtherPart => "another part",
-        PartRefused::Memory => refused_word(Refused::Memory),
-    }
 }

@@ -286,7 +286,7 @@ fn describe_unshown(why: ShowStop) -> (u8, Note)
 {
     match why {
         ShowStop::Whole(why) => describe_unread(why),
-        ShowStop::Part(why) => describe_part_refused(why),
+        ShowStop::Part(why) => describe_part_refused(PartRefused::Text(why)),
     }
 }
 
@@ -296,7 +296,7 @@ pub(crate) fn describe_part_refused(why: PartRefused) -> (u8, Note)
     ensures unread { EndsUnread result.0 result.1 }
 {
     match why {
-        PartRefused::Memory => (3, Note::OutOfMemory),
+        PartRefused::Text(Refused::Memory) => (3, Note::OutOfMemory),
         why => (4, Note::PartCursorRefused(why)),
     }
 }

@@ -6,7 +6,9 @@ ghost use Rattle.ocfl_audit.specs.Parts.{branch};
 ghost use Rattle.ocfl_cursor.specs.{Cursor.{Cursor}, Part.{IsPartText}, Refusal.{IsTextOf}};
 ghost use Rattle.ocfl_cursor.specs.{Stop.{max_part_text}, declared.ends.PartEnds.{PartEnds}};
 ghost use Rattle.ocfl_cursor.specs.declared.refused.PartRefused.{PartRefused};
-ghost use Rattle.ocfl_cursor.specs.declared.refused.PartRefused.TheVariants as refused;
+ghost use Rattle.ocfl_cursor.specs.declared.refused.PartRefused.TheVariants as part;
+ghost use Rattle.ocfl_cursor.specs.declared.refused.Refused.TheVariants as refused;
+ghost use Rattle.ocfl_cursor.specs.declared.refused.TextKind.TheVariants as kind;
 ghost use Rattle.ocfl_deed.specs.declared.deed.Deed.{Deed};
 ghost use Rattle.ocfl_scope.specs.declared.scope.Scope.TheVariants as scope;
 ghost use Rattle.ocfl_scrub.specs.{Call.{Call}, Types.{Note}};
@@ -46,13 +48,13 @@ pub fn a_part_takes_its_own_cursor_alone()
     ensures own { (e : PartEnds) (bytes : List ℕ) (c : Cursor) (why : PartRefused)
         → IsPartText e bytes c → length bytes ≤ max_part_text
         → PartRefusesRightly e (Some (Some bytes)) (note.PartCursorRefused why)
-        → why ≡ refused.Memory }
+        → why ≡ part.Text refused.Memory }
     ensures of_a_part { (e f : PartEnds) (bytes : List ℕ) (c : Cursor) (why : PartRefused)
         → IsPartText f bytes c → length bytes ≤ max_part_text
         → PartRefusesRightly e (Some (Some bytes)) (note.PartCursorRefused why)
-        → (why ≡ refused.OtherPart) ⊎ (why ≡ refused.Memory) }
+        → (why ≡ part.OtherPart) ⊎ (why ≡ part.Text refused.Memory) }
     ensures whole { (e : PartEnds) (bytes : List ℕ) (c : Cursor) (why : PartRefused)
         → IsTextOf bytes c
         → PartRefusesRightly e (Some (Some bytes)) (note.PartCursorRefused why)
-        → (why ≡ refused.NotCursor) ⊎ (why ≡ refused.Memory) }
+        → (why ≡ part.Text (refused.NotA kind.Cursor)) ⊎ (why ≡ part.Text refused.Memory) }
 {}

@@ -1,10 +1,10 @@
 //! What the program says on standard error, and the statuses that go with it.
 
+use ocfl_cursor::Refused;
 use ocfl_parts::SplitStop;
 use ocfl_report::DisplayPlace;
 use ocfl_scope::ScopeStop;
 use ocfl_scrub::Note;
-use ocfl_state::NotDecoded;
 use std::io;
 use thiserror::Error;
 
@@ -33,7 +33,7 @@ pub(crate) enum Stop {
     TooLong,
     /// The bytes begin as a checkpoint, and are refused.
     #[error("checkpoint refused: {0}")]
-    Checkpoint(NotDecoded),
+    Checkpoint(Refused),
     /// The file of a checkpoint could not be read.
     #[error("checkpoint file failed")]
     CheckpointFile,

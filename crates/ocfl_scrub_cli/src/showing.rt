@@ -1,12 +1,13 @@
 //! Showing a file: the checkpoint of a state folder, or a cursor.
 
 use crate::saying::{Stop, say_note, say_out_of_memory, say_stop};
+use ocfl_cursor::{Refused, TextKind};
 use ocfl_deed::Deed;
 use ocfl_digest::Block;
 use ocfl_folder::FsTree;
 use ocfl_report::write_all_of;
 use ocfl_scrub::{Note, perform};
-use ocfl_state::{NotDecoded, NotShown, decode_checkpoint, read_stored};
+use ocfl_state::{NotShown, decode_checkpoint, read_stored};
 use std::fs::File;
 use std::io::{self, Read};
 use std::rt::Files;
@@ -38,11 +39,11 @@ where
 /// Why the checkpoint of a file is not shown.
 fn unshown(why: NotShown) -> Stop {
     match why {
-        NotShown::Memory | NotShown::Checkpoint(NotDecoded::Memory) => {
+        NotShown::Memory | NotShown::Checkpoint(Refused::Memory) => {
             Stop::Stopped(Note::OutOfMemory)
         }
         NotShown::Checkpoint(why) => Stop::Checkpoint(why),
-        NotShown::Long => Stop::Checkpoint(NotDecoded::NotCheckpoint),
+        NotShown::Long => Stop::Checkpoint(Refused::NotA(TextKind::Checkpoint)),
         NotShown::Read | NotShown::Cursor(_) => Stop::CheckpointFile,
     }
 }
@@ -96,7 +97,7 @@ where
         Err(stop) => return say_stop(rt, &stop),
     };
     let mut whole = front.as_slice().chain(opened);
-    if let Err(NotDecoded::NotCheckpoint) = decode_checkpoint(rt.alloc(), &front) {
+    if let Err(Refused::NotA(TextKind::Checkpoint)) = decode_checkpoint(rt.alloc(), &front) {
         return show_cursor(rt, &mut whole);
     }
     match write_checkpoint(rt, &mut whole) {

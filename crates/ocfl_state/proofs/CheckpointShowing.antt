@@ -3,13 +3,6 @@ use Rattle.std.proofs.Common.{Option, None, Some, IfSome, sym, subst}
 use Rattle.std.specs.Prelude.{⊤}
 use Rattle.ocfl_tree.specs.Place.{Text}
 use Rattle.ocfl_cursor.specs.Shown.{AreShown as AreCursorLines, IsShownFrom}
-use Rattle.ocfl_state.specs.Checkpoint.{Checkpoint, IsCheckpointText, checkpoint_body}
-use Rattle.ocfl_state.specs.CheckpointRefusal.{IsSealedCheckpoint}
-use Rattle.ocfl_state.proofs.CheckpointRefusals.{sealed_checkpoint, front_of_text, version_of_text}
-
--- the text of a checkpoint is sealed
-pub sealed_text : (b : Text) (c : Checkpoint) → IsCheckpointText b c → IsSealedCheckpoint b
-sealed_text b c h = sealed_checkpoint b (checkpoint_body c) (record { front = front_of_text b c h; version = version_of_text b c h }) h.is
 
 -- what is shown from known bytes is shown of them
 pub shown_of : (b lines : Text) → IsShownFrom (Some b) lines → AreCursorLines b lines

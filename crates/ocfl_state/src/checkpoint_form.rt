@@ -4,7 +4,7 @@
 pub(crate) const FRONT: &[u8] = b"ocfl-scrub checkpoint ";
 
 /// What follows the front, up to the first line feed, in the version that is read and written.
-pub(crate) const VERSION: &[u8] = b"1";
+pub(crate) const VERSIONS: &[u8] = b"1";
 
 // The first line.
 pub(crate) const FIRST_LINE: &[u8] = b"ocfl-scrub checkpoint 1\n";

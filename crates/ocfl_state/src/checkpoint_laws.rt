@@ -1,18 +1,16 @@
 //! The laws of a checkpoint's text: it determines the checkpoint, and it reads back.
 ghost use Rattle.std.specs.Prelude.{◌≡◌, ◌≤◌, ◌^◌, ◌<◌, List, ℕ, All, length, IfOk, IfErr, IfSome};
 ghost use Rattle.ocfl_tree.specs.Name.{IsPlace};
-ghost use Rattle.ocfl_cursor.specs.Part.{AreEnds};
+ghost use Rattle.ocfl_cursor.specs.{Part.{AreEnds}, declared.refused.Refused.{Refused as ModelRefused}};
 ghost use Rattle.ocfl_state.specs.Checkpoint.{Checkpoint as ModelCheckpoint, IsCheckpointText, IsCheckpoint, IsRoot, AreNames, IsMark, IsLeft};
 ghost use Rattle.ocfl_state.specs.CheckpointRefusal.{RefusedRightly};
-ghost use Rattle.ocfl_state.specs.declared.checkpoint_refused.NotDecoded.{NotDecoded as ModelRefused};
 
 use crate::checkpoint::Checkpoint;
 use crate::checkpoint_decoding::decode_checkpoint;
 use crate::checkpoint_encoding::encode_checkpoint;
 use crate::checkpoint_fields::digest_fits;
 use crate::checkpoint_parts::{Left, ReportMark, RootIdentity, TopNames};
-use crate::checkpoint_refused::NotDecoded;
-use ocfl_cursor::{PartEnds, every_part_has_ends};
+use ocfl_cursor::{PartEnds, Refused, every_part_has_ends};
 use ocfl_tree::Place;
 use ocfl_tree::laws::every_place_has_names;
 use std::alloc::Global;
@@ -26,7 +24,7 @@ pub fn text_determines_the_checkpoint()
 /// The text of a checkpoint is refused for want of memory alone.
 pub fn no_checkpoint_is_refused()
     ensures { (b : List ℕ) (c : ModelCheckpoint) → IsCheckpointText b c
-        → (r : ModelRefused) → RefusedRightly b r → r ≡ NotDecoded.Memory }
+        → (r : ModelRefused) → RefusedRightly b r → r ≡ Refused.Memory }
 {}
 
 /// Every [`Checkpoint`] that tells no more than belongs to the cursor keeps the rule of
@@ -96,18 +94,13 @@ fn part_fits(part: &Option<PartEnds>)
 
 /// What is written of a checkpoint is read as that checkpoint, unless memory runs out, if it tells
 /// no more than belongs to the cursor.
-pub fn checkpoint_reads_back(
-    alloc: Global,
-    checkpoint: &Checkpoint,
-) -> Result<Checkpoint, NotDecoded>
+pub fn checkpoint_reads_back(alloc: Global, checkpoint: &Checkpoint) -> Result<Checkpoint, Refused>
     ensures same { checkpoint.now.told ≤ checkpoint.now.report.bytes
         → IfOk result (λ read. read ≡ checkpoint.now) }
     ensures not_refused { checkpoint.now.told ≤ checkpoint.now.report.bytes
-        → IfErr result (λ refused. refused ≡ NotDecoded.Memory) }
+        → IfErr result (λ refused. refused ≡ Refused.Memory) }
 {
     every_checkpoint_fits(checkpoint);
-    match encode_checkpoint(alloc, checkpoint) {
-        Ok(text) => decode_checkpoint(alloc, &text),
-        Err(_) => Err(NotDecoded::Memory),
-    }
+    let text = encode_checkpoint(alloc, checkpoint)?;
+    decode_checkpoint(alloc, &text)
 }

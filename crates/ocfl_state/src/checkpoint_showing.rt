@@ -7,8 +7,7 @@ ghost use Rattle.ocfl_state.specs.CheckpointShown.{AreShown, HiddenRightly, AreC
 use crate::checkpoint_decoding::decode_checkpoint;
 use crate::checkpoint_encoding::checkpoint_lines;
 use crate::checkpoint_form::FRONT;
-use crate::checkpoint_refused::NotDecoded;
-use ocfl_cursor::{CursorStop, ShowStop, read_limited, read_shown};
+use ocfl_cursor::{CursorStop, Refused, ShowStop, read_limited, read_shown};
 use std::alloc::Global;
 use std::io::Read;
 
@@ -25,7 +24,7 @@ pub enum NotShown {
     /// The bytes are more than 67,108,864.
     Long,
     /// The bytes begin as a checkpoint, and are refused as one, or memory was.
-    Checkpoint(NotDecoded),
+    Checkpoint(Refused),
     /// The bytes begin otherwise, and are refused as a cursor, or memory was.
     Cursor(ShowStop),
 }
@@ -45,18 +44,12 @@ pub fn show_stored(alloc: Global, text: &[u8]) -> Result<Vec<u8>, NotShown>
 }
 
 /// The lines of the checkpoint whose text the bytes are.
-fn lines_of_checkpoint(alloc: Global, text: &[u8]) -> Result<Vec<u8>, NotDecoded>
+fn lines_of_checkpoint(alloc: Global, text: &[u8]) -> Result<Vec<u8>, Refused>
     ensures lines { IfOk result (λ lines. AreCheckpointLines text.now lines.items) }
     ensures refused { IfErr result (λ refused. RefusedRightly text.now refused) }
 {
-    let checkpoint = match decode_checkpoint(alloc, text) {
-        Ok(checkpoint) => checkpoint,
-        Err(refused) => return Err(refused),
-    };
-    match checkpoint_lines(alloc, &checkpoint) {
-        Ok(lines) => Ok(lines),
-        Err(_) => Err(NotDecoded::Memory),
-    }
+    let checkpoint = decode_checkpoint(alloc, text)?;
+    Ok(checkpoint_lines(alloc, &checkpoint)?)
 }
 
 /// The lines of the cursor whose text the bytes are.

@@ -12,7 +12,6 @@ mod checkpoint_form;
 mod checkpoint_laws;
 mod checkpoint_left;
 mod checkpoint_parts;
-mod checkpoint_refused;
 mod checkpoint_showing;
 mod comparing;
 mod disk;
@@ -36,7 +35,6 @@ pub use checkpoint_laws::{
     text_determines_the_checkpoint,
 };
 pub use checkpoint_parts::{Left, Phase, ReportMark, RootIdentity, TopNames};
-pub use checkpoint_refused::NotDecoded;
 pub use checkpoint_showing::{NotShown, read_stored, show_stored};
 pub use comparing::{digests_of_front, digests_of_report, is_report_of, resume_digests};
 pub use extending::append_marked;

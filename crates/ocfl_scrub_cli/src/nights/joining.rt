@@ -8,11 +8,11 @@ use crate::nights::stand::Standing;
 use crate::nights::state::{folder_failure, open_state};
 use crate::saying::{STOPPED, Stop};
 use ocfl_compare::{ClosedPart, MissingPart, find_missing, join_part};
-use ocfl_cursor::PartEnds;
+use ocfl_cursor::{PartEnds, Refused};
 use ocfl_line::JoinAsked;
 use ocfl_parts::{PartsStop, Separators, read_parts};
 use ocfl_scope::ScopeStop;
-use ocfl_state::{Checkpoint, NotDecoded, OpenReport, StateFile, StateFolder, decode_checkpoint};
+use ocfl_state::{Checkpoint, OpenReport, StateFile, StateFolder, decode_checkpoint};
 use ocfl_telling::Shown;
 use ocfl_tree::Place;
 use std::alloc::{AllocError, Global};
@@ -82,8 +82,8 @@ fn facts_of(alloc: Global, checkpoint: Checkpoint) -> Result<Facts, AllocError> 
 }
 
 /// What is said of a file that is no checkpoint.
-fn refused(alloc: Global, path: &str, why: NotDecoded) -> Result<Failure, AllocError> {
-    if why == NotDecoded::Memory {
+fn refused(alloc: Global, path: &str, why: Refused) -> Result<Failure, AllocError> {
+    if why == Refused::Memory {
         return Err(AllocError);
     }
     Ok(Failure::stopped(format!(in alloc; "{}/checkpoint: {why}\n", Shown(path))?))

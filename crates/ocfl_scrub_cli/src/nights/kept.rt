@@ -3,9 +3,8 @@
 use crate::nights::failing::Failure;
 use crate::nights::making::file_failure;
 use crate::nights::state::folder_failure;
-use ocfl_state::{
-    FsState, NotDecoded, OpenReport, ReportDigests, ReportMark, StateFile, decode_checkpoint,
-};
+use ocfl_cursor::Refused;
+use ocfl_state::{FsState, OpenReport, ReportDigests, ReportMark, StateFile, decode_checkpoint};
 use std::alloc::{AllocError, Global};
 use std::fs::File;
 use std::io::{self, Read};
@@ -46,7 +45,7 @@ where
     };
     match decode_checkpoint(alloc, &bytes) {
         Ok(checkpoint) => Ok(Some(Some(checkpoint.report))),
-        Err(NotDecoded::Memory) => Err(Failure::from(AllocError)),
+        Err(Refused::Memory) => Err(Failure::from(AllocError)),
         Err(_) => Ok(Some(None)),
     }
 }

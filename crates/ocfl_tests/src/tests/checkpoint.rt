@@ -1,13 +1,12 @@
 //! Checkpoints and their text, and why other bytes are refused.
-use crate::tests::common::Runtime;
 use crate::tests::common::cursors::{LINES as CURSOR_LINES, ends_of, whole_text as cursor_text};
 use crate::tests::common::store::place_of;
-use ocfl_cursor::{Cursor, CursorStop, Refused, ShowStop, State};
+use crate::tests::common::{Runtime, expect_shown};
+use ocfl_cursor::{Cursor, CursorStop, Refused, ShowStop, State, TextKind};
 use ocfl_state::{
-    Checkpoint, Left, NotDecoded, NotShown, Phase, ReportMark, RootIdentity, TopNames,
-    checkpoint_lines, checkpoint_reads_back, decode_checkpoint, encode_checkpoint,
-    every_checkpoint_fits, no_checkpoint_is_refused, read_stored, show_stored,
-    text_determines_the_checkpoint,
+    Checkpoint, Left, NotShown, Phase, ReportMark, RootIdentity, TopNames, checkpoint_lines,
+    checkpoint_reads_back, decode_checkpoint, encode_checkpoint, every_checkpoint_fits,
+    no_checkpoint_is_refused, read_stored, show_stored, text_determines_the_checkpoint,
 };
 use sha2::{Digest, Sha256};
 use std::alloc::Global;
@@ -169,12 +168,12 @@ fn whole_text(alloc: Global) -> Result<Vec<u8>, Fail> {
 }
 
 /// Why the bytes are refused as a checkpoint.
-fn refusal_of(alloc: Global, text: &[u8]) -> Option<NotDecoded> {
+fn refusal_of(alloc: Global, text: &[u8]) -> Option<Refused> {
     decode_checkpoint(alloc, text).err()
 }
 
 /// Why the sealed text is refused.
-fn sealed_refusal(alloc: Global, body: &str) -> Result<Option<NotDecoded>, Fail> {
+fn sealed_refusal(alloc: Global, body: &str) -> Result<Option<Refused>, Fail> {
     let text = sealed(alloc, body)?;
     Ok(refusal_of(alloc, &text))
 }
@@ -244,50 +243,25 @@ fn each_part_of_a_checkpoint_is_read(rt: HostRuntime) -> Result<(), Fail> {
     Ok(())
 }
 
+/// Why bytes that do not begin as a checkpoint are refused.
+const NOT_CHECKPOINT: Refused = Refused::NotA(TextKind::Checkpoint);
+
 /// Bytes that are the text of no checkpoint, and why.
-const OTHER_BYTES: [(&str, &str, NotDecoded); 10] = [
-    ("no bytes", "", NotDecoded::NotCheckpoint),
-    (
-        "the name of the tool",
-        "ocfl-scrub ",
-        NotDecoded::NotCheckpoint,
-    ),
-    (
-        "a cursor",
-        "ocfl-scrub cursor 2\n",
-        NotDecoded::NotCheckpoint,
-    ),
-    (
-        "no version",
-        "ocfl-scrub checkpoint \n",
-        NotDecoded::Version,
-    ),
-    (
-        "version 2",
-        "ocfl-scrub checkpoint 2\n",
-        NotDecoded::Version,
-    ),
-    (
-        "version 01",
-        "ocfl-scrub checkpoint 01\n",
-        NotDecoded::Version,
-    ),
-    (
-        "version 10",
-        "ocfl-scrub checkpoint 10\n",
-        NotDecoded::Version,
-    ),
+const OTHER_BYTES: [(&str, &str, Refused); 10] = [
+    ("no bytes", "", NOT_CHECKPOINT),
+    ("the name of the tool", "ocfl-scrub ", NOT_CHECKPOINT),
+    ("a cursor", "ocfl-scrub cursor 2\n", NOT_CHECKPOINT),
+    ("no version", "ocfl-scrub checkpoint \n", Refused::Version),
+    ("version 2", "ocfl-scrub checkpoint 2\n", Refused::Version),
+    ("version 01", "ocfl-scrub checkpoint 01\n", Refused::Version),
+    ("version 10", "ocfl-scrub checkpoint 10\n", Refused::Version),
     (
         "a blank after it",
         "ocfl-scrub checkpoint 1 \n",
-        NotDecoded::Version,
+        Refused::Version,
     ),
-    ("the first line alone", FIRST, NotDecoded::Damaged),
-    (
-        "no line feed",
-        "ocfl-scrub checkpoint 1",
-        NotDecoded::Damaged,
-    ),
+    ("the first line alone", FIRST, Refused::Damaged),
+    ("no line feed", "ocfl-scrub checkpoint 1", Refused::Damaged),
 ];
 
 #[test]
@@ -299,7 +273,7 @@ fn other_bytes_are_no_checkpoint(rt: HostRuntime) -> Result<(), Fail> {
     }
     let body = format!(in alloc; "ocfl-scrub checkpoint 2\n{LINES}")?;
     let refused = sealed_refusal(alloc, body.as_str())?;
-    assert_eq!(rt; refused, Some(NotDecoded::Version), "version 2, sealed");
+    assert_eq!(rt; refused, Some(Refused::Version), "version 2, sealed");
     Ok(())
 }
 
@@ -310,18 +284,18 @@ fn damaged_checkpoints_are_refused(rt: HostRuntime) -> Result<(), Fail> {
     // Each byte made another one, and each cut.
     for index in 0..text.len() {
         let wanted = if index < 22 {
-            NotDecoded::NotCheckpoint
+            NOT_CHECKPOINT
         } else if index < 24 {
-            NotDecoded::Version
+            Refused::Version
         } else {
-            NotDecoded::Damaged
+            Refused::Damaged
         };
         let mut changed = text.to_vec(alloc)?;
         changed[index] = if text[index] == b'0' { b'1' } else { b'0' };
         assert_eq!(rt; refusal_of(alloc, &changed), Some(wanted), "{index}");
         if index >= 24 {
             let cut = refusal_of(alloc, &text[..index]);
-            assert_eq!(rt; cut, Some(NotDecoded::Damaged), "cut to {index}");
+            assert_eq!(rt; cut, Some(Refused::Damaged), "cut to {index}");
         }
     }
     let body = format!(in alloc; "{FIRST}{LINES}")?;
@@ -338,7 +312,7 @@ fn damaged_checkpoints_are_refused(rt: HostRuntime) -> Result<(), Fail> {
     ] {
         let text = format!(in alloc; "{body}{last}")?;
         let refused = refusal_of(alloc, text.as_bytes());
-        assert_eq!(rt; refused, Some(NotDecoded::Damaged), "{row}");
+        assert_eq!(rt; refused, Some(Refused::Damaged), "{row}");
     }
     Ok(())
 }
@@ -352,7 +326,7 @@ fn other_lines_are_malformed(rt: HostRuntime) -> Result<(), Fail> {
         let (before, after) = body.as_str().split_once(line).ok_or("the line is there")?;
         let changed = format!(in alloc; "{before}{other}{after}")?;
         let refused = sealed_refusal(alloc, changed.as_str())?;
-        assert_eq!(rt; refused, Some(NotDecoded::Malformed), "{other}");
+        assert_eq!(rt; refused, Some(Refused::Malformed), "{other}");
     }
     // One of the branches that were left out.
     let left = format!(in alloc;
@@ -376,13 +350,20 @@ fn checkpoints_and_cursors_are_shown(rt: HostRuntime) -> Result<(), Fail> {
     let cursor = cursor_text(alloc)?;
     let shown = show_stored(alloc, &cursor).ok().ok_or("a cursor")?;
     assert_eq!(rt; shown.as_slice(), CURSOR_LINES.as_bytes());
-    let damaged = NotShown::Checkpoint(NotDecoded::Damaged);
+    let damaged = NotShown::Checkpoint(Refused::Damaged);
     let cut = show_stored(alloc, &text[..text.len() - 1]).err();
     assert_eq!(rt; cut, Some(damaged), "a checkpoint that is cut");
     let refused = NotShown::Cursor(ShowStop::Whole(CursorStop::Refused(Refused::Damaged)));
     let cut = show_stored(alloc, &cursor[..cursor.len() - 1]).err();
     assert_eq!(rt; cut, Some(refused), "a cursor that is cut");
-    let refused = NotShown::Cursor(ShowStop::Whole(CursorStop::Refused(Refused::NotCursor)));
+    let refused = NotShown::Cursor(ShowStop::Whole(CursorStop::Refused(Refused::NotA(
+        TextKind::Cursor,
+    ))));
     assert_eq!(rt; show_stored(alloc, b"{}").err(), Some(refused), "neither");
     Ok(())
+}
+
+#[test]
+fn no_checkpoint_has_its_text(rt: HostRuntime) -> Result<(), Fail> {
+    expect_shown(&rt, "no checkpoint", &NOT_CHECKPOINT, "not a checkpoint")
 }

@@ -6,7 +6,7 @@ use crate::tests::common::input::{Slow, Then, expect_failures};
 use crate::tests::common::store::place_of;
 use crate::tests::common::{Runtime, expect_shown};
 use ocfl_cursor::{
-    Budget, Cursor, CursorStop, FileLimit, Limits, Meter, Refused, State, cursor_lines,
+    Budget, Cursor, CursorStop, FileLimit, Limits, Meter, Refused, State, TextKind, cursor_lines,
     cursor_reads_back, decode, encode, read_cursor, text_determines_the_cursor,
 };
 use ocfl_report::DisplayPlace;
@@ -19,6 +19,9 @@ use std::test::Fail;
 mod part;
 mod seals;
 mod stored;
+
+/// Why bytes that do not begin as a cursor are refused.
+const NOT_CURSOR: Refused = Refused::NotA(TextKind::Cursor);
 
 /// A place of `count` names, each 255 bytes 0x01.
 fn long_place(alloc: Global, count: usize) -> Result<Place, Fail> {
@@ -138,7 +141,7 @@ fn expect_damaged_at(
     place: usize,
 ) -> Result<(), Fail> {
     let (cut, changed) = match place {
-        0..18 => (Refused::NotCursor, Refused::NotCursor),
+        0..18 => (NOT_CURSOR, NOT_CURSOR),
         18 => (Refused::Version, Refused::Version),
         // The line feed ends the version.
         19 => (Refused::Damaged, Refused::Version),
@@ -188,7 +191,7 @@ fn refuses_other_texts(rt: HostRuntime) -> Result<(), Fail> {
     );
     let mut long = whole_text(alloc)?;
     long.resize(262_145, b'\n')?;
-    assert_eq!(rt; refusal_of(alloc, &long), Some(Refused::NotCursor));
+    assert_eq!(rt; refusal_of(alloc, &long), Some(NOT_CURSOR));
     long.truncate(262_144);
     assert_eq!(rt; refusal_of(alloc, &long), Some(Refused::Damaged));
     Ok(())
@@ -391,7 +394,7 @@ fn reasons_have_their_texts(rt: HostRuntime) -> Result<(), Fail> {
     expect_reasons(
         &rt,
         &[
-            Refused::NotCursor,
+            NOT_CURSOR,
             Refused::Damaged,
             Refused::Malformed,
             Refused::Memory,
@@ -472,7 +475,7 @@ fn reads_from_readers(rt: HostRuntime) -> Result<(), Fail> {
     let mut slice = whole.as_slice();
     let cursor = read_cursor(alloc, &mut slice).ok().ok_or("a cursor")?;
     assert_eq!(rt; encode(alloc, &cursor)?, whole);
-    let not_cursor = Some(CursorStop::Refused(Refused::NotCursor));
+    let not_cursor = Some(CursorStop::Refused(NOT_CURSOR));
     assert_eq!(rt; stop_of(alloc, b"", Then::Ends), not_cursor);
     let damaged = Some(CursorStop::Refused(Refused::Damaged));
     let short = &whole[..whole.len() - 1];

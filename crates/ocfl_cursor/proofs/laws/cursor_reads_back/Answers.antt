@@ -3,8 +3,8 @@ use Rattle.ocfl_cursor.specs.Refusal.{IsTextOf}
 use Rattle.ocfl_cursor.proofs.CursorTexts.{text_determines}
 use Rattle.ocfl_cursor.proofs.laws.cursor_reads_back.Goals as goal
 
-pub returns-in-Ok-clause-same : goal.returns-in-Ok-clause-same
-returns-in-Ok-clause-same c =
-    let written = c.deref.ensures.value ∙ c.in-Ok.ensures.text in
+pub returns-clause-same : goal.returns-clause-same
+returns-clause-same c =
+    let written = c.deref.ensures.value ∙ c.in_ok-text.ensures.text in
     IfOk-weaker c.decode.result (IsTextOf c.deref.result.now) (λ read. read ≡ c.args.cursor.now)
     (λ read h. text_determines c.deref.result.now read c.args.cursor.now h (record { keeps = c.encode.ensures.keeps; is = inl written })) c.decode.ensures.cursor

@@ -1,5 +1,5 @@
 use Rattle.std.proofs.Common.{subst}
-use Rattle.ocfl_cursor.specs.{Refusal.{IsTextOf}, Refused.{RefusedRightly}}
+use Rattle.ocfl_cursor.specs.Refusal.{IsTextOf, RefusedRightly}
 use Rattle.ocfl_cursor.proofs.Limited.{IsTextOf-read, StopsRightly-read}
 use Rattle.ocfl_cursor.proofs.reading.read_cursor.Goals as goal
 

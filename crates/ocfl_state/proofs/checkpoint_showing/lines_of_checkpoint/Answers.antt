@@ -1,8 +1,13 @@
-use Rattle.ocfl_state.proofs.CheckpointShowing.{sealed_text}
+use Rattle.ocfl_cursor.specs.declared.refused.Refused.TheVariants.{Memory}
+use Rattle.ocfl_cursor.proofs.Options.{IfErr-passed}
+use Rattle.ocfl_state.specs.CheckpointRefusal.{RefusedRightly}
+use Rattle.ocfl_state.proofs.CheckpointRefusals.{passes-text}
 use Rattle.ocfl_state.proofs.checkpoint_showing.lines_of_checkpoint.Goals as goal
 
-pub returns-in-Ok-checkpoint_lines-clause-lines : goal.returns-in-Ok-checkpoint_lines-clause-lines
-returns-in-Ok-checkpoint_lines-clause-lines c = record { checkpoint = c.in-Ok.checkpoint; is_text = c.in-Ok.ensures.checkpoint; lines_are = c.in-Ok-checkpoint_lines.ensures }
+pub returns-in_err-checkpoint_lines-clause-refused : goal.returns-in_err-checkpoint_lines-clause-refused
+returns-in_err-checkpoint_lines-clause-refused c =
+    let result = c.from_residual-in_err-checkpoint_lines in
+    IfErr-passed (RefusedRightly c.args.text.now) result.result Memory result.ensures.1 (passes-text c.args.text.now (c.in_ok-checkpoint.checkpoint, c.in_ok-checkpoint.ensures.checkpoint))
 
-pub returns-clause-refused : goal.returns-clause-refused
-returns-clause-refused c = sealed_text c.args.text.now c.in-Ok.checkpoint c.in-Ok.ensures.checkpoint
+pub returns-clause-lines : goal.returns-clause-lines
+returns-clause-lines c = record { checkpoint = c.in_ok-checkpoint.checkpoint; is_text = c.in_ok-checkpoint.ensures.checkpoint; lines_are = c.in_ok-checkpoint_lines.ensures }

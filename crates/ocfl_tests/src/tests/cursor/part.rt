@@ -1,5 +1,5 @@
 //! Cursors of one part of a storage root, and why their texts are refused.
-use super::{expect_reasons, long_place, refusal_of};
+use super::{NOT_CURSOR, expect_reasons, long_place, refusal_of};
 use crate::tests::common::cursors::{LINES, ends_of, old_text, sealed, whole_text};
 use crate::tests::common::store::place_of;
 use crate::tests::common::{Runtime, expect_shown};
@@ -119,7 +119,7 @@ fn parts_are_named(rt: HostRuntime) -> Result<(), Fail> {
             assert_eq!(rt; refused, wanted, "{row}, read as {other}");
         }
         let refused = refusal_of(alloc, &text);
-        assert_eq!(rt; refused, Some(Refused::NotCursor), "{row}");
+        assert_eq!(rt; refused, Some(NOT_CURSOR), "{row}");
     }
     text_determines_the_part();
     no_part_is_refused();
@@ -233,11 +233,21 @@ fn other_texts_are_no_part(rt: HostRuntime) -> Result<(), Fail> {
     let ends = ends_of(alloc, "b", "d")?;
     // The first line comes first, and then the seal.
     for (row, front) in NO_FIRST_LINES {
-        expect_refused(&rt, row, (front.as_bytes(), &ends), PartRefused::NotCursor);
+        expect_refused(
+            &rt,
+            row,
+            (front.as_bytes(), &ends),
+            PartRefused::Text(NOT_CURSOR),
+        );
         let body = format!(in alloc; "{front}from b\nbelow d\n{LINES}")?;
         let text = sealed(alloc, body.as_str())?;
         let row = format!(in alloc; "{row}, sealed")?;
-        expect_refused(&rt, row.as_str(), (&text, &ends), PartRefused::NotCursor);
+        expect_refused(
+            &rt,
+            row.as_str(),
+            (&text, &ends),
+            PartRefused::Text(NOT_CURSOR),
+        );
     }
     Ok(())
 }
@@ -254,13 +264,23 @@ fn damaged_parts_are_refused(rt: HostRuntime) -> Result<(), Fail> {
         ("before the digest line", text.len() - 72),
         ("without the last byte", text.len() - 1),
     ] {
-        expect_refused(&rt, row, (&text[..end], &ends), PartRefused::Damaged);
+        expect_refused(
+            &rt,
+            row,
+            (&text[..end], &ends),
+            PartRefused::Text(Refused::Damaged),
+        );
     }
     let mut changed = text;
     changed[FIRST.len() + 5] = b'c';
     // Damage is told before another part.
     for (row, ends) in [("its own part", &ends), ("another part", &other)] {
-        expect_refused(&rt, row, (&changed, ends), PartRefused::Damaged);
+        expect_refused(
+            &rt,
+            row,
+            (&changed, ends),
+            PartRefused::Text(Refused::Damaged),
+        );
     }
     Ok(())
 }
@@ -269,7 +289,11 @@ fn damaged_parts_are_refused(rt: HostRuntime) -> Result<(), Fail> {
 fn expect_malformed(rt: &impl Runtime, row: &str, ends: &str, lines: &str) -> Result<(), Fail> {
     let body = format!(in rt.alloc(); "{FIRST}{ends}{lines}")?;
     let refused = part_refusal(rt.alloc(), body.as_str())?;
-    assert_eq!(rt; refused, Some(PartRefused::Malformed), "{row}");
+    assert_eq!(rt;
+        refused,
+        Some(PartRefused::Text(Refused::Malformed)),
+        "{row}"
+    );
     Ok(())
 }
 
@@ -295,10 +319,10 @@ fn refused_parts_have_their_texts(rt: HostRuntime) -> Result<(), Fail> {
     expect_reasons(
         &rt,
         &[
-            PartRefused::NotCursor,
-            PartRefused::Damaged,
-            PartRefused::Malformed,
-            PartRefused::Memory,
+            PartRefused::Text(NOT_CURSOR),
+            PartRefused::Text(Refused::Damaged),
+            PartRefused::Text(Refused::Malformed),
+            PartRefused::Text(Refused::Memory),
         ],
     )?;
     expect_shown(&rt, "another part", &PartRefused::OtherPart, "another part")
@@ -313,7 +337,7 @@ fn whole_roots_are_no_parts(rt: HostRuntime) -> Result<(), Fail> {
         ("version 1", old_text(alloc)?),
     ] {
         let refused = decode_part(alloc, &text, &ends).err();
-        assert_eq!(rt; refused, Some(PartRefused::NotCursor), "{version}");
+        assert_eq!(rt; refused, Some(PartRefused::Text(NOT_CURSOR)), "{version}");
     }
     Ok(())
 }

@@ -1,5 +1,5 @@
 //! Stored texts of any kind: what they begin with, and the last line that seals the others.
-use ocfl_cursor::{after_prefix, first_line, sealed_body, sealed_text};
+use ocfl_cursor::{Refused, TextKind, after_prefix, body_of, first_line, sealed_body, sealed_text};
 use std::test::Fail;
 
 /// The line that seals `first` and `a 1`, each with its line feed, by `sha256sum`.
@@ -21,6 +21,33 @@ fn last_lines_seal_texts(rt: HostRuntime) -> Result<(), Fail> {
     );
     assert_eq!(rt; sealed_body(front, &text[1..]), None, "less before it");
     assert_eq!(rt; sealed_body(front, b"seal = \n"), None, "a short text");
+    Ok(())
+}
+
+#[test]
+fn texts_are_refused_for_the_first_reason(rt: HostRuntime) -> Result<(), Fail> {
+    let alloc = rt.alloc();
+    let seal = *b"seal = ";
+    let not_a = Refused::NotA(TextKind::Checkpoint);
+    for (first_line, wanted) in [
+        ("text 3\n", None),
+        ("text 7\n", None),
+        ("Text 3\n", Some(not_a)),
+        ("text 4\n", Some(Refused::Version)),
+        ("text 33\n", Some(Refused::Version)),
+        ("text \n", Some(Refused::Version)),
+    ] {
+        let body = first_line.as_bytes();
+        let text = sealed_text(alloc, seal, body, b"")?;
+        let read = body_of(TextKind::Checkpoint, b"text ", b"37", seal, &text);
+        assert_eq!(rt; read, wanted.map_or(Ok(body), Err), "{first_line}");
+        let read = body_of(TextKind::Checkpoint, b"text ", b"37", seal, body);
+        assert_eq!(rt;
+            read.err(),
+            wanted.or(Some(Refused::Damaged)),
+            "{first_line}, unsealed"
+        );
+    }
     Ok(())
 }
 

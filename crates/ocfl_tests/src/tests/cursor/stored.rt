@@ -1,4 +1,5 @@
 //! Cursors that a reader gives: those of a part, and what is shown of any.
+use super::NOT_CURSOR;
 use crate::tests::common::Runtime;
 use crate::tests::common::cursors::{
     BODY, LINES, OLD_LINES, cut, ends_of, old_text, sealed, whole_text,
@@ -74,15 +75,27 @@ fn other_bytes_are_refused_to_a_part(rt: HostRuntime) -> Result<(), Fail> {
     let whole = whole_text(alloc)?;
     let malformed = sealed(alloc, "ocfl-scrub part cursor 1\n")?;
     let short = &text[..text.len() - 1];
-    let memory = PartCursorStop::Refused(PartRefused::Memory);
+    let memory = PartCursorStop::Refused(PartRefused::Text(Refused::Memory));
     let stops = (PartCursorStop::Read, memory);
     // For its own part and for another one.
     for ends in [("o/v1/content/b", "-"), ("-", "o/v1/content/b")] {
         for (row, bytes, wanted) in [
-            ("no byte", b"".as_slice(), PartRefused::NotCursor),
-            ("a cursor of the whole", &whole, PartRefused::NotCursor),
-            ("without its last byte", short, PartRefused::Damaged),
-            ("no lines", &malformed, PartRefused::Malformed),
+            ("no byte", b"".as_slice(), PartRefused::Text(NOT_CURSOR)),
+            (
+                "a cursor of the whole",
+                &whole,
+                PartRefused::Text(NOT_CURSOR),
+            ),
+            (
+                "without its last byte",
+                short,
+                PartRefused::Text(Refused::Damaged),
+            ),
+            (
+                "no lines",
+                &malformed,
+                PartRefused::Text(Refused::Malformed),
+            ),
         ] {
             let refused = Some(PartCursorStop::Refused(wanted));
             expect_stop(&rt, row, bytes, Then::Ends, ends, refused)?;
@@ -98,8 +111,8 @@ fn other_bytes_are_refused_to_a_part(rt: HostRuntime) -> Result<(), Fail> {
 
 #[test]
 fn bytes_without_end_are_no_cursor(rt: HostRuntime) -> Result<(), Fail> {
-    let refused = PartCursorStop::Refused(PartRefused::NotCursor);
-    let unshown = ShowStop::Whole(CursorStop::Refused(Refused::NotCursor));
+    let refused = PartCursorStop::Refused(PartRefused::Text(NOT_CURSOR));
+    let unshown = ShowStop::Whole(CursorStop::Refused(NOT_CURSOR));
     for (row, text) in [("a part's cursor", PART), ("a whole root's", BODY)] {
         let (left, then) = (text.as_bytes(), Then::GoesOn);
         expect_stop(&rt, row, left, then, ("-", "-"), Some(refused))?;
@@ -137,11 +150,11 @@ fn nothing_is_shown_of_other_bytes(rt: HostRuntime) -> Result<(), Fail> {
     let alloc = rt.alloc();
     let of_whole = |refused| ShowStop::Whole(CursorStop::Refused(refused));
     for (row, text, wanted) in [
-        ("no byte", Vec::new(alloc), of_whole(Refused::NotCursor)),
+        ("no byte", Vec::new(alloc), of_whole(NOT_CURSOR)),
         (
             "version 2 of a part's cursor",
             sealed(alloc, "ocfl-scrub part cursor 2\n")?,
-            of_whole(Refused::NotCursor),
+            of_whole(NOT_CURSOR),
         ),
         (
             "version 3",
@@ -156,12 +169,12 @@ fn nothing_is_shown_of_other_bytes(rt: HostRuntime) -> Result<(), Fail> {
         (
             "a part's without its last byte",
             cut(sealed(alloc, PART)?),
-            ShowStop::Part(PartRefused::Damaged),
+            ShowStop::Part(Refused::Damaged),
         ),
         (
             "a part without lines",
             sealed(alloc, "ocfl-scrub part cursor 1\n")?,
-            ShowStop::Part(PartRefused::Malformed),
+            ShowStop::Part(Refused::Malformed),
         ),
     ] {
         expect_unshown(&rt, row, &text, Then::Ends, wanted);

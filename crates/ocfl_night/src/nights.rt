@@ -636,9 +636,6 @@ fn account(tally: Tally, lost: bool, through: Result<Halt, NotOpened>) -> NightE
         → through ≡ Ok (halt.CycleEnded cycle) }
     ensures end { result.end ≡ ended_by through }
     ensures runs { result.runs ≡ tally.runs }
-    ensures spent { result.spent ≡ tally.spent }
-    ensures files { result.files ≡ tally.files }
-    ensures found { result.found ≡ tally.found }
     ensures lost { result.lost ≡ lost }
     ensures left { result.left ≡ tally.left }
     ensures said { ((why : ModelStop) → result.end ≢ halt.Troubled why)
@@ -654,9 +651,6 @@ fn account(tally: Tally, lost: bool, through: Result<Halt, NotOpened>) -> NightE
     };
     NightEnd {
         runs: tally.runs,
-        spent: tally.spent,
-        files: tally.files,
-        found: tally.found,
         lost,
         left: tally.left,
         end,

@@ -89,12 +89,6 @@ pub(crate) enum Pause {
 pub struct NightEnd {
     /// How many runs it began, at most 2^64 - 1.
     pub runs: u64,
-    /// What their items cost, at most 2^64 - 1.
-    pub spent: u64,
-    /// How many files they started, at most 2^64 - 1.
-    pub files: u64,
-    /// Whether a line of one of their items is a finding.
-    pub found: bool,
     /// Whether bytes of the report were lost: it was shorter than the checkpoint says, or had
     /// another tail.
     pub lost: bool,

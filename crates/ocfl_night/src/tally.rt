@@ -1,5 +1,5 @@
 //! What a night has done so far, and what it does about a run that stopped at a place.
-ghost use Rattle.std.specs.Prelude.{◌≡◌, ◌+◌, ◌-◌, ◌^◌, ◌++◌, ◌||◌, Bool, IfOk, None, Some, false, min, unwrap_or};
+ghost use Rattle.std.specs.Prelude.{◌≡◌, ◌+◌, ◌-◌, ◌^◌, ◌++◌, Bool, IfOk, None, Some, false, min, unwrap_or};
 ghost use Rattle.ocfl_night.specs.Leaving.{MayLeave, branch_for, is_at, left_by, remedy_at, remedy_by, tried_by};
 
 use crate::leaving::{branch_at, end_of};
@@ -22,7 +22,6 @@ pub(crate) struct Tally {
     pub(crate) began: Option<u64>,
     pub(crate) spent: u64,
     pub(crate) files: u64,
-    pub(crate) found: bool,
     /// How many runs stopped at a place.
     pub(crate) stops: u64,
     /// The place at which the last run stopped, if it is tried once more.
@@ -52,7 +51,6 @@ impl Tally {
             began: None,
             spent: 0,
             files: 0,
-            found: false,
             stops: 0,
             tried: None,
             left: Vec::new(alloc),
@@ -76,16 +74,13 @@ impl Tally {
     pub(crate) fn count(&mut self, made: &Made)
         ensures spent { self.new.spent ≡ min (self.old.spent + made.now.spent) (2 ^ 64 - 1) }
         ensures files { self.new.files ≡ min (self.old.files + made.now.files) (2 ^ 64 - 1) }
-        ensures found { self.new.found ≡ (self.old.found || made.now.found) }
         ensures same { self.new ≡ record self.old {
           spent = self.new.spent;
           files = self.new.files;
-          found = self.new.found;
         } }
     {
         self.spent = self.spent.saturating_add(made.spent);
         self.files = self.files.saturating_add(made.files);
-        self.found = either(self.found, made.found);
     }
 
     /// The last run did not stop at a place.
@@ -169,11 +164,4 @@ fn is_at(tried: &Option<Place>, place: &Place) -> bool
         Some(tried) => tried == place,
         None => false,
     }
-}
-
-/// Whether one of the two holds.
-fn either(first: bool, second: bool) -> bool
-    ensures { result ≡ (first || second) }
-{
-    first || second
 }

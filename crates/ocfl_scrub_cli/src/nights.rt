@@ -72,6 +72,8 @@ struct Given {
 #[derive(Drop)]
 struct Made {
     end: NightEnd,
+    /// What the items of its runs cost, at most 2^64 - 1.
+    cost: u64,
     /// How many findings were said, and how many lines of the report were none.
     findings: u64,
     broken: u64,
@@ -196,6 +198,7 @@ where
     );
     Ok(Made {
         end,
+        cost: began.spent_until(now.get()),
         findings: teller.findings(),
         broken: teller.broken(),
         left: now.get().left,
@@ -377,7 +380,7 @@ where
         night: given.began,
         status,
         runs: made.end.runs,
-        cost: made.end.spent,
+        cost: made.cost,
         seconds: ended.saturating_sub(given.began),
         findings: made.findings,
         left: u64::try_from(made.end.left.len()).unwrap_or(u64::MAX),

@@ -8,3 +8,4 @@ pub mod Status
 pub mod Leaving
 pub mod Ending
 pub mod Pace
+pub mod Refusing

@@ -1,7 +1,10 @@
 //! The checkpoint: reading it in the folder, putting it there, and what is made of one.
-ghost use Rattle.std.specs.Prelude.{◌≡◌, ◌≤◌, ◌↔◌, [], IfOk, OnOk, IsTrue, MatchOption, None};
+ghost use Rattle.std.specs.Prelude.{◌≡◌, ◌≤◌, ◌↔◌, [], Err, IfOk, OnOk, IsTrue, MatchOption, None};
+ghost use Rattle.ocfl_tree.specs.Place.{Text};
+ghost use Rattle.ocfl_state.specs.CheckpointRefusal.{RefusedRightly};
 ghost use Rattle.ocfl_state.specs.{Checkpoint.{IsCheckpointText}, Crash.{Same, Only, Passes}};
-ghost use Rattle.ocfl_night.specs.{Site.{no_report}, Sound.{IsAt}};
+ghost use Rattle.ocfl_night.specs.{Refusing.{HasUnread, IsUnread}, Site.{no_report}, Sound.{IsAt}};
+ghost use Rattle.ocfl_night.specs.declared.refusal.Refusal.{Refusal as ModelRefusal};
 ghost use Rattle.ocfl_night.specs.Steps.{IsCheckpointPut, MayCheckpoint, begun_anew, closes_whole, with_all_told};
 
 use crate::refusal::{NotOpened, Refusal};
@@ -169,7 +172,10 @@ pub fn put_checkpoint<S: StateFolder>(
 }
 
 /// Why bytes are not taken for a checkpoint.
-fn not_read(why: Refused) -> NotOpened {
+fn not_read(why: Refused) -> NotOpened
+    ensures { (bytes : Text) (refusal : ModelRefusal) → RefusedRightly bytes why
+        → result ≡ NotOpened.Refused refusal → IsUnread bytes refusal }
+{
     match why {
         Refused::NotA(_) => NotOpened::Refused(Refusal::NotCheckpoint),
         Refused::Version => NotOpened::Refused(Refusal::Version),
@@ -181,7 +187,9 @@ fn not_read(why: Refused) -> NotOpened {
 
 /// The checkpoint whose text these bytes are.
 fn read_text(alloc: Global, text: &[u8]) -> Result<Checkpoint, NotOpened>
-    ensures { IfOk result (λ checkpoint. IsCheckpointText text.now checkpoint) }
+    ensures checkpoint { IfOk result (λ checkpoint. IsCheckpointText text.now checkpoint) }
+    ensures rightly { (why : ModelRefusal) → result ≡ Err (NotOpened.Refused why)
+        → IsUnread text.now why }
 {
     match decode_checkpoint(alloc, text) {
         Ok(checkpoint) => Ok(checkpoint),
@@ -201,6 +209,8 @@ pub fn look<S: StateFolder>(alloc: Global, folder: &mut S) -> Result<Option<Chec
     ensures seen { IsTrue S.told → S.seen folder.new ≡ S.seen folder.old }
     ensures crash { IsTrue S.told
         → Passes S.may_leave S.moment S.left_since Same folder.old folder.new }
+    ensures rightly { IsTrue S.told → (why : ModelRefusal) → result ≡ Err (NotOpened.Refused why)
+        → HasUnread (S.seen folder.old) why }
 {
     folder.sync()?;
     match folder.checkpoint()? {

@@ -1,8 +1,11 @@
 //! Looking at the storage root: when a night begins, and after each run.
-ghost use Rattle.std.specs.Prelude.{◌≡◌, ◌≢◌, [], IfOk, IsTrue, OnOk};
-ghost use Rattle.ocfl_tree.specs.Store.{IfTold};
-ghost use Rattle.ocfl_identity.specs.Identity.{IsIdentityOf};
+ghost use Rattle.std.specs.Prelude.{◌≡◌, ◌≢◌, [], Err, IfOk, IsTrue, OnOk};
+ghost use Rattle.ocfl_tree.specs.{Listing.{entries_in}, Store.{IfTold}};
+ghost use Rattle.ocfl_identity.specs.Identity.{IsIdentityOf, declarations_among};
 ghost use Rattle.ocfl_night.specs.Site.{IsStill};
+ghost use Rattle.ocfl_night.specs.declared.refusal.NotOpened.TheVariants.{Refused};
+ghost use Rattle.ocfl_night.specs.declared.refusal.Refusal.{Refusal as ModelRefusal};
+ghost use Rattle.ocfl_night.specs.declared.refusal.Refusal.TheVariants.{NoRoot};
 
 use crate::refusal::{NotOpened, Refusal};
 use crate::stop::Stop;
@@ -21,6 +24,8 @@ pub(crate) fn look_at<T: Tree>(
     ensures keeps { IsTrue T.told → (T.state tree.new).tree ≡ (T.state tree.old).tree }
     ensures told { IfTold T.told (T.state tree.old) (λ root. IfOk result (IsIdentityOf root)) }
     ensures declares { IfOk result (λ identity. identity.declarations.items ≢ []) }
+    ensures rightly { (why : ModelRefusal) → result ≡ Err (Refused why) → (why ≡ NoRoot)
+        × IfTold T.told (T.state tree.old) (λ root. declarations_among (entries_in root []) ≡ []) }
 {
     match look_at_root(alloc, tree, block) {
         Ok(identity) => Ok(identity),

@@ -10,6 +10,7 @@ ghost use Rattle.ocfl_scrub.specs.Starting.{part_of};
 ghost use Rattle.ocfl_state.specs.{Checkpoint.{Checkpoint as ModelCheckpoint}, Crash.{LeavesOnly}};
 ghost use Rattle.ocfl_state.specs.declared.checkpoint_parts.Phase.TheVariants.{Open};
 ghost use Rattle.ocfl_night.specs.Leaving.{MayLeave, checkpoint_by, has_end, pause_by, remedy_at};
+ghost use Rattle.ocfl_night.specs.Refusing.{IsFolderRefused, IsRefused};
 ghost use Rattle.ocfl_night.specs.Site.{IsAnothers, IsForeign, IsOtherThan, part_at};
 ghost use Rattle.ocfl_night.specs.Steps.{IsLost, IsNotBegun, IsUntouched, IsWalkAt};
 ghost use Rattle.ocfl_night.specs.Sound.{IsAllSaid, IsAt, IsHeard, IsHeardSince, IsKept, IsOneMore, IsReady, IsReadySince, IsSound, IsSoundAt};
@@ -363,6 +364,8 @@ fn catch_up<S: StateFolder, W: Write>(
         ((S.seen folder.new).closed ≡ (S.seen folder.old).closed) }
     ensures refused { IsTrue S.told → (why : ModelRefusal) → result ≡ Err (Refused why)
         → S.seen folder.new ≡ S.seen folder.old }
+    ensures rightly { IsTrue S.told → (why : ModelRefusal) → result ≡ Err (Refused why)
+        → IsFolderRefused site.now identity.now plan.now (S.seen folder.old) why }
     ensures foreign { IsTrue S.told → (k : ModelCheckpoint) → IsAt k (S.seen folder.old)
         → IsForeign site.now identity.now plan.now.force_root k
         → IsUntouched S.seen S.may_leave S.moment S.left_since folder.old folder.new }
@@ -449,6 +452,8 @@ fn set_out<S: StateFolder, T: Tree, W: Write>(
         ((S.seen folder.new).closed ≡ (S.seen folder.old).closed) }
     ensures refused { IsTrue S.told → (why : ModelRefusal) → result ≡ Err (Refused why)
         → S.seen folder.new ≡ S.seen folder.old }
+    ensures rightly { IsTrue S.told → (why : ModelRefusal) → result ≡ Err (Refused why)
+        → IsRefused T.told (T.state tree.old) site.now plan.now (S.seen folder.old) why }
     ensures lost { IsTrue S.told → (k : ModelCheckpoint) → IsAt k (S.seen folder.old)
         → IsLost k (S.seen folder.old) → OnOk result (IsTrue lost.new) }
     ensures another { IsTrue S.told → (k : ModelCheckpoint) → IsAt k (S.seen folder.old)
@@ -509,6 +514,8 @@ fn go_through<S: StateFolder, T: Tree, C: Clock, W: Write>(
         → OnOk result (IsAllSaid (S.seen folder.new))) }
     ensures refused { IsTrue S.told → (why : ModelRefusal) → result ≡ Err (Refused why)
         → S.seen folder.new ≡ S.seen folder.old }
+    ensures rightly { IsTrue S.told → (why : ModelRefusal) → result ≡ Err (Refused why)
+        → IsRefused T.told (T.state tree.old) site.now plan.now (S.seen folder.old) why }
     ensures unrefused { (why : ModelRefusal) → result ≢ Ok (halt.Refused why) }
     ensures lost { IsTrue S.told → (k : ModelCheckpoint) → IsAt k (S.seen folder.old)
         → IsLost k (S.seen folder.old) → OnOk result (IsTrue lost.new) }
@@ -583,6 +590,9 @@ pub fn night<S: StateFolder, T: Tree, C: Clock, W: Write>(
     // A night that is refused leaves the folder as it was.
     ensures refused { IsTrue S.told → (why : ModelRefusal) → result.end ≡ halt.Refused why
         → S.seen folder.new ≡ S.seen folder.old }
+    // And what it is refused for is so.
+    ensures rightly { IsTrue S.told → (why : ModelRefusal) → result.end ≡ halt.Refused why
+        → IsRefused T.told (T.state tree.old) site.now plan.now (S.seen folder.old) why }
 
     // So does one in whose folder is the checkpoint of another root or part,
     ensures another { IsTrue S.told → (k : ModelCheckpoint) → IsAt k (S.seen folder.old)

@@ -6,10 +6,12 @@ ghost use Rattle.ocfl_state.specs.Checkpoint.{Checkpoint as ModelCheckpoint};
 ghost use Rattle.ocfl_state.specs.Content.{is_closed, with_report};
 ghost use Rattle.ocfl_state.specs.Crash.{LeavesOnly, Only, Passes, Same};
 ghost use Rattle.ocfl_state.specs.declared.checkpoint_parts.Phase.TheVariants.{Closing};
+ghost use Rattle.ocfl_night.specs.Refusing.{HasReport, IsFolderRefused, IsUnbegun};
 ghost use Rattle.ocfl_night.specs.Site.{IsForeign};
 ghost use Rattle.ocfl_night.specs.Sound.{IsAt, IsFound, IsFoundReady, IsKept, IsNew, IsReady, IsSettled, IsSoundAt};
 ghost use Rattle.ocfl_night.specs.Steps.{IsChanged, IsLost, IsShortened, IsUntouched, KeepsFront};
 ghost use Rattle.ocfl_night.specs.declared.refusal.Refusal.{Refusal as ModelRefusal};
+ghost use Rattle.ocfl_night.specs.declared.refusal.Refusal.TheVariants.{HasReports};
 ghost use Rattle.ocfl_night.specs.declared.refusal.NotOpened.TheVariants.{Refused};
 
 use crate::checkpoint::{bytes_of, cycle_of, look, phase_of, put_checkpoint, report_of};
@@ -50,6 +52,8 @@ fn trim<S: StateFolder>(folder: &mut S, most: u64) -> Result<(), Stop>
 fn is_new<S: StateFolder>(folder: &mut S) -> Result<bool, Stop>
     ensures empty { IsTrue S.told → IfOk result (λ new. IsTrue new
         → length (S.seen folder.old).report ≡ 0) }
+    ensures reports { IsTrue S.told → IfOk result (λ new. new ≡ false
+        → HasReport (S.seen folder.old)) }
     ensures seen { IsTrue S.told → S.seen folder.new ≡ S.seen folder.old }
     ensures only { IsTrue S.told → Only (S.seen folder.old) (S.may_leave folder.old)
         → Only (S.seen folder.new) (S.may_leave folder.new) }
@@ -103,6 +107,8 @@ fn begin<S: StateFolder>(
         ((S.seen folder.new).closed ≡ (S.seen folder.old).closed) }
     ensures refused { IsTrue S.told → (why : ModelRefusal) → result ≡ Err (Refused why)
         → S.seen folder.new ≡ S.seen folder.old }
+    ensures rightly { IsTrue S.told → (why : ModelRefusal) → result ≡ Err (Refused why)
+        → (why ≡ HasReports) × HasReport (S.seen folder.old) }
 {
     if !is_new(folder)? {
         return Err(NotOpened::Refused(Refusal::HasReports));
@@ -262,6 +268,8 @@ fn create<S: StateFolder>(
         ((S.seen folder.new).closed ≡ (S.seen folder.old).closed) }
     ensures refused { IsTrue S.told → (why : ModelRefusal) → result ≡ Err (Refused why)
         → S.seen folder.new ≡ S.seen folder.old }
+    ensures rightly { IsTrue S.told → (why : ModelRefusal) → result ≡ Err (Refused why)
+        → IsUnbegun plan.now.create (S.seen folder.old) why }
 {
     if !plan.create {
         return Err(NotOpened::Refused(Refusal::NoCheckpoint));
@@ -300,6 +308,9 @@ pub fn open<S: StateFolder>(
     // If it is refused, the folder stays as it was.
     ensures refused { IsTrue S.told → (why : ModelRefusal) → result ≡ Err (Refused why)
         → S.seen folder.new ≡ S.seen folder.old }
+    // And what it is refused for is so.
+    ensures rightly { IsTrue S.told → (why : ModelRefusal) → result ≡ Err (Refused why)
+        → IsFolderRefused site.now identity.now plan.now (S.seen folder.old) why }
     // One of another root or part, or of a root that is not as it was, is not opened, and stays as
     // it was.
     ensures unopened { IsTrue S.told → (k : ModelCheckpoint) → IsAt k (S.seen folder.old)

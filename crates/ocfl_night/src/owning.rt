@@ -1,5 +1,6 @@
 //! Whether a checkpoint is that of these nights, and the root as it was.
-ghost use Rattle.std.specs.Prelude.{◌≡◌, ◌↔◌, ◌+◌, ◌<◌, Bool, IfOk, IsTrue, OnOk, false};
+ghost use Rattle.std.specs.Prelude.{◌≡◌, ◌↔◌, ◌+◌, ◌<◌, Bool, IfErr, IfOk, IsTrue, OnOk, false};
+ghost use Rattle.ocfl_night.specs.Refusing.{IsChangedRoot, IsDisowned};
 ghost use Rattle.ocfl_night.specs.Site.{AreMostGone, IsOwn, IsSameRoot, first_checkpoint, names_now, with_root};
 
 use crate::checkpoint::no_report;
@@ -59,7 +60,8 @@ fn are_most_gone(checkpoint: &Checkpoint, identity: &Identity) -> bool
 /// Refuses a root with another declaration than a checkpoint has, or without more than half of its
 /// names.
 fn same_root(checkpoint: &Checkpoint, identity: &Identity) -> Result<(), Refusal>
-    ensures { OnOk result (IsSameRoot identity.now checkpoint.now) }
+    ensures same { OnOk result (IsSameRoot identity.now checkpoint.now) }
+    ensures rightly { IfErr result (IsChangedRoot identity.now checkpoint.now) }
 {
     if !is_declared(checkpoint, identity) {
         return Err(Refusal::OtherDeclaration);
@@ -92,6 +94,7 @@ pub(crate) fn own(
     ensures same { IfOk result (λ checkpoint. checkpoint ≡ found) }
     ensures own { OnOk result (IsOwn site.now found) }
     ensures root { force_root ≡ false → OnOk result (IsSameRoot identity.now found) }
+    ensures rightly { IfErr result (IsDisowned site.now identity.now force_root found) }
 {
     if !is_at(&found, &site.path) {
         return Err(Refusal::OtherRoot(path_of(found)));

@@ -1,0 +1,62 @@
+-- When a night is refused, for each reason: the first that applies.
+use Rattle.std.specs.Prelude.{◌≡◌, ◌≢◌, ◌⊎◌, ◌-◌, [], Bool, IsTrue, true, false, Some, None}
+use Rattle.ocfl_tree.specs.{Place.{Text}, Listing.{entries_in}, Store.{Store, IfTold}}
+use Rattle.ocfl_identity.specs.Identity.{IsIdentityOf, declarations_among}
+use Rattle.ocfl_identity.specs.declared.identity.Identity.{Identity}
+use Rattle.ocfl_cursor.specs.declared.refused.Refused.TheVariants as refused
+use Rattle.ocfl_cursor.specs.declared.refused.TextKind.{TextKind}
+use Rattle.ocfl_state.specs.{Checkpoint.{Checkpoint}, CheckpointRefusal.{RefusedRightly}}
+use Rattle.ocfl_state.specs.Content.{Content, is_closed}
+use Rattle.ocfl_night.specs.{Site.{AreMostGone, IsOwn}, Sound.{IsAt}}
+use Rattle.ocfl_night.specs.{declared.plan.Plan.{Plan}, declared.site.Site.{Site}}
+use Rattle.ocfl_night.specs.declared.refusal.Refusal.{Refusal}
+use Rattle.ocfl_night.specs.declared.refusal.Refusal.TheVariants.{NoCheckpoint, HasReports, NotCheckpoint, Version, Damaged, Malformed, NoRoot, OtherRoot, OtherPart, OtherDeclaration, NamesGone}
+
+-- the open report has bytes, or that of the first cycle is closed
+abbrev pub HasReport : Content → Type 0
+HasReport c = (c.report ≢ []) ⊎ IsTrue (is_closed c.closed 1)
+
+-- in a folder without a checkpoint: none is to be made, or reports are there
+abbrev pub IsUnbegun : Bool → Content → Refusal → Type 0
+IsUnbegun create c NoCheckpoint = create ≡ false
+IsUnbegun create c HasReports = (create ≡ true) × HasReport c
+IsUnbegun create c _ = ⊥
+
+-- for bytes in a checkpoint's place: they are not the text of one
+abbrev pub IsUnread : Text → Refusal → Type 0
+IsUnread bytes NotCheckpoint = (of : TextKind) × RefusedRightly bytes (refused.NotA of)
+IsUnread bytes Version = RefusedRightly bytes refused.Version
+IsUnread bytes Damaged = RefusedRightly bytes refused.Damaged
+IsUnread bytes Malformed = RefusedRightly bytes refused.Malformed
+IsUnread bytes _ = ⊥
+
+-- such bytes are in the checkpoint's place
+abbrev pub HasUnread : Content → Refusal → Type 0
+HasUnread c why = (bytes : Text) × ((c.checkpoint ≡ Some bytes) × IsUnread bytes why)
+
+-- for a checkpoint: it is of a root at another path, or of another part
+abbrev pub IsMisplaced : Site → Checkpoint → Refusal → Type 0
+IsMisplaced site k (OtherRoot path) = (k.root.path ≡ path) × (path ≢ site.path)
+IsMisplaced site k OtherPart = (k.root.path ≡ site.path) × (k.part ≢ site.ends)
+IsMisplaced site k _ = ⊥
+
+-- the root has another declaration than the checkpoint, or most of its names are gone
+abbrev pub IsChangedRoot : Identity → Checkpoint → Refusal → Type 0
+IsChangedRoot id k OtherDeclaration = k.root.declared ≢ id.declared
+IsChangedRoot id k (NamesGone gone before) = (k.root.declared ≡ id.declared) × (AreMostGone id k × ((before ≡ k.names.count) × (gone ≡ before - id.count)))
+IsChangedRoot id k _ = ⊥
+
+-- it is misplaced, or unless forced the root is not as it was
+abbrev pub IsDisowned : Site → Identity → Bool → Checkpoint → Refusal → Type 0
+IsDisowned site id force k why = IsMisplaced site k why ⊎ (IsOwn site k × ((force ≡ false) × IsChangedRoot id k why))
+
+-- a folder of this content is refused, over a root with this identity
+pub data IsFolderRefused (site : Site) (id : Identity) (plan : Plan) (c : Content) (why : Refusal) : Type 0 where
+  none : c.checkpoint ≡ None → IsUnbegun plan.create c why → IsFolderRefused site id plan c why
+  unread : HasUnread c why → IsFolderRefused site id plan c why
+  not_own : (k : Checkpoint) → IsAt k c → IsDisowned site id plan.force_root k why → IsFolderRefused site id plan c why
+
+-- a night over a store is refused: the root has no declaration, or with its identity the folder is
+pub data IsRefused (told : Bool) (s : Store) (site : Site) (plan : Plan) (c : Content) (why : Refusal) : Type 0 where
+  undeclared : why ≡ NoRoot → IfTold told s (λ root. declarations_among (entries_in root []) ≡ []) → IsRefused told s site plan c why
+  in_folder : (id : Identity) → IfTold told s (λ root. IsIdentityOf root id) → IsFolderRefused site id plan c why → IsRefused told s site plan c why

@@ -1,12 +1,13 @@
 -- Whose a checkpoint is.
-use Rattle.std.proofs.Common.{◌≡◌, inl, inr, Bool, false, Some, sym, ◌∙◌, ap, subst, arith}
-use Rattle.ocfl_tree.specs.{Place.{Text}, StorageRoot.{StorageRoot}}
+use Rattle.std.proofs.Common.{◌≡◌, ◌≢◌, [], inl, inr, Bool, false, Some, sym, ◌∙◌, ap, subst, arith}
+use Rattle.ocfl_tree.specs.{Place.{Text}, StorageRoot.{StorageRoot}, Store.{Store, IfTold}}
 use Rattle.ocfl_identity.specs.Identity.{IsIdentityOf, declared_by}
 use Rattle.ocfl_identity.specs.declared.identity.Identity.{Identity}
 use Rattle.ocfl_state.specs.{Checkpoint.{Checkpoint, IsCheckpointText}, Content.{Content}}
 use Rattle.ocfl_state.proofs.CheckpointTexts.{text_determines}
 use Rattle.ocfl_night.specs.Site.{IsForeign, IsOther, IsOtherThan, IsOwn, IsSameRoot}
-use Rattle.ocfl_night.specs.{Sound.{IsAt}, declared.site.Site.{Site}}
+use Rattle.ocfl_night.specs.Refusing.{IsBarred, another, other_root, undeclared}
+use Rattle.ocfl_night.specs.{Sound.{IsAt}, declared.plan.Plan.{Plan}, declared.site.Site.{Site}}
 
 -- a folder is at one checkpoint
 pub at_once : {c : Content} {k found : Checkpoint} → IsAt found c → IsAt k c → found ≡ k
@@ -32,3 +33,12 @@ pub other_by : (root : StorageRoot) (id : Identity) (k : Checkpoint) → IsIdent
 other_by root id k is (inl other) =
     inl (λ same. other (ap (declared_by root) (sym is.declarations) ∙ is.declared ∙ ap Some (sym same)))
 other_by root id k is (inr gone) = inr (omega (arith, gone, is.count))
+
+-- ---- of a night
+
+-- a root that is looked at declares itself, so what bars a night is a checkpoint
+pub barred_by : {told : Bool} {s : Store} {site : Site} {plan : Plan} {c : Content} (id : Identity) → IfTold told s (λ root. IsIdentityOf root id) → id.declarations.items ≢ [] → IsBarred told s site plan c
+    → (k : Checkpoint) × (IsAt k c × IsForeign site id plan.force_root k)
+barred_by id is declares (another k at others) = (k, (at, inl others))
+barred_by id is declares (other_root tells root over k at other force) = (k, (at, inr (force, other_by root id k (is tells root over) other)))
+barred_by id is declares (undeclared tells root over none) = absurd (declares ((is tells root over).declarations ∙ none))

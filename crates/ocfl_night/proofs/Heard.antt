@@ -1,7 +1,7 @@
 -- What an output heard.
 use Rattle.std.proofs.Common.{◌≡◌, inr, inl, refl, ℕ, [], ◌++◌, Option, sym, ◌∙◌, subst, append_assoc, Result, Ok, Err}
 use Rattle.std.proofs.{KnownBytes.{Appends-nil, Appends-trans}, lemmas.List.{append-nil}}
-use Rattle.std.specs.{Result.{IsErr, IsOk, OnOk}, Io.KnownBytes.{Appends}}
+use Rattle.std.specs.{Result.{IsErr, IsErrAnd, IsOk, OnOk}, Io.KnownBytes.{Appends}}
 use Rattle.ocfl_tree.specs.Place.{Text}
 use Rattle.ocfl_audit.specs.Parts.{Part}
 use Rattle.ocfl_state.specs.{Checkpoint.{Checkpoint}, Content.{Content}}
@@ -137,6 +137,6 @@ on_ok (Err e) ok p = absurd (cc ok)
 pub ok_inj : {T E : Type 0} (x y : T) (r : Result T E) → r ≡ Ok x → r ≡ Ok y → x ≡ y
 ok_inj x y r a b = cc (a, b)
 
-pub none_ok : {T E : Type 0} (r : Result T E) → OnOk r ⊥ → IsErr r
-none_ok (Ok x) p = absurd p
-none_ok (Err e) p = refl
+pub is_err : {T E : Type 0} {Q : E → Type 0} (r : Result T E) → IsErrAnd r Q → IsErr r
+is_err (Ok x) h = absurd h
+is_err (Err e) h = refl

@@ -1,13 +1,13 @@
 -- When a night is refused, for each reason: the first that applies.
 use Rattle.std.specs.Prelude.{◌≡◌, ◌≢◌, ◌⊎◌, ◌-◌, [], Bool, IsTrue, true, false, Some, None}
-use Rattle.ocfl_tree.specs.{Place.{Text}, Listing.{entries_in}, Store.{Store, IfTold}}
+use Rattle.ocfl_tree.specs.{Place.{Text}, Listing.{entries_in}, StorageRoot.{StorageRoot}, Store.{Store, IfTold}}
 use Rattle.ocfl_identity.specs.Identity.{IsIdentityOf, declarations_among}
 use Rattle.ocfl_identity.specs.declared.identity.Identity.{Identity}
 use Rattle.ocfl_cursor.specs.declared.refused.Refused.TheVariants as refused
 use Rattle.ocfl_cursor.specs.declared.refused.TextKind.{TextKind}
 use Rattle.ocfl_state.specs.{Checkpoint.{Checkpoint}, CheckpointRefusal.{RefusedRightly}}
 use Rattle.ocfl_state.specs.Content.{Content, is_closed}
-use Rattle.ocfl_night.specs.{Site.{AreMostGone, IsOwn}, Sound.{IsAt}}
+use Rattle.ocfl_night.specs.{Site.{AreMostGone, IsAnothers, IsOtherThan, IsOwn}, Sound.{IsAt}}
 use Rattle.ocfl_night.specs.{declared.plan.Plan.{Plan}, declared.site.Site.{Site}}
 use Rattle.ocfl_night.specs.declared.refusal.Refusal.{Refusal}
 use Rattle.ocfl_night.specs.declared.refusal.Refusal.TheVariants.{NoCheckpoint, HasReports, NotCheckpoint, Version, Damaged, Malformed, NoRoot, OtherRoot, OtherPart, OtherDeclaration, NamesGone}
@@ -58,5 +58,14 @@ pub data IsFolderRefused (site : Site) (id : Identity) (plan : Plan) (c : Conten
 
 -- a night over a store is refused: the root has no declaration, or with its identity the folder is
 pub data IsRefused (told : Bool) (s : Store) (site : Site) (plan : Plan) (c : Content) (why : Refusal) : Type 0 where
-  undeclared : why ≡ NoRoot → IfTold told s (λ root. declarations_among (entries_in root []) ≡ []) → IsRefused told s site plan c why
+  no_root : why ≡ NoRoot → IfTold told s (λ root. declarations_among (entries_in root []) ≡ []) → IsRefused told s site plan c why
   in_folder : (id : Identity) → IfTold told s (λ root. IsIdentityOf root id) → IsFolderRefused site id plan c why → IsRefused told s site plan c why
+
+-- ---- what no night is begun in
+
+-- the checkpoint in a folder of this content is of another root or part, or unless forced the root
+-- of a store is not as it was, or it has no declaration
+pub data IsBarred (told : Bool) (s : Store) (site : Site) (plan : Plan) (c : Content) : Type 0 where
+  another : (k : Checkpoint) → IsAt k c → IsAnothers site k → IsBarred told s site plan c
+  other_root : IsTrue told → (root : StorageRoot) → s.tree ≡ root → (k : Checkpoint) → IsAt k c → IsOtherThan root k → plan.force_root ≡ false → IsBarred told s site plan c
+  undeclared : IsTrue told → (root : StorageRoot) → s.tree ≡ root → declarations_among (entries_in root []) ≡ [] → IsBarred told s site plan c

@@ -2,16 +2,15 @@
 ghost use Rattle.std.specs.Prelude.{◌≡◌, ◌≢◌, ◌⊎◌, ◌↔◌, ◌+◌, ◌≤◌, ◌++◌, ◌∷◌, [], IfOk, IfSome, IsErr, All, IsOk, IsSome, IsTrue, List, Err, Ok, OnOk, OnSome, Some, false, length, ℕ};
 ghost use Rattle.std.specs.Io.KnownBytes.{Appends};
 ghost use Rattle.ocfl_audit.specs.Parts.{Part as ModelPart};
-ghost use Rattle.ocfl_tree.specs.{Place.{Text}, Listing.{entries_in}, StorageRoot.{StorageRoot}};
+ghost use Rattle.ocfl_tree.specs.{Place.{Text}, StorageRoot.{StorageRoot}};
 ghost use Rattle.ocfl_tree.specs.Store.{IfTold};
-ghost use Rattle.ocfl_identity.specs.Identity.{declarations_among};
 ghost use Rattle.ocfl_item.specs.Judging.{HasShortFiles};
 ghost use Rattle.ocfl_scrub.specs.Starting.{part_of};
 ghost use Rattle.ocfl_state.specs.{Checkpoint.{Checkpoint as ModelCheckpoint}, Crash.{LeavesOnly}};
 ghost use Rattle.ocfl_state.specs.declared.checkpoint_parts.Phase.TheVariants.{Open};
 ghost use Rattle.ocfl_night.specs.Leaving.{MayLeave, checkpoint_by, has_end, pause_by, remedy_at};
-ghost use Rattle.ocfl_night.specs.Refusing.{IsFolderRefused, IsRefused};
-ghost use Rattle.ocfl_night.specs.Site.{IsAnothers, IsForeign, IsOtherThan, part_at};
+ghost use Rattle.ocfl_night.specs.Refusing.{IsBarred, IsFolderRefused, IsRefused};
+ghost use Rattle.ocfl_night.specs.Site.{IsForeign, part_at};
 ghost use Rattle.ocfl_night.specs.Steps.{IsLost, IsNotBegun, IsUntouched, IsWalkAt};
 ghost use Rattle.ocfl_night.specs.Sound.{IsAllSaid, IsAt, IsHeard, IsHeardSince, IsKept, IsOneMore, IsReady, IsReadySince, IsSound, IsSoundAt};
 ghost use Rattle.ocfl_night.specs.Clock.{BeginsInTime, is_before};
@@ -367,10 +366,8 @@ fn catch_up<S: StateFolder, W: Write>(
     ensures rightly { IsTrue S.told → (why : ModelRefusal) → result ≡ Err (Refused why)
         → IsFolderRefused site.now identity.now plan.now (S.seen folder.old) why }
     ensures foreign { IsTrue S.told → (k : ModelCheckpoint) → IsAt k (S.seen folder.old)
-        → IsForeign site.now identity.now plan.now.force_root k
-        → IsUntouched S.seen S.may_leave S.moment S.left_since folder.old folder.new }
-    ensures unopened { IsTrue S.told → (k : ModelCheckpoint) → IsAt k (S.seen folder.old)
-        → IsForeign site.now identity.now plan.now.force_root k → OnOk result ⊥ }
+        → IsForeign site.now identity.now plan.now.force_root k → IsErr result
+        × IsUntouched S.seen S.may_leave S.moment S.left_since folder.old folder.new }
     ensures lost { IsTrue S.told → (k : ModelCheckpoint) → IsAt k (S.seen folder.old)
         → IsLost k (S.seen folder.old) → OnOk result (IsTrue lost.new) }
     ensures all { IfOk result (λ k. k.told ≡ k.report.bytes) }
@@ -456,23 +453,9 @@ fn set_out<S: StateFolder, T: Tree, W: Write>(
         → IsRefused T.told (T.state tree.old) site.now plan.now (S.seen folder.old) why }
     ensures lost { IsTrue S.told → (k : ModelCheckpoint) → IsAt k (S.seen folder.old)
         → IsLost k (S.seen folder.old) → OnOk result (IsTrue lost.new) }
-    ensures another { IsTrue S.told → (k : ModelCheckpoint) → IsAt k (S.seen folder.old)
-        → IsAnothers site.now k
-        → IsUntouched S.seen S.may_leave S.moment S.left_since folder.old folder.new }
-    ensures another_unopened { IsTrue S.told → (k : ModelCheckpoint) → IsAt k (S.seen folder.old)
-        → IsAnothers site.now k → OnOk result ⊥ }
-    ensures other_root { IsTrue S.told → IfTold T.told (T.state tree.old) (λ root.
-        (k : ModelCheckpoint) → IsAt k (S.seen folder.old) → IsOtherThan root k
-        → plan.now.force_root ≡ false
-        → IsUntouched S.seen S.may_leave S.moment S.left_since folder.old folder.new) }
-    ensures other_root_unopened { IsTrue S.told → IfTold T.told (T.state tree.old) (λ root.
-        (k : ModelCheckpoint) → IsAt k (S.seen folder.old) → IsOtherThan root k
-        → plan.now.force_root ≡ false → OnOk result ⊥) }
-    ensures undeclared { IsTrue S.told → IfTold T.told (T.state tree.old) (λ root.
-        declarations_among (entries_in root []) ≡ []
-        → IsUntouched S.seen S.may_leave S.moment S.left_since folder.old folder.new) }
-    ensures undeclared_unopened { IfTold T.told (T.state tree.old) (λ root.
-        declarations_among (entries_in root []) ≡ [] → OnOk result ⊥) }
+    ensures barred { IsTrue S.told
+        → IsBarred T.told (T.state tree.old) site.now plan.now (S.seen folder.old) → IsErr result
+        × IsUntouched S.seen S.may_leave S.moment S.left_since folder.old folder.new }
 {
     let part = part_at(alloc, &site.ends)?;
     let identity = look_at(alloc, tree, block)?;
@@ -519,23 +502,9 @@ fn go_through<S: StateFolder, T: Tree, C: Clock, W: Write>(
     ensures unrefused { (why : ModelRefusal) → result ≢ Ok (halt.Refused why) }
     ensures lost { IsTrue S.told → (k : ModelCheckpoint) → IsAt k (S.seen folder.old)
         → IsLost k (S.seen folder.old) → OnOk result (IsTrue lost.new) }
-    ensures another { IsTrue S.told → (k : ModelCheckpoint) → IsAt k (S.seen folder.old)
-        → IsAnothers site.now k
-        → IsUntouched S.seen S.may_leave S.moment S.left_since folder.old folder.new }
-    ensures another_unopened { IsTrue S.told → (k : ModelCheckpoint) → IsAt k (S.seen folder.old)
-        → IsAnothers site.now k → OnOk result ⊥ }
-    ensures other_root { IsTrue S.told → IfTold T.told (T.state tree.old) (λ root.
-        (k : ModelCheckpoint) → IsAt k (S.seen folder.old) → IsOtherThan root k
-        → plan.now.force_root ≡ false
-        → IsUntouched S.seen S.may_leave S.moment S.left_since folder.old folder.new) }
-    ensures other_root_unopened { IsTrue S.told → IfTold T.told (T.state tree.old) (λ root.
-        (k : ModelCheckpoint) → IsAt k (S.seen folder.old) → IsOtherThan root k
-        → plan.now.force_root ≡ false → OnOk result ⊥) }
-    ensures undeclared { IsTrue S.told → IfTold T.told (T.state tree.old) (λ root.
-        declarations_among (entries_in root []) ≡ []
-        → IsUntouched S.seen S.may_leave S.moment S.left_since folder.old folder.new) }
-    ensures undeclared_unopened { IfTold T.told (T.state tree.old) (λ root.
-        declarations_among (entries_in root []) ≡ [] → OnOk result ⊥) }
+    ensures barred { IsTrue S.told
+        → IsBarred T.told (T.state tree.old) site.now plan.now (S.seen folder.old) → IsErr result
+        × IsUntouched S.seen S.may_leave S.moment S.left_since folder.old folder.new }
 {
     let begun = set_out(alloc, folder, tree, site, plan, block, out, lost)?;
     let Begun {
@@ -587,26 +556,18 @@ pub fn night<S: StateFolder, T: Tree, C: Clock, W: Write>(
         → ((why : ModelRefusal) → result.end ≢ halt.Refused why)
         → IsAllSaid (S.seen folder.new)) }
 
-    // A night that is refused leaves the folder as it was.
+    // A night that is refused leaves the folder as it was, and its reason holds.
     ensures refused { IsTrue S.told → (why : ModelRefusal) → result.end ≡ halt.Refused why
         → S.seen folder.new ≡ S.seen folder.old }
-    // And what it is refused for is so.
     ensures rightly { IsTrue S.told → (why : ModelRefusal) → result.end ≡ halt.Refused why
         → IsRefused T.told (T.state tree.old) site.now plan.now (S.seen folder.old) why }
 
-    // So does one in whose folder is the checkpoint of another root or part,
-    ensures another { IsTrue S.told → (k : ModelCheckpoint) → IsAt k (S.seen folder.old)
-        → IsAnothers site.now k → IsNotBegun result.end
+    // So does one in the folder of another root or part, or over a root that is not as it was or
+    // declares nothing.
+    ensures barred { IsTrue S.told
+        → IsBarred T.told (T.state tree.old) site.now plan.now (S.seen folder.old)
+        → IsNotBegun result.end
         × IsUntouched S.seen S.may_leave S.moment S.left_since folder.old folder.new }
-    // of a root with another declaration, or without more than half of its names, unless forced,
-    ensures other_root { IsTrue S.told → IfTold T.told (T.state tree.old) (λ root.
-        (k : ModelCheckpoint) → IsAt k (S.seen folder.old) → IsOtherThan root k
-        → plan.now.force_root ≡ false → IsNotBegun result.end
-        × IsUntouched S.seen S.may_leave S.moment S.left_since folder.old folder.new) }
-    // and one over a folder that declares no storage root.
-    ensures undeclared { IsTrue S.told → IfTold T.told (T.state tree.old) (λ root.
-        declarations_among (entries_in root []) ≡ [] → IsNotBegun result.end
-        × IsUntouched S.seen S.may_leave S.moment S.left_since folder.old folder.new) }
 
     // If bytes of the report were lost or changed, it says so, unless it is refused or something
     // is troubled.

@@ -1,5 +1,5 @@
 //! Opening a night: what the last one left is taken up, if it is that of these nights.
-ghost use Rattle.std.specs.Prelude.{◌≡◌, ◌↔◌, [], IfOk, IsSome, IsTrue, OnOk, None, Err, false, length, take};
+ghost use Rattle.std.specs.Prelude.{◌≡◌, ◌↔◌, [], IfOk, IsErr, IsSome, IsTrue, OnOk, None, Err, false, length, take};
 ghost use Rattle.ocfl_audit.specs.Parts.{Part};
 ghost use Rattle.ocfl_tree.specs.Place.{Text};
 ghost use Rattle.ocfl_state.specs.Checkpoint.{Checkpoint as ModelCheckpoint};
@@ -305,19 +305,16 @@ pub fn open<S: StateFolder>(
     ensures lost { IsTrue S.told → (k : ModelCheckpoint) → IsAt k (S.seen folder.old)
         → IsLost k (S.seen folder.old)
         → IfOk result (λ opened. IsTrue opened.lost × (opened.checkpoint.whole ≡ false)) }
-    // If it is refused, the folder stays as it was.
+    // If it is refused, the folder stays as it was, and the reason holds.
     ensures refused { IsTrue S.told → (why : ModelRefusal) → result ≡ Err (Refused why)
         → S.seen folder.new ≡ S.seen folder.old }
-    // And what it is refused for is so.
     ensures rightly { IsTrue S.told → (why : ModelRefusal) → result ≡ Err (Refused why)
         → IsFolderRefused site.now identity.now plan.now (S.seen folder.old) why }
     // One of another root or part, or of a root that is not as it was, is not opened, and stays as
     // it was.
-    ensures unopened { IsTrue S.told → (k : ModelCheckpoint) → IsAt k (S.seen folder.old)
-        → IsForeign site.now identity.now plan.now.force_root k → OnOk result ⊥ }
     ensures foreign { IsTrue S.told → (k : ModelCheckpoint) → IsAt k (S.seen folder.old)
-        → IsForeign site.now identity.now plan.now.force_root k
-        → IsUntouched S.seen S.may_leave S.moment S.left_since folder.old folder.new }
+        → IsForeign site.now identity.now plan.now.force_root k → IsErr result
+        × IsUntouched S.seen S.may_leave S.moment S.left_since folder.old folder.new }
 {
     match look(alloc, folder)? {
         None => create(alloc, folder, site, identity, plan),

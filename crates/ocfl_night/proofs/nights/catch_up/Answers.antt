@@ -1,7 +1,7 @@
 use Rattle.std.proofs.Common.{◌∙◌, ap, sym}
 use Rattle.ocfl_state.specs.Checkpoint.{Checkpoint}
 use Rattle.ocfl_night.proofs.Moments.{joined_moments, leaves_weaker}
-use Rattle.ocfl_night.proofs.Heard.{found_heard, grew_none, since_found}
+use Rattle.ocfl_night.proofs.Heard.{found_heard, grew_none, is_err, since_found}
 use Rattle.ocfl_night.proofs.nights.catch_up.Goals as goal
 
 pub returns-in_err-opened-clause-heard : goal.returns-in_err-opened-clause-heard
@@ -27,11 +27,11 @@ returns-clause-all g c =
     let is = c.in_ok-speak.ensures.all in
     ap (λ (x : Checkpoint). x.told) is ∙ sym (ap (λ (x : Checkpoint). x.report.bytes) is)
 
+pub returns-in_err-opened-clause-foreign : goal.returns-in_err-opened-clause-foreign
+returns-in_err-opened-clause-foreign g c = λ told k at foreign. (is_err c.from_residual.result c.from_residual.ensures.1, (c.open.ensures.foreign told k at foreign).1)
+
 pub returns-in_err-speak-clause-foreign : goal.returns-in_err-speak-clause-foreign
-returns-in_err-speak-clause-foreign g c = λ told k at foreign. absurd (c.in_ok-opened.ensures.unopened told k at foreign)
+returns-in_err-speak-clause-foreign g c = λ told k at foreign. absurd (cc (c.in_ok-opened.ensures.foreign told k at foreign).0)
 
 pub returns-clause-foreign : goal.returns-clause-foreign
-returns-clause-foreign g c = λ told k at foreign. absurd (c.in_ok-opened.ensures.unopened told k at foreign)
-
-pub returns-clause-unopened : goal.returns-clause-unopened
-returns-clause-unopened g c = λ told k at foreign. c.in_ok-opened.ensures.unopened told k at foreign
+returns-clause-foreign g c = λ told k at foreign. absurd (cc (c.in_ok-opened.ensures.foreign told k at foreign).0)

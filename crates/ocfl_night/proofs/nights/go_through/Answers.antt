@@ -2,7 +2,7 @@ use Rattle.std.proofs.Common.{◌∙◌, ◌++◌, List, Ok, ap, refl, subst}
 use Rattle.ocfl_audit.specs.Parts.{Part}
 use Rattle.ocfl_state.specs.Content.{Closed}
 use Rattle.ocfl_night.specs.{Site.{part_at}, Sound.{IsOneMore}}
-use Rattle.ocfl_night.proofs.{Clocks.{none_begun}, Heard.{heard_through, ready_since, ok_inj}}
+use Rattle.ocfl_night.proofs.{Clocks.{none_begun}, Heard.{heard_through, is_err, ready_since, ok_inj}}
 use Rattle.ocfl_night.specs.declared.plan.Halt.TheVariants as halt
 use Rattle.ocfl_night.proofs.nights.go_through.Goals as goal
 
@@ -41,29 +41,11 @@ returns-clause-said g c = λ told tells root over short kept.
     let r = c.in_ok-begun.ensures.ready told (part_at c.args.site.now.ends) kept in
     c.in_ok-halt.ensures.said told tells root (c.set_out.ensures.root tells ∙ over) short (r.t ++ r.heard.more) (ready_since c.in_ok-begun.ensures.part r)
 
-pub returns-in_err-halt-clause-another : goal.returns-in_err-halt-clause-another
-returns-in_err-halt-clause-another g c = λ told k at others. absurd (c.in_ok-begun.ensures.another_unopened told k at others)
+pub returns-in_err-begun-clause-barred : goal.returns-in_err-begun-clause-barred
+returns-in_err-begun-clause-barred g c = λ told barred. (is_err c.from_residual.result c.from_residual.ensures.1, (c.set_out.ensures.barred told barred).1)
 
-pub returns-clause-another : goal.returns-clause-another
-returns-clause-another g c = λ told k at others. absurd (c.in_ok-begun.ensures.another_unopened told k at others)
+pub returns-in_err-halt-clause-barred : goal.returns-in_err-halt-clause-barred
+returns-in_err-halt-clause-barred g c = λ told barred. absurd (cc (c.in_ok-begun.ensures.barred told barred).0)
 
-pub returns-clause-another_unopened : goal.returns-clause-another_unopened
-returns-clause-another_unopened g c = λ told k at others. c.in_ok-begun.ensures.another_unopened told k at others
-
-pub returns-in_err-halt-clause-other_root : goal.returns-in_err-halt-clause-other_root
-returns-in_err-halt-clause-other_root g c = λ told tells root over k at other force. absurd (c.in_ok-begun.ensures.other_root_unopened told tells root over k at other force)
-
-pub returns-clause-other_root : goal.returns-clause-other_root
-returns-clause-other_root g c = λ told tells root over k at other force. absurd (c.in_ok-begun.ensures.other_root_unopened told tells root over k at other force)
-
-pub returns-clause-other_root_unopened : goal.returns-clause-other_root_unopened
-returns-clause-other_root_unopened g c = λ told tells root over k at other force. c.in_ok-begun.ensures.other_root_unopened told tells root over k at other force
-
-pub returns-in_err-halt-clause-undeclared : goal.returns-in_err-halt-clause-undeclared
-returns-in_err-halt-clause-undeclared g c = λ told tells root over none. absurd (c.in_ok-begun.ensures.undeclared_unopened tells root over none)
-
-pub returns-clause-undeclared : goal.returns-clause-undeclared
-returns-clause-undeclared g c = λ told tells root over none. absurd (c.in_ok-begun.ensures.undeclared_unopened tells root over none)
-
-pub returns-clause-undeclared_unopened : goal.returns-clause-undeclared_unopened
-returns-clause-undeclared_unopened g c = λ tells root over none. c.in_ok-begun.ensures.undeclared_unopened tells root over none
+pub returns-clause-barred : goal.returns-clause-barred
+returns-clause-barred g c = λ told barred. absurd (cc (c.in_ok-begun.ensures.barred told barred).0)

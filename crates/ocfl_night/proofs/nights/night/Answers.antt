@@ -2,7 +2,7 @@ use Rattle.std.proofs.Common.{◌≡◌, ◌≤◌, [], ⊎_elim, All, Bool, Glo
 use Rattle.std.specs.Prelude.{IsTrue}
 use Rattle.ocfl_tree.specs.Place.{Place}
 use Rattle.ocfl_night.specs.Leaving.{has_end}
-use Rattle.ocfl_night.proofs.{Moments.{leaves_weaker}, Heard.{none_ok, on_ok, since_sound}}
+use Rattle.ocfl_night.proofs.{Moments.{leaves_weaker}, Heard.{on_ok, since_sound}}
 use Rattle.ocfl_night.proofs.nights.night.Goals as goal
 
 pub returns-clause-any_moment : goal.returns-clause-any_moment
@@ -20,17 +20,10 @@ pub returns-clause-said : goal.returns-clause-said
 returns-clause-said g c = λ told tells root over short kept well unrefused.
     on_ok c.go_through-through.result (c.account.ensures.said well unrefused) (c.go_through-through.ensures.said told tells root over short kept)
 
-pub returns-clause-another : goal.returns-clause-another
-returns-clause-another g c = λ told k at others.
-    (c.account.ensures.not_begun (none_ok c.go_through-through.result (c.go_through-through.ensures.another_unopened told k at others)), c.go_through-through.ensures.another told k at others)
-
-pub returns-clause-other_root : goal.returns-clause-other_root
-returns-clause-other_root g c = λ told tells root over k at other force.
-    (c.account.ensures.not_begun (none_ok c.go_through-through.result (c.go_through-through.ensures.other_root_unopened told tells root over k at other force)), c.go_through-through.ensures.other_root told tells root over k at other force)
-
-pub returns-clause-undeclared : goal.returns-clause-undeclared
-returns-clause-undeclared g c = λ told tells root over none.
-    (c.account.ensures.not_begun (none_ok c.go_through-through.result (c.go_through-through.ensures.undeclared_unopened tells root over none)), c.go_through-through.ensures.undeclared told tells root over none)
+pub returns-clause-barred : goal.returns-clause-barred
+returns-clause-barred g c = λ told barred.
+    let h = c.go_through-through.ensures.barred told barred in
+    (c.account.ensures.not_begun h.0, h.1)
 
 pub returns-clause-refused : goal.returns-clause-refused
 returns-clause-refused g c = λ told why is.

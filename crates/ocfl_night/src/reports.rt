@@ -1,10 +1,10 @@
 //! The report: what a checkpoint keeps of it, and changes, as far as a crash keeps its front.
-ghost use Rattle.std.specs.Prelude.{◌≡◌, ◌++◌, IfOk, IfSome, IsSome, IsTrue, None, OnOk, length, take};
+ghost use Rattle.std.specs.Prelude.{◌≡◌, IfOk, IfSome, IsSome, IsTrue, None, OnOk, take};
 ghost use Rattle.ocfl_state.specs.{Content.{with_report}, Crash.{Passes, Same}};
 ghost use Rattle.ocfl_state.specs.Pieces.{HasTail, summary_of};
 ghost use Rattle.ocfl_night.specs.Steps.{BeginsAs, KeepsFront};
 
-use ocfl_state::{FoundReport, ReportMark, StateFolder, Trouble, append_marked, find_report};
+use ocfl_state::{FoundReport, ReportMark, StateFolder, Trouble, find_report};
 
 /// What there is of a report that is another one than a mark says, up to the length that it says:
 /// bytes were lost or changed. `None` if it is as it says.
@@ -28,24 +28,6 @@ pub(crate) fn find_lost<S: StateFolder>(
         FoundReport::Whole(_) => Ok(None),
         FoundReport::Lost(digests) => Ok(Some(digests.summary())),
     }
-}
-
-/// Appends bytes to the report, of which a checkpoint keeps a mark, and gives the mark of what it
-/// is then.
-#[tactic(auto, using(crate::proofs::Moments::torn_less))]
-pub(crate) fn append_report<S: StateFolder>(
-    folder: &mut S,
-    mark: &ReportMark,
-    bytes: &[u8],
-) -> Result<ReportMark, Trouble>
-    ensures marked { IsTrue S.told → mark.now ≡ summary_of (S.seen folder.old).report
-        → IfOk result (λ next. next ≡ summary_of ((S.seen folder.old).report ++ bytes.now)) }
-    ensures appended { IsTrue S.told → OnOk result (S.seen folder.new
-        ≡ with_report ((S.seen folder.old).report ++ bytes.now) (S.seen folder.old)) }
-    ensures crash { IsTrue S.told → Passes S.may_leave S.moment S.left_since
-        (KeepsFront (length (S.seen folder.old).report)) folder.old folder.new }
-{
-    append_marked(folder, mark, bytes)
 }
 
 /// Cuts the report to a length.

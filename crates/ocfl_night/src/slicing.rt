@@ -19,14 +19,13 @@ ghost use Rattle.ocfl_night.specs.Steps.{IsNext, IsRun, IsWalkAt, KeepsFront};
 use crate::checkpoint::{cursor_of, put_checkpoint, report_of};
 use crate::leaving::part_past;
 use crate::looking::{NotKept, look_again};
-use crate::reports::append_report;
 use crate::stop::Stop;
 use ocfl_cursor::{Cursor, Limits};
 use ocfl_digest::Block;
 use ocfl_identity::Identity;
 use ocfl_scrub::parts::each_run_that_goes_on_has_a_report;
 use ocfl_scrub::{KeptWalk, Part, RunEnd, RunStatus, run_on};
-use ocfl_state::{Checkpoint, Phase, ReportMark, StateFolder, Trouble};
+use ocfl_state::{Checkpoint, Phase, ReportMark, StateFolder, Trouble, append_marked};
 use ocfl_tree::{Place, Tree};
 use ocfl_walk::Fault;
 use std::alloc::Global;
@@ -81,6 +80,7 @@ fn make_run<T: Tree>(
 
 /// Appends the lines of a run to the report, of which a checkpoint keeps a mark, and brings them to
 /// the disk. Gives the mark of what it is then.
+#[tactic(auto, using(crate::proofs::Moments::torn_less))]
 fn extend<S: StateFolder>(
     folder: &mut S,
     mark: &ReportMark,
@@ -95,7 +95,7 @@ fn extend<S: StateFolder>(
     ensures crash { IsTrue S.told → Passes S.may_leave S.moment S.left_since
         (KeepsFront (length (S.seen folder.old).report)) folder.old folder.new }
 {
-    let next = append_report(folder, mark, lines)?;
+    let next = append_marked(folder, mark, lines)?;
     folder.sync()?;
     Ok(next)
 }

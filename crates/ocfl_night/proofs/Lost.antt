@@ -52,6 +52,3 @@ not_answer true true same = ((λ it. absurd cc), (λ is. absurd cc))
 not_answer true false same = absurd cc
 not_answer false true same = absurd cc
 not_answer false false same = ((λ it. refl), (λ is. refl))
-
-pub none_is_no_loss : (lost : Option ReportMark) → lost ≡ None → IsSome lost → ⊥
-none_is_no_loss lost is some = let there : false ≡ true = subst IsSome is some in cc

@@ -4,6 +4,7 @@ use Rattle.ocfl_tree.specs.Place.{Text}
 use Rattle.ocfl_audit.specs.Parts.{Part}
 use Rattle.ocfl_state.specs.{Checkpoint.{Checkpoint}, Content.{Content, with_report}}
 use Rattle.ocfl_state.specs.Crash.{Outcomes, Only, Same, Passes, LeavesOnly}
+use Rattle.ocfl_state.specs.declared.checkpoint_parts.ReportMark.{ReportMark}
 use Rattle.ocfl_state.specs.declared.checkpoint_parts.Phase.TheVariants.{Open, Closing}
 use Rattle.ocfl_night.specs.Sound.{Stands, IsNew, IsSoundAt, IsSound, IsKept, IsAt, IsSettled, IsReady, IsFound, IsFoundReady}
 use Rattle.ocfl_night.proofs.Moments.{OnlyNow, unchanged, leaves_weaker, joined_moments}
@@ -37,6 +38,10 @@ module _ {F : Type 0} {seen : F → Content} {may_leave : F → Outcomes} {part 
     exact = λ phase. absurd (cc (is, phase));
     only = only;
   }
+
+-- what is opened, if the report is as its checkpoint says
+pub taken_as : {F : Type 0} {seen : F → Content} {may_leave : F → Outcomes} {part : Part} {t : Text} {k opened : Checkpoint} {there : Option ReportMark} {f : F} → (there ≡ None → opened ≡ k) → (there ≡ None) × IsReady seen may_leave part t k f → IsReady seen may_leave part t opened f
+taken_as {seen = seen} {may_leave} {part} {t} {f = f} same up = subst (λ (x : Checkpoint). IsReady seen may_leave part t x f) (sym (same up.0)) up.1
 
 -- ---- opening
 

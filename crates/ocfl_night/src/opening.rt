@@ -191,30 +191,21 @@ fn shortened(mut checkpoint: Checkpoint, report: ReportMark) -> Checkpoint
     checkpoint
 }
 
-/// Takes up the report as far as the checkpoint speaks of it. If bytes of that were lost or
-/// changed, the checkpoint then speaks of what is there.
-fn fit<S: StateFolder>(folder: &mut S, checkpoint: Checkpoint) -> Result<Opened, Stop>
-    ensures any_moment { IsTrue S.told → (part : Part) (t : Text)
-        → IsSettled S.seen S.may_leave part t checkpoint folder.old
-        → LeavesOnly S.moment S.left_since folder.old folder.new (IsSoundAt part t) }
-    ensures ready { IsTrue S.told → (part : Part) (t : Text)
-        → IsSettled S.seen S.may_leave part t checkpoint folder.old
-        → IfOk result (λ opened. IsReady S.seen S.may_leave part t
-        opened.checkpoint folder.new) }
-    ensures closed { IsTrue S.told → OnOk result
-        ((S.seen folder.new).closed ≡ (S.seen folder.old).closed) }
-    ensures lost { IsTrue S.told → IsLost checkpoint (S.seen folder.old)
-        → IfOk result (λ opened. IsTrue opened.lost × (opened.checkpoint.whole ≡ false)) }
+/// What is opened with a checkpoint. If its report is another one than it says, it then speaks of
+/// what is there.
+fn fitted(checkpoint: Checkpoint, there: Option<ReportMark>) -> Opened
+    ensures same { there ≡ None → result.checkpoint ≡ checkpoint }
+    ensures lost { IsSome there → IsTrue result.lost × (result.checkpoint.whole ≡ false) }
 {
-    match take_up(folder, &checkpoint)? {
-        None => Ok(Opened {
+    match there {
+        None => Opened {
             checkpoint,
             lost: false,
-        }),
-        Some(report) => Ok(Opened {
+        },
+        Some(report) => Opened {
             checkpoint: shortened(checkpoint, report),
             lost: true,
-        }),
+        },
     }
 }
 
@@ -237,9 +228,10 @@ fn resume<S: StateFolder>(
     ensures lost { IsTrue S.told → IsLost checkpoint (S.seen folder.old)
         → IfOk result (λ opened. IsTrue opened.lost × (opened.checkpoint.whole ≡ false)) }
 {
-    let fitted = fit(folder, checkpoint)?;
-    let lost = fitted.lost;
-    let next = with_root(fitted.checkpoint, identity);
+    let there = take_up(folder, &checkpoint)?;
+    let opened = fitted(checkpoint, there);
+    let lost = opened.lost;
+    let next = with_root(opened.checkpoint, identity);
     put_checkpoint(alloc, folder, &next)?;
     Ok(Opened {
         checkpoint: next,

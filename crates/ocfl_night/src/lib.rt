@@ -15,7 +15,7 @@
 //! - A folder whose checkpoint is of another root or part stays as it was, whenever a crash comes.
 //!   So does one of a root that declares no storage root, has another declaration, or lost more
 //!   than half of its names; with `force_root` the last two pass. A night that ends as `Refused`
-//!   has changed nothing.
+//!   has changed nothing, and the reason that it gives holds.
 //! - The report has the lines of a run only if the files that declared the root were there, and the
 //!   same, after it (`slice`).
 //! - A checkpoint has the length, the lines and the digests of the report that it speaks of, and

@@ -1,5 +1,5 @@
 -- What calls did adds up; where a call failed; and files that were opened once each.
-use Rattle.std.proofs.Common.{◌≡◌, ◌⊎◌, inl, inr, ℕ, suc, cond, ◌+◌, List, [], ◌∷◌, ◌++◌, refl, sym, ◌∙◌, ap, subst, Bool, false, map, filter, length, append_assoc, arith, ◌≢◌, ◌≤◌, true}
+use Rattle.std.proofs.Common.{◌≡◌, ◌⊎◌, inl, inr, ℕ, suc, cond, ◌+◌, List, [], ◌∷◌, ◌++◌, refl, sym, ◌∙◌, ap, subst, Bool, false, map, filter, length, append_assoc, arith, ◌≢◌, ◌≤◌, true, Option, Some, None}
 use Rattle.std.proofs.lemmas.List.{append-nil, length-append, map-append}
 use Rattle.std.specs.Prelude.{not, ◌&&◌, AllPairs, is_some}
 use Rattle.ocfl_tree.specs.{Place.{Text, Place}, Ascending.{IsAmong}}
@@ -10,7 +10,7 @@ use Rattle.ocfl_tree.proofs.Stores.{among_either, did_both, did_nothing, listed_
 use Rattle.ocfl_audit.specs.{Zone.{zone}, Lines.{is_hashed}, Due.{hashed_among}}
 use Rattle.ocfl_audit.specs.Trail.{is_meta, content_openings, content_trail, unread_of, heads_of, inventory_of, places_of}
 use Rattle.ocfl_audit.proofs.Trails.{filter_append, none_unread}
-use Rattle.ocfl_item.specs.Looking.{IsFront, failures_by}
+use Rattle.ocfl_item.specs.Looking.{IsFront, failed_place, failures_at, failures_by}
 use Rattle.ocfl_item.specs.Auditing.{Audits, Fails, FailedAt, IsMetadataRead, LiesIn, LieIn, in_listing, in_opening}
 use Rattle.ocfl_item.specs.{HeadFiles.{files_there}, declared.fault.Fault.{Fault}}
 use Rattle.ocfl_item.specs.declared.fault.Fault.TheVariants as fault
@@ -155,15 +155,15 @@ module _ (root : StorageRoot) (s t u : Store) where
     near = near_on root ls ls' os os' h.near k.near;
   }
 
-  pub audits_fail : (ps qs ls ls' hs hs' : List Place) (os os' : List Opening) (why : Fault) → Audits root s t ps ls hs os → Fails root t u qs ls' hs' os' why
-      → Fails root s u (ps ++ qs) (ls ++ ls') (hs ++ hs') (os ++ os') why
-  audits_fail ps qs ls ls' hs hs' os os' why h k = record {
+  pub audits_fail : (ps qs ls ls' hs hs' : List Place) (os os' : List Opening) (failed : Option Place) → Audits root s t ps ls hs os → Fails root t u qs ls' hs' os' failed
+      → Fails root s u (ps ++ qs) (ls ++ ls') (hs ++ hs') (os ++ os') failed
+  audits_fail ps qs ls ls' hs hs' os os' failed h k = record {
     over = h.over;
     did =
-        let both : Did s u (os ++ os') (ls ++ ls') (length (unread_of root os) + (length (unread_of root os') + failures_by why)) =
-        did_both s t u os os' ls ls' (length (unread_of root os)) (length (unread_of root os') + failures_by why) h.did k.did in
+        let both : Did s u (os ++ os') (ls ++ ls') (length (unread_of root os) + (length (unread_of root os') + failures_at failed)) =
+        did_both s t u os os' ls ls' (length (unread_of root os)) (length (unread_of root os') + failures_at failed) h.did k.did in
         let count = unread_count root os os' in
-        let same : length (unread_of root os) + (length (unread_of root os') + failures_by why) ≡ length (unread_of root (os ++ os')) + failures_by why = omega (arith, count) in
+        let same : length (unread_of root os) + (length (unread_of root os') + failures_at failed) ≡ length (unread_of root (os ++ os')) + failures_at failed = omega (arith, count) in
         subst (Did s u (os ++ os') (ls ++ ls')) same both;
     opened = trail_append root os os' ∙ ap (λ l. l ++ content_trail root os') h.opened ∙ ap (λ l. hashed_among root ps ++ l) k.opened ∙ sym (hashed_append root ps qs);
     heads_are = heads_append root os os' ∙ ap (λ l. l ++ heads_of root os') h.heads_are ∙ ap (λ l. hs ++ l) k.heads_are;
@@ -176,17 +176,17 @@ pub audits_nothing : (root : StorageRoot) (s : Store) → s.tree ≡ root → Au
 unfolding hashed_among
 audits_nothing root s over = record { over = over; did = did_nothing s; read = refl; opened = refl; heads_are = refl; near = near_none root [] }
 
-pub fails_nothing : (root : StorageRoot) (s : Store) (why : Fault) → s.tree ≡ root → failures_by why ≡ 0 → ((q : Place) → why ≡ fault.Store q → ⊥) → Fails root s s [] [] [] [] why
+pub fails_nothing : (root : StorageRoot) (s : Store) → s.tree ≡ root → Fails root s s [] [] [] [] None
 unfolding hashed_among
-fails_nothing root s why over none not =
+fails_nothing root s over =
     record {
       over = over;
-      did = (let same : 0 ≡ 0 + failures_by why = omega (arith, none) in subst (Did s s [] []) same (did_nothing s));
+      did = did_nothing s;
       opened =
           refl;
       heads_are = refl;
       near = near_none root [];
-      store = λ q e. absurd (not q e);
+      store = λ q e. absurd cc;
     }
 
 -- if only metadata was read
@@ -196,9 +196,13 @@ unfolding hashed_among
 audits_meta root s t ls hs os over did read meta heads near =
     record { over = over; did = subst (Did s t os ls) (sym (ap length (none_unread root os meta))) did; read = read; opened = meta; heads_are = heads; near = near }
 
+pub failed_store : (why : Fault) (q : Place) → failed_place why ≡ Some q → why ≡ fault.Store q
+failed_store (fault.Store p) q e = let same : p ≡ q = cc in ap fault.Store same
+failed_store fault.Memory q e = absurd cc
+
 pub fails_meta : (root : StorageRoot) (s t : Store) (ls hs : List Place) (os : List Opening) (why : Fault) → s.tree ≡ root → Did s t os ls (failures_by why)
     → content_trail root os ≡ [] → heads_of root os ≡ hs → LieIn root ls os
-    → ((q : Place) → why ≡ fault.Store q → (is_hashed root q ≡ false) × FailedAt root s t ls os q) → Fails root s t [] ls hs os why
+    → ((q : Place) → why ≡ fault.Store q → (is_hashed root q ≡ false) × FailedAt root s t ls os q) → Fails root s t [] ls hs os (failed_place why)
 unfolding hashed_among
 fails_meta root s t ls hs os why over did meta heads near store = record {
   over = over;
@@ -207,7 +211,7 @@ fails_meta root s t ls hs os why over did meta heads near store = record {
   opened = meta;
   heads_are = heads;
   near = near;
-  store = store;
+  store = λ q e. store q (failed_store why q e);
 }
 
 -- ---- beginnings

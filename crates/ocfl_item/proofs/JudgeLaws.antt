@@ -27,7 +27,6 @@ use Rattle.ocfl_audit.proofs.{AuditExists.{some_not_none}, BelowLaws.{place_same
 use Rattle.ocfl_audit.proofs.PathLaws.{hashed_no_meta, hashed_path}
 use Rattle.ocfl_item.proofs.ContentLaws.{IsHashedFile, hashed_file, unhashed_cost}
 use Rattle.ocfl_item.proofs.{AuditingLaws.{near_none}, WantedLaws.{AreWanted}}
-use Rattle.ocfl_item.specs.declared.fault.Fault.TheVariants as fault
 use Rattle.ocfl_tree.proofs.{Orders.{true_not_false}, Stores.{did_nothing}}
 
 -- ---- the lines of a file that some digest is named for
@@ -66,15 +65,12 @@ judged_known root s made over pending unhashed =
       item = item_is root made.place [] None _ 0 refl (ap (lines_at made.place) (sym (pending.lines unhashed))) (unhashed_cost root made.place free);
     }
 
-not_the_store : (q : Place) → fault.Memory ≡ fault.Store q → ⊥
-not_the_store q e = absurd cc
-
 pub nothing_judged : (root : StorageRoot) (s t : Store) (p : Place) → s.tree ≡ root → Did s t [] [] 0 → JudgeFails root s t p
 unfolding hashed_among
 nothing_judged root s t p over did = record {
   trail = [];
   part = false;
-  fails = record { over = over; did = did; opened = refl; heads_are = refl; near = near_none root []; store = λ q e. absurd (not_the_store q e) };
+  fails = record { over = over; did = did; opened = refl; heads_are = refl; near = near_none root []; store = λ q e. absurd cc };
   alone = refl;
 }
 
@@ -126,7 +122,7 @@ module _ (root : StorageRoot) (p : Place) (hashed : is_hashed root p ≡ true) w
           opened = opened_place n failed;
           heads_are = no_head n failed;
           near = opened_near n failed;
-          store = λ q e. absurd (not_the_store q e);
+          store = λ q e. absurd cc;
         };
         alone = sym (hashed_alone root p true hashed);
       }

@@ -15,7 +15,7 @@ use Rattle.ocfl_inventory.specs.{declared.declaration.Level.{Level}, Table.{Tabl
 use Rattle.ocfl_inventory.specs.declared.declaration.Declared.TheVariants as made
 use Rattle.ocfl_inventory.specs.declared.declaration.Level.TheVariants as level
 use Rattle.ocfl_item.specs.{declared.folder.Head.{Head}, Looking.{way_to, IsFront}}
-use Rattle.ocfl_item.specs.Ways.{IsWayFault, Stops, is_listable, Enters, IsHead, InHierarchy, IsObject, is_extensions_name, way_below}
+use Rattle.ocfl_item.specs.Ways.{Stops, is_listable, Enters, IsHead, InHierarchy, IsObject, is_extensions_name, way_below}
 use Rattle.ocfl_item.specs.Internal.Ways.{fault_by, SeekStops, ReadsMeta, ReadsTable, is_file_kind, IsDeclared, head_by, IsOpenObject}
 use Rattle.ocfl_item.specs.declared.folder.Head.TheVariants as head
 use Rattle.ocfl_audit.specs.Zone.{is_entered, object_declared, seen, beginnings, is_known, is_declared}
@@ -71,11 +71,6 @@ list_stops root s t p Memory over l h = record {
   goes = record { over = over; listings = []; did = h.fails.did; read = λ e. refl; listed = (p ∷ [], refl) };
   store = λ q e. absurd (memory_no_store q e);
 }
-
-pub fault_on_way : (p : Place) (trouble : Trouble) → IsWayFault (fault_by p trouble)
-fault_on_way p Device = (λ e. cc, λ e. cc)
-fault_on_way p Absent = (λ e. cc, λ e. cc)
-fault_on_way p Memory = (λ e. cc, λ e. cc)
 
 -- ---- what is seen at the end of the way
 

@@ -1,11 +1,10 @@
 -- What stopped, and what did not fail.
-use Rattle.std.proofs.Common.{◌≡◌, ◌+◌, ◌⊎◌, inl, inr, ◌&&◌, ℕ, Bool, true, false, cond, List, [], ◌∷◌, ◌++◌, length, filter, refl, ap, ◌∙◌}
+use Rattle.std.proofs.Common.{◌≡◌, ◌+◌, ◌⊎◌, inl, inr, ◌&&◌, ℕ, Bool, true, false, cond, List, [], ◌∷◌, ◌++◌, length, filter, refl, ap, ◌∙◌, Some}
 use Rattle.std.proofs.lemmas.Bool.{false≢true}
 use Rattle.ocfl_tree.specs.{Place.{Place}, Ascending.{IsAmong}, StorageRoot.{StorageRoot}}
 use Rattle.ocfl_tree.specs.{Store.{Store}, declared.store.Opening.{Opening}}
 use Rattle.ocfl_audit.specs.{Lines.{is_hashed}, Trail.{is_meta, unread_of}}
 use Rattle.ocfl_item.specs.Auditing.{Audits, Fails, FailedAt, in_listing, in_opening}
-use Rattle.ocfl_item.specs.declared.fault.Fault.TheVariants as fault
 use Rattle.ocfl_item.proofs.AuditingLaws.{audits_well}
 
 none_passes : (test : Opening → Bool) (os : List Opening) → filter test os ≡ [] → (o : Opening) → IsAmong os o → test o ≡ false
@@ -29,10 +28,10 @@ module _ (root : StorageRoot) (s t : Store) (places listed heads : List Place) (
       × ((t.tree ≡ root) × ((t.failed_listings ≡ s.failed_listings) × ((o : Opening) → IsAmong trail o → o.failed ≡ true → is_meta root o.place ≡ false)))
   only_content_failed h = (h.over, (h.did.tree ∙ h.over, (audits_well root s t places listed heads trail h, no_metadata h.read)))
 
-  pub no_hashed_file_stops : (q : Place) → Fails root s t places listed heads trail (fault.Store q) → (is_hashed root q ≡ false) × (t.failures ≡ s.failures + (length (unread_of root trail) + 1))
+  pub no_hashed_file_stops : (q : Place) → Fails root s t places listed heads trail (Some q) → (is_hashed root q ≡ false) × (t.failures ≡ s.failures + (length (unread_of root trail) + 1))
   no_hashed_file_stops q h = ((h.store q refl).0, h.did.failures_are)
 
-  pub last_call_failed : (q : Place) → Fails root s t places listed heads trail (fault.Store q)
+  pub last_call_failed : (q : Place) → Fails root s t places listed heads trail (Some q)
       → ((before : List Place) × ((listed ≡ before ++ q ∷ [])
       × ((t.failed_listings ≡ s.failed_listings ++ q ∷ []) × ((o : Opening) → IsAmong trail o → o.failed ≡ true → is_meta root o.place ≡ false))))
       ⊎ ((before : List Opening) × ((given : ℕ) × ((trail ≡ before ++ record { place = q; given = given; failed = true } ∷ []) × (t.failed_listings ≡ s.failed_listings))))

@@ -1,12 +1,11 @@
 -- What calls above the store did to a store that tells its tree: one record if they succeed, and
 -- one for a fault.
-use Rattle.std.specs.Prelude.{◌≡◌, ◌&&◌, ℕ, ◌+◌, List, [], ◌∷◌, ◌++◌, true, false, filter, length}
+use Rattle.std.specs.Prelude.{◌≡◌, ◌&&◌, ℕ, ◌+◌, List, [], ◌∷◌, ◌++◌, true, false, filter, length, Option, Some}
 use Rattle.ocfl_tree.specs.{Place.{Text, Place}, Ascending.{IsAmong}, StorageRoot.{StorageRoot}}
 use Rattle.ocfl_tree.specs.{Store.{Store, Did}, Calls.{opening}, declared.store.Opening.{Opening}}
 use Rattle.ocfl_audit.specs.{Lines.{is_hashed}, Trail.{is_meta, content_trail, unread_of, heads_of}}
 use Rattle.ocfl_audit.specs.Due.{hashed_among}
-use Rattle.ocfl_item.specs.{Looking.{failures_by}, declared.fault.Fault.{Fault}}
-use Rattle.ocfl_item.specs.declared.fault.Fault.TheVariants as fault
+use Rattle.ocfl_item.specs.Looking.{failures_at}
 
 -- of the declarations, inventories and sidecars that were opened none failed
 abbrev pub IsMetadataRead : StorageRoot → List Opening → Type 0
@@ -38,12 +37,11 @@ pub data FailedAt (root : StorageRoot) (s t : Store) (listed : List Place) (trai
       → FailedAt root s t listed trail q
   in_opening : (before : List Opening) (given : ℕ) → trail ≡ before ++ opening q given true ∷ [] → t.failed_listings ≡ s.failed_listings → FailedAt root s t listed trail q
 
--- the same, and then there was a fault; one of the store names the place at which it failed, which
--- is no hashed file's
-pub record Fails (root : StorageRoot) (s t : Store) (places listed heads : List Place) (trail : List Opening) (why : Fault) : Type 0 where
+-- the same, and then the store failed at a place, which is no hashed file's, or nothing of it did
+pub record Fails (root : StorageRoot) (s t : Store) (places listed heads : List Place) (trail : List Opening) (failed : Option Place) : Type 0 where
   pub over : s.tree ≡ root
-  pub did : Did s t trail listed (length (unread_of root trail) + failures_by why)
+  pub did : Did s t trail listed (length (unread_of root trail) + failures_at failed)
   pub opened : content_trail root trail ≡ hashed_among root places
   pub heads_are : heads_of root trail ≡ heads
   pub near : LieIn root listed trail
-  pub store : (q : Place) → why ≡ fault.Store q → (is_hashed root q ≡ false) × FailedAt root s t listed trail q
+  pub store : (q : Place) → failed ≡ Some q → (is_hashed root q ≡ false) × FailedAt root s t listed trail q

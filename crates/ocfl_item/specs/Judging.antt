@@ -1,11 +1,10 @@
 -- What judging an item does: a content file that is hashed is opened once.
-use Rattle.std.specs.Prelude.{◌≡◌, ◌<◌, ◌≤◌, ◌^◌, ◌+◌, if◌then◌else◌, ℕ, List, [], ◌∷◌, Bool, true, false, length, Some}
+use Rattle.std.specs.Prelude.{◌≡◌, ◌<◌, ◌≤◌, ◌^◌, ◌+◌, if◌then◌else◌, ℕ, List, [], ◌∷◌, Bool, true, false, length, Some, None}
 use Rattle.ocfl_tree.specs.{Place.{Text, Place}, StorageRoot.{StorageRoot, file, at}, Store.{Store}}
 use Rattle.ocfl_tree.specs.declared.store.Opening.{Opening}
 use Rattle.ocfl_report.specs.Line.{Line}
 use Rattle.ocfl_audit.specs.{Trail.{places_of}, Due.{items_at, hashed_among}}
 use Rattle.ocfl_item.specs.Auditing.{Audits, Fails}
-use Rattle.ocfl_item.specs.declared.fault.Fault.TheVariants as fault
 
 -- each file has fewer than 2^62 bytes
 abbrev pub HasShortFiles : StorageRoot → Type 0
@@ -23,7 +22,7 @@ pub record Judges (root : StorageRoot) (s t : Store) (p : Place) (lines : List L
 pub record JudgeFails (root : StorageRoot) (s t : Store) (p : Place) : Type 0 where
   pub trail : List Opening
   pub part : Bool
-  pub fails : Fails root s t (if part then p ∷ [] else []) [] [] trail fault.Memory
+  pub fails : Fails root s t (if part then p ∷ [] else []) [] [] trail None
   pub alone : places_of trail ≡ (if part then hashed_among root (p ∷ []) else [])
 
 -- what an item may cost on every store

@@ -1,5 +1,5 @@
 -- The way to a place; the front of a list; which faults are failures.
-use Rattle.std.specs.Prelude.{◌≡◌, ℕ, List, [], ◌∷◌, ◌++◌}
+use Rattle.std.specs.Prelude.{◌≡◌, ℕ, List, [], ◌∷◌, ◌++◌, Option, Some, None}
 use Rattle.ocfl_tree.specs.Place.{Place}
 use Rattle.ocfl_audit.specs.Zone.{beginnings}
 use Rattle.ocfl_item.specs.declared.fault.Fault.{Fault}
@@ -13,9 +13,15 @@ way_to p = beginnings p ++ p ∷ []
 abbrev pub IsFront : {A : Type 0} → List A → List A → Type 0
 IsFront {A = A} front whole = (rest : List A) × (whole ≡ front ++ rest)
 
--- a fault of the store is one failure
+-- the place at which the store failed
+abbrev pub failed_place : Fault → Option Place
+failed_place (fault.Store q) = Some q
+failed_place fault.Memory = None
+
+-- that is one failure
+abbrev pub failures_at : Option Place → ℕ
+failures_at (Some q) = 1
+failures_at None = 0
+
 abbrev pub failures_by : Fault → ℕ
-failures_by (fault.Store q) = 1
-failures_by fault.Memory = 0
-failures_by fault.Output = 0
-failures_by fault.Broken = 0
+failures_by why = failures_at (failed_place why)

@@ -1,5 +1,5 @@
 -- The way down to a place: what is known of a directory on it, and what was done to come there.
-use Rattle.std.specs.Prelude.{◌≡◌, ◌≢◌, ℕ, ◌&&◌, nat_le, length, List, [], ◌∷◌, ◌++◌, Bool, true, false, Option, Some, None, codes}
+use Rattle.std.specs.Prelude.{◌≡◌, ℕ, ◌&&◌, nat_le, length, List, [], ◌∷◌, ◌++◌, Bool, true, false, Option, Some, None, codes}
 use Rattle.std.specs.List.{list_all}
 use Rattle.ocfl_tree.specs.{Place.{Text, Place, text_eq}, StorageRoot.{StorageRoot, is_dir}}
 use Rattle.ocfl_tree.specs.{Store.{Store, Did}, Listing.{IsListing}, declared.store.Entry.{Entry}}
@@ -19,10 +19,6 @@ way_below d [] = []
 way_below d (n ∷ p) = (d ++ n ∷ []) ∷ way_below (d ++ n ∷ []) p
 
 -- ---- what was done
-
--- a fault that is met on the way
-abbrev pub IsWayFault : Fault → Type 0
-IsWayFault why = (why ≢ fault.Output) × (why ≢ fault.Broken)
 
 -- from s to t the first directories of a way were listed, and these files were opened
 pub record Goes (root : StorageRoot) (s t : Store) (way : List Place) (trail : List Opening) (failures : ℕ) : Type 0 where

@@ -1,5 +1,5 @@
 //! The storage root: its lines, and its listing if it is entered.
-ghost use Rattle.std.specs.Prelude.{◌≡◌, ◌∷◌, [], false, IfOk, IfErr};
+ghost use Rattle.std.specs.Prelude.{◌≡◌, ◌∷◌, [], false, IfOk};
 ghost use Rattle.ocfl_tree.specs.{StorageRoot.{StorageRoot}, Store.{IfTold}};
 ghost use Rattle.ocfl_inventory.specs.Note.{plain};
 ghost use Rattle.ocfl_inventory.specs.Declaration.{declaration_name as declaration_name_of, known};
@@ -8,7 +8,7 @@ ghost use Rattle.ocfl_audit.specs.{Zone.{is_known}, Head.{root_notes_by}};
 ghost use Rattle.ocfl_inventory.specs.declared.declaration.Level.TheVariants as level;
 ghost use Rattle.ocfl_item.specs.{HeadFiles.{OpensJust}, Internal.HeadFiles.{IsFileAt}};
 ghost use Rattle.ocfl_item.specs.{Pending.{IsPending}, Meeting.{IsFairVisit, Visits}};
-ghost use Rattle.ocfl_item.specs.{Internal.Visiting.{IsBase}, Ways.{IsWayFault}};
+ghost use Rattle.ocfl_item.specs.Internal.Visiting.{IsBase};
 
 use crate::declarations::{is_exact, stopped_lines};
 use crate::fault::Fault;
@@ -38,7 +38,6 @@ fn known_code(version: Version, declaration: &Option<Bounded>) -> Code
 
 /// The item of a storage root of known version.
 fn known_item<T: Tree>(store: &mut T, folder: &Folder, version: Version) -> Result<Pending, Fault>
-    ensures only { IfErr result (λ why. IsWayFault why) }
     ensures place { IfOk result (λ item. item.place ≡ folder.now.place) }
     ensures told { IfTold T.told (T.state store.old) (λ root.
         IsBase root folder.now.place folder.now.entries.items (Declared.One version)
@@ -68,7 +67,6 @@ fn stopped_item(folder: &Folder, declared: Declared) -> Result<Pending, AllocErr
 
 /// The storage root as the walk meets it (OCFL 1.1, 4 OCFL Storage Root).
 pub fn visit_base<T: Tree>(alloc: Global, store: &mut T) -> Result<Visit, Fault>
-    ensures only { IfErr result (λ why. IsWayFault why) }
     ensures fair { IfOk result (λ v. IsFairVisit [] v) }
     ensures told { IfTold T.told (T.state store.old) (λ root.
         Visits root (T.state store.old) (T.state store.new) [] result) }

@@ -12,10 +12,6 @@ pub enum Fault {
     Store(Place),
     /// Memory was refused.
     Memory,
-    /// The output failed.
-    Output,
-    /// The walk had failed before.
-    Broken,
 }
 
 impl From<AllocError> for Fault {

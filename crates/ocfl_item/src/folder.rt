@@ -1,11 +1,11 @@
 //! Directories as a store lists them, from the storage root down.
-ghost use Rattle.std.specs.Prelude.{◌≡◌, ◌&&◌, ◌∷◌, [], nat_le, suc, length, true, IfOk, IfErr};
+ghost use Rattle.std.specs.Prelude.{◌≡◌, ◌&&◌, ◌∷◌, [], nat_le, suc, length, true, IfOk};
 ghost use Rattle.std.specs.Prelude.{MatchResult, codes, nat_eq};
 ghost use Rattle.ocfl_tree.specs.{Place.{text_eq}, Listing.{IsOrdinary, kind_in}, Store.{IfTold}};
 ghost use Rattle.ocfl_inventory.specs.Declaration.{declared as declared_by_files};
 ghost use Rattle.ocfl_inventory.specs.Entries.{file_names};
 ghost use Rattle.ocfl_audit.specs.Zone.{max_listed_depth};
-ghost use Rattle.ocfl_item.specs.Ways.{IsWayFault, Stops, Enters, IsHead, is_extensions_name};
+ghost use Rattle.ocfl_item.specs.Ways.{Stops, Enters, IsHead, is_extensions_name};
 ghost use Rattle.ocfl_item.specs.Ways.{is_dir_kind, is_listable};
 ghost use Rattle.ocfl_item.specs.Internal.Ways.{fault_by, head_by as head_by_declared};
 
@@ -76,7 +76,6 @@ pub(crate) fn fault_at(place: Place, trouble: Trouble) -> Fault
 
 /// Lists a directory that is there.
 pub fn list<T: Tree>(store: &mut T, place: Place) -> Result<Folder, Fault>
-    ensures only { IfErr result (λ why. IsWayFault why) }
     ensures place { IfOk result (λ folder. folder.place ≡ place) }
     ensures ordinary { IfOk result (λ folder. IsOrdinary folder.entries.items) }
     ensures told { IfTold T.told (T.state store.old) (λ root.

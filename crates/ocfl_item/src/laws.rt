@@ -1,13 +1,11 @@
 //! What calls did adds up, what stopped them, and which files are short.
-ghost use Rattle.std.specs.Prelude.{◌≡◌, ◌↔◌, ◌⊎◌, ◌<◌, ◌+◌, ◌++◌, ◌∷◌, [], ℕ, List, Some, length};
+ghost use Rattle.std.specs.Prelude.{◌≡◌, ◌↔◌, ◌⊎◌, ◌<◌, ◌+◌, ◌++◌, ◌∷◌, [], ℕ, List, Option, Some, length};
 ghost use Rattle.std.specs.Prelude.{true, false};
 ghost use Rattle.ocfl_tree.specs.{Place.{Place, Text}, Ascending.{IsAmong}, Store.{Store}};
 ghost use Rattle.ocfl_tree.specs.StorageRoot.{StorageRoot, file_at};
 ghost use Rattle.ocfl_tree.specs.declared.store.Opening.{Opening};
 ghost use Rattle.ocfl_audit.specs.{Lines.{is_hashed}, Trail.{is_meta, unread_of}};
 ghost use Rattle.ocfl_item.specs.{Auditing.{Audits, Fails}, Judging.{HasShortFiles}};
-ghost use Rattle.ocfl_item.specs.declared.fault.Fault.{Fault};
-ghost use Rattle.ocfl_item.specs.declared.fault.Fault.TheVariants as fault;
 
 /// What calls did adds up, one after the other, up to a fault.
 #[tactic(auto, using(crate::proofs::AuditingLaws::audits_on, crate::proofs::AuditingLaws::audits_fail))]
@@ -16,9 +14,9 @@ pub fn calls_add_up()
         (os rs : List Opening) → Audits root s t ps ls hs os → Audits root t u qs ms gs rs
         → Audits root s u (ps ++ qs) (ls ++ ms) (hs ++ gs) (os ++ rs) }
     ensures fail { (root : StorageRoot) (s t u : Store) (ps qs ls ms hs gs : List Place)
-        (os rs : List Opening) (why : Fault) → Audits root s t ps ls hs os
-        → Fails root t u qs ms gs rs why → Fails root s u (ps ++ qs) (ls ++ ms) (hs ++ gs)
-        (os ++ rs) why }
+        (os rs : List Opening) (failed : Option Place) → Audits root s t ps ls hs os
+        → Fails root t u qs ms gs rs failed → Fails root s u (ps ++ qs) (ls ++ ms) (hs ++ gs)
+        (os ++ rs) failed }
 {}
 
 /// Unless calls stopped, only content failed, and no listing. A stop at a place counts one failure
@@ -32,12 +30,12 @@ pub fn stops_name_the_call_that_failed()
         × ((o : Opening) → IsAmong trail o → o.failed ≡ true → is_meta root o.place ≡ false))) }
     ensures counted { (root : StorageRoot) (s t : Store) (places listed heads : List Place)
         (trail : List Opening) (q : Place)
-        → Fails root s t places listed heads trail (fault.Store q)
+        → Fails root s t places listed heads trail (Some q)
         → (is_hashed root q ≡ false)
         × (t.failures ≡ s.failures + (length (unread_of root trail) + 1)) }
     ensures place { (root : StorageRoot) (s t : Store) (places listed heads : List Place)
         (trail : List Opening) (q : Place)
-        → Fails root s t places listed heads trail (fault.Store q)
+        → Fails root s t places listed heads trail (Some q)
         → ((before : List Place) × ((listed ≡ before ++ q ∷ [])
         × ((t.failed_listings ≡ s.failed_listings ++ q ∷ []) × ((o : Opening)
         → IsAmong trail o → o.failed ≡ true → is_meta root o.place ≡ false))))

@@ -5,7 +5,7 @@ ghost use Rattle.ocfl_tree.specs.Store.{IfTold};
 ghost use Rattle.ocfl_inventory.specs.{Table.{named as digests_of}, TripleView.{named_view}};
 ghost use Rattle.ocfl_audit.specs.Zone.{seen};
 ghost use Rattle.ocfl_item.specs.Around.{IsMet, IsNamedIn, IsTableAround};
-ghost use Rattle.ocfl_item.specs.{Meeting.{IsFairVisit, IsItemAt, Visits}, Ways.{IsWayFault}};
+ghost use Rattle.ocfl_item.specs.Meeting.{IsFairVisit, IsItemAt, Visits};
 
 use crate::content::content_item_at;
 use crate::fault::Fault;
@@ -43,7 +43,6 @@ pub fn visit_entry<T: Tree>(
     place: Place,
     entry: &Entry,
 ) -> Result<Visit, Fault>
-    ensures only { IfErr result (λ why. IsWayFault why) }
     ensures fair { IfOk result (λ v. IsFairVisit place v) }
     ensures told { IfTold T.told (T.state store.old) (λ root.
         (d : ModelPlace) → IsMet root d around.now entry.now place

@@ -1,6 +1,6 @@
 //! An object's own files: its declaration, its inventory and the sidecars. They are read for its
 //! head with its table, or for the table alone; a file of the storage root is read in the same way.
-ghost use Rattle.std.specs.Prelude.{◌≡◌, ◌∷◌, ◌++◌, [], true, false, IfErr, IfOk, IfSome};
+ghost use Rattle.std.specs.Prelude.{◌≡◌, ◌∷◌, ◌++◌, [], true, false, IfOk, IfSome};
 ghost use Rattle.std.specs.Prelude.{MatchOption, MatchResult, OnOk, not};
 ghost use Rattle.ocfl_tree.specs.{StorageRoot.{file_at}, Listing.{IsListing, kind_in}};
 ghost use Rattle.ocfl_tree.specs.Store.{IfTold};
@@ -18,7 +18,7 @@ ghost use Rattle.ocfl_item.specs.HeadFiles.{FilesStop, OpensJust, ReadsFiles};
 ghost use Rattle.ocfl_item.specs.Internal.HeadFiles.{IsFileAt, ReadsFile, head_files};
 ghost use Rattle.ocfl_item.specs.Internal.HeadFiles.{inventory_files, table_in};
 ghost use Rattle.ocfl_item.specs.Internal.Lines.{Adds};
-ghost use Rattle.ocfl_item.specs.Ways.{IsObject, IsWayFault};
+ghost use Rattle.ocfl_item.specs.Ways.{IsObject};
 ghost use Rattle.ocfl_item.specs.Internal.Ways.{IsDeclared, IsHeadOf, IsListedObject, is_file_kind};
 
 use crate::declarations::stopped_lines;
@@ -74,7 +74,6 @@ pub(crate) fn read_file<T: Tree>(
     name: &str,
     limit: usize,
 ) -> Result<Option<Bounded>, Fault>
-    ensures only { IfErr result (λ why. IsWayFault why) }
     ensures told { IfTold T.told (T.state store.old) (λ root.
         IsListing root folder.now.place folder.now.entries.items
         → is_meta root (folder.now.place ++ name.now ∷ []) ≡ true
@@ -92,7 +91,6 @@ pub(crate) fn read_file<T: Tree>(
 
 /// What the sidecars hold that are there.
 fn read_sidecars<T: Tree>(store: &mut T, folder: &Folder) -> Result<Sidecars, Fault>
-    ensures only { IfErr result (λ why. IsWayFault why) }
     ensures told { IfTold T.told (T.state store.old) (λ root.
         IsListedObject root folder.now.place folder.now.entries.items
         → MatchResult result
@@ -114,7 +112,6 @@ fn add_inventory_file<T: Tree>(
     folder: &Folder,
     lines: &mut PlaceLines,
 ) -> Result<Option<Table>, Fault>
-    ensures only { IfErr result (λ why. IsWayFault why) }
     ensures fit { IfOk result (λ table. IfSome table (λ t. IsFit t)) }
     ensures place { OnOk result (lines.new.place ≡ lines.old.place) }
     ensures told { IfTold T.told (T.state store.old) (λ root.
@@ -152,7 +149,6 @@ fn add_declaration_file<T: Tree>(
     lines: &mut PlaceLines,
     version: Version,
 ) -> Result<(), Fault>
-    ensures only { IfErr result (λ why. IsWayFault why) }
     ensures place { OnOk result (lines.new.place ≡ lines.old.place) }
     ensures told { IfTold T.told (T.state store.old) (λ root.
         IsListedObject root folder.now.place folder.now.entries.items
@@ -179,7 +175,6 @@ pub(crate) fn head_lines<T: Tree>(
     folder: &Folder,
     declared: Declared,
 ) -> Result<(PlaceLines, Option<Table>), Fault>
-    ensures only { IfErr result (λ why. IsWayFault why) }
     ensures fit { IfOk result (λ p. IfSome p.1 (λ t. IsFit t)) }
     ensures place { IfOk result (λ p. p.0.place ≡ folder.now.place) }
     ensures told { IfTold T.told (T.state store.old) (λ root.
@@ -217,7 +212,6 @@ pub fn table_of_object<T: Tree>(
     store: &mut T,
     folder: &Folder,
 ) -> Result<Option<Table>, Fault>
-    ensures only { IfErr result (λ why. IsWayFault why) }
     ensures told { IfTold T.told (T.state store.old) (λ root.
         IsObject root folder.now.place folder.now.entries.items
         → IfOk result (λ table. table ≡ table_at root folder.now.place)) }

@@ -6,7 +6,7 @@ ghost use Rattle.ocfl_inventory.specs.{Note.{plain}, Table.{Table as TableOf, na
 ghost use Rattle.ocfl_inventory.specs.TripleView.{named_view};
 ghost use Rattle.ocfl_audit.specs.Zone.{is_listed_zone, max_listed_depth, zone};
 ghost use Rattle.ocfl_audit.specs.{Lines.{listed_dir_notes}, Walk.{seen_names}};
-ghost use Rattle.ocfl_item.specs.{Ways.{IsWayFault}, Internal.Ways.{IsDeclared}};
+ghost use Rattle.ocfl_item.specs.Internal.Ways.{IsDeclared};
 ghost use Rattle.ocfl_item.specs.Internal.Content.{IsSight, content_at};
 ghost use Rattle.ocfl_item.specs.Meeting.{IsFairVisit, IsVisit, Visits};
 ghost use Rattle.ocfl_item.specs.Internal.Visiting.{HasRole, IsDirectoryAt, IsEntryAt, IsListedAt};
@@ -78,7 +78,6 @@ fn visit_plain(alloc: Global, place: Place, code: Code) -> Result<Visit, Fault>
 
 /// A directory that is listed, whether it is empty or not.
 fn visit_listed<T: Tree>(alloc: Global, store: &mut T, place: Place) -> Result<Visit, Fault>
-    ensures only { IfErr result (λ why. IsWayFault why) }
     ensures fair { IfOk result (λ v. IsFairVisit place v) }
     ensures told { IfTold T.told (T.state store.old) (λ root.
         IsListedAt root place → IsPlainAt root place (listed_dir_notes root place [])
@@ -93,7 +92,6 @@ fn visit_listed<T: Tree>(alloc: Global, store: &mut T, place: Place) -> Result<V
 
 /// An object: its head, and what is below if that does not stop.
 fn visit_object<T: Tree>(store: &mut T, folder: Folder, declared: Declared) -> Result<Visit, Fault>
-    ensures only { IfErr result (λ why. IsWayFault why) }
     ensures fair { length folder.place ≤ max_listed_depth → IsOrdinary folder.entries.items
         → IfOk result (λ v. IsFairVisit folder.place v) }
     ensures told { IfTold T.told (T.state store.old) (λ root.
@@ -129,7 +127,6 @@ fn visit_undeclared(folder: Folder) -> Result<Visit, Fault>
 
 /// A directory of the storage hierarchy, or an object in it.
 fn visit_directory<T: Tree>(alloc: Global, store: &mut T, place: Place) -> Result<Visit, Fault>
-    ensures only { IfErr result (λ why. IsWayFault why) }
     ensures fair { IfOk result (λ v. IsFairVisit place v) }
     ensures told { IfTold T.told (T.state store.old) (λ root.
         IsDirectoryAt root place
@@ -152,7 +149,6 @@ pub(crate) fn visit_by_role<T: Tree>(
     place: Place,
     role: Role,
 ) -> Result<Visit, Fault>
-    ensures only { IfErr result (λ why. IsWayFault why) }
     ensures fair { IfOk result (λ v. IsFairVisit place v) }
     ensures told { IfTold T.told (T.state store.old) (λ root.
         HasRole root place role
@@ -190,7 +186,6 @@ fn visit_content_directory<T: Tree>(
     place: Place,
     named: Vec<Named>,
 ) -> Result<Visit, Fault>
-    ensures only { IfErr result (λ why. IsWayFault why) }
     ensures fair { IfOk result (λ v. IsFairVisit place v) }
     ensures told { IfTold T.told (T.state store.old) (λ root.
         IsListedAt root place → (t : TableOf) (q : ModelPlace)
@@ -218,7 +213,6 @@ pub(crate) fn visit_in_content<T: Tree>(
     entry: &Entry,
     named: Vec<Named>,
 ) -> Result<Visit, Fault>
-    ensures only { IfErr result (λ why. IsWayFault why) }
     ensures fair { IfOk result (λ v. IsFairVisit place v) }
     ensures told { IfTold T.told (T.state store.old) (λ root.
         IsEntryAt root place entry.now.kind → is_listed_zone root (zone root place) ≡ true

@@ -1,10 +1,7 @@
 use Rattle.std.proofs.Common.{sym, subst}
-use Rattle.ocfl_item.specs.Ways.{IsWayFault, Stops}
-use Rattle.ocfl_item.proofs.LooksCalls.{list_stops, fault_on_way}
+use Rattle.ocfl_item.specs.Ways.{Stops}
+use Rattle.ocfl_item.proofs.LooksCalls.{list_stops}
 use Rattle.ocfl_item.proofs.folder.list.Goals as goal
-
-pub returns-in-Err-clause-only : goal.returns-in-Err-clause-only
-returns-in-Err-clause-only g c = subst IsWayFault (sym c.fault_at.ensures) (fault_on_way c.args.place c.in-Err.trouble)
 
 pub returns-in-Err-clause-told : goal.returns-in-Err-clause-told
 returns-in-Err-clause-told g c = λ h root over l.

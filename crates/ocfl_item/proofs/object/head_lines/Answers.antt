@@ -11,7 +11,6 @@ returns-in_err-lines-clause-opened g c = λ h root over here.
 
 pub returns-in_default : goal.returns-in_default
 returns-in_default g c = record {
-  only = tt;
   fit = tt;
   place = c.in_ok-lines.ensures.place;
   told = λ h root over here.
@@ -47,7 +46,6 @@ returns-in_err-add_clean-clause-opened g c = λ h root over here.
 
 pub returns : goal.returns
 returns g c = record {
-  only = tt;
   fit = c.in_ok-table.ensures.fit;
   place = c.in_ok-add_clean.ensures.place ∙ c.in_ok-table.ensures.place ∙ c.in_ok-add_declaration_file.ensures.place ∙ c.new-lines.ensures.place ∙ c.in_ok-try_clone.ensures;
   told = λ h root over here.

@@ -22,7 +22,6 @@ use Rattle.ocfl_item.specs.{Judging.{HasShortFiles, Judges, JudgeFails}, Pending
 use Rattle.ocfl_item.specs.{PlaceLines.{lines_of}, Internal.Lines.{HasLines}}
 use Rattle.ocfl_item.specs.declared.lines.PlaceLines.{PlaceLines}
 use Rattle.ocfl_item.specs.{declared.pending.Pending.{Pending}, Auditing.{IsMetadataRead, LieIn}}
-use Rattle.ocfl_item.specs.declared.fault.Fault.{Fault}
 use Rattle.ocfl_audit.proofs.{AuditExists.{some_not_none}, BelowLaws.{place_same}}
 use Rattle.ocfl_audit.proofs.PathLaws.{hashed_no_meta, hashed_path}
 use Rattle.ocfl_item.proofs.ContentLaws.{IsHashedFile, hashed_file, unhashed_cost}
@@ -244,7 +243,7 @@ module _ (root : StorageRoot) (s t : Store) (made : Pending) (over : s.tree ≡ 
   abbrev names : List Named
   names = map named_view made.named.items
 
-  abbrev IsJudged : Result Made Fault → Type 0
+  abbrev IsJudged : {E : Type 0} → Result Made E → Type 0
   IsJudged r = MatchResult r (λ j. Judges root s t made.place (lines_of j.0) j.1) (λ why. JudgeFails root s t made.place)
 
   module _ (j : Made) (placed : j.0.place ≡ made.place) where
@@ -253,18 +252,18 @@ module _ (root : StorageRoot) (s t : Store) (made : Pending) (over : s.tree ≡ 
 
     whole_is : (read : Digests × ℕ) → HashesFile root s t made.place w read.0 read.1 → j.1 ≡ read.1 + 1
         → ((bytes : Text) → HasDigests (map (λ m. m.algorithm) made.named.items) bytes read.0 → read.1 ≡ length bytes
-        → HasLines j.0 (or_bytes bytes (unnamed_notes names ++ wrong_notes bytes names))) → IsJudged (Ok j)
+        → HasLines j.0 (or_bytes bytes (unnamed_notes names ++ wrong_notes bytes names))) → Judges root s t made.place (lines_of j.0) j.1
     whole_is read h costs are =
         subst (Judges root s t made.place (lines_of j.0)) (sym costs)
         (judged_whole root s t made over pending hashed w read.0 read.1 made.named.items (lines_of j.0) refl wanted h (λ bytes has count. lines_are _ (are bytes has count)))
 
     part_is : (stop : ReadStop) → StopsHashing root s t made.place stop.bytes stop.cause → j.1 ≡ stop.bytes + 1 → stop.cause ≢ Memory
-        → HasLines j.0 (unnamed_notes names ++ plain S08 ∷ []) → IsJudged (Ok j)
+        → HasLines j.0 (unnamed_notes names ++ plain S08 ∷ []) → Judges root s t made.place (lines_of j.0) j.1
     part_is stop h costs kept are =
         subst (Judges root s t made.place (lines_of j.0)) (sym costs)
         (judged_part root s t made over pending hashed short stop.bytes stop.cause made.named.items (lines_of j.0) refl h kept (lines_are _ are))
 
-  pub judged_is : (read : Result (Digests × ℕ) ReadStop) (r : Result Made Fault) → Read root s t made.place w read → IfOk r (λ j. j.0.place ≡ made.place)
+  pub judged_is : {E : Type 0} (read : Result (Digests × ℕ) ReadStop) (r : Result Made E) → Read root s t made.place w read → IfOk r (λ j. j.0.place ≡ made.place)
       → IfOk r (λ j. j.1 ≡ given_in read + 1)
       → IfErr read (λ stop. stop.cause ≡ Memory → IfOk r (λ j. ⊥))
       → IfOk read (λ h. (bytes : Text) → HasDigests (map (λ m. m.algorithm) made.named.items) bytes h.0 → h.1 ≡ length bytes

@@ -9,26 +9,24 @@ ghost use Rattle.ocfl_item.specs.Internal.Lines.{HasLines};
 ghost use Rattle.ocfl_item.specs.Judging.{CostFits, HasShortFiles, JudgeFails, Judges};
 ghost use Rattle.ocfl_item.specs.{Pending.{IsPending}, PlaceLines.{lines_of}};
 
-use crate::fault::Fault;
 use crate::file_lines::{hashed_lines, unread_lines};
 use crate::lines::PlaceLines;
 use crate::pending::Pending;
 use ocfl_digest::{Block, Cause, Digests, ReadStop, hash_open};
 use ocfl_report::Code;
 use ocfl_tree::Tree;
-use std::alloc::Global;
+use std::alloc::{AllocError, Global};
 
 /// The lines of an item whose file was read, and its cost, by what came of that.
 fn judged(
     alloc: Global,
     pending: Pending,
     read: Result<(Digests, u64), ReadStop>,
-) -> Result<(PlaceLines, u64), Fault>
+) -> Result<(PlaceLines, u64), AllocError>
     requires short { IfOk read (λ hashed. hashed.1 < 2 ^ 62) }
     requires given { IfErr read (λ stop. stop.bytes ≤ 2 ^ 62) }
     ensures place { IfOk result (λ judged. judged.0.place ≡ pending.place) }
     ensures cost { IfOk result (λ judged. judged.1 ≡ given_in read + 1) }
-    ensures only { IfErr result (λ why. why ≡ Fault.Memory) }
     ensures refused { IfErr read (λ stop. stop.cause ≡ Cause.Memory → IfOk result (λ _. ⊥)) }
     ensures whole { IfOk read (λ hashed. (bytes : Text)
         → HasDigests (map (λ n. n.algorithm) pending.named.items) bytes hashed.0
@@ -45,7 +43,7 @@ fn judged(
             let lines = hashed_lines(alloc, pending.place, &pending.named, &digests, count)?;
             Ok((lines, count + 1))
         }
-        Err(stop) if stop.cause == Cause::Memory => Err(Fault::Memory),
+        Err(stop) if stop.cause == Cause::Memory => Err(AllocError),
         Err(stop) => {
             let lines = unread_lines(alloc, pending.place, &pending.named)?;
             Ok((lines, stop.bytes + 1))
@@ -57,17 +55,16 @@ fn judged(
 ///
 /// A hashed file is opened once, read to its end, and costs one more than the bytes that it gave;
 /// if it cannot be read on, a line says so. Every other item costs 0, and the store is not
-/// asked. The only fault is running out of memory.
+/// asked. `AllocError` if memory was refused.
 pub fn judge<T: Tree>(
     alloc: Global,
     store: &mut T,
     pending: Pending,
     block: &mut Block,
-) -> Result<(PlaceLines, u64), Fault>
+) -> Result<(PlaceLines, u64), AllocError>
     // Of every store.
     ensures place { IfOk result (λ judged. judged.0.place ≡ pending.place) }
     ensures cost { IfOk result (λ judged. CostFits pending.hashed judged.1) }
-    ensures only_memory { IfErr result (λ why. why ≡ Fault.Memory) }
     ensures unasked { pending.hashed ≡ false → store.new ≡ store.old }
 
     // Of a store that tells its tree.

@@ -3,7 +3,6 @@ use Rattle.std.specs.Prelude.{IfErr, IfOk, Result, Ok, Err}
 use Rattle.ocfl_digest.specs.{declared.digests.Digests.{Digests}, declared.stop.ReadStop.{ReadStop}}
 use Rattle.ocfl_tree.proofs.Orders.{true_not_false}
 use Rattle.ocfl_item.specs.{Internal.FileLines.{given_in}, Judging.{CostFits}}
-use Rattle.ocfl_item.specs.declared.fault.Fault.{Fault}
 use Rattle.ocfl_item.proofs.JudgeLaws.{judged_is, judged_known, read_closed, read_largest}
 use Rattle.ocfl_item.proofs.judging.judge.Goals as goal
 
@@ -19,7 +18,7 @@ few_given : (read : Result (Digests × ℕ) ReadStop) → IfOk read (λ h. h.1 <
 few_given (Ok h) short few = omega (arith, short)
 few_given (Err stop) short few = few
 
-judged_fits : {X : Type 0} (hashed : Bool) (given : ℕ) (r : Result (X × ℕ) Fault) → hashed ≡ true → given ≤ 2 ^ 62 → IfOk r (λ j. j.1 ≡ given + 1) → IfOk r (λ j. CostFits hashed j.1)
+judged_fits : {X E : Type 0} (hashed : Bool) (given : ℕ) (r : Result (X × ℕ) E) → hashed ≡ true → given ≤ 2 ^ 62 → IfOk r (λ j. j.1 ≡ given + 1) → IfOk r (λ j. CostFits hashed j.1)
 judged_fits hashed given (Ok j) is few cost = subst (CostFits hashed) (sym cost) (hashed_fits hashed given is few)
 judged_fits hashed given (Err why) is few cost = tt
 

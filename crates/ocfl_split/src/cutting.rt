@@ -1,8 +1,7 @@
 //! Cutting a level of the storage hierarchy at equal distances.
-ghost use Rattle.std.specs.Prelude.{◌≡◌, ◌++◌, ◌∷◌, ◌-◌, ◌≤◌, [], length, IsTrue, IfOk, IfErr, OnOk, MatchResult};
+ghost use Rattle.std.specs.Prelude.{◌≡◌, ◌++◌, ◌∷◌, ◌-◌, ◌≤◌, [], length, IsTrue, IfOk, OnOk, MatchResult};
 ghost use Rattle.ocfl_tree.specs.{Ascending.{IsAscending}, Place.{place_cmp}};
 ghost use Rattle.ocfl_tree.specs.{StorageRoot.{StorageRoot}, Store.{IfTold}};
-ghost use Rattle.ocfl_item.specs.Ways.{IsWayFault};
 ghost use Rattle.ocfl_parts.specs.Separators.{AreSeparators};
 ghost use Rattle.ocfl_split.specs.Splitting.{ListsAll, ListsStop, cut_evenly, listed_for, max_held, separators_of};
 
@@ -63,7 +62,6 @@ fn cut(alloc: Global, level: &[Place], count: usize) -> Result<Separators, Alloc
 /// `Store` if a directory could not be listed, with its place. `Memory` if memory was
 /// refused.
 pub fn split<T: Tree>(alloc: Global, store: &mut T, count: usize) -> Result<Separators, Fault>
-    ensures only { IfErr result (λ why. IsWayFault why) }
     ensures few { IfOk result (λ separators. length separators ≤ count - 1) }
     ensures told { IfTold T.told (T.state store.old) (λ root.
         MatchResult result

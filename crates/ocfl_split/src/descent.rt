@@ -1,8 +1,7 @@
 //! Going down the storage hierarchy, level by level.
-ghost use Rattle.std.specs.Prelude.{◌≡◌, ◌≤◌, ℕ, ◌+◌, ◌∷◌, [], length, IsTrue, IfOk, IfErr, IfSome, MatchResult};
+ghost use Rattle.std.specs.Prelude.{◌≡◌, ◌≤◌, ℕ, ◌+◌, ◌∷◌, [], length, IsTrue, IfOk, IfSome, MatchResult};
 ghost use Rattle.std.specs.Option.{option_map};
 ghost use Rattle.ocfl_tree.specs.{StorageRoot.{StorageRoot}, Store.{IfTold}};
-ghost use Rattle.ocfl_item.specs.Ways.{IsWayFault};
 ghost use Rattle.ocfl_split.specs.Splitting.{ListsAll, ListsStop, max_held, split_level as level_to_split, listed_for, next_level as level_after, listed_within, kept, wider as wider_level};
 ghost use Rattle.ocfl_split.specs.Internal.Directories.{IsLevel, AreListable};
 
@@ -24,7 +23,6 @@ fn next_level<T: Tree>(
     level: &[Place],
     room: usize,
 ) -> Result<Option<Vec<Place>>, Fault>
-    ensures only { IfErr result (λ why. IsWayFault why) }
     ensures fair { room ≤ max_held → IfOk result (λ next. IfSome next (λ places. (depth : ℕ)
         → IsLevel depth level.now → IsLevel (depth + 1) places.items)) }
     ensures told { IfTold T.told (T.state store.old) (λ root.
@@ -83,7 +81,6 @@ pub(crate) fn split_level<T: Tree>(
     store: &mut T,
     count: usize,
 ) -> Result<Vec<Place>, Fault>
-    ensures only { IfErr result (λ why. IsWayFault why) }
     ensures fair { IfOk result (λ level. (depth : ℕ) × IsLevel depth level.items) }
     ensures told { IfTold T.told (T.state store.old) (λ root.
         MatchResult result

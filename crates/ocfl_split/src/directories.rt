@@ -1,9 +1,9 @@
 //! The directories of the storage hierarchy right below one, and those of a whole level.
-ghost use Rattle.std.specs.Prelude.{◌≡◌, ◌≤◌, ◌<◌, ◌++◌, ◌∷◌, [], IsTrue, IfOk, IfErr, length, IsPermutation, true, false, MatchResult};
+ghost use Rattle.std.specs.Prelude.{◌≡◌, ◌≤◌, ◌<◌, ◌++◌, ◌∷◌, [], IsTrue, IfOk, length, IsPermutation, true, false, MatchResult};
 ghost use Rattle.std.specs.List.Sorted.{IsSorted};
 ghost use Rattle.ocfl_tree.specs.{Listing.{IsOrdinary, IsListing}, Place.{text_cmp}};
 ghost use Rattle.ocfl_tree.specs.{StorageRoot.{StorageRoot}, Store.{IfTold}};
-ghost use Rattle.ocfl_item.specs.Ways.{IsWayFault, is_listable};
+ghost use Rattle.ocfl_item.specs.Ways.{is_listable};
 ghost use Rattle.ocfl_split.specs.{Levels.{leads_on}, Splitting.{ListsAll, ListsStop}};
 ghost use Rattle.ocfl_split.specs.Internal.Directories.{is_directory_entry, directories_among, AddsBelow, AddsAll};
 
@@ -73,7 +73,6 @@ pub(crate) fn add_below<T: Tree>(
     next: &mut Vec<Place>,
     room: usize,
 ) -> Result<bool, Fault>
-    ensures only { IfErr result (λ why. IsWayFault why) }
     ensures fair { IfOk result (λ fits. fits ≡ true
         → AddsBelow place.now room next.old.items next.new.items) }
     ensures told { IfTold T.told (T.state store.old) (λ root.

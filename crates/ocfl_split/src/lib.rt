@@ -9,8 +9,7 @@
 //!   no file, and no failure is counted.
 //! - After a fault it listed the first of these directories. A fault of the store names the last of
 //!   them, which alone failed.
-//! - On every store the separators ascend strictly, and for N parts there are at most N - 1. The
-//!   only faults are `Store` and `Memory`.
+//! - On every store the separators ascend strictly, and for N parts there are at most N - 1.
 #![tactic(auto)]
 
 mod cutting;

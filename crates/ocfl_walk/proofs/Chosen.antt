@@ -3,15 +3,14 @@ use Rattle.std.proofs.Common.{◌≡◌, ◌≢◌, ◌⊎◌, inl, inr, List, [
 use Rattle.std.specs.{declared.alloc.Global.{Global}, Prelude.{cond, Vec}, Ordering.{is_lt}}
 use Rattle.std.specs.declared.cmp.Ordering.TheVariants.{Less}
 use Rattle.arrayvec.specs.ArrayVec.{ArrayVec}
-use Rattle.ocfl_tree.specs.{Place.{Place, place_cmp}, StorageRoot.{StorageRoot}, Store.{Store}}
+use Rattle.ocfl_tree.specs.{Place.{Place, place_cmp}, StorageRoot.{StorageRoot}}
 use Rattle.ocfl_tree.specs.declared.store.Entry.{Entry}
 use Rattle.ocfl_walk.specs.Standing.{IsStanding, Pile, StandsAt, size_of, stand_size, piles_in}
 use Rattle.ocfl_walk.specs.Internal.Standing.{IsBelowNext, IsOrderlyIf, TurnIs, next_of, path_from, trimmed, trimmed_from, is_turn_past, turn_before, turn_of}
-use Rattle.ocfl_walk.specs.{Internal.Walking.{GoesOn, FailsTo}, WalkCalls.{FailsOut}}
+use Rattle.ocfl_walk.specs.{Internal.Walking.{GoesOn}}
 use Rattle.ocfl_walk.specs.{declared.end.End.{End}, declared.stand.Stand.{Stand}}
 use Rattle.ocfl_walk.specs.{declared.stand.Step.{Step}, declared.stand.Turn.{Turn}}
 use Rattle.ocfl_audit.specs.Between.{IsBeyond}
-use Rattle.ocfl_item.specs.declared.fault.Fault.TheVariants as fault
 use Rattle.ocfl_item.specs.declared.meeting.Around.{Around}
 use Rattle.ocfl_walk.specs.declared.stand.Step.TheVariants as step
 use Rattle.ocfl_walk.specs.declared.stand.Turn.TheVariants as turn
@@ -19,7 +18,6 @@ use Rattle.ocfl_audit.proofs.BelowLaws.{equal_itself, less_from}
 use Rattle.ocfl_tree.proofs.Orders.{place_cmp_total}
 use Rattle.ocfl_walk.proofs.DueTurns.{turn_comes}
 use Rattle.ocfl_walk.proofs.OrderlyLaws.{fit_of, orderly_trimmed, size_trimmed}
-use Rattle.ocfl_walk.proofs.WalkCallLaws.{fails_out_nothing, fails_to_nothing}
 use Rattle.ocfl_walk.proofs.TurnLaws.{standing_trimmed}
 
 abbrev Listings : Type 0
@@ -130,12 +128,6 @@ at_last root old X (Some p) st n k = k p st.0 st.1
 pub at_first : (root : StorageRoot) (old : Stand) (X : Option Place → Type 0) (last : Option Place) → StandsAt root old last → old.last ≡ None → X None → X last
 at_first root old X None st n k = k
 at_first root old X (Some p) st n k = absurd (let e : None ≡ Some p = sym n ∙ st.0 in cc)
-
-pub no_memory : (root : StorageRoot) (s : Store) (last : Option Place) (e : End) → s.tree ≡ root → FailsOut root s s last e fault.Memory
-no_memory root s last e over = fails_out_nothing root s last fault.Memory over refl (λ q f. cc) e
-
-pub no_memory_to : (root : StorageRoot) (s : Store) (last : Option Place) (x : Place) → s.tree ≡ root → FailsTo root s s last x fault.Memory
-no_memory_to root s last x over = fails_to_nothing root s last fault.Memory over refl (λ q f. cc) x
 
 -- ---- the turn before the end
 

@@ -16,7 +16,7 @@ use Rattle.ocfl_walk.specs.Internal.Entering.{Starts, StartFails}
 use Rattle.ocfl_walk.specs.Internal.Finding.{Finds, FindsAll, FindFails, FindsItem}
 use Rattle.ocfl_item.specs.declared.fault.Fault.TheVariants as fault
 use Rattle.ocfl_audit.proofs.{AuditExists.{zone_is}, PathLaws.{notes_at}}
-use Rattle.ocfl_item.proofs.AuditingLaws.{audits_nothing, front_all, front_kept, none_once}
+use Rattle.ocfl_item.proofs.AuditingLaws.{audits_nothing, failed_store, front_all, front_kept, none_once}
 use Rattle.ocfl_walk.proofs.{DescentLaws.{front_within}, ReachLaws.{own_listed}}
 use Rattle.ocfl_walk.proofs.EnterLaws.{comes_first, start_listed, start_unlisted}
 use Rattle.ocfl_walk.proofs.FindLaws.{all_on, front_own, finds_come, finds_stopped, item_memory, item_on, may_few}
@@ -70,7 +70,7 @@ module _ (root : StorageRoot) where
         trail = trail;
         listed = listed;
         heads = heads_of root trail;
-        fails = record { over = over; did = did_so s t trail listed (failures_by why) meta did; opened = meta ∙ sym (none_hashed root); heads_are = refl; near = near; store = store };
+        fails = record { over = over; did = did_so s t trail listed (failures_by why) meta did; opened = meta ∙ sym (none_hashed root); heads_are = refl; near = near; store = λ q e. store q (failed_store why q e) };
         listed_front = way;
         heads_front = heads;
         once = once;

@@ -5,11 +5,11 @@ use Rattle.ocfl_tree.specs.declared.store.Opening.{Opening}
 use Rattle.ocfl_audit.specs.{Head.{on}, Trail.{heads_of, reads_inventory}}
 use Rattle.ocfl_audit.specs.Between.{IsBeyond, IsWithin, is_looked_into, looked_between, read_between}
 use Rattle.ocfl_audit.proofs.BetweenLaws.{looked_on, read_on}
-use Rattle.ocfl_item.specs.{Looking.{IsFront, failures_by}, Auditing.{Audits, LieIn}}
+use Rattle.ocfl_item.specs.{Looking.{IsFront, failed_place}, Auditing.{Audits, LieIn}}
 use Rattle.ocfl_item.specs.{Meeting.{Meets, MeetFails}, declared.fault.Fault.{Fault}}
 use Rattle.ocfl_item.proofs.AuditingLaws.{audits_nothing, audits_on, audits_fail, audits_meta, fails_meta, fails_nothing, front_behind, front_more, front_none}
 use Rattle.ocfl_walk.specs.Ends.{before_end, is_past}
-use Rattle.ocfl_walk.specs.WalkCalls.{FailsOut, Walks, WalkFails, WalksOut}
+use Rattle.ocfl_walk.specs.WalkCalls.{FailsAmong, FailsOut, Walks, WalkFails, WalksOut}
 use Rattle.ocfl_walk.specs.{Internal.Walking.{FailsTo}, declared.end.End.{End}}
 use Rattle.ocfl_walk.proofs.EndLaws.{all_kept, looked_out, read_out}
 use Rattle.ocfl_item.specs.declared.fault.Fault.TheVariants as fault
@@ -43,6 +43,18 @@ module _ (root : StorageRoot) (s t : Store) (from : Option Place) (x : Place) (n
     heads_front = subst (IsFront (heads_of root m.trail)) (sym near.read) m.heads;
   }
 
+-- calls that were made before those that failed
+fails_behind : (root : StorageRoot) (s t u : Store) {ls ms xs hs gs ys : List Place} → ls ++ ms ≡ xs → hs ++ gs ≡ ys → (os : List Opening) (why : Fault)
+    → Audits root s t [] ls hs os → FailsAmong root t u ms gs why → FailsAmong root s u xs ys why
+fails_behind root s t u {ls} {ms} {xs} {hs} {gs} {ys} looked read os why a f = record {
+  trail = os ++ f.trail;
+  listed = ls ++ f.listed;
+  heads = hs ++ f.heads;
+  fails = audits_fail root s t u [] [] _ _ _ _ os f.trail (failed_place why) a f.fails;
+  listed_front = front_behind ls f.listed ms xs looked f.listed_front;
+  heads_front = front_behind hs f.heads gs ys read f.heads_front;
+}
+
 module _ (root : StorageRoot) (s t u : Store) (from : Option Place) (b : Place) (beyond : IsBeyond from b) where
   pub walks_on : (to : Option Place) → IsWithin to b → Walks root s t from (Some b) → Walks root t u (Some b) to → Walks root s u from to
   walks_on to within v w = record {
@@ -51,14 +63,7 @@ module _ (root : StorageRoot) (s t u : Store) (from : Option Place) (b : Place) 
   }
 
   pub walks_fail : (why : Fault) → Walks root s t from (Some b) → WalkFails root t u (Some b) why → WalkFails root s u from why
-  walks_fail why v w = record {
-    trail = v.trail ++ w.trail;
-    listed = looked_between root from (Some b) ++ w.listed;
-    heads = read_between root from (Some b) ++ w.heads;
-    fails = audits_fail root s t u [] [] _ _ _ _ v.trail w.trail why v.audits w.fails;
-    listed_front = front_behind (looked_between root from (Some b)) w.listed (looked_between root (Some b) None) (looked_between root from None) (looked_on root from None b beyond tt) w.listed_front;
-    heads_front = front_behind (read_between root from (Some b)) w.heads (read_between root (Some b) None) (read_between root from None) (read_on root from None b beyond tt) w.heads_front;
-  }
+  walks_fail why v w = fails_behind root s t u (looked_on root from None b beyond tt) (read_on root from None b beyond tt) v.trail why v.audits w
 
 -- the tree stays
 pub walks_over : (root : StorageRoot) (s t : Store) (from to : Option Place) → Walks root s t from to → t.tree ≡ root
@@ -73,10 +78,8 @@ module _ (root : StorageRoot) (s t u : Store) (from : Option Place) (b : Place) 
     listed = f.listed;
     heads = f.heads;
     fails = f.fails;
-    listed_front = front_more f.listed (looked_between root from (Some b)) (before_end e (looked_between root (Some b) None))
-        (before_end e (looked_between root from None)) (looked_out e root from b beyond before) f.listed_front;
-    heads_front = front_more f.heads (read_between root from (Some b)) (before_end e (read_between root (Some b) None))
-        (before_end e (read_between root from None)) (read_out e root from b beyond before) f.heads_front;
+    listed_front = front_more f.listed _ _ _ (looked_out e root from b beyond before) f.listed_front;
+    heads_front = front_more f.heads _ _ _ (read_out e root from b beyond before) f.heads_front;
   }
 
   pub walks_out : Walks root s t from (Some b) → WalksOut root t u (Some b) e → WalksOut root s u from e
@@ -86,42 +89,23 @@ module _ (root : StorageRoot) (s t u : Store) (from : Option Place) (b : Place) 
   }
 
   pub walks_fail_out : (why : Fault) → Walks root s t from (Some b) → FailsOut root t u (Some b) e why → FailsOut root s u from e why
-  walks_fail_out why v w = record {
-    trail = v.trail ++ w.trail;
-    listed = looked_between root from (Some b) ++ w.listed;
-    heads = read_between root from (Some b) ++ w.heads;
-    fails = audits_fail root s t u [] [] _ _ _ _ v.trail w.trail why v.audits w.fails;
-    listed_front = front_behind (looked_between root from (Some b)) w.listed (before_end e (looked_between root (Some b) None))
-        (before_end e (looked_between root from None)) (looked_out e root from b beyond before) w.listed_front;
-    heads_front = front_behind (read_between root from (Some b)) w.heads (before_end e (read_between root (Some b) None))
-        (before_end e (read_between root from None)) (read_out e root from b beyond before) w.heads_front;
-  }
+  walks_fail_out why v w = fails_behind root s t u (looked_out e root from b beyond before) (read_out e root from b beyond before) v.trail why v.audits w
 
 -- if nothing is left before the end nothing is done
 pub walks_out_nothing : (root : StorageRoot) (s : Store) (from : Option Place) (e : End) → s.tree ≡ root → before_end e (looked_between root from None) ≡ []
     → before_end e (read_between root from None) ≡ [] → WalksOut root s s from e
 walks_out_nothing root s from e over looked read = record { trail = []; audits = audits_as (sym looked) (sym read) (audits_nothing root s over) }
 
-module _ (root : StorageRoot) (s : Store) (from : Option Place) (why : Fault) (over : s.tree ≡ root) (none : failures_by why ≡ 0) (not : (q : Place) → why ≡ fault.Store q → ⊥) where
-  pub fails_out_nothing : (e : End) → FailsOut root s s from e why
-  fails_out_nothing e = record {
-    trail = [];
-    listed = [];
-    heads = [];
-    fails = fails_nothing root s why over none not;
-    listed_front = front_none _;
-    heads_front = front_none _;
-  }
-
-  pub fails_to_nothing : (to : Place) → FailsTo root s s from to why
-  fails_to_nothing to = record {
-    trail = [];
-    listed = [];
-    heads = [];
-    fails = fails_nothing root s why over none not;
-    listed_front = front_none _;
-    heads_front = front_none _;
-  }
+-- if memory was refused before anything was done
+pub no_memory : (root : StorageRoot) (s : Store) {looked read : List Place} → s.tree ≡ root → FailsAmong root s s looked read fault.Memory
+no_memory root s over = record {
+  trail = [];
+  listed = [];
+  heads = [];
+  fails = fails_nothing root s over;
+  listed_front = front_none _;
+  heads_front = front_none _;
+}
 
 -- to the end of the whole
 module _ (root : StorageRoot) (s t : Store) (from : Option Place) (e : End) (under : e.under ≡ []) (below : e.below ≡ None) where
@@ -132,11 +116,5 @@ module _ (root : StorageRoot) (s t : Store) (from : Option Place) (e : End) (und
   }
 
   pub fails_all : (why : Fault) → FailsOut root s t from e why → WalkFails root s t from why
-  fails_all why f = record {
-    trail = f.trail;
-    listed = f.listed;
-    heads = f.heads;
-    fails = f.fails;
-    listed_front = subst (IsFront f.listed) (all_kept e under below (looked_between root from None)) f.listed_front;
-    heads_front = subst (IsFront f.heads) (all_kept e under below (read_between root from None)) f.heads_front;
-  }
+  fails_all why f = subst (λ ls. FailsAmong root s t ls (read_between root from None) why) (all_kept e under below (looked_between root from None))
+      (subst (λ hs. FailsAmong root s t (before_end e (looked_between root from None)) hs why) (all_kept e under below (read_between root from None)) f)

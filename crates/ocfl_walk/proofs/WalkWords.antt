@@ -103,14 +103,14 @@ module _ (root : StorageRoot) (old : Walk) (n : Text) (some : old.first ≡ Some
       begins_then_told new none (Err why) g k = begins_then_fails why k
 
 -- to the end of the whole
-module _ (root : StorageRoot) (s t : Store) (last : Option Place) (e : End) (under : e.under ≡ []) (below : e.below ≡ None) (new : Walk) where
-  gives_all : (o : Option Pending) → GivesOut root s t last e new o → Gives root s t last new o
-  gives_all None h = (walks_all root s t last e under below h.0, sym (all_kept e under below (due root last)) ∙ h.1, (h.2.0, h.2.1, sym (all_kept e under below (due root h.2.0)) ∙ h.2.2))
-  gives_all (Some p) h = h
+module _ (root : StorageRoot) (s t : Store) (last : Option Place) (e : End) (under : e.under ≡ []) (below : e.below ≡ None) where
+  gives_all : (new : Walk) (o : Option Pending) → GivesOut root s t last e new o → Gives root s t last new o
+  gives_all new None h = (walks_all root s t last e under below h.0, sym (all_kept e under below (due root last)) ∙ h.1, (h.2.0, h.2.1, sym (all_kept e under below (due root h.2.0)) ∙ h.2.2))
+  gives_all new (Some p) h = h
 
-  pub all_told : (r : Result (Option Pending) Fault) → MatchResult r (λ o. GivesOut root s t last e new o) (λ why. FailsOut root s t last e why)
-      → MatchResult r (λ o. Gives root s t last new o) (λ why. WalkFails root s t last why)
-  all_told (Ok o) h = gives_all o h
+  pub all_told : (r : Result (Walk × Option Pending) Fault) → MatchResult r (λ o. GivesOut root s t last e o.0 o.1) (λ why. FailsOut root s t last e why)
+      → MatchResult r (λ o. Gives root s t last o.0 o.1) (λ why. WalkFails root s t last why)
+  all_told (Ok o) h = gives_all o.0 o.1 h
   all_told (Err why) h = fails_all root s t last e under below why h
 
 -- ---- where a walk begins

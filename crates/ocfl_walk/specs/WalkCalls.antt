@@ -6,7 +6,7 @@ use Rattle.ocfl_tree.specs.{Store.{Store}, declared.store.Opening.{Opening}}
 use Rattle.ocfl_audit.specs.Zone.{Zone, skipped, hierarchy, inside, zone}
 use Rattle.ocfl_audit.specs.{Between.{looked_between, read_between}, Trail.{reads_inventory}}
 use Rattle.ocfl_audit.specs.Walk.{is_reached}
-use Rattle.ocfl_item.specs.{Auditing.{Audits, Fails}, Looking.{IsFront, way_to}}
+use Rattle.ocfl_item.specs.{Auditing.{Audits, Fails}, Looking.{IsFront, failed_place, way_to}}
 use Rattle.ocfl_item.specs.declared.fault.Fault.{Fault}
 use Rattle.ocfl_walk.specs.{Ends.{before_end}, declared.end.End.{End}}
 
@@ -17,14 +17,19 @@ pub record Walks (root : StorageRoot) (s t : Store) (from to : Option Place) : T
   pub trail : List Opening
   pub audits : Audits root s t [] (looked_between root from to) (read_between root from to) trail
 
--- the first of those above a place, and then there was a fault
-pub record WalkFails (root : StorageRoot) (s t : Store) (from : Option Place) (why : Fault) : Type 0 where
+-- the first of these directories were listed, and the first of these objects' inventories read, and
+-- then there was a fault
+pub record FailsAmong (root : StorageRoot) (s t : Store) (looked read : List Place) (why : Fault) : Type 0 where
   pub trail : List Opening
   pub listed : List Place
   pub heads : List Place
-  pub fails : Fails root s t [] listed heads trail why
-  pub listed_front : IsFront listed (looked_between root from None)
-  pub heads_front : IsFront heads (read_between root from None)
+  pub fails : Fails root s t [] listed heads trail (failed_place why)
+  pub listed_front : IsFront listed looked
+  pub heads_front : IsFront heads read
+
+-- the first of those above a place
+abbrev pub WalkFails : StorageRoot → Store → Store → Option Place → Fault → Type 0
+WalkFails root s t from why = FailsAmong root s t (looked_between root from None) (read_between root from None) why
 
 -- ---- from a place on to the end
 
@@ -34,13 +39,8 @@ pub record WalksOut (root : StorageRoot) (s t : Store) (from : Option Place) (e 
   pub audits : Audits root s t [] (before_end e (looked_between root from None)) (before_end e (read_between root from None)) trail
 
 -- the first of those, and then there was a fault
-pub record FailsOut (root : StorageRoot) (s t : Store) (from : Option Place) (e : End) (why : Fault) : Type 0 where
-  pub trail : List Opening
-  pub listed : List Place
-  pub heads : List Place
-  pub fails : Fails root s t [] listed heads trail why
-  pub listed_front : IsFront listed (before_end e (looked_between root from None))
-  pub heads_front : IsFront heads (before_end e (read_between root from None))
+abbrev pub FailsOut : StorageRoot → Store → Store → Option Place → End → Fault → Type 0
+FailsOut root s t from e why = FailsAmong root s t (before_end e (looked_between root from None)) (before_end e (read_between root from None)) why
 
 -- ---- down to one place
 
@@ -85,7 +85,7 @@ pub record GoDownFails (root : StorageRoot) (s t : Store) (p : Option Place) (wh
   pub trail : List Opening
   pub listed : List Place
   pub heads : List Place
-  pub fails : Fails root s t [] listed heads trail why
+  pub fails : Fails root s t [] listed heads trail (failed_place why)
   pub listed_front : IsFront listed (way_of p)
   pub heads_front : IsFront heads (holder root p)
   pub once : AllPairs (λ a b. a.place ≢ b.place) trail

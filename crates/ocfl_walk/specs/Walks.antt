@@ -1,5 +1,5 @@
 -- A walk as those above it see it.
-use Rattle.std.specs.Prelude.{◌≡◌, ◌<◌, ◌≤◌, ◌+◌, ℕ, ◌∷◌, ◌++◌, List, [], true, false, Option, Some, None, length, ⊤}
+use Rattle.std.specs.Prelude.{◌≡◌, ◌<◌, ◌≤◌, ◌+◌, ℕ, ◌∷◌, ◌++◌, List, [], Option, Some, None, length, ⊤}
 use Rattle.ocfl_tree.specs.{Place.{Place, Text}, StorageRoot.{StorageRoot}, Store.{Store}}
 use Rattle.ocfl_tree.specs.declared.store.Opening.{Opening}
 use Rattle.ocfl_audit.specs.{Due.{due}, Between.{IsBeyond}}
@@ -8,13 +8,6 @@ use Rattle.ocfl_walk.specs.{Standing.{StandsAt, stand_size}, declared.end.End.{E
 use Rattle.ocfl_walk.specs.{declared.stand.Stand.{Stand}, declared.walk.Walk.{Walk}}
 use Rattle.ocfl_item.specs.{Ways.{AreInventories}, Pending.{IsPending}}
 use Rattle.ocfl_item.specs.declared.pending.Pending.{Pending}
-
--- it has not failed
-abbrev pub IsLive : Walk → Type 0
-IsLive walk = walk.broken ≡ false
-
-abbrev pub IsBroken : Walk → Type 0
-IsBroken walk = walk.broken ≡ true
 
 -- the place after which it stands
 abbrev pub last_of : Walk → Option Place

@@ -1,12 +1,12 @@
 //! Where a walk begins: the listings on the way to a place, of each what is above that place.
-ghost use Rattle.std.specs.Prelude.{◌≡◌, ◌∷◌, ◌++◌, [], length, None, Some, IfOk, IfErr, IfSome};
+ghost use Rattle.std.specs.Prelude.{◌≡◌, ◌∷◌, ◌++◌, [], length, None, Some, IfOk, IfSome};
 ghost use Rattle.std.specs.Prelude.{MatchOption, MatchResult};
 ghost use Rattle.ocfl_tree.specs.{StorageRoot.{StorageRoot}, Store.{Store, IfTold}};
 ghost use Rattle.ocfl_tree.specs.{Place.{Place as Spot, Text}, Listing.{IsListing}};
 ghost use Rattle.ocfl_inventory.specs.Table.{IsFit};
 ghost use Rattle.ocfl_audit.specs.Zone.{zone};
 ghost use Rattle.ocfl_item.specs.{Around.{IsPart}, Meeting.{IsFairFolder}};
-ghost use Rattle.ocfl_item.specs.Ways.{Enters, IsAt, IsObject, IsWayFault, Stops, way_below};
+ghost use Rattle.ocfl_item.specs.Ways.{Enters, IsAt, IsObject, Stops, way_below};
 ghost use Rattle.ocfl_walk.specs.Internal.Entering.{StaysOut, Comes, DescendFails, IsBrought};
 ghost use Rattle.ocfl_walk.specs.Internal.Entering.{IsComing, Opens, IsFairWay, Leads, LeadsOn};
 ghost use Rattle.ocfl_walk.specs.Internal.Entering.{ListsBelow, ListsRoot, Starts, StartFails};
@@ -27,7 +27,6 @@ use std::alloc::{AllocError, Global};
 
 /// The listing of a directory in a directory, if it may be listed.
 fn listed<T: Tree>(store: &mut T, folder: &Folder, name: &Name) -> Result<Option<Folder>, Fault>
-    ensures only { IfErr result (λ why. IsWayFault why) }
     ensures fair { IfOk result (λ next. IfSome next
         (λ inner. IsFairFolder (folder.now.place ++ name.now ∷ []) inner)) }
     ensures told { IfTold T.told (T.state store.old) (λ root.
@@ -48,7 +47,6 @@ fn listed<T: Tree>(store: &mut T, folder: &Folder, name: &Name) -> Result<Option
 
 /// The storage root, listed, if its version is known.
 pub(crate) fn known_root<T: Tree>(alloc: Global, store: &mut T) -> Result<Option<Folder>, Fault>
-    ensures only { IfErr result (λ why. IsWayFault why) }
     ensures fair { IfOk result (λ next. IfSome next (λ base. IsFairFolder [] base)) }
     ensures told { IfTold T.told (T.state store.old) (λ root.
         ListsRoot root (T.state store.old) (T.state store.new) result) }
@@ -62,7 +60,6 @@ pub(crate) fn known_root<T: Tree>(alloc: Global, store: &mut T) -> Result<Option
 
 /// An object with its table, if its head does not stop.
 fn opened<T: Tree>(alloc: Global, store: &mut T, folder: &Folder) -> Result<Option<Around>, Fault>
-    ensures only { IfErr result (λ why. IsWayFault why) }
     ensures kept { IfOk result (λ next. IfSome next
         (λ object. (object.place ≡ folder.now.place) × IsFit object.table)) }
     ensures told { IfTold T.told (T.state store.old) (λ root.
@@ -85,7 +82,6 @@ fn into_directory<T: Tree>(
     inner: Folder,
 ) -> Result<Option<Folder>, Fault>
     requires { object.old ≡ None }
-    ensures only { IfErr result (λ why. IsWayFault why) }
     ensures fair { (d : Spot) (n : Text) → IsFairFolder (d ++ n ∷ []) inner
         → IfOk result (λ o. IsFairWay d n object.old object.new o) }
     ensures told { IfTold T.told (T.state store.old) (λ root.
@@ -134,7 +130,6 @@ pub(crate) fn down<T: Tree>(
     name: &Name,
 ) -> Result<Option<Folder>, Fault>
     requires { IsAroundIf folder.now.place object.old }
-    ensures only { IfErr result (λ why. IsWayFault why) }
     ensures fair { IfOk result (λ o. IsFairWay folder.now.place name.now object.old object.new o) }
     ensures told { IfTold T.told (T.state store.old) (λ root.
         IsAt root folder.now.place folder.now.entries.items
@@ -166,7 +161,6 @@ fn go_down<T: Tree>(
         (piles_in stand.old.last stand.old.listings.items) stand.old.around }
     requires way { stand.old.last ≡ Some (folder.place ++ names.now) }
     requires depth { length stand.old.listings.items ≡ length folder.place }
-    ensures only { IfErr result (λ why. IsWayFault why) }
     ensures last { stand.new.last ≡ stand.old.last }
     ensures orderly { IfOk result (λ _. IsOrderly (folder.place ++ names.now)
         (piles_in stand.new.last stand.new.listings.items) stand.new.around) }
@@ -218,7 +212,6 @@ fn go_down_from_root<T: Tree>(
     requires listings { stand.old.listings.items ≡ [] }
     requires around { stand.old.around ≡ None }
     requires last { stand.old.last ≡ Some after.now }
-    ensures only { IfErr result (λ why. IsWayFault why) }
     ensures last { stand.new.last ≡ Some after.now }
     ensures orderly { IfOk result (λ _. IsOrderlyStand stand.new) }
     ensures told { IfTold T.told (T.state store.old) (λ root.
@@ -236,7 +229,6 @@ fn go_down_from_root<T: Tree>(
 
 /// Where a walk stands at a place.
 pub(crate) fn stand_at<T: Tree>(alloc: Global, store: &mut T, after: &Place) -> Result<Stand, Fault>
-    ensures only { IfErr result (λ why. IsWayFault why) }
     ensures last { IfOk result (λ stand. stand.last ≡ Some after.now) }
     ensures orderly { IfOk result (λ stand. IsOrderlyStand stand) }
     ensures told { IfTold T.told (T.state store.old) (λ root.

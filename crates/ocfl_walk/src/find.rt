@@ -1,8 +1,8 @@
 //! One place, looked up in the listings on the way down to it.
-ghost use Rattle.std.specs.Prelude.{◌≡◌, ◌∷◌, ◌++◌, [], None, Some, IfErr, MatchOption};
+ghost use Rattle.std.specs.Prelude.{◌≡◌, ◌∷◌, ◌++◌, [], None, Some, MatchOption};
 ghost use Rattle.ocfl_tree.specs.{Listing.{kind_in}, Store.{IfTold}};
 ghost use Rattle.ocfl_audit.specs.Zone.{zone};
-ghost use Rattle.ocfl_item.specs.{Around.{IsPart}, Ways.{IsAt, IsWayFault, way_below}};
+ghost use Rattle.ocfl_item.specs.{Around.{IsPart}, Ways.{IsAt, way_below}};
 ghost use Rattle.ocfl_walk.specs.{Internal.Entering.{may_open}, Internal.Finding.{FindsItem}};
 ghost use Rattle.ocfl_walk.specs.Internal.Standing.{IsAroundIf};
 
@@ -33,7 +33,6 @@ fn item_in<T: Tree>(
     folder: &Folder,
     name: &Name,
 ) -> Result<Option<Pending>, Fault>
-    ensures only { IfErr result (λ why. IsWayFault why) }
     ensures told { IfTold T.told (T.state store.old) (λ root.
         IsAt root folder.now.place folder.now.entries.items
         → IsPart root folder.now.place around.now
@@ -58,7 +57,6 @@ pub(crate) fn find_below<T: Tree>(
     rest: &[Name],
 ) -> Result<Option<Pending>, Fault>
     requires { IsAroundIf folder.place around }
-    ensures only { IfErr result (λ why. IsWayFault why) }
     ensures told { IfTold T.told (T.state store.old) (λ root.
         IsAt root folder.place folder.entries.items → IsPart root folder.place around
         → place.now ≡ folder.place ++ name.now ∷ rest.now

@@ -1,6 +1,6 @@
 //! The item at one place.
-ghost use Rattle.std.specs.Prelude.{None, Some, IfErr, MatchResult};
-ghost use Rattle.ocfl_item.specs.{Meeting.{IsItemAt}, Ways.{IsWayFault}};
+ghost use Rattle.std.specs.Prelude.{None, Some, MatchResult};
+ghost use Rattle.ocfl_item.specs.Meeting.{IsItemAt};
 ghost use Rattle.ocfl_walk.specs.WalkCalls.{GoDownFails, GoesDown};
 ghost use Rattle.ocfl_tree.specs.Store.{IfTold};
 
@@ -24,7 +24,6 @@ pub fn item_at<T: Tree>(
     store: &mut T,
     place: &Place,
 ) -> Result<Option<Pending>, Fault>
-    ensures only { IfErr result (λ why. IsWayFault why) }
     ensures told { IfTold T.told (T.state store.old) (λ root.
         MatchResult result
         (λ o. GoesDown root (T.state store.old) (T.state store.new) (Some place.now)

@@ -12,7 +12,7 @@
 //!   or the last listing, which alone of listings failed. That is never a hashed file's place
 //!   (`WalkFails`).
 //! - On every store places ascend and have at most 255 names, and a size falls, so a walk ends.
-//!   After a fault each call answers `Broken` and makes no call of the store.
+//!   A fault ends it: the call took the walk, and gives none back.
 //! - `Walk::start` without a place makes no call and always answers.
 //! - With a place it lists the first directories on the way there: the storage root, and all that
 //!   are entered (`all_listed` of `GoesDown`). It opens at most the inventory of the object that

@@ -1,13 +1,13 @@
 //! Where a walk stands, and its steps.
 ghost use Rattle.std.specs.Prelude.{◌≡◌, ◌≢◌, ◌<◌, ◌∷◌, ◌++◌, [], false, Option, Some, None, ◌↔◌};
-ghost use Rattle.std.specs.Prelude.{IsTrue, IfOk, IfErr, IfSome, MatchOption, MatchResult, ◌+◌};
+ghost use Rattle.std.specs.Prelude.{IsTrue, IfOk, IfSome, MatchOption, MatchResult, ◌+◌};
 ghost use Rattle.std.specs.Prelude.{length, take};
 ghost use Rattle.std.specs.{Ordering.{is_lt}, declared.cmp.Ordering.TheVariants.{Less}};
 ghost use Rattle.arrayvec.specs.ArrayVec.{array_vec_len};
 ghost use Rattle.ocfl_tree.specs.{Place.{Place as Spot, place_cmp}, StorageRoot.{StorageRoot}};
 ghost use Rattle.ocfl_tree.specs.Store.{Store, IfTold};
 ghost use Rattle.ocfl_audit.specs.{Walk.{seen_names}, Zone.{seen}};
-ghost use Rattle.ocfl_item.specs.{Ways.{IsWayFault}, Around.{IsMet, IsNamedIn, IsTableAround}};
+ghost use Rattle.ocfl_item.specs.Around.{IsMet, IsNamedIn, IsTableAround};
 ghost use Rattle.ocfl_item.specs.Meeting.{IsFairVisit, IsVisit, MeetFails, Meets};
 ghost use Rattle.ocfl_walk.specs.Standing.{StandsAt, frames_of, levels, pile_of, piles_at};
 ghost use Rattle.ocfl_walk.specs.Standing.{piles_in, stand_size};
@@ -314,7 +314,6 @@ fn meet<T: Tree>(
     place: &Place,
     entry: &Entry,
 ) -> Result<Met, Fault>
-    ensures only { IfErr result (λ why. IsWayFault why) }
     ensures fair { IsAroundIf place.now (still around place.now)
         → IfOk result (λ m. IsFairMet place.now m) }
     ensures told { IfTold T.told (T.state store.old) (λ root.
@@ -367,7 +366,6 @@ impl Stand {
         requires orderly { IsOrderlyStand self.old }
         requires first { self.old.last ≡ None }
         ensures orderly { IsOrderlyStand self.new }
-        ensures only { IfErr result (λ why. IsWayFault why) }
         ensures goes_on { IfOk result (λ step. GoesOn self.old self.new step) }
         ensures there { IfOk result (λ step. GoesTo self.new [] step) }
         ensures told { IfTold T.told (T.state store.old) (λ root.
@@ -389,7 +387,6 @@ impl Stand {
         requires orderly { IsOrderlyStand self.old }
         requires next { next_of (piles_in self.old.last self.old.listings.items) ≡ Some place }
         ensures orderly { IsOrderlyStand self.new }
-        ensures only { IfErr result (λ why. IsWayFault why) }
         ensures goes_on { IfOk result (λ step. GoesOn self.old self.new step) }
         ensures there { IfOk result (λ step. GoesTo self.new place step) }
         ensures told { IfTold T.told (T.state store.old) (λ root.
@@ -426,7 +423,6 @@ impl Stand {
         requires trim { trimmed (piles_in self.old.last self.old.listings.items)
             ≡ piles_in self.old.last self.old.listings.items }
         ensures orderly { IsOrderlyStand self.new }
-        ensures only { IfErr result (λ why. IsWayFault why) }
         ensures goes_on { IfOk result (λ step. GoesAt self.old self.new step) }
         ensures falls { IsNamedIn place self.old.around
             → IfOk result (λ _. stand_size self.new < stand_size self.old) }
@@ -452,7 +448,6 @@ impl Stand {
     ) -> Result<Step, Fault>
         requires { IsOrderlyStand self.old }
         ensures orderly { IsOrderlyStand self.new }
-        ensures only { IfErr result (λ why. IsWayFault why) }
         ensures goes_on { IfOk result (λ step. GoesAt self.old self.new step) }
         ensures before { IfOk result (λ step. IsBefore end.now self.new step) }
         ensures told { IfTold T.told (T.state store.old) (λ root.
@@ -482,7 +477,6 @@ impl Stand {
         requires trim { trimmed (piles_in self.old.last self.old.listings.items)
             ≡ piles_in self.old.last self.old.listings.items }
         ensures orderly { IsOrderlyStand self.new }
-        ensures only { IfErr result (λ why. IsWayFault why) }
         ensures goes_on { IfOk result (λ step. GoesOn self.old self.new step) }
         ensures before { IfOk result (λ step. IsBefore end.now self.new step) }
         ensures told { IfTold T.told (T.state store.old) (λ root.
@@ -508,7 +502,6 @@ impl Stand {
     ) -> Result<Option<Pending>, Fault>
         requires { IsOrderlyStand self.old }
         ensures orderly { IsOrderlyStand self.new }
-        ensures only { IfErr result (λ why. IsWayFault why) }
         ensures goes_on { IfOk result (λ o. NextGoesOn self.old self.new o) }
         ensures before { IfOk result (λ o. IfSome o (λ p. is_past end.now p.place ≡ false)) }
         ensures told { IfTold T.told (T.state store.old) (λ root.

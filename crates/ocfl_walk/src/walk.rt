@@ -1,8 +1,7 @@
 //! The walk: items in order, from a stack of sorted listings and the table of one object.
 ghost use Rattle.std.specs.Prelude.{◌≡◌, ◌≢◌, ◌∷◌, ◌++◌, [], Option, option_map, true, false, None};
-ghost use Rattle.std.specs.Prelude.{Some, Err, IfOk, IfErr, IfSome, MatchResult};
+ghost use Rattle.std.specs.Prelude.{Some, IfOk, IfErr, IfSome, MatchResult};
 ghost use Rattle.ocfl_tree.specs.{Place.{Place as Spot}, Store.{IfTold}};
-ghost use Rattle.ocfl_item.specs.Ways.{IsWayFault};
 ghost use Rattle.ocfl_walk.specs.{Before.{directory_of, place_before}, Ends.{is_past}};
 ghost use Rattle.ocfl_walk.specs.WalkCalls.{FailsOut, GoDownFails, GoesDown, WalkFails};
 ghost use Rattle.ocfl_walk.specs.Orderly.{is_orderly};
@@ -25,12 +24,11 @@ pub struct Walk {
     stand: Stand,
     /// The name that the walk begins at, in the directory at its last place, until it has begun.
     first: Option<Name>,
-    broken: bool,
     ghost orderly: { is_orderly stand ≡ true },
 }
 
 impl Walk {
-    ghost use Rattle.ocfl_walk.specs.Walks.{Gives, GivesOut, GoesOn, IsBroken, IsLive};
+    ghost use Rattle.ocfl_walk.specs.Walks.{Gives, GivesOut, GoesOn};
     ghost use Rattle.ocfl_walk.specs.Walks.{OpensInventories, Stands, last_of};
 
     /// A walk over the items above a place, whether or not there is one at it, or over all of them.
@@ -43,8 +41,6 @@ impl Walk {
         store: &mut T,
         after: Option<&Place>,
     ) -> Result<Walk, Fault>
-        ensures only { IfErr result (λ why. IsWayFault why) }
-        ensures live { IfOk result (λ walk. IsLive walk) }
         ensures last { IfOk result (λ walk. last_of walk ≡ option_map (λ p. p.now) after.entry) }
         ensures untouched { after.entry ≡ None → store.new ≡ store.old }
         ensures ready { after.entry ≡ None → IfErr result (λ _. ⊥) }
@@ -64,7 +60,6 @@ impl Walk {
                     last: None,
                 },
                 first: None,
-                broken: false,
             });
         };
         let stand = stand_at(alloc, store, place)?;
@@ -72,7 +67,6 @@ impl Walk {
             alloc,
             stand,
             first: None,
-            broken: false,
         })
     }
 
@@ -83,8 +77,6 @@ impl Walk {
     /// is at the place is listed and read with its item. `Fault::Store` if the store did not
     /// answer, `Fault::Memory` if memory was refused.
     pub fn start_at<T: Tree>(alloc: Global, store: &mut T, from: &Place) -> Result<Walk, Fault>
-        ensures only { IfErr result (λ why. IsWayFault why) }
-        ensures live { IfOk result (λ walk. IsLive walk) }
         ensures last { IfOk result (λ walk. last_of walk ≡ directory_of from.now) }
         ensures untouched { from.now ≡ [] → store.new ≡ store.old }
         ensures ready { from.now ≡ [] → IfErr result (λ _. ⊥) }
@@ -105,70 +97,52 @@ impl Walk {
             alloc,
             stand,
             first: Some(name),
-            broken: false,
         })
     }
 
-    /// The next item, and `None` if there are no more, then and at each further call.
+    /// The walk after its next item, and that item; `None` if there are no more, then and at each
+    /// further call.
     ///
     /// It lists the directories and reads the inventories between the last place and the item's,
     /// each once; it opens no content file. `Fault::Store` if the store did not answer,
-    /// `Fault::Memory` if memory was refused. After a fault each further call answers
-    /// `Fault::Broken` and makes no call of the store: a walk from the last place goes on.
-    pub fn next<T: Tree>(&mut self, store: &mut T) -> Result<Option<Pending>, Fault>
-        ensures only { IsLive self.old → IfErr result (λ why. IsWayFault why) }
-        ensures breaks { IfErr result (λ _. IsBroken self.new) }
-        ensures stays { IsBroken self.old → (result ≡ Err Fault.Broken) × (store.new ≡ store.old) }
-        ensures goes_on { IsLive self.old → IfOk result
-            (λ o. IsLive self.new × GoesOn self.old self.new o) }
+    /// `Fault::Memory` if memory was refused. A fault ends the walk: one from the last place goes
+    /// on.
+    pub fn next<T: Tree>(self, store: &mut T) -> Result<(Walk, Option<Pending>), Fault>
+        ensures goes_on { IfOk result (λ o. GoesOn self o.0 o.1) }
         ensures told { IfTold T.told (T.state store.old) (λ root.
-            IsLive self.old
-            → (last : Option Spot) → Stands root self.old last → MatchResult result
-            (λ o. Gives root (T.state store.old) (T.state store.new) last self.new o)
+            (last : Option Spot) → Stands root self last → MatchResult result
+            (λ o. Gives root (T.state store.old) (T.state store.new) last o.0 o.1)
             (λ why. WalkFails root (T.state store.old) (T.state store.new) last why)) }
     {
         let end = End::of_all(self.alloc);
         self.next_within(store, &end)
     }
 
-    /// The next item before an end, and `None` if there are no more before it.
+    /// The walk after its next item before an end, and that item; `None` if there are no more
+    /// before it.
     ///
     /// It looks at no place past the end: none is listed there, and no inventory of an object there
     /// is read. If it answers `None` it stays where it was, and a further end leads it on.
     /// Otherwise as `next`.
     pub fn next_within<T: Tree>(
-        &mut self,
+        self,
         store: &mut T,
         end: &End,
-    ) -> Result<Option<Pending>, Fault>
-        ensures only { IsLive self.old → IfErr result (λ why. IsWayFault why) }
-        ensures breaks { IfErr result (λ _. IsBroken self.new) }
-        ensures stays { IsBroken self.old → (result ≡ Err Fault.Broken) × (store.new ≡ store.old) }
-        ensures goes_on { IsLive self.old → IfOk result
-            (λ o. IsLive self.new × GoesOn self.old self.new o) }
-        ensures before { IfOk result (λ o. IfSome o (λ p. is_past end.now p.place ≡ false)) }
+    ) -> Result<(Walk, Option<Pending>), Fault>
+        ensures goes_on { IfOk result (λ o. GoesOn self o.0 o.1) }
+        ensures before { IfOk result (λ o. IfSome o.1 (λ p. is_past end.now p.place ≡ false)) }
         ensures told { IfTold T.told (T.state store.old) (λ root.
-            IsLive self.old
-            → (last : Option Spot) → Stands root self.old last → MatchResult result
-            (λ o. GivesOut root (T.state store.old) (T.state store.new) last end.now self.new o)
+            (last : Option Spot) → Stands root self last → MatchResult result
+            (λ o. GivesOut root (T.state store.old) (T.state store.new) last end.now o.0 o.1)
             (λ why. FailsOut root (T.state store.old) (T.state store.new) last end.now why)) }
     {
-        if self.broken {
-            return Err(Fault::Broken);
-        }
-        match self.go_on(store, end) {
-            Ok(found) => Ok(found),
-            Err(fault) => {
-                self.broken = true;
-                Err(fault)
-            }
-        }
+        let mut walk = self;
+        let item = walk.go_on(store, end)?;
+        Ok((walk, item))
     }
 
-    /// The next item before the end, of a walk that has not failed.
+    /// The next item before the end. After a fault the walk may be half of a step.
     fn go_on<T: Tree>(&mut self, store: &mut T, end: &End) -> Result<Option<Pending>, Fault>
-        ensures only { IfErr result (λ why. IsWayFault why) }
-        ensures stays { self.new.broken ≡ self.old.broken }
         ensures goes_on { IfOk result (λ o. GoesOn self.old self.new o) }
         ensures before { IfOk result (λ o. IfSome o (λ p. is_past end.now p.place ≡ false)) }
         ensures told { IfTold T.told (T.state store.old) (λ root.

@@ -32,7 +32,6 @@ returns-in_err-base-clause-told g c = λ h root over.
 
 pub returns-in_default : goal.returns-in_default
 returns-in_default g c = record {
-  only = tt;
   last = c.requires.last;
   orderly = orderly_start c.args.stand.now c.args.after.now c.requires.listings c.requires.around c.requires.last;
   told = λ h root over.

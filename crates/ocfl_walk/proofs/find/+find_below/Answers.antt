@@ -3,29 +3,35 @@ use Rattle.ocfl_item.specs.{Around.{IsPart}, Ways.{IsAt}}
 use Rattle.ocfl_walk.proofs.FindLaws.{further, item_further, item_shut, item_stop, shut_table, shut_unseen}
 use Rattle.ocfl_walk.proofs.find.+find_below.Goals as goal
 
-pub returns-in_err-inner-clause-told : goal.returns-in_err-inner-clause-told
-returns-in_err-inner-clause-told g t c = λ h root over at part is.
-    let p = err_from_is_err_and c.from_residual.result c.from_residual.ensures.1 in
-    rw (p.1, p.2) (item_stop root c.args.folder.place c.args.name.now c.args.rest.now c.args.place.now c.args.around c.down.new.object is
-    (g.T.Tree.state c.args.store.now) (g.T.Tree.state c.down.new.store) _ (c.in_err-inner.ensures.told h root over at part c.args.rest.now))
+pub returns-in_err-inner : goal.returns-in_err-inner
+returns-in_err-inner g t c = record {
+  told = λ h root over at part is.
+      let p = err_from_is_err_and c.from_residual.result c.from_residual.ensures.1 in
+      rw (p.1, p.2) (item_stop root c.args.folder.place c.args.name.now c.args.rest.now c.args.place.now c.args.around c.down.new.object is
+      (g.T.Tree.state c.args.store.now) (g.T.Tree.state c.down.new.store) _ (c.in_err-inner.ensures.told h root over at part c.args.rest.now));
+}
 
-pub returns-in-None-clause-told : goal.returns-in-None-clause-told
-returns-in-None-clause-told g t c = λ h root over at part is.
-    let parts = rw c.in-Some.is at c.split_first.ensures.cases in
-    let leads = rw c.in-None.is at c.in_ok-inner.ensures.told h root over at part c.args.rest.now in
-    item_shut root c.args.folder.place c.args.name.now c.args.rest.now c.args.place.now c.args.around c.down.new.object is (g.T.Tree.state c.args.store.now)
-    (g.T.Tree.state c.down.new.store) c.visit_path.result leads c.visit_path.ensures.only
-    (c.visit_path.ensures.told root
-    (shut_table root c.args.folder.place c.args.name.now c.args.rest.now c.args.place.now c.args.around c.down.new.object is _ _ leads)
-    (shut_unseen root c.args.folder.place c.args.name.now c.args.rest.now c.args.place.now c.args.around c.down.new.object is _ _ c.in-Some.next.now c.in-Some.behind.now parts.0 leads))
+pub returns-in-None : goal.returns-in-None
+returns-in-None g t c = record {
+  told = λ h root over at part is.
+      let parts = rw c.in-Some.is at c.split_first.ensures.cases in
+      let leads = rw c.in-None.is at c.in_ok-inner.ensures.told h root over at part c.args.rest.now in
+      item_shut root c.args.folder.place c.args.name.now c.args.rest.now c.args.place.now c.args.around c.down.new.object is (g.T.Tree.state c.args.store.now)
+      (g.T.Tree.state c.down.new.store) c.visit_path.result leads c.visit_path.ensures.only
+      (c.visit_path.ensures.told root
+      (shut_table root c.args.folder.place c.args.name.now c.args.rest.now c.args.place.now c.args.around c.down.new.object is _ _ leads)
+      (shut_unseen root c.args.folder.place c.args.name.now c.args.rest.now c.args.place.now c.args.around c.down.new.object is _ _ c.in-Some.next.now c.in-Some.behind.now parts.0 leads));
+}
 
-pub returns-in-Some-inner-clause-told : goal.returns-in-Some-inner-clause-told
-returns-in-Some-inner-clause-told g t c = λ h root over at part is.
-    let parts = rw c.in-Some.is at c.split_first.ensures.cases in
-    let leads = rw c.in-Some-inner.is at c.in_ok-inner.ensures.told h root over at part c.args.rest.now in
-    let e = leads.gives.1.place in
-    item_further root c.args.folder.place c.args.name.now c.args.rest.now c.args.place.now c.args.around c.down.new.object is (g.T.Tree.state c.args.store.now)
-    (g.T.Tree.state c.down.new.store) (g.T.Tree.state c.find_below.new.store) c.in-Some-inner.inner _ c.find_below.result parts.0 leads
-    (c.find_below.ensures.told h root (leads.gives.0.goes.calls.did.tree ∙ over)
-    (subst (λ x. IsAt root x c.in-Some-inner.inner.entries.items) (sym e) leads.gives.1.here) (subst (λ x. IsPart root x c.down.new.object) (sym e) leads.gives.1.part)
-    (further c.args.place.now c.args.folder.place c.in-Some-inner.inner.place c.args.name.now _ c.args.rest.now is e parts.0))
+pub returns-in-Some-inner : goal.returns-in-Some-inner
+returns-in-Some-inner g t c = record {
+  told = λ h root over at part is.
+      let parts = rw c.in-Some.is at c.split_first.ensures.cases in
+      let leads = rw c.in-Some-inner.is at c.in_ok-inner.ensures.told h root over at part c.args.rest.now in
+      let e = leads.gives.1.place in
+      item_further root c.args.folder.place c.args.name.now c.args.rest.now c.args.place.now c.args.around c.down.new.object is (g.T.Tree.state c.args.store.now)
+      (g.T.Tree.state c.down.new.store) (g.T.Tree.state c.find_below.new.store) c.in-Some-inner.inner _ c.find_below.result parts.0 leads
+      (c.find_below.ensures.told h root (leads.gives.0.goes.calls.did.tree ∙ over)
+      (subst (λ x. IsAt root x c.in-Some-inner.inner.entries.items) (sym e) leads.gives.1.here) (subst (λ x. IsPart root x c.down.new.object) (sym e) leads.gives.1.part)
+      (further c.args.place.now c.args.folder.place c.in-Some-inner.inner.place c.args.name.now _ c.args.rest.now is e parts.0));
+}

@@ -6,33 +6,41 @@ use Rattle.ocfl_walk.specs.Internal.Entering.{may_open}
 use Rattle.ocfl_walk.proofs.FindLaws.{item_known, item_memory, item_met, item_unmet, finds_none, missing_out, missing_table, missing_unseen, visits_listed}
 use Rattle.ocfl_walk.proofs.find.item_in.Goals as goal
 
-pub returns-in_err-try_clone-in-Some-clause-told : goal.returns-in_err-try_clone-in-Some-clause-told
-returns-in_err-try_clone-in-Some-clause-told g c = λ h root over at part is.
-    let p = err_from_is_err_and c.from_residual.result c.from_residual.ensures.1 in
-    rw (p.1, p.2) (item_memory root _ _ _ c.args.place.now over)
+pub returns-in_err-try_clone-in-Some : goal.returns-in_err-try_clone-in-Some
+returns-in_err-try_clone-in-Some g c = record {
+  told = λ h root over at part is.
+      let p = err_from_is_err_and c.from_residual.result c.from_residual.ensures.1 in
+      rw (p.1, p.2) (item_memory root _ _ _ c.args.place.now over);
+}
 
-pub returns-in_err-visit_entry-in-Some-clause-told : goal.returns-in_err-visit_entry-in-Some-clause-told
-returns-in_err-visit_entry-in-Some-clause-told g c = λ h root over at part is.
-    let p = err_from_is_err_and c.from_residual-in_err-visit_entry-in-Some.result c.from_residual-in_err-visit_entry-in-Some.ensures.1 in
-    let v = visits_listed root c.args.folder.now.place c.args.place.now _ c.args.name.now c.args.folder.now.entries.items _
-    c.args.around.now c.in-Some.entry.now (g.T.Tree.state c.args.store.now) (g.T.Tree.state c.visit_entry.new.store) (Err c.in_err-visit_entry-in-Some.field-0.0) at part is
-    c.in_ok-try_clone-in-Some.ensures c.deref.ensures.value c.in-Some.ensures.0 c.in-Some.ensures.1 (c.in_err-visit_entry-in-Some.ensures.told h root over) in
-    rw (p.1, p.2) (item_unmet root c.args.folder.now.place c.args.place.now c.args.name.now c.args.around.now is part (g.T.Tree.state c.args.store.now)
-    (g.T.Tree.state c.visit_entry.new.store) c.in_err-visit_entry-in-Some.field-0.0 v)
+pub returns-in_err-visit_entry-in-Some : goal.returns-in_err-visit_entry-in-Some
+returns-in_err-visit_entry-in-Some g c = record {
+  told = λ h root over at part is.
+      let p = err_from_is_err_and c.from_residual-in_err-visit_entry-in-Some.result c.from_residual-in_err-visit_entry-in-Some.ensures.1 in
+      let v = visits_listed root c.args.folder.now.place c.args.place.now _ c.args.name.now c.args.folder.now.entries.items _
+      c.args.around.now c.in-Some.entry.now (g.T.Tree.state c.args.store.now) (g.T.Tree.state c.visit_entry.new.store) (Err c.in_err-visit_entry-in-Some.field-0.0) at part is
+      c.in_ok-try_clone-in-Some.ensures c.deref.ensures.value c.in-Some.ensures.0 c.in-Some.ensures.1 (c.in_err-visit_entry-in-Some.ensures.told h root over) in
+      rw (p.1, p.2) (item_unmet root c.args.folder.now.place c.args.place.now c.args.name.now c.args.around.now is part (g.T.Tree.state c.args.store.now)
+      (g.T.Tree.state c.visit_entry.new.store) c.in_err-visit_entry-in-Some.field-0.0 v);
+}
 
-pub returns-in_ok-visit_entry-in-Some-clause-told : goal.returns-in_ok-visit_entry-in-Some-clause-told
-returns-in_ok-visit_entry-in-Some-clause-told g c = λ h root over at part is.
-    let v = visits_listed root c.args.folder.now.place c.args.place.now _ c.args.name.now c.args.folder.now.entries.items _
-    c.args.around.now c.in-Some.entry.now (g.T.Tree.state c.args.store.now) (g.T.Tree.state c.visit_entry.new.store) (Ok c.in_ok-visit_entry-in-Some.field-0) at part is
-    c.in_ok-try_clone-in-Some.ensures c.deref.ensures.value c.in-Some.ensures.0 c.in-Some.ensures.1 (c.in_ok-visit_entry-in-Some.ensures.told h root over) in
-    item_met root c.args.folder.now.place c.args.place.now c.args.name.now c.args.around.now is part (g.T.Tree.state c.args.store.now)
-    (g.T.Tree.state c.visit_entry.new.store) c.in_ok-visit_entry-in-Some.field-0 v
+pub returns-in_ok-visit_entry-in-Some : goal.returns-in_ok-visit_entry-in-Some
+returns-in_ok-visit_entry-in-Some g c = record {
+  told = λ h root over at part is.
+      let v = visits_listed root c.args.folder.now.place c.args.place.now _ c.args.name.now c.args.folder.now.entries.items _
+      c.args.around.now c.in-Some.entry.now (g.T.Tree.state c.args.store.now) (g.T.Tree.state c.visit_entry.new.store) (Ok c.in_ok-visit_entry-in-Some.field-0) at part is
+      c.in_ok-try_clone-in-Some.ensures c.deref.ensures.value c.in-Some.ensures.0 c.in-Some.ensures.1 (c.in_ok-visit_entry-in-Some.ensures.told h root over) in
+      item_met root c.args.folder.now.place c.args.place.now c.args.name.now c.args.around.now is part (g.T.Tree.state c.args.store.now)
+      (g.T.Tree.state c.visit_entry.new.store) c.in_ok-visit_entry-in-Some.field-0 v;
+}
 
-pub returns-in-None-clause-told : goal.returns-in-None-clause-told
-returns-in-None-clause-told g c = λ h root over at part is.
-    let none : kind_in c.args.folder.now.entries.items c.args.name.now ≡ None = subst (λ es. kind_in es c.args.name.now ≡ None) c.deref.ensures.value (rw c.in-None.is at c.entry_named.ensures) in
-    let out = missing_out root _ _ _ _ at is none in
-    let may = may_open c.args.around.now (zone root c.args.place.now) in
-    item_known root (g.T.Tree.state c.args.store.now) (g.T.Tree.state c.args.store.now) (c.args.place.now ∷ []) may c.args.place.now c.visit_path.result
-    (finds_none root (g.T.Tree.state c.args.store.now) c.args.place.now may over out) c.visit_path.ensures.only
-    (c.visit_path.ensures.told root (missing_table root _ _ _ _ at is none _ part) (missing_unseen root _ _ _ _ at is none))
+pub returns-in-None : goal.returns-in-None
+returns-in-None g c = record {
+  told = λ h root over at part is.
+      let none : kind_in c.args.folder.now.entries.items c.args.name.now ≡ None = subst (λ es. kind_in es c.args.name.now ≡ None) c.deref.ensures.value (rw c.in-None.is at c.entry_named.ensures) in
+      let out = missing_out root _ _ _ _ at is none in
+      let may = may_open c.args.around.now (zone root c.args.place.now) in
+      item_known root (g.T.Tree.state c.args.store.now) (g.T.Tree.state c.args.store.now) (c.args.place.now ∷ []) may c.args.place.now c.visit_path.result
+      (finds_none root (g.T.Tree.state c.args.store.now) c.args.place.now may over out) c.visit_path.ensures.only
+      (c.visit_path.ensures.told root (missing_table root _ _ _ _ at is none _ part) (missing_unseen root _ _ _ _ at is none));
+}

@@ -1,16 +1,17 @@
 use Rattle.std.proofs.{Common.{[], sym, ◌∙◌, Some, None}, lemmas.Result.{err_from_is_err_and}}
 use Rattle.ocfl_walk.specs.Internal.Walking.{StepsOutTo}
 use Rattle.ocfl_walk.specs.declared.stand.Turn.TheVariants as turn
-use Rattle.ocfl_walk.proofs.Chosen.{at_first, chosen_base, chosen_begun, chosen_entry, chosen_path, kept_turn, no_memory}
+use Rattle.ocfl_walk.proofs.Chosen.{at_first, chosen_base, chosen_begun, chosen_entry, chosen_path, kept_turn}
 use Rattle.ocfl_walk.proofs.FirstSteps.{goes_less, stays_before}
 use Rattle.ocfl_walk.proofs.StandLaws.{path_stands, stands_before, steps_out_to}
 use Rattle.ocfl_walk.proofs.StandSteps.{by_turn, ends_here, held, path_named, path_next}
+use Rattle.ocfl_walk.proofs.WalkCallLaws.{no_memory}
 use Rattle.ocfl_walk.proofs.stand.Stand.step.Goals as goal
 
 pub returns-in_err-turn-clause-told : goal.returns-in_err-turn-clause-told
 returns-in_err-turn-clause-told g c = λ h root over last st.
     let p = err_from_is_err_and c.from_residual.result c.from_residual.ensures.1 in
-    rw (p.1, p.2) (no_memory root (g.T.Tree.state c.args.store.now) last c.args.end.now over)
+    rw (p.1, p.2) (no_memory root (g.T.Tree.state c.args.store.now) over)
 
 pub take_base-requires-clause-first : goal.take_base-requires-clause-first
 take_base-requires-clause-first g c =

@@ -2,7 +2,7 @@ use Rattle.std.proofs.Common.{◌≡◌, ◌∙◌, ◌++◌, ◌∷◌, [], ap,
 use Rattle.std.proofs.lemmas.Result.{err_from_is_err_and}
 use Rattle.ocfl_walk.specs.{Before.{place_before}, Ends.{is_past}}
 use Rattle.ocfl_walk.specs.{Standing.{IsStanding, piles_in, spot_of}, declared.stand.Stand.{Stand}}
-use Rattle.ocfl_walk.proofs.{Chosen.{no_memory}, EndLaws.{not_past_down}}
+use Rattle.ocfl_walk.proofs.{WalkCallLaws.{no_memory}, EndLaws.{not_past_down}}
 use Rattle.ocfl_walk.proofs.FirstSteps.{cut_held, cut_in_order, cut_no_more, cut_trims, ends_at, entry_turn, goes_at_entry, goes_at_missing, missing_next, missing_turn, one_directory, stays_before, steps_at}
 use Rattle.ocfl_walk.proofs.StandLaws.{steps_out_to}
 use Rattle.ocfl_walk.proofs.stand.Stand.step_to.Goals as goal
@@ -10,7 +10,7 @@ use Rattle.ocfl_walk.proofs.stand.Stand.step_to.Goals as goal
 pub returns-in_err-place-clause-told : goal.returns-in_err-place-clause-told
 returns-in_err-place-clause-told g c = λ h root over d q st first.
     let p = err_from_is_err_and c.from_residual.result c.from_residual.ensures.1 in
-    rw (p.1, p.2) (no_memory root (g.T.Tree.state c.args.store.now) (Some q) c.args.end.now over)
+    rw (p.1, p.2) (no_memory root (g.T.Tree.state c.args.store.now) over)
 
 pub returns-then-is_past-clause-told : goal.returns-then-is_past-clause-told
 returns-then-is_past-clause-told g c = λ h root over d q st first.
@@ -27,7 +27,7 @@ returns-in_err-entry-clause-orderly g c =
 pub returns-in_err-entry-clause-told : goal.returns-in_err-entry-clause-told
 returns-in_err-entry-clause-told g c = λ h root over d q st first.
     let p = err_from_is_err_and c.from_residual-in_err-entry.result c.from_residual-in_err-entry.ensures.1 in
-    rw (p.1, p.2) (no_memory root (g.T.Tree.state c.args.store.now) (Some q) c.args.end.now over)
+    rw (p.1, p.2) (no_memory root (g.T.Tree.state c.args.store.now) over)
 
 pub take_entry-requires-clause-orderly : goal.take_entry-requires-clause-orderly
 take_entry-requires-clause-orderly g c =

@@ -43,7 +43,7 @@ returns-in-Item-clause-told g c = λ h root over last st.
     let parts_are = parts root c.args.self.now c.in-Some.name (sym c.take.ensures.value ∙ c.in-Some.is) last st in
     let first = before root c.args.self.now c.in-Some.name (sym c.take.ensures.value ∙ c.in-Some.is) last st in
     let new : Walk = record
-    { alloc = c.args.self.now.alloc; stand = c.step_to.new.self; first = c.take.new.self; broken = c.args.self.now.broken; orderly = orderly_to c.step_to.new.self c.step_to.ensures.orderly } in
+    { alloc = c.args.self.now.alloc; stand = c.step_to.new.self; first = c.take.new.self; orderly = orderly_to c.step_to.new.self c.step_to.ensures.orderly } in
     begins_item root c.args.self.now c.in-Some.name (sym c.take.ensures.value ∙ c.in-Some.is) last st (g.T.Tree.state c.args.store.now)
     (g.T.Tree.state c.step_to.new.store) c.args.end.now new c.in-Item.item c.take.ensures.after
     (subst (λ x. StepsAt root (g.T.Tree.state c.args.store.now) (g.T.Tree.state c.step_to.new.store) first.0 c.args.end.now c.args.self.now.stand
@@ -62,8 +62,6 @@ returns-in-Nothing-clause-told g c = λ h root over last st.
       alloc = c.args.self.now.alloc;
       stand = c.next-in-Nothing.new.self;
       first = c.take.new.self;
-      broken =
-          c.args.self.now.broken;
       orderly = orderly_to c.next-in-Nothing.new.self c.next-in-Nothing.ensures.orderly;
     } in
     let came = (subst (λ x. StepsAt root (g.T.Tree.state c.args.store.now) (g.T.Tree.state c.step_to.new.store) first.0 c.args.end.now
@@ -78,7 +76,7 @@ returns-in-End-clause-told g c = λ h root over last st.
     let parts_are = parts root c.args.self.now c.in-Some.name (sym c.take.ensures.value ∙ c.in-Some.is) last st in
     let first = before root c.args.self.now c.in-Some.name (sym c.take.ensures.value ∙ c.in-Some.is) last st in
     let new : Walk = record
-    { alloc = c.args.self.now.alloc; stand = c.step_to.new.self; first = Some c.in-Some.name; broken = c.args.self.now.broken; orderly = orderly_to c.step_to.new.self c.step_to.ensures.orderly } in
+    { alloc = c.args.self.now.alloc; stand = c.step_to.new.self; first = Some c.in-Some.name; orderly = orderly_to c.step_to.new.self c.step_to.ensures.orderly } in
     begins_end root c.args.self.now c.in-Some.name (sym c.take.ensures.value ∙ c.in-Some.is) last st (g.T.Tree.state c.args.store.now)
     (g.T.Tree.state c.step_to.new.store) c.args.end.now new refl
     (subst (λ x. StepsAt root (g.T.Tree.state c.args.store.now) (g.T.Tree.state c.step_to.new.store) first.0 c.args.end.now c.args.self.now.stand

@@ -46,6 +46,6 @@ returns-clause-told g c = λ h root over.
     let d = c.in_ok-directory.directory in
     let n = c.in_ok-directory.name in
     let told = c.in_ok-stand.ensures.told h root over in
-    let walk : Walk = record { alloc = c.args.alloc; stand = c.in_ok-stand.stand; first = Some n; broken = false; orderly = orderly_to c.in_ok-stand.stand c.in_ok-stand.ensures.orderly } in
+    let walk : Walk = record { alloc = c.args.alloc; stand = c.in_ok-stand.stand; first = Some n; orderly = orderly_to c.in_ok-stand.stand c.in_ok-stand.ensures.orderly } in
     at_name root c.args.from.now d n c.in_ok-directory.ensures (λ x b. GoesDown root (g.T.Tree.state c.args.store.now) (g.T.Tree.state c.stand_at.new.store) x × Stands root walk b)
     (start_goes_down root _ _ d told.0, (d, told.1, refl))

@@ -3,16 +3,16 @@ use Rattle.std.proofs.{Common.{◌≡◌, ◌≢◌, [], ◌++◌, ◌∙◌, ap
 use Rattle.ocfl_tree.specs.{Place.{Text}, StorageRoot.{StorageRoot}}
 use Rattle.ocfl_audit.specs.{Parts.{Part}, Runs.{Limits}}
 use Rattle.ocfl_cursor.specs.Cursor.{Cursor}
-use Rattle.ocfl_item.specs.declared.fault.Fault.TheVariants as fault
 use Rattle.ocfl_scrub.specs.{Joining.{PartRun, Ran}, declared.running.RunEnd.{RunEnd}}
 use Rattle.ocfl_scrub.specs.declared.running.RunStatus.TheVariants as status
+use Rattle.ocfl_scrub.specs.declared.stop.ReportStop.TheVariants.{Output}
 use Rattle.ocfl_night.specs.Steps.{IsRun}
 
 abbrev pub HasReport : StorageRoot → Part → Cursor → Limits → RunEnd → Text → Text → Type 0
 HasReport root part c limits ran old new = (r : PartRun) × ((cut : Text) × ((r.limits ≡ limits) × ((r.ran ≡ ran)
-    × ((new ≡ old ++ (r.report ++ cut)) × ((ran.end ≢ status.Stopped fault.Output → cut ≡ []) × Ran root part c r)))))
+    × ((new ≡ old ++ (r.report ++ cut)) × ((ran.end ≢ status.Stopped Output → cut ≡ []) × Ran root part c r)))))
 
-pub run_of : (root : StorageRoot) (part : Part) (c : Cursor) (limits : Limits) (ran : RunEnd) (old new : Text) → HasReport root part c limits ran old new → old ≡ [] → ran.end ≢ status.Stopped fault.Output → IsRun part c root new ran
+pub run_of : (root : StorageRoot) (part : Part) (c : Cursor) (limits : Limits) (ran : RunEnd) (old new : Text) → HasReport root part c limits ran old new → old ≡ [] → ran.end ≢ status.Stopped Output → IsRun part c root new ran
 run_of root part c limits ran old new h empty whole =
     let r = h.0 in
     let rest = h.1.1 in

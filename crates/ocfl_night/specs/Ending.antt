@@ -7,6 +7,7 @@ use Rattle.ocfl_cursor.specs.declared.limits.Limits.{Limits}
 use Rattle.ocfl_scrub.specs.{Running.{IsPaid, begun, limits_of}, declared.running.RunEnd.{RunEnd}}
 use Rattle.ocfl_scrub.specs.declared.running.RunStatus.{RunStatus}
 use Rattle.ocfl_scrub.specs.declared.running.RunStatus.TheVariants as status
+use Rattle.ocfl_scrub.specs.declared.stop.ReportStop.TheVariants as report
 use Rattle.ocfl_state.specs.declared.checkpoint_parts.Phase.{Phase}
 use Rattle.ocfl_state.specs.declared.checkpoint_parts.Phase.TheVariants.{Open, Closing}
 use Rattle.ocfl_state.specs.{Checkpoint.{Checkpoint}, declared.folder.Trouble.TheVariants.{Memory}}
@@ -23,14 +24,14 @@ use Rattle.ocfl_night.specs.declared.stop.Stop.TheVariants as stop
 
 -- why a run leaves nothing: its lines did not go out whole, or it was not made
 abbrev pub lost_by : RunStatus → Option Stop
-lost_by (status.Stopped fault.Output) = Some (stop.Folder Memory)
+lost_by (status.Stopped report.Output) = Some (stop.Folder Memory)
 lost_by status.Worn = Some stop.Worn
 lost_by _ = None
 
 -- how a slice ended whose run is kept
 abbrev pub slice_end : RunStatus → SliceEnd
 slice_end status.Ended = slice.Ended
-slice_end (status.Stopped why) = slice.Stopped why
+slice_end (status.Stopped (report.Fault why)) = slice.Stopped why
 slice_end _ = slice.Spent
 
 -- the place at which a slice stopped; else what halts the night then, if anything does

@@ -127,8 +127,6 @@ fn place_or_pause(end: SliceEnd) -> Result<Place, Option<Pause>>
     match end {
         SliceEnd::Stopped(Fault::Store(place)) => Ok(place),
         SliceEnd::Stopped(Fault::Memory) => Err(Some(Pause::Stopped(Fault::Memory))),
-        SliceEnd::Stopped(Fault::Output) => Err(Some(Pause::Stopped(Fault::Output))),
-        SliceEnd::Stopped(Fault::Broken) => Err(Some(Pause::Stopped(Fault::Broken))),
         SliceEnd::Unread(place) => Err(Some(Pause::Stopped(Fault::Store(place)))),
         SliceEnd::RootChanged => Err(Some(Pause::RootChanged)),
         SliceEnd::Ended | SliceEnd::Spent => Err(None),

@@ -3,10 +3,10 @@ ghost use Rattle.std.specs.Prelude.{◌≡◌, ◌≢◌, ◌⊎◌, ◌++◌, I
 ghost use Rattle.ocfl_audit.specs.Parts.{Part as ModelPart};
 ghost use Rattle.ocfl_tree.specs.{Place.{Text}, StorageRoot.{StorageRoot}, Store.{IfTold}};
 ghost use Rattle.ocfl_item.specs.Judging.{HasShortFiles};
-ghost use Rattle.ocfl_item.specs.declared.fault.Fault.TheVariants as fault;
 ghost use Rattle.ocfl_scrub.specs.{Keeping.{IsReady as IsWalkReady}, Running.{place_in}};
 ghost use Rattle.ocfl_scrub.specs.Starting.{part_of};
 ghost use Rattle.ocfl_scrub.specs.declared.running.RunStatus.TheVariants as run;
+ghost use Rattle.ocfl_scrub.specs.declared.stop.ReportStop.TheVariants.{Output};
 ghost use Rattle.ocfl_state.specs.{Content.{with_report}, Crash.{LeavesOnly, Only, Passes}};
 ghost use Rattle.ocfl_state.specs.Pieces.{summary_of};
 ghost use Rattle.ocfl_state.specs.declared.checkpoint_parts.ReportMark.{ReportMark as ModelMark};
@@ -24,7 +24,7 @@ use ocfl_cursor::{Cursor, Limits};
 use ocfl_digest::Block;
 use ocfl_identity::Identity;
 use ocfl_scrub::parts::each_run_that_goes_on_has_a_report;
-use ocfl_scrub::{KeptWalk, Part, RunEnd, RunStatus, run_on};
+use ocfl_scrub::{KeptWalk, Part, ReportStop, RunEnd, RunStatus, run_on};
 use ocfl_state::{Checkpoint, Phase, ReportMark, StateFolder, Trouble, append_marked};
 use ocfl_tree::{Place, Tree};
 use ocfl_walk::Fault;
@@ -33,11 +33,11 @@ use std::alloc::Global;
 /// Why a run leaves nothing: its lines did not go out whole, or it was not made.
 fn lost(end: &RunStatus) -> Option<Stop>
     ensures made { IfNone result (end.now ≢ run.Worn) }
-    ensures whole { IfNone result (end.now ≢ run.Stopped fault.Output) }
+    ensures whole { IfNone result (end.now ≢ run.Stopped Output) }
     ensures why { result ≡ lost_by end.now }
 {
     match end {
-        RunStatus::Stopped(Fault::Output) => Some(Stop::Folder(Trouble::Memory)),
+        RunStatus::Stopped(ReportStop::Output) => Some(Stop::Folder(Trouble::Memory)),
         RunStatus::Worn => Some(Stop::Worn),
         RunStatus::Ended | RunStatus::Spent | RunStatus::Stopped(_) => None,
     }
@@ -135,8 +135,10 @@ fn end_of(end: RunStatus) -> SliceEnd
 {
     match end {
         RunStatus::Ended => SliceEnd::Ended,
-        RunStatus::Spent | RunStatus::Worn => SliceEnd::Spent,
-        RunStatus::Stopped(why) => SliceEnd::Stopped(why),
+        RunStatus::Stopped(ReportStop::Fault(why)) => SliceEnd::Stopped(why),
+        RunStatus::Stopped(ReportStop::Output) | RunStatus::Spent | RunStatus::Worn => {
+            SliceEnd::Spent
+        }
     }
 }
 

@@ -4,9 +4,11 @@ use Rattle.std.proofs.lemmas.List.{append_cancel_left}
 use Rattle.ocfl_tree.specs.{Place.{Place, Text}, StorageRoot.{StorageRoot}, Store.{Store, Did}}
 use Rattle.ocfl_tree.specs.declared.store.Opening.{Opening}
 use Rattle.ocfl_audit.specs.Trail.{unread_of}
-use Rattle.ocfl_item.specs.Looking.{failures_by}
+use Rattle.ocfl_item.specs.Looking.{failures_at}
 use Rattle.ocfl_item.specs.Auditing.{Audits, Fails, FailedAt, in_listing, in_opening}
-use Rattle.ocfl_item.specs.{declared.fault.Fault.{Fault}, declared.pending.Pending.{Pending}}
+use Rattle.ocfl_item.specs.{declared.pending.Pending.{Pending}}
+use Rattle.ocfl_item.specs.declared.fault.Fault.{Fault}
+use Rattle.ocfl_scrub.specs.Types.{ReportStop}
 use Rattle.ocfl_walk.specs.{WalkCalls.{FailsOut, Walks, WalksOut}, Walks.{GivesOut}}
 use Rattle.ocfl_walk.specs.{declared.end.End.{End}, declared.walk.Walk.{Walk}}
 use Rattle.ocfl_scrub.specs.{Alike.{Added, IsAlike, with_added}, Call.{call_of}}
@@ -136,23 +138,30 @@ module _ (root : StorageRoot) (s t a : Store) (over : a.tree ≡ root) where
       in_opening before given is
       (f ∙ ap (λ x. a.failed_listings ++ x) (append_cancel_left s.failed_listings fs [] (sym e ∙ none ∙ sym (append-nil s.failed_listings))) ∙ append-nil a.failed_listings)
 
-  fails_there : (ps ls hs : List Place) (os : List Opening) (why : Fault) (h : Fails root s t ps ls hs os why)
-      → Fails root a (elsewhere s t a os ls (length (unread_of root os) + failures_by why) h.did) ps ls hs os why
-  fails_there ps ls hs os why h = record {
+  fails_there : (ps ls hs : List Place) (os : List Opening) (failed : Option Place) (h : Fails root s t ps ls hs os failed)
+      → Fails root a (elsewhere s t a os ls (length (unread_of root os) + failures_at failed) h.did) ps ls hs os failed
+  fails_there ps ls hs os failed h = record {
     over = over;
-    did = did_there s t a os ls (length (unread_of root os) + failures_by why) h.did t.rest t.largest;
+    did = did_there s t a os ls (length (unread_of root os) + failures_at failed) h.did t.rest t.largest;
     opened = h.opened;
     heads_are = h.heads_are;
     near = h.near;
     store = λ q e. let w = h.store q e in (w.0, failed_there _ ls os q h.did.failed h.did.failed_are refl w.1);
   }
 
+  -- what is so after calls there, is so after calls here
+  audits_alike : (X : Store → Type 0) {ps ls hs : List Place} {os : List Opening} → Audits root s t ps ls hs os → ((b : Store) → Audits root a b ps ls hs os → X b)
+      → (b : Store) × (IsAlike s t a b × X b)
+  audits_alike X h then = (elsewhere s t a _ _ _ h.did, (alike_did s t a _ _ _ h.did, then _ (audits_with t.rest t.largest _ _ _ _ h)))
+
+  fails_alike : (X : Store → Type 0) {ps ls hs : List Place} {os : List Opening} {failed : Option Place} → Fails root s t ps ls hs os failed
+      → ((b : Store) → Fails root a b ps ls hs os failed → X b) → (b : Store) × (IsAlike s t a b × X b)
+  fails_alike X h then = (elsewhere s t a _ _ _ h.did, (alike_did s t a _ _ _ h.did, then _ (fails_there _ _ _ _ _ h)))
+
   -- ---- a walk
 
   pub walks_elsewhere : (from to : Option Place) → Walks root s t from to → (b : Store) × (IsAlike s t a b × Walks root a b from to)
-  walks_elsewhere from to w =
-      let b : Store = elsewhere s t a _ _ _ w.audits.did in
-      (b, (alike_did s t a _ _ _ w.audits.did, record { trail = w.trail; audits = audits_with t.rest t.largest _ _ _ _ w.audits }))
+  walks_elsewhere from to w = audits_alike (λ b. Walks root a b from to) w.audits (λ b h. record { trail = w.trail; audits = h })
 
   -- with this left of the open file and of the largest read
   pub walks_with : (rest : Option Text) (largest : ℕ) (from to : Option Place) → Walks root s t from to → (b : Store) × ((b.rest ≡ rest) × (b.largest ≡ largest) × Walks root a b from to)
@@ -161,26 +170,17 @@ module _ (root : StorageRoot) (s t a : Store) (over : a.tree ≡ root) where
       (b, (refl, refl, record { trail = w.trail; audits = audits_with rest largest _ _ _ _ w.audits }))
 
   pub out_elsewhere : (from : Option Place) (e : End) → WalksOut root s t from e → (b : Store) × (IsAlike s t a b × WalksOut root a b from e)
-  out_elsewhere from e w =
-      let b : Store = elsewhere s t a _ _ _ w.audits.did in
-      (b, (alike_did s t a _ _ _ w.audits.did, record { trail = w.trail; audits = audits_with t.rest t.largest _ _ _ _ w.audits }))
+  out_elsewhere from e w = audits_alike (λ b. WalksOut root a b from e) w.audits (λ b h. record { trail = w.trail; audits = h })
 
   pub lost_elsewhere : (from : Option Place) (e : End) (why : Fault) → FailsOut root s t from e why → (b : Store) × (IsAlike s t a b × FailsOut root a b from e why)
-  lost_elsewhere from e why w =
-      let b : Store = elsewhere s t a _ _ _ w.fails.did in (
-        b,
-        (
-          alike_did s t a _ _ _ w.fails.did,
-          record {
-            trail = w.trail;
-            listed = w.listed;
-            heads = w.heads;
-            fails = fails_there _ _ _ _ why w.fails;
-            listed_front = w.listed_front;
-            heads_front = w.heads_front;
-          },
-        ),
-      )
+  lost_elsewhere from e why w = fails_alike (λ b. FailsOut root a b from e why) w.fails (λ b h. record {
+    trail = w.trail;
+    listed = w.listed;
+    heads = w.heads;
+    fails = h;
+    listed_front = w.listed_front;
+    heads_front = w.heads_front;
+  })
 
   pub gives_elsewhere : (last : Option Place) (e : End) (next : Walk) (o : Option Pending) → GivesOut root s t last e next o → (b : Store) × (IsAlike s t a b × GivesOut root a b last e next o)
   gives_elsewhere last e next None g = let w = out_elsewhere last e g.0 in (w.0, (w.1.0, (w.1.1, g.1, g.2)))
@@ -190,38 +190,24 @@ module _ (root : StorageRoot) (s t a : Store) (over : a.tree ≡ root) where
 
   pub takes_elsewhere : (old new : Option (List ℕ)) (p : Place) (cost : ℕ) (more : Bool) → Takes (call_of root s t old new) p cost more
       → (b : Store) × (IsAlike s t a b × Takes (call_of root a b old new) p cost more)
-  takes_elsewhere old new p cost more k =
-      let b : Store = elsewhere s t a _ _ _ k.audits.did in (
-        b,
-        (
-          alike_did s t a _ _ _ k.audits.did,
-          record {
-            trail = k.trail;
-            audits = audits_with t.rest t.largest _ _ _ _ k.audits;
-            alone = k.alone;
-            wrote = k.wrote;
-            cost_is = k.cost_is;
-            found_is = k.found_is;
-          },
-        ),
-      )
+  takes_elsewhere old new p cost more k = audits_alike (λ b. Takes (call_of root a b old new) p cost more) k.audits (λ b h. record {
+    trail = k.trail;
+    audits = h;
+    alone = k.alone;
+    wrote = k.wrote;
+    cost_is = k.cost_is;
+    found_is = k.found_is;
+  })
 
-  pub misses_elsewhere : (old new : Option (List ℕ)) (p : Place) (why : Fault) → Misses (call_of root s t old new) p why
+  pub misses_elsewhere : (old new : Option (List ℕ)) (p : Place) (why : ReportStop) → Misses (call_of root s t old new) p why
       → (b : Store) × (IsAlike s t a b × Misses (call_of root a b old new) p why)
-  misses_elsewhere old new p why k =
-      let b : Store = elsewhere s t a _ _ _ k.fails.did in (
-        b,
-        (
-          alike_did s t a _ _ _ k.fails.did,
-          record {
-            trail = k.trail;
-            begun = k.begun;
-            one = k.one;
-            fails = fails_there _ _ _ _ why k.fails;
-            alone = k.alone;
-            part = k.part;
-            wrote = k.wrote;
-            part_of = k.part_of;
-          },
-        ),
-      )
+  misses_elsewhere old new p why k = fails_alike (λ b. Misses (call_of root a b old new) p why) k.fails (λ b h. record {
+    trail = k.trail;
+    begun = k.begun;
+    one = k.one;
+    fails = h;
+    alone = k.alone;
+    part = k.part;
+    wrote = k.wrote;
+    part_of = k.part_of;
+  })

@@ -8,8 +8,10 @@ use Rattle.ocfl_report.specs.{Line.{Item, found}, Text.{text}}
 use Rattle.ocfl_audit.specs.{Audit.{audit, item_of}, Due.{item_places, due, items_at}}
 use Rattle.ocfl_audit.specs.{Trail.{unread_of}, Parts.{Part, whole, within}}
 use Rattle.ocfl_audit.proofs.{DueLaws.{after_is_due}, Trails.{unread_behind}}
-use Rattle.ocfl_item.specs.{Looking.{IsFront}, Ways.{IsWayFault}, Auditing.{Audits}}
-use Rattle.ocfl_item.specs.{declared.fault.Fault.{Fault}, declared.fault.Fault.TheVariants.{Output}}
+use Rattle.ocfl_item.specs.{Looking.{IsFront}, Auditing.{Audits}}
+use Rattle.ocfl_item.specs.declared.fault.Fault.{Fault}
+use Rattle.ocfl_scrub.specs.declared.stop.ReportStop.TheVariants.{Output}
+use Rattle.ocfl_scrub.specs.Types.{ReportStop}
 use Rattle.ocfl_walk.specs.{WalkCalls.{GoesDown, GoDownFails}}
 use Rattle.ocfl_walk.proofs.{FoundLaws.{none_hashed}, WalkCallLaws.{audits_as}}
 use Rattle.ocfl_scrub.specs.{Call.{call_of}, Taking.{PartOf}}
@@ -18,11 +20,13 @@ use Rattle.ocfl_scrub.specs.Starting.{end_of, entry, stand, looked_in, read_in, 
 use Rattle.ocfl_scrub.specs.WholeAudit.{AuditsWithin, AuditStopsWithin, AuditEndsWithin}
 use Rattle.ocfl_scrub.specs.declared.checking.AuditStatus.{AuditStatus}
 use Rattle.ocfl_scrub.specs.declared.checking.AuditStatus.TheVariants.{Ended, Stopped}
+use Rattle.ocfl_scrub.specs.declared.stop.ReportStop.TheVariants as halt
 use Rattle.ocfl_scrub.proofs.PartStarts.{above_in, due_starts, looked_all, read_all}
 use Rattle.ocfl_scrub.proofs.Passing.{due_in, Finishes, Halts}
 use Rattle.ocfl_scrub.proofs.LookLaws.{looks_over, stops_looking, stops_above}
 use Rattle.ocfl_scrub.proofs.{WayListed.{halted_lie, taken_lie}, AuditsJoined.{items_append}}
 use Rattle.ocfl_scrub.proofs.TakeLaws.{nothing_of}
+use Rattle.ocfl_scrub.proofs.TakeLaws.{fault_other}
 
 pub due_all : (root : StorageRoot) → due root None ≡ item_places root
 unfolding due
@@ -75,7 +79,7 @@ module _ (root : StorageRoot) (part : Part) (s t u : Store) (old new : Option (L
         found_is = h.found_is ∙ ap found items;
       }
 
-  pub halt_part : (why : Fault) (h : Halts root (end_of part) t u old new (stand root part None) stood finding why) → last ≡ last_or None h.done
+  pub halt_part : (why : ReportStop) (h : Halts root (end_of part) t u old new (stand root part None) stood finding why) → last ≡ last_or None h.done
       → AuditStopsWithin (call_of root s u old new) part last finding why
   halt_part why h last_is =
       let left : List Place = due_in root (end_of part) stood in
@@ -102,7 +106,7 @@ module _ (root : StorageRoot) (part : Part) (s t u : Store) (old new : Option (L
       }
 
 -- nothing went out
-unfoldable pub nothing_out : (items : List Item) (old : Option (List ℕ)) (last : Option Place) (why : Fault) → why ≢ Output → StopsWithin items old old last last why
+unfoldable pub nothing_out : (items : List Item) (old : Option (List ℕ)) (last : Option Place) (why : ReportStop) → why ≢ Output → StopsWithin items old old last last why
 nothing_out items old last why other = record {
   whole = [];
   others = items;
@@ -116,12 +120,12 @@ nothing_out items old last why other = record {
 }
 
 -- no walk was started
-pub unstarted : (root : StorageRoot) (part : Part) (s t : Store) (old : Option (List ℕ)) (why : Fault) → IsWayFault why
-    → GoDownFails root s t (entry part None) why → AuditStopsWithin (call_of root s t old old) part None false why
+pub unstarted : (root : StorageRoot) (part : Part) (s t : Store) (old : Option (List ℕ)) (why : Fault)
+    → GoDownFails root s t (entry part None) why → AuditStopsWithin (call_of root s t old old) part None false (halt.Fault why)
 unfolding nothing_out
-unstarted root part s t old why only g = record {
+unstarted root part s t old why g = record {
   trail = g.trail;
-  stops = nothing_out (items_in root g.trail part None) old None why only.0;
+  stops = nothing_out (items_in root g.trail part None) old None (halt.Fault why) (fault_other why);
   found_is = refl;
   looks = stops_above root part s t old old None why g;
 }

@@ -4,16 +4,18 @@ use Rattle.std.specs.{Prelude.{◌||◌, IfSome}, List.{last_or}}
 use Rattle.ocfl_tree.specs.{Place.{Place}, StorageRoot.{StorageRoot}, Store.{Store}}
 use Rattle.ocfl_audit.specs.Parts.{Part}
 use Rattle.ocfl_walk.specs.{Ends.{is_past}, WalkCalls.{GoesDown, FailsOut}}
-use Rattle.ocfl_walk.specs.{Walks.{IsLive, Stands, GivesOut}, declared.walk.Walk.{Walk}}
-use Rattle.ocfl_item.specs.{Pending.{IsPending}, Ways.{IsWayFault}, declared.fault.Fault.{Fault}}
+use Rattle.ocfl_walk.specs.{Walks.{Stands, GivesOut}, declared.walk.Walk.{Walk}}
+use Rattle.ocfl_item.specs.{Pending.{IsPending}, declared.fault.Fault.{Fault}}
+use Rattle.ocfl_scrub.specs.Types.{ReportStop}
 use Rattle.ocfl_item.specs.declared.pending.Pending.{Pending}
 use Rattle.ocfl_scrub.specs.{Call.{call_of}, Starting.{end_of, entry, stand}}
 use Rattle.ocfl_scrub.specs.{Taking.{Takes, Misses}, WholeAudit.{AuditsWithin, AuditStopsWithin}}
+use Rattle.ocfl_scrub.specs.declared.stop.ReportStop.TheVariants as halt
 use Rattle.ocfl_scrub.proofs.AuditsJoined.{audits_over}
 use Rattle.ocfl_scrub.proofs.{BetweenLaws.{HasGoneOn, gone_self, gone_next}, Passing.{Passes}}
 use Rattle.ocfl_scrub.proofs.AuditLaws.{finish_part, halt_part}
 use Rattle.ocfl_scrub.proofs.PassLaws.{passes_none, passes_over, passes_took, passes_missed, passes_lost, passes_finish, all_done, last_append}
-use Rattle.ocfl_scrub.proofs.LoopLaws.{IsUnderWay, GivesNext, GivesItem, gives_item, walked_over}
+use Rattle.ocfl_scrub.proofs.LoopLaws.{GivesNext, GivesItem, gives_item, walked_over}
 
 -- from s to t a walk went down to where a part begins, the items from there on were taken, and the
 -- walk stands after the last of them
@@ -40,19 +42,19 @@ nothing_taken root part s t old walk there = record {
 }
 
 module _ {root : StorageRoot} {s t : Store} {old mid : Option (List ℕ)} {walk : Walk} {last : Option Place} {finding : Bool} (part : Part)
-    (way : IsUnderWay walk old mid finding) (h : HasTaken root part s t old mid walk last finding) (u : Store) where
+    (h : HasTaken root part s t old mid walk last finding) (u : Store) where
   module _ {o : Option Pending} (next : Walk) (gave : GivesNext root (end_of part) t u walk next o) where
     -- nothing is left before the end
     pub audit_ended : o ≡ None → AuditsWithin (call_of root s u old mid) part last finding
     audit_ended is =
-        let gives : GivesOut root t u h.stood (end_of part) next None = subst (GivesOut root t u h.stood (end_of part) next) is (gave (passes_over h.passes) way.live h.stood h.stands) in
+        let gives : GivesOut root t u h.stood (end_of part) next None = subst (GivesOut root t u h.stood (end_of part) next) is (gave (passes_over h.passes) h.stood h.stands) in
         let all = all_done root (end_of part) h.begun t u old mid (stand root part None) h.stood finding h.beyond h.passes gives.1 in
         finish_part root part s h.begun u old mid h.stood last finding h.down
         (passes_finish root (end_of part) h.begun t u old mid (stand root part None) h.stood finding h.beyond h.passes gives.0 gives.1) (h.last_is ∙ ap (last_or None) all)
 
     module _ {q : Pending} (is : o ≡ Some q) (before : IfSome o (λ p. is_past (end_of part) p.place ≡ false)) (v : Store) (new : Option (List ℕ)) where
       item : GivesItem root (end_of part) t u h.stood next q
-      item = gives_item root (end_of part) t u walk next h.stood _ _ gave (passes_over h.passes) way.live h.stands is before
+      item = gives_item root (end_of part) t u walk next h.stood _ _ gave (passes_over h.passes) h.stands is before
 
       pub audit_took : (place : Place) (cost : ℕ) (more either : Bool) → place ≡ q.place → either ≡ (finding || more)
           → (u.tree ≡ root → IsPending root q → Takes (call_of root u v mid new) q.place cost more)
@@ -69,16 +71,15 @@ module _ {root : StorageRoot} {s t : Store} {old mid : Option (List ℕ)} {walk 
         last_is = sym (last_append None h.passes.done q.place);
       })
 
-      pub audit_missed : (why : Fault) → (u.tree ≡ root → IsPending root q → Misses (call_of root u v mid new) q.place why) → AuditStopsWithin (call_of root s v old new) part last finding why
+      pub audit_missed : (why : ReportStop) → (u.tree ≡ root → IsPending root q → Misses (call_of root u v mid new) q.place why) → AuditStopsWithin (call_of root s v old new) part last finding why
       unfolding passes_missed
       audit_missed why misses = halt_part root part s h.begun v old new h.stood last finding h.down why
           (passes_missed root (end_of part) h.begun t u old mid (stand root part None) h.stood finding h.beyond h.passes q.place item.above item.gives.3
           item.in_front item.gives.0 v new why (misses (walked_over item.gives.0) item.gives.2)) h.last_is
 
   -- the walk did not get to its next item
-  pub audit_lost : (why : Fault) → (IsLive walk → IsWayFault why)
-      → (t.tree ≡ root → IsLive walk → (p : Option Place) → Stands root walk p → FailsOut root t u p (end_of part) why) → AuditStopsWithin (call_of root s u old mid) part last finding why
+  pub audit_lost : (why : Fault)
+      → (t.tree ≡ root → (p : Option Place) → Stands root walk p → FailsOut root t u p (end_of part) why) → AuditStopsWithin (call_of root s u old mid) part last finding (halt.Fault why)
   unfolding passes_lost
-  audit_lost why only lost = halt_part root part s h.begun u old mid h.stood last finding h.down why
-      (passes_lost root (end_of part) h.begun t u old mid (stand root part None) h.stood finding h.beyond h.passes why (only way.live).0
-      (lost (passes_over h.passes) way.live h.stood h.stands)) h.last_is
+  audit_lost why lost = halt_part root part s h.begun u old mid h.stood last finding h.down (halt.Fault why)
+      (passes_lost root (end_of part) h.begun t u old mid (stand root part None) h.stood finding h.beyond h.passes why (lost (passes_over h.passes) h.stood h.stands)) h.last_is

@@ -16,8 +16,9 @@ use Rattle.ocfl_cursor.specs.declared.part_reading.PartCursorStop.TheVariants as
 use Rattle.ocfl_cursor.specs.declared.refused.PartRefused.TheVariants as part
 use Rattle.ocfl_cursor.specs.declared.refused.Refused.TheVariants as refused
 use Rattle.ocfl_cursor.proofs.PartTexts.{part_text_determines}
-use Rattle.ocfl_item.specs.declared.fault.Fault.{Fault}
+use Rattle.ocfl_scrub.specs.Types.{ReportStop}
 use Rattle.ocfl_item.specs.declared.fault.Fault.TheVariants as fault
+use Rattle.ocfl_scrub.specs.declared.stop.ReportStop.TheVariants as halt
 use Rattle.ocfl_deed.specs.declared.deed.Deed.{Deed}
 use Rattle.ocfl_scope.specs.{Numbered.{AreAllFrom, part_between}, declared.scope.Scope.{Scope}}
 use Rattle.ocfl_scope.proofs.NumberedLaws.{all_parts}
@@ -45,11 +46,10 @@ end_by false = run.Spent
 unmade_says : {A : Type 0} (whole : Bool) (n m : Note) → n ≡ m → (SaysMade whole m → ⊥) → SaysMade whole n → A
 unmade_says whole n m e unmade says = absurd (unmade (subst (SaysMade whole) e says))
 
-stop_says : (whole : Bool) (why : Fault) (n : Note) → IsStopNote why n → SaysMade whole n → ⊥
-stop_says whole (fault.Store p) n h says = unmade_says whole n (note.StoppedAt p) h (λ x. x) says
-stop_says whole fault.Memory n h says = unmade_says whole n note.OutOfMemory h (λ x. x) says
-stop_says whole fault.Output n h says = unmade_says whole n note.OutputFailed h (λ x. x) says
-stop_says whole fault.Broken n h says = h
+stop_says : (whole : Bool) (why : ReportStop) (n : Note) → IsStopNote why n → SaysMade whole n → ⊥
+stop_says whole (halt.Fault (fault.Store p)) n h says = unmade_says whole n (note.StoppedAt p) h (λ x. x) says
+stop_says whole (halt.Fault fault.Memory) n h says = unmade_says whole n note.OutOfMemory h (λ x. x) says
+stop_says whole halt.Output n h says = unmade_says whole n note.OutputFailed h (λ x. x) says
 
 refused_says : (whole : Bool) (why : PartRefused) (status : ℕ) (n : Note) → IsPartRefusedNote why status n → SaysMade whole n → ⊥
 refused_says whole (part.Text refused.Memory) status n h says = unmade_says whole n note.OutOfMemory h.1 (λ x. x) says

@@ -13,7 +13,7 @@ use Rattle.ocfl_cursor.specs.declared.ends.PartEnds.{PartEnds}
 use Rattle.ocfl_cursor.specs.declared.limits.Limits.{Limits as MadeLimits}
 use Rattle.ocfl_cursor.proofs.PartTexts.{part_text_determines}
 use Rattle.ocfl_deed.specs.declared.deed.Deed.TheVariants as deed
-use Rattle.ocfl_item.specs.declared.fault.Fault.TheVariants.{Output}
+use Rattle.ocfl_scrub.specs.declared.stop.ReportStop.TheVariants.{Output}
 use Rattle.ocfl_scope.specs.Numbered.{AreAllFrom, part_between}
 use Rattle.ocfl_scope.specs.declared.scope.Scope.TheVariants as scope
 use Rattle.ocfl_scope.proofs.NumberedLaws.{all_parts}

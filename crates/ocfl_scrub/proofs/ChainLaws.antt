@@ -4,7 +4,9 @@ use Rattle.std.specs.{Prelude.{◌||◌}, List.{list_any}}
 use Rattle.ocfl_tree.specs.{Place.{Place}, StorageRoot.{StorageRoot}, Store.{Store}}
 use Rattle.ocfl_audit.specs.{Lines.{is_empty}, Parts.{Part}, Runs.{Limits}}
 use Rattle.ocfl_cursor.specs.{Cursor.{State, Cursor, new_cursor}, Moves.{after_run}}
-use Rattle.ocfl_item.specs.{declared.fault.Fault.{Fault}, declared.fault.Fault.TheVariants.{Memory}}
+use Rattle.ocfl_item.specs.declared.fault.Fault.TheVariants.{Memory}
+use Rattle.ocfl_scrub.specs.declared.stop.ReportStop.TheVariants as halt
+use Rattle.ocfl_scrub.specs.Types.{ReportStop}
 use Rattle.ocfl_scrub.specs.Call.{Call, call_of}
 use Rattle.ocfl_scrub.specs.Running.{place_in, state_after, begun_in, RunEndsWithin, RunsFromWithin}
 use Rattle.ocfl_scrub.specs.{Starting.{due_within}, Chaining.{MadeRun, IsMadeOf, CycleOfRunsWithin}}
@@ -55,7 +57,7 @@ moved_new n spent files s = figures_are 1 (0 + n) n (0 + spent) spent (0 + files
 abbrev EndsIn : List MadeRun → List Limits → CycleStatus → Type 0
 EndsIn runs unused cycle.Ended = last_end runs ≡ run.Ended
 EndsIn runs unused cycle.Spent = (last_end runs ≡ run.Spent) × (unused ≡ [])
-EndsIn runs unused (cycle.Stopped why) = (last_end runs ≡ run.Stopped why) ⊎ ((why ≡ Memory) × (last_end runs ≡ run.Spent))
+EndsIn runs unused (cycle.Stopped why) = (last_end runs ≡ run.Stopped why) ⊎ ((why ≡ halt.Fault Memory) × (last_end runs ≡ run.Spent))
 
 ends_in : (runs : List MadeRun) (unused : List Limits) (end : CycleStatus) → LastEnds runs unused end → EndsIn runs unused end
 ends_in runs unused cycle.Ended h = h
@@ -66,7 +68,7 @@ ends_in runs unused (cycle.Stopped why) (inr b) = inr (b.memory, b.spent)
 pub spent_not_ended : run.Spent ≡ run.Ended → ⊥
 spent_not_ended e = cc
 
-pub spent_not_stopped : (why : Fault) → run.Spent ≡ run.Stopped why → ⊥
+pub spent_not_stopped : (why : ReportStop) → run.Spent ≡ run.Stopped why → ⊥
 spent_not_stopped why e = cc
 
 abbrev found_by : List MadeRun → Bool
@@ -95,8 +97,8 @@ module _ (root : StorageRoot) (part : Part) where
     cursor_is = moved_none c (state_at from) there;
   }
 
-  none_begun : (s : Store) (old : Option (List ℕ)) (c : Cursor) (from : Option Place) (unused : List Limits) (why : Fault) → s.tree ≡ root → c.state ≡ state_at from
-      → why ≡ Memory → Comes s s old old c from unused [] (cycle.Stopped why)
+  none_begun : (s : Store) (old : Option (List ℕ)) (c : Cursor) (from : Option Place) (unused : List Limits) (why : ReportStop) → s.tree ≡ root → c.state ≡ state_at from
+      → why ≡ halt.Fault Memory → Comes s s old old c from unused [] (cycle.Stopped why)
   none_begun s old c from unused why over there is = record {
     last = from;
     spent = 0;
@@ -182,7 +184,7 @@ module _ (root : StorageRoot) (part : Part) where
       ended_here e = alone cycle.Ended run.Ended e refl (parts_ended root part s u old mid from now.last r.limits r.ran.spent r.ran.files r.ran.found unused
           (turn_of root part s u old mid from now.last r.limits r.ran.spent r.ran.files r.ran.found None (run_as run.Ended e)))
 
-      stopped_here : (why : Fault) → r.ran.end ≡ run.Stopped why → Comes s t old new c from (r.limits ∷ unused) (r ∷ []) (cycle.Stopped why)
+      stopped_here : (why : ReportStop) → r.ran.end ≡ run.Stopped why → Comes s t old new c from (r.limits ∷ unused) (r ∷ []) (cycle.Stopped why)
       stopped_here why e = alone (cycle.Stopped why) (run.Stopped why) e refl
           (parts_stopped root part s u old mid from now.last r.limits r.ran.spent r.ran.files r.ran.found unused why (run_as (run.Stopped why) e))
 
@@ -190,7 +192,7 @@ module _ (root : StorageRoot) (part : Part) where
       spent_here e none = then e [] unused cycle.Spent
           (left_alone u t mid new r.ran.cursor now.last unused [] cycle.Spent same (none_spent u mid r.ran.cursor now.last unused over_then (there_then e) (some_then e) none))
 
-      unbegun_here : (why : Fault) → why ≡ Memory → r.ran.end ≡ run.Spent → Comes s t old new c from (r.limits ∷ unused) (r ∷ []) (cycle.Stopped why)
+      unbegun_here : (why : ReportStop) → why ≡ halt.Fault Memory → r.ran.end ≡ run.Spent → Comes s t old new c from (r.limits ∷ unused) (r ∷ []) (cycle.Stopped why)
       unbegun_here why is e = then e [] unused (cycle.Stopped why)
           (left_alone u t mid new r.ran.cursor now.last unused [] (cycle.Stopped why) same (none_begun u mid r.ran.cursor now.last unused why over_then (there_then e) is))
 

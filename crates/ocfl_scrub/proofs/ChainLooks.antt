@@ -14,6 +14,7 @@ use Rattle.ocfl_scrub.specs.declared.cycling.CycleEnd.{CycleEnd}
 use Rattle.ocfl_scrub.specs.declared.running.RunStatus.{RunStatus}
 use Rattle.ocfl_item.specs.Auditing.{FailedAt}
 use Rattle.ocfl_item.specs.declared.fault.Fault.TheVariants.{Memory, Store as AtStore}
+use Rattle.ocfl_scrub.specs.declared.stop.ReportStop.TheVariants as halt
 use Rattle.ocfl_scrub.specs.declared.cycling.CycleStatus.TheVariants as cycle
 use Rattle.ocfl_scrub.specs.declared.running.RunStatus.TheVariants as run
 use Rattle.ocfl_scrub.proofs.{ChainHeadline.{now}, ChainLaws.{spent_not_stopped}}
@@ -58,8 +59,8 @@ module _ (root : StorageRoot) (part : Part) where
   FailedIn s t q = (listed : List Place) × ((trail : List Opening) × ((t.listings ≡ s.listings ++ listed) × ((t.openings ≡ s.openings ++ trail) × FailedAt root s t listed trail q)))
 
   last_failed : (made : List MadeRun) (c : Cursor) (s t : Store) (old new : Option (List ℕ)) → AreMade part c made → IsMadeOf (call_of root s t old new) (calls_of made)
-      → (q : Place) → last_end made ≡ run.Stopped (AtStore q) → (front : List Call) × ((k : Call) × ((calls_of made ≡ front ++ k ∷ []) × FailedIn k.before k.after q))
-  last_failed [] c s t old new h m q e = absurd (spent_not_stopped (AtStore q) e)
+      → (q : Place) → last_end made ≡ run.Stopped (halt.Fault (AtStore q)) → (front : List Call) × ((k : Call) × ((calls_of made ≡ front ++ k ∷ []) × FailedIn k.before k.after q))
+  last_failed [] c s t old new h m q e = absurd (spent_not_stopped (halt.Fault (AtStore q)) e)
   last_failed (r ∷ []) c s t old new h m q e =
       let k = now root part s old c r h.0 m.0 in
       let fails = (subst (RunEndsWithin (call_of root s r.call.after old r.call.new) part (place_in c.state) k.last r.limits r.ran.spent r.ran.files r.ran.found) e k.run).looks.fails in
@@ -108,14 +109,14 @@ module _ (call : Call) (part : Part) (limits : List Limits) (ran : CycleEnd) (h 
       let k = cycle_lists in
       (flat_map (λ ls. ls) k.0, (k.1.1.0, subst (λ n. length (filter is_empty (flat_map (λ ls. ls) k.0)) ≤ n) k.1.0 (root_each k.0 k.1.1.1)))
 
-  pub failed_last : (q : Place) → ran.end ≡ cycle.Stopped (AtStore q) → (calls : List Call) × ((k : Call) × (IsMadeOf call (calls ++ k ∷ []) × ((length (calls ++ k ∷ []) ≡ ran.runs)
+  pub failed_last : (q : Place) → ran.end ≡ cycle.Stopped (halt.Fault (AtStore q)) → (calls : List Call) × ((k : Call) × (IsMadeOf call (calls ++ k ∷ []) × ((length (calls ++ k ∷ []) ≡ ran.runs)
       × FailedIn call.root part k.before k.after q)))
   failed_last q e = by (subst (LastEnds a.runs a.unused) e a.ends)
     where
-      not_memory : AtStore q ≡ Memory → ⊥
+      not_memory : halt.Fault (AtStore q) ≡ halt.Fault Memory → ⊥
       not_memory f = cc
 
-      by : LastEnds a.runs a.unused (cycle.Stopped (AtStore q))
+      by : LastEnds a.runs a.unused (cycle.Stopped (halt.Fault (AtStore q)))
           → (calls : List Call) × ((k : Call) × (IsMadeOf call (calls ++ k ∷ []) × ((length (calls ++ k ∷ []) ≡ ran.runs) × FailedIn call.root part k.before k.after q)))
       by (inr b) = absurd (not_memory b.memory)
       by (inl f) =

@@ -5,7 +5,9 @@ use Rattle.std.specs.{Prelude.{◌||◌}, List.{AllByRecursion, list_any}}
 use Rattle.ocfl_tree.specs.{Place.{Place}, StorageRoot.{StorageRoot}, Store.{Store}}
 use Rattle.ocfl_audit.specs.{Parts.{Part}, Runs.{Limits}}
 use Rattle.ocfl_cursor.specs.Cursor.{Cursor, new_cursor}
-use Rattle.ocfl_item.specs.{declared.fault.Fault.{Fault}, declared.fault.Fault.TheVariants.{Memory}}
+use Rattle.ocfl_item.specs.declared.fault.Fault.TheVariants.{Memory}
+use Rattle.ocfl_scrub.specs.declared.stop.ReportStop.TheVariants as halt
+use Rattle.ocfl_scrub.specs.Types.{ReportStop}
 use Rattle.ocfl_scrub.specs.{Call.{Call, call_of}, Running.{RunEndsWithin, RunsFromWithin}}
 use Rattle.ocfl_scrub.specs.Chaining.{MadeRun, IsMadeOf, CycleOfRunsWithin}
 use Rattle.ocfl_scrub.specs.declared.running.RunEnd.{RunEnd}
@@ -126,9 +128,9 @@ module _ (root : StorageRoot) (part : Part) (s t : Store) (old mid : Option (Lis
       cycle_is root part s t old mid limits all c finding count g.chain ran cycle.Spent counted cursor found end_is g.began (spent_all g.chain.runs g.spent) (end_all g.chain.runs g.spent, none)
 
   -- there was no memory for the text of a run's cursor
-  pub cycle_unbegun : (ran : CycleEnd) → ran.runs ≡ count → ran.cursor ≡ c → ran.found ≡ finding → ran.end ≡ cycle.Stopped Memory → 1 ≤ count → 1 ≤ length limits
+  pub cycle_unbegun : (ran : CycleEnd) → ran.runs ≡ count → ran.cursor ≡ c → ran.found ≡ finding → ran.end ≡ cycle.Stopped (halt.Fault Memory) → 1 ≤ count → 1 ≤ length limits
       → CycleOfRunsWithin (call_of root s t old mid) part all ran
-  cycle_unbegun ran counted cursor found end_is some more = cycle_is root part s t old mid limits all c finding count g.chain ran (cycle.Stopped Memory)
+  cycle_unbegun ran counted cursor found end_is some more = cycle_is root part s t old mid limits all c finding count g.chain ran (cycle.Stopped (halt.Fault Memory))
       counted cursor found end_is g.began (spent_all g.chain.runs g.spent) (inr (record {
         memory = refl;
         made = let n = g.chain.count_is in omega (arith, n, some);
@@ -174,7 +176,7 @@ module _ (root : StorageRoot) (part : Part) (s t : Store) (old mid : Option (Lis
         cycle_is root part s u old new ls all made.cursor either (count + 1) grown ran cycle.Ended
         counted cursor found end_is g.began (spent_then g.chain.runs this g.spent) (end_more g.chain.runs this ∙ e)
 
-    pub cycle_stopped : (why : Fault) (ran : CycleEnd) → ran.runs ≡ count + 1 → ran.cursor ≡ made.cursor → ran.found ≡ either → ran.end ≡ cycle.Stopped why → made.end ≡ run.Stopped why
+    pub cycle_stopped : (why : ReportStop) (ran : CycleEnd) → ran.runs ≡ count + 1 → ran.cursor ≡ made.cursor → ran.found ≡ either → ran.end ≡ cycle.Stopped why → made.end ≡ run.Stopped why
         → CycleOfRunsWithin (call_of root s u old new) part all ran
     cycle_stopped why ran counted cursor found end_is e =
         cycle_is root part s u old new ls all made.cursor either (count + 1) grown ran (cycle.Stopped why)

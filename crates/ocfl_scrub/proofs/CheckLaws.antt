@@ -14,17 +14,20 @@ use Rattle.ocfl_audit.specs.Due.{hashed_among, items_at}
 use Rattle.ocfl_audit.proofs.{AuditExists.{lines_from_notes}, DueLaws.{lines_alike}}
 use Rattle.ocfl_audit.proofs.PathLaws.{hashed_lines, hashed_no_meta}
 use Rattle.ocfl_audit.proofs.Trails.{unread_behind, all_meta, meta_at}
-use Rattle.ocfl_item.specs.{Ways.{IsWayFault}, Auditing.{Fails}, Pending.{IsPending}}
-use Rattle.ocfl_item.specs.{Meeting.{IsItemAt}, declared.fault.Fault.{Fault}}
+use Rattle.ocfl_item.specs.{Auditing.{Fails}, Pending.{IsPending}}
+use Rattle.ocfl_item.specs.{Meeting.{IsItemAt}}
+use Rattle.ocfl_scrub.specs.Types.{ReportStop}
 use Rattle.ocfl_item.specs.declared.pending.Pending.{Pending}
+use Rattle.ocfl_item.specs.declared.fault.Fault.{Fault}
 use Rattle.ocfl_walk.specs.WalkCalls.{GoesDown, GoDownFails}
-use Rattle.ocfl_scrub.specs.{Call.{call_of}, Taking.{PartOf, Takes, Misses}}
+use Rattle.ocfl_scrub.specs.{Call.{call_of}, Taking.{PartOf, Takes, Misses, stop_place}}
 use Rattle.ocfl_scrub.specs.Checking.{checked_item, AreOnce, IsJustFor, Checks, CheckStops, CheckEnds}
 use Rattle.ocfl_scrub.specs.declared.checking.AuditStatus.{AuditStatus}
 use Rattle.ocfl_scrub.specs.declared.checking.AuditStatus.TheVariants.{Stopped}
+use Rattle.ocfl_scrub.specs.declared.stop.ReportStop.TheVariants as halt
 use Rattle.ocfl_walk.proofs.{FoundLaws.{none_hashed}, WalkCallLaws.{audits_as}}
 use Rattle.ocfl_item.proofs.AuditingLaws.{audits_fail, audits_on}
-use Rattle.ocfl_scrub.proofs.{TakeLaws.{nothing_of}, WayListed.{checked_lie, front_lies}}
+use Rattle.ocfl_scrub.proofs.{TakeLaws.{fault_of_nothing}, WayListed.{checked_lie, front_lies}}
 
 -- ---- the item of a place
 
@@ -142,8 +145,8 @@ module _ (root : StorageRoot) (p : Place) where
           found_is = sym (ap found e);
         }
 
-    pub not_gone_down : (old : Option (List ℕ)) (why : Fault) → IsWayFault why → GoDownFails root s t (Some p) why → CheckStops (call_of root s t old old) p why
-    not_gone_down old why only g = record {
+    pub not_gone_down : (old : Option (List ℕ)) (why : Fault) → GoDownFails root s t (Some p) why → CheckStops (call_of root s t old old) p (halt.Fault why)
+    not_gone_down old why g = record {
       trail = g.trail;
       begun = [];
       one = (p ∷ [], refl);
@@ -154,7 +157,7 @@ module _ (root : StorageRoot) (p : Place) where
       just = record { listed_front = g.listed_front; heads_front = g.heads_front; once = g.once };
       part = [];
       wrote = Appends-nil old;
-      part_of = nothing_of why only.0 (text (checked_item root g.trail p));
+      part_of = fault_of_nothing why (text (checked_item root g.trail p));
     }
 
   module _ (s t u : Store) (old new : Option (List ℕ)) (g : GoesDown root s t (Some p)) (some : notes root None p ≢ []) where
@@ -179,7 +182,7 @@ module _ (root : StorageRoot) (p : Place) where
           found_is = k.found_is ∙ sym (ap found items);
         }
 
-    pub down_and_missed : (why : Fault) → Misses (call_of root t u old new) p why → CheckStops (call_of root s u old new) p why
+    pub down_and_missed : (why : ReportStop) → Misses (call_of root t u old new) p why → CheckStops (call_of root s u old new) p why
     down_and_missed why k =
         let items : checked_item root (g.trail ++ k.trail) p ≡ items_at root k.trail (p ∷ []) = joined_item root g.trail k.trail p meta some in
         record {
@@ -188,9 +191,9 @@ module _ (root : StorageRoot) (p : Place) where
           one = k.one;
           listed = g.listed;
           heads = g.heads;
-          fails = subst (λ hs. Fails root s u k.begun g.listed hs (g.trail ++ k.trail) why) (append-nil g.heads)
-              (subst (λ ls. Fails root s u k.begun ls (g.heads ++ []) (g.trail ++ k.trail) why) (append-nil g.listed)
-              (audits_fail root s t u [] k.begun g.listed [] g.heads [] g.trail k.trail why g.audits k.fails));
+          fails = subst (λ hs. Fails root s u k.begun g.listed hs (g.trail ++ k.trail) (stop_place why)) (append-nil g.heads)
+              (subst (λ ls. Fails root s u k.begun ls (g.heads ++ []) (g.trail ++ k.trail) (stop_place why)) (append-nil g.listed)
+              (audits_fail root s t u [] k.begun g.listed [] g.heads [] g.trail k.trail _ g.audits k.fails));
           files_lie = front_lies root s t p g k.begun k.one.0 k.one.1;
           just = just_then k.trail (one_of_front root p k.begun k.one.0 k.trail k.one.1 k.alone);
           part = k.part;
@@ -200,7 +203,7 @@ module _ (root : StorageRoot) (p : Place) where
 
 -- ---- at the ends that a call gives
 
-pub check_stopped : (root : StorageRoot) (s t : Store) (old new : Option (List ℕ)) (p : Place) (item finding : Bool) (why : Fault) (end : AuditStatus)
+pub check_stopped : (root : StorageRoot) (s t : Store) (old new : Option (List ℕ)) (p : Place) (item finding : Bool) (why : ReportStop) (end : AuditStatus)
     → end ≡ Stopped why → CheckStops (call_of root s t old new) p why → CheckEnds (call_of root s t old new) p item finding end
 check_stopped root s t old new p item finding why end e w = subst (λ x. CheckEnds (call_of root s t old new) p item finding x) (sym e) w
 
@@ -209,7 +212,7 @@ pub check_took : (root : StorageRoot) (s t u : Store) (old new : Option (List �
     → Checks (call_of root s u old new) p true finding
 check_took root s t u old new p q cost finding e g some k = down_and_taken root p s t u old new g some cost finding (subst (λ x. Takes (call_of root t u old new) x cost finding) e k)
 
-pub check_missed : (root : StorageRoot) (s t u : Store) (old new : Option (List ℕ)) (p q : Place) (item finding : Bool) (why : Fault) (end : AuditStatus)
+pub check_missed : (root : StorageRoot) (s t u : Store) (old new : Option (List ℕ)) (p q : Place) (item finding : Bool) (why : ReportStop) (end : AuditStatus)
     → end ≡ Stopped why → q ≡ p → GoesDown root s t (Some p) → notes root None p ≢ []
     → Misses (call_of root t u old new) q why → CheckEnds (call_of root s u old new) p item finding end
 check_missed root s t u old new p q item finding why end f e g some k =

@@ -14,11 +14,12 @@ use Rattle.ocfl_audit.specs.Parts.{Part, whole, within}
 use Rattle.ocfl_audit.proofs.ObjectLaws.{inventories_read}
 use Rattle.ocfl_audit.proofs.RunLaws.{large_whole, large_few, limits_join, limits_few}
 use Rattle.ocfl_item.specs.{Looking.{IsFront}, Auditing.{Audits, Fails}}
-use Rattle.ocfl_item.specs.declared.fault.Fault.{Fault}
+use Rattle.ocfl_scrub.specs.Types.{ReportStop}
 use Rattle.ocfl_scrub.specs.{Call.{Call, call_of}, Written.{places, Figures}}
 use Rattle.ocfl_scrub.specs.{Starting.{due_within, items_in}, Chaining.{IsMadeOf}}
 use Rattle.ocfl_scrub.specs.Cycling.{enough, EachStartsBelow, Headline}
 use Rattle.ocfl_scrub.specs.Together.{runs_in, all_in, inventories_in, CyclesWithin, CycleStopsWithin}
+use Rattle.ocfl_scrub.specs.Taking.{stop_place}
 use Rattle.ocfl_scrub.proofs.{AuditLaws.{places_of_items, none_left}, NextLaws.{root_is_due}}
 use Rattle.ocfl_scrub.proofs.{PartStarts.{above_in}, RunsJoined.{Parts, PartsStop}}
 
@@ -91,7 +92,7 @@ module _ (root : StorageRoot) (part : Part) (s t : Store) (old new : Option (Lis
             (to_end (limits_join limits items (omega (arith, p, fits)) files_fit (omega (arith, sum, w))), omega (arith, counted, m));
       }
 
-  pub cycle_stops : (why : Fault) → 1 ≤ count → PartsStop root part s t old new None last limits spent files finding count why
+  pub cycle_stops : (why : ReportStop) → 1 ≤ count → PartsStop root part s t old new None last limits spent files finding count why
       → CycleStopsWithin (call_of root s t old new) part last limits spent files finding count why
   cycle_stops why some h =
       let whole : List Item = items_at root h.trail h.done in
@@ -115,7 +116,7 @@ module _ (root : StorageRoot) (part : Part) (s t : Store) (old new : Option (Lis
         figures = h.figures;
         listed = h.listed;
         heads = h.heads;
-        fails = subst (λ ps. Fails root s t (ps ++ h.begun) h.listed h.heads h.trail why) at_places h.fails;
+        fails = subst (λ ps. Fails root s t (ps ++ h.begun) h.listed h.heads h.trail (stop_place why)) at_places h.fails;
         inventories_read = h.read.some some;
       }
 

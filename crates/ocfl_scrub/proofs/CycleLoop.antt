@@ -5,7 +5,8 @@ use Rattle.ocfl_tree.specs.Place.{Place}
 use Rattle.ocfl_tree.proofs.Lists.{drop_item}
 use Rattle.ocfl_cursor.specs.Cursor.{State, start, behind, ended, Cursor, new_cursor}
 use Rattle.ocfl_cursor.specs.{Moves.{after_run}, declared.limits.Limits.{Limits as MadeLimits}}
-use Rattle.ocfl_item.specs.{declared.fault.Fault.{Fault}, declared.fault.Fault.TheVariants.{Output}}
+use Rattle.ocfl_scrub.specs.declared.stop.ReportStop.TheVariants.{Output}
+use Rattle.ocfl_scrub.specs.Types.{ReportStop}
 use Rattle.ocfl_scrub.specs.{Taking.{WritesLines}, Together.{state_at}}
 use Rattle.ocfl_scrub.specs.Running.{limits_of, state_after, begun_in, begun}
 use Rattle.ocfl_scrub.specs.declared.running.RunStatus.{RunStatus}
@@ -32,7 +33,7 @@ ended_not_worn end e f = cc
 pub spent_not_worn : (end : RunStatus) → end ≡ run.Spent → end ≢ run.Worn
 spent_not_worn end e f = cc
 
-pub stopped_not_worn : (end : RunStatus) (why : Fault) → end ≡ run.Stopped why → end ≢ run.Worn
+pub stopped_not_worn : (end : RunStatus) (why : ReportStop) → end ≡ run.Stopped why → end ≢ run.Worn
 stopped_not_worn end why e f = cc
 
 pub ended_wrote : (end : RunStatus) → end ≡ run.Ended → end ≢ run.Stopped Output
@@ -41,7 +42,7 @@ ended_wrote end e f = cc
 pub spent_wrote : (end : RunStatus) → end ≡ run.Spent → end ≢ run.Stopped Output
 spent_wrote end e f = cc
 
-pub stopped_wrote : (end : RunStatus) (why : Fault) (last_end : CycleStatus) → end ≡ run.Stopped why → last_end ≡ cycle.Stopped why → last_end ≢ cycle.Stopped Output → end ≢ run.Stopped Output
+pub stopped_wrote : (end : RunStatus) (why : ReportStop) (last_end : CycleStatus) → end ≡ run.Stopped why → last_end ≡ cycle.Stopped why → last_end ≢ cycle.Stopped Output → end ≢ run.Stopped Output
 stopped_wrote end why last_end e f other g = let same : why ≡ Output = cc in other (f ∙ ap cycle.Stopped same)
 
 -- ---- cursors

@@ -22,7 +22,8 @@ use Rattle.ocfl_audit.proofs.Lists.{map_filter}
 use Rattle.ocfl_audit.proofs.PartLaws.{part_goes_on, within_is, places_within_is}
 use Rattle.ocfl_audit.proofs.RunLaws.{cost_append, files_append}
 use Rattle.ocfl_cursor.specs.Cursor.{State, start, behind, ended, Cursor}
-use Rattle.ocfl_item.specs.{declared.fault.Fault.{Fault}, declared.fault.Fault.TheVariants.{Output}}
+use Rattle.ocfl_scrub.specs.declared.stop.ReportStop.TheVariants.{Output}
+use Rattle.ocfl_scrub.specs.Types.{ReportStop}
 use Rattle.ocfl_scrub.specs.Call.{Call, known_call}
 use Rattle.ocfl_scrub.specs.Joining.{PartRun, Ran, AreOneCycle, cursor_after, is_taken, left_by, unread_by, unread_together, is_stopped, unstopped, items_out, reports_of, PartCycle, IsWholeCycle}
 use Rattle.ocfl_scrub.specs.Running.{place_in, begun, begun_in, state_after, taken_in, RunsWithin, RunStopsWithin, RunEndsWithin, RunsFromWithin}
@@ -78,7 +79,7 @@ kept_all test (e ∷ u) h =
 ended_spent : status.Ended ≡ status.Spent → ⊥
 ended_spent e = cc
 
-spent_stopped : (why : Fault) → status.Spent ≡ status.Stopped why → ⊥
+spent_stopped : (why : ReportStop) → status.Spent ≡ status.Stopped why → ⊥
 spent_stopped why e = cc
 
 -- a run that left something has reached one of its limits
@@ -105,7 +106,7 @@ went_on r rest end e f =
     ap (λ w. length (cond (not (is_stopped w)) (r ∷ filter (λ q. not (is_stopped q.ran.end)) rest) (filter (λ q. not (is_stopped q.ran.end)) rest))) e
     ∙ ap (λ b. length (cond (not b) (r ∷ filter (λ q. not (is_stopped q.ran.end)) rest) (filter (λ q. not (is_stopped q.ran.end)) rest))) f
 
-stopped_there : (r : PartRun) (rest : List PartRun) (why : Fault) → r.ran.end ≡ status.Stopped why → unstopped (r ∷ rest) ≡ unstopped rest
+stopped_there : (r : PartRun) (rest : List PartRun) (why : ReportStop) → r.ran.end ≡ status.Stopped why → unstopped (r ∷ rest) ≡ unstopped rest
 stopped_there r rest why e =
     ap (λ w. length (cond (not (is_stopped w)) (r ∷ filter (λ q. not (is_stopped q.ran.end)) rest) (filter (λ q. not (is_stopped q.ran.end)) rest))) e
 
@@ -155,7 +156,7 @@ module _ (b n : ℕ) (r : PartRun) (rest : List PartRun) (xs ys : List Item) (la
       let least = large.files in
       counted_more m.by_cost (suc m.by_files) (omega (arith, more, k)) (omega arith) (omega (arith, one, least, p))
 
-  counted_stopped : (why : Fault) → r.ran.end ≡ status.Stopped why → Counted b n (r ∷ rest) (xs ++ ys)
+  counted_stopped : (why : ReportStop) → r.ran.end ≡ status.Stopped why → Counted b n (r ∷ rest) (xs ++ ys)
   counted_stopped why e = counted_more m.by_cost m.by_files (stopped_there r rest why e ∙ m.count_is) (omega arith) (omega arith)
 
 counted_ended : (b n : ℕ) (r : PartRun) (xs : List Item) → r.ran.end ≡ status.Ended → Counted b n (r ∷ []) xs
@@ -317,7 +318,7 @@ module _ (root : StorageRoot) (part : Part) where
         }
 
     -- it stopped, maybe in a further one
-    module _ (why : Fault) (h : RunStopsWithin call part from last r.limits r.ran.spent r.ran.files r.ran.found why) where
+    module _ (why : ReportStop) (h : RunStopsWithin call part from last r.limits r.ran.spent r.ran.files r.ran.found why) where
       abbrev unwritten : List Item
       unwritten = h.stops.others ++ left (items_in root h.trail part from) r.limits
 
@@ -392,7 +393,7 @@ module _ (root : StorageRoot) (part : Part) where
             due_there h.trail (places out) (due_within root part last)
             (due_parts_are h.trail out (left (items_in root h.trail part from) r.limits) (cut_split h.trail) h.last_is same) same h.looks.audits.opened
 
-        stopped : (why : Fault) → RunStopsWithin call part from last r.limits r.ran.spent r.ran.files r.ran.found why → AreDue
+        stopped : (why : ReportStop) → RunStopsWithin call part from last r.limits r.ran.spent r.ran.files r.ran.found why → AreDue
         stopped why h =
             let same = trail_is h.trail h.looks.fails.did.openings_are in
             due_there h.trail (places h.stops.whole ++ h.stops.begun) (unbegun why h)

@@ -16,8 +16,9 @@ use Rattle.ocfl_audit.specs.Runs.{Limits}
 use Rattle.ocfl_cursor.specs.declared.refused.PartRefused.TheVariants as part
 use Rattle.ocfl_cursor.specs.declared.refused.Refused.TheVariants as refused
 use Rattle.ocfl_deed.specs.declared.deed.Deed.TheVariants as deed
-use Rattle.ocfl_item.specs.declared.fault.Fault.{Fault}
+use Rattle.ocfl_scrub.specs.Types.{ReportStop}
 use Rattle.ocfl_item.specs.declared.fault.Fault.TheVariants as fault
+use Rattle.ocfl_scrub.specs.declared.stop.ReportStop.TheVariants as halt
 use Rattle.ocfl_scrub.specs.Noting.{IsRunNote, IsStopNote}
 use Rattle.ocfl_scrub.specs.Performing.{BeginsWith, RefusesRightly, UnshownSaid, IsWithoutFile, ShowsWith, HandsBack, HandedBack}
 use Rattle.ocfl_scrub.specs.Running.{IsPaid, begun, limits_of, state_after}
@@ -110,11 +111,10 @@ module _ (one : (b l m : Text) → AreShown b l → AreShown b m → l ≡ m) wh
 
 -- ---- what is handed back
 
-no_summary : (why : Fault) (cycle runs cost : ℕ) (whole : Bool) → IsStopNote why (note.RunMade cycle runs cost whole) → ⊥
-no_summary (fault.Store p) cycle runs cost whole e = cc
-no_summary fault.Memory cycle runs cost whole e = cc
-no_summary fault.Output cycle runs cost whole e = cc
-no_summary fault.Broken cycle runs cost whole e = e
+no_summary : (why : ReportStop) (cycle runs cost : ℕ) (whole : Bool) → IsStopNote why (note.RunMade cycle runs cost whole) → ⊥
+no_summary (halt.Fault (fault.Store p)) cycle runs cost whole e = cc
+no_summary (halt.Fault fault.Memory) cycle runs cost whole e = cc
+no_summary halt.Output cycle runs cost whole e = cc
 
 -- how a run ended that is summed up so
 abbrev ended_as : Bool → RunStatus

@@ -1,15 +1,14 @@
 -- A pass with a walk that is kept, or that begins, is a run.
-use Rattle.std.proofs.Common.{◌≡◌, ◌≢◌, ◌⊎◌, inl, inr, ◌^◌, ◌≤◌, ℕ, List, refl, sym, ◌∙◌, ap, subst, false, Bool, Some, None, Option}
+use Rattle.std.proofs.Common.{◌≡◌, ◌≢◌, ◌^◌, ◌≤◌, ℕ, List, refl, sym, ◌∙◌, ap, subst, false, Bool, Some, None, Option}
 use Rattle.std.specs.Prelude.{IfSome}
 use Rattle.ocfl_tree.specs.{Place.{Place, Text}, StorageRoot.{StorageRoot}, Store.{Store}}
 use Rattle.ocfl_audit.specs.{Parts.{Part}, Runs.{Limits}}
 use Rattle.ocfl_cursor.specs.{Cursor.{Cursor, State}, Moves.{after_run}}
 use Rattle.ocfl_cursor.specs.declared.limits.Limits.{Limits as MadeLimits}
-use Rattle.ocfl_item.specs.{Ways.{IsWayFault}, declared.fault.Fault.{Fault}}
+use Rattle.ocfl_item.specs.{declared.fault.Fault.{Fault}}
 use Rattle.ocfl_item.specs.declared.pending.Pending.{Pending}
-use Rattle.ocfl_item.specs.declared.fault.Fault.TheVariants as fault
 use Rattle.ocfl_walk.specs.{Ends.{is_past}, WalkCalls.{FailsOut, GoDownFails, GoesDown, Walks}}
-use Rattle.ocfl_walk.specs.{Walks.{GivesOut, IsLive, Stands}, declared.walk.Walk.{Walk}}
+use Rattle.ocfl_walk.specs.{Walks.{GivesOut, Stands}, declared.walk.Walk.{Walk}}
 use Rattle.ocfl_scrub.specs.{Beginning.{Begins, IsShort}, Call.{Call, call_of, known_call}}
 use Rattle.ocfl_scrub.specs.Keeping.{IsMet, IsReady, IsReadyIn, RunsOn, met_at, met_in}
 use Rattle.ocfl_scrub.specs.Passes.{EndsAt, IsAhead, IsPass, PassesFrom, PassesOn, PassesWith}
@@ -19,6 +18,7 @@ use Rattle.ocfl_scrub.specs.{declared.kept.KeptWalk.{KeptWalk}, declared.kept.Me
 use Rattle.ocfl_scrub.specs.{declared.running.Pass.{Pass}, declared.running.RunEnd.{RunEnd}}
 use Rattle.ocfl_scrub.specs.declared.running.RunStatus.{RunStatus}
 use Rattle.ocfl_scrub.specs.declared.running.RunStatus.TheVariants as status
+use Rattle.ocfl_scrub.specs.declared.stop.ReportStop.TheVariants as halt
 use Rattle.ocfl_scrub.proofs.{AlikeLaws.{alike_same, alike_tree}, AuditsJoined.{audits_over}}
 use Rattle.ocfl_scrub.proofs.{CycleRuns.{HasReport, has_report}, KeptLaws.{ahead_of}}
 use Rattle.ocfl_scrub.proofs.{KeptTurns.{pass_of}, LoopLaws.{GivesNext}}
@@ -31,7 +31,6 @@ module _ (old new : Option (List ℕ)) (limits : MadeLimits) (last : Option Plac
     (short : IsShort last) (paid : IsPaid (limits_of limits) spent files) (fits : spent ≤ 2 ^ 63) where
   pub spent_pass : (kept : Met) → WritesLines old new finding → IsPass old new limits (pass_of last spent files finding status.Spent (Some kept))
   spent_pass kept lines = record {
-    whole = λ e. cc;
     works = λ e. cc;
     short = short;
     paid = paid;
@@ -41,34 +40,18 @@ module _ (old new : Option (List ℕ)) (limits : MadeLimits) (last : Option Plac
     unspent = λ n. absurd (n refl);
   }
 
-  pub ended_pass : WritesLines old new finding → IsPass old new limits (pass_of last spent files finding status.Ended None)
-  ended_pass lines = record {
-    whole = λ e. cc;
-    works = λ e. cc;
+  -- it ended otherwise, and no walk is kept
+  pub other_pass : (end : RunStatus) → end ≢ status.Worn → end ≢ status.Spent → (end ≢ status.Stopped halt.Output → WritesLines old new finding)
+      → IsPass old new limits (pass_of last spent files finding end None)
+  other_pass end works unspent lines = record {
+    works = works;
     short = short;
     paid = paid;
     fits = fits;
-    lines = λ n. lines;
-    spent = λ e. absurd (let two : status.Ended ≡ status.Spent = e in cc);
+    lines = lines;
+    spent = λ e. absurd (unspent e);
     unspent = λ n. refl;
   }
-
-  pub stopped_pass : (why : Fault) → why ≢ fault.Broken → (why ≢ fault.Output → WritesLines old new finding) → IsPass old new limits (pass_of last spent files finding (status.Stopped why) None)
-  stopped_pass why whole lines = record {
-    whole = λ e. whole (let two : status.Stopped why ≡ status.Stopped fault.Broken = e in cc);
-    works = λ e. cc;
-    short = short;
-    paid = paid;
-    fits = fits;
-    lines = λ n. lines (λ e. n (ap status.Stopped e));
-    spent = λ e. absurd (let two : status.Stopped why ≡ status.Spent = e in cc);
-    unspent = λ n. refl;
-  }
-
--- an item that was not taken breaks no run
-pub missed_whole : (why : Fault) → (why ≡ fault.Memory) ⊎ (why ≡ fault.Output) → why ≢ fault.Broken
-missed_whole why (inl e) h = let two : fault.Memory ≡ fault.Broken = sym e ∙ h in cc
-missed_whole why (inr e) h = let two : fault.Output ≡ fault.Broken = sym e ∙ h in cc
 
 -- ---- a walk that begins
 
@@ -79,11 +62,11 @@ module _ (root : StorageRoot) (part : Part) (s t u : Store) (old : Option (List 
         let h = stands_first root part s t old walk from l there in
         (run_ended part h.0 u next (subst (λ o. GivesOut root t u o (end_of part) next None) (sym h.1) gives), tt)
 
-    pub begins_lost : (why : Fault) → IsWayFault why → FailsOut root t u (stand root part from) (end_of part) why
-        → EndsAt (call_of root s u old old) part from l (pass_of from 0 0 false (status.Stopped why) None)
-    begins_lost why only lost =
+    pub begins_lost : (why : Fault) → FailsOut root t u (stand root part from) (end_of part) why
+        → EndsAt (call_of root s u old old) part from l (pass_of from 0 0 false (status.Stopped (halt.Fault why)) None)
+    begins_lost why lost =
         let h = stands_first root part s t old walk from l there in
-        (run_lost part h.0 u why only.0 (subst (λ o. FailsOut root t u o (end_of part) why) (sym h.1) lost), tt)
+        (run_lost part h.0 u why (subst (λ o. FailsOut root t u o (end_of part) why) (sym h.1) lost), tt)
 
     pub begins_on : (v : Store) (new : Option (List ℕ)) (m : Met) (pass : Pass) → GivesOut root t u (stand root part from) (end_of part) m.walk (Some m.item)
         → is_past (end_of part) m.item.place ≡ false → PassesOn (call_of root u v old new) part m from l pass → EndsAt (call_of root s v old new) part from l pass
@@ -92,10 +75,10 @@ module _ (root : StorageRoot) (part : Part) (s t u : Store) (old : Option (List 
         let x = h.ends s u refl refl ahead in
         subst (λ (b : Store). EndsAt (call_of root s b old new) part from l pass) (alike_same x.1.0) x.1.1
 
-module _ (root : StorageRoot) (part : Part) (s t u : Store) (old : Option (List ℕ)) (from : Option Place) (l : Limits) (walk : Walk) (live : IsLive walk)
+module _ (root : StorageRoot) (part : Part) (s t u : Store) (old : Option (List ℕ)) (from : Option Place) (l : Limits) (walk : Walk)
     (there : GoesDown root s t (entry part from) × Stands root walk (stand root part from)) where
   gives_there : (next : Walk) (o : Option Pending) → GivesNext root (end_of part) t u walk next o → GivesOut root t u (stand root part from) (end_of part) next o
-  gives_there next o gave = gave (audits_over there.0.audits) live (stand root part from) there.1
+  gives_there next o gave = gave (audits_over there.0.audits) (stand root part from) there.1
 
   -- the walk gave nothing
   pub begun_ended : (next : Walk) (o : Option Pending) → GivesNext root (end_of part) t u walk next o → o ≡ None → EndsAt (call_of root s u old old) part from l (pass_of from 0 0 false status.Ended None)
@@ -109,14 +92,14 @@ module _ (root : StorageRoot) (part : Part) (s t u : Store) (old : Option (List 
       begins_on root part s t u old from l walk there v new m pass gives (subst (λ x. IfSome x (λ p. is_past (end_of part) p.place ≡ false)) is before) (h (audits_over gives.0.audits))
 
   -- it did not get to one
-  pub begun_lost : (why : Fault) → (IsLive walk → IsWayFault why) → (t.tree ≡ root → IsLive walk → (p : Option Place) → Stands root walk p → FailsOut root t u p (end_of part) why)
-      → EndsAt (call_of root s u old old) part from l (pass_of from 0 0 false (status.Stopped why) None)
-  begun_lost why only lost = begins_lost root part s t u old from l walk there why (only live) (lost (audits_over there.0.audits) live (stand root part from) there.1)
+  pub begun_lost : (why : Fault) → (t.tree ≡ root → (p : Option Place) → Stands root walk p → FailsOut root t u p (end_of part) why)
+      → EndsAt (call_of root s u old old) part from l (pass_of from 0 0 false (status.Stopped (halt.Fault why)) None)
+  begun_lost why lost = begins_lost root part s t u old from l walk there why (lost (audits_over there.0.audits) (stand root part from) there.1)
 
 -- no walk was begun
-pub begins_not : (root : StorageRoot) (part : Part) (s t : Store) (old : Option (List ℕ)) (from : Option Place) (l : Limits) (why : Fault) → IsWayFault why
-    → GoDownFails root s t (entry part from) why → EndsAt (call_of root s t old old) part from l (pass_of from 0 0 false (status.Stopped why) None)
-begins_not root part s t old from l why only fails = (not_run root part s t old from l why only fails, tt)
+pub begins_not : (root : StorageRoot) (part : Part) (s t : Store) (old : Option (List ℕ)) (from : Option Place) (l : Limits) (why : Fault)
+    → GoDownFails root s t (entry part from) why → EndsAt (call_of root s t old old) part from l (pass_of from 0 0 false (status.Stopped (halt.Fault why)) None)
+begins_not root part s t old from l why fails = (not_run root part s t old from l why fails, tt)
 
 -- ---- a walk that is kept
 
@@ -206,7 +189,6 @@ pub made_run : {S O : Type 0} (contents : O → Option (List ℕ)) (before after
     → IsPass (contents old) (contents new) limits pass → (reached : Cursor) (state : State) → reached ≡ after_run b pass.spent pass.files state → state ≡ state_after pass.end pass.last
     → RunsOnAnyStore contents before after old new c limits (record { cursor = reached; spent = pass.spent; files = pass.files; found = pass.found; end = pass.end })
 made_run contents before after old new c b from limits pass begins p reached state e f = record {
-  unbroken = p.whole;
   worn = (λ x. absurd (p.works x), λ x. absurd (begins.unworn x));
   worn_cursor = λ x. absurd (p.works x);
   worn_figures = λ x. absurd (p.works x);

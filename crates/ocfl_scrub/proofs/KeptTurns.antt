@@ -4,15 +4,17 @@ use Rattle.std.proofs.Common.{◌≡◌, ℕ, ◌+◌, List, sym, ◌∙◌, sub
 use Rattle.std.specs.Prelude.{◌||◌, IfSome}
 use Rattle.ocfl_tree.specs.{Place.{Place}, StorageRoot.{StorageRoot}, Store.{Store}}
 use Rattle.ocfl_audit.specs.{Due.{due}, Parts.{Part}, Runs.{Limits, files_of}}
-use Rattle.ocfl_item.specs.{Pending.{IsPending}, Ways.{IsWayFault}, declared.fault.Fault.{Fault}}
+use Rattle.ocfl_item.specs.{Pending.{IsPending}, declared.fault.Fault.{Fault}}
+use Rattle.ocfl_scrub.specs.Types.{ReportStop}
 use Rattle.ocfl_item.specs.declared.pending.Pending.{Pending}
-use Rattle.ocfl_walk.specs.{Ends.{is_past}, WalkCalls.{FailsOut}, Walks.{GivesOut, IsLive, Stands}}
+use Rattle.ocfl_walk.specs.{Ends.{is_past}, WalkCalls.{FailsOut}, Walks.{GivesOut, Stands}}
 use Rattle.ocfl_walk.specs.declared.walk.Walk.{Walk}
 use Rattle.ocfl_scrub.specs.{Alike.{IsAlike}, Call.{call_of}, Keeping.{IsMet}}
 use Rattle.ocfl_scrub.specs.{Passes.{IsAhead, PassesOn}, Starting.{end_of}, Taking.{Misses, Takes}}
 use Rattle.ocfl_scrub.specs.{declared.kept.Met.{Met}, declared.running.Pass.{Pass}}
 use Rattle.ocfl_scrub.specs.declared.running.RunStatus.{RunStatus}
 use Rattle.ocfl_scrub.specs.declared.running.RunStatus.TheVariants as status
+use Rattle.ocfl_scrub.specs.declared.stop.ReportStop.TheVariants as halt
 use Rattle.ocfl_scrub.proofs.AlikeLaws.{alike_start, alike_then, alike_there, alike_tree, gives_elsewhere, lost_elsewhere, misses_elsewhere, takes_elsewhere}
 use Rattle.ocfl_scrub.proofs.{AuditsJoined.{audits_over}, KeptLaws.{met_ready}}
 use Rattle.ocfl_scrub.proofs.LookedLaws.{HasLooked, above_ended, above_lost, above_missed, above_spent, looked_first, looked_on, looked_over, looked_took, met_lies}
@@ -68,7 +70,7 @@ module _ {root : StorageRoot} {s t : Store} {old mid : Option (List ℕ)} {m : M
 
   module _ (may : q.hashed ≡ true → IsWithinBoth l spent files) (v : Store) (new : Option (List ℕ)) where
     -- the item was not taken
-    pub way_missed : (why : Fault) → (t.tree ≡ root → IsPending root q → Misses (call_of root t v mid new) q.place why)
+    pub way_missed : (why : ReportStop) → (t.tree ≡ root → IsPending root q → Misses (call_of root t v mid new) q.place why)
         → PassesOn (call_of root s v old new) part m from l (pass_of last spent files finding (status.Stopped why) None)
     way_missed why missed = record {
       looks = λ is.
@@ -92,19 +94,19 @@ module _ {root : StorageRoot} {s t : Store} {old mid : Option (List ℕ)} {m : M
           let y = takes_elsewhere root t v x.0 (alike_there x.1.0 ∙ ahead_over ahead) mid new q.place cost more takes in
           (y.0, (alike_then x.1.0 y.1.0, run_took part x.1.1 may y.0 new place cost charged started more either at charge start finds y.1.1))
 
-      module _ (w : Store) (live : IsLive walk) where
+      module _ (w : Store) where
         module _ (next : Walk) (o : Option Pending) (gave : GivesNext root (end_of part) v w walk next o) where
           pub way_ended : o ≡ None → PassesOn (call_of root s w old new) part m from l (pass_of (Some place) charged started either status.Ended None)
           way_ended is = record {
             looks = λ met.
                 let k = h.looked met in
                 let there = looked_took k.looked v mid new cost more (took (looked_over k.looked) k.pending) in
-                let gives : GivesOut root v w (Some q.place) (end_of part) next None = subst (GivesOut root v w (Some q.place) (end_of part) next) is (gave (looked_over there) live (Some q.place) k.stands) in
+                let gives : GivesOut root v w (Some q.place) (end_of part) next None = subst (GivesOut root v w (Some q.place) (end_of part) next) is (gave (looked_over there) (Some q.place) k.stands) in
                 above_ended there (met_lies root part from m met) w old new gives.0;
             ends = λ d a rest largest ahead.
                 let x = stood d a rest largest ahead in
                 let gives : GivesOut root v w x.1.1.paid.stood (end_of part) next None =
-                subst (GivesOut root v w x.1.1.paid.stood (end_of part) next) is (gave (alike_tree x.1.0 ∙ over) live x.1.1.paid.stood x.1.1.stands) in
+                subst (GivesOut root v w x.1.1.paid.stood (end_of part) next) is (gave (alike_tree x.1.0 ∙ over) x.1.1.paid.stood x.1.1.stands) in
                 let y = gives_elsewhere root v w x.0 (alike_there x.1.0 ∙ ahead_over ahead) x.1.1.paid.stood (end_of part) next None gives in
                 (y.0, (alike_then x.1.0 y.1.0, (run_ended part x.1.1 y.0 next y.1.1, tt)));
           }
@@ -117,7 +119,7 @@ module _ {root : StorageRoot} {s t : Store} {old mid : Option (List ℕ)} {m : M
                 looked = λ met.
                     let k = h.looked met in
                     let there = looked_took k.looked v mid new cost more (took (looked_over k.looked) k.pending) in
-                    let gives : GivesOut root v w (Some q.place) (end_of part) next (Some r) = subst (GivesOut root v w (Some q.place) (end_of part) next) is (gave (looked_over there) live (Some q.place) k.stands) in
+                    let gives : GivesOut root v w (Some q.place) (end_of part) next (Some r) = subst (GivesOut root v w (Some q.place) (end_of part) next) is (gave (looked_over there) (Some q.place) k.stands) in
                     record {
                       looked = looked_on there w r.place (due_beyond root (Some q.place) r.place (due root (Some r.place)) gives.3) in_front gives.0;
                       pending = gives.2;
@@ -126,21 +128,21 @@ module _ {root : StorageRoot} {s t : Store} {old mid : Option (List ℕ)} {m : M
                 meets = λ d a rest largest ahead.
                     let x = stood d a rest largest ahead in
                     let gives : GivesOut root v w x.1.1.paid.stood (end_of part) next (Some r) =
-                    subst (GivesOut root v w x.1.1.paid.stood (end_of part) next) is (gave (alike_tree x.1.0 ∙ over) live x.1.1.paid.stood x.1.1.stands) in
+                    subst (GivesOut root v w x.1.1.paid.stood (end_of part) next) is (gave (alike_tree x.1.0 ∙ over) x.1.1.paid.stood x.1.1.stands) in
                     let y = gives_elsewhere root v w x.0 (alike_there x.1.0 ∙ ahead_over ahead) x.1.1.paid.stood (end_of part) next (Some r) gives in
                     (y.0, (alike_then x.1.0 y.1.0, run_meets part x.1.1 y.0 next r y.1.1 in_front));
               }
 
         -- the walk did not get to its next item
-        pub way_lost : (why : Fault) → (IsLive walk → IsWayFault why) → (v.tree ≡ root → IsLive walk → (p : Option Place) → Stands root walk p → FailsOut root v w p (end_of part) why)
-            → PassesOn (call_of root s w old new) part m from l (pass_of (Some place) charged started either (status.Stopped why) None)
-        way_lost why only lost = record {
+        pub way_lost : (why : Fault) → (v.tree ≡ root → (p : Option Place) → Stands root walk p → FailsOut root v w p (end_of part) why)
+            → PassesOn (call_of root s w old new) part m from l (pass_of (Some place) charged started either (status.Stopped (halt.Fault why)) None)
+        way_lost why lost = record {
           looks = λ met.
               let k = h.looked met in
               let there = looked_took k.looked v mid new cost more (took (looked_over k.looked) k.pending) in
-              above_lost there (met_lies root part from m met) w old new why (lost (looked_over there) live (Some q.place) k.stands);
+              above_lost there (met_lies root part from m met) w old new why (lost (looked_over there) (Some q.place) k.stands);
           ends = λ d a rest largest ahead.
               let x = stood d a rest largest ahead in
-              let y = lost_elsewhere root v w x.0 (alike_there x.1.0 ∙ ahead_over ahead) x.1.1.paid.stood (end_of part) why (lost (alike_tree x.1.0 ∙ over) live x.1.1.paid.stood x.1.1.stands) in
-              (y.0, (alike_then x.1.0 y.1.0, (run_lost part x.1.1 y.0 why (only live).0 y.1.1, tt)));
+              let y = lost_elsewhere root v w x.0 (alike_there x.1.0 ∙ ahead_over ahead) x.1.1.paid.stood (end_of part) why (lost (alike_tree x.1.0 ∙ over) x.1.1.paid.stood x.1.1.stands) in
+              (y.0, (alike_then x.1.0 y.1.0, (run_lost part x.1.1 y.0 why y.1.1, tt)));
         }

@@ -3,13 +3,16 @@ use Rattle.std.proofs.Common.{◌++◌, [], List, Option, None, refl, sym, subst
 use Rattle.ocfl_tree.specs.{Place.{Place}, StorageRoot.{StorageRoot}, Store.{Store}}
 use Rattle.ocfl_tree.specs.declared.store.Opening.{Opening}
 use Rattle.ocfl_audit.specs.Parts.{Part}
-use Rattle.ocfl_item.specs.{Looking.{IsFront}, Auditing.{Audits, Fails}}
+use Rattle.ocfl_item.specs.{Looking.{IsFront, failed_place}, Auditing.{Audits, Fails}}
 use Rattle.ocfl_item.specs.declared.fault.Fault.{Fault}
+use Rattle.ocfl_scrub.specs.Types.{ReportStop}
 use Rattle.ocfl_item.proofs.AuditingLaws.{audits_fail, audits_on}
 use Rattle.ocfl_walk.specs.WalkCalls.{GoesDown, GoDownFails}
 use Rattle.ocfl_scrub.specs.Call.{call_of}
 use Rattle.ocfl_scrub.proofs.WayOrder.{way_is, held_in}
 use Rattle.ocfl_scrub.specs.Starting.{FilesLieIn, entry, looked_in, read_in, LooksOver, StopsLooking}
+use Rattle.ocfl_scrub.specs.declared.stop.ReportStop.TheVariants as halt
+use Rattle.ocfl_scrub.specs.Taking.{stop_place}
 
 module _ (root : StorageRoot) (part : Part) (s t u : Store) (old new : Option (List ℕ)) (from : Option Place) (g : GoesDown root s t (entry part from)) where
   pub looks_over : (to : Option Place) (done : List Place) (os : List Opening)
@@ -24,7 +27,7 @@ module _ (root : StorageRoot) (part : Part) (s t u : Store) (old new : Option (L
     held_front = subst (IsFront g.heads) (held_in part from root) g.heads_front;
   }
 
-  pub stops_looking : (why : Fault) (begun listed heads : List Place) (os : List Opening) → Fails root t u begun listed heads os why
+  pub stops_looking : (why : ReportStop) (begun listed heads : List Place) (os : List Opening) → Fails root t u begun listed heads os (stop_place why)
       → IsFront listed (looked_in root part from None) → IsFront heads (read_in root part from None) → FilesLieIn root begun (g.listed ++ listed)
       → StopsLooking (call_of root s u old new) part from begun (g.trail ++ os) why
   stops_looking why begun listed heads os k listed_front heads_front files = record {
@@ -32,7 +35,7 @@ module _ (root : StorageRoot) (part : Part) (s t u : Store) (old new : Option (L
     listed = listed;
     held = g.heads;
     heads = heads;
-    fails = audits_fail root s t u [] begun g.listed listed g.heads heads g.trail os why g.audits k;
+    fails = audits_fail root s t u [] begun g.listed listed g.heads heads g.trail os _ g.audits k;
     down_front = subst (IsFront g.listed) (way_is part from) g.listed_front;
     listed_front = listed_front;
     held_front = subst (IsFront g.heads) (held_in part from root) g.heads_front;
@@ -42,7 +45,7 @@ module _ (root : StorageRoot) (part : Part) (s t u : Store) (old new : Option (L
 
 -- it did not come to where it begins
 pub stops_above : (root : StorageRoot) (part : Part) (s t : Store) (old new : Option (List ℕ)) (from : Option Place) (why : Fault)
-    (g : GoDownFails root s t (entry part from) why) → StopsLooking (call_of root s t old new) part from [] g.trail why
+    (g : GoDownFails root s t (entry part from) why) → StopsLooking (call_of root s t old new) part from [] g.trail (halt.Fault why)
 stops_above root part s t old new from why g =
     let no_directory : IsFront [] (looked_in root part from None) = (looked_in root part from None, refl) in
     let no_head : IsFront [] (read_in root part from None) = (read_in root part from None, refl) in
@@ -51,7 +54,7 @@ stops_above root part s t old new from why g =
       listed = [];
       held = g.heads;
       heads = [];
-      fails = subst (λ ls. Fails root s t [] ls (g.heads ++ []) g.trail why) (sym (append-nil g.listed)) (subst (λ hs. Fails root s t [] g.listed hs g.trail why) (sym (append-nil g.heads)) g.fails);
+      fails = subst (λ ls. Fails root s t [] ls (g.heads ++ []) g.trail (failed_place why)) (sym (append-nil g.listed)) (subst (λ hs. Fails root s t [] g.listed hs g.trail (failed_place why)) (sym (append-nil g.heads)) g.fails);
       down_front = subst (IsFront g.listed) (way_is part from) g.listed_front;
       listed_front = no_directory;
       held_front = subst (IsFront g.heads) (held_in part from root) g.heads_front;

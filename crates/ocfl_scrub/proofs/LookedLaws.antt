@@ -8,7 +8,9 @@ use Rattle.ocfl_audit.specs.{Between.{IsBeyond, looked_between, read_between}, D
 use Rattle.ocfl_audit.specs.{Parts.{Part, lies_in}, Trail.{heads_of}}
 use Rattle.ocfl_audit.proofs.PartLaws.{places_within_is}
 use Rattle.ocfl_item.specs.{Auditing.{Audits}, Looking.{IsFront}, Pending.{IsPending}}
-use Rattle.ocfl_item.specs.{declared.fault.Fault.{Fault}, declared.pending.Pending.{Pending}}
+use Rattle.ocfl_item.specs.{declared.pending.Pending.{Pending}}
+use Rattle.ocfl_item.specs.declared.fault.Fault.{Fault}
+use Rattle.ocfl_scrub.specs.Types.{ReportStop}
 use Rattle.ocfl_item.proofs.AuditingLaws.{audits_fail, audits_nothing, audits_on, front_all}
 use Rattle.ocfl_walk.specs.{Before.{place_before}, Ends.{before_end, is_past}}
 use Rattle.ocfl_walk.specs.{WalkCalls.{FailsOut, Walks, WalksOut}, Walks.{Stands}}
@@ -122,9 +124,9 @@ module _ {root : StorageRoot} {part : Part} {s t : Store} {p q : Place} (h : Loo
       }
 
       -- the item was not taken
-      pub above_missed : (mid : Option (List ℕ)) (why : Fault) → Misses (call_of root t v mid new) q why → LooksAbove (call_of root s v old new) part p
+      pub above_missed : (mid : Option (List ℕ)) (why : ReportStop) → Misses (call_of root t v mid new) q why → LooksAbove (call_of root s v old new) part p
       above_missed mid why k =
-          let both = audits_fail root s t v h.done k.begun _ [] _ [] h.trail k.trail why h.audits k.fails in
+          let both = audits_fail root s t v h.done k.begun _ [] _ [] h.trail k.trail _ h.audits k.fails in
           above _ _ (h.trail ++ k.trail) _ both.did both.heads_are
           (subst (λ ls. IsFront ls (looked_in root part (Some p) None)) (sym (append-nil (looked_between root (Some p) (Some q)))) looked_begins)
           (subst (λ hs. IsFront hs (read_in root part (Some p) None)) (sym (append-nil (read_between root (Some p) (Some q)))) read_begins)
@@ -140,7 +142,7 @@ module _ {root : StorageRoot} {part : Part} {s t : Store} {p q : Place} (h : Loo
       -- the walk did not get to its next item
       pub above_lost : (why : Fault) → FailsOut root t v (Some q) (end_of part) why → LooksAbove (call_of root s v old new) part p
       above_lost why w =
-          let both = audits_fail root s t v h.done [] _ _ _ _ h.trail w.trail why h.audits w.fails in
+          let both = audits_fail root s t v h.done [] _ _ _ _ h.trail w.trail _ h.audits w.fails in
           above _ _ (h.trail ++ w.trail) _ both.did both.heads_are
           (front_behind (looked_between root (Some p) (Some q)) w.listed _ (looked_in root part (Some p) None) looked_left w.listed_front)
           (front_behind (read_between root (Some p) (Some q)) w.heads _ (read_in root part (Some p) None) read_left w.heads_front)

@@ -3,7 +3,8 @@ use Rattle.std.proofs.Common.{◌≡◌, ℕ, List, [], ◌++◌, sym, subst, ap
 use Rattle.ocfl_tree.specs.{Place.{Place, place_cmp}, Ascending.{IsAscending}}
 use Rattle.ocfl_tree.specs.declared.store.Opening.{Opening}
 use Rattle.ocfl_audit.specs.{Parts.{Part}, Runs.{Limits}, Trail.{heads_of}}
-use Rattle.ocfl_item.specs.{Looking.{IsFront}, declared.fault.Fault.{Fault}}
+use Rattle.ocfl_item.specs.{Looking.{IsFront}}
+use Rattle.ocfl_scrub.specs.Types.{ReportStop}
 use Rattle.ocfl_scrub.specs.{Call.{Call}, Running.{RunEndsWithin}}
 use Rattle.ocfl_scrub.specs.Starting.{looked_in, read_in, LooksOver, StopsLooking}
 use Rattle.ocfl_scrub.specs.WholeAudit.{AuditEndsWithin}
@@ -30,7 +31,7 @@ module _ (call : Call) (part : Part) (from : Option Place) where
     looks_read : (os : List Opening) × ((call.after.openings ≡ call.before.openings ++ os) × IsAscending place_cmp (heads_of call.root os))
     looks_read = (trail, (h.audits.did.openings_are, subst (IsAscending place_cmp) (sym h.audits.heads_are) reads_once))
 
-  module _ (begun : List Place) (trail : List Opening) (why : Fault) (h : StopsLooking call part from begun trail why) where
+  module _ (begun : List Place) (trail : List Opening) (why : ReportStop) (h : StopsLooking call part from begun trail why) where
     pub stops_list_once : IsAscending place_cmp (h.down ++ h.listed)
     stops_list_once = listed_once_in call.root part from None h.down h.listed h.down_front h.listed_front
 

@@ -1,42 +1,26 @@
 -- Where the loop over a walk stands, and what its next item is.
-use Rattle.std.proofs.Common.{◌≡◌, ℕ, List, sym, ◌∙◌, subst, false, Bool, Some, Option}
-use Rattle.std.specs.Prelude.{◌||◌, IfSome}
+use Rattle.std.proofs.Common.{◌≡◌, sym, ◌∙◌, subst, false, Some, Option}
+use Rattle.std.specs.Prelude.{IfSome}
 use Rattle.ocfl_tree.specs.{Place.{Place}, StorageRoot.{StorageRoot}, Store.{Store}}
 use Rattle.ocfl_audit.specs.{Between.{IsBeyond}, Due.{due}}
 use Rattle.ocfl_walk.specs.{Ends.{is_past}, WalkCalls.{Walks}}
-use Rattle.ocfl_walk.specs.{Walks.{IsLive, Stands, Gives, GivesOut, GoesOn}, declared.end.End.{End}}
+use Rattle.ocfl_walk.specs.{Walks.{Stands, Gives, GivesOut, GoesOn}, declared.end.End.{End}}
 use Rattle.ocfl_walk.specs.declared.walk.Walk.{Walk}
 use Rattle.ocfl_item.specs.declared.pending.Pending.{Pending}
-use Rattle.ocfl_scrub.specs.{Taking.{WritesLines}, Beginning.{IsShort}}
-use Rattle.ocfl_scrub.proofs.{PassLaws.{lines_then, due_beyond}, TakeLaws.{nothing_written}}
+use Rattle.ocfl_scrub.specs.{Beginning.{IsShort}}
+use Rattle.ocfl_scrub.proofs.{PassLaws.{due_beyond}}
 
 -- ---- on every store
 
--- a walk is live, and lines went out
-pub record IsUnderWay (walk : Walk) (old new : Option (List ℕ)) (finding : Bool) : Type 0 where
-  pub live : IsLive walk
-  pub lines : WritesLines old new finding
-
-pub sets_out : (walk : Walk) (old : Option (List ℕ)) → IsLive walk → IsUnderWay walk old old false
-sets_out walk old live = record { live = live; lines = nothing_written old }
-
-module _ {walk : Walk} {old mid : Option (List ℕ)} {finding : Bool} {o : Option Pending} {q : Pending} (next : Walk)
-    (way : IsUnderWay walk old mid finding) (is : o ≡ Some q) (on : IsLive walk → IsLive next × GoesOn walk next o) where
-  went : GoesOn walk next (Some q)
-  went = subst (GoesOn walk next) is (on way.live).1
-
-  pub next_short : (place : Place) → place ≡ q.place → IsShort (Some place)
-  next_short place e = subst (λ p. IsShort (Some p)) (sym e) went.3
-
-  -- the item was taken
-  pub goes_further : (new : Option (List ℕ)) (more either : Bool) → WritesLines mid new more → either ≡ (finding || more) → IsUnderWay next old new either
-  goes_further new more either lines f = record { live = (on way.live).0; lines = lines_then old mid new finding more either way.lines lines f }
+-- an item that a walk gives has a short place
+pub next_short : (walk next : Walk) {o : Option Pending} {q : Pending} → o ≡ Some q → GoesOn walk next o → (place : Place) → place ≡ q.place → IsShort (Some place)
+next_short walk next {o} {q} is on place e = let went : GoesOn walk next (Some q) = subst (GoesOn walk next) is on in subst (λ p. IsShort (Some p)) (sym e) went.3
 
 -- ---- on a store that tells its tree
 
 -- what a walk gives that stands over the tree
 abbrev pub GivesNext : StorageRoot → End → Store → Store → Walk → Walk → Option Pending → Type 0
-GivesNext root e t u walk next o = t.tree ≡ root → IsLive walk → (last : Option Place) → Stands root walk last → GivesOut root t u last e next o
+GivesNext root e t u walk next o = t.tree ≡ root → (last : Option Place) → Stands root walk last → GivesOut root t u last e next o
 
 -- an item that a walk gives: it is after where the walk stood, and before the end
 pub record GivesItem (root : StorageRoot) (e : End) (t u : Store) (stood : Option Place) (next : Walk) (q : Pending) : Type 0 where
@@ -45,10 +29,10 @@ pub record GivesItem (root : StorageRoot) (e : End) (t u : Store) (stood : Optio
   pub in_front : is_past e q.place ≡ false
 
 pub gives_item : (root : StorageRoot) (e : End) (t u : Store) (walk next : Walk) (stood : Option Place) (o : Option Pending) (q : Pending)
-    → GivesNext root e t u walk next o → t.tree ≡ root → IsLive walk → Stands root walk stood
+    → GivesNext root e t u walk next o → t.tree ≡ root → Stands root walk stood
     → o ≡ Some q → IfSome o (λ p. is_past e p.place ≡ false) → GivesItem root e t u stood next q
-gives_item root e t u walk next stood o q gave over live stands is before =
-    let gives : Gives root t u stood next (Some q) = subst (GivesOut root t u stood e next) is (gave over live stood stands) in
+gives_item root e t u walk next stood o q gave over stands is before =
+    let gives : Gives root t u stood next (Some q) = subst (GivesOut root t u stood e next) is (gave over stood stands) in
     record {
       gives = gives;
       above = due_beyond root stood q.place (due root (Some q.place)) gives.3;

@@ -13,8 +13,9 @@ use Rattle.ocfl_cursor.specs.declared.part_reading.PartCursorStop.TheVariants as
 use Rattle.ocfl_cursor.specs.declared.refused.PartRefused.TheVariants as part
 use Rattle.ocfl_cursor.specs.declared.showing.ShowStop.TheVariants as show
 use Rattle.ocfl_cursor.specs.declared.refused.Refused.TheVariants as refused
-use Rattle.ocfl_item.specs.declared.fault.Fault.{Fault}
+use Rattle.ocfl_scrub.specs.Types.{ReportStop}
 use Rattle.ocfl_item.specs.declared.fault.Fault.TheVariants as fault
+use Rattle.ocfl_scrub.specs.declared.stop.ReportStop.TheVariants as halt
 use Rattle.ocfl_deed.specs.declared.deed.Deed.{Deed}
 use Rattle.ocfl_deed.specs.declared.deed.Deed.TheVariants as deed
 use Rattle.ocfl_scrub.specs.Noting.{IsStatus, IsStopSaid, IsRunSaid, IsStopNote, IsAuditSaid, IsCheckSaid, IsCycleSaid, IsShowSaid, IsCheckNote, IsAuditNote, IsRunNote, IsCycleNote, IsUnreadNote, IsPartRefusedNote, IsUnshownNote, IsRanSaid}
@@ -222,11 +223,10 @@ of_a_run_alone deed.Show n stored h = absurd cc
 
 -- ---- what is said is said by how it ended
 
-stop_says_one : (why : Fault) (m n : Note) → IsStopNote why m → IsStopNote why n → m ≡ n
-stop_says_one (fault.Store p) m n h k = h ∙ sym k
-stop_says_one fault.Memory m n h k = h ∙ sym k
-stop_says_one fault.Output m n h k = h ∙ sym k
-stop_says_one fault.Broken m n h k = absurd h
+stop_says_one : (why : ReportStop) (m n : Note) → IsStopNote why m → IsStopNote why n → m ≡ n
+stop_says_one (halt.Fault (fault.Store p)) m n h k = h ∙ sym k
+stop_says_one (halt.Fault fault.Memory) m n h k = h ∙ sym k
+stop_says_one halt.Output m n h k = h ∙ sym k
 
 module _ (a b : ℕ) (m n : Note) where
   pub check_says_one : (item finding : Bool) (how : AuditStatus) → IsCheckNote item finding how a m → IsCheckNote item finding how b n → (a ≡ b) × (m ≡ n)
@@ -282,9 +282,9 @@ module _ (a b : ℕ) (m n : Note) where
 pub audit_said : (status : ℕ) (n : Note) → IsStatus status n → IsAuditSaid n → (finding : Bool) × ((how : AuditStatus) × IsAuditNote finding how status n)
 audit_said status note.Nothing (inl e) h = (false, (end.Ended, (e, refl)))
 audit_said status note.Nothing (inr e) h = (true, (end.Ended, (e, refl)))
-audit_said status (note.StoppedAt p) e h = (false, (end.Stopped (fault.Store p), (e, refl)))
-audit_said status note.OutOfMemory e h = (false, (end.Stopped fault.Memory, (e, refl)))
-audit_said status note.OutputFailed e h = (false, (end.Stopped fault.Output, (e, refl)))
+audit_said status (note.StoppedAt p) e h = (false, (end.Stopped (halt.Fault (fault.Store p)), (e, refl)))
+audit_said status note.OutOfMemory e h = (false, (end.Stopped (halt.Fault fault.Memory), (e, refl)))
+audit_said status note.OutputFailed e h = (false, (end.Stopped halt.Output, (e, refl)))
 audit_said status n e h = absurd h
 
 pub check_said : (status : ℕ) (n : Note) → IsStatus status n → IsCheckSaid n → (n ≡ note.BadPath) ⊎ ((item : Bool) × ((finding : Bool) × ((how : AuditStatus) × IsCheckNote item finding how status n)))
@@ -292,9 +292,9 @@ check_said status note.BadPath e h = inl refl
 check_said status note.NoItem e h = inr (false, (false, (end.Ended, (e, refl))))
 check_said status note.Nothing (inl e) h = inr (true, (false, (end.Ended, (e, refl))))
 check_said status note.Nothing (inr e) h = inr (true, (true, (end.Ended, (e, refl))))
-check_said status (note.StoppedAt p) e h = inr (false, (false, (end.Stopped (fault.Store p), (e, refl))))
-check_said status note.OutOfMemory e h = inr (false, (false, (end.Stopped fault.Memory, (e, refl))))
-check_said status note.OutputFailed e h = inr (false, (false, (end.Stopped fault.Output, (e, refl))))
+check_said status (note.StoppedAt p) e h = inr (false, (false, (end.Stopped (halt.Fault (fault.Store p)), (e, refl))))
+check_said status note.OutOfMemory e h = inr (false, (false, (end.Stopped (halt.Fault fault.Memory), (e, refl))))
+check_said status note.OutputFailed e h = inr (false, (false, (end.Stopped halt.Output, (e, refl))))
 check_said status n e h = absurd h
 
 pub cycle_said : (status : ℕ) (n : Note) → IsStatus status n → IsCycleSaid n → (runs : ℕ) × ((spent : ℕ) × ((finding : Bool) × ((how : CycleStatus) × IsCycleNote runs spent finding how status n)))
@@ -302,9 +302,9 @@ cycle_said status (note.CycleMade runs cost true) (inl e) h = (runs, (cost, (fal
 cycle_said status (note.CycleMade runs cost true) (inr e) h = (runs, (cost, (true, (cycle.Ended, (e, refl)))))
 cycle_said status (note.CycleMade runs cost false) (inl e) h = (runs, (cost, (false, (cycle.Spent, (e, refl)))))
 cycle_said status (note.CycleMade runs cost false) (inr e) h = (runs, (cost, (true, (cycle.Spent, (e, refl)))))
-cycle_said status (note.StoppedAt p) e h = (0, (0, (false, (cycle.Stopped (fault.Store p), (e, refl)))))
-cycle_said status note.OutOfMemory e h = (0, (0, (false, (cycle.Stopped fault.Memory, (e, refl)))))
-cycle_said status note.OutputFailed e h = (0, (0, (false, (cycle.Stopped fault.Output, (e, refl)))))
+cycle_said status (note.StoppedAt p) e h = (0, (0, (false, (cycle.Stopped (halt.Fault (fault.Store p)), (e, refl)))))
+cycle_said status note.OutOfMemory e h = (0, (0, (false, (cycle.Stopped (halt.Fault fault.Memory), (e, refl)))))
+cycle_said status note.OutputFailed e h = (0, (0, (false, (cycle.Stopped halt.Output, (e, refl)))))
 cycle_said status n e h = absurd h
 
 -- no cursor was read
@@ -325,9 +325,9 @@ ran_said status (note.RunMade cycle runs cost true) (inl e) h = (counted cycle r
 ran_said status (note.RunMade cycle runs cost true) (inr e) h = (counted cycle runs, (cost, (true, (run.Ended, (e, refl)))))
 ran_said status (note.RunMade cycle runs cost false) (inl e) h = (counted cycle runs, (cost, (false, (run.Spent, (e, refl)))))
 ran_said status (note.RunMade cycle runs cost false) (inr e) h = (counted cycle runs, (cost, (true, (run.Spent, (e, refl)))))
-ran_said status (note.StoppedAt p) e h = (new_cursor, (0, (false, (run.Stopped (fault.Store p), (e, refl)))))
-ran_said status note.OutOfMemory e h = (new_cursor, (0, (false, (run.Stopped fault.Memory, (e, refl)))))
-ran_said status note.OutputFailed e h = (new_cursor, (0, (false, (run.Stopped fault.Output, (e, refl)))))
+ran_said status (note.StoppedAt p) e h = (new_cursor, (0, (false, (run.Stopped (halt.Fault (fault.Store p)), (e, refl)))))
+ran_said status note.OutOfMemory e h = (new_cursor, (0, (false, (run.Stopped (halt.Fault fault.Memory), (e, refl)))))
+ran_said status note.OutputFailed e h = (new_cursor, (0, (false, (run.Stopped halt.Output, (e, refl)))))
 ran_said status note.CursorWorn e h = (new_cursor, (0, (false, (run.Worn, (e, refl)))))
 ran_said status n e h = absurd h
 
@@ -360,9 +360,9 @@ pub branch_said : (status : ℕ) (n : Note) → IsStatus status n → IsBranchSa
 branch_said status note.EmptyBranch e h = (false, (end.Ended, (None, (e, refl))))
 branch_said status note.Nothing (inl e) h = (false, (end.Ended, (Some [], (e, refl))))
 branch_said status note.Nothing (inr e) h = (true, (end.Ended, (Some [], (e, refl))))
-branch_said status (note.StoppedAt p) e h = (false, (end.Stopped (fault.Store p), (None, (e, refl))))
-branch_said status note.OutOfMemory e h = (false, (end.Stopped fault.Memory, (None, (e, refl))))
-branch_said status note.OutputFailed e h = (false, (end.Stopped fault.Output, (None, (e, refl))))
+branch_said status (note.StoppedAt p) e h = (false, (end.Stopped (halt.Fault (fault.Store p)), (None, (e, refl))))
+branch_said status note.OutOfMemory e h = (false, (end.Stopped (halt.Fault fault.Memory), (None, (e, refl))))
+branch_said status note.OutputFailed e h = (false, (end.Stopped halt.Output, (None, (e, refl))))
 branch_said status n e h = absurd h
 
 pub part_run_said : (status : ℕ) (n : Note) → IsStatus status n → IsPartRunSaid n

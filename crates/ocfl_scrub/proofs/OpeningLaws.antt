@@ -10,7 +10,7 @@ use Rattle.ocfl_audit.specs.Trail.{is_meta, content_openings, content_trail}
 use Rattle.ocfl_audit.specs.Between.{looked_between}
 use Rattle.ocfl_audit.proofs.PartLaws.{places_within_is}
 use Rattle.ocfl_item.specs.{Auditing.{LiesIn, LieIn}, Looking.{IsFront, way_to}}
-use Rattle.ocfl_item.specs.declared.fault.Fault.{Fault}
+use Rattle.ocfl_scrub.specs.Types.{ReportStop}
 use Rattle.ocfl_walk.specs.WalkCalls.{way_of}
 use Rattle.ocfl_walk.proofs.WayDownLaws.{on_way}
 use Rattle.ocfl_scrub.specs.{Call.{Call}, Checking.{CheckEnds}, Openings.{OpensNear, OpensWithin}}
@@ -73,7 +73,7 @@ module _ (call : Call) (part : Part) (from : Option Place) where
     there = there_by h.down (looked_in call.root part from to) h.down_front to ([], sym (append-nil (looked_in call.root part from to)));
   }
 
-  pub stops_near : (begun : List Place) (trail : List Opening) (why : Fault) → StopsLooking call part from begun trail why → OpensWithin part from call.before call.after
+  pub stops_near : (begun : List Place) (trail : List Opening) (why : ReportStop) → StopsLooking call part from begun trail why → OpensWithin part from call.before call.after
   stops_near begun trail why h = record {
     listed = h.down ++ h.listed;
     opens = record {

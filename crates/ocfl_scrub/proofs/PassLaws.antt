@@ -1,5 +1,5 @@
 -- A pass, item by item, and its ends.
-use Rattle.std.proofs.Common.{◌≡◌, ◌≢◌, ◌⊎◌, inl, inr, ℕ, List, [], ◌∷◌, ◌++◌, refl, sym, ◌∙◌, ap, subst, true, false, Bool, Some, None, Option, append-nil, append_assoc, take, not}
+use Rattle.std.proofs.Common.{◌≡◌, ◌⊎◌, inl, inr, ℕ, List, [], ◌∷◌, ◌++◌, refl, sym, ◌∙◌, ap, subst, true, false, Bool, Some, None, Option, append-nil, append_assoc, take, not}
 use Rattle.std.proofs.KnownBytes.{Appends-nil, Appends-trans}
 use Rattle.std.specs.{Prelude.{cond, ◌||◌}, List.{list_any, last_or}, Ordering.{is_lt}}
 use Rattle.std.specs.{Io.KnownBytes.{Appends}, declared.cmp.Ordering.{Ordering}}
@@ -15,17 +15,19 @@ use Rattle.ocfl_audit.specs.{Due.{item_places, due, items_at, hashed_among}, Tra
 use Rattle.ocfl_audit.specs.Between.{IsBeyond, IsWithin, looked_between, read_between}
 use Rattle.ocfl_audit.proofs.{BelowLaws.{less_from}, BetweenLaws.{among_between, from_between}}
 use Rattle.ocfl_audit.proofs.{PartLaws.{items_ascend}, Trails.{filter_append}}
-use Rattle.ocfl_item.specs.{Auditing.{Audits, Fails}, declared.fault.Fault.{Fault}}
-use Rattle.ocfl_item.specs.declared.fault.Fault.TheVariants.{Output}
+use Rattle.ocfl_item.specs.{Auditing.{Audits, Fails}}
+use Rattle.ocfl_item.specs.declared.fault.Fault.{Fault}
+use Rattle.ocfl_scrub.specs.Types.{ReportStop}
 use Rattle.ocfl_walk.specs.{WalkCalls.{Walks, WalksOut, FailsOut}, Ends.{is_past, before_end}}
 use Rattle.ocfl_walk.specs.declared.end.End.{End}
 use Rattle.ocfl_walk.proofs.{BeforeLaws.{not_below}, WalkCallLaws.{audits_as}}
-use Rattle.ocfl_scrub.specs.{Call.{call_of}, Taking.{WritesLines, PartOf, Takes, Misses}}
+use Rattle.ocfl_scrub.specs.{Call.{call_of}, Taking.{WritesLines, PartOf, Takes, Misses, stop_place}}
+use Rattle.ocfl_scrub.specs.declared.stop.ReportStop.TheVariants as halt
 use Rattle.ocfl_scrub.proofs.Passing.{up_to_last, due_in, Passes, Finishes, Halts}
 use Rattle.ocfl_scrub.proofs.Lists.{flat_append, ascends_left}
 use Rattle.ocfl_scrub.proofs.AuditsJoined.{items_before, items_behind, items_then}
 use Rattle.ocfl_scrub.proofs.BetweenLaws.{HasGoneOn, looked_self, looked_next, looked_end, looked_front, read_self, read_next, read_end, read_front, front_behind}
-use Rattle.ocfl_scrub.proofs.TakeLaws.{nothing_of}
+use Rattle.ocfl_scrub.proofs.TakeLaws.{fault_of_nothing}
 use Rattle.ocfl_item.proofs.AuditingLaws.{audits_fail, audits_nothing, audits_on}
 
 -- ---- texts and findings of what follows
@@ -88,12 +90,12 @@ module _ (root : StorageRoot) (t u v : Store) (last to : Option Place) (w : Walk
   walk_then qs os k =
       audits_as (append-nil (looked_between root last to)) (append-nil (read_between root last to)) (audits_on root t u v [] qs _ [] _ [] w.trail os w.audits k)
 
-  walk_then_fails : (qs : List Place) (os : List Opening) (why : Fault) → Fails root u v qs [] [] os why
-      → Fails root t v qs (looked_between root last to) (read_between root last to) (w.trail ++ os) why
-  walk_then_fails qs os why k =
-      subst (λ hs. Fails root t v qs (looked_between root last to) hs (w.trail ++ os) why) (append-nil (read_between root last to))
-      (subst (λ ls. Fails root t v qs ls (read_between root last to ++ []) (w.trail ++ os) why) (append-nil (looked_between root last to))
-      (audits_fail root t u v [] qs (looked_between root last to) [] (read_between root last to) [] w.trail os why w.audits k))
+  walk_then_fails : (qs : List Place) (os : List Opening) (failed : Option Place) → Fails root u v qs [] [] os failed
+      → Fails root t v qs (looked_between root last to) (read_between root last to) (w.trail ++ os) failed
+  walk_then_fails qs os failed k =
+      subst (λ hs. Fails root t v qs (looked_between root last to) hs (w.trail ++ os) failed) (append-nil (read_between root last to))
+      (subst (λ ls. Fails root t v qs ls (read_between root last to ++ []) (w.trail ++ os) failed) (append-nil (looked_between root last to))
+      (audits_fail root t u v [] qs (looked_between root last to) [] (read_between root last to) [] w.trail os _ w.audits k))
 
 -- ---- the last place that was taken
 
@@ -222,9 +224,9 @@ module _ (root : StorageRoot) (e : End) (s t u : Store) (old mid : Option (List 
         }
 
     -- the item was not taken
-    module _ (why : Fault) (k : Misses (call_of root u v mid new) p why) where
-      pub missed_there : Fails root t v k.begun (looked_between root last (Some p)) (read_between root last (Some p)) (w.trail ++ k.trail) why
-      missed_there = walk_then_fails root t u v last (Some p) w k.begun k.trail why k.fails
+    module _ (why : ReportStop) (k : Misses (call_of root u v mid new) p why) where
+      pub missed_there : Fails root t v k.begun (looked_between root last (Some p)) (read_between root last (Some p)) (w.trail ++ k.trail) (stop_place why)
+      missed_there = walk_then_fails root t u v last (Some p) w k.begun k.trail _ k.fails
 
       due_begun : due root from ≡ h.done ++ (k.begun ++ (k.one.0 ++ due root (Some p)))
       due_begun = due_with ∙ ap (λ ps. h.done ++ ps) (ap (λ ps. ps ++ due root (Some p)) k.one.1 ∙ append_assoc k.begun k.one.0 (due root (Some p)))
@@ -238,7 +240,7 @@ module _ (root : StorageRoot) (e : End) (s t u : Store) (old mid : Option (List 
     pub next_is : take 1 (due_in root e last) ≡ p ∷ []
     next_is = ap (take 1) due_next ∙ ap (λ ps. p ∷ ps) (take_nothing (due_in root e (Some p)))
 
-    unfoldable pub passes_missed : (why : Fault) → Misses (call_of root u v mid new) p why → Halts root e s v old new from last finding why
+    unfoldable pub passes_missed : (why : ReportStop) → Misses (call_of root u v mid new) p why → Halts root e s v old new from last finding why
     passes_missed why k =
         let trail : List Opening = h.trail ++ (w.trail ++ k.trail) in
         let both = missed_there why k in
@@ -251,7 +253,7 @@ module _ (root : StorageRoot) (e : End) (s t u : Store) (old mid : Option (List 
           trail = trail;
           listed = up_to_last (looked_between root) from last ++ looked_between root last (Some p);
           heads = up_to_last (read_between root) from last ++ read_between root last (Some p);
-          fails = audits_fail root s t v h.done k.begun _ _ _ _ h.trail (w.trail ++ k.trail) why h.audits both;
+          fails = audits_fail root s t v h.done k.begun _ _ _ _ h.trail (w.trail ++ k.trail) _ h.audits both;
           listed_front = front_behind _ _ _ _ (looked_end root e from last low) (looked_front root e last p up in_front);
           heads_front = front_behind _ _ _ _ (read_end root e from last low) (read_front root e last p up in_front);
           there = λ q i d j. subst (λ ds. IsAmong ds d) (sym (looked_next root e from last low p up)) (listed_further root from e q p d (up_to_next q (among_more h.done k.begun (p ∷ []) k.one.0 q k.one.1 i)) j);
@@ -274,8 +276,8 @@ module _ (root : StorageRoot) (e : End) (s t u : Store) (old mid : Option (List 
       items_before root h.trail os h.done [] (front_ascends root from h.done [] (due root last) due_done) opened
 
   -- the walk did not get there
-  unfoldable pub passes_lost : (why : Fault) → why ≢ Output → FailsOut root t u last e why → Halts root e s u old mid from last finding why
-  passes_lost why other w =
+  unfoldable pub passes_lost : (why : Fault) → FailsOut root t u last e why → Halts root e s u old mid from last finding (halt.Fault why)
+  passes_lost why w =
       let trail : List Opening = h.trail ++ w.trail in
       let before : items_at root trail h.done ≡ items_at root h.trail h.done = walked_on w.trail w.fails.opened in
       record {
@@ -284,7 +286,7 @@ module _ (root : StorageRoot) (e : End) (s t u : Store) (old mid : Option (List 
         trail = trail;
         listed = up_to_last (looked_between root) from last ++ w.listed;
         heads = up_to_last (read_between root) from last ++ w.heads;
-        fails = audits_fail root s t u h.done [] _ _ _ _ h.trail w.trail why h.audits w.fails;
+        fails = audits_fail root s t u h.done [] _ _ _ _ h.trail w.trail _ h.audits w.fails;
         listed_front = front_behind _ _ _ _ (looked_end root e from last low) w.listed_front;
         heads_front = front_behind _ _ _ _ (read_end root e from last low) w.heads_front;
         there = λ q i d j. among_left (up_to_last (looked_between root) from last) w.listed d
@@ -295,7 +297,7 @@ module _ (root : StorageRoot) (e : End) (s t u : Store) (old mid : Option (List 
         part = [];
         wrote = subst (λ xs. Appends old mid xs) (sym (append-nil (text (items_at root trail h.done))))
             (subst (λ is. Appends old mid (text is)) (sym before) h.wrote);
-        part_of = nothing_of why other (text (items_at root trail (take 1 (due_in root e last))));
+        part_of = fault_of_nothing why (text (items_at root trail (take 1 (due_in root e last))));
         found_is = h.found_is ∙ ap found (sym before);
       }
 

@@ -6,9 +6,10 @@ use Rattle.ocfl_tree.specs.{Store.{Store}, declared.store.Opening.{Opening}}
 use Rattle.ocfl_report.specs.{Line.{found}, Text.{text}}
 use Rattle.ocfl_audit.specs.{Due.{due, items_at}, Between.{looked_between, read_between}}
 use Rattle.ocfl_item.specs.{Looking.{IsFront}, Auditing.{Audits, Fails}}
-use Rattle.ocfl_item.specs.declared.fault.Fault.{Fault}
+use Rattle.ocfl_scrub.specs.Types.{ReportStop}
 use Rattle.ocfl_walk.specs.{Ends.{before_end}, declared.end.End.{End}}
 use Rattle.ocfl_scrub.specs.Taking.{PartOf}
+use Rattle.ocfl_scrub.specs.Taking.{stop_place}
 
 -- what is between a place and the last one taken: nothing if there is none
 abbrev pub up_to_last : (Option Place → Option Place → List Place) → Option Place → Option Place → List Place
@@ -41,13 +42,13 @@ pub record Finishes (root : StorageRoot) (e : End) (s t : Store) (old new : Opti
 -- from s to t the items above from were taken up to last, and then there was a fault: of the next
 -- item before the end at most a proper beginning went out. Up to each of these items all
 -- directories were listed
-pub record Halts (root : StorageRoot) (e : End) (s t : Store) (old new : Option (List ℕ)) (from last : Option Place) (finding : Bool) (why : Fault) : Type 0 where
+pub record Halts (root : StorageRoot) (e : End) (s t : Store) (old new : Option (List ℕ)) (from last : Option Place) (finding : Bool) (why : ReportStop) : Type 0 where
   pub done : List Place
   pub begun : List Place
   pub trail : List Opening
   pub listed : List Place
   pub heads : List Place
-  pub fails : Fails root s t (done ++ begun) listed heads trail why
+  pub fails : Fails root s t (done ++ begun) listed heads trail (stop_place why)
   pub listed_front : IsFront listed (before_end e (looked_between root from None))
   pub heads_front : IsFront heads (before_end e (read_between root from None))
   pub there : (p : Place) → IsAmong (done ++ begun) p → (d : Place) → IsAmong (before_end e (looked_between root from (Some p))) d → IsAmong listed d

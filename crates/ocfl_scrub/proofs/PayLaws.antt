@@ -1,5 +1,5 @@
 -- A pass that is paid for, item by item, and its ends.
-use Rattle.std.proofs.Common.{◌≡◌, ◌≢◌, inl, inr, ℕ, ◌+◌, List, [], ◌∷◌, ◌++◌, refl, sym, ◌∙◌, ap, subst, true, false, Bool, Some, Option, append-nil, take, arith}
+use Rattle.std.proofs.Common.{◌≡◌, inl, inr, ℕ, ◌+◌, List, [], ◌∷◌, ◌++◌, refl, sym, ◌∙◌, ap, subst, true, false, Bool, Some, Option, append-nil, take, arith}
 use Rattle.std.specs.{Prelude.{◌||◌}, Io.KnownBytes.{Appends}}
 use Rattle.ocfl_tree.specs.{Place.{Place}, StorageRoot.{StorageRoot}, Store.{Store}}
 use Rattle.ocfl_tree.specs.declared.store.Opening.{Opening}
@@ -7,17 +7,20 @@ use Rattle.ocfl_report.specs.{Line.{Item, found}, Text.{text}}
 use Rattle.ocfl_audit.specs.{Audit.{total_cost, given_by}, Lines.{cost, is_hashed}}
 use Rattle.ocfl_audit.specs.{Due.{due, items_at}, Between.{IsBeyond, looked_between, read_between}}
 use Rattle.ocfl_audit.specs.{Trail.{unread_of}, Runs.{Limits, files_of, total_files, may_take}}
-use Rattle.ocfl_item.specs.{Auditing.{Audits}, declared.fault.Fault.{Fault}}
-use Rattle.ocfl_item.specs.declared.fault.Fault.TheVariants.{Output}
+use Rattle.ocfl_item.specs.{Auditing.{Audits}}
+use Rattle.ocfl_item.specs.declared.fault.Fault.{Fault}
+use Rattle.ocfl_scrub.specs.Types.{ReportStop}
 use Rattle.ocfl_walk.specs.{WalkCalls.{Walks, WalksOut, FailsOut}, Ends.{is_past}}
 use Rattle.ocfl_walk.specs.declared.end.End.{End}
 use Rattle.ocfl_walk.proofs.WalkCallLaws.{audits_as}
 use Rattle.ocfl_scrub.specs.{Call.{call_of}, Taking.{Takes, Misses}}
+use Rattle.ocfl_scrub.specs.declared.stop.ReportStop.TheVariants as halt
 use Rattle.ocfl_scrub.proofs.Passing.{due_in}
 use Rattle.ocfl_scrub.proofs.Paying.{Paid, Counts, IsWithinBoth, Pays, PaysAll, PaysUpTo, PaysHalting}
 use Rattle.ocfl_scrub.proofs.BetweenLaws.{HasGoneOn, looked_next, read_next}
 use Rattle.ocfl_scrub.proofs.CutLaws.{paid_append, test_paid, test_free, free_costs}
 use Rattle.ocfl_scrub.proofs.PassLaws.{no_items, halves, due_next, passes_none, passes_took, took_items, passes_missed, missed_items, next_is, passes_lost, walked_on, passes_finish, finished_items}
+use Rattle.ocfl_scrub.proofs.TakeLaws.{fault_other}
 use Rattle.ocfl_item.proofs.AuditingLaws.{audits_on}
 use Rattle.ocfl_audit.proofs.RunLaws.{cost_append, files_append}
 
@@ -90,7 +93,7 @@ module _ (root : StorageRoot) (end : End) (s t u : Store) (old mid : Option (Lis
       }
 
       -- the item was not taken
-      unfoldable pub pays_missed : (why : Fault) → Misses (call_of root u v mid new) p why → PaysHalting root end s v old new from last l spent files finding why
+      unfoldable pub pays_missed : (why : ReportStop) → Misses (call_of root u v mid new) p why → PaysHalting root end s v old new from last l spent files finding why
       unfolding passes_missed
       pays_missed why k =
           let trail : List Opening = h.passes.trail ++ (w.trail ++ k.trail) in
@@ -125,12 +128,12 @@ module _ (root : StorageRoot) (end : End) (s t u : Store) (old mid : Option (Lis
         }
 
   -- the walk did not get there
-  unfoldable pub pays_lost : (why : Fault) → why ≢ Output → FailsOut root t u last end why → PaysHalting root end s u old mid from last l spent files finding why
+  unfoldable pub pays_lost : (why : Fault) → FailsOut root t u last end why → PaysHalting root end s u old mid from last l spent files finding (halt.Fault why)
   unfolding passes_lost
-  pays_lost why other w = record {
-    halts = passes_lost root end s t u old mid from last finding low h.passes why other w;
+  pays_lost why w = record {
+    halts = passes_lost root end s t u old mid from last finding low h.passes why w;
     counts = counts_same l spent files _ _ (walked_on root end s t u old mid from last finding low h.passes w.trail w.fails.opened) h.counts;
-    next = inr (other, refl);
+    next = inr (fault_other why, refl);
   }
 
   -- nothing is left

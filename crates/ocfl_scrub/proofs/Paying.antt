@@ -7,8 +7,9 @@ use Rattle.ocfl_report.specs.{Line.{Item, found}, Text.{text}}
 use Rattle.ocfl_audit.specs.{Audit.{total_cost}, Lines.{is_hashed}, Due.{items_at}}
 use Rattle.ocfl_audit.specs.Between.{looked_between, read_between}
 use Rattle.ocfl_audit.specs.Runs.{Limits, files_of, total_files, may_take}
-use Rattle.ocfl_item.specs.{Auditing.{Audits}, declared.fault.Fault.{Fault}}
-use Rattle.ocfl_item.specs.declared.fault.Fault.TheVariants as fault
+use Rattle.ocfl_item.specs.{Auditing.{Audits}}
+use Rattle.ocfl_scrub.specs.Types.{ReportStop}
+use Rattle.ocfl_scrub.specs.declared.stop.ReportStop.TheVariants as halt
 use Rattle.ocfl_walk.specs.{Ends.{is_past}, declared.end.End.{End}}
 use Rattle.ocfl_scrub.proofs.Passing.{due_in, Passes, Finishes, Halts}
 
@@ -56,7 +57,7 @@ pub record PaysUpTo (root : StorageRoot) (e : End) (s t : Store) (old new : Opti
 -- from s to t there was a fault after the last of them: the next one is paid for, or it was not
 -- begun
 pub record PaysHalting (root : StorageRoot) (e : End) (s t : Store) (old new : Option (List ℕ)) (from last : Option Place) (limits : Limits)
-    (spent files : ℕ) (finding : Bool) (why : Fault) : Type 0 where
+    (spent files : ℕ) (finding : Bool) (why : ReportStop) : Type 0 where
   pub halts : Halts root e s t old new from last finding why
   pub counts : Counts limits spent files (items_at root halts.trail halts.done)
-  pub next : Paid limits spent files (items_at root halts.trail (take 1 (due_in root e last))) ⊎ ((why ≢ fault.Output) × (halts.begun ≡ []))
+  pub next : Paid limits spent files (items_at root halts.trail (take 1 (due_in root e last))) ⊎ ((why ≢ halt.Output) × (halts.begun ≡ []))

@@ -9,7 +9,7 @@ use Rattle.ocfl_cursor.specs.{Cursor.{Cursor, IsCursor}, Moves.{after_run}}
 use Rattle.ocfl_cursor.specs.declared.limits.Limits.{Limits as MadeLimits}
 use Rattle.ocfl_deed.specs.declared.deed.Deed.{Deed}
 use Rattle.ocfl_deed.specs.declared.deed.Deed.TheVariants as deed
-use Rattle.ocfl_item.specs.declared.fault.Fault.TheVariants as fault
+use Rattle.ocfl_scrub.specs.declared.stop.ReportStop.TheVariants as halt
 use Rattle.ocfl_scope.specs.Finding.{IsNoPath}
 use Rattle.ocfl_scrub.specs.Call.{Call, IsUnfailing, Writes}
 use Rattle.ocfl_scrub.specs.Noting.{AuditsWithNote, IsAuditNote, IsRanSaid, IsRefused, IsStatus, IsStoredNote, status_of}
@@ -75,8 +75,8 @@ no_file_failed (Some known) limits n h = tt
 module _ {S O : Type 0} {contents : O → Option (List ℕ)} {before after : S} {old new : O} {from : Cursor} {limits : MadeLimits} {ran : RunEnd}
     (r : RunsOnAnyStore contents before after old new from limits ran) where
   pub run_answers : (known : Option (Option Text)) (said : Performed) → IsStatus said.status said.note → IsRanSaid said.note → (said.note ≡ note.CursorWorn → ran.end ≡ run.Worn)
-      → IsKept said.note said.cursor → (IsWhole said.note → (ran.end ≢ run.Stopped fault.Output) × (said.status ≡ status_of ran.found))
-      → (said.note ≢ note.OutputFailed → (said.note ≢ note.OutOfMemory) ⊎ IsSome said.cursor → ran.end ≢ run.Stopped fault.Output)
+      → IsKept said.note said.cursor → (IsWhole said.note → (ran.end ≢ run.Stopped halt.Output) × (said.status ≡ status_of ran.found))
+      → (said.note ≢ note.OutputFailed → (said.note ≢ note.OutOfMemory) ⊎ IsSome said.cursor → ran.end ≢ run.Stopped halt.Output)
       → AnswersOnAnyStore contents before after old new known (deed.Run limits) said
   run_answers known said status says worn kept whole uncut = record {
     status = status;

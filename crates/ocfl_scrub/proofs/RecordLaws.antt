@@ -12,8 +12,9 @@ use Rattle.ocfl_audit.specs.Due.{hashed_among, item_places}
 use Rattle.ocfl_audit.specs.Trail.{content_trail, heads_of, inventories, unread_of}
 use Rattle.ocfl_audit.specs.{Walk.{item_at}, Between.{looked_between, read_between}, Parts.{whole}}
 use Rattle.ocfl_audit.specs.Runs.{Limits, cut, left, runs, joined, total_files, IsAtLeast, FilesFit, sum_of}
-use Rattle.ocfl_item.specs.{Looking.{failures_by, way_to}, declared.fault.Fault.{Fault}}
-use Rattle.ocfl_item.specs.declared.fault.Fault.TheVariants as fault
+use Rattle.ocfl_item.specs.Looking.{failures_at, way_to}
+use Rattle.ocfl_scrub.specs.Types.{ReportStop}
+use Rattle.ocfl_scrub.specs.declared.stop.ReportStop.TheVariants as halt
 use Rattle.ocfl_walk.specs.WalkCalls.{holder, way_of}
 use Rattle.ocfl_scrub.specs.Call.{Call, known_call, IsUnfailing}
 use Rattle.ocfl_scrub.specs.Written.{places, StopsWithin}
@@ -39,6 +40,7 @@ use Rattle.ocfl_scrub.specs.declared.checking.AuditStatus.TheVariants as end
 use Rattle.ocfl_scrub.specs.declared.running.RunStatus.TheVariants as run
 use Rattle.ocfl_scrub.specs.declared.cycling.CycleStatus.TheVariants as cycle
 use Rattle.ocfl_scrub.specs.declared.note.Note.TheVariants as note
+use Rattle.ocfl_scrub.specs.Taking.{stop_place}
 
 last_item : (from : Option Place) (front : List Item) (i : Item) → last_or from (places (front ++ i ∷ [])) ≡ Some i.place
 last_item from front i = ap (last_or from) (map-append (λ j. j.place) front (i ∷ [])) ∙ last_append from (places front) i.place
@@ -49,12 +51,12 @@ last_said : (from last : Option Place) (items : List Item) → last ≡ last_or 
 last_said from last items is = ((λ e. is ∙ ap (λ xs. last_or from (places xs)) e), λ front i e. is ∙ ap (λ xs. last_or from (places xs)) e ∙ last_item from front i)
 
 -- what went out before a stop, after what is known of the calls
-stop_wrote : (before : List ℕ) {items : List Item} {written : List ℕ} {from last : Option Place} {why : Fault} {Did : Type 0}
+stop_wrote : (before : List ℕ) {items : List Item} {written : List ℕ} {from last : Option Place} {why : ReportStop} {Did : Type 0}
     (s : StopsWithin items (Some before) (Some written) from last why) → Did → (Of : List Item → Type 0) → Of s.whole → (whole : List Item)
     × ((others : List Item) × ((gone : ℕ)
     × (Did × ((items ≡ whole ++ others)
     × ((written ≡ before ++ (text whole ++ take gone (text (take 1 others))))
-    × ((why ≡ fault.Output → gone < length (text (take 1 others))) × ((why ≢ fault.Output → gone ≡ 0) × Of whole)))))))
+    × ((why ≡ halt.Output → gone < length (text (take 1 others))) × ((why ≢ halt.Output → gone ≡ 0) × Of whole)))))))
 stop_wrote before s did Of of = (
   s.whole,
   (s.others, (s.part_of.gone, (did, (s.items_are, ((s.wrote ∙ ap (λ u. before ++ (text s.whole ++ u)) s.part_of.is), (s.part_of.proper, (s.part_of.none, of))))))),
@@ -85,26 +87,26 @@ pub check_read : (call : Call) (p : Place) (item finding : Bool) → Checks call
     × ((rest : List Place) × ((call.after.openings ≡ call.before.openings ++ trail) × (holder call.root (Some p) ≡ heads_of call.root trail ++ rest)))
 check_read call p item finding h = (h.trail, (h.just.heads_front.0, (h.audits.did.openings_are, (h.just.heads_front.1 ∙ ap (λ l. l ++ h.just.heads_front.0) (sym h.audits.heads_are)))))
 
-pub stopped_check_wrote : (root : StorageRoot) (s t : Store) (before written : List ℕ) (p : Place) (why : Fault)
+pub stopped_check_wrote : (root : StorageRoot) (s t : Store) (before written : List ℕ) (p : Place) (why : ReportStop)
     → CheckStops (known_call root s t before written) p why → (trail : List Opening)
     × ((gone : ℕ) × ((t.openings ≡ s.openings ++ trail)
     × ((written ≡ before ++ take gone (text (item_at root (unread_of root trail) p)))
-    × ((why ≡ fault.Output → gone < length (text (item_at root (unread_of root trail) p))) × (why ≢ fault.Output → gone ≡ 0)))))
+    × ((why ≡ halt.Output → gone < length (text (item_at root (unread_of root trail) p))) × (why ≢ halt.Output → gone ≡ 0)))))
 stopped_check_wrote root s t before written p why h = (h.trail, (h.part_of.gone, (h.fails.did.openings_are, ((h.wrote ∙ ap (λ u. before ++ u) h.part_of.is), (h.part_of.proper, h.part_of.none)))))
 
-pub stopped_check_opened : (call : Call) (p : Place) (why : Fault) → CheckStops call p why → (trail : List Opening)
+pub stopped_check_opened : (call : Call) (p : Place) (why : ReportStop) → CheckStops call p why → (trail : List Opening)
     × ((begun : List Place) × ((rest : List Place)
     × ((call.after.openings ≡ call.before.openings ++ trail)
     × ((p ∷ [] ≡ begun ++ rest) × ((content_trail call.root trail ≡ hashed_among call.root begun) × (AllPairs (λ a b. a.place ≢ b.place) trail))))))
 stopped_check_opened call p why h = (h.trail, (h.begun, (h.one.0, (h.fails.did.openings_are, (h.one.1, (h.fails.opened, h.just.once))))))
 
-pub stopped_check_listed : (call : Call) (p : Place) (why : Fault) → CheckStops call p why → (listed : List Place)
+pub stopped_check_listed : (call : Call) (p : Place) (why : ReportStop) → CheckStops call p why → (listed : List Place)
     × ((rest : List Place) × ((call.after.listings ≡ call.before.listings ++ listed) × (way_to p ≡ listed ++ rest)))
 stopped_check_listed call p why h = (h.listed, (h.just.listed_front.0, (h.fails.did.listings_are, h.just.listed_front.1)))
 
-pub stopped_check_read : (call : Call) (p : Place) (why : Fault) → CheckStops call p why → (trail : List Opening)
+pub stopped_check_read : (call : Call) (p : Place) (why : ReportStop) → CheckStops call p why → (trail : List Opening)
     × ((rest : List Place) × ((call.after.openings ≡ call.before.openings ++ trail)
-    × ((call.after.failures ≡ call.before.failures + (length (unread_of call.root trail) + failures_by why)) × (holder call.root (Some p) ≡ heads_of call.root trail ++ rest))))
+    × ((call.after.failures ≡ call.before.failures + (length (unread_of call.root trail) + failures_at (stop_place why))) × (holder call.root (Some p) ≡ heads_of call.root trail ++ rest))))
 stopped_check_read call p why h =
     (h.trail, (h.just.heads_front.0, (h.fails.did.openings_are, (h.fails.did.failures_are, (h.just.heads_front.1 ∙ ap (λ l. l ++ h.just.heads_front.0) (sym h.fails.heads_are))))))
 
@@ -137,16 +139,16 @@ audit_listed call last finding h =
 pub audit_ended_at : (call : Call) (last : Option Place) (finding : Bool) (front : List Place) (p : Place) → AuditsAll call last finding → item_places call.root ≡ front ++ p ∷ [] → last ≡ Some p
 audit_ended_at call last finding front p h e = h.last_is ∙ ap (last_or None) (all_places call.root h.trail ∙ e) ∙ last_append None front p
 
-pub stopped_audit_wrote : (root : StorageRoot) (s t : Store) (before written : List ℕ) (last : Option Place) (finding : Bool) (why : Fault)
+pub stopped_audit_wrote : (root : StorageRoot) (s t : Store) (before written : List ℕ) (last : Option Place) (finding : Bool) (why : ReportStop)
     → AuditStops (known_call root s t before written) last finding why → (trail : List Opening)
     × ((whole : List Item) × ((others : List Item)
     × ((gone : ℕ) × ((t.openings ≡ s.openings ++ trail)
     × ((audit root (unread_of root trail) ≡ whole ++ others)
     × ((written ≡ before ++ (text whole ++ take gone (text (take 1 others))))
-    × ((why ≡ fault.Output → gone < length (text (take 1 others))) × ((why ≢ fault.Output → gone ≡ 0) × (finding ≡ found whole)))))))))
+    × ((why ≡ halt.Output → gone < length (text (take 1 others))) × ((why ≢ halt.Output → gone ≡ 0) × (finding ≡ found whole)))))))))
 stopped_audit_wrote root s t before written last finding why h = (h.trail, stop_wrote before h.stops h.looks.fails.did.openings_are (λ whole. finding ≡ found whole) h.found_is)
 
-pub stopped_audit_opened : (call : Call) (last : Option Place) (finding : Bool) (why : Fault) → AuditStops call last finding why → (trail : List Opening)
+pub stopped_audit_opened : (call : Call) (last : Option Place) (finding : Bool) (why : ReportStop) → AuditStops call last finding why → (trail : List Opening)
     × ((whole : List Item) × ((others : List Item)
     × ((begun : List Place) × ((rest : List Place)
     × ((call.after.openings ≡ call.before.openings ++ trail)
@@ -155,7 +157,7 @@ pub stopped_audit_opened : (call : Call) (last : Option Place) (finding : Bool) 
 stopped_audit_opened call last finding why h =
     (h.trail, (h.stops.whole, (h.stops.others, (h.stops.begun, (h.stops.one.0, (h.looks.fails.did.openings_are, (h.stops.items_are, (h.stops.one.1, h.looks.fails.opened))))))))
 
-pub stopped_audit_listed : (call : Call) (last : Option Place) (finding : Bool) (why : Fault) → AuditStops call last finding why → (listed : List Place)
+pub stopped_audit_listed : (call : Call) (last : Option Place) (finding : Bool) (why : ReportStop) → AuditStops call last finding why → (listed : List Place)
     × ((rest : List Place) × ((call.after.listings ≡ call.before.listings ++ listed) × (looked_between call.root None None ≡ listed ++ rest)))
 stopped_audit_listed call last finding why h = (
   h.looks.listed,
@@ -165,9 +167,9 @@ stopped_audit_listed call last finding why h = (
   ),
 )
 
-pub stopped_audit_read : (call : Call) (last : Option Place) (finding : Bool) (why : Fault) → AuditStops call last finding why → (trail : List Opening)
+pub stopped_audit_read : (call : Call) (last : Option Place) (finding : Bool) (why : ReportStop) → AuditStops call last finding why → (trail : List Opening)
     × ((rest : List Place) × ((call.after.openings ≡ call.before.openings ++ trail)
-    × ((call.after.failures ≡ call.before.failures + (length (unread_of call.root trail) + failures_by why)) × (read_between call.root None None ≡ heads_of call.root trail ++ rest))))
+    × ((call.after.failures ≡ call.before.failures + (length (unread_of call.root trail) + failures_at (stop_place why))) × (read_between call.root None None ≡ heads_of call.root trail ++ rest))))
 stopped_audit_read call last finding why h =
     let read : heads_of call.root h.trail ≡ h.looks.heads = h.looks.fails.heads_are ∙ ap (λ l. l ++ h.looks.heads) (nothing_front h.looks.held h.looks.held_front) in (
       h.trail,
@@ -225,16 +227,16 @@ pub run_ended_at : (call : Call) (from last next : Option Place) (limits : Limit
 run_ended_at call from last next limits spent files finding h = (h.trail, (h.looks.audits.did.openings_are, last_said from last _ h.last_is))
 
 pub stopped_run_wrote : (root : StorageRoot) (s t : Store) (before written : List ℕ) (from last : Option Place) (limits : Limits) (spent files : ℕ)
-    (finding : Bool) (why : Fault) → RunStops (known_call root s t before written) from last limits spent files finding why → (trail : List Opening)
+    (finding : Bool) (why : ReportStop) → RunStops (known_call root s t before written) from last limits spent files finding why → (trail : List Opening)
     × ((whole : List Item) × ((others : List Item)
     × ((gone : ℕ) × ((t.openings ≡ s.openings ++ trail)
     × ((cut (after (audit root (unread_of root trail)) from) limits ≡ whole ++ others)
     × ((written ≡ before ++ (text whole ++ take gone (text (take 1 others))))
-    × ((why ≡ fault.Output → gone < length (text (take 1 others))) × ((why ≢ fault.Output → gone ≡ 0) × ((spent ≡ total_cost whole) × ((files ≡ total_files whole) × (finding ≡ found whole)))))))))))
+    × ((why ≡ halt.Output → gone < length (text (take 1 others))) × ((why ≢ halt.Output → gone ≡ 0) × ((spent ≡ total_cost whole) × ((files ≡ total_files whole) × (finding ≡ found whole)))))))))))
 stopped_run_wrote root s t before written from last limits spent files finding why h =
     (h.trail, stop_wrote before h.stops h.looks.fails.did.openings_are (λ whole. (spent ≡ total_cost whole) × ((files ≡ total_files whole) × (finding ≡ found whole))) (h.figures.spent_is, (h.figures.files_is, h.figures.found_is)))
 
-pub stopped_run_opened : (call : Call) (from last : Option Place) (limits : Limits) (spent files : ℕ) (finding : Bool) (why : Fault)
+pub stopped_run_opened : (call : Call) (from last : Option Place) (limits : Limits) (spent files : ℕ) (finding : Bool) (why : ReportStop)
     → RunStops call from last limits spent files finding why → (trail : List Opening)
     × ((whole : List Item) × ((others : List Item)
     × ((begun : List Place) × ((rest : List Place)
@@ -244,7 +246,7 @@ pub stopped_run_opened : (call : Call) (from last : Option Place) (limits : Limi
 stopped_run_opened call from last limits spent files finding why h =
     (h.trail, (h.stops.whole, (h.stops.others, (h.stops.begun, (h.stops.one.0, (h.looks.fails.did.openings_are, (h.stops.items_are, (h.stops.one.1, h.looks.fails.opened))))))))
 
-pub stopped_run_listed : (call : Call) (from last : Option Place) (limits : Limits) (spent files : ℕ) (finding : Bool) (why : Fault)
+pub stopped_run_listed : (call : Call) (from last : Option Place) (limits : Limits) (spent files : ℕ) (finding : Bool) (why : ReportStop)
     → RunStops call from last limits spent files finding why → (down : List Place)
     × ((below : List Place) × ((listed : List Place)
     × ((rest : List Place) × ((call.after.listings ≡ call.before.listings ++ (down ++ listed))
@@ -253,12 +255,12 @@ stopped_run_listed call from last limits spent files finding why h =
     let way = way_is whole from ∙ h.looks.down_front.1 in
     (h.looks.down, (h.looks.down_front.0, (h.looks.listed, (h.looks.listed_front.0, (h.looks.fails.did.listings_are, (way, (h.looks.listed_front.1, stops_list_once call whole from _ h.trail why h.looks)))))))
 
-pub stopped_run_read : (call : Call) (from last : Option Place) (limits : Limits) (spent files : ℕ) (finding : Bool) (why : Fault)
+pub stopped_run_read : (call : Call) (from last : Option Place) (limits : Limits) (spent files : ℕ) (finding : Bool) (why : ReportStop)
     → RunStops call from last limits spent files finding why → (trail : List Opening)
     × ((held : List Place) × ((below : List Place)
     × ((heads : List Place) × ((rest : List Place)
     × ((call.after.openings ≡ call.before.openings ++ trail)
-    × ((call.after.failures ≡ call.before.failures + (length (unread_of call.root trail) + failures_by why))
+    × ((call.after.failures ≡ call.before.failures + (length (unread_of call.root trail) + failures_at (stop_place why)))
     × ((heads_of call.root trail ≡ held ++ heads) × ((holder call.root from ≡ held ++ below) × ((read_between call.root from None ≡ heads ++ rest) × (IsAscending place_cmp (held ++ heads)))))))))))
 stopped_run_read call from last limits spent files finding why h = (
   h.trail,
@@ -277,7 +279,7 @@ stopped_run_read call from last limits spent files finding why h = (
   ),
 )
 
-pub stopped_run_ended_at : (call : Call) (from last : Option Place) (limits : Limits) (spent files : ℕ) (finding : Bool) (why : Fault)
+pub stopped_run_ended_at : (call : Call) (from last : Option Place) (limits : Limits) (spent files : ℕ) (finding : Bool) (why : ReportStop)
     → RunStops call from last limits spent files finding why → (trail : List Opening)
     × ((whole : List Item) × ((others : List Item)
     × ((call.after.openings ≡ call.before.openings ++ trail)
@@ -337,17 +339,17 @@ pub cycle_ended_at : (call : Call) (last : Option Place) (limits : List Limits) 
 cycle_ended_at call last limits spent files finding count whole h = (h.trail, (h.audits.did.openings_are, last_said None last _ h.last_is))
 
 pub stopped_cycle_wrote : (root : StorageRoot) (s t : Store) (before written : List ℕ) (last : Option Place) (limits : List Limits) (spent files : ℕ)
-    (finding : Bool) (count : ℕ) (why : Fault) → CycleStops (known_call root s t before written) last limits spent files finding count why
+    (finding : Bool) (count : ℕ) (why : ReportStop) → CycleStops (known_call root s t before written) last limits spent files finding count why
     → (trail : List Opening) × ((whole : List Item)
     × ((others : List Item) × ((gone : ℕ)
     × ((t.openings ≡ s.openings ++ trail)
     × ((joined (take count (runs (audit root (unread_of root trail)) limits)) ≡ whole ++ others)
     × ((written ≡ before ++ (text whole ++ take gone (text (take 1 others))))
-    × ((why ≡ fault.Output → gone < length (text (take 1 others))) × ((why ≢ fault.Output → gone ≡ 0) × ((spent ≡ total_cost whole) × ((files ≡ total_files whole) × (finding ≡ found whole)))))))))))
+    × ((why ≡ halt.Output → gone < length (text (take 1 others))) × ((why ≢ halt.Output → gone ≡ 0) × ((spent ≡ total_cost whole) × ((files ≡ total_files whole) × (finding ≡ found whole)))))))))))
 stopped_cycle_wrote root s t before written last limits spent files finding count why h =
     (h.trail, stop_wrote before h.stops h.fails.did.openings_are (λ whole. (spent ≡ total_cost whole) × ((files ≡ total_files whole) × (finding ≡ found whole))) (h.figures.spent_is, (h.figures.files_is, h.figures.found_is)))
 
-pub stopped_cycle_counted : (call : Call) (last : Option Place) (limits : List Limits) (spent files : ℕ) (finding : Bool) (count : ℕ) (why : Fault)
+pub stopped_cycle_counted : (call : Call) (last : Option Place) (limits : List Limits) (spent files : ℕ) (finding : Bool) (count : ℕ) (why : ReportStop)
     → CycleStops call last limits spent files finding count why → (trail : List Opening)
     × ((whole : List Item) × ((rest : List Item)
     × ((call.after.openings ≡ call.before.openings ++ trail)
@@ -365,18 +367,18 @@ stopped_cycle_counted call last limits spent files finding count why h = (
   ),
 )
 
-pub stopped_cycle_opened : (call : Call) (last : Option Place) (limits : List Limits) (spent files : ℕ) (finding : Bool) (count : ℕ) (why : Fault)
+pub stopped_cycle_opened : (call : Call) (last : Option Place) (limits : List Limits) (spent files : ℕ) (finding : Bool) (count : ℕ) (why : ReportStop)
     → CycleStops call last limits spent files finding count why → (trail : List Opening)
     × ((whole : List Item) × ((others : List Item)
     × ((begun : List Place) × ((rest : List Place)
     × ((call.after.openings ≡ call.before.openings ++ trail)
-    × ((call.after.failures ≡ call.before.failures + (length (unread_of call.root trail) + failures_by why))
+    × ((call.after.failures ≡ call.before.failures + (length (unread_of call.root trail) + failures_at (stop_place why)))
     × ((joined (take count (runs (audit call.root (unread_of call.root trail)) limits)) ≡ whole ++ others)
     × ((map (λ i. i.place) (take 1 others) ≡ begun ++ rest) × (content_trail call.root trail ≡ hashed_among call.root (map (λ i. i.place) whole ++ begun))))))))))
 stopped_cycle_opened call last limits spent files finding count why h =
     (h.trail, (h.stops.whole, (h.stops.others, (h.stops.begun, (h.stops.one.0, (h.fails.did.openings_are, (h.fails.did.failures_are, (h.stops.items_are, (h.stops.one.1, h.fails.opened)))))))))
 
-pub stopped_cycle_ended_at : (call : Call) (last : Option Place) (limits : List Limits) (spent files : ℕ) (finding : Bool) (count : ℕ) (why : Fault)
+pub stopped_cycle_ended_at : (call : Call) (last : Option Place) (limits : List Limits) (spent files : ℕ) (finding : Bool) (count : ℕ) (why : ReportStop)
     → CycleStops call last limits spent files finding count why → (trail : List Opening)
     × ((whole : List Item) × ((call.after.openings ≡ call.before.openings ++ trail)
     × ((spent ≡ total_cost whole) × ((whole ≡ [] → last ≡ None) × ((front : List Item) (i : Item) → whole ≡ front ++ i ∷ [] → last ≡ Some i.place)))))
@@ -388,13 +390,13 @@ stopped_cycle_ended_at call last limits spent files finding count why h =
 pub check_by_end : (call : Call) (p : Place) (item finding : Bool) → CheckEnds call p item finding end.Ended → Checks call p item finding
 check_by_end call p item finding h = h
 
-pub check_by_stop : (call : Call) (p : Place) (item finding : Bool) (why : Fault) → CheckEnds call p item finding (end.Stopped why) → CheckStops call p why
+pub check_by_stop : (call : Call) (p : Place) (item finding : Bool) (why : ReportStop) → CheckEnds call p item finding (end.Stopped why) → CheckStops call p why
 check_by_stop call p item finding why h = h
 
 pub audit_by_end : (call : Call) (last : Option Place) (finding : Bool) → AuditEnds call last finding end.Ended → AuditsAll call last finding
 audit_by_end call last finding h = h
 
-pub audit_by_stop : (call : Call) (last : Option Place) (finding : Bool) (why : Fault) → AuditEnds call last finding (end.Stopped why) → AuditStops call last finding why
+pub audit_by_stop : (call : Call) (last : Option Place) (finding : Bool) (why : ReportStop) → AuditEnds call last finding (end.Stopped why) → AuditStops call last finding why
 audit_by_stop call last finding why h = h
 
 pub run_by_end : (call : Call) (from last : Option Place) (limits : Limits) (spent files : ℕ) (finding : Bool)
@@ -405,7 +407,7 @@ pub run_by_limits : (call : Call) (from last : Option Place) (limits : Limits) (
     → RunEnds call from last limits spent files finding run.Spent → (next : Place) × Runs call from last limits spent files finding (Some next)
 run_by_limits call from last limits spent files finding h = h
 
-pub run_by_stop : (call : Call) (from last : Option Place) (limits : Limits) (spent files : ℕ) (finding : Bool) (why : Fault)
+pub run_by_stop : (call : Call) (from last : Option Place) (limits : Limits) (spent files : ℕ) (finding : Bool) (why : ReportStop)
     → RunEnds call from last limits spent files finding (run.Stopped why) → RunStops call from last limits spent files finding why
 run_by_stop call from last limits spent files finding why h = h
 
@@ -420,7 +422,7 @@ pub cycle_by_limits : (call : Call) (last : Option Place) (limits : List Limits)
     → CycleEnds call last limits spent files finding count cycle.Spent → Cycles call last limits spent files finding count false
 cycle_by_limits call last limits spent files finding count h = h
 
-pub cycle_by_stop : (call : Call) (last : Option Place) (limits : List Limits) (spent files : ℕ) (finding : Bool) (count : ℕ) (why : Fault)
+pub cycle_by_stop : (call : Call) (last : Option Place) (limits : List Limits) (spent files : ℕ) (finding : Bool) (count : ℕ) (why : ReportStop)
     → CycleEnds call last limits spent files finding count (cycle.Stopped why) → CycleStops call last limits spent files finding count why
 cycle_by_stop call last limits spent files finding count why h = h
 
@@ -473,7 +475,7 @@ pub cursor_of_a_spent_run : (call : Call) (c : Cursor) (limits : Limits) (ran : 
     × ((last ≡ None → ran.cursor.state ≡ start) × ((p : Place) → last ≡ Some p → ran.cursor.state ≡ behind p)))
 cursor_of_a_spent_run call c limits ran h e = (h.last, (h.run, state_said h.last _ (ap (λ r. r.state) h.cursor_is ∙ ap (λ w. state_after w h.last) e)))
 
-pub cursor_of_a_stopped_run : (call : Call) (c : Cursor) (limits : Limits) (ran : RunEnd) (why : Fault) → RunsFrom call c limits ran → ran.end ≡ run.Stopped why
+pub cursor_of_a_stopped_run : (call : Call) (c : Cursor) (limits : Limits) (ran : RunEnd) (why : ReportStop) → RunsFrom call c limits ran → ran.end ≡ run.Stopped why
     → (last : Option Place) × (RunEnds call (place_in c.state) last limits ran.spent ran.files ran.found ran.end
     × ((last ≡ None → ran.cursor.state ≡ start) × ((p : Place) → last ≡ Some p → ran.cursor.state ≡ behind p)))
 cursor_of_a_stopped_run call c limits ran why h e = (h.last, (h.run, state_said h.last _ (ap (λ r. r.state) h.cursor_is ∙ ap (λ w. state_after w h.last) e)))
@@ -489,7 +491,7 @@ pub cursor_of_a_spent_cycle : (call : Call) (limits : List Limits) (c : Cursor) 
     → (last : Option Place) × (CycleEnds call last limits c.spent c.files finding c.runs cycle.Spent × ((last ≡ None → c.state ≡ start) × ((p : Place) → last ≡ Some p → c.state ≡ behind p)))
 cursor_of_a_spent_cycle call limits c finding h = (h.last, (h.cycle, state_said h.last _ (ap (λ r. r.state) h.cursor_is)))
 
-pub cursor_of_a_stopped_cycle : (call : Call) (limits : List Limits) (c : Cursor) (finding : Bool) (why : Fault)
+pub cursor_of_a_stopped_cycle : (call : Call) (limits : List Limits) (c : Cursor) (finding : Bool) (why : ReportStop)
     → CyclesTo call limits c finding (cycle.Stopped why) → (last : Option Place)
     × (CycleEnds call last limits c.spent c.files finding c.runs (cycle.Stopped why) × ((last ≡ None → c.state ≡ start) × ((p : Place) → last ≡ Some p → c.state ≡ behind p)))
 cursor_of_a_stopped_cycle call limits c finding why h = (h.last, (h.cycle, state_said h.last _ (ap (λ r. r.state) h.cursor_is)))

@@ -11,8 +11,10 @@ use Rattle.ocfl_audit.specs.{Due.{items_at}, Between.{IsWithin}, Parts.{Part, wi
 use Rattle.ocfl_audit.specs.Trail.{unread_of}
 use Rattle.ocfl_audit.specs.Runs.{Limits, files_of, total_files, cut_len, cut, left}
 use Rattle.ocfl_cursor.specs.{Cursor.{State, Cursor, IsShortPlace, IsCursor}, Moves.{after_run}}
-use Rattle.ocfl_item.specs.{Looking.{IsFront}, Ways.{IsWayFault}, Auditing.{Audits}}
-use Rattle.ocfl_item.specs.{declared.fault.Fault.{Fault}, declared.fault.Fault.TheVariants.{Output}}
+use Rattle.ocfl_item.specs.{Looking.{IsFront}, Auditing.{Audits}}
+use Rattle.ocfl_item.specs.declared.fault.Fault.{Fault}
+use Rattle.ocfl_scrub.specs.declared.stop.ReportStop.TheVariants.{Output}
+use Rattle.ocfl_scrub.specs.Types.{ReportStop}
 use Rattle.ocfl_walk.specs.{WalkCalls.{GoesDown, GoDownFails}}
 use Rattle.ocfl_walk.proofs.WalkCallLaws.{audits_as}
 use Rattle.ocfl_scrub.specs.{Call.{call_of}, Taking.{PartOf}, Written.{places, Figures}}
@@ -20,9 +22,10 @@ use Rattle.ocfl_scrub.specs.Running.{taken_in, place_in, RunsWithin, RunStopsWit
 use Rattle.ocfl_scrub.specs.Starting.{end_of, entry, stand, looked_in, read_in, LooksOver, StopsLooking, items_in}
 use Rattle.ocfl_scrub.specs.{Beginning.{Begins}, declared.running.RunStatus.{RunStatus}}
 use Rattle.ocfl_scrub.specs.declared.running.RunStatus.TheVariants.{Ended, Spent, Stopped, Worn}
+use Rattle.ocfl_scrub.specs.declared.stop.ReportStop.TheVariants as halt
 use Rattle.ocfl_scrub.proofs.Paying.{Paid, Counts, IsWithinBoth, PaysAll, PaysUpTo, PaysHalting}
 use Rattle.ocfl_scrub.proofs.AuditLaws.{places_of_items, take_items, nothing_out, none_left, above_are}
-use Rattle.ocfl_scrub.proofs.{PassLaws.{take_nothing}, TakeLaws.{nothing_of}}
+use Rattle.ocfl_scrub.proofs.{PassLaws.{take_nothing}, TakeLaws.{fault_other, nothing_of}}
 use Rattle.ocfl_scrub.proofs.{MeterLaws.{paid_files}, Passing.{due_in}}
 use Rattle.ocfl_scrub.proofs.PartStarts.{looked_all, read_all, looked_to, read_to}
 use Rattle.ocfl_scrub.proofs.LookLaws.{looks_over, stops_looking, stops_above}
@@ -56,11 +59,11 @@ first_taken l s f (y ∷ ys) h =
     let n : ℕ = cut_len l (s + y.cost) (f + files_of y.cost) ys in
     ap (λ v. take 1 (take (cond v (suc n) 0) (y ∷ ys))) h.0 ∙ ap (λ zs. y ∷ zs) (take_nothing (take n ys) ∙ sym (take_nothing ys))
 
-pub no_part : (why : Fault) → why ≢ Output → (whole part : Text) → PartOf why whole part → part ≡ []
+pub no_part : (why : ReportStop) → why ≢ Output → (whole part : Text) → PartOf why whole part → part ≡ []
 no_part why other whole part h = h.is ∙ ap (λ n. take n whole) (h.none other) ∙ take_nothing whole
 
 -- what was begun and written of the next item is a beginning of the first that the cut has left
-ends_at : (root : StorageRoot) (os : List Opening) (why : Fault) (begun : List Place) (part : Text) (nexts : List Place) (first : List Item)
+ends_at : (root : StorageRoot) (os : List Opening) (why : ReportStop) (begun : List Place) (part : Text) (nexts : List Place) (first : List Item)
     → (first ≡ items_at root os nexts) ⊎ ((why ≢ Output) × (begun ≡ []))
     → IsFront begun nexts → PartOf why (text (items_at root os nexts)) part → IsFront begun (places first) × PartOf why (text first) part
 ends_at root os why begun part nexts first (inl e) one h =
@@ -127,7 +130,7 @@ module _ (root : StorageRoot) (part : Part) (s t u : Store) (old new : Option (L
       (audits_as (looked_to root part from h.next h.in_front) (read_to root part from h.next h.in_front) h.audits) h.wrote h.found_is last_is
 
   -- there was a fault
-  pub stopped : (why : Fault) (h : PaysHalting root (end_of part) t u old new (stand root part from) stood l spent files finding why) → last ≡ last_or from h.halts.done
+  pub stopped : (why : ReportStop) (h : PaysHalting root (end_of part) t u old new (stand root part from) stood l spent files finding why) → last ≡ last_or from h.halts.done
       → RunStopsWithin (call_of root s u old new) part from last l spent files finding why
   stopped why h last_is =
       let k = h.halts in
@@ -172,12 +175,12 @@ lent_place None from e = e
 lent_place (Some p) from e = e
 
 -- no walk was started
-pub not_run : (root : StorageRoot) (part : Part) (s t : Store) (old : Option (List ℕ)) (from : Option Place) (l : Limits) (why : Fault) → IsWayFault why → GoDownFails root s t (entry part from) why
-    → RunStopsWithin (call_of root s t old old) part from from l 0 0 false why
+pub not_run : (root : StorageRoot) (part : Part) (s t : Store) (old : Option (List ℕ)) (from : Option Place) (l : Limits) (why : Fault) → GoDownFails root s t (entry part from) why
+    → RunStopsWithin (call_of root s t old old) part from from l 0 0 false (halt.Fault why)
 unfolding nothing_out
-not_run root part s t old from l why only g = record {
+not_run root part s t old from l why g = record {
   trail = g.trail;
-  stops = nothing_out (taken_in root g.trail part from l) old from why only.0;
+  stops = nothing_out (taken_in root g.trail part from l) old from (halt.Fault why) (fault_other why);
   figures = record { spent_is = refl; files_is = refl; found_is = refl };
   looks = stops_above root part s t old old from why g;
 }

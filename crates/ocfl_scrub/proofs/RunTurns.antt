@@ -1,19 +1,21 @@
 -- One turn of the loop of a run.
 use Rattle.std.proofs.Common.{◌≡◌, ℕ, ◌+◌, List, refl, sym, ◌∙◌, ap, subst, true, false, Bool, Some, None, Option}
-use Rattle.std.specs.{Prelude.{◌≢◌, ◌||◌}, List.{last_or}}
+use Rattle.std.specs.{Prelude.{◌||◌}, List.{last_or}}
 use Rattle.ocfl_tree.specs.{Place.{Place}, StorageRoot.{StorageRoot}, Store.{Store}}
 use Rattle.ocfl_audit.specs.{Due.{due}, Lines.{is_hashed}, Parts.{Part}, Runs.{Limits, files_of}}
 use Rattle.ocfl_cursor.specs.Meter.{Meter, MayStart}
 use Rattle.ocfl_cursor.specs.declared.limits.Limits.{Limits as MadeLimits}
 use Rattle.ocfl_walk.specs.{Ends.{is_past}, WalkCalls.{GoesDown, FailsOut}}
 use Rattle.ocfl_walk.specs.{Walks.{Stands, GivesOut}, declared.walk.Walk.{Walk}}
-use Rattle.ocfl_item.specs.{Judging.{CostFits}, declared.fault.Fault.{Fault}}
-use Rattle.ocfl_item.specs.declared.fault.Fault.TheVariants.{Output}
+use Rattle.ocfl_item.specs.{Judging.{CostFits}}
+use Rattle.ocfl_scrub.specs.Types.{ReportStop}
 use Rattle.ocfl_item.specs.declared.pending.Pending.{Pending}
+use Rattle.ocfl_item.specs.declared.fault.Fault.{Fault}
 use Rattle.ocfl_scrub.specs.{Call.{call_of}, Passes.{IsAhead}}
 use Rattle.ocfl_scrub.specs.Running.{limits_of, IsPaid, RunsWithin, RunStopsWithin}
 use Rattle.ocfl_scrub.specs.{Starting.{end_of, entry, stand}, Taking.{Takes, Misses}}
 use Rattle.ocfl_scrub.specs.declared.kept.Met.{Met}
+use Rattle.ocfl_scrub.specs.declared.stop.ReportStop.TheVariants as halt
 use Rattle.ocfl_scrub.proofs.{AuditsJoined.{audits_over}, MeterLaws.{paid_item}}
 use Rattle.ocfl_scrub.proofs.Paying.{IsWithinBoth, Pays}
 use Rattle.ocfl_scrub.proofs.PayLaws.{pays_none, pays_took, pays_missed, pays_lost, pays_up_to, pays_finish}
@@ -97,12 +99,12 @@ module _ {root : StorageRoot} {s t : Store} {old mid : Option (List ℕ)} {walk 
       (pays_finish root (end_of part) k.begun t u old mid (stand root part from) k.stood l spent files finding k.beyond k.pays gives.0 gives.1) (k.last_is ∙ ap (last_or from) all)
 
   -- the walk did not get to its next item
-  pub run_lost : (why : Fault) → why ≢ Output → FailsOut root t u h.paid.stood (end_of part) why → RunStopsWithin (call_of root s u old mid) part from last l spent files finding why
+  pub run_lost : (why : Fault) → FailsOut root t u h.paid.stood (end_of part) why → RunStopsWithin (call_of root s u old mid) part from last l spent files finding (halt.Fault why)
   unfolding passes_lost pays_lost
-  run_lost why other lost =
+  run_lost why lost =
       let k = h.paid in
-      stopped root part s k.begun u old mid from k.stood last l spent files finding k.down why
-      (pays_lost root (end_of part) k.begun t u old mid (stand root part from) k.stood l spent files finding k.beyond k.pays why other lost) k.last_is
+      stopped root part s k.begun u old mid from k.stood last l spent files finding k.down (halt.Fault why)
+      (pays_lost root (end_of part) k.begun t u old mid (stand root part from) k.stood l spent files finding k.beyond k.pays why lost) k.last_is
 
   pub run_meets : (next : Walk) (q : Pending) → GivesOut root t u h.paid.stood (end_of part) next (Some q) → is_past (end_of part) q.place ≡ false
       → HasMet root part s u old mid next q from last l spent files finding
@@ -144,7 +146,7 @@ module _ {root : StorageRoot} {s u : Store} {old mid : Option (List ℕ)} {walk 
           stands = h.item.gives.1;
         })
 
-    pub run_missed : (why : Fault) → Misses (call_of root u v mid new) q.place why → RunStopsWithin (call_of root s v old new) part from last l spent files finding why
+    pub run_missed : (why : ReportStop) → Misses (call_of root u v mid new) q.place why → RunStopsWithin (call_of root s v old new) part from last l spent files finding why
     unfolding passes_missed pays_missed
     run_missed why misses =
         let k = h.paid in

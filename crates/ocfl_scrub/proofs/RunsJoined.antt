@@ -12,10 +12,12 @@ use Rattle.ocfl_audit.specs.Trail.{content_trail, reads_inventory}
 use Rattle.ocfl_audit.specs.Zone.{Zone, skipped, hierarchy, inside, zone}
 use Rattle.ocfl_audit.specs.{Due.{items_at, hashed_among}, Parts.{Part}}
 use Rattle.ocfl_audit.specs.Runs.{Limits, total_files, cut, left, runs, runs_after, joined}
-use Rattle.ocfl_item.specs.{Looking.{IsFront}, Auditing.{Fails}, declared.fault.Fault.{Fault}}
-use Rattle.ocfl_item.specs.declared.fault.Fault.TheVariants.{Memory, Store as AtStore}
+use Rattle.ocfl_item.specs.{Looking.{IsFront}, Auditing.{Fails}}
+use Rattle.ocfl_scrub.specs.Types.{ReportStop}
+use Rattle.ocfl_item.specs.declared.fault.Fault.TheVariants.{Memory}
+use Rattle.ocfl_scrub.specs.declared.stop.ReportStop.TheVariants as halt
 use Rattle.ocfl_walk.specs.WalkCalls.{holder, holder_of}
-use Rattle.ocfl_scrub.specs.{Call.{call_of}, Taking.{PartOf}, Written.{places, Figures}}
+use Rattle.ocfl_scrub.specs.{Call.{call_of}, Taking.{PartOf, stop_place}, Written.{places, Figures}}
 use Rattle.ocfl_scrub.specs.Running.{RunStopsWithin}
 use Rattle.ocfl_scrub.specs.Starting.{entry, due_within, read_in, items_in}
 use Rattle.ocfl_scrub.specs.declared.cycling.CycleStatus.{CycleStatus}
@@ -23,12 +25,13 @@ use Rattle.ocfl_scrub.specs.declared.cycling.CycleStatus.TheVariants.{Ended, Spe
 use Rattle.ocfl_scrub.proofs.{PartStarts.{above_in, due_within_ascends}, Lists.{ascends_left}}
 use Rattle.ocfl_scrub.proofs.AuditsJoined.{items_before, items_behind, items_append, items_then}
 use Rattle.ocfl_scrub.proofs.PassLaws.{text_append, found_append, no_items, take_nothing}
-use Rattle.ocfl_scrub.proofs.{TakeLaws.{nothing_of, memory_other}, AuditLaws.{places_of_items}}
+use Rattle.ocfl_scrub.proofs.{TakeLaws.{fault_of_nothing}, AuditLaws.{places_of_items}}
 use Rattle.ocfl_scrub.proofs.CutLaws.{IsStop, cut_of_paid, left_of_paid, cut_and_left}
 use Rattle.ocfl_scrub.proofs.{PartLaws.{stop_alike, stop_hashed}, NextLaws.{read_parts}}
 use Rattle.ocfl_scrub.proofs.WayOrder.{held_in}
 use Rattle.ocfl_scrub.proofs.RunPlaces.{Took, Turn, front_is, rest_is, due_parts, front_length}
 use Rattle.ocfl_item.proofs.AuditingLaws.{audits_fail, audits_nothing, audits_on}
+use Rattle.ocfl_item.proofs.AuditingLaws.{fails_nothing}
 use Rattle.ocfl_audit.proofs.RunLaws.{cost_append, files_append}
 
 -- ---- some runs
@@ -51,7 +54,7 @@ pub record Parts (root : StorageRoot) (part : Part) (s t : Store) (old new : Opt
 
 -- from s to t they took the items above from up to last, and then there was a fault
 pub record PartsStop (root : StorageRoot) (part : Part) (s t : Store) (old new : Option (List ℕ)) (from last : Option Place) (limits : List Limits)
-    (spent files : ℕ) (finding : Bool) (count : ℕ) (why : Fault) : Type 0 where
+    (spent files : ℕ) (finding : Bool) (count : ℕ) (why : ReportStop) : Type 0 where
   pub done : List Place
   pub begun : List Place
   pub rest : List Place
@@ -59,7 +62,7 @@ pub record PartsStop (root : StorageRoot) (part : Part) (s t : Store) (old new :
   pub others : List Item
   pub listed : List Place
   pub heads : List Place
-  pub fails : Fails root s t (done ++ begun) listed heads trail why
+  pub fails : Fails root s t (done ++ begun) listed heads trail (stop_place why)
   pub due_are : due_within root part from ≡ (done ++ begun) ++ rest
   pub last_is : last ≡ last_or from done
   pub runs_begin : joined (take count (runs (items_at root trail (due_within root part from)) limits)) ≡ items_at root trail done ++ others
@@ -156,12 +159,9 @@ parts_none root part s old last over some = record {
   made = λ e. absurd cc;
 }
 
-not_of_store : (p : Place) → Memory ≡ AtStore p → ⊥
-not_of_store p e = cc
-
 -- out of memory before a run
 pub parts_unbegun : (root : StorageRoot) (part : Part) (s : Store) (old : Option (List ℕ)) (last : Option Place) (limits : List Limits) → s.tree ≡ root
-    → PartsStop root part s s old old last last limits 0 0 false 0 Memory
+    → PartsStop root part s s old old last last limits 0 0 false 0 (halt.Fault Memory)
 unfolding items_at
 parts_unbegun root part s old last limits over =
     let none = audits_nothing root s over in
@@ -174,7 +174,7 @@ parts_unbegun root part s old last limits over =
       others = [];
       listed = [];
       heads = [];
-      fails = record { over = over; did = none.did; opened = none.opened; heads_are = refl; near = none.near; store = λ q e. absurd (not_of_store q e) };
+      fails = fails_nothing root s over;
       due_are = refl;
       last_is = refl;
       runs_begin = joined_none all;
@@ -182,7 +182,7 @@ parts_unbegun root part s old last limits over =
       one = ([], refl);
       gone = [];
       wrote = Appends-nil old;
-      part_of = nothing_of Memory memory_other [];
+      part_of = fault_of_nothing Memory [];
       count_fits = omega arith;
       figures = record { spent_is = refl; files_is = refl; found_is = refl };
       read = record { none = λ e. refl; some = λ e. absurd (omega (arith, e)) };
@@ -217,7 +217,7 @@ module _ (root : StorageRoot) (part : Part) (s t : Store) (old mid : Option (Lis
       }
 
   -- it stopped
-  pub parts_stopped : (why : Fault) → RunStopsWithin (call_of root s t old mid) part from mid_last l spent files finding why
+  pub parts_stopped : (why : ReportStop) → RunStopsWithin (call_of root s t old mid) part from mid_last l spent files finding why
       → PartsStop root part s t old mid from mid_last (l ∷ ls) spent files finding 1 why
   parts_stopped why h =
       let w = h.stops in
@@ -385,7 +385,7 @@ module _ (root : StorageRoot) (part : Part) (s t : Store) (old mid : Option (Lis
           made = λ e. omega arith;
         }
 
-    stops_then : (why : Fault) → PartsStop root part t u mid new mid_last last ls spent' files' finding' count why
+    stops_then : (why : ReportStop) → PartsStop root part t u mid new mid_last last ls spent' files' finding' count why
         → PartsStop root part s u old new from last (l ∷ ls) (spent + spent') (files + files') (finding || finding') (1 + count) why
     stops_then why k =
         let both : (h.took.done ++ k.done) ++ k.begun ≡ h.took.done ++ (k.done ++ k.begun) = append_assoc h.took.done k.done k.begun in
@@ -412,8 +412,8 @@ module _ (root : StorageRoot) (part : Part) (s t : Store) (old mid : Option (Lis
           others = k.others;
           listed = h.took.listed ++ k.listed;
           heads = h.took.heads ++ k.heads;
-          fails = subst (λ ps. Fails root s u ps (h.took.listed ++ k.listed) (h.took.heads ++ k.heads) (h.took.trail ++ k.trail) why) (sym both)
-              (audits_fail root s t u h.took.done (k.done ++ k.begun) h.took.listed k.listed h.took.heads k.heads h.took.trail k.trail why h.took.audits k.fails);
+          fails = subst (λ ps. Fails root s u ps (h.took.listed ++ k.listed) (h.took.heads ++ k.heads) (h.took.trail ++ k.trail) (stop_place why)) (sym both)
+              (audits_fail root s t u h.took.done (k.done ++ k.begun) h.took.listed k.listed h.took.heads k.heads h.took.trail k.trail _ h.took.audits k.fails);
           due_are = due_are ∙ ap (λ qs. qs ++ k.rest) (sym both);
           last_is = k.last_is ∙ ap (λ x. last_or x k.done) h.took.last_is ∙ last_then from h.took.done k.done;
           runs_begin = ap (λ xs. joined (take (1 + count) xs)) are ∙ joined_more count first later ∙ ap (λ is. first ++ is) k.runs_begin

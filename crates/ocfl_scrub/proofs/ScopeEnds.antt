@@ -15,8 +15,9 @@ use Rattle.ocfl_cursor.proofs.PartLimited.{read_as_part}
 use Rattle.ocfl_cursor.proofs.PartRefusals.{front-part_text, only_memory, whole_has_no_part_front}
 use Rattle.ocfl_deed.specs.declared.deed.Deed.{Deed}
 use Rattle.ocfl_deed.specs.declared.deed.Deed.TheVariants as deed
-use Rattle.ocfl_item.specs.declared.fault.Fault.{Fault}
+use Rattle.ocfl_scrub.specs.Types.{ReportStop}
 use Rattle.ocfl_item.specs.declared.fault.Fault.TheVariants as fault
+use Rattle.ocfl_scrub.specs.declared.stop.ReportStop.TheVariants as halt
 use Rattle.ocfl_scrub.specs.{Call.{Call}, Noting.{IsStopNote}}
 use Rattle.ocfl_scrub.specs.Performing.{HandsBack, IsSaid, Performs, RefusesRightly}
 use Rattle.ocfl_scrub.specs.Scoping.{BranchAudited, HandsBackIn, IsBranchNote, IsSaidIn, PartRefusesRightly, PerformsIn, RefusesRightlyIn}
@@ -48,14 +49,13 @@ whole_told call d known status n stored h = h
 
 -- ---- branches
 
-no_stop : (why : Fault) (n : Note) → (n ≡ note.EmptyBranch) ⊎ (n ≡ note.Nothing) → IsStopNote why n → ⊥
-no_stop (fault.Store p) n (inl e) h = cc
-no_stop (fault.Store p) n (inr e) h = cc
-no_stop fault.Memory n (inl e) h = cc
-no_stop fault.Memory n (inr e) h = cc
-no_stop fault.Output n (inl e) h = cc
-no_stop fault.Output n (inr e) h = cc
-no_stop fault.Broken n e h = h
+no_stop : (why : ReportStop) (n : Note) → (n ≡ note.EmptyBranch) ⊎ (n ≡ note.Nothing) → IsStopNote why n → ⊥
+no_stop (halt.Fault (fault.Store p)) n (inl e) h = cc
+no_stop (halt.Fault (fault.Store p)) n (inr e) h = cc
+no_stop (halt.Fault fault.Memory) n (inl e) h = cc
+no_stop (halt.Fault fault.Memory) n (inr e) h = cc
+no_stop halt.Output n (inl e) h = cc
+no_stop halt.Output n (inr e) h = cc
 
 -- after one place there is a last one
 last_of_more : (p : Place) (ps : List Place) → last_or (Some p) ps ≡ None → ⊥

@@ -1,13 +1,15 @@
 -- One item, judged and written.
-use Rattle.std.proofs.Common.{◌≡◌, ◌≢◌, ℕ, ◌+◌, List, [], ◌∷◌, refl, sym, ◌∙◌, ap, subst, true, false, Bool, Option, take, append-nil, arith}
+use Rattle.std.proofs.Common.{◌≡◌, ◌≢◌, ℕ, ◌+◌, List, [], ◌∷◌, refl, sym, ◌∙◌, ap, subst, true, false, Bool, Option, None, length, take, append-nil, arith}
 use Rattle.std.proofs.KnownBytes.{Appends-nil}
 use Rattle.std.specs.{Prelude.{cond, ◌||◌}, List.{list_any}, Io.KnownBytes.{Appends}}
 use Rattle.ocfl_tree.specs.{Place.{Text, Place}, StorageRoot.{StorageRoot}, Store.{Store, Did}}
 use Rattle.ocfl_report.specs.{Line.{Line, Item, is_finding_code, has_finding, found}, Text.{lines_text, text}}
-use Rattle.ocfl_audit.specs.{Audit.{total_cost}, Due.{hashed_among, items_at}}
-use Rattle.ocfl_item.specs.{Looking.{IsFront, failures_by}, Auditing.{Fails}}
-use Rattle.ocfl_item.specs.{Judging.{Judges, JudgeFails}, declared.fault.Fault.{Fault}}
-use Rattle.ocfl_item.specs.declared.fault.Fault.TheVariants.{Store as AtStore, Memory, Output}
+use Rattle.ocfl_audit.specs.{Audit.{total_cost}, Due.{hashed_among, items_at}, Trail.{unread_of}}
+use Rattle.ocfl_item.specs.{Looking.{IsFront}, Auditing.{Fails}, declared.fault.Fault.{Fault}}
+use Rattle.ocfl_item.specs.Judging.{Judges, JudgeFails}
+use Rattle.ocfl_scrub.specs.Types.{ReportStop}
+use Rattle.ocfl_item.specs.declared.fault.Fault.TheVariants as fault
+use Rattle.ocfl_scrub.specs.declared.stop.ReportStop.TheVariants as halt
 use Rattle.ocfl_scrub.specs.{Call.{call_of}, Taking.{WritesLines, PartOf, Takes, Misses}}
 use Rattle.ocfl_walk.proofs.FoundLaws.{none_hashed}
 
@@ -28,23 +30,19 @@ lines_written old new lines piece finding e sent found_is =
 
 -- ---- on a store that tells its tree
 
--- a fault that is not the store's, which counts no failure
-abbrev failures_none : Fault → Type 0
-failures_none why = ((n : ℕ) → n ≡ n + failures_by why) × ((q : Place) → why ≡ AtStore q → ⊥)
-
-memory_none : failures_none Memory
-memory_none = (λ n. omega arith, λ q e. cc)
-
-pub memory_other : Memory ≢ Output
-memory_other e = cc
+pub fault_other : (why : Fault) → halt.Fault why ≢ halt.Output
+fault_other why e = cc
 
 take_none : (xs : List ℕ) → [] ≡ take 0 xs
 take_none [] = refl
 take_none (x ∷ xs) = refl
 
 -- nothing went out
-pub nothing_of : (why : Fault) → why ≢ Output → (whole : Text) → PartOf why whole []
+pub nothing_of : (why : ReportStop) → why ≢ halt.Output → (whole : Text) → PartOf why whole []
 nothing_of why other whole = record { gone = 0; is = take_none whole; proper = λ e. absurd (other e); none = λ _. refl }
+
+pub fault_of_nothing : (why : Fault) (whole : Text) → PartOf (halt.Fault why) whole []
+fault_of_nothing why whole = nothing_of (halt.Fault why) (fault_other why) whole
 
 module _ (root : StorageRoot) (s t : Store) (p : Place) (lines : List Line) (cost : ℕ) (j : Judges root s t p lines cost) where
   judged_text : lines_text lines ≡ text (items_at root j.trail (p ∷ []))
@@ -64,27 +62,27 @@ module _ (root : StorageRoot) (s t : Store) (p : Place) (lines : List Line) (cos
     found_is = f ∙ sym judged_found;
   }
 
-  judged_fails : (why : Fault) → failures_none why → Fails root s t (p ∷ []) [] [] j.trail why
-  judged_fails why other = record {
+  judged_fails : Fails root s t (p ∷ []) [] [] j.trail None
+  judged_fails = record {
     over = j.audits.over;
-    did = subst (Did s t j.trail []) (other.0 _) j.audits.did;
+    did = subst (Did s t j.trail []) (let same : length (unread_of root j.trail) ≡ length (unread_of root j.trail) + 0 = omega arith in same) j.audits.did;
     opened = j.audits.opened;
     heads_are = j.audits.heads_are;
     near = j.audits.near;
-    store = λ q e. absurd (other.1 q e);
+    store = λ q e. absurd cc;
   }
 
   -- no room for the text
-  pub judged_memory : (old : Option (List ℕ)) → Misses (call_of root s t old old) p Memory
+  pub judged_memory : (old : Option (List ℕ)) → Misses (call_of root s t old old) p (halt.Fault fault.Memory)
   judged_memory old = record {
     trail = j.trail;
     begun = p ∷ [];
     one = ([], refl);
-    fails = judged_fails Memory memory_none;
+    fails = judged_fails;
     alone = j.alone;
     part = [];
     wrote = Appends-nil old;
-    part_of = nothing_of Memory memory_other (text (items_at root j.trail (p ∷ [])));
+    part_of = fault_of_nothing fault.Memory (text (items_at root j.trail (p ∷ [])));
   }
 
 front_of_one : (p : Place) (part : Bool) → IsFront (cond part (p ∷ []) []) (p ∷ [])
@@ -96,7 +94,7 @@ none_or_hashed root p true = refl
 none_or_hashed root p false = sym (none_hashed root)
 
 -- the item was not judged
-pub unjudged : (root : StorageRoot) (s t : Store) (old : Option (List ℕ)) (p : Place) → JudgeFails root s t p → Misses (call_of root s t old old) p Memory
+pub unjudged : (root : StorageRoot) (s t : Store) (old : Option (List ℕ)) (p : Place) → JudgeFails root s t p → Misses (call_of root s t old old) p (halt.Fault fault.Memory)
 unjudged root s t old p j = record {
   trail = j.trail;
   begun = cond j.part (p ∷ []) [];
@@ -105,5 +103,5 @@ unjudged root s t old p j = record {
   alone = j.alone ∙ none_or_hashed root p j.part;
   part = [];
   wrote = Appends-nil old;
-  part_of = nothing_of Memory memory_other (text (items_at root j.trail (p ∷ [])));
+  part_of = fault_of_nothing fault.Memory (text (items_at root j.trail (p ∷ [])));
 }

@@ -16,7 +16,8 @@ use Rattle.ocfl_audit.specs.{Due.{due}, Lines.{is_hashed}, Parts.{Part, lies_in}
 use Rattle.ocfl_audit.proofs.BelowLaws.{above_self, less_from}
 use Rattle.ocfl_audit.proofs.{BetweenLaws.{among_between, is_directory}, BranchLaws.{nothing_above}}
 use Rattle.ocfl_audit.proofs.PartLaws.{places_within_is}
-use Rattle.ocfl_item.specs.{Auditing.{LiesIn}, Looking.{way_to}, declared.fault.Fault.{Fault}}
+use Rattle.ocfl_item.specs.{Auditing.{LiesIn}, Looking.{way_to}}
+use Rattle.ocfl_scrub.specs.Types.{ReportStop}
 use Rattle.ocfl_walk.specs.{Before.{directory_of}, Ends.{is_past}}
 use Rattle.ocfl_walk.specs.WalkCalls.{AreAllListed, GoesDown, way_of}
 use Rattle.ocfl_walk.proofs.BeforeLaws.{below_from, directory_is, not_below}
@@ -194,7 +195,7 @@ module _ (root : StorageRoot) where
           let there : IsAmong (due_within root part from) p = subst (λ ps. IsAmong ps p) (sym halves) (among_left done later p i) in
           lies_there (looked_in root part from to) p h there (λ d j. let k = from_looked (Some p) d j in to_looked to d (looked_further root from to p d (far p d up) k.0) k.1)
 
-      module _ {t u : Store} {old new : Option (List ℕ)} {stood : Option Place} {finding : Bool} {why : Fault}
+      module _ {t u : Store} {old new : Option (List ℕ)} {stood : Option Place} {finding : Bool} {why : ReportStop}
           (k : Halts root (end_of part) t u old new (stand root part from) stood finding why) where
         due_there : (p : Place) → IsAmong (k.done ++ k.begun) p → IsAmong (due_within root part from) p
         due_there p i =

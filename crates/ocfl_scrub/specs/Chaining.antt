@@ -3,10 +3,10 @@
 use Rattle.std.specs.{Prelude.{◌≡◌, ◌≤◌, ◌⊎◌, List, [], ◌∷◌, ◌++◌, map, length}, List.{list_any}}
 use Rattle.ocfl_audit.specs.{Parts.{Part}, Runs.{Limits}}
 use Rattle.ocfl_cursor.specs.Cursor.{Cursor, new_cursor}
-use Rattle.ocfl_item.specs.declared.fault.Fault.{Fault}
 use Rattle.ocfl_item.specs.declared.fault.Fault.TheVariants as fault
+use Rattle.ocfl_scrub.specs.declared.stop.ReportStop.TheVariants as halt
 use Rattle.ocfl_scrub.specs.{Call.{Call, call_of}, Running.{RunsFromWithin}}
-use Rattle.ocfl_scrub.specs.Types.{CycleEnd, CycleStatus, RunEnd, RunStatus}
+use Rattle.ocfl_scrub.specs.Types.{CycleEnd, CycleStatus, ReportStop, RunEnd, RunStatus}
 use Rattle.ocfl_scrub.specs.declared.running.RunStatus.TheVariants as run
 use Rattle.ocfl_scrub.specs.declared.cycling.CycleStatus.TheVariants as status
 
@@ -30,8 +30,8 @@ AreChained part call c so [] to end = (call.after ≡ call.before) × ((call.new
 AreChained part call c so (r ∷ runs) to end = (so ≡ run.Spent) × ((r.call ≡ call_of call.root call.before r.call.after call.old r.call.new) × (RunsFromWithin r.call part c r.limits r.ran × AreChained part (call_of call.root r.call.after call.after r.call.new call.new) r.ran.cursor r.ran.end runs to end))
 
 -- memory ran out after a run, for the text of its cursor, and a further run was to come
-pub record IsBetweenRuns (runs : List MadeRun) (end : RunStatus) (unused : List Limits) (why : Fault) : Type 0 where
-  pub memory : why ≡ fault.Memory
+pub record IsBetweenRuns (runs : List MadeRun) (end : RunStatus) (unused : List Limits) (why : ReportStop) : Type 0 where
+  pub memory : why ≡ halt.Fault fault.Memory
   pub made : 1 ≤ length runs
   pub spent : end ≡ run.Spent
   pub further : 1 ≤ length unused

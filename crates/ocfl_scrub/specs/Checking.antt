@@ -5,10 +5,9 @@ use Rattle.ocfl_tree.specs.declared.store.Opening.{Opening}
 use Rattle.ocfl_report.specs.{Line.{Item, found}, Text.{text}}
 use Rattle.ocfl_audit.specs.{Lines.{is_empty}, Trail.{unread_of}, Walk.{item_at}}
 use Rattle.ocfl_item.specs.{Looking.{way_to, IsFront}, Auditing.{Audits, Fails}}
-use Rattle.ocfl_item.specs.declared.fault.Fault.{Fault}
 use Rattle.ocfl_walk.specs.WalkCalls.{holder}
-use Rattle.ocfl_scrub.specs.{Call.{Call, Writes}, Starting.{FilesLieIn}, Taking.{PartOf}}
-use Rattle.ocfl_scrub.specs.Types.{AuditStatus}
+use Rattle.ocfl_scrub.specs.{Call.{Call, Writes}, Starting.{FilesLieIn}, Taking.{PartOf, stop_place}}
+use Rattle.ocfl_scrub.specs.Types.{AuditStatus, ReportStop}
 use Rattle.ocfl_scrub.specs.declared.checking.AuditStatus.TheVariants as end
 
 -- the item at a place, if a trail shows what could not be read
@@ -42,13 +41,13 @@ pub record Checks (call : Call) (p : Place) (item finding : Bool) : Type 0 where
 
 -- checking the place stopped: at most a proper beginning of its text went out, and nothing if it
 -- was not the output that failed
-pub record CheckStops (call : Call) (p : Place) (why : Fault) : Type 0 where
+pub record CheckStops (call : Call) (p : Place) (why : ReportStop) : Type 0 where
   pub trail : List Opening
   pub begun : List Place
   pub one : IsFront begun (p ∷ [])
   pub listed : List Place
   pub heads : List Place
-  pub fails : Fails call.root call.before call.after begun listed heads trail why
+  pub fails : Fails call.root call.before call.after begun listed heads trail (stop_place why)
   pub files_lie : FilesLieIn call.root begun listed
   pub just : IsJustFor call.root p listed heads trail
   pub part : Text

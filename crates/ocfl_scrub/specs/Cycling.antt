@@ -7,15 +7,13 @@ use Rattle.ocfl_audit.specs.Trail.{content_trail}
 use Rattle.ocfl_audit.specs.Runs.{Limits, total_files, StaysWithin, runs, joined, IsAtLeast}
 use Rattle.ocfl_cursor.specs.Cursor.{ended, new_cursor}
 use Rattle.ocfl_cursor.specs.declared.limits.Limits.{Limits as MadeLimits}
-use Rattle.ocfl_item.specs.declared.fault.Fault.TheVariants as fault
+use Rattle.ocfl_scrub.specs.declared.stop.ReportStop.TheVariants as halt
 use Rattle.ocfl_scrub.specs.{Call.{Call, Writes}, Chaining.{IsMadeOf}, Taking.{WritesLines}}
 use Rattle.ocfl_scrub.specs.{Written.{places}, Types.{CycleEnd, CycleStatus}}
 use Rattle.ocfl_scrub.specs.declared.cycling.CycleStatus.TheVariants as status
 
 -- what a cycle does on any store, by what the store and the output are before it and after it
 pub record CyclesOnAnyStore {S O : Type 0} (contents : O → Option (List ℕ)) (before after : S) (old new : O) (limits : List MadeLimits) (ran : CycleEnd) : Type 0 where
-  -- it stops for what a call answered alone
-  pub unbroken : ran.end ≢ status.Stopped fault.Broken
   -- without limits there is no run
   pub none : limits ≡ [] → (ran.cursor ≡ new_cursor) × (ran.end ≡ status.Spent) × (ran.found ≡ false) × (after ≡ before) × (new ≡ old)
   pub counted : ran.runs ≤ length limits
@@ -25,7 +23,7 @@ pub record CyclesOnAnyStore {S O : Type 0} (contents : O → Option (List ℕ)) 
   pub spent_is : ran.spent ≡ ran.cursor.spent
   pub files_are : ran.files ≡ ran.cursor.files
   pub ended_is : (ran.end ≡ status.Ended) ↔ (ran.cursor.state ≡ ended)
-  pub lines : ran.end ≢ status.Stopped fault.Output → WritesLines (contents old) (contents new) ran.found
+  pub lines : ran.end ≢ status.Stopped halt.Output → WritesLines (contents old) (contents new) ran.found
 
 -- how many runs are enough for limits that are each at least so large
 abbrev pub enough : List Item → ℕ → ℕ → ℕ

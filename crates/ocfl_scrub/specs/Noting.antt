@@ -9,13 +9,13 @@ use Rattle.ocfl_cursor.specs.declared.reading.CursorStop.TheVariants as stop
 use Rattle.ocfl_cursor.specs.declared.refused.PartRefused.TheVariants as part
 use Rattle.ocfl_cursor.specs.declared.refused.Refused.TheVariants as refused
 use Rattle.ocfl_cursor.specs.declared.showing.ShowStop.TheVariants as show
-use Rattle.ocfl_item.specs.declared.fault.Fault.{Fault}
 use Rattle.ocfl_item.specs.declared.fault.Fault.TheVariants as fault
+use Rattle.ocfl_scrub.specs.declared.stop.ReportStop.TheVariants as halt
 use Rattle.ocfl_scrub.specs.{Call.{Call, IsUnfailing}, Taking.{WritesLines}, Checking.{CheckEnds}}
 use Rattle.ocfl_scrub.specs.WholeAudit.{AuditEndsWithin}
 use Rattle.ocfl_scrub.specs.{Running.{RunsFromWithin, RunsCleanlyWithin}, Chaining.{CycleOfRunsWithin}}
 use Rattle.ocfl_scrub.specs.Cycling.{HeadlineOf}
-use Rattle.ocfl_scrub.specs.Types.{AuditEnd, AuditStatus, CheckEnd, CycleEnd, CycleStatus, Note, RunEnd, RunStatus}
+use Rattle.ocfl_scrub.specs.Types.{AuditEnd, AuditStatus, CheckEnd, CycleEnd, CycleStatus, Note, ReportStop, RunEnd, RunStatus}
 use Rattle.ocfl_scrub.specs.declared.checking.AuditStatus.TheVariants as end
 use Rattle.ocfl_audit.specs.{Parts.{Part, whole}, Runs.{Limits}}
 use Rattle.ocfl_scrub.specs.declared.running.RunStatus.TheVariants as run
@@ -128,11 +128,10 @@ ended_note true = note.Nothing
 ended_note false = note.NoItem
 
 -- a walk that had failed before is never met
-abbrev pub IsStopNote : Fault → Note → Type 0
-IsStopNote (fault.Store p) n = n ≡ note.StoppedAt p
-IsStopNote fault.Memory n = n ≡ note.OutOfMemory
-IsStopNote fault.Output n = n ≡ note.OutputFailed
-IsStopNote fault.Broken n = ⊥
+abbrev pub IsStopNote : ReportStop → Note → Type 0
+IsStopNote (halt.Fault (fault.Store p)) n = n ≡ note.StoppedAt p
+IsStopNote (halt.Fault fault.Memory) n = n ≡ note.OutOfMemory
+IsStopNote halt.Output n = n ≡ note.OutputFailed
 
 -- what a check ended with
 abbrev pub IsCheckNote : Bool → Bool → AuditStatus → ℕ → Note → Type 0

@@ -3,7 +3,7 @@ use Rattle.std.specs.Prelude.{◌≡◌, ◌≢◌, ◌^◌, ◌≤◌, ℕ, Lis
 use Rattle.ocfl_tree.specs.{Place.{Place}, StorageRoot.{StorageRoot}, Store.{Store}}
 use Rattle.ocfl_audit.specs.{Parts.{Part}, Runs.{Limits}}
 use Rattle.ocfl_cursor.specs.declared.limits.Limits.{Limits as MadeLimits}
-use Rattle.ocfl_item.specs.declared.fault.Fault.TheVariants as fault
+use Rattle.ocfl_scrub.specs.declared.stop.ReportStop.TheVariants as halt
 use Rattle.ocfl_walk.specs.{Ends.{is_past}, WalkCalls.{GoesDown, Walks}, Walks.{Gives}}
 use Rattle.ocfl_scrub.specs.{Alike.{IsAlike}, Beginning.{IsShort}, Call.{Call, call_of}}
 use Rattle.ocfl_scrub.specs.Keeping.{IsMet, IsReadyIn, LooksAbove, met_in}
@@ -14,12 +14,11 @@ use Rattle.ocfl_scrub.specs.declared.running.RunStatus.TheVariants as status
 
 -- on every store
 pub record IsPass (old new : Option (List ℕ)) (limits : MadeLimits) (pass : Pass) : Type 0 where
-  pub whole : pass.end ≢ status.Stopped fault.Broken
   pub works : pass.end ≢ status.Worn
   pub short : IsShort pass.last
   pub paid : IsPaid (limits_of limits) pass.spent pass.files
   pub fits : pass.spent ≤ 2 ^ 63
-  pub lines : pass.end ≢ status.Stopped fault.Output → WritesLines old new pass.found
+  pub lines : pass.end ≢ status.Stopped halt.Output → WritesLines old new pass.found
   pub spent : pass.end ≡ status.Spent → (p : Place) × (met_in pass.met ≡ Some p)
   pub unspent : pass.end ≢ status.Spent → pass.met ≡ None
 

@@ -10,9 +10,8 @@ use Rattle.ocfl_audit.specs.Runs.{Limits, sum_of, cut, left}
 use Rattle.ocfl_cursor.specs.{Cursor.{State, start, behind, ended, Cursor}, Meter.{max_cost}}
 use Rattle.ocfl_cursor.specs.Moves.{next_cycle, after_run}
 use Rattle.ocfl_cursor.specs.declared.limits.Limits.{Limits as MadeLimits}
-use Rattle.ocfl_item.specs.declared.fault.Fault.{Fault}
-use Rattle.ocfl_item.specs.declared.fault.Fault.TheVariants as fault
-use Rattle.ocfl_scrub.specs.{Call.{Call, Writes}, Taking.{WritesLines}, Types.{RunEnd, RunStatus}}
+use Rattle.ocfl_scrub.specs.declared.stop.ReportStop.TheVariants as halt
+use Rattle.ocfl_scrub.specs.{Call.{Call, Writes}, Taking.{WritesLines}, Types.{ReportStop, RunEnd, RunStatus}}
 use Rattle.ocfl_scrub.specs.Starting.{LooksOver, StopsLooking, items_in}
 use Rattle.ocfl_scrub.specs.Written.{places, Figures, StopsWithin}
 use Rattle.ocfl_scrub.specs.declared.running.RunStatus.TheVariants as status
@@ -68,8 +67,6 @@ pub record IsPaid (limits : Limits) (spent files : ℕ) : Type 0 where
 
 -- what a run does on any store, by what the store and the output are before it and after it
 pub record RunsOnAnyStore {S O : Type 0} (contents : O → Option (List ℕ)) (before after : S) (old new : O) (c : Cursor) (limits : MadeLimits) (ran : RunEnd) : Type 0 where
-  -- it stops for what a call answered alone
-  pub unbroken : ran.end ≢ status.Stopped fault.Broken
   -- a run that cannot be counted is not made
   pub worn : (ran.end ≡ status.Worn) ↔ IsWorn c
   pub worn_cursor : ran.end ≡ status.Worn → ran.cursor ≡ c
@@ -78,7 +75,7 @@ pub record RunsOnAnyStore {S O : Type 0} (contents : O → Option (List ℕ)) (b
   pub cursor : ran.end ≢ status.Worn → (last : Option Place) × (ran.cursor ≡ after_run (begun c) ran.spent ran.files (state_after ran.end last))
   pub paid : IsPaid (limits_of limits) ran.spent ran.files
   pub overrun : ran.spent ≤ limits.budget + 2 ^ 62
-  pub lines : ran.end ≢ status.Stopped fault.Output → WritesLines (contents old) (contents new) ran.found
+  pub lines : ran.end ≢ status.Stopped halt.Output → WritesLines (contents old) (contents new) ran.found
 
 -- ---- of a store that tells its tree
 
@@ -97,7 +94,7 @@ pub record RunsWithin (call : Call) (part : Part) (from last : Option Place) (li
   pub next_is : next ≡ slice_get (places (left (items_in call.root trail part from) limits)) 0
 
 -- it stopped: the first items of the cut went out whole, and of the next at most a proper beginning
-pub record RunStopsWithin (call : Call) (part : Part) (from last : Option Place) (limits : Limits) (spent files : ℕ) (finding : Bool) (why : Fault) : Type 0 where
+pub record RunStopsWithin (call : Call) (part : Part) (from last : Option Place) (limits : Limits) (spent files : ℕ) (finding : Bool) (why : ReportStop) : Type 0 where
   pub trail : List Opening
   pub stops : StopsWithin (taken_in call.root trail part from limits) call.old call.new from last why
   pub figures : Figures stops.whole spent files finding
@@ -120,7 +117,7 @@ pub record RunsFromWithin (call : Call) (part : Part) (c : Cursor) (limits : Lim
 abbrev pub Runs : Call → Option Place → Option Place → Limits → ℕ → ℕ → Bool → Option Place → Type 0
 Runs call from last limits spent files finding next = RunsWithin call whole from last limits spent files finding next
 
-abbrev pub RunStops : Call → Option Place → Option Place → Limits → ℕ → ℕ → Bool → Fault → Type 0
+abbrev pub RunStops : Call → Option Place → Option Place → Limits → ℕ → ℕ → Bool → ReportStop → Type 0
 RunStops call from last limits spent files finding why = RunStopsWithin call whole from last limits spent files finding why
 
 abbrev pub RunEnds : Call → Option Place → Option Place → Limits → ℕ → ℕ → Bool → RunStatus → Type 0

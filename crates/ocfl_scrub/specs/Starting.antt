@@ -9,10 +9,10 @@ use Rattle.ocfl_audit.specs.{Audit.{audit, after}, Due.{due}, Lines.{is_hashed}}
 use Rattle.ocfl_audit.specs.{Between.{looked_between, read_between}, Zone.{beginnings}}
 use Rattle.ocfl_audit.specs.{Parts.{Part, within, places_within}, Trail.{reads_inventory, unread_of}}
 use Rattle.ocfl_item.specs.{Looking.{IsFront, way_to}, Auditing.{Audits, Fails, LiesIn}}
-use Rattle.ocfl_item.specs.declared.fault.Fault.{Fault}
 use Rattle.ocfl_walk.specs.Before.{directory_of, place_before}
 use Rattle.ocfl_walk.specs.declared.end.End.{End}
-use Rattle.ocfl_scrub.specs.{Call.{Call}, declared.part.Part.{Part as MadePart}}
+use Rattle.ocfl_scrub.specs.{Call.{Call}, Taking.{stop_place}, Types.{ReportStop}}
+use Rattle.ocfl_scrub.specs.declared.part.Part.{Part as MadePart}
 
 -- the part that a call is given
 abbrev pub part_of : MadePart → Part
@@ -101,12 +101,12 @@ pub record LooksOver (call : Call) (part : Part) (from to : Option Place) (audit
   pub held_front : IsFront held (filter (reads_inventory call.root) (way_in part from))
 
 -- it stopped, and had begun with these places: the directory of each file was listed
-pub record StopsLooking (call : Call) (part : Part) (from : Option Place) (begun : List Place) (trail : List Opening) (why : Fault) : Type 0 where
+pub record StopsLooking (call : Call) (part : Part) (from : Option Place) (begun : List Place) (trail : List Opening) (why : ReportStop) : Type 0 where
   pub down : List Place
   pub listed : List Place
   pub held : List Place
   pub heads : List Place
-  pub fails : Fails call.root call.before call.after begun (down ++ listed) (held ++ heads) trail why
+  pub fails : Fails call.root call.before call.after begun (down ++ listed) (held ++ heads) trail (stop_place why)
   pub down_front : IsFront down (way_in part from)
   pub listed_front : IsFront listed (looked_in call.root part from None)
   pub held_front : IsFront held (filter (reads_inventory call.root) (way_in part from))

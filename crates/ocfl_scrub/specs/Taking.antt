@@ -1,12 +1,12 @@
 -- What judging one item and writing its lines does.
-use Rattle.std.specs.Prelude.{◌≡◌, ◌≢◌, ◌<◌, ℕ, List, [], ◌∷◌, Bool, length, take, Option}
+use Rattle.std.specs.Prelude.{◌≡◌, ◌≢◌, ◌<◌, ℕ, List, [], ◌∷◌, Bool, length, take, Option, None}
 use Rattle.std.specs.Io.KnownBytes.{Appends}
 use Rattle.ocfl_tree.specs.{Place.{Text, Place}, declared.store.Opening.{Opening}}
 use Rattle.ocfl_report.specs.{Line.{Item, found}, Text.{text}}
 use Rattle.ocfl_audit.specs.{Audit.{total_cost}, Trail.{places_of}, Due.{hashed_among, items_at}}
-use Rattle.ocfl_item.specs.{Looking.{IsFront}, Auditing.{Audits, Fails}}
-use Rattle.ocfl_item.specs.declared.fault.Fault.{Fault}
-use Rattle.ocfl_item.specs.declared.fault.Fault.TheVariants as fault
+use Rattle.ocfl_item.specs.{Looking.{IsFront, failed_place}, Auditing.{Audits, Fails}}
+use Rattle.ocfl_scrub.specs.Types.{ReportStop}
+use Rattle.ocfl_scrub.specs.declared.stop.ReportStop.TheVariants as halt
 use Rattle.ocfl_scrub.specs.Call.{Call, Writes}
 
 -- on every store: the text of some items went out, and it is said whether a line of one is a
@@ -14,12 +14,17 @@ use Rattle.ocfl_scrub.specs.Call.{Call, Writes}
 abbrev pub WritesLines : Option (List ℕ) → Option (List ℕ) → Bool → Type 0
 WritesLines old new finding = (items : List Item) × Appends old new (text items) × (finding ≡ found items)
 
+-- the place at which the store failed
+abbrev pub stop_place : ReportStop → Option Place
+stop_place (halt.Fault why) = failed_place why
+stop_place halt.Output = None
+
 -- a proper beginning of what was to go out, and nothing if it was not the output that failed
-pub record PartOf (why : Fault) (whole part : Text) : Type 0 where
+pub record PartOf (why : ReportStop) (whole part : Text) : Type 0 where
   pub gone : ℕ
   pub is : part ≡ take gone whole
-  pub proper : why ≡ fault.Output → gone < length whole
-  pub none : why ≢ fault.Output → gone ≡ 0
+  pub proper : why ≡ halt.Output → gone < length whole
+  pub none : why ≢ halt.Output → gone ≡ 0
 
 -- the item at p was judged, its file alone was opened if it is hashed, and its lines went out whole
 pub record Takes (call : Call) (p : Place) (cost : ℕ) (finding : Bool) : Type 0 where
@@ -31,11 +36,11 @@ pub record Takes (call : Call) (p : Place) (cost : ℕ) (finding : Bool) : Type 
   pub found_is : finding ≡ found (items_at call.root trail (p ∷ []))
 
 -- it was judged, or not even begun, and its lines did not go out whole
-pub record Misses (call : Call) (p : Place) (why : Fault) : Type 0 where
+pub record Misses (call : Call) (p : Place) (why : ReportStop) : Type 0 where
   pub trail : List Opening
   pub begun : List Place
   pub one : IsFront begun (p ∷ [])
-  pub fails : Fails call.root call.before call.after begun [] [] trail why
+  pub fails : Fails call.root call.before call.after begun [] [] trail (stop_place why)
   pub alone : places_of trail ≡ hashed_among call.root begun
   pub part : Text
   pub wrote : Writes call part

@@ -8,11 +8,10 @@ use Rattle.ocfl_audit.specs.{Audit.{total_cost}, Parts.{Part, whole}}
 use Rattle.ocfl_audit.specs.Runs.{Limits, runs, joined, IsAtLeast, FilesFit, sum_of}
 use Rattle.ocfl_cursor.specs.Cursor.{State, start, behind, ended, Cursor}
 use Rattle.ocfl_item.specs.{Looking.{IsFront}, Auditing.{Audits, Fails}}
-use Rattle.ocfl_item.specs.declared.fault.Fault.{Fault}
 use Rattle.ocfl_walk.specs.WalkCalls.{holder}
 use Rattle.ocfl_scrub.specs.{Call.{Call, Writes}, Starting.{entry, read_in, items_in}}
-use Rattle.ocfl_scrub.specs.{Written.{places, Figures, StopsWithin}, Types.{CycleStatus}}
-use Rattle.ocfl_scrub.specs.Cycling.{enough}
+use Rattle.ocfl_scrub.specs.{Written.{places, Figures, StopsWithin}, Types.{CycleStatus, ReportStop}}
+use Rattle.ocfl_scrub.specs.{Cycling.{enough}, Taking.{stop_place}}
 use Rattle.ocfl_scrub.specs.declared.cycling.CycleStatus.TheVariants as status
 
 -- where the last item that was taken leaves the cursor of a cycle that has not ended
@@ -67,7 +66,7 @@ first_in root trail part limits count = joined (take count (runs_in root trail p
 -- a cycle over a part stopped, in its last run or before a further one began: the first items that
 -- its runs take went out whole, and of the next at most a proper beginning. Those of the runs
 -- before the last are among them, even if the last took none
-pub record CycleStopsWithin (call : Call) (part : Part) (last : Option Place) (limits : List Limits) (spent files : ℕ) (finding : Bool) (count : ℕ) (why : Fault) : Type 0 where
+pub record CycleStopsWithin (call : Call) (part : Part) (last : Option Place) (limits : List Limits) (spent files : ℕ) (finding : Bool) (count : ℕ) (why : ReportStop) : Type 0 where
   pub trail : List Opening
   pub made : 1 ≤ count
   pub count_fits : count ≤ length (runs_in call.root trail part limits)
@@ -76,7 +75,7 @@ pub record CycleStopsWithin (call : Call) (part : Part) (last : Option Place) (l
   pub figures : Figures stops.whole spent files finding
   pub listed : List Place
   pub heads : List Place
-  pub fails : Fails call.root call.before call.after (places stops.whole ++ stops.begun) listed heads trail why
+  pub fails : Fails call.root call.before call.after (places stops.whole ++ stops.begun) listed heads trail (stop_place why)
   pub inventories_read : length heads < inventories_in call.root part + count
 
 abbrev pub CycleEndsWithin : Call → Part → Option Place → List Limits → ℕ → ℕ → Bool → ℕ → CycleStatus → Type 0
@@ -95,7 +94,7 @@ pub record CyclesToWithin (call : Call) (part : Part) (limits : List Limits) (c 
 abbrev pub Cycles : Call → Option Place → List Limits → ℕ → ℕ → Bool → ℕ → Bool → Type 0
 Cycles call last limits spent files finding count ends = CyclesWithin call whole last limits spent files finding count ends
 
-abbrev pub CycleStops : Call → Option Place → List Limits → ℕ → ℕ → Bool → ℕ → Fault → Type 0
+abbrev pub CycleStops : Call → Option Place → List Limits → ℕ → ℕ → Bool → ℕ → ReportStop → Type 0
 CycleStops call last limits spent files finding count why = CycleStopsWithin call whole last limits spent files finding count why
 
 abbrev pub CycleEnds : Call → Option Place → List Limits → ℕ → ℕ → Bool → ℕ → CycleStatus → Type 0

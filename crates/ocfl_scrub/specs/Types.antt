@@ -8,3 +8,4 @@ pub use Rattle.ocfl_scrub.specs.declared.note.Note.{Note}
 pub use Rattle.ocfl_scrub.specs.declared.performing.Performed.{Performed}
 pub use Rattle.ocfl_scrub.specs.declared.running.RunEnd.{RunEnd}
 pub use Rattle.ocfl_scrub.specs.declared.running.RunStatus.{RunStatus}
+pub use Rattle.ocfl_scrub.specs.declared.stop.ReportStop.{ReportStop}

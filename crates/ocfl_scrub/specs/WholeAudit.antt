@@ -3,19 +3,16 @@ use Rattle.std.specs.{Prelude.{◌≡◌, ◌≢◌, ℕ, List, ◌++◌, Bool, 
 use Rattle.ocfl_tree.specs.{Place.{Place}, declared.store.Opening.{Opening}}
 use Rattle.ocfl_report.specs.{Line.{found}, Text.{text}}
 use Rattle.ocfl_audit.specs.Parts.{Part, whole}
-use Rattle.ocfl_item.specs.declared.fault.Fault.{Fault}
-use Rattle.ocfl_item.specs.declared.fault.Fault.TheVariants as fault
+use Rattle.ocfl_scrub.specs.declared.stop.ReportStop.TheVariants as halt
 use Rattle.ocfl_scrub.specs.{Call.{Call, Writes}, Taking.{WritesLines}}
 use Rattle.ocfl_scrub.specs.Starting.{LooksOver, StopsLooking, items_in}
-use Rattle.ocfl_scrub.specs.{Written.{places, StopsWithin}, Types.{AuditEnd, AuditStatus}}
+use Rattle.ocfl_scrub.specs.{Written.{places, StopsWithin}, Types.{AuditEnd, AuditStatus, ReportStop}}
 use Rattle.ocfl_scrub.specs.declared.checking.AuditStatus.TheVariants as end
 
 -- what an audit does on any store, by what the output is before it and after it
 pub record AuditsOnAnyStore {O : Type 0} (contents : O → Option (List ℕ)) (old new : O) (ran : AuditEnd) : Type 0 where
-  -- it stops for what a call answered alone
-  pub unbroken : ran.end ≢ end.Stopped fault.Broken
-  pub lines : ran.end ≢ end.Stopped fault.Output → WritesLines (contents old) (contents new) ran.found
-  pub silent : ran.last ≡ None → ran.end ≢ end.Stopped fault.Output → new ≡ old
+  pub lines : ran.end ≢ end.Stopped halt.Output → WritesLines (contents old) (contents new) ran.found
+  pub silent : ran.last ≡ None → ran.end ≢ end.Stopped halt.Output → new ≡ old
   pub none_found : ran.last ≡ None → ran.found ≡ false
 
 -- the text of the audit of a part was written: each hashed file in it was opened once, in order
@@ -28,7 +25,7 @@ pub record AuditsWithin (call : Call) (part : Part) (last : Option Place) (findi
 
 -- it stopped: the first items of the part went out whole, and of the next at most a proper
 -- beginning
-pub record AuditStopsWithin (call : Call) (part : Part) (last : Option Place) (finding : Bool) (why : Fault) : Type 0 where
+pub record AuditStopsWithin (call : Call) (part : Part) (last : Option Place) (finding : Bool) (why : ReportStop) : Type 0 where
   pub trail : List Opening
   pub stops : StopsWithin (items_in call.root trail part None) call.old call.new None last why
   pub found_is : finding ≡ found stops.whole
@@ -43,7 +40,7 @@ AuditEndsWithin call part last finding (end.Stopped why) = AuditStopsWithin call
 abbrev pub AuditsAll : Call → Option Place → Bool → Type 0
 AuditsAll call last finding = AuditsWithin call whole last finding
 
-abbrev pub AuditStops : Call → Option Place → Bool → Fault → Type 0
+abbrev pub AuditStops : Call → Option Place → Bool → ReportStop → Type 0
 AuditStops call last finding why = AuditStopsWithin call whole last finding why
 
 abbrev pub AuditEnds : Call → Option Place → Bool → AuditStatus → Type 0

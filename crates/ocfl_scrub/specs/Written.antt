@@ -4,7 +4,8 @@ use Rattle.std.specs.{Io.KnownBytes.{Appends}, List.{last_or}}
 use Rattle.ocfl_tree.specs.Place.{Text, Place}
 use Rattle.ocfl_report.specs.{Line.{Item, found}, Text.{text}}
 use Rattle.ocfl_audit.specs.{Audit.{total_cost}, Runs.{total_files}}
-use Rattle.ocfl_item.specs.{Looking.{IsFront}, declared.fault.Fault.{Fault}}
+use Rattle.ocfl_item.specs.{Looking.{IsFront}}
+use Rattle.ocfl_scrub.specs.Types.{ReportStop}
 use Rattle.ocfl_scrub.specs.Taking.{PartOf}
 
 abbrev pub places : List Item → List Place
@@ -19,7 +20,7 @@ pub record Figures (items : List Item) (spent files : ℕ) (finding : Bool) : Ty
 
 -- the first of some items went out whole, the last of those at last, and of the next, which was
 -- begun or not, at most a proper beginning
-pub record StopsWithin (items : List Item) (old new : Option (List ℕ)) (from last : Option Place) (why : Fault) : Type 0 where
+pub record StopsWithin (items : List Item) (old new : Option (List ℕ)) (from last : Option Place) (why : ReportStop) : Type 0 where
   pub whole : List Item
   pub others : List Item
   pub items_are : items ≡ whole ++ others

@@ -7,10 +7,10 @@ ghost use Rattle.ocfl_scrub.specs.WholeAudit.{AuditEnds, AuditEndsWithin, Audits
 
 use crate::checking::AuditStatus;
 use crate::part::{Part, set_out};
+use crate::stop::ReportStop;
 use crate::taking::{either, take_item};
 use ocfl_digest::Block;
 use ocfl_tree::{Place, Tree};
-use ocfl_walk::Fault;
 use std::alloc::Global;
 use std::io::Write;
 
@@ -69,15 +69,20 @@ pub fn audit_part<T: Tree, W: Write>(
 {
     let mut walk = match set_out(alloc, store, part, None) {
         Ok(walk) => walk,
-        Err(why) => return audit_end(None, false, AuditStatus::Stopped(why)),
+        Err(why) => {
+            return audit_end(None, false, AuditStatus::Stopped(ReportStop::Fault(why)));
+        }
     };
     let mut last = None;
     let mut found = false;
     let end = loop {
-        let pending = match walk.next_within(store, &part.end) {
-            Ok(Some(pending)) => pending,
-            Ok(None) => break AuditStatus::Ended,
-            Err(why) => break AuditStatus::Stopped(why),
+        let (further, next) = match walk.next_within(store, &part.end) {
+            Ok(step) => step,
+            Err(why) => break AuditStatus::Stopped(ReportStop::Fault(why)),
+        };
+        walk = further;
+        let Some(pending) = next else {
+            break AuditStatus::Ended;
         };
         match take_item(alloc, store, pending, block, out) {
             Ok(taken) => {

@@ -2,10 +2,11 @@
 ghost use Rattle.std.specs.Prelude.{◌≡◌, ◌≢◌, true, false};
 ghost use Rattle.ocfl_scrub.specs.{Call.{WhereTold}, Checking.{CheckEnds}, Taking.{WritesLines}};
 
+use crate::stop::ReportStop;
 use crate::taking::take_item;
 use ocfl_digest::Block;
 use ocfl_tree::{Place, Tree};
-use ocfl_walk::{Fault, item_at};
+use ocfl_walk::item_at;
 use std::alloc::Global;
 use std::io::Write;
 
@@ -13,7 +14,7 @@ use std::io::Write;
 #[derive(Debug, Drop)]
 pub enum AuditStatus {
     Ended,
-    Stopped(Fault),
+    Stopped(ReportStop),
 }
 
 /// What a check did.
@@ -39,10 +40,9 @@ pub fn check<T: Tree, W: Write>(
     out: &mut W,
 ) -> CheckEnd
     // Of every store.
-    ensures whole { result.end ≢ AuditStatus.Stopped Fault.Broken }
     ensures stopped { result.end ≢ AuditStatus.Ended → result.item ≡ false }
     ensures no_item { result.item ≡ false → result.found ≡ false }
-    ensures silent { result.item ≡ false → result.end ≢ AuditStatus.Stopped Fault.Output
+    ensures silent { result.item ≡ false → result.end ≢ AuditStatus.Stopped ReportStop.Output
         → out.new ≡ out.old }
     ensures lines { result.item ≡ true → WritesLines (W.contents out.old)
         (W.contents out.new) result.found }
@@ -60,7 +60,7 @@ pub fn check<T: Tree, W: Write>(
                 end: AuditStatus::Ended,
             };
         }
-        Err(why) => return stopped(why),
+        Err(why) => return stopped(ReportStop::Fault(why)),
     };
     match take_item(alloc, store, pending, block, out) {
         Ok(taken) => CheckEnd {
@@ -72,7 +72,7 @@ pub fn check<T: Tree, W: Write>(
     }
 }
 
-fn stopped(why: Fault) -> CheckEnd
+fn stopped(why: ReportStop) -> CheckEnd
     ensures end { result.end ≡ AuditStatus.Stopped why }
     ensures found { result.found ≡ false }
     ensures item { result.item ≡ false }

@@ -9,6 +9,7 @@ ghost use Rattle.ocfl_scrub.specs.Noting.{status_of, IsAuditNote, IsAuditSaid, I
 use crate::auditing::{AuditEnd, audit};
 use crate::checking::{AuditStatus, CheckEnd, check};
 use crate::note::Note;
+use crate::stop::ReportStop;
 use ocfl_digest::Block;
 use ocfl_report::{TextStop, read_place};
 use ocfl_tree::Tree;
@@ -74,7 +75,6 @@ pub fn audited<T: Tree, W: Write>(
 }
 
 fn describe_check(end: CheckEnd) -> (u8, Note)
-    requires whole { end.end ≢ AuditStatus.Stopped Fault.Broken }
     requires stopped { end.end ≢ AuditStatus.Ended → end.item ≡ false }
     requires no_item { end.item ≡ false → end.found ≡ false }
     ensures note { IsCheckNote end.item end.found end.end result.0 result.1 }
@@ -84,7 +84,7 @@ fn describe_check(end: CheckEnd) -> (u8, Note)
     ensures nothing { result.1 ≡ Note.Nothing
         → (end.item ≡ true) × (result.0 ≡ status_of end.found) }
     ensures silent { result.1 ≢ Note.Nothing → result.1 ≢ Note.OutputFailed
-        → (end.item ≡ false) × (end.end ≢ AuditStatus.Stopped Fault.Output) }
+        → (end.item ≡ false) × (end.end ≢ AuditStatus.Stopped ReportStop.Output) }
 {
     match end.end {
         AuditStatus::Ended if !end.item => (status(end.found), Note::NoItem),
@@ -94,13 +94,12 @@ fn describe_check(end: CheckEnd) -> (u8, Note)
 }
 
 pub(crate) fn describe_audit(end: AuditEnd) -> (u8, Note)
-    requires whole { end.end ≢ AuditStatus.Stopped Fault.Broken }
     ensures note { IsAuditNote end.found end.end result.0 result.1 }
     ensures status { IsStatus result.0 result.1 }
     ensures said { IsAuditSaid result.1 }
     ensures nothing { result.1 ≡ Note.Nothing
         → (end.end ≡ AuditStatus.Ended) × (result.0 ≡ status_of end.found) }
-    ensures uncut { result.1 ≢ Note.OutputFailed → end.end ≢ AuditStatus.Stopped Fault.Output }
+    ensures uncut { result.1 ≢ Note.OutputFailed → end.end ≢ AuditStatus.Stopped ReportStop.Output }
 {
     let AuditEnd { found, end, .. } = end;
     match end {
@@ -110,16 +109,14 @@ pub(crate) fn describe_audit(end: AuditEnd) -> (u8, Note)
 }
 
 // What is said after a stop.
-pub(crate) fn stop_note(why: Fault) -> Note
-    requires { why ≢ Fault.Broken }
+pub(crate) fn stop_note(why: ReportStop) -> Note
     ensures note { IsStopNote why result }
     ensures said { IsStopSaid result }
 {
     match why {
-        Fault::Store(place) => Note::StoppedAt(place),
-        Fault::Memory => Note::OutOfMemory,
-        Fault::Output => Note::OutputFailed,
-        Fault::Broken => unreachable!(),
+        ReportStop::Fault(Fault::Store(place)) => Note::StoppedAt(place),
+        ReportStop::Fault(Fault::Memory) => Note::OutOfMemory,
+        ReportStop::Output => Note::OutputFailed,
     }
 }
 

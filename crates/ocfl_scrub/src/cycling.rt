@@ -9,6 +9,7 @@ ghost use Rattle.ocfl_scrub.specs.Starting.{part_of};
 
 use crate::part::Part;
 use crate::running::{RunEnd, RunStatus, run_part};
+use crate::stop::ReportStop;
 use crate::taking::either;
 use ocfl_cursor::{Cursor, Limits, Refused, decode, encode};
 use ocfl_digest::Block;
@@ -25,7 +26,7 @@ pub enum CycleStatus {
     /// Items are left, and no limits for a further run.
     Spent,
     /// A call failed.
-    Stopped(Fault),
+    Stopped(ReportStop),
 }
 
 /// What a cycle did.
@@ -50,7 +51,7 @@ pub struct CycleEnd {
 /// Each run takes the items after those of the run before, and what they write, joined, begins the
 /// report of the whole audit; it is all of that where the cycle has ended. Without limits there is
 /// no run. A run that stopped is counted, even if it took nothing. Running out of memory for a
-/// cursor's text is `Stopped(Fault::Memory)`, with the cursor of the last run.
+/// cursor's text is a stop for `Fault::Memory`, with the cursor of the last run.
 ///
 /// What it keeps while the root stays unchanged and every call succeeds is a law over `told`:
 /// [`headline`](crate::headline).
@@ -90,7 +91,12 @@ pub fn cycle_part<T: Tree, W: Write>(
     let mut found = false;
     for one in limits {
         let Ok(begun) = handed_on(alloc, &cursor, runs) else {
-            return cycle_end(cursor, runs, found, CycleStatus::Stopped(Fault::Memory));
+            return cycle_end(
+                cursor,
+                runs,
+                found,
+                CycleStatus::Stopped(ReportStop::Fault(Fault::Memory)),
+            );
         };
         let RunEnd {
             cursor: reached,

@@ -1,6 +1,5 @@
 //! The walk that one run leaves to the next.
 ghost use Rattle.std.specs.Prelude.{◌≡◌, ◌≤◌, None, length};
-ghost use Rattle.ocfl_walk.specs.Walks.{IsLive};
 
 use ocfl_walk::{Pending, Walk};
 
@@ -9,7 +8,6 @@ use ocfl_walk::{Pending, Walk};
 pub(crate) struct Met {
     pub(crate) walk: Walk,
     pub(crate) item: Pending,
-    ghost live: { IsLive walk },
     ghost short: { length item.place ≤ 255 },
 }
 

@@ -222,6 +222,7 @@ mod performing;
 pub mod records;
 mod running;
 pub mod scope_laws;
+mod stop;
 mod taking;
 
 pub use auditing::{AuditEnd, audit, audit_part};
@@ -235,3 +236,4 @@ pub use part::Part;
 pub use part_performing::perform_part;
 pub use performing::{Performed, perform};
 pub use running::{RunEnd, RunStatus, run, run_on, run_part};
+pub use stop::ReportStop;

@@ -1,9 +1,8 @@
 //! Parts of a storage root.
-ghost use Rattle.std.specs.Prelude.{◌≡◌, [], None, Some, Option, option_map, IfErr, IfOk, MatchResult};
+ghost use Rattle.std.specs.Prelude.{◌≡◌, [], None, Some, Option, option_map, IfOk, MatchResult};
 ghost use Rattle.ocfl_audit.specs.Parts.{branch, whole};
-ghost use Rattle.ocfl_item.specs.Ways.{IsWayFault};
 ghost use Rattle.ocfl_scope.specs.Numbered.{part_between};
-ghost use Rattle.ocfl_walk.specs.{WalkCalls.{GoDownFails, GoesDown}, Walks.{IsLive, Stands}};
+ghost use Rattle.ocfl_walk.specs.{WalkCalls.{GoDownFails, GoesDown}, Walks.{Stands}};
 ghost use Rattle.ocfl_scrub.specs.Starting.{entry, first_place as first_of_part, part_of, stand, is_before as lies_before};
 ghost use Rattle.ocfl_tree.specs.Store.{IfTold};
 
@@ -110,8 +109,6 @@ pub(crate) fn set_out<T: Tree>(
     part: &Part,
     above: Option<&Place>,
 ) -> Result<Walk, Fault>
-    ensures only { IfErr result (λ why. IsWayFault why) }
-    ensures live { IfOk result (λ walk. IsLive walk) }
     ensures told { IfTold T.told (T.state store.old) (λ root.
         let above = option_map (λ p. p.now) above.entry in MatchResult result
         (λ walk. GoesDown root (T.state store.old) (T.state store.new)

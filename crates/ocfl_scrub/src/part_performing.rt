@@ -1,6 +1,6 @@
 //! What the program does for a command within a scope: on the whole storage root, on a branch of
 //! it, or on one part.
-ghost use Rattle.std.specs.Prelude.{◌≡◌, ◌≢◌, IfErr, IfOk, None, Some};
+ghost use Rattle.std.specs.Prelude.{◌≡◌, IfErr, IfOk, None, Some};
 ghost use Rattle.ocfl_scope.specs.Numbered.{part_between as part_of_ends};
 ghost use Rattle.ocfl_scope.specs.declared.scope.Scope.TheVariants as scopes;
 ghost use Rattle.ocfl_scrub.specs.{Call.{WhereTold}, Running.{limits_of}};
@@ -20,7 +20,6 @@ use ocfl_deed::Deed;
 use ocfl_digest::Block;
 use ocfl_scope::Scope;
 use ocfl_tree::{Place, Tree};
-use ocfl_walk::Fault;
 use std::alloc::Global;
 use std::io::{Read, Write};
 
@@ -97,7 +96,6 @@ fn audited_branch<T: Tree, W: Write>(
 
 // Describes what the audit of a branch ended with.
 fn describe_branch(end: AuditEnd) -> (u8, Note)
-    requires whole { end.end ≢ AuditStatus.Stopped Fault.Broken }
     ensures note { IsBranchNote end.found end.end end.last result.0 result.1 }
     ensures status { IsStatus result.0 result.1 }
     ensures said { IsBranchSaid result.1 }

@@ -20,6 +20,7 @@ ghost use Rattle.ocfl_scrub.specs.Joining.{AreOneCycle, AreRuns, IsPartCycle, Is
 ghost use Rattle.ocfl_scrub.specs.{Keeping.{RunsOn}, WholeAudit.{AuditEndsWithin}};
 ghost use Rattle.ocfl_scrub.specs.Types.{AuditStatus, CycleEnd, RunEnd, RunStatus};
 ghost use Rattle.ocfl_scrub.specs.declared.cycling.CycleStatus.TheVariants as cycle;
+ghost use Rattle.ocfl_scrub.specs.declared.stop.ReportStop.TheVariants as halt;
 ghost use Rattle.ocfl_scrub.specs.declared.running.RunStatus.TheVariants as run;
 
 /// If no failure was counted, the reports of the runs of one cycle of a part, joined, are what the
@@ -102,7 +103,7 @@ pub fn each_run_has_a_report()
         (limits : Limits) (ran : RunEnd)
         → RunsFromWithin (known_call root s t old new) part c limits ran → (r : PartRun)
         × ((cut : Text) × ((r.limits ≡ limits) × ((r.ran ≡ ran)
-        × ((new ≡ old ++ (r.report ++ cut)) × ((ran.end ≢ run.Stopped fault.Output → cut ≡ [])
+        × ((new ≡ old ++ (r.report ++ cut)) × ((ran.end ≢ run.Stopped halt.Output → cut ≡ [])
         × Ran root part c r))))) }
 {}
 
@@ -112,7 +113,7 @@ pub fn each_run_that_goes_on_has_a_report()
         (met : Option Place) (c : Cursor) (limits : Limits) (ran : RunEnd)
         → RunsOn (known_call root s t old new) part met c limits ran → (r : PartRun)
         × ((cut : Text) × ((r.limits ≡ limits) × ((r.ran ≡ ran)
-        × ((new ≡ old ++ (r.report ++ cut)) × ((ran.end ≢ run.Stopped fault.Output → cut ≡ [])
+        × ((new ≡ old ++ (r.report ++ cut)) × ((ran.end ≢ run.Stopped halt.Output → cut ≡ [])
         × Ran root part c r))))) }
 {}
 
@@ -189,7 +190,7 @@ pub fn each_run_of_a_cycle_looks_once()
         × (length (filter is_empty listed) ≤ ran.runs)) }
     ensures failed { (call : Call) (part : Part) (limits : List Limits) (ran : CycleEnd)
         → CycleOfRunsWithin call part limits ran → (q : Place)
-        → ran.end ≡ cycle.Stopped (fault.Store q) → (calls : List Call) × ((k : Call)
+        → ran.end ≡ cycle.Stopped (halt.Fault (fault.Store q)) → (calls : List Call) × ((k : Call)
         × (IsMadeOf call (calls ++ k ∷ []) × ((length (calls ++ k ∷ []) ≡ ran.runs)
         × ((listed : List Place) × ((trail : List Opening)
         × ((k.after.listings ≡ k.before.listings ++ listed)

@@ -10,6 +10,7 @@ use crate::command::{audited, checked, status, stop_note};
 use crate::cycling::{CycleEnd, CycleStatus, cycle};
 use crate::note::Note;
 use crate::running::{RunEnd, RunStatus, run};
+use crate::stop::ReportStop;
 use ocfl_cursor::{
     Cursor, CursorStop, Limits, PartRefused, Refused, ShowStop, encode, read_cursor, read_shown,
 };
@@ -17,7 +18,6 @@ use ocfl_deed::Deed;
 use ocfl_digest::Block;
 use ocfl_report::write_all_of;
 use ocfl_tree::Tree;
-use ocfl_walk::Fault;
 use std::alloc::{AllocError, Global};
 use std::io::{Read, Write};
 
@@ -142,7 +142,6 @@ fn perform_run<T: Tree, R: Read, W: Write>(
 // Describes what a run ended with, and hands back the text of its cursor, for which there may have
 // been no memory.
 pub(crate) fn conclude_run(end: RunEnd, text: Result<Vec<u8>, AllocError>) -> Performed
-    requires whole { end.end ≢ RunStatus.Stopped Fault.Broken }
     ensures status { IsStatus result.status result.note }
     ensures said { IsRanSaid result.note }
     ensures worn { (result.note ≡ Note.CursorWorn) ↔ (end.end ≡ RunStatus.Worn) }
@@ -153,10 +152,10 @@ pub(crate) fn conclude_run(end: RunEnd, text: Result<Vec<u8>, AllocError>) -> Pe
         → IsStoredNote text_of end.cursor end.spent end.found end.end
         result.status result.note result.cursor }
     ensures lines { IsWhole result.note →
-        (end.end ≢ RunStatus.Stopped Fault.Output) × (result.status ≡ status_of end.found) }
+        (end.end ≢ RunStatus.Stopped ReportStop.Output) × (result.status ≡ status_of end.found) }
     ensures uncut { result.note ≢ Note.OutputFailed
         → (result.note ≢ Note.OutOfMemory) ⊎ IsSome result.cursor
-        → end.end ≢ RunStatus.Stopped Fault.Output }
+        → end.end ≢ RunStatus.Stopped ReportStop.Output }
 {
     let RunEnd {
         cursor,
@@ -181,15 +180,14 @@ pub(crate) fn conclude_run(end: RunEnd, text: Result<Vec<u8>, AllocError>) -> Pe
 
 // Describes a run whose cursor has a text.
 pub(crate) fn describe_run(cursor: &Cursor, spent: u64, found: bool, end: RunStatus) -> (u8, Note)
-    requires whole { end ≢ RunStatus.Stopped Fault.Broken }
     ensures note { IsRunNote cursor.now spent found end result.0 result.1 }
     ensures status { IsStatus result.0 result.1 }
     ensures said { IsRanSaid result.1 }
     ensures worn { result.1 ≡ Note.CursorWorn → end ≡ RunStatus.Worn }
     ensures kept { end ≢ RunStatus.Worn → (text : Vec ℕ Global) → IsKept result.1 (Some text) }
     ensures lines { IsWhole result.1 →
-        (end ≢ RunStatus.Stopped Fault.Output) × (result.0 ≡ status_of found) }
-    ensures uncut { result.1 ≢ Note.OutputFailed → end ≢ RunStatus.Stopped Fault.Output }
+        (end ≢ RunStatus.Stopped ReportStop.Output) × (result.0 ≡ status_of found) }
+    ensures uncut { result.1 ≢ Note.OutputFailed → end ≢ RunStatus.Stopped ReportStop.Output }
 {
     match end {
         RunStatus::Ended => (status(found), run_summary(cursor, spent, true)),
@@ -242,14 +240,13 @@ fn equal_limits(alloc: Global, limits: Limits, count: usize) -> Result<Vec<Limit
 
 // Describes what a cycle ended with.
 fn describe_cycle(end: CycleEnd) -> (u8, Note)
-    requires whole { end.end ≢ CycleStatus.Stopped Fault.Broken }
     ensures note { IsCycleNote end.runs end.spent end.found end.end result.0 result.1 }
     ensures status { IsStatus result.0 result.1 }
     ensures said { IsCycleSaid result.1 }
     ensures lines { IsWhole result.1 →
-        (end.end ≢ CycleStatus.Stopped Fault.Output) × (result.0 ≡ status_of end.found) }
+        (end.end ≢ CycleStatus.Stopped ReportStop.Output) × (result.0 ≡ status_of end.found) }
     ensures uncut { result.1 ≢ Note.OutputFailed
-        → end.end ≢ CycleStatus.Stopped Fault.Output }
+        → end.end ≢ CycleStatus.Stopped ReportStop.Output }
 {
     let CycleEnd {
         runs,

@@ -12,8 +12,7 @@ ghost use Rattle.ocfl_audit.specs.Trail.{content_trail, heads_of, inventories, u
 ghost use Rattle.ocfl_audit.specs.{Walk.{item_at}, Between.{looked_between, read_between}};
 ghost use Rattle.ocfl_audit.specs.Parts.{Part, whole};
 ghost use Rattle.ocfl_audit.specs.Runs.{Limits, cut, left, runs, joined, total_files, IsAtLeast, FilesFit, sum_of};
-ghost use Rattle.ocfl_item.specs.{Looking.{failures_by, way_to}, declared.fault.Fault.{Fault}};
-ghost use Rattle.ocfl_item.specs.declared.fault.Fault.TheVariants as fault;
+ghost use Rattle.ocfl_item.specs.Looking.{failures_at, way_to};
 ghost use Rattle.ocfl_walk.specs.WalkCalls.{holder, way_of};
 ghost use Rattle.ocfl_cursor.specs.Cursor.{Cursor, start, behind, ended, cursor_text, new_cursor};
 ghost use Rattle.ocfl_cursor.specs.Moves.{after_run};
@@ -29,12 +28,13 @@ ghost use Rattle.ocfl_scrub.specs.Checking.{Checks, CheckStops, CheckEnds};
 ghost use Rattle.ocfl_scrub.specs.WholeAudit.{AuditsAll, AuditStops, AuditEnds, AuditsOnAnyStore};
 ghost use Rattle.ocfl_scrub.specs.Noting.{status_of, IsAuditNote, IsCheckNote, IsCycleNote, EndsUnread, IsRunNote, IsStatus, IsUnreadSaid, ReportsOnAnyStore, WritesWhole, WritesWithStatus};
 ghost use Rattle.ocfl_scrub.specs.Performing.{AnswersOnAnyStore, BeginsWith, HasBadPath, IsKeptBy, IsSilent, IsWithoutFile, Performs, RefusesPath, UnshownSaid, WritesBy};
-ghost use Rattle.ocfl_scrub.specs.Taking.{WritesLines};
-ghost use Rattle.ocfl_scrub.specs.Types.{AuditEnd, CheckEnd, CycleEnd, CycleStatus, Note, Performed, RunEnd};
+ghost use Rattle.ocfl_scrub.specs.Taking.{WritesLines, stop_place};
+ghost use Rattle.ocfl_scrub.specs.Types.{AuditEnd, CheckEnd, CycleEnd, CycleStatus, Note, Performed, ReportStop, RunEnd};
 ghost use Rattle.ocfl_scrub.specs.declared.checking.AuditStatus.TheVariants as end;
 ghost use Rattle.ocfl_scrub.specs.declared.running.RunStatus.TheVariants as run;
 ghost use Rattle.ocfl_scrub.specs.declared.cycling.CycleStatus.TheVariants as cycle;
 ghost use Rattle.ocfl_scrub.specs.declared.note.Note.TheVariants as note;
+ghost use Rattle.ocfl_scrub.specs.declared.stop.ReportStop.TheVariants as halt;
 
 /// A check that ended wrote the lines of its place, in which the openings show what failed. It
 /// opened that place's file if it is hashed, no other content, and no file twice. It listed the
@@ -65,23 +65,23 @@ pub fn a_check_looks_at_its_place_alone()
 /// failed. It opened, listed and read no more than one that ends.
 pub fn a_check_that_stops_wrote_a_beginning()
     ensures lines { (root : StorageRoot) (s t : Store) (before written : List ℕ) (p : Place)
-        (why : Fault) → CheckStops (known_call root s t before written) p why
+        (why : ReportStop) → CheckStops (known_call root s t before written) p why
         → (trail : List Opening) × ((gone : ℕ) × ((t.openings ≡ s.openings ++ trail)
         × ((written ≡ before ++ take gone (text (item_at root (unread_of root trail) p)))
-        × ((why ≡ fault.Output → gone < length (text (item_at root (unread_of root trail) p)))
-        × (why ≢ fault.Output → gone ≡ 0))))) }
-    ensures opened { (call : Call) (p : Place) (why : Fault) → CheckStops call p why
+        × ((why ≡ halt.Output → gone < length (text (item_at root (unread_of root trail) p)))
+        × (why ≢ halt.Output → gone ≡ 0))))) }
+    ensures opened { (call : Call) (p : Place) (why : ReportStop) → CheckStops call p why
         → (trail : List Opening) × ((begun : List Place) × ((rest : List Place)
         × ((call.after.openings ≡ call.before.openings ++ trail) × ((p ∷ [] ≡ begun ++ rest)
         × ((content_trail call.root trail ≡ hashed_among call.root begun)
         × (AllPairs (λ a b. a.place ≢ b.place) trail)))))) }
-    ensures listed { (call : Call) (p : Place) (why : Fault) → CheckStops call p why
+    ensures listed { (call : Call) (p : Place) (why : ReportStop) → CheckStops call p why
         → (listed : List Place) × ((rest : List Place)
         × ((call.after.listings ≡ call.before.listings ++ listed) × (way_to p ≡ listed ++ rest))) }
-    ensures read { (call : Call) (p : Place) (why : Fault) → CheckStops call p why
+    ensures read { (call : Call) (p : Place) (why : ReportStop) → CheckStops call p why
         → (trail : List Opening) × ((rest : List Place)
         × ((call.after.openings ≡ call.before.openings ++ trail) × ((call.after.failures
-        ≡ call.before.failures + (length (unread_of call.root trail) + failures_by why))
+        ≡ call.before.failures + (length (unread_of call.root trail) + failures_at (stop_place why)))
         × (holder call.root (Some p) ≡ heads_of call.root trail ++ rest)))) }
 {}
 
@@ -114,28 +114,28 @@ pub fn an_audit_reads_each_file_once()
 /// what an audit lists and reads.
 pub fn an_audit_that_stops_wrote_its_first_items()
     ensures lines { (root : StorageRoot) (s t : Store) (before written : List ℕ)
-        (last : Option Place) (finding : Bool) (why : Fault)
+        (last : Option Place) (finding : Bool) (why : ReportStop)
         → AuditStops (known_call root s t before written) last finding why → (trail : List Opening)
         × ((whole : List Item) × ((others : List Item)
         × ((gone : ℕ) × ((t.openings ≡ s.openings ++ trail) × ((audit root (unread_of root trail)
         ≡ whole ++ others) × ((written ≡ before ++ (text whole ++ take gone (text (take 1 others))))
-        × ((why ≡ fault.Output → gone < length (text (take 1 others))) × ((why ≢ fault.Output
+        × ((why ≡ halt.Output → gone < length (text (take 1 others))) × ((why ≢ halt.Output
         → gone ≡ 0) × (finding ≡ found whole))))))))) }
     ensures opened { (call : Call) (last : Option Place) (finding : Bool)
-        (why : Fault) → AuditStops call last finding why → (trail : List Opening)
+        (why : ReportStop) → AuditStops call last finding why → (trail : List Opening)
         × ((whole : List Item) × ((others : List Item) × ((begun : List Place)
         × ((rest : List Place) × ((call.after.openings ≡ call.before.openings ++ trail)
         × ((audit call.root (unread_of call.root trail) ≡ whole ++ others)
         × ((map (λ i. i.place) (take 1 others) ≡ begun ++ rest) × (content_trail call.root trail
         ≡ hashed_among call.root (map (λ i. i.place) whole ++ begun))))))))) }
     ensures listed { (call : Call) (last : Option Place) (finding : Bool)
-        (why : Fault) → AuditStops call last finding why → (listed : List Place)
+        (why : ReportStop) → AuditStops call last finding why → (listed : List Place)
         × ((rest : List Place) × ((call.after.listings ≡ call.before.listings ++ listed)
         × (looked_between call.root None None ≡ listed ++ rest))) }
-    ensures read { (call : Call) (last : Option Place) (finding : Bool) (why : Fault)
+    ensures read { (call : Call) (last : Option Place) (finding : Bool) (why : ReportStop)
         → AuditStops call last finding why → (trail : List Opening) × ((rest : List Place)
         × ((call.after.openings ≡ call.before.openings ++ trail) × ((call.after.failures
-        ≡ call.before.failures + (length (unread_of call.root trail) + failures_by why))
+        ≡ call.before.failures + (length (unread_of call.root trail) + failures_at (stop_place why)))
         × (read_between call.root None None ≡ heads_of call.root trail ++ rest)))) }
 {}
 
@@ -190,17 +190,17 @@ pub fn a_run_takes_the_cut_of_its_limits()
 pub fn a_run_that_stops_took_the_first_of_its_cut()
     ensures lines { (root : StorageRoot) (s t : Store) (before written : List ℕ)
         (from last : Option Place) (limits : Limits) (spent files : ℕ) (finding : Bool)
-        (why : Fault)
+        (why : ReportStop)
         → RunStops (known_call root s t before written) from last limits spent files finding why
         → (trail : List Opening) × ((whole : List Item)
         × ((others : List Item) × ((gone : ℕ) × ((t.openings ≡ s.openings ++ trail)
         × ((cut (after (audit root (unread_of root trail)) from) limits ≡ whole ++ others)
         × ((written ≡ before ++ (text whole ++ take gone (text (take 1 others))))
-        × ((why ≡ fault.Output → gone < length (text (take 1 others))) × ((why ≢ fault.Output
+        × ((why ≡ halt.Output → gone < length (text (take 1 others))) × ((why ≢ halt.Output
         → gone ≡ 0) × ((spent ≡ total_cost whole) × ((files ≡ total_files whole)
         × (finding ≡ found whole))))))))))) }
     ensures opened { (call : Call) (from last : Option Place) (limits : Limits) (spent files : ℕ)
-        (finding : Bool) (why : Fault)
+        (finding : Bool) (why : ReportStop)
         → RunStops call from last limits spent files finding why → (trail : List Opening)
         × ((whole : List Item) × ((others : List Item) × ((begun : List Place)
         × ((rest : List Place) × ((call.after.openings ≡ call.before.openings ++ trail)
@@ -208,22 +208,22 @@ pub fn a_run_that_stops_took_the_first_of_its_cut()
         × ((map (λ i. i.place) (take 1 others) ≡ begun ++ rest) × (content_trail call.root trail
         ≡ hashed_among call.root (map (λ i. i.place) whole ++ begun))))))))) }
     ensures listed { (call : Call) (from last : Option Place) (limits : Limits) (spent files : ℕ)
-        (finding : Bool) (why : Fault) → RunStops call from last limits spent files finding why
+        (finding : Bool) (why : ReportStop) → RunStops call from last limits spent files finding why
         → (down : List Place) × ((below : List Place) × ((listed : List Place)
         × ((rest : List Place) × ((call.after.listings ≡ call.before.listings ++ (down ++ listed))
         × ((way_of from ≡ down ++ below) × ((looked_between call.root from None ≡ listed ++ rest)
         × (IsAscending place_cmp (down ++ listed)))))))) }
     ensures read { (call : Call) (from last : Option Place) (limits : Limits) (spent files : ℕ)
-        (finding : Bool) (why : Fault) → RunStops call from last limits spent files finding why
+        (finding : Bool) (why : ReportStop) → RunStops call from last limits spent files finding why
         → (trail : List Opening) × ((held : List Place)
         × ((below : List Place) × ((heads : List Place) × ((rest : List Place)
         × ((call.after.openings ≡ call.before.openings ++ trail) × ((call.after.failures
-        ≡ call.before.failures + (length (unread_of call.root trail) + failures_by why))
+        ≡ call.before.failures + (length (unread_of call.root trail) + failures_at (stop_place why)))
         × ((heads_of call.root trail ≡ held ++ heads) × ((holder call.root from ≡ held ++ below)
         × ((read_between call.root from None ≡ heads ++ rest)
         × (IsAscending place_cmp (held ++ heads))))))))))) }
     ensures last { (call : Call) (from last : Option Place) (limits : Limits) (spent files : ℕ)
-        (finding : Bool) (why : Fault) → RunStops call from last limits spent files finding why
+        (finding : Bool) (why : ReportStop) → RunStops call from last limits spent files finding why
         → (trail : List Opening) × ((whole : List Item)
         × ((others : List Item) × ((call.after.openings ≡ call.before.openings ++ trail)
         × ((cut (after (audit call.root (unread_of call.root trail)) from) limits ≡ whole ++ others)
@@ -301,17 +301,17 @@ pub fn a_cycle_takes_the_cuts_of_its_limits()
 pub fn a_cycle_that_stops_took_the_first_of_its_cuts()
     ensures lines { (root : StorageRoot) (s t : Store)
         (before written : List ℕ) (last : Option Place)
-        (limits : List Limits) (spent files : ℕ) (finding : Bool) (count : ℕ) (why : Fault)
+        (limits : List Limits) (spent files : ℕ) (finding : Bool) (count : ℕ) (why : ReportStop)
         → CycleStops (known_call root s t before written) last limits spent files finding count why
         → (trail : List Opening) × ((whole : List Item)
         × ((others : List Item) × ((gone : ℕ) × ((t.openings ≡ s.openings ++ trail)
         × ((joined (take count (runs (audit root (unread_of root trail)) limits)) ≡ whole ++ others)
         × ((written ≡ before ++ (text whole ++ take gone (text (take 1 others))))
-        × ((why ≡ fault.Output → gone < length (text (take 1 others))) × ((why ≢ fault.Output
+        × ((why ≡ halt.Output → gone < length (text (take 1 others))) × ((why ≢ halt.Output
         → gone ≡ 0) × ((spent ≡ total_cost whole) × ((files ≡ total_files whole)
         × (finding ≡ found whole))))))))))) }
     ensures counted { (call : Call) (last : Option Place) (limits : List Limits) (spent files : ℕ)
-        (finding : Bool) (count : ℕ) (why : Fault)
+        (finding : Bool) (count : ℕ) (why : ReportStop)
         → CycleStops call last limits spent files finding count why → (trail : List Opening)
         × ((whole : List Item) × ((rest : List Item)
         × ((call.after.openings ≡ call.before.openings ++ trail) × ((1 ≤ count)
@@ -320,17 +320,17 @@ pub fn a_cycle_that_stops_took_the_first_of_its_cuts()
         (audit call.root (unread_of call.root trail)) limits)) ++ rest)
         × (length (heads_of call.root trail) < length (inventories call.root) + count)))))))) }
     ensures opened { (call : Call) (last : Option Place) (limits : List Limits) (spent files : ℕ)
-        (finding : Bool) (count : ℕ) (why : Fault)
+        (finding : Bool) (count : ℕ) (why : ReportStop)
         → CycleStops call last limits spent files finding count why → (trail : List Opening)
         × ((whole : List Item)
         × ((others : List Item) × ((begun : List Place) × ((rest : List Place)
         × ((call.after.openings ≡ call.before.openings ++ trail) × ((call.after.failures
-        ≡ call.before.failures + (length (unread_of call.root trail) + failures_by why)) × ((joined
+        ≡ call.before.failures + (length (unread_of call.root trail) + failures_at (stop_place why))) × ((joined
         (take count (runs (audit call.root (unread_of call.root trail)) limits)) ≡ whole ++ others)
         × ((map (λ i. i.place) (take 1 others) ≡ begun ++ rest) × (content_trail call.root trail
         ≡ hashed_among call.root (map (λ i. i.place) whole ++ begun)))))))))) }
     ensures last { (call : Call) (last : Option Place) (limits : List Limits)
-        (spent files : ℕ) (finding : Bool) (count : ℕ) (why : Fault)
+        (spent files : ℕ) (finding : Bool) (count : ℕ) (why : ReportStop)
         → CycleStops call last limits spent files finding count why → (trail : List Opening)
         × ((whole : List Item) × ((call.after.openings ≡ call.before.openings ++ trail)
         × ((spent ≡ total_cost whole) × ((whole ≡ [] → last ≡ None) × ((front : List Item)
@@ -341,11 +341,11 @@ pub fn a_cycle_that_stops_took_the_first_of_its_cuts()
 pub fn each_end_says_what_was_done()
     ensures check { (call : Call) (p : Place) (item finding : Bool)
         → CheckEnds call p item finding end.Ended → Checks call p item finding }
-    ensures stopped_check { (call : Call) (p : Place) (item finding : Bool) (why : Fault)
+    ensures stopped_check { (call : Call) (p : Place) (item finding : Bool) (why : ReportStop)
         → CheckEnds call p item finding (end.Stopped why) → CheckStops call p why }
     ensures audit { (call : Call) (last : Option Place) (finding : Bool)
         → AuditEnds call last finding end.Ended → AuditsAll call last finding }
-    ensures stopped_audit { (call : Call) (last : Option Place) (finding : Bool) (why : Fault)
+    ensures stopped_audit { (call : Call) (last : Option Place) (finding : Bool) (why : ReportStop)
         → AuditEnds call last finding (end.Stopped why) → AuditStops call last finding why }
     ensures ended_run { (call : Call) (from last : Option Place) (limits : Limits) (spent files : ℕ)
         (finding : Bool) → RunEnds call from last limits spent files finding run.Ended
@@ -354,7 +354,7 @@ pub fn each_end_says_what_was_done()
         (finding : Bool) → RunEnds call from last limits spent files finding run.Spent
         → (next : Place) × Runs call from last limits spent files finding (Some next) }
     ensures stopped_run { (call : Call) (from last : Option Place)
-        (limits : Limits) (spent files : ℕ) (finding : Bool) (why : Fault)
+        (limits : Limits) (spent files : ℕ) (finding : Bool) (why : ReportStop)
         → RunEnds call from last limits spent files finding (run.Stopped why)
         → RunStops call from last limits spent files finding why }
     ensures no_run { (call : Call) (from last : Option Place) (limits : Limits) (spent files : ℕ)
@@ -368,7 +368,7 @@ pub fn each_end_says_what_was_done()
         → CycleEnds call last limits spent files finding count cycle.Spent
         → Cycles call last limits spent files finding count false }
     ensures stopped_cycle { (call : Call) (last : Option Place) (limits : List Limits)
-        (spent files : ℕ) (finding : Bool) (count : ℕ) (why : Fault)
+        (spent files : ℕ) (finding : Bool) (count : ℕ) (why : ReportStop)
         → CycleEnds call last limits spent files finding count (cycle.Stopped why)
         → CycleStops call last limits spent files finding count why }
 {}
@@ -404,7 +404,7 @@ pub fn a_run_leaves_its_cursor_after_what_it_took()
         × (RunEnds call (place_in c.state) last limits ran.spent ran.files ran.found ran.end
         × ((last ≡ None → ran.cursor.state ≡ start) × ((p : Place) → last ≡ Some p
         → ran.cursor.state ≡ behind p))) }
-    ensures stopped { (call : Call) (c : Cursor) (limits : Limits) (ran : RunEnd) (why : Fault)
+    ensures stopped { (call : Call) (c : Cursor) (limits : Limits) (ran : RunEnd) (why : ReportStop)
         → RunsFrom call c limits ran → ran.end ≡ run.Stopped why → (last : Option Place)
         × (RunEnds call (place_in c.state) last limits ran.spent ran.files ran.found ran.end
         × ((last ≡ None → ran.cursor.state ≡ start) × ((p : Place) → last ≡ Some p
@@ -424,7 +424,7 @@ pub fn a_cycle_leaves_its_cursor_after_what_it_took()
         × (CycleEnds call last limits c.spent c.files finding c.runs cycle.Spent × ((last ≡ None
         → c.state ≡ start) × ((p : Place) → last ≡ Some p → c.state ≡ behind p))) }
     ensures stopped { (call : Call) (limits : List Limits) (c : Cursor) (finding : Bool)
-        (why : Fault) → CyclesTo call limits c finding (cycle.Stopped why) → (last : Option Place)
+        (why : ReportStop) → CyclesTo call limits c finding (cycle.Stopped why) → (last : Option Place)
         × (CycleEnds call last limits c.spent c.files finding c.runs (cycle.Stopped why)
         × ((last ≡ None → c.state ≡ start) × ((p : Place) → last ≡ Some p → c.state ≡ behind p))) }
 {}
@@ -497,25 +497,20 @@ pub fn a_command_does_what_it_is_asked_for()
         → call.after ≡ call.before }
 {}
 
-/// An audit stops only for what a call answered. Unless the output failed, it reports what it
-/// wrote. If it took nothing, it found nothing, and wrote nothing unless the output failed.
+/// Unless the output failed, an audit reports what it wrote. If it took nothing, it found nothing,
+/// and wrote nothing unless the output failed.
 pub fn an_audit_reports_what_it_wrote()
-    ensures unbroken { (old new : Option (List ℕ)) (ran : AuditEnd)
-        → AuditsOnAnyStore (λ o. o) old new ran → ran.end ≢ end.Stopped fault.Broken }
     ensures lines { (old new : Option (List ℕ)) (ran : AuditEnd)
-        → AuditsOnAnyStore (λ o. o) old new ran → ran.end ≢ end.Stopped fault.Output
+        → AuditsOnAnyStore (λ o. o) old new ran → ran.end ≢ end.Stopped halt.Output
         → WritesLines old new ran.found }
     ensures nothing { (old new : Option (List ℕ)) (ran : AuditEnd)
         → AuditsOnAnyStore (λ o. o) old new ran → ran.last ≡ None → (ran.found ≡ false)
-        × (ran.end ≢ end.Stopped fault.Output → new ≡ old) }
+        × (ran.end ≢ end.Stopped halt.Output → new ≡ old) }
 {}
 
 /// A run of a worn cursor is not made, and changes nothing. Any other leaves its cursor where it
 /// ended, keeps its limits, and reports what it wrote, unless the output failed.
 pub fn a_run_keeps_its_limits()
-    ensures unbroken { (s t : Store) (old new : Option (List ℕ)) (c : Cursor)
-        (limits : MadeLimits) (ran : RunEnd) → RunsOnAnyStore (λ o. o) s t old new c limits ran
-        → ran.end ≢ run.Stopped fault.Broken }
     ensures worn { (s t : Store) (old new : Option (List ℕ)) (c : Cursor)
         (limits : MadeLimits) (ran : RunEnd) → RunsOnAnyStore (λ o. o) s t old new c limits ran
         → (ran.end ≡ run.Worn) ↔ IsWorn c }
@@ -534,15 +529,12 @@ pub fn a_run_keeps_its_limits()
         × ((ran.spent ≡ sum_of costs) × (ran.files ≡ length costs)))) }
     ensures lines { (s t : Store) (old new : Option (List ℕ)) (c : Cursor)
         (limits : MadeLimits) (ran : RunEnd) → RunsOnAnyStore (λ o. o) s t old new c limits ran
-        → ran.end ≢ run.Stopped fault.Output → WritesLines old new ran.found }
+        → ran.end ≢ run.Stopped halt.Output → WritesLines old new ran.found }
 {}
 
 /// A cycle's cursor is of the first cycle, and has its figures. It makes at most a run for each of
 /// its limits, and at least one if there are any.
 pub fn a_cycle_is_counted_by_its_cursor()
-    ensures unbroken { (s t : Store) (old new : Option (List ℕ)) (limits : List MadeLimits)
-        (ran : CycleEnd) → CyclesOnAnyStore (λ o. o) s t old new limits ran
-        → ran.end ≢ cycle.Stopped fault.Broken }
     ensures none { (s t : Store) (old new : Option (List ℕ)) (ran : CycleEnd)
         → CyclesOnAnyStore (λ o. o) s t old new [] ran → (ran.cursor ≡ new_cursor)
         × ((ran.end ≡ cycle.Spent) × ((ran.found ≡ false) × ((t ≡ s) × (new ≡ old)))) }
@@ -558,7 +550,7 @@ pub fn a_cycle_is_counted_by_its_cursor()
         → (ran.end ≡ cycle.Ended) ↔ (ran.cursor.state ≡ ended) }
     ensures lines { (s t : Store) (old new : Option (List ℕ)) (limits : List MadeLimits)
         (ran : CycleEnd) → CyclesOnAnyStore (λ o. o) s t old new limits ran
-        → ran.end ≢ cycle.Stopped fault.Output → WritesLines old new ran.found }
+        → ran.end ≢ cycle.Stopped halt.Output → WritesLines old new ran.found }
 {}
 
 /// A check and an audit end with the status of what is said. If nothing is said, all lines went

@@ -12,12 +12,13 @@ ghost use Rattle.ocfl_scrub.specs.Starting.{part_of};
 
 use crate::kept::{KeptWalk, Met};
 use crate::part::{Part, set_out};
+use crate::stop::ReportStop;
 use crate::taking::{either, take_item};
 use ocfl_cursor::{Cursor, Limits, Meter, State};
 use ocfl_digest::Block;
 use ocfl_tree::laws::every_place_has_names;
 use ocfl_tree::{Place, Tree};
-use ocfl_walk::{Fault, Pending};
+use ocfl_walk::Pending;
 use std::alloc::Global;
 use std::io::Write;
 
@@ -29,7 +30,7 @@ pub enum RunStatus {
     /// The next item is a file that the limits do not allow to start.
     Spent,
     /// A call failed, and a run from the cursor goes on after the last item that went out whole.
-    Stopped(Fault),
+    Stopped(ReportStop),
     /// No further run can be counted, and none was made.
     Worn,
 }
@@ -266,17 +267,19 @@ fn pass_from<T: Tree, W: Write>(
     ensures told { WhereTold T.told T.state W.contents store.old store.new out.old out.new (λ call.
         PassesWith call (part_of part.now) None from (limits_of limits) result) }
 {
-    let mut walk = match set_out(alloc, store, part, from.as_ref()) {
+    let walk = match set_out(alloc, store, part, from.as_ref()) {
         Ok(walk) => walk,
-        Err(why) => return no_pass(from, RunStatus::Stopped(why)),
+        Err(why) => return no_pass(from, RunStatus::Stopped(ReportStop::Fault(why))),
     };
     match walk.next_within(store, &part.end) {
-        Ok(Some(item)) => {
-            let met = Met { walk, item };
-            pass_on(alloc, store, part, met, from, limits, block, out)
-        }
-        Ok(None) => no_pass(from, RunStatus::Ended),
-        Err(why) => no_pass(from, RunStatus::Stopped(why)),
+        Ok((walk, next)) => match next {
+            Some(item) => {
+                let met = Met { walk, item };
+                pass_on(alloc, store, part, met, from, limits, block, out)
+            }
+            None => no_pass(from, RunStatus::Ended),
+        },
+        Err(why) => no_pass(from, RunStatus::Stopped(ReportStop::Fault(why))),
     }
 }
 
@@ -314,10 +317,14 @@ fn pass_on<T: Tree, W: Write>(
             }
             Err(why) => break (RunStatus::Stopped(why), None),
         }
-        item = match walk.next_within(store, &part.end) {
-            Ok(Some(next)) => next,
-            Ok(None) => break (RunStatus::Ended, None),
-            Err(why) => break (RunStatus::Stopped(why), None),
+        let (further, next) = match walk.next_within(store, &part.end) {
+            Ok(step) => step,
+            Err(why) => break (RunStatus::Stopped(ReportStop::Fault(why)), None),
+        };
+        walk = further;
+        item = match next {
+            Some(next) => next,
+            None => break (RunStatus::Ended, None),
         };
     };
     pass_end(&meter, last, found, end, met)

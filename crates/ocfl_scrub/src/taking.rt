@@ -3,6 +3,7 @@ ghost use Rattle.std.specs.Prelude.{◌≡◌, ◌≢◌, ◌⊎◌, ◌||◌, I
 ghost use Rattle.ocfl_item.specs.{Judging.{CostFits}, Pending.{IsPending}};
 ghost use Rattle.ocfl_scrub.specs.{Call.{WhereTold}, Taking.{Misses, Takes, WritesLines}};
 
+use crate::stop::ReportStop;
 use ocfl_digest::Block;
 use ocfl_item::Piece;
 use ocfl_report::write_all_of;
@@ -23,22 +24,23 @@ pub(crate) struct Taken {
 
 /// Judges an item and writes its lines as one piece.
 ///
-/// A fault is `Fault::Memory`, and then nothing was written, or `Fault::Output`.
-#[tactic(auto, using(crate::proofs::TakeLaws::lines_written, crate::proofs::TakeLaws::judged_takes, crate::proofs::TakeLaws::judged_memory, crate::proofs::TakeLaws::unjudged))]
+/// It stops for want of memory, and then nothing was written, or if the output failed.
+#[tactic(auto, using(crate::proofs::TakeLaws::lines_written, crate::proofs::TakeLaws::judged_takes))]
 pub(crate) fn take_item<T: Tree, W: Write>(
     alloc: Global,
     store: &mut T,
     pending: Pending,
     block: &mut Block,
     out: &mut W,
-) -> Result<Taken, Fault>
+) -> Result<Taken, ReportStop>
     // Of every store.
     ensures place { IfOk result (λ taken. taken.place ≡ pending.place) }
     ensures cost { IfOk result (λ taken. CostFits pending.hashed taken.cost) }
     ensures lines { IfOk result (λ taken. WritesLines (W.contents out.old)
         (W.contents out.new) taken.found) }
-    ensures only { IfErr result (λ why. (why ≡ Fault.Memory) ⊎ (why ≡ Fault.Output)) }
-    ensures unwritten { IfErr result (λ why. why ≢ Fault.Output → out.new ≡ out.old) }
+    ensures only { IfErr result (λ why. (why ≡ ReportStop.Fault Fault.Memory)
+        ⊎ (why ≡ ReportStop.Output)) }
+    ensures unwritten { IfErr result (λ why. why ≢ ReportStop.Output → out.new ≡ out.old) }
 
     // Of a store that tells its tree.
     ensures told { WhereTold T.told T.state W.contents store.old store.new out.old out.new (λ call.
@@ -46,16 +48,15 @@ pub(crate) fn take_item<T: Tree, W: Write>(
         (λ taken. Takes call pending.place taken.cost taken.found)
         (λ why. Misses call pending.place why)) }
 {
-    let (lines, cost) = match judge(alloc, store, pending, block) {
-        Ok(judged) => judged,
-        Err(why) => return Err(why),
+    let Ok((lines, cost)) = judge(alloc, store, pending, block) else {
+        return Err(ReportStop::Fault(Fault::Memory));
     };
     let Ok(Piece { place, text, found }) = lines.into_piece(alloc) else {
-        return Err(Fault::Memory);
+        return Err(ReportStop::Fault(Fault::Memory));
     };
     match write_all_of(out, &text) {
         Ok(()) => Ok(Taken { place, cost, found }),
-        Err(_) => Err(Fault::Output),
+        Err(_) => Err(ReportStop::Output),
     }
 }
 

@@ -43,8 +43,7 @@ where
 fn note_of(fault: Fault) -> Note {
     match fault {
         Fault::Store(place) => Note::StoppedAt(place),
-        Fault::Output => Note::OutputFailed,
-        Fault::Memory | Fault::Broken => Note::OutOfMemory,
+        Fault::Memory => Note::OutOfMemory,
     }
 }
 

@@ -96,8 +96,7 @@ fn text_of_refusal(
 fn stop_of(fault: &Fault) -> ocfl_telling::Stop<'_> {
     match fault {
         Fault::Store(place) => ocfl_telling::Stop::At(place),
-        Fault::Output => ocfl_telling::Stop::Output,
-        Fault::Memory | Fault::Broken => ocfl_telling::Stop::Memory,
+        Fault::Memory => ocfl_telling::Stop::Memory,
     }
 }
 
@@ -110,7 +109,7 @@ fn text_of_fault(
 ) -> Result<String, AllocError> {
     let words = match fault {
         Fault::Store(_) => why,
-        Fault::Output | Fault::Memory | Fault::Broken => None,
+        Fault::Memory => None,
     };
     text_of_stop(alloc, stop_of(fault), words, names)
 }

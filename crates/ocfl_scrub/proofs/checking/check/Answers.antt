@@ -10,7 +10,7 @@ returns-in-Ok-None-clause-told g c told root e short =
 pub returns-in-Err-clause-told : goal.returns-in-Err-clause-told
 returns-in-Err-clause-told g c told root e short =
     let went = c.in-Err.ensures.told told root e in
-    check_stopped root _ _ _ _ _ _ _ _ _ c.stopped.ensures.end (not_gone_down root c.args.place.now _ _ _ _ c.in-Err.ensures.only went)
+    check_stopped root _ _ _ _ _ _ _ _ _ c.stopped.ensures.end (not_gone_down root c.args.place.now _ _ _ _ went)
 
 pub returns-in-Ok-clause-told : goal.returns-in-Ok-clause-told
 returns-in-Ok-clause-told g c told root e short =

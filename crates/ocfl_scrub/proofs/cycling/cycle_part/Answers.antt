@@ -1,5 +1,5 @@
 use Rattle.std.proofs.Common.{◌≢◌, refl, ap, ◌+◌, arith, rules}
-use Rattle.ocfl_item.specs.declared.fault.Fault.TheVariants.{Output}
+use Rattle.ocfl_scrub.specs.declared.stop.ReportStop.TheVariants.{Output}
 use Rattle.ocfl_scrub.specs.Starting.{part_of}
 use Rattle.ocfl_scrub.specs.declared.cycling.CycleStatus.TheVariants as cycle
 use Rattle.ocfl_scrub.proofs.{TakeLaws.{nothing_written}, PassLaws.{lines_then}}

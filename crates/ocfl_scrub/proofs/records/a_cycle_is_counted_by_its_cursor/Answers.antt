@@ -3,7 +3,6 @@ use Rattle.ocfl_scrub.proofs.records.a_cycle_is_counted_by_its_cursor.Goals as g
 
 pub returns : goal.returns
 returns c = record {
-  unbroken = λ s t old new limits ran h. h.unbroken;
   none = λ s t old new ran h.
       let all = h.none refl in
       (all.0, (all.1, (all.2, (all.3, all.4))));

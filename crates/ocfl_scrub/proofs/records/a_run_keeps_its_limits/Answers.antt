@@ -2,7 +2,6 @@ use Rattle.ocfl_scrub.proofs.records.a_run_keeps_its_limits.Goals as goal
 
 pub returns : goal.returns
 returns c = record {
-  unbroken = λ s t old new from limits ran h. h.unbroken;
   worn = λ s t old new from limits ran h. h.worn;
   unmade = λ s t old new from limits ran h worn.
       let figures = h.worn_figures worn in

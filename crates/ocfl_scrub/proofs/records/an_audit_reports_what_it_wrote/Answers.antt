@@ -2,7 +2,6 @@ use Rattle.ocfl_scrub.proofs.records.an_audit_reports_what_it_wrote.Goals as goa
 
 pub returns : goal.returns
 returns c = record {
-  unbroken = λ old new ran h. h.unbroken;
   lines = λ old new ran h. h.lines;
   nothing = λ old new ran h none. (h.none_found none, h.silent none);
 }

@@ -8,24 +8,24 @@ pub returns-in-Err-clause-told : goal.returns-in-Err-clause-told
 returns-in-Err-clause-told g c told root over short =
     let e = c.no_pass.ensures in
     subst (EndsAt _ (part_of c.args.part.now) c.args.from (limits_of c.args.limits)) (pass_is c.no_pass.result _ _ _ _ _ _ e.last e.spent e.files e.found e.end e.met)
-    (begins_not root _ _ _ _ _ _ c.in-Err.why c.in-Err.ensures.only (rw (lent_place _ _ c.as_ref.ensures.value) at (c.in-Err.ensures.told told root over)))
+    (begins_not root _ _ _ _ _ _ c.in-Err.why (rw (lent_place _ _ c.as_ref.ensures.value) at (c.in-Err.ensures.told told root over)))
 
-pub returns-in-Ok-Some-clause-told : goal.returns-in-Ok-Some-clause-told
-returns-in-Ok-Some-clause-told g c told root over short =
+pub returns-in-Some-clause-told : goal.returns-in-Some-clause-told
+returns-in-Some-clause-told g c told root over short =
     let there = rw (lent_place _ _ c.as_ref.ensures.value) at (c.in-Ok.ensures.told told root over) in
-    begun_on root (part_of c.args.part.now) _ _ _ _ c.args.from (limits_of c.args.limits) c.in-Ok.walk c.in-Ok.ensures.live there _ c.in-Ok-Some.field-0 (c.in-Ok-Some.ensures.told told root) c.in-Ok-Some.field-0-is
-    c.in-Ok-Some.ensures.before _ _ c.pass_on.result (λ same. c.pass_on.ensures.told told root same short)
+    begun_on root (part_of c.args.part.now) _ _ _ _ c.args.from (limits_of c.args.limits) c.in-Ok.walk there _ _ (c.in-Ok-next_within.ensures.told told root) c.in-Some.is
+    c.in-Ok-next_within.ensures.before _ _ c.pass_on.result (λ same. c.pass_on.ensures.told told root same short)
 
-pub returns-in-Ok-None-clause-told : goal.returns-in-Ok-None-clause-told
-returns-in-Ok-None-clause-told g c told root over short =
-    let e = c.no_pass-in-Ok-None.ensures in
+pub returns-in-None-clause-told : goal.returns-in-None-clause-told
+returns-in-None-clause-told g c told root over short =
+    let e = c.no_pass-in-None.ensures in
     let there = rw (lent_place _ _ c.as_ref.ensures.value) at (c.in-Ok.ensures.told told root over) in
-    subst (EndsAt _ (part_of c.args.part.now) c.args.from (limits_of c.args.limits)) (pass_is c.no_pass-in-Ok-None.result _ _ _ _ _ _ e.last e.spent e.files e.found e.end e.met)
-    (begun_ended root _ _ _ _ _ _ _ c.in-Ok.walk c.in-Ok.ensures.live there c.next_within.new.self c.in-Ok-None.field-0 (c.in-Ok-None.ensures.told told root) c.in-Ok-None.field-0-is)
+    subst (EndsAt _ (part_of c.args.part.now) c.args.from (limits_of c.args.limits)) (pass_is c.no_pass-in-None.result _ _ _ _ _ _ e.last e.spent e.files e.found e.end e.met)
+    (begun_ended root _ _ _ _ _ _ _ c.in-Ok.walk there c.in-Ok-next_within.walk _ (c.in-Ok-next_within.ensures.told told root) c.in-None.is)
 
 pub returns-in-Err-next_within-clause-told : goal.returns-in-Err-next_within-clause-told
 returns-in-Err-next_within-clause-told g c told root over short =
     let e = c.no_pass-in-Err-next_within.ensures in
     let there = rw (lent_place _ _ c.as_ref.ensures.value) at (c.in-Ok.ensures.told told root over) in
     subst (EndsAt _ (part_of c.args.part.now) c.args.from (limits_of c.args.limits)) (pass_is c.no_pass-in-Err-next_within.result _ _ _ _ _ _ e.last e.spent e.files e.found e.end e.met)
-    (begun_lost root _ _ _ _ _ _ _ c.in-Ok.walk c.in-Ok.ensures.live there c.in-Err-next_within.why c.in-Err-next_within.ensures.only (c.in-Err-next_within.ensures.told told root))
+    (begun_lost root _ _ _ _ _ _ _ c.in-Ok.walk there c.in-Err-next_within.why (c.in-Err-next_within.ensures.told told root))

@@ -1,19 +1,20 @@
-use Rattle.std.proofs.Common.{◌≤◌, ◌∙◌, ◌^◌, arith, length, refl, subst, sym}
+use Rattle.std.proofs.Common.{◌≤◌, ◌∙◌, ◌^◌, ap, arith, length, refl, subst, sym}
 use Rattle.ocfl_tree.specs.Place.{Place}
 use Rattle.ocfl_scrub.specs.{Call.{call_of}, Passes.{IsPass, PassesOn}, Running.{limits_of}, Starting.{part_of}}
-use Rattle.ocfl_scrub.proofs.KeptRuns.{ended_pass, missed_whole, spent_pass, stopped_pass}
+use Rattle.ocfl_scrub.specs.declared.running.RunStatus.TheVariants as status
+use Rattle.ocfl_scrub.proofs.KeptRuns.{other_pass, spent_pass}
 use Rattle.ocfl_scrub.proofs.KeptTurns.{on_way_first, pass_is, way_ended, way_lost, way_missed, way_next, way_spent}
-use Rattle.ocfl_scrub.proofs.{LoopLaws.{goes_further, next_short, sets_out}, MeterLaws.{paid_start}}
-use Rattle.ocfl_scrub.proofs.PassLaws.{lines_then}
+use Rattle.ocfl_scrub.proofs.{LoopLaws.{next_short}, MeterLaws.{paid_start}}
+use Rattle.ocfl_scrub.proofs.{PassLaws.{lines_then}, TakeLaws.{nothing_written}}
 use Rattle.ocfl_scrub.proofs.RunTurns.{charged_item, not_within, within_both}
-use Rattle.ocfl_scrub.proofs.running.pass_on.Goals.{then-not-paid, else-not-paid+in-Err, else-not-paid+in-Ok+in-Ok-None, else-not-paid+in-Ok+in-Err-next_within}
+use Rattle.ocfl_scrub.proofs.running.pass_on.Goals.{then-not-paid, else-not-paid+in-Err, else-not-paid+in-Ok+in-Ok-next_within+in-None, else-not-paid+in-Ok+in-Err-next_within}
 use Rattle.ocfl_scrub.proofs.running.pass_on.Goals as goal
 
 pub loop-alloc-init : goal.loop-alloc-init
 loop-alloc-init g c =
     let meter = c.new-meter.ensures in
     record {
-      way = sets_out _ _ c.args.met.live;
+      lines = nothing_written _;
       short = c.requires.short;
       near = c.args.met.short;
       limits = meter.limits;
@@ -22,23 +23,23 @@ loop-alloc-init g c =
     }
 
 pub invariant_of-end : goal.invariant_of-end
-invariant_of-end g c = record { live = c.loop-alloc.invariant.way.live; short = c.loop-alloc.invariant.near }
+invariant_of-end g c = record { short = c.loop-alloc.invariant.near }
 
 pub loop-alloc-preserved : goal.loop-alloc-preserved
 loop-alloc-preserved g c =
     let i = c.loop-alloc.invariant in
-    let given = c.in-Ok-Some in
+    let given = c.in-Ok-next_within in
     let took = c.in-Ok.ensures in
     let may = c.pays-paid.ensures.paid c.if-not-paid.false in
     record {
-      way = goes_further _ i.way given.field-0-is given.ensures.goes_on _ _ _ took.lines c.either-found.ensures;
+      lines = lines_then _ _ _ _ _ _ i.lines took.lines c.either-found.ensures;
       short = subst (λ (p : Place). length p ≤ 255) (sym took.place) i.near;
-      near = next_short _ i.way given.field-0-is given.ensures.goes_on c.in-Ok-Some.next.place refl;
+      near = next_short _ _ c.in-Some.is given.ensures.goes_on c.in-Some.next.place refl;
       limits = c.charge.ensures.limits ∙ i.limits;
       paid = charged_item _ c.loop-alloc.meter _ _ _ _ i.limits i.paid took.cost may c.charge.ensures.spent c.charge.ensures.files;
       told = λ told root over short.
           way_next (part_of c.args.part.now) over (i.told told root over short) (λ h. within_both _ c.loop-alloc.meter i.limits (may h)) _ _ _ _ _ _ _ _ took.place c.charge.ensures.spent c.charge.ensures.files
-          c.either-found.ensures (λ u q. took.told told root u short q) _ i.way.live _ _ (given.ensures.told told root) _ given.field-0-is given.ensures.before;
+          c.either-found.ensures (λ u q. took.told told root u short q) _ _ _ (given.ensures.told told root) _ c.in-Some.is given.ensures.before;
     }
 
 pub returns-clause-any_store : goal.returns-clause-any_store
@@ -52,24 +53,22 @@ returns-clause-any_store g c =
     (elim c.if-not-paid.branch [
       | then-not-paid w ↦ let small = rw w.meter-is at fits in
           rw (w.out-is, w.last-is, w.meter-is, w.found-is, w.end-is)
-          (spent_pass _ _ c.args.limits _ _ _ _ i.short i.paid small _ i.way.lines)
+          (spent_pass _ _ c.args.limits _ _ _ _ i.short i.paid small _ i.lines)
       | else-not-paid+in-Err w ↦ let small = rw w.meter-is at fits in
           rw (w.out-is, w.last-is, w.meter-is, w.found-is, w.end-is)
-          (stopped_pass _ _ c.args.limits _ _ _ _ i.short i.paid small w.in-Err.why (missed_whole w.in-Err.why w.in-Err.ensures.only)
-          (λ n. rw (w.in-Err.ensures.unwritten n) i.way.lines))
-      | else-not-paid+in-Ok+in-Ok-None w ↦ let small = rw w.meter-is at fits in
+          (other_pass _ _ c.args.limits _ _ _ _ i.short i.paid small _ (λ e. cc) (λ e. cc) (λ n. rw (w.in-Err.ensures.unwritten (λ e. n (ap status.Stopped e))) i.lines))
+      | else-not-paid+in-Ok+in-Ok-next_within+in-None w ↦ let small = rw w.meter-is at fits in
           let took = w.in-Ok.ensures in
           rw (w.out-is, w.last-is, w.meter-is, w.found-is, w.end-is)
-          (ended_pass _ _ c.args.limits _ _ _ _ (subst (λ (p : Place). length p ≤ 255) (sym took.place) i.near)
+          (other_pass _ _ c.args.limits _ _ _ _ (subst (λ (p : Place). length p ≤ 255) (sym took.place) i.near)
           (charged_item _ c.loop-alloc.meter _ _ _ _ i.limits i.paid took.cost (c.pays-paid.ensures.paid w.if-not-paid.false) w.charge.ensures.spent w.charge.ensures.files) small
-          (lines_then _ _ _ _ _ _ i.way.lines took.lines w.either-found.ensures))
+          _ (λ e. cc) (λ e. cc) (λ n. lines_then _ _ _ _ _ _ i.lines took.lines w.either-found.ensures))
       | else-not-paid+in-Ok+in-Err-next_within w ↦ let small = rw w.meter-is at fits in
           let took = w.in-Ok.ensures in
           rw (w.out-is, w.last-is, w.meter-is, w.found-is, w.end-is)
-          (stopped_pass _ _ c.args.limits _ _ _ _ (subst (λ (p : Place). length p ≤ 255) (sym took.place) i.near)
+          (other_pass _ _ c.args.limits _ _ _ _ (subst (λ (p : Place). length p ≤ 255) (sym took.place) i.near)
           (charged_item _ c.loop-alloc.meter _ _ _ _ i.limits i.paid took.cost (c.pays-paid.ensures.paid w.if-not-paid.false) w.charge.ensures.spent w.charge.ensures.files) small
-          w.in-Err-next_within.why (w.in-Err-next_within.ensures.only i.way.live).1
-          (λ n. lines_then _ _ _ _ _ _ i.way.lines took.lines w.either-found.ensures))
+          _ (λ e. cc) (λ e. cc) (λ n. lines_then _ _ _ _ _ _ i.lines took.lines w.either-found.ensures))
     ])
 
 pub returns-clause-told : goal.returns-clause-told
@@ -87,12 +86,12 @@ returns-clause-told g c told root over short =
       | else-not-paid+in-Err w ↦
           rw (w.store-is, w.out-is, w.last-is, w.meter-is, w.found-is, w.end-is)
           (way_missed part over way (λ h. within_both _ c.loop-alloc.meter i.limits (c.pays-paid.ensures.paid w.if-not-paid.false h)) _ _ w.in-Err.why (λ u q. w.in-Err.ensures.told told root u short q))
-      | else-not-paid+in-Ok+in-Ok-None w ↦
+      | else-not-paid+in-Ok+in-Ok-next_within+in-None w ↦
           rw (w.store-is, w.out-is, w.last-is, w.meter-is, w.found-is, w.end-is)
           (way_ended part over way (λ h. within_both _ c.loop-alloc.meter i.limits (c.pays-paid.ensures.paid w.if-not-paid.false h)) _ _ _ _ _ _ _ _ w.in-Ok.ensures.place w.charge.ensures.spent w.charge.ensures.files
-          w.either-found.ensures (λ u q. w.in-Ok.ensures.told told root u short q) _ i.way.live w.next_within.new.self w.in-Ok-None.field-0 (w.in-Ok-None.ensures.told told root) w.in-Ok-None.field-0-is)
+          w.either-found.ensures (λ u q. w.in-Ok.ensures.told told root u short q) _ w.in-Ok-next_within.step.0 _ (w.in-Ok-next_within.ensures.told told root) w.in-None.is)
       | else-not-paid+in-Ok+in-Err-next_within w ↦
           rw (w.store-is, w.out-is, w.last-is, w.meter-is, w.found-is, w.end-is)
           (way_lost part over way (λ h. within_both _ c.loop-alloc.meter i.limits (c.pays-paid.ensures.paid w.if-not-paid.false h)) _ _ _ _ _ _ _ _ w.in-Ok.ensures.place w.charge.ensures.spent w.charge.ensures.files
-          w.either-found.ensures (λ u q. w.in-Ok.ensures.told told root u short q) _ i.way.live w.in-Err-next_within.why w.in-Err-next_within.ensures.only (w.in-Err-next_within.ensures.told told root))
+          w.either-found.ensures (λ u q. w.in-Ok.ensures.told told root u short q) _ w.in-Err-next_within.why (w.in-Err-next_within.ensures.told told root))
     ])

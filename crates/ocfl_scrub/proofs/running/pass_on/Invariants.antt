@@ -1,13 +1,13 @@
 use Rattle.std.proofs.Common.{◌≡◌, ◌≤◌, length}
 use Rattle.ocfl_walk.specs.Walks.{walk_size}
 use Rattle.ocfl_scrub.specs.{Call.{WhereTold}, Running.{limits_of, IsPaid}, Beginning.{IsShort}}
-use Rattle.ocfl_scrub.specs.Starting.{part_of}
-use Rattle.ocfl_scrub.proofs.{KeptTurns.{IsOnWay}, LoopLaws.{IsUnderWay}}
+use Rattle.ocfl_scrub.specs.{Starting.{part_of}, Taking.{WritesLines}}
+use Rattle.ocfl_scrub.proofs.KeptTurns.{IsOnWay}
 use Rattle.ocfl_scrub.proofs.running.pass_on.Given as goal
 
 abbrev pub invariant-loop-alloc : goal.invariant-loop-alloc
 invariant-loop-alloc g l = record {
-  way : IsUnderWay l.walk (g.W.Write.contents l.fn.out) (g.W.Write.contents l.out) l.found;
+  lines : WritesLines (g.W.Write.contents l.fn.out) (g.W.Write.contents l.out) l.found;
   short : IsShort l.last;
   near : length l.item.place ≤ 255;
   limits : l.meter.limits ≡ l.fn.limits;

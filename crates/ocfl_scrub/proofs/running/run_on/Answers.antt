@@ -9,7 +9,6 @@ pub returns-in-Err-clause-any_store : goal.returns-in-Err-clause-any_store
 returns-in-Err-clause-any_store g c =
     let worn = c.in-Err.ensures.worn in
     record {
-      unbroken = λ e. cc;
       worn = (λ e. worn.0, λ e. refl);
       worn_cursor = λ e. worn.1;
       worn_figures = λ e. (refl, refl, refl);

@@ -8,7 +8,7 @@ use crate::tests::common::store::listed_from;
 use ocfl_cursor::Cursor;
 use ocfl_digest::Block;
 use ocfl_memory::MemTree;
-use ocfl_scrub::{CycleEnd, CycleStatus, cycle, run};
+use ocfl_scrub::{CycleEnd, CycleStatus, ReportStop, cycle, run};
 use ocfl_walk::Fault;
 use std::alloc::Global;
 use std::test::Fail;
@@ -75,7 +75,7 @@ fn expect_cut_cycle(
     let row = format!(in rt.alloc(); "root {number}, budget {budget}, after {room} bytes")?;
     let each = equal_limits(rt.alloc(), 9, budget, MOST)?;
     let stopped = cycle_into(rt.alloc(), &mut root.store, each.as_slice(), &mut out)?;
-    let is_cut = matches!(stopped.end, CycleStatus::Stopped(Fault::Output));
+    let is_cut = matches!(stopped.end, CycleStatus::Stopped(ReportStop::Output));
     assert!(rt; is_cut, "{row}");
     assert!(rt; root.begins_with(out.kept.as_slice(), room), "{row}");
     let (_, left) = due_of(root.all.as_str(), room)?;
@@ -125,7 +125,10 @@ fn expect_failing_cycle(
     let ended = cycle(alloc, &mut store, each.as_slice(), &mut block, &mut out);
     let text = String::from_utf8(out)?;
     let begun = runs_begun(alloc, &store)?;
-    if matches!(ended.end, CycleStatus::Stopped(Fault::Store(_))) {
+    if matches!(
+        ended.end,
+        CycleStatus::Stopped(ReportStop::Fault(Fault::Store(_)))
+    ) {
         assert!(rt; root.all.starts_with(text.as_str()), "{row}");
         let whole = items_in(text.as_str());
         let least = if whole == 0 { 1 } else { taken[whole - 1] };

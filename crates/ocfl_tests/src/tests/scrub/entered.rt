@@ -19,7 +19,7 @@ struct Passage {
 fn said(fault: Fault) -> Fail {
     match fault {
         Fault::Store(_) => "the store fails".into(),
-        _ => "no store fails".into(),
+        Fault::Memory => "no store fails".into(),
     }
 }
 
@@ -33,9 +33,10 @@ fn items_above(
     let mut items: Vec<Passage> = Vec::new(alloc);
     let mut walk = Walk::start(alloc, store, after).map_err(said)?;
     for _ in 0..1_000 {
-        let Some(pending) = walk.next(store).map_err(said)? else {
+        let (further, Some(pending)) = walk.next(store).map_err(said)? else {
             return Ok(items);
         };
+        walk = further;
         let before = match items.last() {
             Some(item) => Some(&item.place),
             None => after,
@@ -43,7 +44,7 @@ fn items_above(
         if before.is_some_and(|place| pending.place() <= place) {
             return Err("an item is not above the one before".into());
         }
-        let (lines, _) = judge(alloc, store, pending, block).map_err(said)?;
+        let (lines, _) = judge(alloc, store, pending, block)?;
         let piece = lines.into_piece(alloc)?;
         items.push(Passage {
             place: piece.place,

@@ -5,7 +5,7 @@ use crate::tests::common::Runtime;
 use ocfl_cursor::Cursor;
 use ocfl_digest::Block;
 use ocfl_memory::Point;
-use ocfl_scrub::{RunEnd, RunStatus, run};
+use ocfl_scrub::{ReportStop, RunEnd, RunStatus, run};
 use ocfl_tree::{Opening, Place, Tree};
 use ocfl_walk::Fault;
 use std::alloc::Global;
@@ -96,7 +96,7 @@ fn expect_fault(
     let got = ran(alloc, &mut store, Cursor::new())?;
     assert_eq!(rt; store.failures(), 1, "{what}");
     match &got.end.end {
-        RunStatus::Stopped(Fault::Store(failed)) => {
+        RunStatus::Stopped(ReportStop::Fault(Fault::Store(failed))) => {
             assert!(rt; failed == place, "{what}");
             expect_rest(rt, number, all, got, what.as_str())
         }
@@ -177,7 +177,7 @@ pub(crate) fn expect_dropped(rt: &impl Runtime, root: &mut Tried, room: usize) -
         &mut block,
         &mut out,
     );
-    let is_cut = matches!(end.end, RunStatus::Stopped(Fault::Output));
+    let is_cut = matches!(end.end, RunStatus::Stopped(ReportStop::Output));
     assert_eq!(rt; is_cut, room < root.all.len(), "{row}");
     assert!(rt; root.begins_with(out.kept.as_slice(), room), "{row}");
     if is_cut {

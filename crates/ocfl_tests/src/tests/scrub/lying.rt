@@ -10,7 +10,7 @@ use ocfl_cursor::Cursor;
 use ocfl_digest::Block;
 use ocfl_memory::MemTree;
 use ocfl_report::read_place;
-use ocfl_scrub::{RunEnd, RunStatus, run};
+use ocfl_scrub::{ReportStop, RunEnd, RunStatus, run};
 use ocfl_tree::{Entry, Place, Tree, Trouble};
 use ocfl_walk::Fault;
 use std::test::Fail;
@@ -185,7 +185,10 @@ fn memory_that_a_call_of_the_store_lacks(rt: HostRuntime) -> Result<(), Fail> {
                 assert_eq!(rt; got.text.as_str(), all.as_str(), "{what}");
                 break;
             }
-            let is_told = matches!(got.end.end, RunStatus::Stopped(Fault::Memory));
+            let is_told = matches!(
+                got.end.end,
+                RunStatus::Stopped(ReportStop::Fault(Fault::Memory))
+            );
             assert!(rt; is_told, "{what}");
             expect_rest(&rt, number, all.as_str(), got, what.as_str())?;
         }

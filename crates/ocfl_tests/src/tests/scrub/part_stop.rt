@@ -8,8 +8,8 @@ use ocfl_cursor::{Cursor, State};
 use ocfl_digest::Block;
 use ocfl_memory::MemTree;
 use ocfl_scrub::{
-    AuditEnd, AuditStatus, CycleEnd, CycleStatus, Part, RunEnd, RunStatus, audit_part, cycle_part,
-    run_part,
+    AuditEnd, AuditStatus, CycleEnd, CycleStatus, Part, ReportStop, RunEnd, RunStatus, audit_part,
+    cycle_part, run_part,
 };
 use ocfl_walk::Fault;
 use std::alloc::Global;
@@ -104,7 +104,10 @@ fn try_audit(alloc: Global, store: &mut MemTree, part: &Part) -> Result<Ending, 
         Some(place) => cursor_of(1, 0, State::After(place))?,
         None => Cursor::new(),
     };
-    let stopped = matches!(end, AuditStatus::Stopped(Fault::Store(_)));
+    let stopped = matches!(
+        end,
+        AuditStatus::Stopped(ReportStop::Fault(Fault::Store(_)))
+    );
     let ends = (stopped, matches!(end, AuditStatus::Ended));
     ending_of(out, ends, cursor, false, found)
 }
@@ -113,7 +116,10 @@ fn try_run(alloc: Global, store: &mut MemTree, part: &Part) -> Result<Ending, Fa
     let (mut block, mut out) = (Block::new(alloc)?, Vec::new(alloc));
     let (start, most) = (Cursor::new(), limits(MOST, MOST)?);
     let made = run_part(alloc, store, part, start, most, &mut block, &mut out);
-    let stopped = matches!(made.end, RunStatus::Stopped(Fault::Store(_)));
+    let stopped = matches!(
+        made.end,
+        RunStatus::Stopped(ReportStop::Fault(Fault::Store(_)))
+    );
     let (ends, found) = ((stopped, matches!(made.end, RunStatus::Ended)), made.found);
     let RunEnd { cursor, .. } = made;
     ending_of(out, ends, cursor, true, found)
@@ -123,7 +129,10 @@ fn try_cycle(alloc: Global, store: &mut MemTree, part: &Part) -> Result<Ending, 
     let (mut block, mut out) = (Block::new(alloc)?, Vec::new(alloc));
     let each = equal_limits(alloc, 9, MOST, 1)?;
     let made = cycle_part(alloc, store, part, each.as_slice(), &mut block, &mut out);
-    let stopped = matches!(made.end, CycleStatus::Stopped(Fault::Store(_)));
+    let stopped = matches!(
+        made.end,
+        CycleStatus::Stopped(ReportStop::Fault(Fault::Store(_)))
+    );
     let (ends, found) = (
         (stopped, matches!(made.end, CycleStatus::Ended)),
         made.found,

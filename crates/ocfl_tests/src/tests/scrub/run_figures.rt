@@ -6,7 +6,7 @@ use crate::tests::common::store::place_of;
 use ocfl_cursor::{Budget, Cursor, FileLimit, Limits, State};
 use ocfl_digest::Block;
 use ocfl_report::DisplayPlace;
-use ocfl_scrub::{CycleEnd, CycleStatus, RunEnd, RunStatus, cycle, run};
+use ocfl_scrub::{CycleEnd, CycleStatus, ReportStop, RunEnd, RunStatus, cycle, run};
 use ocfl_tree::Tree;
 use ocfl_walk::Fault;
 use std::alloc::Global;
@@ -64,12 +64,14 @@ pub(crate) fn cursor_of(cycle: u64, runs: u64, state: State) -> Result<Cursor, F
     Ok(Cursor::from_parts(cycle, runs, 0, 0, state).ok_or("no cursor")?)
 }
 
-pub(crate) fn why_says(alloc: Global, why: &Fault) -> Result<String, Fail> {
+pub(crate) fn why_says(alloc: Global, why: &ReportStop) -> Result<String, Fail> {
     match why {
-        Fault::Store(place) => Ok(format!(in alloc; "stopped at {}", DisplayPlace(place))?),
-        Fault::Memory => Ok(format!(in alloc; "out of memory")?),
-        Fault::Output => Ok(format!(in alloc; "output failed")?),
-        Fault::Broken => Ok(format!(in alloc; "broken")?),
+        ReportStop::Fault(Fault::Store(place)) => Ok(format!(in alloc;
+            "stopped at {}",
+            DisplayPlace(place)
+        )?),
+        ReportStop::Fault(Fault::Memory) => Ok(format!(in alloc; "out of memory")?),
+        ReportStop::Output => Ok(format!(in alloc; "output failed")?),
     }
 }
 

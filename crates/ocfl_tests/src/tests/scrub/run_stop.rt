@@ -9,7 +9,7 @@ use crate::tests::common::store::place_of;
 use ocfl_cursor::{Cursor, State};
 use ocfl_digest::Block;
 use ocfl_memory::{MemTree, Point};
-use ocfl_scrub::{RunEnd, RunStatus, run};
+use ocfl_scrub::{ReportStop, RunEnd, RunStatus, run};
 use ocfl_walk::Fault;
 use std::alloc::Global;
 use std::test::Fail;
@@ -85,11 +85,11 @@ fn is_last(end: &RunStatus) -> bool {
 }
 
 fn is_at_a_place(end: &RunStatus) -> bool {
-    matches!(end, RunStatus::Stopped(Fault::Store(_)))
+    matches!(end, RunStatus::Stopped(ReportStop::Fault(Fault::Store(_))))
 }
 
 fn is_cut(end: &RunStatus) -> bool {
-    matches!(end, RunStatus::Stopped(Fault::Output))
+    matches!(end, RunStatus::Stopped(ReportStop::Output))
 }
 
 /// Makes runs from the first item on until none is left, also after a stop, and joins what they

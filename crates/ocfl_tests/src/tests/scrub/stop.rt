@@ -13,9 +13,8 @@ use crate::tests::common::store::place_of;
 use ocfl_cursor::Cursor;
 use ocfl_digest::Block;
 use ocfl_memory::{MemTree, Point};
-use ocfl_scrub::{AuditStatus, audit, audited};
+use ocfl_scrub::{AuditStatus, ReportStop, audit, audited};
 use ocfl_tree::Place;
-use ocfl_walk::Fault;
 use std::alloc::Global;
 use std::test::Fail;
 
@@ -101,7 +100,7 @@ fn place_of_the_last_item(rt: HostRuntime) -> Result<(), Fail> {
     assert!(rt; ended.last == Some(place_of(alloc, "o/v1/content/f")?));
     let mut out = Narrow::new(alloc, 10);
     let stopped = audit(alloc, &mut store, &mut block, &mut out);
-    assert!(rt; matches!(stopped.end, AuditStatus::Stopped(Fault::Output)));
+    assert!(rt; matches!(stopped.end, AuditStatus::Stopped(ReportStop::Output)));
     assert!(rt; stopped.last == Some(Place::root(alloc)));
     assert!(rt; out.kept.as_slice() == b"ok\t.\t-\nok\t".as_slice());
     Ok(())

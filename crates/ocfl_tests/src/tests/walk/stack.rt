@@ -9,13 +9,14 @@ use ocfl_walk::Walk;
 use std::alloc::Global;
 use std::test::Fail;
 
-/// The path of the next item; a dash if there are no more.
-pub(crate) fn step(alloc: Global, store: &mut MemTree, walk: &mut Walk) -> Result<String, Fail> {
-    let text = match &walk.next(store).map_err(said)? {
+/// The walk after its next item, and that item's path; a dash if there are no more.
+pub(crate) fn step(alloc: Global, store: &mut MemTree, walk: Walk) -> Result<(Walk, String), Fail> {
+    let (walk, item) = walk.next(store).map_err(said)?;
+    let text = match &item {
         Some(pending) => String::from_str(alloc, pending.place().path())?,
         None => String::from_str(alloc, "-")?,
     };
-    Ok(text)
+    Ok((walk, text))
 }
 
 /// The path of an item, a dash if there are no more, and all directories that were listed when
@@ -32,7 +33,8 @@ pub(crate) fn expect_steps(
 ) -> Result<(), Fail> {
     let mut walk = start(rt.alloc(), store, place)?;
     for (item, listings) in steps {
-        let path = step(rt.alloc(), store, &mut walk)?;
+        let (further, path) = step(rt.alloc(), store, walk)?;
+        walk = further;
         assert_eq!(rt; path.as_str(), *item, "at {place}");
         expect_listed(rt, place, store, listings)?;
     }
@@ -108,7 +110,8 @@ fn one_inventory_for_the_place_of_entry(rt: HostRuntime) -> Result<(), Fail> {
         let mut store = missing_and_there(rt.alloc())?;
         let mut walk = entered(rt.alloc(), &mut store, after)?;
         for _ in 0..4 {
-            step(rt.alloc(), &mut store, &mut walk)?;
+            let (further, _) = step(rt.alloc(), &mut store, walk)?;
+            walk = further;
         }
         expect_inventories(&rt, &store, opened)?;
     }
@@ -309,7 +312,8 @@ fn object_inside_a_content_directory(rt: HostRuntime) -> Result<(), Fail> {
     expect_after(&rt, &mut store, &[("o/v1/content/q", q)])?;
     let mut store = right_objects(rt.alloc(), &["o1", "o2", "o3"])?;
     put_object(rt.alloc(), &mut store, "o1/v1/content/q", "{}")?;
-    let mut walk = entered(rt.alloc(), &mut store, "o1/v1/content/q/v1")?;
-    assert_eq!(rt; step(rt.alloc(), &mut store, &mut walk)?.as_str(), "o2");
+    let walk = entered(rt.alloc(), &mut store, "o1/v1/content/q/v1")?;
+    let (_, path) = step(rt.alloc(), &mut store, walk)?;
+    assert_eq!(rt; path.as_str(), "o2");
     expect_inventories(&rt, &store, "o1/inventory.json;o2/inventory.json;")
 }

@@ -137,6 +137,7 @@ on_ok (Err e) ok p = absurd (cc ok)
 pub ok_inj : {T E : Type 0} (x y : T) (r : Result T E) → r ≡ Ok x → r ≡ Ok y → x ≡ y
 ok_inj x y r a b = cc (a, b)
 
-pub is_err : {T E : Type 0} {Q : E → Type 0} (r : Result T E) → IsErrAnd r Q → IsErr r
-is_err (Ok x) h = absurd h
-is_err (Err e) h = refl
+-- what the exit of a `?` returns is no value
+pub is_err : {T E : Type 0} (Q : E → Type 0) (r : Result T E) → IsErrAnd r Q → IsErr r
+is_err Q (Ok x) h = absurd h
+is_err Q (Err e) h = refl

@@ -7,14 +7,14 @@ ghost use Rattle.ocfl_scrub.specs.{Keeping.{IsReady as IsWalkReady}, Running.{pl
 ghost use Rattle.ocfl_scrub.specs.Starting.{part_of};
 ghost use Rattle.ocfl_scrub.specs.declared.running.RunStatus.TheVariants as run;
 ghost use Rattle.ocfl_scrub.specs.declared.stop.ReportStop.TheVariants.{Output};
-ghost use Rattle.ocfl_state.specs.{Content.{with_report}, Crash.{LeavesOnly, Only, Passes}};
+ghost use Rattle.ocfl_state.specs.{Content.{with_report}, Crash.{LeavesOnly, MayTear, Only, Passes}};
 ghost use Rattle.ocfl_state.specs.Pieces.{summary_of};
 ghost use Rattle.ocfl_state.specs.declared.checkpoint_parts.ReportMark.{ReportMark as ModelMark};
 ghost use Rattle.ocfl_state.specs.declared.checkpoint_parts.Phase.TheVariants.{Closing, Open};
 ghost use Rattle.ocfl_night.specs.Chain.{part_after};
 ghost use Rattle.ocfl_night.specs.Ending.{IsAway, IsMadeBy, IsSlice, IsUnkept, KeepsTo, lost_by, slice_end};
 ghost use Rattle.ocfl_night.specs.{Site.{IsStill}, Sound.{IsReady, IsSoundAt}};
-ghost use Rattle.ocfl_night.specs.Steps.{IsNext, IsRun, IsWalkAt, KeepsFront};
+ghost use Rattle.ocfl_night.specs.Steps.{IsNext, IsRun, IsWalkAt};
 
 use crate::checkpoint::{cursor_of, put_checkpoint, report_of};
 use crate::leaving::part_past;
@@ -80,7 +80,6 @@ fn make_run<T: Tree>(
 
 /// Appends the lines of a run to the report, of which a checkpoint keeps a mark, and brings them to
 /// the disk. Gives the mark of what it is then.
-#[tactic(auto, using(crate::proofs::Moments::torn_less))]
 fn extend<S: StateFolder>(
     folder: &mut S,
     mark: &ReportMark,
@@ -93,7 +92,8 @@ fn extend<S: StateFolder>(
     ensures only { IsTrue S.told → OnOk result
         (Only (S.seen folder.new) (S.may_leave folder.new)) }
     ensures crash { IsTrue S.told → Passes S.may_leave S.moment S.left_since
-        (KeepsFront (length (S.seen folder.old).report)) folder.old folder.new }
+        (MayTear (length (S.seen folder.old).report)
+        (length ((S.seen folder.old).report ++ lines.now))) folder.old folder.new }
 {
     let next = append_marked(folder, mark, lines)?;
     folder.sync()?;

@@ -1,4 +1,4 @@
-use Rattle.std.proofs.Common.{◌∙◌, ap, sym}
+use Rattle.std.proofs.{Common.{◌∙◌, ap, sym}, lemmas.Result.{err_from_is_err_and}}
 use Rattle.ocfl_state.specs.Checkpoint.{Checkpoint}
 use Rattle.ocfl_night.proofs.Moments.{joined_moments, leaves_weaker}
 use Rattle.ocfl_night.proofs.Heard.{found_heard, grew_none, is_err, since_found}
@@ -28,10 +28,15 @@ returns-clause-all g c =
     ap (λ (x : Checkpoint). x.told) is ∙ sym (ap (λ (x : Checkpoint). x.report.bytes) is)
 
 pub returns-in_err-opened-clause-foreign : goal.returns-in_err-opened-clause-foreign
-returns-in_err-opened-clause-foreign g c = λ told k at foreign. (is_err c.from_residual.result c.from_residual.ensures.1, (c.open.ensures.foreign told k at foreign).1)
+returns-in_err-opened-clause-foreign g c = λ told k at foreign. (is_err _ c.from_residual.result c.from_residual.ensures.1, (c.open.ensures.foreign told k at foreign).1)
 
 pub returns-in_err-speak-clause-foreign : goal.returns-in_err-speak-clause-foreign
 returns-in_err-speak-clause-foreign g c = λ told k at foreign. absurd (cc (c.in_ok-opened.ensures.foreign told k at foreign).0)
 
 pub returns-clause-foreign : goal.returns-clause-foreign
 returns-clause-foreign g c = λ told k at foreign. absurd (cc (c.in_ok-opened.ensures.foreign told k at foreign).0)
+
+pub returns-in_err-opened-clause-rightly : goal.returns-in_err-opened-clause-rightly
+returns-in_err-opened-clause-rightly g c = λ told why is.
+    let p = err_from_is_err_and c.from_residual.result c.from_residual.ensures.1 in
+    c.in_err-opened.ensures.rightly told why (cc (p.1, p.2, is))

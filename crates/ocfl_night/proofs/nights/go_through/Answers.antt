@@ -1,4 +1,4 @@
-use Rattle.std.proofs.Common.{◌∙◌, ◌++◌, List, Ok, ap, refl, subst}
+use Rattle.std.proofs.{Common.{◌∙◌, ◌++◌, List, Ok, ap, refl, subst}, lemmas.Result.{err_from_is_err_and}}
 use Rattle.ocfl_audit.specs.Parts.{Part}
 use Rattle.ocfl_state.specs.Content.{Closed}
 use Rattle.ocfl_night.specs.{Site.{part_at}, Sound.{IsOneMore}}
@@ -42,10 +42,15 @@ returns-clause-said g c = λ told tells root over short kept.
     c.in_ok-halt.ensures.said told tells root (c.set_out.ensures.root tells ∙ over) short (r.t ++ r.heard.more) (ready_since c.in_ok-begun.ensures.part r)
 
 pub returns-in_err-begun-clause-barred : goal.returns-in_err-begun-clause-barred
-returns-in_err-begun-clause-barred g c = λ told barred. (is_err c.from_residual.result c.from_residual.ensures.1, (c.set_out.ensures.barred told barred).1)
+returns-in_err-begun-clause-barred g c = λ told barred. (is_err _ c.from_residual.result c.from_residual.ensures.1, (c.set_out.ensures.barred told barred).1)
 
 pub returns-in_err-halt-clause-barred : goal.returns-in_err-halt-clause-barred
 returns-in_err-halt-clause-barred g c = λ told barred. absurd (cc (c.in_ok-begun.ensures.barred told barred).0)
 
 pub returns-clause-barred : goal.returns-clause-barred
 returns-clause-barred g c = λ told barred. absurd (cc (c.in_ok-begun.ensures.barred told barred).0)
+
+pub returns-in_err-begun-clause-rightly : goal.returns-in_err-begun-clause-rightly
+returns-in_err-begun-clause-rightly g c = λ told why is.
+    let p = err_from_is_err_and c.from_residual.result c.from_residual.ensures.1 in
+    c.in_err-begun.ensures.rightly told why (cc (p.1, p.2, is))

@@ -45,3 +45,7 @@ returns-clause-none_left g c = λ strict.
 pub returns-clause-ends : goal.returns-clause-ends
 returns-clause-ends g c =
     subst (λ (left : Vec Place Global). All (λ b. IsTrue (has_end b)) left.items) (sym c.account.ensures.left) (c.go_through-through.ensures.left (c.none-tally.ensures.left c.args.plan.now.stop_at_faults)).ends
+
+pub returns-clause-rightly : goal.returns-clause-rightly
+returns-clause-rightly g c = λ told why is.
+    ⊎_elim (λ err. c.go_through-through.ensures.rightly told why err) (λ ok. absurd (c.go_through-through.ensures.unrefused why ok)) (c.account.ensures.refused why is)

@@ -1,3 +1,5 @@
+use Rattle.std.proofs.lemmas.Result.{err_from_is_err_and}
+use Rattle.ocfl_night.specs.Refusing.{in_folder}
 use Rattle.ocfl_night.proofs.{Moments.{untouched}, Foreigners.{barred_by}}
 use Rattle.ocfl_night.proofs.Heard.{begun_heard, grew_none, is_err}
 use Rattle.ocfl_night.proofs.nights.set_out.Goals as goal
@@ -15,17 +17,22 @@ pub returns-in_err-identity-clause-grew : goal.returns-in_err-identity-clause-gr
 returns-in_err-identity-clause-grew g c = grew_none _
 
 pub returns-in_err-part-clause-barred : goal.returns-in_err-part-clause-barred
-returns-in_err-part-clause-barred g c = λ told barred. (is_err c.from_residual.result c.from_residual.ensures.1, untouched)
+returns-in_err-part-clause-barred g c = λ told barred. (is_err _ c.from_residual.result c.from_residual.ensures.1, untouched)
 
 pub returns-in_err-identity-clause-barred : goal.returns-in_err-identity-clause-barred
-returns-in_err-identity-clause-barred g c = λ told barred. (is_err c.from_residual.result c.from_residual.ensures.1, untouched)
+returns-in_err-identity-clause-barred g c = λ told barred. (is_err _ c.from_residual-in_err-identity.result c.from_residual-in_err-identity.ensures.1, untouched)
 
 pub returns-in_err-checkpoint-clause-barred : goal.returns-in_err-checkpoint-clause-barred
 returns-in_err-checkpoint-clause-barred g c = λ told barred.
     let k = barred_by c.in_ok-identity.identity c.in_ok-identity.ensures.told c.in_ok-identity.ensures.declares barred in
-    (is_err c.from_residual.result c.from_residual.ensures.1, (c.catch_up.ensures.foreign told k.0 k.1.0 k.1.1).1)
+    (is_err _ c.from_residual-in_err-checkpoint.result c.from_residual-in_err-checkpoint.ensures.1, (c.catch_up.ensures.foreign told k.0 k.1.0 k.1.1).1)
 
 pub returns-clause-barred : goal.returns-clause-barred
 returns-clause-barred g c = λ told barred.
     let k = barred_by c.in_ok-identity.identity c.in_ok-identity.ensures.told c.in_ok-identity.ensures.declares barred in
     absurd (cc (c.in_ok-checkpoint.ensures.foreign told k.0 k.1.0 k.1.1).0)
+
+pub returns-in_err-checkpoint-clause-rightly : goal.returns-in_err-checkpoint-clause-rightly
+returns-in_err-checkpoint-clause-rightly g c = λ told why is.
+    let p = err_from_is_err_and c.from_residual-in_err-checkpoint.result c.from_residual-in_err-checkpoint.ensures.1 in
+    in_folder c.in_ok-identity.identity c.in_ok-identity.ensures.told (c.in_err-checkpoint.ensures.rightly told why (cc (p.1, p.2, is)))

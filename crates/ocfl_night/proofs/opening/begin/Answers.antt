@@ -14,3 +14,6 @@ returns-in_err-put_first-clause-any_moment g c = λ told part only none new.
 pub returns-clause-ready : goal.returns-clause-ready
 returns-clause-ready g c = λ told part only new.
     c.in_ok-put_first.ensures.ready told part (c.is_new.ensures.only told only) (subst (IsNew []) (sym (c.is_new.ensures.seen told)) new)
+
+pub returns-then-not-branch-clause-rightly : goal.returns-then-not-branch-clause-rightly
+returns-then-not-branch-clause-rightly g c = λ told why is. (cc is, c.in_ok-is_new.ensures.reports told c.if-not-branch.true)

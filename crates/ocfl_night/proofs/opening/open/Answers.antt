@@ -1,6 +1,6 @@
-use Rattle.std.proofs.{Common.{◌∙◌, [], ap, sym, subst}, lemmas.Result.{IfOk-weaker}}
+use Rattle.std.proofs.{Common.{◌≡◌, ◌∙◌, [], ap, sym, subst}, lemmas.Result.{IfOk-weaker, err_from_is_err_and}}
 use Rattle.ocfl_state.specs.{Checkpoint.{Checkpoint}, Content.{Content}}
-use Rattle.ocfl_night.specs.{Sound.{IsNew}, Steps.{IsLost}}
+use Rattle.ocfl_night.specs.{Refusing.{IsDisowned, not_own}, Sound.{IsNew}, Steps.{IsLost}}
 use Rattle.ocfl_night.proofs.{Foreigners.{at_once, own_at}, Moments.{unchanged}, Heard.{is_err, kept_found}}
 use Rattle.ocfl_night.proofs.Sound.{sound_new}
 use Rattle.ocfl_night.proofs.TakingUp.{found_on, found_ready, none_found, same_found, shown_new, some_found, taken_moments, taken_ready}
@@ -42,13 +42,13 @@ returns-in-None-clause-ready g c = λ told part kept.
     (c.create.ensures.ready told part (c.in_ok-look.ensures.only told) (subst (IsNew []) (sym (c.look.ensures.seen told)) new))
 
 pub returns-in_err-look-clause-foreign : goal.returns-in_err-look-clause-foreign
-returns-in_err-look-clause-foreign g c = λ told k at foreign. (is_err c.from_residual.result c.from_residual.ensures.1, record { same = c.look.ensures.seen told; crash = c.look.ensures.crash told })
+returns-in_err-look-clause-foreign g c = λ told k at foreign. (is_err _ c.from_residual.result c.from_residual.ensures.1, record { same = c.look.ensures.seen told; crash = c.look.ensures.crash told })
 
 pub returns-in-None-clause-foreign : goal.returns-in-None-clause-foreign
 returns-in-None-clause-foreign g c = λ told k at foreign. let none = none_found (g.S.StateFolder.seen c.args.folder.now) (c.in_ok-look.ensures.value told) c.in-None.is in absurd (cc (none, at.is))
 
 pub returns-in_err-checkpoint-in-Some-clause-foreign : goal.returns-in_err-checkpoint-in-Some-clause-foreign
-returns-in_err-checkpoint-in-Some-clause-foreign g c = λ told k at foreign. (is_err c.from_residual.result c.from_residual.ensures.1, record { same = c.look.ensures.seen told; crash = c.look.ensures.crash told })
+returns-in_err-checkpoint-in-Some-clause-foreign g c = λ told k at foreign. (is_err _ c.from_residual-in_err-checkpoint-in-Some.result c.from_residual-in_err-checkpoint-in-Some.ensures.1, record { same = c.look.ensures.seen told; crash = c.look.ensures.crash told })
 
 pub returns-in_err-resume-in-Some-clause-foreign : goal.returns-in_err-resume-in-Some-clause-foreign
 returns-in_err-resume-in-Some-clause-foreign g c = λ told k at foreign.
@@ -65,3 +65,13 @@ pub returns-in_ok-resume-in-Some-clause-lost : goal.returns-in_ok-resume-in-Some
 returns-in_ok-resume-in-Some-clause-lost g c = λ told k at lost.
     let is = c.in_ok-checkpoint-in-Some.ensures.same ∙ at_once (some_found (c.in_ok-look.ensures.value told) c.in-Some.is) at in
     c.in_ok-resume-in-Some.ensures.lost told (subst (λ (x : Content). IsLost c.in_ok-checkpoint-in-Some.checkpoint x) (sym (c.look.ensures.seen told)) (subst (λ (x : Checkpoint). IsLost x (g.S.StateFolder.seen c.args.folder.now)) (sym is) lost))
+
+pub returns-in_err-look-clause-any_moment : goal.returns-in_err-look-clause-any_moment
+returns-in_err-look-clause-any_moment g c = λ told part kept. unchanged (g.met.S.StateFolder.only_now told) (λ x n. kept_found kept n) (c.look.ensures.crash told)
+
+pub returns-in_err-checkpoint-in-Some-clause-rightly : goal.returns-in_err-checkpoint-in-Some-clause-rightly
+returns-in_err-checkpoint-in-Some-clause-rightly g c = λ told why is.
+    let p = err_from_is_err_and c.from_residual-in_err-checkpoint-in-Some.result c.from_residual-in_err-checkpoint-in-Some.ensures.1 in
+    let given = c.in_err-checkpoint-in-Some.field-0.0 in
+    let same : given ≡ why = cc (p.1, p.2, is) in
+    not_own c.in-Some.found (some_found (c.in_ok-look.ensures.value told) c.in-Some.is) (subst (λ w. IsDisowned c.args.site.now c.args.identity.now c.args.plan.now.force_root c.in-Some.found w) same c.in_err-checkpoint-in-Some.ensures.rightly)

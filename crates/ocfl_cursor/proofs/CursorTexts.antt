@@ -8,8 +8,8 @@ use Rattle.ocfl_report.specs.Text.{place_text}
 use Rattle.ocfl_report.proofs.{PlaceTexts.{place_text_determines}, Numbers.{wide}}
 use Rattle.ocfl_cursor.specs.Cursor.{State, start, behind, ended, Cursor, IsShortPlace, IsCursor, number_line, state_text, cursor_lines, cursor_body, digest_line, cursor_text, version_one_body, version_one_text}
 use Rattle.ocfl_cursor.specs.Internal.Body.{version_line, files_line, FilesFit, counts_text, CountsFit, IsStateLine, AreLinesOf, IsBodyOf}
-use Rattle.ocfl_cursor.specs.{Refusal.{IsTextOf}, declared.form.Version.{Version}}
-use Rattle.ocfl_cursor.specs.declared.form.Version.TheVariants.{One, Two}
+use Rattle.ocfl_cursor.specs.{Refusal.{IsTextOf}, declared.form.FormVersion.{FormVersion}}
+use Rattle.ocfl_cursor.specs.declared.form.FormVersion.TheVariants.{One, Two}
 use Rattle.ocfl_cursor.proofs.{Numbers.{number_line_determines}, Paths.{length-place_text}}
 use Rattle.ocfl_cursor.proofs.Seals.{length-sealed, sealed_determines}
 
@@ -20,7 +20,7 @@ versions_differ : (a b : Text) → codes "ocfl-scrub cursor 1\n" ++ a ≡ codes 
 versions_differ a b e = eqb-false 49 50 refl (ap (λ t. get_or t 18 0) e)
 
 -- the version is the same if texts begin with its line, and so is what follows
-pub version_line_determines : (v w : Version) (r s : Text) → version_line v ++ r ≡ version_line w ++ s → (v ≡ w) × (r ≡ s)
+pub version_line_determines : (v w : FormVersion) (r s : Text) → version_line v ++ r ≡ version_line w ++ s → (v ≡ w) × (r ≡ s)
 version_line_determines One One r s e = (refl, append_cancel_left (codes "ocfl-scrub cursor 1\n") _ _ e)
 version_line_determines One Two r s e = absurd (versions_differ r s e)
 version_line_determines Two One r s e = absurd (versions_differ s r (sym e))
@@ -28,44 +28,44 @@ version_line_determines Two Two r s e = (refl, append_cancel_left (codes "ocfl-s
 
 -- a text without either line has none
 pub no_version_line : (body : Text) → ((r : Text) → body ≡ codes "ocfl-scrub cursor 2\n" ++ r → ⊥)
-    → ((r : Text) → body ≡ codes "ocfl-scrub cursor 1\n" ++ r → ⊥) → (v : Version) (r : Text) → body ≡ version_line v ++ r → ⊥
+    → ((r : Text) → body ≡ codes "ocfl-scrub cursor 1\n" ++ r → ⊥) → (v : FormVersion) (r : Text) → body ≡ version_line v ++ r → ⊥
 no_version_line body two one One r e = one r e
 no_version_line body two one Two r e = two r e
 
 -- ---- the line of the files
 
-wide_files : (v : Version) (f : ℕ) → FilesFit v f → f < 2 ^ 128
+wide_files : (v : FormVersion) (f : ℕ) → FilesFit v f → f < 2 ^ 128
 wide_files One f h = omega (arith, h)
 wide_files Two f h = h
 
 -- numbers of files are the same if texts begin with their lines, and so is what follows them
-files_line_determines : (v : Version) (f g : ℕ) (r s : Text) → FilesFit v f → FilesFit v g → files_line v f ++ r ≡ files_line v g ++ s → (f ≡ g) × (r ≡ s)
+files_line_determines : (v : FormVersion) (f g : ℕ) (r s : Text) → FilesFit v f → FilesFit v g → files_line v f ++ r ≡ files_line v g ++ s → (f ≡ g) × (r ≡ s)
 files_line_determines One f g r s h k e = (h ∙ sym k, e)
 files_line_determines Two f g r s h k e = number_line_determines (codes "files") f g r s h k e
 
 -- ---- the numbers
 
-wide_cycle : {v : Version} {n m k f : ℕ} → CountsFit v n m k f → n < 2 ^ 128
+wide_cycle : {v : FormVersion} {n m k f : ℕ} → CountsFit v n m k f → n < 2 ^ 128
 wide_cycle h = omega (arith, h.cycle)
 
-wide_runs : {v : Version} {n m k f : ℕ} → CountsFit v n m k f → m < 2 ^ 128
+wide_runs : {v : FormVersion} {n m k f : ℕ} → CountsFit v n m k f → m < 2 ^ 128
 wide_runs h = omega (arith, h.runs)
 
 -- what follows each line
-abbrev from_files : Version → ℕ → Text → Text
+abbrev from_files : FormVersion → ℕ → Text → Text
 from_files v f r = files_line v f ++ r
 
-abbrev from_spent : Version → ℕ → ℕ → Text → Text
+abbrev from_spent : FormVersion → ℕ → ℕ → Text → Text
 from_spent v k f r = number_line (codes "spent") k ++ from_files v f r
 
-abbrev from_runs : Version → ℕ → ℕ → ℕ → Text → Text
+abbrev from_runs : FormVersion → ℕ → ℕ → ℕ → Text → Text
 from_runs v m k f r = number_line (codes "runs") m ++ from_spent v k f r
 
-abbrev from_cycle : Version → ℕ → ℕ → ℕ → ℕ → Text → Text
+abbrev from_cycle : FormVersion → ℕ → ℕ → ℕ → ℕ → Text → Text
 from_cycle v n m k f r = number_line (codes "cycle") n ++ from_runs v m k f r
 
 -- their lines and what follows, one after the other
-pub counts_text-append : (v : Version) (n m k f : ℕ) (r : Text) → counts_text v n m k f ++ r ≡ from_cycle v n m k f r
+pub counts_text-append : (v : FormVersion) (n m k f : ℕ) (r : Text) → counts_text v n m k f ++ r ≡ from_cycle v n m k f r
 counts_text-append v n m k f r =
     append_assoc (number_line (codes "cycle") n ++ number_line (codes "runs") m ++ number_line (codes "spent") k) (files_line v f) r
     ∙ append_assoc (number_line (codes "cycle") n ++ number_line (codes "runs") m) (number_line (codes "spent") k) (from_files v f r)
@@ -79,7 +79,7 @@ pub record SameCounts (n m k f n' m' k' f' : ℕ) (r s : Text) : Type 0 where
   pub files : f ≡ f'
   pub rest : r ≡ s
 
-pub counts_text_determines : (v : Version) (n m k f n' m' k' f' : ℕ) (r s : Text) → CountsFit v n m k f → CountsFit v n' m' k' f'
+pub counts_text_determines : (v : FormVersion) (n m k f n' m' k' f' : ℕ) (r s : Text) → CountsFit v n m k f → CountsFit v n' m' k' f'
     → counts_text v n m k f ++ r ≡ counts_text v n' m' k' f' ++ s → SameCounts n m k f n' m' k' f' r s
 counts_text_determines v n m k f n' m' k' f' r s h h' e =
     let first = number_line_determines (codes "cycle") n n' _ _ (wide_cycle h) (wide_cycle h') (sym (counts_text-append v n m k f r) ∙ e ∙ counts_text-append v n' m' k' f' s) in
@@ -112,11 +112,11 @@ state_line_determines line s t h k = state_text_determines s t h.short k.short (
 -- ---- the lines between the first and the digest line
 
 -- as many numbers as a cursor's text tells
-pub CountsFit-lines : (v : Version) (lines : Text) (c : Cursor) → AreLinesOf v lines c → CountsFit v c.cycle c.runs c.spent c.files
+pub CountsFit-lines : (v : FormVersion) (lines : Text) (c : Cursor) → AreLinesOf v lines c → CountsFit v c.cycle c.runs c.spent c.files
 CountsFit-lines v lines c h = record { cycle = h.keeps.cycle; runs = h.keeps.runs; spent = omega (arith, h.keeps.spent, h.keeps.runs); files = h.files }
 
 -- the lines as those of the numbers, and that of the state
-pub lines_parts : (v : Version) (lines : Text) (c : Cursor) → AreLinesOf v lines c → lines ≡ counts_text v c.cycle c.runs c.spent c.files ++ (state_text c.state ++ 10 ∷ [])
+pub lines_parts : (v : FormVersion) (lines : Text) (c : Cursor) → AreLinesOf v lines c → lines ≡ counts_text v c.cycle c.runs c.spent c.files ++ (state_text c.state ++ 10 ∷ [])
 lines_parts v lines c h = h.is ∙ append_assoc (counts_text v c.cycle c.runs c.spent c.files) (state_text c.state) (10 ∷ [])
 
 -- the line of a cursor's state
@@ -124,7 +124,7 @@ IsStateLine-cursor : (c : Cursor) → IsCursor c → IsStateLine (state_text c.s
 IsStateLine-cursor c h = record { short = h.place; is = refl }
 
 -- cursors are the same if their lines are
-pub lines_determine : (v : Version) (lines : Text) (c d : Cursor) → AreLinesOf v lines c → AreLinesOf v lines d → c ≡ d
+pub lines_determine : (v : FormVersion) (lines : Text) (c d : Cursor) → AreLinesOf v lines c → AreLinesOf v lines d → c ≡ d
 lines_determine v lines c d h k =
     let same = counts_text_determines v c.cycle c.runs c.spent c.files d.cycle d.runs d.spent d.files _ _ (CountsFit-lines v lines c h)
     (CountsFit-lines v lines d k) (sym (lines_parts v lines c h) ∙ lines_parts v lines d k) in
@@ -142,7 +142,7 @@ lines_of_two lines c h = h.is
 -- ---- the text before the digest line
 
 -- a cursor's body in one of the versions: its first line, and the others
-pub record IsWritten (v : Version) (lines body : Text) (c : Cursor) : Type 0 where
+pub record IsWritten (v : FormVersion) (lines body : Text) (c : Cursor) : Type 0 where
   pub is : body ≡ version_line v ++ lines
   pub tells : AreLinesOf v lines c
 
@@ -161,27 +161,27 @@ version_one_parts c = without_files (codes "ocfl-scrub cursor 1\n") (number_line
     (number_line (codes "spent") c.spent) (state_text c.state) (10 ∷ [])
 
 -- a body is written in version 2, or in version 1
-pub written_body : (body : Text) (c : Cursor) → IsBodyOf body c → (v : Version) × ((lines : Text) × IsWritten v lines body c)
+pub written_body : (body : Text) (c : Cursor) → IsBodyOf body c → (v : FormVersion) × ((lines : Text) × IsWritten v lines body c)
 written_body body c h = by h.is
   where
-    by : (body ≡ cursor_body c) ⊎ ((c.files ≡ 0) × (body ≡ version_one_body c)) → (v : Version) × ((lines : Text) × IsWritten v lines body c)
+    by : (body ≡ cursor_body c) ⊎ ((c.files ≡ 0) × (body ≡ version_one_body c)) → (v : FormVersion) × ((lines : Text) × IsWritten v lines body c)
     by (inl e) = (Two, (cursor_lines c, record { is = e ∙ cursor_body_parts c; tells = AreLinesOf-cursor c h.keeps }))
     by (inr e) = (One, (one_lines c, record { is = e.1 ∙ version_one_parts c; tells = record { keeps = h.keeps; files = e.0; is = refl } }))
 
 -- and what is written so is a body
-pub body_from_lines : (v : Version) (body lines : Text) (c : Cursor) → body ≡ version_line v ++ lines → AreLinesOf v lines c → IsBodyOf body c
+pub body_from_lines : (v : FormVersion) (body lines : Text) (c : Cursor) → body ≡ version_line v ++ lines → AreLinesOf v lines c → IsBodyOf body c
 body_from_lines One body lines c e h = record { keeps = h.keeps; is = inr (h.files, e ∙ ap (λ t. version_line One ++ t) h.is ∙ sym (version_one_parts c)) }
 body_from_lines Two body lines c e h = record { keeps = h.keeps; is = inl (e ∙ ap (λ t. version_line Two ++ t) h.is ∙ sym (cursor_body_parts c)) }
 
 -- the lines of a body whose first line is known
-pub lines_from_body : (v : Version) (body lines : Text) (c : Cursor) → body ≡ version_line v ++ lines → IsBodyOf body c → AreLinesOf v lines c
+pub lines_from_body : (v : FormVersion) (body lines : Text) (c : Cursor) → body ≡ version_line v ++ lines → IsBodyOf body c → AreLinesOf v lines c
 lines_from_body v body lines c e h =
     let w = written_body body c h in
     let same = version_line_determines w.0 v w.1.0 lines (sym w.1.1.is ∙ e) in
     subst (λ t. AreLinesOf v t c) same.1 (subst (λ u. AreLinesOf u w.1.0 c) same.0 w.1.1.tells)
 
 -- without a first line no text is a body
-pub no_body : (body : Text) → ((v : Version) (r : Text) → body ≡ version_line v ++ r → ⊥) → (c : Cursor) → IsBodyOf body c → ⊥
+pub no_body : (body : Text) → ((v : FormVersion) (r : Text) → body ≡ version_line v ++ r → ⊥) → (c : Cursor) → IsBodyOf body c → ⊥
 no_body body none c h = let w = written_body body c h in none w.0 w.1.0 w.1.1.is
 
 -- cursors are the same if their bodies are
@@ -225,15 +225,15 @@ length-number_line : (name : Text) (n : ℕ) → n < 2 ^ 128 → length (number_
 length-number_line name n l =
     omega (arith, length-append (name ++ 32 ∷ decimal n) (10 ∷ []), length-append name (32 ∷ decimal n), length-decimal-le_wide 39 n (omega arith) (omega arith) (wide n l))
 
-length-version_line : (v : Version) → length (version_line v) ≤ 20
+length-version_line : (v : FormVersion) → length (version_line v) ≤ 20
 length-version_line One = omega arith
 length-version_line Two = omega arith
 
-length-files_line : (v : Version) (f : ℕ) → FilesFit v f → length (files_line v f) ≤ 46
+length-files_line : (v : FormVersion) (f : ℕ) → FilesFit v f → length (files_line v f) ≤ 46
 length-files_line One f h = omega arith
 length-files_line Two f h = length-number_line (codes "files") f h
 
-length-counts_text : (v : Version) (n m k f : ℕ) → CountsFit v n m k f → length (counts_text v n m k f) ≤ 183
+length-counts_text : (v : FormVersion) (n m k f : ℕ) → CountsFit v n m k f → length (counts_text v n m k f) ≤ 183
 length-counts_text v n m k f h =
     omega (
       arith,
@@ -251,7 +251,7 @@ length-state_text start h = omega arith
 length-state_text (behind p) h = omega (arith, length-append (codes "after ") (place_text p), length-place_text p h.0 h.1)
 length-state_text ended h = omega arith
 
-length-lines : (v : Version) (lines : Text) (c : Cursor) → AreLinesOf v lines c → length lines ≤ 195519
+length-lines : (v : FormVersion) (lines : Text) (c : Cursor) → AreLinesOf v lines c → length lines ≤ 195519
 length-lines v lines c h =
     omega (
       arith,
@@ -262,7 +262,7 @@ length-lines v lines c h =
       length-state_text c.state h.keeps.place,
     )
 
-length-written : (v : Version) (lines body : Text) (c : Cursor) → IsWritten v lines body c → length body ≤ 195539
+length-written : (v : FormVersion) (lines body : Text) (c : Cursor) → IsWritten v lines body c → length body ≤ 195539
 length-written v lines body c h = omega (arith, ap length h.is, length-append (version_line v) lines, length-version_line v, length-lines v lines c h.tells)
 
 -- the text of a cursor stays below 196,000 bytes
@@ -275,28 +275,28 @@ length-text b c h =
 -- ---- the lines of the numbers, read one after the other
 
 -- the lines of the numbers, once all are read
-pub counts_text-read : (v : Version) (a b d e g : Text) (n m k f : ℕ) → a ≡ number_line (codes "cycle") n ++ b → b ≡ number_line (codes "runs") m ++ d → d ≡ number_line (codes "spent") k ++ e
+pub counts_text-read : (v : FormVersion) (a b d e g : Text) (n m k f : ℕ) → a ≡ number_line (codes "cycle") n ++ b → b ≡ number_line (codes "runs") m ++ d → d ≡ number_line (codes "spent") k ++ e
     → e ≡ files_line v f ++ g → a ≡ counts_text v n m k f ++ g
 counts_text-read v a b d e g n m k f q r s t =
     q ∙ ap (λ x. number_line (codes "cycle") n ++ x) (r ∙ ap (λ x. number_line (codes "runs") m ++ x) (s ∙ ap (λ x. number_line (codes "spent") k ++ x) t))
     ∙ sym (counts_text-append v n m k f g)
 
 -- what is left of the lines once some are read, where the text begins with all of them
-pub record LinesLeft (v : Version) (a : Text) (n m k f : ℕ) (r : Text) : Type 0 where
+pub record LinesLeft (v : FormVersion) (a : Text) (n m k f : ℕ) (r : Text) : Type 0 where
   pub fits : CountsFit v n m k f
   pub is : a ≡ from_cycle v n m k f r
 
-pub all_lines_left : (v : Version) (a : Text) (n m k f : ℕ) (r : Text) → CountsFit v n m k f → a ≡ counts_text v n m k f ++ r → LinesLeft v a n m k f r
+pub all_lines_left : (v : FormVersion) (a : Text) (n m k f : ℕ) (r : Text) → CountsFit v n m k f → a ≡ counts_text v n m k f ++ r → LinesLeft v a n m k f r
 all_lines_left v a n m k f r h e = record { fits = h; is = e ∙ counts_text-append v n m k f r }
 
-pub after_cycle_line : (w : Version) (a b : Text) (i n m k f : ℕ) (r : Text) → LinesLeft w a n m k f r → i < 2 ^ 64 → a ≡ number_line (codes "cycle") i ++ b → b ≡ from_runs w m k f r
+pub after_cycle_line : (w : FormVersion) (a b : Text) (i n m k f : ℕ) (r : Text) → LinesLeft w a n m k f r → i < 2 ^ 64 → a ≡ number_line (codes "cycle") i ++ b → b ≡ from_runs w m k f r
 after_cycle_line w a b i n m k f r h l q = (number_line_determines (codes "cycle") i n b _ (omega arith) (wide_cycle h.fits) (sym q ∙ h.is)).1
 
-pub after_runs_line : (w : Version) (a b d : Text) (i j n m k f : ℕ) (r : Text) → LinesLeft w a n m k f r → i < 2 ^ 64 → j < 2 ^ 64
+pub after_runs_line : (w : FormVersion) (a b d : Text) (i j n m k f : ℕ) (r : Text) → LinesLeft w a n m k f r → i < 2 ^ 64 → j < 2 ^ 64
     → a ≡ number_line (codes "cycle") i ++ b → b ≡ number_line (codes "runs") j ++ d → d ≡ from_spent w k f r
 after_runs_line w a b d i j n m k f r h l l' q q' = (number_line_determines (codes "runs") j m d _ (omega arith) (wide_runs h.fits) (sym q' ∙ after_cycle_line w a b i n m k f r h l q)).1
 
-pub after_spent_line : (w : Version) (a b d e : Text) (i j u n m k f : ℕ) (r : Text) → LinesLeft w a n m k f r → i < 2 ^ 64 → j < 2 ^ 64 → u < 2 ^ 128
+pub after_spent_line : (w : FormVersion) (a b d e : Text) (i j u n m k f : ℕ) (r : Text) → LinesLeft w a n m k f r → i < 2 ^ 64 → j < 2 ^ 64 → u < 2 ^ 128
     → a ≡ number_line (codes "cycle") i ++ b → b ≡ number_line (codes "runs") j ++ d → d ≡ number_line (codes "spent") u ++ e
     → e ≡ from_files w f r
 after_spent_line w a b d e i j u n m k f r h l l' l'' q q' q'' = (number_line_determines (codes "spent") u k e _ l'' h.fits.spent (sym q'' ∙ after_runs_line w a b d i j n m k f r h l l' q q')).1
@@ -304,16 +304,16 @@ after_spent_line w a b d e i j u n m k f r h l l' l'' q q' q'' = (number_line_de
 -- ---- lines whose parts are read
 
 -- what follows the numbers is the line of the cursor's state, and the numbers are the cursor's
-same_parts : (lines line : Text) (v : Version) (n m k f : ℕ) (c : Cursor) → CountsFit v n m k f → lines ≡ counts_text v n m k f ++ line → AreLinesOf v lines c
+same_parts : (lines line : Text) (v : FormVersion) (n m k f : ℕ) (c : Cursor) → CountsFit v n m k f → lines ≡ counts_text v n m k f ++ line → AreLinesOf v lines c
     → SameCounts n m k f c.cycle c.runs c.spent c.files line (state_text c.state ++ 10 ∷ [])
 same_parts lines line v n m k f c fit e h =
     counts_text_determines v n m k f c.cycle c.runs c.spent c.files line _ fit (CountsFit-lines v lines c h) (sym e ∙ lines_parts v lines c h)
 
-pub IsStateLine-read : (lines line : Text) (v : Version) (n m k f : ℕ) (c : Cursor) → CountsFit v n m k f → lines ≡ counts_text v n m k f ++ line → AreLinesOf v lines c → IsStateLine line c.state
+pub IsStateLine-read : (lines line : Text) (v : FormVersion) (n m k f : ℕ) (c : Cursor) → CountsFit v n m k f → lines ≡ counts_text v n m k f ++ line → AreLinesOf v lines c → IsStateLine line c.state
 IsStateLine-read lines line v n m k f c fit e h = record { short = h.keeps.place; is = (same_parts lines line v n m k f c fit e h).rest }
 
 -- the parts are those of the cursor
-cursor_from_parts : (lines line : Text) (v : Version) (n m k f : ℕ) (s : State) (c : Cursor) → CountsFit v n m k f → lines ≡ counts_text v n m k f ++ line → IsStateLine line s → AreLinesOf v lines c
+cursor_from_parts : (lines line : Text) (v : FormVersion) (n m k f : ℕ) (s : State) (c : Cursor) → CountsFit v n m k f → lines ≡ counts_text v n m k f ++ line → IsStateLine line s → AreLinesOf v lines c
     → ◌≡◌ {A = Cursor} c (record { cycle = n; runs = m; spent = k; files = f; state = s })
 cursor_from_parts lines line v n m k f s c fit e h b =
     let same = same_parts lines line v n m k f c fit e b in
@@ -321,12 +321,12 @@ cursor_from_parts lines line v n m k f s c fit e h b =
     sym (λ i. record { cycle = same.cycle i; runs = same.runs i; spent = same.spent i; files = same.files i; state = state i })
 
 -- if no cursor has the parts, no cursor has the lines
-pub no_cursor_of-parts : (lines line : Text) (v : Version) (n m k f : ℕ) (s : State) → CountsFit v n m k f → lines ≡ counts_text v n m k f ++ line → IsStateLine line s
+pub no_cursor_of-parts : (lines line : Text) (v : FormVersion) (n m k f : ℕ) (s : State) → CountsFit v n m k f → lines ≡ counts_text v n m k f ++ line → IsStateLine line s
     → (IsCursor (record { cycle = n; runs = m; spent = k; files = f; state = s }) → ⊥) → (c : Cursor) → AreLinesOf v lines c → ⊥
 no_cursor_of-parts lines line v n m k f s fit e h none c b = none (subst IsCursor (cursor_from_parts lines line v n m k f s c fit e h b) b.keeps)
 
 -- the cursor of the parts has the lines
-pub lines_of-parts : (lines line : Text) (v : Version) (n m k f : ℕ) (s : State) → CountsFit v n m k f → lines ≡ counts_text v n m k f ++ line → IsStateLine line s
+pub lines_of-parts : (lines line : Text) (v : FormVersion) (n m k f : ℕ) (s : State) → CountsFit v n m k f → lines ≡ counts_text v n m k f ++ line → IsStateLine line s
     → IsCursor (record { cycle = n; runs = m; spent = k; files = f; state = s }) → AreLinesOf v lines (record { cycle = n; runs = m; spent = k; files = f; state = s })
 lines_of-parts lines line v n m k f s fit e h keeps =
     record { keeps = keeps; files = fit.files; is = e ∙ ap (λ t. counts_text v n m k f ++ t) h.is ∙ sym (append_assoc (counts_text v n m k f) (state_text s) (10 ∷ [])) }

@@ -11,7 +11,7 @@ use Rattle.ocfl_report.proofs.PlaceTexts.{names_of, names_of-place_text, place_t
 use Rattle.ocfl_cursor.specs.Cursor.{Cursor, cursor_lines, digest_line}
 use Rattle.ocfl_cursor.specs.Part.{HasNames, AreEnds, end_text, end_line, ends_lines, part_body, IsPartText}
 use Rattle.ocfl_cursor.specs.{Internal.Part.{IsPartBody}, declared.ends.PartEnds.{PartEnds}}
-use Rattle.ocfl_cursor.specs.{declared.form.Version.TheVariants.{Two}, Internal.Body.{AreLinesOf}}
+use Rattle.ocfl_cursor.specs.{declared.form.FormVersion.TheVariants.{Two}, Internal.Body.{AreLinesOf}}
 use Rattle.ocfl_cursor.proofs.CursorTexts.{lines_determine, AreLinesOf-cursor}
 use Rattle.ocfl_cursor.proofs.Seals.{sealed_determines}
 

@@ -7,7 +7,7 @@ use Rattle.ocfl_cursor.specs.Cursor.{Cursor, IsCursor, cursor_lines}
 use Rattle.ocfl_cursor.specs.Part.{AreEnds, ends_lines, part_lines}
 use Rattle.ocfl_cursor.specs.{Lines.{stored_lines, AreStoredLines}, Internal.Body.{AreLinesOf}}
 use Rattle.ocfl_cursor.specs.declared.ends.PartEnds.{PartEnds}
-use Rattle.ocfl_cursor.specs.declared.form.Version.TheVariants.{Two}
+use Rattle.ocfl_cursor.specs.declared.form.FormVersion.TheVariants.{Two}
 use Rattle.ocfl_cursor.proofs.CursorTexts.{lines_determine, AreLinesOf-cursor}
 use Rattle.ocfl_cursor.proofs.PartTexts.{ends_lines_determine}
 

@@ -6,12 +6,12 @@ ghost use Rattle.ocfl_cursor.specs.Cursor.{State as ModelState, Cursor as ModelC
 ghost use Rattle.ocfl_cursor.specs.State.{state_of};
 ghost use Rattle.ocfl_cursor.specs.Internal.Body.{version_line, files_line, FilesFit, CountsFit, counts_text, IsStateLine, AreLinesOf, IsBodyOf};
 ghost use Rattle.ocfl_cursor.specs.Refusal.{IsTextOf, RefusedRightly};
-ghost use Rattle.ocfl_cursor.specs.declared.form.Version.{Version as ModelVersion};
+ghost use Rattle.ocfl_cursor.specs.declared.form.FormVersion.{FormVersion as ModelVersion};
 
 use crate::cursor::Cursor;
 use crate::form::{
-    AFTER, CYCLE, DIGEST, ENDED, FILES, FIRST_LINE_ONE, FIRST_LINE_TWO, FRONT, MAX_TEXT, RUNS,
-    SPENT, START, VERSIONS, Version,
+    AFTER, CYCLE, DIGEST, ENDED, FILES, FIRST_LINE_ONE, FIRST_LINE_TWO, FRONT, FormVersion,
+    MAX_TEXT, RUNS, SPENT, START, VERSIONS,
 };
 use crate::number::{read_number, read_small_number};
 use crate::pieces::{after_prefix, before_line_feed, count_slashes};
@@ -51,7 +51,11 @@ fn read_body(alloc: Global, body: &[u8]) -> Result<Cursor, TextStop>
 }
 
 /// The cursor whose text has these lines between its first and its last.
-pub(crate) fn read_lines(alloc: Global, version: Version, lines: &[u8]) -> Result<Cursor, TextStop>
+pub(crate) fn read_lines(
+    alloc: Global,
+    version: FormVersion,
+    lines: &[u8],
+) -> Result<Cursor, TextStop>
     ensures cursor { IfOk result (λ cursor. AreLinesOf version lines.now cursor) }
     ensures bad { result ≡ Err TextStop.Bad
         → (c : ModelCursor) → AreLinesOf version lines.now c → ⊥ }
@@ -76,7 +80,7 @@ struct Counts {
 }
 
 /// Reads the lines of the numbers. Gives what follows them too.
-fn read_counts(version: Version, lines: &[u8]) -> Option<(Counts, &[u8])>
+fn read_counts(version: FormVersion, lines: &[u8]) -> Option<(Counts, &[u8])>
     ensures found { IfSome result (λ read. lines.now ≡ counts_text version
         read.0.cycle read.0.runs read.0.spent read.0.files ++ read.1.now) }
     ensures fits { IfSome result (λ read. CountsFit version
@@ -99,27 +103,27 @@ fn read_counts(version: Version, lines: &[u8]) -> Option<(Counts, &[u8])>
 }
 
 /// Reads the first line, which names the version.
-fn read_first_line(body: &[u8]) -> Option<(Version, &[u8])>
+fn read_first_line(body: &[u8]) -> Option<(FormVersion, &[u8])>
     ensures found { IfSome result (λ read. body.now ≡ version_line read.0 ++ read.1.now) }
     ensures missing { IsNone result
         → (v : ModelVersion) (rest : List ℕ) → body.now ≢ version_line v ++ rest }
 {
     if let Some(rest) = after_prefix(FIRST_LINE_TWO, body) {
-        return Some((Version::Two, rest));
+        return Some((FormVersion::Two, rest));
     }
-    Some((Version::One, after_prefix(FIRST_LINE_ONE, body)?))
+    Some((FormVersion::One, after_prefix(FIRST_LINE_ONE, body)?))
 }
 
 /// Reads the line of the files, which version 1 has not.
-fn read_files(version: Version, text: &[u8]) -> Option<(u128, &[u8])>
+fn read_files(version: FormVersion, text: &[u8]) -> Option<(u128, &[u8])>
     ensures found { IfSome result (λ read. text.now ≡ files_line version read.0 ++ read.1.now) }
     ensures fits { IfSome result (λ read. FilesFit version read.0) }
     ensures missing { IsNone result → (files : ℕ) (rest : List ℕ)
         → FilesFit version files → text.now ≢ files_line version files ++ rest }
 {
     match version {
-        Version::One => Some((0, text)),
-        Version::Two => read_number(FILES, text),
+        FormVersion::One => Some((0, text)),
+        FormVersion::Two => read_number(FILES, text),
     }
 }
 

@@ -8,7 +8,7 @@ pub(crate) const FRONT: &[u8] = b"ocfl-scrub cursor ";
 
 /// The versions that are read: the second, which is written, has a line of the files.
 #[derive(Clone, Copy)]
-pub(crate) enum Version {
+pub(crate) enum FormVersion {
     One,
     Two,
 }

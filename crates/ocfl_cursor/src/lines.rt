@@ -9,7 +9,7 @@ use crate::cursor::Cursor;
 use crate::decoding::read_lines;
 use crate::encoding::cursor_lines;
 use crate::ends::PartEnds;
-use crate::form::{FROM, Version};
+use crate::form::{FROM, FormVersion};
 use crate::part_decoding::read_ends;
 use crate::part_encoding::part_lines;
 use ocfl_report::TextStop;
@@ -43,7 +43,7 @@ pub fn read_stored_lines(
     if lines.starts_with(FROM) {
         return read_part_lines(alloc, lines);
     }
-    Ok((None, read_lines(alloc, Version::Two, lines)?))
+    Ok((None, read_lines(alloc, FormVersion::Two, lines)?))
 }
 
 /// The part and its cursor whose lines these are.
@@ -54,5 +54,5 @@ fn read_part_lines(alloc: Global, lines: &[u8]) -> Result<(Option<PartEnds>, Cur
         → (part : Option ModelEnds) (c : ModelCursor) → AreStoredLines part lines.now c → ⊥ }
 {
     let (ends, rest) = read_ends(alloc, lines)?;
-    Ok((Some(ends), read_lines(alloc, Version::Two, rest)?))
+    Ok((Some(ends), read_lines(alloc, FormVersion::Two, rest)?))
 }

@@ -10,7 +10,7 @@ ghost use Rattle.ocfl_cursor.specs.declared.ends.PartEnds.{PartEnds as ModelEnds
 use crate::cursor::Cursor;
 use crate::decoding::read_lines;
 use crate::ends::{PartEnds, is_same_part};
-use crate::form::{BELOW, DIGEST, END, FROM, NO_WORD, PART_FIRST_LINE, START, Version};
+use crate::form::{BELOW, DIGEST, END, FROM, FormVersion, NO_WORD, PART_FIRST_LINE, START};
 use crate::pieces::after_prefix;
 use crate::refused::{PartRefused, Refused, TextKind};
 use crate::seal::sealed_body;
@@ -58,7 +58,7 @@ fn read_part_body(alloc: Global, body: &[u8]) -> Result<(PartEnds, Cursor), Text
         return Err(TextStop::Bad);
     };
     let (ends, lines) = read_ends(alloc, lines)?;
-    Ok((ends, read_lines(alloc, Version::Two, lines)?))
+    Ok((ends, read_lines(alloc, FormVersion::Two, lines)?))
 }
 
 /// Reads the lines of both ends. Gives what follows them too.

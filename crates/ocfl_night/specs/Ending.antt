@@ -10,7 +10,7 @@ use Rattle.ocfl_scrub.specs.declared.running.RunStatus.TheVariants as status
 use Rattle.ocfl_scrub.specs.declared.stop.ReportStop.TheVariants as report
 use Rattle.ocfl_state.specs.declared.checkpoint_parts.Phase.{Phase}
 use Rattle.ocfl_state.specs.declared.checkpoint_parts.Phase.TheVariants.{Open, Closing}
-use Rattle.ocfl_state.specs.{Checkpoint.{Checkpoint}, declared.folder.Trouble.TheVariants.{Memory}}
+use Rattle.ocfl_state.specs.{Checkpoint.{Checkpoint}, declared.folder.FolderTrouble.TheVariants.{Memory}}
 use Rattle.ocfl_night.specs.{declared.plan.Halt.{Halt}, declared.plan.Pause.{Pause}}
 use Rattle.ocfl_night.specs.{declared.refusal.NotOpened.{NotOpened}, declared.slicing.Made.{Made}}
 use Rattle.ocfl_night.specs.{declared.slicing.SliceEnd.{SliceEnd}, declared.stop.Stop.{Stop}}

@@ -11,7 +11,7 @@ use crate::refusal::{NotOpened, Refusal};
 use crate::stop::Stop;
 use ocfl_cursor::{Cursor, Refused, State};
 use ocfl_state::{
-    Checkpoint, Phase, ReportDigests, ReportMark, StateFolder, Trouble, decode_checkpoint,
+    Checkpoint, FolderTrouble, Phase, ReportDigests, ReportMark, StateFolder, decode_checkpoint,
     encode_checkpoint, every_checkpoint_fits,
 };
 use std::alloc::{AllocError, Global};
@@ -181,7 +181,7 @@ fn not_read(why: Refused) -> NotOpened
         Refused::Version => NotOpened::Refused(Refusal::Version),
         Refused::Damaged => NotOpened::Refused(Refusal::Damaged),
         Refused::Malformed => NotOpened::Refused(Refusal::Malformed),
-        Refused::Memory => NotOpened::Troubled(Stop::Folder(Trouble::Memory)),
+        Refused::Memory => NotOpened::Troubled(Stop::Folder(FolderTrouble::Memory)),
     }
 }
 

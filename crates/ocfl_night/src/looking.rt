@@ -11,7 +11,7 @@ use crate::refusal::{NotOpened, Refusal};
 use crate::stop::Stop;
 use ocfl_digest::Block;
 use ocfl_identity::{Identity, NoIdentity, is_still_declared, look_at_root};
-use ocfl_state::Trouble;
+use ocfl_state::FolderTrouble;
 use ocfl_tree::{Place, Tree};
 use std::alloc::Global;
 
@@ -31,7 +31,7 @@ pub(crate) fn look_at<T: Tree>(
         Ok(identity) => Ok(identity),
         Err(NoIdentity::Undeclared) => Err(NotOpened::Refused(Refusal::NoRoot)),
         Err(NoIdentity::Unread(place)) => Err(NotOpened::Troubled(Stop::Unread(place))),
-        Err(NoIdentity::Memory) => Err(NotOpened::Troubled(Stop::Folder(Trouble::Memory))),
+        Err(NoIdentity::Memory) => Err(NotOpened::Troubled(Stop::Folder(FolderTrouble::Memory))),
     }
 }
 
@@ -60,6 +60,6 @@ pub(crate) fn look_again<T: Tree>(
         Ok(true) => Ok(()),
         Ok(false) | Err(NoIdentity::Undeclared) => Err(NotKept::RootChanged),
         Err(NoIdentity::Unread(place)) => Err(NotKept::Unread(place)),
-        Err(NoIdentity::Memory) => Err(NotKept::Troubled(Stop::Folder(Trouble::Memory))),
+        Err(NoIdentity::Memory) => Err(NotKept::Troubled(Stop::Folder(FolderTrouble::Memory))),
     }
 }

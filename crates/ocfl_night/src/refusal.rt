@@ -1,11 +1,11 @@
 //! Why a night is refused, or was not begun.
 ghost use Rattle.std.specs.Prelude.{◌≡◌};
-ghost use Rattle.ocfl_state.specs.declared.folder.Trouble.TheVariants.{Memory};
+ghost use Rattle.ocfl_state.specs.declared.folder.FolderTrouble.TheVariants.{Memory};
 ghost use Rattle.ocfl_night.specs.declared.refusal.NotOpened.TheVariants.{Refused, Troubled};
 ghost use Rattle.ocfl_night.specs.declared.stop.Stop.TheVariants.{Folder};
 
 use crate::stop::Stop;
-use ocfl_state::Trouble;
+use ocfl_state::FolderTrouble;
 use ocfl_tree::Place;
 use std::alloc::AllocError;
 
@@ -66,10 +66,10 @@ impl From<Stop> for NotOpened {
     }
 }
 
-impl From<Trouble> for NotOpened {
+impl From<FolderTrouble> for NotOpened {
     ghost from_gives = { λ why e. e ≡ Troubled (Folder why) };
 
-    fn from(trouble: Trouble) -> NotOpened {
+    fn from(trouble: FolderTrouble) -> NotOpened {
         NotOpened::Troubled(Stop::Folder(trouble))
     }
 }
@@ -78,6 +78,6 @@ impl From<AllocError> for NotOpened {
     ghost from_gives = { λ _ e. e ≡ Troubled (Folder Memory) };
 
     fn from(_error: AllocError) -> NotOpened {
-        NotOpened::Troubled(Stop::Folder(Trouble::Memory))
+        NotOpened::Troubled(Stop::Folder(FolderTrouble::Memory))
     }
 }

@@ -4,7 +4,7 @@ ghost use Rattle.ocfl_state.specs.{Content.{with_report}, Crash.{Passes, Same}};
 ghost use Rattle.ocfl_state.specs.Pieces.{HasTail, summary_of};
 ghost use Rattle.ocfl_night.specs.Steps.{BeginsAs, KeepsFront};
 
-use ocfl_state::{FoundReport, ReportMark, StateFolder, Trouble, find_report};
+use ocfl_state::{FolderTrouble, FoundReport, ReportMark, StateFolder, find_report};
 
 /// What there is of a report that is another one than a mark says, up to the length that it says:
 /// bytes were lost or changed. `None` if it is as it says.
@@ -13,7 +13,7 @@ use ocfl_state::{FoundReport, ReportMark, StateFolder, Trouble, find_report};
 pub(crate) fn find_lost<S: StateFolder>(
     folder: &mut S,
     mark: &ReportMark,
-) -> Result<Option<ReportMark>, Trouble>
+) -> Result<Option<ReportMark>, FolderTrouble>
     ensures kept { IsTrue S.told → BeginsAs mark.now (S.seen folder.old).report
         → IfOk result (λ lost. lost ≡ None) }
     ensures lost { IsTrue S.told → (HasTail mark.now (S.seen folder.old).report → ⊥)
@@ -32,7 +32,7 @@ pub(crate) fn find_lost<S: StateFolder>(
 
 /// Cuts the report to a length.
 #[tactic(auto, using(crate::proofs::Moments::torn_less))]
-pub(crate) fn cut_report<S: StateFolder>(folder: &mut S, most: u64) -> Result<(), Trouble>
+pub(crate) fn cut_report<S: StateFolder>(folder: &mut S, most: u64) -> Result<(), FolderTrouble>
     ensures cut { IsTrue S.told → OnOk result (S.seen folder.new
         ≡ with_report (take most (S.seen folder.old).report) (S.seen folder.old)) }
     ensures crash { IsTrue S.told → Passes S.may_leave S.moment S.left_since

@@ -25,7 +25,7 @@ use ocfl_digest::Block;
 use ocfl_identity::Identity;
 use ocfl_scrub::parts::each_run_that_goes_on_has_a_report;
 use ocfl_scrub::{KeptWalk, Part, ReportStop, RunEnd, RunStatus, run_on};
-use ocfl_state::{Checkpoint, Phase, ReportMark, StateFolder, Trouble, append_marked};
+use ocfl_state::{Checkpoint, FolderTrouble, Phase, ReportMark, StateFolder, append_marked};
 use ocfl_tree::{Place, Tree};
 use ocfl_walk::Fault;
 use std::alloc::Global;
@@ -37,7 +37,7 @@ fn lost(end: &RunStatus) -> Option<Stop>
     ensures why { result ≡ lost_by end.now }
 {
     match end {
-        RunStatus::Stopped(ReportStop::Output) => Some(Stop::Folder(Trouble::Memory)),
+        RunStatus::Stopped(ReportStop::Output) => Some(Stop::Folder(FolderTrouble::Memory)),
         RunStatus::Worn => Some(Stop::Worn),
         RunStatus::Ended | RunStatus::Spent | RunStatus::Stopped(_) => None,
     }

@@ -1,9 +1,9 @@
 //! Why a night ended early.
 ghost use Rattle.std.specs.Prelude.{◌≡◌};
-ghost use Rattle.ocfl_state.specs.declared.folder.Trouble.TheVariants.{Memory};
+ghost use Rattle.ocfl_state.specs.declared.folder.FolderTrouble.TheVariants.{Memory};
 ghost use Rattle.ocfl_night.specs.declared.stop.Stop.TheVariants.{Folder};
 
-use ocfl_state::Trouble;
+use ocfl_state::FolderTrouble;
 use ocfl_tree::Place;
 use std::alloc::AllocError;
 
@@ -11,7 +11,7 @@ use std::alloc::AllocError;
 #[derive(Debug, Drop)]
 pub enum Stop {
     /// A call of the state folder failed, or memory was refused.
-    Folder(Trouble),
+    Folder(FolderTrouble),
     /// The root's top folder, or a declaration in it, could not be read: the place that failed.
     Unread(Place),
     /// No further run can be counted.
@@ -28,10 +28,10 @@ pub enum Stop {
     Output,
 }
 
-impl From<Trouble> for Stop {
+impl From<FolderTrouble> for Stop {
     ghost from_gives = { λ why e. e ≡ Folder why };
 
-    fn from(trouble: Trouble) -> Stop {
+    fn from(trouble: FolderTrouble) -> Stop {
         Stop::Folder(trouble)
     }
 }
@@ -40,6 +40,6 @@ impl From<AllocError> for Stop {
     ghost from_gives = { λ _ e. e ≡ Folder Memory };
 
     fn from(_error: AllocError) -> Stop {
-        Stop::Folder(Trouble::Memory)
+        Stop::Folder(FolderTrouble::Memory)
     }
 }

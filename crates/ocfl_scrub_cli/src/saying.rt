@@ -21,7 +21,7 @@ const REFUSED: u8 = 4;
 /// Why a command does not begin, makes no separators or shows nothing. Its `Display` is what is
 /// said of it.
 #[derive(Debug, Drop, Error)]
-pub(crate) enum Stop {
+pub(crate) enum NotDone {
     /// The scope that is chosen was not found.
     #[error("{0}")]
     Scope(ScopeStop),
@@ -45,16 +45,16 @@ pub(crate) enum Stop {
     Reasoned(Note, Option<io::Error>),
 }
 
-impl Stop {
+impl NotDone {
     /// The exit status.
     pub(crate) fn status(&self) -> u8 {
         match self {
-            Stop::Scope(why) => why.status(),
-            Stop::TooLong => USAGE,
-            Stop::Report(SplitStop::Line(_) | SplitStop::Many) => USAGE,
-            Stop::Checkpoint(_) => REFUSED,
-            Stop::Report(_) | Stop::CheckpointFile => STOPPED,
-            Stop::Stopped(_) | Stop::Reasoned(_, _) => STOPPED,
+            NotDone::Scope(why) => why.status(),
+            NotDone::TooLong => USAGE,
+            NotDone::Report(SplitStop::Line(_) | SplitStop::Many) => USAGE,
+            NotDone::Checkpoint(_) => REFUSED,
+            NotDone::Report(_) | NotDone::CheckpointFile => STOPPED,
+            NotDone::Stopped(_) | NotDone::Reasoned(_, _) => STOPPED,
         }
     }
 }
@@ -65,9 +65,9 @@ pub(crate) fn say<R: Eprint>(rt: &R, line: &str) {
 }
 
 /// Says why a command stopped, and gives its status.
-pub(crate) fn say_stop<R: Eprint>(rt: &R, stop: &Stop) -> u8 {
+pub(crate) fn say_stop<R: Eprint>(rt: &R, stop: &NotDone) -> u8 {
     let _ = eprintln!(rt; "ocfl-scrub: {stop}");
-    if let Stop::Reasoned(note, reason) = stop {
+    if let NotDone::Reasoned(note, reason) = stop {
         say_reason(rt, note, *reason);
     }
     stop.status()

@@ -1,6 +1,6 @@
 //! Which items of the storage root a command takes, by what its command line chooses.
 
-use crate::saying::Stop;
+use crate::saying::NotDone;
 use ocfl_line::Chosen;
 use ocfl_parts::PartsStop;
 use ocfl_scope::{Scope, ScopeStop, find_branch, find_part};
@@ -9,7 +9,10 @@ use std::io;
 use std::rt::Files;
 
 /// The items that are chosen. Reads the file of the separators if a part is.
-pub(crate) fn read_scope<R: Files + AllocGlobal>(rt: &R, chosen: &Chosen) -> Result<Scope, Stop> {
+pub(crate) fn read_scope<R: Files + AllocGlobal>(
+    rt: &R,
+    chosen: &Chosen,
+) -> Result<Scope, NotDone> {
     let found = match chosen {
         Chosen::All => Ok(Scope::Whole),
         Chosen::Branch(path) => find_branch(rt.alloc(), path.as_str()),
@@ -18,7 +21,7 @@ pub(crate) fn read_scope<R: Files + AllocGlobal>(rt: &R, chosen: &Chosen) -> Res
             Err(error) => Err(ScopeStop::Parts(unopened(&error))),
         },
     };
-    found.map_err(Stop::Scope)
+    found.map_err(NotDone::Scope)
 }
 
 /// Why the separators' file was not opened.

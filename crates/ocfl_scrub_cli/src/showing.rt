@@ -1,6 +1,6 @@
 //! Showing a file: the checkpoint of a state folder, or a cursor.
 
-use crate::saying::{Stop, say_note, say_out_of_memory, say_stop};
+use crate::saying::{NotDone, say_note, say_out_of_memory, say_stop};
 use ocfl_cursor::{Refused, TextKind};
 use ocfl_deed::Deed;
 use ocfl_digest::Block;
@@ -16,15 +16,15 @@ use std::rt::Files;
 const FRONT_LEN: u64 = 64;
 
 /// What is said of a file that could not be read.
-fn file_stop(error: &io::Error) -> Stop {
+fn file_stop(error: &io::Error) -> NotDone {
     match error.kind() {
-        io::ErrorKind::OutOfMemory => Stop::Stopped(Note::OutOfMemory),
-        _ => Stop::Stopped(Note::CursorFileFailed),
+        io::ErrorKind::OutOfMemory => NotDone::Stopped(Note::OutOfMemory),
+        _ => NotDone::Stopped(Note::CursorFileFailed),
     }
 }
 
 /// Opens a file, and reads the first of its bytes.
-fn open_file<R>(rt: &R, file: &str) -> Result<(Vec<u8>, R::File), Stop>
+fn open_file<R>(rt: &R, file: &str) -> Result<(Vec<u8>, R::File), NotDone>
 where
     R: Files + AllocGlobal,
 {
@@ -37,19 +37,19 @@ where
 }
 
 /// Why the checkpoint of a file is not shown.
-fn unshown(why: NotShown) -> Stop {
+fn unshown(why: NotShown) -> NotDone {
     match why {
         NotShown::Memory | NotShown::Checkpoint(Refused::Memory) => {
-            Stop::Stopped(Note::OutOfMemory)
+            NotDone::Stopped(Note::OutOfMemory)
         }
-        NotShown::Checkpoint(why) => Stop::Checkpoint(why),
-        NotShown::Long => Stop::Checkpoint(Refused::NotA(TextKind::Checkpoint)),
-        NotShown::Read | NotShown::Cursor(_) => Stop::CheckpointFile,
+        NotShown::Checkpoint(why) => NotDone::Checkpoint(why),
+        NotShown::Long => NotDone::Checkpoint(Refused::NotA(TextKind::Checkpoint)),
+        NotShown::Read | NotShown::Cursor(_) => NotDone::CheckpointFile,
     }
 }
 
 /// Writes the lines of the checkpoint that a reader gives to standard output.
-fn write_checkpoint<R, F>(rt: &R, reader: &mut F) -> Result<(), Stop>
+fn write_checkpoint<R, F>(rt: &R, reader: &mut F) -> Result<(), NotDone>
 where
     R: AllocGlobal + Print,
     F: Read,
@@ -57,7 +57,7 @@ where
     let lines = read_stored(rt.alloc(), reader).map_err(unshown)?;
     match write_all_of(&mut io::writer(rt), &lines) {
         Ok(()) => Ok(()),
-        Err(_) => Err(Stop::Stopped(Note::OutputFailed)),
+        Err(_) => Err(NotDone::Stopped(Note::OutputFailed)),
     }
 }
 

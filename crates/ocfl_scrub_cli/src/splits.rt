@@ -1,6 +1,6 @@
 //! Splitting a storage root: the text of the separators goes to standard output.
 
-use crate::saying::{Stop, say_stop};
+use crate::saying::{NotDone, say_stop};
 use ocfl_folder::FsTree;
 use ocfl_item::Fault;
 use ocfl_line::Split;
@@ -13,29 +13,29 @@ use std::io::{self, BufReader};
 use std::rt::{Env, Files};
 
 /// Makes the separators that are asked for.
-fn make_separators<R>(rt: &R, asked: &Split) -> Result<Separators, Stop>
+fn make_separators<R>(rt: &R, asked: &Split) -> Result<Separators, NotDone>
 where
     R: Files + Env + AllocGlobal,
 {
     match asked {
         Split::Listing { count, root } => split_by_listing(rt, *count, root.as_str()),
         Split::Report { budget, report } => {
-            split_by_report(rt, *budget, report.as_str()).map_err(Stop::Report)
+            split_by_report(rt, *budget, report.as_str()).map_err(NotDone::Report)
         }
     }
 }
 
 /// The separators by what is listed of a folder.
-fn split_by_listing<R>(rt: &R, count: usize, root: &str) -> Result<Separators, Stop>
+fn split_by_listing<R>(rt: &R, count: usize, root: &str) -> Result<Separators, NotDone>
 where
     R: Files + Env + AllocGlobal,
 {
     let Ok(mut store) = FsTree::entering(rt, root) else {
-        return Err(Stop::Stopped(Note::OutOfMemory));
+        return Err(NotDone::Stopped(Note::OutOfMemory));
     };
     match split(rt.alloc(), &mut store, count) {
         Ok(separators) => Ok(separators),
-        Err(fault) => Err(Stop::Reasoned(note_of(fault), store.reason())),
+        Err(fault) => Err(NotDone::Reasoned(note_of(fault), store.reason())),
     }
 }
 
@@ -68,17 +68,20 @@ fn report_stop(error: &io::Error) -> SplitStop {
 }
 
 /// Writes the text of separators to standard output. Refuses a text that could not be read again.
-fn write_separators<R: AllocGlobal + Print>(rt: &R, separators: &Separators) -> Result<(), Stop> {
+fn write_separators<R: AllocGlobal + Print>(
+    rt: &R,
+    separators: &Separators,
+) -> Result<(), NotDone> {
     let mut text = Vec::new(rt.alloc());
     if put_parts(separators, &mut text).is_err() {
-        return Err(Stop::Stopped(Note::OutOfMemory));
+        return Err(NotDone::Stopped(Note::OutOfMemory));
     }
     if text.len() > MAX_BYTES {
-        return Err(Stop::TooLong);
+        return Err(NotDone::TooLong);
     }
     match write_all_of(&mut io::writer(rt), &text) {
         Ok(()) => Ok(()),
-        Err(_) => Err(Stop::Stopped(Note::OutputFailed)),
+        Err(_) => Err(NotDone::Stopped(Note::OutputFailed)),
     }
 }
 

@@ -1,21 +1,21 @@
 -- What the calls of a state folder answer.
 use Rattle.std.specs.Prelude.{◌≡◌, ◌≢◌, ◌⊎◌, ℕ, ◌<◌, ◌≤◌, IsTrue, [], Option, Some, None, Result, Err, IsErr, IsErrOf, length, take, drop, Vec}
 use Rattle.std.specs.declared.alloc.Global.{Global}
-use Rattle.ocfl_state.specs.{Content.{Bytes, Content, is_closed}, declared.folder.Trouble.{Trouble}}
-use Rattle.ocfl_state.specs.declared.folder.Trouble.TheVariants.{Failed, Full, Taken}
+use Rattle.ocfl_state.specs.{Content.{Bytes, Content, is_closed}, declared.folder.FolderTrouble.{FolderTrouble}}
+use Rattle.ocfl_state.specs.declared.folder.FolderTrouble.TheVariants.{Failed, Full, Taken}
 
 abbrev pub bytes_of : Vec ℕ Global → Bytes
 bytes_of v = v.items
 
 -- `Failed` and `Full` are answered only if the disk has failed in the call, `Taken` never
-pub record HasCause {T : Type 0} (before now : ℕ) (result : Result T Trouble) : Type 0 where
+pub record HasCause {T : Type 0} (before now : ℕ) (result : Result T FolderTrouble) : Type 0 where
   pub later : before ≤ now
   pub failed : IsErrOf result Failed → before < now
   pub full : IsErrOf result Full → before < now
   pub not_taken : result ≢ Err Taken
 
 -- the same if there is one more reason for `Failed`
-pub record HasCauseOr {T : Type 0} (Reason : Type 0) (before now : ℕ) (result : Result T Trouble) : Type 0 where
+pub record HasCauseOr {T : Type 0} (Reason : Type 0) (before now : ℕ) (result : Result T FolderTrouble) : Type 0 where
   pub later : before ≤ now
   pub failed : IsErrOf result Failed → (before < now) ⊎ Reason
   pub full : IsErrOf result Full → before < now
@@ -35,7 +35,7 @@ HasLong None = ⊥
 HasLong (Some bytes) = IsLong bytes
 
 -- the same of closing, which is refused if a report of that cycle is closed
-pub record ClosesRightly {T : Type 0} (content : Content) (cycle before now : ℕ) (result : Result T Trouble) : Type 0 where
+pub record ClosesRightly {T : Type 0} (content : Content) (cycle before now : ℕ) (result : Result T FolderTrouble) : Type 0 where
   pub later : before ≤ now
   pub failed : IsErrOf result Failed → before < now
   pub full : IsErrOf result Full → before < now

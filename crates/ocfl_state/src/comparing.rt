@@ -5,7 +5,7 @@ ghost use Rattle.ocfl_state.specs.Crash.{Same, Passes};
 ghost use Rattle.ocfl_state.specs.Pieces.{Carries, PushesPart, HasRead, summary_of, rest_of, HasTail};
 
 use crate::checkpoint_parts::ReportMark;
-use crate::folder::{StateFolder, Trouble};
+use crate::folder::{FolderTrouble, StateFolder};
 use crate::pieces::{PIECE_LEN, ReportDigests};
 
 /// How many bytes of a report are read at once.
@@ -18,7 +18,7 @@ fn read_part<S: StateFolder>(
     start: u64,
     buffer: &mut [u8; READ_LEN],
     room: usize,
-) -> Result<usize, Trouble>
+) -> Result<usize, FolderTrouble>
     requires { room ≤ 16384 }
     ensures bound { IfOk result (λ count. count ≤ room) }
     ensures value { IsTrue S.told → IfOk result (λ count.
@@ -40,7 +40,7 @@ fn push_part<S: StateFolder>(
     end: u64,
     buffer: &mut [u8; READ_LEN],
     digests: &mut ReportDigests,
-) -> Result<usize, Trouble>
+) -> Result<usize, FolderTrouble>
     requires { start < end }
     ensures bound { IfOk result (λ count. count ≤ end - start) }
     ensures pushed { IsTrue S.told → IfOk result (λ count. PushesPart
@@ -68,7 +68,7 @@ fn push_report<S: StateFolder>(
     start: u64,
     end: u64,
     digests: &mut ReportDigests,
-) -> Result<u64, Trouble>
+) -> Result<u64, FolderTrouble>
     ensures range { end < 2 ^ 64 }
     ensures pushed { IsTrue S.told → IfOk result (λ count. PushesPart
         (take (end - start) (drop start (S.seen folder.old).report))
@@ -93,7 +93,7 @@ fn push_report<S: StateFolder>(
 
 /// The digests of the whole report, which is read once.
 #[tactic(auto, using(crate::proofs::Readings::passes_then))]
-pub fn digests_of_report<S: StateFolder>(folder: &mut S) -> Result<ReportDigests, Trouble>
+pub fn digests_of_report<S: StateFolder>(folder: &mut S) -> Result<ReportDigests, FolderTrouble>
     ensures carried { IsTrue S.told → IfOk result (λ digests.
         Carries digests (S.seen folder.old).report) }
     ensures seen { IsTrue S.told → S.seen folder.new ≡ S.seen folder.old }
@@ -109,7 +109,10 @@ pub fn digests_of_report<S: StateFolder>(folder: &mut S) -> Result<ReportDigests
 }
 
 /// The digests of the report's first bytes, at most `most` of them. These are read once.
-pub fn digests_of_front<S: StateFolder>(folder: &mut S, most: u64) -> Result<ReportDigests, Trouble>
+pub fn digests_of_front<S: StateFolder>(
+    folder: &mut S,
+    most: u64,
+) -> Result<ReportDigests, FolderTrouble>
     ensures carried { IsTrue S.told → IfOk result (λ digests.
         Carries digests (take most (S.seen folder.old).report)) }
     ensures seen { IsTrue S.told → S.seen folder.new ≡ S.seen folder.old }
@@ -124,7 +127,10 @@ pub fn digests_of_front<S: StateFolder>(folder: &mut S, most: u64) -> Result<Rep
 }
 
 /// Whether the report has this summary: its length, its lines and both digests. It is read once.
-pub fn is_report_of<S: StateFolder>(folder: &mut S, summary: &ReportMark) -> Result<bool, Trouble>
+pub fn is_report_of<S: StateFolder>(
+    folder: &mut S,
+    summary: &ReportMark,
+) -> Result<bool, FolderTrouble>
     ensures value { IsTrue S.told → IfOk result (λ answer.
         IsTrue answer ↔ (summary.now ≡ summary_of (S.seen folder.old).report)) }
     ensures seen { IsTrue S.told → S.seen folder.new ≡ S.seen folder.old }
@@ -141,7 +147,7 @@ pub fn is_report_of<S: StateFolder>(folder: &mut S, summary: &ReportMark) -> Res
 fn digests_of_tail<S: StateFolder>(
     folder: &mut S,
     summary: &ReportMark,
-) -> Result<ReportDigests, Trouble>
+) -> Result<ReportDigests, FolderTrouble>
     ensures carried { IsTrue S.told → IfOk result (λ digests.
         HasRead summary.now (S.seen folder.old).report digests) }
     ensures seen { IsTrue S.told → S.seen folder.new ≡ S.seen folder.old }
@@ -165,7 +171,7 @@ fn digests_of_tail<S: StateFolder>(
 pub fn resume_digests<S: StateFolder>(
     folder: &mut S,
     summary: &ReportMark,
-) -> Result<Option<ReportDigests>, Trouble>
+) -> Result<Option<ReportDigests>, FolderTrouble>
     ensures found { IsTrue S.told → IfOk result (λ found.
         IsSome found ↔ HasTail summary.now (S.seen folder.old).report) }
     ensures carried { IsTrue S.told → IfOk result (λ found. IfSome found (λ digests.

@@ -5,7 +5,7 @@ ghost use Rattle.ocfl_state.specs.{Crash.{MayTear, Passes}, Pieces.{summary_of}}
 
 use crate::checkpoint_parts::ReportMark;
 use crate::comparing::resume_digests;
-use crate::folder::{StateFolder, Trouble};
+use crate::folder::{FolderTrouble, StateFolder};
 
 /// Whether a report is as long as a mark says.
 fn is_as_long(long: u64, mark: &ReportMark) -> bool
@@ -24,7 +24,7 @@ pub fn append_marked<S: StateFolder>(
     folder: &mut S,
     mark: &ReportMark,
     bytes: &[u8],
-) -> Result<ReportMark, Trouble>
+) -> Result<ReportMark, FolderTrouble>
     ensures marked { IsTrue S.told → mark.now ≡ summary_of (S.seen folder.old).report
         → IfOk result (λ next. next ≡ summary_of ((S.seen folder.old).report ++ bytes.now)) }
     ensures appended { IsTrue S.told → OnOk result (S.seen folder.new
@@ -36,13 +36,13 @@ pub fn append_marked<S: StateFolder>(
         (S.faults folder.old) (S.faults folder.new) result }
 {
     let Some(mut digests) = resume_digests(folder, mark)? else {
-        return Err(Trouble::Failed);
+        return Err(FolderTrouble::Failed);
     };
     folder.append(bytes)?;
     digests.push(bytes);
     let next = digests.summary();
     if !is_as_long(folder.length()?, &next) {
-        return Err(Trouble::Failed);
+        return Err(FolderTrouble::Failed);
     }
     Ok(next)
 }

@@ -6,7 +6,7 @@ ghost use Rattle.ocfl_state.specs.Pieces.{Carries, HasTail, summary_of};
 
 use crate::checkpoint_parts::ReportMark;
 use crate::comparing::{digests_of_front, is_report_of, resume_digests};
-use crate::folder::{StateFolder, Trouble};
+use crate::folder::{FolderTrouble, StateFolder};
 use crate::pieces::ReportDigests;
 
 /// Whether the report is as a checkpoint says, with the digests of as much of it as that speaks of.
@@ -24,7 +24,7 @@ pub enum FoundReport {
 pub fn find_report<S: StateFolder>(
     folder: &mut S,
     mark: &ReportMark,
-) -> Result<FoundReport, Trouble>
+) -> Result<FoundReport, FolderTrouble>
     ensures whole { IsTrue S.told → IfOk result (λ found.
         IsWhole found ↔ HasTail mark.now (S.seen folder.old).report) }
     // If it begins with the report of which the checkpoint speaks, it is whole.
@@ -52,7 +52,7 @@ pub fn may_close_whole<S: StateFolder>(
     folder: &mut S,
     mark: &ReportMark,
     whole: bool,
-) -> Result<bool, Trouble>
+) -> Result<bool, FolderTrouble>
     ensures value { IsTrue S.told → IfOk result (λ answer.
         IsTrue answer ↔ (IsTrue whole × (mark.now ≡ summary_of (S.seen folder.old).report))) }
     ensures seen { IsTrue S.told → S.seen folder.new ≡ S.seen folder.old }

@@ -4,7 +4,7 @@ ghost use Rattle.std.specs.Option.{option_map};
 ghost use Rattle.ocfl_state.specs.Content.{Content, Bytes, empty, with_checkpoint, with_report, moved, is_closed};
 ghost use Rattle.ocfl_state.specs.Crash.{Outcomes, Same, IsPut, MayPut, IsMoved, MayMove, MayTear, Only, Follows, Passes};
 ghost use Rattle.ocfl_state.specs.Calls.{HasCause, HasCauseOr, ClosesRightly, IsReadOf, bytes_of, HasLong, IsLong, most_checkpoint};
-ghost use Rattle.ocfl_state.specs.declared.folder.Trouble.TheVariants.{Memory};
+ghost use Rattle.ocfl_state.specs.declared.folder.FolderTrouble.TheVariants.{Memory};
 
 use std::alloc::AllocError;
 
@@ -14,18 +14,18 @@ pub const MOST_CHECKPOINT: usize = 1_048_576;
 /// Why a call of a state folder failed: the disk failed, it is full, the report of that cycle is
 /// closed already, or memory was refused.
 #[derive(Clone, Copy, Debug, PartialEq, Eq)]
-pub enum Trouble {
+pub enum FolderTrouble {
     Failed,
     Full,
     Taken,
     Memory,
 }
 
-impl From<AllocError> for Trouble {
+impl From<AllocError> for FolderTrouble {
     ghost from_gives = { λ _ e. e ≡ Memory };
 
-    fn from(_error: AllocError) -> Trouble {
-        Trouble::Memory
+    fn from(_error: AllocError) -> FolderTrouble {
+        FolderTrouble::Memory
     }
 }
 
@@ -56,7 +56,7 @@ pub trait StateFolder {
 
     /// The checkpoint's bytes, at most [`MOST_CHECKPOINT`]; `None` if there is no checkpoint.
     /// `Failed` if what is there is longer.
-    fn checkpoint(&mut self) -> Result<Option<Vec<u8>>, Trouble>
+    fn checkpoint(&mut self) -> Result<Option<Vec<u8>>, FolderTrouble>
         ensures bound { IfOk result (λ found. IfSome found (λ bytes.
             length bytes.items ≤ most_checkpoint)) }
         ensures value { IsTrue told → IfOk result (λ found.
@@ -68,7 +68,7 @@ pub trait StateFolder {
 
     /// Puts a checkpoint in place of the one before, as a whole. After `Ok` it is on the disk.
     /// `Failed` if it is longer than [`MOST_CHECKPOINT`]; then nothing is changed.
-    fn put_checkpoint(&mut self, bytes: &[u8]) -> Result<(), Trouble>
+    fn put_checkpoint(&mut self, bytes: &[u8]) -> Result<(), FolderTrouble>
         ensures fits { OnOk result (length bytes.now ≤ most_checkpoint) }
         ensures put { IsTrue told → OnOk result
             (seen self.new ≡ with_checkpoint bytes.now (seen self.old)) }
@@ -83,7 +83,7 @@ pub trait StateFolder {
             (faults self.old) (faults self.new) result };
 
     /// The length of the report, in bytes; 0 if there is no report.
-    fn length(&mut self) -> Result<u64, Trouble>
+    fn length(&mut self) -> Result<u64, FolderTrouble>
         ensures value { IsTrue told → IfOk result (λ n. n ≡ length (seen self.old).report) }
         ensures seen { IsTrue told → seen self.new ≡ seen self.old }
         ensures crash { IsTrue told → Passes may_leave moment left_since Same self.old self.new }
@@ -91,7 +91,7 @@ pub trait StateFolder {
 
     /// Reads the report's bytes from an offset on into the front of the buffer, and gives how many.
     /// For a buffer that is not empty, 0 is the end of the report.
-    fn read(&mut self, start: u64, buffer: &mut [u8]) -> Result<usize, Trouble>
+    fn read(&mut self, start: u64, buffer: &mut [u8]) -> Result<usize, FolderTrouble>
         ensures bound { IfOk result (λ count. count ≤ length buffer.new) }
         ensures value { IsTrue told → IfOk result (λ count.
             IsReadOf (seen self.old).report start (take count buffer.new) (length buffer.new)) }
@@ -101,7 +101,7 @@ pub trait StateFolder {
 
     /// Appends bytes to the report. Until the next `sync` a crash may leave any bytes in their
     /// place, or fewer.
-    fn append(&mut self, bytes: &[u8]) -> Result<(), Trouble>
+    fn append(&mut self, bytes: &[u8]) -> Result<(), FolderTrouble>
         ensures appended { IsTrue told → OnOk result (seen self.new
             ≡ with_report ((seen self.old).report ++ bytes.now) (seen self.old)) }
         ensures crash { IsTrue told → Passes may_leave moment left_since
@@ -111,7 +111,7 @@ pub trait StateFolder {
 
     /// Cuts the report to a length, in bytes; a shorter report stays. Until the next `sync` a crash
     /// may leave any bytes after that, but no more than there were.
-    fn cut(&mut self, most: u64) -> Result<(), Trouble>
+    fn cut(&mut self, most: u64) -> Result<(), FolderTrouble>
         ensures cut { IsTrue told → OnOk result (seen self.new
             ≡ with_report (take most (seen self.old).report) (seen self.old)) }
         ensures crash { IsTrue told
@@ -120,7 +120,7 @@ pub trait StateFolder {
 
     /// Brings all that reads show to the disk: what was appended, cut, put and closed, also by a
     /// process that was killed. After `Ok` a crash leaves just that.
-    fn sync(&mut self) -> Result<(), Trouble>
+    fn sync(&mut self) -> Result<(), FolderTrouble>
         ensures durable { IsTrue told → OnOk result
             (Only (seen self.old) (may_leave self.new)) }
         ensures seen { IsTrue told → seen self.new ≡ seen self.old }
@@ -128,7 +128,7 @@ pub trait StateFolder {
         ensures cause { IsTrue told → HasCause (faults self.old) (faults self.new) result };
 
     /// Whether the report of that cycle is closed, whole or not.
-    fn has_closed(&mut self, cycle: u64) -> Result<bool, Trouble>
+    fn has_closed(&mut self, cycle: u64) -> Result<bool, FolderTrouble>
         ensures value { IsTrue told → IfOk result (λ answer.
             answer ≡ is_closed (seen self.old).closed cycle) }
         ensures seen { IsTrue told → seen self.new ≡ seen self.old }
@@ -139,14 +139,14 @@ pub trait StateFolder {
     /// After `Ok` that is on the disk, as far as the report was.
     ///
     /// `Taken` if a report of that cycle is closed; then nothing is changed.
-    fn close(&mut self, cycle: u64, whole: bool) -> Result<(), Trouble>
+    fn close(&mut self, cycle: u64, whole: bool) -> Result<(), FolderTrouble>
         ensures closed { IsTrue told → OnOk result
             (seen self.new ≡ moved cycle whole (seen self.old)) }
         ensures durable { IsTrue told → OnOk result
             (Follows (IsMoved cycle whole) (may_leave self.old) (may_leave self.new)) }
         ensures crash { IsTrue told
             → Passes may_leave moment left_since (MayMove cycle whole) self.old self.new }
-        ensures taken { IsTrue told → result ≡ Err Trouble.Taken
+        ensures taken { IsTrue told → result ≡ Err FolderTrouble.Taken
             → seen self.new ≡ seen self.old }
         ensures cause { IsTrue told → ClosesRightly (seen self.old) cycle
             (faults self.old) (faults self.new) result };

@@ -3,7 +3,7 @@ ghost use Rattle.std.specs.Prelude.{◌≡◌, ◌≤◌, ◌⊎◌, IfOk, IfSom
 ghost use Rattle.ocfl_state.specs.{Calls.{most_checkpoint}, Reasons.{IsKept}};
 
 use crate::disk::{Disk, for_appending, for_reading, of_file, wrong};
-use crate::folder::{MOST_CHECKPOINT, StateFolder, Trouble};
+use crate::folder::{FolderTrouble, MOST_CHECKPOINT, StateFolder};
 use crate::fs_log::append_line;
 use crate::lock::{StateStop, hold};
 use crate::state_file::{Reason, StateFile, closed_file};
@@ -111,7 +111,7 @@ impl<R: Files<File = File> + AllocGlobal + Clone + Drop> FsState<R> {
     }
 
     /// Whether a file `stop` is in the folder, whatever it is.
-    pub fn has_stop(&mut self) -> Result<bool, Trouble>
+    pub fn has_stop(&mut self) -> Result<bool, FolderTrouble>
         ensures kept { IfErr result (λ trouble. IsKept self.new trouble) }
         ensures same { OnOk result (self.new ≡ self.old) }
     {
@@ -120,7 +120,7 @@ impl<R: Files<File = File> + AllocGlobal + Clone + Drop> FsState<R> {
     }
 
     /// Appends a line to the file `log`, whole or not at all. It is not brought to the disk.
-    pub fn append_log(&mut self, line: &[u8]) -> Result<(), Trouble>
+    pub fn append_log(&mut self, line: &[u8]) -> Result<(), FolderTrouble>
         ensures kept { IfErr result (λ trouble. IsKept self.new trouble) }
         ensures same { OnOk result (self.new ≡ self.old) }
     {
@@ -129,7 +129,7 @@ impl<R: Files<File = File> + AllocGlobal + Clone + Drop> FsState<R> {
     }
 
     /// Opens the closed report of a cycle, if there is one.
-    pub fn open_closed(&mut self, cycle: u64) -> Result<Option<OpenReport>, Trouble>
+    pub fn open_closed(&mut self, cycle: u64) -> Result<Option<OpenReport>, FolderTrouble>
         ensures kept { IfErr result (λ trouble. IsKept self.new trouble) }
         ensures same { OnOk result (self.new ≡ self.old) }
     {
@@ -139,7 +139,7 @@ impl<R: Files<File = File> + AllocGlobal + Clone + Drop> FsState<R> {
 
     /// The bytes of the checkpoint with which the report of a cycle was closed, if it was kept: it
     /// has the length, the lines and the digests of that report.
-    pub fn kept_checkpoint(&mut self, cycle: u64) -> Result<Option<Vec<u8>>, Trouble>
+    pub fn kept_checkpoint(&mut self, cycle: u64) -> Result<Option<Vec<u8>>, FolderTrouble>
         ensures bound { IfOk result (λ found. IfSome found (λ bytes.
             length bytes.items ≤ most_checkpoint)) }
         ensures kept { IfErr result (λ trouble. IsKept self.new trouble) }
@@ -150,7 +150,7 @@ impl<R: Files<File = File> + AllocGlobal + Clone + Drop> FsState<R> {
     }
 
     /// Keeps the reason of a failure.
-    fn answer<T>(&mut self, outcome: Result<T, Reason>) -> Result<T, Trouble>
+    fn answer<T>(&mut self, outcome: Result<T, Reason>) -> Result<T, FolderTrouble>
         ensures value { IfOk result (λ value. outcome ≡ Ok value) }
         ensures kept { IfErr result (λ trouble. IsKept self.new trouble) }
         ensures same { OnOk result (self.new ≡ self.old) }
@@ -372,7 +372,7 @@ impl<R: Files<File = File> + AllocGlobal + Clone + Drop> StateFolder for FsState
 
     ghost only_now = { λ told folder c left. tt };
 
-    fn checkpoint(&mut self) -> Result<Option<Vec<u8>>, Trouble>
+    fn checkpoint(&mut self) -> Result<Option<Vec<u8>>, FolderTrouble>
         ensures bound { IfOk result (λ found. IfSome found (λ bytes.
             length bytes.items ≤ most_checkpoint)) }
         ensures kept { IfErr result (λ trouble. IsKept self.new trouble) }
@@ -382,7 +382,7 @@ impl<R: Files<File = File> + AllocGlobal + Clone + Drop> StateFolder for FsState
         self.answer(found)
     }
 
-    fn put_checkpoint(&mut self, bytes: &[u8]) -> Result<(), Trouble>
+    fn put_checkpoint(&mut self, bytes: &[u8]) -> Result<(), FolderTrouble>
         ensures fits { OnOk result (length bytes.now ≤ most_checkpoint) }
         ensures kept { IfErr result (λ trouble. IsKept self.new trouble) }
         ensures same { OnOk result (self.new ≡ self.old) }
@@ -391,7 +391,7 @@ impl<R: Files<File = File> + AllocGlobal + Clone + Drop> StateFolder for FsState
         self.answer(put)
     }
 
-    fn length(&mut self) -> Result<u64, Trouble>
+    fn length(&mut self) -> Result<u64, FolderTrouble>
         ensures kept { IfErr result (λ trouble. IsKept self.new trouble) }
         ensures same { OnOk result (self.new ≡ self.old) }
     {
@@ -399,7 +399,7 @@ impl<R: Files<File = File> + AllocGlobal + Clone + Drop> StateFolder for FsState
         self.answer(length)
     }
 
-    fn read(&mut self, start: u64, buffer: &mut [u8]) -> Result<usize, Trouble>
+    fn read(&mut self, start: u64, buffer: &mut [u8]) -> Result<usize, FolderTrouble>
         ensures bound { IfOk result (λ count. count ≤ length buffer.new) }
         ensures kept { IfErr result (λ trouble. IsKept self.new trouble) }
         ensures same { OnOk result (self.new ≡ self.old) }
@@ -408,7 +408,7 @@ impl<R: Files<File = File> + AllocGlobal + Clone + Drop> StateFolder for FsState
         self.answer(count)
     }
 
-    fn append(&mut self, bytes: &[u8]) -> Result<(), Trouble>
+    fn append(&mut self, bytes: &[u8]) -> Result<(), FolderTrouble>
         ensures kept { IfErr result (λ trouble. IsKept self.new trouble) }
         ensures same { OnOk result (self.new ≡ self.old) }
     {
@@ -416,7 +416,7 @@ impl<R: Files<File = File> + AllocGlobal + Clone + Drop> StateFolder for FsState
         self.answer(appended)
     }
 
-    fn cut(&mut self, most: u64) -> Result<(), Trouble>
+    fn cut(&mut self, most: u64) -> Result<(), FolderTrouble>
         ensures kept { IfErr result (λ trouble. IsKept self.new trouble) }
         ensures same { OnOk result (self.new ≡ self.old) }
     {
@@ -424,7 +424,7 @@ impl<R: Files<File = File> + AllocGlobal + Clone + Drop> StateFolder for FsState
         self.answer(cut)
     }
 
-    fn sync(&mut self) -> Result<(), Trouble>
+    fn sync(&mut self) -> Result<(), FolderTrouble>
         ensures kept { IfErr result (λ trouble. IsKept self.new trouble) }
         ensures same { OnOk result (self.new ≡ self.old) }
     {
@@ -432,7 +432,7 @@ impl<R: Files<File = File> + AllocGlobal + Clone + Drop> StateFolder for FsState
         self.answer(synced)
     }
 
-    fn has_closed(&mut self, cycle: u64) -> Result<bool, Trouble>
+    fn has_closed(&mut self, cycle: u64) -> Result<bool, FolderTrouble>
         ensures kept { IfErr result (λ trouble. IsKept self.new trouble) }
         ensures same { OnOk result (self.new ≡ self.old) }
     {
@@ -440,13 +440,13 @@ impl<R: Files<File = File> + AllocGlobal + Clone + Drop> StateFolder for FsState
         self.answer(found)
     }
 
-    fn close(&mut self, cycle: u64, whole: bool) -> Result<(), Trouble>
+    fn close(&mut self, cycle: u64, whole: bool) -> Result<(), FolderTrouble>
         ensures kept { IfErr result (λ trouble.
-            (trouble ≡ Trouble.Taken) ⊎ IsKept self.new trouble) }
+            (trouble ≡ FolderTrouble.Taken) ⊎ IsKept self.new trouble) }
         ensures same { OnOk result (self.new ≡ self.old) }
     {
         if self.has_closed(cycle)? {
-            return Err(Trouble::Taken);
+            return Err(FolderTrouble::Taken);
         }
         let moved = self.move_report(cycle, whole);
         self.answer(moved)

@@ -39,7 +39,7 @@ pub use checkpoint_showing::{NotShown, read_stored, show_stored};
 pub use comparing::{digests_of_front, digests_of_report, is_report_of, resume_digests};
 pub use extending::append_marked;
 pub use finding::{FoundReport, find_report, may_close_whole};
-pub use folder::{MOST_CHECKPOINT, StateFolder, Trouble};
+pub use folder::{FolderTrouble, MOST_CHECKPOINT, StateFolder};
 pub use fs_log::FsLog;
 pub use fs_state::{FsState, OpenReport};
 pub use held::ClosedReport;

@@ -5,7 +5,7 @@ ghost use Rattle.std.proofs.Common.{inl};
 ghost use Rattle.ocfl_state.specs.Content.{empty};
 ghost use Rattle.ocfl_state.specs.Memory.{fresh, then_keeps, images, images_since, stays, only_now, IsCrashed, kept_after};
 
-use crate::folder::{MOST_CHECKPOINT, StateFolder, Trouble};
+use crate::folder::{FolderTrouble, MOST_CHECKPOINT, StateFolder};
 use crate::held::{
     ClosedReport, Held, append_held, close_held, copy_checkpoint, cut_held, give_from, has_long,
     image_of, is_among, put_held, sync_held,
@@ -137,29 +137,29 @@ impl MemState {
 
     /// Keeps the next content, and what was kept as past. The only refusal is `Memory`, and then
     /// nothing is changed.
-    fn keep(&mut self, next: Held) -> Result<(), Trouble>
+    fn keep(&mut self, next: Held) -> Result<(), FolderTrouble>
         ensures ok { OnOk result (self.new ≡ then_keeps next self.old) }
         ensures err { OnErr result (self.new ≡ self.old) }
         ensures either { (self.new ≡ then_keeps next self.old) ⊎ (self.new ≡ self.old) }
-        ensures only_memory { IsOkUnless result Trouble.Memory }
+        ensures only_memory { IsOkUnless result FolderTrouble.Memory }
     {
         let before = mem::replace(&mut self.held, next);
         match self.past.push(before) {
             Ok(()) => Ok(()),
             Err(failed) => {
                 self.held = failed.value;
-                Err(Trouble::Memory)
+                Err(FolderTrouble::Memory)
             }
         }
     }
 
     /// Counts a call. `Failed` if it is the one that is made to fail.
-    fn begin_call(&mut self) -> Result<(), Trouble>
+    fn begin_call(&mut self) -> Result<(), FolderTrouble>
         ensures now { self.new.now ≡ self.old.now }
         ensures past { self.new.past ≡ self.old.past }
         ensures ok { OnOk result (self.new.failures ≡ self.old.failures) }
         ensures err { OnErr result (self.new.failures ≡ self.old.failures + 1) }
-        ensures only_failed { IsOkUnless result Trouble.Failed }
+        ensures only_failed { IsOkUnless result FolderTrouble.Failed }
     {
         let due = self.call == Some(1);
         self.call = match self.call {
@@ -168,7 +168,7 @@ impl MemState {
         };
         if due && self.failures < u64::MAX {
             self.failures += 1;
-            return Err(Trouble::Failed);
+            return Err(FolderTrouble::Failed);
         }
         Ok(())
     }
@@ -193,60 +193,60 @@ impl StateFolder for MemState {
 
     ghost only_now = { λ told h c left. only_now h c left };
 
-    fn checkpoint(&mut self) -> Result<Option<Vec<u8>>, Trouble> {
+    fn checkpoint(&mut self) -> Result<Option<Vec<u8>>, FolderTrouble> {
         self.begin_call()?;
         if has_long(&self.held.checkpoint) {
-            return Err(Trouble::Failed);
+            return Err(FolderTrouble::Failed);
         }
         Ok(copy_checkpoint(self.alloc, &self.held.checkpoint)?)
     }
 
-    fn put_checkpoint(&mut self, bytes: &[u8]) -> Result<(), Trouble> {
+    fn put_checkpoint(&mut self, bytes: &[u8]) -> Result<(), FolderTrouble> {
         self.begin_call()?;
         if bytes.len() > MOST_CHECKPOINT {
-            return Err(Trouble::Failed);
+            return Err(FolderTrouble::Failed);
         }
         let next = put_held(self.alloc, &self.held, bytes)?;
         self.keep(next)
     }
 
-    fn length(&mut self) -> Result<u64, Trouble> {
+    fn length(&mut self) -> Result<u64, FolderTrouble> {
         self.begin_call()?;
         Ok(self.held.report.len() as u64)
     }
 
-    fn read(&mut self, start: u64, buffer: &mut [u8]) -> Result<usize, Trouble> {
+    fn read(&mut self, start: u64, buffer: &mut [u8]) -> Result<usize, FolderTrouble> {
         self.begin_call()?;
         Ok(give_from(&self.held.report, start, buffer))
     }
 
-    fn append(&mut self, bytes: &[u8]) -> Result<(), Trouble> {
+    fn append(&mut self, bytes: &[u8]) -> Result<(), FolderTrouble> {
         self.begin_call()?;
         let next = append_held(self.alloc, &self.held, bytes)?;
         self.keep(next)
     }
 
-    fn cut(&mut self, most: u64) -> Result<(), Trouble> {
+    fn cut(&mut self, most: u64) -> Result<(), FolderTrouble> {
         self.begin_call()?;
         let next = cut_held(self.alloc, &self.held, most)?;
         self.keep(next)
     }
 
-    fn sync(&mut self) -> Result<(), Trouble> {
+    fn sync(&mut self) -> Result<(), FolderTrouble> {
         self.begin_call()?;
         let next = sync_held(self.alloc, &self.held)?;
         self.keep(next)
     }
 
-    fn has_closed(&mut self, cycle: u64) -> Result<bool, Trouble> {
+    fn has_closed(&mut self, cycle: u64) -> Result<bool, FolderTrouble> {
         self.begin_call()?;
         Ok(is_among(&self.held.closed, cycle))
     }
 
-    fn close(&mut self, cycle: u64, whole: bool) -> Result<(), Trouble> {
+    fn close(&mut self, cycle: u64, whole: bool) -> Result<(), FolderTrouble> {
         self.begin_call()?;
         if is_among(&self.held.closed, cycle) {
-            return Err(Trouble::Taken);
+            return Err(FolderTrouble::Taken);
         }
         let next = close_held(self.alloc, &self.held, cycle, whole)?;
         self.keep(next)

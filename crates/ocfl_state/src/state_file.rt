@@ -1,7 +1,7 @@
 //! What is in a state folder, and why a call of the system on it failed.
 ghost use Rattle.ocfl_state.specs.Reasons.{IsTroubleOf};
 
-use crate::folder::Trouble;
+use crate::folder::FolderTrouble;
 use std::io::ErrorKind;
 use std::{fmt, io};
 
@@ -75,13 +75,13 @@ pub struct Reason {
 impl Reason {
     /// The trouble that is answered: `Full` if the device or the quota is full, `Memory` if
     /// memory ran out, else `Failed`.
-    pub fn trouble(&self) -> Trouble
+    pub fn trouble(&self) -> FolderTrouble
         ensures { IsTroubleOf self.now result }
     {
         match self.error.kind() {
-            ErrorKind::StorageFull | ErrorKind::QuotaExceeded => Trouble::Full,
-            ErrorKind::OutOfMemory => Trouble::Memory,
-            _ => Trouble::Failed,
+            ErrorKind::StorageFull | ErrorKind::QuotaExceeded => FolderTrouble::Full,
+            ErrorKind::OutOfMemory => FolderTrouble::Memory,
+            _ => FolderTrouble::Failed,
         }
     }
 }

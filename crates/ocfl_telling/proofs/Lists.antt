@@ -9,7 +9,7 @@ use Rattle.ocfl_report.proofs.{Inputs.{IsReadTo, all_read}, Separators.{first_pa
 use Rattle.ocfl_telling.specs.List.{IsBadLine, IsEntry, IsEntryAs, IsKnownText, IsRemark, IsRow, IsSaid, KnownStopsRightly, Row, entries_of, max_bytes, row_text, rows_text}
 use Rattle.ocfl_telling.specs.declared.known.Reach.{Reach}
 use Rattle.ocfl_telling.specs.declared.known.Reach.TheVariants.{One, Place, Branch}
-use Rattle.ocfl_telling.specs.declared.known.Entry.{Entry}
+use Rattle.ocfl_telling.specs.declared.known.KnownEntry.{KnownEntry}
 use Rattle.ocfl_telling.specs.declared.list.KnownStop.{KnownStop}
 use Rattle.ocfl_telling.specs.declared.list.KnownStop.TheVariants.{Long, Read, Memory}
 use Rattle.ocfl_report.specs.{Line.{Line, line_of}, Text.{IsLineText}}
@@ -19,15 +19,15 @@ use Rattle.ocfl_telling.specs.declared.list.KnownStop.TheVariants as stop
 -- ---- one line
 
 -- a line that was cut off at its line feed
-pub row_cut : (text part after : Text) (o : Option Entry) → text ≡ part ++ 10 ∷ after → text ≡ row_text (part, o) ++ after
+pub row_cut : (text part after : Text) (o : Option KnownEntry) → text ≡ part ++ 10 ∷ after → text ≡ row_text (part, o) ++ after
 row_cut text part after o e = e ∙ sym (append_assoc part (10 ∷ []) after)
 
-said_refused : (part : Text) (o : Option Entry) → (IsRemark part → ⊥) → ((e : Entry) → IsEntry part e → ⊥) → IsSaid part o → ⊥
+said_refused : (part : Text) (o : Option KnownEntry) → (IsRemark part → ⊥) → ((e : KnownEntry) → IsEntry part e → ⊥) → IsSaid part o → ⊥
 said_refused part None plain none h = plain h
 said_refused part (Some e) plain none h = none e h.1
 
 -- what is no remark and no entry begins no list
-pub row_refused : (text part after : Text) → text ≡ part ++ 10 ∷ after → All (λ b. b ≢ 10) part → (IsRemark part → ⊥) → ((e : Entry) → IsEntry part e → ⊥)
+pub row_refused : (text part after : Text) → text ≡ part ++ 10 ∷ after → All (λ b. b ≢ 10) part → (IsRemark part → ⊥) → ((e : KnownEntry) → IsEntry part e → ⊥)
     → (r : Row) (rest : Text) → IsRow r → text ≢ row_text r ++ rest
 row_refused text part after e one plain none r rest h f =
     let same : part ≡ r.0 = (first_parts 10 part r.0 after rest one h.0 (sym e ∙ f ∙ append_assoc r.0 (10 ∷ []) rest)).0 in
@@ -41,7 +41,7 @@ rows_more bytes rest after rs r e f =
     let grown : rows_text (rs ++ r ∷ []) ≡ rows_text rs ++ row_text r = flat_map-append row_text rs (r ∷ []) ∙ ap (λ t. rows_text rs ++ t) (append-nil (row_text r)) in
     e ∙ ap (λ t. rows_text rs ++ t) f ∙ sym (append_assoc (rows_text rs) (row_text r) after) ∙ ap (λ t. t ++ after) (sym grown)
 
-pub entries_more : (old new : List Entry) (rs : List Row) (r : Row) → old ≡ entries_of rs → new ≡ old ++ entries_of (r ∷ []) → new ≡ entries_of (rs ++ r ∷ [])
+pub entries_more : (old new : List KnownEntry) (rs : List Row) (r : Row) → old ≡ entries_of rs → new ≡ old ++ entries_of (r ∷ []) → new ≡ entries_of (rs ++ r ∷ [])
 entries_more old new rs r e f = f ∙ ap (λ t. t ++ entries_of (r ∷ [])) e ∙ sym (filter_map-append (λ (x : Row). x.1) rs (r ∷ []))
 
 pub rows_all : (rs : List Row) (r : Row) → All IsRow rs → IsRow r → All IsRow (rs ++ r ∷ [])
@@ -65,7 +65,7 @@ stop_limited b Long h = omega (arith, h, length-take limit b)
 stop_limited b Read h = tt
 stop_limited b Memory h = tt
 
-pub known_read : (known : Option Text) (read : Text) (es : List Entry) → IsRead known read → IsKnownText read es → IfSome known (λ b. IsKnownText b es)
+pub known_read : (known : Option Text) (read : Text) (es : List KnownEntry) → IsRead known read → IsKnownText read es → IfSome known (λ b. IsKnownText b es)
 known_read None read es is h = tt
 known_read (Some b) read es is h =
     let limited : IsKnownText (take limit b) es = subst (λ t. IsKnownText t es) is h in
@@ -85,11 +85,11 @@ named_as row one place branch Branch l h = branch h.0 h.1 l h.2
 
 -- what is the text of no line, in none of the three ways, names nothing
 pub none_named : (row : Text) → ((l : Line) → IsLineText (row ++ codes "\n") l → ⊥) → ((l : Line) → IsLineText (row ++ codes "\t-\n") l → ⊥)
-    → ((path : Text) → row ≡ path ++ codes "/" → (l : Line) → IsLineText (path ++ codes "\t-\n") l → ⊥) → (e : Entry) → IsEntry row e → ⊥
+    → ((path : Text) → row ≡ path ++ codes "/" → (l : Line) → IsLineText (path ++ codes "\t-\n") l → ⊥) → (e : KnownEntry) → IsEntry row e → ⊥
 none_named row one place branch e h = named_as row one place branch e.reach (line_of e.line) h
 
 -- the entry of a branch
-pub branch_named : (row path : Text) (e : Entry) (line : MadeLine) → e.reach ≡ Branch → e.line ≡ line → row ≡ path ++ codes "/"
+pub branch_named : (row path : Text) (e : KnownEntry) (line : MadeLine) → e.reach ≡ Branch → e.line ≡ line → row ≡ path ++ codes "/"
     → IsLineText (path ++ codes "\t-\n") (line_of line) → IsEntry row e
 branch_named row path e line r same f h =
     let made : IsEntryAs Branch row (line_of e.line) = (path, f, subst (λ m. IsLineText (path ++ codes "\t-\n") (line_of m)) (sym same) h) in

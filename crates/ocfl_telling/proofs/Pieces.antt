@@ -8,13 +8,13 @@ use Rattle.ocfl_report.specs.{Line.{Line}, Text.{IsLine, IsLineText, line_text, 
 use Rattle.ocfl_report.proofs.LineTexts.{IsLine-from_text}
 use Rattle.ocfl_telling.specs.{Gravest.{IsOf}, Known.{unknown}}
 use Rattle.ocfl_telling.specs.{Found.{HasBadLine, IsAfter}, declared.found.Found.{Found}}
-use Rattle.ocfl_telling.specs.declared.known.Entry.{Entry}
+use Rattle.ocfl_telling.specs.declared.known.KnownEntry.{KnownEntry}
 
 lines_more : (ls : List Line) (l : Line) → lines_text (ls ++ l ∷ []) ≡ lines_text ls ++ line_text l
 lines_more ls l = flat_map-append line_text ls (l ∷ []) ∙ ap (λ t. lines_text ls ++ t) (append-nil (line_text l))
 
 -- the end of a line: what was kept, and this with its line feed, are the text of the line
-pub line_taken : (es : List Entry) (old new : Found) (b part : Text) (l : Line) → IsAfter es old b → new.rest.items ≡ []
+pub line_taken : (es : List KnownEntry) (old new : Found) (b part : Text) (l : Line) → IsAfter es old b → new.rest.items ≡ []
     → IsLineText ((old.rest.items ++ part) ++ 10 ∷ []) l
     → ((ls : List Line) → IsOf old.gravest (unknown es ls) → IsOf new.gravest (unknown es (ls ++ l ∷ [])))
     → IsAfter es new (b ++ (part ++ 10 ∷ []))
@@ -31,7 +31,7 @@ line_taken es old new b part l h empty text adds =
     }
 
 -- or they are the text of none
-pub line_refused : (es : List Entry) (old : Found) (b part after : Text) → IsAfter es old b → All (λ c. c ≢ 10) part
+pub line_refused : (es : List KnownEntry) (old : Found) (b part after : Text) → IsAfter es old b → All (λ c. c ≢ 10) part
     → ((l : Line) → IsLineText ((old.rest.items ++ part) ++ 10 ∷ []) l → ⊥) → HasBadLine (b ++ (part ++ 10 ∷ []) ++ after)
 line_refused es old b part after h one refused =
     let rest = old.rest.items in
@@ -48,7 +48,7 @@ line_refused es old b part after h one refused =
     }
 
 -- what has no line feed is kept
-pub rest_kept : (es : List Entry) (old new : Found) (b more : Text) → IsAfter es old b → All (λ c. c ≢ 10) more → new.rest.items ≡ old.rest.items ++ more
+pub rest_kept : (es : List KnownEntry) (old new : Found) (b more : Text) → IsAfter es old b → All (λ c. c ≢ 10) more → new.rest.items ≡ old.rest.items ++ more
     → new.gravest ≡ old.gravest → IsAfter es new (b ++ more)
 rest_kept es old new b more h unended e same = record {
   lines = h.lines;

@@ -3,8 +3,8 @@ use Rattle.std.specs.Prelude.{ℕ, ◌-◌, ◌==◌, min, List, [], ◌∷◌, 
 use Rattle.ocfl_tree.specs.Place.{Text}
 use Rattle.ocfl_report.specs.{Line.{line_of}, Text.{escape, lines_text, place_text}}
 use Rattle.ocfl_telling.specs.{Gravest.{most_shown}, Night.{more_text}}
-use Rattle.ocfl_telling.specs.declared.closing.Kind.{Kind}
-use Rattle.ocfl_telling.specs.declared.closing.Kind.TheVariants.{Object, File, Expected}
+use Rattle.ocfl_telling.specs.declared.closing.GoneKind.{GoneKind}
+use Rattle.ocfl_telling.specs.declared.closing.GoneKind.TheVariants.{Object, File, Expected}
 use Rattle.ocfl_telling.specs.{declared.closing.Gone.{Gone}, declared.closing.Closing.{Closing}}
 
 abbrev pub not_whole_text : ℕ → Text → Text
@@ -21,7 +21,7 @@ not_shown count listed = count - min listed most_shown
 abbrev pub section_text : ℕ → Text → Text → ℕ → Text → Text
 section_text count head shown left file = if count == 0 then [] else head ++ shown ++ more_text file left
 
-abbrev pub kind_text : Kind → Text
+abbrev pub kind_text : GoneKind → Text
 kind_text Object = codes "object"
 kind_text File = codes "file"
 kind_text Expected = codes "expected"

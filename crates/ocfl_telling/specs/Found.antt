@@ -3,11 +3,11 @@ use Rattle.std.specs.Prelude.{◌≡◌, ◌≢◌, List, [], ◌∷◌, ◌++�
 use Rattle.ocfl_tree.specs.Place.{Text}
 use Rattle.ocfl_report.specs.{Line.{Line}, Text.{IsLine, IsLineText, lines_text}}
 use Rattle.ocfl_telling.specs.{Gravest.{IsOf}, Known.{unknown}, declared.gravest.Gravest.{Gravest}}
-use Rattle.ocfl_telling.specs.{declared.found.Found.{Found}, declared.known.Entry.{Entry}}
+use Rattle.ocfl_telling.specs.{declared.found.Found.{Found}, declared.known.KnownEntry.{KnownEntry}}
 
 -- after these bytes: their whole lines are taken but for those that are known, and what follows the
 -- last line feed is kept
-pub record IsAfter (known : List Entry) (f : Found) (b : Text) : Type 0 where
+pub record IsAfter (known : List KnownEntry) (f : Found) (b : Text) : Type 0 where
   pub lines : List Line
   pub are : All IsLine lines
   pub is : b ≡ lines_text lines ++ f.rest.items
@@ -15,7 +15,7 @@ pub record IsAfter (known : List Entry) (f : Found) (b : Text) : Type 0 where
   pub gravest : IsOf f.gravest (unknown known lines)
 
 -- the bytes are the text of these lines, and the findings are kept of them that are not known
-pub record AreAll (known : List Entry) (g : Gravest) (b : Text) : Type 0 where
+pub record AreAll (known : List KnownEntry) (g : Gravest) (b : Text) : Type 0 where
   pub lines : List Line
   pub are : All IsLine lines
   pub is : b ≡ lines_text lines

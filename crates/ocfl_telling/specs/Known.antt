@@ -4,7 +4,7 @@ use Rattle.ocfl_tree.specs.Place.{text_eq, place_eq, begins}
 use Rattle.ocfl_report.specs.{Line.{Line, line_of}, Text.{code_text}, declared.code.Code.{Code}}
 use Rattle.ocfl_telling.specs.declared.known.Reach.{Reach}
 use Rattle.ocfl_telling.specs.declared.known.Reach.TheVariants.{One, Place, Branch}
-use Rattle.ocfl_telling.specs.declared.known.Entry.{Entry}
+use Rattle.ocfl_telling.specs.declared.known.KnownEntry.{KnownEntry}
 
 -- ---- what a list names
 
@@ -17,12 +17,12 @@ reaches One m l = place_eq m.place l.place && text_eq m.detail l.detail
 reaches Place m l = place_eq m.place l.place
 reaches Branch m l = begins m.place l.place
 
-abbrev pub names : Line → Entry → Bool
+abbrev pub names : Line → KnownEntry → Bool
 names l e = code_eq e.line.code l.code && reaches e.reach (line_of e.line) l
 
-abbrev pub is_known : List Entry → Line → Bool
+abbrev pub is_known : List KnownEntry → Line → Bool
 is_known es l = list_any (names l) es
 
 -- the lines that a list leaves
-abbrev pub unknown : List Entry → List Line → List Line
+abbrev pub unknown : List KnownEntry → List Line → List Line
 unknown es ls = filter (λ l. not (is_known es l)) ls

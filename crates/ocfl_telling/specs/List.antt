@@ -5,7 +5,7 @@ use Rattle.ocfl_tree.specs.Place.{Text}
 use Rattle.ocfl_report.specs.{Line.{Line, line_of}, Text.{IsLineText}}
 use Rattle.ocfl_telling.specs.declared.known.Reach.{Reach}
 use Rattle.ocfl_telling.specs.declared.known.Reach.TheVariants.{One, Place, Branch}
-use Rattle.ocfl_telling.specs.{declared.known.Entry.{Entry}, declared.list.KnownStop.{KnownStop}}
+use Rattle.ocfl_telling.specs.{declared.known.KnownEntry.{KnownEntry}, declared.list.KnownStop.{KnownStop}}
 use Rattle.ocfl_telling.specs.declared.list.KnownStop.TheVariants as stop
 
 -- and the most bytes
@@ -19,7 +19,7 @@ IsEntryAs One t l = IsLineText (t ++ codes "\n") l
 IsEntryAs Place t l = IsLineText (t ++ codes "\t-\n") l
 IsEntryAs Branch t l = (path : Text) × (t ≡ path ++ codes "/") × IsLineText (path ++ codes "\t-\n") l
 
-abbrev pub IsEntry : Text → Entry → Type 0
+abbrev pub IsEntry : Text → KnownEntry → Type 0
 IsEntry t e = IsEntryAs e.reach t (line_of e.line)
 
 -- the first bytes are this word
@@ -36,9 +36,9 @@ IsRemark t = (t ≡ []) ⊎ BeginsWith t (codes "#") ⊎ NamesLoss t
 
 -- a line without its line feed, and the entry that it is, unless it is a remark
 abbrev pub Row : Type 0
-Row = Text × Option Entry
+Row = Text × Option KnownEntry
 
-abbrev pub IsSaid : Text → Option Entry → Type 0
+abbrev pub IsSaid : Text → Option KnownEntry → Type 0
 IsSaid t None = IsRemark t
 IsSaid t (Some e) = (IsRemark t → ⊥) × IsEntry t e
 
@@ -51,11 +51,11 @@ row_text r = r.0 ++ 10 ∷ []
 abbrev pub rows_text : List Row → Text
 rows_text rs = flat_map row_text rs
 
-abbrev pub entries_of : List Row → List Entry
+abbrev pub entries_of : List Row → List KnownEntry
 entries_of rs = filter_map (λ r. r.1) rs
 
 -- the bytes are lines that have these entries
-pub record IsList (b : Text) (es : List Entry) : Type 0 where
+pub record IsList (b : Text) (es : List KnownEntry) : Type 0 where
   pub rows : List Row
   pub are : All IsRow rows
   pub is : b ≡ rows_text rows
@@ -81,7 +81,7 @@ abbrev pub IsEnded : Text → Text → Type 0
 IsEnded b t = ((t ≡ b) × ((b ≡ []) ⊎ HasFeed b)) ⊎ ((t ≡ b ++ codes "\n") × (((b ≡ []) ⊎ HasFeed b) → ⊥))
 
 -- the bytes are a list of these entries
-pub record IsKnownText (b : Text) (es : List Entry) : Type 0 where
+pub record IsKnownText (b : Text) (es : List KnownEntry) : Type 0 where
   pub short : length b ≤ max_bytes
   pub text : Text
   pub ended : IsEnded b text

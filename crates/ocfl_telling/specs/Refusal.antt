@@ -2,8 +2,8 @@
 use Rattle.std.specs.Prelude.{ℕ, ◌++◌, codes, decimal}
 use Rattle.ocfl_tree.specs.Place.{Text}
 use Rattle.ocfl_report.specs.Text.{escape}
-use Rattle.ocfl_telling.specs.declared.refusal.Refusal.{Refusal}
-use Rattle.ocfl_telling.specs.declared.refusal.Refusal.TheVariants.{NoCheckpoint, HasReports, NotCheckpoint, Version, Damaged, Malformed, OfScripts, NoRoot, OtherRoot, OtherDeclaration, OtherPart, NamesGone, RootChanged, Worn}
+use Rattle.ocfl_telling.specs.declared.refusal.RefusalMessage.{RefusalMessage}
+use Rattle.ocfl_telling.specs.declared.refusal.RefusalMessage.TheVariants.{NoCheckpoint, HasReports, NotCheckpoint, Version, Damaged, Malformed, OfScripts, NoRoot, OtherRoot, OtherDeclaration, OtherPart, NamesGone, RootChanged, Worn}
 
 -- longer ones
 abbrev pub other_root_text : Text → Text → Text → Text
@@ -22,7 +22,7 @@ abbrev pub root_changed_text : Text → Text
 root_changed_text root = escape root ++ codes " is not the storage root that the night began with: is its file system mounted?"
 
 -- what is wrong with the root or the state folder, whose paths these are
-abbrev pub reason_text : Refusal → Text → Text → Text
+abbrev pub reason_text : RefusalMessage → Text → Text → Text
 reason_text NoCheckpoint root state = escape state ++ codes " has no checkpoint: is its file system mounted? For a first night, give --create."
 reason_text HasReports root state = escape state ++ codes " has reports of earlier nights, and no checkpoint. Put it back, or begin anew in another folder."
 reason_text NotCheckpoint root state = escape state ++ codes "/checkpoint is no checkpoint."
@@ -39,9 +39,9 @@ reason_text RootChanged root state = root_changed_text root
 reason_text Worn root state = codes "The number of the cycle in " ++ escape state ++ codes " can grow no more."
 
 -- what became of the run
-abbrev pub ending_text : Refusal → Text
+abbrev pub ending_text : RefusalMessage → Text
 ending_text RootChanged = codes " The run does not count; the next night makes it again.\n"
 ending_text _ = codes " Nothing was run.\n"
 
-abbrev pub refusal_text : Refusal → Text → Text → Text
+abbrev pub refusal_text : RefusalMessage → Text → Text → Text
 refusal_text refusal root state = reason_text refusal root state ++ ending_text refusal

@@ -15,7 +15,7 @@ use std::alloc::{AllocError, Global};
 
 /// What is gone.
 #[derive(Clone, Copy, Debug, PartialEq, Eq)]
-pub enum Kind {
+pub enum GoneKind {
     /// An object of the last whole report.
     Object,
     /// A content file of it.
@@ -28,7 +28,7 @@ pub enum Kind {
 #[derive(Debug, Drop)]
 pub struct Gone {
     /// What it is.
-    pub kind: Kind,
+    pub kind: GoneKind,
     /// Its place.
     pub place: Place,
 }
@@ -118,13 +118,13 @@ fn put_more(
     text.extend_from_slice(more(alloc, file, u128::from(left))?.as_bytes())
 }
 
-fn kind_of(kind: Kind) -> &'static str
+fn kind_of(kind: GoneKind) -> &'static str
     ensures { result.now ≡ kind_text kind }
 {
     match kind {
-        Kind::Object => "object",
-        Kind::File => "file",
-        Kind::Expected => "expected",
+        GoneKind::Object => "object",
+        GoneKind::File => "file",
+        GoneKind::Expected => "expected",
     }
 }
 

@@ -22,7 +22,7 @@ impl Found {
     ghost use Rattle.std.specs.Prelude.{◌≡◌, ◌≢◌, List, ℕ, [], ◌∷◌, ◌++◌, All, IfOk, OnErr};
     ghost use Rattle.ocfl_tree.specs.Place.{Text as ModelText};
     ghost use Rattle.ocfl_telling.specs.Found.{IsAfter, AreAll, HasBadLine};
-    ghost use Rattle.ocfl_telling.specs.declared.known.Entry.{Entry as ModelEntry};
+    ghost use Rattle.ocfl_telling.specs.declared.known.KnownEntry.{KnownEntry as ModelEntry};
 
     /// Nothing, of no bytes.
     pub fn new(alloc: Global) -> Found

@@ -21,7 +21,7 @@ pub enum Reach {
 
 /// An entry of a list.
 #[derive(Debug, Drop)]
-pub struct Entry {
+pub struct KnownEntry {
     /// What it names.
     pub reach: Reach,
     /// The code and the place; the detail counts for [`Reach::One`] alone.
@@ -32,7 +32,7 @@ pub struct Entry {
 #[derive(Debug, Drop)]
 pub struct Known {
     /// Its entries, in their order.
-    pub entries: Vec<Entry>,
+    pub entries: Vec<KnownEntry>,
 }
 
 impl Known {
@@ -63,7 +63,7 @@ impl Known {
 }
 
 /// Whether an entry names a line.
-fn is_named(entry: &Entry, line: &Line) -> bool
+fn is_named(entry: &KnownEntry, line: &Line) -> bool
     ensures { result ≡ names (line_of line.now) entry.now }
 {
     is_code(entry.line.code, line.code) && is_reached(entry.reach, &entry.line, line)

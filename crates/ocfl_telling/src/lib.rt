@@ -18,17 +18,17 @@ mod shown;
 mod stop;
 mod weight;
 
-pub use closing::{Closing, Gone, Kind, closing_text};
+pub use closing::{Closing, Gone, GoneKind, closing_text};
 pub use found::Found;
 pub use gravest::{Gravest, Kept, SHOWN};
-pub use known::{Entry, Known, Reach};
+pub use known::{Known, KnownEntry, Reach};
 pub use list::{KnownStop, read_known};
 pub use log::{
     ClosingRow, LeftRow, NightRow, RefusalRow, SliceRow, Stands, closing_line, left_line,
     night_line, refusal_line, slice_line,
 };
 pub use night::{Night, night_text};
-pub use refusal::{Refusal, refusal_text};
+pub use refusal::{RefusalMessage, refusal_text};
 pub use shown::Shown;
-pub use stop::{Stop, stop_text};
+pub use stop::{StopMessage, stop_text};
 pub use weight::{Weight, weigh};

@@ -3,9 +3,9 @@ ghost use Rattle.std.specs.Prelude.{◌≡◌, ◌≢◌, ◌⊎◌, ◌↔◌, 
 ghost use Rattle.ocfl_tree.specs.Place.{Text as ModelText};
 ghost use Rattle.ocfl_report.specs.{Line.{Line as ModelLine, line_of}, Text.{IsLineText}};
 ghost use Rattle.ocfl_telling.specs.List.{BeginsWith, HasFeed, IsEnded, IsEntry, IsKnownText, IsList, IsRemark, IsRow, NamesLoss, KnownStopsRightly, Row as ModelRow, RowsStop, entries_of, row_text};
-ghost use Rattle.ocfl_telling.specs.declared.known.Entry.{Entry as ModelEntry};
+ghost use Rattle.ocfl_telling.specs.declared.known.KnownEntry.{KnownEntry as ModelEntry};
 
-use crate::known::{Entry, Known, Reach};
+use crate::known::{Known, KnownEntry, Reach};
 use ocfl_report::{InputStop, Line, TextStop, read_limited, read_line, split_once};
 use std::alloc::{AllocError, Global};
 use std::io::Read;
@@ -113,7 +113,7 @@ fn read_rows(alloc: Global, bytes: &[u8]) -> Result<Known, KnownStop>
 fn take_row<'a>(
     alloc: Global,
     text: &'a [u8],
-    entries: &mut Vec<Entry>,
+    entries: &mut Vec<KnownEntry>,
 ) -> Result<&'a [u8], TextStop>
     ensures ok { IfOk result (λ after. (row : ModelRow) × IsRow row
         × (text.now ≡ row_text row ++ after.now)
@@ -136,7 +136,7 @@ fn take_row<'a>(
     Ok(after)
 }
 
-fn put_entry(entry: Entry, entries: &mut Vec<Entry>) -> Result<(), AllocError>
+fn put_entry(entry: KnownEntry, entries: &mut Vec<KnownEntry>) -> Result<(), AllocError>
     ensures { OnOk result (entries.new.items ≡ entries.old.items ++ entry ∷ []) }
 {
     entries.push(entry)?;
@@ -171,7 +171,7 @@ fn begins_with(row: &[u8], word: &[u8]) -> bool
 }
 
 /// What a line names, and `None` if it names nothing.
-fn read_entry(alloc: Global, row: &[u8]) -> Result<Option<Entry>, AllocError>
+fn read_entry(alloc: Global, row: &[u8]) -> Result<Option<KnownEntry>, AllocError>
     ensures found { IfOk result (λ o. IfSome o (IsEntry row.now)) }
     ensures missing { IfOk result
         (λ o. IsNone o → (e : ModelEntry) → IsEntry row.now e → ⊥) }
@@ -192,11 +192,11 @@ fn read_entry(alloc: Global, row: &[u8]) -> Result<Option<Entry>, AllocError>
 }
 
 /// An entry.
-fn entry_of(reach: Reach, line: Line) -> Entry
+fn entry_of(reach: Reach, line: Line) -> KnownEntry
     ensures reach { result.reach ≡ reach }
     ensures line { result.line ≡ line }
 {
-    Entry { reach, line }
+    KnownEntry { reach, line }
 }
 
 /// The report line that this text and the bytes after it make, if they make one.

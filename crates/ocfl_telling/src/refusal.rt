@@ -7,7 +7,7 @@ use std::alloc::{AllocError, Global};
 
 /// Why a night did nothing.
 #[derive(Clone, Copy, Debug, PartialEq, Eq)]
-pub enum Refusal<'a> {
+pub enum RefusalMessage<'a> {
     /// The state folder has no checkpoint.
     NoCheckpoint,
     /// It has no checkpoint, and has a report or closed reports.
@@ -46,7 +46,7 @@ pub enum Refusal<'a> {
 /// What is wrong, in words.
 fn reason(
     alloc: Global,
-    refusal: Refusal<'_>,
+    refusal: RefusalMessage<'_>,
     root: Shown<'_>,
     state: Shown<'_>,
 ) -> Result<String, AllocError>
@@ -54,33 +54,35 @@ fn reason(
         ≡ reason_text refusal.entry root.entry.0.now state.entry.0.now) }
 {
     match refusal {
-        Refusal::NoCheckpoint => format!(in alloc;
+        RefusalMessage::NoCheckpoint => format!(in alloc;
             "{state} has no checkpoint: is its file system mounted? For a first night, give \
              --create."
         ),
-        Refusal::HasReports => format!(in alloc;
+        RefusalMessage::HasReports => format!(in alloc;
             "{state} has reports of earlier nights, and no checkpoint. Put it back, or begin anew \
              in another folder."
         ),
-        Refusal::NotCheckpoint => format!(in alloc; "{state}/checkpoint is no checkpoint."),
-        Refusal::Version => format!(in alloc; "{state}/checkpoint is of another version."),
-        Refusal::Damaged => format!(in alloc; "{state}/checkpoint is damaged."),
-        Refusal::Malformed => format!(in alloc; "{state}/checkpoint is malformed."),
-        Refusal::OfScripts => format!(in alloc;
+        RefusalMessage::NotCheckpoint => format!(in alloc; "{state}/checkpoint is no checkpoint."),
+        RefusalMessage::Version => format!(in alloc; "{state}/checkpoint is of another version."),
+        RefusalMessage::Damaged => format!(in alloc; "{state}/checkpoint is damaged."),
+        RefusalMessage::Malformed => format!(in alloc; "{state}/checkpoint is malformed."),
+        RefusalMessage::OfScripts => format!(in alloc;
             "{state} is a folder of earlier scripts, with a cursor and a log of nights. Begin anew \
              in another folder."
         ),
-        Refusal::NoRoot => format!(in alloc;
+        RefusalMessage::NoRoot => format!(in alloc;
             "{root} does not declare itself a storage root: is its file system mounted?"
         ),
-        Refusal::OtherRoot(bound) => other_root(alloc, bound, root, state),
-        Refusal::OtherDeclaration => other_declaration(alloc, root, state),
-        Refusal::OtherPart => other_part(alloc, root, state),
-        Refusal::NamesGone { gone, before } => names_gone(alloc, gone, before, root),
-        Refusal::RootChanged => format!(in alloc;
+        RefusalMessage::OtherRoot(bound) => other_root(alloc, bound, root, state),
+        RefusalMessage::OtherDeclaration => other_declaration(alloc, root, state),
+        RefusalMessage::OtherPart => other_part(alloc, root, state),
+        RefusalMessage::NamesGone { gone, before } => names_gone(alloc, gone, before, root),
+        RefusalMessage::RootChanged => format!(in alloc;
             "{root} is not the storage root that the night began with: is its file system mounted?"
         ),
-        Refusal::Worn => format!(in alloc; "The number of the cycle in {state} can grow no more."),
+        RefusalMessage::Worn => format!(in alloc;
+            "The number of the cycle in {state} can grow no more."
+        ),
     }
 }
 
@@ -126,24 +128,24 @@ fn names_gone(alloc: Global, gone: u64, before: u64, root: Shown<'_>) -> Result<
 }
 
 /// What became of the run.
-fn ending(refusal: Refusal<'_>) -> &'static str
+fn ending(refusal: RefusalMessage<'_>) -> &'static str
     ensures { result.now ≡ ending_text refusal.entry }
 {
     match refusal {
-        Refusal::RootChanged => " The run does not count; the next night makes it again.\n",
-        Refusal::NoCheckpoint
-        | Refusal::HasReports
-        | Refusal::NotCheckpoint
-        | Refusal::Version
-        | Refusal::Damaged
-        | Refusal::Malformed
-        | Refusal::OfScripts
-        | Refusal::NoRoot
-        | Refusal::OtherRoot(_)
-        | Refusal::OtherDeclaration
-        | Refusal::OtherPart
-        | Refusal::NamesGone { .. }
-        | Refusal::Worn => " Nothing was run.\n",
+        RefusalMessage::RootChanged => " The run does not count; the next night makes it again.\n",
+        RefusalMessage::NoCheckpoint
+        | RefusalMessage::HasReports
+        | RefusalMessage::NotCheckpoint
+        | RefusalMessage::Version
+        | RefusalMessage::Damaged
+        | RefusalMessage::Malformed
+        | RefusalMessage::OfScripts
+        | RefusalMessage::NoRoot
+        | RefusalMessage::OtherRoot(_)
+        | RefusalMessage::OtherDeclaration
+        | RefusalMessage::OtherPart
+        | RefusalMessage::NamesGone { .. }
+        | RefusalMessage::Worn => " Nothing was run.\n",
     }
 }
 
@@ -151,7 +153,7 @@ fn ending(refusal: Refusal<'_>) -> &'static str
 /// the run.
 pub fn refusal_text(
     alloc: Global,
-    refusal: Refusal<'_>,
+    refusal: RefusalMessage<'_>,
     root: &str,
     state: &str,
 ) -> Result<String, AllocError>

@@ -10,7 +10,7 @@ use std::alloc::{AllocError, Global};
 
 /// Why a night stopped.
 #[derive(Clone, Copy, Debug)]
-pub enum Stop<'a> {
+pub enum StopMessage<'a> {
     /// A place that could not be read, and that could not be left out.
     At(&'a Place),
     /// The output took no more.
@@ -33,14 +33,14 @@ fn brackets(alloc: Global, words: Option<&str>) -> Result<String, AllocError>
 }
 
 /// What stopped the night.
-fn why(alloc: Global, stop: Stop<'_>, state: &str) -> Result<String, AllocError>
+fn why(alloc: Global, stop: StopMessage<'_>, state: &str) -> Result<String, AllocError>
     ensures { IfOk result (λ text. string_bytes text ≡ why_text stop.entry state.now) }
 {
     match stop {
-        Stop::At(place) => format!(in alloc; "stopped at {}", DisplayPlace(place)),
-        Stop::Output => String::from_str(alloc, "output failed"),
-        Stop::State => format!(in alloc; "{} failed", Shown(state)),
-        Stop::Memory => String::from_str(alloc, "out of memory"),
+        StopMessage::At(place) => format!(in alloc; "stopped at {}", DisplayPlace(place)),
+        StopMessage::Output => String::from_str(alloc, "output failed"),
+        StopMessage::State => format!(in alloc; "{} failed", Shown(state)),
+        StopMessage::Memory => String::from_str(alloc, "out of memory"),
     }
 }
 
@@ -48,7 +48,7 @@ fn why(alloc: Global, stop: Stop<'_>, state: &str) -> Result<String, AllocError>
 /// the call that failed, and what the next night does.
 pub fn stop_text(
     alloc: Global,
-    stop: Stop<'_>,
+    stop: StopMessage<'_>,
     words: Option<&str>,
     part: Option<u64>,
     root: &str,
@@ -65,12 +65,12 @@ pub fn stop_text(
 }
 
 /// What the next night does.
-fn next(stop: Stop<'_>) -> &'static str
+fn next(stop: StopMessage<'_>) -> &'static str
     ensures { result.now ≡ next_text stop.entry }
 {
     match stop {
-        Stop::At(_) => ". The next one tries that place again.\n",
-        Stop::Output | Stop::State | Stop::Memory => {
+        StopMessage::At(_) => ". The next one tries that place again.\n",
+        StopMessage::Output | StopMessage::State | StopMessage::Memory => {
             ". The next one goes on from the checkpoint.\n"
         }
     }

@@ -4,8 +4,8 @@ use crate::nights::telling::Names;
 use ocfl_item::Fault;
 use ocfl_night::{Halt, Refusal, Stop};
 use ocfl_report::DisplayPlace;
-use ocfl_state::Trouble;
-use ocfl_telling::{Shown, refusal_text, stop_text};
+use ocfl_state::FolderTrouble;
+use ocfl_telling::{RefusalMessage, Shown, StopMessage, refusal_text, stop_text};
 use ocfl_tree::Place;
 use std::alloc::{AllocError, Global};
 
@@ -34,7 +34,7 @@ pub(crate) fn ending_text(
         Halt::Refused(refusal) => Ok(Some(text_of_refusal(alloc, refusal, names)?)),
         Halt::RootChanged => Ok(Some(refusal_text(
             alloc,
-            ocfl_telling::Refusal::RootChanged,
+            RefusalMessage::RootChanged,
             names.root,
             names.state,
         )?)),
@@ -74,17 +74,17 @@ fn text_of_refusal(
         _ => String::new(alloc),
     };
     let why = match refusal {
-        Refusal::NoCheckpoint => ocfl_telling::Refusal::NoCheckpoint,
-        Refusal::HasReports => ocfl_telling::Refusal::HasReports,
-        Refusal::NotCheckpoint => ocfl_telling::Refusal::NotCheckpoint,
-        Refusal::Version => ocfl_telling::Refusal::Version,
-        Refusal::Damaged => ocfl_telling::Refusal::Damaged,
-        Refusal::Malformed => ocfl_telling::Refusal::Malformed,
-        Refusal::NoRoot => ocfl_telling::Refusal::NoRoot,
-        Refusal::OtherRoot(_) => ocfl_telling::Refusal::OtherRoot(bound.as_str()),
-        Refusal::OtherPart => ocfl_telling::Refusal::OtherPart,
-        Refusal::OtherDeclaration => ocfl_telling::Refusal::OtherDeclaration,
-        Refusal::NamesGone { gone, before } => ocfl_telling::Refusal::NamesGone {
+        Refusal::NoCheckpoint => RefusalMessage::NoCheckpoint,
+        Refusal::HasReports => RefusalMessage::HasReports,
+        Refusal::NotCheckpoint => RefusalMessage::NotCheckpoint,
+        Refusal::Version => RefusalMessage::Version,
+        Refusal::Damaged => RefusalMessage::Damaged,
+        Refusal::Malformed => RefusalMessage::Malformed,
+        Refusal::NoRoot => RefusalMessage::NoRoot,
+        Refusal::OtherRoot(_) => RefusalMessage::OtherRoot(bound.as_str()),
+        Refusal::OtherPart => RefusalMessage::OtherPart,
+        Refusal::OtherDeclaration => RefusalMessage::OtherDeclaration,
+        Refusal::NamesGone { gone, before } => RefusalMessage::NamesGone {
             gone: *gone,
             before: *before,
         },
@@ -93,10 +93,10 @@ fn text_of_refusal(
 }
 
 /// What stopped a run.
-fn stop_of(fault: &Fault) -> ocfl_telling::Stop<'_> {
+fn stop_of(fault: &Fault) -> StopMessage<'_> {
     match fault {
-        Fault::Store(place) => ocfl_telling::Stop::At(place),
-        Fault::Memory => ocfl_telling::Stop::Memory,
+        Fault::Store(place) => StopMessage::At(place),
+        Fault::Memory => StopMessage::Memory,
     }
 }
 
@@ -117,7 +117,7 @@ fn text_of_fault(
 /// The line on a night that stopped.
 fn text_of_stop(
     alloc: Global,
-    stop: ocfl_telling::Stop<'_>,
+    stop: StopMessage<'_>,
     words: Option<&str>,
     names: Names<'_>,
 ) -> Result<String, AllocError> {
@@ -133,14 +133,14 @@ fn text_of_trouble(
     names: Names<'_>,
 ) -> Result<String, AllocError> {
     match stop {
-        Stop::Worn => refusal_text(alloc, ocfl_telling::Refusal::Worn, names.root, names.state),
-        Stop::Output => text_of_stop(alloc, ocfl_telling::Stop::Output, None, names),
-        Stop::Unread(place) => text_of_stop(alloc, ocfl_telling::Stop::At(place), why, names),
-        Stop::Folder(Trouble::Memory) => {
-            text_of_stop(alloc, ocfl_telling::Stop::Memory, None, names)
+        Stop::Worn => refusal_text(alloc, RefusalMessage::Worn, names.root, names.state),
+        Stop::Output => text_of_stop(alloc, StopMessage::Output, None, names),
+        Stop::Unread(place) => text_of_stop(alloc, StopMessage::At(place), why, names),
+        Stop::Folder(FolderTrouble::Memory) => {
+            text_of_stop(alloc, StopMessage::Memory, None, names)
         }
         Stop::Folder(_) | Stop::Endless | Stop::Unsaid | Stop::Overtold | Stop::Short => {
-            text_of_stop(alloc, ocfl_telling::Stop::State, words, names)
+            text_of_stop(alloc, StopMessage::State, words, names)
         }
     }
 }

@@ -6,7 +6,7 @@ use crate::nights::making::{file_failure, is_there, make_file, make_folder, put_
 use crate::nights::sound::is_sound;
 use crate::nights::stand::Standing;
 use crate::nights::state::{folder_failure, open_state};
-use crate::saying::{STOPPED, Stop};
+use crate::saying::{NotDone, STOPPED};
 use ocfl_compare::{ClosedPart, MissingPart, find_missing, join_part};
 use ocfl_cursor::{PartEnds, Refused};
 use ocfl_line::JoinAsked;
@@ -43,7 +43,7 @@ fn read_separators<R: Files + AllocGlobal>(rt: &R, file: &str) -> Result<Separat
         Ok(separators) => Ok(separators),
         Err(PartsStop::Memory) => Err(Failure::from(AllocError)),
         Err(stop) => {
-            let stop = Stop::Scope(ScopeStop::Parts(stop));
+            let stop = NotDone::Scope(ScopeStop::Parts(stop));
             Err(Failure {
                 status: stop.status(),
                 text: Some(format!(in rt.alloc(); "{stop}\n")?),

@@ -1,7 +1,7 @@
 //! A state folder whose checkpoints are noted as they are put.
 use crate::nights::logging::Journal;
 use crate::nights::stand::Standing;
-use ocfl_state::{Checkpoint, FsState, StateFolder, Trouble, decode_checkpoint};
+use ocfl_state::{Checkpoint, FolderTrouble, FsState, StateFolder, decode_checkpoint};
 use std::alloc::Global;
 use std::cell::Cell;
 use std::fs::File;
@@ -48,41 +48,41 @@ impl<R: Files<File = File> + AllocGlobal + Clock> StateFolder for Noting<'_, R> 
 
     ghost only_now = { λ told folder c left. tt };
 
-    fn checkpoint(&mut self) -> Result<Option<Vec<u8>>, Trouble> {
+    fn checkpoint(&mut self) -> Result<Option<Vec<u8>>, FolderTrouble> {
         self.folder.checkpoint()
     }
 
-    fn put_checkpoint(&mut self, bytes: &[u8]) -> Result<(), Trouble> {
+    fn put_checkpoint(&mut self, bytes: &[u8]) -> Result<(), FolderTrouble> {
         self.folder.put_checkpoint(bytes)?;
         self.note(bytes);
         Ok(())
     }
 
-    fn length(&mut self) -> Result<u64, Trouble> {
+    fn length(&mut self) -> Result<u64, FolderTrouble> {
         self.folder.length()
     }
 
-    fn read(&mut self, start: u64, buffer: &mut [u8]) -> Result<usize, Trouble> {
+    fn read(&mut self, start: u64, buffer: &mut [u8]) -> Result<usize, FolderTrouble> {
         self.folder.read(start, buffer)
     }
 
-    fn append(&mut self, bytes: &[u8]) -> Result<(), Trouble> {
+    fn append(&mut self, bytes: &[u8]) -> Result<(), FolderTrouble> {
         self.folder.append(bytes)
     }
 
-    fn cut(&mut self, most: u64) -> Result<(), Trouble> {
+    fn cut(&mut self, most: u64) -> Result<(), FolderTrouble> {
         self.folder.cut(most)
     }
 
-    fn sync(&mut self) -> Result<(), Trouble> {
+    fn sync(&mut self) -> Result<(), FolderTrouble> {
         self.folder.sync()
     }
 
-    fn has_closed(&mut self, cycle: u64) -> Result<bool, Trouble> {
+    fn has_closed(&mut self, cycle: u64) -> Result<bool, FolderTrouble> {
         self.folder.has_closed(cycle)
     }
 
-    fn close(&mut self, cycle: u64, whole: bool) -> Result<(), Trouble> {
+    fn close(&mut self, cycle: u64, whole: bool) -> Result<(), FolderTrouble> {
         self.folder.close(cycle, whole)
     }
 }

@@ -5,7 +5,7 @@ use crate::scope::read_scope;
 use ocfl_cursor::PartEnds;
 use ocfl_line::Chosen;
 use ocfl_scope::Scope;
-use ocfl_telling::{Refusal, Shown, refusal_text};
+use ocfl_telling::{RefusalMessage, Shown, refusal_text};
 use ocfl_tree::Place;
 use std::alloc::{AllocError, Global};
 use std::rt::Files;
@@ -51,7 +51,7 @@ fn unresolved(
     error: &io::Error,
 ) -> Result<Failure, AllocError> {
     if error.kind() == io::ErrorKind::NotFound {
-        return Ok(Failure::stopped(refusal_text(alloc, Refusal::NoRoot, root, state)?));
+        return Ok(Failure::stopped(refusal_text(alloc, RefusalMessage::NoRoot, root, state)?));
     }
     Ok(Failure::stopped(format!(in alloc; "{}: {error}. Nothing was run.\n", Shown(root))?))
 }

@@ -1,7 +1,7 @@
 //! What changed from one report to the next, as its rows come.
 
 use ocfl_report::{Code, Line, read_line, read_place, split_once};
-use ocfl_telling::{Gone, Kind, Known, SHOWN};
+use ocfl_telling::{Gone, GoneKind, Known, SHOWN};
 use ocfl_tree::Place;
 use std::alloc::Global;
 use std::io::{self, ErrorKind, Write};
@@ -64,7 +64,7 @@ fn place_of(alloc: Global, path: &[u8]) -> io::Result<Place> {
 
 impl<W: Write + Drop> Rows<'_, W> {
     /// Takes what is gone.
-    fn take_gone(&mut self, kind: Kind, path: &[u8], row: &[u8]) -> io::Result<()> {
+    fn take_gone(&mut self, kind: GoneKind, path: &[u8], row: &[u8]) -> io::Result<()> {
         self.list.write_all(row)?;
         self.changes.gone_count = self.changes.gone_count.saturating_add(1);
         if self.changes.gone.len() < SHOWN {
@@ -110,9 +110,9 @@ impl<W: Write + Drop> Rows<'_, W> {
             return Err(broken());
         };
         match word {
-            b"object" => self.take_gone(Kind::Object, path, row),
-            b"file" => self.take_gone(Kind::File, path, row),
-            b"expected" => self.take_gone(Kind::Expected, path, row),
+            b"object" => self.take_gone(GoneKind::Object, path, row),
+            b"file" => self.take_gone(GoneKind::File, path, row),
+            b"expected" => self.take_gone(GoneKind::Expected, path, row),
             b"repaired" => self.take_repaired(path),
             code => self.take_new(code, path),
         }

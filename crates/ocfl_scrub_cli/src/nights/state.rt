@@ -4,8 +4,10 @@ use crate::files::{lies_inside, path_of};
 use crate::nights::failing::Failure;
 use crate::nights::making::is_there;
 use crate::nights::stand::Standing;
-use ocfl_state::{FsState, Reason, StateFile, StateFolder, StateStop, Trouble, decode_checkpoint};
-use ocfl_telling::{Refusal, Shown, refusal_text};
+use ocfl_state::{
+    FolderTrouble, FsState, Reason, StateFile, StateFolder, StateStop, decode_checkpoint,
+};
+use ocfl_telling::{RefusalMessage, Shown, refusal_text};
 use std::alloc::{AllocError, Global};
 use std::fs::File;
 use std::io;
@@ -82,9 +84,9 @@ fn unopened(
     stop: StateStop,
 ) -> Result<Failure, AllocError> {
     let refusal = match stop {
-        StateStop::NoFolder | StateStop::NoCheckpoint => Refusal::NoCheckpoint,
-        StateStop::OfScripts(_) => Refusal::OfScripts,
-        StateStop::Used(_) => Refusal::HasReports,
+        StateStop::NoFolder | StateStop::NoCheckpoint => RefusalMessage::NoCheckpoint,
+        StateStop::OfScripts(_) => RefusalMessage::OfScripts,
+        StateStop::Used(_) => RefusalMessage::HasReports,
         StateStop::Held => return held(alloc, state),
         StateStop::Failed(reason) => return failed(alloc, state, reason),
     };
@@ -112,7 +114,7 @@ fn reason_text(alloc: Global, state: &str, reason: Reason) -> Result<String, All
 
 /// That a call on a file of the folder failed, when it was opened.
 fn failed(alloc: Global, state: &str, reason: Reason) -> Result<Failure, AllocError> {
-    if reason.trouble() == Trouble::Memory {
+    if reason.trouble() == FolderTrouble::Memory {
         return Err(AllocError);
     }
     let why = reason_text(alloc, state, reason)?;

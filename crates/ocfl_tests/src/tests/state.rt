@@ -1,6 +1,6 @@
 //! The state folder in memory: what its calls do and refuse, and what a crash leaves of it.
 use crate::tests::common::Runtime;
-use ocfl_state::{MOST_CHECKPOINT, MemState, StateFolder, Trouble};
+use ocfl_state::{FolderTrouble, MOST_CHECKPOINT, MemState, StateFolder};
 use std::alloc::Global;
 use std::test::Fail;
 
@@ -64,7 +64,7 @@ fn calls_change_what_reads_show(rt: HostRuntime) -> Result<(), Fail> {
     folder.close(7, true)?;
     folder.append(b"x")?;
     expect(&rt, "closed", &folder, "two|x|7 true abcd")?;
-    assert_eq!(rt; folder.close(7, false).err(), Some(Trouble::Taken));
+    assert_eq!(rt; folder.close(7, false).err(), Some(FolderTrouble::Taken));
     expect(&rt, "taken", &folder, "two|x|7 true abcd")?;
     folder.close(8, false)?;
     expect(&rt, "closed again", &folder, "two||7 true abcd|8 false x")?;
@@ -79,7 +79,10 @@ fn a_longer_checkpoint_is_refused(rt: HostRuntime) -> Result<(), Fail> {
     let mut folder = synced(rt.alloc())?;
     let bytes = vec![in rt.alloc(); b'x'; MOST_CHECKPOINT + 1]?;
     let changes = folder.changes();
-    assert_eq!(rt; folder.put_checkpoint(&bytes).err(), Some(Trouble::Failed));
+    assert_eq!(rt;
+        folder.put_checkpoint(&bytes).err(),
+        Some(FolderTrouble::Failed)
+    );
     assert_eq!(rt; folder.changes(), changes);
     expect(&rt, "unchanged", &folder, "mark|abc|1 false first")?;
     folder.put_checkpoint(&bytes[..MOST_CHECKPOINT])?;
@@ -201,12 +204,12 @@ fn each_call_fails_once_and_does_nothing(rt: HostRuntime) -> Result<(), Fail> {
         ];
         for (index, error) in failed.iter().enumerate() {
             let last = if index == 8 {
-                Some(Trouble::Taken)
+                Some(FolderTrouble::Taken)
             } else {
                 None
             };
             let want = if index + 1 == number as usize {
-                Some(Trouble::Failed)
+                Some(FolderTrouble::Failed)
             } else {
                 last
             };

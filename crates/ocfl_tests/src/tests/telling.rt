@@ -4,10 +4,10 @@ use crate::tests::common::store::place_of;
 use ocfl_report::{Line, TextStop, read_line};
 use ocfl_telling::laws::{all_findings_are_ordered, findings_have_weights};
 use ocfl_telling::{
-    Closing, ClosingRow, Entry, Found, Gone, Gravest, Kind, Known, KnownStop, LeftRow, Night,
-    NightRow, Reach, Refusal, RefusalRow, SliceRow, Stands, Stop, Weight, closing_line,
-    closing_text, left_line, night_line, night_text, read_known, refusal_line, refusal_text,
-    slice_line, stop_text, weigh,
+    Closing, ClosingRow, Found, Gone, GoneKind, Gravest, Known, KnownEntry, KnownStop, LeftRow,
+    Night, NightRow, Reach, RefusalMessage, RefusalRow, SliceRow, Stands, StopMessage, Weight,
+    closing_line, closing_text, left_line, night_line, night_text, read_known, refusal_line,
+    refusal_text, slice_line, stop_text, weigh,
 };
 use std::alloc::Global;
 use std::test::Fail;
@@ -168,7 +168,7 @@ fn line_of(alloc: Global, text: &str) -> Result<Line, Fail> {
 fn known_as(alloc: Global, reach: Reach, text: &str) -> Result<Known, Fail> {
     let mut entries = Vec::new(alloc);
     let line = line_of(alloc, text)?;
-    entries.push(Entry { reach, line })?;
+    entries.push(KnownEntry { reach, line })?;
     Ok(Known { entries })
 }
 
@@ -214,21 +214,21 @@ fn refusals_say_why(rt: HostRuntime) -> Result<(), Fail> {
     let alloc = rt.alloc();
     for (refusal, wanted) in [
         (
-            Refusal::NoCheckpoint,
+            RefusalMessage::NoCheckpoint,
             "S has no checkpoint: is its file system mounted? For a first night, give --create. \
              Nothing was run.\n",
         ),
         (
-            Refusal::OtherRoot("/srv/\u{1b}[2J"),
+            RefusalMessage::OtherRoot("/srv/\u{1b}[2J"),
             "S belongs to the storage root /srv/%1B[2J, and this one is R. Nothing was run.\n",
         ),
         (
-            Refusal::NamesGone { gone: 3, before: 5 },
+            RefusalMessage::NamesGone { gone: 3, before: 5 },
             "3 of the 5 names in R are gone: is its file system mounted? --force-root runs it all \
              the same. Nothing was run.\n",
         ),
         (
-            Refusal::RootChanged,
+            RefusalMessage::RootChanged,
             "R is not the storage root that the night began with: is its file system mounted? The \
              run does not count; the next night makes it again.\n",
         ),
@@ -245,21 +245,21 @@ fn stops_say_why(rt: HostRuntime) -> Result<(), Fail> {
     let place = place_of(alloc, "a/b\n")?;
     for (stop, words, part, wanted) in [
         (
-            Stop::At(&place),
+            StopMessage::At(&place),
             Some("Permission denied"),
             None,
             "The night of R stopped: stopped at a/b%0A (Permission denied). The next one tries \
              that place again.\n",
         ),
         (
-            Stop::State,
+            StopMessage::State,
             Some("No space left on device"),
             Some(2),
             "The night of part 2 of R stopped: S failed (No space left on device). The next one \
              goes on from the checkpoint.\n",
         ),
         (
-            Stop::Memory,
+            StopMessage::Memory,
             None,
             None,
             "The night of R stopped: out of memory. The next one goes on from the checkpoint.\n",
@@ -309,7 +309,7 @@ fn closings_say_what_changed(rt: HostRuntime) -> Result<(), Fail> {
     let mut repaired = Vec::new(alloc);
     repaired.push(line_of(alloc, "E072\tb\t-\n")?)?;
     let mut gone = Vec::new(alloc);
-    for (kind, path) in [(Kind::Object, "o"), (Kind::File, "o/v1/content/f")] {
+    for (kind, path) in [(GoneKind::Object, "o"), (GoneKind::File, "o/v1/content/f")] {
         let place = place_of(alloc, path)?;
         gone.push(Gone { kind, place })?;
     }

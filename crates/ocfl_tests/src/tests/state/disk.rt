@@ -1,6 +1,6 @@
 //! The state folder of the file system.
 use crate::tests::common::Runtime;
-use ocfl_state::{FsLog, FsState, StateFile, StateFolder, StateStop, Trouble};
+use ocfl_state::{FolderTrouble, FsLog, FsState, StateFile, StateFolder, StateStop};
 use std::io::Read;
 use std::rt::Files;
 use std::test::Fail;
@@ -71,10 +71,10 @@ fn calls_change_the_files(rt: HostRuntime) -> Result<(), Fail> {
     expect_text(&rt, "calls/reports/checkpoint-000007", "two")?;
     folder.append(b"x")?;
     folder.put_checkpoint(b"three")?;
-    assert_eq!(rt; folder.close(7, false).err(), Some(Trouble::Taken));
+    assert_eq!(rt; folder.close(7, false).err(), Some(FolderTrouble::Taken));
     folder.close(8, false)?;
     expect_text(&rt, "calls/reports/incomplete-000008", "x")?;
-    assert_eq!(rt; folder.close(8, true).err(), Some(Trouble::Taken));
+    assert_eq!(rt; folder.close(8, true).err(), Some(FolderTrouble::Taken));
     folder.close(9, true)?;
     expect_text(&rt, "calls/reports/cycle-000009", "")?;
     expect_closed(&rt, &mut folder)?;
@@ -141,13 +141,13 @@ fn a_failed_call_keeps_its_reason(rt: HostRuntime) -> Result<(), Fail> {
     let large = vec![in rt.alloc(); b'x'; 1_048_577]?;
     assert_eq!(rt;
         folder.put_checkpoint(large.as_slice()).err(),
-        Some(Trouble::Failed)
+        Some(FolderTrouble::Failed)
     );
     assert!(rt; folder.checkpoint()?.is_none());
     folder.put_checkpoint(&large[..1_048_576])?;
     assert!(rt; folder.checkpoint()?.is_some());
     fs::write(&rt, "reasons/checkpoint", large.as_slice())?;
-    assert_eq!(rt; folder.checkpoint().err(), Some(Trouble::Failed));
+    assert_eq!(rt; folder.checkpoint().err(), Some(FolderTrouble::Failed));
     let Some(reason) = folder.reason() else {
         return Err("no reason".into());
     };
@@ -155,7 +155,10 @@ fn a_failed_call_keeps_its_reason(rt: HostRuntime) -> Result<(), Fail> {
     let why = format!(in rt.alloc(); "{}", reason.error)?;
     assert_eq!(rt; why.as_str(), "more than 1 MiB");
     fs::remove_dir_all(&rt, "reasons")?;
-    assert_eq!(rt; folder.put_checkpoint(b"").err(), Some(Trouble::Failed));
+    assert_eq!(rt;
+        folder.put_checkpoint(b"").err(),
+        Some(FolderTrouble::Failed)
+    );
     Ok(())
 }
 

@@ -1,6 +1,6 @@
 //! The report as a night finds it, beside what the checkpoint keeps of it.
 use ocfl_state::{
-    FoundReport, MemState, ReportMark, StateFolder, Trouble, append_marked, digests_of_front,
+    FolderTrouble, FoundReport, MemState, ReportMark, StateFolder, append_marked, digests_of_front,
     digests_of_report, find_report, may_close_whole,
 };
 use std::alloc::Global;
@@ -69,7 +69,7 @@ fn a_report_is_not_found_where_a_call_fails(rt: HostRuntime) -> Result<(), Fail>
         match find_report(&mut folder, &mark) {
             Ok(FoundReport::Whole(_)) => return Err("found".into()),
             Ok(FoundReport::Lost(_)) => break,
-            Err(trouble) => assert_eq!(rt; trouble, Trouble::Failed, "{number}"),
+            Err(trouble) => assert_eq!(rt; trouble, FolderTrouble::Failed, "{number}"),
         }
         failed += 1;
     }
@@ -89,7 +89,7 @@ fn a_mark_goes_on_with_the_report(rt: HostRuntime) -> Result<(), Fail> {
     folder.cut(13)?;
     assert_eq!(rt;
         append_marked(&mut folder, &mark, b"ok|c|3\n").err(),
-        Some(Trouble::Failed)
+        Some(FolderTrouble::Failed)
     );
     assert_eq!(rt; folder.report(), &REPORT.as_bytes()[..13]);
     Ok(())
@@ -107,7 +107,7 @@ fn nothing_is_appended_where_a_call_fails(rt: HostRuntime) -> Result<(), Fail> {
         let mut folder = folder_of(rt.alloc(), REPORT)?;
         folder.fail_call(number);
         let failed = append_marked(&mut folder, &mark, b"more").err();
-        assert_eq!(rt; failed, Some(Trouble::Failed), "{number}");
+        assert_eq!(rt; failed, Some(FolderTrouble::Failed), "{number}");
         assert_eq!(rt; folder.report(), want.as_bytes(), "{number}");
     }
     Ok(())

@@ -1,7 +1,7 @@
 -- A report that is another one than its checkpoint says.
 use Rattle.std.proofs.Common.{◌≡◌, ◌↔◌, inl, inr, [], take, refl, sym, ◌∙◌, ap, subst, arith, Bool, true, false}
 use Rattle.std.proofs.lemmas.List.{append-nil, take_all, length-take}
-use Rattle.std.specs.Prelude.{IsTrue, IsSome, Option, None, not}
+use Rattle.std.specs.Prelude.{IsTrue, not}
 use Rattle.ocfl_tree.specs.Place.{Text}
 use Rattle.ocfl_audit.specs.Parts.{Part}
 use Rattle.ocfl_state.specs.{Checkpoint.{Checkpoint}, Content.{Content, with_report, is_closed}}

@@ -1,5 +1,5 @@
 -- What a night does about a run that stopped at a place, and which branch it leaves out for it.
-use Rattle.std.specs.Prelude.{◌≡◌, ◌≤◌, ◌-◌, ◌++◌, ◌∷◌, [], List, Bool, IsTrue, true, false, not, ◌&&◌, ◌||◌, if◌then◌else◌, Option, Some, None, All, length, take, nat_lt, nat_le, nat_eq}
+use Rattle.std.specs.Prelude.{◌≡◌, ◌≤◌, ◌-◌, ◌++◌, ◌∷◌, [], List, Bool, IsTrue, true, false, ◌&&◌, ◌||◌, if◌then◌else◌, Option, Some, None, All, length, take, nat_lt, nat_le, nat_eq}
 use Rattle.std.specs.List.{starts_with}
 use Rattle.ocfl_tree.specs.Place.{Text, Place, text_eq, place_eq}
 use Rattle.ocfl_inventory.specs.Declaration.{is_declaration}

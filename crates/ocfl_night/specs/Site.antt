@@ -1,5 +1,5 @@
 -- Whose a checkpoint is, and what it says of the root.
-use Rattle.std.specs.Prelude.{◌≡◌, ◌≢◌, ◌⊎◌, ℕ, ◌+◌, ◌<◌, ◌≤◌, [], Bool, true, false, Option, Some, None, if◌then◌else◌, length}
+use Rattle.std.specs.Prelude.{◌≡◌, ◌≢◌, ◌⊎◌, ◌+◌, ◌<◌, ◌≤◌, [], Bool, true, false, Option, Some, None, if◌then◌else◌, length}
 use Rattle.ocfl_audit.specs.Parts.{Part, whole}
 use Rattle.ocfl_cursor.specs.{Cursor.{new_cursor}, declared.ends.PartEnds.{PartEnds}}
 use Rattle.ocfl_scope.specs.Numbered.{part_between}

@@ -34,10 +34,6 @@ no_version_line body two one Two r e = two r e
 
 -- ---- the line of the files
 
-wide_files : (v : FormVersion) (f : ℕ) → FilesFit v f → f < 2 ^ 128
-wide_files One f h = omega (arith, h)
-wide_files Two f h = h
-
 -- numbers of files are the same if texts begin with their lines, and so is what follows them
 files_line_determines : (v : FormVersion) (f g : ℕ) (r s : Text) → FilesFit v f → FilesFit v g → files_line v f ++ r ≡ files_line v g ++ s → (f ≡ g) × (r ≡ s)
 files_line_determines One f g r s h k e = (h ∙ sym k, e)
@@ -134,10 +130,6 @@ lines_determine v lines c d h k =
 -- a cursor has lines in version 2
 pub AreLinesOf-cursor : (c : Cursor) → IsCursor c → AreLinesOf Two (cursor_lines c) c
 AreLinesOf-cursor c h = record { keeps = h; files = omega (arith, h.files, h.spent, h.runs); is = refl }
-
--- and what are its lines there is known
-pub lines_of_two : (lines : Text) (c : Cursor) → AreLinesOf Two lines c → lines ≡ cursor_lines c
-lines_of_two lines c h = h.is
 
 -- ---- the text before the digest line
 
@@ -273,13 +265,6 @@ length-text b c h =
     omega (arith, ap length s.1.0, length-sealed (codes "digest ") refl s.0, length-written w.0 w.1.0 s.0 c w.1.1)
 
 -- ---- the lines of the numbers, read one after the other
-
--- the lines of the numbers, once all are read
-pub counts_text-read : (v : FormVersion) (a b d e g : Text) (n m k f : ℕ) → a ≡ number_line (codes "cycle") n ++ b → b ≡ number_line (codes "runs") m ++ d → d ≡ number_line (codes "spent") k ++ e
-    → e ≡ files_line v f ++ g → a ≡ counts_text v n m k f ++ g
-counts_text-read v a b d e g n m k f q r s t =
-    q ∙ ap (λ x. number_line (codes "cycle") n ++ x) (r ∙ ap (λ x. number_line (codes "runs") m ++ x) (s ∙ ap (λ x. number_line (codes "spent") k ++ x) t))
-    ∙ sym (counts_text-append v n m k f g)
 
 -- what is left of the lines once some are read, where the text begins with all of them
 pub record LinesLeft (v : FormVersion) (a : Text) (n m k f : ℕ) (r : Text) : Type 0 where

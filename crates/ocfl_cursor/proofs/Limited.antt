@@ -7,8 +7,7 @@ pub use Rattle.ocfl_report.proofs.Inputs.{IsReadTo}
 use Rattle.ocfl_cursor.specs.Cursor.{Cursor}
 use Rattle.ocfl_cursor.specs.Refusal.{max_text, refusal, IsTextOf, RefusedRightly}
 use Rattle.ocfl_cursor.specs.Stop.{StopsRightly}
-use Rattle.ocfl_cursor.specs.declared.reading.CursorStop.{CursorStop}
-use Rattle.ocfl_cursor.specs.declared.reading.CursorStop.TheVariants.{Read, Refused as Refuses}
+use Rattle.ocfl_cursor.specs.declared.reading.CursorStop.TheVariants.{Refused as Refuses}
 use Rattle.ocfl_cursor.specs.declared.refused.Refused.{Refused}
 use Rattle.ocfl_cursor.specs.declared.refused.Refused.TheVariants.{NotA, Version, Damaged, Malformed, Memory}
 use Rattle.ocfl_cursor.specs.declared.refused.TextKind.TheVariants as kind
@@ -64,9 +63,3 @@ IsTextOf-read (Some b) read c is h = IsTextOf-limited b c (subst (λ t. IsTextOf
 pub StopsRightly-read : (known : Option Text) (read : Text) (e : Refused) → IsRead known read → RefusedRightly read e → IfSome known (λ b. StopsRightly b (Refuses e))
 StopsRightly-read None read e is h = tt
 StopsRightly-read (Some b) read e is h = StopsRightly-limited b e (subst (λ t. RefusedRightly t e) is h)
-
--- a stop that comes before any bytes are refused says nothing of them
-pub StopsRightly-early : (known : Option Text) (stop : CursorStop) → (stop ≡ Read) ⊎ (stop ≡ Refuses Memory) → IfSome known (λ b. StopsRightly b stop)
-StopsRightly-early None stop h = tt
-StopsRightly-early (Some b) stop (inl e) = subst (StopsRightly b) (sym e) tt
-StopsRightly-early (Some b) stop (inr e) = subst (StopsRightly b) (sym e) tt

@@ -9,7 +9,6 @@ use Rattle.ocfl_cursor.specs.Shown.{AreShown, IsShownFrom, UnshownRightly}
 use Rattle.ocfl_cursor.specs.Stop.{is_read_as_part, max_part_text, PartStopsRightly}
 use Rattle.ocfl_cursor.specs.declared.ends.PartEnds.{PartEnds}
 use Rattle.ocfl_cursor.specs.declared.part_reading.PartCursorStop.{PartCursorStop}
-use Rattle.ocfl_cursor.specs.declared.reading.CursorStop.{CursorStop}
 use Rattle.ocfl_cursor.specs.declared.refused.PartRefused.{PartRefused}
 use Rattle.ocfl_cursor.specs.declared.refused.PartRefused.TheVariants.{Text as Unread, OtherPart}
 use Rattle.ocfl_cursor.specs.declared.refused.Refused.TheVariants.{NotA, Version, Damaged, Malformed, Memory}
@@ -91,16 +90,6 @@ module _ (known : Option Text) (read : Text) where
       (λ b more. (too_many b more, refused_not_cursor b (too_long b (omega (arith, more)))))
 
 -- ---- a stop before any bytes are refused says nothing of them
-
-pub part_stops_early : (known : Option Text) (e : PartEnds) (why : PartCursorStop) → (why ≡ part.Read) ⊎ (why ≡ part.Refused (Unread Memory)) → IfSome known (λ b. PartStopsRightly e b why)
-part_stops_early None e why h = tt
-part_stops_early (Some b) e why (inl s) = subst (PartStopsRightly e b) (sym s) tt
-part_stops_early (Some b) e why (inr s) = subst (PartStopsRightly e b) (sym s) tt
-
-pub unshown_early : (known : Option Text) (why : CursorStop) → (why ≡ stop.Read) ⊎ (why ≡ stop.Refused Memory) → IfSome known (λ b. UnshownRightly b (show.Whole why))
-unshown_early None why h = tt
-unshown_early (Some b) why (inl s) = subst (λ w. UnshownRightly b (show.Whole w)) (sym s) tt
-unshown_early (Some b) why (inr s) = subst (λ w. UnshownRightly b (show.Whole w)) (sym s) tt
 
 -- ---- the text of a part's cursor that is not too long is refused for want of memory alone
 

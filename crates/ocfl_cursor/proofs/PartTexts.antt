@@ -128,12 +128,6 @@ pub before_feed : (front word text line before after : Text) (end : Option Place
 before_feed front word text line before after end r plain h e f first g =
     first_parts 10 before (end_text word end) after r first (end_text_one_line word end plain h) (sym f ∙ after_front front word text line end r e g)
 
--- the line of an end that was read
-pub end_line_read : (front word text line before after : Text) (end : Option Place) → text ≡ front ++ line → line ≡ before ++ 10 ∷ after
-    → before ≡ end_text word end → text ≡ end_line front word end ++ after
-end_line_read front word text line before after end e f g =
-    e ∙ ap (λ t. front ++ t) (f ∙ ap (λ t. t ++ 10 ∷ after) g) ∙ sym (end_line-append front word end after)
-
 -- ends are the same if texts begin with their lines, and so is what follows
 pub end_line_determines : (front word : Text) (p q : Option Place) (r s : Text) → All (λ b. b ≢ 10) word → HasNames p → HasNames q
     → end_line front word p ++ r ≡ end_line front word q ++ s → (p ≡ q) × (r ≡ s)
@@ -180,15 +174,6 @@ pub part_rest : (e f : PartEnds) (body lines rest : Text) (c : Cursor) → AreEn
 part_rest e f body lines rest c names h g k =
     let same = ends_lines_determine e f (cursor_lines c) rest h.ends names (sym (part_lines e body lines c h g) ∙ k) in
     (same.0, subst (λ t. AreLinesOf Two t c) same.1 (AreLinesOf-cursor c h.keeps))
-
--- a body whose parts are read
-pub part_body_read : (e : PartEnds) (body lines rest : Text) (c : Cursor) → AreEnds e → body ≡ codes "ocfl-scrub part cursor 1\n" ++ lines
-    → lines ≡ ends_lines e ++ rest → AreLinesOf Two rest c → IsPartBody e body c
-part_body_read e body lines rest c names f g h = record {
-  ends = names;
-  keeps = h.keeps;
-  is = f ∙ ap (λ t. codes "ocfl-scrub part cursor 1\n" ++ t) (g ∙ ap (λ t. ends_lines e ++ t) h.is) ∙ sym (part_body-append e c);
-}
 
 -- parts and cursors are the same if their bodies are
 part_body_determines : (e f : PartEnds) (body : Text) (c d : Cursor) → IsPartBody e body c → IsPartBody f body d → (e ≡ f) × (c ≡ d)

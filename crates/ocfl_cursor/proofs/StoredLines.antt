@@ -1,5 +1,5 @@
 -- The lines of a stored cursor determine the part and the cursor.
-use Rattle.std.proofs.Common.{◌≡◌, Option, Some, None, IfSome, ◌++◌, Bool, true, false, nat_eq, get_or, codes, refl, sym, ap, ◌∙◌}
+use Rattle.std.proofs.Common.{◌≡◌, Option, Some, None, IfSome, ◌++◌, Bool, true, nat_eq, get_or, codes, refl, sym, ap, ◌∙◌}
 use Rattle.std.proofs.lemmas.Bool.{eqb-false, true≢false}
 use Rattle.std.specs.List.{starts_with}
 use Rattle.ocfl_tree.specs.Place.{Text}
@@ -27,22 +27,9 @@ stored_lines_determine (Some f) (Some g) c d h k hc hd e =
     let both = ends_lines_determine f g (cursor_lines c) (cursor_lines d) h k e in
     (ap Some both.0, same_cursors c d hc hd both.1)
 
--- the cursor of the whole root that has these lines
-pub whole_lines : (lines : Text) (c : Cursor) → AreLinesOf Two lines c → AreStoredLines None lines c
-whole_lines lines c h = record { ends = tt; keeps = h.keeps; are = h.is }
-
--- the cursor of a part that has these lines
-pub part_lines_read : (e : PartEnds) (lines rest : Text) (c : Cursor) → AreEnds e → lines ≡ ends_lines e ++ rest → AreLinesOf Two rest c → AreStoredLines (Some e) lines c
-part_lines_read e lines rest c names f h = record { ends = names; keeps = h.keeps; are = f ∙ ap (λ t. ends_lines e ++ t) h.is }
-
 -- whether lines begin as a part's
 abbrev pub is_parts : Text → Bool
 is_parts lines = starts_with nat_eq lines (codes "from ")
-
--- lines that do not are those of a whole root's cursor
-pub stored_whole : (lines : Text) (p : Option PartEnds) (c : Cursor) → is_parts lines ≡ false → AreStoredLines p lines c → AreLinesOf Two lines c
-stored_whole lines None c f h = rw h.are (AreLinesOf-cursor c h.keeps)
-stored_whole lines (Some e) c f h = absurd (true≢false (sym (ap is_parts h.are) ∙ f))
 
 -- and lines that do are those of some part
 pub record StoredPart (lines : Text) (c : Cursor) : Type 0 where

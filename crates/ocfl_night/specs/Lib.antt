@@ -9,3 +9,4 @@ pub mod Leaving
 pub mod Ending
 pub mod Pace
 pub mod Refusing
+pub mod Stopping

@@ -1,9 +1,9 @@
 //! The checkpoint: reading it in the folder, putting it there, and what is made of one.
-ghost use Rattle.std.specs.Prelude.{◌≡◌, ◌≤◌, ◌↔◌, [], Err, IfOk, OnOk, IsTrue, MatchOption, None};
+ghost use Rattle.std.specs.Prelude.{◌≡◌, ◌≤◌, ◌↔◌, [], Err, IfErr, IfOk, OnOk, IsTrue, MatchOption, None};
 ghost use Rattle.ocfl_tree.specs.Place.{Text};
 ghost use Rattle.ocfl_state.specs.CheckpointRefusal.{RefusedRightly};
 ghost use Rattle.ocfl_state.specs.{Checkpoint.{IsCheckpointText}, Crash.{Same, Only, Passes}};
-ghost use Rattle.ocfl_night.specs.{Refusing.{HasUnread, IsUnread}, Site.{no_report}, Sound.{IsAt}};
+ghost use Rattle.ocfl_night.specs.{Refusing.{HasUnread, IsUnread}, Site.{no_report}, Sound.{IsAt}, Stopping.{IsPutStop}};
 ghost use Rattle.ocfl_night.specs.declared.refusal.Refusal.{Refusal as ModelRefusal};
 ghost use Rattle.ocfl_night.specs.Steps.{IsCheckpointPut, MayCheckpoint, begun_anew, closes_whole, with_all_told};
 
@@ -141,7 +141,8 @@ pub(crate) fn begun_anew(alloc: Global, mut checkpoint: Checkpoint) -> Checkpoin
 /// The text of a checkpoint, which is read as that checkpoint. `Overtold` if it tells more than
 /// its report has.
 fn text_of(alloc: Global, checkpoint: &Checkpoint) -> Result<Vec<u8>, Stop>
-    ensures { IfOk result (λ text. IsCheckpointText text.items checkpoint.now) }
+    ensures text { IfOk result (λ text. IsCheckpointText text.items checkpoint.now) }
+    ensures stop { IfErr result (IsPutStop checkpoint.now) }
 {
     if !tells_within(checkpoint) {
         return Err(Stop::Overtold);
@@ -165,6 +166,7 @@ pub fn put_checkpoint<S: StateFolder>(
         → Only (S.seen folder.new) (S.may_leave folder.new)) }
     ensures crash { IsTrue S.told → Passes S.may_leave S.moment S.left_since
         (MayCheckpoint checkpoint.now) folder.old folder.new }
+    ensures stop { IfErr result (IsPutStop checkpoint.now) }
 {
     let text = text_of(alloc, checkpoint)?;
     folder.put_checkpoint(&text)?;

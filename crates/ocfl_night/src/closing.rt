@@ -1,5 +1,5 @@
 //! Closing the report of a cycle that has ended.
-ghost use Rattle.std.specs.Prelude.{◌≡◌, ◌≢◌, ◌⊎◌, false, IfOk, IfSome, IsTrue, OnOk};
+ghost use Rattle.std.specs.Prelude.{◌≡◌, ◌≢◌, ◌⊎◌, false, IfErr, IfOk, IfSome, IsTrue, OnOk};
 ghost use Rattle.ocfl_audit.specs.Parts.{Part};
 ghost use Rattle.ocfl_tree.specs.Place.{Text};
 ghost use Rattle.ocfl_state.specs.{Content.{is_closed}, Crash.{LeavesOnly, Only, Passes}};
@@ -8,6 +8,7 @@ ghost use Rattle.ocfl_state.specs.declared.checkpoint_parts.Phase.TheVariants.{C
 ghost use Rattle.ocfl_night.specs.Ending.{cycle_ended};
 ghost use Rattle.ocfl_night.specs.Sound.{IsAllSaid, IsOneMore, IsReady, IsSoundAt};
 ghost use Rattle.ocfl_night.specs.Steps.{IsMoveDone, MayMoveAt, closes_whole};
+ghost use Rattle.ocfl_night.specs.Stopping.{IsCloseStop, IsFolderStop};
 
 use crate::checkpoint::{
     begun_anew, cycle_of, is_all_told, phase_of, put_checkpoint, report_of, whole_of,
@@ -25,6 +26,7 @@ fn move_report<S: StateFolder>(folder: &mut S, cycle: u64, whole: bool) -> Resul
         → Only (S.seen folder.new) (S.may_leave folder.new)) }
     ensures crash { IsTrue S.told → Passes S.may_leave S.moment S.left_since
         (MayMoveAt cycle whole (S.seen folder.old)) folder.old folder.new }
+    ensures stop { IfErr result IsFolderStop }
 {
     if !folder.has_closed(cycle)? {
         folder.close(cycle, whole)?;
@@ -52,6 +54,7 @@ fn move_as<S: StateFolder>(folder: &mut S, checkpoint: &Checkpoint) -> Result<()
         → Passes S.may_leave S.moment S.left_since
         (MayMoveAt checkpoint.now.cursor.cycle (closes_whole checkpoint.now) (S.seen folder.old))
         folder.old folder.new }
+    ensures stop { IfErr result IsFolderStop }
 {
     let whole = may_close_whole(folder, &report_of(checkpoint), whole_of(checkpoint))?;
     move_report(folder, cycle_of(checkpoint), whole)
@@ -76,6 +79,7 @@ fn close<S: StateFolder>(
         → OnOk result (IsOneMore part checkpoint.cursor.cycle
         (S.seen folder.old).closed (S.seen folder.new).closed) }
     ensures all { IfOk result (λ next. next.told ≡ next.report.bytes) }
+    ensures stop { IfErr result (IsCloseStop checkpoint) }
 {
     if !is_all_told(&checkpoint) {
         return Err(Stop::Unsaid);
@@ -105,6 +109,7 @@ pub fn finish<S: StateFolder>(
         → OnOk result (IsAllSaid (S.seen folder.new)) }
     ensures ended { IfOk result (λ ended. ended
         ≡ cycle_ended checkpoint.phase checkpoint.cursor.cycle) }
+    ensures stop { IfErr result (IsCloseStop checkpoint) }
 {
     match phase_of(&checkpoint) {
         Phase::Open => Ok(None),

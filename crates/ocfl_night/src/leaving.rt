@@ -1,5 +1,5 @@
 //! Leaving out a branch that cannot be read.
-ghost use Rattle.std.specs.Prelude.{◌≡◌, ◌-◌, ◌<◌, ◌≤◌, ◌++◌, ◌∷◌, [], IfOk, IfSome, IsNone, IsSome, IsTrue, OnOk, length, take};
+ghost use Rattle.std.specs.Prelude.{◌≡◌, ◌-◌, ◌<◌, ◌≤◌, ◌++◌, ◌∷◌, [], IfErr, IfOk, IfSome, IsNone, IsSome, IsTrue, OnOk, length, take};
 ghost use Rattle.ocfl_audit.specs.Parts.{Part as ModelPart};
 ghost use Rattle.ocfl_tree.specs.{Name.{IsName}, Place.{Text}};
 ghost use Rattle.ocfl_cursor.specs.State.{state_of};
@@ -9,6 +9,7 @@ ghost use Rattle.ocfl_state.specs.declared.checkpoint_parts.Phase.TheVariants.{O
 ghost use Rattle.ocfl_night.specs.Chain.{from_after, part_after};
 ghost use Rattle.ocfl_night.specs.Leaving.{branch_at, end_of, is_of_inventory, last_name, speaks_for_object};
 ghost use Rattle.ocfl_night.specs.{Sound.{IsReady, IsSoundAt}, Steps.{with_left}};
+ghost use Rattle.ocfl_night.specs.Stopping.{IsPastStop, IsPutStop};
 
 use crate::checkpoint::put_checkpoint;
 use crate::site::end_again;
@@ -64,7 +65,8 @@ pub(crate) fn end_of(alloc: Global, branch: &Place) -> Result<Option<Place>, All
 /// was. `Endless` where that branch has no end.
 #[tactic(auto, using(crate::proofs::Chains::from_last, crate::proofs::Chains::from_none))]
 fn from_past(alloc: Global, from: &Option<Place>, left: &[Left]) -> Result<Option<Place>, Stop>
-    ensures { IfOk result (λ next. next ≡ from_after from.now left.now) }
+    ensures next { IfOk result (λ next. next ≡ from_after from.now left.now) }
+    ensures stop { IfErr result IsPastStop }
 {
     let Some(last) = left.last() else {
         return Ok(end_again(from)?);
@@ -78,7 +80,8 @@ fn from_past(alloc: Global, from: &Option<Place>, left: &[Left]) -> Result<Optio
 /// The part in which the next run is made: what comes after the last branch that was left out.
 /// `Endless` where that branch has no end.
 pub(crate) fn part_past(alloc: Global, part: &Part, left: &[Left]) -> Result<Part, Stop>
-    ensures { IfOk result (λ next. part_of next ≡ part_after (part_of part.now) left.now) }
+    ensures next { IfOk result (λ next. part_of next ≡ part_after (part_of part.now) left.now) }
+    ensures stop { IfErr result IsPastStop }
 {
     let from = from_past(alloc, &part.from, left)?;
     let under = part.end.under.try_clone()?;
@@ -165,6 +168,7 @@ pub fn leave_out<S: StateFolder>(
         → IfOk result (λ next. IsReady S.seen S.may_leave part t next folder.new) }
     ensures closed { IsTrue S.told → OnOk result
         ((S.seen folder.new).closed ≡ (S.seen folder.old).closed) }
+    ensures stop { IfErr result (IsPutStop checkpoint) }
 {
     let next = with_left(checkpoint, branch)?;
     put_checkpoint(alloc, folder, &next)?;

@@ -1,8 +1,8 @@
 //! Looking at the storage root: when a night begins, and after each run.
-ghost use Rattle.std.specs.Prelude.{◌≡◌, ◌≢◌, [], Err, IfOk, IsTrue, OnOk};
+ghost use Rattle.std.specs.Prelude.{◌≡◌, ◌≢◌, [], Err, IfErr, IfOk, IsTrue, OnOk};
 ghost use Rattle.ocfl_tree.specs.{Listing.{entries_in}, Store.{IfTold}};
 ghost use Rattle.ocfl_identity.specs.Identity.{IsIdentityOf, declarations_among};
-ghost use Rattle.ocfl_night.specs.Site.{IsStill};
+ghost use Rattle.ocfl_night.specs.{Site.{IsStill}, Stopping.{IsRunStop}};
 ghost use Rattle.ocfl_night.specs.declared.refusal.NotOpened.TheVariants.{Refused};
 ghost use Rattle.ocfl_night.specs.declared.refusal.Refusal.{Refusal as ModelRefusal};
 ghost use Rattle.ocfl_night.specs.declared.refusal.Refusal.TheVariants.{NoRoot};
@@ -55,6 +55,7 @@ pub(crate) fn look_again<T: Tree>(
     ensures keeps { IsTrue T.told → (T.state tree.new).tree ≡ (T.state tree.old).tree }
     ensures still { IfTold T.told (T.state tree.old) (λ root.
         OnOk result (IsStill identity.now root)) }
+    ensures stop { IfErr result IsRunStop }
 {
     match is_still_declared(alloc, tree, identity, block) {
         Ok(true) => Ok(()),

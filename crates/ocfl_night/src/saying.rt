@@ -1,11 +1,12 @@
 //! Saying what was not said.
-ghost use Rattle.std.specs.Prelude.{◌≡◌, ◌-◌, ◌≤◌, IfOk, IsTrue, OnOk, take, drop, List, ℕ};
+ghost use Rattle.std.specs.Prelude.{◌≡◌, ◌-◌, ◌≤◌, IfErr, IfOk, IsTrue, OnOk, take, drop, List, ℕ};
 ghost use Rattle.std.specs.Io.KnownBytes.{Appends, Keeps};
 ghost use Rattle.ocfl_audit.specs.Parts.{Part};
 ghost use Rattle.ocfl_tree.specs.Place.{Text};
 ghost use Rattle.ocfl_state.specs.Crash.{LeavesOnly, Passes, Same};
 ghost use Rattle.ocfl_night.specs.Sound.{IsHeard, IsHeardReady, IsReady};
 ghost use Rattle.ocfl_night.specs.Steps.{unsaid, with_all_told};
+ghost use Rattle.ocfl_night.specs.Stopping.{IsSayStop, IsSpeakStop};
 
 use crate::checkpoint::{
     bytes_of, is_all_told, put_checkpoint, tells_within, told_of, with_all_told,
@@ -35,6 +36,7 @@ fn say_piece<S: StateFolder, W: Write>(
     ensures seen { IsTrue S.told → S.seen folder.new ≡ S.seen folder.old }
     ensures crash { IsTrue S.told
         → Passes S.may_leave S.moment S.left_since Same folder.old folder.new }
+    ensures stop { IfErr result IsSayStop }
 {
     let mut piece = [0; PIECE];
     let count = folder.read(start, &mut piece)?;
@@ -62,6 +64,7 @@ fn say_between<S: StateFolder, W: Write>(
     ensures seen { IsTrue S.told → S.seen folder.new ≡ S.seen folder.old }
     ensures crash { IsTrue S.told
         → Passes S.may_leave S.moment S.left_since Same folder.old folder.new }
+    ensures stop { IfErr result IsSayStop }
 {
     let mut at = start;
     while at < end {
@@ -72,7 +75,8 @@ fn say_between<S: StateFolder, W: Write>(
 
 /// Flushes an output.
 fn flush<W: Write>(out: &mut W) -> Result<(), Stop>
-    ensures { Keeps (W.contents out.old) (W.contents out.new) }
+    ensures kept { Keeps (W.contents out.old) (W.contents out.new) }
+    ensures stop { IfErr result IsSayStop }
 {
     match out.flush() {
         Ok(()) => Ok(()),
@@ -93,6 +97,7 @@ fn say_rest<S: StateFolder, W: Write>(
     ensures seen { IsTrue S.told → S.seen folder.new ≡ S.seen folder.old }
     ensures crash { IsTrue S.told
         → Passes S.may_leave S.moment S.left_since Same folder.old folder.new }
+    ensures stop { IfErr result IsSayStop }
 {
     say_between(folder, out, told_of(checkpoint), bytes_of(checkpoint))?;
     flush(out)
@@ -117,6 +122,7 @@ pub fn speak<S: StateFolder, W: Write>(
     ensures grew { (more : List ℕ) × Appends (W.contents out.old) (W.contents out.new) more }
     ensures closed { IsTrue S.told → OnOk result
         ((S.seen folder.new).closed ≡ (S.seen folder.old).closed) }
+    ensures stop { IfErr result (IsSpeakStop checkpoint) }
 {
     if is_all_told(&checkpoint) {
         return Ok(checkpoint);

@@ -1,5 +1,5 @@
 //! A slice: one run, whose lines are appended, come to the disk, and then count.
-ghost use Rattle.std.specs.Prelude.{◌≡◌, ◌≢◌, ◌⊎◌, ◌++◌, IfNone, IfOk, IsTrue, OnOk, length};
+ghost use Rattle.std.specs.Prelude.{◌≡◌, ◌≢◌, ◌⊎◌, ◌++◌, IfErr, IfNone, IfOk, IsTrue, OnOk, length};
 ghost use Rattle.ocfl_audit.specs.Parts.{Part as ModelPart};
 ghost use Rattle.ocfl_tree.specs.{Place.{Text}, StorageRoot.{StorageRoot}, Store.{IfTold}};
 ghost use Rattle.ocfl_item.specs.Judging.{HasShortFiles};
@@ -15,6 +15,7 @@ ghost use Rattle.ocfl_night.specs.Chain.{part_after};
 ghost use Rattle.ocfl_night.specs.Ending.{IsAway, IsMadeBy, IsSlice, IsUnkept, KeepsTo, lost_by, slice_end};
 ghost use Rattle.ocfl_night.specs.{Site.{IsStill}, Sound.{IsReady, IsSoundAt}};
 ghost use Rattle.ocfl_night.specs.Steps.{IsNext, IsRun, IsWalkAt};
+ghost use Rattle.ocfl_night.specs.Stopping.{IsFolderStop, IsRunStop, IsSliceStop};
 
 use crate::checkpoint::{cursor_of, put_checkpoint, report_of};
 use crate::leaving::part_past;
@@ -67,6 +68,7 @@ fn make_run<T: Tree>(
         → (T.state tree.new).tree ≡ root) }
     ensures still { IsTrue T.told → OnOk result (IsStill identity.now (T.state tree.new).tree) }
     ensures keeps { IfOk result (λ r. KeepsTo cursor limits r.0) }
+    ensures stop { IfErr result IsRunStop }
 {
     let mut lines: Vec<u8> = Vec::new(alloc);
     let ran = run_on(alloc, tree, part, kept, cursor, limits, block, &mut lines);
@@ -94,6 +96,7 @@ fn extend<S: StateFolder>(
     ensures crash { IsTrue S.told → Passes S.may_leave S.moment S.left_since
         (MayTear (length (S.seen folder.old).report)
         (length ((S.seen folder.old).report ++ lines.now))) folder.old folder.new }
+    ensures stop { IfErr result IsFolderStop }
 {
     let next = append_marked(folder, mark, lines)?;
     folder.sync()?;
@@ -179,7 +182,8 @@ fn after_run(mut checkpoint: Checkpoint, ran: RunEnd, report: ReportMark) -> Mad
 
 /// A slice of whose run nothing is kept, and why: `Err` if something is troubled.
 fn unkept(checkpoint: Checkpoint, why: NotKept) -> Result<Made, Stop>
-    ensures { IfOk result (IsUnkept checkpoint) }
+    ensures unkept { IfOk result (IsUnkept checkpoint) }
+    ensures stop { IsRunStop why → IfErr result IsSliceStop }
 {
     match why {
         NotKept::Troubled(why) => Err(why),
@@ -224,6 +228,7 @@ fn keep<S: StateFolder>(
     ensures next { IfOk result (λ made. (report : ModelMark)
         × IsNext checkpoint ran report made.checkpoint) }
     ensures made { IfOk result (IsMadeBy ran) }
+    ensures stop { IfErr result IsSliceStop }
 {
     let mark = report_of(&checkpoint);
     let report = extend(folder, &mark, lines)?;
@@ -277,6 +282,7 @@ pub fn slice<S: StateFolder, T: Tree>(
     // Nothing is kept of a run after which the root is not the one of before.
     ensures still { IsTrue S.told → IsTrue T.told → (S.seen folder.new ≡ S.seen folder.old)
         ⊎ IsStill identity.now (T.state tree.new).tree }
+    ensures stop { IfErr result IsSliceStop }
 {
     let cursor = cursor_of(&checkpoint)?;
     let rest = part_past(alloc, part, checkpoint.left.as_slice())?;

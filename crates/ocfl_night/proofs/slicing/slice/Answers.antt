@@ -11,7 +11,7 @@ use Rattle.ocfl_night.proofs.slicing.slice.Goals as goal
 
 -- the run is made of what comes after the branches that were left out
 rest_is : (g : given.Over) (c : In_ok-rest g) → part_of c.in_ok-rest.rest ≡ part_after (part_of c.args.part.now) c.args.checkpoint.left
-rest_is g c = c.in_ok-rest.ensures ∙ ap (part_after (part_of c.args.part.now)) (c.as_slice.ensures.value ∙ ap (λ (x : Checkpoint). x.left) c.checkpoint.view_is)
+rest_is g c = c.in_ok-rest.ensures.next ∙ ap (part_after (part_of c.args.part.now)) (c.as_slice.ensures.value ∙ ap (λ (x : Checkpoint). x.left) c.checkpoint.view_is)
 
 -- and goes on with the walk that is kept
 goes_on : (g : given.Over) (c : In_ok-rest g) (root : StorageRoot) → IsWalkAt root (part_of c.args.part.now) c.args.checkpoint c.args.kept.now → IsReady root (part_of c.in_ok-rest.rest) (place_in c.in_ok-cursor.cursor.state) c.args.kept.now

@@ -2,8 +2,4 @@ use Rattle.ocfl_audit.proofs.MetaLaws.{object_files, object_directories, version
 use Rattle.ocfl_audit.proofs.laws.allowed_names_are_exact.Goals as goal
 
 pub returns : goal.returns
-returns c = record {
-  object_files = object_files;
-  stray_directories = object_directories;
-  version_files = version_files;
-}
+returns c = assumption (object_files, object_directories, version_files)

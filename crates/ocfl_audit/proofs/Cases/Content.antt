@@ -3,19 +3,20 @@ use Rattle.std.proofs.Common.{◌≡◌, ap, List, [], ◌∷◌, ◌++◌, code
 use Prim.Native.String.{String}
 use Rattle.ocfl_tree.specs.{Place.{Text}, StorageRoot.{StorageRoot, file}}
 use Rattle.ocfl_report.specs.{Line.{found}, Text.{text}}
+use Rattle.ocfl_digest.specs.declared.algorithm.Algorithm.{Algorithm}
 use Rattle.ocfl_digest.specs.declared.algorithm.Algorithm.TheVariants.{Md5, Sha1, Sha256, Sha512, Sha512_256}
 use Rattle.ocfl_audit.specs.{Head.{digest_of}, Audit.{audit, total_cost}}
 use Rattle.ocfl_audit.specs.{Due.{item_places, hashed_among}, Walk.{item_at}}
 use Rattle.ocfl_audit.proofs.Cases.OnLiterals.{audit_on_literals}
-use Rattle.ocfl_audit.proofs.Cases.Trees.{missing_and_right_content, missing_and_right_listing, sha512_file_listing, Case, case, Digests, AllAre, quickly, reports, place, text_at, folder, link, storage_root, object_in, sha256_object, sha512_object, f_is_abc, key, keys, inventory, listing, listing_with, lists_f, missing_and_right, sha512_file, abc, abc_sha512_capitals, no_bytes}
+use Rattle.ocfl_audit.proofs.Cases.Trees.{missing_and_right_content, missing_and_right_listing, sha512_file_listing, Case, case, AllAre, quickly, reports, place, text_at, folder, link, storage_root, object_in, sha256_object, sha512_object, f_is_abc, key, keys, inventory, listing, listing_with, lists_f, missing_and_right, sha512_file, abc, abc_sha512_capitals, no_bytes}
 use Rattle.ocfl_audit.proofs.Cases.Quiet.{audit_256, audit_512, reports_256, reports_512}
 
 -- ---- digests
 
-abbrev AreDigests : Text → Digests → Type 0
+abbrev AreDigests : Text → (Algorithm → String) → Type 0
 AreDigests bytes d =
-    (digest_of Md5 bytes ≡ codes d.md5) × (digest_of Sha1 bytes ≡ codes d.sha1) × (digest_of Sha256 bytes ≡ codes d.sha256)
-    × (digest_of Sha512 bytes ≡ codes d.sha512) × (digest_of Sha512_256 bytes ≡ codes d.sha512_256)
+    (digest_of Md5 bytes ≡ codes (d Md5)) × (digest_of Sha1 bytes ≡ codes (d Sha1)) × (digest_of Sha256 bytes ≡ codes (d Sha256))
+    × (digest_of Sha512 bytes ≡ codes (d Sha512)) × (digest_of Sha512_256 bytes ≡ codes (d Sha512_256))
 
 digests_of_abc : AreDigests (codes "abc") abc
 unfolding audit_on_literals
@@ -33,7 +34,7 @@ cost_of_right_file = ap (map (λ i. i.cost)) (audit_512 sha512_file_listing f_is
 
 -- an empty file that all algorithms name
 abbrev empty_file_listing : Text
-empty_file_listing = listing_with (key no_bytes.sha256 "[\"v1/content/f\"]" ∷ []) (keys (
+empty_file_listing = listing_with (key (no_bytes Sha256) "[\"v1/content/f\"]" ∷ []) (keys (
     key "md5" "{\"d41d8cd98f00b204e9800998ecf8427e\":[\"v1/content/f\"]}"
     ∷ key "sha1" "{\"da39a3ee5e6b4b0d3255bfef95601890afd80709\":[\"v1/content/f\"]}"
     ∷ key "sha512" "{\"cf83e1357eefb8bdf1542850d66d8007d620e4050b5715dc83f4a921d36ce9ce47d0d13c5d85f2b0ff8318d2877eec2f63b931bd47417a81a538327af927da3e\":[\"v1/content/f\"]}"
@@ -78,7 +79,7 @@ files_and_digests_cases =
     (codes "{\"sha512/256\":{\"x\":[\"v1/content/f\"]},\"sha512\":{\"x\":[\"v1/content/f\"]},\"sha256\":{\"x\":[\"v1/content/f\"]},\"sha1\":{\"x\":[\"v1/content/f\"]},\"md5\":{\"x\":[\"v1/content/f\"]}}")) f_is_abc "ok\t.\t-\nok\to\t-\nE093\to/v1/content/f\tmd5 x 900150983cd24fb0d6963f7d28e17f72\nE093\to/v1/content/f\tsha1 x a9993e364706816aba3e25717850c26c9cd0d89d\nE093\to/v1/content/f\tsha256 x ba7816bf8f01cfea414140de5dae2223b00361a396177a9cb410ff61f20015ad\nE093\to/v1/content/f\tsha512 x ddaf35a193617abacc417349ae20413112e6fa4e89a97ea20a9eeee64b55d39a2192992a274fc1a836ba3c23a3feebbd454d4423643ce80e2a9ac94fa54ca49f\nE093\to/v1/content/f\tsha512/256 x 53048e2681941ef99b2e29b76b4c7dabe4c2d0c634fc6d46e0e2f13107e7af23\n" ∷
     -- the manifest before the fixity block; the digest that is right has no line
     reports_256 "two_digests_and_fixity"
-    (listing_with (key no_bytes.sha256 "[\"v1/content/f\"]" ∷ key abc.sha256 "[\"v1/content/f\"]" ∷ [])
+    (listing_with (key (no_bytes Sha256) "[\"v1/content/f\"]" ∷ key (abc Sha256) "[\"v1/content/f\"]" ∷ [])
     (codes "{\"md5\":{\"d41d8cd98f00b204e9800998ecf8427e\":[\"v1/content/f\"]}}")) f_is_abc
     "ok\t.\t-\nE101\to\tv1/content/f\nE092\to/v1/content/f\tsha256 e3b0c44298fc1c149afbf4c8996fb92427ae41e4649b934ca495991b7852b855 ba7816bf8f01cfea414140de5dae2223b00361a396177a9cb410ff61f20015ad\nE093\to/v1/content/f\tmd5 d41d8cd98f00b204e9800998ecf8427e 900150983cd24fb0d6963f7d28e17f72\n" ∷
     -- ascending, told folded and escaped
@@ -146,7 +147,7 @@ unlisted_file_is_not_hashed = refl
 
 items_at_one_place : AllAre (
     shows "item_of_a_right_file" sha512_file "o/v1/content/f" "ok\to/v1/content/f\t3\n" ∷
-    shows "item_of_a_wrong_file" (sha512_object (inventory "sha512" (keys (key abc.sha512 "[\"v1/content/f\"]" ∷ [])) (codes "{}"))
+    shows "item_of_a_wrong_file" (sha512_object (inventory "sha512" (keys (key (abc Sha512) "[\"v1/content/f\"]" ∷ [])) (codes "{}"))
     (text_at "o/v1/content/f" "" ∷ [])) "o/v1/content/f"
     "E092\to/v1/content/f\tsha512 ddaf35a193617abacc417349ae20413112e6fa4e89a97ea20a9eeee64b55d39a2192992a274fc1a836ba3c23a3feebbd454d4423643ce80e2a9ac94fa54ca49f cf83e1357eefb8bdf1542850d66d8007d620e4050b5715dc83f4a921d36ce9ce47d0d13c5d85f2b0ff8318d2877eec2f63b931bd47417a81a538327af927da3e\n" ∷
     shows "item_of_an_unlisted_file" with_unlisted "o/v1/content/g" "E023\to/v1/content/g\t-\n" ∷
@@ -190,10 +191,10 @@ paths_without_file_cases =
     "ok\t.\t-\nE101\to\tv1/content/f\nE092\to/v1/content/f\tsha256 missing\nE093\to/v1/content/f\tmd5 missing\nE093\to/v1/content/f\tsha1 missing\n" ∷
     reports_256 "missing_by_fixity_alone" (listing_with [] (codes "{\"md5\":{\"x\":[\"v1/content/f\"]}}")) [] "ok\t.\t-\nok\to\t-\nE093\to/v1/content/f\tmd5 missing\n" ∷
     -- `v10` before `v2`, and no directory `v3`
-    reports_256 "versions_in_order" (listing (key abc.sha256 "[\"v10/content/f\",\"v2/content/f\",\"v3/content/f\"]" ∷ []))
+    reports_256 "versions_in_order" (listing (key (abc Sha256) "[\"v10/content/f\",\"v2/content/f\",\"v3/content/f\"]" ∷ []))
     (folder "o/v10" ∷ folder "o/v10/content" ∷ text_at "o/v10/content/f" "abc" ∷ folder "o/v2" ∷ folder "o/v2/content" ∷ text_at "o/v2/content/f" "abc"
     ∷ []) "ok\t.\t-\nok\to\t-\nok\to/v10/content/f\t3\nok\to/v2/content/f\t3\nE092\to/v3/content/f\tsha256 missing\n" ∷
-    reports_256 "missing_directory" (listing (key abc.sha256 "[\"v1/content/x/y\"]" ∷ [])) [] "ok\t.\t-\nok\to\t-\nE092\to/v1/content/x/y\tsha256 missing\n" ∷
+    reports_256 "missing_directory" (listing (key (abc Sha256) "[\"v1/content/x/y\"]" ∷ [])) [] "ok\t.\t-\nok\to\t-\nE092\to/v1/content/x/y\tsha256 missing\n" ∷
     []
 
 paths_without_file : AllAre paths_without_file_cases
@@ -202,7 +203,7 @@ paths_without_file = quickly paths_without_file_cases refl
 
 -- ---- directories and links in content
 
-cost_of_listed_empty_directory : total_cost (audit (sha256_object (listing (key abc.sha256 "[\"v1/content/d\"]" ∷ [])) (folder "o/v1/content/d" ∷ [])) []) ≡ 0
+cost_of_listed_empty_directory : total_cost (audit (sha256_object (listing (key (abc Sha256) "[\"v1/content/d\"]" ∷ [])) (folder "o/v1/content/d" ∷ [])) []) ≡ 0
 unfolding audit_on_literals
 cost_of_listed_empty_directory = refl
 
@@ -214,17 +215,17 @@ cost_of_listed_link = (refl, refl)
 
 abbrev directories_and_links_in_content_cases : List Case
 directories_and_links_in_content_cases =
-    reports_256 "listed_empty_directory" (listing (key abc.sha256 "[\"v1/content/d\"]" ∷ [])) (folder "o/v1/content/d" ∷ [])
+    reports_256 "listed_empty_directory" (listing (key (abc Sha256) "[\"v1/content/d\"]" ∷ [])) (folder "o/v1/content/d" ∷ [])
     "ok\t.\t-\nok\to\t-\nE024\to/v1/content/d\t-\nE092\to/v1/content/d\tsha256 missing\n" ∷
-    reports_256 "directories_in_content" (listing (key abc.sha256 "[\"v1/content/d\",\"v1/content/e/g\"]" ∷ []))
+    reports_256 "directories_in_content" (listing (key (abc Sha256) "[\"v1/content/d\",\"v1/content/e/g\"]" ∷ []))
     (folder "o/v1/content/d" ∷ folder "o/v1/content/d/x" ∷ folder "o/v1/content/e" ∷ text_at "o/v1/content/e/g" "abc" ∷ [])
     "ok\t.\t-\nok\to\t-\nE092\to/v1/content/d\tsha256 missing\nE024\to/v1/content/d/x\t-\nok\to/v1/content/e/g\t3\n" ∷
     -- the same digests as if `f` were a file
-    reports_256 "listed_link" (listing_with (key no_bytes.sha256 "[\"v1/content/f\"]" ∷ key abc.sha256 "[\"v1/content/f\"]" ∷ [])
+    reports_256 "listed_link" (listing_with (key (no_bytes Sha256) "[\"v1/content/f\"]" ∷ key (abc Sha256) "[\"v1/content/f\"]" ∷ [])
     (codes "{\"md5\":{\"d41d8cd98f00b204e9800998ecf8427e\":[\"v1/content/f\"]}}")) (link "o/v1/content/f" ∷ [])
     "ok\t.\t-\nE101\to\tv1/content/f\nS04\to/v1/content/f\t-\nE092\to/v1/content/f\tsha256 missing\nE093\to/v1/content/f\tmd5 missing\n" ∷
     reports_256 "unlisted_link_in_content" (listing []) (link "o/v1/content/f" ∷ []) "ok\t.\t-\nok\to\t-\nS04\to/v1/content/f\t-\n" ∷
-    reports_256 "path_below_a_link" (listing (key abc.sha256 "[\"v1/content/f/g\"]" ∷ [])) (link "o/v1/content/f" ∷ [])
+    reports_256 "path_below_a_link" (listing (key (abc Sha256) "[\"v1/content/f/g\"]" ∷ [])) (link "o/v1/content/f" ∷ [])
     "ok\t.\t-\nok\to\t-\nS04\to/v1/content/f\t-\nE092\to/v1/content/f/g\tsha256 missing\n" ∷
     []
 
@@ -275,12 +276,12 @@ entries_of_versions_cases =
     (text_at "o/v1/inventory.json" "" ∷ text_at "o/v1/inventory.json.sha256" "" ∷ text_at "o/v1/inventory.json.sha512" "" ∷ text_at
     "o/v1/inventory.json.md5" "" ∷ folder "o/v1/logs" ∷ link "o/v1/other" ∷ folder "o/v2" ∷ folder "o/v2/content" ∷ [])
     "ok\t.\t-\nok\to\t-\nok\to/v1/content/f\t3\nE015\to/v1/inventory.json.md5\t-\nS04\to/v1/other\t-\n" ∷
-    reports_256 "links_of_a_version" (listing (key abc.sha256 "[\"v2/content/f\"]" ∷ []))
+    reports_256 "links_of_a_version" (listing (key (abc Sha256) "[\"v2/content/f\"]" ∷ []))
     (link "o/v1/inventory.json" ∷ folder "o/v2" ∷ link "o/v2/content" ∷ []) "ok\t.\t-\nok\to\t-\nS04\to/v1/inventory.json\t-\nS04\to/v2/content\t-\nE092\to/v2/content/f\tsha256 missing\n" ∷
-    reports_256 "version_is_a_link" (listing (key abc.sha256 "[\"v2/content/f\"]" ∷ [])) (link "o/v2" ∷ text_at "o/v2/content/f" "abc" ∷ [])
+    reports_256 "version_is_a_link" (listing (key (abc Sha256) "[\"v2/content/f\"]" ∷ [])) (link "o/v2" ∷ text_at "o/v2/content/f" "abc" ∷ [])
     "ok\t.\t-\nok\to\t-\nS04\to/v2\t-\nE092\to/v2/content/f\tsha256 missing\n" ∷
-    reports_256 "version_is_a_file" (listing (key abc.sha256 "[\"v2/content/f\"]" ∷ [])) (text_at "o/v2" "" ∷ []) "ok\t.\t-\nok\to\t-\nE001\to/v2\t-\nE092\to/v2/content/f\tsha256 missing\n" ∷
-    reports_256 "content_directory_is_a_file" (listing (key abc.sha256 "[\"v2/content/f\"]" ∷ [])) (folder "o/v2" ∷ text_at "o/v2/content" "" ∷ [])
+    reports_256 "version_is_a_file" (listing (key (abc Sha256) "[\"v2/content/f\"]" ∷ [])) (text_at "o/v2" "" ∷ []) "ok\t.\t-\nok\to\t-\nE001\to/v2\t-\nE092\to/v2/content/f\tsha256 missing\n" ∷
+    reports_256 "content_directory_is_a_file" (listing (key (abc Sha256) "[\"v2/content/f\"]" ∷ [])) (folder "o/v2" ∷ text_at "o/v2/content" "" ∷ [])
     "ok\t.\t-\nok\to\t-\nE015\to/v2/content\t-\nE092\to/v2/content/f\tsha256 missing\n" ∷
     -- `content` is then a directory like others, and not entered
     reports_256 "content_directory_of_another_name"

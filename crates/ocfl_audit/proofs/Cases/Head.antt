@@ -230,9 +230,9 @@ abbrev manifests_and_fixity_blocks_cases : List Case
 manifests_and_fixity_blocks_cases =
     reports_256 "no_manifest" (inventory_with (key "digestAlgorithm" "\"sha256\"" ∷ key "fixity" "7" ∷ [])) [] "ok\t.\t-\nE041\to\tmanifest\n" ∷
     reports_256 "content_directory_before_manifest" (codes "{\"digestAlgorithm\":\"sha256\",\"contentDirectory\":\"..\"}") [] "ok\t.\t-\nE018\to\t..\n" ∷
-    reports_256 "path_in_place_of_a_list" (listing (key abc.sha256 "\"v1/content/f\"" ∷ [])) f_is_abc "ok\t.\t-\nS03\to\tmanifest\n" ∷
+    reports_256 "path_in_place_of_a_list" (listing (key (abc Sha256) "\"v1/content/f\"" ∷ [])) f_is_abc "ok\t.\t-\nS03\to\tmanifest\n" ∷
     reports_256 "manifest_is_an_array" (inventory "sha256" (codes "[]") (codes "{}")) [] "ok\t.\t-\nS03\to\tmanifest\n" ∷
-    reports_256 "number_among_the_paths" (listing (key abc.sha256 "[\"v1/content/f\",7]" ∷ [])) f_is_abc "ok\t.\t-\nS03\to\tmanifest\n" ∷
+    reports_256 "number_among_the_paths" (listing (key (abc Sha256) "[\"v1/content/f\",7]" ∷ [])) f_is_abc "ok\t.\t-\nS03\to\tmanifest\n" ∷
     reports_256 "no_fixity_block" (codes "{\"digestAlgorithm\":\"sha256\",\"manifest\":{}}") [] "ok\t.\t-\nok\to\t-\n" ∷
     reports_256 "fixity_is_an_array" (listing_with [] (codes "[]")) [] "ok\t.\t-\nS03\to\tfixity\n" ∷
     reports_256 "supported_fixity_is_a_number" (listing_with [] (codes "{\"md5\":7}")) [] "ok\t.\t-\nS03\to\tfixity\n" ∷

@@ -6,6 +6,7 @@ use Rattle.ocfl_tree.specs.Place.{Text}
 use Rattle.ocfl_report.specs.{Text.{text}, declared.code.Code.{Code}}
 use Rattle.ocfl_report.specs.declared.code.Code.TheVariants.{E099, E100, S06}
 use Rattle.ocfl_inventory.specs.ListedPath.{path_fault}
+use Rattle.ocfl_digest.specs.declared.algorithm.Algorithm.TheVariants.{Sha256}
 use Rattle.ocfl_audit.specs.Audit.{audit}
 use Rattle.ocfl_audit.proofs.Cases.OnLiterals.{audit_on_literals}
 use Rattle.ocfl_audit.proofs.Cases.Trees.{Case, AllAre, quickly, sha256_object, f_is_abc, key, keys, inventory, listing, listing_with, lists_f, abc, abc_sha256_capitals, no_bytes, no_bytes_sha256_capitals}
@@ -16,20 +17,20 @@ use Rattle.ocfl_audit.proofs.Cases.Quiet.{reports_256, told_256}
 abbrev keys_that_stand_twice_cases : List Case
 keys_that_stand_twice_cases =
     -- Seen to refuse: E096 and E097 go by keys as written.
-    reports_256 "digest_twice_in_the_manifest" (listing (key abc.sha256 "[\"v1/content/f\"]" ∷ key abc_sha256_capitals "[\"v1/content/f\"]" ∷ [])) f_is_abc
+    reports_256 "digest_twice_in_the_manifest" (listing (key (abc Sha256) "[\"v1/content/f\"]" ∷ key abc_sha256_capitals "[\"v1/content/f\"]" ∷ [])) f_is_abc
     "ok\t.\t-\nE096\to\tba7816bf8f01cfea414140de5dae2223b00361a396177a9cb410ff61f20015ad\nE101\to\tv1/content/f\nok\to/v1/content/f\t3\n" ∷
     -- keys count, even if they list nothing
-    reports_256 "digest_twice_with_empty_lists" (listing (key abc_sha256_capitals "[]" ∷ key abc.sha256 "[]" ∷ [])) []
+    reports_256 "digest_twice_with_empty_lists" (listing (key abc_sha256_capitals "[]" ∷ key (abc Sha256) "[]" ∷ [])) []
     "ok\t.\t-\nE096\to\tba7816bf8f01cfea414140de5dae2223b00361a396177a9cb410ff61f20015ad\n" ∷
     reports_256 "two_digests_twice_ascending"
-    (listing (key no_bytes.sha256 "[]" ∷ key no_bytes_sha256_capitals "[]" ∷ key abc.sha256 "[]" ∷ key abc_sha256_capitals "[]" ∷ [])) []
+    (listing (key (no_bytes Sha256) "[]" ∷ key no_bytes_sha256_capitals "[]" ∷ key (abc Sha256) "[]" ∷ key abc_sha256_capitals "[]" ∷ [])) []
     "ok\t.\t-\nE096\to\tba7816bf8f01cfea414140de5dae2223b00361a396177a9cb410ff61f20015ad\nE096\to\te3b0c44298fc1c149afbf4c8996fb92427ae41e4649b934ca495991b7852b855\n" ∷
     -- as written, `BA` comes before `aB`
     reports_256 "repeated_digests_ascend_folded" (listing (key "BA" "[]" ∷ key "ba" "[]" ∷ key "aB" "[]" ∷ key "ab" "[]" ∷ [])) [] "ok\t.\t-\nE096\to\tab\nE096\to\tba\n" ∷
     -- one line for a digest, whatever its letters are
     reports_256 "any_key_three_times" (listing (key "xy" "[]" ∷ key "xY" "[]" ∷ key "XY" "[]" ∷ [])) [] "ok\t.\t-\nE096\to\txy\n" ∷
     -- the last value is kept
-    reports_256 "key_twice_letter_for_letter" (listing (key abc.sha256 "[\"v1/content/a\"]" ∷ key abc.sha256 "[\"v1/content/f\"]" ∷ [])) f_is_abc "ok\t.\t-\nok\to\t-\nok\to/v1/content/f\t3\n" ∷
+    reports_256 "key_twice_letter_for_letter" (listing (key (abc Sha256) "[\"v1/content/a\"]" ∷ key (abc Sha256) "[\"v1/content/f\"]" ∷ [])) f_is_abc "ok\t.\t-\nok\to\t-\nok\to/v1/content/f\t3\n" ∷
     -- Seen to refuse: E096 and E097 go by keys as written.
     reports_256 "digest_twice_in_fixity"
     (listing_with lists_f (keys (key "md5"
@@ -41,7 +42,7 @@ keys_that_stand_twice_cases =
     (codes "{\"sha512/256\":{\"e\":[],\"E\":[]},\"sha512\":{\"d\":[],\"D\":[]},\"sha256\":{\"c\":[],\"C\":[]},\"sha1\":{\"b\":[],\"B\":[]},\"md5\":{\"z\":[],\"Z\":[],\"a\":[],\"A\":[]}}")) f_is_abc "ok\t.\t-\nE097\to\tmd5 a\nE097\to\tmd5 z\nE097\to\tsha1 b\nE097\to\tsha256 c\nE097\to\tsha512 d\nE097\to\tsha512/256 e\nok\to/v1/content/f\t3\n" ∷
     -- Seen to refuse: E097 before E096.
     reports_256 "manifest_keys_before_fixity_keys"
-    (listing_with (key abc.sha256 "[]" ∷ key abc_sha256_capitals "[]" ∷ []) (codes "{\"md5\":{\"a\":[],\"A\":[]}}")) []
+    (listing_with (key (abc Sha256) "[]" ∷ key abc_sha256_capitals "[]" ∷ []) (codes "{\"md5\":{\"a\":[],\"A\":[]}}")) []
     "ok\t.\t-\nE096\to\tba7816bf8f01cfea414140de5dae2223b00361a396177a9cb410ff61f20015ad\nE097\to\tmd5 a\n" ∷
     -- a digest may occur once in each block
     reports_256 "same_digest_in_other_blocks" (listing_with lists_f (codes "{\"md5\":{\"x\":[]},\"sha1\":{\"X\":[]}}")) f_is_abc "ok\t.\t-\nok\to\t-\nok\to/v1/content/f\t3\n" ∷
@@ -57,18 +58,18 @@ abbrev bad_paths_cases : List Case
 bad_paths_cases =
     -- ascending by their bytes
     -- Seen to refuse: S06 before E099.
-    reports_256 "bad_paths_of_each_kind" (listing (key abc.sha256 "[\"x/content/a\",\"/a\",\"v1/content/f\",\"v1/content/../b\"]" ∷ [])) f_is_abc
+    reports_256 "bad_paths_of_each_kind" (listing (key (abc Sha256) "[\"x/content/a\",\"/a\",\"v1/content/f\",\"v1/content/../b\"]" ∷ [])) f_is_abc
     "ok\t.\t-\nE100\to\t/a\nE099\to\tv1/content/../b\nS06\to\tx/content/a\nok\to/v1/content/f\t3\n" ∷
-    reports_256 "bad_path_twice" (listing (key abc.sha256 "[\"/b\",\"/a\",\"/b\"]" ∷ key no_bytes.sha256 "[\"/b\"]" ∷ [])) [] "ok\t.\t-\nE100\to\t/a\nE100\to\t/b\n" ∷
+    reports_256 "bad_path_twice" (listing (key (abc Sha256) "[\"/b\",\"/a\",\"/b\"]" ∷ key (no_bytes Sha256) "[\"/b\"]" ∷ [])) [] "ok\t.\t-\nE100\to\t/a\nE100\to\t/b\n" ∷
     -- once for the manifest, and once for the supported fixity algorithms together
     reports_256 "bad_path_in_manifest_and_fixity"
-    (listing_with (key abc.sha256 "[\"v1/content/f\",\"/x\"]" ∷ [])
+    (listing_with (key (abc Sha256) "[\"v1/content/f\",\"/x\"]" ∷ [])
     (codes "{\"md5\":{\"900150983cd24fb0d6963f7d28e17f72\":[\"/x\"]},\"sha1\":{\"a9993e364706816aba3e25717850c26c9cd0d89d\":[\"/x\"]}}")) f_is_abc
     "ok\t.\t-\nE100\to\t/x\nE100\to\t/x\nok\to/v1/content/f\t3\n" ∷
     reports_256 "manifest_paths_before_fixity_paths"
-    (listing_with (key abc.sha256 "[\"/b\"]" ∷ []) (codes "{\"sha1\":{\"x\":[\"/a\"]},\"md5\":{\"y\":[\"/c\"]}}")) [] "ok\t.\t-\nE100\to\t/b\nE100\to\t/a\nE100\to\t/c\n" ∷
+    (listing_with (key (abc Sha256) "[\"/b\"]" ∷ []) (codes "{\"sha1\":{\"x\":[\"/a\"]},\"md5\":{\"y\":[\"/c\"]}}")) [] "ok\t.\t-\nE100\to\t/b\nE100\to\t/a\nE100\to\t/c\n" ∷
     -- Seen to refuse: S06 before E099.
-    reports_256 "empty_path" (listing (key abc.sha256 "[\"\"]" ∷ [])) [] "ok\t.\t-\nE099\to\t\n" ∷
+    reports_256 "empty_path" (listing (key (abc Sha256) "[\"\"]" ∷ [])) [] "ok\t.\t-\nE099\to\t\n" ∷
     []
 
 bad_paths : AllAre bad_paths_cases
@@ -171,26 +172,26 @@ content_directory_with_nul = refl
 abbrev paths_in_conflict_cases : List Case
 paths_in_conflict_cases =
     -- Seen to refuse: E101 for equal paths alone.
-    reports_256 "path_below_a_path" (listing (key abc.sha256 "[\"v1/content/f\",\"v1/content/f/g\"]" ∷ [])) f_is_abc
+    reports_256 "path_below_a_path" (listing (key (abc Sha256) "[\"v1/content/f\",\"v1/content/f/g\"]" ∷ [])) f_is_abc
     "ok\t.\t-\nE101\to\tv1/content/f\nok\to/v1/content/f\t3\nE092\to/v1/content/f/g\tsha256 missing\n" ∷
-    reports_256 "path_twice_in_one_list" (listing (key abc.sha256 "[\"v1/content/f\",\"v1/content/f\"]" ∷ [])) f_is_abc "ok\t.\t-\nE101\to\tv1/content/f\nok\to/v1/content/f\t3\n" ∷
+    reports_256 "path_twice_in_one_list" (listing (key (abc Sha256) "[\"v1/content/f\",\"v1/content/f\"]" ∷ [])) f_is_abc "ok\t.\t-\nE101\to\tv1/content/f\nok\to/v1/content/f\t3\n" ∷
     -- by elements: `a` is no beginning of `a-b` or of `ab`
     -- Seen to refuse: E101 by the bytes of a beginning.
-    reports_256 "letters_are_no_beginning" (listing (key abc.sha256 "[\"v1/content/a-b\",\"v1/content/a\",\"v1/content/ab\"]" ∷ [])) []
+    reports_256 "letters_are_no_beginning" (listing (key (abc Sha256) "[\"v1/content/a-b\",\"v1/content/a\",\"v1/content/ab\"]" ∷ [])) []
     "ok\t.\t-\nok\to\t-\nE092\to/v1/content/a\tsha256 missing\nE092\to/v1/content/a-b\tsha256 missing\nE092\to/v1/content/ab\tsha256 missing\n" ∷
     -- although `a-b` is between the two as texts
-    reports_256 "path_between_as_text" (listing (key abc.sha256 "[\"v1/content/a-b\",\"v1/content/a\",\"v1/content/a/b\"]" ∷ [])) []
+    reports_256 "path_between_as_text" (listing (key (abc Sha256) "[\"v1/content/a-b\",\"v1/content/a\",\"v1/content/a/b\"]" ∷ [])) []
     "ok\t.\t-\nE101\to\tv1/content/a\nE092\to/v1/content/a\tsha256 missing\nE092\to/v1/content/a/b\tsha256 missing\nE092\to/v1/content/a-b\tsha256 missing\n" ∷
     -- ascending as places
     reports_256 "repeated_paths_ascending"
-    (listing (key abc.sha256 "[\"v1/content/a-b\",\"v1/content/a/b\"]" ∷ key no_bytes.sha256 "[\"v1/content/a-b\",\"v1/content/a/b\"]" ∷ [])) []
+    (listing (key (abc Sha256) "[\"v1/content/a-b\",\"v1/content/a/b\"]" ∷ key (no_bytes Sha256) "[\"v1/content/a-b\",\"v1/content/a/b\"]" ∷ [])) []
     "ok\t.\t-\nE101\to\tv1/content/a/b\nE101\to\tv1/content/a-b\nE092\to/v1/content/a/b\tsha256 missing\nE092\to/v1/content/a-b\tsha256 missing\n" ∷
     -- Seen to refuse: E101 for equal paths alone.
-    reports_256 "each_proper_beginning" (listing (key abc.sha256 "[\"v1/content/a/b/c\",\"v1/content/a/b\",\"v1/content/a\"]" ∷ [])) []
+    reports_256 "each_proper_beginning" (listing (key (abc Sha256) "[\"v1/content/a/b/c\",\"v1/content/a/b\",\"v1/content/a\"]" ∷ [])) []
     "ok\t.\t-\nE101\to\tv1/content/a\nE101\to\tv1/content/a/b\nE092\to/v1/content/a\tsha256 missing\nE092\to/v1/content/a/b\tsha256 missing\nE092\to/v1/content/a/b/c\tsha256 missing\n" ∷
     -- dropped paths are in nobody's way
     -- Seen to refuse: empty elements of a path are dropped.
-    reports_256 "bad_path_is_no_conflict" (listing (key abc.sha256 "[\"v1/content/f\",\"v1/content/f/\",\"v1/content/f//g\"]" ∷ [])) f_is_abc
+    reports_256 "bad_path_is_no_conflict" (listing (key (abc Sha256) "[\"v1/content/f\",\"v1/content/f/\",\"v1/content/f//g\"]" ∷ [])) f_is_abc
     "ok\t.\t-\nE100\to\tv1/content/f/\nE099\to\tv1/content/f//g\nok\to/v1/content/f\t3\n" ∷
     -- a fixity block may repeat paths
     reports_256 "fixity_repeats_paths" (listing_with lists_f (codes "{\"md5\":{\"900150983cd24fb0d6963f7d28e17f72\":[\"v1/content/f\",\"v1/content/f\"]}}"))
@@ -198,7 +199,7 @@ paths_in_conflict_cases =
     -- the lines of keys, of paths, of conflicts, and the note
     -- Seen to refuse: E097 before E096.
     reports_256 "lines_of_a_head_in_order"
-    (listing_with (key abc.sha256 "[\"v1/content/f\",\"/x\"]" ∷ key abc_sha256_capitals "[\"v1/content/f\"]" ∷ [])
+    (listing_with (key (abc Sha256) "[\"v1/content/f\",\"/x\"]" ∷ key abc_sha256_capitals "[\"v1/content/f\"]" ∷ [])
     (codes "{\"blake2b-512\":7,\"md5\":{\"a\":[\"/w\"],\"A\":[]}}")) f_is_abc
     "ok\t.\t-\nE096\to\tba7816bf8f01cfea414140de5dae2223b00361a396177a9cb410ff61f20015ad\nE097\to\tmd5 a\nE100\to\t/x\nE100\to\t/w\nE101\to\tv1/content/f\nS07\to\tblake2b-512\nok\to/v1/content/f\t3\n" ∷
     []

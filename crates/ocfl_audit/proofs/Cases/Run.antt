@@ -6,6 +6,7 @@ use Rattle.ocfl_tree.specs.{Place.{Text}, StorageRoot.{StorageRoot}}
 use Rattle.ocfl_report.specs.{Line.{Item, found}, declared.code.Code.TheVariants.{E023, E092, E093}}
 use Rattle.ocfl_report.specs.Text.{text, place_text}
 use Rattle.ocfl_inventory.specs.Note.{note, plain}
+use Rattle.ocfl_digest.specs.declared.algorithm.Algorithm.TheVariants.{Sha256}
 use Rattle.ocfl_audit.specs.{Audit.{audit, after, total_cost}, Trail.{inventories}}
 use Rattle.ocfl_audit.specs.Runs.{Limits, cut, left, runs, joined, total_files, IsAtLeast, FileLimitFits, of_budget, sum_of}
 use Rattle.ocfl_audit.proofs.Cases.OnLiterals.{audit_on_literals}
@@ -213,7 +214,7 @@ unlisted_file_behind_the_file_limit = (refl, refl, refl)
 
 -- a run has a finding if its own items have one
 finding_of_one_run : map found (runs
-    (audit (sha256_object (listing (key abc.sha256 "[\"v1/content/a\",\"v1/content/c\"]" ∷ []))
+    (audit (sha256_object (listing (key (abc Sha256) "[\"v1/content/a\",\"v1/content/c\"]" ∷ []))
     (text_at "o/v1/content/a" "abc" ∷ text_at "o/v1/content/b" "" ∷ text_at "o/v1/content/c" "abc" ∷ [])) []) (of_budget 1 ∷ of_budget 1 ∷ [])) ≡ true ∷ false ∷ []
 unfolding audit_on_literals
 finding_of_one_run = refl
@@ -221,7 +222,7 @@ finding_of_one_run = refl
 -- ---- a slash before a dash
 
 abbrev pub slash_and_dash_listing : Text
-slash_and_dash_listing = listing (key abc.sha256 "[\"v1/content/a-b\",\"v1/content/a/b\"]" ∷ [])
+slash_and_dash_listing = listing (key (abc Sha256) "[\"v1/content/a-b\",\"v1/content/a/b\"]" ∷ [])
 
 abbrev pub slash_and_dash_content : StorageRoot
 slash_and_dash_content = text_at "o/v1/content/a-b" "abc" ∷ folder "o/v1/content/a" ∷ text_at "o/v1/content/a/b" "abc" ∷ []

@@ -5,7 +5,8 @@ use Prim.Native.String.{String}
 use Rattle.ocfl_tree.specs.{Place.{Text, Place}, StorageRoot.{StorageRoot, Leaf, file, dir, other}}
 use Rattle.ocfl_report.specs.{Line.{Item}, Text.{text}, declared.code.Code.TheVariants.{Clean}}
 use Rattle.ocfl_inventory.specs.Note.{note, Note, plain, lines_at}
-use Rattle.ocfl_digest.specs.declared.algorithm.Algorithm.TheVariants.{Sha256, Sha512}
+use Rattle.ocfl_digest.specs.declared.algorithm.Algorithm.{Algorithm}
+use Rattle.ocfl_digest.specs.declared.algorithm.Algorithm.TheVariants.{Md5, Sha1, Sha256, Sha512, Sha512_256}
 use Rattle.ocfl_audit.specs.{Head.{digest_of}, Audit.{audit}}
 
 -- a case by its name: a text, and what it is to be; and a text that it is and that takes less to
@@ -97,32 +98,19 @@ f_is_abc = text_at "o/v1/content/f" "abc" ∷ []
 
 -- ---- digests (FIPS 180-4, RFC 1321)
 
--- the digests of some bytes, as an inventory writes them
-pub record Digests : Type 0 where
-  pub md5 : String
-  pub sha1 : String
-  pub sha256 : String
-  pub sha512 : String
-  pub sha512_256 : String
+-- the digests of the bytes `abc` and of no bytes, as an inventory writes them
+abbrev digests : Algorithm → String × String
+digests Md5 = ("900150983cd24fb0d6963f7d28e17f72", "d41d8cd98f00b204e9800998ecf8427e")
+digests Sha1 = ("a9993e364706816aba3e25717850c26c9cd0d89d", "da39a3ee5e6b4b0d3255bfef95601890afd80709")
+digests Sha256 = ("ba7816bf8f01cfea414140de5dae2223b00361a396177a9cb410ff61f20015ad", "e3b0c44298fc1c149afbf4c8996fb92427ae41e4649b934ca495991b7852b855")
+digests Sha512 = ("ddaf35a193617abacc417349ae20413112e6fa4e89a97ea20a9eeee64b55d39a2192992a274fc1a836ba3c23a3feebbd454d4423643ce80e2a9ac94fa54ca49f", "cf83e1357eefb8bdf1542850d66d8007d620e4050b5715dc83f4a921d36ce9ce47d0d13c5d85f2b0ff8318d2877eec2f63b931bd47417a81a538327af927da3e")
+digests Sha512_256 = ("53048e2681941ef99b2e29b76b4c7dabe4c2d0c634fc6d46e0e2f13107e7af23", "c672b8d1ef56ed28ab87c3622c5114069bdd3ad7b8f9737498d0c01ecef0967a")
 
--- of the bytes `abc`
-abbrev pub abc : Digests
-abc = record {
-  md5 = "900150983cd24fb0d6963f7d28e17f72";
-  sha1 = "a9993e364706816aba3e25717850c26c9cd0d89d";
-  sha256 = "ba7816bf8f01cfea414140de5dae2223b00361a396177a9cb410ff61f20015ad";
-  sha512 = "ddaf35a193617abacc417349ae20413112e6fa4e89a97ea20a9eeee64b55d39a2192992a274fc1a836ba3c23a3feebbd454d4423643ce80e2a9ac94fa54ca49f";
-  sha512_256 = "53048e2681941ef99b2e29b76b4c7dabe4c2d0c634fc6d46e0e2f13107e7af23";
-}
+abbrev pub abc : Algorithm → String
+abc a = (digests a).0
 
-abbrev pub no_bytes : Digests
-no_bytes = record {
-  md5 = "d41d8cd98f00b204e9800998ecf8427e";
-  sha1 = "da39a3ee5e6b4b0d3255bfef95601890afd80709";
-  sha256 = "e3b0c44298fc1c149afbf4c8996fb92427ae41e4649b934ca495991b7852b855";
-  sha512 = "cf83e1357eefb8bdf1542850d66d8007d620e4050b5715dc83f4a921d36ce9ce47d0d13c5d85f2b0ff8318d2877eec2f63b931bd47417a81a538327af927da3e";
-  sha512_256 = "c672b8d1ef56ed28ab87c3622c5114069bdd3ad7b8f9737498d0c01ecef0967a";
-}
+abbrev pub no_bytes : Algorithm → String
+no_bytes a = (digests a).1
 
 -- and some in capitals
 abbrev pub abc_sha256_capitals : String
@@ -164,13 +152,13 @@ listing_with manifest fixity = inventory "sha256" (keys manifest) fixity
 
 -- the manifest that lists `f` rightly
 abbrev pub lists_f : List Text
-lists_f = key abc.sha256 "[\"v1/content/f\"]" ∷ []
+lists_f = key (abc Sha256) "[\"v1/content/f\"]" ∷ []
 
 -- ---- trees of several cases
 
 -- a file for each digest of the manifest: `a` and `c` of three bytes, `b` of none
 abbrev pub three_files_listing : Text
-three_files_listing = listing (key abc.sha256 "[\"v1/content/a\",\"v1/content/c\"]" ∷ key no_bytes.sha256 "[\"v1/content/b\"]" ∷ [])
+three_files_listing = listing (key (abc Sha256) "[\"v1/content/a\",\"v1/content/c\"]" ∷ key (no_bytes Sha256) "[\"v1/content/b\"]" ∷ [])
 
 abbrev pub three_files_content : StorageRoot
 three_files_content = text_at "o/v1/content/a" "abc" ∷ text_at "o/v1/content/b" "" ∷ text_at "o/v1/content/c" "abc" ∷ []
@@ -180,8 +168,8 @@ three_files = sha256_object three_files_listing three_files_content
 
 -- `a` is listed twice and not there, `b` is right
 abbrev pub missing_and_right_listing : Text
-missing_and_right_listing = listing_with (key no_bytes.sha256 "[\"v1/content/a\"]" ∷ key abc.sha256 "[\"v1/content/b\"]" ∷ [])
-    (codes "{\"sha1\":" ++ keys (key no_bytes.sha1 "[\"v1/content/a\"]" ∷ []) ++ codes "}")
+missing_and_right_listing = listing_with (key (no_bytes Sha256) "[\"v1/content/a\"]" ∷ key (abc Sha256) "[\"v1/content/b\"]" ∷ [])
+    (codes "{\"sha1\":" ++ keys (key (no_bytes Sha1) "[\"v1/content/a\"]" ∷ []) ++ codes "}")
 
 abbrev pub missing_and_right_content : StorageRoot
 missing_and_right_content = text_at "o/v1/content/b" "abc" ∷ []
@@ -191,7 +179,7 @@ missing_and_right = sha256_object missing_and_right_listing missing_and_right_co
 
 -- one file, by sha512
 abbrev pub sha512_file_listing : Text
-sha512_file_listing = inventory "sha512" (keys (key abc.sha512 "[\"v1/content/f\"]" ∷ [])) (codes "{}")
+sha512_file_listing = inventory "sha512" (keys (key (abc Sha512) "[\"v1/content/f\"]" ∷ [])) (codes "{}")
 
 abbrev pub sha512_file : StorageRoot
 sha512_file = sha512_object sha512_file_listing f_is_abc

@@ -5,6 +5,7 @@ use Rattle.ocfl_tree.specs.{Place.{Text}, StorageRoot.{StorageRoot}}
 use Rattle.ocfl_tree.specs.declared.store.Opening.{Opening}
 use Rattle.ocfl_report.specs.{Line.{Item, found}, declared.code.Code.TheVariants.{S08}, Text.{text}}
 use Rattle.ocfl_inventory.specs.Note.{plain}
+use Rattle.ocfl_digest.specs.declared.algorithm.Algorithm.TheVariants.{Sha256}
 use Rattle.ocfl_audit.specs.Audit.{Unread, audit, total_cost}
 use Rattle.ocfl_audit.specs.Due.{item_places, items_at, hashed_among}
 use Rattle.ocfl_audit.specs.{Trail.{unread_of, content_trail}, Runs.{runs, of_budget}}
@@ -28,7 +29,7 @@ unread p cost = item p cost (plain S08 ∷ [])
 -- ---- a long file `f` whose read fails after 65,536 bytes, and a short one
 
 abbrev long_and_short_listing : Text
-long_and_short_listing = listing (key abc.sha256 "[\"v1/content/f\",\"v1/content/g\"]" ∷ [])
+long_and_short_listing = listing (key (abc Sha256) "[\"v1/content/f\",\"v1/content/g\"]" ∷ [])
 
 abbrev long_and_short_content : StorageRoot
 long_and_short_content = bytes_at "o/v1/content/f" (replicate 65537 97) ∷ text_at "o/v1/content/g" "abc" ∷ []

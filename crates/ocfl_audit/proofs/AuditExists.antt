@@ -76,10 +76,7 @@ pub record IsInside (root : StorageRoot) (p o q : Place) : Type 0 where
   pub below : o ≢ []
 
 pub object_zone_is : (root : StorageRoot) (front rest o q : Place) → object_zone root front rest ≡ inside o q → IsInside root (front ++ rest) o q
-object_zone_is root front [] o q h = absurd (no h)
-  where
-    no : hierarchy ≡ inside o q → ⊥
-    no e = cc
+object_zone_is root front [] o q h = absurd cc
 object_zone_is root front (n ∷ rest) o q h = by (is_declared (object_declared root (front ++ n ∷ []))) refl h (object_zone_is root (front ++ n ∷ []) rest o q)
   where
     here : is_declared (object_declared root (front ++ n ∷ [])) ≡ true → front ++ n ∷ [] ≡ o → rest ≡ q → IsInside root (front ++ n ∷ rest) o q
@@ -97,11 +94,8 @@ object_zone_is root front (n ∷ rest) o q h = by (is_declared (object_declared 
 pub zone_is : (root : StorageRoot) (p o q : Place) → zone root p ≡ inside o q → IsInside root p o q
 zone_is root p o q h = by _ h
   where
-    no : skipped ≡ inside o q → ⊥
-    no e = cc
-
     by : (b : Bool) → cond b skipped (object_zone root [] p) ≡ inside o q → IsInside root p o q
-    by true e = absurd (no e)
+    by true e = absurd cc
     by false e = object_zone_is root [] p o q e
 
 -- a declared object is a place of the tree
@@ -215,10 +209,7 @@ module _ (root : StorageRoot) (unread : Unread) where
 
   pub lines_from_notes : (p : Place) (ns : List Note) → (not (is_empty (lines_at p ns)) ≡ true) ↔ (ns ≢ [])
   lines_from_notes p [] = (λ e. absurd (true_not_false (sym e)), λ h. absurd (h refl))
-  lines_from_notes p (n ∷ ns) = (λ e f. no f, λ h. refl)
-    where
-      no : n ∷ ns ≡ [] → ⊥
-      no e = cc
+  lines_from_notes p (n ∷ ns) = (λ e f. cc, λ h. refl)
 
   pub audit_is : IsAudit root unread (audit root unread)
   audit_is = record {

@@ -10,18 +10,12 @@ use Rattle.ocfl_audit.specs.Head.{on}
 use Rattle.ocfl_tree.proofs.Orders.{place_cmp_total, place_cmp_exact, true_not_false, not_below_itself, not_both_below, before_each, ascending_unique, ascends_filter, among_filter, among_from_filter, among_left, among_right, among_flat_map}
 use Rattle.ocfl_tree.proofs.Stores.{among_either}
 use Rattle.ocfl_audit.proofs.AuditExists.{equal_from_test, place_from_test, append_one, append_nothing}
-pub use Rattle.ocfl_tree.proofs.Places.{text_cmp_total, text_cmp_exact}
+pub use Rattle.ocfl_tree.proofs.Places.{place_eq-same, text_cmp_total, text_cmp_exact, text_eq-same}
 pub use Rattle.ocfl_tree.proofs.Orders.{less_from}
 pub use Rattle.ocfl_inventory.proofs.Runs.{equal_itself}
 
 pub text_from_test : (n m : Text) → text_eq n m ≡ true → n ≡ m
 text_from_test n m e = text_cmp_exact n m (equal_from_test _ e)
-
-pub text_same : (n : Text) → text_eq n n ≡ true
-text_same n = ap is_eq (equal_itself text_cmp_total n)
-
-pub place_same : (p : Place) → place_eq p p ≡ true
-place_same p = ap is_eq (equal_itself place_cmp_total p)
 
 pub on_ascends : (b : Bool) (p : Place) → IsAscending place_cmp (on b p)
 on_ascends true p = (tt, tt)
@@ -162,7 +156,7 @@ module _ (ps : List Place) (ascends : IsAscending place_cmp ps) (d : Place) wher
     split_to z i = let k = among_from_filter (begins d) ps z i in let b = begins_rest d z k.1 in by b.0 b.1 k.0
       where
         by : (r : Place) → z ≡ d ++ r → IsAmong ps z → IsAmong (filter (place_eq d) ps ++ flat_map (λ n. under ps (d ++ n ∷ [])) ns) z
-        by [] e j = among_left (filter (place_eq d) ps) _ z (among_filter (place_eq d) ps z j (subst (λ x. place_eq d x ≡ true) (sym (e ∙ append_nothing d)) (place_same d)))
+        by [] e j = among_left (filter (place_eq d) ps) _ z (among_filter (place_eq d) ps z j (subst (λ x. place_eq d x ≡ true) (sym (e ∙ append_nothing d)) (place_eq-same d)))
         by (n ∷ r) e j = among_right (filter (place_eq d) ps) _ z (subst (IsAmong (flat_map (λ m. under ps (d ++ m ∷ [])) ns)) (sym e) (in_parts n r (subst (IsAmong ps) e j)))
 
     split_from : (z : Place) → IsAmong (filter (place_eq d) ps ++ flat_map (λ n. under ps (d ++ n ∷ [])) ns) z → IsAmong (under ps d) z
@@ -236,10 +230,7 @@ module _ (ps : List Place) (ascends : IsAscending place_cmp ps) (d : Place) wher
               among_left down rest_of_parts z (among_filter (above (d ++ n ∷ q)) (under ps (d ++ n ∷ [])) z
               (among_filter (begins (d ++ n ∷ [])) ps z j (subst (λ x. begins (d ++ n ∷ []) x ≡ true) (sym (e ∙ ap (λ x. d ++ x ∷ r) same)) (name_begins d n r))) l)
           named m r e j l Greater f =
-              absurd (not_less_greater (sym (less_from _ l) ∙ ap (place_cmp (d ++ n ∷ q)) e ∙ cmp_behind d (n ∷ q) (m ∷ r) ∙ ap (λ o. ordering_then o (place_cmp q r)) f))
-            where
-              not_less_greater : Less ≡ Greater → ⊥
-              not_less_greater x = cc
+              absurd (let both = sym (less_from _ l) ∙ ap (place_cmp (d ++ n ∷ q)) e ∙ cmp_behind d (n ∷ q) (m ∷ r) ∙ ap (λ o. ordering_then o (place_cmp q r)) f in cc)
 
           by : (r : Place) → z ≡ d ++ r → IsAmong ps z → is_lt (place_cmp (d ++ n ∷ q) z) ≡ true → IsAmong (down ++ rest_of_parts) z
           by [] e j l = absurd (not_both_below place_cmp_total d (d ++ n ∷ q) (above_self d n q) (subst (λ x. place_cmp (d ++ n ∷ q) x ≡ Less) (e ∙ append_nothing d) (less_from _ l)))

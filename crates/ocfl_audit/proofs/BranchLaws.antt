@@ -47,15 +47,9 @@ no_nul : (m : Text) → All (λ b. (b ≢ 47) × (b ≢ 0)) m → All (λ b. b �
 no_nul [] h = All-nil (λ b. b ≢ 0)
 no_nul (b ∷ m) h = All-cons (λ b. b ≢ 0) b m (All-head (λ b. (b ≢ 47) × (b ≢ 0)) b m h).1 (no_nul m (All-tail (λ b. (b ≢ 47) × (b ≢ 0)) b m h))
 
-same_text : (n : Text) → text_cmp n n ≡ Equal
-same_text = equal_itself text_cmp_total
-
-same_number : (b : ℕ) → nat_cmp b b ≡ Equal
-same_number b = sym (nat_cmp_is b b Equal refl)
-
 longer_text : (n : Text) → text_cmp n (n ++ 1 ∷ []) ≡ Less
 longer_text [] = refl
-longer_text (b ∷ n) = ap (λ r. ordering_then r (text_cmp n (n ++ 1 ∷ []))) (same_number b) ∙ longer_text n
+longer_text (b ∷ n) = ap (λ r. ordering_then r (text_cmp n (n ++ 1 ∷ []))) (sym (nat_cmp_is b b Equal refl)) ∙ longer_text n
 
 -- ---- places
 
@@ -101,7 +95,7 @@ enclosed_is (k ∷ d) n (m ∷ q) h = by (text_cmp m k) refl (enclosed_is d n q 
 -- the separators ascend
 pub ends_above : (d : Place) (n : Text) → place_cmp (d ++ n ∷ []) (branch_end d n) ≡ Less
 ends_above [] n = ap (λ r. ordering_then r Equal) (longer_text n)
-ends_above (k ∷ d) n = ap (λ r. ordering_then r (place_cmp (d ++ n ∷ []) (branch_end d n))) (same_text k) ∙ ends_above d n
+ends_above (k ∷ d) n = ap (λ r. ordering_then r (place_cmp (d ++ n ∷ []) (branch_end d n))) (equal_itself text_cmp_total k) ∙ ends_above d n
 
 -- ---- items
 

@@ -73,8 +73,5 @@ module _ (root : StorageRoot) where
   looked_is (n ∷ d) = (λ h. inr (looked (n ∷ d) (λ e. cc) h), back)
     where
       back : (n ∷ d ≡ []) ⊎ IsLookedInto root (n ∷ d) → is_looked_into root (n ∷ d) ≡ true
-      back (inl e) = absurd (empty e)
-        where
-          empty : n ∷ d ≡ [] → ⊥
-          empty e = cc
+      back (inl e) = absurd cc
       back (inr h) = looked_there (n ∷ d) h

@@ -90,9 +90,6 @@ module _ (root : StorageRoot) (closed : IsClosed root) where
   path_is : (last : Place) → PathIs last (next_path root last)
   path_is last = by (zone root last) refl
     where
-      no_skipped : (o s : Place) → skipped ≡ inside o s → ⊥
-      no_skipped o s e = cc
-
       least : (o s : Place) (t : Table) → zone root last ≡ inside o s → table_at root o ≡ Some t → (ps : List Place)
           → ps ≡ filter (above s) (ascending place_cmp (paths_of t)) → PathIs last (option_map (λ q. o ++ q) (first_of_list ps))
       least o s t z h [] e = path_none root last o s t z h
@@ -126,7 +123,7 @@ module _ (root : StorageRoot) (closed : IsClosed root) where
       of_table o s z (Some t) h = least o s t z h (filter (above s) (ascending place_cmp (paths_of t))) refl
 
       by : (z : Zone) → zone root last ≡ z → PathIs last (next_path_in root z)
-      by skipped e = λ o s q t y g i l. no_skipped o s (sym e ∙ y)
+      by skipped e = λ o s q t y g i l. cc
       by hierarchy e = path_hierarchy root last e
       by (inside o s) e = of_table o s e (table_at root o) refl
 

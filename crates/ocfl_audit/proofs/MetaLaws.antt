@@ -18,7 +18,7 @@ use Rattle.ocfl_audit.specs.Audit.{Unread, given_by}
 use Rattle.ocfl_audit.specs.Trail.{is_root_meta, is_meta_zone, is_meta, content_openings, content_trail, unread_of, inventory_of, heads_of}
 use Rattle.ocfl_audit.specs.Objects.{IsObjectRoot, IsInventoryFile, inventory, sidecar_sha256, sidecar_sha512, IsObjectFile, declaration, of_inventory, IsMetadata, of_root, of_object}
 use Rattle.ocfl_audit.proofs.AuditExists.{append_nothing, zone_is, place_from_test}
-use Rattle.ocfl_audit.proofs.BelowLaws.{text_from_test, text_same, place_same}
+use Rattle.ocfl_audit.proofs.BelowLaws.{text_from_test, text_eq-same, place_eq-same}
 use Rattle.ocfl_audit.proofs.{WayLaws.{is_closed, zone_part}, NextLaws.{zone_longer}}
 use Rattle.ocfl_audit.proofs.{ObjectLaws.{object_by_zone}, Trails.{filter_append}}
 
@@ -75,7 +75,7 @@ object_directories root p n = (to, back)
         nothing false e = cc
 
     differs : (m : Text) → text_eq n m ≡ false → n ≢ m
-    differs m e same = true_not_false (sym (text_same m) ∙ ap (λ x. text_eq x m) (sym same) ∙ e)
+    differs m e same = true_not_false (sym (text_eq-same m) ∙ ap (λ x. text_eq x m) (sym same) ∙ e)
 
     to : object_entry_notes root p n (Some dir) ≡ plain E001 ∷ [] → (is_version_name n ≡ false) × ((n ≢ codes "extensions") × (n ≢ codes "logs"))
     to h = by (is_version_name n) (text_eq n (codes "extensions")) (text_eq n (codes "logs")) refl refl refl h
@@ -105,10 +105,7 @@ object_directories root p n = (to, back)
 -- ---- the storage root's extensions
 
 pub in_extensions : (root : StorageRoot) (p : Place) → (is_in_extensions root p ≡ true) ↔ ((q : Place) × ((p ≡ codes "extensions" ∷ q) × (at root (codes "extensions" ∷ []) ≡ Some dir)))
-in_extensions root [] = (λ e. absurd (true_not_false (sym e)), λ k. absurd (empty k.0 k.1.0))
-  where
-    empty : (q : Place) → ◌≡◌ {A = Place} [] (codes "extensions" ∷ q) → ⊥
-    empty q e = cc
+in_extensions root [] = (λ e. absurd (true_not_false (sym e)), λ k. absurd (let e = k.1.0 in cc))
 in_extensions root (n ∷ p) = (to, λ k. ap (is_in_extensions root) k.1.0 ∙ ap is_dir_leaf k.1.1)
   where
     to : is_in_extensions root (n ∷ p) ≡ true → (q : Place) × ((n ∷ p ≡ codes "extensions" ∷ q) × (at root (codes "extensions" ∷ []) ≡ Some dir))
@@ -242,7 +239,7 @@ module _ (root : StorageRoot) where
 -- ---- what a content file gave
 
 pub given_first : (unread : Unread) (p : Place) (n : ℕ) → given_by ((p, n) ∷ unread) p ≡ Some n
-given_first unread p n = ap (λ b. cond b (Some n) (given_by unread p)) (place_same p)
+given_first unread p n = ap (λ b. cond b (Some n) (given_by unread p)) (place_eq-same p)
 
 pub given_behind : (unread : Unread) (p q : Place) (n : ℕ) → q ≢ p → given_by ((q, n) ∷ unread) p ≡ given_by unread p
 given_behind unread p q n apart = by (place_eq q p) refl

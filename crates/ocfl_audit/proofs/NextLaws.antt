@@ -14,7 +14,7 @@ use Rattle.ocfl_audit.specs.Walk.{is_reached, seen_names, IsClosed, item_at, ste
 use Rattle.ocfl_audit.specs.Stack.{Frame, seen_places, seen_in, seen_left, listed_at, NoneSeenBetween, NoPathBetween, NoneSeenAbove, NoPathAbove, Ahead, in_sight, in_table, in_later}
 use Rattle.ocfl_audit.proofs.StepLaws.{zone_step}
 use Rattle.ocfl_audit.proofs.AuditExists.{append_one, append_nothing, zone_is, seen_candidate, place_from_test}
-use Rattle.ocfl_audit.proofs.BelowLaws.{text_cmp_total, text_cmp_exact, on_ascends, place_same, under, above, less_from, above_self, begins_rest, text_same, equal_itself, split_names, split_self, split_after}
+use Rattle.ocfl_audit.proofs.BelowLaws.{text_cmp_total, text_cmp_exact, on_ascends, place_eq-same, under, above, less_from, above_self, begins_rest, text_eq-same, equal_itself, split_names, split_self, split_after}
 use Rattle.ocfl_audit.proofs.WayLaws.{seen_way, Reason, by_sight, by_table, reason, head_seen, zone_part}
 use Rattle.ocfl_audit.proofs.WalkLaws.{item_places, places_ascend, audit_places, filter_items, place_has, has_place, none_among}
 use Rattle.ocfl_tree.proofs.Orders.{place_cmp_total, place_cmp_exact, true_not_false, below_from_greater, ascending_unique, among_ascending, among_filter, among_from_filter, ascends_filter, ascends_ascending}
@@ -123,7 +123,7 @@ module _ (root : StorageRoot) where
           subst (λ o. IsAmong (on (is_some o) d) z) (sym (ap (seen root) e ∙ l.1)) (inl (sym e))
 
       from : (z : Place) (o : Option Leaf) → seen root d ≡ o → IsAmong (on (is_some o) d) z → IsAmong (filter (place_eq d) (seen_places root)) z
-      from z (Some l) h (inl e) = subst (IsAmong (filter (place_eq d) (seen_places root))) (sym e) (among_filter (place_eq d) (seen_places root) d (seen_to d l h) (place_same d))
+      from z (Some l) h (inl e) = subst (IsAmong (filter (place_eq d) (seen_places root))) (sym e) (among_filter (place_eq d) (seen_places root) d (seen_to d l h) (place_eq-same d))
       from z (Some l) h (inr i) = absurd i
       from z None h i = absurd i
 
@@ -188,17 +188,14 @@ module _ (root : StorageRoot) (closed : IsClosed root) where
   between (a ∷ o) q (b ∷ l) h = by (text_cmp b a) refl h (between o q l)
     where
       alike : b ≡ a → (begins o l ≡ true) ⊎ (place_cmp l o ≡ Less) → (begins (a ∷ o) (b ∷ l) ≡ true) ⊎ (place_cmp (b ∷ l) (a ∷ o) ≡ Less)
-      alike e (inl g) = inl (ap (λ x. is_eq (text_cmp a x) && begins o l) e ∙ ap (λ x. x && begins o l) (text_same a) ∙ g)
+      alike e (inl g) = inl (ap (λ x. is_eq (text_cmp a x) && begins o l) e ∙ ap (λ x. x && begins o l) (text_eq-same a) ∙ g)
       alike e (inr g) = inr (ap (λ x. ordering_then (text_cmp x a) (place_cmp l o)) e ∙ ap (λ r. ordering_then r (place_cmp l o)) (equal_itself text_cmp_total a) ∙ g)
 
       by : (r : Ordering) → text_cmp b a ≡ r → ordering_then r (place_cmp l (o ++ q)) ≡ Less
           → (place_cmp l (o ++ q) ≡ Less → (begins o l ≡ true) ⊎ (place_cmp l o ≡ Less)) → (begins (a ∷ o) (b ∷ l) ≡ true) ⊎ (place_cmp (b ∷ l) (a ∷ o) ≡ Less)
       by Less e g k = inr (ap (λ r. ordering_then r (place_cmp l o)) e)
       by Equal e g k = alike (text_cmp_exact b a e) (k g)
-      by Greater e g k = absurd (no g)
-        where
-          no : Greater ≡ Less → ⊥
-          no x = cc
+      by Greater e g k = absurd cc
 
   pub ahead : (u : Option ℕ) (last p : Place) → notes root u p ≢ [] → place_cmp last p ≡ Less → Ahead root last p
   ahead u last p some l = by (reason root closed u p some)

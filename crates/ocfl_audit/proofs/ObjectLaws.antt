@@ -50,14 +50,11 @@ module _ (root : StorageRoot) where
   zone_parts : (p o q : Place) → zone root p ≡ inside o q → (is_known (root_declared root) ≡ true) × ((is_in_extensions root p ≡ false) × (object_zone root [] p ≡ inside o q))
   zone_parts p o q h = by (is_known (root_declared root)) (is_in_extensions root p) refl refl h
     where
-      no : skipped ≡ inside o q → ⊥
-      no e = cc
-
       by : (a b : Bool) → is_known (root_declared root) ≡ a → is_in_extensions root p ≡ b → cond (not a || b) skipped (object_zone root [] p) ≡ inside o q
           → (is_known (root_declared root) ≡ true) × ((is_in_extensions root p ≡ false) × (object_zone root [] p ≡ inside o q))
       by true false e f g = (e, (f, g))
-      by true true e f g = absurd (no g)
-      by false b e f g = absurd (no g)
+      by true true e f g = absurd cc
+      by false b e f g = absurd cc
 
   -- below an object there is no other
   no_inner : (front s : Place) (n : Text) (q x : Place) → s ≢ [] → is_declared (object_declared root (front ++ s)) ≡ true → object_zone root front (s ++ n ∷ q) ≡ inside x [] → ⊥
@@ -234,10 +231,7 @@ module _ (root : StorageRoot) where
   one_declaration o i = let k = (inventory_counts o i).version in declared_once o k.0 k.1
 
   pub none_of_several : (o : Place) (n m : Text) (ns : List Text) → filter (is_declaration Object) (files_in root o) ≡ n ∷ m ∷ ns → IsAmong (inventories root) (o ++ inventory_name ∷ []) → ⊥
-  none_of_several o n m ns e i = let k = one_declaration o i in two_not_one (sym e ∙ k.1)
-    where
-      two_not_one : {x : Text} → n ∷ m ∷ ns ≡ x ∷ [] → ⊥
-      two_not_one f = cc
+  none_of_several o n m ns e i = let k = (one_declaration o i).1 in cc
 
   pub none_of_unknown : (o : Place) → is_known (object_declared root o) ≡ false → IsAmong (inventories root) (o ++ inventory_name ∷ []) → ⊥
   none_of_unknown o e i = let k = (inventory_counts o i).version in true_not_false (sym (ap is_known k.1) ∙ e)

@@ -13,7 +13,7 @@ use Rattle.ocfl_audit.specs.Zone.{skipped, hierarchy, inside, zone, table_at, se
 use Rattle.ocfl_audit.specs.Lines.{block_cmp, block_code, is_empty, file_notes, missing_notes, listed_dir_notes, content_notes, object_notes, notes_in, notes, cost_of, is_hashed, named_in, named_at}
 use Rattle.ocfl_audit.specs.Trail.{is_root_meta, is_meta, is_meta_zone}
 use Rattle.ocfl_tree.proofs.Orders.{true_not_false}
-use Rattle.ocfl_audit.proofs.{AuditExists.{zone_is, path_among}, BelowLaws.{place_same}}
+use Rattle.ocfl_audit.proofs.{AuditExists.{zone_is, path_among}, BelowLaws.{place_eq-same}}
 use Rattle.ocfl_audit.proofs.BoundLaws.{kept_paths, kept_short, table_from_inventory}
 use Rattle.ocfl_audit.proofs.UnreadLaws.{file_some}
 
@@ -35,7 +35,7 @@ named_triples q (e ∷ ts) i = by (place_eq e.path q) refl i (named_triples q ts
     by : (b : Bool) → place_eq e.path q ≡ b → IsAmong (map (λ x. x.path) (e ∷ ts)) q → (IsAmong (map (λ x. x.path) ts) q → filter_map (λ x. if place_eq x.path q then Some x.named else None) ts ≢ [])
         → cons_option (cond b (Some e.named) None) (filter_map (λ x. if place_eq x.path q then Some x.named else None) ts) ≢ []
     by true f i k = filled e.named _
-    by false f (inl g) k = absurd (true_not_false (sym (place_same q) ∙ ap (λ x. place_eq x q) g ∙ f))
+    by false f (inl g) k = absurd (true_not_false (sym (place_eq-same q) ∙ ap (λ x. place_eq x q) g ∙ f))
     by false f (inr j) k = k j
 
 ascending_filled : {A : Type 0} (cmp : A → A → Ordering) (xs : List A) → xs ≢ [] → ascending cmp xs ≢ []

@@ -311,10 +311,7 @@ left_has_cost items b = by (budget_left items b) refl
   where
     by : (xs : List Item) → budget_left items b ≡ xs → HasCost (budget_left items b)
     by [] e = inl e
-    by (x ∷ xs) e = inr (left_costs b 0 items (λ f. no (sym e ∙ f)))
-      where
-        no : x ∷ xs ≡ [] → ⊥
-        no q = cc
+    by (x ∷ xs) e = inr (left_costs b 0 items (λ f. cc))
 
 -- if something is left, the cut has spent its budget, and so the rest costs no more than the
 -- later budgets
@@ -335,10 +332,7 @@ joined_nothing (b ∷ bs) = refl
 -- if the budgets sum to the cost, the runs take all
 joined_after : (bs : List ℕ) (items : List Item) → HasCost items → total_cost items ≤ sum_of bs → joined (budget_runs_after bs items) ≡ items
 joined_after [] [] c h = refl
-joined_after [] (i ∷ items) (inl e) h = absurd (no e)
-  where
-    no : i ∷ items ≡ [] → ⊥
-    no q = cc
+joined_after [] (i ∷ items) (inl e) h = absurd cc
 joined_after [] (i ∷ items) (inr c) h = absurd (omega (arith, c, h))
 joined_after (b ∷ bs) [] c h = refl
 joined_after (b ∷ bs) (i ∷ items) c h =

@@ -15,7 +15,7 @@ use Rattle.ocfl_tree.proofs.Trees.{at-append}
 use Rattle.ocfl_tree.proofs.Orders.{ascending_unique, ascends_ascending, place_cmp_total, place_cmp_exact, true_not_false, not_below_itself, not_both_below, below_from_greater, before_each, among_ascending, among_filter, among_from_filter, ascends_filter}
 use Rattle.ocfl_tree.proofs.Places.{append-child_name}
 use Rattle.ocfl_audit.proofs.AuditExists.{zone_is}
-use Rattle.ocfl_audit.proofs.BelowLaws.{text_cmp_total, text_cmp_exact, place_same, above, less_from, cmp_behind}
+use Rattle.ocfl_audit.proofs.BelowLaws.{text_cmp_total, text_cmp_exact, place_eq-same, above, less_from, cmp_behind}
 use Rattle.ocfl_audit.proofs.StepLaws.{seen_step, reached_step}
 use Rattle.ocfl_audit.proofs.NextLaws.{seen_ascend, seen_from, seen_to, least_above, same_above, listed_is, listing_step}
 
@@ -38,7 +38,7 @@ key_lookup (e ∷ root) p i = by (place_eq e.0 p) refl i (key_lookup root p)
     by : (b : Bool) → place_eq e.0 p ≡ b → IsAmong (map (λ x. x.0) (e ∷ root)) p
         → (IsAmong (map (λ x. x.0) root) p → (leaf : Leaf) × (lookup root p ≡ Some leaf)) → (leaf : Leaf) × (cond b (Some e.1) (lookup root p) ≡ Some leaf)
     by true f j k = (e.1, refl)
-    by false f (inl g) k = absurd (true_not_false (sym (place_same p) ∙ ap (λ x. place_eq x p) g ∙ f))
+    by false f (inl g) k = absurd (true_not_false (sym (place_eq-same p) ∙ ap (λ x. place_eq x p) g ∙ f))
     by false f (inr j) k = k j
 
 entered_dir : (root : StorageRoot) (d : Place) → is_reached root d ≡ true → is_dir_leaf (at root d) ≡ true

@@ -11,7 +11,7 @@ use Rattle.ocfl_audit.specs.Walk.{items_under, items_of_place, seen_names, path_
 use Rattle.ocfl_audit.specs.Stack.{Frame, left_of, entered_at}
 use Rattle.ocfl_tree.proofs.Orders.{place_cmp_total, place_cmp_exact, ascending_unique, among_ascending, among_filter, among_from_filter, ascends_filter, ascends_ascending}
 use Rattle.ocfl_audit.proofs.AuditExists.{place_from_test, append_one, append_nothing, lines_from_notes, notes_candidate}
-use Rattle.ocfl_audit.proofs.BelowLaws.{text_cmp_total, on_ascends, place_same, under, above, begins_rest, split_names, split_self, split_after}
+use Rattle.ocfl_audit.proofs.BelowLaws.{text_cmp_total, on_ascends, place_eq-same, under, above, begins_rest, split_names, split_self, split_after}
 use Rattle.ocfl_audit.proofs.WayLaws.{item_way}
 
 -- ---- lists
@@ -102,7 +102,7 @@ module _ (root : StorageRoot) (unread : Unread) where
           subst (λ b. IsAmong (on b d) z) (sym h) (inl (sym e))
 
       from : (z : Place) (b : Bool) → has_lines (item_of root unread d) ≡ b → IsAmong (on b d) z → IsAmong (filter (place_eq d) item_places) z
-      from z true h (inl e) = subst (IsAmong (filter (place_eq d) item_places)) (sym e) (among_filter (place_eq d) item_places d (has_place d h) (place_same d))
+      from z true h (inl e) = subst (IsAmong (filter (place_eq d) item_places)) (sym e) (among_filter (place_eq d) item_places d (has_place d h) (place_eq-same d))
       from z true h (inr i) = absurd i
       from z false h i = absurd i
 

@@ -41,10 +41,7 @@ begins_between (a ∷ p) (b ∷ q) (c ∷ r) h k t =
     by x e m Less f n more = absurd (true_not_false n)
     by Greater e m y f n more = absurd (true_not_false (ap (λ o. is_lt (ordering_then o (place_cmp r q))) (sym (sym f ∙ below_from_greater nat_list_cmp_total b a e)) ∙ n))
     by Equal e m Equal f n more = rw f (more m n)
-    by Equal e m Greater f n more = absurd (not_greater (sym f ∙ (nat_list_cmp_total.antisymm a b ∙ ap ordering_reverse e)))
-      where
-        not_greater : Greater ≡ Equal → ⊥
-        not_greater g = cc
+    by Equal e m Greater f n more = absurd (let both = sym f ∙ (nat_list_cmp_total.antisymm a b ∙ ap ordering_reverse e) in cc)
 
 pub begins_front : IsFront place_cmp begins
 begins_front = record { itself = begins-itself; later = begins_later; between = begins_between }

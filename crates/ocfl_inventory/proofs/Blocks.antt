@@ -1,6 +1,5 @@
 -- Reading a block one after the other, as a loop does.
 use Rattle.std.proofs.Common.{◌≡◌, List, [], ◌∷◌, ◌++◌, Bool, true, false, Option, Some, None, option_map, refl, sym, ap, ◌∙◌, append_assoc, String, Global, Vec}
-use Rattle.std.proofs.lemmas.List.{append-nil}
 use Rattle.std.specs.Prelude.{◌&&◌, is_some, option_and_then, string_bytes}
 use Rattle.std.specs.List.{cons_option, list_all}
 use Rattle.serde_json.specs.{Data.{Items}, Find.{as_str, as_array}}
@@ -66,6 +65,3 @@ pub lists_step : (s u : List Entry) (k : String Global) (v : Value) (ts : List T
 lists_step s u k v ts front total e h so_far =
     let one : lists_of (members_view s) ≡ option_map (λ b. (string_bytes k, ts) ∷ b) (lists_of (members_view u)) = rw (e, ← h) in
     sym (ap (with_front front) one ∙ with_front_one front (string_bytes k, ts) (lists_of (members_view u))) ∙ so_far
-
-pub lists_done : (s : List Entry) (front : Block) (total : Option Block) → s ≡ [] → with_front front (lists_of (members_view s)) ≡ total → Some front ≡ total
-lists_done s front total e so_far = sym (ap (λ ys. with_front front (lists_of (members_view ys))) e ∙ ap Some (append-nil front)) ∙ so_far

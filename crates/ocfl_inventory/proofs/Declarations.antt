@@ -14,7 +14,6 @@ use Rattle.ocfl_inventory.specs.Declaration.{prefix, after_prefix, is_declaratio
 use Rattle.ocfl_inventory.specs.Entries.{is_file, file_names, is_counted, unknown_by, IsNext, IsVersionOf}
 use Rattle.ocfl_inventory.specs.declared.declaration.Level.{Level}
 use Rattle.ocfl_inventory.specs.declared.declaration.Version.{Version}
-use Rattle.ocfl_inventory.specs.declared.declaration.Declared.TheVariants as made
 
 module _ (level : Level) where
   -- the names that count are those of the entries that count
@@ -123,10 +122,7 @@ module _ {A : Type 0} (test : A → Bool) where
   none_pass (x ∷ xs) e = by (test x) refl e (λ f. none_pass xs f)
     where
       by : (b : Bool) → test x ≡ b → cond b (x ∷ filter test xs) (filter test xs) ≡ [] → (filter test xs ≡ [] → All (λ y. test y ≡ true → ⊥) xs) → All (λ y. test y ≡ true → ⊥) (x ∷ xs)
-      by true h f more = absurd (filled f)
-        where
-          filled : x ∷ filter test xs ≡ [] → ⊥
-          filled g = cc
+      by true h f more = absurd cc
       by false h f more = All-cons (λ y. test y ≡ true → ⊥) x xs (λ g. true_not_false (sym g ∙ h)) (more f)
 
   only_one : (z : A) (xs : List A) → filter test xs ≡ z ∷ [] → All (λ x. test x ≡ true → x ≡ z) xs
@@ -134,27 +130,15 @@ module _ {A : Type 0} (test : A → Bool) where
   only_one z (x ∷ xs) e = by (test x) refl e (λ f. only_one z xs f)
     where
       by : (b : Bool) → test x ≡ b → cond b (x ∷ filter test xs) (filter test xs) ≡ z ∷ [] → (filter test xs ≡ z ∷ [] → All (λ y. test y ≡ true → y ≡ z) xs) → All (λ y. test y ≡ true → y ≡ z) (x ∷ xs)
-      by true h f more = All-cons (λ y. test y ≡ true → y ≡ z) x xs (λ g. same f) (λ k d l g. absurd (none_pass xs (rest f) k d l g))
-        where
-          same : x ∷ filter test xs ≡ z ∷ [] → x ≡ z
-          same w = cc
-
-          rest : x ∷ filter test xs ≡ z ∷ [] → filter test xs ≡ []
-          rest w = cc
+      by true h f more = All-cons (λ y. test y ≡ true → y ≡ z) x xs (λ g. cc) (λ k d l g. absurd (none_pass xs (cc) k d l g))
       by false h f more = All-cons (λ y. test y ≡ true → y ≡ z) x xs (λ g. absurd (true_not_false (sym g ∙ h))) (more f)
 
   one_has : (P : A → Type 0) (z : A) (xs : List A) → filter test xs ≡ z ∷ [] → All (λ x. test x ≡ true → P x) xs → P z
-  one_has P z [] e all = absurd (empty e)
-    where
-      empty : [] ≡ z ∷ [] → ⊥
-      empty g = cc
+  one_has P z [] e all = absurd cc
   one_has P z (x ∷ xs) e all = by (test x) refl e (λ f. one_has P z xs f (λ k d l. all (suc k) d (omega arith)))
     where
       by : (b : Bool) → test x ≡ b → cond b (x ∷ filter test xs) (filter test xs) ≡ z ∷ [] → (filter test xs ≡ z ∷ [] → P z) → P z
-      by true h f more = subst P (same f) (all 0 x (omega arith) h)
-        where
-          same : x ∷ filter test xs ≡ z ∷ [] → x ≡ z
-          same w = cc
+      by true h f more = let same : x ≡ z = cc in subst P same (all 0 x (omega arith) h)
       by false h f more = more f
 
   pub same_one : (xs ys : List A) (y z : A) → IsPermutation xs ys → filter test xs ≡ z ∷ [] → filter test ys ≡ y ∷ [] → y ≡ z

@@ -144,9 +144,6 @@ kept_from_path content t None u h some none = by (is_kept content t) refl
     by false e = e
 kept_from_path content t (Some p) u h some none = (by (is_kept content t) refl, some ∙ names_are t (not_empty content t h))
   where
-    never : IsNone (Some p) → ⊥
-    never e = cc
-
     by : (b : Bool) → is_kept content t ≡ b → is_kept content t ≡ true
     by true e = e
-    by false e = absurd (never (none.1 (λ q. true_not_false (sym (names_kept content t h q) ∙ e))))
+    by false e = absurd (let none = none.1 (λ q. true_not_false (sym (names_kept content t h q) ∙ e)) in cc)

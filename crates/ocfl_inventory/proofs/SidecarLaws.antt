@@ -53,13 +53,7 @@ decoded_some digits d = by (decode_of digits)
   where
     by : (r : Result (List ℕ) FromHexError) → (elim r as (λ _. Option (List ℕ)) [ Ok x ↦ Some x | Err e ↦ None ] ≡ Some d) ↔ (r ≡ Ok d)
     by (Ok x) = (λ e. let f : x ≡ d = cc in ap Ok f, λ e. let f : x ≡ d = cc in ap Some f)
-    by (Err e) = (λ h. absurd (no h), λ h. absurd (never h))
-      where
-        no : None ≡ Some d → ⊥
-        no q = cc
-
-        never : Err e ≡ Ok d → ⊥
-        never q = cc
+    by (Err e) = (λ h. absurd cc, λ h. absurd cc)
 
 module _ (n : ℕ) (b : Text) (d : List ℕ) (a : Algorithm) (digits_are : sidecar_digits a ≡ Some n) where
   pub from_test : sidecar_of_len n b ≡ Some d → IsSidecar b a d
@@ -73,9 +67,6 @@ module _ (n : ℕ) (b : Text) (d : List ℕ) (a : Algorithm) (digits_are : sidec
 
       name : Text
       name = drop (length gap) rest
-
-      none : None ≡ Some d → ⊥
-      none q = cc
 
       build : nat_le (length b) 4096 ≡ true → length (take n b) == n ≡ true → nat_lt 0 (length gap) ≡ true
           → starts_with nat_eq name (codes "inventory.json") ≡ true → list_all is_tail (drop 14 name) ≡ true → decoded (take n b) ≡ Some d → IsSidecar b a d
@@ -103,7 +94,7 @@ module _ (n : ℕ) (b : Text) (d : List ℕ) (a : Algorithm) (digits_are : sidec
           let three = both _ _ two.1 in
           let four = both _ _ three.1 in
           build one.0 two.0 three.0 four.0 four.1 k
-      by false e k = absurd (none k)
+      by false e k = absurd cc
 
   after_gap : (gap tail : Text) → gap ≢ [] → list_all is_blank gap ≡ true → list_all is_tail tail ≡ true → is_after_digits (gap ++ (codes "inventory.json" ++ tail)) ≡ true
   after_gap gap tail some blanks ends =
@@ -132,9 +123,6 @@ module _ (n : ℕ) (b : Text) (d : List ℕ) (a : Algorithm) (digits_are : sidec
 pub sidecar_is : (b : Text) (a : Algorithm) (d : List ℕ) → (sidecar_of a b ≡ Some d) ↔ IsSidecar b a d
 sidecar_is b a d = by (sidecar_digits a) refl
   where
-    never : {A : Type 0} (x : A) → None ≡ Some x → ⊥
-    never x e = cc
-
     by : (count : Option ℕ) → sidecar_digits a ≡ count → (option_and_then (λ n. sidecar_of_len n b) count ≡ Some d) ↔ IsSidecar b a d
-    by None e = (λ h. absurd (never d h), λ s. absurd (never (length s.digits) (sym e ∙ s.as_many)))
+    by None e = (λ h. absurd cc, λ s. absurd (let counts = sym e ∙ s.as_many in cc))
     by (Some n) e = (λ h. from_test n b d a e h, λ s. to_test n b d a e s)

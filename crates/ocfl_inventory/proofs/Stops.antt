@@ -40,10 +40,7 @@ other_algorithm t a b h k f g =
 
 pub content_kept : (t : Text) (a b d e : Bool) (u : Text) → a ≡ length t == 0 → u ≡ t → b ≡ list_any (λ c. c == 47) u → d ≡ bytes_eq t (codes ".") → e ≡ bytes_eq t (codes "..")
     → a ≡ false → b ≡ false → d ≡ false → e ≡ false → content_named t ≡ Ok t
-content_kept [] a b d e u ha hu hb hd he fa fb fd fe = absurd (never (ha))
-  where
-    never : a ≡ true → ⊥
-    never k = cc
+content_kept [] a b d e u ha hu hb hd he fa fb fd fe = absurd cc
 content_kept (c ∷ t) a b d e u ha hu hb hd he fa fb fd fe =
     let one : list_any (λ x. x == 47) (c ∷ t) ≡ false = ap (list_any (λ x. x == 47)) (sym hu) ∙ sym hb ∙ fb in
     let two : text_eq (c ∷ t) (codes ".") ≡ false = is_eq-slice_cmp (c ∷ t) (codes ".") ∙ sym hd ∙ fd in

@@ -15,8 +15,8 @@ use Rattle.ocfl_inventory.specs.declared.declaration.Version.TheVariants.{V1_0, 
 use Rattle.ocfl_inventory.specs.declared.declaration.Declared.TheVariants as made
 use Rattle.ocfl_digest.specs.declared.bounded.Bounded.{Bounded}
 use Rattle.ocfl_audit.specs.Zone.{skipped, hierarchy, inside, zone, root_declared, object_declared, is_in_extensions, is_listed_zone, is_known, is_declared}
-use Rattle.ocfl_audit.specs.{Head.{root_notes_by, on}, Lines.{named_at, named_in, notes}}
-use Rattle.ocfl_audit.specs.Trail.{reads_inventory, content_trail, heads_of, inventory_of, is_head, is_meta, places_of}
+use Rattle.ocfl_audit.specs.{Head.{root_notes_by}, Lines.{named_at, named_in, notes}}
+use Rattle.ocfl_audit.specs.Trail.{content_trail, heads_of, inventory_of, is_head, is_meta, places_of}
 use Rattle.ocfl_item.specs.{Auditing.{LieIn}, HeadFiles.{FilesStop, ReadsFiles, files_there}}
 use Rattle.ocfl_item.specs.Internal.HeadFiles.{IsFileAt, ReadsFile}
 use Rattle.ocfl_item.specs.{Looking.{IsFront, failures_by}, Pending.{IsPending}}
@@ -26,11 +26,10 @@ use Rattle.ocfl_item.specs.{Internal.Visiting.{IsBase}, Ways.{Enters, Stops}}
 use Rattle.ocfl_item.specs.{declared.fault.Fault.{Fault}, declared.folder.Folder.{Folder}}
 use Rattle.ocfl_item.specs.declared.lines.PlaceLines.{PlaceLines}
 use Rattle.ocfl_item.specs.{declared.pending.Pending.{Pending}, declared.visit.Visit.{Visit}}
-use Rattle.ocfl_item.specs.declared.fault.Fault.TheVariants as fault
 use Rattle.ocfl_item.proofs.{HeadLaws.{unknown_stops}, ItemLaws.{clean_some}}
 use Rattle.ocfl_item.proofs.{LinesLaws.{unhashed_at}, LooksZones.{at_root, declared_root}}
-use Rattle.ocfl_item.proofs.AuditingLaws.{failed_behind, files_near, near_none, near_within, read_behind, few_once, none_once, front_all, heads_append}
-use Rattle.ocfl_item.proofs.VisitLaws.{meet_out, meet_stop, visit_of_folder, visit_of_item}
+use Rattle.ocfl_item.proofs.AuditingLaws.{failed_behind, files_near, front_of_none, near_within, read_behind, few_once, front_all, heads_append}
+use Rattle.ocfl_item.proofs.VisitLaws.{meet_stop, meets_unopened, visit_of_folder, visit_of_item}
 use Rattle.ocfl_tree.proofs.Stores.{did_then, listed_well}
 use Rattle.ocfl_audit.proofs.{BetweenLaws.{root_unread}, Trails.{content_behind}}
 
@@ -110,15 +109,8 @@ module _ (root : StorageRoot) where
   pub base_not_listed : (s t : Store) (p : Place) (why : Fault) → p ≡ [] → Stops root s t (p ∷ []) [] why → MeetFails root s t [] why
   base_not_listed s t p why top h = meet_stop root s t [] why refl (subst (λ x. Stops root s t (x ∷ []) [] why) top h)
 
-  pub no_inventory : ◌≡◌ {A = List Place} [] (on (reads_inventory root []) [])
-  no_inventory = sym (ap (λ b. on b []) (root_unread root))
-
   abbrev pub base_listed : (s t : Store) (p e : Place) (es : List Entry) → p ≡ [] → s.tree ≡ root → Enters root s t p e es → Meets root s t []
-  base_listed s t p e es top over h =
-      record { over = over; trail = []; listings = p ∷ []; did = h.did; read = refl; meta = refl; once = none_once; elsewhere = λ g k. refl; near = near_none root (p ∷ []); listed = ap (λ x. x ∷ []) top; heads = no_inventory }
-
-  pub base_memory : (s t : Store) → Meets root s t [] → MeetFails root s t [] fault.Memory
-  base_memory s t m = meet_out root s t [] fault.Memory m refl
+  base_listed s t p e es top over h = meets_unopened root s t [] (p ∷ []) over h.did (ap (λ x. x ∷ []) top) (root_unread root)
 
   base_read : (s t u : Store) (n : Text) → is_meta root (n ∷ []) ≡ true → (m : Meets root s t []) → m.trail ≡ [] → ReadsFiles root t u [] (n ∷ []) → Meets root s u []
   base_read s t u n meta m none k =
@@ -140,7 +132,7 @@ module _ (root : StorageRoot) where
   base_unread : (s t u : Store) (n : Text) (why : Fault) → is_meta root (n ∷ []) ≡ true → (m : Meets root s t []) → m.trail ≡ [] → FilesStop root t u [] (n ∷ []) why → MeetFails root s u [] why
   base_unread s t u n why meta m none k =
       let quiet = trail_quiet n k.trail meta k.opened in
-      let no_listing : k.stops.goes.listings ≡ [] = nothing_listed k.stops.goes.listings k.stops.goes.listed.0 k.stops.goes.listed.1 in
+      let no_listing : k.stops.goes.listings ≡ [] = front_of_none k.stops.goes.listings k.stops.goes.listed in
       record {
         over = m.over;
         trail = m.trail ++ k.trail;
@@ -156,10 +148,6 @@ module _ (root : StorageRoot) where
             (heads_append root m.trail k.trail ∙ ap (λ l. heads_of root m.trail ++ l) quiet.1 ∙ append-nil (heads_of root m.trail) ∙ m.heads) (front_all (heads_of root (m.trail ++ k.trail)));
         store = λ q g. let w = k.stops.store q g in (w.0, failed_behind root s t u m.listings k.stops.goes.listings m.trail k.trail q m.read (listed_well s t m.trail m.listings 0 (omega arith) m.did) w.1);
       }
-    where
-      nothing_listed : (xs ys : List Place) → [] ≡ xs ++ ys → xs ≡ []
-      nothing_listed [] ys e = refl
-      nothing_listed (x ∷ xs) ys e = cc
 
   -- ---- what was met
 

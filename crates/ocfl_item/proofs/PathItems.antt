@@ -1,7 +1,7 @@
 -- The item at a place at which nothing is seen.
 use Rattle.std.proofs.Common.{◌≡◌, ◌≢◌, List, [], ◌∷◌, refl, sym, subst, ◌∙◌, ap, Option, Some, None, length, drop, map}
 use Rattle.std.proofs.Math.Seq.{drop-append_seam}
-use Rattle.std.specs.Prelude.{IfSome}
+use Rattle.std.specs.Prelude.{Result, Ok, Err, IfOk, IfSome}
 use Rattle.ocfl_tree.specs.Place.{Place, Text}
 use Rattle.ocfl_tree.specs.StorageRoot.{StorageRoot, dir}
 use Rattle.ocfl_inventory.specs.Table.{Table, Named, named}
@@ -24,9 +24,10 @@ some_named [] h e = h refl
 some_named (n ∷ ns) h e = absurd cc
 
 -- if digests are named the table names the place
-pub named_in_table : (p : Place) (around : Option Around) (a : Around) → around ≡ Some a → named a.table (drop (length a.place) p) ≢ [] → (o : Option Pending) → IfSome o (λ _. IsNamedIn p around)
-named_in_table p around a is some None = tt
-named_in_table p around a is some (Some m) = subst (IsNamedIn p) (sym is) (path_among a.table (drop (length a.place) p) some)
+pub named_in_table : {E : Type 0} (p : Place) (around : Option Around) (a : Around) → around ≡ Some a → named a.table (drop (length a.place) p) ≢ [] → (r : Result (Option Pending) E) → IfOk r (λ o. IfSome o (λ _. IsNamedIn p around))
+named_in_table p around a is some (Err why) = tt
+named_in_table p around a is some (Ok None) = tt
+named_in_table p around a is some (Ok (Some m)) = subst (IsNamedIn p) (sym is) (path_among a.table (drop (length a.place) p) some)
 
 module _ (root : StorageRoot) (p : Place) where
   inside_named : (o q : Place) (x : Option Table) → zone root p ≡ inside o q → table_at root o ≡ x → named_at root p ≡ named_of q x

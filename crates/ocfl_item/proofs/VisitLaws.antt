@@ -1,7 +1,7 @@
 -- What is met at an entry.
 use Rattle.std.proofs.Common.{◌≡◌, ◌≢◌, ◌<◌, ◌≤◌, List, [], ◌∷◌, refl, sym, ◌∙◌, ap, subst, true, false, Bool, Option, Some, None, arith, length, map}
 use Rattle.std.proofs.lemmas.Bool.{le-leb, lt-ltb, le-ltb}
-use Rattle.std.specs.Prelude.{cond, nat_lt, nat_le, option_map, Result, Ok, Err, IfErr, IfOk, ◌&&◌, ◌||◌, not, codes}
+use Rattle.std.specs.Prelude.{cond, nat_lt, nat_le, option_map, IsErrAnd, Result, Ok, Err, ◌&&◌, ◌||◌, not, codes}
 use Rattle.std.specs.List.{list_all}
 use Rattle.ocfl_tree.specs.Place.{Place, Text, text_eq}
 use Rattle.ocfl_tree.specs.StorageRoot.{StorageRoot, Leaf, file, dir, other, at, is_dir, is_dir_leaf, names_in}
@@ -20,7 +20,7 @@ use Rattle.ocfl_audit.specs.{Head.{on}, Walk.{is_reached, seen_names}}
 use Rattle.ocfl_audit.specs.Trail.{heads_of, is_head, reads_inventory}
 use Rattle.ocfl_audit.specs.Between.{is_looked_into, shows_entries}
 use Rattle.ocfl_inventory.specs.declared.declaration.Level.TheVariants as level
-use Rattle.ocfl_item.specs.{Looking.{IsFront}, Internal.Content.{IsSight, content_in, content_at}}
+use Rattle.ocfl_item.specs.{Auditing.{FailedAt}, Looking.{IsFront, failures_by}, Internal.Content.{IsSight, content_in, content_at}}
 use Rattle.ocfl_item.specs.{Pending.{IsPending}, Internal.Lines.{HasLines, IsUnhashed}}
 use Rattle.ocfl_item.specs.Ways.{Enters, Stops, is_listable}
 use Rattle.ocfl_item.specs.Meeting.{IsFolderAt, IsItemAt, IsTableAt, IsVisit, Meets, MeetFails, Visits}
@@ -32,7 +32,7 @@ use Rattle.ocfl_item.specs.declared.fault.Fault.TheVariants as fault
 use Rattle.ocfl_item.specs.declared.role.Role.TheVariants as role
 use Rattle.ocfl_item.specs.declared.sight.Sight.TheVariants as sight
 use Rattle.ocfl_item.proofs.{ContentLaws.{not_root}, LooksZones.{dir_from_leaf, entered_from}}
-use Rattle.ocfl_item.proofs.LooksEntries.{emptied, not_emptied}
+use Rattle.ocfl_item.proofs.LooksEntries.{emptied, kind_file, not_emptied}
 use Rattle.ocfl_item.proofs.AuditingLaws.{front_all, front_none, near_none, none_once}
 use Rattle.ocfl_item.proofs.ShutLaws.{listed_shows, looked_at, no_head_unread, shut_no_dir, shut_zone}
 use Rattle.ocfl_item.proofs.LinesLaws.{unhashed_at}
@@ -50,21 +50,15 @@ unhashed_pending root l made h place lines unhashed unnamed = record {
 }
 
 pub plain_unhashed : (root : StorageRoot) (e : Place) (code : Code) (l : PlaceLines) → IsPlainAt root e (plain code ∷ []) → l.place ≡ e → HasLines l (plain code ∷ []) → IsUnhashed root l
-plain_unhashed root e code l h at are = unhashed_at root l e at (λ g. filled (sym h.lines ∙ g)) h.named (are ∙ sym h.lines)
-  where
-    filled : plain code ∷ [] ≡ [] → ⊥
-    filled g = cc
+plain_unhashed root e code l h at are = unhashed_at root l e at (λ g. let both = sym h.lines ∙ g in cc) h.named (are ∙ sym h.lines)
 
 -- ---- directories
 
-pub reached_here : (root : StorageRoot) (e : Place) → IsListedAt root e → length e ≤ 127 → is_reached root e ≡ true
-reached_here root e h short = and_both (list_all (is_entered root) (beginnings e)) (is_entered root e) h.way (entered_from root e (listable_here root e h short) h.listed)
-  where
-    listable_here : (root : StorageRoot) (e : Place) → IsListedAt root e → length e ≤ 127 → is_listable root e ≡ true
-    listable_here root e h short = and_both (nat_le (length e) max_listed_depth) (is_dir root e) (le-leb (length e) 127 short) h.directory
-
 pub listable : (root : StorageRoot) (e : Place) → IsListedAt root e → length e ≤ 127 → is_listable root e ≡ true
 listable root e h short = and_both (nat_le (length e) max_listed_depth) (is_dir root e) (le-leb (length e) 127 short) h.directory
+
+pub reached_here : (root : StorageRoot) (e : Place) → IsListedAt root e → length e ≤ 127 → is_reached root e ≡ true
+reached_here root e h short = and_both (list_all (is_entered root) (beginnings e)) (is_entered root e) h.way (entered_from root e (listable root e h short) h.listed)
 
 -- ---- the lines of a directory
 
@@ -83,59 +77,49 @@ no_notes root e h = short_notes root e [] h ∙ same_either (is_empty (names_in 
 
 -- ---- what was done
 
--- nothing, at a place that is shut
-pub meets_shut : (root : StorageRoot) (s : Store) (e : Place) → s.tree ≡ root → IsShut root e → Meets root s s e
-meets_shut root s e over h = record {
+-- no file was opened
+abbrev pub meets_unopened : (root : StorageRoot) (s t : Store) (e : Place) (listings : List Place) → s.tree ≡ root → Did s t [] listings 0
+    → listings ≡ on (is_looked_into root e) e → reads_inventory root e ≡ false → Meets root s t e
+meets_unopened root s t e listings over did listed read = record {
   over = over;
   trail = [];
-  listings = [];
-  did = did_nothing s;
+  listings = listings;
+  did = did;
   read = refl;
   meta = refl;
   once = none_once;
-  elsewhere =
-      λ g k. refl;
-  near = near_none root [];
-  listed = sym (ap (λ b. on b e) h.looked);
-  heads = sym (ap (λ b. on b e) h.read);
+  elsewhere = λ g k. refl;
+  near = near_none root listings;
+  listed = listed;
+  heads = sym (ap (λ b. on b e) read);
 }
 
--- a directory that is no object was listed
-pub meets_listing : (root : StorageRoot) (s t : Store) (e : Place) → s.tree ≡ root → Did s t [] (e ∷ []) 0 → is_looked_into root e ≡ true → reads_inventory root e ≡ false → Meets root s t e
-meets_listing root s t e over did looked read =
-    record {
-      over = over;
-      trail = [];
-      listings = e ∷ [];
-      did = did;
-      read = refl;
-      meta = refl;
-      once = none_once;
-      elsewhere = λ g k. refl;
-      near = near_none root (e ∷ []);
-      listed =
-          sym (ap (λ b. on b e) looked);
-      heads = sym (ap (λ b. on b e) read);
-    }
+-- nothing, at a place that is shut
+pub meets_shut : (root : StorageRoot) (s : Store) (e : Place) → s.tree ≡ root → IsShut root e → Meets root s s e
+meets_shut root s e over h = meets_unopened root s s e [] over (did_nothing s) (sym (ap (λ b. on b e) h.looked)) h.read
 
-pub meet_stop : (root : StorageRoot) (s t : Store) (e : Place) (why : Fault) → is_looked_into root e ≡ true → Stops root s t (e ∷ []) [] why → MeetFails root s t e why
-meet_stop root s t e why looked h = record {
-  over = h.goes.over;
+fails_unopened : (root : StorageRoot) (s t : Store) (e : Place) (why : Fault) (listings : List Place) → s.tree ≡ root → Did s t [] listings (failures_by why)
+    → IsFront listings (on (is_looked_into root e) e) → ((q : Place) → why ≡ fault.Store q → (is_hashed root q ≡ false) × FailedAt root s t listings [] q) → MeetFails root s t e why
+fails_unopened root s t e why listings over did listed store = record {
+  over = over;
   trail = [];
-  listings = h.goes.listings;
-  did = h.goes.did;
+  listings = listings;
+  did = did;
   read = λ g. refl;
   meta = refl;
   once = none_once;
   elsewhere = λ g k. refl;
-  near = near_none root h.goes.listings;
-  listed = subst (λ b. IsFront h.goes.listings (on b e)) (sym looked) h.goes.listed;
+  near = near_none root listings;
+  listed = listed;
   heads = front_none (on (reads_inventory root e) e);
-  store = h.store;
+  store = store;
 }
 
-pub meet_out : (root : StorageRoot) (s t : Store) (e : Place) (why : Fault) → Meets root s t e → why ≡ fault.Memory → MeetFails root s t e why
-meet_out root s t e why h is = subst (MeetFails root s t e) (sym is) (record {
+pub meet_stop : (root : StorageRoot) (s t : Store) (e : Place) (why : Fault) → is_looked_into root e ≡ true → Stops root s t (e ∷ []) [] why → MeetFails root s t e why
+meet_stop root s t e why looked h = fails_unopened root s t e why h.goes.listings h.goes.over h.goes.did (subst (λ b. IsFront h.goes.listings (on b e)) (sym looked) h.goes.listed) h.store
+
+pub meet_out : (root : StorageRoot) (s t : Store) (e : Place) → Meets root s t e → MeetFails root s t e fault.Memory
+meet_out root s t e h = record {
   over = h.over;
   trail = h.trail;
   listings = h.listings;
@@ -148,29 +132,11 @@ meet_out root s t e why h is = subst (MeetFails root s t e) (sym is) (record {
   listed = subst (IsFront h.listings) h.listed (front_all h.listings);
   heads = subst (IsFront (heads_of root h.trail)) h.heads (front_all (heads_of root h.trail));
   store = λ q g. absurd cc;
-})
+}
 
 -- nothing was done, and memory was refused
 pub meet_nothing : (root : StorageRoot) (s : Store) (e : Place) → s.tree ≡ root → MeetFails root s s e fault.Memory
-meet_nothing root s e over = record {
-  over = over;
-  trail = [];
-  listings = [];
-  did = did_nothing s;
-  read = λ g. refl;
-  meta = refl;
-  once = none_once;
-  elsewhere = λ g k. refl;
-  near = near_none root [];
-  listed = front_none (on (is_looked_into root e) e);
-  heads = front_none (on (reads_inventory root e) e);
-  store = λ q g. absurd cc;
-}
-
--- what is told of what was met, or memory was refused
-pub visits_by : (root : StorageRoot) (s t : Store) (e : Place) (r : Result Visit Fault) → Meets root s t e → IfErr r (λ why. why ≡ fault.Memory) → IfOk r (λ v. IsVisit root e v) → Visits root s t e r
-visits_by root s t e (Ok v) h only told = record { gives = (h, told) }
-visits_by root s t e (Err why) h only told = record { gives = meet_out root s t e why h only }
+meet_nothing root s e over = fails_unopened root s s e fault.Memory [] over (did_nothing s) (front_none (on (is_looked_into root e) e)) (λ q g. absurd cc)
 
 pub visits_stop : (root : StorageRoot) (s t : Store) (e : Place) (why : Fault) → is_looked_into root e ≡ true → Stops root s t (e ∷ []) [] why → Visits root s t e (Err why)
 visits_stop root s t e why looked h = record { gives = meet_stop root s t e why looked h }
@@ -208,12 +174,6 @@ content_no_head root e x h = by (zone root e) h
 pub seen_entry : (root : StorageRoot) (e : Place) → list_all (is_entered root) (beginnings e) ≡ true → seen root e ≡ at root e
 seen_entry root e h = ap (λ b. cond b (at root e) None) h
 
-kind_file : (leaf : Option Leaf) → option_map kind_of leaf ≡ Some kind.File → (bytes : Text) × (leaf ≡ Some (file bytes))
-kind_file None h = absurd cc
-kind_file (Some (file bytes)) h = (bytes, refl)
-kind_file (Some dir) h = absurd cc
-kind_file (Some other) h = absurd cc
-
 kind_dir : (leaf : Option Leaf) → option_map kind_of leaf ≡ Some kind.Dir → leaf ≡ Some dir
 kind_dir None h = absurd cc
 kind_dir (Some (file bytes)) h = absurd cc
@@ -227,7 +187,7 @@ kind_other (Some dir) h = absurd cc
 kind_other (Some other) h = refl
 
 pub entry_file : (root : StorageRoot) (e : Place) (k : Kind) → IsEntryAt root e k → k ≡ kind.File → (bytes : Text) × (seen root e ≡ Some (file bytes))
-entry_file root e k h is = let w = kind_file (at root e) (h.kind ∙ ap Some is) in (w.0, seen_entry root e h.way ∙ w.1)
+entry_file root e k h is = let w = kind_file (at root e) (sym (h.kind ∙ ap Some is)) in (w.0, seen_entry root e h.way ∙ w.1)
 
 pub entry_dir : (root : StorageRoot) (e : Place) (k : Kind) → IsEntryAt root e k → k ≡ kind.Dir → seen root e ≡ Some dir
 entry_dir root e k h is = seen_entry root e h.way ∙ kind_dir (at root e) (h.kind ∙ ap Some is)
@@ -270,7 +230,7 @@ pub relined : (root : StorageRoot) (e : Place) (ns ms : List Note) → ns ≡ ms
 relined root e ns ms is h = record { lines = h.lines ∙ is; named = h.named; head = h.head }
 
 pub visits_memory : (root : StorageRoot) (s t : Store) (e : Place) → Meets root s t e → Visits root s t e (Err fault.Memory)
-visits_memory root s t e h = record { gives = meet_out root s t e fault.Memory h refl }
+visits_memory root s t e h = record { gives = meet_out root s t e h }
 
 pub visits_told : (root : StorageRoot) (s t : Store) (e : Place) (v : Visit) → Meets root s t e → IsVisit root e v → Visits root s t e (Ok v)
 visits_told root s t e v h told = record { gives = (h, told) }
@@ -279,26 +239,24 @@ visits_told root s t e v h told = record { gives = (h, told) }
 pub visits_nothing : (root : StorageRoot) (s : Store) (e : Place) → s.tree ≡ root → Visits root s s e (Err fault.Memory)
 visits_nothing root s e over = record { gives = meet_nothing root s e over }
 
+pub visits_refused : (root : StorageRoot) (s : Store) (e : Place) (r : Result Visit Fault) → s.tree ≡ root → IsErrAnd r (λ why. why ≡ fault.Memory) → Visits root s s e r
+visits_refused root s e (Ok v) over is = absurd is
+visits_refused root s e (Err why) over is = rw is (visits_nothing root s e over)
+
 -- a directory that is no object was listed
 pub entered_meets : (root : StorageRoot) (s t : Store) (e d : Place) (es : List Entry) → s.tree ≡ root → Enters root s t e d es → is_looked_into root e ≡ true
     → is_head (zone root e) ≡ false → Meets root s t e
-entered_meets root s t e d es over h looked head = meets_listing root s t e over h.did looked (no_head_unread root e head)
+entered_meets root s t e d es over h looked head = meets_unopened root s t e (e ∷ []) over h.did (sym (ap (λ b. on b e) looked)) (no_head_unread root e head)
 
 -- one that is listed
 pub looked_listed : (root : StorageRoot) (e : Place) → IsListedAt root e → length e ≤ 127 → is_looked_into root e ≡ true
 looked_listed root e h short = looked_at root e h.way (listable root e h short) (listed_shows root (zone root e) h.listed)
 
 pub file_shut : (root : StorageRoot) (e : Place) (k : Kind) → IsEntryAt root e k → k ≡ kind.File → IsShut root e
-file_shut root e k h is = no_dir_shut root e k h (λ g. clash (sym is ∙ g))
-  where
-    clash : kind.File ≡ kind.Dir → ⊥
-    clash g = cc
+file_shut root e k h is = no_dir_shut root e k h (λ g. cc)
 
 pub other_shut : (root : StorageRoot) (e : Place) (k : Kind) → IsEntryAt root e k → k ≡ kind.Other → IsShut root e
-other_shut root e k h is = no_dir_shut root e k h (λ g. clash (sym is ∙ g))
-  where
-    clash : kind.Other ≡ kind.Dir → ⊥
-    clash g = cc
+other_shut root e k h is = no_dir_shut root e k h (λ g. cc)
 
 pub listed_entry : (root : StorageRoot) (e : Place) (k : Kind) → IsEntryAt root e k → k ≡ kind.Dir → is_listed_zone root (zone root e) ≡ true → IsListedAt root e
 listed_entry root e k h is listed = record { way = h.way; directory = dir_here root e k h is; listed = listed }
@@ -314,13 +272,10 @@ path_in (inside o q) = q
 pub named_short : (root : StorageRoot) (e o q : Place) → zone root e ≡ inside o q → length q ≤ 2 → named_at root e ≡ []
 named_short root e o q z short = by (named_at root e) refl
   where
-    filled : (n : Named) (ns : List Named) → n ∷ ns ≢ []
-    filled n ns h = cc
-
     by : (ns : List Named) → named_at root e ≡ ns → named_at root e ≡ []
     by [] h = h
     by (n ∷ ns) h =
-        let k = named_path root e (λ g. filled n ns (sym h ∙ g)) in
+        let k = named_path root e (λ g. cc) in
         let long : length q ≡ length (k.version ∷ k.content ∷ k.name ∷ k.rest) = ap (λ x. length (path_in x)) (sym z ∙ k.lies) in
         absurd (omega (arith, long, short))
 
@@ -339,18 +294,14 @@ version_plain root e o v n t z h = record {
   head = ap is_head z;
 }
 
--- a place without lines, and not entered
-visit_of_nothing : (root : StorageRoot) (e : Place) (v : Visit) → IsPlainAt root e [] → IsShut root e → v.item ≡ None → v.folder ≡ None → v.table ≡ None → IsVisit root e v
-visit_of_nothing root e v plain none item folder table = visit_of_item root e v (subst (IsItemAt root e) (sym item) plain.lines) folder table plain.head none.names
-
 -- ---- at a place that is not entered
 
 module _ (root : StorageRoot) (s : Store) (e : Place) (over : s.tree ≡ root) (shut : IsShut root e) where
-  pub nothing_visits : (v : Visit) → IsPlainAt root e [] → v.item ≡ None → v.folder ≡ None → v.table ≡ None → Visits root s s e (Ok v)
-  nothing_visits v plain item folder table = visits_told root s s e v (meets_shut root s e over shut) (visit_of_nothing root e v plain shut item folder table)
+  pub shut_visits : (v : Visit) → (seen_names root e ≡ [] → IsVisit root e v) → Visits root s s e (Ok v)
+  shut_visits v told = visits_told root s s e v (meets_shut root s e over shut) (told shut.names)
 
-  pub shut_visits : (r : Result Visit Fault) → IfErr r (λ why. why ≡ fault.Memory) → (seen_names root e ≡ [] → IfOk r (λ v. IsVisit root e v)) → Visits root s s e r
-  shut_visits r only told = visits_by root s s e r (meets_shut root s e over shut) only (told shut.names)
+  pub nothing_visits : (v : Visit) → IsPlainAt root e [] → v.item ≡ None → v.folder ≡ None → v.table ≡ None → Visits root s s e (Ok v)
+  nothing_visits v plain item folder table = shut_visits v (visit_of_item root e v (subst (IsItemAt root e) (sym item) plain.lines) folder table plain.head)
 
 module _ (root : StorageRoot) (e o : Place) (n : Text) (t : Table) (k : Kind) (h : IsEntryAt root e k) (z : zone root e ≡ inside o (n ∷ [])) (table : table_at root o ≡ Some t) where
   of_object : (leaf : Leaf) (ns : List Note) → seen root e ≡ Some leaf → object_entry_notes root e n (Some leaf) ≡ ns → IsPlainAt root e ns

@@ -1,19 +1,20 @@
 -- Entries of the storage hierarchy: what is outside objects, and objects.
 use Rattle.std.proofs.Common.{◌≡◌, ◌≢◌, suc, ◌+◌, ◌-◌, ◌<◌, ◌≤◌, List, [], ◌∷◌, ◌++◌, refl, sym, ◌∙◌, ap, subst, true, false, Bool, Option, Some, None, arith, length}
 use Rattle.std.proofs.lemmas.List.{length-append}
+use Rattle.std.proofs.Math.Bool.{and-false}
 use Rattle.std.proofs.lemmas.Bool.{eqb-true, le-leb, lt-ltb, le-ltb, lt-leb}
-use Rattle.std.specs.Prelude.{cond, nat_eq, nat_le, option_map, codes, ◌&&◌, Result, Ok, Err, IfErr, IfOk}
+use Rattle.std.specs.Prelude.{cond, nat_eq, nat_le, option_map, codes, ◌&&◌, Result, Ok, Err, IfOk}
 use Rattle.std.specs.List.{list_all}
 use Rattle.ocfl_tree.specs.Place.{Place, Text, text_eq}
 use Rattle.ocfl_tree.specs.StorageRoot.{StorageRoot, Leaf, file, other, at, is_dir, names_in}
 use Rattle.ocfl_tree.specs.{Store.{Store, Did}, Listing.{kind_of, IsListing, IsOrdinary}}
 use Rattle.ocfl_tree.specs.{declared.store.Entry.{Entry}, declared.store.Kind.{Kind}}
 use Rattle.ocfl_tree.specs.declared.store.Kind.TheVariants as kind
-use Rattle.ocfl_tree.proofs.{Orders.{true_not_false}, Stores.{did_then, did_nothing, listed_well}}
+use Rattle.ocfl_tree.proofs.{Orders.{true_not_false}, Stores.{did_then, listed_well}}
 use Rattle.ocfl_tree.proofs.Bools.{and_both, and_first}
 use Rattle.ocfl_inventory.specs.{Note.{Note, plain}, Table.{Table}}
 use Rattle.ocfl_inventory.specs.Declaration.{undeclared, declared}
-use Rattle.ocfl_inventory.specs.Entries.{file_names, meaning, unknown_by, PointsAtOne}
+use Rattle.ocfl_inventory.specs.Entries.{file_names, meaning, PointsAtOne}
 use Rattle.ocfl_inventory.specs.declared.declaration.Declared.{Declared as MadeDeclared}
 use Rattle.ocfl_report.specs.declared.code.Code.TheVariants.{E072, E073, S04, S05}
 use Rattle.ocfl_inventory.specs.declared.declaration.Declared.TheVariants as made
@@ -22,27 +23,26 @@ use Rattle.ocfl_audit.specs.Head.{on}
 use Rattle.ocfl_audit.specs.Zone.{skipped, hierarchy, inside, zone, seen, table_at, is_entered, is_listed_zone, is_listed_in_object, max_listed_depth, object_declared, beginnings, files_in, is_declared}
 use Rattle.ocfl_audit.specs.Lines.{notes, notes_in, named_in, is_empty, listed_dir_notes, hierarchy_notes}
 use Rattle.ocfl_audit.specs.Walk.{is_extensions, is_reached, seen_names, step_zone}
-use Rattle.ocfl_audit.specs.Trail.{is_head, heads_of, reads_inventory}
+use Rattle.ocfl_audit.specs.Trail.{is_head}
 use Rattle.ocfl_audit.specs.Between.{is_looked_into, shows_entries}
 use Rattle.ocfl_item.specs.{Looking.{IsFront, failures_by}, Pending.{IsPending}}
 use Rattle.ocfl_item.specs.{Internal.Lines.{HasLines, IsUnhashed}, Ways.{Enters, is_listable}}
 use Rattle.ocfl_item.specs.Internal.Ways.{IsDeclared}
 use Rattle.ocfl_item.specs.Meeting.{IsFairVisit, IsFolderAt, IsItemAt, IsTableAt, IsVisit, Meets, MeetFails, Visits}
 use Rattle.ocfl_item.specs.Around.{IsMet}
-use Rattle.ocfl_item.specs.Internal.Visiting.{HasRole, HeadRead, IsDirectoryAt, IsEntryAt, IsPlainAt, IsUndeclaredAt, ReadsOne, ReadOneFails, VisitsHead}
+use Rattle.ocfl_item.specs.Internal.Visiting.{HasRole, IsDirectoryAt, IsEntryAt, IsPlainAt, IsUndeclaredAt, ReadsOne, ReadOneFails, VisitsHead}
 use Rattle.ocfl_item.specs.{declared.fault.Fault.{Fault}, declared.folder.Folder.{Folder}}
 use Rattle.ocfl_item.specs.declared.lines.PlaceLines.{PlaceLines}
 use Rattle.ocfl_item.specs.{declared.pending.Pending.{Pending}, declared.meeting.Around.{Around}}
 use Rattle.ocfl_item.specs.declared.visit.Visit.{Visit}
-use Rattle.ocfl_item.specs.declared.fault.Fault.TheVariants as fault
 use Rattle.ocfl_item.specs.declared.role.Role.TheVariants as role
 use Rattle.ocfl_audit.proofs.{AuditExists.{not_empty}, PathLaws.{notes_at}}
 use Rattle.ocfl_audit.proofs.StepLaws.{all_beginnings_step, zone_step}
-use Rattle.ocfl_item.proofs.AuditingLaws.{failed_behind, near_none, none_once, front_all, front_none}
-use Rattle.ocfl_item.proofs.{LooksEntries.{emptied, not_emptied}, ItemLaws.{head_unhashed}}
+use Rattle.ocfl_item.proofs.AuditingLaws.{failed_behind, front_all}
+use Rattle.ocfl_item.proofs.{LooksCalls.{declares_one}, LooksEntries.{emptied, not_emptied}, ItemLaws.{head_unhashed}}
 use Rattle.ocfl_item.proofs.LooksZones.{declared_object, entered_from, out_of_zone}
 use Rattle.ocfl_item.proofs.ShutLaws.{hidden, looked_at, shut_zone}
-use Rattle.ocfl_item.proofs.VisitLaws.{deep_notes, entered_meets, entry_dir, entry_file, entry_other, file_shut, no_dir, other_shut, relined, short_notes, dir_here, visit_of_folder, visits_by}
+use Rattle.ocfl_item.proofs.VisitLaws.{deep_notes, entered_meets, entry_dir, entry_file, entry_other, file_shut, no_dir, other_shut, relined, short_notes, dir_here, visit_of_folder}
 
 -- ---- an entry that is next
 
@@ -56,8 +56,7 @@ pub filled_by : (e d : Place) (n : Text) → e ≡ d ++ n ∷ [] → e ≢ []
 filled_by e d n is g = not_empty d n (sym is ∙ g)
 
 and_false : (a b : Bool) → b ≡ false → a && b ≡ false
-and_false true b h = h
-and_false false b h = refl
+and_false a b h = ap (λ x. a && x) h ∙ and-false a
 
 pub hierarchy_plain : (root : StorageRoot) (e : Place) → e ≢ [] → zone root e ≡ hierarchy → IsPlainAt root e (hierarchy_notes root e (seen root e))
 hierarchy_plain root e some z = record {
@@ -126,16 +125,10 @@ module _ (root : StorageRoot) (e d : Place) (n : Text) (is : e ≡ d ++ n ∷ []
     in_hierarchy leaf ns not s k = relined root e (hierarchy_notes root e (seen root e)) ns (ap (hierarchy_notes root e) s ∙ k) (hierarchy_plain root e (filled_by e d n is) (zone_no_dir not))
 
     no_file_dir : k ≡ kind.File → is_dir root e ≡ false
-    no_file_dir g = no_dir root e k h (λ x. clash (sym g ∙ x))
-      where
-        clash : kind.File ≡ kind.Dir → ⊥
-        clash x = cc
+    no_file_dir g = no_dir root e k h (λ x. cc)
 
     no_other_dir : k ≡ kind.Other → is_dir root e ≡ false
-    no_other_dir g = no_dir root e k h (λ x. clash (sym g ∙ x))
-      where
-        clash : kind.Other ≡ kind.Dir → ⊥
-        clash x = cc
+    no_other_dir g = no_dir root e k h (λ x. cc)
 
     pub file_deeper : k ≡ kind.File → 1 < length e → HasRole root e (role.Plain E072)
     file_deeper g deep = let f = entry_file root e k h g in
@@ -247,12 +240,6 @@ visits_then root s t u e (Err why) head over did looked h = record { gives = lis
 
 -- ---- one that was listed, by what it declares
 
-some_declared : (es : List Entry) (m : MadeDeclared) → PointsAtOne level.Object es m → m ≢ made.None → is_declared (meaning level.Object es m) ≡ true
-some_declared es made.None p not = absurd (not refl)
-some_declared es (made.One v) p not = refl
-some_declared es (made.Unknown i) p not = ap (λ o. is_declared (unknown_by level.Object o)) p.1
-some_declared es made.Several p not = refl
-
 -- a directory that was listed, and what its declarations were read to be
 pub record IsListedAs (root : StorageRoot) (s t : Store) (e : Place) (f : Folder) (m : MadeDeclared) : Type 0 where
   pub over : s.tree ≡ root
@@ -283,42 +270,24 @@ module _ (root : StorageRoot) (s t : Store) (e : Place) (f : Folder) (m : MadeDe
   says : object_declared root e ≡ meaning level.Object f.entries.items m
   says = declared_object root e f.entries.items (short_listable root e h.directory h.short) h.ordinary h.there.listing ∙ sym h.says
 
-  pub undeclared_visits : (r : Result Visit Fault) → m ≡ made.None → IfErr r (λ why. why ≡ fault.Memory)
-      → (IsUndeclaredAt root f.place f.entries.items → IfOk r (λ v. IsVisit root f.place v)) → Visits root s t e r
-  undeclared_visits r is only told =
+  -- just it was listed, and it is a directory of the hierarchy
+  pub undeclared_met : m ≡ made.None → Meets root s t e × IsUndeclaredAt root f.place f.entries.items
+  undeclared_met is =
       let none : object_declared root e ≡ undeclared = says ∙ ap (meaning level.Object f.entries.items) is in
-      let here : IsUndeclaredAt root e f.entries.items = record { directory = h.directory; short = h.short; listing = h.there.listing; none = none } in
-      visits_by root s t e r (entered_meets root s t e f.place f.entries.items h.over h.there looked (ap is_head (undeclared_zone root e h.directory none))) only
-      (subst (λ x. IfOk r (λ v. IsVisit root x v)) h.there.is (told (subst (λ x. IsUndeclaredAt root x f.entries.items) (sym h.there.is) here)))
+      let here : IsUndeclaredAt root e f.entries.items = record { directory = h.directory; short = h.short; listing = h.there.listing; none = none } in (
+        entered_meets root s t e f.place f.entries.items h.over h.there looked (ap is_head (undeclared_zone root e h.directory none)),
+        subst (λ x. IsUndeclaredAt root x f.entries.items) (sym h.there.is) here,
+      )
 
   pub object_visits : (u : Store) (r : Result Visit Fault) → m ≢ made.None → (t.tree ≡ root → IsDeclared root f.place f.entries.items m → VisitsHead root t u f.place r) → Visits root s u e r
   object_visits u r not told =
-      let z : zone root e ≡ inside e [] = h.directory.zone ∙ ap (λ b. cond b (inside e []) hierarchy) (ap is_declared says ∙ some_declared f.entries.items m h.points not) in
+      let z : zone root e ≡ inside e [] = h.directory.zone ∙ ap (λ b. cond b (inside e []) hierarchy) (ap is_declared says ∙ declares_one f.entries.items m h.points not) in
       let object : IsDeclared root e f.entries.items m = record
       { listing = h.there.listing; way = h.directory.here.way; listable = short_listable root e h.directory h.short; zone = z; says = sym says; points = h.points } in
       visits_then root s t u e r (ap is_head z) h.over h.there.did looked
       (subst (λ x. VisitsHead root t u x r) h.there.is (told (h.there.did.tree ∙ h.over) (subst (λ x. IsDeclared root x f.entries.items m) (sym h.there.is) object)))
 
 -- ---- an object
-
-pub head_memory : (root : StorageRoot) (s t : Store) (o : Place) → ReadsOne root s t o → VisitsHead root s t o (Err fault.Memory)
-head_memory root s t o h = record {
-  gives = record {
-    over = h.over;
-    trail = h.trail;
-    did = h.did;
-    read = λ g. h.read;
-    meta = h.meta;
-    once = h.once;
-    heads =
-        subst (IsFront (heads_of root h.trail)) h.heads (front_all (heads_of root h.trail));
-    near = h.near;
-    store = λ q g. absurd cc;
-  };
-}
-
-pub head_stop : (root : StorageRoot) (s t : Store) (o : Place) (why : Fault) → HeadRead root s t o (Err why) → VisitsHead root s t o (Err why)
-head_stop root s t o why h = record { gives = h.gives }
 
 module _ (root : StorageRoot) (o : Place) (es : List Entry) (m : MadeDeclared) (h : IsDeclared root o es m) where
   pub head_here : is_head (zone root o) ≡ true
@@ -347,11 +316,6 @@ module _ (root : StorageRoot) (o : Place) (es : List Entry) (m : MadeDeclared) (
     );
     table = subst (IsTableAt root o) (sym table) (h.zone, is);
   }
-
-pub unread_memory : (root : StorageRoot) (s : Store) (o : Place) → s.tree ≡ root → HeadRead root s s o (Err fault.Memory)
-unread_memory root s o over = record {
-  gives = record { over = over; trail = []; did = did_nothing s; read = λ g. refl; meta = refl; once = none_once; heads = front_none (on (reads_inventory root o) o); near = near_none root (o ∷ []); store = λ q g. absurd cc };
-}
 
 -- what is fair of a directory that was listed
 pub fair_over : (e : Place) (f : Folder) (r : Result Visit Fault) → f.place ≡ e → length e ≤ 127 → (length f.place ≤ 127 → IfOk r (λ v. IsFairVisit f.place v)) → IfOk r (λ v. IsFairVisit e v)

@@ -1,5 +1,5 @@
 //! What is met at a place below the storage root, by the part of the root that it is in.
-ghost use Rattle.std.specs.Prelude.{◌≡◌, None, IfErr, IfOk, IfSome, drop, length, map};
+ghost use Rattle.std.specs.Prelude.{◌≡◌, None, IfOk, IfSome, drop, length, map};
 ghost use Rattle.ocfl_tree.specs.{Place.{Place as ModelPlace}, StorageRoot.{StorageRoot}};
 ghost use Rattle.ocfl_tree.specs.Store.{IfTold};
 ghost use Rattle.ocfl_inventory.specs.{Table.{named as digests_of}, TripleView.{named_view}};
@@ -67,8 +67,7 @@ pub fn visit_path(
     alloc: Global,
     around: &Option<Around>,
     place: &Place,
-) -> Result<Option<Pending>, Fault>
-    ensures only { IfErr result (λ why. why ≡ Fault.Memory) }
+) -> Result<Option<Pending>, AllocError>
     ensures fair { IfOk result (λ o. IfSome o (λ p. p.place ≡ place.now)) }
     ensures named { IfOk result (λ o. IfSome o (λ _. IsNamedIn place.now around.now)) }
     ensures told { (root : StorageRoot) → IsTableAround root place.now around.now
@@ -82,5 +81,5 @@ pub fn visit_path(
     if named.is_empty() {
         return Ok(None);
     }
-    Ok(content_item_at(alloc, place, named, Sight::Nothing)?)
+    content_item_at(alloc, place, named, Sight::Nothing)
 }

@@ -1,5 +1,5 @@
 //! What is met at an entry of a directory.
-ghost use Rattle.std.specs.Prelude.{◌≡◌, ◌≤◌, ◌∷◌, [], None, Some, true, IfErr, IfOk, map, length};
+ghost use Rattle.std.specs.Prelude.{◌≡◌, ◌≤◌, ◌∷◌, [], None, Some, true, IfOk, map, length};
 ghost use Rattle.ocfl_tree.specs.{Place.{Place as ModelPlace}, StorageRoot.{StorageRoot}};
 ghost use Rattle.ocfl_tree.specs.{Listing.{IsOrdinary}, Store.{IfTold}};
 ghost use Rattle.ocfl_inventory.specs.{Note.{plain}, Table.{Table as TableOf, named as digests_of}};
@@ -24,7 +24,7 @@ use ocfl_inventory::declaration::declaration;
 use ocfl_inventory::{Declared, Level, Named, Table};
 use ocfl_report::Code;
 use ocfl_tree::{Entry, Kind, Place, Tree};
-use std::alloc::Global;
+use std::alloc::{AllocError, Global};
 
 /// What was met at a place.
 #[derive(Debug, Drop)]
@@ -66,8 +66,7 @@ impl Visit {
 }
 
 /// A place that has one line, whose detail is a dash.
-fn visit_plain(alloc: Global, place: Place, code: Code) -> Result<Visit, Fault>
-    ensures only { IfErr result (λ why. why ≡ Fault.Memory) }
+fn visit_plain(alloc: Global, place: Place, code: Code) -> Result<Visit, AllocError>
     ensures fair { IfOk result (λ v. IsFairVisit place v) }
     ensures told { (root : StorageRoot) → IsPlainAt root place (plain code ∷ [])
         → seen_names root place ≡ [] → IfOk result (λ v. IsVisit root place v) }
@@ -84,7 +83,7 @@ fn visit_listed<T: Tree>(alloc: Global, store: &mut T, place: Place) -> Result<V
         → Visits root (T.state store.old) (T.state store.new) place result) }
 {
     if place.depth() > MAX_LISTED_DEPTH {
-        return visit_plain(alloc, place, Code::S05);
+        return Ok(visit_plain(alloc, place, Code::S05)?);
     }
     let folder = list(store, place)?;
     Ok(Visit::of_folder(None, folder))
@@ -111,8 +110,7 @@ fn visit_object<T: Tree>(store: &mut T, folder: Folder, declared: Declared) -> R
 }
 
 /// A directory of the storage hierarchy that declares nothing.
-fn visit_undeclared(folder: Folder) -> Result<Visit, Fault>
-    ensures only { IfErr result (λ why. why ≡ Fault.Memory) }
+fn visit_undeclared(folder: Folder) -> Result<Visit, AllocError>
     ensures fair { length folder.place ≤ max_listed_depth → IsOrdinary folder.entries.items
         → IfOk result (λ v. IsFairVisit folder.place v) }
     ensures told { (root : StorageRoot)
@@ -133,11 +131,11 @@ fn visit_directory<T: Tree>(alloc: Global, store: &mut T, place: Place) -> Resul
         → Visits root (T.state store.old) (T.state store.new) place result) }
 {
     if place.depth() > MAX_LISTED_DEPTH {
-        return visit_plain(alloc, place, Code::S05);
+        return Ok(visit_plain(alloc, place, Code::S05)?);
     }
     let folder = list(store, place)?;
     match declaration(&folder.entries, Level::Object) {
-        Declared::None => visit_undeclared(folder),
+        Declared::None => Ok(visit_undeclared(folder)?),
         declared => visit_object(store, folder, declared),
     }
 }
@@ -156,7 +154,7 @@ pub(crate) fn visit_by_role<T: Tree>(
 {
     match role {
         Role::LeftAlone => Ok(Visit::of_item(None)),
-        Role::Plain(code) => visit_plain(alloc, place, code),
+        Role::Plain(code) => Ok(visit_plain(alloc, place, code)?),
         Role::Listed => visit_listed(alloc, store, place),
         Role::Directory => visit_directory(alloc, store, place),
     }
@@ -168,8 +166,7 @@ fn visit_unentered(
     place: Place,
     named: Vec<Named>,
     sight: Sight,
-) -> Result<Visit, Fault>
-    ensures only { IfErr result (λ why. why ≡ Fault.Memory) }
+) -> Result<Visit, AllocError>
     ensures fair { IfOk result (λ v. IsFairVisit place v) }
     ensures told { (root : StorageRoot) (t : TableOf) (q : ModelPlace)
         → content_at root place ≡ Some (t, q)
@@ -193,7 +190,7 @@ fn visit_content_directory<T: Tree>(
         → Visits root (T.state store.old) (T.state store.new) place result) }
 {
     if place.depth() > MAX_LISTED_DEPTH {
-        return visit_unentered(alloc, place, named, Sight::DeepDir);
+        return Ok(visit_unentered(alloc, place, named, Sight::DeepDir)?);
     }
     let folder = list(store, place)?;
     let sight = if folder.entries.is_empty() {
@@ -221,8 +218,8 @@ pub(crate) fn visit_in_content<T: Tree>(
         → Visits root (T.state store.old) (T.state store.new) place result) }
 {
     match entry.kind {
-        Kind::File => visit_unentered(alloc, place, named, Sight::File),
-        Kind::Other => visit_unentered(alloc, place, named, Sight::Other),
+        Kind::File => Ok(visit_unentered(alloc, place, named, Sight::File)?),
+        Kind::Other => Ok(visit_unentered(alloc, place, named, Sight::Other)?),
         Kind::Dir => visit_content_directory(alloc, store, place, named),
     }
 }

@@ -1,7 +1,7 @@
 -- One place, looked up by itself.
 use Rattle.std.proofs.Common.{◌≡◌, ◌≢◌, ◌⊎◌, inl, inr, ℕ, ◌+◌, ◌≤◌, List, [], ◌∷◌, ◌++◌, refl, sym, ◌∙◌, ap, subst, true, false, Bool, Option, Some, None, arith, length, append_assoc}
 use Rattle.std.proofs.lemmas.List.{append-nil, length-append, nil_from_length}
-use Rattle.std.specs.Prelude.{AllPairs, Result, Ok, Err, IfErr, IfOk}
+use Rattle.std.specs.Prelude.{AllPairs, Result, Ok, Err}
 use Rattle.ocfl_tree.specs.{Place.{Text, Place}, StorageRoot.{StorageRoot, dir}, Store.{Store, Did}}
 use Rattle.ocfl_tree.specs.{Listing.{kind_at, kind_in}, declared.store.Entry.{Entry}}
 use Rattle.ocfl_tree.specs.{declared.store.Opening.{Opening}, Ascending.{IsAmong}}
@@ -12,7 +12,7 @@ use Rattle.ocfl_walk.specs.WalkCalls.{holder_of, AreAllListed}
 use Rattle.ocfl_walk.specs.Internal.Entering.{Comes, Descends, DescendFails, Leads, may_open}
 use Rattle.ocfl_walk.specs.Internal.Finding.{Finds, FindsAll, FindFails, FindsItem}
 use Rattle.ocfl_item.specs.{Looking.{IsFront, failures_by}, Auditing.{IsMetadataRead, LieIn}}
-use Rattle.ocfl_item.specs.{Around.{IsMet, IsPart, IsTableAround}, Meeting.{IsItemAt, Visits}}
+use Rattle.ocfl_item.specs.{Around.{IsMet, IsPart, IsTableAround}, Meeting.{Visits}}
 use Rattle.ocfl_item.specs.{Ways.{AreInventories, IsAt, way_below}, declared.fault.Fault.{Fault}}
 use Rattle.ocfl_item.specs.{declared.folder.Folder.{Folder}, declared.pending.Pending.{Pending}}
 use Rattle.ocfl_item.specs.{declared.meeting.Around.{Around}, declared.visit.Visit.{Visit}}
@@ -140,14 +140,9 @@ module _ (root : StorageRoot) where
       none e (inl f) k = true_not_false (sym k ∙ ap (is_reached root) f ∙ out)
       none e (inr i) k = i
 
-  -- an item that is known without the store
-  pub item_known : (s t : Store) (way may : List Place) (p : Place) (r : Result (Option Pending) Fault) → FindsAll root s t way may
-      → IfErr r (λ why. why ≡ fault.Memory) → IfOk r (λ o. IsItemAt root p o) → FindsItem root s t way may p r
-  item_known s t way may p (Ok o) h only told = record { gives = (h, told) }
-  item_known s t way may p (Err why) h only told = record { gives = subst (FindFails root s t way may) (sym only) (record { finds = h.finds; store = λ q e. absurd (memory_no_store q e) }) }
-
-  pub item_memory : (s : Store) (way may : List Place) (p : Place) → s.tree ≡ root → FindsItem root s s way may p (Err fault.Memory)
-  item_memory s way may p over = record { gives = record { finds = finds_nothing s way may over; store = λ q e. absurd (memory_no_store q e) } }
+  -- what was found, and then memory was refused
+  pub item_refused : (s t : Store) (way may : List Place) (p : Place) → Finds root s t way may 0 → FindsItem root s t way may p (Err fault.Memory)
+  item_refused s t way may p h = record { gives = record { finds = h; store = λ q e. absurd (memory_no_store q e) } }
 
   -- ---- at the last name
 
@@ -176,10 +171,7 @@ module _ (root : StorageRoot) where
       own_heads false h = subst (λ x. IsFront (heads_of root x) (may_open a (zone root e))) (sym (elsewhere h not_base)) (may_open a (zone root e), refl)
 
       own_closed : (b : Bool) → is_head (zone root e) ≡ b → may_open a (zone root e) ≡ [] → trail ≡ []
-      own_closed true h k = absurd (filled (sym (own_inventory a part h) ∙ k))
-        where
-          filled : e ∷ [] ≡ [] → ⊥
-          filled g = cc
+      own_closed true h k = absurd (let both = sym (own_inventory a part h) ∙ k in cc)
       own_closed false h k = elsewhere h not_base
 
       abbrev finds_met : (f : ℕ) (listings : List Place) → s.tree ≡ root → Did s t trail listings f → (f ≡ 0 → IsMetadataRead root trail)
@@ -242,13 +234,9 @@ module _ (root : StorageRoot) where
           (subst (λ x. DescendFails root s t (way_below d (n ∷ r)) (may_open old (zone root x)) why) (sym is) h.gives);
     }
 
-    pub item_shut : (s t : Store) (res : Result (Option Pending) Fault) → Leads root s t d n r old new (Ok None) → IfErr res (λ why. why ≡ fault.Memory)
-        → IfOk res (λ o. IsItemAt root p o) → FindsItem root s t (way_below d (n ∷ r)) (may_open old (zone root p)) p res
-    item_shut s t res h only told =
-        item_known s t (way_below d (n ∷ r)) (may_open old (zone root p)) p res
-        (finds_come s t (way_below d (n ∷ r)) (may_open old (zone root p)) [] few_old
-        (subst (λ x. Comes root s t (way_below d (n ∷ r)) [] (may_open old (zone root x)) []) (sym is) h.gives.0))
-        only told
+    pub shut_finds : (s t : Store) → Leads root s t d n r old new (Ok None) → FindsAll root s t (way_below d (n ∷ r)) (may_open old (zone root p))
+    shut_finds s t h = finds_come s t (way_below d (n ∷ r)) (may_open old (zone root p)) [] few_old
+        (subst (λ x. Comes root s t (way_below d (n ∷ r)) [] (may_open old (zone root x)) []) (sym is) h.gives.0)
 
     pub shut_table : (s t : Store) → Leads root s t d n r old new (Ok None) → IsTableAround root p new
     shut_table s t h = subst (λ x. IsTableAround root x new) (sym is) h.gives.1.table

@@ -42,7 +42,7 @@ fn item_in<T: Tree>(
 {
     match entry_named(&folder.entries, name) {
         Some(entry) => Ok(visit_entry(alloc, store, around, place.try_clone()?, entry)?.item),
-        None => visit_path(alloc, around, place),
+        None => Ok(visit_path(alloc, around, place)?),
     }
 }
 
@@ -72,6 +72,6 @@ pub(crate) fn find_below<T: Tree>(
     drop(folder);
     match inner {
         Some(inner) => find_below(alloc, store, place, around, inner, next, behind),
-        None => visit_path(alloc, &around, place),
+        None => Ok(visit_path(alloc, &around, place)?),
     }
 }

@@ -1,6 +1,6 @@
-use Rattle.std.proofs.{Common.{refl}, lemmas.Result.{err_from_is_err_and}}
-use Rattle.ocfl_item.proofs.BaseLaws.{base_is, base_known, base_listed, base_memory, base_not_listed, base_stopped, base_stops, declared_fails, declared_meets}
-use Rattle.ocfl_item.proofs.LooksCalls.{over_then, root_listable}
+use Rattle.std.proofs.{Common.{[], refl}, lemmas.Result.{err_from_is_err_and}}
+use Rattle.ocfl_item.proofs.BaseLaws.{base_is, base_known, base_listed, base_not_listed, base_stopped, base_stops, declared_fails, declared_meets}
+use Rattle.ocfl_item.proofs.{LooksCalls.{over_then, root_listable}, VisitLaws.{meet_out}}
 use Rattle.ocfl_item.proofs.base.visit_base.Goals as goal
 
 pub returns-in_err-folder-clause-told : goal.returns-in_err-folder-clause-told
@@ -33,7 +33,7 @@ returns-in_ok-item-in-One-clause-told g c = λ h root over.
 pub returns-in_err-item-in_default-clause-told : goal.returns-in_err-item-in_default-clause-told
 returns-in_err-item-in_default-clause-told g c = λ h root over.
     let p = err_from_is_err_and c.from_residual-in_err-item-in_default.result c.from_residual-in_err-item-in_default.ensures.1 in
-    rw (p.1, p.2) (record { gives = base_memory root _ _ (base_listed root _ _ _ _ _ c.root.ensures over (c.in_ok-folder.ensures.told h root over (root_listable root _ c.root.ensures))) })
+    rw (p.1, p.2) (record { gives = meet_out root _ _ [] (base_listed root _ _ _ _ _ c.root.ensures over (c.in_ok-folder.ensures.told h root over (root_listable root _ c.root.ensures))) })
 
 pub returns-in_ok-item-in_default-clause-told : goal.returns-in_ok-item-in_default-clause-told
 returns-in_ok-item-in_default-clause-told g c = λ h root over.

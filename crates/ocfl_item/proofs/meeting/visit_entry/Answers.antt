@@ -1,14 +1,12 @@
-use Rattle.std.proofs.{Common.{length, drop, rules, subst}, lemmas.Result.{err_from_is_err_and}}
+use Rattle.std.proofs.Common.{length, drop, rules, subst}
 use Rattle.ocfl_item.specs.Around.{IsMet}
-use Rattle.ocfl_item.proofs.{VisitLaws.{visits_nothing}, VisitPlaces.{entry_met}}
+use Rattle.ocfl_item.proofs.{VisitLaws.{visits_refused}, VisitPlaces.{entry_met}}
 use Rattle.ocfl_item.proofs.VisitInside.{in_content, in_object, in_version, met_within}
 use Rattle.ocfl_item.proofs.meeting.visit_entry.Goals as goal
 
 pub returns-in_err-named-in_default-saturating_sub-clause-told :
     goal.returns-in_err-named-in_default-saturating_sub-clause-told
-returns-in_err-named-in_default-saturating_sub-clause-told g c = λ h root over d met.
-    let p = err_from_is_err_and c.from_residual.result c.from_residual.ensures.1 in
-    rw (p.1, p.2) (visits_nothing root _ c.args.place over)
+returns-in_err-named-in_default-saturating_sub-clause-told g c = λ h root over d met. visits_refused root _ _ _ over c.from_residual.ensures.1
 
 pub returns-in_default-clause-told : goal.returns-in_default-clause-told
 returns-in_default-clause-told g c = λ h root over d met.

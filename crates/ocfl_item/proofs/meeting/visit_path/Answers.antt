@@ -22,7 +22,7 @@ pub returns-clause-named : goal.returns-clause-named
 returns-clause-named c =
     let items = c.in_ok-named.named.items in
     let some = some_named items (some_entries items c.in_ok-named.named.len c.in_ok-named.named.ok.0 (sym c.if-is_empty.false ∙ c.is_empty.ensures)) in
-    named_in_table c.args.place.now c.args.around.now c.in-Some.around c.in-Some.is (λ e. some (c.in_ok-named.ensures ∙ e)) c.in_ok-content_item_at.field-0
+    named_in_table c.args.place.now c.args.around.now c.in-Some.around c.in-Some.is (λ e. some (c.in_ok-named.ensures ∙ e)) c.content_item_at.result
 
 pub returns-clause-told : goal.returns-clause-told
 returns-clause-told c = λ root h unseen.
@@ -32,4 +32,4 @@ returns-clause-told c = λ root h unseen.
     let items = c.in_ok-named.named.items in
     let some = some_named items (some_entries items c.in_ok-named.named.len c.in_ok-named.named.ok.0 (sym c.if-is_empty.false ∙ c.is_empty.ensures)) in
     let content = named_content root p a around (λ e. some (c.in_ok-named.ensures ∙ sym (named_around root p a around) ∙ e)) in
-    c.in_ok-content_item_at.ensures.told root a.table (drop (length a.place) p) content c.in_ok-named.ensures unseen
+    c.content_item_at.ensures.told root a.table (drop (length a.place) p) content c.in_ok-named.ensures unseen

@@ -2,7 +2,7 @@ use Rattle.std.proofs.Common.{◌≡◌, ◌<◌, ◌≤◌, ◌∙◌, sym, sub
 use Rattle.std.proofs.lemmas.Result.{err_from_is_err_and}
 use Rattle.ocfl_item.specs.{Internal.Content.{IsSight, content_at}, Meeting.{IsItemAt}}
 use Rattle.ocfl_item.proofs.{LooksEntries.{no_entries, some_entries}, ShutLaws.{shut_deep}}
-use Rattle.ocfl_item.proofs.VisitLaws.{content_no_head, deep_sight, dir_sight, empty_sight, entered_meets, listable, looked_listed, reached_here, shut_visits, visit_of_folder, visits_memory, visits_told, visits_stop}
+use Rattle.ocfl_item.proofs.VisitLaws.{content_no_head, deep_sight, dir_sight, empty_sight, entered_meets, listable, looked_listed, reached_here, shut_visits, visit_of_folder, visits_memory, visits_refused, visits_told, visits_stop}
 use Rattle.ocfl_item.proofs.visit.visit_content_directory.Goals.{then-is_empty, else-is_empty}
 use Rattle.ocfl_item.proofs.visit.visit_content_directory.Goals as goal
 
@@ -11,7 +11,10 @@ pub returns-then-depth-gt-MAX_LISTED_DEPTH-clause-told :
 returns-then-depth-gt-MAX_LISTED_DEPTH-clause-told g c = λ h root over here t q content digests.
     let e = c.args.place in
     let deep : 127 < length e = search rules in
-    shut_visits root _ e over (shut_deep root e deep) c.visit_unentered.result c.visit_unentered.ensures.only (c.visit_unentered.ensures.told root t q content digests (deep_sight root e here deep))
+    shut_visits root _ e over (shut_deep root e deep) _ (c.in_ok-visit_unentered.ensures.told root t q content digests (deep_sight root e here deep))
+
+pub returns-in_err-visit_unentered-clause-told : goal.returns-in_err-visit_unentered-clause-told
+returns-in_err-visit_unentered-clause-told g c = λ h root over here t q content digests. visits_refused root _ _ _ over c.from_residual.ensures.1
 
 pub returns-in_err-item-clause-told : goal.returns-in_err-item-clause-told
 returns-in_err-item-clause-told g c = λ h root over here t q content digests.
@@ -45,5 +48,5 @@ pub returns-in_err-folder-clause-told : goal.returns-in_err-folder-clause-told
 returns-in_err-folder-clause-told g c = λ h root over here t q content digests.
     let e = c.args.place in
     let short : length e ≤ 127 = search rules in
-    let p = err_from_is_err_and c.from_residual.result c.from_residual.ensures.1 in
+    let p = err_from_is_err_and c.from_residual-in_err-folder.result c.from_residual-in_err-folder.ensures.1 in
     rw (p.1, p.2) (visits_stop root _ _ e _ (looked_listed root e here short) (c.in_err-folder.ensures.told h root over (listable root e here short)))

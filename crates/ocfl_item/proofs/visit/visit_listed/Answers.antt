@@ -2,7 +2,7 @@ use Rattle.std.proofs.Common.{◌<◌, ◌≤◌, ◌∙◌, sym, subst, [], len
 use Rattle.std.proofs.lemmas.Result.{err_from_is_err_and}
 use Rattle.ocfl_item.specs.Meeting.{IsItemAt}
 use Rattle.ocfl_item.proofs.ShutLaws.{shut_deep}
-use Rattle.ocfl_item.proofs.VisitLaws.{deep_notes, entered_meets, listable, looked_listed, no_notes, reached_here, relined, shut_visits, visit_of_folder, visits_stop, visits_told}
+use Rattle.ocfl_item.proofs.VisitLaws.{deep_notes, entered_meets, listable, looked_listed, no_notes, reached_here, relined, shut_visits, visit_of_folder, visits_refused, visits_stop, visits_told}
 use Rattle.ocfl_item.proofs.visit.visit_listed.Goals as goal
 
 pub returns-then-depth-gt-MAX_LISTED_DEPTH-clause-told :
@@ -10,7 +10,10 @@ pub returns-then-depth-gt-MAX_LISTED_DEPTH-clause-told :
 returns-then-depth-gt-MAX_LISTED_DEPTH-clause-told g c = λ h root over here plain.
     let e = c.args.place in
     let deep : 127 < length e = search rules in
-    shut_visits root _ e over (shut_deep root e deep) c.visit_plain.result c.visit_plain.ensures.only (c.visit_plain.ensures.told root (relined root e _ _ (deep_notes root e [] deep) plain))
+    shut_visits root _ e over (shut_deep root e deep) _ (c.in_ok-visit_plain.ensures.told root (relined root e _ _ (deep_notes root e [] deep) plain))
+
+pub returns-in_err-visit_plain-clause-told : goal.returns-in_err-visit_plain-clause-told
+returns-in_err-visit_plain-clause-told g c = λ h root over here plain. visits_refused root _ _ _ over c.from_residual.ensures.1
 
 pub returns-clause-told : goal.returns-clause-told
 returns-clause-told g c = λ h root over here plain.
@@ -26,5 +29,5 @@ pub returns-in_err-folder-clause-told : goal.returns-in_err-folder-clause-told
 returns-in_err-folder-clause-told g c = λ h root over here plain.
     let e = c.args.place in
     let short : length e ≤ 127 = search rules in
-    let p = err_from_is_err_and c.from_residual.result c.from_residual.ensures.1 in
+    let p = err_from_is_err_and c.from_residual-in_err-folder.result c.from_residual-in_err-folder.ensures.1 in
     rw (p.1, p.2) (visits_stop root _ _ e _ (looked_listed root e here short) (c.in_err-folder.ensures.told h root over (listable root e here short)))

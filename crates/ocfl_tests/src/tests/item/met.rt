@@ -192,7 +192,7 @@ fn a_path_that_is_not_seen_is_missing_where_the_table_names_it(
     ] {
         let place = place_of(alloc, path)?;
         let visit = Visit {
-            item: visit_path(alloc, object, &place).map_err(said)?,
+            item: visit_path(alloc, object, &place)?,
             folder: None,
             table: None,
         };

@@ -1,6 +1,6 @@
 use Rattle.std.proofs.{Common.{◌∙◌, sym, subst}, lemmas.Result.{err_from_is_err_and}}
 use Rattle.ocfl_item.specs.{Around.{IsPart}, Ways.{IsAt}}
-use Rattle.ocfl_walk.proofs.FindLaws.{further, item_further, item_shut, item_stop, shut_table, shut_unseen}
+use Rattle.ocfl_walk.proofs.FindLaws.{further, item_further, item_refused, item_stop, shut_finds, shut_table, shut_unseen}
 use Rattle.ocfl_walk.proofs.find.+find_below.Goals as goal
 
 pub returns-in_err-inner : goal.returns-in_err-inner
@@ -11,16 +11,23 @@ returns-in_err-inner g t c = record {
       (g.T.Tree.state c.args.store.now) (g.T.Tree.state c.down.new.store) _ (c.in_err-inner.ensures.told h root over at part c.args.rest.now));
 }
 
-pub returns-in-None : goal.returns-in-None
-returns-in-None g t c = record {
+pub returns-in_err-visit_path-in-None : goal.returns-in_err-visit_path-in-None
+returns-in_err-visit_path-in-None g t c = record {
+  told = λ h root over at part is.
+      let p = err_from_is_err_and c.from_residual-in_err-visit_path-in-None.result c.from_residual-in_err-visit_path-in-None.ensures.1 in
+      let leads = rw c.in-None.is at c.in_ok-inner.ensures.told h root over at part c.args.rest.now in
+      rw (p.1, p.2) (item_refused root _ _ _ _ _ (shut_finds root c.args.folder.place c.args.name.now c.args.rest.now _ c.args.around c.down.new.object is _ _ leads).finds);
+}
+
+pub returns-in_ok-visit_path-in-None : goal.returns-in_ok-visit_path-in-None
+returns-in_ok-visit_path-in-None g t c = record {
   told = λ h root over at part is.
       let parts = rw c.in-Some.is at c.split_first.ensures.cases in
       let leads = rw c.in-None.is at c.in_ok-inner.ensures.told h root over at part c.args.rest.now in
-      item_shut root c.args.folder.place c.args.name.now c.args.rest.now c.args.place.now c.args.around c.down.new.object is (g.T.Tree.state c.args.store.now)
-      (g.T.Tree.state c.down.new.store) c.visit_path.result leads c.visit_path.ensures.only
-      (c.visit_path.ensures.told root
-      (shut_table root c.args.folder.place c.args.name.now c.args.rest.now c.args.place.now c.args.around c.down.new.object is _ _ leads)
-      (shut_unseen root c.args.folder.place c.args.name.now c.args.rest.now c.args.place.now c.args.around c.down.new.object is _ _ c.in-Some.next.now c.in-Some.behind.now parts.0 leads));
+      let told = c.in_ok-visit_path-in-None.ensures.told root
+      (shut_table root c.args.folder.place c.args.name.now c.args.rest.now _ c.args.around c.down.new.object is _ _ leads)
+      (shut_unseen root c.args.folder.place c.args.name.now c.args.rest.now _ c.args.around c.down.new.object is _ _ c.in-Some.next.now c.in-Some.behind.now parts.0 leads) in
+      record { gives = (shut_finds root c.args.folder.place c.args.name.now c.args.rest.now _ c.args.around c.down.new.object is _ _ leads, told) };
 }
 
 pub returns-in-Some-inner : goal.returns-in-Some-inner

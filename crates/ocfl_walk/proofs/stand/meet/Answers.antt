@@ -1,9 +1,8 @@
-use Rattle.std.proofs.{Common.{sym, refl, subst}, lemmas.Result.{err_from_is_err_and}}
+use Rattle.std.proofs.{Common.{sym, subst}, lemmas.Result.{err_from_is_err_and}}
 use Rattle.ocfl_walk.specs.Internal.Standing.{IsAroundIf}
 use Rattle.ocfl_item.specs.{Around.{IsMet}, Meeting.{IsFairVisit, IsVisit, Meets}}
 use Rattle.ocfl_walk.proofs.MeetLaws.{around_fair, table_met}
 use Rattle.ocfl_item.proofs.VisitLaws.{meet_nothing, meet_out}
-use Rattle.ocfl_item.specs.declared.fault.Fault.TheVariants as fault
 use Rattle.ocfl_walk.proofs.stand.meet.Goals as goal
 
 pub returns-in_err-try_clone-clause-told : goal.returns-in_err-try_clone-clause-told
@@ -33,4 +32,4 @@ returns-in_err-met_by-clause-told g c = λ h root over d met.
     let is = subst (λ a. IsMet root d a c.args.entry.now c.args.place.now) (sym c.still_around-around.ensures) met in
     let v = (c.in_ok-visit.ensures.told h root over d (subst (λ y. IsMet root d c.still_around-around.result c.args.entry.now y) (sym c.in_ok-try_clone.ensures) is)).gives in
     let there = subst (λ y. Meets root (g.T.Tree.state c.args.store.now) (g.T.Tree.state c.visit_entry.new.store) y) c.in_ok-try_clone.ensures v.0 in
-    rw (p.1, p.2) (meet_out root (g.T.Tree.state c.args.store.now) (g.T.Tree.state c.visit_entry.new.store) c.args.place.now fault.Memory there refl)
+    rw (p.1, p.2) (meet_out root (g.T.Tree.state c.args.store.now) (g.T.Tree.state c.visit_entry.new.store) c.args.place.now there)

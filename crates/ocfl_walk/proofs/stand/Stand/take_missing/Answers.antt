@@ -1,5 +1,4 @@
-use Rattle.std.proofs.{Common.{sym, subst, Some}, lemmas.Result.{err_from_is_err_and}}
-use Rattle.ocfl_walk.specs.Internal.Walking.{FailsTo}
+use Rattle.std.proofs.lemmas.Result.{err_from_is_err_and}
 use Rattle.ocfl_walk.proofs.WalkCallLaws.{no_memory}
 use Rattle.ocfl_walk.proofs.FirstSteps.{missing_falls, missing_goes_on, missing_orderly, missing_there, missing_told}
 use Rattle.ocfl_walk.proofs.stand.Stand.take_missing.Goals as goal
@@ -7,7 +6,7 @@ use Rattle.ocfl_walk.proofs.stand.Stand.take_missing.Goals as goal
 pub returns-in_err-item-clause-told : goal.returns-in_err-item-clause-told
 returns-in_err-item-clause-told c = λ s root over last held turn unseen.
     let p = err_from_is_err_and c.from_residual.result c.from_residual.ensures.1 in
-    rw (p.1, p.2) (subst (FailsTo root s s (Some last) c.args.place) (sym c.in_err-item.ensures.only) (no_memory root s over))
+    rw (p.1, p.2) (no_memory root s over)
 
 pub returns-clause-orderly : goal.returns-clause-orderly
 returns-clause-orderly c = missing_orderly c.args.self.now c.args.place c.requires.orderly c.requires.some c.requires.trim c.requires.next

@@ -1,5 +1,5 @@
 -- What calls did adds up; where a call failed; and files that were opened once each.
-use Rattle.std.proofs.Common.{◌≡◌, ◌⊎◌, inl, inr, ℕ, suc, cond, ◌+◌, List, [], ◌∷◌, ◌++◌, refl, sym, ◌∙◌, ap, subst, Bool, false, map, filter, length, append_assoc, arith, ◌≢◌, ◌≤◌, true, Option, Some, None}
+use Rattle.std.proofs.Common.{◌≡◌, ◌⊎◌, inl, inr, ℕ, suc, cond, ◌+◌, List, [], ◌∷◌, ◌++◌, refl, sym, ◌∙◌, ap, subst, Bool, false, map, filter, length, append_assoc, add-zero, arith, ◌≢◌, ◌≤◌, true, Option, Some, None}
 use Rattle.std.proofs.lemmas.List.{append-nil, length-append, map-append}
 use Rattle.std.specs.Prelude.{not, ◌&&◌, AllPairs, is_some}
 use Rattle.ocfl_tree.specs.{Place.{Text, Place}, Ascending.{IsAmong}}
@@ -171,23 +171,16 @@ module _ (root : StorageRoot) (s t u : Store) where
     store = λ q e. let w = k.store q e in (w.0, failed_behind root s t u ls ls' os os' q h.read (audits_well root s t ps ls hs os h) w.1);
   }
 
--- if nothing was done
-pub audits_nothing : (root : StorageRoot) (s : Store) → s.tree ≡ root → Audits root s s [] [] [] []
-unfolding hashed_among
-audits_nothing root s over = record { over = over; did = did_nothing s; read = refl; opened = refl; heads_are = refl; near = near_none root [] }
-
-pub fails_nothing : (root : StorageRoot) (s : Store) → s.tree ≡ root → Fails root s s [] [] [] [] None
-unfolding hashed_among
-fails_nothing root s over =
-    record {
-      over = over;
-      did = did_nothing s;
-      opened =
-          refl;
-      heads_are = refl;
-      near = near_none root [];
-      store = λ q e. absurd cc;
-    }
+-- what was done, and then memory was refused
+pub fails_after : (root : StorageRoot) (s t : Store) (ps ls hs : List Place) (os : List Opening) → Audits root s t ps ls hs os → Fails root s t ps ls hs os None
+fails_after root s t ps ls hs os h = record {
+  over = h.over;
+  did = subst (Did s t os ls) (sym (add-zero (length (unread_of root os)))) h.did;
+  opened = h.opened;
+  heads_are = h.heads_are;
+  near = h.near;
+  store = λ q e. absurd cc;
+}
 
 -- if only metadata was read
 pub audits_meta : (root : StorageRoot) (s t : Store) (ls hs : List Place) (os : List Opening) → s.tree ≡ root → Did s t os ls 0 → IsMetadataRead root os
@@ -214,6 +207,13 @@ fails_meta root s t ls hs os why over did meta heads near store = record {
   store = λ q e. store q (failed_store why q e);
 }
 
+-- if nothing was done
+pub audits_nothing : (root : StorageRoot) (s : Store) → s.tree ≡ root → Audits root s s [] [] [] []
+audits_nothing root s over = audits_meta root s s [] [] [] over (did_nothing s) refl refl refl (near_none root [])
+
+pub fails_nothing : (root : StorageRoot) (s : Store) → s.tree ≡ root → Fails root s s [] [] [] [] None
+fails_nothing root s over = fails_after root s s [] [] [] [] (audits_nothing root s over)
+
 -- ---- beginnings
 
 pub front_all : {A : Type 0} (xs : List A) → IsFront xs xs
@@ -221,6 +221,10 @@ front_all xs = ([], sym (append-nil xs))
 
 pub front_none : {A : Type 0} (xs : List A) → IsFront [] xs
 front_none xs = (xs, refl)
+
+pub front_of_none : {A : Type 0} (xs : List A) → IsFront xs [] → xs ≡ []
+front_of_none [] h = refl
+front_of_none (x ∷ xs) h = absurd (let k = h.1 in cc)
 
 pub front_more : {A : Type 0} (xs ys zs whole : List A) → ys ++ zs ≡ whole → IsFront xs ys → IsFront xs whole
 front_more xs ys zs whole e h = (h.0 ++ zs, sym e ∙ ap (λ l. l ++ zs) h.1 ∙ append_assoc xs h.0 zs)

@@ -15,19 +15,15 @@ use Rattle.ocfl_tree.proofs.Orders.{true_not_false}
 use Rattle.ocfl_audit.proofs.AuditExists.{some_not_none, zone_is, path_among}
 use Rattle.ocfl_audit.proofs.BoundLaws.{table_from_inventory, kept_paths, kept_short}
 use Rattle.ocfl_audit.proofs.PathLaws.{deep_path, notes_at}
-use Rattle.ocfl_item.proofs.NamedLaws.{named_ascend}
+use Rattle.ocfl_item.proofs.{AuditingLaws.{front_of_none}, NamedLaws.{named_ascend}}
 
 pub record IsContent (root : StorageRoot) (p : Place) (ns : List Named) : Type 0 where
   pub lines : (u : Option ℕ) → notes root u p ≡ content_notes root p ns u (seen root p)
   pub digests : named_at root p ≡ ns
   pub ascend : IsAscending named_cmp ns
 
-filled_front : (o q : Place) → [] ≡ o ++ q → o ≡ []
-filled_front [] q e = refl
-filled_front (n ∷ o) q e = absurd cc
-
 pub not_root : (root : StorageRoot) (p o q : Place) → zone root p ≡ inside o q → p ≢ []
-not_root root p o q z e = let is = zone_is root p o q z in is.below (filled_front o q (sym e ∙ is.whole))
+not_root root p o q z e = let is = zone_is root p o q z in is.below (front_of_none o (q, sym e ∙ is.whole))
 
 -- the lines of a place that a table may name
 pub content_by_table : (root : StorageRoot) (p o : Place) (v c n : Text) (r : Place) (t : Table) → zone root p ≡ inside o (v ∷ c ∷ n ∷ r)

@@ -6,7 +6,7 @@ use Rattle.std.specs.Result.{result_ok}
 use Rattle.ocfl_tree.specs.{Place.{Place, Text, text_eq}, StorageRoot.{StorageRoot, file_at}}
 use Rattle.ocfl_tree.specs.{declared.store.Entry.{Entry}, declared.store.Kind.{Kind}}
 use Rattle.ocfl_tree.specs.declared.store.Kind.TheVariants.{File, Dir, Other}
-use Rattle.ocfl_tree.proofs.Orders.{true_not_false}
+use Rattle.ocfl_tree.proofs.{Bools.{and_first}, Orders.{true_not_false}}
 use Rattle.ocfl_inventory.specs.{Note.{note, Note}, Reading.{Reading, algorithm_of}}
 use Rattle.ocfl_inventory.specs.{Notes.{notes_of}, Sidecar.{sidecar_digits}}
 use Rattle.ocfl_inventory.specs.Declaration.{Declared, unknown, prefix, after_prefix, declaration_name, declaration_bytes, is_declaration}
@@ -58,12 +58,8 @@ exact_by root o l v f b exact r is same told h =
 pub counted_begins : (l : Level) (e : Entry) → is_counted l e ≡ true → e.name ≡ prefix l ++ after_prefix l e.name
 counted_begins l e h = by e.kind h
   where
-    first : (a b : Bool) → a && b ≡ true → a ≡ true
-    first true b k = refl
-    first false b k = absurd (true_not_false (sym k))
-
     by : (k : Kind) → is_file k && is_declaration l e.name ≡ true → e.name ≡ prefix l ++ after_prefix l e.name
-    by File g = (starts_is Decides-eqb e.name (prefix l) (starts_with nat_eq e.name (prefix l)) refl).0 (first _ _ g)
+    by File g = (starts_is Decides-eqb e.name (prefix l) (starts_with nat_eq e.name (prefix l)) refl).0 (and_first _ _ g)
     by Dir g = absurd (true_not_false (sym g))
     by Other g = absurd (true_not_false (sym g))
 
@@ -80,23 +76,19 @@ pub unknown_name : (root : StorageRoot) (o : Place) (l : Level) (es : List Entry
     → slice_get es i ≡ Some e → PointsAtOne l es d → IsUnknown root o l (meaning l es d) e.name
 unknown_name root o l es d i e is at points =
     let one : PointsAtOne l es (made.Unknown i) = subst (PointsAtOne l es) is points in
-    let same : Some one.0 ≡ Some e = sym one.1 ∙ at in
+    let both : Some one.0 ≡ Some e = sym one.1 ∙ at in
+    let same : one.0 ≡ e = cc in
     record {
-      begins = counted_begins l e (subst (λ x. is_counted l x ≡ true) (entry_same one.0 e same) one.2);
+      begins = counted_begins l e (subst (λ x. is_counted l x ≡ true) same one.2);
       lines = ap (λ x. declared_notes root o l (meaning l es x)) is ∙ ap (λ x. declared_notes root o l (unknown_by l x)) at ∙ unknown_lines root o l (after_prefix l e.name);
     }
-  where
-    entry_same : (x y : Entry) → Some x ≡ Some y → x ≡ y
-    entry_same x y k = cc
 
 -- the entry of an unknown version is there
 pub unknown_there : (l : Level) (es : List Entry) (d : MadeDeclared) (i : ℕ) → d ≡ made.Unknown i → slice_get es i ≡ None → PointsAtOne l es d → ⊥
 unknown_there l es d i is at points =
     let one : PointsAtOne l es (made.Unknown i) = subst (PointsAtOne l es) is points in
-    not_both one.0 (sym at ∙ one.1)
-  where
-    not_both : (e : Entry) → None ≡ Some e → ⊥
-    not_both e k = cc
+    let both = sym at ∙ one.1 in
+    cc
 
 -- what declares no one known version stops
 pub unknown_stops : (l : Level) (es : List Entry) (m : MadeDeclared) → ((v : Version) → m ≡ made.One v → ⊥) → PointsAtOne l es m → is_known (meaning l es m) ≡ false

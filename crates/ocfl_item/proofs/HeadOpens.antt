@@ -1,5 +1,5 @@
 -- Which of an object's own files were opened.
-use Rattle.std.proofs.Common.{◌≡◌, List, [], ◌∷◌, ◌++◌, refl, sym, ◌∙◌, ap, subst, true, false, ℕ, Option, Some, None, length}
+use Rattle.std.proofs.Common.{◌≡◌, List, [], ◌∷◌, ◌++◌, refl, sym, ◌∙◌, ap, subst, false, ℕ, Option, Some, None, length}
 use Rattle.std.proofs.lemmas.Bool.{le-leb}
 use Rattle.std.specs.Prelude.{cond, Ok, Vec}
 use Rattle.std.specs.declared.alloc.Global.{Global}
@@ -64,10 +64,7 @@ module _ (root : StorageRoot) (o : Place) where
 
   no_head_files : (d : Declared) → is_known d ≡ false → head_files root o d ≡ []
   no_head_files undeclared h = refl
-  no_head_files (known v) h = absurd (never h)
-    where
-      never : true ≡ false → ⊥
-      never e = cc
+  no_head_files (known v) h = absurd cc
   no_head_files (unknown t) h = refl
   no_head_files several h = refl
 

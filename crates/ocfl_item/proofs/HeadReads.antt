@@ -1,5 +1,5 @@
 -- What reading an object's head did, as a visit says it.
-use Rattle.std.proofs.Common.{◌≡◌, ℕ, List, [], ◌∷◌, ◌++◌, refl, sym, ◌∙◌, ap, subst, Option}
+use Rattle.std.proofs.Common.{◌≡◌, ℕ, List, [], ◌∷◌, sym, ◌∙◌, ap, subst, Option}
 use Rattle.std.proofs.lemmas.List.{append_cancel_left, append-nil}
 use Rattle.std.specs.Prelude.{IfOk, Result, Ok, Err}
 use Rattle.ocfl_tree.specs.{Place.{Place}, StorageRoot.{StorageRoot}, Store.{Store, Did}}
@@ -11,17 +11,10 @@ use Rattle.ocfl_item.specs.{Internal.Ways.{IsHeadOf}, Internal.Visiting.{HeadRea
 use Rattle.ocfl_item.specs.{declared.fault.Fault.{Fault}, declared.lines.PlaceLines.{PlaceLines}}
 use Rattle.ocfl_audit.specs.{Head.{on}, Trail.{heads_of, places_of, reads_inventory}}
 use Rattle.ocfl_audit.specs.Zone.{inside, object_declared, zone}
-use Rattle.ocfl_item.proofs.AuditingLaws.{files_near}
+use Rattle.ocfl_item.proofs.AuditingLaws.{files_near, front_of_none}
 use Rattle.ocfl_item.proofs.FileLaws.{some_is_meta, some_of, stop_is_meta}
 use Rattle.ocfl_item.proofs.HeadCalls.{head_files_apart, head_files_meta}
 use Rattle.ocfl_item.proofs.HeadTrails.{heads_append, heads_are, heads_at, heads_exact}
-
-nothing_listed : (ls : List Place) → IsFront ls [] → ls ≡ []
-nothing_listed [] h = refl
-nothing_listed (l ∷ ls) h = absurd (filled h.1)
-  where
-    filled : [] ≡ l ∷ (ls ++ h.0) → ⊥
-    filled g = cc
 
 -- what was opened from s to t is one list
 same_trail : (s t : Store) (os ps : List Opening) (ls ms : List Place) (f g : ℕ) → Did s t os ls f → Did s t ps ms g → os ≡ ps
@@ -55,7 +48,7 @@ head_read_from root s t o (Err why) z k is =
       gives = record {
         over = stops.stops.goes.over;
         trail = stops.trail;
-        did = subst (λ ls. Did s t stops.trail ls (failures_by why)) (nothing_listed stops.stops.goes.listings stops.stops.goes.listed) stops.stops.goes.did;
+        did = subst (λ ls. Did s t stops.trail ls (failures_by why)) (front_of_none stops.stops.goes.listings stops.stops.goes.listed) stops.stops.goes.did;
         read = stops.stops.goes.read;
         meta = stops.meta.meta;
         once = stops.meta.once;
@@ -70,6 +63,6 @@ head_read_from root s t o (Err why) z k is =
             (files_near root o names k.trail k.opened);
         store = λ q e.
             let f = stops.stops.store q e in
-            (f.0, subst (λ ls. FailedAt root s t ls stops.trail q) (nothing_listed stops.stops.goes.listings stops.stops.goes.listed) f.1);
+            (f.0, subst (λ ls. FailedAt root s t ls stops.trail q) (front_of_none stops.stops.goes.listings stops.stops.goes.listed) f.1);
       };
     }

@@ -21,12 +21,12 @@ use Rattle.ocfl_item.specs.Internal.FileLines.{HasDigests, given_in}
 use Rattle.ocfl_item.specs.{Judging.{HasShortFiles, Judges, JudgeFails}, Pending.{IsPending}}
 use Rattle.ocfl_item.specs.{PlaceLines.{lines_of}, Internal.Lines.{HasLines}}
 use Rattle.ocfl_item.specs.declared.lines.PlaceLines.{PlaceLines}
-use Rattle.ocfl_item.specs.{declared.pending.Pending.{Pending}, Auditing.{IsMetadataRead, LieIn}}
-use Rattle.ocfl_audit.proofs.{AuditExists.{some_not_none}, BelowLaws.{place_same}}
+use Rattle.ocfl_item.specs.{declared.pending.Pending.{Pending}, Auditing.{Audits, IsMetadataRead, LieIn}}
+use Rattle.ocfl_audit.proofs.{AuditExists.{some_not_none}, BelowLaws.{place_eq-same}}
 use Rattle.ocfl_audit.proofs.PathLaws.{hashed_no_meta, hashed_path}
 use Rattle.ocfl_item.proofs.ContentLaws.{IsHashedFile, hashed_file, unhashed_cost}
-use Rattle.ocfl_item.proofs.{AuditingLaws.{near_none}, WantedLaws.{AreWanted}}
-use Rattle.ocfl_tree.proofs.{Orders.{true_not_false}, Stores.{did_nothing}}
+use Rattle.ocfl_item.proofs.{AuditingLaws.{audits_meta, fails_after, near_none}, WantedLaws.{AreWanted}}
+use Rattle.ocfl_tree.proofs.{Orders.{true_not_false}, Reading.{same_some}, Stores.{did_nothing}}
 
 -- ---- the lines of a file that some digest is named for
 
@@ -69,14 +69,11 @@ unfolding hashed_among
 nothing_judged root s t p over did = record {
   trail = [];
   part = false;
-  fails = record { over = over; did = did; opened = refl; heads_are = refl; near = near_none root []; store = λ q e. absurd cc };
+  fails = fails_after root s t [] [] [] [] (audits_meta root s t [] [] [] over did refl refl refl (near_none root []));
   alone = refl;
 }
 
 -- ---- one opening of a file that is hashed
-
-some_same : {A : Type 0} (x y : A) → Some x ≡ Some y → x ≡ y
-some_same x y e = cc
 
 module _ (root : StorageRoot) (p : Place) (hashed : is_hashed root p ≡ true) where
   opened_content : (n : ℕ) (failed : Bool) → content_openings root (opening p n failed ∷ []) ≡ opening p n failed ∷ []
@@ -108,21 +105,16 @@ module _ (root : StorageRoot) (p : Place) (hashed : is_hashed root p ≡ true) w
   did_part : (s t : Store) (n : ℕ) → Did s t (opening p n true ∷ []) [] 1 → Did s t (opening p n true ∷ []) [] (length (unread_of root (opening p n true ∷ [])))
   did_part s t n did = subst (Did s t (opening p n true ∷ []) []) (sym (ap length (one_unread n))) did
 
+  opens_audits : (s t : Store) (n : ℕ) (failed : Bool) → s.tree ≡ root → Did s t (opening p n failed ∷ []) [] (length (unread_of root (opening p n failed ∷ [])))
+      → Audits root s t (p ∷ []) [] [] (opening p n failed ∷ [])
+  opens_audits s t n failed over did = record { over = over; did = did; read = opened_read n failed; opened = opened_place n failed; heads_are = no_head n failed; near = opened_near n failed }
+
   opens_fails : (s t : Store) (n : ℕ) (failed : Bool) → s.tree ≡ root → Did s t (opening p n failed ∷ []) [] (length (unread_of root (opening p n failed ∷ []))) → JudgeFails root s t p
   opens_fails s t n failed over did =
-      let count = length (unread_of root (opening p n failed ∷ [])) in
-      let same : count ≡ count + 0 = omega arith in
       record {
         trail = opening p n failed ∷ [];
         part = true;
-        fails = record {
-          over = over;
-          did = subst (Did s t (opening p n failed ∷ []) []) same did;
-          opened = opened_place n failed;
-          heads_are = no_head n failed;
-          near = opened_near n failed;
-          store = λ q e. absurd cc;
-        };
+        fails = fails_after root s t (p ∷ []) [] [] (opening p n failed ∷ []) (opens_audits s t n failed over did);
         alone = sym (hashed_alone root p true hashed);
       }
 
@@ -137,7 +129,7 @@ module _ (root : StorageRoot) (p : Place) (hashed : is_hashed root p ≡ true) w
       → lines_at p (notes root u p) ≡ lines → cost root u p ≡ n + 1 → Judges root s t p lines (n + 1)
   opens_judges s t n failed u lines over did given are costs = record {
     trail = opening p n failed ∷ [];
-    audits = record { over = over; did = did; read = opened_read n failed; opened = opened_place n failed; heads_are = no_head n failed; near = opened_near n failed };
+    audits = opens_audits s t n failed over did;
     alone = sym (hashed_alone root p true hashed);
     item = item_is root p (opening p n failed ∷ []) u lines (n + 1) given are costs;
   }
@@ -149,7 +141,7 @@ module _ (root : StorageRoot) (p : Place) (hashed : is_hashed root p ≡ true) w
   part_judges : (s t : Store) (n : ℕ) (lines : List Line) → s.tree ≡ root → Did s t (opening p n true ∷ []) [] 1
       → lines_at p (notes root (Some n) p) ≡ lines → cost root (Some n) p ≡ n + 1 → Judges root s t p lines (n + 1)
   part_judges s t n lines over did are costs =
-      opens_judges s t n true (Some n) lines over (did_part s t n did) (ap (λ u. given_by u p) (one_unread n) ∙ ap (λ b. cond b (Some n) None) (place_same p)) are costs
+      opens_judges s t n true (Some n) lines over (did_part s t n did) (ap (λ u. given_by u p) (one_unread n) ∙ ap (λ b. cond b (Some n) None) (place_eq-same p)) are costs
 
   -- a file that is there and short enough stops only by the device, or if memory was refused
   by_device : HasShortFiles root → (s t : Store) (n : ℕ) (cause : Cause) → StopsHashing root s t p n cause → cause ≢ Memory → Did s t (opening p n true ∷ []) [] 1
@@ -166,7 +158,7 @@ module _ (root : StorageRoot) (p : Place) (hashed : is_hashed root p ≡ true) w
       go Absent fits did k = absurd (some_not_none f.bytes (sym fits.0 ∙ bytes_are))
       go Memory fits did k = absurd (k refl)
       go TooLong fits did k =
-          let same : fits.0 ≡ f.bytes = some_same fits.0 f.bytes (sym fits.1 ∙ bytes_are) in
+          let same : fits.0 ≡ f.bytes = same_some fits.0 f.bytes (sym fits.1 ∙ bytes_are) in
           let long : 2 ^ 62 ≤ length f.bytes = subst (λ b. 2 ^ 62 ≤ length b) same fits.2 in
           let small : length f.bytes < 2 ^ 62 = short p f.bytes f.is_file in
           absurd (omega (arith, long, small))
@@ -187,7 +179,7 @@ module _ (root : StorageRoot) (s t : Store) (made : Pending) (over : s.tree ≡ 
       → Judges root s t made.place lines (n + 1)
   judged_whole w d n ns lines same wanted h are =
       let f = hashed_file root made.place file_is in
-      let bytes : h.bytes ≡ f.bytes = some_same h.bytes f.bytes (sym h.is_file ∙ ap (option_and_then bytes_of) f.is_file) in
+      let bytes : h.bytes ≡ f.bytes = same_some h.bytes f.bytes (sym h.is_file ∙ ap (option_and_then bytes_of) f.is_file) in
       let count : n ≡ length f.bytes = h.length_is ∙ ap length bytes in
       let names : map named_view ns ≡ named_at root made.place = ap (map named_view) same ∙ pending.named in
       let has : HasDigests (map (λ m. m.algorithm) ns) f.bytes d =

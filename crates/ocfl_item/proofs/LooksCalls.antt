@@ -1,6 +1,6 @@
 -- What calls did on the way down to a place.
 use Rattle.std.proofs.Common.{◌≡◌, ◌⊎◌, inl, inr, ℕ, List, [], ◌∷◌, ◌++◌, refl, sym, ◌∙◌, ap, subst, true, false, Bool, Option, Some, None, append_assoc}
-use Rattle.std.specs.Prelude.{cond, nat_lt, map, Ok}
+use Rattle.std.specs.Prelude.{cond, nat_lt, map}
 use Rattle.ocfl_tree.specs.{Place.{Text, Place}, StorageRoot.{StorageRoot, Leaf, dir, at}}
 use Rattle.ocfl_tree.specs.{Store.{Store}, Listing.{IsOrdinary}, Calls.{ListFails}}
 use Rattle.ocfl_tree.specs.{declared.store.Entry.{Entry}, declared.store.Kind.{Kind}}
@@ -11,19 +11,19 @@ use Rattle.ocfl_inventory.specs.Declaration.{Declared, undeclared, known, unknow
 use Rattle.ocfl_inventory.specs.Entries.{file_names, meaning, unknown_by, PointsAtOne}
 use Rattle.ocfl_inventory.specs.declared.declaration.Declared.{Declared as MadeDeclared}
 use Rattle.ocfl_inventory.specs.declared.declaration.Version.{Version}
-use Rattle.ocfl_inventory.specs.{declared.declaration.Level.{Level}, Table.{Table, Named}}
+use Rattle.ocfl_inventory.specs.{declared.declaration.Level.{Level}, Table.{Named}}
 use Rattle.ocfl_inventory.specs.declared.declaration.Declared.TheVariants as made
 use Rattle.ocfl_inventory.specs.declared.declaration.Level.TheVariants as level
 use Rattle.ocfl_item.specs.{declared.folder.Head.{Head}, Looking.{way_to, IsFront}}
 use Rattle.ocfl_item.specs.Ways.{Stops, is_listable, Enters, IsHead, InHierarchy, IsObject, is_extensions_name, way_below}
-use Rattle.ocfl_item.specs.Internal.Ways.{fault_by, SeekStops, ReadsMeta, ReadsTable, is_file_kind, IsDeclared, head_by, IsOpenObject}
+use Rattle.ocfl_item.specs.Internal.Ways.{fault_by, is_file_kind, IsDeclared, head_by}
 use Rattle.ocfl_item.specs.declared.folder.Head.TheVariants as head
 use Rattle.ocfl_audit.specs.Zone.{is_entered, object_declared, seen, beginnings, is_known, is_declared}
 use Rattle.ocfl_audit.specs.Lines.{cost_of, named_at, is_hashed}
 use Rattle.ocfl_item.specs.declared.fault.Fault.TheVariants as fault
 use Rattle.ocfl_tree.proofs.Orders.{true_not_false}
 use Rattle.ocfl_item.proofs.AuditingLaws.{failed_listing}
-use Rattle.ocfl_item.proofs.LooksZones.{listable_dir, declared_object, declared_root, hierarchy_on, object_zone_here, open_object, at_root}
+use Rattle.ocfl_item.proofs.LooksZones.{listable_dir, declared_object, declared_root, hierarchy_on, object_zone_here, at_root}
 use Rattle.ocfl_audit.proofs.StepLaws.{all_beginnings_step}
 
 -- ---- one call after the other
@@ -92,15 +92,6 @@ kind_is_file (Some kind.Other) h = absurd (true_not_false (sym h))
 pub kind_is_no_file : (k : Option Kind) → is_file_kind k ≡ false → Some kind.File ≡ k → ⊥
 kind_is_no_file k h e = true_not_false (ap is_file_kind e ∙ h)
 
-module _ (root : StorageRoot) where
-  -- out of memory afterwards
-  abbrev pub memory_stops : (s t : Store) (way : List Place) → ReadsMeta root s t → SeekStops root s t way fault.Memory
-  memory_stops s t way h = record {
-    trail = h.trail;
-    stops = record { goes = record { over = h.over; listings = []; did = h.did; read = λ e. h.read; listed = (way, refl) }; store = λ q e. absurd (memory_no_store q e) };
-    meta = h.meta;
-  }
-
 -- ---- the answer for a content place
 
 map_below : (n : Text) (d p : Place) → way_below (n ∷ d) p ≡ map (λ q. n ∷ q) (way_below d p)
@@ -141,7 +132,7 @@ head_unknown d head.Undeclared k none = undeclared_unknown d k
 head_unknown d head.Known k none = absurd (none refl)
 head_unknown d head.Stops k none = k.1
 
-declares_one : (es : List Entry) (m : MadeDeclared) → PointsAtOne level.Object es m → (m ≡ made.None → ⊥) → is_declared (meaning level.Object es m) ≡ true
+pub declares_one : (es : List Entry) (m : MadeDeclared) → PointsAtOne level.Object es m → (m ≡ made.None → ⊥) → is_declared (meaning level.Object es m) ≡ true
 declares_one es made.None k some = absurd (some refl)
 declares_one es (made.One v) k some = refl
 declares_one es (made.Unknown i) k some = ap (λ e. is_declared (unknown_by level.Object e)) k.1
@@ -193,12 +184,6 @@ module _ (root : StorageRoot) where
   no_known o es m h (inl e) = ap (λ x. is_known (meaning level.Object es x)) e
   no_known o es m h (inr (inl k)) = ap (λ x. is_known (meaning level.Object es x)) k.1 ∙ ap (λ e. is_known (unknown_by level.Object e)) (subst (PointsAtOne level.Object es) k.1 h.points).1
   no_known o es m h (inr (inr e)) = ap (λ x. is_known (meaning level.Object es x)) e
-
-  -- ---- within an object
-
-  module _ (o : Place) (es : List Entry) (h : IsObject root o es) where
-    pub opened : (s t : Store) (table : Table) → ReadsTable root s t o (Ok (Some table)) → IsOpenObject root o es table
-    opened s t table k = open_object root o es table h (sym k.gives.1)
 
   -- ---- from the root
 

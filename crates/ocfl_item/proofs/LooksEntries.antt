@@ -17,7 +17,7 @@ use Rattle.ocfl_item.specs.{Ways.{is_dir_kind, is_listable}, Internal.Ways.{is_f
 use Rattle.ocfl_tree.proofs.Orders.{true_not_false, not_below_itself, before_each, ascends_ascending, among_ascending, ascends_filter, among_filter, among_from_filter}
 use Rattle.ocfl_tree.proofs.{Places.{append-child_name}, Trees.{at-append}}
 use Rattle.ocfl_audit.proofs.AuditExists.{some_not_none}
-use Rattle.ocfl_audit.proofs.BelowLaws.{text_cmp_total, text_cmp_exact, text_from_test, text_same, place_same}
+use Rattle.ocfl_audit.proofs.BelowLaws.{text_cmp_total, text_cmp_exact, text_from_test, text_eq-same, place_eq-same}
 use Rattle.ocfl_audit.proofs.{StepLaws.{length_step}, WayLaws.{entry_named}}
 
 -- ---- the entry of a name
@@ -56,17 +56,11 @@ kind_dir (Some (file bytes)) = refl
 kind_dir (Some dir) = refl
 kind_dir (Some other) = refl
 
-kind_file : (leaf : Option Leaf) → Some File ≡ option_map kind_of leaf → (bytes : Text) × (leaf ≡ Some (file bytes))
+pub kind_file : (leaf : Option Leaf) → Some File ≡ option_map kind_of leaf → (bytes : Text) × (leaf ≡ Some (file bytes))
 kind_file None h = absurd (some_not_none File (sym h))
 kind_file (Some (file bytes)) h = (bytes, refl)
-kind_file (Some dir) h = absurd (no h)
-  where
-    no : Some File ≡ Some Dir → ⊥
-    no e = cc
-kind_file (Some other) h = absurd (no h)
-  where
-    no : Some File ≡ Some Other → ⊥
-    no e = cc
+kind_file (Some dir) h = absurd cc
+kind_file (Some other) h = absurd cc
 
 -- ---- what is at a name of a listed directory
 
@@ -112,7 +106,7 @@ named_from (e ∷ root) d n i = by (child_name d e.0) refl i (named_from root d 
     by None f j k = later (k j)
     by (Some m) f (inl g) k =
         let there : e.0 ≡ d ++ n ∷ [] = append-child_name d e.0 m f ∙ ap (λ x. d ++ x ∷ []) (sym g) in
-        (e.1, ap (λ b. cond b (Some e.1) (lookup root (d ++ n ∷ []))) (ap (λ x. place_eq x (d ++ n ∷ [])) there ∙ place_same (d ++ n ∷ [])))
+        (e.1, ap (λ b. cond b (Some e.1) (lookup root (d ++ n ∷ []))) (ap (λ x. place_eq x (d ++ n ∷ [])) there ∙ place_eq-same (d ++ n ∷ [])))
     by (Some m) f (inr j) k = later (k j)
 
 pub name_there : (root : StorageRoot) (d : Place) (n : Text) → at root d ≡ Some dir → IsAmong (names_in root d) n → (leaf : Leaf) × (at root (d ++ n ∷ []) ≡ Some leaf)
@@ -132,7 +126,7 @@ emptied root d es h e = by (names_in root d) refl
 pub not_emptied : (root : StorageRoot) (d : Place) (es : List Entry) → IsListing root d es → es ≢ [] → is_empty (names_in root d) ≡ false
 not_emptied root d [] h some = absurd (some refl)
 not_emptied root d (e ∷ es) h some =
-    let k = kind_some e.kind (at root (d ++ e.name ∷ [])) (sym (ap (λ b. cond b (Some e.kind) (kind_in es e.name)) (text_same e.name)) ∙ h.each e.name) in
+    let k = kind_some e.kind (at root (d ++ e.name ∷ [])) (sym (ap (λ b. cond b (Some e.kind) (kind_in es e.name)) (text_eq-same e.name)) ∙ h.each e.name) in
     by (names_in root d) (entry_named root d e.name k.0 k.1)
   where
     by : (ns : List Text) → IsAmong ns e.name → is_empty ns ≡ false
@@ -155,7 +149,7 @@ among_files (e ∷ es) z h i = by (is_file e.kind) refl i (among_files es z h.1)
     later false f k = k
 
     by : (b : Bool) → is_file e.kind ≡ b → IsAmong (cond b (e.name ∷ file_names es) (file_names es)) z → (IsAmong (file_names es) z → Some File ≡ kind_in es z) → Some File ≡ kind_in (e ∷ es) z
-    by true f (inl g) k = sym (ap (λ b. cond b (Some e.kind) (kind_in es z)) (ap (text_eq e.name) g ∙ text_same e.name) ∙ ap Some (file_from e.kind f))
+    by true f (inl g) k = sym (ap (λ b. cond b (Some e.kind) (kind_in es z)) (ap (text_eq e.name) g ∙ text_eq-same e.name) ∙ ap Some (file_from e.kind f))
     by true f (inr j) k = later (text_eq e.name z) refl (k j)
     by false f j k = later (text_eq e.name z) refl (k j)
 

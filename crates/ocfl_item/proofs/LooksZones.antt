@@ -24,7 +24,7 @@ use Rattle.ocfl_item.proofs.LooksEntries.{nothing_there, declared_listing}
 
 -- ---- tests
 
-false_from : (b : Bool) → (b ≡ true → ⊥) → b ≡ false
+pub false_from : (b : Bool) → (b ≡ true → ⊥) → b ≡ false
 false_from true h = absurd (h refl)
 false_from false h = refl
 

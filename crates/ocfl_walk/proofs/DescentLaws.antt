@@ -13,7 +13,7 @@ use Rattle.ocfl_item.specs.{Internal.Ways.{Opens, ReadsTable}, Around.{IsTableAr
 use Rattle.ocfl_item.specs.{Auditing.{LiesIn, LieIn}, declared.fault.Fault.{Fault}}
 use Rattle.ocfl_walk.specs.Internal.Entering.{AreReached, Calls, NamesFailed, Descends, DescendFails, OpensIn, Opens as Opened}
 use Rattle.ocfl_audit.proofs.{AuditExists.{zone_is}, Trails.{content_behind, filter_append}}
-use Rattle.ocfl_item.proofs.AuditingLaws.{failed_behind, near_none, near_on, read_behind, heads_append}
+use Rattle.ocfl_item.proofs.AuditingLaws.{failed_behind, front_of_none, near_none, near_on, read_behind, heads_append}
 use Rattle.ocfl_item.proofs.{LooksCalls.{memory_no_store}, LooksZones.{is_plain}}
 use Rattle.ocfl_item.specs.declared.fault.Fault.TheVariants as fault
 
@@ -48,10 +48,6 @@ own_reached root o xs h = by (reads_inventory root o) refl xs h
 
 pub own_inventory_reached : (root : StorageRoot) (o : Place) (trail : List Opening) → IsFront (heads_of root trail) (on (reads_inventory root o) o) → AreReached root trail
 own_inventory_reached root o trail h = own_reached root o (heads_of root trail) h
-
-nothing_listed : (xs : List Place) (rest : List Place) → [] ≡ xs ++ rest → xs ≡ []
-nothing_listed [] rest h = refl
-nothing_listed (x ∷ xs) rest h = absurd cc
 
 own_inventory : (o : Place) (b : Bool) (c : Place) → IsFront (c ∷ []) (on b o) → c ≡ o
 own_inventory o true c h = let k = h.1 in cc
@@ -234,7 +230,7 @@ module _ (root : StorageRoot) where
               reached = own_inventory_reached root o k.trail r.gives.0.heads;
             };
             only = r.gives.1;
-            unlisted = nothing_listed k.stops.goes.listings k.stops.goes.listed.0 k.stops.goes.listed.1;
+            unlisted = front_of_none k.stops.goes.listings k.stops.goes.listed;
             heads = opens_front o k.trail r.gives.0.heads;
             near = inventory_near o k.trail r.gives.1 r.gives.0.heads;
           };

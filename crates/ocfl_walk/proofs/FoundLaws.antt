@@ -1,12 +1,12 @@
 -- What was done to know one place.
-use Rattle.std.proofs.Common.{◌≡◌, ◌≢◌, ℕ, ◌+◌, List, [], ◌∷◌, ◌++◌, refl, sym, ◌∙◌, ap, subst, true, false, Bool, Option, Some, None, arith, length, map, filter}
+use Rattle.std.proofs.Common.{◌≡◌, ◌≢◌, ℕ, ◌+◌, List, [], ◌∷◌, ◌++◌, refl, sym, ◌∙◌, ap, subst, true, false, Bool, Option, Some, None, filter}
 use Rattle.std.specs.Prelude.{AllPairs, cond, ◌||◌, not, Result, Ok, Err, MatchResult}
 use Rattle.ocfl_tree.specs.{Place.{Text, Place, text_eq}, StorageRoot.{StorageRoot}}
 use Rattle.ocfl_tree.specs.{Store.{Store, Did}, declared.store.Opening.{Opening}}
 use Rattle.ocfl_audit.specs.Zone.{Zone, skipped, hierarchy, inside, inventory_name, is_in_extensions, object_zone, root_declared, zone, is_known}
 use Rattle.ocfl_audit.specs.{Due.{hashed_among}, Lines.{is_hashed, notes, notes_in}}
 use Rattle.ocfl_audit.specs.Between.{is_looked_into}
-use Rattle.ocfl_audit.specs.Trail.{content_openings, content_trail, heads_of, inventory_of, reads_inventory, unread_of}
+use Rattle.ocfl_audit.specs.Trail.{content_trail, heads_of, inventory_of, reads_inventory}
 use Rattle.ocfl_item.specs.Auditing.{FailedAt, IsMetadataRead, LieIn}
 use Rattle.ocfl_item.specs.{Looking.{IsFront, failures_by, way_to}, Meeting.{IsItemAt, Visits}}
 use Rattle.ocfl_item.specs.{Ways.{Stops, way_below}, declared.fault.Fault.{Fault}}
@@ -16,10 +16,10 @@ use Rattle.ocfl_walk.specs.Internal.Entering.{Starts, StartFails}
 use Rattle.ocfl_walk.specs.Internal.Finding.{Finds, FindsAll, FindFails, FindsItem}
 use Rattle.ocfl_item.specs.declared.fault.Fault.TheVariants as fault
 use Rattle.ocfl_audit.proofs.{AuditExists.{zone_is}, PathLaws.{notes_at}}
-use Rattle.ocfl_item.proofs.AuditingLaws.{audits_nothing, failed_store, front_all, front_kept, none_once}
+use Rattle.ocfl_item.proofs.AuditingLaws.{audits_meta, audits_nothing, fails_meta, front_all, front_kept, none_once}
 use Rattle.ocfl_walk.proofs.{DescentLaws.{front_within}, ReachLaws.{own_listed}}
 use Rattle.ocfl_walk.proofs.EnterLaws.{comes_first, start_listed, start_unlisted}
-use Rattle.ocfl_walk.proofs.FindLaws.{all_on, front_own, finds_come, finds_stopped, item_memory, item_on, may_few}
+use Rattle.ocfl_walk.proofs.FindLaws.{all_on, front_own, finds_come, finds_nothing, finds_stopped, item_on, item_refused, may_few}
 
 -- ---- as it is told
 
@@ -29,25 +29,11 @@ place_is d q p n r base same is = sym same ∙ is ∙ ap (λ x. x ++ n ∷ r) (s
 pub no_base : (q p : Place) (n : Text) (r : Place) → q ≡ p → q ≡ n ∷ r → p ≢ []
 no_base q p n r same is e = let two : n ∷ r ≡ [] = sym is ∙ same ∙ e in cc
 
-none_mapped : {A B : Type 0} (f : A → B) (xs : List A) → map f xs ≡ [] → xs ≡ []
-none_mapped f [] h = refl
-none_mapped f (x ∷ xs) h = absurd cc
-
 pub none_hashed : (root : StorageRoot) → hashed_among root [] ≡ []
 unfolding hashed_among
 none_hashed root = refl
 
 module _ (root : StorageRoot) where
-  -- if no content was opened none was unreadable
-  pub none_unread : (trail : List Opening) → content_trail root trail ≡ [] → length (unread_of root trail) ≡ 0
-  none_unread trail h = ap (λ os. length {A = Place × ℕ} (map (λ o. (o.place, o.given)) (filter (λ o. o.failed) os))) (none_mapped (λ o. o.place) (content_openings root trail) h)
-
-  did_so : (s t : Store) (trail : List Opening) (listed : List Place) (f : ℕ) → content_trail root trail ≡ [] → Did s t trail listed f → Did s t trail listed (length (unread_of root trail) + f)
-  did_so s t trail listed f meta did = let none = none_unread trail meta in subst (Did s t trail listed) (omega (arith, none)) did
-
-  did_well : (s t : Store) (trail : List Opening) (listed : List Place) → content_trail root trail ≡ [] → Did s t trail listed 0 → Did s t trail listed (length (unread_of root trail))
-  did_well s t trail listed meta did = subst (Did s t trail listed) (sym (none_unread trail meta)) did
-
   module _ (s t : Store) (p : Place) where
     module _ (trail : List Opening) (listed : List Place) (over : s.tree ≡ root) (meta : content_trail root trail ≡ [])
         (once : AllPairs (λ a b. a.place ≢ b.place) trail) (way : IsFront listed (way_to p)) (heads : IsFront (heads_of root trail) (holder root (Some p))) (near : LieIn root listed trail) where
@@ -56,7 +42,7 @@ module _ (root : StorageRoot) where
         trail = trail;
         listed = listed;
         heads = heads_of root trail;
-        audits = record { over = over; did = did_well s t trail listed meta did; read = read; opened = meta ∙ sym (none_hashed root); heads_are = refl; near = near };
+        audits = audits_meta root s t listed (heads_of root trail) trail over did read meta refl near;
         root_first = first;
         all_listed = all;
         listed_front = way;
@@ -70,7 +56,7 @@ module _ (root : StorageRoot) where
         trail = trail;
         listed = listed;
         heads = heads_of root trail;
-        fails = record { over = over; did = did_so s t trail listed (failures_by why) meta did; opened = meta ∙ sym (none_hashed root); heads_are = refl; near = near; store = λ q e. store q (failed_store why q e) };
+        fails = fails_meta root s t listed (heads_of root trail) trail why over did meta refl near store;
         listed_front = way;
         heads_front = heads;
         once = once;
@@ -167,7 +153,7 @@ module _ (root : StorageRoot) where
       (no_objects m.trail (front_within [] (reads_inventory root []) (heads_of root m.trail) m.heads)) m.near why m.store m.did)
 
   pub answered_memory : (s : Store) (p : Place) → s.tree ≡ root → GoDownFails root s s (Some p) fault.Memory
-  answered_memory s p over = go_down_fails s s p fault.Memory (item_memory root s (way_to p) (holder_of (zone root p)) p over).gives
+  answered_memory s p over = go_down_fails s s p fault.Memory (item_refused root s s (way_to p) (holder_of (zone root p)) p (finds_nothing root s (way_to p) (holder_of (zone root p)) over)).gives
 
 -- with no place given nothing is done
 pub start_at_none : (root : StorageRoot) (s : Store) → s.tree ≡ root → GoesDown root s s None

@@ -1,5 +1,5 @@
 -- What was done on the way down to a place, in words of single calls.
-use Rattle.std.proofs.Common.{◌≡◌, ◌⊎◌, inl, inr, List, [], ◌∷◌, ◌++◌, refl, sym, ◌∙◌, ap, subst, true, false, Bool, map, filter, Option, Some, None, arith}
+use Rattle.std.proofs.Common.{◌≡◌, ◌⊎◌, inl, inr, List, [], ◌∷◌, ◌++◌, refl, sym, ◌∙◌, ap, subst, true, false, Bool, map, filter, Option, Some, None, arith, length}
 use Rattle.std.proofs.lemmas.List.{append-nil}
 use Rattle.std.specs.Prelude.{IfSome, codes, cond, not}
 use Rattle.ocfl_tree.specs.{Place.{Place, Text}, Ascending.{IsAmong}, StorageRoot.{StorageRoot}}
@@ -8,11 +8,11 @@ use Rattle.ocfl_tree.proofs.Orders.{among_left, among_right}
 use Rattle.ocfl_audit.specs.Objects.{IsObjectRoot}
 use Rattle.ocfl_audit.specs.Trail.{content_trail, heads_of, inventory_of, is_meta, reads_inventory}
 use Rattle.ocfl_audit.specs.{Walk.{is_reached}, Zone.{beginnings, zone}}
-use Rattle.ocfl_audit.proofs.MetaLaws.{head_shown}
+use Rattle.ocfl_audit.proofs.{MetaLaws.{head_shown}, Trails.{none_unread}}
 use Rattle.ocfl_item.specs.Looking.{way_to}
 use Rattle.ocfl_item.proofs.WantedLaws.{among_last}
 use Rattle.ocfl_walk.specs.WalkCalls.{GoesDown, IsRootFirst, holder, way_of}
-use Rattle.ocfl_walk.proofs.{FoundLaws.{none_hashed, none_unread}, HolderLaws.{held_above}}
+use Rattle.ocfl_walk.proofs.{FoundLaws.{none_hashed}, HolderLaws.{held_above}}
 
 -- ---- places on the way
 
@@ -99,4 +99,4 @@ module _ (root : StorageRoot) (s t : Store) (p : Option Place) (g : GoesDown roo
       (first.0, g.audits.did.listings_are ∙ ap (λ l. s.listings ++ l) first.1)
 
   pub down_unfailing : t.failures ≡ s.failures
-  down_unfailing = let none = none_unread root g.trail nothing_opened in let all = g.audits.did.failures_are in omega (arith, none, all)
+  down_unfailing = let none = ap length (none_unread root g.trail nothing_opened) in let all = g.audits.did.failures_are in omega (arith, none, all)

@@ -21,16 +21,7 @@ module _ (nodes : StorageRoot) (o : Option OpenFile) (os : List Opening) (ls us 
   did_so : (o' : Option OpenFile) (os' : List Opening) (ls' us' : List Place) (f' : ℕ) (h : Faults) (xs : List Opening) (ys zs : List Place) (n : ℕ) → os' ≡ os ++ xs → ls' ≡ ls ++ ys
       → us' ≡ us ++ zs → f' ≡ f + n → ((q : Place) → IsAmong zs q → IsAmong ys q) → n ≡ failed_openings xs + length zs
       → Did (seen nodes o os ls us f l g).store (seen nodes o' os' ls' us' f' l h).store xs ys n
-  did_so o' os' ls' us' f' h xs ys zs n opened listed noted more among each = record {
-    tree = refl;
-    openings_are = opened;
-    listings_are = listed;
-    failures_are = more;
-    failed = zs;
-    failed_are = noted;
-    failed_among = among;
-    each_failed = each;
-  }
+  did_so o' os' ls' us' f' h xs ys zs n opened listed noted more among each = search (refl, zs)
 
   pub lists_seen : (ls' : List Place) (p : Place) (es : List Entry) → IsKept nodes os o → stands_at nodes p ≡ Some dir → es ≡ kept_in nodes p → ls' ≡ ls ++ p ∷ []
       → Lists (seen nodes o os ls us f l g).store (seen nodes o os ls' us f l h).store p es

@@ -1,6 +1,6 @@
 -- What lies where in a tree, and after a put or a removal.
 use Rattle.std.proofs.Common.{◌≡◌, ◌≢◌, Bool, true, false, cond, not, [], ◌∷◌, ◌++◌, Option, Some, None, sym, ◌∙◌, ap, refl, append_assoc, filter}
-use Rattle.std.proofs.lemmas.List.{same_from_push}
+use Rattle.std.proofs.{lemmas.Bool.{true_from_ne_false}, lemmas.List.{same_from_push}}
 use Rattle.ocfl_tree.specs.Place.{Text, Place, place_eq, begins}
 use Rattle.ocfl_tree.specs.StorageRoot.{StorageRoot, Leaf, dir, lookup, is_dir_leaf, at_below, at}
 use Rattle.ocfl_memory.specs.MemTree.{parent, after_put, after_removal}
@@ -28,11 +28,8 @@ abbrev pub IsRooted : StorageRoot → Type 0
 IsRooted root = (p : Place) → at root p ≡ stands_at root p
 
 pub dir_above : (root : StorageRoot) (d : Place) (n : Text) (x : Leaf) → IsRooted root → lookup root (d ++ n ∷ []) ≡ Some x → at root d ≡ Some dir
-dir_above root d n x rooted is = dir_from_leaf (at root d) (by (is_dir_leaf (at root d)) refl)
-  where
-    by : (b : Bool) → is_dir_leaf (at root d) ≡ b → is_dir_leaf (at root d) ≡ true
-    by true e = e
-    by false e = absurd (some_not_none x (sym (sym (ap (λ b. cond b (lookup root (d ++ n ∷ [])) None) e) ∙ sym (at-append root d n) ∙ rooted (d ++ n ∷ []) ∙ stands_at-append root d n ∙ is)))
+dir_above root d n x rooted is = dir_from_leaf (at root d) (true_from_ne_false (is_dir_leaf (at root d))
+    (λ e. some_not_none x (sym (sym (ap (λ b. cond b (lookup root (d ++ n ∷ [])) None) e) ∙ sym (at-append root d n) ∙ rooted (d ++ n ∷ []) ∙ stands_at-append root d n ∙ is))))
 
 pub rooted_from_above : (root : StorageRoot) → ((d : Place) (n : Text) (x : Leaf) → lookup root (d ++ n ∷ []) ≡ Some x → at root d ≡ Some dir) → IsRooted root
 rooted_from_above root above [] = refl

@@ -1,6 +1,6 @@
 -- Which names are allowed, what is metadata, and what openings show.
 use Rattle.std.proofs.Common.{◌≡◌, ◌≢◌, ◌↔◌, ℕ, List, [], ◌∷◌, ◌++◌, refl, sym, ◌∙◌, ap, true, false, Bool, map, filter, Some, codes, append_assoc}
-use Rattle.std.proofs.{lemmas.List.{map-append}, lemmas.Bool.{or_right}}
+use Rattle.std.proofs.{lemmas.List.{map-append}, lemmas.Bool.{false_from_ne_true, or_right}}
 use Rattle.std.specs.Prelude.{cond, ◌||◌, ◌&&◌, not, nat_lt, length}
 use Rattle.ocfl_tree.specs.Place.{Place, Text, text_eq, place_eq}
 use Rattle.ocfl_tree.specs.StorageRoot.{StorageRoot, file, dir, at, is_dir, is_dir_leaf, names_in}
@@ -89,11 +89,7 @@ object_directories root p n = (to, back)
         by false false false e f g k = (e, (differs (codes "extensions") f, differs (codes "logs") g))
 
     is_false : (m : Text) → n ≢ m → text_eq n m ≡ false
-    is_false m other_name = by (text_eq n m) refl
-      where
-        by : (b : Bool) → text_eq n m ≡ b → b ≡ false
-        by true e = absurd (other_name (text_from_test n m e))
-        by false e = refl
+    is_false m other_name = false_from_ne_true (text_eq n m) (λ e. other_name (text_from_test n m e))
 
     back : (is_version_name n ≡ false) × ((n ≢ codes "extensions") × (n ≢ codes "logs")) → object_entry_notes root p n (Some dir) ≡ plain E001 ∷ []
     back h =
@@ -156,11 +152,7 @@ module _ (root : StorageRoot) where
   meta_is p = (metadata p, is_there p)
 
   not_meta : (p : Place) → (IsMetadata root p → ⊥) → is_meta root p ≡ false
-  not_meta p isnt = by (is_meta root p) refl
-    where
-      by : (b : Bool) → is_meta root p ≡ b → b ≡ false
-      by true e = absurd (isnt (metadata p e))
-      by false e = refl
+  not_meta p isnt = false_from_ne_true (is_meta root p) (λ e. isnt (metadata p e))
 
   -- ---- what one opening shows of content
 

@@ -1,6 +1,6 @@
 -- Which objects' inventories an audit reads, and which directories it looks into.
 use Rattle.std.proofs.Common.{◌≡◌, ◌≢◌, ◌↔◌, inl, inr, List, [], ◌∷◌, ◌++◌, refl, sym, ◌∙◌, ap, subst, true, false, Bool, map, filter, Option, Some, None}
-use Rattle.std.proofs.lemmas.Bool.{false_from_ne_true}
+use Rattle.std.proofs.lemmas.{Bool.{false_from_ne_true}, List.{same_from_push}}
 use Rattle.std.specs.Prelude.{cond, ◌&&◌, ◌||◌, not, nat_le, length, is_some}
 use Rattle.std.specs.{Ordering.{ordering_then}, declared.cmp.Ordering.{Ordering}}
 use Rattle.std.specs.declared.cmp.Ordering.TheVariants.{Less, Equal, Greater}
@@ -24,12 +24,6 @@ use Rattle.ocfl_audit.proofs.BetweenLaws.{among_between, from_between, directori
 longer : (s : Place) (n : Text) (q : Place) → s ++ n ∷ q ≢ []
 longer [] n q e = cc
 longer (m ∷ s) n q e = cc
-
-last_same : (a b : Place) (n : Text) → a ++ n ∷ [] ≡ b ++ n ∷ [] → a ≡ b
-last_same [] [] n e = refl
-last_same [] (m ∷ b) n e = let f : ◌≡◌ {A = Place} [] (b ++ n ∷ []) = cc in absurd (not_empty b n (sym f))
-last_same (m ∷ a) [] n e = let f : ◌≡◌ {A = Place} (a ++ n ∷ []) [] = cc in absurd (not_empty a n f)
-last_same (m ∷ a) (k ∷ b) n e = let f : m ≡ k = cc in let g : a ++ n ∷ [] ≡ b ++ n ∷ [] = cc in λ i. f i ∷ last_same a b n g i
 
 -- of two places of which the first does not begin the second, the order stays
 still_less : (a b s t : Place) → place_cmp a b ≡ Less → ((n : Text) (r : Place) → b ≡ a ++ n ∷ r → ⊥) → place_cmp (a ++ s) (b ++ t) ≡ Less
@@ -192,7 +186,7 @@ module _ (root : StorageRoot) where
   pub inventory_counts : (o : Place) → IsAmong (inventories root) (o ++ inventory_name ∷ []) → HasInventory root o
   inventory_counts o i =
       let k = from_inventories (o ++ inventory_name ∷ []) i in
-      subst (HasInventory root) (sym (last_same o k.0 inventory_name k.1.0)) k.1.1
+      subst (HasInventory root) (sym (same_from_push o k.0 inventory_name inventory_name k.1.0).0) k.1.1
 
   -- no object begins another
   no_nest : (a b : Place) → HasInventory root a → HasInventory root b → (n : Text) (r : Place) → b ≡ a ++ n ∷ r → ⊥

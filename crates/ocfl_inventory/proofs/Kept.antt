@@ -1,6 +1,6 @@
 -- A path is kept if it is that of a place, and is not elsewhere.
 use Rattle.std.proofs.Common.{◌≡◌, ◌↔◌, ℕ, [], ◌∷◌, ◌++◌, Bool, true, false, refl, sym, ◌∙◌, ap, cond, length, take, drop, codes, arith, Option, Some, None, MatchOption, IfSome, IsNone, IsUtf8}
-use Rattle.std.proofs.lemmas.Bool.Decides.{Decides-eqb, nat_tests}
+use Rattle.std.proofs.lemmas.Bool.{false_from_ne_true, true_from_ne_false, Decides.{Decides-eqb, nat_tests}}
 use Rattle.std.proofs.lemmas.Slice.Eq.{starts_is, ends_is}
 use Rattle.std.specs.Prelude.{◌-◌, ◌==◌, ◌||◌, ◌&&◌, nat_eq, nat_lt, nat_le, not, is_some}
 use Rattle.std.specs.List.{list_any, list_all, starts_with, ends_with}
@@ -137,13 +137,6 @@ names_kept content t h p =
 
 pub kept_from_path : (content t : Text) (o : Option Place) → IsUtf8 t → lies_elsewhere content t ≡ false → IfSome o (λ p. p ≡ names_of t) → IsNone o ↔ (IsPlace (names_of t) → ⊥)
     → MatchOption o (is_kept content t ≡ false) (λ p. (is_kept content t ≡ true) × (p ≡ elements t))
-kept_from_path content t None u h some none = by (is_kept content t) refl
-  where
-    by : (b : Bool) → is_kept content t ≡ b → is_kept content t ≡ false
-    by true e = absurd (none.0 refl (kept_names content t u h e))
-    by false e = e
-kept_from_path content t (Some p) u h some none = (by (is_kept content t) refl, some ∙ names_are t (not_empty content t h))
-  where
-    by : (b : Bool) → is_kept content t ≡ b → is_kept content t ≡ true
-    by true e = e
-    by false e = absurd (let none = none.1 (λ q. true_not_false (sym (names_kept content t h q) ∙ e)) in cc)
+kept_from_path content t None u h some none = false_from_ne_true (is_kept content t) (λ e. none.0 refl (kept_names content t u h e))
+kept_from_path content t (Some p) u h some none =
+    (true_from_ne_false (is_kept content t) (λ e. let none = none.1 (λ q. true_not_false (sym (names_kept content t h q) ∙ e)) in cc), some ∙ names_are t (not_empty content t h))

@@ -1,7 +1,7 @@
 -- What reading the files of an object did.
 use Rattle.std.proofs.Common.{◌≡◌, ◌≢◌, ◌⊎◌, inl, inr, ℕ, ◌+◌, ◌<◌, ◌≤◌, List, [], ◌∷◌, ◌++◌, refl, sym, ◌∙◌, ap, subst, true, false, Bool, Some, None, arith, length, map, filter, get_or, is_some, append_assoc}
-use Rattle.std.proofs.lemmas.List.{append-nil, map-append, get_or-map, get_or_append_left, length-append, length-map}
-use Rattle.std.proofs.{lemmas.List.Elements.{filter-append}, lemmas.List.Kept.{AllPairs-filter}}
+use Rattle.std.proofs.lemmas.List.{append-nil, map-append, get_or-map, get_or_append_left, length-append, length-map, same_from_push}
+use Rattle.std.proofs.{Math.Bool.{or-true}, lemmas.Bool.{false_from_ne_true}, lemmas.List.Elements.{filter-append}, lemmas.List.Kept.{AllPairs-filter}}
 use Rattle.std.specs.Prelude.{cond, ◌||◌, ◌&&◌, not, min, AllPairs, Ok, Err, option_and_then}
 use Rattle.std.specs.List.{list_all}
 use Rattle.ocfl_tree.specs.{Place.{Text, Place}, StorageRoot.{StorageRoot, file_at, bytes_of}}
@@ -21,9 +21,9 @@ use Rattle.ocfl_item.specs.{Internal.HeadFiles.{ReadsFile, ReadsSome}, declared.
 use Rattle.ocfl_item.specs.declared.fault.Fault.TheVariants as fault
 use Rattle.ocfl_tree.proofs.{Orders.{true_not_false}, Stores.{did_then, did_nothing, listed_well}}
 use Rattle.ocfl_audit.proofs.{AuditExists.{some_not_none}, PathLaws.{hashed_no_meta}}
-use Rattle.ocfl_item.proofs.AuditingLaws.{failed_behind, read_behind}
+use Rattle.ocfl_item.proofs.AuditingLaws.{failed_behind, front_more, read_behind}
 use Rattle.ocfl_item.proofs.{LooksEntries.{file_there, no_file_there}, LooksZones.{inside_on}}
-use Rattle.ocfl_item.proofs.LooksCalls.{store_place, memory_no_store, kind_is_file, kind_is_no_file, front_more}
+use Rattle.ocfl_item.proofs.LooksCalls.{store_place, memory_no_store, kind_is_file, kind_is_no_file}
 
 -- ---- one file
 
@@ -33,19 +33,11 @@ store_counts e = omega (arith, e)
 
 module _ (root : StorageRoot) (o : Place) (n : Text) (z : zone root o ≡ inside o []) (meta : is_object_meta (n ∷ []) ≡ true) where
   pub file_is_meta : is_meta root (o ++ n ∷ []) ≡ true
-  file_is_meta = ap (λ x. is_root_meta (o ++ n ∷ []) || is_meta_zone x) (inside_on root o o [] (n ∷ []) z) ∙ ap (λ b. is_root_meta (o ++ n ∷ []) || b) meta ∙ or_true (is_root_meta (o ++ n ∷ []))
-    where
-      or_true : (b : Bool) → b || true ≡ true
-      or_true true = refl
-      or_true false = refl
+  file_is_meta = ap (λ x. is_root_meta (o ++ n ∷ []) || is_meta_zone x) (inside_on root o o [] (n ∷ []) z) ∙ ap (λ b. is_root_meta (o ++ n ∷ []) || b) meta ∙ or-true (is_root_meta (o ++ n ∷ []))
 
 module _ (root : StorageRoot) (o : Place) (n : Text) (meta : is_meta root (o ++ n ∷ []) ≡ true) where
   file_not_hashed : is_hashed root (o ++ n ∷ []) ≡ false
-  file_not_hashed = by (is_hashed root (o ++ n ∷ [])) refl
-    where
-      by : (b : Bool) → is_hashed root (o ++ n ∷ []) ≡ b → b ≡ false
-      by false e = refl
-      by true e = absurd (true_not_false (sym meta ∙ hashed_no_meta root (o ++ n ∷ []) e))
+  file_not_hashed = false_from_ne_true (is_hashed root (o ++ n ∷ [])) (λ e. true_not_false (sym meta ∙ hashed_no_meta root (o ++ n ∷ []) e))
 
   module _ (es : List Entry) (listing : IsListing root o es) where
     stops_by : (s t : Store) (limit : ℕ) (trouble : Trouble) → s.tree ≡ root → is_file_kind (kind_in es n) ≡ true
@@ -168,7 +160,7 @@ module _ (root : StorageRoot) (o : Place) where
   some_of s t ns h = record { over = h.over; trail = h.trail; did = h.did; read = h.read; opened = whole_front h.trail ns h.opened }
 
   more_there : (xs : List Place) (ns ms : List Text) → IsFront xs (files_there root o ns) → IsFront xs (files_there root o (ns ++ ms))
-  more_there xs ns ms h = subst (IsFront xs) (sym (there_then ns ms)) (front_more xs (files_there root o ns) (files_there root o ms) h)
+  more_there xs ns ms h = subst (IsFront xs) (sym (there_then ns ms)) (front_more xs (files_there root o ns) (files_there root o ms) _ refl h)
 
   pub some_more : (s t : Store) (ns ms : List Text) → ReadsSome root s t o ns → ReadsSome root s t o (ns ++ ms)
   some_more s t ns ms h = record { over = h.over; trail = h.trail; did = h.did; read = h.read; opened = more_there (places_of h.trail) ns ms h.opened }
@@ -226,18 +218,11 @@ pairs_unmapped f R xs all i j d l k =
     let two : get_or (map f xs) j (f d) ≡ f (get_or xs j d) = get_or-map f xs j d (f d) k in
     subst (λ y. R y (f (get_or xs j d))) one (subst (R (get_or (map f xs) i (f d))) two (all i j (f d) l (omega (arith, k, same))))
 
-last_same : (o : Place) (n m : Text) → o ++ n ∷ [] ≡ o ++ m ∷ [] → n ≡ m
-last_same [] n m e = cc
-last_same (x ∷ o) n m e = last_same o n m (tail_same e)
-  where
-    tail_same : x ∷ (o ++ n ∷ []) ≡ x ∷ (o ++ m ∷ []) → o ++ n ∷ [] ≡ o ++ m ∷ []
-    tail_same e = cc
-
 module _ (root : StorageRoot) (o : Place) (z : zone root o ≡ inside o []) (ns : List Text) (meta : list_all (λ n. is_object_meta (n ∷ [])) ns ≡ true) (apart : AllPairs (λ n m. n ≢ m) ns) where
   there_apart : AllPairs (λ p q. p ≢ q) (files_there root o ns)
   there_apart =
       map_pairs (λ n. o ++ n ∷ []) (λ p q. p ≢ q) (filter (λ n. is_some (file_at root (o ++ n ∷ []))) ns)
-      (λ i j d l k e. AllPairs-filter (λ n m. n ≢ m) (λ n. is_some (file_at root (o ++ n ∷ []))) ns apart i j d l k (last_same o _ _ e))
+      (λ i j d l k e. AllPairs-filter (λ n m. n ≢ m) (λ n. is_some (file_at root (o ++ n ∷ []))) ns apart i j d l k (same_from_push o o _ _ e).1)
 
   there_meta : (ms : List Text) → list_all (λ n. is_object_meta (n ∷ [])) ms ≡ true → list_all (is_meta root) (files_there root o ms) ≡ true
   there_meta [] h = refl

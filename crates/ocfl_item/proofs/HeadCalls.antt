@@ -1,6 +1,6 @@
 -- What reading an object's inventory, and its head, did.
-use Rattle.std.proofs.Common.{◌≡◌, ◌≢◌, ℕ, ◌<◌, List, [], ◌∷◌, ◌++◌, refl, sym, ◌∙◌, ap, subst, true, false, Bool, Option, Some, None, arith, length}
-use Rattle.std.proofs.{lemmas.Bool.{le-leb, leb-true}, lemmas.Map.Made.{AllPairs-from_IsDistinct}}
+use Rattle.std.proofs.Common.{◌≡◌, ◌≢◌, ℕ, List, [], ◌∷◌, ◌++◌, refl, sym, ◌∙◌, ap, subst, true, false, Bool, Option, Some, None, arith, length}
+use Rattle.std.proofs.{lemmas.Bool.{le-leb, lt-leb}, lemmas.Map.Made.{AllPairs-from_IsDistinct}}
 use Rattle.std.specs.List.{IsDistinct, list_all}
 use Rattle.std.specs.Prelude.{cond, IfOk, ◌||◌, not, nat_le, AllPairs, Result, Ok, Err, Vec, option_and_then}
 use Rattle.std.specs.declared.alloc.Global.{Global}
@@ -39,13 +39,6 @@ table_given None = None
 table_given (Some (bounded.Whole v)) = table_of v.items
 table_given (Some bounded.Over) = None
 
-pub not_within : (a b : ℕ) → b < a → nat_le a b ≡ false
-not_within a b l = by (nat_le a b) refl
-  where
-    by : (x : Bool) → nat_le a b ≡ x → x ≡ false
-    by false e = refl
-    by true e = let le = leb-true a b e in absurd (omega (arith, l, le))
-
 module _ (root : StorageRoot) (o : Place) (es : List Entry) (h : IsObject root o es) where
   table_here : table_at root o ≡ option_and_then (λ b. cond (nat_le (length b) inventory_limit) (table_of b) None) (file_at root (o ++ inventory_name ∷ []))
   table_here = ap (option_and_then (λ b. cond (nat_le (length b) inventory_limit) (table_of b) None)) (ap (λ b. cond b (file_at root (o ++ inventory_name ∷ [])) None) h.known)
@@ -56,7 +49,7 @@ module _ (root : StorageRoot) (o : Place) (es : List Entry) (h : IsObject root o
       table_here ∙ ap (option_and_then (λ b. cond (nat_le (length b) inventory_limit) (table_of b) None)) is.1
       ∙ ap (λ b. cond b (table_of is.0) None) (le-leb (length is.0) inventory_limit is.2.1) ∙ ap table_of (sym is.2.0)
   table_is_given (Some bounded.Over) is =
-      table_here ∙ ap (option_and_then (λ b. cond (nat_le (length b) inventory_limit) (table_of b) None)) is.1 ∙ ap (λ b. cond b (table_of is.0) None) (not_within (length is.0) inventory_limit is.2)
+      table_here ∙ ap (option_and_then (λ b. cond (nat_le (length b) inventory_limit) (table_of b) None)) is.1 ∙ ap (λ b. cond b (table_of is.0) None) (lt-leb (length is.0) inventory_limit is.2)
 
   one_apart : AllPairs (λ n m. n ≢ m) (inventory_name ∷ [])
   one_apart i j d l k = absurd (omega (arith, l, k))
@@ -125,7 +118,7 @@ module _ (root : StorageRoot) (o : Place) where
   no_inventory_table none = sym (ap table_in none)
 
   pub long_inventory_table : IsFileAt root (o ++ inventory_name ∷ []) inventory_limit (Some bounded.Over) → None ≡ table_in (file_at root (o ++ inventory_name ∷ []))
-  long_inventory_table is = sym (ap table_in is.1 ∙ ap (λ b. cond b (table_of is.0) None) (not_within (length is.0) inventory_limit is.2))
+  long_inventory_table is = sym (ap table_in is.1 ∙ ap (λ b. cond b (table_of is.0) None) (lt-leb (length is.0) inventory_limit is.2))
 
   pub inventory_table : (v : Vec ℕ Global) (bytes : Text) (table : Option Table)
       → IsFileAt root (o ++ inventory_name ∷ []) inventory_limit (Some (bounded.Whole v)) → bytes ≡ v.items → table ≡ table_of bytes
@@ -143,7 +136,7 @@ module _ (root : StorageRoot) (o : Place) where
       → Adds old new (plain S02 ∷ []) → Adds old new (inventory_file_notes root o (file_at root (o ++ inventory_name ∷ [])))
   long_inventory_lines old new is h =
       subst (λ f. Adds old new (inventory_file_notes root o f)) (sym is.1)
-      (subst (λ b. Adds old new (cond b (sidecars_notes root o is.0 ++ inventory_part root o is.0 (algorithm_of is.0)) (plain S02 ∷ []))) (sym (not_within (length is.0) inventory_limit is.2)) h)
+      (subst (λ b. Adds old new (cond b (sidecars_notes root o is.0 ++ inventory_part root o is.0 (algorithm_of is.0)) (plain S02 ∷ []))) (sym (lt-leb (length is.0) inventory_limit is.2)) h)
 
   pub inventory_lines : (old new : PlaceLines) (v : Vec ℕ Global) (bytes : Text)
       → IsFileAt root (o ++ inventory_name ∷ []) inventory_limit (Some (bounded.Whole v)) → bytes ≡ v.items

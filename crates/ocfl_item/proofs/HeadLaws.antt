@@ -1,6 +1,6 @@
 -- The lines of an object's head, from files that were read before.
 use Rattle.std.proofs.Common.{◌≡◌, ℕ, ◌<◌, ◌≤◌, List, [], ◌∷◌, ◌++◌, Bool, true, false, Option, Some, None, Ok, Err, length, refl, sym, ◌∙◌, ap, cond, subst, arith}
-use Rattle.std.proofs.{lemmas.Slice.Eq.{starts_is}, lemmas.Bool.Decides.{Decides-eqb}}
+use Rattle.std.proofs.{lemmas.Slice.Eq.{starts_is}, lemmas.Bool.{false_from_ne_true, Decides.{Decides-eqb}}}
 use Rattle.std.specs.{Prelude.{◌&&◌, nat_eq, is_some, slice_get, IfSome}, List.{starts_with}}
 use Rattle.std.specs.Result.{result_ok}
 use Rattle.ocfl_tree.specs.{Place.{Place, Text, text_eq}, StorageRoot.{StorageRoot, file_at}}
@@ -37,11 +37,7 @@ short_declaration Object V1_0 = omega arith
 short_declaration Object V1_1 = omega arith
 
 pub long_is_other : (text bytes : Text) (limit : ℕ) → limit < length text → length bytes ≤ limit → text_eq text bytes ≡ false
-long_is_other text bytes limit long short = by (text_eq text bytes) refl
-  where
-    by : (b : Bool) → text_eq text bytes ≡ b → b ≡ false
-    by true e = absurd (omega (arith, ap length (text_from_test text bytes e)))
-    by false e = refl
+long_is_other text bytes limit long short = false_from_ne_true (text_eq text bytes) (λ e. omega (arith, ap length (text_from_test text bytes e)))
 
 pub exact_by : (root : StorageRoot) (o : Place) (l : Level) (v : Version) (f : Option Bounded) (b : Bounded) (exact : Text) (r : Bool) → f ≡ Some b → exact ≡ declaration_bytes l v
     → ((text : Text) → IsBoundedTo 4096 text b → length exact ≤ 4096 → r ≡ text_eq text exact)

@@ -1,6 +1,6 @@
 -- Which of an object's own files were opened.
 use Rattle.std.proofs.Common.{◌≡◌, List, [], ◌∷◌, ◌++◌, refl, sym, ◌∙◌, ap, subst, false, ℕ, Option, Some, None, length}
-use Rattle.std.proofs.lemmas.Bool.{le-leb}
+use Rattle.std.proofs.lemmas.Bool.{le-leb, lt-leb}
 use Rattle.std.specs.Prelude.{cond, Ok, Vec}
 use Rattle.std.specs.declared.alloc.Global.{Global}
 use Rattle.ocfl_tree.specs.{Place.{Text, Place}, StorageRoot.{StorageRoot, file_at}, Store.{Store}}
@@ -22,7 +22,7 @@ use Rattle.ocfl_item.specs.Internal.Ways.{IsDeclared, IsListedObject}
 use Rattle.ocfl_item.specs.declared.fault.Fault.{Fault}
 use Rattle.ocfl_item.specs.declared.fault.Fault.TheVariants as fault
 use Rattle.ocfl_item.proofs.FileLaws.{files_then, memory_after, some_of, stop_more, stop_then}
-use Rattle.ocfl_item.proofs.HeadCalls.{later_stops, not_within}
+use Rattle.ocfl_item.proofs.HeadCalls.{later_stops}
 use Rattle.ocfl_item.proofs.LooksCalls.{memory_no_store}
 use Rattle.ocfl_tree.proofs.Stores.{did_nothing}
 
@@ -39,7 +39,7 @@ module _ (root : StorageRoot) (o : Place) where
   sidecars_none is = ap sidecars_for is
 
   pub sidecars_over : IsFileAt root (o ++ inventory_name ∷ []) inventory_limit (Some bounded.Over) → sidecars_for (file_at root (o ++ inventory_name ∷ [])) ≡ []
-  sidecars_over is = ap sidecars_for is.1 ∙ ap (λ b. cond b both []) (not_within (length is.0) inventory_limit is.2)
+  sidecars_over is = ap sidecars_for is.1 ∙ ap (λ b. cond b both []) (lt-leb (length is.0) inventory_limit is.2)
 
   pub sidecars_within : (v : Vec ℕ Global) → IsFileAt root (o ++ inventory_name ∷ []) inventory_limit (Some (bounded.Whole v)) → sidecars_for (file_at root (o ++ inventory_name ∷ [])) ≡ both
   sidecars_within v is = ap sidecars_for is.1 ∙ ap (λ b. cond b both []) (le-leb (length is.0) inventory_limit is.2.1)

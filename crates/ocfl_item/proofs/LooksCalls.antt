@@ -1,5 +1,5 @@
 -- What calls did on the way down to a place.
-use Rattle.std.proofs.Common.{◌≡◌, ◌⊎◌, inl, inr, ℕ, List, [], ◌∷◌, ◌++◌, refl, sym, ◌∙◌, ap, subst, true, false, Bool, Option, Some, None, append_assoc}
+use Rattle.std.proofs.Common.{◌≡◌, ◌⊎◌, inl, inr, ℕ, List, [], ◌∷◌, ◌++◌, refl, sym, ◌∙◌, ap, subst, true, false, Bool, Option, Some, None}
 use Rattle.std.specs.Prelude.{cond, nat_lt, map}
 use Rattle.ocfl_tree.specs.{Place.{Text, Place}, StorageRoot.{StorageRoot, Leaf, dir, at}}
 use Rattle.ocfl_tree.specs.{Store.{Store}, Listing.{IsOrdinary}, Calls.{ListFails}}
@@ -14,7 +14,7 @@ use Rattle.ocfl_inventory.specs.declared.declaration.Version.{Version}
 use Rattle.ocfl_inventory.specs.{declared.declaration.Level.{Level}, Table.{Named}}
 use Rattle.ocfl_inventory.specs.declared.declaration.Declared.TheVariants as made
 use Rattle.ocfl_inventory.specs.declared.declaration.Level.TheVariants as level
-use Rattle.ocfl_item.specs.{declared.folder.Head.{Head}, Looking.{way_to, IsFront}}
+use Rattle.ocfl_item.specs.{declared.folder.Head.{Head}, Looking.{way_to}}
 use Rattle.ocfl_item.specs.Ways.{Stops, is_listable, Enters, IsHead, InHierarchy, IsObject, is_extensions_name, way_below}
 use Rattle.ocfl_item.specs.Internal.Ways.{fault_by, is_file_kind, IsDeclared, head_by}
 use Rattle.ocfl_item.specs.declared.folder.Head.TheVariants as head
@@ -27,9 +27,6 @@ use Rattle.ocfl_item.proofs.LooksZones.{listable_dir, declared_object, declared_
 use Rattle.ocfl_audit.proofs.StepLaws.{all_beginnings_step}
 
 -- ---- one call after the other
-
-pub front_more : (ls way more : List Place) → IsFront ls way → IsFront ls (way ++ more)
-front_more ls way more h = (h.0 ++ more, ap (λ x. x ++ more) h.1 ∙ append_assoc ls h.0 more)
 
 -- ---- a listing that fails
 

@@ -1,6 +1,6 @@
 -- Zones, and what is seen, on the way down to a place.
 use Rattle.std.proofs.Common.{◌≡◌, ◌+◌, ◌≤◌, List, [], ◌∷◌, ◌++◌, refl, sym, ◌∙◌, ap, true, false, Bool, Some, None, arith, length}
-use Rattle.std.proofs.{lemmas.Bool.{leb-true, le-leb}, lemmas.List.{length-append}}
+use Rattle.std.proofs.{lemmas.Bool.{false_from_ne_true, leb-true, le-leb}, lemmas.List.{length-append}}
 use Rattle.std.specs.Prelude.{cond, ◌&&◌, ◌||◌, not, nat_le, option_and_then, codes}
 use Rattle.std.specs.List.{list_all}
 use Rattle.ocfl_tree.specs.Place.{Text, Place, text_eq}
@@ -24,10 +24,6 @@ use Rattle.ocfl_item.proofs.LooksEntries.{nothing_there, declared_listing}
 
 -- ---- tests
 
-pub false_from : (b : Bool) → (b ≡ true → ⊥) → b ≡ false
-false_from true h = absurd (h refl)
-false_from false h = refl
-
 -- ---- directories that may be listed
 
 pub listable_dir : (root : StorageRoot) (d : Place) → is_listable root d ≡ true → at root d ≡ Some dir
@@ -46,7 +42,7 @@ declared_object root d es l ordinary h = listable_object root d l ∙ sym (decla
 
 -- below what is not listed there is no object
 undeclared_below : (root : StorageRoot) (e : Place) → is_listable root e ≡ false → (b : Place) → is_declared (object_declared root (e ++ b)) ≡ false
-undeclared_below root e h b = false_from (is_declared (object_declared root (e ++ b))) (λ d. true_not_false (sym (open_ d) ∙ h))
+undeclared_below root e h b = false_from_ne_true (is_declared (object_declared root (e ++ b))) (λ d. true_not_false (sym (open_ d) ∙ h))
   where
     above : (c : Place) → at root (e ++ c) ≡ Some dir → at root e ≡ Some dir
     above [] k = ap (at root) (sym (append_nothing e)) ∙ k

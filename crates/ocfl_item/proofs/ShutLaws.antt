@@ -1,6 +1,6 @@
 -- Places that are not looked into, and at which no inventory is read.
 use Rattle.std.proofs.Common.{◌≡◌, ◌≢◌, ◌<◌, [], ◌∷◌, ◌++◌, refl, sym, ◌∙◌, ap, true, false, Bool, Option, Some, None, length, arith}
-use Rattle.std.proofs.{Math.Bool.{and-false}, lemmas.Bool.{lt-leb}}
+use Rattle.std.proofs.{Math.Bool.{and-false}, lemmas.Bool.{false_from_ne_true, lt-leb}}
 use Rattle.std.specs.{Prelude.{cond, ◌&&◌, is_some, nat_le}, List.{list_all}}
 use Rattle.ocfl_tree.specs.Place.{Place, Text}
 use Rattle.ocfl_tree.specs.StorageRoot.{StorageRoot, dir, file_at, is_dir, names_in}
@@ -12,7 +12,7 @@ use Rattle.ocfl_audit.specs.{Walk.{is_reached, seen_names}, Trail.{is_head, read
 use Rattle.ocfl_audit.specs.Between.{is_looked_into, shows_entries}
 use Rattle.ocfl_audit.proofs.BetweenLaws.{looked_seen, read_seen, seen_reached}
 use Rattle.ocfl_item.specs.{Internal.Visiting.{IsShut}, Ways.{is_listable}}
-use Rattle.ocfl_item.proofs.LooksZones.{false_from, not_entered, out_of_zone}
+use Rattle.ocfl_item.proofs.LooksZones.{not_entered, out_of_zone}
 
 -- what is not entered shows no names
 pub hidden : (root : StorageRoot) (e : Place) → is_entered root e ≡ false → seen_names root e ≡ []
@@ -99,9 +99,9 @@ shut_deep root e h = shut_unlistable root e (some e h) (ap (λ b. b && is_dir ro
 -- at a place that is not seen
 pub shut_unseen : (root : StorageRoot) (e : Place) → seen root e ≡ None → IsShut root e
 shut_unseen root e h = record {
-  looked = false_from (is_looked_into root e) (λ k. clash (sym h ∙ looked_seen root e k));
-  read = false_from (reads_inventory root e) (λ k. clash (sym h ∙ (read_seen root e k).0));
-  names = ap (λ b. cond b (names_in root e) []) (false_from (is_reached root e) (λ k. clash (sym h ∙ seen_reached root e k)));
+  looked = false_from_ne_true (is_looked_into root e) (λ k. clash (sym h ∙ looked_seen root e k));
+  read = false_from_ne_true (reads_inventory root e) (λ k. clash (sym h ∙ (read_seen root e k).0));
+  names = ap (λ b. cond b (names_in root e) []) (false_from_ne_true (is_reached root e) (λ k. clash (sym h ∙ seen_reached root e k)));
 }
   where
     clash : None ≡ Some dir → ⊥

@@ -1,5 +1,6 @@
 -- The place before a place.
 use Rattle.std.proofs.Common.{◌≡◌, inl, inr, List, [], ◌∷◌, ◌++◌, refl, sym, ◌∙◌, ap, true, false, Bool, filter, Option, Some, None, not}
+use Rattle.std.proofs.lemmas.Bool.{false_from_ne_true}
 use Rattle.std.specs.{Prelude.{cond, option_map}, Ordering.{is_lt}}
 use Rattle.std.specs.declared.cmp.Ordering.{Ordering}
 use Rattle.std.specs.declared.cmp.Ordering.TheVariants.{Less, Equal, Greater}
@@ -93,11 +94,7 @@ module _ (root : StorageRoot) (p : Place) where
       by x i l false f = f
 
   pub none_before : place_before root p ≡ None → (x : Place) → IsAmong (candidates root) x → is_lt (place_cmp x p) ≡ false
-  none_before e x i = by (is_lt (place_cmp x p)) refl
-    where
-      by : (b : Bool) → is_lt (place_cmp x p) ≡ b → is_lt (place_cmp x p) ≡ false
-      by true f = absurd (last_none (lesser_places root p) (sym before_last ∙ e) x (to_lesser x i f))
-      by false f = f
+  none_before e x i = false_from_ne_true (is_lt (place_cmp x p)) (λ f. last_none (lesser_places root p) (sym before_last ∙ e) x (to_lesser x i f))
 
   pub some_before : place_cmp [] p ≡ Less → (q : Place) × (place_before root p ≡ Some q)
   some_before l = let k = last_some (lesser_places root p) [] (to_lesser [] (inl refl) (ap is_lt l)) in (k.0, before_last ∙ k.1)

@@ -1,6 +1,6 @@
 -- What lies past the end of a walk.
 use Rattle.std.proofs.Common.{◌≡◌, ◌≢◌, List, [], ◌∷◌, ◌++◌, refl, sym, ◌∙◌, ap, subst, true, false, Bool, Option, Some, None}
-use Rattle.std.proofs.{lemmas.Bool.{not-true, or_right}, lemmas.List.{append-nil}}
+use Rattle.std.proofs.{lemmas.Bool.{false_from_ne_true, not-true, or_right}, lemmas.List.{append-nil}}
 use Rattle.std.specs.{Prelude.{cond, not, ◌&&◌, ◌||◌}, Ordering.{is_lt, is_eq, ordering_then}}
 use Rattle.std.specs.declared.cmp.Ordering.{Ordering}
 use Rattle.std.specs.declared.cmp.Ordering.TheVariants.{Less, Equal, Greater}
@@ -38,7 +38,7 @@ begins_between (m ∷ u) q r (c ∷ x) h k = by (text_cmp m c) refl (text_cmp c 
     by Greater e v f g i j = absurd cc
 
 branch_up : (u x y : Place) → is_above_branch u x ≡ true → place_cmp x y ≡ Less → is_above_branch u y ≡ true
-branch_up u x y h l = and_both (is_lt (place_cmp u y)) (not (begins u y)) (ap is_lt (place_cmp_total.trans u x y over l)) (ap not (apart (begins u y) refl))
+branch_up u x y h l = and_both (is_lt (place_cmp u y)) (not (begins u y)) (ap is_lt (place_cmp_total.trans u x y over l)) (ap not (false_from_ne_true (begins u y) apart))
   where
     over : place_cmp u x ≡ Less
     over = less_from _ (and_first (is_lt (place_cmp u x)) (not (begins u x)) h)
@@ -46,10 +46,9 @@ branch_up u x y h l = and_both (is_lt (place_cmp u y)) (not (begins u y)) (ap is
     out : begins u x ≡ false
     out = not-true (begins u x) (and_second (is_lt (place_cmp u x)) (not (begins u x)) h)
 
-    apart : (b : Bool) → begins u y ≡ b → begins u y ≡ false
-    apart false e = e
-    apart true e = let r = begins_rest u y e in absurd
-        (true_not_false (sym (begins_between u [] r.0 x (subst (λ z. place_cmp z x ≡ Less) (sym (append-nil u)) over) (subst (λ z. place_cmp x z ≡ Less) r.1 l)) ∙ out))
+    apart : begins u y ≡ true → ⊥
+    apart e = let r = begins_rest u y e in (
+        true_not_false (sym (begins_between u [] r.0 x (subst (λ z. place_cmp z x ≡ Less) (sym (append-nil u)) over) (subst (λ z. place_cmp x z ≡ Less) r.1 l)) ∙ out))
 
 bound_up : (b : Option Place) (x y : Place) → is_at_bound b x ≡ true → place_cmp x y ≡ Less → is_at_bound b y ≡ true
 bound_up None x y h l = h
@@ -70,16 +69,12 @@ past_up e x y h l = by (is_above_branch e.under x) refl (is_at_bound e.below x) 
 
 -- what is not above a place that is not past the end is not past it either
 pub not_past_down : (e : End) (b y : Place) → is_past e b ≡ false → is_lt (place_cmp b y) ≡ false → is_past e y ≡ false
-not_past_down e b y n u = by (is_past e y) refl
+not_past_down e b y n u = false_from_ne_true (is_past e y) (λ f. here f (place_cmp b y) refl)
   where
     here : is_past e y ≡ true → (r : Ordering) → place_cmp b y ≡ r → ⊥
     here f Less g = true_not_false (sym (ap is_lt g) ∙ u)
     here f Equal g = true_not_false (sym f ∙ ap (is_past e) (sym (place_cmp_exact b y g)) ∙ n)
     here f Greater g = true_not_false (sym (past_up e y b f (below_from_greater place_cmp_total b y g)) ∙ n)
-
-    by : (r : Bool) → is_past e y ≡ r → is_past e y ≡ false
-    by false f = f
-    by true f = absurd (here f (place_cmp b y) refl)
 
 -- ---- lists of places before the end
 

@@ -1,6 +1,6 @@
 -- One place, looked up by itself.
 use Rattle.std.proofs.Common.{◌≡◌, ◌≢◌, ◌⊎◌, inl, inr, ℕ, ◌+◌, ◌≤◌, List, [], ◌∷◌, ◌++◌, refl, sym, ◌∙◌, ap, subst, true, false, Bool, Option, Some, None, arith, length, append_assoc}
-use Rattle.std.proofs.lemmas.List.{append-nil, length-append, nil_from_length}
+use Rattle.std.proofs.{lemmas.Bool.{false_from_ne_true}, lemmas.List.{append-nil, length-append, nil_from_length}}
 use Rattle.std.specs.Prelude.{AllPairs, Result, Ok, Err}
 use Rattle.ocfl_tree.specs.{Place.{Text, Place}, StorageRoot.{StorageRoot, dir}, Store.{Store, Did}}
 use Rattle.ocfl_tree.specs.{Listing.{kind_at, kind_in}, declared.store.Entry.{Entry}}
@@ -268,11 +268,7 @@ module _ (root : StorageRoot) where
     missing_unseen = ap (seen root) is ∙ sight_nothing root d n es at (sym none)
 
     pub missing_out : is_reached root e ≡ false
-    missing_out = by (is_reached root e) refl
-      where
-        by : (b : Bool) → is_reached root e ≡ b → is_reached root e ≡ false
-        by false h = h
-        by true h = absurd (some_not_none dir (sym missing_unseen ∙ seen_reached root e h))
+    missing_out = false_from_ne_true (is_reached root e) (λ h. some_not_none dir (sym missing_unseen ∙ seen_reached root e h))
 
     pub missing_table : (a : Option Around) → IsPart root d a → IsTableAround root e a
     missing_table None z = λ o s h.

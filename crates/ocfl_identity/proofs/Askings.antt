@@ -74,17 +74,11 @@ file_unread root s t p q given cause (inr is) e h =
 
 pub gone_file : (found : Option (String Global)) (file : Option Text) → found ≡ None → option_map string_bytes found ≡ digits_of file → file ≡ None
 gone_file found None none e = refl
-gone_file found (Some bytes) none e = absurd (filled (ap (option_map string_bytes) (sym none) ∙ e))
-  where
-    filled : {x : Text} → None ≡ Some x → ⊥
-    filled g = cc
+gone_file found (Some bytes) none e = absurd (let both = ap (option_map string_bytes) (sym none) ∙ e in cc)
 
 pub file_there : (found : Option (String Global)) (digits : String Global) (file : Option Text) → found ≡ Some digits → option_map string_bytes found ≡ digits_of file
     → (bytes : Text) × (file ≡ Some bytes)
-file_there found digits None some e = absurd (filled (ap (option_map string_bytes) (sym some) ∙ e))
-  where
-    filled : {x : Text} → Some x ≡ None → ⊥
-    filled g = cc
+file_there found digits None some e = absurd (let both = ap (option_map string_bytes) (sym some) ∙ e in cc)
 file_there found digits (Some bytes) some e = (bytes, refl)
 
 -- ---- a place that could not be read

@@ -174,10 +174,7 @@ lines_there root (e ∷ es) h = by (is_counted Root e) refl (lines_there root es
         )
 
 pub declared_there : (root : StorageRoot) → declared_by root (declarations_among (entries_in root [])) ≡ None → ⊥
-declared_there root none = filled (sym (ap (option_map sha256) lines.1) ∙ none)
+declared_there root none = let both = sym (ap (option_map sha256) lines.1) ∙ none in cc
   where
     lines : (lines : Text) × (sum_lines root (declarations_among (entries_in root [])) ≡ Some lines)
     lines = lines_there root (entries_in root []) (own root [] (names_in root []))
-
-    filled : {x : Text} → Some x ≡ None → ⊥
-    filled g = cc

@@ -1,5 +1,5 @@
 -- What holds of each byte of a text: of UTF-8, of a name, and by a test.
-use Rattle.std.proofs.Common.{◌≡◌, ℕ, zero, suc, ◌+◌, ◌/◌, ◌<◌, ◌≤◌, ◌&&◌, nat_le, nat_lt, leb-true, List, [], ◌∷◌, ◌++◌, get_or, Fits, w8, Bool, true, false, cond, ltb, ltb-true, refl, subst, All, IsUtf8, arith}
+use Rattle.std.proofs.Common.{◌≡◌, ℕ, zero, suc, ◌+◌, ◌/◌, ◌<◌, ◌≤◌, ◌&&◌, nat_le, nat_lt, leb-true, List, [], ◌∷◌, ◌++◌, get_or, Fits, w8, Bool, true, false, cond, ltb, ltb-true, refl, subst, sym, All, IsUtf8, arith}
 use Rattle.std.proofs.Math.Utf8.{scalar, scalars, next, encode, encodes, scalar_cases}
 use Rattle.std.proofs.lemmas.Bool.{and_parts}
 use Rattle.std.proofs.lemmas.List.Elements.{All-from_recursion, All-append, All-cons, All-nil, All-from_get_or}
@@ -84,3 +84,8 @@ pub bytes_of_number : (k n : ℕ) → AreBytes (bytes_high_first k n)
 bytes_of_number zero n i = no_bytes_are i
 bytes_of_number (suc k) n zero = byte_is k n
 bytes_of_number (suc k) n (suc i) = bytes_of_number k n i
+
+-- numbers one after the other, each as k bytes
+pub bytes_of_numbers : (k : ℕ) (f : ℕ → Text) (number : ℕ → ℕ) → f 0 ≡ [] → ((n : ℕ) → f (suc n) ≡ f n ++ bytes_high_first k (number n)) → (n : ℕ) → AreBytes (f n)
+bytes_of_numbers k f number none more zero = subst AreBytes (sym none) no_bytes_are
+bytes_of_numbers k f number none more (suc n) = subst AreBytes (sym (more n)) (bytes_append (f n) _ (bytes_of_numbers k f number none more n) (bytes_of_number k (number n)))

@@ -2,13 +2,13 @@
 use Rattle.std.proofs.Common.{◌≡◌, ◌≢◌, ◌⊎◌, inl, inr, ⊎_elim, ℕ, zero, suc, ◌+◌, ◌*◌, ◌/◌, ◌<◌, [], ◌∷◌, ◌++◌, length, take, drop, refl, sym, ◌∙◌, ap, arith, length-append, Ok}
 use Rattle.std.proofs.lemmas.List.{take-append-drop, drop_at, take_at}
 use Rattle.std.proofs.lemmas.Bool.Decides.{eqb_tells}
-use Rattle.std.specs.Prelude.{Result, Err, replicate}
+use Rattle.std.specs.Prelude.{Result, Err, replicate, slice_index}
 use Rattle.sha2.specs.Sha256 as s256
 use Rattle.sha2.proofs.Facts256.{length-sha256}
 use Rattle.hex.specs.Hex.{encode_lower, decode_of, lower_digits, IsBytes}
 use Rattle.hex.specs.declared.error.FromHexError.{FromHexError}
 use Rattle.hex.proofs.HexLemmas.{decode_of-encode_lower, length-encode_with}
-use Rattle.ocfl_report.proofs.Bytes.{bytes_append, bytes_of_number, no_bytes_are}
+use Rattle.ocfl_report.proofs.Bytes.{bytes_of_numbers, no_bytes_are}
 use Rattle.ocfl_state.specs.Content.{Bytes}
 use Rattle.ocfl_state.specs.Pieces.{piece_size, no_pieces, before_piece, piece_at, chained, whole_pieces, rest_of, tail_of, summary_of, Collision}
 use Rattle.ocfl_state.specs.declared.checkpoint_parts.ReportMark.{ReportMark}
@@ -49,14 +49,9 @@ zeros_are_bytes zero i = no_bytes_are i
 zeros_are_bytes (suc n) zero = let h : 0 < 256 = omega arith in h
 zeros_are_bytes (suc n) (suc i) = zeros_are_bytes n i
 
-digest_bytes_are : (h : Bytes) (n : ℕ) → IsBytes (s256.digest_bytes h n)
-unfolding s256.digest_bytes
-digest_bytes_are h zero = no_bytes_are
-digest_bytes_are h (suc n) = bytes_append (s256.digest_bytes h n) _ (digest_bytes_are h n) (bytes_of_number 4 _)
-
 digest_is_bytes : (text : Bytes) → IsBytes (s256.sha256 text)
-unfolding s256.sha256
-digest_is_bytes text = digest_bytes_are _ 8
+unfolding s256.sha256 s256.digest_bytes
+digest_is_bytes text = let h = s256.final_hash s256.initial_hash_256 text in bytes_of_numbers 4 (s256.digest_bytes h) (slice_index h) refl (λ n. refl) 8
 
 value_is_bytes : (n : ℕ) (text : Bytes) → IsBytes (chained no_pieces n text)
 value_is_bytes zero text = zeros_are_bytes 32

@@ -1,6 +1,7 @@
 -- A right sidecar has no lines, whatever its digest is: worked cases need not compute the digests
 -- of their inventories.
-use Rattle.std.proofs.Common.{◌≡◌, ℕ, zero, suc, ◌≤◌, ◌*◌, List, [], ◌∷◌, ◌++◌, length, codes, refl, sym, ◌∙◌, ap, arith, length-append, Some}
+use Rattle.std.proofs.Common.{◌≡◌, ℕ, ◌≤◌, ◌*◌, List, [], ◌∷◌, ◌++◌, length, codes, refl, sym, ◌∙◌, ap, arith, length-append, Some}
+use Rattle.std.specs.Prelude.{slice_index}
 use Rattle.hex.specs.Hex.{IsBytes, encode_lower, lower_digits}
 use Rattle.hex.proofs.HexLemmas.{decode_of-encode_lower, length-encode_with}
 use Rattle.sha2.specs.Sha256 as s256
@@ -8,7 +9,7 @@ use Rattle.sha2.specs.Sha512 as s512
 use Rattle.sha2.proofs.{Facts256.{length-sha256}, Facts512.{length-sha512}}
 use Rattle.ocfl_tree.specs.Place.{Text}
 use Rattle.ocfl_tree.proofs.Places.{text_eq-same}
-use Rattle.ocfl_report.proofs.Bytes.{bytes_append, bytes_of_number, no_bytes_are}
+use Rattle.ocfl_report.proofs.Bytes.{bytes_of_numbers}
 use Rattle.ocfl_digest.specs.{Digest.{digest_bytes_of}, declared.algorithm.Algorithm.{Algorithm}}
 use Rattle.ocfl_digest.specs.declared.algorithm.Algorithm.TheVariants.{Sha256, Sha512}
 use Rattle.ocfl_inventory.specs.Sidecar.{sidecar_digits, sidecar_of}
@@ -18,23 +19,13 @@ use Rattle.ocfl_audit.proofs.Cases.Trees.{right_sidecar_256, right_sidecar_512}
 
 -- ---- the digests are bytes
 
-digest_bytes_256 : (h : List ℕ) (n : ℕ) → IsBytes (s256.digest_bytes h n)
-unfolding s256.digest_bytes
-digest_bytes_256 h zero = no_bytes_are
-digest_bytes_256 h (suc n) = bytes_append (s256.digest_bytes h n) _ (digest_bytes_256 h n) (bytes_of_number 4 _)
-
-digest_bytes_512 : (h : List ℕ) (n : ℕ) → IsBytes (s512.digest_bytes h n)
-unfolding s512.digest_bytes
-digest_bytes_512 h zero = no_bytes_are
-digest_bytes_512 h (suc n) = bytes_append (s512.digest_bytes h n) _ (digest_bytes_512 h n) (bytes_of_number 8 _)
-
 bytes_256 : (m : Text) → IsBytes (s256.sha256 m)
-unfolding s256.sha256
-bytes_256 m = digest_bytes_256 _ 8
+unfolding s256.sha256 s256.digest_bytes
+bytes_256 m = let h = s256.final_hash s256.initial_hash_256 m in bytes_of_numbers 4 (s256.digest_bytes h) (slice_index h) refl (λ n. refl) 8
 
 bytes_512 : (m : Text) → IsBytes (s512.sha512 m)
-unfolding s512.sha512
-bytes_512 m = digest_bytes_512 _ 8
+unfolding s512.sha512 s512.digest_bytes
+bytes_512 m = let h = s512.final_hash s512.initial_hash_512 m in bytes_of_numbers 8 (s512.digest_bytes h) (slice_index h) refl (λ n. refl) 8
 
 -- ---- a right sidecar
 

@@ -1,6 +1,6 @@
 -- What is answered of a list of objects, as a report, is which of them are missing.
 use Rattle.std.proofs.Common.{◌≡◌, inl, inr, ℕ, ◌+◌, List, [], ◌∷◌, ◌++◌, Bool, true, false, Option, Some, None, IfSome, All, map, filter, refl, sym, ap, subst, ◌∙◌, append_assoc, append-nil, add-one, arith}
-use Rattle.std.proofs.{Math.Bool.{or-true}, lemmas.List.{map-append}}
+use Rattle.std.proofs.{Math.Bool.{and-true, or-true}, lemmas.List.{map-append}}
 use Rattle.std.proofs.lemmas.List.Elements.{All-cons, All-nil, All-head, All-tail, All-weaker}
 use Rattle.std.proofs.lemmas.List.Concat.{flat_map-append}
 use Rattle.std.proofs.lemmas.List.Sorted.{list_any-IsPermutation}
@@ -53,10 +53,6 @@ permuted_back ps qs h p i = among_has qs p (sym (list_any-IsPermutation (place_e
 
 -- ---- the lines of a list
 
-with_true : (b : Bool) → b && true ≡ b
-with_true true = refl
-with_true false = refl
-
 object_at : (p : Place) (qs : List Place) → list_any tells_object (lines_at p (map as_object qs)) ≡ has qs p && not (is_empty p)
 object_at p [] = refl
 object_at p (q ∷ qs) = by (place_eq p q) refl (object_at p qs)
@@ -70,7 +66,7 @@ object_at p (q ∷ qs) = by (place_eq p q) refl (object_at p qs)
         → list_any tells_object (cond b (as_object q ∷ lines_at p (map as_object qs)) (lines_at p (map as_object qs))) ≡ (b || has qs p) && not (is_empty p)
     by true e k =
         (λ i. (not (is_empty (sym ((place_eq-Decides p q).0 e) i)) && true) || k i)
-        ∙ ap (λ b. b || (has qs p && not (is_empty p))) (with_true (not (is_empty p)))
+        ∙ ap (λ b. b || (has qs p && not (is_empty p))) (and-true (not (is_empty p)))
         ∙ or_both (not (is_empty p)) (has qs p)
     by false e k = k
 

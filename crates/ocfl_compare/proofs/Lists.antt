@@ -1,6 +1,6 @@
 -- The lines of a list, one by one.
 use Rattle.std.proofs.Common.{◌≡◌, ◌≢◌, ◌⊎◌, inl, inr, ℕ, ◌+◌, ◌-◌, ◌<◌, List, [], ◌∷◌, ◌++◌, Bool, true, false, Option, Some, None, IfSome, length, All, map, refl, sym, ap, subst, ◌∙◌, append_assoc, append-nil, length-append, arith}
-use Rattle.std.proofs.lemmas.{Bool.{or_right}, List.Concat.{flat_map-append}}
+use Rattle.std.proofs.lemmas.{Bool.{or_right}, List.{same_from_push}, List.Concat.{flat_map-append}}
 use Rattle.std.proofs.lemmas.List.Elements.{All-append}
 use Rattle.std.specs.{Prelude.{⊤, cond, ◌==◌, ◌||◌, flat_map}, List.{onto_first}}
 use Rattle.std.specs.{Io.BufRead.{take_through}, Io.KnownBytes.{Consumes}}
@@ -157,17 +157,6 @@ split_some (x ∷ b) e = by (x == 10) e
     by true f = cc
     by false f = onto_some (list_lines b) f
 
-last_same : (xs ys : List Text) (x y : Text) → xs ++ x ∷ [] ≡ ys ++ y ∷ [] → x ≡ y
-last_same [] [] x y e = cc
-last_same [] (v ∷ []) x y e = let two : x ∷ [] ≡ v ∷ (y ∷ []) = e in cc
-last_same [] (v ∷ w ∷ ys) x y e = let two : x ∷ [] ≡ v ∷ (w ∷ (ys ++ y ∷ [])) = e in cc
-last_same (u ∷ []) [] x y e = let two : u ∷ (x ∷ []) ≡ y ∷ [] = e in cc
-last_same (u ∷ t ∷ xs) [] x y e = let two : u ∷ (t ∷ (xs ++ x ∷ [])) ≡ y ∷ [] = e in cc
-last_same (u ∷ xs) (v ∷ ys) x y e = last_same xs ys x y (by e)
-  where
-    by : u ∷ (xs ++ x ∷ []) ≡ v ∷ (ys ++ y ∷ []) → xs ++ x ∷ [] ≡ ys ++ y ∷ []
-    by g = cc
-
 long : (b left : Text) (ps : List Place) (n m : ℕ) → IsListed b left ps n → n ≡ m + 2 → (before : List Text) × ((line : Text) × ((rest : List Text) × ((list_lines b ≡ before ++ line ∷ rest)
     × ((length before ≡ m) × ((line ≢ []) ⊎ (rest ≢ []))))))
 long b left ps n m h e = by h.read
@@ -177,7 +166,7 @@ long b left ps n m h e = by h.read
 
     by : AreRead b left h.done → (before : List Text) × ((line : Text) × ((rest : List Text) × ((list_lines b ≡ before ++ line ∷ rest) × ((length before ≡ m) × ((line ≢ []) ⊎ (rest ≢ []))))))
     by (inl k) = (last.0, (last.1.0, (list_lines left, (k ∙ ap (λ ls. ls ++ list_lines left) last.1.1.0 ∙ append_assoc last.0 (last.1.0 ∷ []) (list_lines left), (last.1.1.1, inr (split_some left))))))
-    by (inr k) = (last.0, (last.1.0, ([], (k.1.0 ∙ last.1.1.0, (last.1.1.1, inl (λ z. k.1.1.1.1.1 (last_same k.1.1.0 last.0 k.1.1.1.0 last.1.0 (sym k.1.1.1.1.0 ∙ last.1.1.0) ∙ z)))))))
+    by (inr k) = (last.0, (last.1.0, ([], (k.1.0 ∙ last.1.1.0, (last.1.1.1, inl (λ z. k.1.1.1.1.1 ((same_from_push k.1.1.0 last.0 k.1.1.1.0 last.1.0 (sym k.1.1.1.1.0 ∙ last.1.1.0)).1 ∙ z)))))))
 
 -- ---- of a reader's bytes, if they are known
 

@@ -1,6 +1,6 @@
 -- What the lines of one place say together, and its text.
 use Rattle.std.proofs.Common.{◌≡◌, ◌≢◌, inl, List, [], ◌∷◌, ◌++◌, ℕ, Bool, true, false, Option, Some, None, All, map, refl, sym, ap, subst, ◌∙◌, append_assoc, append-nil}
-use Rattle.std.proofs.lemmas.List.Concat.{flat_map-append}
+use Rattle.std.proofs.{Math.Bool.{or-false}, lemmas.List.Concat.{flat_map-append}, lemmas.List.Folds.{list_any-append}}
 use Rattle.std.proofs.lemmas.List.Elements.{All-append, All-cons, All-nil}
 use Rattle.std.specs.{Prelude.{cond, ◌||◌, not, flat_map}, List.{list_any}}
 use Rattle.std.specs.declared.cmp.Ordering.{Ordering}
@@ -23,16 +23,7 @@ codes_more cs [] l = refl
 codes_more cs (m ∷ ls) l = codes_more (with_code cs m.code) ls l
 
 any_more : (test : Line → Bool) (ls : List Line) (l : Line) → list_any test (ls ++ l ∷ []) ≡ list_any test ls || test l
-any_more test [] l = or_false (test l)
-  where
-    or_false : (b : Bool) → b || false ≡ b
-    or_false true = refl
-    or_false false = refl
-any_more test (m ∷ ls) l = ap (λ b. test m || b) (any_more test ls l) ∙ or_assoc (test m) (list_any test ls) (test l)
-  where
-    or_assoc : (a b c : Bool) → a || (b || c) ≡ (a || b) || c
-    or_assoc true b c = refl
-    or_assoc false b c = refl
+any_more test ls l = list_any-append test ls (l ∷ []) ∙ ap (λ b. list_any test ls || b) (or-false (test l))
 
 not_empty : (ls : List Line) (l : Line) → false ≡ is_empty (ls ++ l ∷ [])
 not_empty [] l = refl

@@ -1,6 +1,6 @@
 -- The levels are the storage hierarchy.
 use Rattle.std.proofs.Common.{◌≡◌, ◌⊎◌, ◌↔◌, inl, inr, ℕ, zero, suc, ◌+◌, [], ◌∷◌, ◌++◌, refl, sym, ◌∙◌, ap, subst, true, false, Bool, length, filter, arith}
-use Rattle.std.proofs.{lemmas.Bool.{not-true}, lemmas.List.{length-append}}
+use Rattle.std.proofs.{lemmas.Bool.{false_from_ne_true, not-true}, lemmas.List.{length-append}}
 use Rattle.std.specs.Prelude.{cond, ◌&&◌, ◌||◌, not, codes}
 use Rattle.ocfl_tree.specs.{Place.{Text, Place, text_eq}, Ascending.{IsAmong}}
 use Rattle.ocfl_tree.specs.StorageRoot.{StorageRoot, dir, at, is_dir, is_dir_leaf, names_in}
@@ -44,12 +44,13 @@ module _ (root : StorageRoot) where
   passed [] x h = ap (λ b. b && is_dir root (x ∷ [])) h
   passed (m ∷ d) x h = refl
 
-  step_down : (d : Place) (x : Text) → zone root d ≡ hierarchy → is_extensions_name d x ≡ false → IsPart (d ++ x ∷ [])
-  step_down d x z h = by (is_declared (object_declared root (d ++ x ∷ []))) step
-    where
-      step : zone root (d ++ x ∷ []) ≡ cond (is_declared (object_declared root (d ++ x ∷ []))) (inside (d ++ x ∷ []) []) hierarchy
-      step = zone_step root d x ∙ ap (λ b. cond b skipped (step_zone root d x (zone root d))) (passed d x h) ∙ ap (step_zone root d x) z
+  step_on : (d : Place) (x : Text) → is_extensions root d x ≡ false → zone root d ≡ hierarchy
+      → zone root (d ++ x ∷ []) ≡ cond (is_declared (object_declared root (d ++ x ∷ []))) (inside (d ++ x ∷ []) []) hierarchy
+  step_on d x out z = zone_step root d x ∙ ap (λ b. cond b skipped (step_zone root d x (zone root d))) out ∙ ap (step_zone root d x) z
 
+  step_down : (d : Place) (x : Text) → zone root d ≡ hierarchy → is_extensions_name d x ≡ false → IsPart (d ++ x ∷ [])
+  step_down d x z h = by (is_declared (object_declared root (d ++ x ∷ []))) (step_on d x (passed d x h) z)
+    where
       by : (b : Bool) → zone root (d ++ x ∷ []) ≡ cond b (inside (d ++ x ∷ []) []) hierarchy → IsPart (d ++ x ∷ [])
       by true e = inr ((object_by_zone root (d ++ x ∷ [])).1 e)
       by false e = inl e
@@ -117,17 +118,10 @@ module _ (root : StorageRoot) where
           ends a b c w = cc
 
   undeclared : (d : Place) (x : Text) → zone root (d ++ x ∷ []) ≡ hierarchy → is_declared (object_declared root (d ++ x ∷ [])) ≡ false
-  undeclared d x z = by (is_declared (object_declared root (d ++ x ∷ []))) refl
-    where
-      up : (is_extensions root d x ≡ false) × (zone root d ≡ hierarchy)
-      up = step_up d x (inl z)
-
-      step : zone root (d ++ x ∷ []) ≡ cond (is_declared (object_declared root (d ++ x ∷ []))) (inside (d ++ x ∷ []) []) hierarchy
-      step = zone_step root d x ∙ ap (λ b. cond b skipped (step_zone root d x (zone root d))) up.0 ∙ ap (step_zone root d x) up.1
-
-      by : (b : Bool) → is_declared (object_declared root (d ++ x ∷ [])) ≡ b → is_declared (object_declared root (d ++ x ∷ [])) ≡ false
-      by false e = e
-      by true e = let two : hierarchy ≡ inside (d ++ x ∷ []) [] = sym z ∙ step ∙ ap (λ b. cond b (inside (d ++ x ∷ []) []) hierarchy) e in cc
+  undeclared d x z =
+      let up = step_up d x (inl z) in
+      false_from_ne_true (is_declared (object_declared root (d ++ x ∷ [])))
+      (λ e. let two : hierarchy ≡ inside (d ++ x ∷ []) [] = sym z ∙ step_on d x up.0 up.1 ∙ ap (λ b. cond b (inside (d ++ x ∷ []) []) hierarchy) e in cc)
 
   known : zone root [] ≡ hierarchy → is_known (root_declared root) ≡ true
   known z = by (is_known (root_declared root)) refl z

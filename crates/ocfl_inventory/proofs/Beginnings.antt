@@ -1,5 +1,6 @@
 -- The places that a place begins, and conflicts among sorted places.
-use Rattle.std.proofs.Common.{◌≡◌, List, [], ◌∷◌, refl, sym, ◌∙◌, ap, true, false, Bool}
+use Rattle.std.proofs.Common.{◌≡◌, List, [], ◌∷◌, refl, sym, ◌∙◌, ap, true, false}
+use Rattle.std.proofs.lemmas.Bool.{and_parts}
 use Rattle.std.specs.{Prelude.{◌&&◌}, List.{dedup}, List.Sorted.{IsPermutation}}
 use Rattle.std.specs.Ordering.{is_lt, ordering_then, ordering_reverse}
 use Rattle.std.specs.Cmp.Lexicographic.{nat_list_cmp_total}
@@ -10,10 +11,6 @@ use Rattle.ocfl_inventory.specs.{Notes.{is_conflict, conflicts}, Internal.Beside
 use Rattle.ocfl_tree.proofs.{Places.{begins-itself, text_cmp_exact}, Orders.{true_not_false, place_cmp_total, place_cmp_exact, below_from_greater}}
 use Rattle.ocfl_inventory.proofs.{Runs.{IsUp, IsFront, equal_itself}, Once.{alike_is, sorted_hits}}
 
-pub both : (a b : Bool) → a && b ≡ true → (a ≡ true) × (b ≡ true)
-both true b h = (refl, h)
-both false b h = absurd (true_not_false (sym h))
-
 same_text : (a b : Text) → text_eq a b ≡ true → a ≡ b
 same_text = alike_is nat_list_cmp_total text_cmp_exact
 
@@ -22,7 +19,7 @@ begins_later [] [] h = refl
 begins_later [] (b ∷ q) h = refl
 begins_later (a ∷ p) [] h = absurd (true_not_false (sym h))
 begins_later (a ∷ p) (b ∷ q) h =
-    let w = both _ _ h in
+    let w = and_parts _ _ h in
     let e : text_cmp b a ≡ Equal = ap (λ x. text_cmp x a) (sym (same_text a b w.0)) ∙ equal_itself nat_list_cmp_total a in
     ap (λ r. is_lt (ordering_then r (place_cmp q p))) e ∙ begins_later p q w.1
 
@@ -31,7 +28,7 @@ begins_between [] q r h k t = refl
 begins_between (a ∷ p) q [] h k t = absurd (true_not_false (sym t))
 begins_between (a ∷ p) [] (c ∷ r) h k t = absurd (true_not_false h)
 begins_between (a ∷ p) (b ∷ q) (c ∷ r) h k t =
-    let w = both _ _ t in
+    let w = and_parts _ _ t in
     let k2 : is_lt (ordering_then (text_cmp a b) (place_cmp r q)) ≡ false = ap (λ x. is_lt (ordering_then (text_cmp x b) (place_cmp r q))) (same_text a c w.0) ∙ k in
     by (text_cmp b a) refl h (text_cmp a b) refl k2 (λ m n. begins_between p q r m n w.1)
   where

@@ -1,22 +1,13 @@
 -- The computation reads just the grammar.
 use Rattle.std.proofs.Common.{◌≡◌, ◌↔◌, List, [], ◌∷◌, ◌++◌, refl, sym, ◌∙◌, ap, true, false, Bool, ℕ, ◌<◌, arith, take, drop, length, codes, Option, Some, None, ltb-true, lt-ltb, eqb-true, eq-eqb, leb-true, le-leb}
-use Rattle.std.proofs.lemmas.List.{take-append-drop}
+use Rattle.std.proofs.{Math.Seq.{drop-append_seam, take-append_seam}, lemmas.Bool.{and_parts}, lemmas.List.{take-append-drop}}
 use Rattle.std.specs.Prelude.{◌≢◌, cond, option_and_then, ◌&&◌, ◌==◌, nat_lt, nat_le, nat_eq, Result, Ok, Err}
 use Rattle.std.specs.{List.{list_all, starts_with}, Cmp.Lexicographic.{bytes_decides}}
 use Rattle.hex.specs.{Hex.{decode_of}, declared.error.FromHexError.{FromHexError}}
 use Rattle.ocfl_tree.proofs.Bools.{and_both}
 use Rattle.ocfl_tree.specs.Place.{Text}
-use Rattle.ocfl_inventory.proofs.Beginnings.{both}
 use Rattle.ocfl_inventory.specs.Sidecar.{is_blank, is_tail, sidecar_digits, leading, IsSidecar, decoded, is_after_digits, sidecar_of_len, sidecar_of}
 use Rattle.ocfl_digest.specs.declared.algorithm.Algorithm.{Algorithm}
-
-take_front : (xs ys : Text) → take (length xs) (xs ++ ys) ≡ xs
-take_front [] ys = refl
-take_front (x ∷ xs) ys = ap (λ zs. x ∷ zs) (take_front xs ys)
-
-drop_front : (xs ys : Text) → drop (length xs) (xs ++ ys) ≡ ys
-drop_front [] ys = refl
-drop_front (x ∷ xs) ys = drop_front xs ys
 
 all_taken : (p : ℕ → Bool) (xs : Text) → list_all p (leading p xs) ≡ true
 all_taken p [] = refl
@@ -37,7 +28,7 @@ taken_and_rest p (x ∷ xs) = by (p x) (taken_and_rest p xs)
 taken_all : (p : ℕ → Bool) (xs : Text) (y : ℕ) (ys : Text) → list_all p xs ≡ true → p y ≡ false → leading p (xs ++ y ∷ ys) ≡ xs
 taken_all p [] y ys h k = ap (λ b. cond b (y ∷ leading p ys) []) k
 taken_all p (x ∷ xs) y ys h k =
-    let parts = both _ _ h in
+    let parts = and_parts _ _ h in
     ap (λ b. cond b (x ∷ leading p (xs ++ y ∷ ys)) []) parts.0 ∙ ap (λ zs. x ∷ zs) (taken_all p xs y ys parts.1 k)
 
 nonempty_length : (xs : Text) → xs ≢ [] → 0 < length xs
@@ -89,10 +80,10 @@ module _ (n : ℕ) (b : Text) (d : List ℕ) (a : Algorithm) (digits_are : sidec
 
       by : (t : Bool) → nat_le (length b) 4096 && (length (take n b) == n && is_after_digits (drop n b)) ≡ t → cond t (decoded (take n b)) None ≡ Some d → IsSidecar b a d
       by true e k =
-          let one = both _ _ e in
-          let two = both _ _ one.1 in
-          let three = both _ _ two.1 in
-          let four = both _ _ three.1 in
+          let one = and_parts _ _ e in
+          let two = and_parts _ _ one.1 in
+          let three = and_parts _ _ two.1 in
+          let four = and_parts _ _ three.1 in
           build one.0 two.0 three.0 four.0 four.1 k
       by false e k = absurd cc
 
@@ -101,7 +92,7 @@ module _ (n : ℕ) (b : Text) (d : List ℕ) (a : Algorithm) (digits_are : sidec
       let rest : Text = gap ++ (codes "inventory.json" ++ tail) in
       let test : Text → Bool = λ g. nat_lt 0 (length g) && (starts_with nat_eq (drop (length g) rest) (codes "inventory.json") && list_all is_tail (drop 14 (drop (length g) rest))) in
       let gap_is : leading is_blank rest ≡ gap = taken_all is_blank gap 105 (drop 1 (codes "inventory.json") ++ tail) blanks refl in
-      let name_is : drop (length gap) rest ≡ codes "inventory.json" ++ tail = drop_front gap (codes "inventory.json" ++ tail) in
+      let name_is : drop (length gap) rest ≡ codes "inventory.json" ++ tail = drop-append_seam gap (codes "inventory.json" ++ tail) in
       let spelled : starts_with nat_eq (drop (length gap) rest) (codes "inventory.json") ≡ true = ap (λ x. starts_with nat_eq x (codes "inventory.json")) name_is in
       let ended : list_all is_tail (drop 14 (drop (length gap) rest)) ≡ true = ap (λ x. list_all is_tail (drop 14 x)) name_is ∙ ends in
       ap test gap_is ∙ and_both _ _ (lt-ltb _ _ (nonempty_length gap some)) (and_both _ _ spelled ended)
@@ -111,8 +102,8 @@ module _ (n : ℕ) (b : Text) (d : List ℕ) (a : Algorithm) (digits_are : sidec
       let counts : Some n ≡ Some (length s.digits) = sym digits_are ∙ s.as_many in
       let size : n ≡ length s.digits = cc in
       let after : Text = s.gap ++ (codes "inventory.json" ++ s.tail) in
-      let digits_is : take n b ≡ s.digits = (λ i. take (size i) (s.whole i)) ∙ take_front s.digits after in
-      let rest_is : drop n b ≡ after = (λ i. drop (size i) (s.whole i)) ∙ drop_front s.digits after in
+      let digits_is : take n b ≡ s.digits = (λ i. take (size i) (s.whole i)) ∙ take-append_seam s.digits after in
+      let rest_is : drop n b ≡ after = (λ i. drop (size i) (s.whole i)) ∙ drop-append_seam s.digits after in
       let h1 : nat_le (length b) 4096 ≡ true = le-leb _ _ s.short in
       let h2 : length (take n b) == n ≡ true = eq-eqb _ _ (ap length digits_is ∙ sym size) in
       let h3 : is_after_digits (drop n b) ≡ true = ap is_after_digits rest_is ∙ after_gap s.gap s.tail s.some_blank s.blanks s.ends in

@@ -1,6 +1,6 @@
 -- Searching triples that ascend.
 use Rattle.std.proofs.Common.{◌≡◌, ℕ, zero, suc, ◌≤◌, ◌<◌, List, [], ◌∷◌, Bool, true, false, refl, sym, ◌∙◌, ap, cond, map, length, get_or, take, drop, arith, Option, Some, None, option_map, filter_map, leb-true}
-use Rattle.std.proofs.{lemmas.Bool.Decides.{nat_tests}, lemmas.List.{get_or_default}}
+use Rattle.std.proofs.{lemmas.Bool.{not-false, not-true, Decides.{nat_tests}}, lemmas.List.{get_or_default}}
 use Rattle.std.specs.{Prelude.{not, find, slice_get, nat_le}, List.{AllWithin, cons_option}}
 use Rattle.std.specs.List.Sorted.{IsPartitionPoint}
 use Rattle.std.specs.Ordering.{is_lt, is_eq, ordering_then, ordering_reverse}
@@ -57,22 +57,14 @@ pub parted_from : (xs : List Triple) (q : Place) → IsAscending triple_cmp xs �
     → is_lt (place_cmp (get_or xs j d).path q) ≡ true → is_lt (place_cmp (get_or xs i d).path q) ≡ true
 parted_from xs q up i j d k l h = below_too (get_or xs i d).path (get_or xs j d).path q (paths_at xs up i j d k l) h
 
-pub not_true : (b : Bool) → not b ≡ true → b ≡ false
-not_true true h = absurd (true_not_false (sym h))
-not_true false h = refl
-
-not_false : (b : Bool) → not b ≡ false → b ≡ true
-not_false true h = refl
-not_false false h = absurd (true_not_false h)
-
 pub parted_above : (xs : List Triple) (q : Place) → IsAscending triple_cmp xs → (i j : ℕ) (d : Triple) → i ≤ j → j < length xs
     → not (is_lt (place_cmp q (get_or xs j d).path)) ≡ true → not (is_lt (place_cmp q (get_or xs i d).path)) ≡ true
-parted_above xs q up i j d k l h = ap not (no_fall place_cmp_total place_cmp_exact (get_or xs i d).path (get_or xs j d).path q (paths_at xs up i j d k l) (not_true _ h))
+parted_above xs q up i j d k l h = ap not (no_fall place_cmp_total place_cmp_exact (get_or xs i d).path (get_or xs j d).path q (paths_at xs up i j d k l) (not-true _ h))
 
 pub above_point : (xs : List Triple) (q : Place) (n : ℕ)
     → IsPartitionPoint (λ t. not (is_lt (place_cmp q t.path)) ≡ true) (λ t. not (is_lt (place_cmp q t.path)) ≡ false) xs n
     → IsPartitionPoint (λ t. is_lt (place_cmp q t.path) ≡ false) (λ t. is_lt (place_cmp q t.path) ≡ true) xs n
-above_point xs q n h = (λ k d a b. not_true _ (h.0 k d a b), λ k d a b. not_false _ (h.1 k d a b))
+above_point xs q n h = (λ k d a b. not-true _ (h.0 k d a b), λ k d a b. not-false _ (h.1 k d a b))
 
 -- ---- the digests of a place
 
@@ -160,7 +152,7 @@ module _ (q : Place) where
       by : (k : ℕ) (e : Triple) → i ≤ k → k < length xs → (r : Bool) → is_lt (place_cmp q (get_or xs k e).path) ≡ r → is_lt (place_cmp q (get_or xs k e).path) ≡ true
       by k e a b true is = is
       by k e a b false is =
-          let here : is_lt (place_cmp q (get_or xs i e).path) ≡ false = not_true _ (parted_above xs q up i k e a b (ap not is)) in
+          let here : is_lt (place_cmp q (get_or xs i e).path) ≡ false = not-true _ (parted_above xs q up i k e a b (ap not is)) in
           absurd (true_not_false (sym above ∙ ap (λ t. is_lt (place_cmp q t.path)) (get_or_default xs i d e l) ∙ here))
 
 -- ---- the next path

@@ -1,5 +1,5 @@
 -- What reading the files of an object did.
-use Rattle.std.proofs.Common.{◌≡◌, ◌≢◌, ◌⊎◌, inl, inr, ℕ, ◌+◌, ◌<◌, ◌≤◌, List, [], ◌∷◌, ◌++◌, refl, sym, ◌∙◌, ap, subst, true, false, Bool, Some, None, arith, length, map, filter, get_or, is_some, append_assoc}
+use Rattle.std.proofs.Common.{◌≡◌, ◌≢◌, ◌⊎◌, inl, inr, ℕ, ◌+◌, ◌<◌, ◌≤◌, List, [], ◌∷◌, ◌++◌, refl, sym, ◌∙◌, ap, subst, true, false, Bool, Some, None, arith, length, map, filter, get_or, is_some}
 use Rattle.std.proofs.lemmas.List.{append-nil, map-append, get_or-map, get_or_append_left, length-append, length-map, same_from_push}
 use Rattle.std.proofs.{Math.Bool.{or-true}, lemmas.Bool.{false_from_ne_true}, lemmas.List.Elements.{filter-append}, lemmas.List.Kept.{AllPairs-filter}}
 use Rattle.std.specs.Prelude.{cond, ◌||◌, ◌&&◌, not, min, AllPairs, Ok, Err, option_and_then}
@@ -21,7 +21,7 @@ use Rattle.ocfl_item.specs.{Internal.HeadFiles.{ReadsFile, ReadsSome}, declared.
 use Rattle.ocfl_item.specs.declared.fault.Fault.TheVariants as fault
 use Rattle.ocfl_tree.proofs.{Orders.{true_not_false}, Stores.{did_then, did_nothing, listed_well}}
 use Rattle.ocfl_audit.proofs.{AuditExists.{some_not_none}, PathLaws.{hashed_no_meta}}
-use Rattle.ocfl_item.proofs.AuditingLaws.{failed_behind, front_more, read_behind}
+use Rattle.ocfl_item.proofs.AuditingLaws.{failed_behind, front_behind, front_more, read_behind}
 use Rattle.ocfl_item.proofs.{LooksEntries.{file_there, no_file_there}, LooksZones.{inside_on}}
 use Rattle.ocfl_item.proofs.LooksCalls.{store_place, memory_no_store, kind_is_file, kind_is_no_file}
 
@@ -133,14 +133,11 @@ module _ (root : StorageRoot) (o : Place) where
   places_then : (os os' : List Opening) → places_of (os ++ os') ≡ places_of os ++ places_of os'
   places_then os os' = map-append (λ x. x.place) os os'
 
-  front_then_front : (xs ys zs : List Place) → IsFront ys zs → IsFront (xs ++ ys) (xs ++ zs)
-  front_then_front xs ys zs h = (h.0, ap (λ l. xs ++ l) h.1 ∙ sym (append_assoc xs ys h.0))
-
   joined : (os os' : List Opening) (ns ms : List Text) → places_of os ≡ files_there root o ns → IsFront (places_of os') (files_there root o ms)
       → IsFront (places_of (os ++ os')) (files_there root o (ns ++ ms))
   joined os os' ns ms h k =
       let all : IsFront (files_there root o ns ++ places_of os') (files_there root o ns ++ files_there root o ms) =
-      front_then_front (files_there root o ns) (places_of os') (files_there root o ms) k in
+      front_behind (files_there root o ns) (places_of os') (files_there root o ms) _ refl k in
       subst (λ x. IsFront x (files_there root o (ns ++ ms))) (sym (places_then os os' ∙ ap (λ x. x ++ places_of os') h))
       (subst (IsFront (files_there root o ns ++ places_of os')) (sym (there_then ns ms)) all)
 

@@ -1,6 +1,6 @@
 -- Places that are not looked into, and at which no inventory is read.
 use Rattle.std.proofs.Common.{◌≡◌, ◌≢◌, ◌<◌, [], ◌∷◌, ◌++◌, refl, sym, ◌∙◌, ap, true, false, Bool, Option, Some, None, length, arith}
-use Rattle.std.proofs.{Math.Bool.{and-false}, lemmas.Bool.{false_from_ne_true, lt-leb}}
+use Rattle.std.proofs.{Math.Bool.{and-false, and_comm}, lemmas.Bool.{false_from_ne_true, lt-leb}}
 use Rattle.std.specs.{Prelude.{cond, ◌&&◌, is_some, nat_le}, List.{list_all}}
 use Rattle.ocfl_tree.specs.Place.{Place, Text}
 use Rattle.ocfl_tree.specs.StorageRoot.{StorageRoot, dir, file_at, is_dir, names_in}
@@ -36,12 +36,6 @@ module _ (root : StorageRoot) (e : Place) (some : e ≢ []) where
   shows_false true false there shows h = refl
   shows_false false short there shows h = refl
 
-  swapped : (a b : Bool) → a && b ≡ false → b && a ≡ false
-  swapped true true h = h
-  swapped true false h = refl
-  swapped false true h = refl
-  swapped false false h = refl
-
   unread : (b : Bool) (o : Option Text) → o ≡ None → b && is_some o ≡ false
   unread true o h = ap is_some h
   unread false o h = refl
@@ -51,7 +45,7 @@ module _ (root : StorageRoot) (e : Place) (some : e ≢ []) where
     looked = looked e some h;
     read = unread (is_head (zone root e)) (inventory_at root e)
         (ap (λ b. cond (is_known (cond b (declared level.Object (files_in root e)) undeclared)) (file_at root (e ++ inventory_name ∷ [])) None)
-        (swapped (nat_le (length e) max_listed_depth) (is_dir root e) h));
+        (and_comm (is_dir root e) (nat_le (length e) max_listed_depth) ∙ h));
     names = hidden root e (not_entered root e h);
   }
     where

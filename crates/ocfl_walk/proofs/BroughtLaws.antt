@@ -1,6 +1,6 @@
 -- The listings on the way to a place, name by name.
 use Rattle.std.proofs.Common.{◌≡◌, ℕ, ◌≤◌, ◌<◌, List, [], ◌∷◌, ◌++◌, append-nil, refl, sym, ◌∙◌, ap, subst, true, false, Bool, Option, Some, None, filter, length, arith}
-use Rattle.std.proofs.lemmas.List.{nil_from_length}
+use Rattle.std.proofs.lemmas.List.{length_push, nil_from_length}
 use Rattle.std.specs.{Prelude.{cond, Result, Ok, Err, IfOk, MatchResult}, Ordering.{is_lt}}
 use Rattle.ocfl_tree.specs.{Place.{Text, Place, text_cmp}, Ascending.{IsAscending, IsBeforeAll}}
 use Rattle.ocfl_tree.specs.{StorageRoot.{StorageRoot, names_in, max_entries}, Store.{Store}}
@@ -19,7 +19,7 @@ use Rattle.ocfl_audit.proofs.{AuditExists.{append_one}, BelowLaws.{begins_front,
 use Rattle.ocfl_audit.proofs.{Lists.{map_filter}, StackLaws.{start_stops}}
 use Rattle.ocfl_walk.proofs.{DescentLaws.{descent_fails_on}, FilterLaws.{left_all, left_fewer}}
 use Rattle.ocfl_walk.proofs.{ReachLaws.{comes_on}, KeepLaws.{left_above}, LeadsLaws.{around_on}}
-use Rattle.ocfl_walk.proofs.OrderlyLaws.{before_below, length_one, orderly_top}
+use Rattle.ocfl_walk.proofs.OrderlyLaws.{before_below, orderly_top}
 
 -- ---- the names above one
 
@@ -63,7 +63,7 @@ module _ {d : Place} {es : List Entry} {ps qs : List Pile} {a : Option Around} {
     -- the next directory
     pub coming_next : (inner : Folder) (a' : Option Around) → IsFairFolder (d ++ n ∷ []) inner → IsAroundIf (d ++ n ∷ []) a' → IsComing inner.place inner.entries.items qs a'
     coming_next inner a' fair object =
-        let deeper : length d < length (d ++ n ∷ []) = omega (arith, length_one d n) in
+        let deeper : length d < length (d ++ n ∷ []) = omega (arith, length_push d n) in
         let next : IsComing (d ++ n ∷ []) inner.entries.items ((d, left) ∷ ps) a' = record {
           chain = chain_above [] (length (d ++ n ∷ [])) deeper;
           short = fair.depth;

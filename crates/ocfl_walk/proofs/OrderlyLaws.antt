@@ -1,5 +1,6 @@
 -- A stand stays in order, on any store.
 use Rattle.std.proofs.Common.{◌≡◌, ℕ, ◌+◌, ◌<◌, ◌≤◌, List, [], ◌∷◌, ◌++◌, refl, sym, ◌∙◌, ap, subst, true, map, Option, Some, None, length, append_assoc, arith}
+use Rattle.std.proofs.lemmas.List.{length_push}
 use Rattle.std.specs.{Prelude.{IfSome}, Ordering.{ordering_then}, List.{AllByRecursion}}
 use Rattle.std.specs.declared.cmp.Ordering.{Ordering}
 use Rattle.std.specs.declared.cmp.Ordering.TheVariants.{Less, Equal, Greater}
@@ -25,10 +26,6 @@ above_longer (n ∷ d) (m ∷ y) r h l = by (text_cmp n m) refl h (λ g. above_l
     by Equal e g k = ap (λ o. ordering_then o (place_cmp (d ++ r) y)) e ∙ k g
     by Greater e g k = absurd cc
 
-pub length_one : (d : Place) (n : Text) → length (d ++ n ∷ []) ≡ length d + 1
-length_one [] n = refl
-length_one (m ∷ d) n = omega (arith, length_one d n)
-
 pub begins_on : (d e p : Place) → begins d e ≡ true → begins e p ≡ true → begins d p ≡ true
 begins_on d e p h k =
     let r = begins_rest d e h in
@@ -40,7 +37,7 @@ before_longer : (d p d' : Place) (ns : List Text) → begins d p ≡ true → le
 before_longer d p d' [] h l b = tt
 before_longer d p d' (n ∷ ns) h l b =
     let r = begins_rest d p h in
-    (subst (λ x. place_cmp x (d' ++ n ∷ []) ≡ Less) (sym r.1) (above_longer d (d' ++ n ∷ []) r.0 b.0 (omega (arith, l, length_one d' n))), before_longer d p d' ns h l b.1)
+    (subst (λ x. place_cmp x (d' ++ n ∷ []) ≡ Less) (sym r.1) (above_longer d (d' ++ n ∷ []) r.0 b.0 (omega (arith, l, length_push d' n))), before_longer d p d' ns h l b.1)
 
 -- a chain that leads down to d leads to all below d
 pub chain_on : (p d : Place) (k : ℕ) (fs : List Frame) → begins d p ≡ true → length d < k → IsChain d (length d) fs → IsChain p k fs
@@ -113,7 +110,7 @@ module _ (last : Place) (ps new : List Pile) (entry : Entry) (a : Option Around)
 
   -- an entry is in a directory whose place has at most 127 names
   pub entry_short : (x : Place) → x ≡ t.place ++ entry.name ∷ [] → length x ≤ 255
-  entry_short x e = omega (arith, ap length e, length_one t.place entry.name, old_chain.1)
+  entry_short x e = omega (arith, ap length e, length_push t.place entry.name, old_chain.1)
 
   new_few : AllByRecursion (λ p. length p.1 ≤ max_entries) new
   new_few = let f = subst (AllByRecursion (λ p. length p.1 ≤ max_entries)) t.old_is h.few in let n : length t.rest ≤ max_entries = omega (arith, f.0) in subst
@@ -126,7 +123,7 @@ module _ (last : Place) (ps new : List Pile) (entry : Entry) (a : Option Around)
   pub orderly_entry : (x : Place) → x ≡ t.place ++ entry.name ∷ [] → (f : Option Folder) → IfSome f (λ g. IsFairPile x g) → (a' : Option Around) → IsAroundIf x a' → IsOrderly x (pushed f new) a'
   orderly_entry x e None g a' h' = record { chain = subst (λ y. IsChain y levels (frames_of new)) (sym e) (chain_at_entry levels old_chain.1); few = new_few; object = h' }
   orderly_entry x e (Some f) g a' h' =
-      let deeper : length t.place < length x = omega (arith, ap length e, length_one t.place entry.name) in
+      let deeper : length t.place < length x = omega (arith, ap length e, length_push t.place entry.name) in
       let below : IsChain x (length x) (frames_of new) = subst (λ y. IsChain y (length x) (frames_of new)) (sym e) (chain_at_entry (length x) deeper) in
       subst (λ d. IsOrderly x ((d, left_of_folder f) ∷ new) a') (sym g.place) (orderly_top x (left_of_folder f) new a' g.depth g.ascends g.few below new_few h')
 

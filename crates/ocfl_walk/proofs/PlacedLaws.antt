@@ -4,7 +4,7 @@ use Rattle.std.specs.Prelude.{Vec, ◌==◌, IfSome, MatchOption, cond, nat_le, 
 use Rattle.std.specs.Option.{option_to_list}
 use Rattle.std.proofs.Common.{◌≡◌, ℕ, zero, suc, ◌+◌, ◌-◌, ◌<◌, ◌≤◌, List, [], ◌∷◌, ◌++◌, refl, sym, ◌∙◌, ap, subst, true, false, Bool, Option, Some, None, length, take, drop, arith, vec_len}
 use Rattle.std.proofs.lemmas.{Bool.{leb-true, leb-false, le-leb}, Option.{same_Some}}
-use Rattle.std.proofs.lemmas.List.{length-append, length-take, length-take-le, nil_from_length, same_from_push, take-append-drop, take-append-le, take_min}
+use Rattle.std.proofs.lemmas.List.{length-append, length_push, length-take, length-take-le, nil_from_length, same_from_push, take-append-drop, take-append-le, take_min}
 use Rattle.std.proofs.Math.Seq.{take-append_seam, take-length}
 use Rattle.ocfl_tree.specs.{Place.{Place, Text, begins}, declared.store.Entry.{Entry}}
 use Rattle.ocfl_audit.specs.Stack.{Frame}
@@ -13,7 +13,7 @@ use Rattle.ocfl_walk.specs.Standing.{back, Pile, folders_from, frames_of, pile_o
 use Rattle.ocfl_walk.specs.Internal.Standing.{IsChain, cut_top, from_name, IsFairPile, IsOrderly, IsOrderlyIf, IsTaken, left_of_folder, next_of, pushed, trimmed}
 use Rattle.ocfl_item.specs.{declared.meeting.Around.{Around}, declared.folder.Folder.{Folder}}
 use Rattle.ocfl_walk.proofs.Backs.{next_of_last, piles_push, snoc, taken_at, trim_drops_by, trim_keeps_by}
-use Rattle.ocfl_walk.proofs.OrderlyLaws.{back_count, chain_short, frames_count, length_one}
+use Rattle.ocfl_walk.proofs.OrderlyLaws.{back_count, chain_short, frames_count}
 
 push_from : (i : ℕ) (p : Place) (vs : List (Vec Entry Global)) (v : Vec Entry Global)
     → folders_from i p (vs ++ v ∷ []) ≡ folders_from i p vs ++ record { place = take (i + length vs) p; entries = v } ∷ []
@@ -220,7 +220,7 @@ module _ (p x : Place) (old new : List (Vec Entry Global)) (entry : Entry) (a : 
 
   pub entry_depth : length x ≡ length new
   entry_depth =
-      let l : length x ≡ length t.place + 1 = ap length e ∙ length_one t.place entry.name in
+      let l : length x ≡ length t.place + 1 = ap length e ∙ length_push t.place entry.name in
       let d : length t.place ≡ n = ap length top ∙ length-take-le n p deep in
       let m = many in
       omega (arith, l, d, m, count)
@@ -264,4 +264,4 @@ on_top last old new f d q way depth place push =
 
 -- one listing and one name more
 pub deeper : (old new : List (Vec Entry Global)) (d : Place) (n : Text) (e : Place) → length new ≡ length old + 1 → length old ≡ length d → e ≡ d ++ n ∷ [] → length new ≡ length e
-deeper old new d n e more depth is = let l : length e ≡ length d + 1 = ap length is ∙ length_one d n in omega (arith, more, l, depth)
+deeper old new d n e more depth is = let l : length e ≡ length d + 1 = ap length is ∙ length_push d n in omega (arith, more, l, depth)

@@ -1,11 +1,20 @@
--- The line of a row of the log.
-use Rattle.std.proofs.Common.{◌≡◌, ◌≤◌, false, Result, IfOk, arith, string_bytes}
-use Rattle.std.proofs.lemmas.Result.{IfOk-weaker}
-use Rattle.std.specs.{declared.alloc.Global.{Global}, Prelude.{String}}
-use Rattle.serde_json.specs.{Data.{Data, depth}, Written.{has_float}}
-use Rattle.ocfl_telling.specs.Log.{IsJsonLine}
+-- A row of the log has neither floats nor members within members.
+use Rattle.std.proofs.Common.{◌≡◌, false, refl}
+use Rattle.serde_json.specs.{Data.{depth}, Written.{has_float}}
+use Rattle.ocfl_telling.specs.Log.{row_data}
+use Rattle.ocfl_telling.specs.declared.log.LogRow.{LogRow}
+use Rattle.ocfl_telling.specs.declared.log.LogRow.TheVariants.{Slice, Left, Closing, Refusal, Night}
 
--- a row has neither floats nor members within members
-pub row_line : {E : Type 0} (r : Result (String Global) E) (built d : Data) → built ≡ d → has_float d ≡ false → depth d ≡ 1
-    → IfOk r (λ line. (e : Data) → built ≡ e → has_float e ≡ false → depth e ≤ 127 → IsJsonLine (string_bytes line) e) → IfOk r (λ line. IsJsonLine (string_bytes line) d)
-row_line r built d is no_float flat h = IfOk-weaker r _ _ (λ line k. k d is no_float (omega (arith, flat))) h
+pub row_has_no_float : (row : LogRow) → has_float (row_data row) ≡ false
+row_has_no_float (Slice _) = refl
+row_has_no_float (Left _) = refl
+row_has_no_float (Closing _) = refl
+row_has_no_float (Refusal _) = refl
+row_has_no_float (Night _) = refl
+
+pub row_depth : (row : LogRow) → depth (row_data row) ≡ 1
+row_depth (Slice _) = refl
+row_depth (Left _) = refl
+row_depth (Closing _) = refl
+row_depth (Refusal _) = refl
+row_depth (Night _) = refl

@@ -10,6 +10,8 @@ use Rattle.ocfl_telling.specs.{declared.log.SliceRow.{SliceRow}, declared.log.Le
 use Rattle.ocfl_telling.specs.declared.log.ClosingRow.{ClosingRow}
 use Rattle.ocfl_telling.specs.declared.log.RefusalRow.{RefusalRow}
 use Rattle.ocfl_telling.specs.declared.log.NightRow.{NightRow}
+use Rattle.ocfl_telling.specs.declared.log.LogRow.{LogRow}
+use Rattle.ocfl_telling.specs.declared.log.LogRow.TheVariants.{Slice, Left, Closing, Refusal, Night}
 
 -- the bytes are one line: a JSON text without line feeds that reads as this value
 pub record IsJsonLine (b : Text) (d : Data) : Type 0 where
@@ -38,16 +40,10 @@ slice_with r stands = object (counts (codes "bytes") r.bytes (counts (codes "cos
     (counts (codes "spent") r.spent (says (codes "stands") stands (counts (codes "status") r.status
     (counts (codes "time") r.time no_members)))))))))))))
 
-abbrev pub slice_data : SliceRow → Data
-slice_data r = slice_with r (stands_text r.stands)
-
 -- a place that is left out, with its text
 abbrev pub left_with : LeftRow → Text → Data
 left_with r place = object (counts (codes "cycle") r.cycle (counts (codes "night") r.night
     (says (codes "place") place (says (codes "row") (codes "left") (counts (codes "time") r.time no_members)))))
-
-abbrev pub left_data : LeftRow → Data
-left_data r = left_with r (place_text r.place.now)
 
 -- a closing, with the path of its report
 abbrev pub closing_with : ClosingRow → Text → Data
@@ -57,20 +53,34 @@ closing_with r report = object (counts (codes "cycle") r.cycle (counts (codes "f
     (says (codes "row") (codes "closing") (counts (codes "time") r.time
     (member (codes "whole") (boolean r.whole) no_members)))))))))))
 
-abbrev pub closing_data : ClosingRow → Data
-closing_data r = closing_with r (escape r.report.now)
-
 -- a refusal, with what is said of it
 abbrev pub refusal_with : RefusalRow → Text → Data
 refusal_with r said = object (counts (codes "night") r.night (says (codes "row") (codes "refusal")
     (says (codes "said") said (counts (codes "status") r.status
     (counts (codes "time") r.time no_members)))))
 
-abbrev pub refusal_data : RefusalRow → Data
-refusal_data r = refusal_with r (escape r.said.now)
-
-abbrev pub night_data : NightRow → Data
-night_data r = object (counts (codes "cost") r.cost (counts (codes "findings") r.findings
-    (counts (codes "left") r.left (counts (codes "night") r.night (says (codes "program") r.program.now
+-- the end of a night, with the digest of its program
+abbrev pub night_with : NightRow → Text → Data
+night_with r program = object (counts (codes "cost") r.cost (counts (codes "findings") r.findings
+    (counts (codes "left") r.left (counts (codes "night") r.night (says (codes "program") program
     (says (codes "row") (codes "night") (counts (codes "runs") r.runs (counts (codes "seconds") r.seconds
     (counts (codes "status") r.status (counts (codes "time") r.time no_members))))))))))
+
+-- the text that a row has: where its cursor stands, its place, its path or what is said, escaped
+-- as in reports, or the digest of its program as it is
+abbrev pub row_text : LogRow → Text
+row_text (Slice r) = stands_text r.stands
+row_text (Left r) = place_text r.place.now
+row_text (Closing r) = escape r.report.now
+row_text (Refusal r) = escape r.said.now
+row_text (Night r) = r.program.now
+
+abbrev pub row_with : LogRow → Text → Data
+row_with (Slice r) text = slice_with r text
+row_with (Left r) text = left_with r text
+row_with (Closing r) text = closing_with r text
+row_with (Refusal r) text = refusal_with r text
+row_with (Night r) text = night_with r text
+
+abbrev pub row_data : LogRow → Data
+row_data row = row_with row (row_text row)

@@ -23,10 +23,7 @@ pub use found::Found;
 pub use gravest::{Gravest, Kept, SHOWN};
 pub use known::{Known, KnownEntry, Reach};
 pub use list::{KnownStop, read_known};
-pub use log::{
-    ClosingRow, LeftRow, NightRow, RefusalRow, SliceRow, Stands, closing_line, left_line,
-    night_line, refusal_line, slice_line,
-};
+pub use log::{ClosingRow, LeftRow, LogRow, NightRow, RefusalRow, SliceRow, Stands, log_line};
 pub use night::{Night, night_text};
 pub use refusal::{RefusalMessage, refusal_text};
 pub use shown::Shown;

@@ -5,8 +5,7 @@
 //! places and the system's words are escaped as in reports, so a line has printable ASCII alone.
 ghost use Rattle.std.specs.Prelude.{◌≡◌, ◌≤◌, false, IfOk, string_bytes};
 ghost use Rattle.serde_json.specs.{Data.{Data, depth}, View.{view}, Written.{has_float}};
-ghost use Rattle.ocfl_report.specs.Text.{escape, place_text};
-ghost use Rattle.ocfl_telling.specs.Log.{IsJsonLine, stands_text, slice_data, closing_data, refusal_data, night_data, slice_with, closing_with, left_data, left_with, refusal_with};
+ghost use Rattle.ocfl_telling.specs.Log.{IsJsonLine, stands_text, row_text, row_data, row_with, slice_with, left_with, closing_with, refusal_with, night_with};
 
 use crate::shown::Shown;
 use ocfl_report::DisplayPlace;
@@ -128,14 +127,19 @@ pub struct NightRow<'a> {
     pub program: &'a str,
 }
 
-/// The text of a value without floats, and a line feed.
-fn line_of(alloc: Global, value: &Value) -> Result<String, AllocError>
-    ensures { IfOk result (λ line. (d : Data) → view value.now ≡ d → has_float d ≡ false
-        → depth d ≤ 127 → IsJsonLine (string_bytes line) d) }
-{
-    let mut line = value.to_string(alloc)?;
-    line.push('\n')?;
-    Ok(line)
+/// A row of the log.
+#[derive(Clone, Copy, Debug)]
+pub enum LogRow<'a> {
+    /// A run of a night.
+    Slice(SliceRow<'a>),
+    /// A place that is left out.
+    Left(LeftRow<'a>),
+    /// The closing of a cycle.
+    Closing(ClosingRow<'a>),
+    /// Why a night did nothing, or stopped.
+    Refusal(RefusalRow<'a>),
+    /// The end of a night.
+    Night(NightRow<'a>),
 }
 
 /// Where a cursor stands, as its text says it.
@@ -149,144 +153,109 @@ fn stands_words(alloc: Global, stands: Stands<'_>) -> Result<String, AllocError>
     }
 }
 
-/// A place, as reports write it.
-fn place_words(alloc: Global, place: &Place) -> Result<String, AllocError>
-    ensures { IfOk result (λ text. string_bytes text ≡ place_text place.now) }
+/// The text of a row, with places, paths and words escaped as in reports.
+fn row_words(alloc: Global, row: &LogRow<'_>) -> Result<String, AllocError>
+    ensures { IfOk result (λ text. string_bytes text ≡ row_text row.now) }
 {
-    format!(in alloc; "{}", DisplayPlace(place))
+    match row {
+        LogRow::Slice(slice) => stands_words(alloc, slice.stands),
+        LogRow::Left(left) => format!(in alloc; "{}", DisplayPlace(left.place)),
+        LogRow::Closing(closing) => format!(in alloc; "{}", Shown(closing.report)),
+        LogRow::Refusal(refusal) => format!(in alloc; "{}", Shown(refusal.said)),
+        LogRow::Night(night) => String::from_str(alloc, night.program),
+    }
 }
 
-/// A text, escaped as in reports.
-fn escaped(alloc: Global, text: &str) -> Result<String, AllocError>
-    ensures { IfOk result (λ written. string_bytes written ≡ escape text.now) }
-{
-    format!(in alloc; "{}", Shown(text))
+/// The JSON object of a row: each member that has no value here is the field of its name.
+macro_rules! members_of {
+    (in $alloc:expr; $row:ident { $($name:ident $(: $value:expr)?),+ }) => {
+        json!(in $alloc; { $((stringify!($name)): members_of!(@ $row $name $($value)?)),+ })
+    };
+    (@ $row:ident $name:ident) => { $row.$name };
+    (@ $row:ident $name:ident $value:expr) => { $value };
 }
 
 /// What the line of a slice says.
 fn slice_value(alloc: Global, row: &SliceRow<'_>, stands: &str) -> Result<Value, AllocError>
     ensures { IfOk result (λ v. view v ≡ slice_with row.now stands.now) }
 {
-    json!(in alloc; {
-        "bytes": row.bytes,
-        "cost": row.cost,
-        "cycle": row.cycle,
-        "files": row.files,
-        "lines": row.lines,
-        "night": row.night,
-        "row": "slice",
-        "run": row.run,
-        "seconds": row.seconds,
-        "spent": row.spent,
-        "stands": stands,
-        "status": row.status,
-        "time": row.time
+    members_of!(in alloc; row {
+        bytes, cost, cycle, files, lines, night,
+        row: "slice",
+        run, seconds, spent,
+        stands: stands,
+        status, time
     })
-}
-
-/// The line of a slice.
-pub fn slice_line(alloc: Global, row: &SliceRow<'_>) -> Result<String, AllocError>
-    ensures { IfOk result (λ line. IsJsonLine (string_bytes line) (slice_data row.now)) }
-{
-    let stands = stands_words(alloc, row.stands)?;
-    let value = slice_value(alloc, row, stands.as_str())?;
-    line_of(alloc, &value)
 }
 
 /// What the line of a place that is left out says.
 fn left_value(alloc: Global, row: &LeftRow<'_>, place: &str) -> Result<Value, AllocError>
     ensures { IfOk result (λ v. view v ≡ left_with row.now place.now) }
 {
-    json!(in alloc; {
-        "cycle": row.cycle,
-        "night": row.night,
-        "place": place,
-        "row": "left",
-        "time": row.time
-    })
-}
-
-/// The line of a place that is left out.
-pub fn left_line(alloc: Global, row: &LeftRow<'_>) -> Result<String, AllocError>
-    ensures { IfOk result (λ line. IsJsonLine (string_bytes line) (left_data row.now)) }
-{
-    let place = place_words(alloc, row.place)?;
-    let value = left_value(alloc, row, place.as_str())?;
-    line_of(alloc, &value)
+    members_of!(in alloc; row { cycle, night, place: place, row: "left", time })
 }
 
 /// What the line of a closing says.
 fn closing_value(alloc: Global, row: &ClosingRow<'_>, report: &str) -> Result<Value, AllocError>
     ensures { IfOk result (λ v. view v ≡ closing_with row.now report.now) }
 {
-    json!(in alloc; {
-        "cycle": row.cycle,
-        "findings": row.findings,
-        "gone": row.gone,
-        "left": row.left,
-        "new": row.appeared,
-        "night": row.night,
-        "repaired": row.repaired,
-        "report": report,
-        "row": "closing",
-        "time": row.time,
-        "whole": row.whole
+    members_of!(in alloc; row {
+        cycle, findings, gone, left,
+        new: row.appeared,
+        night, repaired,
+        report: report,
+        row: "closing",
+        time, whole
     })
-}
-
-/// The line of a closing.
-pub fn closing_line(alloc: Global, row: &ClosingRow<'_>) -> Result<String, AllocError>
-    ensures { IfOk result (λ line. IsJsonLine (string_bytes line) (closing_data row.now)) }
-{
-    let report = escaped(alloc, row.report)?;
-    let value = closing_value(alloc, row, report.as_str())?;
-    line_of(alloc, &value)
 }
 
 /// What the line of a refusal says.
 fn refusal_value(alloc: Global, row: &RefusalRow<'_>, said: &str) -> Result<Value, AllocError>
     ensures { IfOk result (λ v. view v ≡ refusal_with row.now said.now) }
 {
-    json!(in alloc; {
-        "night": row.night,
-        "row": "refusal",
-        "said": said,
-        "status": row.status,
-        "time": row.time
-    })
-}
-
-/// The line of a refusal, or of a stop.
-pub fn refusal_line(alloc: Global, row: &RefusalRow<'_>) -> Result<String, AllocError>
-    ensures { IfOk result (λ line. IsJsonLine (string_bytes line) (refusal_data row.now)) }
-{
-    let said = escaped(alloc, row.said)?;
-    let value = refusal_value(alloc, row, said.as_str())?;
-    line_of(alloc, &value)
+    members_of!(in alloc; row { night, row: "refusal", said: said, status, time })
 }
 
 /// What the line of a night says.
-fn night_value(alloc: Global, row: &NightRow<'_>) -> Result<Value, AllocError>
-    ensures { IfOk result (λ v. view v ≡ night_data row.now) }
+fn night_value(alloc: Global, row: &NightRow<'_>, program: &str) -> Result<Value, AllocError>
+    ensures { IfOk result (λ v. view v ≡ night_with row.now program.now) }
 {
-    json!(in alloc; {
-        "cost": row.cost,
-        "findings": row.findings,
-        "left": row.left,
-        "night": row.night,
-        "program": row.program,
-        "row": "night",
-        "runs": row.runs,
-        "seconds": row.seconds,
-        "status": row.status,
-        "time": row.time
+    members_of!(in alloc; row {
+        cost, findings, left, night,
+        program: program,
+        row: "night",
+        runs, seconds, status, time
     })
 }
 
-/// The line of a night that has ended.
-pub fn night_line(alloc: Global, row: &NightRow<'_>) -> Result<String, AllocError>
-    ensures { IfOk result (λ line. IsJsonLine (string_bytes line) (night_data row.now)) }
+/// What the line of a row says, with its text.
+fn row_value(alloc: Global, row: &LogRow<'_>, words: &str) -> Result<Value, AllocError>
+    ensures { IfOk result (λ v. view v ≡ row_with row.now words.now) }
 {
-    let value = night_value(alloc, row)?;
+    match row {
+        LogRow::Slice(slice) => slice_value(alloc, slice, words),
+        LogRow::Left(left) => left_value(alloc, left, words),
+        LogRow::Closing(closing) => closing_value(alloc, closing, words),
+        LogRow::Refusal(refusal) => refusal_value(alloc, refusal, words),
+        LogRow::Night(night) => night_value(alloc, night, words),
+    }
+}
+
+/// The text of a value without floats, and a line feed.
+fn line_of(alloc: Global, value: &Value) -> Result<String, AllocError>
+    ensures { IfOk result (λ line. (d : Data) → view value.now ≡ d → has_float d ≡ false
+        → depth d ≤ 127 → IsJsonLine (string_bytes line) d) }
+{
+    let mut line = value.to_string(alloc)?;
+    line.push('\n')?;
+    Ok(line)
+}
+
+/// The line of a row, with a line feed; an `AllocError` if memory is refused.
+pub fn log_line(alloc: Global, row: &LogRow<'_>) -> Result<String, AllocError>
+    ensures { IfOk result (λ line. IsJsonLine (string_bytes line) (row_data row.now)) }
+{
+    let words = row_words(alloc, row)?;
+    let value = row_value(alloc, row, words.as_str())?;
     line_of(alloc, &value)
 }

@@ -16,7 +16,7 @@ use crate::saying::STOPPED;
 use ocfl_compare::{CompareStop, compare, find_expected};
 use ocfl_report::{Line, write_all_of};
 use ocfl_state::{FsState, OpenReport, StateFile};
-use ocfl_telling::{Closing, ClosingRow, Known, Shown, closing_line, closing_text};
+use ocfl_telling::{Closing, ClosingRow, Known, LogRow, Shown, closing_text, log_line};
 use std::alloc::{AllocError, Global};
 use std::fs::File;
 use std::io::{BufReader, Write};
@@ -322,21 +322,19 @@ impl<R: Files<File = File> + AllocGlobal + Clock> Closings<'_, '_, R> {
         paths: &Paths,
         account: &Account,
     ) -> Result<(), Failure> {
-        let line = closing_line(
-            self.rt.alloc(),
-            &ClosingRow {
-                time: seconds_now(self.rt),
-                night: self.night,
-                cycle: pair.cycle,
-                report: paths.report.as_str(),
-                whole: pair.whole,
-                findings: account.findings.count,
-                appeared: account.appeared(),
-                repaired: account.changes.repaired_count,
-                gone: account.changes.gone_count,
-                left: pair.left,
-            },
-        )?;
+        let row = ClosingRow {
+            time: seconds_now(self.rt),
+            night: self.night,
+            cycle: pair.cycle,
+            report: paths.report.as_str(),
+            whole: pair.whole,
+            findings: account.findings.count,
+            appeared: account.appeared(),
+            repaired: account.changes.repaired_count,
+            gone: account.changes.gone_count,
+            left: pair.left,
+        };
+        let line = log_line(self.rt.alloc(), &LogRow::Closing(row))?;
         match self.folder.append_log(line.as_bytes()) {
             Ok(()) => Ok(()),
             Err(_) => Err(self.folder_failed()?),

@@ -7,10 +7,7 @@ use crate::saying::STOPPED;
 use ocfl_cursor::State;
 use ocfl_night::{Made, SliceEnd};
 use ocfl_state::{Checkpoint, FsLog, FsState, Left, Reason};
-use ocfl_telling::{
-    LeftRow, NightRow, RefusalRow, SliceRow, Stands, left_line, night_line, refusal_line,
-    slice_line,
-};
+use ocfl_telling::{LeftRow, LogRow, NightRow, RefusalRow, SliceRow, Stands, log_line};
 use std::alloc::{AllocError, Global};
 use std::cell::Cell;
 use std::fs::File;
@@ -72,7 +69,7 @@ fn slice_text(
         seconds: now.saturating_sub(began),
         stands: stands_at(cursor.state()),
     };
-    slice_line(alloc, &row)
+    log_line(alloc, &LogRow::Slice(row))
 }
 
 impl<'a, R: Files<File = File> + AllocGlobal + Clock> Journal<'a, R> {
@@ -116,7 +113,7 @@ impl<'a, R: Files<File = File> + AllocGlobal + Clock> Journal<'a, R> {
             cycle,
             place: &left.place,
         };
-        self.append(left_line(self.rt.alloc(), &row));
+        self.append(log_line(self.rt.alloc(), &LogRow::Left(row)));
     }
 }
 
@@ -139,9 +136,9 @@ fn lines_of(alloc: Global, account: Account<'_>) -> Result<String, AllocError> {
             status: row.status,
             said,
         };
-        lines.push_str(refusal_line(alloc, &refusal)?.as_str())?;
+        lines.push_str(log_line(alloc, &LogRow::Refusal(refusal))?.as_str())?;
     }
-    lines.push_str(night_line(alloc, &row)?.as_str())?;
+    lines.push_str(log_line(alloc, &LogRow::Night(row))?.as_str())?;
     Ok(lines)
 }
 

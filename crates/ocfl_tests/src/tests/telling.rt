@@ -5,10 +5,10 @@ use ocfl_report::{Line, TextStop, read_line};
 use ocfl_telling::laws::{all_findings_are_ordered, findings_have_weights};
 use ocfl_telling::{
     Closing, ClosingRow, Found, Gone, GoneKind, Gravest, Known, KnownEntry, KnownStop, LeftRow,
-    Night, NightRow, Reach, RefusalMessage, RefusalRow, SliceRow, Stands, StopMessage, Weight,
-    closing_line, closing_text, left_line, night_line, night_text, read_known, refusal_line,
-    refusal_text, slice_line, stop_text, weigh,
+    LogRow, Night, NightRow, Reach, RefusalMessage, RefusalRow, SliceRow, Stands, StopMessage,
+    Weight, closing_text, log_line, night_text, read_known, refusal_text, stop_text, weigh,
 };
+use ocfl_tree::Place;
 use std::alloc::Global;
 use std::test::Fail;
 
@@ -328,20 +328,9 @@ fn closings_say_what_changed(rt: HostRuntime) -> Result<(), Fail> {
     Ok(())
 }
 
-/// The rows of the log were compared with what Python's `json.dumps` writes of the same objects.
-#[test]
-fn rows_are_json(rt: HostRuntime) -> Result<(), Fail> {
-    expect_slice(&rt)?;
-    expect_left(&rt)?;
-    expect_closing(&rt)?;
-    expect_refusal(&rt)?;
-    expect_night(&rt)
-}
-
-fn expect_slice(rt: &impl Runtime) -> Result<(), Fail> {
-    let alloc = rt.alloc();
-    let place = place_of(alloc, "a\"\\/\n")?;
-    let slice = SliceRow {
+/// A run after which the cursor stands after this place.
+fn slice_row(place: &Place) -> LogRow<'_> {
+    LogRow::Slice(SliceRow {
         time: 1700000001,
         night: 1700000000,
         cycle: 1,
@@ -353,66 +342,67 @@ fn expect_slice(rt: &impl Runtime) -> Result<(), Fail> {
         lines: 7,
         bytes: 8,
         seconds: 9,
-        stands: Stands::After(&place),
-    };
-    assert_eq!(rt; slice_line(alloc, &slice)?.as_str(), SLICE);
-    Ok(())
+        stands: Stands::After(place),
+    })
 }
 
-fn expect_left(rt: &impl Runtime) -> Result<(), Fail> {
+/// The leaving out of this place.
+fn left_row(place: &Place) -> LogRow<'_> {
+    LogRow::Left(LeftRow {
+        time: 1,
+        night: 2,
+        cycle: 3,
+        place,
+    })
+}
+
+const CLOSING_ROW: ClosingRow<'static> = ClosingRow {
+    time: 1,
+    night: 2,
+    cycle: 3,
+    report: "/s/\u{9b}",
+    whole: true,
+    findings: 4,
+    appeared: 5,
+    repaired: 6,
+    gone: 7,
+    left: 8,
+};
+
+const REFUSAL_ROW: RefusalRow<'static> = RefusalRow {
+    time: 1,
+    night: 2,
+    status: 75,
+    said: "no\tone",
+};
+
+const NIGHT_ROW: NightRow<'static> = NightRow {
+    time: 1,
+    night: 2,
+    status: 0,
+    runs: 3,
+    cost: 18446744073709551615,
+    seconds: 4,
+    findings: 5,
+    left: 6,
+    program: "0f",
+};
+
+/// The lines of the log were compared with what Python's `json.dumps` writes of the same objects.
+#[test]
+fn rows_are_json(rt: HostRuntime) -> Result<(), Fail> {
     let alloc = rt.alloc();
-    let place = place_of(alloc, "a/b\n")?;
-    let left = LeftRow {
-        time: 1,
-        night: 2,
-        cycle: 3,
-        place: &place,
-    };
-    assert_eq!(rt; left_line(alloc, &left)?.as_str(), LEFT);
-    Ok(())
-}
-
-fn expect_closing(rt: &impl Runtime) -> Result<(), Fail> {
-    let closing = ClosingRow {
-        time: 1,
-        night: 2,
-        cycle: 3,
-        report: "/s/\u{9b}",
-        whole: true,
-        findings: 4,
-        appeared: 5,
-        repaired: 6,
-        gone: 7,
-        left: 8,
-    };
-    assert_eq!(rt; closing_line(rt.alloc(), &closing)?.as_str(), CLOSING);
-    Ok(())
-}
-
-fn expect_refusal(rt: &impl Runtime) -> Result<(), Fail> {
-    let refusal = RefusalRow {
-        time: 1,
-        night: 2,
-        status: 75,
-        said: "no\tone",
-    };
-    assert_eq!(rt; refusal_line(rt.alloc(), &refusal)?.as_str(), REFUSAL);
-    Ok(())
-}
-
-fn expect_night(rt: &impl Runtime) -> Result<(), Fail> {
-    let night = NightRow {
-        time: 1,
-        night: 2,
-        status: 0,
-        runs: 3,
-        cost: 18446744073709551615,
-        seconds: 4,
-        findings: 5,
-        left: 6,
-        program: "0f",
-    };
-    assert_eq!(rt; night_line(rt.alloc(), &night)?.as_str(), NIGHT_ROW);
+    let odd = place_of(alloc, "a\"\\/\n")?;
+    let lower = place_of(alloc, "a/b\n")?;
+    for (row, line) in [
+        (slice_row(&odd), SLICE),
+        (left_row(&lower), LEFT),
+        (LogRow::Closing(CLOSING_ROW), CLOSING),
+        (LogRow::Refusal(REFUSAL_ROW), REFUSAL),
+        (LogRow::Night(NIGHT_ROW), NIGHT_LINE),
+    ] {
+        assert_eq!(rt; log_line(alloc, &row)?.as_str(), line);
+    }
     Ok(())
 }
 
@@ -429,7 +419,7 @@ const CLOSING: &str = "{\"cycle\":3,\"findings\":4,\"gone\":7,\"left\":8,\"new\"
 const REFUSAL: &str =
     "{\"night\":2,\"row\":\"refusal\",\"said\":\"no%09one\",\"status\":75,\"time\":1}\n";
 
-const NIGHT_ROW: &str = "{\"cost\":18446744073709551615,\"findings\":5,\"left\":6,\"night\":2,\
+const NIGHT_LINE: &str = "{\"cost\":18446744073709551615,\"findings\":5,\"left\":6,\"night\":2,\
 \"program\":\"0f\",\"row\":\"night\",\"runs\":3,\"seconds\":4,\"status\":0,\"time\":1}\n";
 
 /// A list, and how many entries it has.

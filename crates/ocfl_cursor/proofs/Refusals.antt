@@ -88,31 +88,27 @@ failed first why e other = (sym e, λ h. other (sym e ∙ h))
 
 -- ---- a cursor's text passes each test
 
+-- a test that its text of either version passes
+passed : (test : Text → Bool) (b : Text) (c : Cursor) → IsTextOf b c → test (cursor_text c) ≡ true → test (version_one_text c) ≡ true → test b ≡ true
+passed test b c h two one = by h.is
+  where
+    by : (b ≡ cursor_text c) ⊎ ((c.files ≡ 0) × (b ≡ version_one_text c)) → test b ≡ true
+    by (inl e) = ap test e ∙ two
+    by (inr e) = ap test e.1 ∙ one
+
 front-cursor_text : (b : Text) (c : Cursor) → IsTextOf b c → is_cursor_front b ≡ true
 front-cursor_text b c h =
     let short : length b ≤ max_text = omega (arith, length-text b c h) in
-    ap₂ (λ r s. r && s) (by h.is) (le-leb (length b) max_text short)
-  where
-    front : Text → Bool
-    front t = starts_with nat_eq t (codes "ocfl-scrub cursor ")
-
-    by : (b ≡ cursor_text c) ⊎ ((c.files ≡ 0) × (b ≡ version_one_text c)) → front b ≡ true
-    by (inl e) = ap front e
-    by (inr e) = ap front e.1
+    ap₂ (λ r s. r && s) (passed (λ t. starts_with nat_eq t (codes "ocfl-scrub cursor ")) b c h refl refl) (le-leb (length b) max_text short)
 
 version-cursor_text : (b : Text) (c : Cursor) → IsTextOf b c → is_version_read b ≡ true
-version-cursor_text b c h = by h.is
-  where
-    by : (b ≡ cursor_text c) ⊎ ((c.files ≡ 0) × (b ≡ version_one_text c)) → is_version_read b ≡ true
-    by (inl e) = ap is_version_read e
-    by (inr e) = ap is_version_read e.1
+version-cursor_text b c h = passed is_version_read b c h refl refl
 
 sealed-cursor_text : (b : Text) (c : Cursor) → IsTextOf b c → is_sealed b ≡ true
-sealed-cursor_text b c h = by h.is
+sealed-cursor_text b c h = passed is_sealed b c h (sealed (cursor_body c)) (sealed (version_one_body c))
   where
-    by : (b ≡ cursor_text c) ⊎ ((c.files ≡ 0) × (b ≡ version_one_text c)) → is_sealed b ≡ true
-    by (inl e) = is_sealed-sealed (codes "digest ") refl b (cursor_body c) e
-    by (inr e) = is_sealed-sealed (codes "digest ") refl b (version_one_body c) e.1
+    sealed : (body : Text) → is_sealed (body ++ digest_line body) ≡ true
+    sealed body = is_sealed-sealed (codes "digest ") refl (body ++ digest_line body) body refl
 
 pub passes-cursor_text : (b : Text) → (c : Cursor) × IsTextOf b c → refusal b ≡ Malformed
 passes-cursor_text b (c, h) = tests_say kind.Cursor (front-cursor_text b c h) (version-cursor_text b c h) (sealed-cursor_text b c h)

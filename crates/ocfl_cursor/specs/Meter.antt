@@ -1,6 +1,6 @@
 -- What a run has spent, and how many files it has started.
 use Rattle.std.specs.Prelude.{ℕ, ◌^◌, ◌+◌, ◌<◌, ◌≤◌, ◌==◌, if◌then◌else◌}
-use Rattle.ocfl_cursor.specs.{Limits.{IsBudget, IsFileLimit}, declared.limits.Limits.{Limits}}
+use Rattle.ocfl_cursor.specs.{Limits.{IsLimit}, declared.limits.Limits.{Limits}}
 
 -- what auditing one file costs at most: its bytes, at most 2 ^ 62, and one more
 abbrev pub max_cost : ℕ
@@ -19,8 +19,8 @@ pub record Meter : Type 0 where
 -- a run passes its budget by the last file that it started, at most; it starts no more files than
 -- their limit, and each costs something
 pub record IsMeter (m : Meter) : Type 0 where
-  pub budget : IsBudget m.limits.budget
-  pub limit : IsFileLimit m.limits.files
+  pub budget : IsLimit m.limits.budget
+  pub limit : IsLimit m.limits.files
   pub spent : m.spent ≤ m.limits.budget + 2 ^ 62
   pub files : m.files ≤ m.limits.files
   pub paid : m.files ≤ m.spent

@@ -64,7 +64,8 @@ pub fn parts_and_whole_are_apart()
 pub fn no_stored_part_is_refused()
     ensures { (b : List ℕ) (e : ModelEnds) (c : ModelCursor) → IsPartText e b c
         → length b ≤ max_part_text → (why : part_stop.PartCursorStop) → PartStopsRightly e b why
-        → (why ≡ PartCursorStop.Read) ⊎ (why ≡ PartCursorStop.Refused (PartRefused.Text Refused.Memory)) }
+        → (why ≡ PartCursorStop.Read)
+        ⊎ (why ≡ PartCursorStop.Refused (PartRefused.Text Refused.Memory)) }
 {}
 
 /// A text determines what is shown of it. If lines can be shown of it, only a failing reader or

@@ -21,7 +21,7 @@
 //! - `sealed_text` ends a text with the line that seals it, and `sealed_body` gives what stands
 //!   before a last line exactly where that seals it. `body_of` looks at the front and the version
 //!   first, and gives the first reason that applies. Checkpoints are sealed and read by these calls
-//!   too, by `after_prefix` and by `read_limited`.
+//!   too, and by `after_prefix`.
 //! - A meter starts a file only while less than the budget is spent and fewer files than their
 //!   limit are started. It adds exactly what is charged, and cannot overflow. It counts as one file
 //!   exactly what costs something.
@@ -56,14 +56,14 @@ pub use laws::{
     part_reads_back, parts_and_whole_are_apart, text_determines_the_cursor,
     text_determines_the_part, text_determines_what_is_shown, what_a_meter_charged_fits_a_cursor,
 };
-pub use limits::{Budget, FileLimit, Limits};
+pub use limits::{Budget, FileLimit, Limit, Limits};
 pub use lines::{read_stored_lines, stored_lines};
 pub use meter::Meter;
 pub use part_decoding::decode_part;
 pub use part_encoding::{encode_part, part_lines};
 pub use part_reading::{PartCursorStop, read_part_cursor};
 pub use pieces::{after_prefix, first_line};
-pub use reading::{CursorStop, read_cursor, read_limited};
+pub use reading::{CursorStop, read_cursor};
 pub use refused::{PartRefused, Refused, TextKind};
 pub use seal::{body_of, sealed_body, sealed_text};
 pub use showing::{ShowStop, read_shown};

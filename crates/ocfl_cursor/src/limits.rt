@@ -1,75 +1,46 @@
 //! The two limits of a run: a budget of bytes, and a number of files.
 ghost use Rattle.std.specs.Prelude.{◌≡◌, ◌↔◌, IsSome, IfSome};
-ghost use Rattle.ocfl_cursor.specs.Limits.{IsBudget, IsFileLimit};
+ghost use Rattle.ocfl_cursor.specs.Limits.{IsLimit};
 
 use std::marker::Model;
 
-// The most that a run may be allowed to spend.
-const MAX_BUDGET: u64 = 1 << 62;
+// The most that a run may be allowed, of either.
+const MAX_LIMIT: u64 = 1 << 62;
 
-// The most files that a run may be allowed to start.
-const MAX_FILES: u64 = 1 << 62;
-
-/// How much one run may spend: 1 to 2^62.
+/// How much of one thing a run may do: 1 to 2^62. `OF` tells the things apart, so that no limit is
+/// taken for one of another thing.
 #[derive(Clone, Copy, Debug, PartialEq, Eq)]
-pub struct Budget {
+pub struct Limit<const OF: u8> {
     pub(crate) most: u64,
 }
 
-impl Model for Budget {
+/// How much one run may spend.
+pub type Budget = Limit<0>;
+
+/// How many files one run may start.
+pub type FileLimit = Limit<1>;
+
+impl<const OF: u8> Model for Limit<OF> {
     ghost use Rattle.std.specs.Prelude.{ℕ};
-    ghost use Rattle.ocfl_cursor.specs.Limits.{IsBudget};
+    ghost use Rattle.ocfl_cursor.specs.Limits.{IsLimit};
 
     ghost Value = { ℕ };
 
     ghost view = { λ a. a.most };
 
-    ghost invariant = { λ a. IsBudget a.most };
+    ghost invariant = { λ a. IsLimit a.most };
 
     ghost inverse = { λ n. record { most = n } };
 }
 
-impl Budget {
-    /// The budget of this number, or `None` if it is 0 or above 2^62.
-    pub fn new(most: u64) -> Option<Budget>
-        ensures value { IfSome result (λ budget. budget ≡ most) }
-        ensures range { IsSome result ↔ IsBudget most }
-    {
-        if 1 <= most && most <= MAX_BUDGET {
-            Some(Budget { most })
-        } else {
-            None
-        }
-    }
-}
-
-/// How many files one run may start: 1 to 2^62.
-#[derive(Clone, Copy, Debug, PartialEq, Eq)]
-pub struct FileLimit {
-    pub(crate) most: u64,
-}
-
-impl Model for FileLimit {
-    ghost use Rattle.std.specs.Prelude.{ℕ};
-    ghost use Rattle.ocfl_cursor.specs.Limits.{IsFileLimit};
-
-    ghost Value = { ℕ };
-
-    ghost view = { λ a. a.most };
-
-    ghost invariant = { λ a. IsFileLimit a.most };
-
-    ghost inverse = { λ n. record { most = n } };
-}
-
-impl FileLimit {
+impl<const OF: u8> Limit<OF> {
     /// The limit of this number, or `None` if it is 0 or above 2^62.
-    pub fn new(most: u64) -> Option<FileLimit>
+    pub fn new(most: u64) -> Option<Limit<OF>>
         ensures value { IfSome result (λ limit. limit ≡ most) }
-        ensures range { IsSome result ↔ IsFileLimit most }
+        ensures range { IsSome result ↔ IsLimit most }
     {
-        if 1 <= most && most <= MAX_FILES {
-            Some(FileLimit { most })
+        if 1 <= most && most <= MAX_LIMIT {
+            Some(Limit { most })
         } else {
             None
         }

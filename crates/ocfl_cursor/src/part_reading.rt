@@ -6,8 +6,8 @@ use crate::cursor::Cursor;
 use crate::ends::PartEnds;
 use crate::form::MAX_PART_TEXT;
 use crate::part_decoding::decode_part;
-use crate::reading::{CursorStop, read_limited};
 use crate::refused::{PartRefused, Refused, TextKind};
+use ocfl_report::{InputStop, read_limited};
 use std::alloc::Global;
 use std::io::Read;
 
@@ -48,12 +48,12 @@ pub fn read_part_cursor<R: Read>(
 }
 
 /// Why the bytes of a reader could not be read: it failed, or memory was refused.
-fn part_stop(why: CursorStop) -> PartCursorStop
+fn part_stop(why: InputStop) -> PartCursorStop
     ensures { (result ≡ PartCursorStop.Read)
         ⊎ (result ≡ PartCursorStop.Refused (PartRefused.Text Refused.Memory)) }
 {
     match why {
-        CursorStop::Read => PartCursorStop::Read,
-        CursorStop::Refused(_) => PartCursorStop::Refused(PartRefused::Text(Refused::Memory)),
+        InputStop::Failed => PartCursorStop::Read,
+        InputStop::Memory => PartCursorStop::Refused(PartRefused::Text(Refused::Memory)),
     }
 }

@@ -1,12 +1,12 @@
 //! Reading a stored cursor from a reader.
-ghost use Rattle.std.specs.Prelude.{◌≡◌, ◌⊎◌, take, IfOk, IfErr, IfSome};
+ghost use Rattle.std.specs.Prelude.{◌≡◌, ◌⊎◌, IfOk, IfErr, IfSome};
 ghost use Rattle.ocfl_cursor.specs.{Refusal.{IsTextOf}, Stop.{StopsRightly}};
 
 use crate::cursor::Cursor;
 use crate::decoding::decode;
 use crate::form::MAX_TEXT;
 use crate::refused::Refused;
-use ocfl_report::InputStop;
+use ocfl_report::{InputStop, read_limited};
 use std::alloc::Global;
 use std::io::Read;
 
@@ -28,28 +28,22 @@ pub fn read_cursor<R: Read>(alloc: Global, reader: &mut R) -> Result<Cursor, Cur
     ensures refused { IfErr result
         (λ stop. IfSome (R.remaining reader.old) (λ bytes. StopsRightly bytes stop)) }
 {
-    let bytes = read_limited(alloc, reader, MAX_TEXT as u64 + 1)?;
+    let bytes = match read_limited(alloc, reader, MAX_TEXT as u64 + 1) {
+        Ok(bytes) => bytes,
+        Err(why) => return Err(cursor_stop(why)),
+    };
     match decode(alloc, &bytes) {
         Ok(cursor) => Ok(cursor),
         Err(refused) => Err(CursorStop::Refused(refused)),
     }
 }
 
-/// All the bytes of a reader, or the first of them, as many as the limit. It answers `Read` if the
-/// reader fails, and `Refused::Memory` if memory is refused.
-pub fn read_limited<R: Read>(
-    alloc: Global,
-    reader: &mut R,
-    limit: u64,
-) -> Result<Vec<u8>, CursorStop>
-    ensures bytes { IfOk result
-        (λ bytes. IfSome (R.remaining reader.old) (λ all. bytes.items ≡ take limit all)) }
-    ensures stop { IfErr result
-        (λ stop. (stop ≡ CursorStop.Read) ⊎ (stop ≡ CursorStop.Refused Refused.Memory)) }
+/// Why the bytes of a reader could not be read: it failed, or memory was refused.
+pub(crate) fn cursor_stop(why: InputStop) -> CursorStop
+    ensures { (result ≡ CursorStop.Read) ⊎ (result ≡ CursorStop.Refused Refused.Memory) }
 {
-    match ocfl_report::read_limited(alloc, reader, limit) {
-        Ok(bytes) => Ok(bytes),
-        Err(InputStop::Failed) => Err(CursorStop::Read),
-        Err(InputStop::Memory) => Err(CursorStop::Refused(Refused::Memory)),
+    match why {
+        InputStop::Failed => CursorStop::Read,
+        InputStop::Memory => CursorStop::Refused(Refused::Memory),
     }
 }

@@ -9,8 +9,9 @@ use crate::encoding::cursor_lines;
 use crate::form::{MAX_PART_TEXT, PART_FIRST_LINE};
 use crate::part_decoding::read_part_text;
 use crate::part_encoding::part_lines;
-use crate::reading::{CursorStop, read_limited};
+use crate::reading::{CursorStop, cursor_stop};
 use crate::refused::{Refused, TextKind};
+use ocfl_report::read_limited;
 use std::alloc::Global;
 use std::io::Read;
 
@@ -36,7 +37,7 @@ pub fn read_shown<R: Read>(alloc: Global, reader: &mut R) -> Result<Vec<u8>, Sho
 {
     let bytes = match read_limited(alloc, reader, MAX_PART_TEXT as u64 + 1) {
         Ok(bytes) => bytes,
-        Err(why) => return Err(ShowStop::Whole(why)),
+        Err(why) => return Err(ShowStop::Whole(cursor_stop(why))),
     };
     if bytes.len() > MAX_PART_TEXT {
         return Err(ShowStop::Whole(CursorStop::Refused(Refused::NotA(TextKind::Cursor))));

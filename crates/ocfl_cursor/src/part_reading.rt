@@ -6,8 +6,9 @@ use crate::cursor::Cursor;
 use crate::ends::PartEnds;
 use crate::form::MAX_PART_TEXT;
 use crate::part_decoding::decode_part;
+use crate::reading::{CursorStop, cursor_stop};
 use crate::refused::{PartRefused, Refused, TextKind};
-use ocfl_report::{InputStop, read_limited};
+use ocfl_report::read_limited;
 use std::alloc::Global;
 use std::io::Read;
 
@@ -36,7 +37,7 @@ pub fn read_part_cursor<R: Read>(
 {
     let bytes = match read_limited(alloc, reader, MAX_PART_TEXT as u64 + 1) {
         Ok(bytes) => bytes,
-        Err(why) => return Err(part_stop(why)),
+        Err(why) => return Err(part_stop(cursor_stop(why))),
     };
     if bytes.len() > MAX_PART_TEXT {
         return Err(PartCursorStop::Refused(PartRefused::Text(Refused::NotA(TextKind::Cursor))));
@@ -48,12 +49,12 @@ pub fn read_part_cursor<R: Read>(
 }
 
 /// Why the bytes of a reader could not be read: it failed, or memory was refused.
-fn part_stop(why: InputStop) -> PartCursorStop
+fn part_stop(why: CursorStop) -> PartCursorStop
     ensures { (result ≡ PartCursorStop.Read)
         ⊎ (result ≡ PartCursorStop.Refused (PartRefused.Text Refused.Memory)) }
 {
     match why {
-        InputStop::Failed => PartCursorStop::Read,
-        InputStop::Memory => PartCursorStop::Refused(PartRefused::Text(Refused::Memory)),
+        CursorStop::Read => PartCursorStop::Read,
+        CursorStop::Refused(_) => PartCursorStop::Refused(PartRefused::Text(Refused::Memory)),
     }
 }

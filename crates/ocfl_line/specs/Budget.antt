@@ -3,7 +3,7 @@ use Rattle.std.specs.Prelude.{◌≡◌, ℕ, ◌*◌, ◌^◌, ◌∷◌, List,
 use Rattle.std.specs.{Char.{is_ascii_digit}, List.{prefix_len, take_while}}
 use Rattle.std.specs.{Str.{str_eq_ignore_ascii_case}, Str.Parse.{IsNumeral, digits_value}}
 use Rattle.clap.specs.Words.{Text}
-use Rattle.ocfl_cursor.specs.Limits.{IsBudget}
+use Rattle.ocfl_cursor.specs.Limits.{IsLimit}
 
 -- the units, and what each multiplies by; the first is that of digits alone
 abbrev pub units : List (Text × ℕ)
@@ -35,4 +35,4 @@ unit_of t = drop (prefix_len is_ascii_digit t) t
 pub record IsSizeText (t : Text) (n : ℕ) : Type 0 where
   pub numeral : IsNumeral 10 (digits_of t)
   pub value : IsSomeAnd (unit_size (unit_of t)) (λ size. n ≡ digits_value 10 (digits_of t) * size)
-  pub range : IsBudget n
+  pub range : IsLimit n

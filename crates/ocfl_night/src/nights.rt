@@ -19,7 +19,7 @@ ghost use Rattle.ocfl_night.specs.{Pace.{budget_at, files_at}, Nights.{IsSafeNig
 ghost use Rattle.ocfl_night.specs.declared.stop.Stop.{Stop as ModelStop};
 ghost use Rattle.ocfl_night.specs.declared.refusal.NotOpened.TheVariants.{Refused};
 ghost use Rattle.ocfl_night.specs.declared.refusal.Refusal.{Refusal as ModelRefusal};
-ghost use Rattle.ocfl_cursor.specs.Limits.{IsFileLimit};
+ghost use Rattle.ocfl_cursor.specs.Limits.{IsLimit};
 ghost use Rattle.ocfl_night.specs.declared.plan.Halt.TheVariants as halt;
 
 use crate::checkpoint::phase_of;
@@ -86,7 +86,7 @@ fn files_left(plan: &Plan, tally: &Tally) -> u64
 fn next_limits(plan: &Plan, tally: &Tally, now: u64) -> Option<Limits>
     ensures budget { IfSome result (λ limits. limits.budget ≡ budget_at plan.now tally.now now) }
     ensures files { IfSome result (λ limits. limits.files ≡ files_at plan.now tally.now) }
-    ensures none { IsSome result ↔ IsFileLimit (files_at plan.now tally.now) }
+    ensures none { IsSome result ↔ IsLimit (files_at plan.now tally.now) }
 {
     let files = FileLimit::new(files_left(plan, tally))?;
     let began = tally.began.unwrap_or(now);

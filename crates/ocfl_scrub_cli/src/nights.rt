@@ -10,6 +10,7 @@ mod lists;
 mod logging;
 mod making;
 mod noted;
+mod reading;
 mod roots;
 mod rows;
 mod sound;

@@ -1,5 +1,5 @@
 -- The fields of a checkpoint's lines: each is within its line, and determines what it tells.
-use Rattle.std.proofs.Common.{◌≡◌, ◌≢◌, ℕ, suc, ◌/◌, ◌%◌, ◌^◌, ◌<◌, ◌==◌, [], ◌∷◌, ◌++◌, Bool, true, false, not, Option, Some, None, IfSome, Result, Ok, Err, All, get_or, length, codes, decimal, refl, sym, ap, ◌∙◌, arith}
+use Rattle.std.proofs.Common.{◌≡◌, ◌≢◌, ℕ, suc, ◌/◌, ◌%◌, ◌^◌, ◌<◌, ◌==◌, [], ◌∷◌, ◌++◌, Bool, true, false, cond, not, Option, Some, None, IfSome, Result, Ok, Err, All, get_or, length, codes, decimal, refl, sym, ap, ◌∙◌, arith}
 use Rattle.std.proofs.lemmas.Bool.{agree_below_at, eqb-false, not-true, false≢true}
 use Rattle.std.proofs.{lemmas.Fmt.{decimal_is_IsNumeral_wide}, lemmas.Str.Parse.{digit_at}}
 use Rattle.std.proofs.lemmas.List.{append_cancel_left}
@@ -93,21 +93,25 @@ pub phase_one_line : (p : Phase) → OneLine (phase_text p)
 phase_one_line Open = no_feed_test (codes "open") refl
 phase_one_line Closing = no_feed_test (codes "closing") refl
 
-pub phase_determines : (p q : Phase) → phase_text p ≡ phase_text q → p ≡ q
-phase_determines Open Open e = refl
-phase_determines Open Closing e = absurd (differ 111 99 _ _ refl e)
-phase_determines Closing Open e = absurd (differ 99 111 _ _ refl e)
-phase_determines Closing Closing e = refl
-
 pub whole_one_line : (w : Bool) → OneLine (yes_or_no w)
 whole_one_line true = no_feed_test (codes "yes") refl
 whole_one_line false = no_feed_test (codes "no") refl
 
+-- what its word gives back is determined by the word
+given_back : {A : Type 0} (word : A → Text) (back : Text → A) → ((x : A) → back (word x) ≡ x) → (x y : A) → word x ≡ word y → x ≡ y
+given_back word back gives x y e = sym (gives x) ∙ ap back e ∙ gives y
+
+pub phase_determines : (p q : Phase) → phase_text p ≡ phase_text q → p ≡ q
+phase_determines = given_back phase_text of_first (λ p. elim p as (λ q. of_first (phase_text q) ≡ q) [ Open ↦ refl | Closing ↦ refl ])
+  where
+    of_first : Text → Phase
+    of_first t = cond (get_or t 0 0 == 111) Open Closing
+
 pub whole_determines : (v w : Bool) → yes_or_no v ≡ yes_or_no w → v ≡ w
-whole_determines true true e = refl
-whole_determines true false e = absurd (differ 121 110 _ _ refl e)
-whole_determines false true e = absurd (differ 110 121 _ _ refl e)
-whole_determines false false e = refl
+whole_determines = given_back yes_or_no yes (λ v. elim v as (λ w. yes (yes_or_no w) ≡ w) [ true ↦ refl | false ↦ refl ])
+  where
+    yes : Text → Bool
+    yes t = get_or t 0 0 == 121
 
 -- ---- the size of the report
 

@@ -1,13 +1,13 @@
 //! Showing a stored checkpoint, or a stored cursor.
 ghost use Rattle.std.specs.Prelude.{IfOk, IfErr, IfSome};
 ghost use Rattle.ocfl_cursor.specs.Shown.{AreShown as AreCursorLines, UnshownRightly};
-ghost use Rattle.ocfl_state.specs.CheckpointRefusal.{RefusedRightly};
-ghost use Rattle.ocfl_state.specs.CheckpointShown.{AreShown, HiddenRightly, AreCheckpointLines, IsOfText};
+ghost use Rattle.ocfl_state.specs.CheckpointShown.{AreShown, HiddenRightly, IsOfText};
 
 use crate::checkpoint_decoding::decode_checkpoint;
 use crate::checkpoint_encoding::checkpoint_lines;
 use crate::checkpoint_form::FRONT;
-use ocfl_cursor::{CursorStop, Refused, ShowStop, read_limited, read_shown};
+use ocfl_cursor::{Refused, ShowStop, read_shown};
+use ocfl_report::{InputStop, read_limited};
 use std::alloc::Global;
 use std::io::Read;
 
@@ -36,20 +36,17 @@ pub fn show_stored(alloc: Global, text: &[u8]) -> Result<Vec<u8>, NotShown>
     ensures refused { IfErr result (λ why. HiddenRightly text.now why) }
     ensures of_text { IfErr result IsOfText }
 {
-    if text.starts_with(FRONT) {
-        lines_of_checkpoint(alloc, text).map_err(NotShown::Checkpoint)
-    } else {
-        lines_of_cursor(alloc, text).map_err(NotShown::Cursor)
+    if !text.starts_with(FRONT) {
+        return lines_of_cursor(alloc, text).map_err(NotShown::Cursor);
     }
-}
-
-/// The lines of the checkpoint whose text the bytes are.
-fn lines_of_checkpoint(alloc: Global, text: &[u8]) -> Result<Vec<u8>, Refused>
-    ensures lines { IfOk result (λ lines. AreCheckpointLines text.now lines.items) }
-    ensures refused { IfErr result (λ refused. RefusedRightly text.now refused) }
-{
-    let checkpoint = decode_checkpoint(alloc, text)?;
-    Ok(checkpoint_lines(alloc, &checkpoint)?)
+    let checkpoint = match decode_checkpoint(alloc, text) {
+        Ok(checkpoint) => checkpoint,
+        Err(refused) => return Err(NotShown::Checkpoint(refused)),
+    };
+    match checkpoint_lines(alloc, &checkpoint) {
+        Ok(lines) => Ok(lines),
+        Err(_) => Err(NotShown::Checkpoint(Refused::Memory)),
+    }
 }
 
 /// The lines of the cursor whose text the bytes are.
@@ -74,8 +71,8 @@ pub fn read_stored<R: Read>(alloc: Global, reader: &mut R) -> Result<Vec<u8>, No
 {
     let bytes = match read_limited(alloc, reader, MAX_SHOWN as u64 + 1) {
         Ok(bytes) => bytes,
-        Err(CursorStop::Read) => return Err(NotShown::Read),
-        Err(CursorStop::Refused(_)) => return Err(NotShown::Memory),
+        Err(InputStop::Failed) => return Err(NotShown::Read),
+        Err(InputStop::Memory) => return Err(NotShown::Memory),
     };
     if bytes.len() > MAX_SHOWN {
         return Err(NotShown::Long);

@@ -11,6 +11,7 @@ mod folder;
 mod identity;
 mod inventory;
 mod item;
+mod laws;
 mod line;
 mod night;
 mod parts;

@@ -1,5 +1,6 @@
 //! The whole lines of findings that are named in a closing.
 
+use crate::nights::reading::{TakeLine, take_lines};
 use crate::nights::telling::{CLEAN, error_of};
 use ocfl_report::{Code, Line, read_line};
 use ocfl_telling::{Known, SHOWN};
@@ -62,40 +63,41 @@ fn finding_of(alloc: Global, text: &[u8]) -> io::Result<Option<Line>> {
     }
 }
 
-/// Takes a line of a report.
-fn take_line(
-    alloc: Global,
-    text: &[u8],
-    named: &[Line],
-    known: &Known,
-    found: &mut Findings,
-) -> io::Result<()> {
-    let Some(line) = finding_of(alloc, text)? else {
-        return Ok(());
-    };
-    found.count = found.count.saturating_add(1);
-    match named.get(found.matched) {
-        Some(next) if is_named(next, &line) => Ok(found.take(known, line)?),
-        _ => Ok(()),
+/// A search for the findings that are named.
+#[derive(Drop)]
+struct Search<'a> {
+    named: &'a [Line],
+    known: &'a Known,
+    found: Findings,
+}
+
+impl TakeLine for Search<'_> {
+    fn take_line(&mut self, alloc: Global, text: &[u8]) -> io::Result<bool> {
+        let Some(line) = finding_of(alloc, text)? else {
+            return Ok(true);
+        };
+        self.found.count = self.found.count.saturating_add(1);
+        match self.named.get(self.found.matched) {
+            Some(next) if is_named(next, &line) => self.found.take(self.known, line)?,
+            _ => (),
+        }
+        Ok(true)
     }
 }
 
 /// Looks for findings in a report. They are named by their places and codes, in its order; under
 /// the code of no finding any one of the place is meant.
-pub(crate) fn find_lines<B: BufRead>(
+pub(crate) fn find_lines<'a, B: BufRead>(
     alloc: Global,
     report: &mut B,
-    named: &[Line],
-    known: &Known,
+    named: &'a [Line],
+    known: &'a Known,
 ) -> io::Result<Findings> {
-    let mut found = Findings::new(alloc);
-    let mut text = Vec::new(alloc);
-    for _ in 0..u64::MAX {
-        text.clear();
-        if report.read_until(b'\n', &mut text)? == 0 {
-            return Ok(found);
-        }
-        take_line(alloc, text.as_slice(), named, known, &mut found)?;
-    }
-    Ok(found)
+    let mut search = Search {
+        named,
+        known,
+        found: Findings::new(alloc),
+    };
+    take_lines(alloc, report, &mut search)?;
+    Ok(search.found)
 }

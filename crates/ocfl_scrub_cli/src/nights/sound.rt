@@ -1,5 +1,6 @@
 //! Whether a report can be that of a part.
 
+use crate::nights::reading::{TakeLine, take_lines};
 use ocfl_compare::ClosedPart;
 use ocfl_report::{TextStop, read_line};
 use ocfl_tree::Place;
@@ -28,6 +29,25 @@ fn place_of(alloc: Global, text: &[u8]) -> io::Result<Option<Place>> {
     }
 }
 
+/// The lines of a part's report, up to the place of the last of them.
+#[derive(Drop)]
+struct PartLines<'a> {
+    part: &'a ClosedPart,
+    last: Place,
+}
+
+impl TakeLine for PartLines<'_> {
+    fn take_line(&mut self, alloc: Global, text: &[u8]) -> io::Result<bool> {
+        match place_of(alloc, text)? {
+            Some(place) if place >= self.last && lies_in(self.part, &place) => {
+                self.last = place;
+                Ok(true)
+            }
+            _ => Ok(false),
+        }
+    }
+}
+
 /// Whether all lines are report lines, none of which comes before the one above it, and are in the
 /// part.
 pub(crate) fn is_sound<B: BufRead>(
@@ -35,17 +55,6 @@ pub(crate) fn is_sound<B: BufRead>(
     report: &mut B,
     part: &ClosedPart,
 ) -> io::Result<bool> {
-    let mut last = Place::root(alloc);
-    let mut text = Vec::new(alloc);
-    for _ in 0..u64::MAX {
-        text.clear();
-        if report.read_until(b'\n', &mut text)? == 0 {
-            return Ok(true);
-        }
-        match place_of(alloc, text.as_slice())? {
-            Some(place) if place >= last && lies_in(part, &place) => last = place,
-            _ => return Ok(false),
-        }
-    }
-    Ok(false)
+    let last = Place::root(alloc);
+    take_lines(alloc, report, &mut PartLines { part, last })
 }

@@ -6,7 +6,7 @@ use ocfl_cursor::{Cursor, CursorStop, Refused, ShowStop, State, TextKind};
 use ocfl_state::{
     Checkpoint, Left, NotShown, Phase, ReportMark, RootIdentity, TopNames, checkpoint_lines,
     checkpoint_reads_back, decode_checkpoint, encode_checkpoint, every_checkpoint_fits,
-    no_checkpoint_is_refused, read_stored, show_stored, text_determines_the_checkpoint,
+    read_stored, show_stored,
 };
 use sha2::{Digest, Sha256};
 use std::alloc::Global;
@@ -204,8 +204,6 @@ fn checkpoints_have_these_texts(rt: HostRuntime) -> Result<(), Fail> {
     let alloc = rt.alloc();
     expect_text(&rt, &checkpoint(alloc)?, (LINES, DIGEST))?;
     expect_text(&rt, &part_checkpoint(alloc)?, (PART_LINES, PART_DIGEST))?;
-    text_determines_the_checkpoint();
-    no_checkpoint_is_refused();
     Ok(())
 }
 

@@ -7,7 +7,7 @@ use crate::tests::common::store::place_of;
 use crate::tests::common::{Runtime, expect_shown};
 use ocfl_cursor::{
     Budget, Cursor, CursorStop, FileLimit, Limits, Meter, Refused, State, TextKind, cursor_lines,
-    cursor_reads_back, decode, encode, read_cursor, text_determines_the_cursor,
+    cursor_reads_back, decode, encode, read_cursor,
 };
 use ocfl_report::DisplayPlace;
 use ocfl_tree::{Name, Place};
@@ -95,7 +95,6 @@ fn reads_what_is_written(rt: HostRuntime) -> Result<(), Fail> {
         assert_eq!(rt; (read.spent(), read.files()), (7, 7), "{row}");
         assert_eq!(rt; read.state(), cursor.state(), "{row}");
     }
-    text_determines_the_cursor();
     Ok(())
 }
 

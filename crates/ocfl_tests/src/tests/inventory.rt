@@ -450,61 +450,40 @@ fn sidecars_are_read(rt: HostRuntime) -> Result<(), Fail> {
     Ok(())
 }
 
-/// Texts that are no sidecars of these algorithms.
-const NO_SIDECARS: [(&str, &str, Algorithm); 14] = [
-    (
-        "a star before the name",
-        "ABC_SHA256 *inventory.json\n",
-        Algorithm::Sha256,
-    ),
-    ("no blank", "ABC_SHA256inventory.json", Algorithm::Sha256),
-    (
-        "another name",
-        "ABC_SHA256 inventory.jso",
-        Algorithm::Sha256,
-    ),
-    (
-        "something after the name",
-        "ABC_SHA256 inventory.json x",
-        Algorithm::Sha256,
-    ),
-    (
-        "a name with a capital",
-        "ABC_SHA256 Inventory.json",
-        Algorithm::Sha256,
-    ),
-    ("65 digits", "ABC_SHA256a inventory.json", Algorithm::Sha256),
+/// Texts that are no sidecars of `sha256`.
+const NO_SIDECARS: [(&str, &str); 11] = [
+    ("a star before the name", "ABC_SHA256 *inventory.json\n"),
+    ("no blank", "ABC_SHA256inventory.json"),
+    ("another name", "ABC_SHA256 inventory.jso"),
+    ("something after the name", "ABC_SHA256 inventory.json x"),
+    ("a name with a capital", "ABC_SHA256 Inventory.json"),
+    ("65 digits", "ABC_SHA256a inventory.json"),
     (
         "a line feed after the digits",
         "ABC_SHA256\n inventory.json",
-        Algorithm::Sha256,
     ),
-    ("digits alone", "ABC_SHA256", Algorithm::Sha256),
+    ("digits alone", "ABC_SHA256"),
     (
         "63 digits",
         "ba7816bf8f01cfea414140de5dae2223b00361a396177a9cb410ff61f20015a inventory.json\n",
-        Algorithm::Sha256,
     ),
-    ("md5", "ABC_SHA256 inventory.json\n", Algorithm::Md5),
-    ("sha1", "ABC_SHA256 inventory.json\n", Algorithm::Sha1),
-    ("sha512", "ABC_SHA256 inventory.json\n", Algorithm::Sha512),
-    (
-        "sha512/256",
-        "ABC_SHA256 inventory.json\n",
-        Algorithm::Sha512_256,
-    ),
-    (
-        "digits of sha512",
-        "ABC_SHA512 inventory.json\n",
-        Algorithm::Sha256,
-    ),
+    ("digits of sha512", "ABC_SHA512 inventory.json\n"),
 ];
 
 #[test]
 fn other_sidecars_are_refused(rt: HostRuntime) -> Result<(), Fail> {
-    for (row, text, algorithm) in NO_SIDECARS {
-        let sum = sum_of(rt.alloc(), text, algorithm)?;
+    for (row, text) in NO_SIDECARS {
+        let sum = sum_of(rt.alloc(), text, Algorithm::Sha256)?;
         assert!(rt; sum.is_none(), "{row}");
+    }
+    for algorithm in [
+        Algorithm::Md5,
+        Algorithm::Sha1,
+        Algorithm::Sha512,
+        Algorithm::Sha512_256,
+    ] {
+        let sum = sum_of(rt.alloc(), "ABC_SHA256 inventory.json\n", algorithm)?;
+        assert!(rt; sum.is_none(), "{algorithm:?}");
     }
     Ok(())
 }

@@ -2,7 +2,6 @@
 use crate::tests::common::expect_shown;
 use crate::tests::common::input::expect_failures;
 use crate::tests::common::store::place_of;
-use ocfl_parts::laws::text_determines_the_separators;
 use ocfl_parts::{PartsStop, PushStop, Separators, SplitStop, put_parts, read_parts};
 use std::alloc::Global;
 use std::test::Fail;
@@ -43,7 +42,6 @@ fn separators_are_read(rt: HostRuntime) -> Result<(), Fail> {
     let separators = read_parts(alloc, &mut reader)?;
     assert_eq!(rt; separators.places()[0], place_of(alloc, "a")?);
     assert_eq!(rt; separators.places()[1], place_of(alloc, "b/c")?);
-    text_determines_the_separators();
     Ok(())
 }
 

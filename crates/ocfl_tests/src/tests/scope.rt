@@ -4,7 +4,6 @@ use crate::tests::common::expect_shown;
 use crate::tests::common::input::{Slow, Then, expect_failures};
 use crate::tests::common::store::place_of;
 use ocfl_parts::PartsStop;
-use ocfl_scope::laws::ends_are_of_the_numbered_part;
 use ocfl_scope::{Scope, ScopeStop, find_branch, find_part};
 use std::alloc::Global;
 use std::test::Fail;
@@ -44,7 +43,6 @@ fn parts_are_found_by_their_numbers(rt: HostRuntime) -> Result<(), Fail> {
         assert!(rt; ends.from == wanted.from, "{row}");
         assert!(rt; ends.below == wanted.below, "{row}");
     }
-    ends_are_of_the_numbered_part();
     Ok(())
 }
 

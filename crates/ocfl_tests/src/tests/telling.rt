@@ -2,7 +2,6 @@
 use crate::tests::common::Runtime;
 use crate::tests::common::store::place_of;
 use ocfl_report::{Line, TextStop, read_line};
-use ocfl_telling::laws::{all_findings_are_ordered, findings_have_weights};
 use ocfl_telling::{
     Closing, ClosingRow, Found, Gone, GoneKind, Gravest, Known, KnownEntry, KnownStop, LeftRow,
     LogRow, Night, NightRow, Reach, RefusalMessage, RefusalRow, SliceRow, Stands, StopMessage,
@@ -30,8 +29,6 @@ fn codes_have_weights(rt: HostRuntime) -> Result<(), Fail> {
         let line = read_line(rt.alloc(), text.as_bytes())?;
         assert_eq!(rt; weigh(line.code), wanted, "{text}");
     }
-    findings_have_weights();
-    all_findings_are_ordered();
     Ok(())
 }
 
@@ -172,29 +169,40 @@ fn known_as(alloc: Global, reach: Reach, text: &str) -> Result<Known, Fail> {
     Ok(Known { entries })
 }
 
-/// An entry, a line, and whether the entry names it.
-const NAMED: [(Reach, &str, &str, bool); 12] = [
-    (Reach::One, "E092\ta/b\tx\n", "E092\ta/b\tx\n", true),
-    (Reach::One, "E092\ta/b\tx\n", "E092\ta/b\ty\n", false),
-    (Reach::One, "E092\ta/b\tx\n", "E093\ta/b\tx\n", false),
-    (Reach::One, "E092\ta/b\tx\n", "E092\ta\tx\n", false),
-    (Reach::Place, "E092\ta/b\t-\n", "E092\ta/b\ty\n", true),
-    (Reach::Place, "E092\ta/b\t-\n", "E092\ta/b/c\ty\n", false),
-    (Reach::Place, "E092\ta/b\t-\n", "E072\ta/b\t-\n", false),
-    (Reach::Branch, "E072\ta/b\t-\n", "E072\ta/b\t-\n", true),
-    (Reach::Branch, "E072\ta/b\t-\n", "E072\ta/b/c\t-\n", true),
-    (Reach::Branch, "E072\ta/b\t-\n", "E072\ta/bc\t-\n", false),
-    (Reach::Branch, "E072\ta/b\t-\n", "E073\ta/b/c\t-\n", false),
-    (Reach::Branch, "E072\t.\t-\n", "E072\tz\t-\n", true),
+/// An entry, a report of lines that it names, and one of lines that it does not.
+const NAMED: [(Reach, &str, &str, &str); 4] = [
+    (
+        Reach::One,
+        "E092\ta/b\tx\n",
+        "E092\ta/b\tx\n",
+        "E092\ta/b\ty\nE093\ta/b\tx\nE092\ta\tx\n",
+    ),
+    (
+        Reach::Place,
+        "E092\ta/b\t-\n",
+        "E092\ta/b\ty\n",
+        "E092\ta/b/c\ty\nE072\ta/b\t-\n",
+    ),
+    (
+        Reach::Branch,
+        "E072\ta/b\t-\n",
+        "E072\ta/b\t-\nE072\ta/b/c\t-\n",
+        "E072\ta/bc\t-\nE073\ta/b/c\t-\n",
+    ),
+    (Reach::Branch, "E072\t.\t-\n", "E072\tz\t-\n", ""),
 ];
 
 #[test]
 fn lists_name_findings(rt: HostRuntime) -> Result<(), Fail> {
     let alloc = rt.alloc();
-    for (reach, entry, line, wanted) in NAMED {
+    for (reach, entry, named, others) in NAMED {
         let known = known_as(alloc, reach, entry)?;
-        let line = line_of(alloc, line)?;
-        assert_eq!(rt; known.names(&line), wanted, "{entry}{line:?}");
+        for (report, wanted) in [(named, true), (others, false)] {
+            for line in report.split_inclusive('\n') {
+                let line = line_of(alloc, line)?;
+                assert_eq!(rt; known.names(&line), wanted, "{entry}{line:?}");
+            }
+        }
     }
     Ok(())
 }

@@ -6,11 +6,11 @@ use Rattle.ocfl_state.specs.declared.checkpoint_showing.NotShown.TheVariants.{Lo
 use Rattle.ocfl_state.proofs.CheckpointShowing.{always}
 use Rattle.ocfl_state.proofs.checkpoint_showing.read_stored.Goals as goal
 
-pub returns-in-Err-Read-clause-refused : goal.returns-in-Err-Read-clause-refused
-returns-in-Err-Read-clause-refused g c = always (g.R.Read.remaining c.args.reader.now)
+pub returns-in-Err-Failed-clause-refused : goal.returns-in-Err-Failed-clause-refused
+returns-in-Err-Failed-clause-refused g c = always (g.R.Read.remaining c.args.reader.now)
 
-pub returns-in-Err-Refused-clause-refused : goal.returns-in-Err-Refused-clause-refused
-returns-in-Err-Refused-clause-refused g c = always (g.R.Read.remaining c.args.reader.now)
+pub returns-in-Err-Memory-clause-refused : goal.returns-in-Err-Memory-clause-refused
+returns-in-Err-Memory-clause-refused g c = always (g.R.Read.remaining c.args.reader.now)
 
 pub returns-then-len-gt-MAX_SHOWN-clause-refused : goal.returns-then-len-gt-MAX_SHOWN-clause-refused
 returns-then-len-gt-MAX_SHOWN-clause-refused g c =

@@ -5,8 +5,7 @@ use crate::tests::common::store::place_of;
 use crate::tests::common::{Runtime, expect_shown};
 use ocfl_cursor::{
     Cursor, PartEnds, PartRefused, Refused, State, decode_part, encode_part, every_part_has_ends,
-    is_same_part, no_part_is_refused, part_reads_back, parts_and_whole_are_apart, read_part_cursor,
-    text_determines_the_part,
+    is_same_part, part_reads_back, read_part_cursor,
 };
 use std::alloc::Global;
 use std::test::Fail;
@@ -121,9 +120,6 @@ fn parts_are_named(rt: HostRuntime) -> Result<(), Fail> {
         let refused = refusal_of(alloc, &text);
         assert_eq!(rt; refused, Some(NOT_CURSOR), "{row}");
     }
-    text_determines_the_part();
-    no_part_is_refused();
-    parts_and_whole_are_apart();
     Ok(())
 }
 

@@ -6,9 +6,8 @@ use crate::tests::common::cursors::{
 };
 use crate::tests::common::input::{Slow, Then, expect_failures};
 use ocfl_cursor::{
-    Cursor, CursorStop, PartCursorStop, PartRefused, Refused, ShowStop, encode_part,
-    no_stored_part_is_refused, part_lines, read_part_cursor, read_shown, read_stored_lines,
-    stored_lines, text_determines_what_is_shown,
+    Cursor, CursorStop, PartCursorStop, PartRefused, Refused, ShowStop, encode_part, part_lines,
+    read_part_cursor, read_shown, read_stored_lines, stored_lines,
 };
 use ocfl_report::TextStop;
 use std::test::Fail;
@@ -64,7 +63,6 @@ fn cursors_of_parts_are_read_from_readers(rt: HostRuntime) -> Result<(), Fail> {
     ] {
         expect_stop(&rt, row, &text, then, ends, Some(other))?;
     }
-    no_stored_part_is_refused();
     Ok(())
 }
 
@@ -141,7 +139,6 @@ fn stored_cursors_are_shown(rt: HostRuntime) -> Result<(), Fail> {
     let text = sealed(alloc, body.as_str())?;
     let shown = read_shown(alloc, &mut text.as_slice());
     assert_eq!(rt; shown.ok().ok_or("lines")?, lines);
-    text_determines_what_is_shown();
     Ok(())
 }
 

@@ -1,0 +1,25 @@
+//! The laws without a body: each is proved, and a call of it does nothing.
+use ocfl_cursor::{
+    no_part_is_refused, no_stored_part_is_refused, parts_and_whole_are_apart,
+    text_determines_the_cursor, text_determines_the_part, text_determines_what_is_shown,
+};
+use ocfl_parts::laws::text_determines_the_separators;
+use ocfl_scope::laws::ends_are_of_the_numbered_part;
+use ocfl_state::{no_checkpoint_is_refused, text_determines_the_checkpoint};
+use ocfl_telling::laws::{all_findings_are_ordered, findings_have_weights};
+
+#[test]
+fn laws_can_be_called(_rt: HostRuntime) {
+    text_determines_the_cursor();
+    text_determines_the_part();
+    no_part_is_refused();
+    no_stored_part_is_refused();
+    parts_and_whole_are_apart();
+    text_determines_what_is_shown();
+    text_determines_the_separators();
+    ends_are_of_the_numbered_part();
+    text_determines_the_checkpoint();
+    no_checkpoint_is_refused();
+    findings_have_weights();
+    all_findings_are_ordered();
+}

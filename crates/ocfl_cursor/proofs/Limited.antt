@@ -4,10 +4,13 @@ use Rattle.std.proofs.Common.{◌≡◌, ◌⊎◌, inl, inr, ℕ, ◌<◌, ◌�
 use Rattle.std.proofs.{lemmas.Bool.{cases_lt}, lemmas.List.{take_all}}
 use Rattle.ocfl_tree.specs.Place.{Text}
 pub use Rattle.ocfl_report.proofs.Inputs.{IsReadTo}
+use Rattle.ocfl_report.specs.declared.input.InputStop.{InputStop}
+use Rattle.ocfl_report.specs.declared.input.InputStop.TheVariants as input
 use Rattle.ocfl_cursor.specs.Cursor.{Cursor}
 use Rattle.ocfl_cursor.specs.Refusal.{max_text, refusal, IsTextOf, RefusedRightly}
-use Rattle.ocfl_cursor.specs.Stop.{StopsRightly}
-use Rattle.ocfl_cursor.specs.declared.reading.CursorStop.TheVariants.{Refused as Refuses}
+use Rattle.ocfl_cursor.specs.Stop.{StopsRightly, unread}
+use Rattle.ocfl_cursor.specs.declared.reading.CursorStop.{CursorStop}
+use Rattle.ocfl_cursor.specs.declared.reading.CursorStop.TheVariants.{Read as Fails, Refused as Refuses}
 use Rattle.ocfl_cursor.specs.declared.refused.Refused.{Refused}
 use Rattle.ocfl_cursor.specs.declared.refused.Refused.TheVariants.{NotA, Version, Damaged, Malformed, Memory}
 use Rattle.ocfl_cursor.specs.declared.refused.TextKind.TheVariants as kind
@@ -63,3 +66,9 @@ IsTextOf-read (Some b) read c is h = IsTextOf-limited b c (subst (λ t. IsTextOf
 pub StopsRightly-read : (known : Option Text) (read : Text) (e : Refused) → IsRead known read → RefusedRightly read e → IfSome known (λ b. StopsRightly b (Refuses e))
 StopsRightly-read None read e is h = tt
 StopsRightly-read (Some b) read e is h = StopsRightly-limited b e (subst (λ t. RefusedRightly t e) is h)
+
+-- what is so of any bytes if the reader fails or memory is refused is so where they were not read
+pub unread_told : (P : Text → CursorStop → Type 0) → ((b : Text) → P b Fails) → ((b : Text) → P b (Refuses Memory)) → (known : Option Text) (why : InputStop) (stop : CursorStop) → stop ≡ unread why → IfSome known (λ b. P b stop)
+unread_told P fails lacks None why stop e = tt
+unread_told P fails lacks (Some b) input.Failed stop e = subst (P b) (sym e) (fails b)
+unread_told P fails lacks (Some b) input.Memory stop e = subst (P b) (sym e) (lacks b)

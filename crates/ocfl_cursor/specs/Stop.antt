@@ -1,6 +1,8 @@
 -- What it says of a reader's bytes that no cursor was read.
 use Rattle.std.specs.Prelude.{◌≡◌, ℕ, ◌&&◌, nat_le, Bool, true, false, length, ⊤}
 use Rattle.ocfl_tree.specs.Place.{Text}
+use Rattle.ocfl_report.specs.declared.input.InputStop.{InputStop}
+use Rattle.ocfl_report.specs.declared.input.InputStop.TheVariants as input
 use Rattle.ocfl_cursor.specs.{PartRefusal.{is_part_front, PartRefusedRightly}, Refusal.{RefusedRightly}}
 use Rattle.ocfl_cursor.specs.declared.ends.PartEnds.{PartEnds}
 use Rattle.ocfl_cursor.specs.declared.part_reading.PartCursorStop.{PartCursorStop}
@@ -10,6 +12,11 @@ use Rattle.ocfl_cursor.specs.declared.reading.CursorStop.TheVariants.{Read, Refu
 use Rattle.ocfl_cursor.specs.declared.refused.PartRefused.TheVariants.{Text as Unread}
 use Rattle.ocfl_cursor.specs.declared.refused.Refused.TheVariants.{NotA, Memory}
 use Rattle.ocfl_cursor.specs.declared.refused.TextKind.TheVariants as kind
+
+-- what it says of a reader that its bytes were not read
+abbrev pub unread : InputStop → CursorStop
+unread input.Failed = Read
+unread input.Memory = Refused Memory
 
 -- the bytes are rightly refused, unless the reader failed or memory was refused
 abbrev pub StopsRightly : Text → CursorStop → Type 0

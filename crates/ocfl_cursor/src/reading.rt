@@ -1,6 +1,6 @@
 //! Reading a stored cursor from a reader.
-ghost use Rattle.std.specs.Prelude.{◌≡◌, ◌⊎◌, IfOk, IfErr, IfSome};
-ghost use Rattle.ocfl_cursor.specs.{Refusal.{IsTextOf}, Stop.{StopsRightly}};
+ghost use Rattle.std.specs.Prelude.{◌≡◌, IfOk, IfErr, IfSome};
+ghost use Rattle.ocfl_cursor.specs.{Refusal.{IsTextOf}, Stop.{StopsRightly, unread}};
 
 use crate::cursor::Cursor;
 use crate::decoding::decode;
@@ -40,7 +40,7 @@ pub fn read_cursor<R: Read>(alloc: Global, reader: &mut R) -> Result<Cursor, Cur
 
 /// Why the bytes of a reader could not be read: it failed, or memory was refused.
 pub(crate) fn cursor_stop(why: InputStop) -> CursorStop
-    ensures { (result ≡ CursorStop.Read) ⊎ (result ≡ CursorStop.Refused Refused.Memory) }
+    ensures { result ≡ unread why }
 {
     match why {
         InputStop::Failed => CursorStop::Read,

@@ -1,7 +1,11 @@
 use Rattle.std.proofs.Common.{subst}
-use Rattle.ocfl_cursor.specs.Refusal.{IsTextOf, RefusedRightly}
-use Rattle.ocfl_cursor.proofs.Limited.{IsTextOf-read, StopsRightly-read}
+use Rattle.ocfl_cursor.specs.{Refusal.{IsTextOf, RefusedRightly}, Stop.{StopsRightly}}
+use Rattle.ocfl_cursor.proofs.Limited.{IsTextOf-read, StopsRightly-read, unread_told}
 use Rattle.ocfl_cursor.proofs.reading.read_cursor.Goals as goal
+
+pub returns-in-Err-clause-refused : goal.returns-in-Err-clause-refused
+returns-in-Err-clause-refused g c =
+    unread_told StopsRightly (λ b. tt) (λ b. tt) (g.R.Read.remaining c.args.reader.now) c.in-Err.why c.cursor_stop.result c.cursor_stop.ensures
 
 pub returns-in-Ok-decode-clause-cursor : goal.returns-in-Ok-decode-clause-cursor
 returns-in-Ok-decode-clause-cursor g c =

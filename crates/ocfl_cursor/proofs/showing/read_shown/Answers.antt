@@ -1,8 +1,13 @@
 use Rattle.std.proofs.Common.{◌≤◌, ◌<◌, length, arith, subst}
 use Rattle.std.proofs.lemmas.Result.{MatchResult-weaker, IfOk-weaker}
 use Rattle.ocfl_cursor.specs.{Shown.{AreShown, UnshownRightly}, Stop.{max_part_text}}
-use Rattle.ocfl_cursor.proofs.PartLimited.{shown_read, unshown_read, unshown_too_many}
+use Rattle.ocfl_cursor.specs.declared.showing.ShowStop.TheVariants.{Whole}
+use Rattle.ocfl_cursor.proofs.{Limited.{unread_told}, PartLimited.{shown_read, unshown_read, unshown_too_many}}
 use Rattle.ocfl_cursor.proofs.showing.read_shown.Goals as goal
+
+pub returns-in-Err-clause-refused : goal.returns-in-Err-clause-refused
+returns-in-Err-clause-refused g c =
+    unread_told (λ b stop. UnshownRightly b (Whole stop)) (λ b. tt) (λ b. tt) (g.R.Read.remaining c.args.reader.now) c.in-Err.why c.cursor_stop.result c.cursor_stop.ensures
 
 pub returns-then-len-gt-MAX_PART_TEXT-clause-refused : goal.returns-then-len-gt-MAX_PART_TEXT-clause-refused
 returns-then-len-gt-MAX_PART_TEXT-clause-refused g c =

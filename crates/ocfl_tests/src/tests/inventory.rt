@@ -451,7 +451,7 @@ fn sidecars_are_read(rt: HostRuntime) -> Result<(), Fail> {
 }
 
 /// Texts that are no sidecars of `sha256`.
-const NO_SIDECARS: [(&str, &str); 11] = [
+const NO_SIDECARS: [(&str, &str); 10] = [
     ("a star before the name", "ABC_SHA256 *inventory.json\n"),
     ("no blank", "ABC_SHA256inventory.json"),
     ("another name", "ABC_SHA256 inventory.jso"),

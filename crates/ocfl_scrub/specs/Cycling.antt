@@ -1,6 +1,6 @@
 -- What a cycle does on any store, and the headline.
-use Rattle.std.specs.Prelude.{◌≡◌, ◌≢◌, ◌≤◌, ◌+◌, ◌/◌, ◌↔◌, ℕ, List, [], ◌∷◌, ◌++◌, Bool, true, false, Option, All, length, ⊤}
-use Rattle.ocfl_tree.specs.declared.store.Opening.{Opening}
+use Rattle.std.specs.Prelude.{◌≡◌, ◌≢◌, ◌≤◌, ◌+◌, ◌/◌, ◌↔◌, ℕ, List, [], ◌∷◌, ◌++◌, Bool, true, false, Option, All, map, length, ⊤}
+use Rattle.ocfl_tree.specs.{Store.{Store}, declared.store.Opening.{Opening}}
 use Rattle.ocfl_report.specs.{Line.{Item}, Text.{text}}
 use Rattle.ocfl_audit.specs.{Audit.{audit, total_cost}, Due.{hashed_among}, Parts.{Part, within}}
 use Rattle.ocfl_audit.specs.Trail.{content_trail}
@@ -8,7 +8,8 @@ use Rattle.ocfl_audit.specs.Runs.{Limits, total_files, StaysWithin, runs, joined
 use Rattle.ocfl_cursor.specs.Cursor.{ended, new_cursor}
 use Rattle.ocfl_cursor.specs.declared.limits.Limits.{Limits as MadeLimits}
 use Rattle.ocfl_scrub.specs.declared.stop.ReportStop.TheVariants as halt
-use Rattle.ocfl_scrub.specs.{Call.{Call, Writes}, Chaining.{IsMadeOf}, Taking.{WritesLines}}
+use Rattle.ocfl_scrub.specs.{Call.{Call, WhereTold, Writes}, Chaining.{CycleOfRunsWithin, IsMadeOf}}
+use Rattle.ocfl_scrub.specs.{Running.{limits_of}, Taking.{WritesLines}}
 use Rattle.ocfl_scrub.specs.{Written.{places}, Types.{CycleEnd, CycleStatus}}
 use Rattle.ocfl_scrub.specs.declared.cycling.CycleStatus.TheVariants as status
 
@@ -24,6 +25,11 @@ pub record CyclesOnAnyStore {S O : Type 0} (contents : O → Option (List ℕ)) 
   pub files_are : ran.files ≡ ran.cursor.files
   pub ended_is : (ran.end ≡ status.Ended) ↔ (ran.cursor.state ≡ ended)
   pub lines : ran.end ≢ status.Stopped halt.Output → WritesLines (contents old) (contents new) ran.found
+
+-- a cycle of a part on any store, and on one that tells its tree: runs of it with these limits
+pub record CyclesOver {S O : Type 0} (tells : Bool) (state : S → Store) (contents : O → Option (List ℕ)) (before after : S) (old new : O) (part : Part) (limits : List MadeLimits) (ran : CycleEnd) : Type 0 where
+  pub any_store : CyclesOnAnyStore contents before after old new limits ran
+  pub told : WhereTold tells state contents before after old new (λ call. CycleOfRunsWithin call part (map limits_of limits) ran)
 
 -- how many runs are enough for limits that are each at least so large
 abbrev pub enough : List Item → ℕ → ℕ → ℕ

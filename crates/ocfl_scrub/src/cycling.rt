@@ -1,11 +1,9 @@
 //! A cycle of runs from the first item of a storage root, or of a part of it, each with limits of
 //! its own.
-ghost use Rattle.std.specs.Prelude.{◌≡◌, ◌≤◌, false, map, IfErr, IfOk};
+ghost use Rattle.std.specs.Prelude.{◌≡◌, ◌≤◌, IfErr, IfOk};
 ghost use Rattle.ocfl_audit.specs.Parts.{whole};
 ghost use Rattle.ocfl_cursor.specs.Cursor.{new_cursor};
-ghost use Rattle.ocfl_scrub.specs.{Call.{WhereTold}, Chaining.{CycleOfRunsWithin}};
-ghost use Rattle.ocfl_scrub.specs.{Cycling.{CyclesOnAnyStore}, Running.{limits_of}};
-ghost use Rattle.ocfl_scrub.specs.Starting.{part_of};
+ghost use Rattle.ocfl_scrub.specs.{Cycling.{CyclesOver}, Starting.{part_of}};
 
 use crate::part::Part;
 use crate::running::{RunEnd, RunStatus, run_part};
@@ -62,10 +60,8 @@ pub fn cycle<T: Tree, W: Write>(
     block: &mut Block,
     out: &mut W,
 ) -> CycleEnd
-    ensures any_store { CyclesOnAnyStore W.contents store.old store.new out.old out.new
+    ensures { CyclesOver T.told T.state W.contents store.old store.new out.old out.new whole
         limits.now result }
-    ensures told { WhereTold T.told T.state W.contents store.old store.new out.old out.new (λ call.
-        CycleOfRunsWithin call whole (map limits_of limits.now) result) }
 {
     let whole = Part::whole(alloc);
     cycle_part(alloc, store, &whole, limits, block, out)
@@ -81,10 +77,8 @@ pub fn cycle_part<T: Tree, W: Write>(
     block: &mut Block,
     out: &mut W,
 ) -> CycleEnd
-    ensures any_store { CyclesOnAnyStore W.contents store.old store.new out.old out.new
-        limits.now result }
-    ensures told { WhereTold T.told T.state W.contents store.old store.new out.old out.new (λ call.
-        CycleOfRunsWithin call (part_of part.now) (map limits_of limits.now) result) }
+    ensures { CyclesOver T.told T.state W.contents store.old store.new out.old out.new
+        (part_of part.now) limits.now result }
 {
     let mut cursor = Cursor::new();
     let mut runs = 0;

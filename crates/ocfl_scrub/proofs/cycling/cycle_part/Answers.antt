@@ -21,36 +21,38 @@ loop-one-init g c = record {
   told = λ told root over short. chain_begins root (part_of c.args.part.now) _ _ _ _ _ c.new-cursor.ensures refl over;
 }
 
-pub returns-in_default-clause-told : goal.returns-in_default-clause-told
-returns-in_default-clause-told g c told root over short =
-    let e = c.cycle_end.ensures in
-    cycle_unbegun root (part_of c.args.part.now) _ _ _ _ _ _ _ _ _ (c.loop-one.invariant.told told root over short) _ e.runs e.cursor e.found e.end c.in_default.ensures.further
-    (limits_some c.args.limits.now c.loop-one.one-index c.loop-one-test.true)
+pub returns-in_default : goal.returns-in_default
+returns-in_default g c = record {
+  any_store = search rules;
+  told = λ told root over short.
+      let e = c.cycle_end.ensures in
+      cycle_unbegun root (part_of c.args.part.now) _ _ _ _ _ _ _ _ _ (c.loop-one.invariant.told told root over short) _ e.runs e.cursor e.found e.end c.in_default.ensures.further
+      (limits_some c.args.limits.now c.loop-one.one-index c.loop-one-test.true);
+}
 
-pub returns-in-Ended-clause-any_store : goal.returns-in-Ended-clause-any_store
-returns-in-Ended-clause-any_store g c =
-    let lines = lines_said _ _ _ _ c.cycle_end-in-Ended.ensures.found
-    (lines_then _ _ _ _ _ _ c.loop-one.invariant.lines (c.run_part-reached.ensures.any_store.lines (ended_wrote _ c.in-Ended.is)) c.either-found.ensures) in
-    search (rules, lines)
-
-pub returns-in-Ended-clause-told : goal.returns-in-Ended-clause-told
-returns-in-Ended-clause-told g c told root over short =
+pub returns-in-Ended : goal.returns-in-Ended
+returns-in-Ended g c =
     let e = c.cycle_end-in-Ended.ensures in
-    cycle_ended root (part_of c.args.part.now) _ _ _ _ _ _ _ _ _ (c.loop-one.invariant.told told root over short) _ _ _ _ _ _ _ (limits_next _ _ _ c.loop-one-test.true c.one-item.is) c.in-Ok.ensures.same
-    (λ reached. c.run_part-reached.ensures.told told root reached short (ended_not_worn _ c.in-Ended.is)) c.either-found.ensures _ e.runs e.cursor e.found e.end c.in-Ended.is
+    let lines = lines_said _ _ _ _ e.found
+    (lines_then _ _ _ _ _ _ c.loop-one.invariant.lines (c.run_part-reached.ensures.any_store.lines (ended_wrote _ c.in-Ended.is)) c.either-found.ensures) in
+    record {
+      any_store = search (rules, lines);
+      told = λ told root over short.
+          cycle_ended root (part_of c.args.part.now) _ _ _ _ _ _ _ _ _ (c.loop-one.invariant.told told root over short) _ _ _ _ _ _ _ (limits_next _ _ _ c.loop-one-test.true c.one-item.is) c.in-Ok.ensures.same
+          (λ reached. c.run_part-reached.ensures.told told root reached short (ended_not_worn _ c.in-Ended.is)) c.either-found.ensures _ e.runs e.cursor e.found e.end c.in-Ended.is;
+    }
 
-pub returns-in-Stopped-clause-any_store : goal.returns-in-Stopped-clause-any_store
-returns-in-Stopped-clause-any_store g c =
+pub returns-in-Stopped : goal.returns-in-Stopped
+returns-in-Stopped g c =
     let e = c.cycle_end-in-Stopped.ensures in
     let lines = λ (wrote : c.cycle_end-in-Stopped.result.end ≢ cycle.Stopped Output). lines_said _ _ _ _ e.found
     (lines_then _ _ _ _ _ _ c.loop-one.invariant.lines (c.run_part-reached.ensures.any_store.lines (stopped_wrote _ _ _ c.in-Stopped.is e.end wrote)) c.either-found.ensures) in
-    search (rules, lines)
-
-pub returns-in-Stopped-clause-told : goal.returns-in-Stopped-clause-told
-returns-in-Stopped-clause-told g c told root over short =
-    let e = c.cycle_end-in-Stopped.ensures in
-    cycle_stopped root (part_of c.args.part.now) _ _ _ _ _ _ _ _ _ (c.loop-one.invariant.told told root over short) _ _ _ _ _ _ _ (limits_next _ _ _ c.loop-one-test.true c.one-item.is) c.in-Ok.ensures.same
-    (λ reached. c.run_part-reached.ensures.told told root reached short (stopped_not_worn _ _ c.in-Stopped.is)) c.either-found.ensures _ _ e.runs e.cursor e.found e.end c.in-Stopped.is
+    record {
+      any_store = search (rules, lines);
+      told = λ told root over short.
+          cycle_stopped root (part_of c.args.part.now) _ _ _ _ _ _ _ _ _ (c.loop-one.invariant.told told root over short) _ _ _ _ _ _ _ (limits_next _ _ _ c.loop-one-test.true c.one-item.is) c.in-Ok.ensures.same
+          (λ reached. c.run_part-reached.ensures.told told root reached short (stopped_not_worn _ _ c.in-Stopped.is)) c.either-found.ensures _ _ e.runs e.cursor e.found e.end c.in-Stopped.is;
+    }
 
 pub loop-one-preserved : goal.loop-one-preserved
 loop-one-preserved g c =
@@ -73,8 +75,11 @@ loop-one-preserved g c =
           (λ reached. c.run_part-reached.ensures.told told root reached short (spent_not_worn _ going)) c.either-found.ensures going;
     }
 
-pub returns-clause-told : goal.returns-clause-told
-returns-clause-told g c told root over short =
-    let e = c.cycle_end-2.ensures in
-    cycle_out root (part_of c.args.part.now) _ _ _ _ _ _ _ _ _ (c.loop-one.invariant.told told root over short) _ e.runs e.cursor e.found e.end
-    (limits_out c.args.limits.now c.loop-one.one-index c.loop-one-test.false)
+pub returns : goal.returns
+returns g c = record {
+  any_store = search rules;
+  told = λ told root over short.
+      let e = c.cycle_end-2.ensures in
+      cycle_out root (part_of c.args.part.now) _ _ _ _ _ _ _ _ _ (c.loop-one.invariant.told told root over short) _ e.runs e.cursor e.found e.end
+      (limits_out c.args.limits.now c.loop-one.one-index c.loop-one-test.false);
+}

@@ -1,5 +1,5 @@
 -- A pass with a walk that is kept, or that begins, is a run.
-use Rattle.std.proofs.Common.{◌≡◌, ◌≢◌, ◌^◌, ◌≤◌, ℕ, List, refl, sym, ◌∙◌, ap, subst, false, Bool, Some, None, Option}
+use Rattle.std.proofs.Common.{◌≡◌, ◌≢◌, ◌^◌, ◌≤◌, ℕ, List, refl, sym, ◌∙◌, ap, arith, subst, false, Bool, Some, None, Option}
 use Rattle.std.specs.Prelude.{IfSome}
 use Rattle.ocfl_tree.specs.{Place.{Place, Text}, StorageRoot.{StorageRoot}, Store.{Store}}
 use Rattle.ocfl_audit.specs.{Parts.{Part}, Runs.{Limits}}
@@ -7,11 +7,11 @@ use Rattle.ocfl_cursor.specs.{Cursor.{Cursor, State}, Moves.{after_run}}
 use Rattle.ocfl_cursor.specs.declared.limits.Limits.{Limits as MadeLimits}
 use Rattle.ocfl_item.specs.{declared.fault.Fault.{Fault}}
 use Rattle.ocfl_item.specs.declared.pending.Pending.{Pending}
-use Rattle.ocfl_walk.specs.{Ends.{is_past}, WalkCalls.{FailsOut, GoDownFails, GoesDown, Walks}}
+use Rattle.ocfl_walk.specs.{Ends.{is_past}, WalkCalls.{FailsOut, GoesDown, Walks}}
 use Rattle.ocfl_walk.specs.{Walks.{GivesOut, Stands}, declared.walk.Walk.{Walk}}
 use Rattle.ocfl_scrub.specs.{Beginning.{Begins, IsShort}, Call.{Call, call_of, known_call}}
-use Rattle.ocfl_scrub.specs.Keeping.{IsMet, IsReady, IsReadyIn, RunsOn, met_at, met_in}
-use Rattle.ocfl_scrub.specs.Passes.{EndsAt, IsAhead, IsPass, PassesFrom, PassesOn, PassesWith}
+use Rattle.ocfl_scrub.specs.{Alike.{IsAlike}, Keeping.{IsMet, IsReady, IsReadyIn, LooksAbove, RunsOn, met_at, met_in}}
+use Rattle.ocfl_scrub.specs.Passes.{EndsAt, IsAhead, IsPass, Meets, PassesOn, TakesNothing}
 use Rattle.ocfl_scrub.specs.Running.{IsPaid, RunEndsWithin, RunsCleanlyWithin, RunsFromWithin, RunsOnAnyStore, begun, limits_of, place_in, state_after}
 use Rattle.ocfl_scrub.specs.{Starting.{end_of, entry, stand}, Taking.{WritesLines}}
 use Rattle.ocfl_scrub.specs.{declared.kept.KeptWalk.{KeptWalk}, declared.kept.Met.{Met}}
@@ -21,9 +21,9 @@ use Rattle.ocfl_scrub.specs.declared.running.RunStatus.TheVariants as status
 use Rattle.ocfl_scrub.specs.declared.stop.ReportStop.TheVariants as halt
 use Rattle.ocfl_scrub.proofs.{AlikeLaws.{alike_same, alike_tree}, AuditsJoined.{audits_over}}
 use Rattle.ocfl_scrub.proofs.{CycleRuns.{HasReport, has_report}, KeptLaws.{ahead_of}}
-use Rattle.ocfl_scrub.proofs.{KeptTurns.{pass_of}, LoopLaws.{GivesNext}}
-use Rattle.ocfl_scrub.proofs.{MeterLaws.{paid_within}, RunLaws.{not_run, runs_cleanly, runs_from}}
-use Rattle.ocfl_scrub.proofs.RunTurns.{run_ended, run_lost, stands_first}
+use Rattle.ocfl_scrub.proofs.{KeptTurns.{ahead_over, pass_of}, LoopLaws.{GivesNext}}
+use Rattle.ocfl_scrub.proofs.{MeterLaws.{paid_none, paid_within}, RunLaws.{runs_cleanly, runs_from}}
+use Rattle.ocfl_scrub.proofs.{RunTurns.{run_ended, run_lost, stands_first}, TakeLaws.{nothing_written}}
 
 -- ---- on every store
 
@@ -53,58 +53,61 @@ module _ (old new : Option (List ℕ)) (limits : MadeLimits) (last : Option Plac
     unspent = λ n. refl;
   }
 
+-- a pass that met no item
+pub no_pass : (pass : Pass) (old : Option (List ℕ)) (limits : MadeLimits) (from : Option Place) (end : RunStatus) → IsShort from → end ≢ status.Worn → end ≢ status.Spent
+    → pass_of from 0 0 false end None ≡ pass → IsPass old old limits pass
+no_pass pass old limits from end short works unspent is =
+    subst (IsPass old old limits) is (other_pass old old limits from 0 0 false short (paid_none (limits_of limits)) (omega arith) end works unspent (λ n. nothing_written old))
+
 -- ---- a walk that begins
 
-module _ (root : StorageRoot) (part : Part) (s t u : Store) (old : Option (List ℕ)) (from : Option Place) (l : Limits) where
-  module _ (walk : Walk) (there : GoesDown root s t (entry part from) × Stands root walk (stand root part from)) where
-    pub begins_ended : (next : Walk) → GivesOut root t u (stand root part from) (end_of part) next None → EndsAt (call_of root s u old old) part from l (pass_of from 0 0 false status.Ended None)
-    begins_ended next gives =
-        let h = stands_first root part s t old walk from l there in
-        (run_ended part h.0 u next (subst (λ o. GivesOut root t u o (end_of part) next None) (sym h.1) gives), tt)
-
-    pub begins_lost : (why : Fault) → FailsOut root t u (stand root part from) (end_of part) why
-        → EndsAt (call_of root s u old old) part from l (pass_of from 0 0 false (status.Stopped (halt.Fault why)) None)
-    begins_lost why lost =
-        let h = stands_first root part s t old walk from l there in
-        (run_lost part h.0 u why (subst (λ o. FailsOut root t u o (end_of part) why) (sym h.1) lost), tt)
-
-    pub begins_on : (v : Store) (new : Option (List ℕ)) (m : Met) (pass : Pass) → GivesOut root t u (stand root part from) (end_of part) m.walk (Some m.item)
-        → is_past (end_of part) m.item.place ≡ false → PassesOn (call_of root u v old new) part m from l pass → EndsAt (call_of root s v old new) part from l pass
-    begins_on v new m pass gives before h =
-        let ahead : IsAhead root part from m s u = record { begun = t; down = there.0; gives = gives; in_front = before } in
-        let x = h.ends s u refl refl ahead in
-        subst (λ (b : Store). EndsAt (call_of root s b old new) part from l pass) (alike_same x.1.0) x.1.1
-
-module _ (root : StorageRoot) (part : Part) (s t u : Store) (old : Option (List ℕ)) (from : Option Place) (l : Limits) (walk : Walk)
-    (there : GoesDown root s t (entry part from) × Stands root walk (stand root part from)) where
+module _ (root : StorageRoot) (part : Part) (s t u : Store) (from : Option Place) (walk : Walk) (there : GoesDown root s t (entry part from) × Stands root walk (stand root part from)) where
   gives_there : (next : Walk) (o : Option Pending) → GivesNext root (end_of part) t u walk next o → GivesOut root t u (stand root part from) (end_of part) next o
   gives_there next o gave = gave (audits_over there.0.audits) (stand root part from) there.1
 
   -- the walk gave nothing
-  pub begun_ended : (next : Walk) (o : Option Pending) → GivesNext root (end_of part) t u walk next o → o ≡ None → EndsAt (call_of root s u old old) part from l (pass_of from 0 0 false status.Ended None)
-  begun_ended next o gave is = begins_ended root part s t u old from l walk there next (subst (GivesOut root t u (stand root part from) (end_of part) next) is (gives_there next o gave))
+  pub begun_ended : (next : Walk) (o : Option Pending) → GivesNext root (end_of part) t u walk next o → o ≡ None → TakesNothing root part from status.Ended s u
+  begun_ended next o gave is old l =
+      let h = stands_first root part s t old walk from l there in
+      let gives : GivesOut root t u (stand root part from) (end_of part) next None = subst (GivesOut root t u (stand root part from) (end_of part) next) is (gives_there next o gave) in
+      run_ended part h.0 u next (subst (λ x. GivesOut root t u x (end_of part) next None) (sym h.1) gives)
 
-  -- it met an item, from which a pass goes on
-  pub begun_on : (m : Met) (o : Option Pending) → GivesNext root (end_of part) t u walk m.walk o → o ≡ Some m.item → IfSome o (λ p. is_past (end_of part) p.place ≡ false)
-      → (v : Store) (new : Option (List ℕ)) (pass : Pass) → (u.tree ≡ root → PassesOn (call_of root u v old new) part m from l pass) → EndsAt (call_of root s v old new) part from l pass
-  begun_on m o gave is before v new pass h =
-      let gives : GivesOut root t u (stand root part from) (end_of part) m.walk (Some m.item) = subst (GivesOut root t u (stand root part from) (end_of part) m.walk) is (gives_there m.walk o gave) in
-      begins_on root part s t u old from l walk there v new m pass gives (subst (λ x. IfSome x (λ p. is_past (end_of part) p.place ≡ false)) is before) (h (audits_over gives.0.audits))
+  -- it met an item
+  pub begun_ahead : (m : Met) (o : Option Pending) → GivesNext root (end_of part) t u walk m.walk o → o ≡ Some m.item → IfSome o (λ p. is_past (end_of part) p.place ≡ false) → IsAhead root part from m s u
+  begun_ahead m o gave is before = record {
+    begun = t;
+    down = there.0;
+    gives = subst (GivesOut root t u (stand root part from) (end_of part) m.walk) is (gives_there m.walk o gave);
+    in_front = subst (λ x. IfSome x (λ p. is_past (end_of part) p.place ≡ false)) is before;
+  }
 
   -- it did not get to one
-  pub begun_lost : (why : Fault) → (t.tree ≡ root → (p : Option Place) → Stands root walk p → FailsOut root t u p (end_of part) why)
-      → EndsAt (call_of root s u old old) part from l (pass_of from 0 0 false (status.Stopped (halt.Fault why)) None)
-  begun_lost why lost = begins_lost root part s t u old from l walk there why (lost (audits_over there.0.audits) (stand root part from) there.1)
-
--- no walk was begun
-pub begins_not : (root : StorageRoot) (part : Part) (s t : Store) (old : Option (List ℕ)) (from : Option Place) (l : Limits) (why : Fault)
-    → GoDownFails root s t (entry part from) why → EndsAt (call_of root s t old old) part from l (pass_of from 0 0 false (status.Stopped (halt.Fault why)) None)
-begins_not root part s t old from l why fails = (not_run root part s t old from l why fails, tt)
+  pub begun_lost : (why : Fault) → (t.tree ≡ root → (p : Option Place) → Stands root walk p → FailsOut root t u p (end_of part) why) → TakesNothing root part from (status.Stopped (halt.Fault why)) s u
+  begun_lost why lost old l =
+      let h = stands_first root part s t old walk from l there in
+      run_lost part h.0 u why (subst (λ x. FailsOut root t u x (end_of part) why) (sym h.1) (lost (audits_over there.0.audits) (stand root part from) there.1))
 
 -- ---- a walk that is kept
 
+-- the same as `PassesOn` with such stores
+pub record PassesFrom (call : Call) (part : Part) (p : Place) (from : Option Place) (limits : Limits) (pass : Pass) : Type 0 where
+  pub before : Store
+  pub begun : Store
+  pub there : Store
+  pub behind : Store
+  pub down : GoesDown call.root before begun (entry part from)
+  pub way : Walks call.root begun there (stand call.root part from) (Some p)
+  pub alike : IsAlike call.before call.after there behind
+  pub ends : EndsAt (call_of call.root before behind call.old call.new) part from limits pass
+  pub looks : LooksAbove call part p
+
+-- a pass with a walk that met an item there, or that begins
+abbrev pub PassesWith : Call → Part → Option Place → Option Place → Limits → Pass → Type 0
+PassesWith call part None from limits pass = EndsAt call part from limits pass
+PassesWith call part (Some p) from limits pass = PassesFrom call part p from limits pass
+
 module _ (root : StorageRoot) (part : Part) (s t : Store) (old new : Option (List ℕ)) (from : Option Place) (l : Limits) where
-  pub goes_on_from : (m : Met) (pass : Pass) → PassesOn (call_of root s t old new) part m from l pass → IsMet root part from m → PassesFrom (call_of root s t old new) part m.item.place from l pass
+  goes_on_from : (m : Met) (pass : Pass) → PassesOn (call_of root s t old new) part m from l pass → IsMet root part from m → PassesFrom (call_of root s t old new) part m.item.place from l pass
   goes_on_from m pass h is =
       let x = ahead_of root part from m s.rest s.largest is in
       let y = h.ends x.0 x.1.0 x.1.1.0 x.1.1.1 x.1.1.2 in
@@ -119,6 +122,26 @@ module _ (root : StorageRoot) (part : Part) (s t : Store) (old new : Option (Lis
         ends = y.1.1;
         looks = h.looks is;
       }
+
+  -- a pass from the item that was met
+  pub met_item : (u : Store) (kept : Option Met) (m : Met) (pass : Pass) → s.tree ≡ root → IsReadyIn root part from kept → Meets root part from kept (Some m) s u
+      → (u.tree ≡ root → PassesOn (call_of root u t old new) part m from l pass) → PassesWith (call_of root s t old new) part (met_in kept) from l pass
+  met_item u None m pass over ready ahead h =
+      let x = (h (ahead_over ahead)).ends s u refl refl ahead in
+      subst (λ (b : Store). EndsAt (call_of root s b old new) part from l pass) (alike_same x.1.0) x.1.1
+  met_item u (Some k) m pass over ready met h =
+      let same : m ≡ k = (let e = met.0 in cc) in
+      let on : PassesOn (call_of root s t old new) part m from l pass = subst (λ (x : Store). PassesOn (call_of root x t old new) part m from l pass) met.1 (h (rw met.1 over)) in
+      goes_on_from k pass (subst (λ (x : Met). PassesOn (call_of root s t old new) part x from l pass) same on) ready
+
+  -- or none was met
+  pub met_none : (kept : Option Met) (pass : Pass) → Meets root part from kept None s t → pass_of from 0 0 false status.Ended None ≡ pass → old ≡ new → PassesWith (call_of root s t old new) part (met_in kept) from l pass
+  met_none None pass h is same = rw (← is, ← same) (h old l, tt)
+  met_none (Some k) pass h is same = absurd (let e = h.0 in cc)
+
+  pub met_lost : (kept : Option Met) (why : Fault) (pass : Pass) → (kept ≡ None) × TakesNothing root part from (status.Stopped (halt.Fault why)) s t → pass_of from 0 0 false (status.Stopped (halt.Fault why)) None ≡ pass
+      → old ≡ new → PassesWith (call_of root s t old new) part (met_in kept) from l pass
+  met_lost kept why pass h is same = rw (h.0, ← is, ← same) (h.1 old l, tt)
 
   -- ---- what is left
 

@@ -35,7 +35,7 @@ on_way_first root part s old m from l spent files e f over = record {
   meets = λ d a rest largest ahead. (a, (alike_start s a rest largest, met_first root part d a old m from l spent files e f ahead));
 }
 
-ahead_over : {root : StorageRoot} {part : Part} {from : Option Place} {m : Met} {s t : Store} → IsAhead root part from m s t → t.tree ≡ root
+pub ahead_over : {root : StorageRoot} {part : Part} {from : Option Place} {m : Met} {s t : Store} → IsAhead root part from m s t → t.tree ≡ root
 ahead_over h = audits_over h.gives.0.audits
 
 -- a pass that ended so

@@ -1,14 +1,14 @@
--- What a pass over the items of a part does, by a walk that begins or that goes on.
+-- What a pass over the items of a part does, by the walk that met the first of them.
 use Rattle.std.specs.Prelude.{◌≡◌, ◌≢◌, ◌^◌, ◌≤◌, ℕ, List, false, Option, Some, None}
 use Rattle.ocfl_tree.specs.{Place.{Place}, StorageRoot.{StorageRoot}, Store.{Store}}
 use Rattle.ocfl_audit.specs.{Parts.{Part}, Runs.{Limits}}
 use Rattle.ocfl_cursor.specs.declared.limits.Limits.{Limits as MadeLimits}
 use Rattle.ocfl_scrub.specs.declared.stop.ReportStop.TheVariants as halt
-use Rattle.ocfl_walk.specs.{Ends.{is_past}, WalkCalls.{GoesDown, Walks}, Walks.{Gives}}
+use Rattle.ocfl_walk.specs.{Ends.{is_past}, WalkCalls.{GoesDown}, Walks.{Gives}}
 use Rattle.ocfl_scrub.specs.{Alike.{IsAlike}, Beginning.{IsShort}, Call.{Call, call_of}}
 use Rattle.ocfl_scrub.specs.Keeping.{IsMet, IsReadyIn, LooksAbove, met_in}
 use Rattle.ocfl_scrub.specs.Running.{IsPaid, RunEndsWithin, limits_of}
-use Rattle.ocfl_scrub.specs.{Starting.{end_of, entry, stand}, Taking.{WritesLines}}
+use Rattle.ocfl_scrub.specs.{Starting.{end_of, entry, stand}, Taking.{WritesLines}, Types.{RunStatus}}
 use Rattle.ocfl_scrub.specs.{declared.kept.Met.{Met}, declared.running.Pass.{Pass}}
 use Rattle.ocfl_scrub.specs.declared.running.RunStatus.TheVariants as status
 
@@ -34,26 +34,19 @@ pub record IsAhead (root : StorageRoot) (part : Part) (from : Option Place) (m :
   pub gives : Gives root begun t (stand root part from) m.walk (Some m.item)
   pub in_front : is_past (end_of part) m.item.place ≡ false
 
+-- a pass that took nothing ended so, whatever its limits and what was written before
+abbrev pub TakesNothing : StorageRoot → Part → Option Place → RunStatus → Store → Store → Type 0
+TakesNothing root part from end s t = (old : Option (List ℕ)) (limits : Limits) → RunEndsWithin (call_of root s t old old) part from from limits 0 0 false end
+
+-- the item that a pass above a place begins with: the one that is kept, or one to which a walk went
+abbrev pub Meets : StorageRoot → Part → Option Place → Option Met → Option Met → Store → Store → Type 0
+Meets root part from (Some kept) met s t = (met ≡ Some kept) × (t ≡ s)
+Meets root part from None (Some m) s t = IsAhead root part from m s t
+Meets root part from None None s t = TakesNothing root part from status.Ended s t
+
 -- The item was met. From any store on which a walk could have come to it, the pass ends so after
 -- calls alike.
 pub record PassesOn (call : Call) (part : Part) (m : Met) (from : Option Place) (limits : Limits) (pass : Pass) : Type 0 where
   pub looks : IsMet call.root part from m → LooksAbove call part m.item.place
   pub ends : (s t : Store) → t.rest ≡ call.before.rest → t.largest ≡ call.before.largest → IsAhead call.root part from m s t
       → (u : Store) × (IsAlike call.before call.after t u × EndsAt (call_of call.root s u call.old call.new) part from limits pass)
-
--- the same with such stores
-pub record PassesFrom (call : Call) (part : Part) (p : Place) (from : Option Place) (limits : Limits) (pass : Pass) : Type 0 where
-  pub before : Store
-  pub begun : Store
-  pub there : Store
-  pub behind : Store
-  pub down : GoesDown call.root before begun (entry part from)
-  pub way : Walks call.root begun there (stand call.root part from) (Some p)
-  pub alike : IsAlike call.before call.after there behind
-  pub ends : EndsAt (call_of call.root before behind call.old call.new) part from limits pass
-  pub looks : LooksAbove call part p
-
--- a pass with a walk that met an item there, or that begins
-abbrev pub PassesWith : Call → Part → Option Place → Option Place → Limits → Pass → Type 0
-PassesWith call part None from limits pass = EndsAt call part from limits pass
-PassesWith call part (Some p) from limits pass = PassesFrom call part p from limits pass

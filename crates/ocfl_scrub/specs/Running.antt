@@ -2,7 +2,7 @@
 -- as its limits allow.
 use Rattle.std.specs.Prelude.{◌≡◌, ◌≢◌, ◌↔◌, ◌<◌, ◌≤◌, ◌+◌, ◌^◌, ℕ, List, [], ◌∷◌, ◌++◌, Bool, false, Option, Some, None, length, slice_get, ⊤}
 use Rattle.std.specs.{List.{last_or}, Option.{option_map_or}}
-use Rattle.ocfl_tree.specs.{Place.{Place}, StorageRoot.{StorageRoot}}
+use Rattle.ocfl_tree.specs.{Place.{Place}, StorageRoot.{StorageRoot}, Store.{Store}}
 use Rattle.ocfl_tree.specs.declared.store.Opening.{Opening}
 use Rattle.ocfl_report.specs.{Line.{Item}, Text.{text}}
 use Rattle.ocfl_audit.specs.{Audit.{audit, after}, Parts.{Part, whole, within}}
@@ -11,7 +11,8 @@ use Rattle.ocfl_cursor.specs.{Cursor.{State, start, behind, ended, Cursor}, Mete
 use Rattle.ocfl_cursor.specs.Moves.{next_cycle, after_run}
 use Rattle.ocfl_cursor.specs.declared.limits.Limits.{Limits as MadeLimits}
 use Rattle.ocfl_scrub.specs.declared.stop.ReportStop.TheVariants as halt
-use Rattle.ocfl_scrub.specs.{Call.{Call, Writes}, Taking.{WritesLines}, Types.{ReportStop, RunEnd, RunStatus}}
+use Rattle.ocfl_scrub.specs.Call.{Call, IsUnfailing, WhereTold, Writes}
+use Rattle.ocfl_scrub.specs.{Taking.{WritesLines}, Types.{ReportStop, RunEnd, RunStatus}}
 use Rattle.ocfl_scrub.specs.Starting.{LooksOver, StopsLooking, items_in}
 use Rattle.ocfl_scrub.specs.Written.{places, Figures, StopsWithin}
 use Rattle.ocfl_scrub.specs.declared.running.RunStatus.TheVariants as status
@@ -142,3 +143,10 @@ RunsCleanlyWithin call part c limits spent files finding status.Worn = ⊤
 
 abbrev pub RunsCleanly : Call → Cursor → Limits → ℕ → ℕ → Bool → RunStatus → Type 0
 RunsCleanly call c limits spent files finding end = RunsCleanlyWithin call whole c limits spent files finding end
+
+-- ---- all that a run of a part does, on any store, and on one that tells its tree
+
+pub record RunsOver {S O : Type 0} (tells : Bool) (state : S → Store) (contents : O → Option (List ℕ)) (before after : S) (old new : O) (part : Part) (c : Cursor) (limits : MadeLimits) (ran : RunEnd) : Type 0 where
+  pub any_store : RunsOnAnyStore contents before after old new c limits ran
+  pub told : WhereTold tells state contents before after old new (λ call. ran.end ≢ status.Worn → RunsFromWithin call part c (limits_of limits) ran)
+  pub unfailing : WhereTold tells state contents before after old new (λ call. IsUnfailing call → RunsCleanlyWithin call part c (limits_of limits) ran.spent ran.files ran.found ran.end)

@@ -1,13 +1,14 @@
 //! One run: the items of a part above the cursor's place, as far as the limits allow.
-ghost use Rattle.std.specs.Prelude.{◌≡◌, ◌≢◌, ◌≤◌, ◌^◌, true, false, None, Some, IfErr, IfOk};
+ghost use Rattle.std.specs.Prelude.{◌≡◌, ◌≢◌, true, false, None, Some, IfErr, IfOk, MatchResult, option_map};
 ghost use Rattle.ocfl_cursor.specs.{Cursor.{IsShortPlace}, Meter.{IsMeter, MayStart}};
 ghost use Rattle.ocfl_cursor.specs.State.{state_of};
-ghost use Rattle.ocfl_tree.specs.Place.{Place as Spot};
-ghost use Rattle.ocfl_scrub.specs.Call.{IsUnfailing, WhereTold};
-ghost use Rattle.ocfl_scrub.specs.Keeping.{IsReady, IsReadyIn, RunsOn, met_at, met_in};
-ghost use Rattle.ocfl_scrub.specs.{Passes.{IsPass, PassesOn, PassesWith}, Taking.{WritesLines}};
+ghost use Rattle.ocfl_tree.specs.{Place.{Place as Spot}, Store.{IfTold}};
+ghost use Rattle.ocfl_audit.specs.Parts.{whole};
+ghost use Rattle.ocfl_scrub.specs.Call.{WhereTold};
+ghost use Rattle.ocfl_scrub.specs.Keeping.{IsReady, RunsOn, met_at};
+ghost use Rattle.ocfl_scrub.specs.Passes.{IsPass, Meets, PassesOn, TakesNothing};
 ghost use Rattle.ocfl_scrub.specs.Beginning.{Begins, IsShort};
-ghost use Rattle.ocfl_scrub.specs.Running.{IsWorn, RunEndsWithin, RunsCleanly, place_in, RunsCleanlyWithin, RunsFrom, RunsFromWithin, RunsOnAnyStore, limits_of, state_after};
+ghost use Rattle.ocfl_scrub.specs.Running.{IsWorn, RunsOnAnyStore, RunsOver, limits_of, place_in, state_after};
 ghost use Rattle.ocfl_scrub.specs.Starting.{part_of};
 
 use crate::kept::{KeptWalk, Met};
@@ -18,7 +19,7 @@ use ocfl_cursor::{Cursor, Limits, Meter, State};
 use ocfl_digest::Block;
 use ocfl_tree::laws::every_place_has_names;
 use ocfl_tree::{Place, Tree};
-use ocfl_walk::Pending;
+use ocfl_walk::{Fault, Pending};
 use std::alloc::Global;
 use std::io::Write;
 
@@ -68,13 +69,8 @@ pub fn run<T: Tree, W: Write>(
     block: &mut Block,
     out: &mut W,
 ) -> RunEnd
-    ensures any_store { RunsOnAnyStore W.contents store.old store.new out.old out.new
+    ensures { RunsOver T.told T.state W.contents store.old store.new out.old out.new whole
         cursor limits result }
-    ensures told { WhereTold T.told T.state W.contents store.old store.new out.old out.new (λ call.
-        result.end ≢ RunStatus.Worn → RunsFrom call cursor (limits_of limits) result) }
-    ensures unfailing { WhereTold T.told T.state W.contents store.old store.new out.old out.new
-        (λ call. IsUnfailing call → RunsCleanly call cursor
-        (limits_of limits) result.spent result.files result.found result.end) }
 {
     let whole = Part::whole(alloc);
     run_part(alloc, store, &whole, cursor, limits, block, out)
@@ -95,14 +91,8 @@ pub fn run_part<T: Tree, W: Write>(
     block: &mut Block,
     out: &mut W,
 ) -> RunEnd
-    ensures any_store { RunsOnAnyStore W.contents store.old store.new out.old out.new
-        cursor limits result }
-    ensures told { WhereTold T.told T.state W.contents store.old store.new out.old out.new (λ call.
-        result.end ≢ RunStatus.Worn →
-        RunsFromWithin call (part_of part.now) cursor (limits_of limits) result) }
-    ensures unfailing { WhereTold T.told T.state W.contents store.old store.new out.old out.new
-        (λ call. IsUnfailing call → RunsCleanlyWithin call (part_of part.now) cursor
-        (limits_of limits) result.spent result.files result.found result.end) }
+    ensures { RunsOver T.told T.state W.contents store.old store.new out.old out.new
+        (part_of part.now) cursor limits result }
 {
     let mut kept = KeptWalk::none();
     run_on(alloc, store, part, &mut kept, cursor, limits, block, out)
@@ -162,7 +152,11 @@ pub fn run_on<T: Tree, W: Write>(
         found,
         end,
         met,
-    } = make_pass(alloc, store, part, met, from, limits, block, out);
+    } = match meet(alloc, store, part, met, from.as_ref()) {
+        Ok(Some(met)) => pass_on(alloc, store, part, met, from, limits, block, out),
+        Ok(None) => no_pass(from, RunStatus::Ended),
+        Err(why) => no_pass(from, RunStatus::Stopped(ReportStop::Fault(why))),
+    };
     kept.met = met;
     let left = left_state(&end, last);
     match start.after_run(spent, files, left) {
@@ -228,62 +222,34 @@ struct Pass {
     met: Option<Met>,
 }
 
-// Takes the items of a part above a place, as far as the limits allow, by the walk that met the
-// first of them, or by one that begins there.
-fn make_pass<T: Tree, W: Write>(
+// The first item above a place, and the walk that met it: the one that is kept, or one that begins
+// there. `None` if no item is left.
+fn meet<T: Tree>(
     alloc: Global,
     store: &mut T,
     part: &Part,
-    met: Option<Met>,
-    from: Option<Place>,
-    limits: Limits,
-    block: &mut Block,
-    out: &mut W,
-) -> Pass
-    requires short { IsShort from }
-    ensures any_store { IsPass (W.contents out.old) (W.contents out.new) limits result }
-    ensures told { WhereTold T.told T.state W.contents store.old store.new out.old out.new (λ call.
-        IsReadyIn call.root (part_of part.now) from met
-        → PassesWith call (part_of part.now) (met_in met) from (limits_of limits) result) }
+    kept: Option<Met>,
+    above: Option<&Place>,
+) -> Result<Option<Met>, Fault>
+    ensures { IfTold T.told (T.state store.old) (λ root. let from =
+        option_map (λ p. p.now) above.entry in MatchResult result
+        (λ met. Meets root (part_of part.now) from kept met (T.state store.old) (T.state store.new))
+        (λ why. (kept ≡ None) × TakesNothing root (part_of part.now) from
+        (RunStatus.Stopped (ReportStop.Fault why)) (T.state store.old) (T.state store.new))) }
 {
-    match met {
-        Some(met) => pass_on(alloc, store, part, met, from, limits, block, out),
-        None => pass_from(alloc, store, part, from, limits, block, out),
-    }
-}
-
-// The same by a walk that begins there.
-fn pass_from<T: Tree, W: Write>(
-    alloc: Global,
-    store: &mut T,
-    part: &Part,
-    from: Option<Place>,
-    limits: Limits,
-    block: &mut Block,
-    out: &mut W,
-) -> Pass
-    requires short { IsShort from }
-    ensures any_store { IsPass (W.contents out.old) (W.contents out.new) limits result }
-    ensures told { WhereTold T.told T.state W.contents store.old store.new out.old out.new (λ call.
-        PassesWith call (part_of part.now) None from (limits_of limits) result) }
-{
-    let walk = match set_out(alloc, store, part, from.as_ref()) {
-        Ok(walk) => walk,
-        Err(why) => return no_pass(from, RunStatus::Stopped(ReportStop::Fault(why))),
+    let walk = match kept {
+        Some(met) => return Ok(Some(met)),
+        None => set_out(alloc, store, part, above)?,
     };
-    match walk.next_within(store, &part.end) {
-        Ok((walk, next)) => match next {
-            Some(item) => {
-                let met = Met { walk, item };
-                pass_on(alloc, store, part, met, from, limits, block, out)
-            }
-            None => no_pass(from, RunStatus::Ended),
-        },
-        Err(why) => no_pass(from, RunStatus::Stopped(ReportStop::Fault(why))),
+    let (walk, next) = walk.next_within(store, &part.end)?;
+    match next {
+        Some(item) => Ok(Some(Met { walk, item })),
+        None => Ok(None),
     }
 }
 
-// The same by a walk that met the first of them.
+// Takes the items of a part above a place, as far as the limits allow, by the walk that met the
+// first of them.
 fn pass_on<T: Tree, W: Write>(
     alloc: Global,
     store: &mut T,

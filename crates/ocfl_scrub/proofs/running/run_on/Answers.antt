@@ -1,9 +1,52 @@
 use Rattle.std.proofs.Common.{◌≡◌, false, refl, true, arith}
-use Rattle.ocfl_scrub.specs.{Running.{limits_of}, Starting.{part_of}}
-use Rattle.ocfl_scrub.proofs.KeptRuns.{made_run, ready_after, ready_given, ready_left, runs_kept, tree_on}
-use Rattle.ocfl_scrub.proofs.{MeterLaws.{paid_none}, RunLaws.{run_counted}}
+use Rattle.std.specs.Prelude.{IsTrue}
+use Rattle.ocfl_tree.specs.StorageRoot.{StorageRoot}
+use Rattle.ocfl_item.specs.Judging.{HasShortFiles}
+use Rattle.ocfl_scrub.specs.{Call.{call_of}, Keeping.{IsReady, met_in}, Passes.{IsPass}}
+use Rattle.ocfl_scrub.specs.{Running.{limits_of, place_in}, Starting.{part_of}}
+use Rattle.ocfl_scrub.specs.declared.running.RunStatus.TheVariants as status
+use Rattle.ocfl_scrub.specs.declared.stop.ReportStop.TheVariants as halt
+use Rattle.ocfl_scrub.proofs.KeptRuns.{PassesWith, made_run, met_item, met_lost, met_none, no_pass, ready_after, ready_given, ready_left, runs_kept, tree_on}
+use Rattle.ocfl_scrub.proofs.{KeptTurns.{pass_is}, MeterLaws.{paid_none}, RunLaws.{lent_place, run_counted}}
 use Rattle.ocfl_scrub.proofs.TakeLaws.{nothing_written}
+use Rattle.ocfl_scrub.proofs.running.run_on.Goals.{After-after_run, in-Ok-Some, in-Ok-None, in-Err-meet}
+use Rattle.ocfl_scrub.proofs.running.run_on.Given as given
 use Rattle.ocfl_scrub.proofs.running.run_on.Goals as goal
+
+-- the pass, from the item that was met or over none
+passed : (g : given.Over) (c : After-after_run g) → IsPass (g.W.Write.contents c.args.out.now) (g.W.Write.contents c.match-meet.out) c.args.limits c.match-meet.last
+passed g c =
+    let short = c.in-Ok.ensures.begins.short in
+    elim c.match-meet.branch [
+      | in-Ok-Some w ↦ rw (w.out-is, w.last-is) w.pass_on.ensures.any_store
+      | in-Ok-None w ↦ let e = w.no_pass.ensures in
+          rw (w.out-is, w.last-is) (no_pass w.no_pass.result _ c.args.limits _ status.Ended short (λ x. cc) (λ x. cc) (pass_is w.no_pass.result _ _ _ _ _ _ e.last e.spent e.files e.found e.end e.met))
+      | in-Err-meet w ↦ let e = w.no_pass-in-Err-meet.ensures in
+          rw (w.out-is, w.last-is) (no_pass w.no_pass-in-Err-meet.result _ c.args.limits _ (status.Stopped (halt.Fault w.in-Err-meet.why)) short (λ x. cc) (λ x. cc) (pass_is w.no_pass-in-Err-meet.result _ _ _ _ _ _ e.last e.spent e.files e.found e.end e.met))
+    ]
+
+-- what it does on a store that tells its tree
+passes : (g : given.Over) (c : After-after_run g) → IsTrue g.T.Tree.told → (root : StorageRoot) → (g.T.Tree.state c.args.store.now).tree ≡ root → HasShortFiles root
+    → IsReady root (part_of c.args.part.now) (place_in c.args.cursor.state) c.args.kept.now
+    → PassesWith (call_of root (g.T.Tree.state c.args.store.now) (g.T.Tree.state c.match-meet.store) (g.W.Write.contents c.args.out.now) (g.W.Write.contents c.match-meet.out))
+    (part_of c.args.part.now) (met_in c.take-met.result) c.in-Ok.begun.1 (limits_of c.args.limits) c.match-meet.last
+passes g c told root over short ready =
+    let part = part_of c.args.part.now in
+    let limits = limits_of c.args.limits in
+    let begins = c.in-Ok.ensures.begins in
+    let given = ready_given root part c.args.cursor _ _ begins c.args.kept.now _ c.take-met.ensures.value ready in
+    let met = rw (lent_place _ _ c.as_ref.ensures.value) at (c.meet.ensures told root over) in
+    elim c.match-meet.branch [
+      | in-Ok-Some w ↦ rw (w.store-is, w.out-is, w.last-is)
+          (met_item root part _ _ _ _ _ limits _ c.take-met.result w.in-Ok-Some.met w.pass_on.result over given (rw (w.in-Ok-Some.is, w.in-Ok-Some.field-0-is) at met) (λ same. w.pass_on.ensures.told told root same short))
+      | in-Ok-None w ↦ let e = w.no_pass.ensures in
+          rw (w.store-is, w.out-is, w.last-is)
+          (met_none root part _ _ _ _ _ limits c.take-met.result w.no_pass.result (rw (w.in-Ok-None.is, w.in-Ok-None.field-0-is) at met) (pass_is w.no_pass.result _ _ _ _ _ _ e.last e.spent e.files e.found e.end e.met) refl)
+      | in-Err-meet w ↦ let e = w.no_pass-in-Err-meet.ensures in
+          rw (w.store-is, w.out-is, w.last-is)
+          (met_lost root part _ _ _ _ _ limits c.take-met.result w.in-Err-meet.why w.no_pass-in-Err-meet.result (rw w.in-Err-meet.is at met)
+          (pass_is w.no_pass-in-Err-meet.result _ _ _ _ _ _ e.last e.spent e.files e.found e.end e.met) refl)
+    ]
 
 pub returns-in-Err-clause-any_store : goal.returns-in-Err-clause-any_store
 returns-in-Err-clause-any_store g c =
@@ -22,35 +65,32 @@ returns-in-Err-clause-any_store g c =
 pub unreachable-requires : goal.unreachable-requires
 unreachable-requires g c =
     let b = c.in-Ok.ensures.begins in
-    let p = c.make_pass-last.ensures.any_store in
+    let p = passed g (goal.at.unreachable-requires g c).After-after_run in
     let e : false ≡ true = c.in-None.ensures.keeps.1 (run_counted _ _ _ _ _ b.keeps b.room p.fits p.paid c.left_state-left.ensures.short) in
     cc
 
 pub returns-clause-any_store : goal.returns-clause-any_store
 returns-clause-any_store g c =
-    made_run g.W.Write.contents c.args.store.now c.make_pass-last.new.store c.args.out.now c.make_pass-last.new.out c.args.cursor _ _ c.args.limits c.make_pass-last.result
-    c.in-Ok.ensures.begins c.make_pass-last.ensures.any_store _ _ c.in-Some.ensures.value c.left_state-left.ensures.state
+    made_run g.W.Write.contents c.args.store.now c.match-meet.store c.args.out.now c.match-meet.out c.args.cursor _ _ c.args.limits c.match-meet.last
+    c.in-Ok.ensures.begins (passed g (goal.at.returns-clause-any_store g c).After-after_run) _ _ c.in-Some.ensures.value c.left_state-left.ensures.state
 
 pub returns-clause-told : goal.returns-clause-told
 returns-clause-told g c told root over short worked ready =
-    let part = part_of c.args.part.now in
-    let begins = c.in-Ok.ensures.begins in
-    let given = ready_given root part c.args.cursor _ _ begins c.args.kept.now _ c.take-met.ensures.value ready in
-    runs_kept root part _ _ _ _ _ (limits_of c.args.limits) c.args.kept.now _ c.take-met.ensures.value c.make_pass-last.result c.args.cursor _ begins
-    (c.make_pass-last.ensures.told told root over short given) _ _ c.in-Some.ensures.value c.left_state-left.ensures.state
+    let passes = passes g (goal.at.returns-clause-told g c).After-after_run told root over short ready in
+    runs_kept root (part_of c.args.part.now) _ _ _ _ _ (limits_of c.args.limits) c.args.kept.now _ c.take-met.ensures.value c.match-meet.last c.args.cursor _ c.in-Ok.ensures.begins
+    passes _ _ c.in-Some.ensures.value c.left_state-left.ensures.state
 
 pub returns-clause-root : goal.returns-clause-root
 returns-clause-root g c told root over short ready =
-    let part = part_of c.args.part.now in
-    let begins = c.in-Ok.ensures.begins in
-    let given = ready_given root part c.args.cursor _ _ begins c.args.kept.now _ c.take-met.ensures.value ready in
-    tree_on root part _ _ _ _ _ (limits_of c.args.limits) _ c.make_pass-last.result over (c.make_pass-last.ensures.told told root over short given)
+    tree_on root (part_of c.args.part.now) _ _ _ _ _ (limits_of c.args.limits) _ c.match-meet.last over (passes g (goal.at.returns-clause-root g c).After-after_run told root over short ready)
 
 pub returns-clause-ready : goal.returns-clause-ready
 returns-clause-ready g c told root over short ready =
     let part = part_of c.args.part.now in
-    let begins = c.in-Ok.ensures.begins in
-    let given = ready_given root part c.args.cursor _ _ begins c.args.kept.now _ c.take-met.ensures.value ready in
-    let pass = c.make_pass-last.result in
-    ready_left root part c.args.cursor _ _ begins _ pass.spent pass.files _ pass.end pass.last pass.met c.in-Some.ensures.value c.left_state-left.ensures.state c.make_pass-last.ensures.any_store.unspent
-    (ready_after root part _ _ _ _ _ (limits_of c.args.limits) _ pass (c.make_pass-last.ensures.told told root over short given))
+    let pass = c.match-meet.last in
+    let at = (goal.at.returns-clause-ready g c).After-after_run in
+    ready_left root part c.args.cursor _ _ c.in-Ok.ensures.begins _ pass.spent pass.files _ pass.end pass.last pass.met c.in-Some.ensures.value c.left_state-left.ensures.state (passed g at).unspent
+    (ready_after root part _ _ _ _ _ (limits_of c.args.limits) _ pass (passes g at told root over short ready))
+
+pub returns-clause-spent : goal.returns-clause-spent
+returns-clause-spent g c = (passed g (goal.at.returns-clause-spent g c).After-after_run).spent

@@ -1,23 +1,25 @@
-use Rattle.ocfl_scrub.specs.{Call.{call_of}, Running.{limits_of, place_in}, Starting.{part_of}}
+use Rattle.std.specs.Prelude.{◌≡◌, ◌≢◌, IsTrue}
+use Rattle.ocfl_tree.specs.StorageRoot.{StorageRoot}
+use Rattle.ocfl_item.specs.Judging.{HasShortFiles}
+use Rattle.ocfl_scrub.specs.{Call.{call_of}, Running.{RunsFromWithin, limits_of, place_in}, Starting.{part_of}}
+use Rattle.ocfl_scrub.specs.declared.running.RunStatus.TheVariants as status
 use Rattle.ocfl_scrub.proofs.KeptRuns.{begins_so, cleanly_so, ready_none}
 use Rattle.ocfl_scrub.proofs.running.run_part.Goals as goal
 
-pub returns-clause-told : goal.returns-clause-told
-returns-clause-told g c told root over short worked =
-    let part = part_of c.args.part.now in
-    let kept = c.none-kept.result in
-    let call = call_of root (g.T.Tree.state c.args.store.now) (g.T.Tree.state c.run_on.new.store) (g.W.Write.contents c.args.out.now) (g.W.Write.contents c.run_on.new.out) in
-    begins_so call part kept c.args.cursor (limits_of c.args.limits) c.run_on.result c.none-kept.ensures
-    (c.run_on.ensures.told told root over short worked (ready_none root part (place_in c.args.cursor.state) kept c.none-kept.ensures))
-
-pub returns-clause-unfailing : goal.returns-clause-unfailing
-returns-clause-unfailing g c told root over short same =
+pub returns : goal.returns
+returns g c =
     let part = part_of c.args.part.now in
     let kept = c.none-kept.result in
     let s = g.T.Tree.state c.args.store.now in
     let t = g.T.Tree.state c.run_on.new.store in
     let old = g.W.Write.contents c.args.out.now in
     let new = g.W.Write.contents c.run_on.new.out in
-    cleanly_so root part s t old new c.args.cursor (limits_of c.args.limits) c.run_on.result same (λ made.
-    begins_so (call_of root s t old new) part kept c.args.cursor (limits_of c.args.limits) c.run_on.result c.none-kept.ensures
-    (c.run_on.ensures.told told root over short made (ready_none root part (place_in c.args.cursor.state) kept c.none-kept.ensures)))
+    let limits = limits_of c.args.limits in
+    let runs : IsTrue g.T.Tree.told → (root : StorageRoot) → s.tree ≡ root → HasShortFiles root → c.run_on.result.end ≢ status.Worn → RunsFromWithin (call_of root s t old new) part c.args.cursor limits c.run_on.result = λ told root over short made.
+    begins_so (call_of root s t old new) part kept c.args.cursor limits c.run_on.result c.none-kept.ensures
+    (c.run_on.ensures.told told root over short made (ready_none root part (place_in c.args.cursor.state) kept c.none-kept.ensures)) in
+    record {
+      any_store = c.run_on.ensures.any_store;
+      told = runs;
+      unfailing = λ told root over short same. cleanly_so root part s t old new c.args.cursor limits c.run_on.result same (runs told root over short);
+    }

@@ -1,16 +1,18 @@
 -- What is said and handed back after a command within a scope.
-use Rattle.std.proofs.Common.{◌≡◌, sym, ◌∙◌, ap, subst, ℕ, List, [], Option, Bool, Vec}
+use Rattle.std.proofs.Common.{◌≡◌, ◌≢◌, refl, sym, ◌∙◌, ap, subst, inl, inr, ℕ, List, [], Option, Bool, Vec}
 use Rattle.std.specs.{Io.KnownBytes.{Appends}, declared.alloc.Global.{Global}}
 use Rattle.ocfl_tree.specs.{Place.{Text}, StorageRoot.{StorageRoot}, Store.{Store}}
 use Rattle.ocfl_report.specs.{Line.{found}, Text.{text}}
 use Rattle.ocfl_audit.specs.{Audit.{audit}, Parts.{Part, within}}
 use Rattle.ocfl_deed.specs.declared.deed.Deed.{Deed}
-use Rattle.ocfl_scrub.specs.{Call.{call_of}, Noting.{status_of}, Performing.{PartAudited, Performs}}
-use Rattle.ocfl_scrub.specs.{Scoping.{PerformsIn}, WholeAudit.{AuditEndsWithin}}
+use Rattle.ocfl_scrub.specs.{Call.{Call, call_of}, Noting.{status_of}, Performing.{OutOfMemoryFirst, PartAudited, Performs}}
+use Rattle.ocfl_scrub.specs.Scoping.{AuditPerformedIn, IsAuditNoteIn, PerformsIn, part_of_scope}
+use Rattle.ocfl_scrub.specs.WholeAudit.{AuditEndsWithin}
 use Rattle.ocfl_scrub.specs.{declared.auditing.AuditEnd.{AuditEnd}, declared.note.Note.{Note}}
 use Rattle.ocfl_scrub.specs.declared.checking.AuditStatus.TheVariants as end
 use Rattle.ocfl_scrub.specs.declared.note.Note.TheVariants as note
 use Rattle.ocfl_scope.specs.declared.scope.Scope.{Scope}
+use Rattle.ocfl_scope.specs.declared.scope.Scope.TheVariants as scope
 
 -- ---- audits
 
@@ -34,6 +36,18 @@ module _ (root : StorageRoot) (s t : Store) (old new : Option (List ℕ)) (made 
     audits = record { ran = ran; audits = subst (λ q. AuditEndsWithin (call_of root s t old new) q ran.last ran.found ran.end) same audits; says = says };
     clean = clean_said part same;
   }
+
+-- ---- by the scope
+
+pub audited_in : {call : Call} (w : Scope) {status : ℕ} {n : Note} → PartAudited (λ ran. IsAuditNoteIn w ran.found ran.end ran.last status n) call (part_of_scope w) status n → AuditPerformedIn call w status n
+audited_in scope.Whole h = h
+audited_in (scope.Branch p) h = inl h
+audited_in (scope.Part e) h = inl h
+
+pub unmade_in : {call : Call} (w : Scope) {status : ℕ} {n : Note} → w ≢ scope.Whole → OutOfMemoryFirst call status n → AuditPerformedIn call w status n
+unmade_in scope.Whole other h = absurd (other refl)
+unmade_in (scope.Branch p) other h = inr h
+unmade_in (scope.Part e) other h = inr h
 
 -- ---- by what is asked for
 

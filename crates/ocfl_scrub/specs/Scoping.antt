@@ -2,7 +2,7 @@
 use Rattle.std.specs.Prelude.{◌≡◌, ◌⊎◌, ℕ, Bool, Option, None, Vec, IfSome, ⊤}
 use Rattle.std.specs.declared.alloc.Global.{Global}
 use Rattle.ocfl_tree.specs.Place.{Text, Place}
-use Rattle.ocfl_audit.specs.{Parts.{Part, branch}, Runs.{Limits}}
+use Rattle.ocfl_audit.specs.{Parts.{Part, branch, whole}, Runs.{Limits}}
 use Rattle.ocfl_cursor.specs.{Cursor.{Cursor, new_cursor}, Part.{part_text, IsPartText}}
 use Rattle.ocfl_cursor.specs.{Stop.{PartStopsRightly}, declared.ends.PartEnds.{PartEnds}}
 use Rattle.ocfl_cursor.specs.declared.part_reading.PartCursorStop.{PartCursorStop}
@@ -13,10 +13,16 @@ use Rattle.ocfl_scope.specs.{Numbered.{part_between}, declared.scope.Scope.{Scop
 use Rattle.ocfl_scope.specs.declared.scope.Scope.TheVariants as scope
 use Rattle.ocfl_scrub.specs.{Call.{Call}, Types.{AuditStatus, Note}}
 use Rattle.ocfl_scrub.specs.Noting.{IsAuditSaid, IsRunSaid, IsAuditNote, IsPartRefusedNote}
-use Rattle.ocfl_scrub.specs.Performing.{IfRead, IsSaid, RefusesRightly, HandedBack, HandsBack, PartAudited, OutOfMemoryFirst, RunMade, RunUnmade, RunUnread, RunWorn, Performs}
+use Rattle.ocfl_scrub.specs.Performing.{IfRead, IsSaid, RefusesRightly, AuditPerformed, HandedBack, HandsBack, PartAudited, OutOfMemoryFirst, RunMade, RunUnmade, RunUnread, RunWorn, Performs}
 use Rattle.ocfl_scrub.specs.Running.{limits_of}
 use Rattle.ocfl_scrub.specs.declared.checking.AuditStatus.TheVariants as end
 use Rattle.ocfl_scrub.specs.declared.note.Note.TheVariants as note
+
+-- the part of the storage root that a scope has
+abbrev pub part_of_scope : Scope → Part
+part_of_scope scope.Whole = whole
+part_of_scope (scope.Branch p) = branch p
+part_of_scope (scope.Part e) = part_between e
 
 -- ---- what is said
 
@@ -42,6 +48,11 @@ IsSaidIn d w n = IsSaid d n
 abbrev pub IsBranchNote : Bool → AuditStatus → Option Place → ℕ → Note → Type 0
 IsBranchNote finding end.Ended None status n = (status ≡ 2) × (n ≡ note.EmptyBranch)
 IsBranchNote finding how last status n = IsAuditNote finding how status n
+
+-- of what a scope has: only a branch may not be empty
+abbrev pub IsAuditNoteIn : Scope → Bool → AuditStatus → Option Place → ℕ → Note → Type 0
+IsAuditNoteIn (scope.Branch p) finding how last status n = IsBranchNote finding how last status n
+IsAuditNoteIn w finding how last status n = IsAuditNote finding how status n
 
 -- what it is ended with if no cursor of a part was read
 abbrev pub IsPartUnreadNote : PartCursorStop → ℕ → Note → Type 0
@@ -86,6 +97,11 @@ BranchPerformed call p status n = BranchAudited call p status n ⊎ OutOfMemoryF
 abbrev pub PartPerformed : Call → Part → ℕ → Note → Type 0
 PartPerformed call part status n = PartAudited (λ ran. IsAuditNote ran.found ran.end status n) call part status n ⊎ OutOfMemoryFirst call status n
 
+abbrev pub AuditPerformedIn : Call → Scope → ℕ → Note → Type 0
+AuditPerformedIn call scope.Whole status n = AuditPerformed call status n
+AuditPerformedIn call (scope.Branch p) status n = BranchPerformed call p status n
+AuditPerformedIn call (scope.Part e) status n = PartPerformed call (part_between e) status n
+
 -- memory ran out before the run
 abbrev pub IsUnbegun : ℕ → Note → Type 0
 IsUnbegun status n = (status ≡ 3) × (n ≡ note.OutOfMemory)
@@ -100,7 +116,6 @@ PartRunPerformed call e known limits status n stored =
 
 -- the deed was done within the scope
 abbrev pub PerformsIn : Call → Deed → Scope → Option (Option Text) → ℕ → Note → Option (Vec ℕ Global) → Type 0
-PerformsIn call deed.Audit (scope.Branch p) known status n stored = BranchPerformed call p status n
-PerformsIn call deed.Audit (scope.Part e) known status n stored = PartPerformed call (part_between e) status n
+PerformsIn call deed.Audit w known status n stored = AuditPerformedIn call w status n
 PerformsIn call (deed.Run limits) (scope.Part e) known status n stored = PartRunPerformed call e known (limits_of limits) status n stored
 PerformsIn call d w known status n stored = Performs call known d status n stored

@@ -1,12 +1,14 @@
 //! Parts of a storage root.
-ghost use Rattle.std.specs.Prelude.{◌≡◌, [], None, Some, Option, option_map, IfOk, MatchResult};
+ghost use Rattle.std.specs.Prelude.{◌≡◌, ◌≢◌, [], None, Some, Option, option_map, IfErr, IfOk, MatchResult};
 ghost use Rattle.ocfl_audit.specs.Parts.{branch, whole};
 ghost use Rattle.ocfl_scope.specs.Numbered.{part_between};
 ghost use Rattle.ocfl_walk.specs.{WalkCalls.{GoDownFails, GoesDown}, Walks.{Stands}};
+ghost use Rattle.ocfl_scrub.specs.Scoping.{part_of_scope};
 ghost use Rattle.ocfl_scrub.specs.Starting.{entry, first_place as first_of_part, part_of, stand, is_before as lies_before};
 ghost use Rattle.ocfl_tree.specs.Store.{IfTold};
 
 use ocfl_cursor::PartEnds;
+use ocfl_scope::Scope;
 use ocfl_tree::{Place, Tree};
 use ocfl_walk::{End, Fault, Walk};
 use std::alloc::{AllocError, Global};
@@ -73,11 +75,16 @@ impl Part {
     }
 }
 
-/// The part that is a branch.
-pub(crate) fn branch_at(place: &Place) -> Result<Part, AllocError>
-    ensures { IfOk result (λ part. part_of part ≡ branch place.now) }
+/// The part that a scope has.
+pub(crate) fn part_in(alloc: Global, scope: &Scope) -> Result<Part, AllocError>
+    ensures part { IfOk result (λ part. part_of part ≡ part_of_scope scope.now) }
+    ensures whole { IfErr result (λ why. scope.now ≢ Scope.Whole) }
 {
-    Ok(Part::branch(place.try_clone()?))
+    match scope {
+        Scope::Whole => Ok(Part::whole(alloc)),
+        Scope::Branch(place) => Ok(Part::branch(place.try_clone()?)),
+        Scope::Part(ends) => part_between(alloc, ends),
+    }
 }
 
 /// The part that has these ends.

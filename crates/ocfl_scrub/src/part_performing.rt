@@ -1,25 +1,25 @@
 //! What the program does for a command within a scope: on the whole storage root, on a branch of
 //! it, or on one part.
-ghost use Rattle.std.specs.Prelude.{◌≡◌, IfErr, IfOk, None, Some};
-ghost use Rattle.ocfl_scope.specs.Numbered.{part_between as part_of_ends};
+ghost use Rattle.std.specs.Prelude.{◌≡◌, ◌≢◌, IfErr, IfOk, None, Some};
 ghost use Rattle.ocfl_scope.specs.declared.scope.Scope.TheVariants as scopes;
 ghost use Rattle.ocfl_scrub.specs.{Call.{WhereTold}, Running.{limits_of}};
-ghost use Rattle.ocfl_scrub.specs.Noting.{EndsUnread, IsAuditSaid, IsStatus, ReportsOnAnyStore, status_of};
+ghost use Rattle.ocfl_scrub.specs.Noting.{EndsUnread, IsStatus, ReportsOnAnyStore, status_of};
 ghost use Rattle.ocfl_scrub.specs.Performing.{AnswersOnAnyStore, bytes_of};
-ghost use Rattle.ocfl_scrub.specs.Scoping.{BeginsPartWith, BranchPerformed, HandsBackIn, IsBranchNote, IsBranchSaid, IsPartRunSaid, IsSaidIn, IsPartUnreadNote, PartPerformed, PartRefusesRightly, PartRunPerformed, PartStopsWith, PerformsIn, RefusesRightlyIn};
+ghost use Rattle.ocfl_scrub.specs.Scoping.{AuditPerformedIn, BeginsPartWith, HandsBackIn, IsAuditNoteIn, IsPartRunSaid, IsPartUnreadNote, IsSaidIn, PartRefusesRightly, PartRunPerformed, PartStopsWith, PerformsIn, RefusesRightlyIn};
 
 use crate::auditing::{AuditEnd, audit_part};
 use crate::checking::AuditStatus;
 use crate::command::describe_audit;
 use crate::note::Note;
-use crate::part::{branch_at, part_between};
+use crate::part::{part_between, part_in};
 use crate::performing::{Performed, conclude_run, describe_part_refused, perform, without_cursor};
 use crate::running::run_part;
+use crate::stop::ReportStop;
 use ocfl_cursor::{Cursor, Limits, PartCursorStop, PartEnds, encode_part, read_part_cursor};
 use ocfl_deed::Deed;
 use ocfl_digest::Block;
 use ocfl_scope::Scope;
-use ocfl_tree::{Place, Tree};
+use ocfl_tree::Tree;
 use std::alloc::Global;
 use std::io::{Read, Write};
 
@@ -51,13 +51,7 @@ pub fn perform_part<T: Tree, R: Read, W: Write>(
         result.status result.note result.cursor) }
 {
     match deed {
-        Deed::Audit => match scope {
-            Scope::Whole => perform(alloc, store, deed, reader, block, out),
-            Scope::Branch(place) => {
-                without_cursor(audited_branch(alloc, store, place, block, out))
-            }
-            Scope::Part(ends) => without_cursor(audited_part(alloc, store, ends, block, out)),
-        },
+        Deed::Audit => without_cursor(audited_in(alloc, store, scope, block, out)),
         Deed::Run(limits) => match scope {
             Scope::Whole => perform(alloc, store, deed, reader, block, out),
             Scope::Branch(_) => perform(alloc, store, deed, reader, block, out),
@@ -71,64 +65,45 @@ pub fn perform_part<T: Tree, R: Read, W: Write>(
     }
 }
 
-// Audits a branch, and describes what the audit ended with.
-fn audited_branch<T: Tree, W: Write>(
+// Audits what a scope has, and describes what the audit ended with.
+fn audited_in<T: Tree, W: Write>(
     alloc: Global,
     store: &mut T,
-    place: &Place,
+    scope: &Scope,
     block: &mut Block,
     out: &mut W,
 ) -> (u8, Note)
     // Of every store.
     ensures any_store { ReportsOnAnyStore W.contents out.old out.new result.0 result.1 }
-    ensures said { IsBranchSaid result.1 }
+    ensures said { IsSaidIn Deed.Audit scope.now result.1 }
     ensures empty { result.1 ≡ Note.EmptyBranch → out.new ≡ out.old }
 
     // Of a store that tells its tree.
     ensures told { WhereTold T.told T.state W.contents store.old store.new out.old out.new (λ call.
-        BranchPerformed call place.now result.0 result.1) }
+        AuditPerformedIn call scope.now result.0 result.1) }
 {
-    let Ok(part) = branch_at(place) else {
+    let Ok(part) = part_in(alloc, scope) else {
         return (3, Note::OutOfMemory);
     };
-    describe_branch(audit_part(alloc, store, &part, block, out))
+    describe_audit_in(scope, audit_part(alloc, store, &part, block, out))
 }
 
-// Describes what the audit of a branch ended with.
-fn describe_branch(end: AuditEnd) -> (u8, Note)
-    ensures note { IsBranchNote end.found end.end end.last result.0 result.1 }
+// Describes what the audit of a scope ended with: only a branch may not be empty.
+fn describe_audit_in(scope: &Scope, end: AuditEnd) -> (u8, Note)
+    ensures note { IsAuditNoteIn scope.now end.found end.end end.last result.0 result.1 }
     ensures status { IsStatus result.0 result.1 }
-    ensures said { IsBranchSaid result.1 }
+    ensures said { IsSaidIn Deed.Audit scope.now result.1 }
     ensures nothing { result.1 ≡ Note.Nothing
         → (end.end ≡ AuditStatus.Ended) × (result.0 ≡ status_of end.found) }
-    ensures empty { result.1 ≡ Note.EmptyBranch → (end.end ≡ AuditStatus.Ended) × (end.last ≡ None) }
+    ensures empty { result.1 ≡ Note.EmptyBranch
+        → (end.end ≡ AuditStatus.Ended) × (end.last ≡ None) }
+    ensures uncut { result.1 ≢ Note.OutputFailed → end.end ≢ AuditStatus.Stopped ReportStop.Output }
 {
-    if matches!(end.end, AuditStatus::Ended) && end.last.is_none() {
+    let none = matches!(end.end, AuditStatus::Ended) && end.last.is_none();
+    if none && matches!(scope, Scope::Branch(_)) {
         return (2, Note::EmptyBranch);
     }
     describe_audit(end)
-}
-
-// Audits the part with these ends, and describes what the audit ended with.
-fn audited_part<T: Tree, W: Write>(
-    alloc: Global,
-    store: &mut T,
-    ends: &PartEnds,
-    block: &mut Block,
-    out: &mut W,
-) -> (u8, Note)
-    // Of every store.
-    ensures any_store { ReportsOnAnyStore W.contents out.old out.new result.0 result.1 }
-    ensures said { IsAuditSaid result.1 }
-
-    // Of a store that tells its tree.
-    ensures told { WhereTold T.told T.state W.contents store.old store.new out.old out.new (λ call.
-        PartPerformed call (part_of_ends ends.now) result.0 result.1) }
-{
-    let Ok(part) = part_between(alloc, ends) else {
-        return (3, Note::OutOfMemory);
-    };
-    describe_audit(audit_part(alloc, store, &part, block, out))
 }
 
 // Makes one run of the part with these ends, from its stored cursor.

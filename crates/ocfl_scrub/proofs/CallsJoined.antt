@@ -19,17 +19,16 @@ use Rattle.ocfl_cursor.proofs.PartTexts.{part_text_determines}
 use Rattle.ocfl_scrub.specs.Types.{ReportStop}
 use Rattle.ocfl_item.specs.declared.fault.Fault.TheVariants as fault
 use Rattle.ocfl_scrub.specs.declared.stop.ReportStop.TheVariants as halt
-use Rattle.ocfl_deed.specs.declared.deed.Deed.{Deed}
-use Rattle.ocfl_scope.specs.{Numbered.{AreAllFrom, part_between}, declared.scope.Scope.{Scope}}
+use Rattle.ocfl_scope.specs.Numbered.{AreAllFrom, part_between}
 use Rattle.ocfl_scope.proofs.NumberedLaws.{all_parts}
-use Rattle.ocfl_scrub.specs.Call.{call_of, known_call}
+use Rattle.ocfl_scrub.specs.Call.{known_call}
 use Rattle.ocfl_scrub.specs.Handing.{PartCall, CalledWell, SaysMade, AreCalls, BeginsCycle, CalledCycle, IsCalledCycle, bytes_stored, content_opened, handed_by, limits_given, stored_after, written_by}
 use Rattle.ocfl_scrub.specs.Joining.{AreRuns, PartRun, RanWell, opened_by, reports_of}
 use Rattle.ocfl_scrub.specs.Noting.{IsPartRefusedNote, IsRunNote, IsStopNote, IsStoredNote}
 use Rattle.ocfl_scrub.specs.Performing.{RunMade, RunUnmade}
 use Rattle.ocfl_scrub.specs.Running.{limits_of, place_in, state_after}
-use Rattle.ocfl_scrub.specs.Scoping.{BeginsPartWith, IsPartUnreadNote, PerformsIn, WhyNoPartRun}
-use Rattle.ocfl_scrub.specs.{declared.note.Note.{Note}, declared.performing.Performed.{Performed}}
+use Rattle.ocfl_scrub.specs.Scoping.{BeginsPartWith, IsPartUnreadNote, WhyNoPartRun}
+use Rattle.ocfl_scrub.specs.declared.note.Note.{Note}
 use Rattle.ocfl_scrub.specs.declared.running.RunEnd.{RunEnd}
 use Rattle.ocfl_scrub.specs.declared.running.RunStatus.{RunStatus}
 use Rattle.ocfl_scrub.specs.declared.note.Note.TheVariants as note
@@ -92,17 +91,6 @@ stored_says e whole c spent finding how status n (Some bytes) h says = record {
   text_is = h.0;
   ended = ran_says whole c spent finding how status n h.1 says;
 }
-
--- the same call, if what it was given and wrote has other names
-pub as_told : (root : StorageRoot) (s t : Store) (old old' new new' : Option (List ℕ)) (d d' : Deed) (w w' : Scope) (known known' : Option (Option Text)) (said : Performed)
-    → old ≡ old' → new ≡ new' → d ≡ d' → w ≡ w' → known ≡ known'
-    → PerformsIn (call_of root s t old new) d w known said.status said.note said.cursor → PerformsIn (call_of root s t old' new') d' w' known' said.status said.note said.cursor
-as_told root s t old old' new new' d d' w w' known known' said o n e v k h =
-    subst (λ x. PerformsIn (call_of root s t old' new') d' w' x said.status said.note said.cursor) k
-    (subst (λ x. PerformsIn (call_of root s t old' new') d' x known said.status said.note said.cursor) v
-    (subst (λ x. PerformsIn (call_of root s t old' new') x w known said.status said.note said.cursor) e
-    (subst (λ x. PerformsIn (call_of root s t old' x) d w known said.status said.note said.cursor) n
-    (subst (λ x. PerformsIn (call_of root s t x new) d w known said.status said.note said.cursor) o h))))
 
 -- ---- one call is a run
 

@@ -1,8 +1,8 @@
 //! The laws of calls that hand the cursor of a part from one to the next as bytes, as the program
 //! does from one process to another.
-ghost use Rattle.std.specs.Prelude.{◌≡◌, ◌≢◌, ◌≤◌, ◌+◌, ◌++◌, ◌/◌, ℕ, List, [], Option, Some, All, IsSome, flat_map, length, map};
+ghost use Rattle.std.specs.Prelude.{◌≡◌, ◌≢◌, ◌≤◌, ◌+◌, ◌++◌, ◌/◌, ℕ, List, [], Option, All, IsSome, flat_map, length, map};
 ghost use Rattle.std.specs.List.{AllByRecursion};
-ghost use Rattle.ocfl_tree.specs.{Place.{Text}, StorageRoot.{StorageRoot}};
+ghost use Rattle.ocfl_tree.specs.{Place.{Text}, StorageRoot.{StorageRoot}, Store.{Store}};
 ghost use Rattle.ocfl_tree.specs.declared.store.Opening.{Opening};
 ghost use Rattle.ocfl_report.specs.Text.{text};
 ghost use Rattle.ocfl_audit.specs.{Audit.{audit, total_cost}, Due.{hashed_among, item_places}};
@@ -12,61 +12,40 @@ ghost use Rattle.ocfl_cursor.specs.declared.limits.Limits.{Limits as MadeLimits}
 ghost use Rattle.ocfl_deed.specs.declared.deed.Deed.TheVariants as deeds;
 ghost use Rattle.ocfl_scope.specs.Numbered.{AreAllFrom, part_between};
 ghost use Rattle.ocfl_scope.specs.declared.scope.Scope.TheVariants as scopes;
-ghost use Rattle.ocfl_scrub.specs.Call.{IsUnfailing, WhereTold};
+ghost use Rattle.ocfl_scrub.specs.{Call.{known_call}, Types.{Performed}};
 ghost use Rattle.ocfl_scrub.specs.Handing.{AreCalls, AreMadeCalls, BeginsCycle, CalledCycle, CalledWell, IsCalledCycle, IsMadeCycle, MadeCall, MadeCycle, MadeFrom, PartCall, SayEnded, bytes_stored, content_opened, limits_given, runs_made, stored_after, stored_last, written_by};
 ghost use Rattle.ocfl_scrub.specs.Joining.{left_by, reports_of, unread_together, unstopped};
-ghost use Rattle.ocfl_scrub.specs.{Performing.{bytes_of}, Scoping.{BeginsPartWith}};
+ghost use Rattle.ocfl_scrub.specs.Scoping.{BeginsPartWith, PerformsIn};
 ghost use Rattle.ocfl_scrub.specs.declared.note.Note.TheVariants as notes;
 
-use crate::part_performing::perform_part;
-use crate::performing::Performed;
-use ocfl_deed::Deed;
-use ocfl_digest::Block;
-use ocfl_scope::Scope;
-use ocfl_tree::Tree;
-use std::alloc::Global;
-use std::io::{Read, Write};
-
-/// A call of `perform_part` for a run of a part is one of which the laws below speak, if its store
-/// tells its tree, the bytes of its cursor and of its output are known, and no failure is counted.
-/// So is each that hands a cursor back, whatever failed in it. Its report is what it wrote, except
-/// for a beginning of the next item's lines if the output failed.
-pub fn a_call_is_told<T: Tree, R: Read, W: Write>(
-    alloc: Global,
-    store: &mut T,
-    deed: &Deed,
-    scope: &Scope,
-    reader: Option<&mut R>,
-    block: &mut Block,
-    out: &mut W,
-) -> Performed
-    ensures well { WhereTold T.told T.state W.contents store.old store.new out.old out.new (λ call.
-        (limits : MadeLimits) (e : PartEnds) (stored : Option Text) (old report : Text)
-        (opened : List Opening) → deed.now ≡ deeds.Run limits → scope.now ≡ scopes.Part e
-        → bytes_of R.remaining reader.entry ≡ bytes_stored stored → call.old ≡ Some old
-        → call.new ≡ Some (old ++ report)
-        → call.after.openings ≡ call.before.openings ++ opened → IsUnfailing call
-        → CalledWell call.root e stored
-        (record { limits = limits; report = report; opened = opened; said = result })) }
-    ensures handed_back { WhereTold T.told T.state W.contents store.old store.new out.old out.new
-        (λ call. (limits : MadeLimits) (e : PartEnds) (stored : Option Text) (old new : Text)
-        → deed.now ≡ deeds.Run limits → scope.now ≡ scopes.Part e
-        → bytes_of R.remaining reader.entry ≡ bytes_stored stored → call.old ≡ Some old
-        → call.new ≡ Some new → IsSome result.cursor → (c : MadeCall)
-        × ((c.call.limits ≡ limits) × ((c.call.said ≡ result)
-        × ((call.after.openings ≡ call.before.openings ++ c.call.opened)
+/// A call of `perform_part` for a run of a part, by what that says of it (`told`), is one of which
+/// the laws below speak, if the bytes of its cursor and of its output are known, and no failure is
+/// counted. So is each that hands a cursor back, whatever failed in it. Its report is what it
+/// wrote, except for a beginning of the next item's lines if the output failed.
+pub fn a_call_is_told()
+    ensures well { (root : StorageRoot) (s t : Store) (limits : MadeLimits) (e : PartEnds)
+        (stored : Option Text) (said : Performed) (old report : Text) (opened : List Opening)
+        → PerformsIn (known_call root s t old (old ++ report)) (deeds.Run limits) (scopes.Part e)
+        (bytes_stored stored) said.status said.note said.cursor
+        → t.openings ≡ s.openings ++ opened → t.failures ≡ s.failures
+        → CalledWell root e stored
+        (record { limits = limits; report = report; opened = opened; said = said }) }
+    ensures handed_back { (root : StorageRoot) (s t : Store) (limits : MadeLimits) (e : PartEnds)
+        (stored : Option Text) (said : Performed) (old new : Text)
+        → PerformsIn (known_call root s t old new) (deeds.Run limits) (scopes.Part e)
+        (bytes_stored stored) said.status said.note said.cursor → IsSome said.cursor
+        → (c : MadeCall) × ((c.call.limits ≡ limits) × ((c.call.said ≡ said)
+        × ((t.openings ≡ s.openings ++ c.call.opened)
         × ((cut : Text) × ((new ≡ old ++ (c.call.report ++ cut))
-        × ((result.note ≢ notes.OutputFailed → cut ≡ [])
-        × MadeFrom call.root e stored c))))))) }
-{
-    perform_part(alloc, store, deed, scope, reader, block, out)
-}
+        × ((said.note ≢ notes.OutputFailed → cut ≡ []) × MadeFrom root e stored c)))))) }
+{}
 
 /// Calls of `perform_part` run one part, in any processes. Each reads as its stored cursor the
 /// bytes that the call before handed back. The first reads none, or those of a cursor with which a
 /// cycle begins. No failure is counted, and the last call ends the cycle. Then the outputs, joined,
 /// are what the audit has in the part. Each hashed file of it was opened once, in order, and the
 /// calls are few. With the bytes that the last one handed back, the next cycle begins.
+#[tactic(auto, using(crate::proofs::CallsJoined::calls_report, crate::proofs::CallsJoined::calls_open, crate::proofs::CallsJoined::next_cycle))]
 pub fn calls_on_a_part_join()
     ensures reports { (root : StorageRoot) (e : PartEnds) (stored : Option Text)
         (calls : List PartCall) → BeginsCycle e stored → AreCalls root e stored calls

@@ -8,10 +8,8 @@ use crate::tests::common::cursors::{cut, ends_of, sealed};
 use crate::tests::common::roots::{right_objects, three_files};
 use crate::tests::common::store::{place_of, was_not_called};
 use ocfl_deed::Deed;
-use ocfl_digest::Block;
 use ocfl_memory::Point;
 use ocfl_scrub::Scope;
-use ocfl_scrub::handing::a_call_is_told;
 use ocfl_tree::Tree;
 use std::alloc::Global;
 use std::test::Fail;
@@ -158,21 +156,6 @@ fn runs_of_a_part_go_on(rt: HostRuntime) -> Result<(), Fail> {
         let right = sealed(alloc, format!(in alloc; "{FROM_B}{lines}")?.as_str())?;
         assert!(rt; stored.as_deref() == Some(right.as_slice()), "{row}");
     }
-    Ok(())
-}
-
-#[test]
-fn the_call_of_which_laws_speak_is_made(rt: HostRuntime) -> Result<(), Fail> {
-    let alloc = rt.alloc();
-    let (mut store, scope) = (three_files(alloc)?, part(alloc, FILE_B, "-")?);
-    let (mut block, mut out) = (Block::new(alloc)?, Vec::new(alloc));
-    let (deed, mut file) = (run_of(9)?, None::<&[u8]>);
-    let reader = file.as_mut();
-    let done = a_call_is_told(
-        alloc, &mut store, &deed, &scope, reader, &mut block, &mut out,
-    );
-    assert!(rt; done.status == 0 && done.cursor.is_some());
-    assert_eq!(rt; out.len(), B.len() + C.len());
     Ok(())
 }
 

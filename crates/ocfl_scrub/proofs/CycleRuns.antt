@@ -25,7 +25,7 @@ use Rattle.ocfl_cursor.specs.Cursor.{State, start, behind, ended, Cursor}
 use Rattle.ocfl_scrub.specs.declared.stop.ReportStop.TheVariants.{Output}
 use Rattle.ocfl_scrub.specs.Types.{ReportStop}
 use Rattle.ocfl_scrub.specs.Call.{Call, known_call}
-use Rattle.ocfl_scrub.specs.Joining.{PartRun, Ran, AreOneCycle, cursor_after, is_taken, left_by, unread_by, unread_together, is_stopped, unstopped, items_out, reports_of, PartCycle, IsWholeCycle}
+use Rattle.ocfl_scrub.specs.Joining.{PartRun, Ran, HasReport, AreOneCycle, cursor_after, is_taken, left_by, unread_by, unread_together, is_stopped, unstopped, items_out, reports_of, PartCycle, IsWholeCycle}
 use Rattle.ocfl_scrub.specs.Running.{place_in, begun, begun_in, state_after, taken_in, RunsWithin, RunStopsWithin, RunEndsWithin, RunsFromWithin}
 use Rattle.ocfl_scrub.specs.{Starting.{due_within, items_in}, Together.{state_at}, Written.{places}}
 use Rattle.ocfl_scrub.specs.declared.running.RunEnd.{RunEnd}
@@ -617,11 +617,6 @@ module _ (root : StorageRoot) where
       each_report ds done ∙ apart_texts root (apart ds) separators up (parts_same ds ∙ are) ∙ ap (λ u. text (audit root u)) (unread_same ds done)
 
 -- ---- each run has a report
-
--- a report of a run that wrote some text, and what of the text is none of it
-abbrev pub HasReport : StorageRoot → Text → Text → Part → Cursor → Limits → RunEnd → Type 0
-HasReport root old new part c l ran =
-    (r : PartRun) × ((cut : Text) × ((r.limits ≡ l) × ((r.ran ≡ ran) × ((new ≡ old ++ (r.report ++ cut)) × ((ran.end ≢ status.Stopped Output → cut ≡ []) × Ran root part c r)))))
 
 module _ (root : StorageRoot) (s t : Store) (old : Text) (part : Part) (c : Cursor) (l : Limits) where
   ran_by : (ran : RunEnd) (report cut : Text) (opened : List Opening) (new : Text) → old ++ (report ++ cut) ≡ new → t.openings ≡ s.openings ++ opened

@@ -12,6 +12,7 @@ use Rattle.ocfl_walk.specs.{Walks.{GivesOut, Stands}, declared.walk.Walk.{Walk}}
 use Rattle.ocfl_scrub.specs.{Beginning.{Begins, IsShort}, Call.{Call, call_of, known_call}}
 use Rattle.ocfl_scrub.specs.{Alike.{IsAlike}, Keeping.{IsMet, IsReady, IsReadyIn, LooksAbove, RunsOn, met_at, met_in}}
 use Rattle.ocfl_scrub.specs.Passes.{EndsAt, IsAhead, IsPass, Meets, PassesOn, TakesNothing}
+use Rattle.ocfl_scrub.specs.Joining.{HasReport}
 use Rattle.ocfl_scrub.specs.Running.{IsPaid, RunEndsWithin, RunsCleanlyWithin, RunsFromWithin, RunsOnAnyStore, begun, limits_of, place_in, state_after}
 use Rattle.ocfl_scrub.specs.{Starting.{end_of, entry, stand}, Taking.{WritesLines}}
 use Rattle.ocfl_scrub.specs.{declared.kept.KeptWalk.{KeptWalk}, declared.kept.Met.{Met}}
@@ -20,7 +21,7 @@ use Rattle.ocfl_scrub.specs.declared.running.RunStatus.{RunStatus}
 use Rattle.ocfl_scrub.specs.declared.running.RunStatus.TheVariants as status
 use Rattle.ocfl_scrub.specs.declared.stop.ReportStop.TheVariants as halt
 use Rattle.ocfl_scrub.proofs.{AlikeLaws.{alike_same, alike_tree}, AuditsJoined.{audits_over}}
-use Rattle.ocfl_scrub.proofs.{CycleRuns.{HasReport, has_report}, KeptLaws.{ahead_of}}
+use Rattle.ocfl_scrub.proofs.{CycleRuns.{has_report}, KeptLaws.{ahead_of}}
 use Rattle.ocfl_scrub.proofs.{KeptTurns.{ahead_over, pass_of}, LoopLaws.{GivesNext}}
 use Rattle.ocfl_scrub.proofs.{MeterLaws.{paid_none, paid_within}, RunLaws.{runs_cleanly, runs_from}}
 use Rattle.ocfl_scrub.proofs.{RunTurns.{run_ended, run_lost, stands_first}, TakeLaws.{nothing_written}}

@@ -11,6 +11,7 @@ use Rattle.ocfl_cursor.specs.Cursor.{State, start, behind, ended, Cursor}
 use Rattle.ocfl_scrub.specs.{Call.{Call, known_call}, Types.{RunEnd, RunStatus}}
 use Rattle.ocfl_scrub.specs.Running.{place_in, taken_in, RunEndsWithin, RunsFromWithin}
 use Rattle.ocfl_scrub.specs.declared.running.RunStatus.TheVariants as status
+use Rattle.ocfl_scrub.specs.declared.stop.ReportStop.TheVariants.{Output}
 
 -- what a run was given, what it wrote and opened, and what it answered
 pub record PartRun : Type 0 where
@@ -71,6 +72,11 @@ pub record Ran (root : StorageRoot) (part : Part) (c : Cursor) (r : PartRun) : T
   pub runs : RunsFromWithin (known_call root before behind old (old ++ (r.report ++ cut))) part c r.limits r.ran
   pub report_is : r.report ≡ text (items_out (known_call root before behind old (old ++ (r.report ++ cut))) part (place_in c.state) runs.last r.limits r.ran.spent r.ran.files r.ran.found r.ran.end runs.run)
   pub opened_is : behind.openings ≡ before.openings ++ r.opened
+
+-- a run from a cursor has a report: the text that it wrote, except for what was cut off if the output failed
+abbrev pub HasReport : StorageRoot → Text → Text → Part → Cursor → Limits → RunEnd → Type 0
+HasReport root old new part c limits ran =
+    (r : PartRun) × ((cut : Text) × ((r.limits ≡ limits) × ((r.ran ≡ ran) × ((new ≡ old ++ (r.report ++ cut)) × ((ran.end ≢ status.Stopped Output → cut ≡ []) × Ran root part c r)))))
 
 -- each was made from the cursor that the one before it answered, and none but the last may have
 -- ended the cycle

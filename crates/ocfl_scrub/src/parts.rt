@@ -1,6 +1,6 @@
 //! The laws of parts: what the runs of a part wrote, joined, and what the parts of a storage root
 //! wrote together.
-ghost use Rattle.std.specs.Prelude.{◌≡◌, ◌≢◌, ◌≤◌, ◌+◌, ◌++◌, ◌/◌, ℕ, Bool, List, [], ◌∷◌, Option, None, All, false, filter, flat_map, length, map};
+ghost use Rattle.std.specs.Prelude.{◌≡◌, ◌≤◌, ◌+◌, ◌++◌, ◌/◌, ℕ, Bool, List, [], ◌∷◌, Option, None, All, false, filter, flat_map, length, map};
 ghost use Rattle.std.specs.List.{AllByRecursion};
 ghost use Rattle.ocfl_tree.specs.{Place.{Place, Text, place_cmp}, Ascending.{IsAmong, IsAscending}};
 ghost use Rattle.ocfl_tree.specs.{StorageRoot.{StorageRoot}, Store.{Store}};
@@ -16,12 +16,11 @@ ghost use Rattle.ocfl_item.specs.declared.fault.Fault.TheVariants as fault;
 ghost use Rattle.ocfl_scrub.specs.{Call.{Call, known_call}, Chaining.{CycleOfRunsWithin, IsMadeOf}};
 ghost use Rattle.ocfl_scrub.specs.{Checking.{CheckEnds}, Openings.{OpensNear, OpensWithin}};
 ghost use Rattle.ocfl_scrub.specs.Running.{RunEndsWithin, RunsFromWithin, begun, place_in};
-ghost use Rattle.ocfl_scrub.specs.Joining.{AreOneCycle, AreRuns, IsPartCycle, IsWholeCycle, PartCycle, PartRun, Ran, cursor_after, is_taken, left_by, opened_by, reports_of, unread_together, unstopped};
+ghost use Rattle.ocfl_scrub.specs.Joining.{AreOneCycle, AreRuns, HasReport, IsPartCycle, IsWholeCycle, PartCycle, PartRun, Ran, cursor_after, is_taken, left_by, opened_by, reports_of, unread_together, unstopped};
 ghost use Rattle.ocfl_scrub.specs.{Keeping.{RunsOn}, WholeAudit.{AuditEndsWithin}};
 ghost use Rattle.ocfl_scrub.specs.Types.{AuditStatus, CycleEnd, RunEnd, RunStatus};
 ghost use Rattle.ocfl_scrub.specs.declared.cycling.CycleStatus.TheVariants as cycle;
 ghost use Rattle.ocfl_scrub.specs.declared.stop.ReportStop.TheVariants as halt;
-ghost use Rattle.ocfl_scrub.specs.declared.running.RunStatus.TheVariants as run;
 
 /// If no failure was counted, the reports of the runs of one cycle of a part, joined, are what the
 /// audit has there, whatever processes made them. Each hashed file of the part was opened once, in
@@ -101,20 +100,16 @@ pub fn parts_with_runs_that_stop_join()
 pub fn each_run_has_a_report()
     ensures { (root : StorageRoot) (s t : Store) (old new : Text) (part : Part) (c : Cursor)
         (limits : Limits) (ran : RunEnd)
-        → RunsFromWithin (known_call root s t old new) part c limits ran → (r : PartRun)
-        × ((cut : Text) × ((r.limits ≡ limits) × ((r.ran ≡ ran)
-        × ((new ≡ old ++ (r.report ++ cut)) × ((ran.end ≢ run.Stopped halt.Output → cut ≡ [])
-        × Ran root part c r))))) }
+        → RunsFromWithin (known_call root s t old new) part c limits ran
+        → HasReport root old new part c limits ran }
 {}
 
 /// So has a run that goes on with the walk of the run before it, by what `run_on` says of it.
 pub fn each_run_that_goes_on_has_a_report()
     ensures { (root : StorageRoot) (s t : Store) (old new : Text) (part : Part)
         (met : Option Place) (c : Cursor) (limits : Limits) (ran : RunEnd)
-        → RunsOn (known_call root s t old new) part met c limits ran → (r : PartRun)
-        × ((cut : Text) × ((r.limits ≡ limits) × ((r.ran ≡ ran)
-        × ((new ≡ old ++ (r.report ++ cut)) × ((ran.end ≢ run.Stopped halt.Output → cut ≡ [])
-        × Ran root part c r))))) }
+        → RunsOn (known_call root s t old new) part met c limits ran
+        → HasReport root old new part c limits ran }
 {}
 
 /// What a cursor has taken is not read again in its cycle: each content file that a run opens comes
@@ -132,8 +127,8 @@ pub fn an_audit_of_a_part_looks_once()
     ensures listed { (call : Call) (part : Part) (last : Option Place) (finding : Bool)
         (end : AuditStatus) → AuditEndsWithin call part last finding end → (listed : List Place)
         × ((call.after.listings ≡ call.before.listings ++ listed) × IsAscending place_cmp listed) }
-    ensures read { (call : Call) (part : Part) (last : Option Place) (finding : Bool) (end : AuditStatus)
-        → AuditEndsWithin call part last finding end → (trail : List Opening)
+    ensures read { (call : Call) (part : Part) (last : Option Place) (finding : Bool)
+        (end : AuditStatus) → AuditEndsWithin call part last finding end → (trail : List Opening)
         × ((call.after.openings ≡ call.before.openings ++ trail)
         × IsAscending place_cmp (heads_of call.root trail)) }
 {}
@@ -156,8 +151,8 @@ pub fn a_run_of_a_part_looks_once()
 /// content files too, and even if the call stopped. Each such directory is in the part or on the
 /// way down to where the call began; of a check it is on the way to its place.
 pub fn openings_lie_where_it_was_listed()
-    ensures audit { (call : Call) (part : Part) (last : Option Place) (finding : Bool) (end : AuditStatus)
-        → AuditEndsWithin call part last finding end
+    ensures audit { (call : Call) (part : Part) (last : Option Place) (finding : Bool)
+        (end : AuditStatus) → AuditEndsWithin call part last finding end
         → OpensWithin part None call.before call.after }
     ensures run { (call : Call) (part : Part) (from last : Option Place) (limits : Limits)
         (spent files : ℕ) (finding : Bool) (end : RunStatus)

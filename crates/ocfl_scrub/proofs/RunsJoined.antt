@@ -57,13 +57,12 @@ pub record PartsStop (root : StorageRoot) (part : Part) (s t : Store) (old new :
     (spent files : ℕ) (finding : Bool) (count : ℕ) (why : ReportStop) : Type 0 where
   pub done : List Place
   pub begun : List Place
-  pub rest : List Place
   pub trail : List Opening
   pub others : List Item
   pub listed : List Place
   pub heads : List Place
   pub fails : Fails root s t (done ++ begun) listed heads trail (stop_place why)
-  pub due_are : due_within root part from ≡ (done ++ begun) ++ rest
+  pub first_due : IsFront (done ++ begun) (due_within root part from)
   pub last_is : last ≡ last_or from done
   pub runs_begin : joined (take count (runs (items_at root trail (due_within root part from)) limits)) ≡ items_at root trail done ++ others
   pub runs_before : IsFront (joined (take (count - 1) (runs (items_at root trail (due_within root part from)) limits))) (items_at root trail done)
@@ -164,18 +163,16 @@ pub parts_unbegun : (root : StorageRoot) (part : Part) (s : Store) (old : Option
     → PartsStop root part s s old old last last limits 0 0 false 0 (halt.Fault Memory)
 unfolding items_at
 parts_unbegun root part s old last limits over =
-    let none = audits_nothing root s over in
     let all : List (List Item) = runs (items_at root [] (due_within root part last)) limits in
     record {
       done = [];
       begun = [];
-      rest = due_within root part last;
       trail = [];
       others = [];
       listed = [];
       heads = [];
       fails = fails_nothing root s over;
-      due_are = refl;
+      first_due = (due_within root part last, refl);
       last_is = refl;
       runs_begin = joined_none all;
       runs_before = front_none all [];
@@ -239,13 +236,12 @@ module _ (root : StorageRoot) (part : Part) (s t : Store) (old mid : Option (Lis
       record {
         done = done;
         begun = w.begun;
-        rest = behind;
         trail = h.trail;
         others = w.others;
         listed = h.looks.down ++ h.looks.listed;
         heads = h.looks.held ++ h.looks.heads;
         fails = h.looks.fails;
-        due_are = due_parts root part h.trail from w.whole (w.others ++ left_items) split ∙ ap (λ ps. done ++ ps) next_begun ∙ sym (append_assoc done w.begun behind);
+        first_due = (behind, due_parts root part h.trail from w.whole (w.others ++ left_items) split ∙ ap (λ ps. done ++ ps) next_begun ∙ sym (append_assoc done w.begun behind));
         last_is = w.last_is;
         runs_begin = joined_one _ later ∙ ap (λ is. cut is l) (sym (above_in root part from h.trail)) ∙ w.items_are ∙ ap (λ is. is ++ w.others) done_is;
         runs_before = front_none (cut (items_at root h.trail (due_within root part from)) l ∷ later) (items_at root h.trail done);
@@ -388,11 +384,12 @@ module _ (root : StorageRoot) (part : Part) (s t : Store) (old mid : Option (Lis
     stops_then : (why : ReportStop) → PartsStop root part t u mid new mid_last last ls spent' files' finding' count why
         → PartsStop root part s u old new from last (l ∷ ls) (spent + spent') (files + files') (finding || finding') (1 + count) why
     stops_then why k =
+        let rest : List Place = k.first_due.0 in
         let both : (h.took.done ++ k.done) ++ k.begun ≡ h.took.done ++ (k.done ++ k.begun) = append_assoc h.took.done k.done k.begun in
-        let due_are : due_within root part from ≡ (h.took.done ++ (k.done ++ k.begun)) ++ k.rest =
-        h.took.due_are ∙ ap (λ qs. h.took.done ++ qs) k.due_are ∙ sym (append_assoc h.took.done (k.done ++ k.begun) k.rest) in
+        let due_are : due_within root part from ≡ (h.took.done ++ (k.done ++ k.begun)) ++ rest =
+        h.took.due_are ∙ ap (λ qs. h.took.done ++ qs) k.first_due.1 ∙ sym (append_assoc h.took.done (k.done ++ k.begun) rest) in
         let all_up : IsAscending place_cmp (h.took.done ++ (k.done ++ k.begun)) =
-        ascends_left place_cmp (h.took.done ++ (k.done ++ k.begun)) k.rest (subst (IsAscending place_cmp) due_are (due_within_ascends root part from)) in
+        ascends_left place_cmp (h.took.done ++ (k.done ++ k.begun)) rest (subst (IsAscending place_cmp) due_are (due_within_ascends root part from)) in
         let up : IsAscending place_cmp (h.took.done ++ k.done) = ascends_left place_cmp (h.took.done ++ k.done) k.begun (subst (IsAscending place_cmp) (sym both) all_up) in
         let first : List Item = items_at root h.took.trail h.took.done in
         let second : List Item = items_at root k.trail k.done in
@@ -401,20 +398,19 @@ module _ (root : StorageRoot) (part : Part) (s t : Store) (old mid : Option (Lis
         let same : items_at root (h.took.trail ++ k.trail) (h.took.done ++ k.done) ≡ first ++ second =
         items_append root (h.took.trail ++ k.trail) h.took.done k.done ∙ ap (λ is. is ++ items_at root (h.took.trail ++ k.trail) k.done) before ∙ ap (λ is. first ++ is) behind in
         let later : List (List Item) = runs (items_at root k.trail (due_within root part mid_last)) ls in
-        let are = runs_then k.trail (k.done ++ k.begun) k.rest k.fails.opened k.due_are in
+        let are = runs_then k.trail (k.done ++ k.begun) rest k.fails.opened k.first_due.1 in
         let texts : text first ++ (text second ++ k.gone) ≡ text (items_at root (h.took.trail ++ k.trail) (h.took.done ++ k.done)) ++ k.gone =
         sym (append_assoc (text first) (text second) k.gone) ∙ ap (λ xs. xs ++ k.gone) (sym (text_append first second) ∙ ap text (sym same)) in
         record {
           done = h.took.done ++ k.done;
           begun = k.begun;
-          rest = k.rest;
           trail = h.took.trail ++ k.trail;
           others = k.others;
           listed = h.took.listed ++ k.listed;
           heads = h.took.heads ++ k.heads;
           fails = subst (λ ps. Fails root s u ps (h.took.listed ++ k.listed) (h.took.heads ++ k.heads) (h.took.trail ++ k.trail) (stop_place why)) (sym both)
               (audits_fail root s t u h.took.done (k.done ++ k.begun) h.took.listed k.listed h.took.heads k.heads h.took.trail k.trail _ h.took.audits k.fails);
-          due_are = due_are ∙ ap (λ qs. qs ++ k.rest) (sym both);
+          first_due = (rest, due_are ∙ ap (λ qs. qs ++ rest) (sym both));
           last_is = k.last_is ∙ ap (λ x. last_or x k.done) h.took.last_is ∙ last_then from h.took.done k.done;
           runs_begin = ap (λ xs. joined (take (1 + count) xs)) are ∙ joined_more count first later ∙ ap (λ is. first ++ is) k.runs_begin
               ∙ sym (append_assoc first second k.others) ∙ ap (λ is. is ++ k.others) (sym same);

@@ -79,7 +79,8 @@ pub fn statuses_say_how_a_command_ended()
         ↔ (IsStopSaid n ⊎ ((n ≡ note.CursorWorn) ⊎ (n ≡ note.CursorFileFailed))) }
     ensures refused { (n : Note) → IsStatus 4 n
         ↔ (((why : Refused) × ((n ≡ note.CursorRefused why) × (why ≢ refused.Memory)))
-        ⊎ ((why : PartRefused) × ((n ≡ note.PartCursorRefused why) × (why ≢ part.Text refused.Memory)))) }
+        ⊎ ((why : PartRefused) × ((n ≡ note.PartCursorRefused why)
+        × (why ≢ part.Text refused.Memory)))) }
     ensures no_other { (status : ℕ) (n : Note) → IsStatus status n → status ≤ 4 }
 {}
 
@@ -121,8 +122,8 @@ pub fn each_end_has_one_status_and_text()
         → IsUnreadNote why b n → (a ≡ b) × (m ≡ n) }
     ensures unshown { (a b : ℕ) (m n : Note) (why : ShowStop) → IsUnshownNote why a m
         → IsUnshownNote why b n → (a ≡ b) × (m ≡ n) }
-    ensures branch { (a b : ℕ) (m n : Note) (finding : Bool) (end : AuditStatus) (last : Option Place)
-        → IsBranchNote finding end last a m → IsBranchNote finding end last b n
+    ensures branch { (a b : ℕ) (m n : Note) (finding : Bool) (end : AuditStatus)
+        (last : Option Place) → IsBranchNote finding end last a m → IsBranchNote finding end last b n
         → (a ≡ b) × (m ≡ n) }
     ensures part_unread { (a b : ℕ) (m n : Note) (why : PartCursorStop)
         → IsPartUnreadNote why a m → IsPartUnreadNote why b n → (a ≡ b) × (m ≡ n) }

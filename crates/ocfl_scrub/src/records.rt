@@ -81,7 +81,8 @@ pub fn a_check_that_stops_wrote_a_beginning()
     ensures read { (call : Call) (p : Place) (why : ReportStop) → CheckStops call p why
         → (trail : List Opening) × ((rest : List Place)
         × ((call.after.openings ≡ call.before.openings ++ trail) × ((call.after.failures
-        ≡ call.before.failures + (length (unread_of call.root trail) + failures_at (stop_place why)))
+        ≡ call.before.failures
+        + (length (unread_of call.root trail) + failures_at (stop_place why)))
         × (holder call.root (Some p) ≡ heads_of call.root trail ++ rest)))) }
 {}
 
@@ -135,7 +136,8 @@ pub fn an_audit_that_stops_wrote_its_first_items()
     ensures read { (call : Call) (last : Option Place) (finding : Bool) (why : ReportStop)
         → AuditStops call last finding why → (trail : List Opening) × ((rest : List Place)
         × ((call.after.openings ≡ call.before.openings ++ trail) × ((call.after.failures
-        ≡ call.before.failures + (length (unread_of call.root trail) + failures_at (stop_place why)))
+        ≡ call.before.failures
+        + (length (unread_of call.root trail) + failures_at (stop_place why)))
         × (read_between call.root None None ≡ heads_of call.root trail ++ rest)))) }
 {}
 
@@ -218,7 +220,8 @@ pub fn a_run_that_stops_took_the_first_of_its_cut()
         → (trail : List Opening) × ((held : List Place)
         × ((below : List Place) × ((heads : List Place) × ((rest : List Place)
         × ((call.after.openings ≡ call.before.openings ++ trail) × ((call.after.failures
-        ≡ call.before.failures + (length (unread_of call.root trail) + failures_at (stop_place why)))
+        ≡ call.before.failures
+        + (length (unread_of call.root trail) + failures_at (stop_place why)))
         × ((heads_of call.root trail ≡ held ++ heads) × ((holder call.root from ≡ held ++ below)
         × ((read_between call.root from None ≡ heads ++ rest)
         × (IsAscending place_cmp (held ++ heads))))))))))) }
@@ -325,7 +328,8 @@ pub fn a_cycle_that_stops_took_the_first_of_its_cuts()
         × ((whole : List Item)
         × ((others : List Item) × ((begun : List Place) × ((rest : List Place)
         × ((call.after.openings ≡ call.before.openings ++ trail) × ((call.after.failures
-        ≡ call.before.failures + (length (unread_of call.root trail) + failures_at (stop_place why))) × ((joined
+        ≡ call.before.failures
+        + (length (unread_of call.root trail) + failures_at (stop_place why))) × ((joined
         (take count (runs (audit call.root (unread_of call.root trail)) limits)) ≡ whole ++ others)
         × ((map (λ i. i.place) (take 1 others) ≡ begun ++ rest) × (content_trail call.root trail
         ≡ hashed_among call.root (map (λ i. i.place) whole ++ begun)))))))))) }
@@ -424,7 +428,8 @@ pub fn a_cycle_leaves_its_cursor_after_what_it_took()
         × (CycleEnds call last limits c.spent c.files finding c.runs cycle.Spent × ((last ≡ None
         → c.state ≡ start) × ((p : Place) → last ≡ Some p → c.state ≡ behind p))) }
     ensures stopped { (call : Call) (limits : List Limits) (c : Cursor) (finding : Bool)
-        (why : ReportStop) → CyclesTo call limits c finding (cycle.Stopped why) → (last : Option Place)
+        (why : ReportStop) → CyclesTo call limits c finding (cycle.Stopped why)
+        → (last : Option Place)
         × (CycleEnds call last limits c.spent c.files finding c.runs (cycle.Stopped why)
         × ((last ≡ None → c.state ≡ start) × ((p : Place) → last ≡ Some p → c.state ≡ behind p))) }
 {}

@@ -1,6 +1,6 @@
 -- What is in a part, consecutive parts joined, and what is left of a part above a place.
 use Rattle.std.proofs.Common.{◌≡◌, ℕ, ◌+◌, ◌≤◌, ◌/◌, List, [], ◌∷◌, ◌++◌, refl, sym, ◌∙◌, ap, true, false, Bool, map, filter, Option, Some, None, append-nil, arith, All, length}
-use Rattle.std.proofs.{lemmas.List.Elements.{filter-append}, lemmas.Grind.{flat_map-append}}
+use Rattle.std.proofs.{lemmas.List.Elements.{filter-append}, lemmas.Grind.{flat_map-append}, Math.Bool.{and-true, and-false, and_comm}}
 use Rattle.std.specs.{Prelude.{cond, flat_map, not, ◌&&◌}, Ordering.{is_lt}}
 use Rattle.std.specs.declared.cmp.Ordering.{Ordering}
 use Rattle.std.specs.declared.cmp.Ordering.TheVariants.{Less, Equal, Greater}
@@ -44,18 +44,6 @@ module _ {A : Type 0} where
       by true e = ap (λ l. cond (f x) (x ∷ l) l) e
       by false e = e
 
-pub and_true : (b : Bool) → (b && true) ≡ b
-and_true true = refl
-and_true false = refl
-
-pub and_false : (b : Bool) → (b && false) ≡ false
-and_false true = refl
-and_false false = refl
-
-and_turn : (a b : Bool) → (a && b) ≡ (b && a)
-and_turn true b = sym (and_true b)
-and_turn false b = sym (and_false b)
-
 -- ---- what is in a part, by the one test
 
 pub kept_is : {A : Type 0} (part : Part) (place_of : A → Place) (xs : List A) → kept part place_of xs ≡ filter (λ x. lies_in part (place_of x)) xs
@@ -82,7 +70,7 @@ within_by_places root unread part =
 
 -- those of a branch
 pub branch_is : (p : Place) (items : List Item) → within (branch p) items ≡ items_under p items
-branch_is p items = within_is (branch p) items ∙ filter_same _ _ (λ i. and_true (begins p i.place)) items
+branch_is p items = within_is (branch p) items ∙ filter_same _ _ (λ i. and-true (begins p i.place)) items
 
 -- what is left of a part above a place
 pub part_goes_on : (part : Part) (last : Option Place) (items : List Item) → after (within part items) last ≡ within part (after items last)
@@ -90,7 +78,7 @@ part_goes_on part None items = refl
 part_goes_on part (Some p) items =
     ap (filter (λ i. is_lt (place_cmp p i.place))) (within_is part items)
     ∙ filter_twice (λ i. is_lt (place_cmp p i.place)) (λ i. lies_in part i.place) items
-    ∙ filter_same _ _ (λ i. and_turn (lies_in part i.place) (is_lt (place_cmp p i.place))) items
+    ∙ filter_same _ _ (λ i. and_comm (lies_in part i.place) (is_lt (place_cmp p i.place))) items
     ∙ sym (filter_twice (λ i. lies_in part i.place) (λ i. is_lt (place_cmp p i.place)) items)
     ∙ sym (within_is part (after items (Some p)))
 
@@ -124,7 +112,7 @@ from_both : (a : Option Place) (p : Place) (ps : List Place) (z : Place) → IsF
 from_both a p ps z f = by (is_lt (place_cmp z p)) refl
   where
     by : (t : Bool) → is_lt (place_cmp z p) ≡ t → (is_from a z && not t) ≡ not t
-    by true e = and_false (is_from a z)
+    by true e = and-false (is_from a z)
     by false e = ap (λ b. b && true) (is_from_both a p ps z f e)
 
 module _ {A : Type 0} (place_of : A → Place) where
@@ -134,7 +122,7 @@ module _ {A : Type 0} (place_of : A → Place) where
   none_below test p q [] h up = refl
   none_below test p q (x ∷ xs) h up =
       let rest : List A = filter (λ x. test x && is_lt (place_cmp (place_of x) p)) xs in
-      ap (λ b. cond (test x && b) (x ∷ rest) rest) (not_below q (place_of x) p up.0 h) ∙ ap (λ b. cond b (x ∷ rest) rest) (and_false (test x)) ∙ none_below test p q xs h up.1
+      ap (λ b. cond (test x && b) (x ∷ rest) rest) (not_below q (place_of x) p up.0 h) ∙ ap (λ b. cond b (x ∷ rest) rest) (and-false (test x)) ∙ none_below test p q xs h up.1
 
   -- what is below p and what is not, of an ascending list
   cut_in_two : (test : A → Bool) (p : Place) (xs : List A) → IsAscending place_cmp (map place_of xs)
@@ -158,7 +146,7 @@ module _ {A : Type 0} (place_of : A → Place) where
       → flat_map (λ part. kept part place_of xs) (parts_from a ps) ≡ filter (λ x. is_from a (place_of x)) xs
   parts_join_from a [] f up xs xs_up =
       let last : Part = record { under = []; from = a; below = None } in
-      append-nil (kept last place_of xs) ∙ kept_is last place_of xs ∙ filter_same _ _ (λ x. and_true (is_from a (place_of x))) xs
+      append-nil (kept last place_of xs) ∙ kept_is last place_of xs ∙ filter_same _ _ (λ x. and-true (is_from a (place_of x))) xs
   parts_join_from a (p ∷ ps) f up xs xs_up =
       let first : Part = record { under = []; from = a; below = Some p } in
       ap (λ l. l ++ flat_map (λ part. kept part place_of xs) (parts_from (Some p) ps)) (kept_is first place_of xs)
@@ -249,7 +237,7 @@ module _ (z : Place) where
           let first : Part = record { under = []; from = a; below = Some p } in
           let rest : List Part = filter (λ part. lies_in part z) (parts_from (Some p) ps) in
           let more = later (ap not e) in
-          (more.0, ap (λ t. cond (is_from a z && t) (first ∷ rest) rest) e ∙ ap (λ t. cond t (first ∷ rest) rest) (and_false (is_from a z)) ∙ more.1)
+          (more.0, ap (λ t. cond (is_from a z && t) (first ∷ rest) rest) e ∙ ap (λ t. cond t (first ∷ rest) rest) (and-false (is_from a z)) ∙ more.1)
 
   pub lies_once : (ps : List Place) → IsAscending place_cmp ps → (part : Part) × (filter (λ part. lies_in part z) (parts_of ps) ≡ part ∷ [])
   lies_once ps up = one_lies None ps up refl

@@ -1,5 +1,6 @@
 -- Zones and what is seen, one name further; and calls one after the other.
 use Rattle.std.proofs.Common.{◌≡◌, List, [], ◌∷◌, ◌++◌, refl, sym, ◌∙◌, ap, true, false, Bool, map}
+use Rattle.std.proofs.Math.Bool.{and-true, and_assoc}
 use Rattle.std.specs.Prelude.{cond, if◌then◌else◌, ◌&&◌, ◌||◌, not, nat_le, suc, length, None}
 use Rattle.std.specs.List.{list_all}
 use Rattle.ocfl_tree.specs.{Place.{Place, Text}, StorageRoot.{StorageRoot, at, is_dir}}
@@ -18,21 +19,13 @@ object_zone_step root front (m ∷ d) n = by (is_declared (object_declared root 
     by true h = refl
     by false h = h ∙ ap (λ x. step_zone root x n (object_zone root (front ++ m ∷ []) d)) (append_one front d m)
 
-pub and_assoc : (a b c : Bool) → (a && b) && c ≡ a && (b && c)
-and_assoc true b c = refl
-and_assoc false b c = refl
-
 pub all_map : (f : Place → Place) (test : Place → Bool) (ps : List Place) → list_all test (map f ps) ≡ list_all (λ p. test (f p)) ps
 all_map f test [] = refl
 all_map f test (p ∷ ps) = ap (λ b. test (f p) && b) (all_map f test ps)
 
-pub and_true : (a : Bool) → a && true ≡ a
-and_true true = refl
-and_true false = refl
-
 -- each proper beginning of a longer place passes if those of d do and d does
 pub all_beginnings_step : (test : Place → Bool) (d : Place) (n : Text) → list_all test (beginnings (d ++ n ∷ [])) ≡ list_all test (beginnings d) && test d
-all_beginnings_step test [] n = and_true (test [])
+all_beginnings_step test [] n = and-true (test [])
 all_beginnings_step test (m ∷ d) n =
     ap (λ b. test [] && b) (all_map (λ q. m ∷ q) test (beginnings (d ++ n ∷ [])) ∙ all_beginnings_step (λ q. test (m ∷ q)) d n
     ∙ ap (λ b. b && test (m ∷ d)) (sym (all_map (λ q. m ∷ q) test (beginnings d))))

@@ -1,6 +1,7 @@
 -- The way down to each item: every name on it is seen by a listing, or is in a table.
 use Rattle.std.proofs.Common.{◌≡◌, ◌≢◌, ◌⊎◌, inl, inr, ℕ, ◌+◌, ◌≤◌, List, [], ◌∷◌, ◌++◌, refl, sym, ◌∙◌, ap, subst, true, false, Bool, map, Option, Some, None, arith, length, append_assoc}
 use Rattle.std.proofs.{lemmas.Bool.{leb-true, le-leb}, lemmas.List.{length-append}}
+use Rattle.std.proofs.Math.Bool.{and_assoc}
 use Rattle.std.specs.Prelude.{cond, ◌&&◌, ◌||◌, not, nat_le, filter_map}
 use Rattle.std.specs.List.{list_all, cons_option}
 use Rattle.ocfl_tree.specs.{Place.{Place, Text, child_name}, Ascending.{IsAmong}}
@@ -14,8 +15,8 @@ use Rattle.ocfl_tree.proofs.Bools.{and_first, and_second, and_both}
 use Rattle.ocfl_tree.proofs.{Orders.{true_not_false, among_ascending, among_left, among_right}, Trees.{at-append, dir_from_leaf}}
 use Rattle.ocfl_tree.proofs.Places.{child_name-append}
 use Rattle.ocfl_audit.proofs.AuditExists.{some_not_none, append_one, append_nothing, not_empty, among_keys, at_lookup, object_at, zone_is, path_among, missing_named}
-use Rattle.ocfl_audit.proofs.StepLaws.{object_zone_step, all_beginnings_step, and_assoc, all_map}
-use Rattle.ocfl_audit.proofs.BelowLaws.{text_cmp_exact, text_same}
+use Rattle.ocfl_audit.proofs.StepLaws.{object_zone_step, all_beginnings_step, all_map}
+use Rattle.ocfl_audit.proofs.BelowLaws.{text_cmp_exact, text_eq-same}
 
 -- ---- beginnings
 
@@ -47,7 +48,7 @@ among_filter_map {B = B} h (z ∷ xs) x y (inr i) e = by (h z) (among_filter_map
 
 next_is : (d : Place) (n : Text) (r : Place) → next_name d (d ++ n ∷ r) ≡ Some n
 next_is [] n r = refl
-next_is (m ∷ d) n r = ap (λ b. cond b (next_name d (d ++ n ∷ r)) None) (text_same m) ∙ next_is d n r
+next_is (m ∷ d) n r = ap (λ b. cond b (next_name d (d ++ n ∷ r)) None) (text_eq-same m) ∙ next_is d n r
 
 at_key : (root : StorageRoot) (p : Place) (leaf : Leaf) → p ≢ [] → at root p ≡ Some leaf → IsAmong (map (λ e. e.0) root) p
 at_key root [] leaf some h = absurd (some refl)
@@ -106,10 +107,7 @@ module _ (root : StorageRoot) (closed : IsClosed root) where
       by false b e h = absurd (true_not_false (sym h))
 
   object_beyond : (front rest o q : Place) → object_zone root front rest ≡ inside o q → (s : Place) × (o ≡ front ++ s)
-  object_beyond front [] o q h = absurd (no h)
-    where
-      no : hierarchy ≡ inside o q → ⊥
-      no e = cc
+  object_beyond front [] o q h = absurd cc
   object_beyond front (n ∷ rest) o q h = by (is_declared (object_declared root (front ++ n ∷ []))) h (object_beyond (front ++ n ∷ []) rest o q)
     where
       later : (s : Place) × (o ≡ (front ++ n ∷ []) ++ s) → (s : Place) × (o ≡ front ++ s)
@@ -136,10 +134,7 @@ module _ (root : StorageRoot) (closed : IsClosed root) where
   reach_object : (front rest o q : Place) → object_zone root front rest ≡ inside o q → object_zone root [] front ≡ hierarchy
       → ((b r : Place) → front ++ rest ≡ b ++ r → zone root b ≡ object_zone root [] b)
       → is_declared (object_declared root o) ≡ true → list_all (is_entered root) (beginnings front) ≡ true → list_all (is_entered root) (beginnings o) ≡ true
-  reach_object front [] o q h z open_ d way = absurd (no h)
-    where
-      no : hierarchy ≡ inside o q → ⊥
-      no e = cc
+  reach_object front [] o q h z open_ d way = absurd cc
   reach_object front (n ∷ rest) o q h z open_ d way = by (is_declared (object_declared root (front ++ n ∷ []))) refl h (reach_object (front ++ n ∷ []) rest o q)
     where
       beyond : (s : Place) × (o ≡ (front ++ n ∷ []) ++ s) → (s : Place) × (o ≡ front ++ n ∷ s)
@@ -165,17 +160,14 @@ module _ (root : StorageRoot) (closed : IsClosed root) where
   zone_open : (p o q b r : Place) → zone root p ≡ inside o q → p ≡ b ++ r → zone root b ≡ object_zone root [] b
   zone_open p o q b r h e = by (not (is_known (root_declared root))) (ap (zone root) (sym e) ∙ h)
     where
-      no : skipped ≡ inside o q → ⊥
-      no f = cc
-
       named_by : (x : Bool) → (b r : Place) → cond (x || is_in_extensions root (b ++ r)) skipped (object_zone root [] (b ++ r)) ≡ inside o q
           → cond (x || is_in_extensions root b) skipped (object_zone root [] b) ≡ object_zone root [] b
-      named_by true b r f = absurd (no f)
+      named_by true b r f = absurd cc
       named_by false [] r f = refl
       named_by false (n ∷ b) r f = go (is_in_extensions root (n ∷ b)) f
         where
           go : (y : Bool) → cond y skipped (object_zone root [] (n ∷ (b ++ r))) ≡ inside o q → cond y skipped (object_zone root [] (n ∷ b)) ≡ object_zone root [] (n ∷ b)
-          go true g = absurd (no g)
+          go true g = absurd cc
           go false g = refl
 
       by : (x : Bool) → cond (x || is_in_extensions root (b ++ r)) skipped (object_zone root [] (b ++ r)) ≡ inside o q
@@ -193,10 +185,7 @@ module _ (root : StorageRoot) (closed : IsClosed root) where
       ap (λ b. cond b (at root o) None) way ∙ object_at root o is.declares
 
   object_zone_part : (front rest o q s : Place) → object_zone root front rest ≡ inside o (q ++ s) → (r : Place) × ((front ++ r ≡ o ++ q) × (object_zone root front r ≡ inside o q))
-  object_zone_part front [] o q s h = absurd (no h)
-    where
-      no : hierarchy ≡ inside o (q ++ s) → ⊥
-      no e = cc
+  object_zone_part front [] o q s h = absurd cc
   object_zone_part front (n ∷ rest) o q s h = by (is_declared (object_declared root (front ++ n ∷ []))) refl h (object_zone_part (front ++ n ∷ []) rest o q s)
     where
       later : is_declared (object_declared root (front ++ n ∷ [])) ≡ false → (r : Place)

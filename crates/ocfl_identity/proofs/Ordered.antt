@@ -3,7 +3,7 @@ use Rattle.std.proofs.Common.{◌≡◌, inl, inr, List, [], ◌∷◌, ◌++◌
 use Rattle.std.proofs.lemmas.List.Elements.{All-from_recursion, recursion_from_All}
 use Rattle.std.proofs.lemmas.List.Sorted.{All-permutation, IsPermutation-sym, IsPermutation-map}
 use Rattle.std.proofs.lemmas.Map.Keys.{IsDistinct-IsPermutation}
-use Rattle.std.specs.Prelude.{◌&&◌, cond, filter, filter_map, option_and_then, option_map}
+use Rattle.std.specs.Prelude.{cond, filter, filter_map, option_and_then, option_map}
 use Rattle.std.specs.{List.{AllByRecursion, IsDistinct, cons_option}, List.Sorted.{IsSorted}}
 use Rattle.std.specs.Ordering.{is_eq}
 use Rattle.sha2.specs.Sha256.{sha256}
@@ -14,7 +14,7 @@ use Rattle.ocfl_tree.specs.StorageRoot.{StorageRoot, Leaf, file, dir, other, at,
 use Rattle.ocfl_tree.specs.Listing.{IsListing, IsOrdinary, entries_in, entry_at, kind_at, kind_of}
 use Rattle.ocfl_tree.specs.{declared.store.Entry.{Entry}, declared.store.Kind.{Kind}}
 use Rattle.ocfl_tree.specs.declared.store.Kind.TheVariants.{Other}
-use Rattle.ocfl_tree.proofs.Orders.{ascending_unique, ascends_ascending, true_not_false}
+use Rattle.ocfl_tree.proofs.{Bools.{and_first}, Orders.{ascending_unique, ascends_ascending, true_not_false}}
 use Rattle.ocfl_tree.proofs.{Places.{text_cmp_exact, text_cmp_total, text_eq_turns}, Listings.{listing_permutes}}
 use Rattle.ocfl_inventory.specs.{Declaration.{is_declaration}, Entries.{is_counted, is_file}}
 use Rattle.ocfl_inventory.specs.declared.declaration.Level.TheVariants.{Root}
@@ -132,10 +132,6 @@ sorted_listing root d es fs ordinary h m sorted =
 
 -- ---- the declarations among the entries of a directory are there
 
-first_true : (b c : Bool) → (b && c) ≡ true → b ≡ true
-first_true true c e = refl
-first_true false c e = e
-
 kind_or : Option Entry → Kind
 kind_or None = Other
 kind_or (Some e) = e.kind
@@ -148,7 +144,7 @@ counted_there root e mine counted = by (at root (e.name ∷ [])) refl
     is_listed o = is_file (kind_or (option_map (λ k. record { name = e.name; kind = k }) (option_map kind_of o)))
 
     listed : true ≡ is_listed (at root (e.name ∷ []))
-    listed = sym (first_true (is_file e.kind) (is_declaration Root e.name) counted) ∙ sym (ap (λ o. is_file (kind_or o)) mine)
+    listed = sym (and_first (is_file e.kind) (is_declaration Root e.name) counted) ∙ sym (ap (λ o. is_file (kind_or o)) mine)
 
     by : (o : Option Leaf) → at root (e.name ∷ []) ≡ o → (bytes : Text) × (file_at root (e.name ∷ []) ≡ Some bytes)
     by None a = absurd (true_not_false (listed ∙ ap is_listed a))

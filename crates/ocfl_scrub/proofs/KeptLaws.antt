@@ -1,10 +1,10 @@
 -- A walk that is kept: what it stands for, and a way on which it could have come there.
 use Rattle.std.proofs.Common.{◌≡◌, ℕ, List, [], ◌∷◌, refl, sym, ◌∙◌, ap, subst, true, Bool, Some, None, Option}
+use Rattle.std.proofs.lemmas.Bool.{not-true}
 use Rattle.std.specs.{Prelude.{IfSome, not}, List.{last_or}}
 use Rattle.ocfl_tree.specs.{Place.{Text, Place}, Ascending.{IsAmong}, StorageRoot.{StorageRoot}}
 use Rattle.ocfl_tree.specs.Store.{Store, Did}
 use Rattle.ocfl_tree.proofs.Orders.{among_from_filter, among_left}
-use Rattle.ocfl_inventory.proofs.TableSearch.{not_true}
 use Rattle.ocfl_audit.specs.{Due.{due}, Parts.{Part, lies_in}, Runs.{Limits}}
 use Rattle.ocfl_item.proofs.AuditingLaws.{audits_meta, front_all, front_none, near_none, none_once}
 use Rattle.ocfl_walk.specs.{Ends.{is_past}, WalkCalls.{GoesDown, IsRootFirst, way_of}}
@@ -29,7 +29,7 @@ module _ {root : StorageRoot} {part : Part} {s t : Store} {old new : Option (Lis
       let p = h.pays.passes in
       stood_at root part from last h.stood p.done p.last_is h.last_is (λ q i.
       let inside = among_from_filter (λ z. not (is_past (end_of part) z)) p.done q (subst (λ ps. IsAmong ps q) (sym p.inside) i) in
-      due_lies root part from q (subst (λ ps. IsAmong ps q) (sym p.due_are) (among_left p.done (due root h.stood) q i)) (not_true (is_past (end_of part) q) inside.1))
+      due_lies root part from q (subst (λ ps. IsAmong ps q) (sym p.due_are) (among_left p.done (due root h.stood) q i)) (not-true (is_past (end_of part) q) inside.1))
 
 module _ {root : StorageRoot} {part : Part} {s t : Store} {old new : Option (List ℕ)} {from last : Option Place} {l : Limits} {spent files : ℕ} {finding : Bool} where
   -- a run above the last item may go on with it

@@ -1,6 +1,7 @@
 -- Where the walk over a part begins: what is left there before its end is what the part has above
 -- the place that it is given.
 use Rattle.std.proofs.Common.{◌≡◌, List, [], ◌∷◌, ◌++◌, refl, sym, ◌∙◌, ap, subst, true, false, Bool, Option, Some, None, map, filter, append-nil}
+use Rattle.std.proofs.Math.Bool.{and-true, and-false, and_comm}
 use Rattle.std.specs.{Prelude.{cond, not, ◌&&◌, ◌||◌}, Option.{option_map}, Ordering.{is_lt}}
 use Rattle.std.specs.declared.cmp.Ordering.{Ordering}
 use Rattle.std.specs.declared.cmp.Ordering.TheVariants.{Less, Equal, Greater}
@@ -18,7 +19,7 @@ use Rattle.ocfl_audit.proofs.AuditExists.{audit_is}
 use Rattle.ocfl_audit.proofs.BelowLaws.{less_from, begins_rest, cmp_behind}
 use Rattle.ocfl_audit.proofs.{BetweenLaws.{from_between}, BranchLaws.{nothing_above}, DueLaws.{after_is_due}}
 use Rattle.ocfl_audit.proofs.Lists.{map_filter, filter_same}
-use Rattle.ocfl_audit.proofs.PartLaws.{and_true, and_false, filter_twice, within_is, places_within_is, part_goes_on}
+use Rattle.ocfl_audit.proofs.PartLaws.{filter_twice, within_is, places_within_is, part_goes_on}
 use Rattle.ocfl_walk.specs.Before.{directory_of, place_before, places_from}
 use Rattle.ocfl_walk.specs.Ends.{is_above_branch, is_at_bound, is_past, before_end}
 use Rattle.ocfl_walk.proofs.BeforeLaws.{below_from, due_from, looked_from, read_from, not_below}
@@ -77,7 +78,7 @@ module _ (part : Part) (x : Place) where
 
   -- apart from the branch nothing is between its place and what is above it
   apart : begins part.under x ≡ false → is_lt (place_cmp x part.under) ≡ false → is_above_branch part.under x ≡ true
-  apart out low = ap (λ b. is_lt (place_cmp part.under x) && not b) out ∙ and_true (is_lt (place_cmp part.under x)) ∙ by (place_cmp x part.under) refl
+  apart out low = ap (λ b. is_lt (place_cmp part.under x) && not b) out ∙ and-true (is_lt (place_cmp part.under x)) ∙ by (place_cmp x part.under) refl
     where
       by : (r : Ordering) → place_cmp x part.under ≡ r → is_lt (place_cmp part.under x) ≡ true
       by Less e = absurd (true_not_false (sym (ap is_lt e) ∙ low))
@@ -93,7 +94,7 @@ module _ (part : Part) (x : Place) where
       ∙ ap (λ b. not (is_lt (place_cmp x (greater_of part.under part.from))) && b) (below_is ∙ sym (ap (λ b. not (b || is_at_bound part.below x)) shut))
     where
       shut : is_above_branch part.under x ≡ false
-      shut = ap (λ b. is_lt (place_cmp part.under x) && not b) within_it ∙ and_false (is_lt (place_cmp part.under x))
+      shut = ap (λ b. is_lt (place_cmp part.under x) && not b) within_it ∙ and-false (is_lt (place_cmp part.under x))
 
   outside_is : begins part.under x ≡ false → lies_in part x ≡ not (is_lt (place_cmp x (greater_of part.under part.from))) && not (is_past (end_of part) x)
   outside_is out = ap (λ b. b && (is_from part.from x && is_below part.below x)) out ∙ sym (by (is_lt (place_cmp x (greater_of part.under part.from))) refl)
@@ -101,7 +102,7 @@ module _ (part : Part) (x : Place) where
       by : (b : Bool) → is_lt (place_cmp x (greater_of part.under part.from)) ≡ b → not (is_lt (place_cmp x (greater_of part.under part.from))) && not (is_past (end_of part) x) ≡ false
       by true e = ap (λ b. not b && not (is_past (end_of part) x)) e
       by false e = ap (λ b. not (is_lt (place_cmp x (greater_of part.under part.from))) && not (b || is_at_bound part.below x)) (apart out (over_under e))
-          ∙ and_false (not (is_lt (place_cmp x (greater_of part.under part.from))))
+          ∙ and-false (not (is_lt (place_cmp x (greater_of part.under part.from))))
 
   pub lies_exact : lies_in part x ≡ not (is_lt (place_cmp x (greater_of part.under part.from))) && not (is_past (end_of part) x)
   lies_exact = by (begins part.under x) refl
@@ -155,7 +156,7 @@ module _ (root : StorageRoot) (part : Part) (f : Option Place → List Place) (f
     where
       by : (x : Place) (r : Bool) → lies_in part x ≡ r → lies_in part x ≡ is_lt (place_cmp p x) && lies_in part x
       by x true h = h ∙ sym (ap (λ r. r && lies_in part x) (ap is_lt (below_from p b x (less_from _ t) (not_less_first part b x e h))) ∙ h)
-      by x false h = h ∙ sym (and_false (is_lt (place_cmp p x))) ∙ ap (λ r. is_lt (place_cmp p x) && r) (sym h)
+      by x false h = h ∙ sym (and-false (is_lt (place_cmp p x))) ∙ ap (λ r. is_lt (place_cmp p x) && r) (sym h)
 
   -- above another place of the part only the end counts
   greater_leaves : (b : Place) → first_place part ≡ Some b → (above : Option Place) → is_before above b ≡ false → before_end (end_of part) (f above) ≡ places_within part (f above)
@@ -189,11 +190,7 @@ module _ (root : StorageRoot) (part : Part) (f : Option Place → List Place) (f
 filter_up_to : (test : Place → Bool) (ps : List Place) (to : Option Place) → up_to (filter test ps) to ≡ filter test (up_to ps to)
 filter_up_to test ps None = refl
 filter_up_to test ps (Some b) =
-    filter_twice (λ q. not (is_lt (place_cmp b q))) test ps ∙ filter_same _ _ (λ x. turn (test x) (not (is_lt (place_cmp b x)))) ps ∙ sym (filter_twice test (λ q. not (is_lt (place_cmp b q))) ps)
-  where
-    turn : (a b : Bool) → a && b ≡ b && a
-    turn true b = sym (and_true b)
-    turn false b = sym (and_false b)
+    filter_twice (λ q. not (is_lt (place_cmp b q))) test ps ∙ filter_same _ _ (λ x. and_comm (test x) (not (is_lt (place_cmp b x)))) ps ∙ sym (filter_twice test (λ q. not (is_lt (place_cmp b q))) ps)
 
 module _ (root : StorageRoot) (part : Part) (above : Option Place) where
   pub due_starts : before_end (end_of part) (due root (stand root part above)) ≡ due_within root part above

@@ -1,6 +1,7 @@
 -- A call lists the directory of each file that it opens: on the way down to where it begins, or
 -- from there on.
 use Rattle.std.proofs.Common.{◌≡◌, ◌⊎◌, inl, inr, ℕ, List, [], ◌∷◌, ◌++◌, append-nil, append_assoc, refl, sym, ◌∙◌, ap, ap₂, subst, Bool, true, false, cond, take, Option, Some, None}
+use Rattle.std.proofs.lemmas.Bool.{not-true}
 use Rattle.std.specs.{Prelude.{◌&&◌, not}, Ordering.{is_lt, ordering_then}}
 use Rattle.std.specs.declared.cmp.Ordering.{Ordering}
 use Rattle.std.specs.declared.cmp.Ordering.TheVariants.{Less, Equal, Greater}
@@ -10,7 +11,6 @@ use Rattle.ocfl_tree.specs.{StorageRoot.{StorageRoot}, Store.{Store}}
 use Rattle.ocfl_tree.proofs.Bools.{and_second}
 use Rattle.ocfl_tree.proofs.Orders.{among_filter, among_from_filter, among_left, among_right, below_from_greater, not_below_itself, place_cmp_exact, place_cmp_total, true_not_false}
 use Rattle.ocfl_tree.proofs.{Stores.{among_either}, Places.{text_cmp_exact}}
-use Rattle.ocfl_inventory.proofs.TableSearch.{not_true}
 use Rattle.ocfl_audit.specs.Between.{IsBeyond, IsWithin, is_looked_into, looked_between}
 use Rattle.ocfl_audit.specs.{Due.{due}, Lines.{is_hashed}, Parts.{Part, lies_in}, Walk.{is_reached}}
 use Rattle.ocfl_audit.proofs.BelowLaws.{above_self, less_from}
@@ -103,7 +103,7 @@ module _ (d p : Place) (n : Text) (is : p ≡ d ++ n ∷ []) where
     not_past : is_past (end_of part) d ≡ false
     not_past =
         let there = and_second (not (is_lt (place_cmp p (greater_of part.under part.from)))) (not (is_past (end_of part) p)) (sym (lies_exact part p) ∙ lies) in
-        not_past_down (end_of part) p d (not_true (is_past (end_of part) p) there) (not_below d p above_it)
+        not_past_down (end_of part) p d (not-true (is_past (end_of part) p) there) (not_below d p above_it)
 
     in_part : is_lt (place_cmp d (greater_of part.under part.from)) ≡ false → lies_in part d ≡ true
     in_part low = lies_exact part d ∙ ap (λ b. not b && not (is_past (end_of part) d)) low ∙ ap not not_past

@@ -1,6 +1,7 @@
 -- The parts that are cut at the first places of runs are those runs.
 use Rattle.std.proofs.Common.{◌≡◌, List, [], ◌∷◌, ◌++◌, refl, sym, ◌∙◌, ap, ap₂, true, false, map, filter, Option, Some, None, append-nil}
 use Rattle.std.proofs.lemmas.List.Elements.{filter-append}
+use Rattle.std.proofs.Math.Bool.{and-false}
 use Rattle.std.specs.{Prelude.{cond, not, ◌&&◌, ⊤}, Ordering.{is_lt}}
 use Rattle.std.specs.declared.cmp.Ordering.TheVariants.{Less}
 use Rattle.ocfl_tree.specs.{Place.{Place, place_cmp}, Ascending.{IsAscending, IsBeforeAll}}
@@ -8,7 +9,7 @@ use Rattle.ocfl_tree.proofs.Orders.{place_cmp_total, not_less, not_less_itself, 
 use Rattle.ocfl_report.specs.Line.{Item}
 use Rattle.ocfl_audit.specs.Runs.{joined}
 use Rattle.ocfl_audit.specs.Parts.{Part, is_from, is_below, lies_in, within, parts_from, parts_of}
-use Rattle.ocfl_audit.proofs.{AfterLaws.{places}, PartLaws.{and_false, within_is}}
+use Rattle.ocfl_audit.proofs.{AfterLaws.{places}, PartLaws.{within_is}}
 use Rattle.ocfl_split.specs.Reported.{first_places}
 
 abbrev part_at : Option Place → Option Place → Part
@@ -51,7 +52,7 @@ none_past : (a : Option Place) (p : Place) (items : List Item) → ArePast p ite
 none_past a p [] h = refl
 none_past a p (i ∷ items) h =
     ap (λ t. cond (is_from a i.place && t) (i ∷ in_part a (Some p) items) (in_part a (Some p) items)) h.0
-    ∙ ap (λ t. cond t (i ∷ in_part a (Some p) items) (in_part a (Some p) items)) (and_false (is_from a i.place))
+    ∙ ap (λ t. cond t (i ∷ in_part a (Some p) items) (in_part a (Some p) items)) (and-false (is_from a i.place))
     ∙ none_past a p items h.1
 
 all_within : (a : Option Place) (p : Place) (items : List Item) → AreFrom a items → AreBelow p items → in_part a (Some p) items ≡ items

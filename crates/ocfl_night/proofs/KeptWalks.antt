@@ -1,5 +1,5 @@
 -- The walk that is kept from one slice to the next.
-use Rattle.std.proofs.Common.{◌≡◌, Err, List, None, Ok, Option, Result, subst, sym}
+use Rattle.std.proofs.Common.{◌≡◌, Err, ap, List, None, Ok, Option, Result, subst, sym}
 use Rattle.std.specs.Prelude.{IfOk}
 use Rattle.ocfl_tree.specs.StorageRoot.{StorageRoot}
 use Rattle.ocfl_audit.specs.Parts.{Part}
@@ -26,7 +26,7 @@ walk_from root kept rest part k c there same walk =
 pub walk_next : (root : StorageRoot) (part : Part) (k next : Checkpoint) (ran : RunEnd) (report : ReportMark) → IsNext k ran report next → (kept : KeptWalk) (rest : Part) → rest ≡ part_after part k.left
     → IsReady root rest (place_in ran.cursor.state) kept → IsWalkAt root part next kept
 walk_next root part k next ran report is kept rest there walk =
-    subst (λ (l : List Left). IsReady root (part_after part l) (place_in next.cursor.state) kept) (sym is.left_is)
+    subst (λ (l : List Left). IsReady root (part_after part l) (place_in next.cursor.state) kept) (sym (ap (λ (x : Checkpoint). x.left) is.rest_is))
     (subst (λ (x : Cursor). IsReady root (part_after part k.left) (place_in x.state) kept) (sym is.cursor_is)
     (subst (λ (y : Part). IsReady root y (place_in ran.cursor.state) kept) there walk))
 

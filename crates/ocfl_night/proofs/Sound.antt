@@ -18,7 +18,7 @@ use Rattle.ocfl_state.specs.declared.checkpoint_parts.RootIdentity.{RootIdentity
 use Rattle.ocfl_state.specs.declared.checkpoint_parts.TopNames.{TopNames}
 use Rattle.ocfl_state.proofs.CheckpointTexts.{text_determines}
 use Rattle.ocfl_night.specs.Chain.{RootRun, joined, part_after, Led, LedToEnd, IsWholeReport, AreClosed}
-use Rattle.ocfl_night.specs.Sound.{closed_text, IsOpen, IsClosing, IsMoved, Stands, IsNew, IsMarked, IsSoundAt, IsAt, IsSettled, IsReady, IsOneMore}
+use Rattle.ocfl_night.specs.Sound.{closed_text, HasRuns, IsOpen, IsClosing, IsMoved, Stands, IsNew, IsMarked, IsSoundAt, IsAt, IsSettled, IsReady, IsOneMore}
 use Rattle.ocfl_night.specs.{Site.{first_checkpoint}, declared.site.Site.{Site}}
 use Rattle.ocfl_identity.specs.declared.identity.Identity.{Identity}
 use Rattle.ocfl_night.specs.Steps.{begun_anew, closes_whole, left_at, with_left, KeepsFront, MayCheckpoint, IsCheckpointPut, IsMoveDone, MayMoveAt, IsRun, IsNext, unsaid, with_all_told}
@@ -50,8 +50,8 @@ module _ {part : Part} {t : Text} {c : Content} where
 
   -- what a checkpoint says of the root is no matter here, nor its bytes
   pub stands_as : {k : Checkpoint} {root : RootIdentity} {names : TopNames} {bytes : Option (List ℕ)} → Stands part t k c → Stands part t (record k { root = root; names = names }) (record c { checkpoint = bytes })
-  stands_as (inl o) = inl (record { phase = o.phase; first = o.first; runs = o.runs; starts = o.starts; chain = o.chain; text = o.text; report = o.report; begins = o.begins; is_whole = o.is_whole; told = o.told; told_is = o.told_is; earlier = o.earlier })
-  stands_as (inr (inl w)) = inr (inl (record { phase = w.phase; first = w.first; runs = w.runs; starts = w.starts; chain = w.chain; ends = w.ends; report = w.report; is_whole = w.is_whole; told = w.told; told_is = w.told_is; earlier = w.earlier }))
+  stands_as (inl o) = inl (record { phase = o.phase; led = o.led; text = o.text; report = o.report; begins = o.begins; is_whole = o.is_whole; told = o.told; told_is = o.told_is; earlier = o.earlier })
+  stands_as (inr (inl w)) = inr (inl (record { phase = w.phase; led = w.led; ends = w.ends; report = w.report; is_whole = w.is_whole; told = w.told; told_is = w.told_is; earlier = w.earlier }))
   stands_as (inr (inr w)) = inr (inr (record { phase = w.phase; ends = w.ends; counted = w.counted; empty = w.empty; told = w.told; told_is = w.told_is; earlier = w.earlier }))
 
   pub renamed : {k next : Checkpoint} {root : RootIdentity} {names : TopNames} → next ≡ record k { root = root; names = names } → Stands part t k c → Stands part t next c
@@ -93,7 +93,7 @@ reopened : {part : Part} {t : Text} {k : Checkpoint} {d c : Content} (o : IsOpen
 reopened {part} {t} {k} o begins closed =
     let told_is = o.told_is ∙ ap (λ (l : List Closed). closed_text l ++ take k.told o.text) (sym closed) in
     let earlier = subst (λ (l : List Closed). AreClosed part 1 l (begun k.cursor).cycle) (sym closed) o.earlier in
-    record { phase = o.phase; first = o.first; runs = o.runs; starts = o.starts; chain = o.chain; text = o.text; report = o.report; begins = begins; is_whole = o.is_whole; told = o.told; told_is = told_is; earlier = earlier }
+    record { phase = o.phase; led = o.led; text = o.text; report = o.report; begins = begins; is_whole = o.is_whole; told = o.told; told_is = told_is; earlier = earlier }
 
 -- it is torn there
 pub torn : {part : Part} {t : Text} {k : Checkpoint} {n : ℕ} {d c : Content} → k.phase ≡ Open → k.report.bytes ≤ n → Holds part t k d → KeepsFront n d c → Holds part t k c
@@ -140,27 +140,35 @@ module _ {part : Part} {t : Text} {k next : Checkpoint} {root : StorageRoot} {ra
   counted : next.report.bytes ≡ length c.report
   counted = long c.report next.report n.report_is
 
+  told_same : next.told ≡ k.told
+  told_same = ap (λ (x : Checkpoint). x.told) n.rest_is
+
   told : next.told ≤ next.report.bytes
-  told = omega (arith, n.told_is, counted, o.told, long o.text k.report o.report, longer)
+  told = omega (arith, told_same, counted, o.told, long o.text k.report o.report, longer)
 
   told_text : t ≡ closed_text c.closed ++ take next.told c.report
   told_text =
       o.told_is
       ∙ ap (λ (l : List Closed). closed_text l ++ take k.told o.text) (sym closed)
-      ∙ ap (λ (l : Text). closed_text c.closed ++ l) (sym (take-append-le k.told o.text e.run.report (omega (arith, o.told, long o.text k.report o.report))) ∙ ap (take k.told) (sym now) ∙ ap (λ (m : ℕ). take m c.report) (sym n.told_is))
+      ∙ ap (λ (l : Text). closed_text c.closed ++ l) (sym (take-append-le k.told o.text e.run.report (omega (arith, o.told, long o.text k.report o.report))) ∙ ap (take k.told) (sym now) ∙ ap (λ (m : ℕ). take m c.report) (sym told_same))
 
-  whole : next.whole ≡ true → c.report ≡ joined (o.runs ++ r ∷ [])
-  whole is = now ∙ ap (λ (l : Text). l ++ e.run.report) (o.is_whole (sym n.whole_is ∙ is)) ∙ sym (joined_on o.runs r)
+  whole : next.whole ≡ true → c.report ≡ joined (o.led.runs ++ r ∷ [])
+  whole is = now ∙ ap (λ (l : Text). l ++ e.run.report) (o.is_whole (sym (ap (λ (x : Checkpoint). x.whole) n.rest_is) ∙ is)) ∙ sym (joined_on o.led.runs r)
+
+  led_by : (Leads : Part → Cursor → List RootRun → List Left → Cursor → Type 0) {last : Cursor} → last ≡ next.cursor → Leads part o.led.first (o.led.runs ++ r ∷ []) k.left last → HasRuns Leads part next.left next.cursor
+  led_by Leads {last} is chain = record {
+    first = o.led.first;
+    runs = o.led.runs ++ r ∷ [];
+    starts = o.led.starts;
+    chain = subst (Leads part o.led.first (o.led.runs ++ r ∷ []) next.left) is (subst (λ (left : List Left). Leads part o.led.first (o.led.runs ++ r ∷ []) left last) (sym (ap (λ (x : Checkpoint). x.left) n.rest_is)) chain);
+  }
 
   goes : e.run.ran.end ≢ status.Ended → After_run part t next c
+  unfolding led_by
   goes not_ended =
       let open_now : IsOpen part t next c = record {
         phase = n.goes_on (λ is. not_ended (ap (λ (x : RunEnd). x.end) e.ran_is ∙ is));
-        first = o.first;
-        runs = o.runs ++ r ∷ [];
-        starts = o.starts;
-        chain = subst (λ (x : Cursor). Led part o.first (o.runs ++ r ∷ []) next.left x) (ap (λ (x : RunEnd). x.cursor) e.ran_is ∙ sym n.cursor_is)
-            (subst (λ (left : List Left). Led part o.first (o.runs ++ r ∷ []) left e.run.ran.cursor) (sym n.left_is) (led_on part o.first k.cursor o.runs k.left r o.chain e.made not_ended));
+        led = led_by Led (ap (λ (x : RunEnd). x.cursor) e.ran_is ∙ sym n.cursor_is) (led_on part o.led.first k.cursor o.led.runs k.left r o.led.chain e.made not_ended);
         text = c.report;
         report = n.report_is;
         begins = ([], sym (append-nil c.report));
@@ -172,17 +180,14 @@ module _ {part : Part} {t : Text} {k next : Checkpoint} {root : StorageRoot} {ra
       record { stands = inl open_now; exact = λ is. sym counted }
 
   ends : e.run.ran.end ≡ status.Ended → After_run part t next c
+  unfolding led_by
   ends is =
       let at = ended_cursor root (part_after part k.left) k.cursor e.run e.made is in
       let cursor : e.run.ran.cursor ≡ next.cursor = ap (λ (x : RunEnd). x.cursor) e.ran_is ∙ sym n.cursor_is in
       let phase : next.phase ≡ Closing = n.ended (sym (ap (λ (x : RunEnd). x.end) e.ran_is) ∙ is) in
       let closing_now : IsClosing part t next c = record {
         phase = phase;
-        first = o.first;
-        runs = o.runs ++ r ∷ [];
-        starts = o.starts;
-        chain = subst (λ (x : Cursor). LedToEnd part o.first (o.runs ++ r ∷ []) next.left x) cursor
-            (subst (λ (left : List Left). LedToEnd part o.first (o.runs ++ r ∷ []) left e.run.ran.cursor) (sym n.left_is) (led_to_end part o.first k.cursor o.runs k.left r o.chain e.made is));
+        led = led_by LedToEnd cursor (led_to_end part o.led.first k.cursor o.led.runs k.left r o.led.chain e.made is);
         ends = ap (λ (x : Cursor). x.state) (sym cursor) ∙ at.0;
         report = n.report_is;
         is_whole = whole;
@@ -290,10 +295,7 @@ cut_open {k = k} {d} {c} is h cut =
 fresh_stands : {part : Part} {t : Text} {c : Content} (k : Checkpoint) → place_in k.cursor.state ≡ None → t ≡ closed_text c.closed → AreClosed part 1 c.closed (begun k.cursor).cycle → Stands part t (begun_anew k) c
 fresh_stands {c = c} k starts told_is earlier = inl (record {
   phase = refl;
-  first = k.cursor;
-  runs = [];
-  starts = starts;
-  chain = refl;
+  led = record { first = k.cursor; runs = []; starts = starts; chain = refl };
   text = [];
   report = refl;
   begins = (c.report, refl);
@@ -328,11 +330,11 @@ module _ {part : Part} {t : Text} {k : Checkpoint} {d : Content} where
 
   whole_report : IsClosing part t k d → (k.whole ≡ true) × (k.left ≡ []) → IsWholeReport part (record { cycle = k.cursor.cycle; whole = closes_whole k; report = d.report })
   whole_report w both = record {
-    first = w.first;
-    runs = w.runs;
+    first = w.led.first;
+    runs = w.led.runs;
     last = k.cursor;
-    starts = w.starts;
-    chain = subst (λ (l : List Left). LedToEnd part w.first w.runs l k.cursor) both.1 w.chain;
+    starts = w.led.starts;
+    chain = subst (λ (l : List Left). LedToEnd part w.led.first w.led.runs l k.cursor) both.1 w.led.chain;
     cycle = refl;
     report = w.is_whole both.0;
   }
@@ -380,9 +382,9 @@ next_stands {part} {t} {k} {next} {c} is w =
 pub left_stands : {part : Part} {t : Text} {k next : Checkpoint} {c : Content} (branch : Place) → next ≡ with_left branch k → k.phase ≡ Open → Stands part t k c → Stands part t next c
 left_stands {part} {t} {k} {c = c} branch same is stands =
     let o = open_of is stands in
-    let chain = leave_on part o.first k.cursor o.runs k.left (left_at branch k) o.chain refl in
+    let chain = leave_on part o.led.first k.cursor o.led.runs k.left (left_at branch k) o.led.chain refl in
     subst (λ (x : Checkpoint). Stands part t x c) (sym same)
-    (inl (record { phase = o.phase; first = o.first; runs = o.runs; starts = o.starts; chain = chain; text = o.text; report = o.report; begins = o.begins; is_whole = o.is_whole; told = o.told; told_is = o.told_is; earlier = o.earlier }))
+    (inl (record { phase = o.phase; led = record { first = o.led.first; runs = o.led.runs; starts = o.led.starts; chain = chain }; text = o.text; report = o.report; begins = o.begins; is_whole = o.is_whole; told = o.told; told_is = o.told_is; earlier = o.earlier }))
 
 -- ---- saying
 
@@ -400,10 +402,10 @@ module _ {part : Part} {t : Text} {k : Checkpoint} {c : Content} (some : k.told 
   said_stands : Stands part t k c → Stands part (t ++ unsaid k c) (with_all_told k) c
   said_stands (inl o) =
       let told_is = told_now t k c o.text (long o.text k.report o.report) o.told (exact_text o (exact o.phase)) o.told_is in
-      inl (record { phase = o.phase; first = o.first; runs = o.runs; starts = o.starts; chain = o.chain; text = o.text; report = o.report; begins = o.begins; is_whole = o.is_whole; told = omega arith; told_is = told_is; earlier = o.earlier })
+      inl (record { phase = o.phase; led = o.led; text = o.text; report = o.report; begins = o.begins; is_whole = o.is_whole; told = omega arith; told_is = told_is; earlier = o.earlier })
   said_stands (inr (inl w)) =
       let told_is = told_now t k c c.report (long c.report k.report w.report) w.told refl w.told_is in
-      inr (inl (record { phase = w.phase; first = w.first; runs = w.runs; starts = w.starts; chain = w.chain; ends = w.ends; report = w.report; is_whole = w.is_whole; told = omega arith; told_is = told_is; earlier = w.earlier }))
+      inr (inl (record { phase = w.phase; led = w.led; ends = w.ends; report = w.report; is_whole = w.is_whole; told = omega arith; told_is = told_is; earlier = w.earlier }))
   said_stands (inr (inr w)) = absurd (some w.told)
 
 pub said_by : {F : Type 0} {seen : F → Content} {may_leave : F → Outcomes} {part : Part} {t : Text} {k next : Checkpoint} {f : F} → next ≡ with_all_told k → (k.told ≡ k.report.bytes → ⊥) → IsReady seen may_leave part t k f → Stands part (t ++ unsaid k (seen f)) next (seen f)

@@ -7,27 +7,30 @@ use Rattle.ocfl_cursor.specs.Cursor.{Cursor, ended}
 use Rattle.ocfl_scrub.specs.Running.{place_in, begun}
 use Rattle.ocfl_state.specs.{Checkpoint.{Checkpoint, IsCheckpointText}, Content.{Content, Closed}}
 use Rattle.ocfl_state.specs.{Crash.{Outcomes, Begins, Only}, Pieces.{summary_of}}
-use Rattle.ocfl_state.specs.declared.checkpoint_parts.Phase.TheVariants.{Open, Closing}
+use Rattle.ocfl_state.specs.declared.checkpoint_parts.{Left.{Left}, Phase.TheVariants.{Open, Closing}}
 use Rattle.ocfl_night.specs.Chain.{RootRun, joined, Led, LedToEnd, AreClosed}
 
 -- the closed reports, joined
 abbrev pub closed_text : List Closed → Text
 closed_text closed = flat_map (λ d. d.report) closed
 
--- The cycle goes on: a chain of runs leads to the checkpoint's cursor, around the branches that it
--- names as left out. The report begins with the
--- text of which the checkpoint has the length, the lines and the digests, and if nothing was lost
--- that is what the runs wrote. Of all the reports t was told.
-pub record IsOpen (part : Part) (t : Text) (k : Checkpoint) (c : Content) : Type 0 where
-  pub phase : k.phase ≡ Open
+-- a chain of a cycle's runs from its start to a cursor, around the branches that were left out
+pub record HasRuns (Leads : Part → Cursor → List RootRun → List Left → Cursor → Type 0) (part : Part) (left : List Left) (last : Cursor) : Type 0 where
   pub first : Cursor
   pub runs : List RootRun
   pub starts : place_in first.state ≡ None
-  pub chain : Led part first runs k.left k.cursor
+  pub chain : Leads part first runs left last
+
+-- The cycle goes on: its runs lead to the checkpoint's cursor. The report begins with the text of
+-- which the checkpoint has the length, the lines and the digests, and if nothing was lost that is
+-- what the runs wrote. Of all the reports t was told.
+pub record IsOpen (part : Part) (t : Text) (k : Checkpoint) (c : Content) : Type 0 where
+  pub phase : k.phase ≡ Open
+  pub led : HasRuns Led part k.left k.cursor
   pub text : Text
   pub report : k.report ≡ summary_of text
   pub begins : Begins text c.report
-  pub is_whole : k.whole ≡ true → text ≡ joined runs
+  pub is_whole : k.whole ≡ true → text ≡ joined led.runs
   pub told : k.told ≤ k.report.bytes
   pub told_is : t ≡ closed_text c.closed ++ take k.told text
   pub earlier : AreClosed part 1 c.closed (begun k.cursor).cycle
@@ -35,13 +38,10 @@ pub record IsOpen (part : Part) (t : Text) (k : Checkpoint) (c : Content) : Type
 -- the cycle has ended, and its report is to be closed
 pub record IsClosing (part : Part) (t : Text) (k : Checkpoint) (c : Content) : Type 0 where
   pub phase : k.phase ≡ Closing
-  pub first : Cursor
-  pub runs : List RootRun
-  pub starts : place_in first.state ≡ None
-  pub chain : LedToEnd part first runs k.left k.cursor
+  pub led : HasRuns LedToEnd part k.left k.cursor
   pub ends : k.cursor.state ≡ ended
   pub report : k.report ≡ summary_of c.report
-  pub is_whole : k.whole ≡ true → c.report ≡ joined runs
+  pub is_whole : k.whole ≡ true → c.report ≡ joined led.runs
   pub told : k.told ≤ k.report.bytes
   pub told_is : t ≡ closed_text c.closed ++ take k.told c.report
   pub earlier : AreClosed part 1 c.closed k.cursor.cycle

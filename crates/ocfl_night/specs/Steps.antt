@@ -43,13 +43,7 @@ pub record IsNext (k : Checkpoint) (ran : RunEnd) (report : ReportMark) (next : 
   pub goes_on : ran.end ≢ status.Ended → next.phase ≡ Open
   pub report_is : next.report ≡ report
   pub cursor_is : next.cursor ≡ ran.cursor
-  pub whole_is : next.whole ≡ k.whole
-  pub told_is : next.told ≡ k.told
-  -- and whose it is
-  pub root_is : next.root ≡ k.root
-  pub names_are : next.names ≡ k.names
-  pub left_is : next.left ≡ k.left
-  pub part_is : next.part ≡ k.part
+  pub rest_is : next ≡ record k { phase = next.phase; report = next.report; cursor = next.cursor }
 
 -- that of a report that is another one than it says: it keeps what is there
 pub record IsShortened (k : Checkpoint) (report : ReportMark) (next : Checkpoint) : Type 0 where

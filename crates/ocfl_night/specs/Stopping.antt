@@ -1,5 +1,5 @@
 -- Why the steps of a night stop.
-use Rattle.std.specs.Prelude.{◌≡◌, ◌≢◌, ◌<◌, ⊤}
+use Rattle.std.specs.Prelude.{◌≢◌, ◌<◌, ⊤}
 use Rattle.ocfl_state.specs.Checkpoint.{Checkpoint}
 use Rattle.ocfl_night.specs.{declared.looking.NotKept.{NotKept}, declared.stop.Stop.{Stop}}
 use Rattle.ocfl_night.specs.declared.looking.NotKept.TheVariants.{Troubled}

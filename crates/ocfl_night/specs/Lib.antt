@@ -2,6 +2,7 @@ pub mod Site
 pub mod Chain
 pub mod Sound
 pub mod Steps
+pub mod Promises
 pub mod Nights
 pub mod Clock
 pub mod Status

@@ -1,12 +1,10 @@
 //! Closing the report of a cycle that has ended.
 ghost use Rattle.std.specs.Prelude.{◌≡◌, ◌≢◌, ◌⊎◌, false, IfErr, IfOk, IfSome, IsTrue, OnOk};
-ghost use Rattle.ocfl_audit.specs.Parts.{Part};
-ghost use Rattle.ocfl_tree.specs.Place.{Text};
-ghost use Rattle.ocfl_state.specs.{Content.{is_closed}, Crash.{LeavesOnly, Only, Passes}};
+ghost use Rattle.ocfl_state.specs.{Content.{is_closed}, Crash.{Only, Passes}};
 ghost use Rattle.ocfl_state.specs.Pieces.{summary_of};
 ghost use Rattle.ocfl_state.specs.declared.checkpoint_parts.Phase.TheVariants.{Closing};
 ghost use Rattle.ocfl_night.specs.Ending.{cycle_ended};
-ghost use Rattle.ocfl_night.specs.Sound.{IsAllSaid, IsOneMore, IsReady, IsSoundAt};
+ghost use Rattle.ocfl_night.specs.{Promises.{IfReady, IsSafe}, Sound.{IsAllSaid, IsOneMore, IsReady}};
 ghost use Rattle.ocfl_night.specs.Steps.{IsMoveDone, MayMoveAt, closes_whole};
 ghost use Rattle.ocfl_night.specs.Stopping.{IsCloseStop, IsFolderStop};
 
@@ -68,16 +66,13 @@ fn close<S: StateFolder>(
     checkpoint: Checkpoint,
 ) -> Result<Checkpoint, Stop>
     requires { checkpoint.phase ≡ Closing }
-    ensures any_moment { IsTrue S.told → (part : Part) (t : Text)
-        → IsReady S.seen S.may_leave part t checkpoint folder.old
-        → LeavesOnly S.moment S.left_since folder.old folder.new (IsSoundAt part t) }
-    ensures ready { IsTrue S.told → (part : Part) (t : Text)
-        → IsReady S.seen S.may_leave part t checkpoint folder.old
-        → IfOk result (λ next. IsReady S.seen S.may_leave part t next folder.new) }
-    ensures closed { IsTrue S.told → (part : Part) (t : Text)
-        → IsReady S.seen S.may_leave part t checkpoint folder.old
-        → OnOk result (IsOneMore part checkpoint.cursor.cycle
-        (S.seen folder.old).closed (S.seen folder.new).closed) }
+    ensures any_moment { IsTrue S.told → IsSafe S.seen S.may_leave S.moment S.left_since
+        checkpoint folder.old folder.new }
+    ensures ready { IsTrue S.told → IfReady S.seen S.may_leave checkpoint folder.old
+        (λ part t. IfOk result (λ next. IsReady S.seen S.may_leave part t next folder.new)) }
+    ensures closed { IsTrue S.told → IfReady S.seen S.may_leave checkpoint folder.old
+        (λ part _. OnOk result (IsOneMore part checkpoint.cursor.cycle
+        (S.seen folder.old).closed (S.seen folder.new).closed)) }
     ensures all { IfOk result (λ next. next.told ≡ next.report.bytes) }
     ensures stop { IfErr result (IsCloseStop checkpoint) }
 {
@@ -96,17 +91,14 @@ pub fn finish<S: StateFolder>(
     folder: &mut S,
     checkpoint: Checkpoint,
 ) -> Result<Option<u64>, Stop>
-    ensures any_moment { IsTrue S.told → (part : Part) (t : Text)
-        → IsReady S.seen S.may_leave part t checkpoint folder.old
-        → LeavesOnly S.moment S.left_since folder.old folder.new (IsSoundAt part t) }
-    ensures closed { IsTrue S.told → (part : Part) (t : Text)
-        → IsReady S.seen S.may_leave part t checkpoint folder.old
-        → IfOk result (λ ended. IfSome ended (λ cycle. IsOneMore part cycle
-        (S.seen folder.old).closed (S.seen folder.new).closed)) }
-    ensures said { IsTrue S.told → (part : Part) (t : Text)
-        → IsReady S.seen S.may_leave part t checkpoint folder.old
-        → checkpoint.told ≡ checkpoint.report.bytes
-        → OnOk result (IsAllSaid (S.seen folder.new)) }
+    ensures any_moment { IsTrue S.told → IsSafe S.seen S.may_leave S.moment S.left_since
+        checkpoint folder.old folder.new }
+    ensures closed { IsTrue S.told → IfReady S.seen S.may_leave checkpoint folder.old
+        (λ part _. IfOk result (λ ended. IfSome ended (λ cycle. IsOneMore part cycle
+        (S.seen folder.old).closed (S.seen folder.new).closed))) }
+    ensures said { IsTrue S.told → IfReady S.seen S.may_leave checkpoint folder.old
+        (λ _ _. checkpoint.told ≡ checkpoint.report.bytes
+        → OnOk result (IsAllSaid (S.seen folder.new))) }
     ensures ended { IfOk result (λ ended. ended
         ≡ cycle_ended checkpoint.phase checkpoint.cursor.cycle) }
     ensures stop { IfErr result (IsCloseStop checkpoint) }

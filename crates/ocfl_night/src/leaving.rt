@@ -1,14 +1,12 @@
 //! Leaving out a branch that cannot be read.
 ghost use Rattle.std.specs.Prelude.{◌≡◌, ◌-◌, ◌<◌, ◌≤◌, ◌++◌, ◌∷◌, [], IfErr, IfOk, IfSome, IsNone, IsSome, IsTrue, OnOk, length, take};
-ghost use Rattle.ocfl_audit.specs.Parts.{Part as ModelPart};
-ghost use Rattle.ocfl_tree.specs.{Name.{IsName}, Place.{Text}};
+ghost use Rattle.ocfl_tree.specs.Name.{IsName};
 ghost use Rattle.ocfl_cursor.specs.State.{state_of};
 ghost use Rattle.ocfl_scrub.specs.{Running.{place_in}, Starting.{part_of}};
-ghost use Rattle.ocfl_state.specs.Crash.{LeavesOnly};
 ghost use Rattle.ocfl_state.specs.declared.checkpoint_parts.Phase.TheVariants.{Open};
 ghost use Rattle.ocfl_night.specs.Chain.{from_after, part_after};
 ghost use Rattle.ocfl_night.specs.Leaving.{branch_at, end_of, is_of_inventory, last_name, speaks_for_object};
-ghost use Rattle.ocfl_night.specs.{Sound.{IsReady, IsSoundAt}, Steps.{with_left}};
+ghost use Rattle.ocfl_night.specs.{Promises.{IfReady, IsSafe, SameClosed}, Sound.{IsReady}, Steps.{with_left}};
 ghost use Rattle.ocfl_night.specs.Stopping.{IsPastStop, IsPutStop};
 
 use crate::checkpoint::put_checkpoint;
@@ -160,14 +158,11 @@ pub fn leave_out<S: StateFolder>(
 ) -> Result<Checkpoint, Stop>
     requires { checkpoint.phase ≡ Open }
     ensures named { IfOk result (λ next. next ≡ with_left branch checkpoint) }
-    ensures any_moment { IsTrue S.told → (part : ModelPart) (t : Text)
-        → IsReady S.seen S.may_leave part t checkpoint folder.old
-        → LeavesOnly S.moment S.left_since folder.old folder.new (IsSoundAt part t) }
-    ensures ready { IsTrue S.told → (part : ModelPart) (t : Text)
-        → IsReady S.seen S.may_leave part t checkpoint folder.old
-        → IfOk result (λ next. IsReady S.seen S.may_leave part t next folder.new) }
-    ensures closed { IsTrue S.told → OnOk result
-        ((S.seen folder.new).closed ≡ (S.seen folder.old).closed) }
+    ensures any_moment { IsTrue S.told → IsSafe S.seen S.may_leave S.moment S.left_since
+        checkpoint folder.old folder.new }
+    ensures ready { IsTrue S.told → IfReady S.seen S.may_leave checkpoint folder.old
+        (λ part t. IfOk result (λ next. IsReady S.seen S.may_leave part t next folder.new)) }
+    ensures closed { IsTrue S.told → OnOk result (SameClosed S.seen folder.old folder.new) }
     ensures stop { IfErr result (IsPutStop checkpoint) }
 {
     let next = with_left(checkpoint, branch)?;

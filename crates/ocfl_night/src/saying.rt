@@ -1,10 +1,8 @@
 //! Saying what was not said.
 ghost use Rattle.std.specs.Prelude.{◌≡◌, ◌-◌, ◌≤◌, IfErr, IfOk, IsTrue, OnOk, take, drop, List, ℕ};
 ghost use Rattle.std.specs.Io.KnownBytes.{Appends, Keeps};
-ghost use Rattle.ocfl_audit.specs.Parts.{Part};
-ghost use Rattle.ocfl_tree.specs.Place.{Text};
 ghost use Rattle.ocfl_state.specs.Crash.{LeavesOnly, Passes, Same};
-ghost use Rattle.ocfl_night.specs.Sound.{IsHeard, IsHeardReady, IsReady};
+ghost use Rattle.ocfl_night.specs.{Promises.{IfReady, SameClosed}, Sound.{IsHeard, IsHeardReady}};
 ghost use Rattle.ocfl_night.specs.Steps.{unsaid, with_all_told};
 ghost use Rattle.ocfl_night.specs.Stopping.{IsSayStop, IsSpeakStop};
 
@@ -110,18 +108,15 @@ pub fn speak<S: StateFolder, W: Write>(
     out: &mut W,
     checkpoint: Checkpoint,
 ) -> Result<Checkpoint, Stop>
-    ensures heard { IsTrue S.told → (part : Part) (t : Text)
-        → IsReady S.seen S.may_leave part t checkpoint folder.old
-        → LeavesOnly S.moment S.left_since folder.old folder.new
-        (IsHeard part t (W.contents out.old) (W.contents out.new)) }
-    ensures ready { IsTrue S.told → (part : Part) (t : Text)
-        → IsReady S.seen S.may_leave part t checkpoint folder.old
-        → IfOk result (λ next. IsHeardReady S.seen S.may_leave part t
-        (W.contents out.old) (W.contents out.new) next folder.new) }
+    ensures heard { IsTrue S.told → IfReady S.seen S.may_leave checkpoint folder.old
+        (λ part t. LeavesOnly S.moment S.left_since folder.old folder.new
+        (IsHeard part t (W.contents out.old) (W.contents out.new))) }
+    ensures ready { IsTrue S.told → IfReady S.seen S.may_leave checkpoint folder.old
+        (λ part t. IfOk result (λ next. IsHeardReady S.seen S.may_leave part t
+        (W.contents out.old) (W.contents out.new) next folder.new)) }
     ensures all { IfOk result (λ next. next ≡ with_all_told checkpoint) }
     ensures grew { (more : List ℕ) × Appends (W.contents out.old) (W.contents out.new) more }
-    ensures closed { IsTrue S.told → OnOk result
-        ((S.seen folder.new).closed ≡ (S.seen folder.old).closed) }
+    ensures closed { IsTrue S.told → OnOk result (SameClosed S.seen folder.old folder.new) }
     ensures stop { IfErr result (IsSpeakStop checkpoint) }
 {
     if is_all_told(&checkpoint) {

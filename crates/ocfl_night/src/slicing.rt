@@ -13,6 +13,7 @@ ghost use Rattle.ocfl_state.specs.declared.checkpoint_parts.ReportMark.{ReportMa
 ghost use Rattle.ocfl_state.specs.declared.checkpoint_parts.Phase.TheVariants.{Closing, Open};
 ghost use Rattle.ocfl_night.specs.Chain.{part_after};
 ghost use Rattle.ocfl_night.specs.Ending.{IsAway, IsMadeBy, IsSlice, IsUnkept, KeepsTo, lost_by, slice_end};
+ghost use Rattle.ocfl_night.specs.Promises.{IfReadyIn, IfWalkAt, IsSafeIn, SameClosed};
 ghost use Rattle.ocfl_night.specs.{Site.{IsStill}, Sound.{IsReady, IsSoundAt}};
 ghost use Rattle.ocfl_night.specs.Steps.{IsNext, IsRun, IsWalkAt};
 ghost use Rattle.ocfl_night.specs.Stopping.{IsFolderStop, IsRunStop, IsSliceStop};
@@ -223,8 +224,7 @@ fn keep<S: StateFolder>(
         → IsRun (part_after part checkpoint.left) checkpoint.cursor root lines.now ran → (t : Text)
         → IsReady S.seen S.may_leave part t checkpoint folder.old
         → IfOk result (λ made. IsReady S.seen S.may_leave part t made.checkpoint folder.new) }
-    ensures closed { IsTrue S.told → OnOk result
-        ((S.seen folder.new).closed ≡ (S.seen folder.old).closed) }
+    ensures closed { IsTrue S.told → OnOk result (SameClosed S.seen folder.old folder.new) }
     ensures next { IfOk result (λ made. (report : ModelMark)
         × IsNext checkpoint ran report made.checkpoint) }
     ensures made { IfOk result (IsMadeBy ran) }
@@ -255,26 +255,20 @@ pub fn slice<S: StateFolder, T: Tree>(
     block: &mut Block,
 ) -> Result<Made, Stop>
     requires { checkpoint.phase ≡ Open }
-    ensures any_moment { IsTrue S.told → IfTold T.told (T.state tree.old) (λ root.
-        HasShortFiles root → IsWalkAt root (part_of part.now) checkpoint kept.old → (t : Text)
-        → IsReady S.seen S.may_leave (part_of part.now) t checkpoint folder.old
-        → LeavesOnly S.moment S.left_since folder.old folder.new
-        (IsSoundAt (part_of part.now) t)) }
-    ensures ready { IsTrue S.told → IfTold T.told (T.state tree.old) (λ root.
-        HasShortFiles root → IsWalkAt root (part_of part.now) checkpoint kept.old → (t : Text)
-        → IsReady S.seen S.may_leave (part_of part.now) t checkpoint folder.old
-        → IfOk result (λ made. IsReady S.seen S.may_leave (part_of part.now) t
-        made.checkpoint folder.new)) }
-    ensures closed { IsTrue S.told → OnOk result
-        ((S.seen folder.new).closed ≡ (S.seen folder.old).closed) }
-    ensures root { IfTold T.told (T.state tree.old) (λ root. HasShortFiles root
-        → IsWalkAt root (part_of part.now) checkpoint kept.old
-        → (T.state tree.new).tree ≡ root) }
+    ensures any_moment { IsTrue S.told → IfWalkAt T.told (T.state tree.old)
+        (part_of part.now) checkpoint kept.old (λ _. IsSafeIn S.seen S.may_leave
+        S.moment S.left_since (part_of part.now) checkpoint folder.old folder.new) }
+    ensures ready { IsTrue S.told → IfWalkAt T.told (T.state tree.old)
+        (part_of part.now) checkpoint kept.old (λ _.
+        IfReadyIn S.seen S.may_leave (part_of part.now) checkpoint folder.old (λ t. IfOk result
+        (λ made. IsReady S.seen S.may_leave (part_of part.now) t made.checkpoint folder.new))) }
+    ensures closed { IsTrue S.told → OnOk result (SameClosed S.seen folder.old folder.new) }
+    ensures root { IfWalkAt T.told (T.state tree.old) (part_of part.now) checkpoint kept.old
+        (λ root. (T.state tree.new).tree ≡ root) }
 
     // The next slice may go on with the walk that is kept.
-    ensures walk { IfTold T.told (T.state tree.old) (λ root. HasShortFiles root
-        → IsWalkAt root (part_of part.now) checkpoint kept.old
-        → IfOk result (λ made. IsWalkAt root (part_of part.now) made.checkpoint kept.new)) }
+    ensures walk { IfWalkAt T.told (T.state tree.old) (part_of part.now) checkpoint kept.old
+        (λ root. IfOk result (λ made. IsWalkAt root (part_of part.now) made.checkpoint kept.new)) }
 
     // What it counts is what a run within the limits did, or nothing is kept of it.
     ensures slice { IfOk result (IsSlice checkpoint limits) }

@@ -1,0 +1,44 @@
+-- What the steps of a night promise of a state folder, and when.
+use Rattle.std.specs.Prelude.{◌≡◌, ℕ, Bool}
+use Rattle.ocfl_tree.specs.{Place.{Text}, StorageRoot.{StorageRoot}, Store.{Store, IfTold}}
+use Rattle.ocfl_audit.specs.Parts.{Part}
+use Rattle.ocfl_item.specs.Judging.{HasShortFiles}
+use Rattle.ocfl_scrub.specs.declared.kept.KeptWalk.{KeptWalk}
+use Rattle.ocfl_state.specs.{Checkpoint.{Checkpoint}, Content.{Content}, Crash.{Outcomes, LeavesOnly}}
+use Rattle.ocfl_night.specs.{Sound.{IsAt, IsSoundAt, IsReady}, Steps.{IsLost, IsWalkAt}}
+
+-- ---- when
+
+-- over a store that tells, of a root with no file of 2^62 bytes or more
+abbrev pub OnShort : Bool → Store → Type 0 → Type 0
+OnShort told s Holds = IfTold told s (λ root. HasShortFiles root → Holds)
+
+-- the same, if a walk is kept that goes on where the run from a checkpoint begins
+abbrev pub IfWalkAt : Bool → Store → Part → Checkpoint → KeptWalk → (StorageRoot → Type 0) → Type 0
+IfWalkAt told s part k kept Holds = IfTold told s (λ root. HasShortFiles root → IsWalkAt root part k kept → Holds root)
+
+-- in a folder that is ready at a checkpoint, whatever text was told
+abbrev pub IfReadyIn : {F : Type 0} → (F → Content) → (F → Outcomes) → Part → Checkpoint → F → (Text → Type 0) → Type 0
+IfReadyIn seen may_leave part k folder Holds = (t : Text) → IsReady seen may_leave part t k folder → Holds t
+
+-- the same of any part
+abbrev pub IfReady : {F : Type 0} → (F → Content) → (F → Outcomes) → Checkpoint → F → (Part → Text → Type 0) → Type 0
+IfReady seen may_leave k folder Holds = (part : Part) → IfReadyIn seen may_leave part k folder (Holds part)
+
+-- if bytes of a report were lost or changed that is not closed yet
+abbrev pub IfLost : Content → Type 0 → Type 0
+IfLost c Holds = (k : Checkpoint) → IsAt k c → IsLost k c → Holds
+
+-- ---- what
+
+-- in a folder that is ready, a crash at any moment leaves what is sound
+abbrev pub IsSafeIn : {F : Type 0} → (F → Content) → (F → Outcomes) → (F → ℕ) → (F → ℕ → Outcomes) → Part → Checkpoint → F → F → Type 0
+IsSafeIn seen may_leave moment left_since part k old new = IfReadyIn seen may_leave part k old (λ t. LeavesOnly moment left_since old new (IsSoundAt part t))
+
+-- the same of any part
+abbrev pub IsSafe : {F : Type 0} → (F → Content) → (F → Outcomes) → (F → ℕ) → (F → ℕ → Outcomes) → Checkpoint → F → F → Type 0
+IsSafe seen may_leave moment left_since k old new = (part : Part) → IsSafeIn seen may_leave moment left_since part k old new
+
+-- the closed reports are those of before
+abbrev pub SameClosed : {F : Type 0} → (F → Content) → F → F → Type 0
+SameClosed seen old new = (seen new).closed ≡ (seen old).closed

@@ -1,16 +1,27 @@
 -- When a night is refused, for each reason: the first that applies.
-use Rattle.std.specs.Prelude.{◌≡◌, ◌≢◌, ◌⊎◌, ◌-◌, [], Bool, IsTrue, true, false, Some, None}
+use Rattle.std.specs.Prelude.{◌≡◌, ◌≢◌, ◌⊎◌, ◌-◌, [], Bool, IsTrue, true, false, Some, None, Result, Err, IsErr, ℕ}
 use Rattle.ocfl_tree.specs.{Place.{Text}, Listing.{entries_in}, StorageRoot.{StorageRoot}, Store.{Store, IfTold}}
 use Rattle.ocfl_identity.specs.Identity.{IsIdentityOf, declarations_among}
 use Rattle.ocfl_identity.specs.declared.identity.Identity.{Identity}
 use Rattle.ocfl_cursor.specs.declared.refused.Refused.TheVariants as refused
-use Rattle.ocfl_cursor.specs.declared.refused.TextKind.{TextKind}
 use Rattle.ocfl_state.specs.{Checkpoint.{Checkpoint}, CheckpointRefusal.{RefusedRightly}}
-use Rattle.ocfl_state.specs.Content.{Content, is_closed}
-use Rattle.ocfl_night.specs.{Site.{AreMostGone, IsAnothers, IsOtherThan, IsOwn}, Sound.{IsAt}}
+use Rattle.ocfl_state.specs.{Content.{Content, is_closed}, Crash.{Outcomes}}
+use Rattle.ocfl_night.specs.{Site.{AreMostGone, IsAnothers, IsForeign, IsOtherThan, IsOwn}, Sound.{IsAt}, Steps.{IsUntouched}}
 use Rattle.ocfl_night.specs.{declared.plan.Plan.{Plan}, declared.site.Site.{Site}}
-use Rattle.ocfl_night.specs.declared.refusal.Refusal.{Refusal}
-use Rattle.ocfl_night.specs.declared.refusal.Refusal.TheVariants.{NoCheckpoint, HasReports, NotCheckpoint, Version, Damaged, Malformed, NoRoot, OtherRoot, OtherPart, OtherDeclaration, NamesGone}
+use Rattle.ocfl_night.specs.declared.refusal.{NotOpened.{NotOpened}, NotOpened.TheVariants.{Refused}, Refusal.{Refusal}}
+use Rattle.ocfl_night.specs.declared.refusal.Refusal.TheVariants.{NoCheckpoint, HasReports, Unread, NoRoot, OtherRoot, OtherPart, OtherDeclaration, NamesGone}
+
+-- if a night is refused, this holds of the reason
+abbrev pub IfRefused : {A : Type 0} → Result A NotOpened → (Refusal → Type 0) → Type 0
+IfRefused result Holds = (why : Refusal) → result ≡ Err (Refused why) → Holds why
+
+-- if a night is refused, this holds
+abbrev pub OnRefused : {A : Type 0} → Result A NotOpened → Type 0 → Type 0
+OnRefused result Holds = (why : Refusal) → result ≡ Err (Refused why) → Holds
+
+-- no night is begun, and the folder stays as it was, whenever a crash comes
+abbrev pub IsTurnedAway : {A F : Type 0} → Result A NotOpened → (F → Content) → (F → Outcomes) → (F → ℕ) → (F → ℕ → Outcomes) → F → F → Type 0
+IsTurnedAway result seen may_leave moment left_since old new = IsErr result × IsUntouched seen may_leave moment left_since old new
 
 -- the open report has bytes, or that of the first cycle is closed
 abbrev pub HasReport : Content → Type 0
@@ -22,12 +33,9 @@ IsUnbegun create c NoCheckpoint = create ≡ false
 IsUnbegun create c HasReports = (create ≡ true) × HasReport c
 IsUnbegun create c _ = ⊥
 
--- for bytes in a checkpoint's place: they are not the text of one
+-- for bytes in a checkpoint's place: they are not the text of one, and memory is not the reason
 abbrev pub IsUnread : Text → Refusal → Type 0
-IsUnread bytes NotCheckpoint = (of : TextKind) × RefusedRightly bytes (refused.NotA of)
-IsUnread bytes Version = RefusedRightly bytes refused.Version
-IsUnread bytes Damaged = RefusedRightly bytes refused.Damaged
-IsUnread bytes Malformed = RefusedRightly bytes refused.Malformed
+IsUnread bytes (Unread why) = (why ≢ refused.Memory) × RefusedRightly bytes why
 IsUnread bytes _ = ⊥
 
 -- such bytes are in the checkpoint's place
@@ -62,6 +70,10 @@ pub data IsRefused (told : Bool) (s : Store) (site : Site) (plan : Plan) (c : Co
   in_folder : (id : Identity) → IfTold told s (λ root. IsIdentityOf root id) → IsFolderRefused site id plan c why → IsRefused told s site plan c why
 
 -- ---- what no night is begun in
+
+-- if a folder of this content has a checkpoint with which no night is begun
+abbrev pub IfForeign : Site → Identity → Plan → Content → Type 0 → Type 0
+IfForeign site id plan c Holds = (k : Checkpoint) → IsAt k c → IsForeign site id plan.force_root k → Holds
 
 -- the checkpoint in a folder of this content is of another root or part, or unless forced the root
 -- of a store is not as it was, or it has no declaration

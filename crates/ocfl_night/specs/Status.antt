@@ -6,10 +6,7 @@ use Rattle.ocfl_night.specs.declared.refusal.Refusal.TheVariants as refusal
 
 -- 4 if the checkpoint cannot be read
 abbrev pub refusal_status : Refusal → ℕ
-refusal_status refusal.NotCheckpoint = 4
-refusal_status refusal.Version = 4
-refusal_status refusal.Damaged = 4
-refusal_status refusal.Malformed = 4
+refusal_status (refusal.Unread why) = 4
 refusal_status _ = 3
 
 -- 0 if a night ended as it may

@@ -1,9 +1,9 @@
 //! The checkpoint: reading it in the folder, putting it there, and what is made of one.
-ghost use Rattle.std.specs.Prelude.{◌≡◌, ◌≤◌, ◌↔◌, [], Err, IfErr, IfOk, OnOk, IsTrue, MatchOption, None};
+ghost use Rattle.std.specs.Prelude.{◌≡◌, ◌≤◌, ◌↔◌, [], IfErr, IfOk, OnOk, IsTrue, MatchOption, None};
 ghost use Rattle.ocfl_tree.specs.Place.{Text};
 ghost use Rattle.ocfl_state.specs.CheckpointRefusal.{RefusedRightly};
 ghost use Rattle.ocfl_state.specs.{Checkpoint.{IsCheckpointText}, Crash.{Same, Only, Passes}};
-ghost use Rattle.ocfl_night.specs.{Refusing.{HasUnread, IsUnread}, Site.{no_report}, Sound.{IsAt}, Stopping.{IsPutStop}};
+ghost use Rattle.ocfl_night.specs.{Refusing.{HasUnread, IfRefused, IsUnread}, Site.{no_report}, Sound.{IsAt}, Stopping.{IsPutStop}};
 ghost use Rattle.ocfl_night.specs.declared.refusal.Refusal.{Refusal as ModelRefusal};
 ghost use Rattle.ocfl_night.specs.Steps.{IsCheckpointPut, MayCheckpoint, begun_anew, closes_whole, with_all_told};
 
@@ -179,19 +179,17 @@ fn not_read(why: Refused) -> NotOpened
         → result ≡ NotOpened.Refused refusal → IsUnread bytes refusal }
 {
     match why {
-        Refused::NotA(_) => NotOpened::Refused(Refusal::NotCheckpoint),
-        Refused::Version => NotOpened::Refused(Refusal::Version),
-        Refused::Damaged => NotOpened::Refused(Refusal::Damaged),
-        Refused::Malformed => NotOpened::Refused(Refusal::Malformed),
         Refused::Memory => NotOpened::Troubled(Stop::Folder(FolderTrouble::Memory)),
+        Refused::NotA(_) | Refused::Version | Refused::Damaged | Refused::Malformed => {
+            NotOpened::Refused(Refusal::Unread(why))
+        }
     }
 }
 
 /// The checkpoint whose text these bytes are.
 fn read_text(alloc: Global, text: &[u8]) -> Result<Checkpoint, NotOpened>
     ensures checkpoint { IfOk result (λ checkpoint. IsCheckpointText text.now checkpoint) }
-    ensures rightly { (why : ModelRefusal) → result ≡ Err (NotOpened.Refused why)
-        → IsUnread text.now why }
+    ensures rightly { IfRefused result (IsUnread text.now) }
 {
     match decode_checkpoint(alloc, text) {
         Ok(checkpoint) => Ok(checkpoint),
@@ -202,7 +200,7 @@ fn read_text(alloc: Global, text: &[u8]) -> Result<Checkpoint, NotOpened>
 /// The checkpoint, if there is one. After `Ok` all that reads show is on the disk, also what a
 /// killed process left.
 ///
-/// `NotCheckpoint`, `Version`, `Damaged` or `Malformed` if other bytes are in its place.
+/// `Unread` if other bytes are in its place.
 pub fn look<S: StateFolder>(alloc: Global, folder: &mut S) -> Result<Option<Checkpoint>, NotOpened>
     ensures value { IsTrue S.told → IfOk result (λ found. MatchOption found
         ((S.seen folder.old).checkpoint ≡ None) (λ k. IsAt k (S.seen folder.old))) }
@@ -211,8 +209,7 @@ pub fn look<S: StateFolder>(alloc: Global, folder: &mut S) -> Result<Option<Chec
     ensures seen { IsTrue S.told → S.seen folder.new ≡ S.seen folder.old }
     ensures crash { IsTrue S.told
         → Passes S.may_leave S.moment S.left_since Same folder.old folder.new }
-    ensures rightly { IsTrue S.told → (why : ModelRefusal) → result ≡ Err (NotOpened.Refused why)
-        → HasUnread (S.seen folder.old) why }
+    ensures rightly { IsTrue S.told → IfRefused result (HasUnread (S.seen folder.old)) }
 {
     folder.sync()?;
     match folder.checkpoint()? {

@@ -1,18 +1,14 @@
 //! Opening a night: what the last one left is taken up, if it is that of these nights.
-ghost use Rattle.std.specs.Prelude.{◌≡◌, ◌↔◌, [], IfOk, IsErr, IsSome, IsTrue, OnOk, None, Err, false, length, take};
+ghost use Rattle.std.specs.Prelude.{◌≡◌, ◌↔◌, [], IfOk, IsSome, IsTrue, OnOk, None, false, true, length, take};
 ghost use Rattle.ocfl_audit.specs.Parts.{Part};
 ghost use Rattle.ocfl_tree.specs.Place.{Text};
-ghost use Rattle.ocfl_state.specs.Checkpoint.{Checkpoint as ModelCheckpoint};
 ghost use Rattle.ocfl_state.specs.Content.{is_closed, with_report};
 ghost use Rattle.ocfl_state.specs.Crash.{LeavesOnly, Only, Passes, Same};
 ghost use Rattle.ocfl_state.specs.declared.checkpoint_parts.Phase.TheVariants.{Closing};
-ghost use Rattle.ocfl_night.specs.Refusing.{HasReport, IsFolderRefused, IsUnbegun};
-ghost use Rattle.ocfl_night.specs.Site.{IsForeign};
-ghost use Rattle.ocfl_night.specs.Sound.{IsAt, IsFound, IsFoundReady, IsKept, IsNew, IsReady, IsSettled, IsSoundAt};
-ghost use Rattle.ocfl_night.specs.Steps.{IsChanged, IsLost, IsShortened, IsUntouched, KeepsFront};
-ghost use Rattle.ocfl_night.specs.declared.refusal.Refusal.{Refusal as ModelRefusal};
-ghost use Rattle.ocfl_night.specs.declared.refusal.Refusal.TheVariants.{HasReports};
-ghost use Rattle.ocfl_night.specs.declared.refusal.NotOpened.TheVariants.{Refused};
+ghost use Rattle.ocfl_night.specs.Promises.{IfLost, SameClosed};
+ghost use Rattle.ocfl_night.specs.Refusing.{HasReport, IfForeign, IfRefused, IsFolderRefused, IsTurnedAway, IsUnbegun, OnRefused};
+ghost use Rattle.ocfl_night.specs.Sound.{IsFound, IsFoundReady, IsKept, IsNew, IsReady, IsSettled, IsSoundAt};
+ghost use Rattle.ocfl_night.specs.Steps.{IsChanged, IsLost, IsShortened, KeepsFront};
 
 use crate::checkpoint::{bytes_of, cycle_of, look, phase_of, put_checkpoint, report_of};
 use crate::owning::{first_checkpoint, own, with_root};
@@ -66,35 +62,13 @@ fn is_new<S: StateFolder>(folder: &mut S) -> Result<bool, Stop>
     Ok(!folder.has_closed(1)?)
 }
 
-/// Puts the first checkpoint.
-fn put_first<S: StateFolder>(
-    alloc: Global,
-    folder: &mut S,
-    site: &Site,
-    identity: &Identity,
-) -> Result<Checkpoint, Stop>
-    ensures any_moment { IsTrue S.told → (part : Part)
-        → Only (S.seen folder.old) (S.may_leave folder.old)
-        → (S.seen folder.old).checkpoint ≡ None → IsNew [] (S.seen folder.old)
-        → LeavesOnly S.moment S.left_since folder.old folder.new (IsSoundAt part []) }
-    ensures ready { IsTrue S.told → (part : Part)
-        → Only (S.seen folder.old) (S.may_leave folder.old) → IsNew [] (S.seen folder.old)
-        → IfOk result (λ k. IsReady S.seen S.may_leave part [] k folder.new) }
-    ensures closed { IsTrue S.told → OnOk result
-        ((S.seen folder.new).closed ≡ (S.seen folder.old).closed) }
-{
-    let checkpoint = first_checkpoint(alloc, site, identity)?;
-    put_checkpoint(alloc, folder, &checkpoint)?;
-    Ok(checkpoint)
-}
-
 /// Begins in a folder in which nothing is.
 fn begin<S: StateFolder>(
     alloc: Global,
     folder: &mut S,
     site: &Site,
     identity: &Identity,
-) -> Result<Checkpoint, NotOpened>
+) -> Result<Opened, NotOpened>
     ensures empty { IsTrue S.told → OnOk result (length (S.seen folder.old).report ≡ 0) }
     ensures any_moment { IsTrue S.told → (part : Part)
         → Only (S.seen folder.old) (S.may_leave folder.old)
@@ -102,18 +76,21 @@ fn begin<S: StateFolder>(
         → LeavesOnly S.moment S.left_since folder.old folder.new (IsSoundAt part []) }
     ensures ready { IsTrue S.told → (part : Part)
         → Only (S.seen folder.old) (S.may_leave folder.old) → IsNew [] (S.seen folder.old)
-        → IfOk result (λ k. IsReady S.seen S.may_leave part [] k folder.new) }
-    ensures closed { IsTrue S.told → OnOk result
-        ((S.seen folder.new).closed ≡ (S.seen folder.old).closed) }
-    ensures refused { IsTrue S.told → (why : ModelRefusal) → result ≡ Err (Refused why)
-        → S.seen folder.new ≡ S.seen folder.old }
-    ensures rightly { IsTrue S.told → (why : ModelRefusal) → result ≡ Err (Refused why)
-        → (why ≡ HasReports) × HasReport (S.seen folder.old) }
+        → IfOk result (λ opened. IsReady S.seen S.may_leave part []
+        opened.checkpoint folder.new) }
+    ensures closed { IsTrue S.told → OnOk result (SameClosed S.seen folder.old folder.new) }
+    ensures refused { IsTrue S.told → OnRefused result (S.seen folder.new ≡ S.seen folder.old) }
+    ensures rightly { IsTrue S.told → IfRefused result (IsUnbegun true (S.seen folder.old)) }
 {
     if !is_new(folder)? {
         return Err(NotOpened::Refused(Refusal::HasReports));
     }
-    Ok(put_first(alloc, folder, site, identity)?)
+    let checkpoint = first_checkpoint(alloc, site, identity)?;
+    put_checkpoint(alloc, folder, &checkpoint)?;
+    Ok(Opened {
+        checkpoint,
+        lost: false,
+    })
 }
 
 /// Whether the report of a cycle that has ended is still to be closed.
@@ -145,8 +122,7 @@ fn settle<S: StateFolder>(folder: &mut S, checkpoint: &Checkpoint) -> Result<boo
         → is_closed (S.seen folder.new).closed checkpoint.now.cursor.cycle ≡ false) }
     ensures lost { IsTrue S.told → IsLost checkpoint.now (S.seen folder.old)
         → IfOk result (λ there. IsTrue there × IsChanged checkpoint.now (S.seen folder.new)) }
-    ensures closed { IsTrue S.told → OnOk result
-        ((S.seen folder.new).closed ≡ (S.seen folder.old).closed) }
+    ensures closed { IsTrue S.told → OnOk result (SameClosed S.seen folder.old folder.new) }
 {
     match phase_of(checkpoint) {
         Phase::Open => {
@@ -172,8 +148,7 @@ fn take_up<S: StateFolder>(
         × IsReady S.seen S.may_leave part t checkpoint.now folder.new) }
     ensures lost { IsTrue S.told → IsLost checkpoint.now (S.seen folder.old)
         → IfOk result (λ lost. IsSome lost) }
-    ensures closed { IsTrue S.told → OnOk result
-        ((S.seen folder.new).closed ≡ (S.seen folder.old).closed) }
+    ensures closed { IsTrue S.told → OnOk result (SameClosed S.seen folder.old folder.new) }
 {
     if !settle(folder, checkpoint)? {
         return Ok(None);
@@ -223,8 +198,7 @@ fn resume<S: StateFolder>(
         → IsSettled S.seen S.may_leave part t checkpoint folder.old
         → IfOk result (λ opened. IsReady S.seen S.may_leave part t
         opened.checkpoint folder.new) }
-    ensures closed { IsTrue S.told → OnOk result
-        ((S.seen folder.new).closed ≡ (S.seen folder.old).closed) }
+    ensures closed { IsTrue S.told → OnOk result (SameClosed S.seen folder.old folder.new) }
     ensures lost { IsTrue S.told → IsLost checkpoint (S.seen folder.old)
         → IfOk result (λ opened. IsTrue opened.lost × (opened.checkpoint.whole ≡ false)) }
 {
@@ -236,40 +210,6 @@ fn resume<S: StateFolder>(
     Ok(Opened {
         checkpoint: next,
         lost,
-    })
-}
-
-/// Begins anew in a folder with no checkpoint, if that is asked for.
-fn create<S: StateFolder>(
-    alloc: Global,
-    folder: &mut S,
-    site: &Site,
-    identity: &Identity,
-    plan: &Plan,
-) -> Result<Opened, NotOpened>
-    ensures empty { IsTrue S.told → OnOk result (length (S.seen folder.old).report ≡ 0) }
-    ensures any_moment { IsTrue S.told → (part : Part)
-        → Only (S.seen folder.old) (S.may_leave folder.old)
-        → (S.seen folder.old).checkpoint ≡ None → IsNew [] (S.seen folder.old)
-        → LeavesOnly S.moment S.left_since folder.old folder.new (IsSoundAt part []) }
-    ensures ready { IsTrue S.told → (part : Part)
-        → Only (S.seen folder.old) (S.may_leave folder.old) → IsNew [] (S.seen folder.old)
-        → IfOk result (λ opened. IsReady S.seen S.may_leave part []
-        opened.checkpoint folder.new) }
-    ensures closed { IsTrue S.told → OnOk result
-        ((S.seen folder.new).closed ≡ (S.seen folder.old).closed) }
-    ensures refused { IsTrue S.told → (why : ModelRefusal) → result ≡ Err (Refused why)
-        → S.seen folder.new ≡ S.seen folder.old }
-    ensures rightly { IsTrue S.told → (why : ModelRefusal) → result ≡ Err (Refused why)
-        → IsUnbegun plan.now.create (S.seen folder.old) why }
-{
-    if !plan.create {
-        return Err(NotOpened::Refused(Refusal::NoCheckpoint));
-    }
-    let checkpoint = begin(alloc, folder, site, identity)?;
-    Ok(Opened {
-        checkpoint,
-        lost: false,
     })
 }
 
@@ -287,32 +227,31 @@ pub fn open<S: StateFolder>(
     ensures ready { IsTrue S.told → (part : Part) → IsKept S.may_leave part folder.old
         → IfOk result (λ opened. IsFoundReady S.seen S.may_leave part
         (S.may_leave folder.old) opened.checkpoint folder.new) }
-    ensures closed { IsTrue S.told → OnOk result
-        ((S.seen folder.new).closed ≡ (S.seen folder.old).closed) }
+    ensures closed { IsTrue S.told → OnOk result (SameClosed S.seen folder.old folder.new) }
     // A report without a checkpoint is never begun anew.
     ensures empty { IsTrue S.told → (S.seen folder.old).checkpoint ≡ None
         → OnOk result (length (S.seen folder.old).report ≡ 0) }
     // A report that is shorter than its checkpoint says, or has another tail, is not taken for
     // whole.
-    ensures lost { IsTrue S.told → (k : ModelCheckpoint) → IsAt k (S.seen folder.old)
-        → IsLost k (S.seen folder.old)
-        → IfOk result (λ opened. IsTrue opened.lost × (opened.checkpoint.whole ≡ false)) }
+    ensures lost { IsTrue S.told → IfLost (S.seen folder.old)
+        (IfOk result (λ opened. IsTrue opened.lost × (opened.checkpoint.whole ≡ false))) }
     // If it is refused, the folder stays as it was, and the reason holds.
-    ensures refused { IsTrue S.told → (why : ModelRefusal) → result ≡ Err (Refused why)
-        → S.seen folder.new ≡ S.seen folder.old }
-    ensures rightly { IsTrue S.told → (why : ModelRefusal) → result ≡ Err (Refused why)
-        → IsFolderRefused site.now identity.now plan.now (S.seen folder.old) why }
+    ensures refused { IsTrue S.told → OnRefused result (S.seen folder.new ≡ S.seen folder.old) }
+    ensures rightly { IsTrue S.told → IfRefused result
+        (IsFolderRefused site.now identity.now plan.now (S.seen folder.old)) }
     // One of another root or part, or of a root that is not as it was, is not opened, and stays as
     // it was.
-    ensures foreign { IsTrue S.told → (k : ModelCheckpoint) → IsAt k (S.seen folder.old)
-        → IsForeign site.now identity.now plan.now.force_root k → IsErr result
-        × IsUntouched S.seen S.may_leave S.moment S.left_since folder.old folder.new }
+    ensures foreign { IsTrue S.told → IfForeign site.now identity.now plan.now (S.seen folder.old)
+        (IsTurnedAway result S.seen S.may_leave S.moment S.left_since folder.old folder.new) }
 {
-    match look(alloc, folder)? {
-        None => create(alloc, folder, site, identity, plan),
-        Some(found) => {
-            let checkpoint = own(found, site, identity, plan.force_root)?;
-            Ok(resume(alloc, folder, checkpoint, identity)?)
+    let Some(found) = look(alloc, folder)? else {
+        if !plan.create {
+            return Err(NotOpened::Refused(Refusal::NoCheckpoint));
         }
+        return begin(alloc, folder, site, identity);
+    };
+    match own(found, site, identity, plan.force_root) {
+        Ok(checkpoint) => Ok(resume(alloc, folder, checkpoint, identity)?),
+        Err(why) => Err(NotOpened::Refused(why)),
     }
 }

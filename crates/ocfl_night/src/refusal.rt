@@ -1,10 +1,11 @@
 //! Why a night is refused, or was not begun.
 ghost use Rattle.std.specs.Prelude.{◌≡◌};
 ghost use Rattle.ocfl_state.specs.declared.folder.FolderTrouble.TheVariants.{Memory};
-ghost use Rattle.ocfl_night.specs.declared.refusal.NotOpened.TheVariants.{Refused, Troubled};
+ghost use Rattle.ocfl_night.specs.declared.refusal.NotOpened.TheVariants.{Troubled};
 ghost use Rattle.ocfl_night.specs.declared.stop.Stop.TheVariants.{Folder};
 
 use crate::stop::Stop;
+use ocfl_cursor::Refused;
 use ocfl_state::FolderTrouble;
 use ocfl_tree::Place;
 use std::alloc::AllocError;
@@ -16,14 +17,8 @@ pub enum Refusal {
     NoCheckpoint,
     /// There is no checkpoint, and there is a report, open or closed.
     HasReports,
-    /// What is in the checkpoint's place does not begin as a checkpoint.
-    NotCheckpoint,
-    /// The checkpoint is of a version that is not known.
-    Version,
-    /// The checkpoint does not have its digest.
-    Damaged,
-    /// The checkpoint has its digest, and is not of the form.
-    Malformed,
+    /// What is in the checkpoint's place is not read as a checkpoint, and that is not for memory.
+    Unread(Refused),
     /// The root's top folder does not declare a storage root.
     NoRoot,
     /// The folder belongs to the storage root with this path.
@@ -48,14 +43,6 @@ pub enum NotOpened {
     Refused(Refusal),
     /// Something failed.
     Troubled(Stop),
-}
-
-impl From<Refusal> for NotOpened {
-    ghost from_gives = { λ why e. e ≡ Refused why };
-
-    fn from(why: Refusal) -> NotOpened {
-        NotOpened::Refused(why)
-    }
 }
 
 impl From<Stop> for NotOpened {

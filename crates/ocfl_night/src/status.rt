@@ -22,7 +22,7 @@ fn status_of_refusal(refusal: &Refusal) -> u8
     ensures { result ≡ refusal_status refusal.now }
 {
     match refusal {
-        Refusal::NotCheckpoint | Refusal::Version | Refusal::Damaged | Refusal::Malformed => 4,
+        Refusal::Unread(_) => 4,
         Refusal::NoCheckpoint | Refusal::HasReports | Refusal::NoRoot => 3,
         Refusal::OtherRoot(_) | Refusal::OtherPart | Refusal::OtherDeclaration => 3,
         Refusal::NamesGone { .. } => 3,

@@ -1,6 +1,7 @@
 //! What is said of how a night ends.
 
 use crate::nights::telling::Names;
+use ocfl_cursor::Refused;
 use ocfl_item::Fault;
 use ocfl_night::{Halt, Refusal, Stop};
 use ocfl_report::DisplayPlace;
@@ -14,8 +15,7 @@ use std::alloc::{AllocError, Global};
 pub(crate) fn is_own(refusal: &Refusal) -> bool {
     match refusal {
         Refusal::NoRoot | Refusal::OtherDeclaration | Refusal::NamesGone { .. } => true,
-        Refusal::NotCheckpoint | Refusal::Version | Refusal::Damaged | Refusal::Malformed => false,
-        Refusal::NoCheckpoint | Refusal::HasReports => false,
+        Refusal::NoCheckpoint | Refusal::HasReports | Refusal::Unread(_) => false,
         Refusal::OtherRoot(_) | Refusal::OtherPart => false,
     }
 }
@@ -76,10 +76,11 @@ fn text_of_refusal(
     let why = match refusal {
         Refusal::NoCheckpoint => RefusalMessage::NoCheckpoint,
         Refusal::HasReports => RefusalMessage::HasReports,
-        Refusal::NotCheckpoint => RefusalMessage::NotCheckpoint,
-        Refusal::Version => RefusalMessage::Version,
-        Refusal::Damaged => RefusalMessage::Damaged,
-        Refusal::Malformed => RefusalMessage::Malformed,
+        Refusal::Unread(Refused::NotA(_)) => RefusalMessage::NotCheckpoint,
+        Refusal::Unread(Refused::Version) => RefusalMessage::Version,
+        Refusal::Unread(Refused::Damaged) => RefusalMessage::Damaged,
+        Refusal::Unread(Refused::Malformed) => RefusalMessage::Malformed,
+        Refusal::Unread(Refused::Memory) => return Err(AllocError),
         Refusal::NoRoot => RefusalMessage::NoRoot,
         Refusal::OtherRoot(_) => RefusalMessage::OtherRoot(bound.as_str()),
         Refusal::OtherPart => RefusalMessage::OtherPart,

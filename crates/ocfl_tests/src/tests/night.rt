@@ -9,7 +9,7 @@ use crate::tests::common::odd_store::Unmounted;
 use crate::tests::common::output::Narrow;
 use crate::tests::common::roots::three_files;
 use crate::tests::common::store::{change, place_of};
-use ocfl_cursor::{Budget, PartEnds};
+use ocfl_cursor::{Budget, PartEnds, Refused};
 use ocfl_digest::Block;
 use ocfl_memory::{MemTree, Point};
 use ocfl_night::{Clock, Halt, Made, NightEnd, Plan, Refusal, Site, Stop, night};
@@ -181,10 +181,11 @@ fn ending(end: &Halt) -> &'static str {
         Halt::RootChanged => "root changed",
         Halt::Refused(Refusal::NoCheckpoint) => "no checkpoint",
         Halt::Refused(Refusal::HasReports) => "has reports",
-        Halt::Refused(Refusal::NotCheckpoint) => "not a checkpoint",
-        Halt::Refused(Refusal::Version) => "version",
-        Halt::Refused(Refusal::Damaged) => "damaged",
-        Halt::Refused(Refusal::Malformed) => "malformed",
+        Halt::Refused(Refusal::Unread(Refused::NotA(_))) => "not a checkpoint",
+        Halt::Refused(Refusal::Unread(Refused::Version)) => "version",
+        Halt::Refused(Refusal::Unread(Refused::Damaged)) => "damaged",
+        Halt::Refused(Refusal::Unread(Refused::Malformed)) => "malformed",
+        Halt::Refused(Refusal::Unread(Refused::Memory)) => "memory",
         Halt::Refused(Refusal::NoRoot) => "no root",
         Halt::Refused(Refusal::OtherRoot(_)) => "other root",
         Halt::Refused(Refusal::OtherPart) => "other part",

@@ -1,4 +1,5 @@
 //! The exit status after a night.
+use ocfl_cursor::Refused;
 use ocfl_night::{Halt, Refusal, status_found, status_of};
 use std::test::Fail;
 
@@ -9,7 +10,7 @@ fn ends_have_statuses(rt: HostRuntime) -> Result<(), Fail> {
         (Halt::Asked, 0),
         (Halt::RootChanged, 3),
         (Halt::Refused(Refusal::NoCheckpoint), 3),
-        (Halt::Refused(Refusal::Damaged), 4),
+        (Halt::Refused(Refusal::Unread(Refused::Damaged)), 4),
     ];
     for (halt, status) in rows {
         assert_eq!(rt; status_of(&halt), status);

@@ -1,19 +1,36 @@
-use Rattle.std.proofs.Common.{subst, sym, []}
-use Rattle.ocfl_night.specs.Sound.{IsNew}
-use Rattle.ocfl_night.proofs.TakingUp.{begun_moments}
+use Rattle.std.proofs.Common.{◌≡◌, ◌∙◌, [], ap, length, refl, subst, sym, true}
+use Rattle.ocfl_state.specs.{Checkpoint.{Checkpoint}, Content.{Content}}
+use Rattle.ocfl_night.specs.{Refusing.{IsUnbegun}, Sound.{IsNew}, declared.refusal.Refusal.TheVariants.{HasReports}}
+use Rattle.ocfl_night.proofs.{Moments.{unmoved}, Sound.{first_stands, mark_moments, put_ready}}
+use Rattle.ocfl_night.proofs.TakingUp.{begun_moments, new_here}
 use Rattle.ocfl_night.proofs.opening.begin.Goals as goal
+
+pub returns-in_err-checkpoint-clause-any_moment : goal.returns-in_err-checkpoint-clause-any_moment
+returns-in_err-checkpoint-clause-any_moment g c = λ told part only none new.
+    begun_moments part (g.met.S.StateFolder.only_now told) only none new (c.is_new.ensures.crash told) (c.is_new.ensures.seen told)
+    (λ only none new. unmoved (g.met.S.StateFolder.only_now told) (new_here part only none new))
+
+pub returns-in_err-put_checkpoint-clause-any_moment : goal.returns-in_err-put_checkpoint-clause-any_moment
+returns-in_err-put_checkpoint-clause-any_moment g c = λ told part only none new.
+    begun_moments part (g.met.S.StateFolder.only_now told) only none new (c.is_new.ensures.crash told) (c.is_new.ensures.seen told)
+    (λ only none new. mark_moments (g.met.S.StateFolder.only_now told) (new_here part only none new) only (first_stands c.args.site.now c.args.identity.now c.in_ok-checkpoint.ensures new) (c.put_checkpoint.ensures.crash told))
 
 pub returns-clause-any_moment : goal.returns-clause-any_moment
 returns-clause-any_moment g c = λ told part only none new.
-    begun_moments part (g.met.S.StateFolder.only_now told) only none new (c.is_new.ensures.crash told) (c.is_new.ensures.seen told) (c.put_first.ensures.any_moment told part)
-
-pub returns-in_err-put_first-clause-any_moment : goal.returns-in_err-put_first-clause-any_moment
-returns-in_err-put_first-clause-any_moment g c = λ told part only none new.
-    begun_moments part (g.met.S.StateFolder.only_now told) only none new (c.is_new.ensures.crash told) (c.is_new.ensures.seen told) (c.put_first.ensures.any_moment told part)
+    begun_moments part (g.met.S.StateFolder.only_now told) only none new (c.is_new.ensures.crash told) (c.is_new.ensures.seen told)
+    (λ only none new. mark_moments (g.met.S.StateFolder.only_now told) (new_here part only none new) only (first_stands c.args.site.now c.args.identity.now c.in_ok-checkpoint.ensures new) (c.put_checkpoint.ensures.crash told))
 
 pub returns-clause-ready : goal.returns-clause-ready
 returns-clause-ready g c = λ told part only new.
-    c.in_ok-put_first.ensures.ready told part (c.is_new.ensures.only told only) (subst (IsNew []) (sym (c.is_new.ensures.seen told)) new)
+    let is = c.in_ok-checkpoint.ensures in
+    let still = subst (IsNew []) (sym (c.is_new.ensures.seen told)) new in
+    put_ready (c.in_ok-put_checkpoint.ensures.put told) (first_stands c.args.site.now c.args.identity.now is still) (λ phase. ap length still.report ∙ sym (ap (λ (x : Checkpoint). x.report.bytes) is))
+    (c.in_ok-put_checkpoint.ensures.durable told (c.is_new.ensures.only told only))
+
+pub returns-clause-closed : goal.returns-clause-closed
+returns-clause-closed g c = λ told. ap (λ (x : Content). x.closed) (c.in_ok-put_checkpoint.ensures.put told).put ∙ ap (λ (x : Content). x.closed) (c.is_new.ensures.seen told)
 
 pub returns-then-not-branch-clause-rightly : goal.returns-then-not-branch-clause-rightly
-returns-then-not-branch-clause-rightly g c = λ told why is. (cc is, c.in_ok-is_new.ensures.reports told c.if-not-branch.true)
+returns-then-not-branch-clause-rightly g c = λ told why is.
+    let same : HasReports ≡ why = cc is in
+    subst (IsUnbegun true (g.S.StateFolder.seen c.args.folder.now)) same (refl, c.in_ok-is_new.ensures.reports told c.if-not-branch.true)

@@ -1,4 +1,4 @@
-use Rattle.std.proofs.{Common.{◌≡◌, ◌∙◌, [], ap, sym, subst}, lemmas.Result.{IfOk-weaker, err_from_is_err_and}}
+use Rattle.std.proofs.{Common.{◌≡◌, ◌∙◌, [], ap, refl, sym, subst}, lemmas.Result.{IfOk-weaker}}
 use Rattle.ocfl_state.specs.{Checkpoint.{Checkpoint}, Content.{Content}}
 use Rattle.ocfl_night.specs.{Refusing.{IsDisowned, not_own}, Sound.{IsNew}, Steps.{IsLost}}
 use Rattle.ocfl_night.proofs.{Foreigners.{at_once, own_at}, Moments.{unchanged}, Heard.{is_err, kept_found}}
@@ -6,72 +6,70 @@ use Rattle.ocfl_night.proofs.Sound.{sound_new}
 use Rattle.ocfl_night.proofs.TakingUp.{found_on, found_ready, none_found, same_found, shown_new, some_found, taken_moments, taken_ready}
 use Rattle.ocfl_night.proofs.opening.open.Goals as goal
 
-pub returns-in_err-checkpoint-in-Some-clause-any_moment : goal.returns-in_err-checkpoint-in-Some-clause-any_moment
-returns-in_err-checkpoint-in-Some-clause-any_moment g c = λ told part kept. unchanged (g.met.S.StateFolder.only_now told) (λ x n. kept_found kept n) (c.look.ensures.crash told)
+pub returns-in-Err-clause-any_moment : goal.returns-in-Err-clause-any_moment
+returns-in-Err-clause-any_moment g c = λ told part kept. unchanged (g.met.S.StateFolder.only_now told) (λ x n. kept_found kept n) (c.look.ensures.crash told)
 
-pub returns-in_err-resume-in-Some-clause-any_moment : goal.returns-in_err-resume-in-Some-clause-any_moment
-returns-in_err-resume-in-Some-clause-any_moment g c = λ told part kept.
-    let at = same_found (c.in_ok-look.ensures.value told) c.in-Some.is c.in_ok-checkpoint-in-Some.ensures.same in
-    taken_moments (g.met.S.StateFolder.only_now told) (g.met.S.StateFolder.stays told c.args.folder.now) kept (c.look.ensures.crash told) at (c.look.ensures.seen told) (c.in_ok-look.ensures.only told) (c.resume.ensures.any_moment told part)
+pub returns-in_err-resume-in-Ok-clause-any_moment : goal.returns-in_err-resume-in-Ok-clause-any_moment
+returns-in_err-resume-in-Ok-clause-any_moment g c = λ told part kept.
+    let at = same_found (c.in_ok-found.ensures.value told) c.in-Some.is c.in-Ok.ensures.same in
+    taken_moments (g.met.S.StateFolder.only_now told) (g.met.S.StateFolder.stays told c.args.folder.now) kept (c.look.ensures.crash told) at (c.look.ensures.seen told) (c.in_ok-found.ensures.only told) (c.resume.ensures.any_moment told part)
 
-pub returns-in_ok-resume-in-Some-clause-any_moment : goal.returns-in_ok-resume-in-Some-clause-any_moment
-returns-in_ok-resume-in-Some-clause-any_moment g c = λ told part kept.
-    let at = same_found (c.in_ok-look.ensures.value told) c.in-Some.is c.in_ok-checkpoint-in-Some.ensures.same in
-    taken_moments (g.met.S.StateFolder.only_now told) (g.met.S.StateFolder.stays told c.args.folder.now) kept (c.look.ensures.crash told) at (c.look.ensures.seen told) (c.in_ok-look.ensures.only told) (c.resume.ensures.any_moment told part)
+pub returns-in_ok-resume-in-Ok-clause-any_moment : goal.returns-in_ok-resume-in-Ok-clause-any_moment
+returns-in_ok-resume-in-Ok-clause-any_moment g c = λ told part kept.
+    let at = same_found (c.in_ok-found.ensures.value told) c.in-Some.is c.in-Ok.ensures.same in
+    taken_moments (g.met.S.StateFolder.only_now told) (g.met.S.StateFolder.stays told c.args.folder.now) kept (c.look.ensures.crash told) at (c.look.ensures.seen told) (c.in_ok-found.ensures.only told) (c.resume.ensures.any_moment told part)
 
-pub returns-in_ok-resume-in-Some-clause-ready : goal.returns-in_ok-resume-in-Some-clause-ready
-returns-in_ok-resume-in-Some-clause-ready g c = λ told part kept.
-    let at = same_found (c.in_ok-look.ensures.value told) c.in-Some.is c.in_ok-checkpoint-in-Some.ensures.same in
-    taken_ready (g.met.S.StateFolder.stays told c.args.folder.now) kept at (c.look.ensures.seen told) (c.in_ok-look.ensures.only told) (c.in_ok-resume-in-Some.ensures.ready told part)
+pub returns-in_ok-resume-in-Ok-clause-ready : goal.returns-in_ok-resume-in-Ok-clause-ready
+returns-in_ok-resume-in-Ok-clause-ready g c = λ told part kept.
+    let at = same_found (c.in_ok-found.ensures.value told) c.in-Some.is c.in-Ok.ensures.same in
+    taken_ready (g.met.S.StateFolder.stays told c.args.folder.now) kept at (c.look.ensures.seen told) (c.in_ok-found.ensures.only told) (c.in_ok-resume-in-Ok.ensures.ready told part)
 
-pub returns-in-None-clause-any_moment : goal.returns-in-None-clause-any_moment
-returns-in-None-clause-any_moment g c = λ told part kept.
+pub returns-in_default-clause-any_moment : goal.returns-in_default-clause-any_moment
+returns-in_default-clause-any_moment g c = λ told part kept.
     let was = g.met.S.StateFolder.stays told c.args.folder.now in
     let same = c.look.ensures.seen told in
-    let none = none_found (g.S.StateFolder.seen c.args.folder.now) (c.in_ok-look.ensures.value told) c.in-None.is in
+    let none = none_found (g.S.StateFolder.seen c.args.folder.now) (c.in_ok-found.ensures.value told) c.in_default.is in
     let new = shown_new part (kept (g.S.StateFolder.seen c.args.folder.now) was) none in
     found_on (g.met.S.StateFolder.only_now told) was kept (c.look.ensures.crash told) (sound_new part none new)
-    (c.create.ensures.any_moment told part (c.in_ok-look.ensures.only told) (ap (λ (x : Content). x.checkpoint) same ∙ none) (subst (IsNew []) (sym same) new))
+    (c.begin.ensures.any_moment told part (c.in_ok-found.ensures.only told) (ap (λ (x : Content). x.checkpoint) same ∙ none) (subst (IsNew []) (sym same) new))
 
-pub returns-in-None-clause-ready : goal.returns-in-None-clause-ready
-returns-in-None-clause-ready g c = λ told part kept.
+pub returns-in_default-clause-ready : goal.returns-in_default-clause-ready
+returns-in_default-clause-ready g c = λ told part kept.
     let was = g.met.S.StateFolder.stays told c.args.folder.now in
-    let none = none_found (g.S.StateFolder.seen c.args.folder.now) (c.in_ok-look.ensures.value told) c.in-None.is in
+    let none = none_found (g.S.StateFolder.seen c.args.folder.now) (c.in_ok-found.ensures.value told) c.in_default.is in
     let new = shown_new part (kept (g.S.StateFolder.seen c.args.folder.now) was) none in
-    IfOk-weaker c.create.result _ _ (λ o r. found_ready _ was (sound_new part none new) r)
-    (c.create.ensures.ready told part (c.in_ok-look.ensures.only told) (subst (IsNew []) (sym (c.look.ensures.seen told)) new))
+    IfOk-weaker c.begin.result _ _ (λ o r. found_ready _ was (sound_new part none new) r)
+    (c.begin.ensures.ready told part (c.in_ok-found.ensures.only told) (subst (IsNew []) (sym (c.look.ensures.seen told)) new))
 
-pub returns-in_err-look-clause-foreign : goal.returns-in_err-look-clause-foreign
-returns-in_err-look-clause-foreign g c = λ told k at foreign. (is_err _ c.from_residual.result c.from_residual.ensures.1, record { same = c.look.ensures.seen told; crash = c.look.ensures.crash told })
+pub returns-in_err-found-clause-foreign : goal.returns-in_err-found-clause-foreign
+returns-in_err-found-clause-foreign g c = λ told k at foreign. (is_err _ c.from_residual.result c.from_residual.ensures.1, record { same = c.look.ensures.seen told; crash = c.look.ensures.crash told })
 
-pub returns-in-None-clause-foreign : goal.returns-in-None-clause-foreign
-returns-in-None-clause-foreign g c = λ told k at foreign. let none = none_found (g.S.StateFolder.seen c.args.folder.now) (c.in_ok-look.ensures.value told) c.in-None.is in absurd (cc (none, at.is))
+pub returns-in_default-clause-foreign : goal.returns-in_default-clause-foreign
+returns-in_default-clause-foreign g c = λ told k at foreign. let none = none_found (g.S.StateFolder.seen c.args.folder.now) (c.in_ok-found.ensures.value told) c.in_default.is in absurd (cc (none, at.is))
 
-pub returns-in_err-checkpoint-in-Some-clause-foreign : goal.returns-in_err-checkpoint-in-Some-clause-foreign
-returns-in_err-checkpoint-in-Some-clause-foreign g c = λ told k at foreign. (is_err _ c.from_residual-in_err-checkpoint-in-Some.result c.from_residual-in_err-checkpoint-in-Some.ensures.1, record { same = c.look.ensures.seen told; crash = c.look.ensures.crash told })
+pub returns-in-Err-clause-foreign : goal.returns-in-Err-clause-foreign
+returns-in-Err-clause-foreign g c = λ told k at foreign. (refl, record { same = c.look.ensures.seen told; crash = c.look.ensures.crash told })
 
-pub returns-in_err-resume-in-Some-clause-foreign : goal.returns-in_err-resume-in-Some-clause-foreign
-returns-in_err-resume-in-Some-clause-foreign g c = λ told k at foreign.
-    absurd (own_at (some_found (c.in_ok-look.ensures.value told) c.in-Some.is) at c.in_ok-checkpoint-in-Some.ensures.own c.in_ok-checkpoint-in-Some.ensures.root foreign)
+pub returns-in_err-resume-in-Ok-clause-foreign : goal.returns-in_err-resume-in-Ok-clause-foreign
+returns-in_err-resume-in-Ok-clause-foreign g c = λ told k at foreign.
+    absurd (own_at (some_found (c.in_ok-found.ensures.value told) c.in-Some.is) at c.in-Ok.ensures.own c.in-Ok.ensures.root foreign)
 
-pub returns-in_ok-resume-in-Some-clause-foreign : goal.returns-in_ok-resume-in-Some-clause-foreign
-returns-in_ok-resume-in-Some-clause-foreign g c = λ told k at foreign.
-    absurd (own_at (some_found (c.in_ok-look.ensures.value told) c.in-Some.is) at c.in_ok-checkpoint-in-Some.ensures.own c.in_ok-checkpoint-in-Some.ensures.root foreign)
+pub returns-in_ok-resume-in-Ok-clause-foreign : goal.returns-in_ok-resume-in-Ok-clause-foreign
+returns-in_ok-resume-in-Ok-clause-foreign g c = λ told k at foreign.
+    absurd (own_at (some_found (c.in_ok-found.ensures.value told) c.in-Some.is) at c.in-Ok.ensures.own c.in-Ok.ensures.root foreign)
 
-pub returns-in-None-clause-lost : goal.returns-in-None-clause-lost
-returns-in-None-clause-lost g c = λ told k at lost. let none = none_found (g.S.StateFolder.seen c.args.folder.now) (c.in_ok-look.ensures.value told) c.in-None.is in absurd (cc (none, at.is))
+pub returns-in_default-clause-lost : goal.returns-in_default-clause-lost
+returns-in_default-clause-lost g c = λ told k at lost. let none = none_found (g.S.StateFolder.seen c.args.folder.now) (c.in_ok-found.ensures.value told) c.in_default.is in absurd (cc (none, at.is))
 
-pub returns-in_ok-resume-in-Some-clause-lost : goal.returns-in_ok-resume-in-Some-clause-lost
-returns-in_ok-resume-in-Some-clause-lost g c = λ told k at lost.
-    let is = c.in_ok-checkpoint-in-Some.ensures.same ∙ at_once (some_found (c.in_ok-look.ensures.value told) c.in-Some.is) at in
-    c.in_ok-resume-in-Some.ensures.lost told (subst (λ (x : Content). IsLost c.in_ok-checkpoint-in-Some.checkpoint x) (sym (c.look.ensures.seen told)) (subst (λ (x : Checkpoint). IsLost x (g.S.StateFolder.seen c.args.folder.now)) (sym is) lost))
+pub returns-in_ok-resume-in-Ok-clause-lost : goal.returns-in_ok-resume-in-Ok-clause-lost
+returns-in_ok-resume-in-Ok-clause-lost g c = λ told k at lost.
+    let is = c.in-Ok.ensures.same ∙ at_once (some_found (c.in_ok-found.ensures.value told) c.in-Some.is) at in
+    c.in_ok-resume-in-Ok.ensures.lost told (subst (λ (x : Content). IsLost c.in-Ok.checkpoint x) (sym (c.look.ensures.seen told)) (subst (λ (x : Checkpoint). IsLost x (g.S.StateFolder.seen c.args.folder.now)) (sym is) lost))
 
-pub returns-in_err-look-clause-any_moment : goal.returns-in_err-look-clause-any_moment
-returns-in_err-look-clause-any_moment g c = λ told part kept. unchanged (g.met.S.StateFolder.only_now told) (λ x n. kept_found kept n) (c.look.ensures.crash told)
+pub returns-in_err-found-clause-any_moment : goal.returns-in_err-found-clause-any_moment
+returns-in_err-found-clause-any_moment g c = λ told part kept. unchanged (g.met.S.StateFolder.only_now told) (λ x n. kept_found kept n) (c.look.ensures.crash told)
 
-pub returns-in_err-checkpoint-in-Some-clause-rightly : goal.returns-in_err-checkpoint-in-Some-clause-rightly
-returns-in_err-checkpoint-in-Some-clause-rightly g c = λ told why is.
-    let p = err_from_is_err_and c.from_residual-in_err-checkpoint-in-Some.result c.from_residual-in_err-checkpoint-in-Some.ensures.1 in
-    let given = c.in_err-checkpoint-in-Some.field-0.0 in
-    let same : given ≡ why = cc (p.1, p.2, is) in
-    not_own c.in-Some.found (some_found (c.in_ok-look.ensures.value told) c.in-Some.is) (subst (λ w. IsDisowned c.args.site.now c.args.identity.now c.args.plan.now.force_root c.in-Some.found w) same c.in_err-checkpoint-in-Some.ensures.rightly)
+pub returns-in-Err-clause-rightly : goal.returns-in-Err-clause-rightly
+returns-in-Err-clause-rightly g c = λ told why is.
+    let same : c.in-Err.why ≡ why = cc is in
+    not_own c.in-Some.found (some_found (c.in_ok-found.ensures.value told) c.in-Some.is) (subst (λ w. IsDisowned c.args.site.now c.args.identity.now c.args.plan.now.force_root c.in-Some.found w) same c.in-Err.ensures.rightly)

@@ -1,12 +1,14 @@
 -- Whose a checkpoint is.
-use Rattle.std.proofs.Common.{◌≡◌, ◌≢◌, [], inl, inr, Bool, false, Some, sym, ◌∙◌, ap, subst, arith}
-use Rattle.ocfl_tree.specs.{Place.{Text}, StorageRoot.{StorageRoot}, Store.{Store, IfTold}}
-use Rattle.ocfl_identity.specs.Identity.{IsIdentityOf, declared_by}
-use Rattle.ocfl_identity.specs.declared.identity.Identity.{Identity}
+use Rattle.std.proofs.Common.{◌≡◌, ◌≢◌, [], inl, inr, Bool, false, Err, Result, Some, sym, ◌∙◌, ap, subst, arith}
+use Rattle.ocfl_tree.specs.{Listing.{entries_in}, Place.{Text}, StorageRoot.{StorageRoot}, Store.{Store, IfTold}}
+use Rattle.ocfl_identity.specs.Identity.{IsIdentityOf, declarations_among, declared_by}
+use Rattle.ocfl_identity.specs.declared.identity.{Identity.{Identity}, NoIdentity.{NoIdentity}}
+use Rattle.ocfl_identity.specs.declared.identity.NoIdentity.TheVariants as none
 use Rattle.ocfl_state.specs.{Checkpoint.{Checkpoint, IsCheckpointText}, Content.{Content}}
 use Rattle.ocfl_state.proofs.CheckpointTexts.{text_determines}
 use Rattle.ocfl_night.specs.Site.{IsForeign, IsOther, IsOtherThan, IsOwn, IsSameRoot}
-use Rattle.ocfl_night.specs.Refusing.{IsBarred, another, other_root, undeclared}
+use Rattle.ocfl_night.specs.{Ending.{unopened_by}, Refusing.{IsBarred, IsRefused, another, no_root, other_root, undeclared}}
+use Rattle.ocfl_night.specs.declared.refusal.{NotOpened.TheVariants.{Refused}, Refusal.{Refusal}}
 use Rattle.ocfl_night.specs.{Sound.{IsAt}, declared.plan.Plan.{Plan}, declared.site.Site.{Site}}
 
 -- a folder is at one checkpoint
@@ -42,3 +44,10 @@ pub barred_by : {told : Bool} {s : Store} {site : Site} {plan : Plan} {c : Conte
 barred_by id is declares (another k at others) = (k, (at, inl others))
 barred_by id is declares (other_root tells root over k at other force) = (k, (at, inr (force, other_by root id k (is tells root over) other)))
 barred_by id is declares (undeclared tells root over none) = absurd (declares ((is tells root over).declarations ∙ none))
+
+-- one that is not begun since its root declares nothing
+pub no_root_by : {told : Bool} {s : Store} {site : Site} {plan : Plan} {c : Content} {why : Refusal} (r : Result Identity NoIdentity) (e : NoIdentity) → r ≡ Err e → unopened_by e ≡ Refused why
+    → IfTold told s (λ root. r ≡ Err none.Undeclared → declarations_among (entries_in root []) ≡ []) → IsRefused told s site plan c why
+no_root_by r none.Undeclared was is bare = no_root (cc is) (λ tells root over. bare tells root over was)
+no_root_by r (none.Unread p) was is bare = absurd (cc is)
+no_root_by r none.Memory was is bare = absurd (cc is)

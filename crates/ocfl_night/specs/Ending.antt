@@ -11,12 +11,15 @@ use Rattle.ocfl_scrub.specs.declared.stop.ReportStop.TheVariants as report
 use Rattle.ocfl_state.specs.declared.checkpoint_parts.Phase.{Phase}
 use Rattle.ocfl_state.specs.declared.checkpoint_parts.Phase.TheVariants.{Open, Closing}
 use Rattle.ocfl_state.specs.{Checkpoint.{Checkpoint}, declared.folder.FolderTrouble.TheVariants.{Memory}}
+use Rattle.ocfl_identity.specs.declared.identity.NoIdentity.{NoIdentity}
+use Rattle.ocfl_identity.specs.declared.identity.NoIdentity.TheVariants as none
 use Rattle.ocfl_night.specs.{declared.plan.Halt.{Halt}, declared.plan.Pause.{Pause}}
 use Rattle.ocfl_night.specs.{declared.refusal.NotOpened.{NotOpened}, declared.slicing.Made.{Made}}
 use Rattle.ocfl_night.specs.{declared.slicing.SliceEnd.{SliceEnd}, declared.stop.Stop.{Stop}}
 use Rattle.ocfl_night.specs.declared.plan.Halt.TheVariants as halt
 use Rattle.ocfl_night.specs.declared.plan.Pause.TheVariants as pause
 use Rattle.ocfl_night.specs.declared.refusal.NotOpened.TheVariants as unopened
+use Rattle.ocfl_night.specs.declared.refusal.Refusal.TheVariants.{NoRoot}
 use Rattle.ocfl_night.specs.declared.slicing.SliceEnd.TheVariants as slice
 use Rattle.ocfl_night.specs.declared.stop.Stop.TheVariants as stop
 
@@ -62,11 +65,21 @@ abbrev pub cycle_ended : Phase → ℕ → Option ℕ
 cycle_ended Open cycle = None
 cycle_ended Closing cycle = Some cycle
 
--- what ended a night
-abbrev pub ended_by : Result Halt NotOpened → Halt
+-- what ended a night that was not begun
+abbrev pub unbegun_by : NotOpened → Halt
+unbegun_by (unopened.Refused why) = halt.Refused why
+unbegun_by (unopened.Troubled why) = halt.Troubled why
+
+-- and one whose runs ended so
+abbrev pub ended_by : Result Halt Stop → Halt
 ended_by (Ok h) = h
-ended_by (Err (unopened.Refused why)) = halt.Refused why
-ended_by (Err (unopened.Troubled why)) = halt.Troubled why
+ended_by (Err why) = halt.Troubled why
+
+-- why a night is not begun over a root that has no identity
+abbrev pub unopened_by : NoIdentity → NotOpened
+unopened_by none.Undeclared = unopened.Refused NoRoot
+unopened_by (none.Unread p) = unopened.Troubled (stop.Unread p)
+unopened_by none.Memory = unopened.Troubled (stop.Folder Memory)
 
 -- ---- figures
 

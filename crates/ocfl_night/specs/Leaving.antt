@@ -73,14 +73,11 @@ abbrev pub left_by : Remedy → List Place
 left_by (LeaveOut branch) = branch ∷ []
 left_by _ = []
 
-abbrev pub checkpoint_by : Checkpoint → Remedy → Checkpoint
-checkpoint_by k (LeaveOut branch) = with_left branch k
-checkpoint_by k _ = k
-
--- what halts the night
-abbrev pub pause_by : Place → Remedy → Option Pause
-pause_by p Halt = Some (pause.Stopped (fault.Store p))
-pause_by p _ = None
+-- the checkpoint after it, and what halts the night
+abbrev pub done_by : Checkpoint → Place → Remedy → Checkpoint × Option Pause
+done_by k p TryAgain = (k, None)
+done_by k p (LeaveOut branch) = (with_left branch k, None)
+done_by k p Halt = (k, Some (pause.Stopped (fault.Store p)))
 
 -- ---- what a night may leave out
 
@@ -88,3 +85,7 @@ pub record MayLeave (strict : Bool) (left : List Place) : Type 0 where
   pub few : length left ≤ 16
   pub none : strict ≡ true → left ≡ []
   pub ends : All (λ b. IsTrue (has_end b)) left
+
+-- a night that may leave out what it had still may
+abbrev pub StillMayLeave : Bool → Tally → Tally → Type 0
+StillMayLeave strict old new = MayLeave strict old.left.items → MayLeave strict new.left.items

@@ -1,37 +1,25 @@
 //! Looking at the storage root: when a night begins, and after each run.
-ghost use Rattle.std.specs.Prelude.{◌≡◌, ◌≢◌, [], Err, IfErr, IfOk, IsTrue, OnOk};
-ghost use Rattle.ocfl_tree.specs.{Listing.{entries_in}, Store.{IfTold}};
-ghost use Rattle.ocfl_identity.specs.Identity.{IsIdentityOf, declarations_among};
-ghost use Rattle.ocfl_night.specs.{Site.{IsStill}, Stopping.{IsRunStop}};
-ghost use Rattle.ocfl_night.specs.declared.refusal.NotOpened.TheVariants.{Refused};
-ghost use Rattle.ocfl_night.specs.declared.refusal.Refusal.{Refusal as ModelRefusal};
-ghost use Rattle.ocfl_night.specs.declared.refusal.Refusal.TheVariants.{NoRoot};
+ghost use Rattle.std.specs.Prelude.{◌≡◌, IfErr, IsTrue, OnOk};
+ghost use Rattle.ocfl_tree.specs.Store.{IfTold};
+ghost use Rattle.ocfl_night.specs.{Ending.{unopened_by}, Site.{IsStill}, Stopping.{IsRunStop}};
 
 use crate::refusal::{NotOpened, Refusal};
 use crate::stop::Stop;
 use ocfl_digest::Block;
-use ocfl_identity::{Identity, NoIdentity, is_still_declared, look_at_root};
+use ocfl_identity::{Identity, NoIdentity, is_still_declared};
 use ocfl_state::FolderTrouble;
 use ocfl_tree::{Place, Tree};
 use std::alloc::Global;
 
-/// Looks at the root when a night begins. `NoRoot` if its top folder does not declare one.
-pub(crate) fn look_at<T: Tree>(
-    alloc: Global,
-    tree: &mut T,
-    block: &mut Block,
-) -> Result<Identity, NotOpened>
-    ensures keeps { IsTrue T.told → (T.state tree.new).tree ≡ (T.state tree.old).tree }
-    ensures told { IfTold T.told (T.state tree.old) (λ root. IfOk result (IsIdentityOf root)) }
-    ensures declares { IfOk result (λ identity. identity.declarations.items ≢ []) }
-    ensures rightly { (why : ModelRefusal) → result ≡ Err (Refused why) → (why ≡ NoRoot)
-        × IfTold T.told (T.state tree.old) (λ root. declarations_among (entries_in root []) ≡ []) }
-{
-    match look_at_root(alloc, tree, block) {
-        Ok(identity) => Ok(identity),
-        Err(NoIdentity::Undeclared) => Err(NotOpened::Refused(Refusal::NoRoot)),
-        Err(NoIdentity::Unread(place)) => Err(NotOpened::Troubled(Stop::Unread(place))),
-        Err(NoIdentity::Memory) => Err(NotOpened::Troubled(Stop::Folder(FolderTrouble::Memory))),
+impl From<NoIdentity> for NotOpened {
+    ghost from_gives = { λ why e. e ≡ unopened_by why };
+
+    fn from(why: NoIdentity) -> NotOpened {
+        match why {
+            NoIdentity::Undeclared => NotOpened::Refused(Refusal::NoRoot),
+            NoIdentity::Unread(place) => NotOpened::Troubled(Stop::Unread(place)),
+            NoIdentity::Memory => NotOpened::Troubled(Stop::Folder(FolderTrouble::Memory)),
+        }
     }
 }
 

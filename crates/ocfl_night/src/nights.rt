@@ -2,19 +2,17 @@
 ghost use Rattle.std.specs.Prelude.{◌≡◌, ◌≢◌, ◌⊎◌, ◌↔◌, ◌+◌, ◌≤◌, ◌++◌, ◌∷◌, [], IfOk, IfSome, IsErr, All, IsOk, IsSome, IsTrue, List, Err, Ok, OnOk, OnSome, Some, false, length, ℕ};
 ghost use Rattle.std.specs.Io.KnownBytes.{Appends};
 ghost use Rattle.ocfl_audit.specs.Parts.{Part as ModelPart};
-ghost use Rattle.ocfl_tree.specs.{Place.{Text}, StorageRoot.{StorageRoot}};
-ghost use Rattle.ocfl_tree.specs.Store.{IfTold};
-ghost use Rattle.ocfl_item.specs.Judging.{HasShortFiles};
+ghost use Rattle.ocfl_tree.specs.StorageRoot.{StorageRoot};
 ghost use Rattle.ocfl_scrub.specs.Starting.{part_of};
-ghost use Rattle.ocfl_state.specs.{Checkpoint.{Checkpoint as ModelCheckpoint}, Crash.{LeavesOnly}};
+ghost use Rattle.ocfl_state.specs.Crash.{LeavesOnly};
 ghost use Rattle.ocfl_state.specs.declared.checkpoint_parts.Phase.TheVariants.{Open};
-ghost use Rattle.ocfl_night.specs.Leaving.{MayLeave, checkpoint_by, has_end, pause_by, remedy_at};
-ghost use Rattle.ocfl_night.specs.Refusing.{IsBarred, IsFolderRefused, IsRefused};
-ghost use Rattle.ocfl_night.specs.Site.{IsForeign, part_at};
-ghost use Rattle.ocfl_night.specs.Steps.{IsLost, IsNotBegun, IsUntouched, IsWalkAt};
-ghost use Rattle.ocfl_night.specs.Sound.{IsAllSaid, IsAt, IsHeard, IsHeardSince, IsKept, IsOneMore, IsReady, IsReadySince, IsSound, IsSoundAt};
+ghost use Rattle.ocfl_night.specs.Leaving.{StillMayLeave, done_by, has_end, remedy_at};
+ghost use Rattle.ocfl_night.specs.Promises.{IfLost, IfReady, IfReadyIn, IsSafe, IsSafeIn, OnShort, SameClosed};
+ghost use Rattle.ocfl_night.specs.Refusing.{IfForeign, IfRefused, IsBarred, IsFolderRefused, IsRefused, IsTurnedAway, OnRefused};
+ghost use Rattle.ocfl_night.specs.{Site.{part_at}, Steps.{IsNotBegun, IsUntouched, IsWalkAt}};
+ghost use Rattle.ocfl_night.specs.Sound.{IsAllSaid, IsHeard, IsHeardSince, IsKept, IsOneMore, IsReady, IsReadySince, IsSound};
 ghost use Rattle.ocfl_night.specs.Clock.{BeginsInTime, is_before};
-ghost use Rattle.ocfl_night.specs.Ending.{ended_by, halt_after, halt_of, place_or_pause};
+ghost use Rattle.ocfl_night.specs.Ending.{ended_by, halt_after, halt_of, place_or_pause, unbegun_by};
 ghost use Rattle.ocfl_night.specs.{Pace.{budget_at, files_at}, Nights.{IsSafeNight}};
 ghost use Rattle.ocfl_night.specs.declared.stop.Stop.{Stop as ModelStop};
 ghost use Rattle.ocfl_night.specs.declared.refusal.NotOpened.TheVariants.{Refused};
@@ -25,7 +23,6 @@ ghost use Rattle.ocfl_night.specs.declared.plan.Halt.TheVariants as halt;
 use crate::checkpoint::phase_of;
 use crate::closing::finish;
 use crate::leaving::leave_out;
-use crate::looking::look_at;
 use crate::opening::open;
 use crate::pace::paced;
 use crate::plan::{Clock, Halt, NightEnd, Pause, Plan};
@@ -37,7 +34,7 @@ use crate::stop::Stop;
 use crate::tally::{Remedy, Tally};
 use ocfl_cursor::{FileLimit, Limits};
 use ocfl_digest::Block;
-use ocfl_identity::Identity;
+use ocfl_identity::{Identity, look_at_root};
 use ocfl_scrub::{KeptWalk, Part};
 use ocfl_state::{Checkpoint, Phase, StateFolder};
 use ocfl_tree::{Place, Tree};
@@ -170,23 +167,17 @@ fn pass_by<S: StateFolder>(
     plan: &Plan,
     tally: &mut Tally,
 ) -> Result<(Checkpoint, Option<Pause>), Stop>
-    ensures any_moment { IsTrue S.told → (part : ModelPart) (t : Text)
-        → IsReady S.seen S.may_leave part t checkpoint folder.old
-        → LeavesOnly S.moment S.left_since folder.old folder.new (IsSoundAt part t) }
-    ensures ready { IsTrue S.told → (part : ModelPart) (t : Text)
-        → IsReady S.seen S.may_leave part t checkpoint folder.old
-        → IfOk result (λ next. IsReady S.seen S.may_leave part t next.0 folder.new) }
-    ensures closed { IsTrue S.told → OnOk result
-        ((S.seen folder.new).closed ≡ (S.seen folder.old).closed) }
+    ensures any_moment { IsTrue S.told → IsSafe S.seen S.may_leave S.moment S.left_since
+        checkpoint folder.old folder.new }
+    ensures ready { IsTrue S.told → IfReady S.seen S.may_leave checkpoint folder.old
+        (λ part t. IfOk result (λ next. IsReady S.seen S.may_leave part t next.0 folder.new)) }
+    ensures closed { IsTrue S.told → OnOk result (SameClosed S.seen folder.old folder.new) }
     ensures runs { tally.new.runs ≡ tally.old.runs }
 
     // What is done is what the place, the branches left out before and the plan call for.
-    ensures checkpoint { checkpoint.phase ≡ Open → IfOk result (λ next. next.0
-        ≡ checkpoint_by checkpoint (remedy_at plan.now.stop_at_faults tally.old place)) }
-    ensures pause { checkpoint.phase ≡ Open → IfOk result (λ next. next.1
-        ≡ pause_by place (remedy_at plan.now.stop_at_faults tally.old place)) }
-    ensures left { MayLeave plan.now.stop_at_faults tally.old.left.items
-        → MayLeave plan.now.stop_at_faults tally.new.left.items }
+    ensures done { checkpoint.phase ≡ Open → IfOk result (λ next. next
+        ≡ done_by checkpoint place (remedy_at plan.now.stop_at_faults tally.old place)) }
+    ensures left { StillMayLeave plan.now.stop_at_faults tally.old tally.new }
 {
     if phase_of(&checkpoint) != Phase::Open {
         return Ok((checkpoint, Some(Pause::Closing)));
@@ -211,20 +202,16 @@ fn go_on_after<S: StateFolder>(
     plan: &Plan,
     tally: &mut Tally,
 ) -> Result<(Checkpoint, Option<Pause>), Stop>
-    ensures any_moment { IsTrue S.told → (part : ModelPart) (t : Text)
-        → IsReady S.seen S.may_leave part t made.checkpoint folder.old
-        → LeavesOnly S.moment S.left_since folder.old folder.new (IsSoundAt part t) }
-    ensures ready { IsTrue S.told → (part : ModelPart) (t : Text)
-        → IsReady S.seen S.may_leave part t made.checkpoint folder.old
-        → IfOk result (λ next. IsReady S.seen S.may_leave part t next.0 folder.new) }
-    ensures closed { IsTrue S.told → OnOk result
-        ((S.seen folder.new).closed ≡ (S.seen folder.old).closed) }
+    ensures any_moment { IsTrue S.told → IsSafe S.seen S.may_leave S.moment S.left_since
+        made.checkpoint folder.old folder.new }
+    ensures ready { IsTrue S.told → IfReady S.seen S.may_leave made.checkpoint folder.old
+        (λ part t. IfOk result (λ next. IsReady S.seen S.may_leave part t next.0 folder.new)) }
+    ensures closed { IsTrue S.told → OnOk result (SameClosed S.seen folder.old folder.new) }
     ensures runs { tally.new.runs ≡ tally.old.runs }
     ensures walk { (part : ModelPart) (root : StorageRoot)
         → IsWalkAt root part made.checkpoint kept.old
         → IfOk result (λ next. IsWalkAt root part next.0 kept.new) }
-    ensures left { MayLeave plan.now.stop_at_faults tally.old.left.items
-        → MayLeave plan.now.stop_at_faults tally.new.left.items }
+    ensures left { StillMayLeave plan.now.stop_at_faults tally.old tally.new }
 {
     let Made {
         checkpoint,
@@ -243,59 +230,6 @@ fn go_on_after<S: StateFolder>(
     }
 }
 
-/// One run more, if the cycle goes on and the plan allows it; and what halts the night then.
-fn go_on<S: StateFolder, T: Tree, C: Clock>(
-    alloc: Global,
-    folder: &mut S,
-    tree: &mut T,
-    part: &Part,
-    identity: &Identity,
-    kept: &mut KeptWalk,
-    checkpoint: Checkpoint,
-    plan: &Plan,
-    clock: &mut C,
-    tally: &mut Tally,
-    block: &mut Block,
-) -> Result<(Checkpoint, Option<Pause>), Stop>
-    ensures any_moment { IsTrue S.told → IfTold T.told (T.state tree.old) (λ root.
-        HasShortFiles root → IsWalkAt root (part_of part.now) checkpoint kept.old → (t : Text)
-        → IsReady S.seen S.may_leave (part_of part.now) t checkpoint folder.old
-        → LeavesOnly S.moment S.left_since folder.old folder.new
-        (IsSoundAt (part_of part.now) t)) }
-    ensures ready { IsTrue S.told → IfTold T.told (T.state tree.old) (λ root.
-        HasShortFiles root → IsWalkAt root (part_of part.now) checkpoint kept.old → (t : Text)
-        → IsReady S.seen S.may_leave (part_of part.now) t checkpoint folder.old
-        → IfOk result (λ next. IsReady S.seen S.may_leave (part_of part.now) t
-        next.0 folder.new)) }
-    ensures closed { IsTrue S.told → OnOk result
-        ((S.seen folder.new).closed ≡ (S.seen folder.old).closed) }
-    ensures root { IfTold T.told (T.state tree.old) (λ root. HasShortFiles root
-        → IsWalkAt root (part_of part.now) checkpoint kept.old
-        → (T.state tree.new).tree ≡ root) }
-    ensures walk { IfTold T.told (T.state tree.old) (λ root. HasShortFiles root
-        → IsWalkAt root (part_of part.now) checkpoint kept.old
-        → IfOk result (λ next. IsWalkAt root (part_of part.now) next.0 kept.new)) }
-    ensures clock { IsTrue C.told → BeginsInTime plan.now.end
-        (C.answers clock.old) (C.answers clock.new) tally.old.runs tally.new.runs }
-    ensures left { MayLeave plan.now.stop_at_faults tally.old.left.items
-        → MayLeave plan.now.stop_at_faults tally.new.left.items }
-{
-    if phase_of(&checkpoint) != Phase::Open {
-        return Ok((checkpoint, Some(Pause::Closing)));
-    }
-    let (limits, now) = match allowed(plan, clock, tally) {
-        Ok(allowed) => allowed,
-        Err(pause) => return Ok((checkpoint, Some(pause))),
-    };
-    tally.begin(now);
-    let made = slice(
-        alloc, folder, tree, part, identity, kept, checkpoint, limits, block,
-    )?;
-    tally.count(&made);
-    clock.hears(&made);
-    go_on_after(alloc, folder, kept, made, plan, tally)
-}
-
 /// Makes runs until the cycle has ended, or something halts the night.
 fn runs<S: StateFolder, T: Tree, C: Clock>(
     alloc: Global,
@@ -309,29 +243,34 @@ fn runs<S: StateFolder, T: Tree, C: Clock>(
     tally: &mut Tally,
     block: &mut Block,
 ) -> Result<(Checkpoint, Pause), Stop>
-    ensures any_moment { IsTrue S.told → IfTold T.told (T.state tree.old) (λ root.
-        HasShortFiles root → (t : Text)
-        → IsReady S.seen S.may_leave (part_of part.now) t start folder.old
-        → LeavesOnly S.moment S.left_since folder.old folder.new
-        (IsSoundAt (part_of part.now) t)) }
-    ensures ready { IsTrue S.told → IfTold T.told (T.state tree.old) (λ root.
-        HasShortFiles root → (t : Text)
-        → IsReady S.seen S.may_leave (part_of part.now) t start folder.old
-        → IfOk result (λ next. IsReady S.seen S.may_leave (part_of part.now) t
-        next.0 folder.new)) }
-    ensures closed { IsTrue S.told → OnOk result
-        ((S.seen folder.new).closed ≡ (S.seen folder.old).closed) }
+    ensures any_moment { IsTrue S.told → OnShort T.told (T.state tree.old)
+        (IsSafeIn S.seen S.may_leave S.moment S.left_since (part_of part.now) start
+        folder.old folder.new) }
+    ensures ready { IsTrue S.told → OnShort T.told (T.state tree.old)
+        (IfReadyIn S.seen S.may_leave (part_of part.now) start folder.old (λ t. IfOk result
+        (λ next. IsReady S.seen S.may_leave (part_of part.now) t next.0 folder.new))) }
+    ensures closed { IsTrue S.told → OnOk result (SameClosed S.seen folder.old folder.new) }
     ensures clock { IsTrue C.told → BeginsInTime plan.now.end
         (C.answers clock.old) (C.answers clock.new) tally.old.runs tally.new.runs }
-    ensures left { MayLeave plan.now.stop_at_faults tally.old.left.items
-        → MayLeave plan.now.stop_at_faults tally.new.left.items }
+    ensures left { StillMayLeave plan.now.stop_at_faults tally.old tally.new }
 {
     let mut kept = KeptWalk::none();
     let mut checkpoint = start;
     for _run in 0..u64::MAX {
-        let (next, pause) = go_on(
-            alloc, folder, tree, part, identity, &mut kept, checkpoint, plan, clock, tally, block,
+        if phase_of(&checkpoint) != Phase::Open {
+            return Ok((checkpoint, Pause::Closing));
+        }
+        let (limits, now) = match allowed(plan, clock, tally) {
+            Ok(allowed) => allowed,
+            Err(pause) => return Ok((checkpoint, pause)),
+        };
+        tally.begin(now);
+        let made = slice(
+            alloc, folder, tree, part, identity, &mut kept, checkpoint, limits, block,
         )?;
+        tally.count(&made);
+        clock.hears(&made);
+        let (next, pause) = go_on_after(alloc, folder, &mut kept, made, plan, tally)?;
         checkpoint = next;
         if let Some(pause) = pause {
             return Ok((checkpoint, pause));
@@ -357,17 +296,13 @@ fn catch_up<S: StateFolder, W: Write>(
         → IfOk result (λ k. IsReadySince S.seen S.may_leave part (S.may_leave folder.old)
         (W.contents out.old) (W.contents out.new) k folder.new) }
     ensures grew { (more : List ℕ) × Appends (W.contents out.old) (W.contents out.new) more }
-    ensures closed { IsTrue S.told → OnOk result
-        ((S.seen folder.new).closed ≡ (S.seen folder.old).closed) }
-    ensures refused { IsTrue S.told → (why : ModelRefusal) → result ≡ Err (Refused why)
-        → S.seen folder.new ≡ S.seen folder.old }
-    ensures rightly { IsTrue S.told → (why : ModelRefusal) → result ≡ Err (Refused why)
-        → IsFolderRefused site.now identity.now plan.now (S.seen folder.old) why }
-    ensures foreign { IsTrue S.told → (k : ModelCheckpoint) → IsAt k (S.seen folder.old)
-        → IsForeign site.now identity.now plan.now.force_root k → IsErr result
-        × IsUntouched S.seen S.may_leave S.moment S.left_since folder.old folder.new }
-    ensures lost { IsTrue S.told → (k : ModelCheckpoint) → IsAt k (S.seen folder.old)
-        → IsLost k (S.seen folder.old) → OnOk result (IsTrue lost.new) }
+    ensures closed { IsTrue S.told → OnOk result (SameClosed S.seen folder.old folder.new) }
+    ensures refused { IsTrue S.told → OnRefused result (S.seen folder.new ≡ S.seen folder.old) }
+    ensures rightly { IsTrue S.told → IfRefused result
+        (IsFolderRefused site.now identity.now plan.now (S.seen folder.old)) }
+    ensures foreign { IsTrue S.told → IfForeign site.now identity.now plan.now (S.seen folder.old)
+        (IsTurnedAway result S.seen S.may_leave S.moment S.left_since folder.old folder.new) }
+    ensures lost { IsTrue S.told → IfLost (S.seen folder.old) (OnOk result (IsTrue lost.new)) }
     ensures all { IfOk result (λ k. k.told ≡ k.report.bytes) }
 {
     let opened = open(alloc, folder, site, identity, plan)?;
@@ -389,22 +324,21 @@ fn make_runs<S: StateFolder, T: Tree, C: Clock, W: Write>(
     block: &mut Block,
     out: &mut W,
 ) -> Result<Halt, Stop>
-    ensures heard { IsTrue S.told → IfTold T.told (T.state tree.old) (λ root. HasShortFiles root
-        → (t : Text) → IsReady S.seen S.may_leave (part_of part.now) t checkpoint folder.old
-        → LeavesOnly S.moment S.left_since folder.old folder.new
-        (IsHeard (part_of part.now) t (W.contents out.old) (W.contents out.new))) }
+    ensures heard { IsTrue S.told → OnShort T.told (T.state tree.old)
+        (IfReadyIn S.seen S.may_leave (part_of part.now) checkpoint folder.old
+        (λ t. LeavesOnly S.moment S.left_since folder.old folder.new
+        (IsHeard (part_of part.now) t (W.contents out.old) (W.contents out.new)))) }
     ensures grew { (more : List ℕ) × Appends (W.contents out.old) (W.contents out.new) more }
-    ensures ended { IsTrue S.told → IfTold T.told (T.state tree.old) (λ root. HasShortFiles root
-        → (t : Text) → IsReady S.seen S.may_leave (part_of part.now) t checkpoint folder.old
-        → (cycle : ℕ) → result ≡ Ok (halt.CycleEnded cycle) → IsOneMore (part_of part.now) cycle
-        (S.seen folder.old).closed (S.seen folder.new).closed) }
+    ensures ended { IsTrue S.told → OnShort T.told (T.state tree.old)
+        (IfReadyIn S.seen S.may_leave (part_of part.now) checkpoint folder.old (λ _. (cycle : ℕ)
+        → result ≡ Ok (halt.CycleEnded cycle) → IsOneMore (part_of part.now) cycle
+        (S.seen folder.old).closed (S.seen folder.new).closed)) }
     ensures clock { IsTrue C.told → BeginsInTime plan.now.end
         (C.answers clock.old) (C.answers clock.new) tally.old.runs tally.new.runs }
-    ensures left { MayLeave plan.now.stop_at_faults tally.old.left.items
-        → MayLeave plan.now.stop_at_faults tally.new.left.items }
-    ensures said { IsTrue S.told → IfTold T.told (T.state tree.old) (λ root. HasShortFiles root
-        → (t : Text) → IsReady S.seen S.may_leave (part_of part.now) t checkpoint folder.old
-        → OnOk result (IsAllSaid (S.seen folder.new))) }
+    ensures left { StillMayLeave plan.now.stop_at_faults tally.old tally.new }
+    ensures said { IsTrue S.told → OnShort T.told (T.state tree.old)
+        (IfReadyIn S.seen S.may_leave (part_of part.now) checkpoint folder.old
+        (λ _. OnOk result (IsAllSaid (S.seen folder.new)))) }
     ensures unrefused { (why : ModelRefusal) → result ≢ Ok (halt.Refused why) }
 {
     let (last, pause) = runs(
@@ -443,77 +377,23 @@ fn set_out<S: StateFolder, T: Tree, W: Write>(
         → IfOk result (λ begun. IsReadySince S.seen S.may_leave part (S.may_leave folder.old)
         (W.contents out.old) (W.contents out.new) begun.checkpoint folder.new) }
     ensures grew { (more : List ℕ) × Appends (W.contents out.old) (W.contents out.new) more }
-    ensures closed { IsTrue S.told → OnOk result
-        ((S.seen folder.new).closed ≡ (S.seen folder.old).closed) }
-    ensures refused { IsTrue S.told → (why : ModelRefusal) → result ≡ Err (Refused why)
-        → S.seen folder.new ≡ S.seen folder.old }
-    ensures rightly { IsTrue S.told → (why : ModelRefusal) → result ≡ Err (Refused why)
-        → IsRefused T.told (T.state tree.old) site.now plan.now (S.seen folder.old) why }
-    ensures lost { IsTrue S.told → (k : ModelCheckpoint) → IsAt k (S.seen folder.old)
-        → IsLost k (S.seen folder.old) → OnOk result (IsTrue lost.new) }
+    ensures closed { IsTrue S.told → OnOk result (SameClosed S.seen folder.old folder.new) }
+    ensures refused { IsTrue S.told → OnRefused result (S.seen folder.new ≡ S.seen folder.old) }
+    ensures rightly { IsTrue S.told → IfRefused result
+        (IsRefused T.told (T.state tree.old) site.now plan.now (S.seen folder.old)) }
+    ensures lost { IsTrue S.told → IfLost (S.seen folder.old) (OnOk result (IsTrue lost.new)) }
     ensures barred { IsTrue S.told
-        → IsBarred T.told (T.state tree.old) site.now plan.now (S.seen folder.old) → IsErr result
-        × IsUntouched S.seen S.may_leave S.moment S.left_since folder.old folder.new }
+        → IsBarred T.told (T.state tree.old) site.now plan.now (S.seen folder.old)
+        → IsTurnedAway result S.seen S.may_leave S.moment S.left_since folder.old folder.new }
 {
     let part = part_at(alloc, &site.ends)?;
-    let identity = look_at(alloc, tree, block)?;
+    let identity = look_at_root(alloc, tree, block)?;
     let checkpoint = catch_up(alloc, folder, site, &identity, plan, out, lost)?;
     Ok(Begun {
         part,
         identity,
         checkpoint,
     })
-}
-
-/// Does what a night does, but for its account.
-fn go_through<S: StateFolder, T: Tree, C: Clock, W: Write>(
-    alloc: Global,
-    folder: &mut S,
-    tree: &mut T,
-    site: &Site,
-    plan: &Plan,
-    clock: &mut C,
-    tally: &mut Tally,
-    block: &mut Block,
-    out: &mut W,
-    lost: &mut bool,
-) -> Result<Halt, NotOpened>
-    ensures heard { IsTrue S.told → IfTold T.told (T.state tree.old) (λ root. HasShortFiles root
-        → IsSafeNight S.may_leave S.moment S.left_since (part_at site.now.ends)
-        folder.old folder.new (W.contents out.old) (W.contents out.new)) }
-    ensures ended { IsTrue S.told → IfTold T.told (T.state tree.old) (λ root. HasShortFiles root
-        → IsKept S.may_leave (part_at site.now.ends) folder.old
-        → (cycle : ℕ) → result ≡ Ok (halt.CycleEnded cycle)
-        → IsOneMore (part_at site.now.ends) cycle
-        (S.seen folder.old).closed (S.seen folder.new).closed) }
-    ensures clock { IsTrue C.told → BeginsInTime plan.now.end
-        (C.answers clock.old) (C.answers clock.new) tally.old.runs tally.new.runs }
-    ensures left { MayLeave plan.now.stop_at_faults tally.old.left.items
-        → MayLeave plan.now.stop_at_faults tally.new.left.items }
-    ensures said { IsTrue S.told → IfTold T.told (T.state tree.old) (λ root. HasShortFiles root
-        → IsKept S.may_leave (part_at site.now.ends) folder.old
-        → OnOk result (IsAllSaid (S.seen folder.new))) }
-    ensures refused { IsTrue S.told → (why : ModelRefusal) → result ≡ Err (Refused why)
-        → S.seen folder.new ≡ S.seen folder.old }
-    ensures rightly { IsTrue S.told → (why : ModelRefusal) → result ≡ Err (Refused why)
-        → IsRefused T.told (T.state tree.old) site.now plan.now (S.seen folder.old) why }
-    ensures unrefused { (why : ModelRefusal) → result ≢ Ok (halt.Refused why) }
-    ensures lost { IsTrue S.told → (k : ModelCheckpoint) → IsAt k (S.seen folder.old)
-        → IsLost k (S.seen folder.old) → OnOk result (IsTrue lost.new) }
-    ensures barred { IsTrue S.told
-        → IsBarred T.told (T.state tree.old) site.now plan.now (S.seen folder.old) → IsErr result
-        × IsUntouched S.seen S.may_leave S.moment S.left_since folder.old folder.new }
-{
-    let begun = set_out(alloc, folder, tree, site, plan, block, out, lost)?;
-    let Begun {
-        part,
-        identity,
-        checkpoint,
-    } = begun;
-    let halt = make_runs(
-        alloc, folder, tree, &part, &identity, checkpoint, plan, clock, tally, block, out,
-    )?;
-    Ok(halt)
 }
 
 /// A night: takes up what the last one left, ended, killed or crashed, says what it left unsaid,
@@ -533,23 +413,22 @@ pub fn night<S: StateFolder, T: Tree, C: Clock, W: Write>(
     out: &mut W,
 ) -> NightEnd
     // If each crash before it leaves a sound content, so does a crash at any moment of it.
-    ensures any_moment { IsTrue S.told → IfTold T.told (T.state tree.old) (λ root.
-        HasShortFiles root → IsKept S.may_leave (part_at site.now.ends) folder.old
-        → LeavesOnly S.moment S.left_since folder.old folder.new
-        (IsSound (part_at site.now.ends))) }
-    ensures kept { IsTrue S.told → IfTold T.told (T.state tree.old) (λ root. HasShortFiles root
-        → IsKept S.may_leave (part_at site.now.ends) folder.old
+    ensures any_moment { IsTrue S.told → OnShort T.told (T.state tree.old)
+        (IsKept S.may_leave (part_at site.now.ends) folder.old → LeavesOnly S.moment S.left_since
+        folder.old folder.new (IsSound (part_at site.now.ends))) }
+    ensures kept { IsTrue S.told → OnShort T.told (T.state tree.old)
+        (IsKept S.may_leave (part_at site.now.ends) folder.old
         → IsKept S.may_leave (part_at site.now.ends) folder.new) }
 
     // Nothing more is told, at any moment, than was told before and the output has taken since.
-    ensures heard { IsTrue S.told → IfTold T.told (T.state tree.old) (λ root. HasShortFiles root
-        → IsSafeNight S.may_leave S.moment S.left_since (part_at site.now.ends)
+    ensures heard { IsTrue S.told → OnShort T.told (T.state tree.old)
+        (IsSafeNight S.may_leave S.moment S.left_since (part_at site.now.ends)
         folder.old folder.new (W.contents out.old) (W.contents out.new)) }
 
     // Unless it is refused or something is troubled, all of the report is said, also what earlier
     // nights left.
-    ensures said { IsTrue S.told → IfTold T.told (T.state tree.old) (λ root. HasShortFiles root
-        → IsKept S.may_leave (part_at site.now.ends) folder.old
+    ensures said { IsTrue S.told → OnShort T.told (T.state tree.old)
+        (IsKept S.may_leave (part_at site.now.ends) folder.old
         → ((why : ModelStop) → result.end ≢ halt.Troubled why)
         → ((why : ModelRefusal) → result.end ≢ halt.Refused why)
         → IsAllSaid (S.seen folder.new)) }
@@ -569,14 +448,13 @@ pub fn night<S: StateFolder, T: Tree, C: Clock, W: Write>(
 
     // If bytes of the report were lost or changed, it says so, unless it is refused or something
     // is troubled.
-    ensures lost { IsTrue S.told → (k : ModelCheckpoint) → IsAt k (S.seen folder.old)
-        → IsLost k (S.seen folder.old)
-        → ((why : ModelStop) → result.end ≢ halt.Troubled why)
-        → ((why : ModelRefusal) → result.end ≢ halt.Refused why) → IsTrue result.lost }
+    ensures lost { IsTrue S.told → IfLost (S.seen folder.old)
+        (((why : ModelStop) → result.end ≢ halt.Troubled why)
+        → ((why : ModelRefusal) → result.end ≢ halt.Refused why) → IsTrue result.lost) }
 
     // The report of a cycle that is said to have ended is closed.
-    ensures ended { IsTrue S.told → IfTold T.told (T.state tree.old) (λ root. HasShortFiles root
-        → IsKept S.may_leave (part_at site.now.ends) folder.old
+    ensures ended { IsTrue S.told → OnShort T.told (T.state tree.old)
+        (IsKept S.may_leave (part_at site.now.ends) folder.old
         → (cycle : ℕ) → result.end ≡ halt.CycleEnded cycle
         → IsOneMore (part_at site.now.ends) cycle
         (S.seen folder.old).closed (S.seen folder.new).closed) }
@@ -593,31 +471,58 @@ pub fn night<S: StateFolder, T: Tree, C: Clock, W: Write>(
 {
     let mut tally = Tally::none(alloc);
     let mut lost = false;
-    let through = go_through(
-        alloc, folder, tree, site, plan, clock, &mut tally, block, out, &mut lost,
+    let begun = match set_out(alloc, folder, tree, site, plan, block, out, &mut lost) {
+        Ok(begun) => begun,
+        Err(why) => return account(tally, lost, unbegun(why)),
+    };
+    let Begun {
+        part,
+        identity,
+        checkpoint,
+    } = begun;
+    let through = make_runs(
+        alloc, folder, tree, &part, &identity, checkpoint, plan, clock, &mut tally, block, out,
     );
-    account(tally, lost, through)
+    account(tally, lost, ended(through))
+}
+
+/// What ends a night that was not begun.
+fn unbegun(why: NotOpened) -> Halt
+    ensures not_begun { IsNotBegun result }
+    ensures said { ((why : ModelStop) → result ≢ halt.Troubled why)
+        → ((why : ModelRefusal) → result ≢ halt.Refused why) → ⊥ }
+    ensures refused { (refusal : ModelRefusal) → result ≡ halt.Refused refusal
+        → why ≡ Refused refusal }
+    ensures is { result ≡ unbegun_by why }
+{
+    match why {
+        NotOpened::Refused(why) => Halt::Refused(why),
+        NotOpened::Troubled(why) => Halt::Troubled(why),
+    }
+}
+
+/// What ends a night whose runs ended so.
+fn ended(through: Result<Halt, Stop>) -> Halt
+    ensures ended { (cycle : ℕ) → result ≡ halt.CycleEnded cycle
+        → through ≡ Ok (halt.CycleEnded cycle) }
+    ensures said { ((why : ModelStop) → result ≢ halt.Troubled why) → IsOk through }
+    ensures refused { (why : ModelRefusal) → result ≡ halt.Refused why
+        → through ≡ Ok (halt.Refused why) }
+    ensures is { result ≡ ended_by through }
+{
+    match through {
+        Ok(halt) => halt,
+        Err(why) => Halt::Troubled(why),
+    }
 }
 
 /// The account of a night that ended so.
-fn account(tally: Tally, lost: bool, through: Result<Halt, NotOpened>) -> NightEnd
-    ensures ended { (cycle : ℕ) → result.end ≡ halt.CycleEnded cycle
-        → through ≡ Ok (halt.CycleEnded cycle) }
-    ensures end { result.end ≡ ended_by through }
+fn account(tally: Tally, lost: bool, end: Halt) -> NightEnd
     ensures runs { result.runs ≡ tally.runs }
     ensures lost { result.lost ≡ lost }
     ensures left { result.left ≡ tally.left }
-    ensures said { ((why : ModelStop) → result.end ≢ halt.Troubled why)
-        → ((why : ModelRefusal) → result.end ≢ halt.Refused why) → IsOk through }
-    ensures not_begun { IsErr through → IsNotBegun result.end }
-    ensures refused { (why : ModelRefusal) → result.end ≡ halt.Refused why
-        → (through ≡ Err (Refused why)) ⊎ (through ≡ Ok (halt.Refused why)) }
+    ensures end { result.end ≡ end }
 {
-    let end = match through {
-        Ok(halt) => halt,
-        Err(NotOpened::Refused(why)) => Halt::Refused(why),
-        Err(NotOpened::Troubled(why)) => Halt::Troubled(why),
-    };
     NightEnd {
         runs: tally.runs,
         lost,

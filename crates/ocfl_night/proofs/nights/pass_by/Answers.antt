@@ -1,5 +1,5 @@
 use Rattle.std.proofs.Common.{◌∙◌, ap, sym}
-use Rattle.ocfl_night.specs.Leaving.{checkpoint_by, pause_by}
+use Rattle.ocfl_night.specs.Leaving.{done_by}
 use Rattle.ocfl_night.proofs.{Moments.{unmoved}, Sound.{ready_sound}}
 use Rattle.ocfl_night.proofs.nights.pass_by.Goals as goal
 
@@ -12,17 +12,11 @@ returns-in_err-remedy-clause-any_moment g c = λ told part t r. unmoved (g.met.S
 pub returns-in-TryAgain-clause-any_moment : goal.returns-in-TryAgain-clause-any_moment
 returns-in-TryAgain-clause-any_moment g c = λ told part t r. unmoved (g.met.S.StateFolder.only_now told) (ready_sound r)
 
-pub returns-in-TryAgain-clause-checkpoint : goal.returns-in-TryAgain-clause-checkpoint
-returns-in-TryAgain-clause-checkpoint g c = λ there. ap (checkpoint_by c.args.checkpoint) (sym c.in-TryAgain.is ∙ c.in_ok-remedy.ensures.is)
-
-pub returns-in-TryAgain-clause-pause : goal.returns-in-TryAgain-clause-pause
-returns-in-TryAgain-clause-pause g c = λ there. ap (pause_by c.args.place) (sym c.in-TryAgain.is ∙ c.in_ok-remedy.ensures.is)
+pub returns-in-TryAgain-clause-done : goal.returns-in-TryAgain-clause-done
+returns-in-TryAgain-clause-done g c = λ there. ap (done_by c.args.checkpoint c.args.place) (sym c.in-TryAgain.is ∙ c.in_ok-remedy.ensures.is)
 
 pub returns-in-Halt-clause-any_moment : goal.returns-in-Halt-clause-any_moment
 returns-in-Halt-clause-any_moment g c = λ told part t r. unmoved (g.met.S.StateFolder.only_now told) (ready_sound r)
 
-pub returns-in-Halt-clause-checkpoint : goal.returns-in-Halt-clause-checkpoint
-returns-in-Halt-clause-checkpoint g c = λ there. ap (checkpoint_by c.args.checkpoint) (sym c.in-Halt.is ∙ c.in_ok-remedy.ensures.is)
-
-pub returns-in-Halt-clause-pause : goal.returns-in-Halt-clause-pause
-returns-in-Halt-clause-pause g c = λ there. ap (pause_by c.args.place) (sym c.in-Halt.is ∙ c.in_ok-remedy.ensures.is)
+pub returns-in-Halt-clause-done : goal.returns-in-Halt-clause-done
+returns-in-Halt-clause-done g c = λ there. ap (done_by c.args.checkpoint c.args.place) (sym c.in-Halt.is ∙ c.in_ok-remedy.ensures.is)

@@ -1,6 +1,6 @@
 use Rattle.std.proofs.lemmas.Result.{err_from_is_err_and}
 use Rattle.ocfl_night.specs.Refusing.{in_folder}
-use Rattle.ocfl_night.proofs.{Moments.{untouched}, Foreigners.{barred_by}}
+use Rattle.ocfl_night.proofs.{Moments.{untouched}, Foreigners.{barred_by, no_root_by}}
 use Rattle.ocfl_night.proofs.Heard.{begun_heard, grew_none, is_err}
 use Rattle.ocfl_night.proofs.nights.set_out.Goals as goal
 
@@ -31,6 +31,11 @@ pub returns-clause-barred : goal.returns-clause-barred
 returns-clause-barred g c = λ told barred.
     let k = barred_by c.in_ok-identity.identity c.in_ok-identity.ensures.told c.in_ok-identity.ensures.declares barred in
     absurd (cc (c.in_ok-checkpoint.ensures.foreign told k.0 k.1.0 k.1.1).0)
+
+pub returns-in_err-identity-clause-rightly : goal.returns-in_err-identity-clause-rightly
+returns-in_err-identity-clause-rightly g c = λ told why is.
+    let p = err_from_is_err_and c.from_residual-in_err-identity.result c.from_residual-in_err-identity.ensures.1 in
+    no_root_by c.look_at_root.result _ c.in_err-identity.was (cc (p.1, p.2, is)) c.look_at_root.ensures.undeclared
 
 pub returns-in_err-checkpoint-clause-rightly : goal.returns-in_err-checkpoint-clause-rightly
 returns-in_err-checkpoint-clause-rightly g c = λ told why is.

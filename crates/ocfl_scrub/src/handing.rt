@@ -115,6 +115,7 @@ pub fn calls_that_stop_join()
 /// The same of all parts that the text of separators makes, if the cycle of each has ended. The
 /// reports, joined in order, are the audit of the whole root, in which just the files are called
 /// unreadable that could not be read by the call that took them.
+#[tactic(auto, using(crate::proofs::CallsMade::made_parts))]
 pub fn parts_with_calls_that_stop_join()
     ensures { (root : StorageRoot) (separators : Text) (cycles : List MadeCycle)
         → AreAllFrom separators 1 (map (λ d. d.ends) cycles)

@@ -86,6 +86,7 @@ pub fn runs_that_stop_join()
 /// The same of the parts that separators make, if the cycle of each has ended: the reports, joined
 /// in order, are the audit of the whole root, in which just the files are called unreadable that
 /// could not be read by the run that took them.
+#[tactic(auto, using(crate::proofs::CycleRuns::parts_reports))]
 pub fn parts_with_runs_that_stop_join()
     ensures { (root : StorageRoot) (separators : List Place) (cycles : List PartCycle)
         → IsAscending place_cmp separators
@@ -105,6 +106,7 @@ pub fn each_run_has_a_report()
 {}
 
 /// So has a run that goes on with the walk of the run before it, by what `run_on` says of it.
+#[tactic(auto, using(crate::proofs::KeptRuns::goes_on_reported))]
 pub fn each_run_that_goes_on_has_a_report()
     ensures { (root : StorageRoot) (s t : Store) (old new : Text) (part : Part)
         (met : Option Place) (c : Cursor) (limits : Limits) (ran : RunEnd)

@@ -235,6 +235,7 @@ pub fn a_run_that_stops_took_the_first_of_its_cut()
 {}
 
 /// What the runs of a cycle did together, of a part; the whole is one.
+#[tactic(auto, using(crate::proofs::ChainLaws::together))]
 pub fn a_cycle_does_what_its_runs_do()
     ensures { (call : Call) (part : Part) (limits : List Limits) (ran : CycleEnd)
         → CycleOfRunsWithin call part limits ran

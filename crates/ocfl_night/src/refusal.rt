@@ -17,7 +17,8 @@ pub enum Refusal {
     NoCheckpoint,
     /// There is no checkpoint, and there is a report, open or closed.
     HasReports,
-    /// What is in the checkpoint's place is not read as a checkpoint, and that is not for memory.
+    /// What is in the checkpoint's place is not read as a checkpoint, for this reason, which is
+    /// never `Memory`.
     Unread(Refused),
     /// The root's top folder does not declare a storage root.
     NoRoot,

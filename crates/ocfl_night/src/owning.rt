@@ -80,7 +80,7 @@ fn same_root(checkpoint: &Checkpoint, identity: &Identity) -> Result<(), Refusal
 fn path_of(checkpoint: Checkpoint) -> Place
     ensures { result ≡ checkpoint.root.path }
 {
-    checkpoint.root.path
+    checkpoint.into_path()
 }
 
 /// The same checkpoint, if it is of this root and this part, and unless forced the root is as it

@@ -15,9 +15,16 @@ pub(crate) struct Met {
 ///
 /// It holds what a walk holds and one item, no file's bytes. It is of use for a run of the same
 /// part of the same root that goes on from the cursor that the run before answered.
-#[derive(Debug, Drop)]
+#[derive(Debug)]
 pub struct KeptWalk {
     pub(crate) met: Option<Met>,
+}
+
+/// Written by hand, so that letting it go is one call where it is let go.
+impl Drop for KeptWalk {
+    fn drop(self) {
+        let KeptWalk { met: _met } = self;
+    }
 }
 
 impl KeptWalk {

@@ -1,12 +1,13 @@
 //! The checkpoint: what one night leaves for the next.
-
+ghost use Rattle.std.specs.Prelude.{◌≡◌};
+use ocfl_tree::Place;
 use crate::checkpoint_parts::{Left, Phase, ReportMark, RootIdentity, TopNames};
 use ocfl_cursor::{Cursor, PartEnds};
 use std::marker::Model;
 
 /// What one night leaves for the next: whose root is read, how much of the report belongs to the
 /// cursor, how much of that was said, and where the next run begins.
-#[derive(Debug, Drop)]
+#[derive(Debug)]
 pub struct Checkpoint {
     /// The storage root that the nights read.
     pub root: RootIdentity,
@@ -26,6 +27,43 @@ pub struct Checkpoint {
     pub part: Option<PartEnds>,
     /// Where the next run begins, and what the runs of the cycle have spent.
     pub cursor: Cursor,
+}
+
+impl Checkpoint {
+    /// The path of the root that it is of.
+    pub fn into_path(self) -> Place
+        ensures { result ≡ self.root.path }
+    {
+        let Checkpoint {
+            root,
+            names: _names,
+            phase: _phase,
+            whole: _whole,
+            report: _report,
+            told: _told,
+            left: _left,
+            part: _part,
+            cursor: _cursor,
+        } = self;
+        root.path
+    }
+}
+
+/// Written by hand, so that to let it go is one call wherever that happens.
+impl Drop for Checkpoint {
+    fn drop(self) {
+        let Checkpoint {
+            root: _root,
+            names: _names,
+            phase: _phase,
+            whole: _whole,
+            report: _report,
+            told: _told,
+            left: _left,
+            part: _part,
+            cursor: _cursor,
+        } = self;
+    }
 }
 
 impl Model for Checkpoint {

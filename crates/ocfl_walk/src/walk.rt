@@ -18,13 +18,24 @@ use std::alloc::{AllocError, Global};
 ///
 /// It holds what is left of the listings on the way to its last place, at most 128 of them, the
 /// table of the object that holds that place, and at most two places; no file's bytes.
-#[derive(Debug, Drop)]
+#[derive(Debug)]
 pub struct Walk {
     alloc: Global,
     stand: Stand,
     /// The name that the walk begins at, in the directory at its last place, until it has begun.
     first: Option<Name>,
     ghost orderly: { is_orderly stand ≡ true },
+}
+
+/// Written by hand, so that to let it go is one call wherever that happens.
+impl Drop for Walk {
+    fn drop(self) {
+        let Walk {
+            alloc: _alloc,
+            stand: _stand,
+            first: _first,
+        } = self;
+    }
 }
 
 impl Walk {

@@ -14,20 +14,20 @@ use std::{fs, io};
 /// The folder at a path from `/` on, by last names alone: the process itself is where the
 /// folder does.
 #[derive(Drop)]
-pub struct Entering<R: Files + Env + AllocGlobal + Drop> {
-    rt: R,
+pub struct Entering<'a, R: Files + Env + AllocGlobal> {
+    rt: &'a R,
     root: String,
 }
 
-impl<R: Files + Env + AllocGlobal + Drop> Entering<R> {
-    pub(crate) fn at(rt: R, root: &str) -> Result<Entering<R>, AllocError> {
+impl<'a, R: Files + Env + AllocGlobal> Entering<'a, R> {
+    pub(crate) fn at(rt: &'a R, root: &str) -> Result<Entering<'a, R>, AllocError> {
         let root = String::from_str(rt.alloc(), root)?;
         Ok(Entering { rt, root })
     }
 }
 
 /// It does not tell its tree: no clause says what the calls of the system do.
-impl<R: Files + Env + AllocGlobal + Drop> System for Entering<R> {
+impl<R: Files + Env + AllocGlobal> System for Entering<'_, R> {
     type File = Opened<R::File>;
 
     type Names = DirNames<R::Dir>;
@@ -62,7 +62,7 @@ impl<R: Files + Env + AllocGlobal + Drop> System for Entering<R> {
     }
 
     fn open(&self, name: &str) -> io::Result<Opened<R::File>> {
-        Ok(Opened::new(fs::open(&self.rt, name)?))
+        Ok(Opened::new(fs::open(self.rt, name)?))
     }
 
     fn look_at(&self, file: &mut Opened<R::File>) -> io::Result<Seen> {

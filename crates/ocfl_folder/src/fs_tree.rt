@@ -37,17 +37,27 @@ use std::rt::{Env, Files};
 /// - a name that is not UTF-8, or that is listed twice;
 /// - more than 1,000,000 entries, or one that goes away while it is listed;
 /// - a file that is another once it is open.
-#[derive(Drop)]
 pub struct FsTree<S: System + Drop> {
     stand: Stand<S>,
     opened: Option<S::File>,
     reason: Option<io::Error>,
 }
 
-impl<R: Files + AllocGlobal + Drop> FsTree<WholePaths<R>> {
+/// Written by hand, so that letting it go is one call where it is let go.
+impl<S: System + Drop> Drop for FsTree<S> {
+    fn drop(self) {
+        let FsTree {
+            stand: _stand,
+            opened: _opened,
+            reason: _reason,
+        } = self;
+    }
+}
+
+impl<'a, R: Files + AllocGlobal> FsTree<WholePaths<'a, R>> {
     /// The folder at a path, which need not be there yet. The process stays where it is: each call
     /// of the system takes a whole path.
-    pub fn at(rt: R, root: &str) -> Result<FsTree<WholePaths<R>>, AllocError>
+    pub fn at(rt: &'a R, root: &str) -> Result<FsTree<WholePaths<'a, R>>, AllocError>
         ensures { IfOk result (λ folder. folder.opened ≡ None) }
     {
         let alloc = rt.alloc();
@@ -55,11 +65,11 @@ impl<R: Files + AllocGlobal + Drop> FsTree<WholePaths<R>> {
     }
 }
 
-impl<R: Files + Env + AllocGlobal + Drop> FsTree<Entering<R>> {
+impl<'a, R: Files + Env + AllocGlobal> FsTree<Entering<'a, R>> {
     /// The folder at a path from `/` on, which need not be there yet. The process goes into its
     /// directories, so no path is too long, and a relative path means something else after each
     /// call.
-    pub fn entering(rt: R, root: &str) -> Result<FsTree<Entering<R>>, AllocError>
+    pub fn entering(rt: &'a R, root: &str) -> Result<FsTree<Entering<'a, R>>, AllocError>
         ensures { IfOk result (λ folder. folder.opened ≡ None) }
     {
         let alloc = rt.alloc();

@@ -14,15 +14,15 @@ use std::rt::Files;
 
 /// The folder at a path, by whole paths: the process stays where it is.
 #[derive(Drop)]
-pub struct WholePaths<R: Files + AllocGlobal + Drop> {
-    rt: R,
+pub struct WholePaths<'a, R: Files + AllocGlobal> {
+    rt: &'a R,
     root: String,
     /// The path of the directory that the folder is in.
     path: String,
 }
 
-impl<R: Files + AllocGlobal + Drop> WholePaths<R> {
-    pub(crate) fn at(rt: R, root: &str) -> Result<WholePaths<R>, AllocError> {
+impl<'a, R: Files + AllocGlobal> WholePaths<'a, R> {
+    pub(crate) fn at(rt: &'a R, root: &str) -> Result<WholePaths<'a, R>, AllocError> {
         let root = String::from_str(rt.alloc(), root)?;
         let path = String::new(rt.alloc());
         Ok(WholePaths { rt, root, path })
@@ -45,7 +45,7 @@ impl<R: Files + AllocGlobal + Drop> WholePaths<R> {
 }
 
 /// It does not tell its tree: no clause says what the calls of the system do.
-impl<R: Files + AllocGlobal + Drop> System for WholePaths<R> {
+impl<R: Files + AllocGlobal> System for WholePaths<'_, R> {
     type File = Opened<R::File>;
 
     type Names = DirNames<R::Dir>;
@@ -104,7 +104,7 @@ impl<R: Files + AllocGlobal + Drop> System for WholePaths<R> {
 
     fn open(&self, name: &str) -> io::Result<Opened<R::File>> {
         let path = self.path_of(name)?;
-        Ok(Opened::new(fs::open(&self.rt, path.as_str())?))
+        Ok(Opened::new(fs::open(self.rt, path.as_str())?))
     }
 
     fn look_at(&self, file: &mut Opened<R::File>) -> io::Result<Seen> {

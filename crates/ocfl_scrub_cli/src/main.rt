@@ -2,7 +2,6 @@
 //! standard error with progress on a terminal, and the exit status.
 #![tactic(auto)]
 
-mod files;
 mod nights;
 mod progress;
 mod saying;
@@ -14,7 +13,8 @@ mod version;
 mod whole;
 
 use clap::error::ErrorKind;
-use nights::{join_parts, make_night};
+use nights::make_night;
+use ocfl_closing::joining::join_parts;
 use ocfl_line::{Asked, CommandStop, asked};
 use progress::{Terminals, find_terminals};
 use saying::{STOPPED, USAGE, say, say_out_of_memory};

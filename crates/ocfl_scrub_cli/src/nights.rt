@@ -1,51 +1,40 @@
 //! A night over a storage root and its state folder.
 
-mod closing;
 mod ending;
-mod failing;
-mod finding;
-mod joining;
-mod kept;
-mod lists;
 mod logging;
-mod making;
 mod noted;
-mod reading;
 mod roots;
-mod rows;
-mod sound;
-mod stand;
-mod state;
-mod telling;
 mod timing;
 
-use crate::nights::closing::Closings;
 use crate::nights::ending::{ending_text, is_own, left_text, lost_text};
-use crate::nights::failing::{Failure, say_failure, say_text};
-pub(crate) use crate::nights::joining::join_parts;
-use crate::nights::lists::{find_known, refuse_missing};
 use crate::nights::logging::{Account, Journal, log_night};
-use crate::nights::making::file_failure;
 use crate::nights::noted::Noting;
 use crate::nights::roots::{Root, find_ends, find_root, part_number};
-use crate::nights::stand::Standing;
-use crate::nights::state::{open_state, read_standing, refuse_overlap, words_of};
-use crate::nights::telling::{Names, Teller};
-use crate::nights::timing::{NightClock, end_of, is_spent_by, seconds_now};
+use crate::nights::timing::{NightClock, end_of, is_spent_by};
 use crate::progress::{Clearing, Terminals, Watched, clear};
 use crate::saying::STOPPED;
 use crate::version::running_digest;
+use ocfl_closing::closing::Closings;
+use ocfl_closing::failing::{Failure, say_failure, say_text};
+use ocfl_closing::lists::{find_known, refuse_missing};
+use ocfl_closing::making::file_failure;
+use ocfl_closing::stand::Standing;
+use ocfl_closing::state::{open_state, read_standing, refuse_overlap, words_of};
+use ocfl_closing::state_dir::StateDir;
+use ocfl_closing::telling::{Names, Teller};
+use ocfl_closing::timing::seconds_now;
 use ocfl_cursor::Budget;
 use ocfl_digest::Block;
 use ocfl_folder::FsTree;
 use ocfl_line::NightAsked;
 use ocfl_night::{Halt, NightEnd, Plan, Site, night, status_found, status_of};
-use ocfl_state::{FsState, Reason, StateFile};
+use ocfl_state::{Reason, StateFile, StateFolder};
 use ocfl_telling::{Known, NightRow};
+use ocfl_tree::Tree;
 use std::alloc::{AllocError, Global};
 use std::cell::Cell;
 use std::fs::File;
-use std::io::{self, Printer};
+use std::io::{self, Printer, Write};
 use std::rc::Rc;
 use std::rt::{Env, Files};
 use std::time::Clock;
@@ -58,8 +47,8 @@ const SLICE_FILES: u64 = 20_000;
 
 /// What a night is made with.
 #[derive(Drop)]
-struct Given {
-    asked: NightAsked,
+struct Given<'a> {
+    asked: &'a NightAsked,
     /// When the night began, in seconds since the epoch.
     began: u64,
     /// The path of the storage root.
@@ -82,6 +71,13 @@ struct Made {
     left: u64,
     /// Why the last call over the storage root failed that did.
     reason: Option<io::Error>,
+}
+
+/// Whether progress is shown, and what the last cycle cost, if that is known.
+#[derive(Clone, Copy)]
+struct Shown {
+    is_shown: bool,
+    last_cost: Option<u128>,
 }
 
 /// The text, if there is one.
@@ -117,7 +113,7 @@ fn plan_of(asked: &NightAsked, end: Option<u64>) -> Result<Plan, AllocError> {
 }
 
 /// Reads all that a night is made with, but for its state folder.
-fn read_given<R>(rt: &R, asked: NightAsked, began: u64) -> Result<Given, Failure>
+fn read_given<'a, R>(rt: &R, asked: &'a NightAsked, began: u64) -> Result<Given<'a>, Failure>
 where
     R: Files + Env + AllocGlobal,
 {
@@ -132,12 +128,12 @@ where
         root: path,
         site: Site { path: place, ends },
         known,
-        plan: plan_of(&asked, end)?,
+        plan: plan_of(asked, end)?,
         asked,
     })
 }
 
-impl Given {
+impl Given<'_> {
     /// How what the night speaks of is called.
     fn names(&self) -> Names<'_> {
         Names {
@@ -157,53 +153,110 @@ fn last_cost(began: Standing) -> Option<u128> {
     }
 }
 
+/// The clock of a night. `now` is where the nights stand, and `lost` why a line was not written.
+fn clock_of<'a, R>(
+    rt: &'a R,
+    given: &Given<'_>,
+    now: &Rc<Cell<Standing>>,
+    lost: &Rc<Cell<Option<Reason>>>,
+) -> Result<NightClock<'a, R>, Failure>
+where
+    R: Files<File = File> + AllocGlobal + Clock,
+{
+    let journal = journal_of(rt, given, lost)?;
+    Ok(NightClock {
+        rt,
+        stop: format!(in rt.alloc(); "{}/{}", given.asked.state, StateFile::Stop)?,
+        began: now.get(),
+        now: now.clone()?,
+        budget: given.asked.bounds.budget,
+        journal,
+        asked: given.began,
+    })
+}
+
+/// Makes a night over a store, and shows progress.
+fn night_over<R, S, T, C, W>(
+    rt: &R,
+    given: &Given<'_>,
+    folder: &mut S,
+    tree: &mut T,
+    clock: &mut C,
+    block: &mut Block,
+    out: &mut W,
+    shown: Shown,
+) -> NightEnd
+where
+    R: AllocGlobal + Clock + Eprint,
+    S: StateFolder,
+    T: Tree,
+    C: ocfl_night::Clock,
+    W: Write,
+{
+    let mut tree = Watched::over(rt, tree, shown.is_shown, shown.last_cost);
+    night(
+        rt.alloc(),
+        folder,
+        &mut tree,
+        &given.site,
+        &given.plan,
+        clock,
+        block,
+        out,
+    )
+}
+
+/// Makes a night over the storage root, and gives why the last call over it failed that did.
+fn night_in<R, S, C, W>(
+    rt: &R,
+    given: &Given<'_>,
+    folder: &mut S,
+    clock: &mut C,
+    out: &mut W,
+    shown: Shown,
+) -> Result<(NightEnd, Option<io::Error>), Failure>
+where
+    R: Files + Env + AllocGlobal + Clock + Eprint,
+    S: StateFolder,
+    C: ocfl_night::Clock,
+    W: Write,
+{
+    let mut block = Block::new(rt.alloc())?;
+    let Ok(mut tree) = FsTree::entering(rt, given.root.as_str()) else {
+        return Err(Failure::from(AllocError));
+    };
+    let end = night_over(rt, given, folder, &mut tree, clock, &mut block, out, shown);
+    Ok((end, tree.reason()))
+}
+
 /// Makes a night over an open folder. `now` is where the nights stand.
 fn run_night<'a, R>(
     rt: &'a R,
-    given: &Given,
+    given: &Given<'_>,
     folder: &mut Noting<'a, R>,
     now: &Rc<Cell<Standing>>,
-    journal: Journal<'a, R>,
+    lost: &Rc<Cell<Option<Reason>>>,
     shown_on: Terminals,
 ) -> Result<Made, Failure>
 where
     R: Files<File = File> + Env + AllocGlobal + Clock + Print + Eprint,
 {
-    let alloc = rt.alloc();
     let began = now.get();
-    let Ok(tree) = FsTree::entering(rt, given.root.as_str()) else {
-        return Err(Failure::from(AllocError));
+    let shown = Shown {
+        is_shown: shown_on.error,
+        last_cost: last_cost(began),
     };
-    let mut tree = Watched::over(rt, tree, shown_on.error, last_cost(began));
-    let mut clock = NightClock {
-        rt,
-        stop: format!(in alloc; "{}/{}", given.asked.state, StateFile::Stop)?,
-        began,
-        now: now.clone()?,
-        budget: given.asked.bounds.budget,
-        journal,
-        asked: given.began,
-    };
+    let mut clock = clock_of(rt, given, now, lost)?;
     let out = output_on(rt, shown_on);
-    let mut teller = Teller::new(alloc, given.names(), &given.known, now.clone()?, out);
-    let mut block = Block::new(alloc)?;
-    let end = night(
-        alloc,
-        folder,
-        &mut tree,
-        &given.site,
-        &given.plan,
-        &mut clock,
-        &mut block,
-        &mut teller,
-    );
+    let mut teller = Teller::new(rt.alloc(), given.names(), &given.known, now.clone()?, out);
+    let (end, reason) = night_in(rt, given, folder, &mut clock, &mut teller, shown)?;
     Ok(Made {
         end,
         cost: began.spent_until(now.get()),
         findings: teller.findings(),
         broken: teller.broken(),
         left: now.get().left,
-        reason: tree.inner().reason(),
+        reason,
     })
 }
 
@@ -260,7 +313,7 @@ fn why_of(alloc: Global, reason: Option<io::Error>) -> Result<Option<String>, Al
 /// Says how a night ended, and gives what was said.
 fn say_ending<'a, R>(
     rt: &'a R,
-    folder: &mut FsState<&'a R>,
+    folder: &mut StateDir<'a, R>,
     names: Names<'_>,
     made: &Made,
 ) -> Result<Option<String>, Failure>
@@ -294,28 +347,59 @@ fn is_partial(made: &Made) -> bool {
 }
 
 /// Makes a night, and gives its status.
-fn make_in<R>(rt: &R, given: &Given, shown_on: Terminals) -> Result<u8, Failure>
+fn make_in<R>(rt: &R, given: &Given<'_>, shown_on: Terminals) -> Result<u8, Failure>
 where
     R: Files<File = File> + Env + AllocGlobal + Clock + Print + Eprint,
 {
     let names = given.names();
     let mut folder = open_state(rt, names.state, names.root, given.asked.create)?;
     let began = read_standing(rt.alloc(), &mut folder);
-    let now = Rc::new(rt.alloc(), Cell::new(began))?;
     let lost = Rc::new(rt.alloc(), Cell::new(None))?;
+    let (folder, made) = night_from(rt, given, folder, began, &lost, shown_on)?;
+    if shown_on.error {
+        clear(rt);
+    }
+    end_night(rt, given, folder, &made, began.last_closed(), lost.get())
+}
+
+/// Makes a night over a folder in which the nights stand there, and gives the folder back.
+fn night_from<'a, R>(
+    rt: &'a R,
+    given: &Given<'_>,
+    folder: StateDir<'a, R>,
+    began: Standing,
+    lost: &Rc<Cell<Option<Reason>>>,
+    shown_on: Terminals,
+) -> Result<(StateDir<'a, R>, Made), Failure>
+where
+    R: Files<File = File> + Env + AllocGlobal + Clock + Print + Eprint,
+{
+    let now = Rc::new(rt.alloc(), Cell::new(began))?;
     let mut noting = Noting {
         alloc: rt.alloc(),
         folder,
         now: now.clone()?,
-        journal: journal_of(rt, given, &lost)?,
+        journal: journal_of(rt, given, lost)?,
     };
-    let journal = journal_of(rt, given, &lost)?;
-    let made = run_night(rt, given, &mut noting, &now, journal, shown_on)?;
-    let mut folder = noting.folder;
-    if shown_on.error {
-        clear(rt);
-    }
-    let said = say_ending(rt, &mut folder, names, &made)?;
+    let made = run_night(rt, given, &mut noting, &now, lost, shown_on)?;
+    Ok((noting.folder, made))
+}
+
+/// Says how a night ended and what the cycles found that were closed, logs it, and gives its
+/// status. `before` is the cycle that was closed last before the night.
+fn end_night<'a, R>(
+    rt: &'a R,
+    given: &Given<'_>,
+    mut folder: StateDir<'a, R>,
+    made: &Made,
+    before: u64,
+    lost: Option<Reason>,
+) -> Result<u8, Failure>
+where
+    R: Files<File = File> + AllocGlobal + Clock + Print + Eprint,
+{
+    let names = given.names();
+    let said = say_ending(rt, &mut folder, names, made)?;
     let mut closings = Closings {
         rt,
         folder,
@@ -324,25 +408,25 @@ where
         expected: text_of(&given.asked.expected),
         night: given.began,
     };
-    let told = tell_closings(&mut closings, began.last_closed(), &made);
-    let found = status_found(is_partial(&made), made.findings);
+    let told = tell_closings(&mut closings, before, made);
+    let found = status_found(is_partial(made), made.findings);
     let status = status_of(&made.end.end).max(found).max(told);
     Ok(log_made(
         rt,
         &mut closings.folder,
         given,
         names,
-        &made,
+        made,
         status,
         text_of(&said),
-        lost.get(),
+        lost,
     ))
 }
 
 /// What logs the runs of a night. It keeps in `lost` why a line was not written.
 fn journal_of<'a, R>(
     rt: &'a R,
-    given: &Given,
+    given: &Given<'_>,
     lost: &Rc<Cell<Option<Reason>>>,
 ) -> Result<Journal<'a, R>, Failure>
 where
@@ -358,8 +442,8 @@ where
 /// not written.
 fn log_made<'a, R>(
     rt: &'a R,
-    folder: &mut FsState<&'a R>,
-    given: &Given,
+    folder: &mut StateDir<'a, R>,
+    given: &Given<'_>,
     names: Names<'_>,
     made: &Made,
     status: u8,
@@ -402,7 +486,7 @@ where
     if failure.status != STOPPED {
         return;
     }
-    if let Ok(mut folder) = FsState::open(rt, state, false) {
+    if let Ok(mut folder) = StateDir::open(rt, state, false) {
         let program = running_digest(rt).ok();
         let ended = seconds_now(rt);
         let row = NightRow {
@@ -441,11 +525,10 @@ where
 {
     let _streams = take_streams(rt)?;
     let began = seconds_now(rt);
-    let state = String::from_str(rt.alloc(), asked.state.as_str())?;
-    match read_given(rt, asked, began) {
+    match read_given(rt, &asked, began) {
         Ok(given) => make_in(rt, &given, shown_on),
         Err(failure) => {
-            log_unbegun(rt, state.as_str(), began, &failure);
+            log_unbegun(rt, asked.state.as_str(), began, &failure);
             Err(failure)
         }
     }

@@ -63,8 +63,8 @@ fn percent(part: u128, whole: Option<u128>) -> Option<u128> {
 
 /// A store that shows how much of its content was read, if that is asked for.
 #[derive(Drop)]
-pub(crate) struct Watched<'a, R, T: Drop> {
-    store: T,
+pub(crate) struct Watched<'a, R, T> {
+    store: &'a mut T,
     rt: &'a R,
     is_shown: bool,
     /// What the last cycle cost, if that is known.
@@ -83,10 +83,10 @@ pub(crate) struct Watched<'a, R, T: Drop> {
     object: Option<Place>,
 }
 
-impl<'a, R: AllocGlobal + Clock + Eprint, T: Drop> Watched<'a, R, T> {
+impl<'a, R: AllocGlobal + Clock + Eprint, T> Watched<'a, R, T> {
     pub(crate) fn over(
         rt: &'a R,
-        store: T,
+        store: &'a mut T,
         is_shown: bool,
         last_cost: Option<u128>,
     ) -> Watched<'a, R, T> {
@@ -103,13 +103,6 @@ impl<'a, R: AllocGlobal + Clock + Eprint, T: Drop> Watched<'a, R, T> {
             place: Place::root(rt.alloc()),
             object: None,
         }
-    }
-
-    /// The store itself.
-    pub(crate) fn inner(&self) -> &T
-        ensures { result.now ≡ self.now.store }
-    {
-        &self.store
     }
 
     /// Counts the work at a place, and shows it when it is time to.
@@ -215,10 +208,10 @@ impl<'a, R: AllocGlobal + Clock + Eprint, T: Drop> Watched<'a, R, T> {
 }
 
 /// Does what the inner store does, with the same contract.
-impl<R: AllocGlobal + Clock + Eprint, T: Tree + Drop> Tree for Watched<'_, R, T> {
+impl<R: AllocGlobal + Clock + Eprint, T: Tree> Tree for Watched<'_, R, T> {
     ghost told = { T.told };
 
-    ghost state = { λ watched. T.state watched.store };
+    ghost state = { λ watched. T.state watched.store.now };
 
     fn list(&mut self, place: &Place) -> Result<Vec<Entry>, Trouble> {
         self.reach(place);

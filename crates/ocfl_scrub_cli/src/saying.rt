@@ -1,5 +1,6 @@
 //! What the program says on standard error, and the statuses that go with it.
 
+pub(crate) use ocfl_closing::saying::{STOPPED, USAGE, say, say_out_of_memory};
 use ocfl_cursor::Refused;
 use ocfl_parts::SplitStop;
 use ocfl_report::DisplayPlace;
@@ -7,13 +8,6 @@ use ocfl_scope::ScopeStop;
 use ocfl_scrub::Note;
 use std::io;
 use thiserror::Error;
-
-/// The exit status of a bad command line, path, part number, separators or report, and of a
-/// cursor's file inside the storage root.
-pub(crate) const USAGE: u8 = 2;
-
-/// The exit status if a command stopped.
-pub(crate) const STOPPED: u8 = 3;
 
 /// The exit status of bytes that are refused as a checkpoint.
 const REFUSED: u8 = 4;
@@ -59,11 +53,6 @@ impl NotDone {
     }
 }
 
-/// Says one line on standard error. A standard error that cannot be written changes nothing.
-pub(crate) fn say<R: Eprint>(rt: &R, line: &str) {
-    let _ = eprintln!(rt; "ocfl-scrub: {line}");
-}
-
 /// Says why a command stopped, and gives its status.
 pub(crate) fn say_stop<R: Eprint>(rt: &R, stop: &NotDone) -> u8 {
     let _ = eprintln!(rt; "ocfl-scrub: {stop}");
@@ -85,10 +74,4 @@ pub(crate) fn say_reason<R: Eprint>(rt: &R, note: &Note, reason: Option<io::Erro
     if let (Note::StoppedAt(place), Some(error)) = (note, reason) {
         let _ = eprintln!(rt; "ocfl-scrub: {}: {error}", DisplayPlace(place));
     }
-}
-
-/// Says that memory ran out, and gives the status.
-pub(crate) fn say_out_of_memory<R: Eprint>(rt: &R) -> u8 {
-    say(rt, "out of memory");
-    STOPPED
 }

@@ -1,10 +1,10 @@
 //! Doing a deed over a folder: its store, its cursor's file, its progress.
 
-use crate::files::{lies_inside, open_if_there, put_in_place};
 use crate::progress::{Clearing, Terminals, Watched, clear};
 use crate::saying::{STOPPED, USAGE, say, say_note, say_out_of_memory, say_reason, say_stop};
 use crate::scope::read_scope;
 use crate::showing::show_file;
+use ocfl_closing::files::{lies_inside, open_if_there, put_in_place};
 use ocfl_cursor::{State, read_cursor, read_part_cursor};
 use ocfl_deed::Deed;
 use ocfl_digest::Block;
@@ -12,6 +12,7 @@ use ocfl_folder::FsTree;
 use ocfl_line::Task;
 use ocfl_scope::Scope;
 use ocfl_scrub::{Note, Performed, perform_part};
+use ocfl_tree::Tree;
 use std::rt::{Env, Files};
 use std::time::Clock;
 use std::{fs, io};
@@ -91,33 +92,50 @@ fn perform_over_folder<R>(
 where
     R: Files + Env + AllocGlobal + Clock + Print + Eprint,
 {
-    let Ok(folder) = FsTree::entering(rt, root_of(task)) else {
+    let Ok(mut folder) = FsTree::entering(rt, root_of(task)) else {
         return Err(Note::OutOfMemory);
     };
+    let performed = perform_over(rt, task, scope, shown_on, &mut folder, block)?;
+    Ok(Done {
+        performed,
+        reason: folder.reason(),
+    })
+}
+
+/// Does the deed over a store, and shows progress. Fails with what is to be said if it cannot begin.
+fn perform_over<R, T>(
+    rt: &R,
+    task: &Task,
+    scope: &Scope,
+    shown_on: Terminals,
+    store: &mut T,
+    block: &mut Block,
+) -> Result<Performed, Note>
+where
+    R: Files + AllocGlobal + Clock + Print + Eprint,
+    T: Tree,
+{
+    let mut reader = open_cursor(rt, task)?;
     let last_cost = if shown_on.error {
         last_cost(rt, task, scope)
     } else {
         None
     };
-    let mut store = Watched::over(rt, folder, shown_on.error, last_cost);
-    let mut reader = open_cursor(rt, task)?;
+    let mut store = Watched::over(rt, store, shown_on.error, last_cost);
     let mut out = Clearing {
         rt,
         is_shared: shown_on.output,
         out: io::writer(rt),
     };
-    let alloc = rt.alloc();
-    let performed = perform_part(
-        alloc,
+    Ok(perform_part(
+        rt.alloc(),
         &mut store,
         &task.deed,
         scope,
         reader.as_mut(),
         block,
         &mut out,
-    );
-    let reason = store.inner().reason();
-    Ok(Done { performed, reason })
+    ))
 }
 
 /// Puts the cursor in the place of its file, and gives the status with what is to be said.

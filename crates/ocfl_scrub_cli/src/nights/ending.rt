@@ -1,6 +1,6 @@
 //! What is said of how a night ends.
 
-use crate::nights::telling::Names;
+use ocfl_closing::telling::Names;
 use ocfl_cursor::Refused;
 use ocfl_item::Fault;
 use ocfl_night::{Halt, Refusal, Stop};

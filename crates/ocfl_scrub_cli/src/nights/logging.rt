@@ -1,12 +1,13 @@
 //! The lines that a night appends to the log of its folder.
 
-use crate::nights::failing::{Failure, say_failure};
-use crate::nights::state::folder_failure;
-use crate::nights::timing::seconds_now;
 use crate::saying::STOPPED;
+use ocfl_closing::failing::{Failure, say_failure};
+use ocfl_closing::state::folder_failure;
+use ocfl_closing::state_dir::StateDir;
+use ocfl_closing::timing::seconds_now;
 use ocfl_cursor::State;
 use ocfl_night::{Made, SliceEnd};
-use ocfl_state::{Checkpoint, FsLog, FsState, Left, Reason};
+use ocfl_state::{Checkpoint, FsLog, Left, Reason};
 use ocfl_telling::{LeftRow, LogRow, NightRow, RefusalRow, SliceRow, Stands, log_line};
 use std::alloc::{AllocError, Global};
 use std::cell::Cell;
@@ -145,12 +146,12 @@ fn lines_of(alloc: Global, account: Account<'_>) -> Result<String, AllocError> {
 /// Appends them to the log.
 fn append<R>(
     alloc: Global,
-    folder: &mut FsState<R>,
+    folder: &mut StateDir<'_, R>,
     state: &str,
     account: Account<'_>,
 ) -> Result<(), Failure>
 where
-    R: Files<File = File> + AllocGlobal + Clone + Drop,
+    R: Files<File = File> + AllocGlobal,
 {
     let lines = lines_of(alloc, account)?;
     match folder.append_log(lines.as_bytes()) {
@@ -162,13 +163,13 @@ where
 /// Appends the lines on a night to the log. `lost` is why a line before them was not written.
 fn append_all<R>(
     alloc: Global,
-    folder: &mut FsState<R>,
+    folder: &mut StateDir<'_, R>,
     state: &str,
     account: Account<'_>,
     lost: Option<Reason>,
 ) -> Result<(), Failure>
 where
-    R: Files<File = File> + AllocGlobal + Clone + Drop,
+    R: Files<File = File> + AllocGlobal,
 {
     append(alloc, folder, state, account)?;
     match lost {
@@ -181,14 +182,14 @@ where
 /// could not be while the night was under way, is said, and makes the status 3 at least.
 pub(crate) fn log_night<R, F>(
     rt: &R,
-    folder: &mut FsState<F>,
+    folder: &mut StateDir<'_, F>,
     state: &str,
     account: Account<'_>,
     lost: Option<Reason>,
 ) -> u8
 where
     R: AllocGlobal + Eprint,
-    F: Files<File = File> + AllocGlobal + Clone + Drop,
+    F: Files<File = File> + AllocGlobal,
 {
     match append_all(rt.alloc(), folder, state, account, lost) {
         Ok(()) => account.row.status,

@@ -1,7 +1,8 @@
 //! A state folder whose checkpoints are noted as they are put.
 use crate::nights::logging::Journal;
-use crate::nights::stand::Standing;
-use ocfl_state::{Checkpoint, FolderTrouble, FsState, StateFolder, decode_checkpoint};
+use ocfl_closing::stand::Standing;
+use ocfl_closing::state_dir::StateDir;
+use ocfl_state::{Checkpoint, FolderTrouble, StateFolder, decode_checkpoint};
 use std::alloc::Global;
 use std::cell::Cell;
 use std::fs::File;
@@ -14,7 +15,7 @@ use std::time::Clock;
 #[derive(Drop)]
 pub(crate) struct Noting<'a, R: Files<File = File> + AllocGlobal> {
     pub(crate) alloc: Global,
-    pub(crate) folder: FsState<&'a R>,
+    pub(crate) folder: StateDir<'a, R>,
     pub(crate) now: Rc<Cell<Standing>>,
     pub(crate) journal: Journal<'a, R>,
 }
@@ -49,40 +50,40 @@ impl<R: Files<File = File> + AllocGlobal + Clock> StateFolder for Noting<'_, R> 
     ghost only_now = { λ told folder c left. tt };
 
     fn checkpoint(&mut self) -> Result<Option<Vec<u8>>, FolderTrouble> {
-        self.folder.checkpoint()
+        self.folder.folder.checkpoint()
     }
 
     fn put_checkpoint(&mut self, bytes: &[u8]) -> Result<(), FolderTrouble> {
-        self.folder.put_checkpoint(bytes)?;
+        self.folder.folder.put_checkpoint(bytes)?;
         self.note(bytes);
         Ok(())
     }
 
     fn length(&mut self) -> Result<u64, FolderTrouble> {
-        self.folder.length()
+        self.folder.folder.length()
     }
 
     fn read(&mut self, start: u64, buffer: &mut [u8]) -> Result<usize, FolderTrouble> {
-        self.folder.read(start, buffer)
+        self.folder.folder.read(start, buffer)
     }
 
     fn append(&mut self, bytes: &[u8]) -> Result<(), FolderTrouble> {
-        self.folder.append(bytes)
+        self.folder.folder.append(bytes)
     }
 
     fn cut(&mut self, most: u64) -> Result<(), FolderTrouble> {
-        self.folder.cut(most)
+        self.folder.folder.cut(most)
     }
 
     fn sync(&mut self) -> Result<(), FolderTrouble> {
-        self.folder.sync()
+        self.folder.folder.sync()
     }
 
     fn has_closed(&mut self, cycle: u64) -> Result<bool, FolderTrouble> {
-        self.folder.has_closed(cycle)
+        self.folder.folder.has_closed(cycle)
     }
 
     fn close(&mut self, cycle: u64, whole: bool) -> Result<(), FolderTrouble> {
-        self.folder.close(cycle, whole)
+        self.folder.folder.close(cycle, whole)
     }
 }

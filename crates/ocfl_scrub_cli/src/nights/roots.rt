@@ -1,7 +1,7 @@
 //! Which storage root a night reads, and which part of it.
 
-use crate::nights::failing::Failure;
 use crate::scope::read_scope;
+use ocfl_closing::failing::Failure;
 use ocfl_cursor::PartEnds;
 use ocfl_line::Chosen;
 use ocfl_scope::Scope;

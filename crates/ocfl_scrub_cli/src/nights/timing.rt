@@ -1,12 +1,13 @@
 //! The clock of a night, and when the night ends.
 ghost use Rattle.std.specs.Prelude.{[], false};
 
-use crate::nights::failing::Failure;
 use crate::nights::logging::Journal;
-use crate::nights::stand::Standing;
 use jiff::Error;
 use jiff::tz::{SystemTimeZone, TimeZone, TimeZoneDatabase};
 use ocfl_clock::next_time;
+use ocfl_closing::failing::Failure;
+use ocfl_closing::stand::Standing;
+use ocfl_closing::timing::seconds_now;
 use ocfl_cursor::{Budget, FileLimit, Limits, Meter};
 use ocfl_line::Until;
 use ocfl_night::Made;
@@ -17,22 +18,10 @@ use std::fs::{self, File};
 use std::io::ErrorKind;
 use std::rc::Rc;
 use std::rt::{Env, Files};
-use std::time::{Clock, SystemTime};
+use std::time::Clock;
 
 /// The most that any budget allows: 2^62.
 const MOST_COST: u64 = 1 << 62;
-
-/// The time by the system's clock, in seconds since the epoch. A clock that cannot be read is past
-/// every end.
-pub(crate) fn seconds_now<R: Clock>(rt: &R) -> u64 {
-    let Ok(now) = SystemTime::now(rt) else {
-        return u64::MAX;
-    };
-    match now.duration_since(SystemTime::UNIX_EPOCH) {
-        Ok(since) => since.as_secs(),
-        Err(_) => u64::MAX,
-    }
-}
 
 /// Whether a budget is spent by this cost.
 pub(crate) fn is_spent_by(budget: Budget, cost: u64) -> bool {

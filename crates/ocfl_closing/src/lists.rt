@@ -1,6 +1,6 @@
 //! The lists that a night is given: of known findings, and of the objects that must be there.
 
-use crate::nights::failing::Failure;
+use crate::failing::Failure;
 use crate::saying::STOPPED;
 use ocfl_compare::{ListStop, read_list};
 use ocfl_telling::{Known, KnownStop, Shown, read_known};
@@ -12,7 +12,7 @@ use std::io::BufReader;
 use std::rt::Files;
 
 /// The known findings that a file lists, and none without a file.
-pub(crate) fn find_known<R>(rt: &R, file: Option<&str>) -> Result<Known, Failure>
+pub fn find_known<R>(rt: &R, file: Option<&str>) -> Result<Known, Failure>
 where
     R: Files + AllocGlobal,
 {
@@ -36,7 +36,7 @@ fn unread<D: Display>(alloc: Global, file: &str, stop: &D) -> Result<Failure, Al
 }
 
 /// Refuses a list that cannot be read, so that this is not found out at the end of a cycle.
-pub(crate) fn refuse_missing<R>(rt: &R, file: Option<&str>) -> Result<(), Failure>
+pub fn refuse_missing<R>(rt: &R, file: Option<&str>) -> Result<(), Failure>
 where
     R: Files + AllocGlobal,
 {
@@ -48,7 +48,7 @@ where
 }
 
 /// The objects that a file lists.
-pub(crate) fn read_expected<R>(rt: &R, file: &str) -> Result<Vec<Place>, Failure>
+pub fn read_expected<R>(rt: &R, file: &str) -> Result<Vec<Place>, Failure>
 where
     R: Files + AllocGlobal,
 {

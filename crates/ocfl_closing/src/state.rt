@@ -1,12 +1,11 @@
 //! Opening the state folder of a night.
 
+use crate::failing::Failure;
 use crate::files::{lies_inside, path_of};
-use crate::nights::failing::Failure;
-use crate::nights::making::is_there;
-use crate::nights::stand::Standing;
-use ocfl_state::{
-    FolderTrouble, FsState, Reason, StateFile, StateFolder, StateStop, decode_checkpoint,
-};
+use crate::making::is_there;
+use crate::stand::Standing;
+use crate::state_dir::StateDir;
+use ocfl_state::{FolderTrouble, Reason, StateFile, StateStop, decode_checkpoint};
 use ocfl_telling::{RefusalMessage, Shown, refusal_text};
 use std::alloc::{AllocError, Global};
 use std::fs::File;
@@ -18,7 +17,7 @@ use std::rt::Files;
 const HELD: u8 = 75;
 
 /// Refuses a state folder in the storage root, and a storage root in the state folder.
-pub(crate) fn refuse_overlap<R>(rt: &R, state: &str, root: &str) -> Result<(), Failure>
+pub fn refuse_overlap<R>(rt: &R, state: &str, root: &str) -> Result<(), Failure>
 where
     R: Files + AllocGlobal,
 {
@@ -58,19 +57,19 @@ fn refuse_parts<R: Files + AllocGlobal>(rt: &R, state: &str) -> Result<(), Failu
 }
 
 /// Opens the state folder, and holds its lock.
-pub(crate) fn open_state<'a, R>(
+pub fn open_state<'a, R>(
     rt: &'a R,
     state: &str,
     root: &str,
     create: bool,
-) -> Result<FsState<&'a R>, Failure>
+) -> Result<StateDir<'a, R>, Failure>
 where
     R: Files<File = File> + AllocGlobal,
 {
     if create {
         refuse_parts(rt, state)?;
     }
-    match FsState::open(rt, state, create) {
+    match StateDir::open(rt, state, create) {
         Ok(folder) => Ok(folder),
         Err(stop) => Err(unopened(rt.alloc(), state, root, stop)?),
     }
@@ -122,7 +121,7 @@ fn failed(alloc: Global, state: &str, reason: Reason) -> Result<Failure, AllocEr
 }
 
 /// That a call on the folder failed in a night.
-pub(crate) fn folder_failure(
+pub fn folder_failure(
     alloc: Global,
     state: &str,
     reason: Option<Reason>,
@@ -135,10 +134,7 @@ pub(crate) fn folder_failure(
 }
 
 /// The system's words on the last call on the folder that failed, with the file.
-pub(crate) fn words_of(
-    alloc: Global,
-    reason: Option<Reason>,
-) -> Result<Option<String>, AllocError> {
+pub fn words_of(alloc: Global, reason: Option<Reason>) -> Result<Option<String>, AllocError> {
     match reason {
         Some(reason) => Ok(Some(format!(in alloc; "{}: {}", reason.file, reason.error)?)),
         None => Ok(None),
@@ -147,7 +143,10 @@ pub(crate) fn words_of(
 
 /// Where the nights over a folder stand. Of a checkpoint that cannot be read the night itself says
 /// why.
-pub(crate) fn read_standing<S: StateFolder>(alloc: Global, folder: &mut S) -> Standing {
+pub fn read_standing<R>(alloc: Global, folder: &mut StateDir<'_, R>) -> Standing
+where
+    R: Files<File = File> + AllocGlobal,
+{
     match folder.checkpoint() {
         Ok(Some(bytes)) => match decode_checkpoint(alloc, &bytes) {
             Ok(checkpoint) => Standing::of(&checkpoint),

@@ -3,19 +3,20 @@
 //! The list of what is gone is put in its place once all was said. While it is not there, the next
 //! night compares again.
 
-use crate::nights::failing::Failure;
-use crate::nights::finding::{Findings, find_lines};
-use crate::nights::kept::is_as_closed;
-use crate::nights::lists::read_expected;
-use crate::nights::making::{file_failure, is_there, make_file, put_made};
-use crate::nights::rows::{Changes, Rows};
-use crate::nights::state::folder_failure;
-use crate::nights::telling::Names;
-use crate::nights::timing::seconds_now;
+use crate::failing::Failure;
+use crate::finding::{Findings, find_lines};
+use crate::kept::is_as_closed;
+use crate::lists::read_expected;
+use crate::making::{file_failure, is_there, make_file, put_made};
+use crate::rows::{Changes, Rows};
 use crate::saying::STOPPED;
+use crate::state::folder_failure;
+use crate::state_dir::StateDir;
+use crate::telling::Names;
+use crate::timing::seconds_now;
 use ocfl_compare::{CompareStop, compare, find_expected};
 use ocfl_report::{Line, write_all_of};
-use ocfl_state::{FsState, OpenReport, StateFile};
+use ocfl_state::{OpenReport, StateFile};
 use ocfl_telling::{Closing, ClosingRow, Known, LogRow, Shown, closing_text, log_line};
 use std::alloc::{AllocError, Global};
 use std::fs::File;
@@ -28,25 +29,37 @@ const MOST_BACK: u64 = 1_000;
 
 /// With what closings are told.
 #[derive(Drop)]
-pub(crate) struct Closings<'a, 'n, R: Files<File = File> + AllocGlobal> {
-    pub(crate) rt: &'a R,
-    pub(crate) folder: FsState<&'a R>,
-    pub(crate) names: Names<'n>,
-    pub(crate) known: &'n Known,
+pub struct Closings<'a, 'n, R: Files<File = File> + AllocGlobal> {
+    pub rt: &'a R,
+    pub folder: StateDir<'a, R>,
+    pub names: Names<'n>,
+    pub known: &'n Known,
     /// The file of the objects that must be there.
-    pub(crate) expected: Option<&'n str>,
+    pub expected: Option<&'n str>,
     /// When the night began.
-    pub(crate) night: u64,
+    pub night: u64,
 }
 
 /// The paths of the files of a closed cycle.
-#[derive(Debug, Drop)]
+#[derive(Debug)]
 struct Paths {
     report: String,
     earlier: String,
     list: String,
     /// The list while it is written.
     new_list: String,
+}
+
+/// Written by hand, so that to let it go is one call wherever that happens.
+impl Drop for Paths {
+    fn drop(self) {
+        let Paths {
+            report: _report,
+            earlier: _earlier,
+            list: _list,
+            new_list: _new_list,
+        } = self;
+    }
 }
 
 /// The closed report of a cycle, and the last whole one before it.
@@ -94,12 +107,23 @@ fn list_path(alloc: Global, state: &str, cycle: u64) -> Result<String, AllocErro
 }
 
 /// What a closed cycle found, in its parts.
-#[derive(Debug, Drop)]
+#[derive(Debug)]
 struct Account {
     changes: Changes,
     /// How many findings the report has, and the whole lines of those that are new.
     findings: Findings,
     repaired: Vec<Line>,
+}
+
+/// Written by hand, so that to let it go is one call wherever that happens.
+impl Drop for Account {
+    fn drop(self) {
+        let Account {
+            changes: _changes,
+            findings: _findings,
+            repaired: _repaired,
+        } = self;
+    }
 }
 
 impl Account {
@@ -362,7 +386,7 @@ impl<R: Files<File = File> + AllocGlobal + Clock> Closings<'_, '_, R> {
     }
 
     /// The first of the cycles up to this one whose closings were not said, one after the other.
-    pub(crate) fn first_untold(&mut self, cycle: u64) -> u64 {
+    pub fn first_untold(&mut self, cycle: u64) -> u64 {
         let mut first = cycle;
         for _ in 0..MOST_BACK {
             if first < 2 || !self.is_untold(first - 1) {
@@ -375,7 +399,7 @@ impl<R: Files<File = File> + AllocGlobal + Clock> Closings<'_, '_, R> {
 
     /// Says what a closed cycle found, unless that was said, and gives the status. `cycle` is 0 if
     /// no cycle was closed, and `left` is how many branches were left out of it.
-    pub(crate) fn tell<W>(&mut self, cycle: u64, left: u64, out: &mut W) -> Result<u8, Failure>
+    pub fn tell<W>(&mut self, cycle: u64, left: u64, out: &mut W) -> Result<u8, Failure>
     where
         W: Write,
     {

@@ -4,13 +4,13 @@ use std::alloc::Global;
 use std::io::{self, BufRead};
 
 /// What takes the lines of a report.
-pub(crate) trait TakeLine {
+pub trait TakeLine {
     /// Takes the next line, with its line feed. Gives false if it wants no more.
     fn take_line(&mut self, alloc: Global, text: &[u8]) -> io::Result<bool>;
 }
 
 /// Gives the lines of a report to what takes them. Gives false if that did not want all of them.
-pub(crate) fn take_lines<B: BufRead, T: TakeLine>(
+pub fn take_lines<B: BufRead, T: TakeLine>(
     alloc: Global,
     report: &mut B,
     taker: &mut T,

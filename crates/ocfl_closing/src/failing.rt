@@ -5,15 +5,15 @@ use std::alloc::{AllocError, AllocFailed};
 
 /// Why a step of a night failed: what is said of it, and the exit status.
 #[derive(Debug, Drop)]
-pub(crate) struct Failure {
-    pub(crate) status: u8,
+pub struct Failure {
+    pub status: u8,
     /// What is said, with its line feed. `None` if memory was refused.
-    pub(crate) text: Option<String>,
+    pub text: Option<String>,
 }
 
 impl Failure {
     /// A command line that cannot be followed.
-    pub(crate) fn usage(text: String) -> Failure {
+    pub fn usage(text: String) -> Failure {
         Failure {
             status: USAGE,
             text: Some(text),
@@ -21,7 +21,7 @@ impl Failure {
     }
 
     /// Something else that failed.
-    pub(crate) fn stopped(text: String) -> Failure {
+    pub fn stopped(text: String) -> Failure {
         Failure {
             status: STOPPED,
             text: Some(text),
@@ -49,12 +49,12 @@ impl<T: Drop> From<AllocFailed<T>> for Failure {
 
 /// Says a text that has its line feed on standard error. A standard error that cannot be written
 /// changes nothing.
-pub(crate) fn say_text<R: Eprint>(rt: &R, text: &str) {
+pub fn say_text<R: Eprint>(rt: &R, text: &str) {
     let _ = eprint!(rt; "ocfl-scrub: {text}");
 }
 
 /// Says why a step failed, and gives the status.
-pub(crate) fn say_failure<R: Eprint>(rt: &R, failure: &Failure) -> u8 {
+pub fn say_failure<R: Eprint>(rt: &R, failure: &Failure) -> u8 {
     match &failure.text {
         Some(text) => {
             say_text(rt, text.as_str());

@@ -1,7 +1,7 @@
 //! The whole lines of findings that are named in a closing.
 
-use crate::nights::reading::{TakeLine, take_lines};
-use crate::nights::telling::{CLEAN, error_of};
+use crate::reading::{TakeLine, take_lines};
+use crate::telling::{CLEAN, error_of};
 use ocfl_report::{Code, Line, read_line};
 use ocfl_telling::{Known, SHOWN};
 use std::alloc::{AllocError, Global};
@@ -9,20 +9,20 @@ use std::io::{self, BufRead};
 
 /// What a report has of findings that are named.
 #[derive(Debug, Drop)]
-pub(crate) struct Findings {
+pub struct Findings {
     /// How many findings there are of all.
-    pub(crate) count: u64,
+    pub count: u64,
     /// How many of those that are named were found.
     matched: usize,
     /// How many of these are known.
-    pub(crate) known: u64,
+    pub known: u64,
     /// The first of the others, as many as are shown.
-    pub(crate) lines: Vec<Line>,
+    pub lines: Vec<Line>,
 }
 
 impl Findings {
     /// None.
-    pub(crate) fn new(alloc: Global) -> Findings {
+    pub fn new(alloc: Global) -> Findings {
         Findings {
             count: 0,
             matched: 0,
@@ -87,7 +87,7 @@ impl TakeLine for Search<'_> {
 
 /// Looks for findings in a report. They are named by their places and codes, in its order; under
 /// the code of no finding any one of the place is meant.
-pub(crate) fn find_lines<'a, B: BufRead>(
+pub fn find_lines<'a, B: BufRead>(
     alloc: Global,
     report: &mut B,
     named: &'a [Line],

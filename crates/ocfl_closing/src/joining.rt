@@ -1,18 +1,18 @@
 //! Joining the closed reports of all parts of a storage root, of one cycle.
 
-use crate::nights::failing::{Failure, say_failure};
-use crate::nights::kept::is_as_closed;
-use crate::nights::making::{file_failure, is_there, make_file, make_folder, put_made};
-use crate::nights::sound::is_sound;
-use crate::nights::stand::Standing;
-use crate::nights::state::{folder_failure, open_state};
-use crate::saying::{NotDone, STOPPED};
+use crate::failing::{Failure, say_failure};
+use crate::kept::is_as_closed;
+use crate::making::{file_failure, is_there, make_file, make_folder, put_made};
+use crate::saying::STOPPED;
+use crate::sound::is_sound;
+use crate::stand::Standing;
+use crate::state::{folder_failure, open_state};
 use ocfl_compare::{ClosedPart, MissingPart, find_missing, join_part};
 use ocfl_cursor::{PartEnds, Refused};
 use ocfl_line::JoinAsked;
 use ocfl_parts::{PartsStop, Separators, read_parts};
 use ocfl_scope::ScopeStop;
-use ocfl_state::{Checkpoint, OpenReport, StateFile, StateFolder, decode_checkpoint};
+use ocfl_state::{Checkpoint, OpenReport, RootIdentity, StateFile, decode_checkpoint};
 use ocfl_telling::Shown;
 use ocfl_tree::Place;
 use std::alloc::{AllocError, Global};
@@ -43,7 +43,7 @@ fn read_separators<R: Files + AllocGlobal>(rt: &R, file: &str) -> Result<Separat
         Ok(separators) => Ok(separators),
         Err(PartsStop::Memory) => Err(Failure::from(AllocError)),
         Err(stop) => {
-            let stop = NotDone::Scope(ScopeStop::Parts(stop));
+            let stop = ScopeStop::Parts(stop);
             Err(Failure {
                 status: stop.status(),
                 text: Some(format!(in rt.alloc(); "{stop}\n")?),
@@ -57,25 +57,44 @@ fn path_of(alloc: Global, state: &str, number: usize) -> Result<String, AllocErr
     format!(in alloc; "{state}/part-{number:06}")
 }
 
-/// What a checkpoint says of its part.
-fn facts_of(alloc: Global, checkpoint: Checkpoint) -> Result<Facts, AllocError> {
-    let standing = Standing::of(&checkpoint);
-    let Checkpoint {
-        root: identity,
-        part,
-        ..
-    } = checkpoint;
+/// Which storage root it is of.
+fn root_text(alloc: Global, identity: &RootIdentity) -> Result<Vec<u8>, AllocError> {
     let mut root = Vec::from_slice(alloc, identity.path.path().as_bytes())?;
     root.push(b'\n')?;
     root.extend_from_slice(&identity.declared)?;
-    let (from, below) = match part {
-        Some(PartEnds { from, below }) => (from, below),
-        None => (None, None),
-    };
+    Ok(root)
+}
+
+/// The place of an end, if there is one.
+fn place_of(end: &Option<Place>) -> Result<Option<Place>, AllocError> {
+    match end {
+        Some(place) => Ok(Some(place.try_clone()?)),
+        None => Ok(None),
+    }
+}
+
+/// The ends of a part; none of a whole root.
+fn ends_of(part: &Option<PartEnds>) -> Result<PartEnds, AllocError> {
+    match part {
+        Some(ends) => Ok(PartEnds {
+            from: place_of(&ends.from)?,
+            below: place_of(&ends.below)?,
+        }),
+        None => Ok(PartEnds {
+            from: None,
+            below: None,
+        }),
+    }
+}
+
+/// What a checkpoint says of its part.
+fn facts_of(alloc: Global, checkpoint: &Checkpoint) -> Result<Facts, AllocError> {
+    let standing = Standing::of(checkpoint);
+    let ends = ends_of(&checkpoint.part)?;
     Ok(Facts {
-        root,
-        from,
-        below,
+        root: root_text(alloc, &checkpoint.root)?,
+        from: ends.from,
+        below: ends.below,
         last: standing.last_closed(),
         has_lines: standing.is_closed && standing.spent > 0,
     })
@@ -89,24 +108,37 @@ fn refused(alloc: Global, path: &str, why: Refused) -> Result<Failure, AllocErro
     Ok(Failure::stopped(format!(in alloc; "{}/checkpoint: {why}\n", Shown(path))?))
 }
 
+/// The bytes of the checkpoint in the state folder of a part. `None` if there is none.
+fn read_bytes<R>(rt: &R, path: &str) -> Result<Option<Vec<u8>>, Failure>
+where
+    R: Files<File = File> + AllocGlobal,
+{
+    let mut folder = open_state(rt, path, path, false)?;
+    match folder.checkpoint() {
+        Ok(bytes) => Ok(bytes),
+        Err(_) => Err(folder_failure(rt.alloc(), path, folder.reason())?),
+    }
+}
+
+/// What the bytes of a checkpoint say of its part.
+fn facts_in(alloc: Global, path: &str, bytes: &[u8]) -> Result<Facts, Failure> {
+    match decode_checkpoint(alloc, bytes) {
+        Ok(checkpoint) => Ok(facts_of(alloc, &checkpoint)?),
+        Err(why) => Err(refused(alloc, path, why)?),
+    }
+}
+
 /// What the state folder of a part says. `None` if there is no such folder yet.
 fn read_facts<R>(rt: &R, path: &str) -> Result<Option<Facts>, Failure>
 where
     R: Files<File = File> + AllocGlobal,
 {
-    let alloc = rt.alloc();
     if !is_there(rt, path) {
         return Ok(None);
     }
-    let mut folder = open_state(rt, path, path, false)?;
-    let bytes = match folder.checkpoint() {
-        Ok(Some(bytes)) => bytes,
-        Ok(None) => return Ok(None),
-        Err(_) => return Err(folder_failure(alloc, path, folder.reason())?),
-    };
-    match decode_checkpoint(alloc, &bytes) {
-        Ok(checkpoint) => Ok(Some(facts_of(alloc, checkpoint)?)),
-        Err(why) => Err(refused(alloc, path, why)?),
+    match read_bytes(rt, path)? {
+        Some(bytes) => Ok(Some(facts_in(rt.alloc(), path, &bytes)?)),
+        None => Ok(None),
     }
 }
 
@@ -437,7 +469,7 @@ where
 
 /// Joins the reports of all parts of the last cycle that all of them have closed, and gives the
 /// exit status. Each part whose report cannot be joined is named.
-pub(crate) fn join_parts<R>(rt: &R, asked: &JoinAsked) -> u8
+pub fn join_parts<R>(rt: &R, asked: &JoinAsked) -> u8
 where
     R: Files<File = File> + AllocGlobal + Eprint,
 {

@@ -1,10 +1,11 @@
 //! Whether a closed report is as it was when it was closed.
 
-use crate::nights::failing::Failure;
-use crate::nights::making::file_failure;
-use crate::nights::state::folder_failure;
+use crate::failing::Failure;
+use crate::making::file_failure;
+use crate::state::folder_failure;
+use crate::state_dir::StateDir;
 use ocfl_cursor::Refused;
-use ocfl_state::{FsState, OpenReport, ReportDigests, ReportMark, StateFile, decode_checkpoint};
+use ocfl_state::{OpenReport, ReportDigests, ReportMark, StateFile, decode_checkpoint};
 use std::alloc::{AllocError, Global};
 use std::fs::File;
 use std::io::{self, Read};
@@ -31,12 +32,12 @@ fn digests_of<R: Read>(reader: &mut R) -> io::Result<ReportDigests> {
 /// `Some(None)` where what was kept is no checkpoint any more.
 fn mark_of<R>(
     alloc: Global,
-    folder: &mut FsState<R>,
+    folder: &mut StateDir<'_, R>,
     state: &str,
     cycle: u64,
 ) -> Result<Option<Option<ReportMark>>, Failure>
 where
-    R: Files<File = File> + AllocGlobal + Clone + Drop,
+    R: Files<File = File> + AllocGlobal,
 {
     let bytes = match folder.kept_checkpoint(cycle) {
         Ok(Some(bytes)) => bytes,
@@ -69,14 +70,14 @@ fn has_mark(
 
 /// Whether the whole report of a cycle has the length, the lines and the digests of the checkpoint
 /// with which it was closed. One that is not there counts so, and one without a kept checkpoint.
-pub(crate) fn is_as_closed<R>(
+pub fn is_as_closed<R>(
     alloc: Global,
-    folder: &mut FsState<R>,
+    folder: &mut StateDir<'_, R>,
     state: &str,
     cycle: u64,
 ) -> Result<bool, Failure>
 where
-    R: Files<File = File> + AllocGlobal + Clone + Drop,
+    R: Files<File = File> + AllocGlobal,
 {
     let Some(mark) = mark_of(alloc, folder, state, cycle)? else {
         return Ok(true);

@@ -1,6 +1,6 @@
 //! The output of a night: the bytes of its report come in, and what was found goes out.
 
-use crate::nights::stand::Standing;
+use crate::stand::Standing;
 use ocfl_report::{TextStop, read_line, write_all_of};
 use ocfl_state::StateFile;
 use ocfl_telling::{Found, Gravest, Known, Night, night_text};
@@ -11,17 +11,17 @@ use std::rc::Rc;
 
 /// How what a night speaks of is called.
 #[derive(Clone, Copy)]
-pub(crate) struct Names<'a> {
+pub struct Names<'a> {
     /// The path of the storage root.
-    pub(crate) root: &'a str,
+    pub root: &'a str,
     /// The number of the part, if only a part is read.
-    pub(crate) part: Option<u64>,
+    pub part: Option<u64>,
     /// The path of the state folder.
-    pub(crate) state: &'a str,
+    pub state: &'a str,
 }
 
 /// How the lines of a report begin that find nothing.
-pub(crate) const CLEAN: &[u8] = b"ok\t";
+pub const CLEAN: &[u8] = b"ok\t";
 
 /// An output that takes the bytes of a report, and says at each flush what was found in them since
 /// the one before, without what is known.
@@ -29,7 +29,7 @@ pub(crate) const CLEAN: &[u8] = b"ok\t";
 /// A flush fails if not all of it went out. Lines that are no report lines are left out and
 /// counted. After a failure nothing more is taken.
 #[derive(Drop)]
-pub(crate) struct Teller<'n, W: Drop> {
+pub struct Teller<'n, W: Drop> {
     alloc: Global,
     names: Names<'n>,
     known: &'n Known,
@@ -48,7 +48,7 @@ pub(crate) struct Teller<'n, W: Drop> {
 
 impl<'n, W: Write + Drop> Teller<'n, W> {
     /// What it says is of the runs after where the nights stand now.
-    pub(crate) fn new(
+    pub fn new(
         alloc: Global,
         names: Names<'n>,
         known: &'n Known,
@@ -70,12 +70,12 @@ impl<'n, W: Write + Drop> Teller<'n, W> {
     }
 
     /// How many findings were said.
-    pub(crate) fn findings(&self) -> u64 {
+    pub fn findings(&self) -> u64 {
         self.findings
     }
 
     /// How many lines were no report lines.
-    pub(crate) fn broken(&self) -> u64 {
+    pub fn broken(&self) -> u64 {
         self.broken
     }
 
@@ -161,7 +161,7 @@ impl<W: Write + Drop> Write for Teller<'_, W> {
 }
 
 /// The error of a reader of reports.
-pub(crate) fn error_of(stop: TextStop) -> io::Error {
+pub fn error_of(stop: TextStop) -> io::Error {
     match stop {
         TextStop::Bad => io::Error::from(ErrorKind::InvalidData),
         TextStop::Memory => io::Error::from(ErrorKind::OutOfMemory),

@@ -6,7 +6,7 @@ use std::path::PathBuf;
 use std::rt::Files;
 
 /// The folder that a file is in.
-pub(crate) fn folder_of(file: &str) -> &str {
+pub fn folder_of(file: &str) -> &str {
     match file.rsplit_once('/') {
         Some(("", _)) => "/",
         Some((folder, _)) => folder,
@@ -15,7 +15,7 @@ pub(crate) fn folder_of(file: &str) -> &str {
 }
 
 /// A folder's own path. `None` if it cannot be resolved.
-pub(crate) fn path_of<R: Files + AllocGlobal>(rt: &R, folder: &str) -> io::Result<Option<PathBuf>> {
+pub fn path_of<R: Files + AllocGlobal>(rt: &R, folder: &str) -> io::Result<Option<PathBuf>> {
     match fs::canonicalize(rt, folder) {
         Ok(path) => Ok(Some(path)),
         Err(error) if error.kind() == io::ErrorKind::OutOfMemory => Err(error),
@@ -25,7 +25,7 @@ pub(crate) fn path_of<R: Files + AllocGlobal>(rt: &R, folder: &str) -> io::Resul
 
 /// Whether a file is in a storage root, or would be. If one of the two folders cannot be
 /// resolved, it is not.
-pub(crate) fn lies_inside<R>(rt: &R, file: &str, root: &str) -> io::Result<bool>
+pub fn lies_inside<R>(rt: &R, file: &str, root: &str) -> io::Result<bool>
 where
     R: Files + AllocGlobal,
 {
@@ -39,7 +39,7 @@ where
 }
 
 /// Opens a file, and gives `None` if there is no such file.
-pub(crate) fn open_if_there<R: Files>(rt: &R, file: &str) -> io::Result<Option<R::File>> {
+pub fn open_if_there<R: Files>(rt: &R, file: &str) -> io::Result<Option<R::File>> {
     match File::open(rt, file) {
         Ok(opened) => Ok(Some(opened)),
         Err(error) if error.kind() == io::ErrorKind::NotFound => Ok(None),
@@ -57,7 +57,7 @@ fn write_synced<R: Files>(rt: &R, file: &str, text: &[u8]) -> io::Result<()> {
 
 /// Puts a text in the place of a file: it is written beside it, synced and renamed over it, so that
 /// the file is whole at each moment.
-pub(crate) fn put_in_place<R>(rt: &R, file: &str, text: &[u8]) -> io::Result<()>
+pub fn put_in_place<R>(rt: &R, file: &str, text: &[u8]) -> io::Result<()>
 where
     R: Files + AllocGlobal,
 {

@@ -11,22 +11,36 @@ use std::io::{self, ErrorKind, Write};
 const MOST_NAMED: usize = 10_000;
 
 /// What changed. Of each list there are the first, and how many there are.
-#[derive(Debug, Drop)]
-pub(crate) struct Changes {
+#[derive(Debug)]
+pub struct Changes {
     /// Findings that are new, by their codes and places alone, up to 10,000.
-    pub(crate) appeared: Vec<Line>,
-    pub(crate) appeared_count: u64,
+    pub appeared: Vec<Line>,
+    pub appeared_count: u64,
     /// Places that are repaired, as lines without a finding, as many as are shown.
-    pub(crate) repaired: Vec<Line>,
-    pub(crate) repaired_count: u64,
+    pub repaired: Vec<Line>,
+    pub repaired_count: u64,
     /// What has no line any more, as many as are shown.
-    pub(crate) gone: Vec<Gone>,
-    pub(crate) gone_count: u64,
+    pub gone: Vec<Gone>,
+    pub gone_count: u64,
+}
+
+/// Written by hand, so that to let it go is one call wherever that happens.
+impl Drop for Changes {
+    fn drop(self) {
+        let Changes {
+            appeared: _appeared,
+            appeared_count: _appeared_count,
+            repaired: _repaired,
+            repaired_count: _repaired_count,
+            gone: _gone,
+            gone_count: _gone_count,
+        } = self;
+    }
 }
 
 impl Changes {
     /// None.
-    pub(crate) fn new(alloc: Global) -> Changes {
+    pub fn new(alloc: Global) -> Changes {
         Changes {
             appeared: Vec::new(alloc),
             appeared_count: 0,
@@ -41,12 +55,12 @@ impl Changes {
 /// An output that takes the rows of a comparison, each place's rows in one piece, and writes those
 /// of what is gone into a list.
 #[derive(Drop)]
-pub(crate) struct Rows<'a, W: Drop> {
-    pub(crate) alloc: Global,
+pub struct Rows<'a, W: Drop> {
+    pub alloc: Global,
     /// New findings that are known do not count.
-    pub(crate) known: &'a Known,
-    pub(crate) changes: Changes,
-    pub(crate) list: W,
+    pub known: &'a Known,
+    pub changes: Changes,
+    pub list: W,
 }
 
 /// The error of a row that cannot be read.

@@ -1,6 +1,6 @@
 //! Whether a report can be that of a part.
 
-use crate::nights::reading::{TakeLine, take_lines};
+use crate::reading::{TakeLine, take_lines};
 use ocfl_compare::ClosedPart;
 use ocfl_report::{TextStop, read_line};
 use ocfl_tree::Place;
@@ -50,11 +50,7 @@ impl TakeLine for PartLines<'_> {
 
 /// Whether all lines are report lines, none of which comes before the one above it, and are in the
 /// part.
-pub(crate) fn is_sound<B: BufRead>(
-    alloc: Global,
-    report: &mut B,
-    part: &ClosedPart,
-) -> io::Result<bool> {
+pub fn is_sound<B: BufRead>(alloc: Global, report: &mut B, part: &ClosedPart) -> io::Result<bool> {
     let last = Place::root(alloc);
     take_lines(alloc, report, &mut PartLines { part, last })
 }

@@ -5,26 +5,26 @@ use ocfl_state::{Checkpoint, Phase};
 
 /// Where the nights over a folder stand.
 #[derive(Clone, Copy, Debug)]
-pub(crate) struct Standing {
+pub struct Standing {
     /// The number of the cycle.
-    pub(crate) cycle: u64,
+    pub cycle: u64,
     /// How many runs the cycle has had.
-    pub(crate) runs: u64,
+    pub runs: u64,
     /// What they have spent, at most 2^64 - 1.
-    pub(crate) spent: u64,
+    pub spent: u64,
     /// Whether the cycle has ended.
-    pub(crate) has_ended: bool,
+    pub has_ended: bool,
     /// Whether its report is closed too.
-    pub(crate) is_closed: bool,
+    pub is_closed: bool,
     /// Whether its report is closed as whole: nothing of it was lost, and no branch was left out.
-    pub(crate) is_whole: bool,
+    pub is_whole: bool,
     /// How many branches were left out of it.
-    pub(crate) left: u64,
+    pub left: u64,
 }
 
 impl Standing {
     /// Before the first night.
-    pub(crate) fn first() -> Standing {
+    pub fn first() -> Standing {
         Standing {
             cycle: 1,
             runs: 0,
@@ -37,7 +37,7 @@ impl Standing {
     }
 
     /// By a checkpoint.
-    pub(crate) fn of(checkpoint: &Checkpoint) -> Standing {
+    pub fn of(checkpoint: &Checkpoint) -> Standing {
         let cursor = &checkpoint.cursor;
         let has_ended = matches!(cursor.state(), State::Ended);
         Standing {
@@ -53,7 +53,7 @@ impl Standing {
 
     /// The same after what was noted before: the checkpoint that is put once a report is closed
     /// names no branch of that cycle any more.
-    pub(crate) fn noted_after(self, before: Standing) -> Standing {
+    pub fn noted_after(self, before: Standing) -> Standing {
         let left = if self.is_closed && self.cycle == before.cycle {
             before.left
         } else {
@@ -63,7 +63,7 @@ impl Standing {
     }
 
     /// Whether a branch is left out that was not when the nights stood there.
-    pub(crate) fn leaves_more_than(&self, before: Standing) -> bool {
+    pub fn leaves_more_than(&self, before: Standing) -> bool {
         let known = if self.cycle == before.cycle {
             before.left
         } else {
@@ -73,7 +73,7 @@ impl Standing {
     }
 
     /// The cycle whose report was closed last. 0 if none was.
-    pub(crate) fn last_closed(&self) -> u64 {
+    pub fn last_closed(&self) -> u64 {
         if self.is_closed {
             self.cycle
         } else {
@@ -82,7 +82,7 @@ impl Standing {
     }
 
     /// How many runs of the cycle `now` there were when the nights stood here.
-    pub(crate) fn runs_before(&self, now: Standing) -> u64 {
+    pub fn runs_before(&self, now: Standing) -> u64 {
         if now.cycle == self.cycle {
             self.runs
         } else {
@@ -91,7 +91,7 @@ impl Standing {
     }
 
     /// What was spent since the nights stood here. A night reads one cycle alone.
-    pub(crate) fn spent_until(&self, now: Standing) -> u64 {
+    pub fn spent_until(&self, now: Standing) -> u64 {
         if now.cycle == self.cycle {
             now.spent.saturating_sub(self.spent)
         } else {

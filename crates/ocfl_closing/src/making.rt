@@ -1,7 +1,7 @@
 //! Making files and folders beside those of a state folder.
 
+use crate::failing::Failure;
 use crate::files::folder_of;
-use crate::nights::failing::Failure;
 use ocfl_telling::Shown;
 use std::alloc::{AllocError, Global};
 use std::fs::{self, DirBuilder, File, OpenFile, OpenOptions};
@@ -16,11 +16,7 @@ const FILE_MODE: u32 = 0o640;
 const FOLDER_MODE: u32 = 0o750;
 
 /// That a call on a file failed.
-pub(crate) fn file_failure(
-    alloc: Global,
-    path: &str,
-    error: &io::Error,
-) -> Result<Failure, AllocError> {
+pub fn file_failure(alloc: Global, path: &str, error: &io::Error) -> Result<Failure, AllocError> {
     if error.kind() == io::ErrorKind::OutOfMemory {
         return Err(AllocError);
     }
@@ -28,7 +24,7 @@ pub(crate) fn file_failure(
 }
 
 /// Whether something is at a path.
-pub(crate) fn is_there<R: Files>(rt: &R, path: &str) -> bool {
+pub fn is_there<R: Files>(rt: &R, path: &str) -> bool {
     fs::symlink_metadata(rt, path).is_ok()
 }
 
@@ -44,7 +40,7 @@ fn make<R: Files>(rt: &R, path: &str) -> io::Result<R::File> {
 }
 
 /// The same, or what is said of why not.
-pub(crate) fn make_file<R>(rt: &R, path: &str) -> Result<R::File, Failure>
+pub fn make_file<R>(rt: &R, path: &str) -> Result<R::File, Failure>
 where
     R: Files + AllocGlobal,
 {
@@ -63,7 +59,7 @@ fn own_folder(alloc: Global, path: &str, is_dir: bool) -> Result<(), Failure> {
 }
 
 /// Makes a folder for its owner and group, unless it is there.
-pub(crate) fn make_folder<R: Files + AllocGlobal>(rt: &R, path: &str) -> Result<(), Failure> {
+pub fn make_folder<R: Files + AllocGlobal>(rt: &R, path: &str) -> Result<(), Failure> {
     if let Ok(found) = fs::symlink_metadata(rt, path) {
         return own_folder(rt.alloc(), path, found.is_dir());
     }
@@ -76,11 +72,7 @@ pub(crate) fn make_folder<R: Files + AllocGlobal>(rt: &R, path: &str) -> Result<
 }
 
 /// Gives a file that was made its name, and brings that to the disk.
-pub(crate) fn put_made<R: Files + AllocGlobal>(
-    rt: &R,
-    made: &str,
-    path: &str,
-) -> Result<(), Failure> {
+pub fn put_made<R: Files + AllocGlobal>(rt: &R, made: &str, path: &str) -> Result<(), Failure> {
     if let Err(error) = fs::rename(rt, made, path) {
         return Err(file_failure(rt.alloc(), path, &error)?);
     }

@@ -1,0 +1,20 @@
+//! What is said of closed reports, and joining them.
+#![tactic(auto)]
+
+pub mod closing;
+pub mod failing;
+pub mod files;
+pub mod finding;
+pub mod joining;
+pub mod kept;
+pub mod lists;
+pub mod making;
+pub mod reading;
+pub mod rows;
+pub mod saying;
+pub mod sound;
+pub mod stand;
+pub mod state;
+pub mod state_dir;
+pub mod telling;
+pub mod timing;

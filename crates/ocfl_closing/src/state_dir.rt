@@ -1,0 +1,51 @@
+//! A state folder, as nights open it.
+
+use ocfl_state::{FolderTrouble, FsState, OpenReport, Reason, StateFolder, StateStop};
+use std::fs::File;
+use std::rt::Files;
+
+/// A state folder, which is held while this lives.
+pub struct StateDir<'a, R: Files<File = File> + AllocGlobal> {
+    pub folder: FsState<&'a R>,
+}
+
+/// Written by hand, so that to let it go is one call wherever that happens.
+impl<R: Files<File = File> + AllocGlobal> Drop for StateDir<'_, R> {
+    fn drop(self) {
+        let StateDir { folder: _folder } = self;
+    }
+}
+
+impl<'a, R: Files<File = File> + AllocGlobal> StateDir<'a, R> {
+    /// Opens the folder at a path.
+    pub fn open(rt: &'a R, path: &str, create: bool) -> Result<StateDir<'a, R>, StateStop> {
+        Ok(StateDir {
+            folder: FsState::open(rt, path, create)?,
+        })
+    }
+
+    /// Why the last call failed that did.
+    pub fn reason(&self) -> Option<Reason> {
+        self.folder.reason()
+    }
+
+    /// The bytes of its checkpoint.
+    pub fn checkpoint(&mut self) -> Result<Option<Vec<u8>>, FolderTrouble> {
+        self.folder.checkpoint()
+    }
+
+    /// The bytes of the checkpoint with which the report of a cycle was closed.
+    pub fn kept_checkpoint(&mut self, cycle: u64) -> Result<Option<Vec<u8>>, FolderTrouble> {
+        self.folder.kept_checkpoint(cycle)
+    }
+
+    /// Opens the closed report of a cycle.
+    pub fn open_closed(&mut self, cycle: u64) -> Result<Option<OpenReport>, FolderTrouble> {
+        self.folder.open_closed(cycle)
+    }
+
+    /// Appends a line to the log.
+    pub fn append_log(&mut self, line: &[u8]) -> Result<(), FolderTrouble> {
+        self.folder.append_log(line)
+    }
+}

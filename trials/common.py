@@ -48,6 +48,15 @@ def check(name, got, expected):
     return False
 
 
+def not_yet(name, got, expected, why):
+    """Counts a check that is known to fail, and says why. Once it holds, that is a failure: it is
+    then a check as any other."""
+    if got == expected:
+        return check("%s: it holds now, so let it be a check" % name, "holds", "known to fail")
+    print("known to fail: %s: %s" % (name, why), flush=True)
+    return check(name, True, True)
+
+
 def shown(value):
     text = repr(value)
     return text if len(text) < 1500 else text[:700] + " .. " + text[-700:]

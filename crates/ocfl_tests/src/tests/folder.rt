@@ -40,7 +40,10 @@ const LINKS: [(&str, &str); 3] = [
 ];
 
 /// Makes a folder with these entries and links, and with the file `big`.
-fn filled(rt: &HostRuntime, top: &str) -> Result<FsTree<WholePaths<HostRuntime>>, Fail> {
+fn filled<'a>(
+    rt: &'a HostRuntime,
+    top: &str,
+) -> Result<FsTree<WholePaths<'a, HostRuntime>>, Fail> {
     let alloc = rt.alloc();
     if fs::exists(rt, top)? {
         fs::remove_dir_all(rt, top)?;
@@ -59,7 +62,7 @@ fn filled(rt: &HostRuntime, top: &str) -> Result<FsTree<WholePaths<HostRuntime>>
     }
     let path = format!(in alloc; "{top}/big")?;
     fs::write(rt, path.as_str(), many(alloc)?.as_slice())?;
-    Ok(FsTree::at(rt.clone()?, top)?)
+    Ok(FsTree::at(rt, top)?)
 }
 
 /// The same tree in memory.

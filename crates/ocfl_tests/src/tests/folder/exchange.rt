@@ -81,7 +81,7 @@ fn read<R: Files + AllocGlobal + Clone + Drop>(
     is_listed: bool,
 ) -> Result<Result<usize, Trouble>, Fail> {
     let (root, place) = (Place::root(rt.alloc()), place_of(rt.alloc(), "f")?);
-    let mut store = FsTree::at(rt, top)?;
+    let mut store = FsTree::at(&rt, top)?;
     if is_listed {
         store.list(&root)?;
     }

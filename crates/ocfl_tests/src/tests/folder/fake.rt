@@ -258,7 +258,7 @@ impl Files for Fake {
 /// What `list` answers.
 fn listed<R: Files + AllocGlobal + Clone + Drop>(rt: R) -> Result<Result<usize, Trouble>, Fail> {
     let root = Place::root(rt.alloc());
-    let mut store = FsTree::at(rt, "top")?;
+    let mut store = FsTree::at(&rt, "top")?;
     let answer = store.list(&root);
     Ok(answer.map(|entries| entries.len()))
 }
@@ -266,7 +266,7 @@ fn listed<R: Files + AllocGlobal + Clone + Drop>(rt: R) -> Result<Result<usize, 
 /// What reading the whole of a file of 3 bytes answers.
 fn read<R: Files + AllocGlobal + Clone + Drop>(rt: R) -> Result<Result<usize, Trouble>, Fail> {
     let place = place_of(rt.alloc(), "f")?;
-    let mut store = FsTree::at(rt, "top")?;
+    let mut store = FsTree::at(&rt, "top")?;
     if let Err(trouble) = store.open(&place) {
         return Ok(Err(trouble));
     }
@@ -334,7 +334,7 @@ fn faults_of_the_system_are_told_apart(rt: HostRuntime) -> Result<(), Fail> {
 #[test]
 fn a_file_that_is_another_once_it_is_open_is_the_devices(rt: HostRuntime) -> Result<(), Fail> {
     let files = Fake::new(rt.alloc(), b"other\0", Call::Name, ErrorKind::Other, 0)?;
-    let mut store = FsTree::at(files, "top")?;
+    let mut store = FsTree::at(&files, "top")?;
     let opened = store.open(&place_of(rt.alloc(), "other")?);
     assert_eq!(rt; opened, Err(Trouble::Device));
     Ok(())
@@ -417,7 +417,7 @@ const OPENED: [(&str, u32); 8] = [
 fn each_step_is_looked_at(rt: HostRuntime) -> Result<(), Fail> {
     let files = Fake::new(rt.alloc(), b"a\0dir\0", Call::Name, ErrorKind::Other, 0)?;
     let looks = files.looks.clone()?;
-    let mut store = FsTree::at(files, "top")?;
+    let mut store = FsTree::at(&files, "top")?;
     // A listing looks at each of two entries.
     for (path, want) in [("", 3), ("dir", 4), ("dir/dir", 4), ("dir/a-dir", 5)] {
         looks.set(0);

@@ -10,11 +10,11 @@ use std::test::Fail;
 
 /// Makes a folder of these entries, which a blank parts: directories end in a slash, `to->d` is a
 /// link, and a file has its own path in it.
-fn made(
-    rt: &HostRuntime,
+fn made<'a>(
+    rt: &'a HostRuntime,
     top: &str,
     entries: &str,
-) -> Result<FsTree<WholePaths<HostRuntime>>, Fail> {
+) -> Result<FsTree<WholePaths<'a, HostRuntime>>, Fail> {
     let alloc = rt.alloc();
     if fs::exists(rt, top)? {
         fs::remove_dir_all(rt, top)?;
@@ -30,7 +30,7 @@ fn made(
             fs::write(rt, path.as_str(), entry)?;
         }
     }
-    Ok(FsTree::at(rt.clone()?, top)?)
+    Ok(FsTree::at(rt, top)?)
 }
 
 /// Tries each wrong place right after the directory was listed.
@@ -230,7 +230,7 @@ fn the_folder_may_be_a_link_or_end_in_a_slash(rt: HostRuntime) -> Result<(), Fai
         "way_link/root",
         "way_link/root/",
     ] {
-        let mut store = FsTree::at(rt.clone()?, path)?;
+        let mut store = FsTree::at(&rt, path)?;
         holds_its_path(&rt, path, &mut store, "d/.dir/..f")?;
         lists(&rt, path, &mut store, &root, ".hidden File;d Dir;")?;
         lists(&rt, path, &mut store, &d, ".dir Dir;up Other;")?;
@@ -238,10 +238,10 @@ fn the_folder_may_be_a_link_or_end_in_a_slash(rt: HostRuntime) -> Result<(), Fai
         holds_its_path(&rt, path, &mut store, "d/.dir/..f")?;
     }
     let inside = place_of(rt.alloc(), "way_root")?;
-    let mut empty = FsTree::at(rt.clone()?, "")?;
+    let mut empty = FsTree::at(&rt, "")?;
     assert_eq!(rt; empty.list(&root).err(), Some(Trouble::Absent));
     assert_eq!(rt; empty.list(&inside).err(), Some(Trouble::Absent));
-    let mut file = FsTree::at(rt.clone()?, "way_root/.hidden")?;
+    let mut file = FsTree::at(&rt, "way_root/.hidden")?;
     assert_eq!(rt; file.list(&inside).err(), Some(Trouble::Device));
     assert_eq!(rt; file.open(&inside), Err(Trouble::Device));
     assert_eq!(rt; file.open(&root), Err(Trouble::Device));

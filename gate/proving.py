@@ -6,11 +6,13 @@ a library reads its statements alone: so the edits of such a crate are tried ove
 just made, and need none of their own. And the edits stand in the same queue, so that they fill what
 proofs leave idle.
 
+Only edits that are due are tried, as `gate/due.py` says.
+
 A line `edits: N passed, M failed` says how those went; the last line is that of `rt ci`."""
 import os
 import sys
 
-from gate import collection, toolchain, trying
+from gate import collection, due, toolchain, trying
 
 # On how many crates at most a library stands that is built with its proofs: each of their checks
 # reads those, which takes it seconds.
@@ -22,7 +24,7 @@ def main():
     rt = toolchain.load()
     whole = built_whole(toolchain.crates_of(rt, os.getcwd()))
     build(rt, whole)
-    fill(rt, collection.listed(), whole)
+    fill(rt, due.chosen(collection.listed()), whole)
     return rt.main(["ci"])
 
 
@@ -56,6 +58,8 @@ def fill(rt, edits, whole):
         steps = trying.tasks_beside(rt, os.getcwd(), edits, whole)
         given = queue({**tasks, **steps})
         counts = trying.count_refused({key: given[key] for key in steps})
+        if not counts[1]:
+            due.note({edit.crate for edit in edits})
         print("edits: %d passed, %d failed" % counts, flush=True)
         return given
 

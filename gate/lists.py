@@ -3,16 +3,19 @@ the names of sources."""
 import glob
 import os
 import re
-import subprocess
-import sys
 
+from gate import definitions
 from gate.commands import fail
-from gate.repository import TOP, crates, folder_of
+from gate.repository import TESTS, TOP, crates, folder_of
 
 # The names in a cell of a table, without the modules before them.
 NAMED = re.compile(r"`(?:\w+::)*(\w+)`")
 # A crate, and files of its definitions.
 FILES = re.compile(r"`(ocfl_\w+)`: ((?:`\w+`(?:, )?)+)")
+# A crate or a name, with the modules before it, in a cell of a table.
+CONTRACT = re.compile(r"`(?:(ocfl_\w+)|(?:\w+::)*(\w+))`")
+# Crates of which no contract is named.
+WITHOUT_CONTRACTS = (TESTS, "ocfl_scrub_cli")
 # A name of several words, as functions, types and definitions have.
 CITED = re.compile(r"`(?:\w+::)*([A-Za-z]\w*(?:[a-z][A-Z]|_)\w+)`")
 
@@ -47,23 +50,45 @@ def of_crates():
 
 def of_definitions():
     """The definitions to believe, and those of the tables of definitions."""
-    command = [sys.executable, "-B", os.path.join(TOP, "docs", "definitions"),
-               "ocfl_scrub/cycling:cycle"]
-    cited = re.findall(r"(?m)^(ocfl_\w+): (.*)$",
-                       subprocess.run(command, stdout=subprocess.PIPE, text=True).stdout)
-    page, faults, listed = "docs/ASSURANCE.md", [], []
-    for row in rows(page, "The definitions to believe"):
-        crate = NAMED.findall(row[0])
-        listed += ["%s %s" % (*crate, file) for file in NAMED.findall(row[1])]
-        faults += ["%s %s: %s names it, and there is no such file" % (*crate, file, page)
-                   for file in NAMED.findall(row[1] + row[2])
-                   if not os.path.exists(specs_of(*crate, file))]
-    there = ["%s %s" % (crate, file) for crate, files in cited for file in files.split()]
-    faults += differing("definitions that `cycle` cites", page, listed, there)
+    page, of_cycle, listed, faults = "docs/ASSURANCE.md", set(), set(), []
+    for crate, *files in rows(page, "The definitions to believe"):
+        (crate,), first, others = NAMED.findall(crate), *map(NAMED.findall, files)
+        of_cycle.update("%s %s" % (crate, file) for file in first)
+        listed.update("%s %s" % (crate, file) for file in first + others)
+    cited = files_of([("ocfl_scrub", "cycling", "cycle")])
+    faults += differing("definitions that `cycle` cites", page, of_cycle, cited)
+    named = files_of(contracts_of(rows(page, "Promises"))) | cited
+    faults += differing("definitions that a contract of its promises cites", page, listed, named)
     for crate, files in FILES.findall(text_of("docs/MAP.md")):
         faults += ["%s %s: docs/MAP.md names it, and there is no such file" % (crate, file)
                    for file in NAMED.findall(files) if not os.path.exists(specs_of(crate, file))]
     return faults
+
+
+def files_of(contracts):
+    """The files of the definitions that these contracts cite, themselves or through others, except
+    those of private functions."""
+    begun = [it for crate, module, name in contracts
+             for it in definitions.contract(definitions.source_of(crate, module), name)]
+    return {"%s %s" % it[:2] for it in definitions.closure(begun)
+            if not it[1].startswith("Internal.")}
+
+
+def contracts_of(table):
+    """The contracts that the last column of a table names: crate, file, and the function, or None
+    where a trait or a type is named, whose calls are those of its file.
+
+    After the name of a crate, names are those of that crate if it has them."""
+    found = set()
+    for row in table:
+        within = ""
+        for crate, name in CONTRACT.findall(row[-1]):
+            within = crate or within
+            there = [it for it in definitions.sources().get(name, ())
+                     if it[0] not in WITHOUT_CONTRACTS]
+            chosen = [it for it in there if it[0] == within] or there
+            found.update((*it, None if name[0].isupper() else name) for it in chosen)
+    return sorted(found, key=str)
 
 
 def of_names():

@@ -3,26 +3,47 @@ ghost use Rattle.std.specs.Prelude.{◌≡◌, ◌≤◌, IfOk, length};
 
 use crate::answer::{Answer, ReadAnswer};
 use crate::dir_names::DirNames;
-use crate::node::Seen;
+use crate::node::{Node, Seen};
 use crate::opened::Opened;
 use crate::system::System;
 use ocfl_tree::Place;
 use std::alloc::AllocError;
+use std::fs;
+use std::io::{self, ErrorKind};
 use std::rt::{Env, Files};
-use std::{fs, io};
 
 /// The folder at a path from `/` on, by last names alone: the process itself is where the
-/// folder does.
+/// folder does. Once it was entered, another folder at that path is none.
 #[derive(Drop)]
 pub struct Entering<'a, R: Files + Env + AllocGlobal> {
     rt: &'a R,
     root: String,
+    /// Which folder was at the path when it was first entered.
+    entered: Option<Node>,
 }
 
 impl<'a, R: Files + Env + AllocGlobal> Entering<'a, R> {
     pub(crate) fn at(rt: &'a R, root: &str) -> Result<Entering<'a, R>, AllocError> {
         let root = String::from_str(rt.alloc(), root)?;
-        Ok(Entering { rt, root })
+        Ok(Entering {
+            rt,
+            root,
+            entered: None,
+        })
+    }
+
+    /// Keeps which folder was entered first, and refuses another one.
+    fn keep_entered(&mut self, here: Node) -> io::Result<()> {
+        match self.entered {
+            Some(before) if !before.is(here) => Err(io::Error::new(
+                ErrorKind::InvalidData,
+                "the storage root's path now leads to another folder",
+            )),
+            _ => {
+                self.entered = Some(here);
+                Ok(())
+            }
+        }
     }
 }
 
@@ -33,7 +54,9 @@ impl<R: Files + Env + AllocGlobal> System for Entering<'_, R> {
     type Names = DirNames<R::Dir>;
 
     fn start(&mut self) -> io::Result<()> {
-        self.rt.set_current_dir(self.root.as_str())
+        self.rt.set_current_dir(self.root.as_str())?;
+        let here = self.look(".")?.node;
+        self.keep_entered(here)
     }
 
     fn enter(&mut self, name: &str) -> io::Result<()> {

@@ -23,6 +23,8 @@ TEST = re.compile(r"((?: *// .*\n)+) *#\[test\]\n(?: *#\[.*\n)* *fn (\w+)")
 DEFINITION = re.compile(r"(?:abbrev|unfoldable|record|data) (?:pub )?([\w'-]+)"
                         r"|pub (?:record|data) ([\w'-]+)")
 WIDTH = 100
+# What a line of code begins with in the text of an entry.
+CODE = "``` "
 
 
 @dataclass(frozen=True)
@@ -55,12 +57,18 @@ def read(path: str) -> str:
 
 
 def joined(lines: list[str]) -> str:
-    """Paragraphs, titles and items of lists, each on one line."""
-    found = [""]
+    """Paragraphs, titles and items of lists, each on one line, and code as it is, after `CODE`."""
+    found, is_code = [""], False
     for line in lines:
-        if not line.strip() or line.startswith(("- ", "#")):
+        is_code ^= line.strip() == "```"
+        if line.strip() == "```":
             found.append("")
-        found[-1] = (found[-1] + " " + line.strip()).strip()
+        elif is_code:
+            found.append(CODE + line)
+        else:
+            if not line.strip() or line.startswith(("- ", "#")):
+                found.append("")
+            found[-1] = (found[-1] + " " + line.strip()).strip()
     return "\n".join(filter(None, found))
 
 
@@ -187,6 +195,9 @@ def written(entry: Entry) -> list[str]:
     begin = "  " if entry.place else ""
     lines = wrapped(": ".join(filter(None, [entry.name, first])), begin, begin + "    ")
     for text in more:
+        if text.startswith(CODE):
+            lines.append((begin + "        " + text.removeprefix(CODE)).rstrip())
+            continue
         deep = "      " if text.startswith("- ") else "    "
         lines += wrapped(text, begin + "    ", begin + deep)
     return lines

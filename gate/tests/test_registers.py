@@ -102,6 +102,17 @@ class Registers(unittest.TestCase):
         self.assertEqual(registers.shown(iter([Entry("", "one.py", "It tries.")]), []),
                          "one.py: It tries.\n")
 
+    def test_code_keeps_its_lines(self) -> None:
+        text = registers.joined(["It audits", "a root:", "", "```", "use a::b;", "", "fn main() {",
+                                 "    b();", "}", "```", "", "And ends."])
+        self.assertEqual(registers.written(Entry("", "crate", text)), [
+            "crate: It audits a root:", "        use a::b;", "", "        fn main() {",
+            "            b();", "        }", "    And ends."])
+
+    def test_examples_of_crates_keep_their_lines(self) -> None:
+        shown = registers.shown(registers.heads(), ["ocfl_digest::Block;"])
+        self.assertIn("\n        use ocfl_digest::Block;\n", shown)
+
     def test_long_lines_are_broken(self) -> None:
         lines = registers.written(Entry("low", "name", "- " + "word " * 40 + "\n- " + "it " * 40))
         self.assertLessEqual(max(map(len, lines)), registers.WIDTH)

@@ -4,7 +4,7 @@ use Rattle.ocfl_tree.specs.Place.{Text}
 use Rattle.ocfl_report.specs.{Line.{line_of}, Text.{escape, lines_text, place_text}}
 use Rattle.ocfl_telling.specs.{Gravest.{most_shown}, Night.{more_text}}
 use Rattle.ocfl_telling.specs.declared.closing.GoneKind.{GoneKind}
-use Rattle.ocfl_telling.specs.declared.closing.GoneKind.TheVariants.{Object, File, Expected}
+use Rattle.ocfl_telling.specs.declared.closing.GoneKind.TheVariants.{Object, Undeclared, File, Expected}
 use Rattle.ocfl_telling.specs.{declared.closing.Gone.{Gone}, declared.closing.Closing.{Closing}}
 
 abbrev pub not_whole_text : ℕ → Text → Text
@@ -12,6 +12,14 @@ not_whole_text cycle report = codes "Cycle " ++ decimal cycle ++ codes " has end
 
 abbrev pub ended_text : Bool → ℕ → Text → Text
 ended_text whole cycle report = if whole then [] else not_whole_text cycle report
+
+abbrev pub not_known_text : Text → Text
+not_known_text why = codes "What is new or gone since the last report is not known: " ++ escape why ++ codes "\n"
+
+-- why nothing was compared; nothing if it was
+abbrev pub uncompared_text : Text → Text
+uncompared_text [] = []
+uncompared_text (b ∷ why) = not_known_text (b ∷ why)
 
 -- how many are not shown, of a list of this length
 abbrev pub not_shown : ℕ → ℕ → ℕ
@@ -23,6 +31,7 @@ section_text count head shown left file = if count == 0 then [] else head ++ sho
 
 abbrev pub kind_text : GoneKind → Text
 kind_text Object = codes "object"
+kind_text Undeclared = codes "undeclared"
 kind_text File = codes "file"
 kind_text Expected = codes "expected"
 
@@ -54,4 +63,4 @@ gone_text c = section_text c.gone_count (gone_head c.gone_count c.cycle) (gone_l
     (not_shown c.gone_count (length c.gone.now)) c.list.now
 
 abbrev pub closing_text : Closing → Text
-closing_text c = ended_text c.whole c.cycle c.report.now ++ new_text c ++ repaired_text c ++ gone_text c
+closing_text c = ended_text c.whole c.cycle c.report.now ++ uncompared_text c.uncompared.now ++ new_text c ++ repaired_text c ++ gone_text c

@@ -28,7 +28,7 @@ BeginsWith t word = (rest : Text) × (t ≡ word ++ rest)
 
 -- a line of what is gone names a loss, and no finding
 abbrev pub NamesLoss : Text → Type 0
-NamesLoss t = BeginsWith t (codes "object\t") ⊎ BeginsWith t (codes "file\t") ⊎ BeginsWith t (codes "expected\t")
+NamesLoss t = BeginsWith t (codes "object\t") ⊎ BeginsWith t (codes "undeclared\t") ⊎ BeginsWith t (codes "file\t") ⊎ BeginsWith t (codes "expected\t")
 
 -- nothing, what begins with `#`, or a line of what is gone
 abbrev pub IsRemark : Text → Type 0

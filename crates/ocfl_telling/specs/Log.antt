@@ -40,18 +40,21 @@ slice_with r stands = object (counts (codes "bytes") r.bytes (counts (codes "cos
     (counts (codes "spent") r.spent (says (codes "stands") stands (counts (codes "status") r.status
     (counts (codes "time") r.time no_members)))))))))))))
 
--- a place that is left out, with its text
-abbrev pub left_with : LeftRow → Text → Data
-left_with r place = object (counts (codes "cycle") r.cycle (counts (codes "night") r.night
-    (says (codes "place") place (says (codes "row") (codes "left") (counts (codes "time") r.time no_members)))))
+-- a place that is left out, with its text and why
+abbrev pub left_with : LeftRow → Text → Text → Data
+left_with r place why = object (counts (codes "cycle") r.cycle (counts (codes "night") r.night
+    (says (codes "place") place (says (codes "row") (codes "left") (counts (codes "time") r.time
+    (says (codes "why") why no_members))))))
 
--- a closing, with the path of its report
-abbrev pub closing_with : ClosingRow → Text → Data
-closing_with r report = object (counts (codes "cycle") r.cycle (counts (codes "findings") r.findings
-    (counts (codes "gone") r.gone (counts (codes "left") r.left (counts (codes "new") r.appeared
-    (counts (codes "night") r.night (counts (codes "repaired") r.repaired (says (codes "report") report
+-- a closing, with the path of its report, and why nothing was compared
+abbrev pub closing_with : ClosingRow → Text → Text → Data
+closing_with r report why = object (counts (codes "compared") r.compared (counts (codes "cycle") r.cycle
+    (counts (codes "expected") r.expected (counts (codes "files") r.files (counts (codes "findings") r.findings
+    (counts (codes "gone") r.gone (counts (codes "left") r.left (says (codes "list") r.list.now
+    (counts (codes "listed") r.listed (counts (codes "new") r.appeared (counts (codes "night") r.night
+    (counts (codes "objects") r.objects (counts (codes "repaired") r.repaired (says (codes "report") report
     (says (codes "row") (codes "closing") (counts (codes "time") r.time
-    (member (codes "whole") (boolean r.whole) no_members)))))))))))
+    (member (codes "whole") (boolean r.whole) (says (codes "why") why no_members))))))))))))))))))
 
 -- a refusal, with what is said of it
 abbrev pub refusal_with : RefusalRow → Text → Data
@@ -75,12 +78,20 @@ row_text (Closing r) = escape r.report.now
 row_text (Refusal r) = escape r.said.now
 row_text (Night r) = r.program.now
 
-abbrev pub row_with : LogRow → Text → Data
-row_with (Slice r) text = slice_with r text
-row_with (Left r) text = left_with r text
-row_with (Closing r) text = closing_with r text
-row_with (Refusal r) text = refusal_with r text
-row_with (Night r) text = night_with r text
+-- the reason that a row gives, escaped as in reports
+abbrev pub why_text : LogRow → Text
+why_text (Slice r) = []
+why_text (Left r) = escape r.why.now
+why_text (Closing r) = escape r.why.now
+why_text (Refusal r) = []
+why_text (Night r) = []
+
+abbrev pub row_with : LogRow → Text → Text → Data
+row_with (Slice r) text why = slice_with r text
+row_with (Left r) text why = left_with r text why
+row_with (Closing r) text why = closing_with r text why
+row_with (Refusal r) text why = refusal_with r text
+row_with (Night r) text why = night_with r text
 
 abbrev pub row_data : LogRow → Data
-row_data row = row_with row (row_text row)
+row_data row = row_with row (row_text row) (why_text row)

@@ -3,7 +3,7 @@ use Rattle.std.specs.Prelude.{ℕ, ◌++◌, codes, decimal}
 use Rattle.ocfl_tree.specs.Place.{Text}
 use Rattle.ocfl_report.specs.Text.{escape}
 use Rattle.ocfl_telling.specs.declared.refusal.RefusalMessage.{RefusalMessage}
-use Rattle.ocfl_telling.specs.declared.refusal.RefusalMessage.TheVariants.{NoCheckpoint, HasReports, NotCheckpoint, Version, Damaged, Malformed, OfScripts, NoRoot, OtherRoot, OtherDeclaration, OtherPart, NamesGone, RootChanged, Worn}
+use Rattle.ocfl_telling.specs.declared.refusal.RefusalMessage.TheVariants.{NoCheckpoint, HasReports, NotCheckpoint, Version, Damaged, Malformed, OfScripts, NoRoot, OtherRoot, OtherDeclaration, OtherPart, NamesGone, Older, RootChanged, Worn}
 
 -- longer ones
 abbrev pub other_root_text : Text → Text → Text → Text
@@ -17,6 +17,10 @@ other_part_text root state = escape state ++ codes " belongs to another part of 
 
 abbrev pub names_gone_text : ℕ → ℕ → Text → Text
 names_gone_text gone before root = decimal gone ++ codes " of the " ++ decimal before ++ codes " names in " ++ escape root ++ codes " are gone: is its file system mounted? --force-root runs it all the same."
+
+abbrev pub older_text : ℕ → Text → Text
+older_text cycle state = escape state ++ codes "/checkpoint is older than " ++ escape state ++ codes "/reports, where cycle " ++ decimal cycle
+    ++ codes " is closed already: put back the newest checkpoint, or move the reports from that cycle on to another folder."
 
 abbrev pub root_changed_text : Text → Text
 root_changed_text root = escape root ++ codes " is not the storage root that the night began with: is its file system mounted?"
@@ -35,6 +39,7 @@ reason_text (OtherRoot bound) root state = other_root_text bound.now root state
 reason_text OtherDeclaration root state = other_declaration_text root state
 reason_text OtherPart root state = other_part_text root state
 reason_text (NamesGone gone before) root state = names_gone_text gone before root
+reason_text (Older cycle) root state = older_text cycle state
 reason_text RootChanged root state = root_changed_text root
 reason_text Worn root state = codes "The number of the cycle in " ++ escape state ++ codes " can grow no more."
 

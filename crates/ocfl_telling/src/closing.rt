@@ -3,7 +3,7 @@
 ghost use Rattle.std.specs.Prelude.{◌≡◌, ◌++◌, List, length, map, take, IfOk, OnOk, string_bytes};
 ghost use Rattle.ocfl_report.specs.{Line.{line_of}, Text.{lines_text}};
 ghost use Rattle.ocfl_telling.specs.Gravest.{most_shown};
-ghost use Rattle.ocfl_telling.specs.Closing.{closing_text as text_of_closing, ended_text, gone_lines, gone_line, section_text, not_shown, new_head, repaired_head, gone_head, kind_text, new_text, repaired_text, not_whole_text};
+ghost use Rattle.ocfl_telling.specs.Closing.{closing_text as text_of_closing, ended_text, gone_lines, gone_line, section_text, not_shown, new_head, repaired_head, gone_head, kind_text, new_text, repaired_text, not_known_text, not_whole_text, uncompared_text};
 ghost use Rattle.ocfl_telling.specs.Night.{more_text};
 
 use crate::gravest::SHOWN;
@@ -18,6 +18,8 @@ use std::alloc::{AllocError, Global};
 pub enum GoneKind {
     /// An object of the last whole report.
     Object,
+    /// An object of it whose declaration is lost: its files lie there, and are no longer looked at.
+    Undeclared,
     /// A content file of it.
     File,
     /// An object of the list of those that are expected.
@@ -34,13 +36,16 @@ pub struct Gone {
 }
 
 /// What a closed cycle found. Each list has the first of what it is of, 20 or more if there are
-/// as many, in the order of places; beside it is how many there are of all.
+/// as many, in the order of places; beside it is how many there are of all. In the list of what is
+/// gone, objects come before files: its caller puts them so.
 #[derive(Clone, Copy, Debug)]
 pub struct Closing<'a> {
     /// The number of the cycle.
     pub cycle: u64,
-    /// The number of the cycle of the last whole report.
+    /// The number of the cycle that it was compared with; 0 if there is none before it.
     pub before: u64,
+    /// Why nothing was compared. Empty if it was, or if there is no cycle before it.
+    pub uncompared: &'a str,
     /// Whether the cycle's report is whole.
     pub whole: bool,
     /// The path of the cycle's report.
@@ -79,6 +84,23 @@ fn not_whole(alloc: Global, cycle: u64, report: &str) -> Result<String, AllocErr
 {
     let report = Shown(report);
     format!(in alloc; "Cycle {cycle} has ended, and its report is not whole: {report}\n")
+}
+
+/// That nothing was compared, and why.
+fn uncompared(alloc: Global, why: &str) -> Result<String, AllocError>
+    ensures { IfOk result (λ text. string_bytes text ≡ uncompared_text why.now) }
+{
+    if why.is_empty() {
+        return Ok(String::new(alloc));
+    }
+    not_known(alloc, why)
+}
+
+fn not_known(alloc: Global, why: &str) -> Result<String, AllocError>
+    ensures { IfOk result (λ text. string_bytes text ≡ not_known_text why.now) }
+{
+    let why = Shown(why);
+    format!(in alloc; "What is new or gone since the last report is not known: {why}\n")
 }
 
 /// Appends a line, the first of these findings, and how many more there are.
@@ -123,6 +145,7 @@ fn kind_of(kind: GoneKind) -> &'static str
 {
     match kind {
         GoneKind::Object => "object",
+        GoneKind::Undeclared => "undeclared",
         GoneKind::File => "file",
         GoneKind::Expected => "expected",
     }
@@ -223,12 +246,14 @@ fn put_changes(alloc: Global, closing: &Closing<'_>, text: &mut Vec<u8>) -> Resu
     put_findings(alloc, head.as_str(), repaired, closing.earlier, text)
 }
 
-/// What is said of a closed cycle: that its report is not whole, if so; then what is new, repaired
-/// and gone, the first 20 of each by name, and how many more. Nothing if there is nothing to say.
+/// What is said of a closed cycle: that its report is not whole, if so; that nothing was compared,
+/// if so, and why; then what is new, repaired and gone, the first 20 of each by name, and how many
+/// more. Nothing if there is nothing to say.
 pub fn closing_text(alloc: Global, closing: &Closing<'_>) -> Result<Vec<u8>, AllocError>
     ensures { IfOk result (λ text. text.items ≡ text_of_closing closing.now) }
 {
     let mut text = Vec::from_slice(alloc, ended(alloc, closing)?.as_bytes())?;
+    text.extend_from_slice(uncompared(alloc, closing.uncompared)?.as_bytes())?;
     put_changes(alloc, closing, &mut text)?;
     let head = gone_head_of(alloc, closing.gone_count, closing.cycle)?;
     put_all_gone(alloc, head.as_str(), closing, &mut text)?;

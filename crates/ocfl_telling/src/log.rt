@@ -5,7 +5,7 @@
 //! places and the system's words are escaped as in reports, so a line has printable ASCII alone.
 ghost use Rattle.std.specs.Prelude.{◌≡◌, ◌≤◌, false, IfOk, string_bytes};
 ghost use Rattle.serde_json.specs.{Data.{Data, depth}, View.{view}, Written.{has_float}};
-ghost use Rattle.ocfl_telling.specs.Log.{IsJsonLine, stands_text, row_text, row_data, row_with, slice_with, left_with, closing_with, refusal_with, night_with};
+ghost use Rattle.ocfl_telling.specs.Log.{IsJsonLine, stands_text, row_text, row_data, row_with, why_text, slice_with, left_with, closing_with, refusal_with, night_with};
 
 use crate::shown::Shown;
 use ocfl_report::DisplayPlace;
@@ -64,6 +64,8 @@ pub struct LeftRow<'a> {
     pub cycle: u64,
     /// The place. All that lies below it is left out too.
     pub place: &'a Place,
+    /// Why: the system's words on what failed there. Empty if they are not known.
+    pub why: &'a str,
 }
 
 /// The closing of a cycle.
@@ -81,12 +83,27 @@ pub struct ClosingRow<'a> {
     pub whole: bool,
     /// How many findings it has.
     pub findings: u64,
-    /// How many of them the last whole report before did not have.
+    /// The number of the cycle whose report it was compared with; 0 if it was compared with none.
+    pub compared: u64,
+    /// Why it was compared with none. Empty if it was compared, or if there is none before it.
+    pub why: &'a str,
+    /// How many of its findings the report before did not have.
     pub appeared: u64,
     /// How many findings of that report are right now.
     pub repaired: u64,
-    /// How many objects and files of that report have no line any more.
+    /// How many objects and files of that report have no line any more, and how many objects of the
+    /// list have none: the sum of the three numbers that follow.
     pub gone: u64,
+    /// How many objects of the report before have no line any more.
+    pub objects: u64,
+    /// How many files of it have none.
+    pub files: u64,
+    /// How many objects of the list of those that are expected have no line.
+    pub expected: u64,
+    /// How many objects the list has.
+    pub listed: u64,
+    /// The SHA-256 of the list's bytes, in hexadecimal digits. Empty if no list was searched for.
+    pub list: &'a str,
     /// How many places were left out.
     pub left: u64,
 }
@@ -166,6 +183,17 @@ fn row_words(alloc: Global, row: &LogRow<'_>) -> Result<String, AllocError>
     }
 }
 
+/// The reason that a row gives, escaped as in reports.
+fn row_reason(alloc: Global, row: &LogRow<'_>) -> Result<String, AllocError>
+    ensures { IfOk result (λ text. string_bytes text ≡ why_text row.now) }
+{
+    match row {
+        LogRow::Left(left) => format!(in alloc; "{}", Shown(left.why)),
+        LogRow::Closing(closing) => format!(in alloc; "{}", Shown(closing.why)),
+        LogRow::Slice(_) | LogRow::Refusal(_) | LogRow::Night(_) => Ok(String::new(alloc)),
+    }
+}
+
 /// The JSON object of a row: each member that has no value here is the field of its name.
 macro_rules! members_of {
     (in $alloc:expr; $row:ident { $($name:ident $(: $value:expr)?),+ }) => {
@@ -189,23 +217,34 @@ fn slice_value(alloc: Global, row: &SliceRow<'_>, stands: &str) -> Result<Value,
 }
 
 /// What the line of a place that is left out says.
-fn left_value(alloc: Global, row: &LeftRow<'_>, place: &str) -> Result<Value, AllocError>
-    ensures { IfOk result (λ v. view v ≡ left_with row.now place.now) }
+fn left_value(
+    alloc: Global,
+    row: &LeftRow<'_>,
+    place: &str,
+    why: &str,
+) -> Result<Value, AllocError>
+    ensures { IfOk result (λ v. view v ≡ left_with row.now place.now why.now) }
 {
-    members_of!(in alloc; row { cycle, night, place: place, row: "left", time })
+    members_of!(in alloc; row { cycle, night, place: place, row: "left", time, why: why })
 }
 
 /// What the line of a closing says.
-fn closing_value(alloc: Global, row: &ClosingRow<'_>, report: &str) -> Result<Value, AllocError>
-    ensures { IfOk result (λ v. view v ≡ closing_with row.now report.now) }
+fn closing_value(
+    alloc: Global,
+    row: &ClosingRow<'_>,
+    report: &str,
+    why: &str,
+) -> Result<Value, AllocError>
+    ensures { IfOk result (λ v. view v ≡ closing_with row.now report.now why.now) }
 {
     members_of!(in alloc; row {
-        cycle, findings, gone, left,
+        compared, cycle, expected, files, findings, gone, left, list, listed,
         new: row.appeared,
-        night, repaired,
+        night, objects, repaired,
         report: report,
         row: "closing",
-        time, whole
+        time, whole,
+        why: why
     })
 }
 
@@ -228,14 +267,19 @@ fn night_value(alloc: Global, row: &NightRow<'_>, program: &str) -> Result<Value
     })
 }
 
-/// What the line of a row says, with its text.
-fn row_value(alloc: Global, row: &LogRow<'_>, words: &str) -> Result<Value, AllocError>
-    ensures { IfOk result (λ v. view v ≡ row_with row.now words.now) }
+/// What the line of a row says, with its text and its reason.
+fn row_value(
+    alloc: Global,
+    row: &LogRow<'_>,
+    words: &str,
+    why: &str,
+) -> Result<Value, AllocError>
+    ensures { IfOk result (λ v. view v ≡ row_with row.now words.now why.now) }
 {
     match row {
         LogRow::Slice(slice) => slice_value(alloc, slice, words),
-        LogRow::Left(left) => left_value(alloc, left, words),
-        LogRow::Closing(closing) => closing_value(alloc, closing, words),
+        LogRow::Left(left) => left_value(alloc, left, words, why),
+        LogRow::Closing(closing) => closing_value(alloc, closing, words, why),
         LogRow::Refusal(refusal) => refusal_value(alloc, refusal, words),
         LogRow::Night(night) => night_value(alloc, night, words),
     }
@@ -256,6 +300,7 @@ pub fn log_line(alloc: Global, row: &LogRow<'_>) -> Result<String, AllocError>
     ensures { IfOk result (λ line. IsJsonLine (string_bytes line) (row_data row.now)) }
 {
     let words = row_words(alloc, row)?;
-    let value = row_value(alloc, row, words.as_str())?;
+    let why = row_reason(alloc, row)?;
+    let value = row_value(alloc, row, words.as_str(), why.as_str())?;
     line_of(alloc, &value)
 }

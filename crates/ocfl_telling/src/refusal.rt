@@ -1,6 +1,6 @@
 //! Why a night did nothing: a sentence for each reason.
 ghost use Rattle.std.specs.Prelude.{◌≡◌, IfOk, string_bytes};
-ghost use Rattle.ocfl_telling.specs.Refusal.{refusal_text as text_of_refusal, reason_text, ending_text, names_gone_text, other_declaration_text, other_part_text, other_root_text};
+ghost use Rattle.ocfl_telling.specs.Refusal.{refusal_text as text_of_refusal, reason_text, ending_text, names_gone_text, older_text, other_declaration_text, other_part_text, other_root_text};
 
 use crate::shown::Shown;
 use std::alloc::{AllocError, Global};
@@ -36,6 +36,12 @@ pub enum RefusalMessage<'a> {
         gone: u64,
         /// How many there were.
         before: u64,
+    },
+    /// A cycle is open in the checkpoint, or its lines are not moved yet, and it is closed already
+    /// among the reports, or a later one is.
+    Older {
+        /// The number of the latest cycle that is closed.
+        cycle: u64,
     },
     /// After a slice the root is gone, or another one.
     RootChanged,
@@ -77,6 +83,7 @@ fn reason(
         RefusalMessage::OtherDeclaration => other_declaration(alloc, root, state),
         RefusalMessage::OtherPart => other_part(alloc, root, state),
         RefusalMessage::NamesGone { gone, before } => names_gone(alloc, gone, before, root),
+        RefusalMessage::Older { cycle } => older(alloc, cycle, state),
         RefusalMessage::RootChanged => format!(in alloc;
             "{root} is not the storage root that the night began with: is its file system mounted?"
         ),
@@ -127,6 +134,17 @@ fn names_gone(alloc: Global, gone: u64, before: u64, root: Shown<'_>) -> Result<
     )
 }
 
+/// Of a checkpoint that was put back and is older than the reports.
+fn older(alloc: Global, cycle: u64, state: Shown<'_>) -> Result<String, AllocError>
+    ensures { IfOk result
+        (λ text. string_bytes text ≡ older_text cycle state.entry.0.now) }
+{
+    format!(in alloc;
+        "{state}/checkpoint is older than {state}/reports, where cycle {cycle} is closed already: \
+         put back the newest checkpoint, or move the reports from that cycle on to another folder."
+    )
+}
+
 /// What became of the run.
 fn ending(refusal: RefusalMessage<'_>) -> &'static str
     ensures { result.now ≡ ending_text refusal.entry }
@@ -145,6 +163,7 @@ fn ending(refusal: RefusalMessage<'_>) -> &'static str
         | RefusalMessage::OtherDeclaration
         | RefusalMessage::OtherPart
         | RefusalMessage::NamesGone { .. }
+        | RefusalMessage::Older { .. }
         | RefusalMessage::Worn => " Nothing was run.\n",
     }
 }

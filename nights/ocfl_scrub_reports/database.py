@@ -53,6 +53,7 @@ order by content.path;
 """
 COLUMNS = ("began", "kind", "cycle", "run", "lines", "cost", "said", "spent", "files", "seconds",
            "bytes", "stands", "night")
+MOST = (1 << 63) - 1
 DATE = re.compile(r"\d{4}-\d\d-\d\d(T\d\d:\d\d:\d\dZ)?")
 
 
@@ -76,7 +77,7 @@ def fill(state: State, path: str) -> None:
         database.executescript("pragma journal_mode = off; pragma synchronous = off;" + TABLES)
         database.execute("begin")
         database.executemany("insert into run values (%s)" % ", ".join("?" * len(COLUMNS)), (
-            [getattr(run, name) for name in COLUMNS] for run in runs(state)))
+            [stored(getattr(run, name)) for name in COLUMNS] for run in runs(state)))
         for cycle, report in reports(state):
             database.executemany("insert into line values (?, ?, ?, ?, ?)", numbered(cycle, report))
         database.execute("create index line_path on line (path, cycle)")
@@ -85,6 +86,11 @@ def fill(state: State, path: str) -> None:
         raise Failed("%s could not be written: %s" % (path, error)) from error
     finally:
         database.close()
+
+
+def stored(value: object) -> object:
+    """A value as the database can hold it. The greatest number stands for all above it."""
+    return min(value, MOST) if isinstance(value, int) else value
 
 
 def runs(state: State) -> Iterator[Entry]:

@@ -4,6 +4,7 @@ from __future__ import annotations
 import hashlib
 import os
 import shutil
+import stat
 import sys
 import tempfile
 import zlib
@@ -51,6 +52,22 @@ def drop_to_owners_of(paths: Iterable[str]) -> None:
 
 
 # Reading
+
+def is_file(path: str) -> bool:
+    """Whether a file is there. Fails if nobody can say."""
+    try:
+        return stat.S_ISREG(os.stat(path).st_mode)
+    except (FileNotFoundError, NotADirectoryError):
+        return False
+
+
+def names_in(folder: str) -> list[str]:
+    """The names in a folder, in their order; none if it is not there."""
+    try:
+        return sorted(os.listdir(folder))
+    except (FileNotFoundError, NotADirectoryError):
+        return []
+
 
 def chunks(path: str) -> Iterator[bytes]:
     """The bytes of a file, plain or compressed, as they are without compression."""

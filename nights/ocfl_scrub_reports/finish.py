@@ -43,7 +43,7 @@ def finish(state: State, seal: str | None, known: str | None, keep: int | None) 
 
 def make_statement(state: State, closed: Closed, seal: str | None, known: str | None) -> int:
     path = os.path.join(state.reports, cycle_name("statement", closed.cycle))
-    if os.path.isfile(path) and (seal is None or is_sealed(path)):
+    if files.is_file(path) and (seal is None or is_sealed(path)):
         return 0
     try:
         statement.write(state, closed.cycle, seal, known)

@@ -1,4 +1,4 @@
-"""Looks again at the places of open findings, and says which are mended."""
+"""Looks again at the places of open findings, and at what is gone, and says what is mended."""
 from __future__ import annotations
 
 import subprocess
@@ -8,39 +8,79 @@ from itertools import groupby
 from . import files, standing
 from .shared import Failed, find_program
 from .state import State
-from .weights import Known
+from .weights import Known, Weights
 
 
 def show(state: State, known: str | None) -> int:
     """Writes each open finding after `mended` or `open`, and what was not found there before after
-    `new`. Gives 1 if something is open or new, 3 if a place could not be looked at, and else 0."""
+    `new`; what is gone comes after `back` or `gone`. Gives 1 if something is open, new or gone, 3
+    if a place was not looked at, and else 0. Fails if the storage root is not there."""
     state.refuse_links()
-    root, leave_out, program = state.bound_to("root"), Known(known), find_program()
+    root, leave_out = state.bound_to("root"), Known(known)
     if not root:
         raise Failed("%s is not bound to a storage root" % state.path)
+    looking = Looking(find_program(), root)
+    looking.refuse_other_root()
     status = 0
     found = (line for line in standing.open_findings(state) if not leave_out.has(line))
     for place, lines in groupby(found, lambda line: line.split(b"\t", 2)[1]):
-        now = look(program, root, place)
-        if now is None:
-            files.print_error("%s could not be looked at" % place.decode())
-            status = 3
-            continue
-        before = list(lines)
-        print_after("mended", [it for it in before if it not in now])
-        bad = print_after("open", [it for it in before if it in now])
-        bad += print_after("new", [it for it in leave_out.without(now) if it not in before])
-        status = max(status, int(bad > 0))
+        status = max(status, looking.at_findings(place, list(lines), leave_out))
+    for line in standing.losses(state):
+        if not leave_out.has(line):
+            status = max(status, looking.at_loss(line))
     return status
 
 
-def look(program: str, root: str, place: bytes) -> list[bytes] | None:
-    """The findings at a place now; None if the program could not tell."""
-    done = subprocess.run([program, "check", "--", root, place], stdout=subprocess.PIPE,
-                          check=False)
-    lines = done.stdout.splitlines()
-    found = [line for line in lines if not line.startswith((b"ok\t", b"S07\t"))]
-    return found if done.returncode in (0, 1) else None
+class Looking:
+    """Looks at places of a storage root by the program."""
+
+    def __init__(self, program: str, root: str) -> None:
+        self.program, self.root, self.weights = program, root, Weights()
+
+    def lines_at(self, place: bytes) -> list[bytes] | None:
+        """The lines of a place; None, with a word on standard error, if the program could not
+        tell."""
+        done = subprocess.run([self.program, "check", "--", self.root, place],
+                              stdout=subprocess.PIPE, stderr=subprocess.PIPE, check=False)
+        if done.returncode in (0, 1):
+            return done.stdout.splitlines()
+        said = files.text_of(done.stderr.strip()).partition("\n")[0]
+        files.print_error("could not be looked at: %s%s" % (place.decode(), said and ": " + said))
+        return None
+
+    def refuse_other_root(self) -> None:
+        """Fails unless there is a storage root: in an empty folder nothing is found."""
+        if b"ok\t.\t-" not in (self.lines_at(b".") or []):
+            raise Failed("no storage root is at %s: is it mounted? Nothing was looked at."
+                         % self.root)
+
+    def at_findings(self, place: bytes, before: list[bytes], leave_out: Known) -> int:
+        """Says what became of the findings at a place. Only what has a line of that very place was
+        looked at."""
+        lines = self.lines_at(place)
+        if lines is None:
+            return 3
+        if not any(line.split(b"\t", 2)[1:2] == [place] for line in lines):
+            print_after("no longer looked at", before)
+            return 3
+        now = [line for line in lines if not line.startswith((b"ok\t", b"S07\t"))]
+        print_after("mended", [it for it in before if it not in now])
+        bad = print_after("open", [it for it in before if it in now])
+        bad += print_after("new", [it for it in leave_out.without(now) if it not in before])
+        return int(bad > 0)
+
+    def at_loss(self, loss: bytes) -> int:
+        """Says whether something that was gone is back: an object as one, a file as it should be
+        or not."""
+        word, _, place = loss.partition(b"\t")
+        lines = self.lines_at(place)
+        if lines is None:
+            return 3
+        there = [line.split(b"\t", 2) for line in lines]
+        is_back = any(it[1] == place and (word == b"file" or self.weights.is_of_object(*it))
+                      for it in there if len(it) == 3)
+        print_after("back" if is_back else "gone", [loss])
+        return int(not is_back)
 
 
 def print_after(word: str, lines: list[bytes]) -> int:

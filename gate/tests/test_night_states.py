@@ -23,7 +23,7 @@ from ocfl_scrub_reports import command, standing, state, statement, status
 ZEROS = "0" * 64
 ONE = b"ok\t.\t-\nok\to\t-\nE092\to/a\tsha512 x y\nok\to/b\t3\nok\tp\t-\nok\tp/a\t1\nE072\tq\t-\n"
 TWO = b"ok\t.\t-\nok\to\t-\nok\to/a\t3\nS07\to\tblake2b-512\nok\to/b\t3\nE072\tq\t-\nE072\tr\t-\n"
-GONE = b"object\tp\nfile\tp/a\n"
+GONE = b"object\tp\nfile\to/z\n"
 
 
 def at(text):
@@ -89,14 +89,28 @@ class Program:
         if not self.has_slices:
             self.log_night(day, code)
 
-    def close(self, day, cycle, report, gone=b"", whole=True, left=0):
+    def close(self, day, cycle, report, gone=b"", whole=True, left=0, **more):
+        """Closes a cycle, compared with the one before. With `compared=None` the row is that of a
+        log which did not say it."""
         name = "reports/%s-%06d" % ("cycle" if whole else "incomplete", cycle)
+        compared = more.get("compared", cycle - 1 if whole else 0)
         self.put(name, report)
-        if gone:
+        if gone or compared:
             self.put("reports/gone-%06d" % cycle, gone)
+        said = {"compared": compared, "why": "", "objects": gone.count(b"object\t"),
+                "files": gone.count(b"file\t"), "expected": 0, "listed": 0, "list": "", **more}
         self.log(row="closing", time=at(night_of(day)) + 1800, night=at(night_of(day)), cycle=cycle,
                  report=os.path.join(self.path, name), whole=whole, findings=2, new=0, repaired=0,
-                 gone=gone.count(b"\n"), left=left)
+                 gone=gone.count(b"\n"), left=left, **({} if compared is None else said))
+
+    def keep_checkpoint(self, cycle, report):
+        """Puts the checkpoint that closed a cycle with this report of less than 4 MiB."""
+        with open(self.path + "/checkpoint") as file:
+            text = file.read()
+        for name, value in [("report", "%d %d" % (len(report), report.count(b"\n"))),
+                            ("tail", hashlib.sha256(report).hexdigest())]:
+            text = re.sub("(?m)^%s .*" % name, "%s %s" % (name, value), text)
+        self.put("reports/checkpoint-%06d" % cycle, text.encode())
 
 
 def nights_of(made):
@@ -119,8 +133,8 @@ class Asked(Folder):
 
     def setUp(self):
         super().setUp()
-        stub = self.put(b"#!/bin/sh\ncase $1 in show) grep -q damaged -- $3 && exit 4 ;; esac\n"
-                        b"echo ocfl-scrub 1.0.0\n", "program")
+        stub = self.put(b"#!/bin/sh\ncase $1 in show) grep -q damaged -- $3 && exit 4\n"
+                        b"grep -v sha256 -- $3; exit ;; esac\necho ocfl-scrub 1.0.0\n", "program")
         os.chmod(stub, 0o755)
         given = mock.patch.dict(os.environ, {"OCFL_SCRUB": stub})
         given.start()
@@ -165,12 +179,12 @@ class Questions(Asked):
 
     def test_status(self):
         given, out, _ = self.same("status", "--list", *NOW, [])
-        self.assertEqual((given, out.splitlines()), (1, [
-            "OCFL-SCRUB WARNING - /srv/ocfl: 2 open finding(s) (E072 2); 1 object(s) and 1 file(s) "
+        self.assertEqual((given, out.splitlines()), (2, [
+            "OCFL-SCRUB CRITICAL - /srv/ocfl: 2 open findings (E072 2); 1 object and 1 file "
             "are gone; last night 2026-03-04T22:00:00Z, status 0; cycle 3 is open, 33 of 100 done, "
-            "2 night(s) left; last whole cycle 2 on 2026-03-02 | age=25200s;93600;180000;0 "
-            "findings=2;1;;0 damaged=0;1;1;0 gone=2;1;;0 progress=33%;;;0;100",
-            "E072\tq\t-", "E072\tr\t-", "object\tp", "file\tp/a"]))
+            "2 nights left; last whole cycle 2 on 2026-03-02 | age=25200s;93600;180000;0 "
+            "findings=2;1;;0 damaged=0;1;1;0 gone=2;1;;0 lost=1;1;1;0 progress=33%;;;0;100",
+            "E072\tq\t-", "E072\tr\t-", "object\tp", "file\to/z"]))
 
     def test_page(self):
         for made in self.both:
@@ -390,8 +404,9 @@ class Log(Asked):
         file = self.made.path + "/reports/statement-000001"
         with open(file) as made_text:
             text = made_text.read()
-        for row in ["Closed: not known", "Compared with cycle: nothing", "Objects gone: 1",
-                    "Files gone: 1"]:
+        for row in ["Closed: not known", "Compared with cycle: nothing",
+                    "Not compared: there is no earlier cycle", "Objects gone: at least 1",
+                    "Files gone: at least 1"]:
             self.assertIn("\n%s\n" % row, text)
         self.assertEqual(self.ask("verify", file)[0], 0)
 
@@ -517,7 +532,7 @@ class LeftOut(Asked):
         made.night(1, 3, 1, 3, 9, 3)
         self.assertIn("; cycle 3 will not be whole: left out b, d;",
                       self.ask("status", *NOW, made.path)[1])
-        self.assertIn("<td>b, d</td>", self.ask("page", *NOW, made.path)[1])
+        self.assertIn("<td>b; d</td>", self.ask("page", *NOW, made.path)[1])
 
 
 class Checkpoint(Asked):
@@ -573,7 +588,8 @@ class Losses(Asked):
         file = made.path + "/reports/statement-000002"
         with open(file) as made_text:
             text = made_text.read()
-        self.assertIn("\nObjects gone and not back: 0\nFiles gone and not back: 1\nKnown losses: 1"
+        self.assertIn("\nObjects gone and not back: 0\nObjects no longer declared, and not back: 0"
+                      "\nFiles gone and not back: 1\nKnown losses: 1"
                       "\nList of known losses, SHA-256: %s\n" % hashlib.sha256(
                           b"object\tp\n").hexdigest(), text)
         self.assertEqual(self.ask("verify", file)[0], 0)
@@ -628,11 +644,12 @@ class Moved(Asked):
         file, away = made.path + "/reports/statement-000002", self.at("away")
         self.assertEqual(self.ask("verify", file)[0], 0)
         for name, lines in [
-                ("cycle-000001", "Report compared with, SHA-256; New findings; Former findings"),
+                ("cycle-000001", "Report compared with, SHA-256; New findings; Changed findings; "
+                                 "Former findings; Findings no longer looked at"),
                 ("statement-000001", "Statement before, SHA-256")]:
             os.rename(os.path.join(made.path, "reports", name), away)
             given, out, _ = self.ask("verify", file)
-            self.assertEqual((given, out.splitlines()[1:]),
+            self.assertEqual((given, out.splitlines()[2:]),
                              (4, ["not checked, without %s: %s" % (name, lines)]))
             os.rename(away, os.path.join(made.path, "reports", name))
 
@@ -757,7 +774,7 @@ class Joined(Asked):
             self.closed(day, day, GONE if day == 2 else b"")
         text = self.check_statement(1)
         for row in ["Closed: 2026-03-01T23:30:00Z", "Compared with cycle: nothing",
-                    "Objects gone: not known"]:
+                    "Not compared: there is no earlier cycle", "Objects gone: not known"]:
             self.assertIn("\n%s\n" % row, text)
         text = self.check_statement(2)
         for row in ["Closed: 2026-03-02T23:30:00Z", "Compared with cycle: 1", "New findings: 1",
@@ -765,25 +782,36 @@ class Joined(Asked):
                     "Report compared with, SHA-256: " + hashlib.sha256(ONE).hexdigest()]:
             self.assertIn("\n%s\n" % row, text)
 
-    def test_a_statement_of_the_form_before(self):
-        """It lacks lines of this form, and did not count what parts found gone where they were
-        compared with different cycles. It holds all the same."""
+    def test_statements_of_the_forms_before(self):
+        """They lack lines of this form. What they say of losses was not known, and the rest of them
+        holds by its own meaning: findings are compared by whole lines."""
         for day in (1, 2):
             self.nights(day, day)
             self.closed(day, day, GONE if day == 2 else b"")
         text = self.check_statement(2)
-        text = re.sub("Nights cut: .*\n|Places left out: .*\n", "", text).replace(
-            "Compared with cycle: 1", "Compared with cycle: nothing").replace(
-            "gone: 1", "gone: not known")
-        text = re.sub("(SHA-256: )[0-9a-f]+(\nNew findings: )1\n(.*)1", r"\1no report\2not known"
-                      r"\n\3not known", text)
-        file = self.at("state/reports/statement-000002")
-        for form, expected in [("statement 1", 0), ("statement 2", 1)]:
-            made = text.replace("statement 2", form, 1)
-            self.put(made.encode(), "state/reports/statement-000002")
-            self.put(statement.as_json(made).encode(), "state/reports/statement-000002.json")
-            given, out, _ = self.ask("verify", file)
-            self.assertEqual((given, "lacks it" in out), (expected, expected == 1), out)
+        name = "(%s)( [0-9]+)?: .*\n"
+        forms = list(statement.ADDED)
+        for at_, lacking in ((1, [2]), (0, [1, 2])):
+            added = "|".join(re.escape(it).replace("\\ \\*", "") for form in lacking
+                             for it in sorted(statement.ADDED[forms[form]]))
+            old = re.sub("(?m)^" + name % added, "", text).replace(forms[2], forms[at_])
+            given, out = self.verify_text(old)
+            self.assertEqual((given, out.splitlines()[-1]), (
+                4, "not known when statements of this form were made: Compared with cycle; Objects "
+                "gone; Files gone; Objects gone and not back; Files gone and not back"), out)
+            self.assertEqual(self.verify_text(old.replace("New findings: 1", "New findings: 2"))[0],
+                             1)
+        given, out = self.verify_text(text.replace(forms[2], forms[1]))
+        self.assertEqual((given, "no statement has the line: Changed findings" in out), (1, True))
+        # What parts that were compared with different cycles found gone was not counted.
+        old = re.sub("gone: 1", "gone: not known", old)
+        self.assertEqual(self.verify_text(old)[0], 4)
+
+    def verify_text(self, text):
+        """The status and the output of `verify` for this text of the statement of cycle 2."""
+        self.put(text.encode(), "state/reports/statement-000002")
+        self.put(statement.as_json(text).encode(), "state/reports/statement-000002.json")
+        return self.ask("verify", self.at("state/reports/statement-000002"))[:2]
 
     def test_a_closing_of_a_part_that_no_row_tells_of(self):
         """What is gone is told of, though nobody knows when the cycle was closed."""
@@ -791,8 +819,8 @@ class Joined(Asked):
             self.nights(day, day)
             self.closed(day, day, GONE if day == 2 else b"", (0,) if day == 2 else (0, 1))
         text = self.check_statement(2)
-        for row in ["Closed: not known", "Compared with cycle: nothing", "Objects gone: 1",
-                    "Files gone: 1"]:
+        for row in ["Closed: not known", "Compared with cycle: not known",
+                    "Objects gone: at least 1", "Files gone: at least 1"]:
             self.assertIn("\n%s\n" % row, text)
 
 
@@ -942,7 +970,8 @@ class Words(Asked):
             for words in [["status", *NOW], ["unverified", "2026-03-01"], ["page", *NOW],
                           ["finish"], ["recheck"]]:
                 more = [words.pop()] if words[0] == "unverified" else []
-                self.assertIn(self.ask(*words, "--", *more, "-state")[0], (0, 1), words)
+                self.assertEqual(self.ask(*words, "--", *more, "-state")[0], {
+                    "status": 2, "recheck": 3}.get(words[0], 0), words)
             for words in [["findings", "--", "-report"], ["totals", "--", "-report"],
                           ["changed", "--", "-report", "-report"],
                           ["statement", "--", "-state", "1"], ["premis", "--", "-state", "1"],

@@ -23,8 +23,9 @@ PROGRAM = "ocfl-scrub-reports"
 LIMITS = [("--age", "26,50", "hours since the last night began"),
           ("--findings", "1,-", "open findings that are not known"),
           ("--damaged", "1,1", "open findings of weight 1 that are not known"),
-          ("--gone", "1,-", "objects and files that are gone and not back, and expected objects "
-                            "without a line"),
+          ("--lost", "1,1", "objects that are gone and not back"),
+          ("--gone", "1,-", "these, files that are gone and not back, objects that are no longer "
+                            "declared, and expected objects that are missing"),
           ("--cycle-age", "-,-", "days since the last whole cycle ended")]
 KNOWN = ("a file of known findings and losses: lines of reports or of lists of what is gone, or "
          "their first two columns, where a path with / after it stands for all below")
@@ -207,7 +208,7 @@ COMMANDS: list[tuple[str, Does, str, str, Iterable[Callable[[Parser], object]], 
      "--by-weight --new ~/audit/reports/cycle-000001 ~/audit/report",
      [argument("--new", metavar="OLDER", type=report_at,
                help="only those that the report OLDER lacks"), WITHOUT_KNOWN,
-      argument("--by-weight", action="store_true", help="the gravest first"), CODES, REPORTS],
+      argument("--by-weight", action="store_true", help="the most serious first"), CODES, REPORTS],
      "These are all lines but `ok` and the note `S07`."),
     ("totals", of_reports(questions.show_totals), "counts the lines of each code in reports",
      "~/audit/reports/cycle-000001", [REPORTS], ""),
@@ -253,8 +254,9 @@ COMMANDS: list[tuple[str, Does, str, str, Iterable[Callable[[Parser], object]], 
      [argument("statement", metavar="STATEMENT"),
       argument("report", metavar="REPORT", nargs="?", type=report_at,
                help="the one that the statement names, unless it is given")],
-     "Ends with 0 if each line was checked and holds, with 1 if one does not hold or is unknown, "
-     "and with 4 if some could not be checked."),
+     "Ends with 0 if what can be checked holds, with 1 if a line does not hold or is unknown, and "
+     "with 4 if some could not be checked. It names the lines of which only the JSON says the "
+     "same."),
     ("status", do_status, "says in one line how the nights are going",
      "--known ~/known --list ~/audit",
      [*JUDGING, argument("--list", action="store_true",
@@ -269,8 +271,9 @@ COMMANDS: list[tuple[str, Does, str, str, Iterable[Callable[[Parser], object]], 
     ("recheck", do_recheck,
      "looks again at the places of open findings, and says which are mended", "~/audit",
      [WITHOUT_KNOWN, STATE],
-     "Ends with 1 if a finding is still open or a new one is there, and with 3 if a place could "
-     "not be looked at. The next cycle says the same in its report."),
+     "What is gone comes after `gone` or `back`. Ends with 1 if a finding is still open, a new one "
+     "is there or something is still gone, and with 3 if a place was not looked at. The next cycle "
+     "says the same in its report."),
     ("tell", do_tell, "sends what a night said", "archive ~/audit",
      [argument("name", metavar="NAME"), STATE],
      "It goes by mail to $MAIL or else to standard error; to both with JOURNAL=yes. systemd calls "
@@ -310,10 +313,33 @@ def joined(words: Sequence[str]) -> list[str]:
     return made
 
 
+def open_streams() -> None:
+    """Opens those of the numbers 0 to 2 that are closed, so that no file of a folder gets one. What
+    is written to standard output fails then."""
+    for number in range(3):
+        try:
+            os.fstat(number)
+        except OSError:
+            os.open("/dev/null", os.O_WRONLY if number == 2 else os.O_RDONLY)
+    if sys.stdout is None:
+        sys.stdout = open(1, "w", closefd=False)
+    if sys.stderr is None:
+        sys.stderr = open(2, "w", closefd=False)
+
+
+def drop_output() -> None:
+    """What could not be written to standard output is not tried again at the end."""
+    try:
+        sys.stdout.flush()
+    except OSError:
+        os.dup2(os.open("/dev/null", os.O_WRONLY), 1)
+
+
 def main(words: Sequence[str] | None = None) -> int:
     """Does what the command line asks, and gives the status."""
     signal.signal(signal.SIGPIPE, signal.SIG_DFL)
     os.umask(0o027)
+    open_streams()
     for end in (signal.SIGHUP, signal.SIGTERM, signal.SIGINT):
         signal.signal(end, lambda *_: sys.exit(3))
     sys.stdout.reconfigure(  # type: ignore[attr-defined]
@@ -329,6 +355,7 @@ def main(words: Sequence[str] | None = None) -> int:
     except Failed as error:
         files.print_error(str(error))
         return error.status
-    except (OSError, ValueError, sqlite3.Error) as error:
+    except (OSError, ValueError, OverflowError, sqlite3.Error) as error:
         files.print_error("%s: %s" % (PROGRAM, error))
+        drop_output()
         return 3

@@ -4,10 +4,11 @@ from __future__ import annotations
 import hashlib
 import re
 from collections import Counter
-from typing import IO
+from itertools import groupby, islice
+from typing import IO, Dict, Iterable, Iterator, List, Tuple
 
-from . import files, questions
-from .report import APART, RIGHT, Reading, is_within
+from . import files, questions, standing
+from .report import APART, RIGHT, Comparing, Mark, Reading, is_within
 from .state import NOT_KNOWN
 from .weights import Weights
 
@@ -18,6 +19,11 @@ OF_DIGESTS = {b"E060", b"E092", b"E093"}
 # What is written like an algorithm. Inventories can name anything.
 ALGORITHM = re.compile(rb"[A-Za-z0-9/_-]{1,40}")
 MOST_ALGORITHMS = 20
+# The lines of a statement on two reports.
+CHANGES = ("New findings", "Changed findings", "Former findings", "Findings no longer looked at")
+COMPARED = "Report compared with, SHA-256"
+# A code and a place, and the details of their findings.
+Found = Tuple[bytes, List[bytes]]
 
 
 def add_algorithm(count: Counter[str], name: bytes) -> None:
@@ -32,12 +38,32 @@ def algorithms_text(count: Counter[str]) -> str:
     return ", ".join("%s %d" % it for it in sorted(count.items())) or "none"
 
 
+class Digests:
+    """The SHA-256 of a report, as its bytes come, and whether it has these marks."""
+
+    def __init__(self, marks: list[Mark] | None) -> None:
+        self.digest, self.comparing = hashlib.sha256(), Comparing(marks) if marks else None
+
+    def take(self, data: bytes) -> None:
+        self.digest.update(data)
+        if self.comparing:
+            self.comparing.take(data)
+
+    def text(self) -> str:
+        return self.digest.hexdigest()
+
+    def is_as_closed(self) -> bool:
+        """Whether it has its marks; true also where there are none."""
+        return self.comparing is None or self.comparing.are_same()
+
+
 class Count:
     """What one reading of a report counts. An object of which a place was left out is none without
     findings. If nobody knows which places were, or the report lost lines, nobody can say it of any
     object."""
 
-    def __init__(self, report: str, left: list[str] | None) -> None:
+    def __init__(self, report: str, left: list[str] | None,
+                 marks: list[Mark] | None = None) -> None:
         self.objects = self.sound = self.content = self.right = self.bytes = 0
         self.codes: Counter[str] = Counter()
         # The findings themselves, as lines.
@@ -49,15 +75,17 @@ class Count:
         self.weights = Weights()
         self.object = self.file = b""
         self.is_sound = False
-        digest = hashlib.sha256()
-        reading = Reading(report, digest.update)
+        digests = Digests(marks)
+        reading = Reading(report, digests.take)
         for block in reading.blocks():
             sizes = RIGHT.findall(block)
             self.right += len(sizes)
             self.bytes += sum(map(int, sizes))
             for found in APART.finditer(block):
                 self.line(*found.groups())
-        self.lines, self.odd, self.digest = reading.lines, reading.odd, digest.hexdigest()
+        self.lines, self.odd, self.digest = reading.lines, reading.odd, digests.text()
+        self.is_as_closed = digests.is_as_closed()
+        self.is_complete = self.left is not None and self.is_as_closed
 
     def line(self, code: bytes, path: bytes, detail: bytes) -> None:
         """A line of what is no content file that was found right."""
@@ -91,17 +119,67 @@ class Count:
                 "Report SHA-256": self.digest,
                 "Algorithms of wrong digests": algorithms_text(self.wrong),
                 "Algorithms not computed": algorithms_text(self.not_computed),
-                "Objects without findings": NOT_KNOWN if self.left is None else str(self.sound)}
+                "Objects without findings": str(self.sound) if self.is_complete else NOT_KNOWN}
 
 
-def of_changes(found: IO[bytes], earlier: str | None) -> dict[str, str]:
-    """How many of the findings of a cycle the report before it has not, and the other way round,
-    by whole lines."""
+def found_in(spool: IO[bytes]) -> Iterator[Found]:
+    """The codes and places of findings, each once, with the details there."""
+    for place, lines in groupby(questions.lines_of(spool), lambda line: line.split(b"\t")[1]):
+        made: Dict[bytes, List[bytes]] = {}
+        for line in lines:
+            code, _, detail = line.split(b"\t")
+            made.setdefault(code + b"\t" + place, []).append(detail)
+        yield from made.items()
+
+
+def beside(found: IO[bytes], others: IO[bytes]) -> Iterator[tuple[bytes, bool, bool]]:
+    """Each code and place of these findings, whether the others have it, and whether in other
+    words. No more than 100,000 are in memory."""
+    rest = found_in(found)
+    while held := dict(islice(rest, questions.HELD)):
+        known = {key: details for key, details in found_in(others) if key in held}
+        for key, details in held.items():
+            yield key, key in known, known.get(key, details) != details
+
+
+def of_changes(found: IO[bytes], report: str, earlier: str | None,
+               marks: list[Mark] | None = None, left: Iterable[bytes] = ()) -> dict[str, str]:
+    """How the findings of a report differ from those of an earlier one, by code and place. Nothing
+    is known if there is none, or if it has not the marks with which it was closed. What the earlier
+    one left out is not new."""
+    unknown = dict.fromkeys(CHANGES, NOT_KNOWN)
     if earlier is None:
-        return {"Report compared with, SHA-256": "no report", "New findings": NOT_KNOWN,
-                "Former findings": NOT_KNOWN}
+        return {COMPARED: "no report", **unknown}
+    digests, new = Digests(marks), 0
+    before = questions.findings_in(earlier, digests.take)
+    if not digests.is_as_closed():
+        return {COMPARED: "changed since it was closed", **unknown}
+    for key, is_known, _ in beside(found, before):
+        new += not is_known and not is_within_any(key.split(b"\t")[1], left)
+    return {COMPARED: digests.text(), "New findings": str(new), **of_former(found, report, before)}
+
+
+def of_former(found: IO[bytes], report: str, before: IO[bytes]) -> dict[str, str]:
+    """What became of the findings of before."""
+    lacking, changed, count = files.spool(), 0, 0
+    for key, is_known, is_changed in beside(before, found):
+        changed += is_changed
+        if not is_known:
+            count += 1
+            lacking.write(key + b"\n")
+    away = sum(1 for _ in standing.left_over(questions.lines_of(lacking), [[report]]))
+    return {"Changed findings": str(changed), "Former findings": str(count - away),
+            "Findings no longer looked at": str(away)}
+
+
+def is_within_any(path: bytes, places: Iterable[bytes]) -> bool:
+    return any(is_within(path, place) for place in places)
+
+
+def of_lines(found: IO[bytes], earlier: str) -> dict[str, str]:
+    """The same by whole lines, as statements of the forms before have it."""
     digest = hashlib.sha256()
     before = questions.findings_in(earlier, digest.update)
-    return {"Report compared with, SHA-256": digest.hexdigest(),
+    return {COMPARED: digest.hexdigest(),
             "New findings": str(questions.count_lacking(found, before)),
             "Former findings": str(questions.count_lacking(before, found))}

@@ -11,7 +11,7 @@ from typing import TYPE_CHECKING, Any, Iterable, Iterator
 from . import files
 
 if TYPE_CHECKING:
-    from .state import JoinedState, State
+    from .state import Closed, JoinedState, State
 
 # Killed is worse than cut, and that than these.
 RANKS = {"": 0, "0": 0, "1": 1, "3": 2, "4": 3, "2": 4, "cut": 5}
@@ -23,23 +23,39 @@ ONE_NIGHT = 43200
 RUN, STANDS = b'"row":"slice"', ("cycle", "spent", "files", "stands")
 # The members of a row that an entry has by the same names.
 NUMBERS = ("cycle", "run", "lines", "cost", "spent", "files", "seconds", "bytes")
-WORDS = ("said", "stands", "program")
+WORDS = ("said", "stands", "program", "why")
 
 
 @dataclass(frozen=True)
 class Closing:
-    """What the log says of a cycle that was closed. What was not compared or not asked is None."""
+    """What the log says of a cycle that was closed."""
     report: str = ""
     is_whole: bool = False
-    compared: int | None = None
-    objects: int = 0
-    files: int = 0
-    expected: int | None = None
+    # Whether a row tells of it.
+    is_logged: bool = False
+    # The cycles that it was compared with: none, or one, or for parts several. None if the log
+    # does not say it.
+    compared: tuple[int, ...] | None = None
+    # Why it was compared with none, as far as the row says it.
+    why: str = ""
+    # How much is gone, of objects, files and expected objects together.
+    gone: int = 0
+    # How many objects the list of those that were expected has, and its SHA-256: empty if none was
+    # searched.
+    listed: int = 0
+    list: str = ""
     # How many places were left out.
     left: int = 0
-    # What the log does not say: `expected`, if such objects were asked for; `kinds`, how many of
-    # what is gone are objects, which all then count as; `closed`, when; `lost`, how many lines.
-    unsaid: tuple[str, ...] = ()
+
+    def why_not_compared(self, cycle: int) -> str:
+        """Why nobody knows what this cycle lost; empty if it was compared."""
+        if self.compared:
+            return ""
+        if cycle == 1:
+            return self.why or "there is no earlier cycle"
+        if self.compared is None:
+            return "the log does not say what cycle %d was compared with" % cycle
+        return self.why or "the log gives no reason"
 
 
 @dataclass(frozen=True)
@@ -61,9 +77,13 @@ class Entry:
     bytes: int = 0
     said: str = ""
     stands: str = ""
-    # Of a run: the SHA-256 of its program, and how many runs it stands for.
+    # Of a run: the SHA-256 of its program, and how many runs it stands for. Of one of a part: when
+    # the night of that part began.
     program: str = ""
     runs: int = 1
+    of_part: str = ""
+    # Of `left`: why the place could not be read.
+    why: str = ""
     # Of `ended`: what was closed. Of `told`: the status of the night.
     closing: Closing | None = None
     status: str = ""
@@ -155,10 +175,10 @@ class Telling:
         self.state = state
         self.night = ""
         self.has_begun = self.has_ended = self.has_slices = False
-        # The last run, the last cycle known to be closed, and the last one closed whole.
+        # The last run, and the last cycle known to be closed.
         self.last: Entry | None = None
         self.closed = 0
-        self.whole: int | None = None
+        self.reports: list[Closed] | None = None
         # What the night closed: it comes after the night's runs.
         self.closings: list[Entry] = []
 
@@ -176,7 +196,7 @@ class Telling:
         elif kind == "left":
             yield replace(entry_of(row, kind), said=words(row, "place"))
         elif kind == "closing":
-            self.closings.append(self.ended(row))
+            self.closings.append(replace(entry_of(row, "ended"), closing=closing_of(row)))
         elif kind == "refusal":
             yield entry_of(row, str(number(row, "status")))
         elif kind == "night":
@@ -201,7 +221,7 @@ class Telling:
             stands="ended" if closed else words(row, "stands"))
 
     def run(self, entry: Entry) -> Iterator[Entry]:
-        if self.last and entry.cycle > self.last.cycle:
+        if entry.cycle > (self.last.cycle if self.last else 0):
             yield from self.unlogged(entry.cycle)
         self.last = entry
         yield entry
@@ -228,42 +248,53 @@ class Telling:
         """What is known of the last night of the log, which may be under way."""
         yield from self.closings_so_far() if self.state.is_held() else self.end()
 
-    def ended(self, row: dict[str, Any]) -> Entry:
-        entry = entry_of(row, "ended")
-        is_whole, left = row.get("whole") is True, number(row, "left")
-        listed, unsaid = self.state.find("gone", entry.cycle), ["expected"]
-        if not is_whole and not left:
-            unsaid.append("lost")
-        kinds = kinds_in(listed)
-        if number(row, "gone") and not listed:
-            unsaid.append("kinds")
-            kinds[b"object"] = number(row, "gone")
-        closing = with_losses(Closing(
-            os.path.basename(words(row, "report")), is_whole, left=left, unsaid=tuple(unsaid),
-            compared=None if "lost" in unsaid else self.whole), kinds)
-        self.whole = entry.cycle if is_whole else self.whole
-        return replace(entry, closing=closing)
-
     def unlogged(self, below: int = ALL_LINES) -> Iterator[Entry]:
         """That cycles below this one were closed of which no row says it, though their reports
         show it."""
-        for it in self.state.closed() if self.last else ():
-            if self.last is None or not self.closed < it.cycle < below:
+        if self.reports is None:
+            self.reports = self.state.closed()
+        for it in self.reports:
+            if not self.closed < it.cycle < below:
                 continue
             self.closed = it.cycle
-            self.whole = it.cycle if it.is_whole else self.whole
-            name = os.path.basename(it.path).partition(".")[0]
-            unsaid = ("closed", "expected") + ("lost",) * (not it.is_whole)
-            closing = with_losses(Closing(name, it.is_whole, unsaid=unsaid),
-                                  kinds_in(self.state.find("gone", it.cycle)))
-            yield replace(self.last, kind="ended", cycle=it.cycle, cost=0, seconds=0,
-                          closing=closing)
+            yield replace(
+                self.last or Entry("ended"), kind="ended", cycle=it.cycle, cost=0, seconds=0,
+                closing=Closing(os.path.basename(it.path).partition(".")[0], it.is_whole))
 
 
-def with_losses(closing: Closing, kinds: Counter[bytes]) -> Closing:
-    """A closing with what is gone, which the list beside its report says without a row."""
-    return replace(closing, objects=kinds[b"object"], files=kinds[b"file"],
-                   expected=kinds[b"expected"] or None)
+def closing_of(row: dict[str, Any]) -> Closing:
+    """What the row of a closing says."""
+    compared = None if "compared" not in row else tuple(filter(None, [number(row, "compared")]))
+    return Closing(
+        os.path.basename(words(row, "report")), row.get("whole") is True, True, compared,
+        words(row, "why"), number(row, "gone"), number(row, "listed"), words(row, "list"),
+        number(row, "left"))
+
+
+class Comparisons:
+    """The cycles that were closed, and what each was compared with."""
+
+    def __init__(self) -> None:
+        self.closings: dict[int, Closing] = {}
+
+    def take(self, entry: Entry) -> None:
+        """Notes a closing. A night that says it once more has the last word."""
+        known = self.closings.get(entry.cycle)
+        if entry.closing and (entry.closing.is_logged or not known):
+            self.closings[entry.cycle] = entry.closing
+
+    def why_unknown(self, upto: int) -> str:
+        """Why nobody knows all that was gone when some cycle up to this one was closed. Empty if
+        each of them was compared, or a later one with a cycle before it."""
+        reach = upto
+        for cycle in sorted((it for it in self.closings if it <= upto), reverse=True):
+            closing = self.closings[cycle]
+            if closing.compared and cycle >= reach:
+                reach = min(reach, *closing.compared)
+        if reach <= 1 < upto:
+            return ""
+        closing = self.closings.get(reach, Closing())
+        return closing.why_not_compared(reach)
 
 
 class Joining:
@@ -279,12 +310,12 @@ class Joining:
         self.last: dict[int, Entry] = {}
         self.spent: Counter[int] = Counter()
         self.files: Counter[int] = Counter()
-        # What the parts closed, by the cycle.
-        self.closings: dict[int, list[Entry]] = {}
+        # What the parts closed, by the cycle and the part.
+        self.closings: dict[int, dict[int, Entry]] = {}
 
     def take(self, number_of_part: int, row: dict[str, Any]) -> Iterator[Entry]:
         """What comes with the next row of a part."""
-        if number(row, "night") - self.first >= ONE_NIGHT:
+        if number(row, "night") and abs(number(row, "night") - self.first) >= ONE_NIGHT:
             self.first, self.night, self.status = number(row, "night"), time_of(row, "night"), "0"
         telling = self.of_parts.get(number_of_part, self.of_all)
         for entry in telling.take(row):
@@ -300,7 +331,8 @@ class Joining:
 
     def of_part(self, number_of_part: int, entry: Entry) -> Iterator[Entry]:
         if entry.kind == "ended":
-            self.closings.setdefault(entry.cycle, []).append(entry)
+            known = self.closings.setdefault(entry.cycle, {})
+            known[number_of_part] = later(known.get(number_of_part), entry)
         elif entry.is_run() and entry.cycle > 0:
             yield from self.run(number_of_part, entry)
         else:
@@ -310,14 +342,14 @@ class Joining:
     def run(self, number_of_part: int, entry: Entry) -> Iterator[Entry]:
         """A run of a part, with what its cycle has read in all parts."""
         last = self.of_all.last
-        if last and entry.cycle > last.cycle:
+        if entry.cycle > (last.cycle if last else 0):
             yield from self.unlogged(entry.cycle)
         before = self.last.get(number_of_part)
         is_same = before is not None and before.cycle == entry.cycle
         self.spent[entry.cycle] += entry.spent - (before.spent if before and is_same else 0)
         self.files[entry.cycle] += entry.files - (before.files if before and is_same else 0)
         self.last[number_of_part] = entry
-        self.of_all.last = replace(entry, night=self.night, stands="",
+        self.of_all.last = replace(entry, night=self.night, stands="", of_part=entry.night,
                                    spent=self.spent[entry.cycle], files=self.files[entry.cycle])
         yield self.of_all.last
 
@@ -327,16 +359,40 @@ class Joining:
             yield self.joined(entry)
 
     def joined(self, entry: Entry) -> Entry:
-        """A joined cycle was closed when the last of its parts was. It is compared with an earlier
-        one if each part is, and with that one."""
-        found = self.closings.pop(entry.cycle, []) + [
-            it for part in self.of_parts.values() for it in part.closings
-            if it.cycle == entry.cycle]
-        closings = [it.closing for it in found if it.closing and "closed" not in it.closing.unsaid]
+        """A joined cycle was closed when the last of its parts was. It was compared with the cycles
+        that its parts were, if each was with one."""
+        found = self.closings.pop(entry.cycle, {})
+        for number_of_part, part in self.of_parts.items():
+            for it in part.closings:
+                if it.cycle == entry.cycle:
+                    found[number_of_part] = later(found.get(number_of_part), it)
+        closings = {at: it.closing for at, it in sorted(found.items())
+                    if it.closing and it.closing.is_logged}
         if entry.closing is None or len(closings) < len(self.of_parts):
             return entry
-        compared = {it.compared for it in closings}
-        return replace(entry, began=max(it.began for it in found), closing=replace(
-            entry.closing, compared=compared.pop() if len(compared) == 1 else None,
-            left=sum(it.left for it in closings),
-            unsaid=tuple(it for it in entry.closing.unsaid if it != "closed")))
+        return replace(entry, began=max(it.began for it in found.values()), closing=replace(
+            entry.closing, is_logged=True, left=sum(it.left for it in closings.values()),
+            gone=sum(it.gone for it in closings.values()), **of_all_parts(closings, entry.cycle)))
+
+
+def later(known: Entry | None, entry: Entry) -> Entry:
+    """Of two rows that tell of one closing what the later one says, at the time of the first. One
+    that is only known by its report says less."""
+    if known is None or not known.closing or not known.closing.is_logged:
+        return entry
+    if not entry.closing or not entry.closing.is_logged:
+        return known
+    return replace(entry, began=known.began)
+
+
+def of_all_parts(closings: dict[int, Closing], cycle: int) -> dict[str, Any]:
+    """What all parts were compared with, or why not all of them were."""
+    bad = next((at for at, it in closings.items() if not it.compared), None)
+    if bad is None:
+        return {"compared": tuple(sorted({one for it in closings.values()
+                                          for one in it.compared or ()}))}
+    if closings[bad].compared is None:
+        return {"compared": None}
+    of_first = cycle == 1 and not any(it.why for it in closings.values())
+    return {"compared": (), "why": "" if of_first else "part %d: %s" % (
+        bad, closings[bad].why_not_compared(cycle))}

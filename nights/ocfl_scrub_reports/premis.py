@@ -10,8 +10,9 @@ from typing import Iterator
 from urllib.parse import unquote_to_bytes
 
 from . import files
+from .counts import Digests
 from .report import Line, Reading, is_within
-from .shared import Failed
+from .shared import Failed, many
 from .state import State
 from .statement import Statement
 from .weights import Weights
@@ -21,7 +22,9 @@ HEAD = """<?xml version="1.0" encoding="UTF-8"?>
     xmlns:xsi="http://www.w3.org/2001/XMLSchema-instance" version="3.0">
 """
 VOCABULARY = "http://id.loc.gov/vocabulary/preservation/"
-LOSSES = ("Objects gone", "Files gone", "Expected objects missing")
+LOSSES = ("Objects gone", "Objects no longer declared", "Files gone", "Expected objects missing")
+# What is said of a row of a list of what is gone.
+NOTES = {b"expected": b"missing: ", b"undeclared": b"no longer declared, and not looked at: "}
 # What no document of XML 1.0 may hold.
 FORBIDDEN = re.compile("[\x00-\x08\x0b\x0c\x0e-\x1f\ud800-\udfff\ufffe\uffff]")
 # What is markup, and what other readers would make other characters of.
@@ -81,6 +84,9 @@ class Events:
         if each != "finding" and self.said["Whole"] != "yes":
             raise Failed("the report of cycle %d is not whole: try --each finding" % cycle)
         self.report = self.said.report_beside(state.reports)
+        # The digests of the report, as it is read: only of the one that was closed is anything
+        # said.
+        self.digests = Digests(state.marks(cycle) if self.said["Whole"] == "yes" else None)
         self.root_folder = state.bound_to("root")
         if with_ids and not os.path.isdir(files.bytes_of(self.root_folder)):
             raise Failed("the storage root is not at %s, so no id can be read" % self.root_folder)
@@ -89,7 +95,7 @@ class Events:
         if not self.runs:
             raise Failed("no night of this cycle is logged")
         self.ends = [run.lines for run in self.runs]
-        # The log does not say which night wrote a line, so all programs are agents of each event.
+        # All programs of the cycle are agents of each event.
         self.programs = dict.fromkeys(
             run.program or self.said["Program SHA-256"] for run in self.runs)
         self.objects, self.events = files.spool(), files.spool()
@@ -159,18 +165,22 @@ class Events:
     # What the lines of the report give
 
     def of_cycle(self) -> None:
-        reading = Reading(self.report)
+        reading = Reading(self.report, self.digests.take)
         found = sum(line.is_finding() for line in reading.apart())
         lost = ["%s: %s" % (name, self.said[name]) for name in LOSSES
-                if self.said[name].strip("0").isdecimal()]
-        note = "; ".join(["%d findings in %d lines" % (found, reading.lines), *lost])
+                if self.said.get(name, "").strip("0").isdecimal()]
+        why = self.said.get("Not compared")
+        unknown = [] if self.said["Objects gone"].isdecimal() else [
+            "what is gone is not known" + (": " + why if why else "")]
+        note = "; ".join([many(found, "finding") + " in " + many(reading.lines, "line"), *lost,
+                          *unknown])
         came = "fail" if found or lost else "pass"
         event = Event("", "Audit of a storage root", 1, b".", [(came, note.encode())])
         self.event(event, self.runs[-1].began)
 
     def lines(self) -> Iterator[tuple[Line, bool]]:
         """The lines of the report apart from right files, and whether each begins an object."""
-        for line in Reading(self.report).apart():
+        for line in Reading(self.report, self.digests.take).apart():
             begins = line.path != self.object and self.weights.is_of_object(*line[1:])
             if begins:
                 self.object = line.path
@@ -210,6 +220,9 @@ class Events:
     def write(self) -> None:
         {"cycle": self.of_cycle, "finding": self.of_findings,
          "object": self.of_objects}[self.each]()
+        if (self.digests.text() != self.said["Report SHA-256"]
+                or not self.digests.is_as_closed()):
+            raise Failed("%s was changed since it was closed" % self.report)
         self.of_losses()
         out = files.spool()
         out.write(HEAD.encode())
@@ -228,7 +241,7 @@ class Events:
         path = self.state.find("gone", self.cycle) if self.each != "cycle" else None
         for number, line in enumerate(files.lines(path) if path else [], 1):
             kind, _, place = line.partition(b"\t")
-            note = (b"missing: " if kind == b"expected" else b"gone: ") + place
+            note = NOTES.get(kind, b"gone: ") + place
             event = Event(":gone:%d" % number, "Loss found by an audit", 0,
                           b"." if kind == b"file" else place, [("fail", note)])
             self.event(event, self.said["Closed"])

@@ -5,11 +5,13 @@ searches below go over a whole block at once; a loop over lines would take many 
 """
 from __future__ import annotations
 
+import hashlib
 import re
-from typing import Callable, Iterator, NamedTuple
+from typing import Callable, Iterable, Iterator, NamedTuple, Sequence
 
 from . import files
 from .shared import Failed
+from .weights import Weights
 
 CODE = rb"ok|E[0-9]{3}|S[0-9]{2}"
 ESCAPE = rb"%(?:[01][0-9A-F]|25|7F|[89A-F][0-9A-F])"
@@ -24,6 +26,8 @@ OTHER = re.compile(rb"\n(?!ok\t)([^\n]+)")
 APART = re.compile(rb"\n(?!ok\t[^\t\n]+\t[0-9])([^\t\n]+)\t([^\t\n]+)\t([^\n]+)")
 RIGHT = re.compile(rb"\nok\t[^\t\n]+\t([0-9]+)")
 NO_FINDINGS = (b"ok", b"S07")
+# How many bytes the digests of a report in a checkpoint take as one piece.
+PIECE = 4 << 20
 
 
 class Line(NamedTuple):
@@ -37,6 +41,64 @@ class Line(NamedTuple):
 
     def is_finding(self) -> bool:
         return self.code not in NO_FINDINGS
+
+
+class Mark(NamedTuple):
+    """What a checkpoint has of a report (docs/RULES.md, "Checkpoint text"): its bytes and lines, the
+    digest that chains its whole pieces of 4 MiB, and that of what follows them."""
+    bytes: int
+    lines: int
+    pieces: str
+    tail: str
+
+
+def mark_in(lines: Iterable[str], path: str) -> Mark:
+    """The mark in the lines of a checkpoint."""
+    found = dict(line.split(" ", 1) for line in lines if " " in line)
+    sizes = found.get("report", "").split(" ")
+    if len(sizes) != 2 or not all(map(str.isdecimal, sizes)):
+        raise Failed(path + " does not say how long the report is")
+    return Mark(int(sizes[0]), int(sizes[1]), found.get("pieces", ""), found.get("tail", ""))
+
+
+class Marking:
+    """The mark of a report, as its bytes come."""
+
+    def __init__(self) -> None:
+        self.chain, self.piece = "0" * 64, bytearray()
+        self.bytes = self.lines = 0
+
+    def take(self, data: bytes) -> None:
+        self.bytes += len(data)
+        self.lines += data.count(b"\n")
+        self.piece += data
+        while len(self.piece) >= PIECE:
+            whole = self.chain.encode() + b"\n" + self.piece[:PIECE]
+            self.chain = hashlib.sha256(whole).hexdigest()
+            del self.piece[:PIECE]
+
+    def mark(self) -> Mark:
+        return Mark(self.bytes, self.lines, self.chain, hashlib.sha256(self.piece).hexdigest())
+
+
+class Comparing:
+    """Whether a report has these marks, one after the other, as its bytes come."""
+
+    def __init__(self, marks: Sequence[Mark]) -> None:
+        self.marks, self.made = marks, [Marking()]
+
+    def take(self, data: bytes) -> None:
+        while len(self.made) < len(self.marks):
+            room = self.marks[len(self.made) - 1].bytes - self.made[-1].bytes
+            if len(data) < room:
+                break
+            self.made[-1].take(data[:room])
+            self.made.append(Marking())
+            data = data[room:]
+        self.made[-1].take(data)
+
+    def are_same(self) -> bool:
+        return [it.mark() for it in self.made] == list(self.marks)
 
 
 class Reading:
@@ -92,8 +154,9 @@ class Reading:
     def refuse_odd(self) -> None:
         """Fails if something that was read is no line of a report."""
         if self.odd:
-            raise Failed("%s: %d line(s) are no lines of a report, the first is line %d"
-                               % (self.path, self.odd, self.first_odd))
+            raise Failed("%s: %s not of a report, the first is line %d" % (
+                self.path, "a line is" if self.odd == 1 else "%d lines are" % self.odd,
+                self.first_odd))
 
     def whole(self) -> Iterator[bytes]:
         """The blocks; fails at the end if something is no line of a report."""
@@ -123,6 +186,13 @@ def paths(path: str) -> Iterator[list[bytes]]:
     """The paths of all lines, many at a time."""
     for block in Reading(path).blocks():
         yield block.split(b"\t")[1::2]
+
+
+def objects(path: str) -> Iterator[list[bytes]]:
+    """The places of all lines of objects, many at a time."""
+    weights = Weights()
+    for block in Reading(path).blocks():
+        yield [found[2] for found in APART.finditer(block) if weights.is_of_object(*found.groups())]
 
 
 def is_within(path: bytes, above: bytes) -> bool:

@@ -9,6 +9,11 @@ HERE = os.path.dirname(os.path.abspath(__file__))
 BUILT = "crates/ocfl_scrub_cli/out/ocfl_scrub_cli"
 
 
+def many(count: int, name: str) -> str:
+    """A count and what it is of, with an `s` unless it is one."""
+    return "%d %s%s" % (count, name, "" if count == 1 else "s")
+
+
 class Failed(Exception):
     """Ends a command with a text and a status."""
 

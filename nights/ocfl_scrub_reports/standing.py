@@ -11,7 +11,9 @@ from . import files, report
 from .state import State, numbered_in
 
 HELD = 100000
-LOSSES = (b"object\t", b"file\t")
+OBJECTS = (b"object\t", b"undeclared\t", b"expected\t")
+LOSSES = (b"object\t", b"undeclared\t", b"file\t")
+EXPECTED = (b"expected\t",)
 # The cycle of what is open still.
 OPEN = 1 << 63
 
@@ -26,18 +28,23 @@ class Group(NamedTuple):
 def left_over(items: Iterable[bytes], later: list[list[str]],
               lists: Iterable[str] = ()) -> Iterator[bytes]:
     """Those of these lines whose place has no line in any later report, nor in any of these lists
-    of what is gone. A line's second column is its place."""
+    of what is gone. A line's second column is its place. What is said of an object needs a line of
+    an object there."""
     rest = iter(items)
     again = list(lists)
     while held := list(islice(rest, HELD)):
+        objects: dict[bytes, list[bytes]] = {}
         places: dict[bytes, list[bytes]] = {}
         for line in held:
-            places.setdefault(line.split(b"\t", 2)[1], []).append(line)
+            which = objects if line.startswith(OBJECTS) else places
+            which.setdefault(line.split(b"\t", 2)[1], []).append(line)
         for path in (path for group in later for path in group):
             drop_seen(places, report.paths(path) if places else ())
+            drop_seen(objects, report.objects(path) if objects else ())
         for path in again:
             drop_seen(places, places_gone(path) if places else ())
-        for lines in places.values():
+            drop_seen(objects, places_gone(path) if objects else ())
+        for lines in [*objects.values(), *places.values()]:
             yield from lines
 
 
@@ -52,6 +59,19 @@ def drop_seen(places: dict[bytes, list[bytes]], paths: Iterable[list[bytes]]) ->
 def places_gone(path: str) -> Iterator[list[bytes]]:
     """The places of what a list calls gone, one at a time."""
     return ([line.split(b"\t", 1)[1]] for line in files.lines(path) if line.startswith(LOSSES))
+
+
+def losses_in(path: str) -> Iterator[bytes]:
+    """What a list calls gone. Files of an object that it calls gone, or no longer declared, are not
+    counted one by one: no night looked at them."""
+    last = b""
+    for line in files.lines(path):
+        place = line.partition(b"\t")[2]
+        if line.startswith(OBJECTS[:2]):
+            last = place
+            yield line
+        elif line.startswith(b"file\t") and not report.is_within(place, last):
+            yield line
 
 
 def open_findings(state: State) -> Iterator[bytes]:
@@ -76,12 +96,19 @@ def groups_of(state: State, upto: int | None = None) -> list[Group]:
 
 
 def losses(state: State, upto: int | None = None) -> Iterator[bytes]:
-    """The objects and files that were gone when some cycle was closed and are not back, as lines of
-    the lists, each once: up to a cycle, or up to now. What is back has a line in the last whole
-    report or in one after it."""
+    """The objects and files that were gone, and the objects that were no longer declared, when some
+    cycle was closed, and that are not back, as lines of the lists, each once: up to a cycle, or up
+    to now. What is back has a line in the last whole report or in one after it."""
     lists = [it for it in numbered_in(state.reports, "gone") if upto is None or it.cycle <= upto]
     groups = groups_of(state, upto)
     for at in reversed(range(len(lists))):
-        lost = (line for line in files.lines(lists[at].path) if line.startswith(LOSSES))
         later = [it.reports for it in groups if it.cycle > lists[at].cycle]
-        yield from left_over(lost, later, [it.path for it in lists[at + 1:]])
+        yield from left_over(losses_in(lists[at].path), later, [it.path for it in lists[at + 1:]])
+
+
+def missing(state: State, cycle: int) -> Iterator[bytes]:
+    """The expected objects that were missing when a cycle was closed, and have no line since, as
+    lines of its list."""
+    path = state.find("gone", cycle)
+    lost = (line for line in files.lines(path) if line.startswith(EXPECTED)) if path else iter(())
+    yield from left_over(lost, [it.reports for it in groups_of(state) if it.cycle > cycle])

@@ -4,22 +4,26 @@ from __future__ import annotations
 
 import fcntl
 import json
+from array import array
 import os
 import re
 import sqlite3
 import subprocess
 from dataclasses import dataclass, replace
-from typing import Any, Iterator
+from typing import Any, Iterable, Iterator, Sequence
 from urllib.parse import unquote_to_bytes
 
 from . import files
 from .log import ALL_LINES, Entry, Joining, Telling, in_brief, number, row_of, time_of
+from .report import Mark, mark_in
 from .shared import Failed, find_program, refuse_links
 
 NUMBERED = re.compile(r"([a-z]+)-([0-9]+)(\.gz)?")
 PART = re.compile("part-[0-9]{6,}")
 NOT_KNOWN = "not known"
 CHECKPOINT = b"ocfl-scrub checkpoint 1"
+# A time before this one, in 2020, is that of a clock that was not set.
+NO_TIME = 1577836800
 # What lies in a folder of the scripts that made nights before the program did, and in one of the
 # program's.
 OF_SCRIPTS = ("cursor", "nights", "root", "parts-000001")
@@ -42,7 +46,7 @@ def find(folder: str, kind: str, cycle: int) -> str | None:
     """The file of a kind and a cycle in a folder of reports, plain or compressed."""
     path = os.path.join(folder, cycle_name(kind, cycle))
     refuse_links(path, path + ".gz")
-    return next((it for it in (path, path + ".gz") if os.path.isfile(it)), None)
+    return next((it for it in (path, path + ".gz") if files.is_file(it)), None)
 
 
 def numbered_in(folder: str, *kinds: str) -> list[Closed]:
@@ -50,7 +54,7 @@ def numbered_in(folder: str, *kinds: str) -> list[Closed]:
     lies there plain and compressed the plain one. What somebody copied there under another name is
     none, and a link is refused."""
     found: dict[tuple[int, str], Closed] = {}
-    for name in sorted(os.listdir(folder)) if os.path.isdir(folder) else []:
+    for name in files.names_in(folder):
         named = NUMBERED.fullmatch(name)
         if named and named[1] in kinds:
             path, cycle = os.path.join(folder, name), int(named[2])
@@ -181,6 +185,28 @@ class State:
     def find(self, kind: str, cycle: int) -> str | None:
         return find(self.reports, kind, cycle)
 
+    def find_report(self, cycle: int) -> str | None:
+        """The closed report of a cycle."""
+        return self.find("cycle", cycle) or self.find("incomplete", cycle)
+
+    def marks(self, cycle: int) -> list[Mark] | None:
+        """What the checkpoint that closed a cycle has of its report; None if it was not kept.
+        Fails if the program refuses it."""
+        path = self.find("checkpoint", cycle)
+        if path is None:
+            return None
+        done = subprocess.run([find_program(), "show", "--", path], stdout=subprocess.PIPE,
+                              stdin=subprocess.DEVNULL, check=False)
+        if done.returncode != 0:
+            raise Failed(path + " is refused by the program")
+        return [mark_in(files.text_of(done.stdout).split("\n"), path)]
+
+    def is_compared_later(self, cycle: int) -> bool:
+        """Whether a night will still compare this cycle: the checkpoint that closed it is there,
+        and neither its list of what is gone, nor that of a later cycle."""
+        lists = [it.cycle for it in numbered_in(self.reports, "gone")]
+        return self.find("checkpoint", cycle) is not None and max(lists, default=0) < cycle
+
     def closed(self) -> list[Closed]:
         return closed_in(self.reports)
 
@@ -241,6 +267,16 @@ class JoinedState(State):
         for part in self.folders()[:1]:
             part.refuse_damage()
 
+    def marks(self, cycle: int) -> list[Mark] | None:
+        """Those of the parts, whose reports follow one another in the joined one."""
+        found = []
+        for part in self.folders():
+            path = part.find("checkpoint", cycle)
+            if path is None:
+                return None
+            found.append(mark_in([files.text_of(it) for it in files.lines(path)], path))
+        return found or None
+
     def entries(self, is_brief: bool = False) -> Iterator[Entry]:
         joining = Joining(self)
         for number_of_part, row in self.rows_by_time(is_brief):
@@ -263,17 +299,28 @@ class JoinedState(State):
 
     def rows_by_time(self, is_brief: bool) -> Iterator[tuple[int, dict[str, Any]]]:
         """The rows of all logs by their time, each after the number of its part, which is 0 for
-        those of the folder itself. They can be more than memory has room for."""
+        those of the folder itself. The rows of one log stay in their order, whatever its clock
+        said. They can be more than memory has room for."""
         database = sqlite3.connect("")
         database.execute("create table row (time integer, part integer, line text)")
         for number_of_part, part in enumerate([State(self.path), *self.folders()]):
-            database.executemany("insert into row values (?, ?, ?)", (
-                (min(number(row, "time"), 1 << 62), number_of_part, json.dumps(row))
-                for row in part.rows(is_brief)))
+            self.add_rows(database, number_of_part, part.rows(is_brief))
         for number_of_part, line in database.execute(
                 "select part, line from row order by time, part, rowid"):
             yield number_of_part, json.loads(line)
         database.close()
+
+    @staticmethod
+    def add_rows(database: sqlite3.Connection, part: int, rows: Iterable[dict[str, Any]]) -> None:
+        """Adds the rows of a log, and then changes the times of those that are out of order."""
+        first = database.execute("select count(*) from row").fetchone()[0] + 1
+        times = array("q")
+        for row in rows:
+            times.append(min(number(row, "time"), 1 << 62))
+            database.execute("insert into row values (?, ?, ?)",
+                             (times[-1], part, json.dumps(row)))
+        database.executemany("update row set time = ? where rowid = ?", (
+            (time, first + at) for at, time in enumerate(in_order(times)) if time != times[at]))
 
     def runs(self, cycle: int, is_brief: bool = False) -> Iterator[Entry]:
         """Those of all parts in the order of the joined report, with its numbers of lines."""
@@ -300,9 +347,28 @@ class JoinedState(State):
         joined, parts = self.last_closed(), self.folders()
         ended = [max((it.cycle for it in self.closed_of_part(part)), default=joined)
                  for part in parts]
-        return min(((max((time_of(row, "night") for row in part.rows(True)), default=""), at)
-                    for at, part in enumerate(parts, 1) if ended[at - 1] == min(ended)),
-                   default=None)
+        return min(((last_night(part), at) for at, part in enumerate(parts, 1)
+                    if ended[at - 1] == min(ended)), default=None)
+
+
+def last_night(part: State) -> str:
+    """When the last night of a log began; empty if it has none."""
+    last = ""
+    for row in part.rows(True):
+        last = time_of(row, "night") or last
+    return last
+
+
+def in_order(times: Sequence[int]) -> Sequence[int]:
+    """The times of a log's rows so that none is above a later one. One of a clock that was ahead
+    becomes that of the next row, and one of a clock without any time that of the row before."""
+    made = array("q", times)
+    for at in range(1, len(made)):
+        if made[at] < NO_TIME:
+            made[at] = made[at - 1]
+    for at in range(len(made) - 1, 0, -1):
+        made[at - 1] = min(made[at - 1], made[at])
+    return made
 
 
 def open_state(path: str) -> State:
@@ -315,6 +381,6 @@ def open_state(path: str) -> State:
     if has(OF_SCRIPTS) and not has(OWN):
         raise Failed(path + " is a folder of the scripts of version 1.0.0, which made nights "
                      "before the program did. Keep it for its reports, which `findings` and the "
-                     "like take by their names, and begin anew in another folder: "
+                     "like take by their names, and start over in another folder: "
                      "ocfl-scrub night --create")
     return State(path)

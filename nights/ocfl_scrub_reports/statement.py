@@ -6,49 +6,64 @@ import json
 import os
 import re
 import subprocess
+from collections import Counter
 from dataclasses import dataclass, field
 
 from . import files, standing
 from .counts import Count, of_changes
-from .log import Closing, Entry
+from .log import Closing, Comparisons, Entry, kinds_in
 from .seal import is_sealed, put_seal
 from .shared import Failed, find_program, put, refuse_links
 from .state import NOT_KNOWN, State, cycle_name, find
 from .weights import Known
 
-FORM = "ocfl-scrub statement 2"
-# The lines that a statement of the form before has not.
-FORM_BEFORE = "ocfl-scrub statement 1"
-ADDED = {"Nights cut", "Places left out", "Place left out *"}
+FORM = "ocfl-scrub statement 3"
+# The lines that each form added to the one before it.
+ADDED = {"ocfl-scrub statement 1": set(),
+         "ocfl-scrub statement 2": {"Nights cut", "Places left out", "Place left out *"},
+         FORM: {"Why left out *", "Not compared", "Changed findings",
+                "Findings no longer looked at", "Objects no longer declared",
+                "Expected objects listed", "List of expected objects, SHA-256",
+                "Objects no longer declared, and not back"}}
 # The lines in their order. `*` stands for each code, and for the number of a place.
 NAMES = [
     "Storage root", "Declaration sums SHA-256", "State folder", "Part from", "Part below", "Host",
     "Cycle", "First night", "Last night", "Oldest verification", "Closed", "Nights", "Nights cut",
     "Runs", "Lost lines", "Report", "Whole", "Places left out", "Place left out *",
-    "Report lines", "Broken lines", "Report SHA-256", "Objects", "Objects without findings",
+    "Why left out *", "Report lines", "Broken lines", "Report SHA-256", "Objects", "Objects without findings",
     "Content files", "Files found right", "Files not found right", "Bytes found right", "Findings",
     "Findings *", "Algorithms of wrong digests", "Algorithms not computed", "Compared with cycle",
-    "Report compared with, SHA-256", "New findings", "Former findings", "Objects gone",
-    "Files gone", "List of what is gone, SHA-256", "Expected objects missing",
-    "Objects gone and not back", "Files gone and not back", "Known losses",
+    "Not compared", "Report compared with, SHA-256", "New findings", "Changed findings",
+    "Former findings", "Findings no longer looked at", "Objects gone", "Objects no longer declared",
+    "Files gone", "List of what is gone, SHA-256", "Expected objects listed",
+    "Expected objects missing", "List of expected objects, SHA-256", "Objects gone and not back",
+    "Objects no longer declared, and not back", "Files gone and not back", "Known losses",
     "List of known losses, SHA-256", "Program", "Program commit", "Program SHA-256",
     "Program file dated", "Programs of its runs, SHA-256", "Statement before, SHA-256",
     "Not looked at", "Not said"]
 # Lines that only some statements have.
-OPTIONAL = {"Part from", "Part below", "Known losses", "List of known losses, SHA-256"}
+OPTIONAL = {"Part from", "Part below", "Not compared", "Known losses",
+            "List of known losses, SHA-256"}
 NUMBERS = {"Cycle", "Nights", "Nights cut", "Runs", "Places left out", "Report lines",
            "Broken lines", "Objects", "Objects without findings", "Content files",
            "Files found right", "Files not found right", "Bytes found right", "Findings",
-           "Compared with cycle", "New findings", "Former findings", "Objects gone", "Files gone",
-           "Expected objects missing", "Objects gone and not back", "Files gone and not back",
-           "Known losses"}
+           "Compared with cycle", "New findings", "Changed findings", "Former findings",
+           "Findings no longer looked at", "Objects gone", "Objects no longer declared",
+           "Files gone", "Expected objects listed", "Expected objects missing",
+           "Objects gone and not back", "Objects no longer declared, and not back",
+           "Files gone and not back", "Known losses"}
 # Lines whose values are places, which are written as in reports.
-PLACES = re.compile("Part (from|below)|Place left out .*")
+PLACES = re.compile("Part (from|below)|(Place|Why) left out .*")
 NOT_LOOKED_AT = ("versions, states and ids of inventories; inventories of versions; logs and "
                  "extensions; files of objects whose inventory cannot be used")
 NOT_SAID = ("whether bytes came from the medium or from a cache; whether the clock was right; what "
             "became of a file after it was read")
-MANY = re.compile("(Findings|Place left out) [A-Za-z0-9]+")
+MANY = re.compile("(Findings|Place left out|Why left out) [A-Za-z0-9]+")
+# What a list of what is gone has, and the lines that count it.
+KINDS = {"Objects gone": b"object", "Objects no longer declared": b"undeclared",
+         "Files gone": b"file"}
+NOT_BACK = {b"object": "Objects gone and not back", b"file": "Files gone and not back",
+            b"undeclared": "Objects no longer declared, and not back"}
 
 
 def plain(name: str, value: str) -> str:
@@ -78,6 +93,7 @@ class Statement(dict[str, str]):
 
     @classmethod
     def of(cls, state: State, cycle: int) -> Statement:
+        """The statement of a cycle in a folder of state. Fails if there is none."""
         path = state.find("statement", cycle)
         if path is None:
             raise Failed("cycle %d has no statement in %s" % (cycle, state.reports))
@@ -113,6 +129,7 @@ def as_json(text: str) -> str:
     made: dict[str, object] = {"form": form}
     codes: dict[str, int] = {}
     places: list[str] = []
+    reasons: list[str] = []
     for row in filter(None, rows):
         name, _, value = row.partition(": ")
         is_number = value.isdecimal() and (value == "0" or value[0] != "0")
@@ -122,6 +139,9 @@ def as_json(text: str) -> str:
         elif kind == "Place left out *":
             made["names_of_places_left_out"] = places
             places.append(value)
+        elif kind == "Why left out *":
+            made["reasons_of_places_left_out"] = reasons
+            reasons.append(value)
         elif name == "Whole":
             made[key] = value == "yes"
         else:
@@ -137,73 +157,99 @@ def as_json(text: str) -> str:
 class Cycle:
     """What the log says of a cycle."""
     number: int
-    nights: dict[str, None] = field(default_factory=dict)
+    # When its nights began: of nights of parts that count as one, when the first of them did.
+    nights: dict[str, str] = field(default_factory=dict)
     cut: set[str] = field(default_factory=set)
     runs: int = 0
-    left: dict[str, None] = field(default_factory=dict)
+    # The places that were left out, each with its reason.
+    left: dict[str, str] = field(default_factory=dict)
     # When the cycle before was closed, if a row says it.
     begun_after: str = ""
     closed: str = ""
     closing: Closing = field(default_factory=Closing)
+    comparisons: Comparisons = field(default_factory=Comparisons)
 
     def note(self, entry: Entry) -> None:
+        if entry.kind == "ended":
+            self.comparisons.take(entry)
         if entry.kind == "ended" and entry.cycle == self.number - 1:
-            self.begun_after = closed_at(entry)
+            self.begun_after = self.begun_after or closed_at(entry)
         elif entry.cycle != self.number:
             return
         elif entry.kind == "left":
-            self.left[entry.said] = None
+            self.left[entry.said] = entry.why or self.left.get(entry.said, "")
         elif entry.is_run():
-            self.nights[entry.night] = None
+            self.nights.setdefault(entry.night, entry.of_part or entry.night)
             self.runs += entry.runs
             self.cut.update([entry.night] * (entry.kind == "cut"))
         elif entry.kind == "ended":
-            self.closing = entry.closing or Closing()
-            self.closed = closed_at(entry) or NOT_KNOWN
+            self.closing = self.comparisons.closings[self.number]
+            self.closed = self.closed or closed_at(entry)
         elif entry.kind == "stands" and entry.runs > self.runs and not self.cut:
             # No row tells of the night that made these runs.
             self.cut.add("")
 
 
 def cycle_of(state: State, number: int) -> Cycle:
-    """What the log says of a cycle."""
+    """What the log says of a cycle. One of which it says nothing is known by its report."""
     cycle = Cycle(number)
     for entry in state.entries(True):
         cycle.note(entry)
-    if not cycle.closed:
-        raise Failed("the log does not say that cycle %d was closed" % number)
+    if number not in cycle.comparisons.closings:
+        raise Failed("neither the log nor a report says that cycle %d was closed" % number)
     return cycle
 
 
 def closed_at(entry: Entry) -> str:
     """When a cycle was closed; empty if no row says it."""
-    return "" if entry.closing and "closed" in entry.closing.unsaid else entry.began
+    return entry.began if entry.closing and entry.closing.is_logged else ""
 
 
 def of_log(cycle: Cycle) -> dict[str, str]:
-    closing, nights = cycle.closing, list(cycle.nights)
-    is_known = closing.compared is not None
-    # A list of what is gone is told of also where nobody knows what it was compared with.
-    are_told = "kinds" not in closing.unsaid and (is_known or closing.objects + closing.files > 0)
-    has_left = closing.is_whole or "closed" not in closing.unsaid
+    closing, nights = cycle.closing, list(cycle.nights.values())
+    left = str(max(closing.left, len(cycle.left)))
+    counts = {"Nights": len(nights), "Nights cut": len(cycle.cut), "Runs": cycle.runs}
     return {"First night": nights[0] if nights else "", "Last night": nights[-1] if nights else "",
-            "Closed": cycle.closed, "Nights": str(len(nights)), "Nights cut": str(len(cycle.cut)),
-            "Runs": str(cycle.runs),
-            "Lost lines": NOT_KNOWN if "lost" in closing.unsaid else "none",
+            "Closed": cycle.closed,
+            **{name: str(count) if nights else "" for name, count in counts.items()},
+            "Lost lines": "none" if closing.is_whole or left != "0" else NOT_KNOWN,
             "Report": closing.report, "Whole": "yes" if closing.is_whole else "no",
-            "Places left out": str(closing.left) if has_left else NOT_KNOWN,
+            "Places left out": left if closing.is_whole or closing.is_logged else NOT_KNOWN,
             **{"Place left out %d" % at: place for at, place in enumerate(cycle.left, 1)},
-            "Compared with cycle": str(closing.compared) if is_known else "nothing",
-            "Objects gone": str(closing.objects) if are_told else NOT_KNOWN,
-            "Files gone": str(closing.files) if are_told else NOT_KNOWN,
-            "Expected objects missing": expected(closing)}
+            **{"Why left out %d" % at: why for at, why in enumerate(cycle.left.values(), 1) if why},
+            **of_comparison(cycle), **of_expected(closing)}
 
 
-def expected(closing: Closing) -> str:
-    if closing.expected is not None:
-        return str(closing.expected)
-    is_silent = "expected" in closing.unsaid or not closing.is_whole
-    return NOT_KNOWN if is_silent else "not asked"
+def of_comparison(cycle: Cycle) -> dict[str, str]:
+    """With which cycle it was compared, or why with none."""
+    compared = cycle.closing.compared
+    if compared is None and cycle.number > 1:
+        return {"Compared with cycle": NOT_KNOWN}
+    if compared:
+        return {"Compared with cycle": ", ".join(map(str, compared))}
+    return {"Compared with cycle": "nothing",
+            "Not compared": cycle.closing.why_not_compared(cycle.number)}
+
+
+def of_expected(closing: Closing) -> dict[str, str]:
+    """How many objects were expected. How many of them are missing, their list says."""
+    word = NOT_KNOWN if closing.compared is None or closing.why else "not asked"
+    if not closing.list:
+        return {"Expected objects listed": word, "Expected objects missing": word,
+                "List of expected objects, SHA-256": "no list" if word == "not asked" else word}
+    return {"Expected objects listed": str(closing.listed),
+            "List of expected objects, SHA-256": closing.list}
+
+
+def of_gone(cycle: Cycle, listed: str | None) -> dict[str, str]:
+    """How much was gone when the cycle was closed, as its list says. Where nobody knows what it was
+    compared with, a list with rows is told of all the same."""
+    kinds, closing = kinds_in(listed), cycle.closing
+    is_known = bool(closing.compared and listed)
+    made = {name: at_least(kinds[kind], is_known) for name, kind in KINDS.items()}
+    if closing.list or kinds[b"expected"]:
+        made["Expected objects missing"] = str(kinds[b"expected"]) if listed else NOT_KNOWN
+    return made
 
 
 def of_runs(state: State, cycle: Cycle) -> dict[str, str]:
@@ -236,18 +282,23 @@ def of_program() -> dict[str, str]:
 
 # Making one
 
-def losses_of(state: State, number: int, known: Known) -> tuple[dict[str, str], bytes]:
-    """What was gone when a cycle or one before was closed, and has no line since: how much of it
-    nobody knows of, and the lines of what is known."""
-    listed, lost = [], {b"object": 0, b"file": 0}
-    for line in standing.losses(state, number):
+def losses_of(state: State, cycle: Cycle, known: Known) -> tuple[dict[str, str], bytes]:
+    """What was gone when a cycle or one before was closed, and is not back: how much of it is not
+    in the file of known losses, and the lines of what is."""
+    listed, lost = [], Counter()  # type: list[bytes], Counter[bytes]
+    for line in standing.losses(state, cycle.number):
         if known.has(line):
             listed.append(line + b"\n")
         else:
             lost[line.partition(b"\t")[0]] += 1
-    facts = {"Objects gone and not back": str(lost[b"object"]),
-             "Files gone and not back": str(lost[b"file"]), **of_known(b"".join(listed))}
-    return facts, b"".join(listed)
+    is_known = not cycle.comparisons.why_unknown(cycle.number)
+    facts = {name: at_least(lost[kind], is_known) for kind, name in NOT_BACK.items()}
+    return {**facts, **of_known(b"".join(listed))}, b"".join(listed)
+
+
+def at_least(count: int, is_known: bool) -> str:
+    """A count of which it is known that there is no more, or not."""
+    return str(count) if is_known else "at least %d" % count if count else NOT_KNOWN
 
 
 def of_known(lines: bytes) -> dict[str, str]:
@@ -256,22 +307,40 @@ def of_known(lines: bytes) -> dict[str, str]:
             "List of known losses, SHA-256": hashlib.sha256(lines).hexdigest()} if lines else {}
 
 
-def facts_of(state: State, number: int) -> Statement:
-    """What the statement of a cycle says, but for losses."""
-    cycle = cycle_of(state, number)
+def facts_of(state: State, cycle: Cycle) -> Statement:
+    """What the statement of a cycle says, but for losses that are not back."""
+    number = cycle.number
     made = Statement(of_log(cycle), Cycle=str(number))
-    report, compared = made.report_beside(state.reports), cycle.closing.compared
+    report = made.report_beside(state.reports)
     gone, before = state.find("gone", number), state.find("statement", number - 1)
     made.update(of_folder(state))
-    count = Count(report, made.left())
+    count = Count(report, made.left(), state.marks(number))
+    if not count.is_as_closed:
+        if made["Whole"] == "yes":
+            raise Failed("%s was changed since it was closed: checkpoint-%06d has other digests"
+                         % (report, number))
+        made["Lost lines"] = NOT_KNOWN
     made.update(count.facts())
-    made.update(of_changes(count.found, state.find("cycle", compared) if compared else None))
+    made.update(changes_of(state, cycle, count, report))
+    made.update(of_gone(cycle, gone))
     made["List of what is gone, SHA-256"] = files.digest_of(gone) if gone else "no list"
     made.update(of_program())
     made.update(of_runs(state, cycle))
     made["Statement before, SHA-256"] = files.digest_of(before) if before else "no statement"
     made["Not looked at"], made["Not said"] = NOT_LOOKED_AT, NOT_SAID
     return made
+
+
+def changes_of(state: State, cycle: Cycle, count: Count, report: str) -> dict[str, str]:
+    """How the findings differ from those of the report that it was compared with."""
+    compared = cycle.closing.compared or ()
+    earlier = state.find_report(compared[0]) if len(compared) == 1 else None
+    if earlier is None:
+        return of_changes(count.found, report, None)
+    is_whole = os.path.basename(earlier).startswith("cycle-")
+    left = () if is_whole else map(files.bytes_of, cycle_of(state, compared[0]).left)
+    return of_changes(count.found, report, earlier,
+                      state.marks(compared[0]) if is_whole else None, list(left))
 
 
 def of_folder(state: State) -> dict[str, str]:
@@ -283,17 +352,22 @@ def of_folder(state: State) -> dict[str, str]:
 
 
 def write(state: State, number: int, seal: str | None, known: str | None) -> None:
-    """Writes the statement of a cycle beside its report, unless it is there, and seals it."""
+    """Writes the statement of a cycle beside its report, unless it is there, and seals it. Fails if
+    the report is not the one that was closed, or if a night will still compare it."""
     path, listed = (os.path.join(state.reports, cycle_name(kind, number))
                     for kind in ("statement", "known"))
     state.refuse_links()
     refuse_links(path, path + ".json", path + ".sealed", listed)
-    if not state.has_log():
-        raise Failed("there is no log of nights in " + state.path)
-    if not os.path.isfile(path):
+    if not files.is_file(path):
+        if not state.has_log() and not state.find_report(number):
+            raise Failed("there is no log of nights in " + state.path)
         state.refuse_damage()
-        losses, known_ones = losses_of(state, number, Known(known))
-        text = Statement(facts_of(state, number), **losses).text()
+        cycle = cycle_of(state, number)
+        if state.is_compared_later(number):
+            raise Failed("what is gone since the cycle before is not known yet%s; the next night "
+                         "compares them" % (cycle.closing.why and ": " + cycle.closing.why))
+        losses, known_ones = losses_of(state, cycle, Known(known))
+        text = Statement(facts_of(state, cycle), **losses).text()
         put_list(known_ones, listed)
         put(as_json(text).encode(), path + ".json")
         put(text.encode(), path)

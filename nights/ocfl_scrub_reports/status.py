@@ -8,18 +8,23 @@ import tempfile
 from collections import Counter
 from dataclasses import dataclass, field
 from datetime import datetime, timezone
+from itertools import chain
 from typing import IO, Callable, Iterator, Optional, Tuple
 
 from . import files, standing
-from .log import Closing, Entry, rank, worst
+from .log import Closing, Comparisons, Entry, kinds_in, rank, worst
 from .questions import gravest_first
-from .shared import Failed
+from .shared import Failed, many
 from .state import State
 from .weights import Known, Weights
 
 # What would end the line for a monitor, or begin its figures.
 BREAKING = re.compile(r"[|\n]")
 WORDS = ("OK", "WARNING", "CRITICAL", "UNKNOWN")
+# How far the clock may be behind what the log says.
+AHEAD = 3600
+# How much is shown of what a night said.
+MOST_SAID = 300
 # From which number on there is a warning, and an alarm; None stands for never.
 Limit = Tuple[Optional[int], Optional[int]]
 
@@ -38,20 +43,26 @@ class Log:
     night: str = ""
     status: str = "0"
     status_before: str = "0"
+    # Why the last night stopped, or did nothing.
+    said: str = ""
     is_under_way: bool = False
     seconds: int = 0
     cycle: int | None = None
     is_open: bool = False
     spent: int = 0
     files: int = 0
-    # How many runs of the cycle no row tells of, and the places that each cycle leaves out.
+    # How many runs of the cycle no row tells of, and the places that each cycle leaves out, with
+    # their reasons.
     unlogged: int = 0
-    left_out: dict[int, dict[str, None]] = field(default_factory=dict)
+    left_out: dict[int, dict[str, str]] = field(default_factory=dict)
     cost: Counter[int] = field(default_factory=Counter)
     runs: Counter[int] = field(default_factory=Counter)
     nights: dict[int, set[str]] = field(default_factory=dict)
     closed: Entry | None = None
     closing: Closing = field(default_factory=Closing)
+    comparisons: Comparisons = field(default_factory=Comparisons)
+    # The last cycle that searched for expected objects; 0 if none did.
+    searched: int = 0
     whole: Entry | None = None
     lost_in: int | None = None
 
@@ -60,13 +71,12 @@ class Log:
         if entry.is_run():
             self.take_run(entry)
         elif entry.kind == "ended":
-            self.closed, self.closing = entry, entry.closing or Closing()
-            self.is_open = False
-            self.whole = entry if self.closing.is_whole else self.whole
+            self.take_closing(entry)
         elif entry.kind == "lost":
             self.lost_in = entry.cycle
         elif entry.kind == "left":
-            self.left_out.setdefault(entry.cycle, {})[entry.said] = None
+            left = self.left_out.setdefault(entry.cycle, {})
+            left[entry.said] = entry.why or left.get(entry.said, "")
         elif entry.kind == "stands" and self.night:
             self.move_to(entry)
             self.unlogged = entry.runs - self.runs[entry.cycle]
@@ -77,6 +87,7 @@ class Log:
     def take_run(self, entry: Entry) -> None:
         self.start_night(entry.night)
         self.status = worst(self.status, entry.kind)
+        self.said = entry.said or self.said
         # A night that was refused, or stopped, says nothing of any cycle.
         self.is_under_way = entry.cycle > 0 and entry.kind != "cut"
         if entry.cycle > 0:
@@ -86,6 +97,18 @@ class Log:
             self.seconds += entry.seconds
             self.move_to(entry)
 
+    def take_closing(self, entry: Entry) -> None:
+        """Notes a closing, which may be told once more by a later night."""
+        self.comparisons.take(entry)
+        if self.closed and entry.cycle < self.closed.cycle:
+            return
+        is_first = not self.closed or entry.cycle > self.closed.cycle
+        self.closed = entry if is_first else self.closed
+        self.closing = self.comparisons.closings[entry.cycle]
+        self.is_open = self.is_open and (self.cycle or 0) > entry.cycle
+        if is_first and self.closing.is_whole:
+            self.whole = entry
+
     def move_to(self, entry: Entry) -> None:
         self.cycle, self.spent, self.files = entry.cycle, entry.spent, entry.files
         self.is_open = entry.stands != "ended"
@@ -94,6 +117,7 @@ class Log:
         if night != self.night:
             self.status_before = self.status
             self.night, self.status, self.seconds, self.is_under_way = night, "0", 0, False
+            self.said = ""
 
 
 @dataclass
@@ -102,13 +126,15 @@ class Findings:
     count: Counter[str]
     damaged: int
     known: int
-    objects: int
-    files: int
+    # Of the lines of the lists, by their words.
+    lost: Counter[str]
     listed: IO[bytes]
 
 
-def findings_of(state: State, known: Known, weights: Weights) -> Findings:
-    found = Findings(Counter(), 0, 0, 0, 0, files.spool())
+def findings_of(state: State, known: Known, weights: Weights, searched: int) -> Findings:
+    """What is open now; of expected objects, those that the cycle lacked that searched for them
+    last."""
+    found = Findings(Counter(), 0, 0, Counter(), files.spool())
 
     def unknown_ones() -> Iterator[tuple[bytes, bytes]]:
         for line in standing.open_findings(state):
@@ -122,10 +148,9 @@ def findings_of(state: State, known: Known, weights: Weights) -> Findings:
 
     found.listed = gravest_first(unknown_ones())
     found.listed.seek(0, os.SEEK_END)
-    for line in standing.losses(state):
+    for line in chain(standing.losses(state), standing.missing(state, searched)):
         if not known.has(line):
-            found.objects += line.startswith(b"object\t")
-            found.files += line.startswith(b"file\t")
+            found.lost[line.partition(b"\t")[0].decode()] += 1
             found.listed.write(line + b"\n")
     return found
 
@@ -137,9 +162,11 @@ class Standing:
                  waiting: tuple[str, int] | None) -> None:
         self.log, self.found, self.limits, self.now = log, found, limits, now
         self.age = now - seconds_of(log.night) if log.night else 0
-        self.open = sum(found.count.values())
-        self.expected = log.closing.expected or 0
-        self.gone = found.objects + found.files + self.expected
+        self.open, self.gone = sum(found.count.values()), sum(found.lost.values())
+        # Why nobody knows all that is gone, and whether one of the cycles could have told.
+        last = log.closed.cycle if log.closed else 0
+        self.unknown = log.comparisons.why_unknown(last) if last else "no cycle is closed"
+        self.is_unknown = bool(self.unknown) and last > 1
         self.level, self.reasons, self.are_said = 0, [], False  # type: int, list[str], bool
         self.done, self.left = self.reckon()
         self.judge(waiting)
@@ -161,6 +188,7 @@ class Standing:
         if not log.night:
             self.add(3, "no night has run")
             return
+        self.judge_time("the last night", log.night)
         self.compare("age", self.age / 3600, "the last night began %s ago" % span(self.age))
         if waiting:
             self.judge_part(*waiting)
@@ -170,16 +198,24 @@ class Standing:
         if "cut" in (log.status, log.status_before) or log.unlogged > 0:
             self.add(1, "a night was cut")
         if rank(log.status) > 1 and log.status != "cut":
-            self.add(2, "the last night ended with status " + log.status)
+            said = BREAKING.sub(" ", log.said.strip())[:MOST_SAID]
+            self.add(2, "the last night ended with status " + log.status + (said and ": " + said))
         self.judge_findings()
-        self.compare("gone", self.gone, self.lost_things())
+        self.judge_losses()
         self.judge_cycles()
+
+    def judge_time(self, name: str, time: str) -> None:
+        """What lies in the future says nothing of the age of anything."""
+        if time and seconds_of(time) > self.now + AHEAD:
+            self.add(2, "%s lies in the future, at %s: is the clock right?" % (name, time))
 
     def judge_part(self, night: str, number: int) -> None:
         """Of parts each needs its nights."""
         age = self.now - seconds_of(night) if night else 0
         if not night:
             self.add(2, "part %d has made no night" % number)
+        elif age < -AHEAD:
+            self.judge_time("the last night of part %d" % number, night)
         elif self.reached("age", age / 3600) > self.reached("age", self.age / 3600):
             self.compare("age", age / 3600, "the last night of part %d began %s ago" % (
                 number, span(age)))
@@ -194,14 +230,26 @@ class Standing:
         if log.lost_in is not None and (not log.closed or log.lost_in != log.closed.cycle):
             self.add(1, "the report of cycle %d lost lines" % log.lost_in)
         if log.whole:
+            self.judge_time("the end of cycle %d" % log.whole.cycle, log.whole.began)
             self.compare("cycle_age", (self.now - seconds_of(log.whole.began)) / 86400,
                          "the last whole cycle ended on " + log.whole.began[:10])
 
     def left_text(self, cycle: int) -> str:
-        """Which places a cycle left out, the first three by name."""
-        left = [BREAKING.sub("?", place) for place in self.log.left_out.get(cycle, ())]
+        """Which places a cycle left out and why, the first three by name."""
+        left = [BREAKING.sub("?", with_reason(*it))
+                for it in self.log.left_out.get(cycle, {}).items()]
         more = ["%d more" % (len(left) - 3)] if len(left) > 3 else []
         return ": left out " + ", ".join(left[:3] + more) if left else ""
+
+    def judge_losses(self) -> None:
+        """Lost objects are graver than lost files."""
+        level = max(self.reached("lost", self.found.lost["object"]),
+                    self.reached("gone", self.gone))
+        if level:
+            self.add(level, self.lost_things())
+        if self.is_unknown:
+            self.add(1, ("what else is gone is not known: " if self.gone
+                         else "what is gone is not known: ") + BREAKING.sub("?", self.unknown))
 
     def judge_findings(self) -> None:
         """If a limit is reached, the findings are said first, and else last."""
@@ -229,16 +277,21 @@ class Standing:
     def findings_text(self) -> str:
         found = self.found
         codes = ", ".join("%s %d" % (code, found.count[code]) for code in sorted(found.count))
-        return "%d open finding(s)%s%s%s" % (
-            self.open, ", %d of weight 1" % found.damaged if found.damaged else "",
+        return "%s%s%s%s" % (
+            many(self.open, "open finding"),
+            ", %d of weight 1" % found.damaged if found.damaged else "",
             " (%s)" % codes if codes else "", ", %d known" % found.known if found.known else "")
 
     def lost_things(self) -> str:
-        found, texts = self.found, []
-        if found.objects + found.files or not self.expected:
-            texts.append("%d object(s) and %d file(s) are gone" % (found.objects, found.files))
-        if self.expected:
-            texts.append("%d expected object(s) are missing" % self.expected)
+        lost = self.found.lost
+        gone = [many(lost[word], word) for word in ("object", "file") if lost[word]]
+        texts = [" and ".join(gone) + (" is gone" if lost["object"] + lost["file"] == 1
+                                       else " are gone")] if gone else []
+        for word, name, state in (("undeclared", "object", "no longer declared"),
+                                  ("expected", "expected object", "missing")):
+            if lost[word]:
+                texts.append("%s %s %s" % (many(lost[word], name),
+                                           "is" if lost[word] == 1 else "are", state))
         return ", and ".join(texts)
 
     # The line
@@ -259,16 +312,21 @@ class Standing:
         if log.is_open and self.done is not None:
             cycle += ", %d of 100 done" % self.done
         if self.left is not None:
-            cycle += ", %d night(s) left" % self.left
+            cycle += ", %s left" % many(self.left, "night")
         whole = "%d on %s" % (log.whole.cycle, log.whole.began[:10]) if log.whole else "none"
+        is_early = self.unknown and not self.is_unknown
         return [night + (", under way" if log.is_under_way else ""), cycle,
-                "last whole cycle " + whole, *([] if self.are_said else [self.findings_text()])]
+                "last whole cycle " + whole, *([] if self.are_said else [self.findings_text()]),
+                *(["what is gone is not known yet"] if is_early else [])]
 
     def figures(self) -> str:
         if not self.log.night:
             return ""
+        # Monitors take U for a value that is not known.
+        gone = "U" if self.unknown and not self.gone else self.gone
+        lost = "U" if self.unknown and not self.gone else self.found.lost["object"]
         found = [("age", "%ds" % self.age, 3600), ("findings", self.open, 1),
-                 ("damaged", self.found.damaged, 1), ("gone", self.gone, 1)]
+                 ("damaged", self.found.damaged, 1), ("gone", gone, 1), ("lost", lost, 1)]
         text = " |" + "".join(" %s=%s;%s;0" % (name, value, ";".join(
             "" if limit is None else str(limit * unit) for limit in self.limits[name]))
                               for name, value, unit in found)
@@ -297,6 +355,15 @@ def of_closed(value: Callable[[Standing, Entry], float]) -> Callable[[Standing],
     return lambda it: value(it, it.log.closed) if it.log.closed else None
 
 
+def of_lost(word: str) -> Callable[[Standing], float | None]:
+    """A figure of what is gone: not known if there is none, and some cycle was not compared."""
+    return lambda it: it.found.lost[word] or (None if it.unknown else 0)
+
+
+def with_reason(place: str, why: str) -> str:
+    return "%s (%s)" % (place, why) if why else place
+
+
 # The figures for Prometheus: the name, what it is, and its value, None where that is not known.
 FIGURES: list[tuple[str, str, Callable[[Standing], float | None]]] = [
     ("last_night_timestamp_seconds", "When the last night began.",
@@ -322,10 +389,13 @@ FIGURES: list[tuple[str, str, Callable[[Standing], float | None]]] = [
     ("nights_left", "Nights that the cycle still needs.", lambda it: it.left),
     ("whole_cycle_timestamp_seconds", "When the last whole cycle ended.",
      lambda it: seconds_of(it.log.whole.began) if it.log.whole else None),
-    ("gone_objects", "Objects that were gone and are not back.", lambda it: it.found.objects),
-    ("gone_files", "Files that were gone and are not back.", lambda it: it.found.files),
-    ("expected_objects_missing", "Expected objects that the last closed cycle lacks.",
-     lambda it: it.expected),
+    ("gone_known", "1 where each closed cycle was compared with one before it.",
+     lambda it: not it.unknown),
+    ("gone_objects", "Objects that were gone and are not back.", of_lost("object")),
+    ("undeclared_objects", "Objects that are no longer declared.", of_lost("undeclared")),
+    ("gone_files", "Files that were gone and are not back.", of_lost("file")),
+    ("expected_objects_missing", "Expected objects that are missing.",
+     lambda it: it.found.lost["expected"] if it.log.searched else None),
     ("known_findings", "Open findings that are known.", lambda it: it.found.known),
     ("damaged", "Open findings of weight 1 that are not known.", lambda it: it.found.damaged),
     ("open_findings", "Open findings that are not known.", lambda it: it.open)]
@@ -359,19 +429,31 @@ def put_metrics(text: str, path: str) -> None:
 
 def standing_of(state: State, known: str | None, weights: Weights, limits: dict[str, Limit],
                 now: int) -> Standing:
+    """How the nights of a folder stand. Fails if there is no folder, or if something in it cannot
+    be read."""
     if not os.path.isdir(state.path):
-        raise Failed(state.path + " is no folder")
+        raise Failed(state.path + " is not a folder")
     state.refuse_links()
     leave_out, log = Known(known), Log()
     for entry in state.entries(True) if state.has_log() else ():
         log.take(entry)
     if state.is_held():
         log.unlogged = 0
-    found = findings_of(state, leave_out, weights)
-    closing = log.closing
-    if log.closed and closing.objects + closing.files and not state.find("gone",
-                                                                         log.closed.cycle):
+    log.searched = last_search(state, log.comparisons)
+    found = findings_of(state, leave_out, weights, log.searched)
+    last = log.closed.cycle if log.closed else 0
+    if log.closing.gone and not state.find("gone", last):
         # The list is not there, so the log alone knows of them.
-        found.objects += closing.objects
-        found.files += closing.files
+        found.lost["object"] += log.closing.gone
     return Standing(log, found, limits, now, state.waiting_part())
+
+
+def last_search(state: State, comparisons: Comparisons) -> int:
+    """The last cycle that searched for expected objects: it says so, or some are in its list. 0 if
+    none did."""
+    for cycle in sorted(comparisons.closings, reverse=True):
+        closing = comparisons.closings[cycle]
+        if closing.list or closing.compared is None and kinds_in(
+                state.find("gone", cycle))[b"expected"]:
+            return cycle
+    return 0

@@ -4,20 +4,21 @@ from __future__ import annotations
 import os
 
 from . import files
-from .counts import Count, of_changes
+from .counts import CHANGES, COMPARED, Count, of_changes, of_lines
 from .log import kinds_in
 from .shared import Failed, refuse_links
 from .state import NOT_KNOWN, cycle_name, find
-from .statement import (ADDED, FORM, FORM_BEFORE, NAMES, OPTIONAL, Statement, as_json, kind_of,
-                        of_known, plain)
+from .statement import (ADDED, FORM, KINDS, NAMES, NOT_BACK, OPTIONAL, Statement, as_json, kind_of,
+                        at_least, of_known, plain)
 
-GONE = {"Objects gone": b"object", "Files gone": b"file", "Expected objects missing": b"expected"}
+GONE = {**KINDS, "Expected objects missing": b"expected"}
+# What statements of the forms before said of losses without knowing whether anything was compared.
+GUESSED = {"Compared with cycle", *GONE, *NOT_BACK.values()}
 LIST_OF_GONE = "List of what is gone, SHA-256"
 LIST_OF_KNOWN = "List of known losses, SHA-256"
 BEFORE = "Statement before, SHA-256"
-COMPARED = "Report compared with, SHA-256"
-# What a line says of a digest if there was no file.
-NONE = ("", "no list", "no statement", "no report")
+# What a line says of a digest if there was no file, or if it was another one.
+NONE = ("", "no list", "no statement", "no report", "changed since it was closed")
 
 
 class Check:
@@ -26,18 +27,23 @@ class Check:
     def __init__(self, path: str, report: str | None) -> None:
         self.path, self.folder = path, os.path.dirname(path)
         self.form, *self.rows = [files.text_of(row) for row in files.lines(path)]
-        if self.form not in (FORM, FORM_BEFORE):
-            raise Failed(path + " is no statement")
-        self.names = [it for it in NAMES if self.form == FORM or it not in ADDED]
+        if self.form not in ADDED:
+            raise Failed(path + " is not a statement")
+        forms = list(ADDED)
+        later = set().union(*(ADDED[it] for it in forms[forms.index(self.form) + 1:]))
+        self.names = [it for it in NAMES if it not in later]
         self.said = Statement.read(path)
         cycle = self.said.get("Cycle", "")
         if not cycle.isdecimal() or cycle.startswith("0"):
-            raise Failed(path + " names no cycle")
+            raise Failed(path + " does not name a cycle")
         self.cycle = int(cycle)
         self.report = report or self.said.report_beside(self.folder)
         self.facts: dict[str, str] = {}
         self.lacking: dict[str, str] = {}
         self.unchecked: dict[str, list[str]] = {}
+        # The lines of which only the JSON says the same, and those that were guessed.
+        self.repeated: list[str] = []
+        self.guessed: list[str] = []
         self.differences: list[str] = []
         self.json = path + ".json"
         self.has_json = os.path.isfile(self.json)
@@ -56,11 +62,33 @@ class Check:
         before = self.beside("statement", self.cycle - 1, BEFORE)
         if before and self.said.get(BEFORE) not in NONE:
             self.facts[BEFORE] = files.digest_of(before)
+        self.compare_reports(count)
+
+    def compare_reports(self, count: Count) -> None:
+        """Compares the findings with those of the earlier report once more."""
         compared = self.said.get("Compared with cycle", "")
-        earlier = self.beside("cycle", int(compared), COMPARED, "New findings",
-                              "Former findings") if compared.isdecimal() else None
-        if earlier and self.said.get(COMPARED) not in NONE:
-            self.facts.update(of_changes(count.found, earlier))
+        if not compared.isdecimal() or self.said.get(COMPARED) in NONE:
+            return
+        cycle = int(compared)
+        kind = "incomplete" if find(self.folder, "incomplete", cycle) else "cycle"
+        earlier = self.beside(kind, cycle, COMPARED, *CHANGES)
+        if earlier is None:
+            return
+        if self.form != FORM:
+            self.facts.update(of_lines(count.found, earlier))
+            return
+        left = self.left_before(cycle) if kind == "incomplete" else []
+        found = of_changes(count.found, self.report, earlier, left=left or ())
+        if left is None:
+            self.lacking["New findings"] = cycle_name("statement", cycle)
+            del found["New findings"]
+        self.facts.update(found)
+
+    def left_before(self, cycle: int) -> list[bytes] | None:
+        """The places that an earlier cycle left out, by its statement."""
+        path = find(self.folder, "statement", cycle)
+        left = Statement.read(path).left() if path else None
+        return None if left is None else list(map(files.bytes_of, left))
 
     def beside(self, kind: str, cycle: int, digest: str, *others: str) -> str | None:
         """The file of a kind beside the statement. If the statement names one that is not there,
@@ -80,10 +108,10 @@ class Check:
         count = kinds_in(path)
         for name, kind in GONE.items():
             said = self.said.get(name, "")
-            if said == NOT_KNOWN and self.form == FORM_BEFORE:
+            if name not in self.names or self.form != FORM and said == NOT_KNOWN:
                 continue
             if count[kind] or said[:1].isdecimal() and (path or said.strip("0")):
-                self.facts[name] = str(count[kind])
+                self.facts[name] = at_least(count[kind], not said.startswith("at least"))
 
     # What the statement says
 
@@ -117,24 +145,33 @@ class Check:
                                     % (name, plain("", value), self.facts[name]))
         if name in self.lacking:
             self.unchecked.setdefault(self.lacking[name], []).append(name)
+        elif self.form != FORM and name in GUESSED and value[:1].isdecimal():
+            self.guessed.append(name)
         elif name not in self.facts and not self.has_json:
             self.unchecked.setdefault(os.path.basename(self.json), []).append(name)
+        elif name not in self.facts:
+            self.repeated.append(name)
 
 
 def show(path: str, report: str | None) -> int:
-    """Says whether the statement holds. Gives 0 if all of it was checked and holds, 1 if something
-    does not hold, and 4 if something could not be checked."""
+    """Says whether the statement holds. Gives 0 if what can be checked was and holds, 1 if
+    something does not hold, and 4 if something could not be checked or was guessed. Fails if it is
+    not a statement, or if its report cannot be read."""
     refuse_links(path)
     check = Check(path, report)
     check.find_facts()
     check.compare()
-    name = os.path.basename(path)
+    name, is_partly = os.path.basename(path), check.unchecked or check.guessed
     if check.differences:
         print("\n".join(check.differences))
-    elif check.unchecked:
-        print("%s is what %s says, as far as it could be checked" % (check.report, name))
     else:
-        print("%s is what %s says" % (check.report, name))
+        print("%s is what %s says%s" % (check.report, name,
+                                        ", as far as it could be checked" if is_partly else ""))
+    if check.repeated:
+        print("only %s says the same: %s" % (os.path.basename(check.json),
+                                             "; ".join(check.repeated)))
     for file, lines in check.unchecked.items():
         print("not checked, without %s: %s" % (file, "; ".join(lines)))
-    return 1 if check.differences else 4 if check.unchecked else 0
+    if check.guessed:
+        print("not known when statements of this form were made: " + "; ".join(check.guessed))
+    return 1 if check.differences else 4 if is_partly else 0

@@ -35,6 +35,19 @@ def tools():
 
 INSTALLED = """bin/ocfl-scrub 755
 bin/ocfl-scrub-reports 755
+share/doc/ocfl-scrub/CONTRIBUTING.md 644
+share/doc/ocfl-scrub/README.md 644
+share/doc/ocfl-scrub/SECURITY.md 644
+share/doc/ocfl-scrub/bench/README.md 644
+share/doc/ocfl-scrub/docs/ASSURANCE.md 644
+share/doc/ocfl-scrub/docs/DECISIONS.md 644
+share/doc/ocfl-scrub/docs/GALLERY.md 644
+share/doc/ocfl-scrub/docs/MAP.md 644
+share/doc/ocfl-scrub/docs/RULES.md 644
+share/doc/ocfl-scrub/docs/TOOLCHAIN.md 644
+share/doc/ocfl-scrub/docs/TRIED.md 644
+share/doc/ocfl-scrub/nights/CLUSTERS.md 644
+share/doc/ocfl-scrub/nights/README.md 644
 share/man/man1/ocfl-scrub-reports.1 644
 share/man/man1/ocfl-scrub.1 644
 share/ocfl-scrub/BUILD 644
@@ -75,6 +88,9 @@ share/ocfl-scrub/parallel/joining.py 644
 share/ocfl-scrub/parallel/nightly 755
 share/ocfl-scrub/parallel/notes.py 644
 share/ocfl-scrub/parallel/part 755
+share/ocfl-scrub/samples/gallery 755
+share/ocfl-scrub/samples/make 755
+share/ocfl-scrub/samples/nights 755
 share/ocfl-scrub/slurm/end.sbatch 755
 share/ocfl-scrub/slurm/part.sbatch 755
 share/ocfl-scrub/slurm/submit 755

@@ -29,7 +29,6 @@ from shared.nights import ITEMS, make_root, ran, read, tried, write
 
 NAME = "ocfl-scrub_%s_amd64" % version()
 DOCUMENTS = "usr/share/doc/ocfl-scrub/"
-PAGES = ["SECURITY", "ASSURANCE", "GALLERY", "RULES", "TRIED"]
 SHARE = "usr/share/ocfl-scrub/"
 UNITS = "usr/lib/systemd/system/"
 # Where systemd looks for what `./install` puts elsewhere.
@@ -118,18 +117,12 @@ def holding(folder, made):
     check("and beside them", {path: it[3] if it[0] == "777" else it[0]
                               for path, it in held.items()}, {
         DOCUMENTS + "BUILD": "../../ocfl-scrub/BUILD",
-        DOCUMENTS + "README.md": "../../ocfl-scrub/README.md",
-        DOCUMENTS + "CLUSTERS.md": "../../ocfl-scrub/CLUSTERS.md",
-        **dict.fromkeys([DOCUMENTS + name + ".md" for name in PAGES], "644"),
         DOCUMENTS + "changelog.Debian.gz": "644", DOCUMENTS + "changelog.gz": "644",
         DOCUMENTS + "copyright": "644", "usr/share/lintian/overrides/ocfl-scrub": "644"})
     texts = [gzip.decompress(held[DOCUMENTS + name][3]).decode()
              for name in ["changelog.Debian.gz", "changelog.gz"]]
     check("what changed", [texts[0].split("\n")[0], texts[1]],
           ["ocfl-scrub (%s) unstable; urgency=medium" % version(), read(TOP + "/CHANGELOG.md")])
-    check("the pages", [held[DOCUMENTS + name + ".md"][3] for name in PAGES], [
-        common.read(TOP + ("/" if name == "SECURITY" else "/docs/") + name + ".md")
-        for name in PAGES])
     check("no licence", b"has not granted a licence yet" in held[DOCUMENTS + "copyright"][3], True)
 
 

@@ -10,7 +10,6 @@ A page is one session, with a home and a working folder of its own. Its `/srv`, 
 and the like lie in a folder of the trial, and `/srv/ocfl` is the sample with its damaged file. A
 command that is neither run nor named below is a failure, and so is an entry that no page has.
 """
-import glob
 import os
 import re
 import subprocess
@@ -19,7 +18,7 @@ import common
 from common import TOP, check
 from shared.clones import make_clone
 from shared.nights import NIGHTS, read, tried
-from shared.pages import blocks_of_manual, blocks_of_markdown, commands_of, links_of
+from shared.pages import blocks_of_manual, blocks_of_markdown, commands_of
 from shared.states import tools
 
 PACKAGES = {"git": "git", "jq": "jq", "sqlite3": "sqlite3", "gzip": "gzip",
@@ -179,22 +178,12 @@ def manual(folder):
     follow(installed(folder), "ocfl-scrub.1", blocks_of_manual(text))
 
 
-def links():
-    """Each link of a page to another leads to a file."""
-    pages = [page for pattern in ["*.md", "*/*.md"] for page in glob.glob(TOP + "/" + pattern)]
-    lost = ["%s: %s" % (os.path.relpath(page, TOP), link) for page in sorted(pages)
-            for link in links_of(read(page))
-            if not os.path.exists(os.path.join(os.path.dirname(page), link))]
-    check("links that lead nowhere", lost, [])
-
-
 def check_all(folder):
     tools(PACKAGES)
     for part in [readme, nightly, manual]:
         os.mkdir(os.path.join(folder, part.__name__))
         tried(part, os.path.join(folder, part.__name__))
     check("what is not run, and no page has", sorted({*NOT_RUN, *NO_COMMANDS} - used), [])
-    tried(links)
 
 
 common.run_trial(check_all, needs=["parallel"])

@@ -7,8 +7,8 @@ from common import PROGRAM, TOP
 from shared.nights import NIGHTS, ran, write
 
 # What the clone has beside `nights`.
-PARTS = ["CHANGELOG.md", "SECURITY.md", "VERSION", "install", "package", "ocfl-scrub", "crates.txt",
-         "samples", "docs"]
+PARTS = ["README.md", "CHANGELOG.md", "CONTRIBUTING.md", "SECURITY.md", "VERSION", "install",
+         "package", "ocfl-scrub", "crates.txt", "samples", "docs", "bench"]
 
 
 def git(clone, *words):

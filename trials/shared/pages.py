@@ -1,4 +1,4 @@
-"""What the pages show: commands, each with its output where the page shows one, and links."""
+"""What the pages show: commands, each with its output where the page shows one."""
 import re
 
 # A block between fences, an indented one, or a table.
@@ -11,7 +11,6 @@ COMMAND = re.compile(r"^\S.*\n(?:[ ]+.*\n)*", re.MULTILINE)
 SHOWN = re.compile(r"^\$ (.*\n(?:[ ]+.*\n)*)((?:(?!\$ ).*\n)*)", re.MULTILINE)
 # The times and the user of a line for cron.
 CRON = re.compile(r"(?:[0-9*/,-]+ ){5}\S+ (?=/|cd /)")
-LINK = re.compile(r"\[[^]]*\]\(([^):#]+)(?:#[^)]*)?\)")
 
 
 def blocks_of_markdown(text):
@@ -47,8 +46,3 @@ def commands_of(block):
     if block.startswith("$ "):
         return SHOWN.findall(block)
     return [(CRON.sub("", command), None) for command in COMMAND.findall(block)]
-
-
-def links_of(text):
-    """The files of the repository that a page links to."""
-    return [link for link in LINK.findall(text) if not link.startswith("http")]

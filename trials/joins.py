@@ -10,11 +10,17 @@ Tried, and what comes of it:
 - `ocfl-scrub join` over parts that are gone, open, copies of others, of another root or not
   whole, that lost their report or have a cut checkpoint; another list of separators: each is
   named, status 3, and nothing is joined.
+- Cycles that all parts closed and that were not joined when they were the last: each is joined,
+  the oldest first.
+- A part that closed its cycle, and was killed before it said what was gone: it is named, status 3,
+  and its cycle is joined once that was said.
+- Two calls at once: one joins, and the other ends with 75; what a killed one left is replaced.
 - A part that lost whole lines of its report, or whose report has other ones, than it was closed
   with: it is named, status 3, and nothing is joined.
 """
 import os
 import shutil
+import time
 from typing import Any
 
 import common
@@ -79,6 +85,7 @@ class Parts:
         for closed in range(1, cycle + (state == "ended")):
             name = "reports/%s-%06d" % ("cycle" if whole else "incomplete", closed)
             common.write(self.path(number, name), lines)
+            common.write(self.path(number, "reports/gone-%06d" % closed), b"")
             self.checkpoint(number, "reports/checkpoint-%06d" % closed, lines, phase="closing",
                             cycle=closed, state="ended", **said)
 
@@ -104,13 +111,63 @@ def whole(folder: str) -> None:
 
 
 def later_cycles(folder: str) -> None:
-    """The last cycle is joined that all parts have closed."""
+    """Each cycle that all parts have closed is joined, also one that was not when it was the
+    last."""
     parts = Parts(folder)
     parts.put(1, cycle=3)
     parts.put(2, cycle=2)
     parts.put(3, cycle=3, state="after d")
     check("joined", parts.joined(2), (0, "".join(REPORTS), ""))
-    check("no other cycle", os.listdir(parts.folder + "/reports"), ["cycle-000002"])
+    check("the one before", parts.joined(1), (0, "".join(REPORTS), ""))
+    check("no other cycle", sorted(os.listdir(parts.folder + "/reports")),
+          ["cycle-000001", "cycle-000002"])
+    before = os.stat(parts.folder + "/reports/cycle-000002").st_ino
+    for number in (1, 2, 3):
+        parts.put(number, cycle=5)
+    os.remove(parts.path(2, "reports/cycle-000003"))
+    os.rename(parts.folder + "/reports/cycle-000001", parts.folder + "/reports/cycle-000001.gz")
+    check("not one of which a part has no report, nor one that was compressed",
+          (parts.joined(5), sorted(os.listdir(parts.folder + "/reports"))),
+          ((0, "".join(REPORTS), ""),
+           ["cycle-000001.gz", *("cycle-%06d" % it for it in (2, 4, 5))]))
+    check("those that were joined stay",
+          os.stat(parts.folder + "/reports/cycle-000002").st_ino, before)
+
+
+def untold(folder: str) -> None:
+    """A part whose closing was not said yet is named, and its cycle is joined once it was."""
+    parts = Parts(folder)
+    os.remove(parts.path(2, "reports/gone-000001"))
+    parts.refused("not said yet", "part 2: its closing of cycle 1 was not said yet")
+    for number in (1, 3):
+        parts.put(number, cycle=2)
+    parts.put(2, cycle=2)
+    os.remove(parts.path(2, "reports/gone-000001"))
+    check("an earlier one waits, and the last does not", (parts.joined(2), parts.joined(1)[1]),
+          ((0, "".join(REPORTS), ""), None))
+    common.write(parts.path(2, "reports/gone-000001"), b"")
+    check("it is joined then", parts.joined(1), (0, "".join(REPORTS), ""))
+
+
+def at_once(folder: str) -> None:
+    """Of two calls at once one joins, and the other does nothing."""
+    parts = Parts(folder)
+    words = ["join", "--parts", parts.file, "--state", parts.folder]
+    rules = ["--quiet=all", "-o", "/dev/null", "-e", "inject=fsync:delay_enter=1500000"]
+    first = common.start(words, ["strace", *rules])
+    beside = parts.folder + "/reports/cycle-000001.new"
+    for _ in range(1000):
+        if os.path.exists(beside):
+            break
+        time.sleep(0.01)
+    status, report, text = parts.joined()
+    check("the other", (status, report, "nothing was joined" in text), (75, None, True))
+    check("the first", (common.end(first), parts.joined()),
+          ((0, "", ""), (0, "".join(REPORTS), "")))
+    common.write(beside, b"left by a call that was killed\n")
+    os.remove(parts.folder + "/reports/cycle-000001")
+    check("what a killed call left", parts.joined(), (0, "".join(REPORTS), ""))
+    check("nothing is left of it", os.listdir(parts.folder + "/reports"), ["cycle-000001"])
 
 
 def refused(folder: str) -> None:
@@ -155,11 +212,11 @@ def lost_lines(folder: str) -> None:
     check("one that was not kept", parts.joined(), (0, "".join(REPORTS), ""))
 
 
-PARTS = [whole, later_cycles, refused, lost_lines]
+PARTS = [whole, later_cycles, untold, at_once, refused, lost_lines]
 
 
 def check_all(folder: str) -> None:
     tried_apart(PARTS, folder)
 
 
-common.run_trial(check_all)
+common.run_trial(check_all, needs=["strace"])

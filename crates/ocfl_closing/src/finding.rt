@@ -31,6 +31,17 @@ impl Findings {
         }
     }
 
+    /// Their lines alone.
+    pub(crate) fn into_lines(self) -> Vec<Line> {
+        let Findings {
+            count: _count,
+            matched: _matched,
+            known: _known,
+            lines,
+        } = self;
+        lines
+    }
+
     /// Takes one that is named.
     fn take(&mut self, known: &Known, line: Line) -> Result<(), AllocError> {
         self.matched = self.matched.saturating_add(1);

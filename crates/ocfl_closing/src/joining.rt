@@ -1,37 +1,24 @@
 //! Joining the closed reports of all parts of a storage root, of one cycle.
 
+use crate::closed::MOST_BACK;
+use crate::closing::list_path;
 use crate::failing::{Failure, say_failure};
 use crate::kept::is_as_closed;
 use crate::making::{file_failure, is_there, make_file, make_folder, put_made};
+use crate::part_facts::{Facts, last_of_all, part_path, place_of, read_all};
 use crate::saying::STOPPED;
 use crate::sound::is_sound;
-use crate::stand::Standing;
-use crate::state::{folder_failure, open_state};
+use crate::state::{folder_failure, hold_folder, open_state};
 use ocfl_compare::{ClosedPart, MissingPart, find_missing, join_part};
-use ocfl_cursor::{PartEnds, Refused};
 use ocfl_line::JoinAsked;
 use ocfl_parts::{PartsStop, Separators, read_parts};
 use ocfl_scope::ScopeStop;
-use ocfl_state::{Checkpoint, OpenReport, RootIdentity, StateFile, decode_checkpoint};
+use ocfl_state::{OpenReport, StateFile};
 use ocfl_telling::Shown;
-use ocfl_tree::Place;
 use std::alloc::{AllocError, Global};
 use std::fs::File;
 use std::io::{self, BufReader, ErrorKind, Read, Write};
 use std::rt::Files;
-
-/// What the checkpoint of a part says.
-#[derive(Debug, Drop)]
-struct Facts {
-    /// Which storage root it is of.
-    root: Vec<u8>,
-    from: Option<Place>,
-    below: Option<Place>,
-    /// The cycle that was closed last; 0 if none was.
-    last: u64,
-    /// Whether that cycle is known to have read files, so that its report has lines.
-    has_lines: bool,
-}
 
 /// Reads the separators' file.
 fn read_separators<R: Files + AllocGlobal>(rt: &R, file: &str) -> Result<Separators, Failure> {
@@ -52,96 +39,6 @@ fn read_separators<R: Files + AllocGlobal>(rt: &R, file: &str) -> Result<Separat
     }
 }
 
-/// The path of the state folder of a part.
-fn path_of(alloc: Global, state: &str, number: usize) -> Result<String, AllocError> {
-    format!(in alloc; "{state}/part-{number:06}")
-}
-
-/// Which storage root it is of.
-fn root_text(alloc: Global, identity: &RootIdentity) -> Result<Vec<u8>, AllocError> {
-    let mut root = Vec::from_slice(alloc, identity.path.path().as_bytes())?;
-    root.push(b'\n')?;
-    root.extend_from_slice(&identity.declared)?;
-    Ok(root)
-}
-
-/// The place of an end, if there is one.
-fn place_of(end: &Option<Place>) -> Result<Option<Place>, AllocError> {
-    match end {
-        Some(place) => Ok(Some(place.try_clone()?)),
-        None => Ok(None),
-    }
-}
-
-/// The ends of a part; none of a whole root.
-fn ends_of(part: &Option<PartEnds>) -> Result<PartEnds, AllocError> {
-    match part {
-        Some(ends) => Ok(PartEnds {
-            from: place_of(&ends.from)?,
-            below: place_of(&ends.below)?,
-        }),
-        None => Ok(PartEnds {
-            from: None,
-            below: None,
-        }),
-    }
-}
-
-/// What a checkpoint says of its part.
-fn facts_of(alloc: Global, checkpoint: &Checkpoint) -> Result<Facts, AllocError> {
-    let standing = Standing::of(checkpoint);
-    let ends = ends_of(&checkpoint.part)?;
-    Ok(Facts {
-        root: root_text(alloc, &checkpoint.root)?,
-        from: ends.from,
-        below: ends.below,
-        last: standing.last_closed(),
-        has_lines: standing.is_closed && standing.spent > 0,
-    })
-}
-
-/// What is said of a file that is no checkpoint.
-fn refused(alloc: Global, path: &str, why: Refused) -> Result<Failure, AllocError> {
-    if why == Refused::Memory {
-        return Err(AllocError);
-    }
-    Ok(Failure::stopped(format!(in alloc; "{}/checkpoint: {why}\n", Shown(path))?))
-}
-
-/// The bytes of the checkpoint in the state folder of a part. `None` if there is none.
-fn read_bytes<R>(rt: &R, path: &str) -> Result<Option<Vec<u8>>, Failure>
-where
-    R: Files<File = File> + AllocGlobal,
-{
-    let mut folder = open_state(rt, path, path, false)?;
-    match folder.checkpoint() {
-        Ok(bytes) => Ok(bytes),
-        Err(_) => Err(folder_failure(rt.alloc(), path, folder.reason())?),
-    }
-}
-
-/// What the bytes of a checkpoint say of its part.
-fn facts_in(alloc: Global, path: &str, bytes: &[u8]) -> Result<Facts, Failure> {
-    match decode_checkpoint(alloc, bytes) {
-        Ok(checkpoint) => Ok(facts_of(alloc, &checkpoint)?),
-        Err(why) => Err(refused(alloc, path, why)?),
-    }
-}
-
-/// What the state folder of a part says. `None` if there is no such folder yet.
-fn read_facts<R>(rt: &R, path: &str) -> Result<Option<Facts>, Failure>
-where
-    R: Files<File = File> + AllocGlobal,
-{
-    if !is_there(rt, path) {
-        return Ok(None);
-    }
-    match read_bytes(rt, path)? {
-        Some(bytes) => Ok(Some(facts_in(rt.alloc(), path, &bytes)?)),
-        None => Ok(None),
-    }
-}
-
 /// Opens the closed report of a cycle in the state folder of a part.
 fn open_report<R>(rt: &R, path: &str, cycle: u64) -> Result<Option<OpenReport>, Failure>
 where
@@ -154,32 +51,6 @@ where
     }
 }
 
-/// What the checkpoints of all parts say.
-fn read_all<R>(rt: &R, state: &str, count: usize) -> Result<Vec<Option<Facts>>, Failure>
-where
-    R: Files<File = File> + AllocGlobal,
-{
-    let alloc = rt.alloc();
-    let mut all = Vec::new(alloc);
-    for number in 1..=count {
-        let path = path_of(alloc, state, number)?;
-        all.push(read_facts(rt, path.as_str())?)?;
-    }
-    Ok(all)
-}
-
-/// The last cycle that each part has closed. 0 if one has closed none.
-fn last_of_all(all: &[Option<Facts>]) -> u64 {
-    let mut last = u64::MAX;
-    for one in all {
-        last = last.min(match one {
-            Some(facts) => facts.last,
-            None => 0,
-        });
-    }
-    last
-}
-
 /// Whether a report of no bytes had lines when it was closed.
 fn is_emptied(facts: &Facts, cycle: u64, bytes: u64) -> bool {
     bytes == 0 && facts.has_lines && facts.last == cycle
@@ -189,7 +60,7 @@ fn is_emptied(facts: &Facts, cycle: u64, bytes: u64) -> bool {
 fn closed_part<R>(
     rt: &R,
     path: &str,
-    facts: Facts,
+    facts: &Facts,
     cycle: u64,
 ) -> Result<Option<ClosedPart>, Failure>
 where
@@ -202,11 +73,11 @@ where
         Ok(metadata) => metadata.len(),
         Err(error) => return Err(file_failure(rt.alloc(), path, &error)?),
     };
-    let whole = report.whole && !is_emptied(&facts, cycle, bytes);
+    let whole = report.whole && !is_emptied(facts, cycle, bytes);
     Ok(Some(ClosedPart {
-        root: facts.root,
-        from: facts.from,
-        below: facts.below,
+        root: facts.root.to_vec(rt.alloc())?,
+        from: place_of(&facts.from)?,
+        below: place_of(&facts.below)?,
         cycle,
         whole,
         bytes,
@@ -217,7 +88,7 @@ where
 fn closed_parts<R>(
     rt: &R,
     state: &str,
-    all: Vec<Option<Facts>>,
+    all: &[Option<Facts>],
     cycle: u64,
 ) -> Result<Vec<Option<ClosedPart>>, Failure>
 where
@@ -225,8 +96,8 @@ where
 {
     let alloc = rt.alloc();
     let mut parts = Vec::new(alloc);
-    for (index, one) in all.into_iter().enumerate() {
-        let path = path_of(alloc, state, index.saturating_add(1))?;
+    for (index, one) in all.iter().enumerate() {
+        let path = part_path(alloc, state, index.saturating_add(1))?;
         let part = match one {
             Some(facts) => closed_part(rt, path.as_str(), facts, cycle)?,
             None => None,
@@ -348,7 +219,7 @@ impl Joining<'_> {
         W: Write,
     {
         let alloc = rt.alloc();
-        let path = path_of(alloc, self.state, number)?;
+        let path = part_path(alloc, self.state, number)?;
         refuse_unsound(rt, path.as_str(), number, part)?;
         let mut report = open_there(rt, path.as_str(), number, part.cycle)?;
         match join_part(
@@ -411,70 +282,167 @@ impl Joining<'_> {
     }
 }
 
-/// Joins the reports of a cycle, unless they are joined already, and gives the status.
-fn join_cycle<R>(
-    rt: &R,
-    state: &str,
-    separators: &Separators,
-    all: Vec<Option<Facts>>,
-    cycle: u64,
-) -> Result<u8, Failure>
+/// The state folders of all parts, and what their checkpoints say.
+#[derive(Clone, Copy)]
+struct AllParts<'a> {
+    state: &'a str,
+    separators: &'a Separators,
+    facts: &'a [Option<Facts>],
+}
+
+/// The path of the joined report of a cycle.
+fn joined_path(alloc: Global, state: &str, cycle: u64) -> Result<String, AllocError> {
+    format!(in alloc; "{state}/{}", StateFile::Whole(cycle))
+}
+
+/// Whether the joined report of a cycle is there, or was compressed.
+fn is_joined<R: Files + AllocGlobal>(rt: &R, state: &str, cycle: u64) -> Result<bool, AllocError> {
+    let path = joined_path(rt.alloc(), state, cycle)?;
+    let packed = format!(in rt.alloc(); "{path}.gz")?;
+    Ok(is_there(rt, path.as_str()) || is_there(rt, packed.as_str()))
+}
+
+/// Joins the reports into a file beside its place, and puts it there.
+fn put_joined<R>(rt: &R, joining: &Joining<'_>, path: &str) -> Result<(), Failure>
 where
-    R: Files<File = File> + AllocGlobal + Eprint,
+    R: Files<File = File> + AllocGlobal,
 {
     let alloc = rt.alloc();
-    let path = format!(in alloc; "{state}/{}", StateFile::Whole(cycle))?;
-    let is_made = cycle > 0 && is_there(rt, path.as_str());
-    let parts = closed_parts(rt, state, all, cycle)?;
-    let root = root_of(&parts);
-    let missing = find_missing(alloc, separators, root, cycle, &parts)?;
-    let joining = Joining {
-        state,
-        separators,
-        root,
-        parts: &parts,
-    };
-    if is_made && missing.is_empty() {
-        joining.refuse_other(rt, path.as_str())?;
-    }
-    if is_made {
-        // Of parts that were tidied away nothing can be compared.
-        return Ok(0);
-    }
-    if !missing.is_empty() {
-        return Ok(say_missing(rt, &missing));
-    }
     let made = format!(in alloc; "{path}.new")?;
     make_folder(
         rt,
-        format!(in alloc; "{state}/{}", StateFile::Reports)?.as_str(),
+        format!(in alloc; "{}/{}", joining.state, StateFile::Reports)?.as_str(),
     )?;
     joining.join_into(rt, made.as_str())?;
-    put_made(rt, made.as_str(), path.as_str())?;
-    Ok(0)
+    put_made(rt, made.as_str(), path)
 }
 
-/// Joins the reports of the last cycle that all parts have closed, and gives the status.
-fn join_last<R>(rt: &R, asked: &JoinAsked) -> Result<u8, Failure>
+impl AllParts<'_> {
+    /// Whether a part has said what its nights found in a cycle: the list of what is gone is put
+    /// once that was said.
+    fn is_told<R>(&self, rt: &R, number: usize, cycle: u64) -> Result<bool, AllocError>
+    where
+        R: Files + AllocGlobal,
+    {
+        let path = part_path(rt.alloc(), self.state, number)?;
+        Ok(is_there(rt, list_path(rt.alloc(), path.as_str(), cycle)?.as_str()))
+    }
+
+    /// Whether the whole report of a cycle is there of each part, and was said.
+    fn has_all<R>(&self, rt: &R, cycle: u64) -> Result<bool, AllocError>
+    where
+        R: Files + AllocGlobal,
+    {
+        for number in 1..=self.facts.len() {
+            let path = part_path(rt.alloc(), self.state, number)?;
+            let report = joined_path(rt.alloc(), path.as_str(), cycle)?;
+            if !is_there(rt, report.as_str()) || !self.is_told(rt, number, cycle)? {
+                return Ok(false);
+            }
+        }
+        Ok(true)
+    }
+
+    /// Names the parts that have not said what their nights found in a cycle.
+    fn say_untold<R>(&self, rt: &R, cycle: u64) -> Result<bool, AllocError>
+    where
+        R: Files + AllocGlobal + Eprint,
+    {
+        let mut is_any = false;
+        for number in 1..=self.facts.len() {
+            if !self.is_told(rt, number, cycle)? {
+                let _ = eprintln!(rt;
+                    "ocfl-scrub: part {number}: its closing of cycle {cycle} was not said yet"
+                );
+                is_any = true;
+            }
+        }
+        Ok(is_any)
+    }
+
+    /// Joins the reports of a cycle, unless they are joined already, and gives the status.
+    fn join_cycle<R>(&self, rt: &R, cycle: u64) -> Result<u8, Failure>
+    where
+        R: Files<File = File> + AllocGlobal + Eprint,
+    {
+        let alloc = rt.alloc();
+        let path = joined_path(alloc, self.state, cycle)?;
+        let is_made = cycle > 0 && is_there(rt, path.as_str());
+        let parts = closed_parts(rt, self.state, self.facts, cycle)?;
+        let root = root_of(&parts);
+        let missing = find_missing(alloc, self.separators, root, cycle, &parts)?;
+        let joining = Joining {
+            state: self.state,
+            separators: self.separators,
+            root,
+            parts: &parts,
+        };
+        if is_made && missing.is_empty() {
+            joining.refuse_other(rt, path.as_str())?;
+        }
+        if is_made {
+            // Of parts that were tidied away nothing can be compared.
+            return Ok(0);
+        }
+        if !missing.is_empty() {
+            return Ok(say_missing(rt, &missing));
+        }
+        if self.say_untold(rt, cycle)? {
+            return Ok(STOPPED);
+        }
+        put_joined(rt, &joining, path.as_str())?;
+        Ok(0)
+    }
+
+    /// The same of a cycle before the last one. One of which a part has no whole report never can
+    /// be joined, and was named when it was the last.
+    fn join_earlier<R>(&self, rt: &R, cycle: u64) -> Result<u8, Failure>
+    where
+        R: Files<File = File> + AllocGlobal + Eprint,
+    {
+        if is_joined(rt, self.state, cycle)? || !self.has_all(rt, cycle)? {
+            return Ok(0);
+        }
+        self.join_cycle(rt, cycle)
+    }
+}
+
+/// The status of a joining, or of why it failed, which is said.
+fn status_of<R: Eprint>(rt: &R, joined: Result<u8, Failure>) -> u8 {
+    match joined {
+        Ok(status) => status,
+        Err(failure) => say_failure(rt, &failure),
+    }
+}
+
+/// Joins each cycle that all parts have closed and that is not joined, the oldest first, and gives
+/// the status.
+fn join_all<R>(rt: &R, asked: &JoinAsked) -> Result<u8, Failure>
 where
     R: Files<File = File> + AllocGlobal + Eprint,
 {
     let separators = read_separators(rt, asked.parts.as_str())?;
-    let count = separators.len().saturating_add(1);
     let state = asked.state.as_str();
-    let all = read_all(rt, state, count)?;
-    let cycle = last_of_all(&all);
-    join_cycle(rt, state, &separators, all, cycle)
+    let _held = hold_folder(rt, state)?;
+    let facts = read_all(rt, state, separators.len().saturating_add(1))?;
+    let all = AllParts {
+        state,
+        separators: &separators,
+        facts: &facts,
+    };
+    let last = last_of_all(&facts);
+    let mut status = 0;
+    for cycle in last.saturating_sub(MOST_BACK).max(1)..last {
+        status = status.max(status_of(rt, all.join_earlier(rt, cycle)));
+    }
+    Ok(status.max(all.join_cycle(rt, last)?))
 }
 
-/// Joins the reports of all parts of the last cycle that all of them have closed, and gives the
-/// exit status. Each part whose report cannot be joined is named.
+/// Joins the reports of all parts of each cycle that all of them have closed, the oldest first, and
+/// gives the exit status. Each part whose report of the last of these cannot be joined is named.
 pub fn join_parts<R>(rt: &R, asked: &JoinAsked) -> u8
 where
     R: Files<File = File> + AllocGlobal + Eprint,
 {
-    match join_last(rt, asked) {
-        Ok(status) => status,
-        Err(failure) => say_failure(rt, &failure),
-    }
+    status_of(rt, join_all(rt, asked))
 }

@@ -5,7 +5,7 @@ use crate::making::file_failure;
 use crate::state::folder_failure;
 use crate::state_dir::StateDir;
 use ocfl_cursor::Refused;
-use ocfl_state::{OpenReport, ReportDigests, ReportMark, StateFile, decode_checkpoint};
+use ocfl_state::{Checkpoint, OpenReport, ReportDigests, ReportMark, StateFile, decode_checkpoint};
 use std::alloc::{AllocError, Global};
 use std::fs::File;
 use std::io::{self, Read};
@@ -28,14 +28,14 @@ fn digests_of<R: Read>(reader: &mut R) -> io::Result<ReportDigests> {
     Ok(digests)
 }
 
-/// The mark of the report of a cycle when it was closed. `None` where it was not kept, and
+/// The checkpoint with which the report of a cycle was closed. `None` where it was not kept, and
 /// `Some(None)` where what was kept is no checkpoint any more.
-fn mark_of<R>(
+pub(crate) fn read_kept<R>(
     alloc: Global,
     folder: &mut StateDir<'_, R>,
     state: &str,
     cycle: u64,
-) -> Result<Option<Option<ReportMark>>, Failure>
+) -> Result<Option<Option<Checkpoint>>, Failure>
 where
     R: Files<File = File> + AllocGlobal,
 {
@@ -45,9 +45,23 @@ where
         Err(_) => return Err(folder_failure(alloc, state, folder.reason())?),
     };
     match decode_checkpoint(alloc, &bytes) {
-        Ok(checkpoint) => Ok(Some(Some(checkpoint.report))),
+        Ok(checkpoint) => Ok(Some(Some(checkpoint))),
         Err(Refused::Memory) => Err(Failure::from(AllocError)),
         Err(_) => Ok(Some(None)),
+    }
+}
+
+/// The path of the closed report of a cycle.
+pub(crate) fn report_path(
+    alloc: Global,
+    state: &str,
+    cycle: u64,
+    whole: bool,
+) -> Result<String, AllocError> {
+    if whole {
+        format!(in alloc; "{state}/{}", StateFile::Whole(cycle))
+    } else {
+        format!(in alloc; "{state}/{}", StateFile::Incomplete(cycle))
     }
 }
 
@@ -62,13 +76,13 @@ fn has_mark(
     match digests_of(&mut report.file) {
         Ok(digests) => Ok(digests.summary() == *mark),
         Err(error) => {
-            let path = format!(in alloc; "{state}/{}", StateFile::Whole(cycle))?;
+            let path = report_path(alloc, state, cycle, report.whole)?;
             Err(file_failure(alloc, path.as_str(), &error)?)
         }
     }
 }
 
-/// Whether the whole report of a cycle has the length, the lines and the digests of the checkpoint
+/// Whether the closed report of a cycle has the length, the lines and the digests of the checkpoint
 /// with which it was closed. One that is not there counts so, and one without a kept checkpoint.
 pub fn is_as_closed<R>(
     alloc: Global,
@@ -79,14 +93,14 @@ pub fn is_as_closed<R>(
 where
     R: Files<File = File> + AllocGlobal,
 {
-    let Some(mark) = mark_of(alloc, folder, state, cycle)? else {
+    let Some(kept) = read_kept(alloc, folder, state, cycle)? else {
         return Ok(true);
     };
-    let Some(mark) = mark else {
+    let Some(kept) = kept else {
         return Ok(false);
     };
     match folder.open_closed(cycle) {
-        Ok(Some(report)) => has_mark(alloc, state, cycle, report, &mark),
+        Ok(Some(report)) => has_mark(alloc, state, cycle, report, &kept.report),
         Ok(None) => Ok(true),
         Err(_) => Err(folder_failure(alloc, state, folder.reason())?),
     }

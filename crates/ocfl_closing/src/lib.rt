@@ -1,15 +1,19 @@
 //! What is said of closed reports, and joining them.
 #![tactic(auto)]
 
+mod closed;
 pub mod closing;
 pub mod failing;
 pub mod files;
 pub mod finding;
+pub mod heard;
 pub mod joining;
 pub mod kept;
 pub mod lists;
 pub mod making;
+mod part_facts;
 pub mod reading;
+pub mod reasons;
 pub mod rows;
 pub mod saying;
 pub mod sound;

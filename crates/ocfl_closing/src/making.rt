@@ -10,7 +10,7 @@ use std::os::unix::fs::{DirBuilderExt, OpenOptionsExt};
 use std::rt::Files;
 
 /// Who may read and write a file that is made: its owner, and its group may read.
-const FILE_MODE: u32 = 0o640;
+pub(crate) const FILE_MODE: u32 = 0o640;
 
 /// The same of a folder.
 const FOLDER_MODE: u32 = 0o750;

@@ -1,27 +1,72 @@
 //! What changed from one report to the next, as its rows come.
 
-use ocfl_report::{Code, Line, read_line, read_place, split_once};
+use ocfl_report::{Code, Line, put_place, read_line, read_place, split_once};
 use ocfl_telling::{Gone, GoneKind, Known, SHOWN};
 use ocfl_tree::Place;
-use std::alloc::Global;
+use std::alloc::{AllocError, Global};
 use std::io::{self, ErrorKind, Write};
+use std::mem;
 
 /// How many findings that are new are named at most: whether one of them is known is told by its
 /// whole line.
 const MOST_NAMED: usize = 10_000;
 
+/// How a row of a repaired finding begins.
+const REPAIRED: &[u8] = b"repaired ";
+
+/// The first of what is gone, and how much there is.
+#[derive(Debug, Drop)]
+pub(crate) struct Missing {
+    pub(crate) first: Vec<Gone>,
+    pub(crate) count: u64,
+}
+
+impl Missing {
+    /// Nothing.
+    fn new(alloc: Global) -> Missing {
+        Missing {
+            first: Vec::new(alloc),
+            count: 0,
+        }
+    }
+
+    /// Takes one more.
+    fn add(&mut self, kind: GoneKind, place: Place) -> Result<(), AllocError> {
+        self.count = self.count.saturating_add(1);
+        if self.first.len() < SHOWN {
+            self.first.push(Gone { kind, place })?;
+        }
+        Ok(())
+    }
+
+    /// Takes those of another one too.
+    fn join(&mut self, other: Missing) -> Result<(), AllocError> {
+        let Missing { first, count } = other;
+        self.count = self.count.saturating_add(count);
+        for gone in first {
+            self.first.push(gone)?;
+        }
+        Ok(())
+    }
+}
+
 /// What changed. Of each list there are the first, and how many there are.
 #[derive(Debug)]
-pub struct Changes {
+pub(crate) struct Changes {
     /// Findings that are new, by their codes and places alone, up to 10,000.
-    pub appeared: Vec<Line>,
-    pub appeared_count: u64,
-    /// Places that are repaired, as lines without a finding, as many as are shown.
-    pub repaired: Vec<Line>,
-    pub repaired_count: u64,
-    /// What has no line any more, as many as are shown.
-    pub gone: Vec<Gone>,
-    pub gone_count: u64,
+    pub(crate) appeared: Vec<Line>,
+    pub(crate) appeared_count: u64,
+    /// Findings that are repaired, by their codes and places alone, as many as are shown.
+    pub(crate) repaired: Vec<Line>,
+    pub(crate) repaired_count: u64,
+    /// Objects that have no line of an object any more.
+    pub(crate) objects: Missing,
+    /// Files that have no line any more, of objects that are looked at.
+    pub(crate) files: Missing,
+    /// Objects of a list that have no line.
+    pub(crate) expected: Missing,
+    /// How many files are not looked at any more: their object is gone, or its head stops now.
+    pub(crate) unlooked: u64,
 }
 
 /// Written by hand, so that to let it go is one call wherever that happens.
@@ -32,35 +77,107 @@ impl Drop for Changes {
             appeared_count: _appeared_count,
             repaired: _repaired,
             repaired_count: _repaired_count,
-            gone: _gone,
-            gone_count: _gone_count,
+            objects: _objects,
+            files: _files,
+            expected: _expected,
+            unlooked: _unlooked,
         } = self;
     }
 }
 
 impl Changes {
     /// None.
-    pub fn new(alloc: Global) -> Changes {
+    pub(crate) fn new(alloc: Global) -> Changes {
         Changes {
             appeared: Vec::new(alloc),
             appeared_count: 0,
             repaired: Vec::new(alloc),
             repaired_count: 0,
-            gone: Vec::new(alloc),
-            gone_count: 0,
+            objects: Missing::new(alloc),
+            files: Missing::new(alloc),
+            expected: Missing::new(alloc),
+            unlooked: 0,
         }
     }
+
+    /// How many objects and files are gone.
+    pub(crate) fn gone_count(&self) -> u64 {
+        self.objects
+            .count
+            .saturating_add(self.files.count)
+            .saturating_add(self.expected.count)
+    }
+
+    /// The first of what is gone: objects before files.
+    pub(crate) fn gone(&self, alloc: Global) -> Result<Vec<Gone>, AllocError> {
+        let mut gone = Vec::new(alloc);
+        for missing in [&self.objects, &self.expected, &self.files] {
+            for one in &missing.first {
+                gone.push(Gone {
+                    kind: one.kind,
+                    place: one.place.try_clone()?,
+                })?;
+            }
+        }
+        Ok(gone)
+    }
+
+    /// Takes those of another comparison of the same report, of other places, too.
+    pub(crate) fn join(&mut self, alloc: Global, other: Changes) -> Result<(), AllocError> {
+        let mut other = other;
+        self.appeared_count = self.appeared_count.saturating_add(other.appeared_count);
+        self.repaired_count = self.repaired_count.saturating_add(other.repaired_count);
+        self.unlooked = self.unlooked.saturating_add(other.unlooked);
+        for line in other.appeared.drain(..) {
+            self.appeared.push(line)?;
+        }
+        self.appeared
+            .sort_by(|line: &Line, next: &Line| line.place.cmp(&next.place))?;
+        self.objects
+            .join(mem::replace(&mut other.objects, Missing::new(alloc)))?;
+        self.files
+            .join(mem::replace(&mut other.files, Missing::new(alloc)))?;
+        self.expected
+            .join(mem::replace(&mut other.expected, Missing::new(alloc)))
+    }
+}
+
+/// An object whose files are not looked at now.
+#[derive(Debug, Drop)]
+struct Shut {
+    place: Place,
+    /// Whether it has no line of an object any more. If not, its head stops.
+    is_gone: bool,
+    /// Whether this report has lines below it.
+    has_lines: bool,
 }
 
 /// An output that takes the rows of a comparison, each place's rows in one piece, and writes those
 /// of what is gone into a list.
-#[derive(Drop)]
-pub struct Rows<'a, W: Drop> {
-    pub alloc: Global,
+pub(crate) struct Rows<'a, W: Drop> {
+    alloc: Global,
     /// New findings that are known do not count.
-    pub known: &'a Known,
-    pub changes: Changes,
-    pub list: W,
+    known: &'a Known,
+    /// If it is there, the rows of these places and of what is below them count alone.
+    within: Option<&'a [Place]>,
+    changes: Changes,
+    /// The object that the last rows were at or below, if its files are not looked at.
+    shut: Option<Shut>,
+    list: W,
+}
+
+/// Written by hand, so that to let it go is one call wherever that happens.
+impl<W: Drop> Drop for Rows<'_, W> {
+    fn drop(self) {
+        let Rows {
+            alloc: _alloc,
+            known: _known,
+            within: _within,
+            changes: _changes,
+            shut: _shut,
+            list: _list,
+        } = self;
+    }
 }
 
 /// The error of a row that cannot be read.
@@ -76,35 +193,169 @@ fn place_of(alloc: Global, path: &[u8]) -> io::Result<Place> {
     }
 }
 
-impl<W: Write + Drop> Rows<'_, W> {
-    /// Takes what is gone.
-    fn take_gone(&mut self, kind: GoneKind, path: &[u8], row: &[u8]) -> io::Result<()> {
-        self.list.write_all(row)?;
-        self.changes.gone_count = self.changes.gone_count.saturating_add(1);
-        if self.changes.gone.len() < SHOWN {
-            let place = place_of(self.alloc, path)?;
-            self.changes.gone.push(Gone { kind, place })?;
+/// Whether nothing below an object is looked at if its head has a finding of this code.
+fn is_stop(code: Code) -> bool {
+    match code {
+        Code::E003 | Code::E017 | Code::E018 | Code::E025 | Code::E033 | Code::E036 => true,
+        Code::E041 | Code::E063 | Code::S01 | Code::S02 | Code::S03 => true,
+        _ => false,
+    }
+}
+
+/// A row: its word, and its place with the text of it.
+#[derive(Clone, Copy)]
+struct Row<'a> {
+    word: &'a [u8],
+    path: &'a [u8],
+}
+
+/// The parts of a row, with its line feed.
+fn row_of(text: &[u8]) -> io::Result<Row<'_>> {
+    let Some((word, rest)) = split_once(text, b'\t') else {
+        return Err(broken());
+    };
+    match rest.strip_suffix(b"\n") {
+        Some(path) => Ok(Row { word, path }),
+        None => Err(broken()),
+    }
+}
+
+impl<'a, W: Write + Drop> Rows<'a, W> {
+    /// With no row yet.
+    pub(crate) fn new(alloc: Global, known: &'a Known, list: W) -> Rows<'a, W> {
+        Rows {
+            alloc,
+            known,
+            within: None,
+            changes: Changes::new(alloc),
+            shut: None,
+            list,
+        }
+    }
+
+    /// From now on the rows of these places and of what is below them count alone; all rows if
+    /// there are none.
+    pub(crate) fn keep_to(&mut self, within: Option<&'a [Place]>) {
+        self.within = within;
+    }
+
+    /// Ends a comparison, and gives what changed by it.
+    pub(crate) fn take_changes(&mut self) -> io::Result<Changes> {
+        self.leave_shut()?;
+        Ok(mem::replace(&mut self.changes, Changes::new(self.alloc)))
+    }
+
+    /// The list.
+    pub(crate) fn list(&self) -> &W {
+        &self.list
+    }
+
+    /// Whether the rows of a place count.
+    fn counts(&self, place: &Place) -> bool {
+        match self.within {
+            Some(within) => within.iter().any(|branch| place.starts_with(branch)),
+            None => true,
+        }
+    }
+
+    /// Whether the place is that of the object whose files are not looked at, or below it.
+    fn is_shut(&self, place: &Place) -> bool {
+        match &self.shut {
+            Some(shut) => place.starts_with(&shut.place),
+            None => false,
+        }
+    }
+
+    /// Writes a row of the list.
+    fn put_row(&mut self, word: &str, place: &Place) -> io::Result<()> {
+        let mut row = Vec::from_slice(self.alloc, word.as_bytes())?;
+        row.push(b'\t')?;
+        put_place(place, &mut row)?;
+        row.push(b'\n')?;
+        self.list.write_all(&row)
+    }
+
+    /// Takes the object whose rows are over, if it is gone. If this report has lines below it, it
+    /// is no longer declared.
+    fn leave_shut(&mut self) -> io::Result<()> {
+        let Some(shut) = self.shut.take() else {
+            return Ok(());
+        };
+        if !shut.is_gone {
+            return Ok(());
+        }
+        let (kind, word) = if shut.has_lines {
+            (GoneKind::Undeclared, "undeclared")
+        } else {
+            (GoneKind::Object, "object")
+        };
+        self.put_row(word, &shut.place)?;
+        self.changes.objects.add(kind, shut.place)?;
+        Ok(())
+    }
+
+    /// Takes an object that has no line of an object any more.
+    fn take_object(&mut self, place: Place) -> io::Result<()> {
+        self.leave_shut()?;
+        self.shut = Some(Shut {
+            place,
+            is_gone: true,
+            has_lines: false,
+        });
+        Ok(())
+    }
+
+    /// Takes a file that has no line any more.
+    fn take_file(&mut self, place: Place) -> io::Result<()> {
+        if self.is_shut(&place) {
+            self.changes.unlooked = self.changes.unlooked.saturating_add(1);
+            return Ok(());
+        }
+        self.put_row("file", &place)?;
+        self.changes.files.add(GoneKind::File, place)?;
+        Ok(())
+    }
+
+    /// Takes an object of a list that has no line.
+    fn take_expected(&mut self, place: Place) -> io::Result<()> {
+        self.put_row("expected", &place)?;
+        self.changes.expected.add(GoneKind::Expected, place)?;
+        Ok(())
+    }
+
+    /// Notes that this report has lines at a place.
+    fn note_lines(&mut self, place: &Place) {
+        if let Some(shut) = &mut self.shut {
+            shut.has_lines = shut.has_lines || place.depth() > shut.place.depth();
+        }
+    }
+
+    /// Takes a finding that is repaired.
+    fn take_repaired(&mut self, line: Line) -> io::Result<()> {
+        self.note_lines(&line.place);
+        self.changes.repaired_count = self.changes.repaired_count.saturating_add(1);
+        if self.changes.repaired.len() < SHOWN {
+            self.changes.repaired.push(line)?;
         }
         Ok(())
     }
 
-    /// Takes a place that is repaired.
-    fn take_repaired(&mut self, path: &[u8]) -> io::Result<()> {
-        self.changes.repaired_count = self.changes.repaired_count.saturating_add(1);
-        if self.changes.repaired.len() < SHOWN {
-            let place = place_of(self.alloc, path)?;
-            self.changes.repaired.push(Line {
-                code: Code::Clean,
-                place,
-                detail: String::new(self.alloc),
-            })?;
+    /// Notes that the files of an object are not looked at now, if its head stops by this finding.
+    fn note_stop(&mut self, line: &Line) -> io::Result<()> {
+        if line.place.depth() > 0 && is_stop(line.code) && !self.is_shut(&line.place) {
+            self.shut = Some(Shut {
+                place: line.place.try_clone()?,
+                is_gone: false,
+                has_lines: false,
+            });
         }
         Ok(())
     }
 
     /// Takes a finding that is new.
-    fn take_new(&mut self, code: &[u8], path: &[u8]) -> io::Result<()> {
-        let line = bare_line(self.alloc, code, path)?;
+    fn take_new(&mut self, line: Line) -> io::Result<()> {
+        self.note_lines(&line.place);
+        self.note_stop(&line)?;
         if self.known.names(&line) {
             return Ok(());
         }
@@ -115,21 +366,30 @@ impl<W: Write + Drop> Rows<'_, W> {
         Ok(())
     }
 
-    /// Takes a row, with its line feed.
-    fn take_row(&mut self, row: &[u8]) -> io::Result<()> {
-        let Some((word, rest)) = split_once(row, b'\t') else {
-            return Err(broken());
-        };
-        let Some(path) = rest.strip_suffix(b"\n") else {
-            return Err(broken());
-        };
-        match word {
-            b"object" => self.take_gone(GoneKind::Object, path, row),
-            b"file" => self.take_gone(GoneKind::File, path, row),
-            b"expected" => self.take_gone(GoneKind::Expected, path, row),
-            b"repaired" => self.take_repaired(path),
-            code => self.take_new(code, path),
+    /// Takes a row of a place.
+    fn take_at(&mut self, row: Row<'_>, place: Place) -> io::Result<()> {
+        if !self.is_shut(&place) {
+            self.leave_shut()?;
         }
+        match row.word {
+            b"object" => self.take_object(place),
+            b"file" => self.take_file(place),
+            b"expected" => self.take_expected(place),
+            word => match word.strip_prefix(REPAIRED) {
+                Some(code) => self.take_repaired(bare_line(self.alloc, code, row.path)?),
+                None => self.take_new(bare_line(self.alloc, word, row.path)?),
+            },
+        }
+    }
+
+    /// Takes a row, with its line feed.
+    fn take_row(&mut self, text: &[u8]) -> io::Result<()> {
+        let row = row_of(text)?;
+        let place = place_of(self.alloc, row.path)?;
+        if self.counts(&place) {
+            self.take_at(row, place)?;
+        }
+        Ok(())
     }
 }
 

@@ -1,15 +1,18 @@
 //! Opening the state folder of a night.
 
+use crate::closed::places_of;
 use crate::failing::Failure;
 use crate::files::{lies_inside, path_of};
-use crate::making::is_there;
+use crate::making::{FILE_MODE, file_failure, is_there};
 use crate::stand::Standing;
 use crate::state_dir::StateDir;
-use ocfl_state::{FolderTrouble, Reason, StateFile, StateStop, decode_checkpoint};
+use ocfl_state::{Checkpoint, FolderTrouble, Reason, StateFile, StateStop, decode_checkpoint};
 use ocfl_telling::{RefusalMessage, Shown, refusal_text};
+use ocfl_tree::Place;
 use std::alloc::{AllocError, Global};
-use std::fs::File;
-use std::io;
+use std::fs::{self, File, OpenOptions, TryLockError};
+use std::io::{self, ErrorKind};
+use std::os::unix::fs::OpenOptionsExt;
 use std::path::Path;
 use std::rt::Files;
 
@@ -73,6 +76,51 @@ where
         Ok(folder) => Ok(folder),
         Err(stop) => Err(unopened(rt.alloc(), state, root, stop)?),
     }
+}
+
+/// Opens the file of a folder's lock, which is made if it is not there.
+fn open_lock<R>(rt: &R, path: &str) -> io::Result<File>
+where
+    R: Files<File = File>,
+{
+    if fs::symlink_metadata(rt, path).is_ok_and(|found| !found.is_file()) {
+        return Err(io::Error::new(ErrorKind::InvalidInput, "not a regular file"));
+    }
+    let mut options = OpenOptions::new();
+    options.read(true);
+    options.append(true);
+    options.create(true);
+    options.mode(FILE_MODE);
+    options.open(rt, path)
+}
+
+/// Holds the lock of a folder of parts while the result lives.
+pub(crate) fn hold_folder<R>(rt: &R, state: &str) -> Result<File, Failure>
+where
+    R: Files<File = File> + AllocGlobal,
+{
+    let alloc = rt.alloc();
+    let path = format!(in alloc; "{state}/{}", StateFile::Lock)?;
+    let lock = match open_lock(rt, path.as_str()) {
+        Ok(lock) => lock,
+        Err(error) => return Err(file_failure(alloc, path.as_str(), &error)?),
+    };
+    match lock.try_lock() {
+        Ok(()) => Ok(lock),
+        Err(TryLockError::WouldBlock) => Err(joined_now(alloc, state)?),
+        Err(TryLockError::Error(error)) => Err(file_failure(alloc, path.as_str(), &error)?),
+    }
+}
+
+/// That another call holds the folder of parts.
+fn joined_now(alloc: Global, state: &str) -> Result<Failure, AllocError> {
+    let state = Shown(state);
+    Ok(Failure {
+        status: HELD,
+        text: Some(format!(in alloc;
+            "another call still writes reports in {state}; nothing was joined\n"
+        )?),
+    })
 }
 
 /// Why the folder was not opened.
@@ -141,17 +189,57 @@ pub fn words_of(alloc: Global, reason: Option<Reason>) -> Result<Option<String>,
     }
 }
 
+/// Where nights begin: where those before stand, and which places they left out of the cycle that is
+/// open.
+#[derive(Debug, Drop)]
+pub struct Begun {
+    pub standing: Standing,
+    pub left: Vec<Place>,
+}
+
+impl Begun {
+    /// Before the first night.
+    fn first(alloc: Global) -> Begun {
+        Begun {
+            standing: Standing::first(),
+            left: Vec::new(alloc),
+        }
+    }
+
+    /// By a checkpoint. Places for which there is no memory are not named.
+    fn of(alloc: Global, checkpoint: &Checkpoint) -> Begun {
+        Begun {
+            standing: Standing::of(checkpoint),
+            left: places_of(alloc, &checkpoint.left).unwrap_or(Vec::new(alloc)),
+        }
+    }
+}
+
 /// Where the nights over a folder stand. Of a checkpoint that cannot be read the night itself says
 /// why.
-pub fn read_standing<R>(alloc: Global, folder: &mut StateDir<'_, R>) -> Standing
+pub fn read_begun<R>(alloc: Global, folder: &mut StateDir<'_, R>) -> Begun
 where
     R: Files<File = File> + AllocGlobal,
 {
     match folder.checkpoint() {
         Ok(Some(bytes)) => match decode_checkpoint(alloc, &bytes) {
-            Ok(checkpoint) => Standing::of(&checkpoint),
-            Err(_) => Standing::first(),
+            Ok(checkpoint) => Begun::of(alloc, &checkpoint),
+            Err(_) => Begun::first(alloc),
         },
-        Ok(None) | Err(_) => Standing::first(),
+        Ok(None) | Err(_) => Begun::first(alloc),
+    }
+}
+
+/// Whether the folder is one of nights over this storage root, by its checkpoint.
+pub fn is_of_root<R>(alloc: Global, folder: &mut StateDir<'_, R>, root: &str) -> bool
+where
+    R: Files<File = File> + AllocGlobal,
+{
+    match folder.checkpoint() {
+        Ok(Some(bytes)) => match decode_checkpoint(alloc, &bytes) {
+            Ok(checkpoint) => { root.strip_prefix('/') == Some(checkpoint.root.path.path()) }
+            Err(_) => false,
+        },
+        Ok(None) | Err(_) => false,
     }
 }

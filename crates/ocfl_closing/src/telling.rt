@@ -1,9 +1,10 @@
 //! The output of a night: the bytes of its report come in, and what was found goes out.
 
+use crate::reasons::{Reasons, reason_line, take_reasons};
 use crate::stand::Standing;
-use ocfl_report::{TextStop, read_line, write_all_of};
+use ocfl_report::{Code, Line, TextStop, read_line, write_all_of};
 use ocfl_state::StateFile;
-use ocfl_telling::{Found, Gravest, Known, Night, night_text};
+use ocfl_telling::{Found, Gravest, Known, Night, SHOWN, night_text};
 use std::alloc::{AllocError, Global};
 use std::cell::Cell;
 use std::io::{self, ErrorKind, Write};
@@ -28,11 +29,12 @@ pub const CLEAN: &[u8] = b"ok\t";
 ///
 /// A flush fails if not all of it went out. Lines that are no report lines are left out and
 /// counted. After a failure nothing more is taken.
-#[derive(Drop)]
 pub struct Teller<'n, W: Drop> {
     alloc: Global,
     names: Names<'n>,
     known: &'n Known,
+    /// Why places could not be read since what was found was said last.
+    reasons: Rc<Cell<Reasons>>,
     /// Where the nights stand, and where they stood when all was said that there was to say.
     now: Rc<Cell<Standing>>,
     said_to: Standing,
@@ -46,12 +48,32 @@ pub struct Teller<'n, W: Drop> {
     out: W,
 }
 
+/// Written by hand, so that to let it go is one call wherever that happens.
+impl<W: Drop> Drop for Teller<'_, W> {
+    fn drop(self) {
+        let Teller {
+            alloc: _alloc,
+            names: _names,
+            known: _known,
+            reasons: _reasons,
+            now: _now,
+            said_to: _said_to,
+            found: _found,
+            rest: _rest,
+            findings: _findings,
+            broken: _broken,
+            out: _out,
+        } = self;
+    }
+}
+
 impl<'n, W: Write + Drop> Teller<'n, W> {
     /// What it says is of the runs after where the nights stand now.
     pub fn new(
         alloc: Global,
         names: Names<'n>,
         known: &'n Known,
+        reasons: Rc<Cell<Reasons>>,
         now: Rc<Cell<Standing>>,
         out: W,
     ) -> Teller<'n, W> {
@@ -59,6 +81,7 @@ impl<'n, W: Write + Drop> Teller<'n, W> {
             alloc,
             names,
             known,
+            reasons,
             said_to: now.get(),
             now,
             found: Some(Found::new(alloc)),
@@ -131,7 +154,9 @@ impl<'n, W: Write + Drop> Teller<'n, W> {
             .and_then(|found| found.end())
             .map_err(error_of)?;
         let now = self.now.get();
-        let text = message(self.alloc, self.names, self.said_to, now, &gravest)?;
+        let mut text = message(self.alloc, self.names, self.said_to, now, &gravest)?;
+        let reasons = take_reasons(self.alloc, &self.reasons);
+        put_reasons(self.alloc, &gravest, &reasons, &mut text)?;
         if write_all_of(&mut self.out, &text).is_err() {
             return Err(io::Error::from(ErrorKind::WriteZero));
         }
@@ -190,6 +215,44 @@ fn report_of(now: Standing) -> StateFile {
     } else {
         StateFile::Incomplete(now.cycle)
     }
+}
+
+/// Appends why the first of these could not be read that could not, of at most `room`. Gives how
+/// many more there may be.
+fn put_reasons_of(
+    alloc: Global,
+    lines: &[Line],
+    reasons: &Reasons,
+    room: usize,
+    text: &mut Vec<u8>,
+) -> Result<usize, AllocError> {
+    for line in &lines[..lines.len().min(room)] {
+        if line.code == Code::S08 {
+            if let Some(error) = reasons.find(&line.place) {
+                text.extend_from_slice(reason_line(alloc, &line.place, error)?.as_bytes())?;
+            }
+        }
+    }
+    Ok(room.saturating_sub(lines.len()))
+}
+
+/// Appends why those files could not be read that a message shows.
+fn put_reasons(
+    alloc: Global,
+    found: &Gravest,
+    reasons: &Reasons,
+    text: &mut Vec<u8>,
+) -> Result<(), AllocError> {
+    let mut room = SHOWN;
+    for kept in [
+        &found.bytes,
+        &found.objects,
+        &found.records,
+        &found.positions,
+    ] {
+        room = put_reasons_of(alloc, &kept.lines, reasons, room, text)?;
+    }
+    Ok(())
 }
 
 /// The message about what was found.

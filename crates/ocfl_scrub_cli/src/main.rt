@@ -3,6 +3,7 @@
 #![tactic(auto)]
 
 mod nights;
+mod paths;
 mod progress;
 mod saying;
 mod scope;

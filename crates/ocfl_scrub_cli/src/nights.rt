@@ -6,20 +6,21 @@ mod noted;
 mod roots;
 mod timing;
 
-use crate::nights::ending::{ending_text, is_own, left_text, lost_text};
+use crate::nights::ending::{ending_text, is_own, left_earlier_text, left_text, lost_text};
 use crate::nights::logging::{Account, Journal, log_night};
 use crate::nights::noted::Noting;
 use crate::nights::roots::{Root, find_ends, find_root, part_number};
 use crate::nights::timing::{NightClock, end_of, is_spent_by};
-use crate::progress::{Clearing, Terminals, Watched, clear};
+use crate::progress::{Clearing, Reasoned, Terminals, Watched, clear};
 use crate::saying::STOPPED;
 use crate::version::running_digest;
 use ocfl_closing::closing::Closings;
 use ocfl_closing::failing::{Failure, say_failure, say_text};
-use ocfl_closing::lists::{find_known, refuse_missing};
+use ocfl_closing::lists::{find_known, refuse_unfit};
 use ocfl_closing::making::file_failure;
+use ocfl_closing::reasons::{Reason as Why, Reasons};
 use ocfl_closing::stand::Standing;
-use ocfl_closing::state::{open_state, read_standing, refuse_overlap, words_of};
+use ocfl_closing::state::{Begun, is_of_root, open_state, read_begun, refuse_overlap, words_of};
 use ocfl_closing::state_dir::StateDir;
 use ocfl_closing::telling::{Names, Teller};
 use ocfl_closing::timing::seconds_now;
@@ -30,7 +31,7 @@ use ocfl_line::NightAsked;
 use ocfl_night::{Halt, NightEnd, Plan, Site, night, status_found, status_of};
 use ocfl_state::{Reason, StateFile, StateFolder};
 use ocfl_telling::{Known, NightRow};
-use ocfl_tree::Tree;
+use ocfl_tree::{Place, Tree};
 use std::alloc::{AllocError, Global};
 use std::cell::Cell;
 use std::fs::File;
@@ -59,7 +60,6 @@ struct Given<'a> {
 }
 
 /// What a night made.
-#[derive(Drop)]
 struct Made {
     end: NightEnd,
     /// What the items of its runs cost, at most 2^64 - 1.
@@ -67,10 +67,24 @@ struct Made {
     /// How many findings were said, and how many lines of the report were none.
     findings: u64,
     broken: u64,
-    /// How many branches are left out of the cycle that it read.
-    left: u64,
     /// Why the last call over the storage root failed that did.
     reason: Option<io::Error>,
+    /// The places that were left out in it, and why.
+    left: Vec<Why>,
+}
+
+/// Written by hand, so that to let it go is one call wherever that happens.
+impl Drop for Made {
+    fn drop(self) {
+        let Made {
+            end: _end,
+            cost: _cost,
+            findings: _findings,
+            broken: _broken,
+            reason: _reason,
+            left: _left,
+        } = self;
+    }
 }
 
 /// Whether progress is shown, and what the last cycle cost, if that is known.
@@ -121,7 +135,7 @@ where
     refuse_overlap(rt, asked.state.as_str(), path.as_str())?;
     let ends = find_ends(rt, &asked.chosen)?;
     let known = find_known(rt, text_of(&asked.known))?;
-    refuse_missing(rt, text_of(&asked.expected))?;
+    refuse_unfit(rt, text_of(&asked.expected))?;
     let end = end_of(rt, asked.bounds.until, began)?;
     Ok(Given {
         began,
@@ -184,16 +198,17 @@ fn night_over<R, S, T, C, W>(
     clock: &mut C,
     block: &mut Block,
     out: &mut W,
+    reasons: &Cell<Reasons>,
     shown: Shown,
 ) -> NightEnd
 where
     R: AllocGlobal + Clock + Eprint,
     S: StateFolder,
-    T: Tree,
+    T: Tree + Reasoned,
     C: ocfl_night::Clock,
     W: Write,
 {
-    let mut tree = Watched::over(rt, tree, shown.is_shown, shown.last_cost);
+    let mut tree = Watched::over(rt, tree, shown.is_shown, Some(reasons), shown.last_cost);
     night(
         rt.alloc(),
         folder,
@@ -213,6 +228,7 @@ fn night_in<R, S, C, W>(
     folder: &mut S,
     clock: &mut C,
     out: &mut W,
+    reasons: &Cell<Reasons>,
     shown: Shown,
 ) -> Result<(NightEnd, Option<io::Error>), Failure>
 where
@@ -225,7 +241,9 @@ where
     let Ok(mut tree) = FsTree::entering(rt, given.root.as_str()) else {
         return Err(Failure::from(AllocError));
     };
-    let end = night_over(rt, given, folder, &mut tree, clock, &mut block, out, shown);
+    let end = night_over(
+        rt, given, folder, &mut tree, clock, &mut block, out, reasons, shown,
+    );
     Ok((end, tree.reason()))
 }
 
@@ -248,15 +266,23 @@ where
     };
     let mut clock = clock_of(rt, given, now, lost)?;
     let out = output_on(rt, shown_on);
-    let mut teller = Teller::new(rt.alloc(), given.names(), &given.known, now.clone()?, out);
-    let (end, reason) = night_in(rt, given, folder, &mut clock, &mut teller, shown)?;
+    let reasons = folder.reasons.clone()?;
+    let mut teller = Teller::new(
+        rt.alloc(),
+        given.names(),
+        &given.known,
+        folder.reasons.clone()?,
+        now.clone()?,
+        out,
+    );
+    let (end, reason) = night_in(rt, given, folder, &mut clock, &mut teller, &reasons, shown)?;
     Ok(Made {
         end,
         cost: began.spent_until(now.get()),
         findings: teller.findings(),
         broken: teller.broken(),
-        left: now.get().left,
         reason,
+        left: Vec::new(rt.alloc()),
     })
 }
 
@@ -295,10 +321,10 @@ where
     };
     let mut earlier = 0;
     for cycle in closings.first_untold(before)..=before {
-        let told = closings.tell(cycle, 0, &mut out);
+        let told = closings.tell(cycle, false, &mut out);
         earlier = earlier.max(status_told(rt, told));
     }
-    let now = closings.tell(closed, made.left, &mut out);
+    let now = closings.tell(closed, true, &mut out);
     earlier.max(status_told(rt, now))
 }
 
@@ -316,6 +342,7 @@ fn say_ending<'a, R>(
     folder: &mut StateDir<'a, R>,
     names: Names<'_>,
     made: &Made,
+    earlier: &[Place],
 ) -> Result<Option<String>, Failure>
 where
     R: Files<File = File> + AllocGlobal + Eprint,
@@ -327,8 +354,13 @@ where
     if let Some(said) = &said {
         say_text(rt, said.as_str());
     }
+    if !matches!(&made.end.end, Halt::Refused(_)) {
+        for branch in earlier {
+            say_text(rt, left_earlier_text(alloc, branch)?.as_str());
+        }
+    }
     for branch in &made.end.left {
-        say_text(rt, left_text(alloc, branch)?.as_str());
+        say_text(rt, left_text(alloc, branch, &made.left)?.as_str());
     }
     if is_lost(made) {
         say_text(rt, lost_text(alloc, names.state, made.broken)?.as_str());
@@ -353,13 +385,13 @@ where
 {
     let names = given.names();
     let mut folder = open_state(rt, names.state, names.root, given.asked.create)?;
-    let began = read_standing(rt.alloc(), &mut folder);
+    let begun = read_begun(rt.alloc(), &mut folder);
     let lost = Rc::new(rt.alloc(), Cell::new(None))?;
-    let (folder, made) = night_from(rt, given, folder, began, &lost, shown_on)?;
+    let (folder, made) = night_from(rt, given, folder, begun.standing, &lost, shown_on)?;
     if shown_on.error {
         clear(rt);
     }
-    end_night(rt, given, folder, &made, began.last_closed(), lost.get())
+    end_night(rt, given, folder, &made, &begun, lost.get())
 }
 
 /// Makes a night over a folder in which the nights stand there, and gives the folder back.
@@ -380,26 +412,30 @@ where
         folder,
         now: now.clone()?,
         journal: journal_of(rt, given, lost)?,
+        reasons: Rc::new(rt.alloc(), Cell::new(Reasons::new(rt.alloc())))?,
+        left: Vec::new(rt.alloc()),
     };
-    let made = run_night(rt, given, &mut noting, &now, lost, shown_on)?;
-    Ok((noting.folder, made))
+    let mut made = run_night(rt, given, &mut noting, &now, lost, shown_on)?;
+    let (folder, left) = noting.into_folder();
+    made.left = left;
+    Ok((folder, made))
 }
 
 /// Says how a night ended and what the cycles found that were closed, logs it, and gives its
-/// status. `before` is the cycle that was closed last before the night.
+/// status. `begun` is where it began.
 fn end_night<'a, R>(
     rt: &'a R,
     given: &Given<'_>,
     mut folder: StateDir<'a, R>,
     made: &Made,
-    before: u64,
+    begun: &Begun,
     lost: Option<Reason>,
 ) -> Result<u8, Failure>
 where
     R: Files<File = File> + AllocGlobal + Clock + Print + Eprint,
 {
     let names = given.names();
-    let said = say_ending(rt, &mut folder, names, made)?;
+    let said = say_ending(rt, &mut folder, names, made, &begun.left)?;
     let mut closings = Closings {
         rt,
         folder,
@@ -408,7 +444,7 @@ where
         expected: text_of(&given.asked.expected),
         night: given.began,
     };
-    let told = tell_closings(&mut closings, before, made);
+    let told = tell_closings(&mut closings, begun.standing.last_closed(), made);
     let found = status_found(is_partial(made), made.findings);
     let status = status_of(&made.end.end).max(found).max(told);
     Ok(log_made(
@@ -474,9 +510,9 @@ where
     log_night(rt, folder, names.state, Account { row, said }, lost)
 }
 
-/// Logs a night that failed before its folder was opened, if nights were made in that folder. What
-/// cannot be logged is left out: the failure itself is said.
-fn log_unbegun<R>(rt: &R, state: &str, began: u64, failure: &Failure)
+/// Logs a night that failed before its folder was opened, if nights over this root were made in
+/// that folder. What cannot be logged is left out: the failure itself is said.
+fn log_unbegun<R>(rt: &R, asked: &NightAsked, began: u64, failure: &Failure)
 where
     R: Files<File = File> + AllocGlobal + Clock + Eprint,
 {
@@ -486,7 +522,11 @@ where
     if failure.status != STOPPED {
         return;
     }
+    let state = asked.state.as_str();
     if let Ok(mut folder) = StateDir::open(rt, state, false) {
+        if !is_of_root(rt.alloc(), &mut folder, asked.root.as_str()) {
+            return;
+        }
         let program = running_digest(rt).ok();
         let ended = seconds_now(rt);
         let row = NightRow {
@@ -528,7 +568,7 @@ where
     match read_given(rt, &asked, began) {
         Ok(given) => make_in(rt, &given, shown_on),
         Err(failure) => {
-            log_unbegun(rt, asked.state.as_str(), began, &failure);
+            log_unbegun(rt, &asked, began, &failure);
             Err(failure)
         }
     }

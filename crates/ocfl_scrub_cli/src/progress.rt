@@ -1,10 +1,13 @@
 //! Progress: one line on a terminal, which is written over again while a command works.
 ghost use Rattle.std.specs.Prelude.{◌≡◌};
 
+use ocfl_closing::reasons::{Reasons, keep_reason};
+use ocfl_folder::{FsTree, System};
 use ocfl_inventory::{Level, is_declaration_name};
 use ocfl_report::DisplayPlace;
 use ocfl_tree::{Entry, Kind, Place, Tree, Trouble};
 use std::alloc::AllocError;
+use std::cell::Cell;
 use std::io::{self, IsTerminal, Write};
 use std::time::{Clock, Instant};
 
@@ -61,12 +64,24 @@ fn percent(part: u128, whole: Option<u128>) -> Option<u128> {
     Some(part.saturating_mul(100).checked_div(whole?)?.min(999))
 }
 
-/// A store that shows how much of its content was read, if that is asked for.
-#[derive(Drop)]
+/// A store that knows why its last call failed that did.
+pub(crate) trait Reasoned {
+    fn reason_of_last(&self) -> Option<io::Error>;
+}
+
+impl<S: System + Drop> Reasoned for FsTree<S> {
+    fn reason_of_last(&self) -> Option<io::Error> {
+        self.reason()
+    }
+}
+
+/// A store that shows how much of its content was read, and keeps why a place could not be read, if
+/// that is asked for.
 pub(crate) struct Watched<'a, R, T> {
     store: &'a mut T,
     rt: &'a R,
     is_shown: bool,
+    reasons: Option<&'a Cell<Reasons>>,
     /// What the last cycle cost, if that is known.
     last_cost: Option<u128>,
     /// When the work began, if the clock can be read.
@@ -83,17 +98,39 @@ pub(crate) struct Watched<'a, R, T> {
     object: Option<Place>,
 }
 
-impl<'a, R: AllocGlobal + Clock + Eprint, T> Watched<'a, R, T> {
+/// Written by hand, so that to let it go is one call wherever that happens.
+impl<R, T> Drop for Watched<'_, R, T> {
+    fn drop(self) {
+        let Watched {
+            store: _store,
+            rt: _rt,
+            is_shown: _is_shown,
+            reasons: _reasons,
+            last_cost: _last_cost,
+            began: _began,
+            files: _files,
+            bytes: _bytes,
+            is_content: _is_content,
+            work: _work,
+            place: _place,
+            object: _object,
+        } = self;
+    }
+}
+
+impl<'a, R: AllocGlobal + Clock + Eprint, T: Reasoned> Watched<'a, R, T> {
     pub(crate) fn over(
         rt: &'a R,
         store: &'a mut T,
         is_shown: bool,
+        reasons: Option<&'a Cell<Reasons>>,
         last_cost: Option<u128>,
     ) -> Watched<'a, R, T> {
         Watched {
             store,
             rt,
             is_shown,
+            reasons,
             last_cost,
             began: Instant::now(rt).ok(),
             files: 0,
@@ -109,7 +146,7 @@ impl<'a, R: AllocGlobal + Clock + Eprint, T> Watched<'a, R, T> {
     fn reach(&mut self, place: &Place)
         ensures { self.new.store ≡ self.old.store }
     {
-        if !self.is_shown {
+        if !self.is_shown && self.reasons.is_none() {
             return;
         }
         // Its text is made when it is shown. If memory is refused, the place before stays.
@@ -117,6 +154,16 @@ impl<'a, R: AllocGlobal + Clock + Eprint, T> Watched<'a, R, T> {
             self.place = place;
         }
         self.add(CALL);
+    }
+
+    /// Keeps why the place could not be read that is read, if the device failed.
+    fn keep(&self, trouble: Trouble) {
+        if trouble != Trouble::Device {
+            return;
+        }
+        if let (Some(reasons), Some(error)) = (self.reasons, self.store.reason_of_last()) {
+            keep_reason(self.rt.alloc(), reasons, &self.place, error);
+        }
     }
 
     fn add(&mut self, work: u64)
@@ -208,16 +255,23 @@ impl<'a, R: AllocGlobal + Clock + Eprint, T> Watched<'a, R, T> {
 }
 
 /// Does what the inner store does, with the same contract.
-impl<R: AllocGlobal + Clock + Eprint, T: Tree> Tree for Watched<'_, R, T> {
+impl<R: AllocGlobal + Clock + Eprint, T: Tree + Reasoned> Tree for Watched<'_, R, T> {
     ghost told = { T.told };
 
     ghost state = { λ watched. T.state watched.store.now };
 
     fn list(&mut self, place: &Place) -> Result<Vec<Entry>, Trouble> {
         self.reach(place);
-        let entries = self.store.list(place)?;
-        self.note_listing(place, &entries);
-        Ok(entries)
+        match self.store.list(place) {
+            Ok(entries) => {
+                self.note_listing(place, &entries);
+                Ok(entries)
+            }
+            Err(trouble) => {
+                self.keep(trouble);
+                Err(trouble)
+            }
+        }
     }
 
     fn open(&mut self, place: &Place) -> Result<(), Trouble> {
@@ -226,11 +280,23 @@ impl<R: AllocGlobal + Clock + Eprint, T: Tree> Tree for Watched<'_, R, T> {
         if self.is_content {
             self.files = self.files.saturating_add(1);
         }
-        self.store.open(place)
+        match self.store.open(place) {
+            Ok(()) => Ok(()),
+            Err(trouble) => {
+                self.keep(trouble);
+                Err(trouble)
+            }
+        }
     }
 
     fn read(&mut self, buffer: &mut [u8]) -> Result<usize, Trouble> {
-        let count = self.store.read(buffer)?;
+        let count = match self.store.read(buffer) {
+            Ok(count) => count,
+            Err(trouble) => {
+                self.keep(trouble);
+                return Err(trouble);
+            }
+        };
         if self.is_content {
             self.bytes = self.bytes.saturating_add(count as u64);
         }

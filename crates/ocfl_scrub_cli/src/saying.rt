@@ -22,6 +22,9 @@ pub(crate) enum NotDone {
     /// The report was not split.
     #[error("{0}")]
     Report(SplitStop),
+    /// The report could not be read.
+    #[error("report failed: {0}")]
+    ReportUnread(io::Error),
     /// The separators' text would be longer than is read again.
     #[error("too many parts")]
     TooLong,
@@ -47,7 +50,7 @@ impl NotDone {
             NotDone::TooLong => USAGE,
             NotDone::Report(SplitStop::Line(_) | SplitStop::Many) => USAGE,
             NotDone::Checkpoint(_) => REFUSED,
-            NotDone::Report(_) | NotDone::CheckpointFile => STOPPED,
+            NotDone::Report(_) | NotDone::ReportUnread(_) | NotDone::CheckpointFile => STOPPED,
             NotDone::Stopped(_) | NotDone::Reasoned(_, _) => STOPPED,
         }
     }

@@ -1,6 +1,7 @@
 //! Splitting a storage root: the text of the separators goes to standard output.
 
 use crate::saying::{NotDone, say_stop};
+use ocfl_closing::heard::Heard;
 use ocfl_folder::FsTree;
 use ocfl_item::Fault;
 use ocfl_line::Split;
@@ -19,9 +20,7 @@ where
 {
     match asked {
         Split::Listing { count, root } => split_by_listing(rt, *count, root.as_str()),
-        Split::Report { budget, report } => {
-            split_by_report(rt, *budget, report.as_str()).map_err(NotDone::Report)
-        }
+        Split::Report { budget, report } => { split_by_report(rt, *budget, report.as_str()) }
     }
 }
 
@@ -48,22 +47,28 @@ fn note_of(fault: Fault) -> Note {
 }
 
 /// The separators by the costs in a file of a report.
-fn split_by_report<R>(rt: &R, budget: u64, file: &str) -> Result<Separators, SplitStop>
+fn split_by_report<R>(rt: &R, budget: u64, file: &str) -> Result<Separators, NotDone>
 where
     R: Files + AllocGlobal,
 {
-    let opened = File::open(rt, file).map_err(|error| report_stop(&error))?;
-    let Ok(mut report) = BufReader::new(rt.alloc(), opened) else {
-        return Err(SplitStop::Memory);
+    let opened = File::open(rt, file).map_err(|error| unread(SplitStop::Read, Some(error)))?;
+    let Ok(mut report) = BufReader::new(rt.alloc(), Heard::new(opened)) else {
+        return Err(NotDone::Report(SplitStop::Memory));
     };
-    split_by(rt.alloc(), &mut report, budget)
+    match split_by(rt.alloc(), &mut report, budget) {
+        Ok(separators) => Ok(separators),
+        Err(stop) => Err(unread(stop, report.get_ref().error())),
+    }
 }
 
-/// Why a report's file was not opened.
-fn report_stop(error: &io::Error) -> SplitStop {
-    match error.kind() {
-        io::ErrorKind::OutOfMemory => SplitStop::Memory,
-        _ => SplitStop::Read,
+/// Why a report was not split, with the system's words if it could not be read.
+fn unread(stop: SplitStop, error: Option<io::Error>) -> NotDone {
+    match (stop, error) {
+        (SplitStop::Read, Some(error)) if error.kind() == io::ErrorKind::OutOfMemory => {
+            NotDone::Report(SplitStop::Memory)
+        }
+        (SplitStop::Read, Some(error)) => NotDone::ReportUnread(error),
+        (stop, _) => NotDone::Report(stop),
     }
 }
 

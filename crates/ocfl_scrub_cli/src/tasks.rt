@@ -1,7 +1,10 @@
 //! Doing a deed over a folder: its store, its cursor's file, its progress.
 
-use crate::progress::{Clearing, Terminals, Watched, clear};
-use crate::saying::{STOPPED, USAGE, say, say_note, say_out_of_memory, say_reason, say_stop};
+use crate::paths::why_no_place;
+use crate::progress::{Clearing, Reasoned, Terminals, Watched, clear};
+use crate::saying::{
+    NotDone, STOPPED, USAGE, say, say_note, say_out_of_memory, say_reason, say_stop,
+};
 use crate::scope::read_scope;
 use crate::showing::show_file;
 use ocfl_closing::files::{lies_inside, open_if_there, put_in_place};
@@ -9,8 +12,8 @@ use ocfl_cursor::{State, read_cursor, read_part_cursor};
 use ocfl_deed::Deed;
 use ocfl_digest::Block;
 use ocfl_folder::FsTree;
-use ocfl_line::Task;
-use ocfl_scope::Scope;
+use ocfl_line::{Chosen, Task};
+use ocfl_scope::{Scope, ScopeStop};
 use ocfl_scrub::{Note, Performed, perform_part};
 use ocfl_tree::Tree;
 use std::rt::{Env, Files};
@@ -113,7 +116,7 @@ fn perform_over<R, T>(
 ) -> Result<Performed, Note>
 where
     R: Files + AllocGlobal + Clock + Print + Eprint,
-    T: Tree,
+    T: Tree + Reasoned,
 {
     let mut reader = open_cursor(rt, task)?;
     let last_cost = if shown_on.error {
@@ -121,7 +124,7 @@ where
     } else {
         None
     };
-    let mut store = Watched::over(rt, store, shown_on.error, last_cost);
+    let mut store = Watched::over(rt, store, shown_on.error, None, last_cost);
     let mut out = Clearing {
         rt,
         is_shared: shown_on.output,
@@ -194,9 +197,25 @@ where
     if shown_on.error {
         clear(rt);
     }
-    say_note(rt, &ended.note);
-    say_reason(rt, &ended.note, ended.reason);
+    say_end(rt, &task.deed, &ended);
     ended.status
+}
+
+/// Says what a deed ended with: of one place with its path, and why it is none.
+fn say_end<R: Eprint>(rt: &R, deed: &Deed, ended: &Ended) {
+    match (&ended.note, deed) {
+        (Note::NoItem, Deed::Check(path)) => {
+            let _ = eprintln!(rt; "ocfl-scrub: no item at {path}");
+        }
+        (Note::BadPath, Deed::Check(path)) => {
+            say_note(rt, &ended.note);
+            say(rt, why_no_place(path.as_str()));
+        }
+        _ => {
+            say_note(rt, &ended.note);
+            say_reason(rt, &ended.note, ended.reason);
+        }
+    }
 }
 
 /// Refuses a cursor's file in the storage root: says so and gives the status.
@@ -230,6 +249,15 @@ where
     }
     match read_scope(rt, &task.chosen) {
         Ok(scope) => perform_and_report(rt, task, &scope, shown_on(task, terminals)),
-        Err(stop) => say_stop(rt, &stop),
+        Err(stop) => {
+            let status = say_stop(rt, &stop);
+            if let (NotDone::Scope(ScopeStop::BadPath), Chosen::Branch(path)) = (
+                &stop,
+                &task.chosen,
+            ) {
+                say(rt, why_no_place(path.as_str()));
+            }
+            status
+        }
     }
 }

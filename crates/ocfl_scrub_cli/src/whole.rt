@@ -1,8 +1,10 @@
 //! Paths from `/` on. The process goes into the storage root, where other paths would lead
-//! elsewhere.
+//! elsewhere. Paths of items as reports write them.
 
+use crate::paths::report_text;
 use ocfl_deed::Deed;
 use ocfl_line::{Asked, Chosen, NightAsked, Split, Task};
+use std::alloc::Global;
 use std::rt::Env;
 use std::{env, io};
 
@@ -39,6 +41,15 @@ fn whole_chosen<R: Env + AllocGlobal>(rt: &R, chosen: Chosen) -> io::Result<Chos
             parts: whole(rt, parts)?,
             number,
         }),
+        Chosen::Branch(path) => Ok(Chosen::Branch(report_text(rt.alloc(), path)?)),
+        Chosen::All => Ok(Chosen::All),
+    }
+}
+
+/// A deed with its path as reports write it.
+fn with_report_path(alloc: Global, deed: Deed) -> io::Result<Deed> {
+    match deed {
+        Deed::Check(path) => Ok(Deed::Check(report_text(alloc, path)?)),
         other => Ok(other),
     }
 }
@@ -52,7 +63,7 @@ fn whole_task<R: Env + AllocGlobal>(rt: &R, task: Task) -> io::Result<Task> {
         chosen: whole_chosen(rt, task.chosen)?,
         root: whole_if_any(rt, task.root)?,
         file: whole_if_any(rt, task.file)?,
-        deed: task.deed,
+        deed: with_report_path(rt.alloc(), task.deed)?,
         quiet: task.quiet,
     })
 }

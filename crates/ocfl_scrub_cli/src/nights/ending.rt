@@ -1,5 +1,6 @@
 //! What is said of how a night ends.
 
+use ocfl_closing::reasons::Reason;
 use ocfl_closing::telling::Names;
 use ocfl_cursor::Refused;
 use ocfl_item::Fault;
@@ -43,9 +44,24 @@ pub(crate) fn ending_text(
     }
 }
 
-/// What is said of a branch that was left out.
-pub(crate) fn left_text(alloc: Global, branch: &Place) -> Result<String, AllocError> {
+/// What is said of a branch that was left out, and why it was, if that is known.
+pub(crate) fn left_text(
+    alloc: Global,
+    branch: &Place,
+    left: &[Reason],
+) -> Result<String, AllocError> {
+    for reason in left {
+        if reason.place == *branch {
+            let why = reason.error;
+            return format!(in alloc; "left out: {}: {why}\n", DisplayPlace(branch));
+        }
+    }
     format!(in alloc; "left out: {}\n", DisplayPlace(branch))
+}
+
+/// What is said of a branch that an earlier night left out of the cycle that is open.
+pub(crate) fn left_earlier_text(alloc: Global, branch: &Place) -> Result<String, AllocError> {
+    format!(in alloc; "left out earlier: {}\n", DisplayPlace(branch))
 }
 
 /// What is said of a report of which some was lost, or cannot be read.

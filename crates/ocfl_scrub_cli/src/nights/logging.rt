@@ -106,16 +106,35 @@ impl<'a, R: Files<File = File> + AllocGlobal + Clock> Journal<'a, R> {
         }
     }
 
-    /// Appends the line of a place that a checkpoint names as left out.
-    pub(crate) fn left(&self, cycle: u64, left: &Left) {
-        let row = LeftRow {
-            time: seconds_now(self.rt),
-            night: self.night,
-            cycle,
-            place: &left.place,
-        };
-        self.append(log_line(self.rt.alloc(), &LogRow::Left(row)));
+    /// Appends the line of a place that a checkpoint names as left out, and why it was, if that is
+    /// known.
+    pub(crate) fn left(&self, cycle: u64, left: &Left, error: Option<io::Error>) {
+        let time = seconds_now(self.rt);
+        self.append(left_text(self.rt.alloc(), time, self.night, cycle, left, error));
     }
+}
+
+/// The line of a place that is left out.
+fn left_text(
+    alloc: Global,
+    time: u64,
+    night: u64,
+    cycle: u64,
+    left: &Left,
+    error: Option<io::Error>,
+) -> Result<String, AllocError> {
+    let why = match error {
+        Some(error) => format!(in alloc; "{error}")?,
+        None => String::new(alloc),
+    };
+    let row = LeftRow {
+        time,
+        night,
+        cycle,
+        place: &left.place,
+        why: why.as_str(),
+    };
+    log_line(alloc, &LogRow::Left(row))
 }
 
 /// What the log says of a night.

@@ -1,5 +1,6 @@
 //! A state folder whose checkpoints are noted as they are put.
 use crate::nights::logging::Journal;
+use ocfl_closing::reasons::{Reason, Reasons, last_reason};
 use ocfl_closing::stand::Standing;
 use ocfl_closing::state_dir::StateDir;
 use ocfl_state::{Checkpoint, FolderTrouble, StateFolder, decode_checkpoint};
@@ -12,17 +13,47 @@ use std::time::Clock;
 
 /// A state folder, and where the nights stand by the checkpoint that was put last. What is said of
 /// a night, and its clock, go by that. Each place that is left out is logged.
-#[derive(Drop)]
 pub(crate) struct Noting<'a, R: Files<File = File> + AllocGlobal> {
     pub(crate) alloc: Global,
     pub(crate) folder: StateDir<'a, R>,
     pub(crate) now: Rc<Cell<Standing>>,
     pub(crate) journal: Journal<'a, R>,
+    /// Why places of the storage root could not be read.
+    pub(crate) reasons: Rc<Cell<Reasons>>,
+    /// The places that were left out since the night began, and why.
+    pub(crate) left: Vec<Reason>,
 }
 
-impl<R: Files<File = File> + AllocGlobal + Clock> Noting<'_, R> {
+/// Written by hand, so that to let it go is one call wherever that happens.
+impl<R: Files<File = File> + AllocGlobal> Drop for Noting<'_, R> {
+    fn drop(self) {
+        let Noting {
+            alloc: _alloc,
+            folder: _folder,
+            now: _now,
+            journal: _journal,
+            reasons: _reasons,
+            left: _left,
+        } = self;
+    }
+}
+
+impl<'a, R: Files<File = File> + AllocGlobal + Clock> Noting<'a, R> {
+    /// The folder, and the places that were left out since the night began, with why.
+    pub(crate) fn into_folder(self) -> (StateDir<'a, R>, Vec<Reason>) {
+        let Noting {
+            alloc: _alloc,
+            folder,
+            now: _now,
+            journal: _journal,
+            reasons: _reasons,
+            left,
+        } = self;
+        (folder, left)
+    }
+
     /// Notes a checkpoint. One for which there is no memory is not noted.
-    fn note(&self, bytes: &[u8]) {
+    fn note(&mut self, bytes: &[u8]) {
         if let Ok(checkpoint) = decode_checkpoint(self.alloc, bytes) {
             let before = self.now.get();
             let now = Standing::of(&checkpoint).noted_after(before);
@@ -33,10 +64,15 @@ impl<R: Files<File = File> + AllocGlobal + Clock> Noting<'_, R> {
         }
     }
 
-    /// Logs the place that was left out last.
-    fn log_left(&self, checkpoint: &Checkpoint) {
-        if let Some(left) = checkpoint.left.last() {
-            self.journal.left(checkpoint.cursor.cycle(), left);
+    /// Logs the place that was left out last: after the call that failed last.
+    fn log_left(&mut self, checkpoint: &Checkpoint) {
+        let Some(left) = checkpoint.left.last() else {
+            return;
+        };
+        let error = last_reason(self.alloc, &self.reasons);
+        self.journal.left(checkpoint.cursor.cycle(), left, error);
+        if let (Some(error), Ok(place)) = (error, left.place.try_clone()) {
+            let _ = self.left.push(Reason { place, error });
         }
     }
 }

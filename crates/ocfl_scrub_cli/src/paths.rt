@@ -1,0 +1,36 @@
+//! Paths of items as users write them: as reports do, or by the names themselves.
+
+use ocfl_report::{DisplayPlace, TextStop, read_place};
+use ocfl_tree::Place;
+use std::alloc::{AllocError, Global};
+
+/// The text of a path as reports write it. A word that reads so stays as it is; another is the path
+/// by its names; one that is the path of no place stays as it is.
+pub(crate) fn report_text(alloc: Global, word: String) -> Result<String, AllocError> {
+    match read_place(alloc, word.as_bytes()) {
+        Ok(_) => Ok(word),
+        Err(TextStop::Memory) => Err(AllocError),
+        Err(TextStop::Bad) => match Place::from_path(word.clone()?) {
+            Some(place) if place.depth() > 0 => format!(in alloc; "{}", DisplayPlace(&place)),
+            _ => Ok(word),
+        },
+    }
+}
+
+/// Why a path is that of no place.
+pub(crate) fn why_no_place(path: &str) -> &'static str {
+    if path.is_empty() {
+        return "the path is empty: the storage root itself is '.'";
+    }
+    if path.starts_with('/') || path.ends_with('/') {
+        return "give the path below the storage root, without a slash at its beginning or end";
+    }
+    for name in path.split('/') {
+        match name {
+            "" => return "the path has an empty name between two slashes",
+            "." | ".." => return "no name in the path may be '.' or '..'",
+            _ => {}
+        }
+    }
+    "the path has a name that no file can have"
+}

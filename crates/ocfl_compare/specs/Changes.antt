@@ -1,5 +1,5 @@
 -- What changed between the report before and this one, place by place.
-use Rattle.std.specs.Prelude.{◌&&◌, List, [], ◌∷◌, ◌++◌, Bool, not, if◌then◌else◌, map, filter, flat_map, codes}
+use Rattle.std.specs.Prelude.{◌&&◌, ◌||◌, List, [], ◌∷◌, ◌++◌, Bool, not, if◌then◌else◌, map, filter, flat_map, codes}
 use Rattle.std.specs.List.{list_any}
 use Rattle.ocfl_tree.specs.Place.{Text, Place, place_cmp, place_eq, text_eq, begins}
 use Rattle.ocfl_tree.specs.Ascending.{ascending}
@@ -7,7 +7,7 @@ use Rattle.ocfl_report.specs.{Line.{Line, is_finding_code}, Text.{code_text, pla
 use Rattle.ocfl_report.specs.declared.code.Code.{Code}
 use Rattle.ocfl_compare.specs.declared.question.Question.{Question}
 use Rattle.ocfl_compare.specs.declared.question.Question.TheVariants.{Changed, Expected}
-use Rattle.ocfl_compare.specs.Kinds.{is_empty, tells_object, tells_file}
+use Rattle.ocfl_compare.specs.Kinds.{is_empty, tells_object, tells_file, hides}
 
 -- ---- the codes of findings
 
@@ -35,26 +35,31 @@ new_codes before now = filter (λ c. not (has_code before c)) now
 
 -- ---- changes at one place
 
--- an object is gone, or a content file; a finding is there that was not; there was a finding, and
--- now there are lines and none of them is one; or an object that is expected has no line
+-- an object is gone, or a content file; a finding is there that was not, or was there and is not; or
+-- an object that is expected has no line
 pub data Change : Type 0 where
   object_gone : Change
   file_gone : Change
   found : Code → Change
-  repaired : Change
+  repaired : Code → Change
   missing : Change
 
 abbrev pub when : Bool → Change → List Change
 when b c = if b then c ∷ [] else []
 
--- of a place with these lines in the report before, and these in this one. What is gone has lines
--- there and none here
+-- the codes that were found before and are found no more, of a place that was looked at: it has
+-- lines, and none that may hide a finding
+abbrev pub repaired_codes : List Line → List Line → List Code
+repaired_codes before now = if is_empty now || list_any hides now then [] else new_codes (finding_codes now) (finding_codes before)
+
+-- of a place with these lines in the report before, and these in this one. Where an object is gone
+-- there was a line of it and is none; where a file is gone there is no line at all
 abbrev pub changes_at : List Line → List Line → List Change
 changes_at before now =
-    when (is_empty now && list_any tells_object before) object_gone
+    when (not (list_any tells_object now) && list_any tells_object before) object_gone
     ++ (when (is_empty now && list_any tells_file before) file_gone
     ++ (map found (new_codes (finding_codes before) (finding_codes now))
-    ++ when (not (is_empty now) && (is_empty (finding_codes now) && not (is_empty (finding_codes before)))) repaired))
+    ++ map repaired (repaired_codes before now)))
 
 -- of an object with this line in a list, and these lines in the report
 abbrev pub missing_at : List Line → List Line → List Change
@@ -83,12 +88,13 @@ places_of before now = ascending place_cmp (map (λ l. l.place) (before ++ now))
 
 -- ---- their text
 
--- `object` or `file` if it is gone, the finding's code, `repaired`, or `expected` if it is missing
+-- `object` or `file` if it is gone, the finding's code, `repaired` and that code, or `expected` if it
+-- is missing
 abbrev pub change_word : Change → Text
 change_word object_gone = codes "object"
 change_word file_gone = codes "file"
 change_word (found c) = code_text c
-change_word repaired = codes "repaired"
+change_word (repaired c) = codes "repaired " ++ code_text c
 change_word missing = codes "expected"
 
 abbrev pub row_text : Text → Place → Text

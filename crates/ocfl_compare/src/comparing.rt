@@ -29,12 +29,16 @@ struct Both {
 /// Compares two reports of a storage root, and writes what changed, in the order of places. A
 /// row has a word, a tab, the place as reports write it, and a line feed:
 ///
-/// - `object` or `file`, if the report before has a line of an object or of a content file at
-///   the place, and this one has no line there;
+/// - `object`, if the report before has a line of an object at the place, and this one has none of
+///   an object there;
+/// - `file`, if the report before has a line of a content file at the place, and this one has no
+///   line there;
 /// - the code of a finding that is at the place in this report, and was not in the one before, each
 ///   code once;
-/// - `repaired`, if the one before has a finding at the place, and this one has lines there and
-///   none of them is a finding.
+/// - `repaired`, a space and the code of a finding that was at the place in the report before, and
+///   is not in this one, each code once. It is said only of a place that was looked at: it has lines
+///   in this report, and none behind which a finding may not be looked for, as where an object's
+///   head stops, or where a file could not be read or is no longer named.
 ///
 /// Nothing is said of the places in `left` and of what is below them. All bytes of both readers
 /// are read as reports, and one line of each is in memory at a time.

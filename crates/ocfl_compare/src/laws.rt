@@ -1,13 +1,13 @@
 //! The laws of what changed between two reports, and of parts that are joined.
-ghost use Rattle.std.specs.Prelude.{◌≡◌, ◌↔◌, ℕ, List, [], Some, None, true, map};
+ghost use Rattle.std.specs.Prelude.{◌≡◌, ◌≢◌, ◌↔◌, ℕ, List, [], Some, None, false, true, map};
 ghost use Rattle.std.specs.List.{list_any};
 ghost use Rattle.ocfl_tree.specs.{Ascending.{IsAmong}, Place.{Place, Text}};
 ghost use Rattle.ocfl_parts.specs.Separators.{end_of_part, start_of_part};
 ghost use Rattle.ocfl_compare.specs.{Joined.{fault_of}, declared.joining.ClosedPart.{ClosedPart}};
 ghost use Rattle.ocfl_compare.specs.Changes.{changes_at, comparison_text, file_gone, finding_codes};
-ghost use Rattle.ocfl_compare.specs.Changes.{found, lines_at, object_gone};
-ghost use Rattle.ocfl_compare.specs.Kinds.{tells_file, tells_object};
-ghost use Rattle.ocfl_report.specs.Line.{Line};
+ghost use Rattle.ocfl_compare.specs.Changes.{found, has_code, object_gone, repaired};
+ghost use Rattle.ocfl_compare.specs.Kinds.{hides, tells_file, tells_object};
+ghost use Rattle.ocfl_report.specs.{Line.{Line}, declared.code.Code.{Code}};
 
 /// Between a report and itself nothing changed.
 #[tactic(auto, using(crate::proofs::ChangeLaws::nothing_changed))]
@@ -16,13 +16,23 @@ pub fn a_report_is_as_itself()
 {}
 
 /// An object is gone from a place exactly if the report before has a line of it there, and this one
-/// has no line there. So is a content file.
+/// has none. A content file is gone exactly if the report before has a line of it at the place, and
+/// this one has no line there at all.
 #[tactic(auto, using(crate::proofs::ChangeLaws::object_gone_is, crate::proofs::ChangeLaws::file_gone_is))]
 pub fn what_is_gone_is_the_difference()
     ensures objects { (before now : List Line) → IsAmong (changes_at before now) object_gone
-        ↔ (now ≡ []) × (list_any tells_object before ≡ true) }
+        ↔ (list_any tells_object now ≡ false) × (list_any tells_object before ≡ true) }
     ensures files { (before now : List Line) → IsAmong (changes_at before now) file_gone
         ↔ (now ≡ []) × (list_any tells_file before ≡ true) }
+{}
+
+/// A code is repaired at a place exactly if it was found there before and is not found now, and the
+/// place was looked at: it has lines, and none that may hide a finding.
+#[tactic(auto, using(crate::proofs::ChangeLaws::repaired_is))]
+pub fn what_is_repaired_was_looked_at()
+    ensures { (before now : List Line) (c : Code) → IsAmong (changes_at before now) (repaired c)
+        ↔ ((now ≢ []) × (list_any hides now ≡ false))
+        × (IsAmong (finding_codes before) c × (has_code (finding_codes now) c ≡ false)) }
 {}
 
 /// If the report before has no line, the findings of this one are new, and nothing else changed.

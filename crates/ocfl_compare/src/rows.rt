@@ -1,11 +1,12 @@
 //! The text of what changed at a place.
-ghost use Rattle.std.specs.Prelude.{◌≡◌, ◌&&◌, [], ◌++◌, List, OnOk, flat_map, if◌then◌else◌};
+ghost use Rattle.std.specs.Prelude.{◌≡◌, [], ◌++◌, List, OnOk, flat_map, if◌then◌else◌, map};
 ghost use Rattle.std.specs.List.{list_any};
 ghost use Rattle.ocfl_tree.specs.Place.{Place as ModelPlace};
 ghost use Rattle.ocfl_report.specs.Line.{Line as ModelLine};
-ghost use Rattle.ocfl_compare.specs.Changes.{changes_text, is_left as is_left_out, row_text};
-ghost use Rattle.ocfl_compare.specs.Internal.Telling.{IsTold, new_text, told_answer, told_changes};
-ghost use Rattle.ocfl_compare.specs.Internal.Telling.{told_repaired};
+ghost use Rattle.ocfl_compare.specs.Changes.{change_word, changes_text, is_left as is_left_out};
+ghost use Rattle.ocfl_compare.specs.Changes.{repaired, row_text};
+ghost use Rattle.ocfl_compare.specs.Internal.Telling.{IsTold, new_text, repaired_text};
+ghost use Rattle.ocfl_compare.specs.Internal.Telling.{told_answer, told_changes, told_repaired};
 ghost use Rattle.ocfl_compare.specs.Internal.Turns.{said_text};
 
 use crate::question::Question;
@@ -67,30 +68,33 @@ fn put_changes(sides: Sides<'_>, rows: &mut Vec<u8>) -> Result<(), AllocError>
         (told_changes sides.entry.before.now sides.entry.now.now)) }
 {
     let Sides { place, before, now } = sides;
-    put_row_if(is_gone(before.object, now), "object", place, rows)?;
-    put_row_if(is_gone(before.file, now), "file", place, rows)?;
+    put_row_if(!now.object && before.object, "object", place, rows)?;
+    put_row_if(now.absent && before.file, "file", place, rows)?;
     put_new(
         place,
         before.findings.as_slice(),
         now.findings.as_slice(),
         rows,
     )?;
-    put_row_if(is_repaired(before, now), "repaired", place, rows)?;
-    Ok(())
+    put_all_repaired(sides, rows)
 }
 
-/// Whether what was there before is gone.
-fn is_gone(was: bool, now: &Told) -> bool
-    ensures { result ≡ now.now.absent && was }
+/// Appends a row for each code that is repaired, if the place was looked at.
+fn put_all_repaired(sides: Sides<'_>, rows: &mut Vec<u8>) -> Result<(), AllocError>
+    ensures { OnOk result (rows.new.items ≡ rows.old.items
+        ++ changes_text sides.entry.place.now
+        (map repaired (told_repaired sides.entry.before.now sides.entry.now.now))) }
 {
-    now.absent && was
-}
-
-/// Whether there was a finding, and now there are lines and none of them is one.
-fn is_repaired(before: &Told, now: &Told) -> bool
-    ensures { result ≡ told_repaired before.now now.now }
-{
-    !now.absent && now.findings.is_empty() && !before.findings.is_empty()
+    let Sides { place, before, now } = sides;
+    if now.absent || now.hidden {
+        return Ok(());
+    }
+    put_repaired(
+        place,
+        now.findings.as_slice(),
+        before.findings.as_slice(),
+        rows,
+    )
 }
 
 /// Appends a row for each code that was not there before.
@@ -107,6 +111,39 @@ fn put_new(
         put_row_if(!has_code(before, *code), code.text(), place, rows)?;
     }
     Ok(())
+}
+
+/// Appends a row for each code that is not there now.
+fn put_repaired(
+    place: &Place,
+    now: &[Code],
+    before: &[Code],
+    rows: &mut Vec<u8>,
+) -> Result<(), AllocError>
+    ensures { OnOk result (rows.new.items
+        ≡ rows.old.items ++ flat_map (repaired_text place.now now.now) before.now) }
+{
+    for code in before {
+        put_repaired_if(!has_code(now, *code), *code, place, rows)?;
+    }
+    Ok(())
+}
+
+/// Appends the row of a code that is repaired, or nothing.
+fn put_repaired_if(
+    is: bool,
+    code: Code,
+    place: &Place,
+    rows: &mut Vec<u8>,
+) -> Result<(), AllocError>
+    ensures { OnOk result (rows.new.items ≡ rows.old.items
+        ++ (if is then row_text (change_word (repaired code)) place.now else [])) }
+{
+    if !is {
+        return Ok(());
+    }
+    rows.extend_from_slice(b"repaired ")?;
+    put_row_if(true, code.text(), place, rows)
 }
 
 /// Appends a row, or nothing.

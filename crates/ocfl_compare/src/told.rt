@@ -4,7 +4,7 @@ ghost use Rattle.ocfl_report.specs.Line.{Line as ModelLine, line_of};
 ghost use Rattle.ocfl_compare.specs.Changes.{has_code as has_that_code, with_code};
 ghost use Rattle.ocfl_compare.specs.Internal.Telling.{IsTold};
 
-use crate::kinds::{is_of_file, is_of_object};
+use crate::kinds::{is_hiding, is_of_file, is_of_object};
 use ocfl_report::{Code, Line};
 use ocfl_tree::is_text;
 use std::alloc::{AllocError, Global};
@@ -18,6 +18,8 @@ pub(crate) struct Told {
     pub(crate) object: bool,
     /// There is a line of a content file.
     pub(crate) file: bool,
+    /// There is a line behind which other findings may not be looked for.
+    pub(crate) hidden: bool,
     /// The codes of findings, each once.
     pub(crate) findings: Vec<Code>,
 }
@@ -30,6 +32,7 @@ pub(crate) fn nothing(alloc: Global) -> Told
         absent: true,
         object: false,
         file: false,
+        hidden: false,
         findings: Vec::new(alloc),
     }
 }
@@ -43,6 +46,7 @@ pub(crate) fn tell(told: Told, line: &Line) -> Result<Told, AllocError>
         absent: _,
         object,
         file,
+        hidden,
         mut findings,
     } = told;
     add_code(line, &mut findings)?;
@@ -50,6 +54,7 @@ pub(crate) fn tell(told: Told, line: &Line) -> Result<Told, AllocError>
         absent: false,
         object: either(object, is_of_object(line)),
         file: either(file, is_of_file(line)),
+        hidden: either(hidden, is_hiding(line.code)),
         findings,
     })
 }

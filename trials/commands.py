@@ -25,6 +25,7 @@ Seen to fail on these faults, each planted alone:
 """
 import os
 import subprocess
+from urllib.parse import unquote
 
 import common
 from common import checkpoint_text, digest, expect, check, line, nights, ran, read, write
@@ -81,8 +82,32 @@ def cycles(root):
     expect("audit", ["audit", root], 0, ITEMS, None)
     expect("check", ["check", root, "o/v1/content/b"], 0, ITEMS[3:4], None)
     expect("check of the root", ["check", root, "."], 0, ITEMS[:1], None)
-    expect("no item", ["check", root, "o/v1/content/d"], 0, [], "no item")
-    expect("bad path", ["check", root, "o//d"], 2, [], "bad path")
+    expect("no item", ["check", root, "o/v1/content/d"], 0, [], "no item at o/v1/content/d")
+    for path, why in [("o//d", "the path has an empty name between two slashes"),
+                      ("", "the path is empty: the storage root itself is '.'"),
+                      ("o/", "give the path below the storage root, without a slash at its "
+                       "beginning or end"),
+                      ("o/../o", "no name in the path may be '.' or '..'")]:
+        expect("bad path %r" % path, ["check", root, path], 2, [],
+               "bad path\nocfl-scrub: " + why)
+
+
+def paths(folder):
+    """A path is taken as a report writes it, and by its names; of a name that reads as a report's
+    path, that path is meant."""
+    names = ["Brief an M\u00fcller.pdf", "a b$(c)'.txt", "100% fertig.txt", "n\nl"]
+    root = common.make_root(os.path.join(folder, "paths"),
+                            {"o": {"v1/content/" + name: b"abc" for name in names}})
+    lines = common.ran(["audit", root])[1].splitlines(True)[2:]
+    shown = [line.split("\t")[1] for line in lines]
+    check("reports write them otherwise", [it for it in shown if it.split("/")[-1] in names],
+          ["o/v1/content/a b$(c)'.txt"])
+    for line, path in zip(lines, shown):
+        name = unquote(path)
+        expect("check " + path, ["check", root, path], 0, [line], None)
+        expect("check %r" % name, ["check", root, name], 0, [line], None)
+        expect("under %r" % name, ["audit", "--quiet", "--under", name, root], 0, [line], None)
+    expect("no item", ["check", root, "\u00fc"], 0, [], "no item at %C3%BC")
 
 
 def refused_cursors(file, run):
@@ -233,14 +258,16 @@ def refused_parts(folder, root):
     expect("one part too many", audit + ["3"], 2, [], "no such part")
     write(file, b"")
     expect("two parts of no separators", audit + ["2"], 2, [], "no such part")
-    expect("a branch of no place", ["audit", "--under", "o//v1", root], 2, [], "bad path")
+    expect("a branch of no place", ["audit", "--under", "o//v1", root], 2, [],
+           "bad path\nocfl-scrub: the path has an empty name between two slashes")
     check("the cursor is as it was", read(cursor), b"no cursor")
 
 
 def splits_by_report(folder):
     file = os.path.join(folder, "report")
     split = ["split", "--report", file, "--budget"]
-    expect("no report", split + ["1"], 3, [], "report failed")
+    expect("no report", split + ["1"], 3, [],
+           "report failed: No such file or directory (os error 2)")
     write(file, "".join(ITEMS).encode())
     for budget, separators in [
         ("1", ["o/v1/content/b\n", "o/v1/content/c\n"]),
@@ -355,6 +382,7 @@ def check_all(folder):
     cursor_bytes(folder, root)
     three_nights(folder, root)
     cycles(root)
+    paths(folder)
     cursor_files(os.path.join(folder, "files"), root)
     checkpoints(os.path.join(folder, "files"))
     inside_the_root(folder, root)

@@ -34,6 +34,7 @@ Seen to fail on these faults, each planted alone:
 - A report that cannot be read, or all before a missing one, are left out of comparisons; an
   incomplete report is called whole.
 """
+import json
 import os
 import shutil
 import signal
@@ -46,8 +47,10 @@ from shared.own_nights import Audited, Got, Nights, make_root
 
 FILES = {"v1/content/1": b"abc", "v1/content/2": b""}
 PLACES = ["(c)", "+b", "-a", "..d", ".e", "f", "g/h", "i"]
-# What the loss of an object leaves in no report.
-OF_F = "object\tf\nfile\tf/v1/content/1\nfile\tf/v1/content/2\n"
+# What the loss of an object leaves in no report, and what is said of its files.
+OF_F = "object\tf\n"
+UNLOOKED = "%d file(s) of objects that are gone, or whose inventory cannot be used, are not looked " \
+    "at any more.\n"
 
 
 def made(folder: str) -> Nights:
@@ -80,7 +83,8 @@ def gone(folder: str) -> None:
     nights = made(folder)
     remove_object(nights)
     status, out, note = nights.night()
-    check("gone", (status, out.endswith(OF_F), out.count("\n"), note), (1, True, 4, ""))
+    check("gone", (status, out.endswith(OF_F + UNLOOKED % 2), out.count("\n"), note),
+          (1, True, 3, ""))
     check("the list", nights.has("reports/gone-000002"), OF_F)
     check("it is said once", nights.night(), (0, "", ""))
     os.remove(nights.root + "/i/v1/content/2")
@@ -120,8 +124,25 @@ def many(folder: str) -> None:
         shutil.rmtree("%s/%s" % (nights.root, place))
     common.make_object(nights.root + "/o", FILES)
     status, out, _ = nights.night("--force-root")
-    check("gone", (status, out.count("object\t") + out.count("file\t"), "and 55 more, in "
-                   "%s/reports/gone-000002\n" % nights.state in out), (1, 20, True))
+    check("gone", (status, out.count("object\t"), out.count("file\t"), "and 5 more, in "
+                   "%s/reports/gone-000002\n" % nights.state in out, UNLOOKED % 50 in out),
+          (1, 20, 0, True, True))
+
+
+def objects_first(folder: str) -> None:
+    """Of much that is gone objects are named before files, whatever their places."""
+    names = {"v1/content/%02d" % number: b"abc" for number in range(30)}
+    root = common.make_root(folder + "/root", {"a": names, "y": FILES, "z": FILES})
+    nights = Nights(folder + "/state", root)
+    check("the first cycle", nights.first(), (0, "", ""))
+    # The whole object again, with an inventory that names none of the others.
+    for place in ("a", "y", "z"):
+        remove_object(nights, place)
+    common.make_object(root + "/a", {"v1/content/00": b"abc"})
+    status, out, _ = nights.night("--force-root")
+    lines = [line for line in out.splitlines() if line[:7] in ("object\t", "file\ta/")]
+    check("named", (status, lines[:2], lines[2].startswith("file\ta/"), len(lines)),
+          (1, ["object\ty", "object\tz"], True, 20))
 
 
 def known_findings(folder: str) -> None:
@@ -170,12 +191,11 @@ def odd_names_gone(folder: str) -> None:
     for place in ODD:
         remove_object(nights, place)
     left = [line.split("\t")[1] for line in audit_of(nights).splitlines()]
-    rows = ["%s\t%s\n" % ("file" if "/v1/" in it else "object", it) for it in shown
-            if it not in left]
+    rows = ["object\t%s\n" % it for it in shown if it not in left and "/v1/" not in it]
     status, out, note = nights.night("--force-root")
     check("they are gone", (status, len(rows), nights.has("reports/gone-000002"), note),
-          (1, 3 * len(ODD), "".join(rows), ""))
-    check("what is said of them", (out.endswith("".join(rows[:20]) + out.splitlines(True)[-1]),
+          (1, len(ODD), "".join(rows), ""))
+    check("what is said of them", (out.endswith("".join(rows) + UNLOOKED % (2 * len(ODD))),
                                    [it for it in out if it < " " and it not in "\t\n"]),
           (True, []))
 
@@ -202,12 +222,17 @@ def lists_that_fail(folder: str) -> None:
     for name, path in [("none", folder + "/nothing"), ("a folder", folder)]:
         before = nights.kept()
         status, out, note = nights.night("--expected", path)
-        check("a list that is " + name, (status in (2, 3), out, note != ""), (True, "", True))
-        if status == 2:
-            check("nothing was run", nights.kept(), before)
-        said = nights.night("--expected", "/dev/null")
-        check("an empty list", (said[0], said[1]), (0, ""))
+        check("a list that is " + name, (status, out, "(os error" in note), (2, "", True))
+        check("nothing was run of a list that is " + name, nights.kept(), before)
     file = folder + "/expected"
+    for name, text, why in [("empty", b"", "it names no object"),
+                            ("of comments", b"# none\n\n", "it names no object"),
+                            ("of ids", b"urn:a\nhttp://b//c\n", "bad list: line 2: ")]:
+        common.write(file, text)
+        before = nights.kept()
+        status, out, note = nights.night("--expected", file)
+        check("a list that is " + name, (status, out, why in note, nights.kept()),
+              (2, "", True, before))
     for name, change in [("removed", os.remove), ("a folder now", folder_instead),
                          ("no list now", lambda it: common.write(it, b"f\n/lost\n"))]:
         common.write(file, b"f\nlost\n")
@@ -331,13 +356,164 @@ def not_compared_for_long(folder: str) -> None:
 
 
 def older_report(folder: str) -> None:
-    """The last report was taken away: what is gone is found against the one before it."""
+    """The last report was taken away: what is gone is found against the one before it, and that is
+    said, with status 3."""
     nights = made(folder)
     nights.night()
     os.remove(nights.path("reports/cycle-000002"))
     remove_object(nights)
     status, out, note = nights.night()
-    check("gone", (status, OF_F in out, note), (1, True, ""))
+    check("gone", (status, OF_F in out, "the report of cycle 2 is not in" in out,
+                   "so this is since cycle 1" in out, note), (3, True, True, True, ""))
+    check("its row", closings(nights)[-1], {"cycle": 3, "compared": 1, "objects": 1})
+
+
+def closings(nights: Nights) -> list[dict[str, Any]]:
+    """The rows of the log on closings: of each the members that are not 0 or empty."""
+    rows = [json.loads(line) for line in common.read(nights.path("log")).splitlines()]
+    shown = ("cycle", "compared", "objects", "files", "expected", "listed", "left")
+    return [{name: row[name] for name in shown if row[name]} for row in rows
+            if row["row"] == "closing"]
+
+
+def no_report_there(folder: str) -> None:
+    """The only report of before was compressed, or taken away: nothing is compared, which is said
+    until it is back; then what was lost is."""
+    for name in ("compressed", "taken away"):
+        nights = made(folder + "/" + name.split()[0])
+        path = nights.path("reports/cycle-000001")
+        os.rename(path, path + ".gz" if name == "compressed" else folder + "/away")
+        remove_object(nights)
+        for night in ("that night", "the next one"):
+            status, out, note = nights.night("--files", "1" if night == "the next one" else "99")
+            check("%s, %s" % (name, night),
+                  (status, "What is new or gone since the last report is not known: the report of "
+                   "cycle 1 is not in" in out, "object\t" in out,
+                   nights.has("reports/gone-000002"), note), (3, True, False, None, ""))
+        check(name + ": its row", closings(nights), [{"cycle": 1}, {"cycle": 2}])
+        os.rename(path + ".gz" if name == "compressed" else folder + "/away", path)
+        check_said_later(name + ": it is back", nights, "", True)
+        check(name + ": its row then", closings(nights)[-1],
+              {"cycle": 2, "compared": 1, "objects": 1})
+
+
+# Cycles with a place left out
+
+def leave_out(nights: Nights, place: str = "m") -> str:
+    """Makes a folder in the root that no run can read, and gives its path."""
+    path = "%s/%s" % (nights.root, place)
+    os.mkdir(path)
+    common.write(os.fsencode(path) + b"/\xff", b"")
+    return path
+
+
+def place_left_out(folder: str) -> None:
+    """A cycle that left a place out is compared outside of it, for as long as that lasts; and what
+    was there is compared once it can be read."""
+    nights = made(folder)
+    common.make_object(nights.root + "/m/o", FILES)
+    check("the second cycle", nights.night(), (0, "", ""))
+    hidden = nights.root + "/m/o"
+    os.rename(nights.root + "/m", folder + "/m")
+    path = leave_out(nights)
+    remove_object(nights)
+    common.write(folder + "/expected", "".join(it + "\n" for it in [*PLACES, "lost"]).encode())
+    status, out, note = nights.night("--expected", folder + "/expected")
+    check("a loss beside it", (status, out.endswith(
+        "object\tf\nexpected\tf\nexpected\tlost\n" + UNLOOKED % 2), nights.closed()[-1]),
+          (3, True, "incomplete-000003"))
+    check("its list", nights.has("reports/gone-000003"), OF_F + "expected\tf\nexpected\tlost\n")
+    check("its row", closings(nights)[-1], {"cycle": 3, "compared": 2, "objects": 1, "expected": 2,
+                                            "listed": 9, "left": 1})
+    check("the reason", "left out: m: it holds a name that is not UTF-8\n" in note, True)
+    remove_object(nights, "+b")
+    status, out, _ = nights.night()
+    check("another loss, the next cycle", (status, "object\t+b\n" in out, OF_F in out,
+                                           closings(nights)[-1]),
+          (3, True, False, {"cycle": 4, "compared": 3, "objects": 1, "left": 1}))
+    shutil.rmtree(os.fsencode(path))
+    os.rename(folder + "/m", nights.root + "/m")
+    shutil.rmtree(hidden)
+    common.make_object(nights.root + "/m/p", FILES)
+    status, out, _ = nights.night()
+    check("what was lost there", (status, "object\tm/o\n" in out, "object\tf\n" in out,
+                                  nights.whole(5) is None), (1, True, False, False))
+    check("and nothing more", nights.night(), (0, "", ""))
+
+
+def left_out_at_first(folder: str) -> None:
+    """What the first cycle left out is in none before: once it can be read nothing of it is gone,
+    and what is lost beside it is."""
+    root = common.make_root(folder + "/root", {place: FILES for place in PLACES})
+    nights = Nights(folder + "/state", root)
+    path = leave_out(nights)
+    check("the first cycle", (nights.first()[0], nights.closed()), (3, ["incomplete-000001"]))
+    shutil.rmtree(os.fsencode(path))
+    remove_object(nights)
+    status, out, note = nights.night()
+    check("a loss", (status, OF_F in out, note), (1, True, ""))
+    check("no more", nights.night(), (0, "", ""))
+
+
+def killed_once_left_out(folder: str) -> None:
+    """A night was killed once it had left a place out: the next ones name the place, and its
+    closing counts it."""
+    nights = made(folder)
+    leave_out(nights)
+    words = nights.words("--files", "7")
+    for when in range(1, 40):
+        rule = ["-e", "inject=rename:signal=KILL:when=%d" % when]
+        status, _, _ = traced(rule, words)
+        if status != -signal.SIGKILL or b'"row":"left"' in common.read(nights.path("log")):
+            break
+    check("killed", status, -signal.SIGKILL)
+    status, _, note = nights.night()
+    check("it is named", (status, "left out earlier: m\n" in note or "left out: m: " in note),
+          (3, True))
+    nights.night()
+    check("it is counted", [it.get("left") for it in closings(nights)[1:2]], [1])
+
+
+# What is not an object any more
+
+def no_object_any_more(folder: str) -> None:
+    """An object that was emptied is gone; one whose declaration is lost is no longer declared; of
+    one whose inventory cannot be used no file is called gone."""
+    nights = made(folder)
+    path = nights.root + "/f"
+    shutil.rmtree(path)
+    os.mkdir(path)
+    os.remove(nights.root + "/i/0=ocfl_object_1.1")
+    common.write(nights.root + "/.e/inventory.json", b"{")
+    status, out, _ = nights.night()
+    check("said", (status, "object\tf\nundeclared\ti\n" in out, "file\t" in out), (1, True, False))
+    check("the list", nights.has("reports/gone-000002"), "object\tf\nundeclared\ti\n")
+    shutil.rmtree(path)
+    common.make_object(path, FILES)
+    common.write(nights.root + "/i/0=ocfl_object_1.1", b"ocfl_object_1.1\n")
+    shutil.rmtree(nights.root + "/.e")
+    common.make_object(nights.root + "/.e", FILES)
+    status, out, _ = nights.night()
+    check("all is back", (status, nights.has("reports/gone-000003")), (0, ""))
+
+
+def each_repair(folder: str) -> None:
+    """Each finding that is repaired counts, also two of one place."""
+    nights = made(folder)
+    path = nights.root + "/i/v1/content/1"
+    fixed = nights.root + "/g/h"
+    inventory = json.loads(common.read(fixed + "/inventory.json"))
+    inventory["fixity"] = {"md5": {common.digest(b"abc", "md5"): ["v1/content/1"]}}
+    common.put_inventory(fixed, json.dumps(inventory).encode(), "sha256")
+    check("the second cycle", nights.night(), (0, "", ""))
+    common.write(path, b"abd")
+    common.write(fixed + "/v1/content/1", b"abd")
+    nights.night()
+    common.write(path, b"abc")
+    common.write(fixed + "/v1/content/1", b"abc")
+    status, out, _ = nights.night()
+    check("repaired", (status, "3 finding(s) of cycle 3 are repaired in cycle 4" in out,
+                       out.count("E092\t"), out.count("E093\t")), (0, True, 2, 1))
 
 
 def changed_once_closed(folder: str) -> None:
@@ -357,10 +533,11 @@ def changed_once_closed(folder: str) -> None:
     check("as it was", OF_F in nights.night("--files", "1")[1], True)
 
 
-PARTS = [nothing_is_gone, gone, new_and_repaired, many, known_findings, each_finding_once,
+PARTS = [nothing_is_gone, gone, new_and_repaired, many, objects_first, known_findings, each_finding_once,
          odd_names_gone, expected, lists_that_fail, disturbed_nights, after_an_incomplete_one,
          lost_lines_before, no_report_before, not_compared_for_long, older_report,
-         changed_once_closed]
+         no_report_there, place_left_out, left_out_at_first, killed_once_left_out,
+         no_object_any_more, each_repair, changed_once_closed]
 
 
 def check_all(folder: str) -> None:

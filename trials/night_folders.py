@@ -493,7 +493,7 @@ def names_that_are_left_out(folder: str) -> None:
         shown = name.replace("\n", "%0A")
         status, out, note = nights.night(*PLAN)
         check("a night, " + name, (
-            status, "left out: %s\n" % shown in note, controls(out + note),
+            status, "left out: %s: it holds a name that is not UTF-8\n" % shown in note, controls(out + note),
             "\nAll is well" in out + note), (3, True, [], False))
         check("what was found is said", out.count("E092\t!first/v1/content/a\t"), 1)
         os.remove(bad)

@@ -190,7 +190,7 @@ def a_part_with_a_branch_left_out(folder: str) -> None:
         parts = Parts(where, root, ["~"])
         status, _, note = parts.night(1, "--slice", SLICE)
         check("a night, " + name, (
-            status, "left out: %s\n" % name.replace("\n", "%0A") in note), (3, True))
+            status, "left out: %s: " % name.replace("\n", "%0A") in note), (3, True))
         check("the other part, beside " + name, (parts.night(2)[0], parts.state(2).whole(1)),
               (0, "ok\t~z\t-\nok\t~z/v1/content/a\t3\n"))
         check("it is not joined, " + name, parts.joined()[0], 3)

@@ -235,14 +235,24 @@ def branches_beside_others(folder):
     expect("under .", ["audit", "--under", ".", root], 0, joined(report), None)
     for under in ["zz", "a/v2", "a/v1/content/g", "a/v1/content/f/g", "a/inventory.json", "a%01"]:
         expect("under " + under, ["audit", "--under", under, root], 2, [], "no item")
-    for bad in BAD_PLACES:
-        expect("under %r" % bad, ["audit", "--under", bad, root], 2, [], "bad path")
+    for bad, why in BAD_PLACES:
+        expect("under %r" % bad, ["audit", "--under", bad, root], 2, [],
+               "bad path\nocfl-scrub: " + why)
+    for name in NAMES:
+        expect("under %r" % name, ["audit", "--under", name, root], 2, [], "no item")
     nowhere = ["audit", "--under", "a", os.path.join(folder, "nowhere")]
     expect("under a of no root", nowhere, 3, [], "stopped at .")
 
 
-BAD_PLACES = ["", "/", "/a", "a/", "a//b", "..", "a/..", "./a", "a/.", "%61", "%0a", "%", "a%",
-              "a%0", "%2F", "%zz", "%00", "%C3", "%FF", "é", "a\tb", "a\nb", "n" * 256]
+SLASHES = "give the path below the storage root, without a slash at its beginning or end"
+DOTS = "no name in the path may be '.' or '..'"
+BAD_PLACES = [("", "the path is empty: the storage root itself is '.'"),
+              *((it, SLASHES) for it in ["/", "/a", "a/"]),
+              ("a//b", "the path has an empty name between two slashes"),
+              *((it, DOTS) for it in ["..", "a/..", "./a", "a/."]),
+              ("n" * 256, "the path has a name that no file can have")]
+# As reports write no path; so they are names themselves.
+NAMES = ["%61", "%0a", "%", "a%", "a%0", "%2F", "%zz", "%00", "%C3", "%FF", "é", "a\tb", "a\nb"]
 
 
 def worked(folder):
@@ -364,7 +374,8 @@ def faulty_separators(folder):
     audit = ["audit", *part_words(file, 1), root]
     run = ["run", "--cursor", cursor, "--budget", "1", *part_words(file, 1), root]
     many = "".join("%06d\n" % number for number in range(100_001)).encode()
-    cases = [(name.encode() + b"\n", "line 1") for name in BAD_PLACES if name != "a\nb"]
+    cases = [(name.encode() + b"\n", "line 1") for name in
+             [*(path for path, _ in BAD_PLACES), *NAMES] if name != "a\nb"]
     cases += [(b"o\n" + text, "line 2") for text in [
         b"o\n", b".\n", b"a\n", b"p", b"\n", b"p\r\n", b"p\0\n", b"\xff\n"]]
     cases += [(b".\n.\n", "line 2"), (b"a-b\na/b\n", "line 2"), (b"%C3%A9\nz\n", "line 2"),
@@ -575,8 +586,10 @@ def faulty_reports(folder):
     """Reports that are none, and none at all."""
     file = os.path.join(folder, "faulty-report")
     split = ["split", "--budget", "1", "--report", file]
-    expect("a missing report", split, 3, [], "report failed")
-    expect("a folder as report", [*split[:-1], folder], 3, [], "report failed")
+    expect("a missing report", split, 3, [],
+           "report failed: No such file or directory (os error 2)")
+    expect("a folder as report", [*split[:-1], folder], 3, [],
+           "report failed: Is a directory (os error 21)")
     good = line("ok", ".") + line("ok", "o") + line("ok", "o/f", 3)
     for name, text, number in [
         ("no line feed", good[:-1], 3), ("an empty line", good + "\n", 4),

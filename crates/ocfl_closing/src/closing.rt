@@ -77,7 +77,9 @@ struct Pair {
     again: Vec<Place>,
     /// Why what is new or gone is not known, or not all of it. Empty if it is known.
     why: String,
-    /// Whether it can still be compared, once a report is back.
+    /// Whether a report is not there with which it is to be compared.
+    lacks: bool,
+    /// Whether it can still be compared, once that report is back.
     waits: bool,
 }
 
@@ -90,6 +92,7 @@ impl Drop for Pair {
             whole: _whole,
             again: _again,
             why: _why,
+            lacks: _lacks,
             waits: _waits,
         } = self;
     }
@@ -231,10 +234,10 @@ fn say<W: Write>(alloc: Global, out: &mut W, text: &[u8]) -> Result<(), Failure>
     Err(Failure::stopped(String::from_str(alloc, "output failed\n")?))
 }
 
-/// The status of a night that closed a cycle: 3 if its report is not whole, or was not compared
-/// with all that it is to be compared with; 1 if something is new or gone; else 0.
+/// The status of a night that closed a cycle: 3 if its report is not whole, or a report is not there
+/// with which it is to be compared; 1 if something is new or gone; else 0.
 fn status_of(pair: &Pair, account: &Account) -> u8 {
-    if !pair.now.whole || !pair.why.is_empty() {
+    if !pair.now.whole || pair.lacks {
         return STOPPED;
     }
     if account.changes.gone_count() > 0 || account.appeared() > 0 {
@@ -591,6 +594,7 @@ impl<R: Files<File = File> + AllocGlobal + Clock> Closings<'_, '_, R> {
         let mut pair = Pair {
             again: Vec::new(alloc),
             whole: None,
+            lacks: missing > 0,
             waits: found.is_none() && missing > 0,
             before: found,
             why,
@@ -612,6 +616,7 @@ impl<R: Files<File = File> + AllocGlobal + Clock> Closings<'_, '_, R> {
         }
         let (state, cycle) = (self.names.state, before.cycle);
         let Earlier { found, missing } = find_earlier(alloc, &mut self.folder, state, cycle, true)?;
+        pair.lacks = pair.lacks || missing > 0;
         if missing > 0 && pair.why.is_empty() {
             pair.why = format!(in alloc;
                 "cycle {cycle} left places out, and the report of cycle {missing} is not in {}\

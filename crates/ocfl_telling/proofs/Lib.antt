@@ -5,3 +5,5 @@ pub mod Pieces
 pub mod ShownLines
 pub mod Lists
 pub mod LogRows
+pub mod Firsts
+pub mod Quotes

@@ -4,7 +4,7 @@ use Rattle.std.proofs.{lemmas.Bool.Decides.{nat_tests}, lemmas.List.{length-map,
 use Rattle.ocfl_tree.specs.Place.{Text}
 use Rattle.ocfl_report.specs.{Line.{Line, line_of}, Text.{lines_text}}
 use Rattle.ocfl_telling.specs.Gravest.{IsOf, by_weight, gravest, most_shown, of_weight}
-use Rattle.ocfl_telling.specs.Night.{findings_text, head_text, look_text, more_text, night_text}
+use Rattle.ocfl_telling.specs.Night.{findings_text, first_place, head_text, look_text, more_text, night_text}
 use Rattle.ocfl_telling.specs.declared.night.Night.{Night}
 use Rattle.ocfl_telling.specs.declared.weight.Weight.TheVariants.{Bytes, Object, Record, Position}
 use Rattle.ocfl_telling.specs.declared.gravest.Gravest.{Gravest}
@@ -40,7 +40,7 @@ gravest_put g ls t0 t1 t2 t3 t4 r1 r2 r3 h e1 f1 e2 f2 e3 f3 e4 =
 
 -- the whole message
 pub night_whole : (n : Night) (ls : List Line) (count : ℕ) (t : Text) → count ≡ length (by_weight ls) → count ≢ 0
-    → t ≡ head_text n count ++ lines_text (gravest ls) ++ more_text n.report.now (count - most_shown) ++ look_text n.root.now → t ≡ night_text n ls
+    → t ≡ head_text n count ++ lines_text (gravest ls) ++ more_text n.report.now (count - most_shown) ++ look_text n.root.now (first_place (gravest ls)) → t ≡ night_text n ls
 night_whole n ls count t e some h =
     let found : (length (by_weight ls) == 0) ≡ false = grind (arith, nat_tests) in
     let whole : t ≡ findings_text n (length (by_weight ls)) (gravest ls) = subst (λ k. t ≡ findings_text n k (gravest ls)) e h in

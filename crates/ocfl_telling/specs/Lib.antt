@@ -3,6 +3,7 @@ pub mod Gravest
 pub mod Known
 pub mod List
 pub mod Found
+pub mod Quoted
 pub mod Night
 pub mod Log
 pub mod Refusal

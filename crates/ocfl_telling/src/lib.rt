@@ -2,7 +2,8 @@
 //! was refused or stopped, what a closed cycle found, and a line of the log for each.
 //!
 //! Texts are made in memory, since each has at most a few dozen lines, and
-//! `ocfl_report::write_all_of` writes them. Every name and path in them is escaped as in reports.
+//! `ocfl_report::write_all_of` writes them. Every name and path in them is escaped as in reports;
+//! in a command that can be pasted they are quoted for a shell.
 #![tactic(auto)]
 
 mod closing;
@@ -13,6 +14,7 @@ pub mod laws;
 mod list;
 mod log;
 mod night;
+mod quoted;
 mod refusal;
 mod shown;
 mod stop;
@@ -25,6 +27,7 @@ pub use known::{Known, KnownEntry, Reach};
 pub use list::{KnownStop, read_known};
 pub use log::{ClosingRow, LeftRow, LogRow, NightRow, RefusalRow, SliceRow, Stands, log_line};
 pub use night::{Night, night_text};
+pub use quoted::Quoted;
 pub use refusal::{RefusalMessage, refusal_text};
 pub use shown::Shown;
 pub use stop::{StopMessage, stop_text};

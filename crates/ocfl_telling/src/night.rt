@@ -1,12 +1,15 @@
 //! The message after a night: the findings that were not said before.
-ghost use Rattle.std.specs.Prelude.{◌≡◌, ◌++◌, ◌-◌, ◌^◌, ◌<◌, List, length, map, take, OnOk, IfOk, string_bytes};
+ghost use Rattle.std.specs.Prelude.{◌≡◌, ◌++◌, ◌-◌, ◌^◌, ◌<◌, ◌==◌, List, Some, length, map, take, option_map, OnOk, IfOk, string_bytes};
+ghost use Rattle.std.specs.List.{list_any};
 ghost use Rattle.ocfl_report.specs.{Line.{Line as ModelLine, line_of}, Text.{lines_text}};
 ghost use Rattle.ocfl_telling.specs.Gravest.{IsOf, by_weight, gravest, most_shown};
-ghost use Rattle.ocfl_telling.specs.Night.{whose_text, runs_text, head_text, more_text, look_text, between_text, some_more_text, part_text, night_text as text_of_night};
+ghost use Rattle.ocfl_telling.specs.Night.{whose_text, runs_text, head_text, more_text, look_text, look_at_text, dashes_text, path_text, is_plain as is_plain_text, first_place, or_place, between_text, some_more_text, part_text, night_text as text_of_night};
 
 use crate::gravest::{Gravest, SHOWN};
+use crate::quoted::{Quoted, has_control};
 use crate::shown::Shown;
-use ocfl_report::Line;
+use ocfl_report::{DisplayPlace, Line};
+use ocfl_tree::Place;
 use std::alloc::{AllocError, Global};
 
 /// What a message says of its night.
@@ -87,14 +90,95 @@ fn some_more(alloc: Global, report: &str, left: u128) -> Result<String, AllocErr
     format!(in alloc; "and {left} more, in {}\n", Shown(report))
 }
 
-/// How to read a file again.
-fn look(alloc: Global, root: &str) -> Result<String, AllocError>
-    ensures { IfOk result (λ text. string_bytes text ≡ look_text root.now) }
+/// How to look at a finding again: a command for the first place, if there is one and the command
+/// can be pasted.
+fn look(alloc: Global, root: &str, first: Option<&Place>) -> Result<String, AllocError>
+    ensures { IfOk result
+        (λ text. string_bytes text ≡ look_text root.now (option_map (λ p. p.now) first.entry)) }
 {
+    match first {
+        Some(place) => look_at_place(alloc, root, place),
+        None => Ok(String::new(alloc)),
+    }
+}
+
+fn look_at_place(alloc: Global, root: &str, place: &Place) -> Result<String, AllocError>
+    ensures { IfOk result (λ text. string_bytes text ≡ look_text root.now (Some place.now)) }
+{
+    if has_control(root) {
+        return Ok(String::new(alloc));
+    }
+    let path = path_of(alloc, place)?;
+    look_at(alloc, root, path.as_str())
+}
+
+/// How to look at this path of a storage root again.
+fn look_at(alloc: Global, root: &str, path: &str) -> Result<String, AllocError>
+    ensures { IfOk result (λ text. string_bytes text ≡ look_at_text root.now path.now) }
+{
+    let dashes = dashes(path);
+    let (root, path) = (Quoted(root), Quoted(path));
     format!(in alloc;
-        "To look at one again: ocfl-scrub check {} PATH, with the path as shown above.\n",
-        Shown(root)
+        "To check one of them again, for example the first: ocfl-scrub check {dashes}{root} {path}\n"
     )
+}
+
+/// What keeps a path from being read as an option.
+fn dashes(path: &str) -> &'static str
+    ensures { result.now ≡ dashes_text path.now }
+{
+    match path.as_bytes().first() {
+        Some(b'-') => "-- ",
+        _ => "",
+    }
+}
+
+/// The path of a place as `ocfl-scrub check` takes it: as it is if that is plain, else as reports
+/// write it.
+fn path_of(alloc: Global, place: &Place) -> Result<String, AllocError>
+    ensures { IfOk result (λ text. string_bytes text ≡ path_text place.now) }
+{
+    let path = place.path();
+    if is_plain(path) {
+        return String::from_str(alloc, path);
+    }
+    format!(in alloc; "{}", DisplayPlace(place))
+}
+
+/// Whether a terminal shows a path as it is, and it is no path of a report of another place.
+fn is_plain(path: &str) -> bool
+    ensures { result ≡ is_plain_text path.now }
+{
+    !path.is_empty() && !has_control(path) && !has_percent(path)
+}
+
+fn has_percent(path: &str) -> bool
+    ensures { result ≡ list_any (λ c. c == 37) path.now }
+{
+    path.as_bytes().iter().any(|byte| *byte == b'%')
+}
+
+/// The place of the first of these lines, or the other one without any.
+fn first_of<'a>(lines: &'a [Line], other: Option<&'a Place>) -> Option<&'a Place>
+    ensures { option_map (λ p. p.now) result
+        ≡ or_place (first_place (map line_of lines.now)) (option_map (λ p. p.now) other.entry) }
+{
+    match lines.first() {
+        Some(line) => Some(&line.place),
+        None => other,
+    }
+}
+
+/// The place of the gravest finding.
+#[tactic(auto, using(crate::proofs::Firsts::first_shown))]
+fn first_found(found: &Gravest) -> Option<&Place>
+    ensures { (ls : List ModelLine) → IsOf found.now ls
+        → option_map (λ p. p.now) result ≡ first_place (gravest ls) }
+{
+    let first = first_of(&found.positions.lines, None);
+    let first = first_of(&found.records.lines, first);
+    let first = first_of(&found.objects.lines, first);
+    first_of(&found.bytes.lines, first)
 }
 
 /// Appends the text of the first of these lines, up to `room`. Gives how many more there may be.
@@ -136,7 +220,8 @@ fn put_gravest(found: &Gravest, text: &mut Vec<u8>) -> Result<(), AllocError>
 }
 
 /// The message of a night: how many findings there are, the 20 gravest of them as the report has
-/// them, how many more, and how to look at one again. Nothing if there is no finding.
+/// them, how many more, and a command to paste that looks at the first again. Nothing if there is no
+/// finding. The command is left out if the path of the storage root has a control character.
 pub fn night_text(alloc: Global, night: &Night<'_>, found: &Gravest) -> Result<Vec<u8>, AllocError>
     // Whichever lines were taken: of fewer than 2^64 findings.
     ensures { IfOk result (λ text. (ls : List ModelLine) → IsOf found.now ls
@@ -154,6 +239,6 @@ pub fn night_text(alloc: Global, night: &Night<'_>, found: &Gravest) -> Result<V
         night.report,
         count.saturating_sub(SHOWN as u128),
     )?.as_bytes())?;
-    text.extend_from_slice(look(alloc, night.root)?.as_bytes())?;
+    text.extend_from_slice(look(alloc, night.root, first_found(found))?.as_bytes())?;
     Ok(text)
 }

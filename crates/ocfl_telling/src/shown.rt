@@ -6,7 +6,7 @@ use percent_encoding::{AsciiSet, CONTROLS, ascii_set, percent_encode};
 use std::fmt;
 
 /// The ASCII bytes that are escaped, as in reports: the controls, DEL among them, and `%`.
-const ESCAPED: AsciiSet = ascii_set!(CONTROLS.add(b'%'));
+pub(crate) const ESCAPED: AsciiSet = ascii_set!(CONTROLS.add(b'%'));
 
 /// A text whose `Display` escapes it as report lines escape names: no byte of it can move the
 /// cursor of a terminal or begin a line.

@@ -1,7 +1,7 @@
 use Rattle.std.proofs.Common.{◌≡◌, ◌∙◌, ap, ap₂, ℕ, List, ◌-◌, ◌++◌}
 use Rattle.ocfl_report.specs.Text.{lines_text}
 use Rattle.ocfl_telling.specs.Gravest.{gravest, most_shown}
-use Rattle.ocfl_telling.specs.Night.{head_text, look_text, more_text}
+use Rattle.ocfl_telling.specs.Night.{first_place, head_text, look_text, more_text}
 use Rattle.ocfl_telling.proofs.ShownLines.{night_whole}
 use Rattle.ocfl_telling.proofs.night.night_text.Goals as goal
 
@@ -16,6 +16,7 @@ returns c = λ ls h l.
     let more : c.as_bytes-2.result.now ≡ more_text n.report.now (count - most_shown) =
     c.as_bytes-2.ensures.value ∙ c.in_ok-more.ensures ∙ ap (more_text n.report.now) c.saturating_sub.ensures in
     let e3 = c.in_ok-extend_from_slice-2.ensures.items ∙ ap₂ joins e2 more in
-    let look : c.as_bytes-3.result.now ≡ look_text n.root.now = c.as_bytes-3.ensures.value ∙ c.in_ok-look.ensures in
+    let look : c.as_bytes-3.result.now ≡ look_text n.root.now (first_place (gravest ls)) =
+    c.as_bytes-3.ensures.value ∙ c.in_ok-look.ensures ∙ ap (look_text n.root.now) (c.first_found.ensures ls h) in
     let e4 = c.in_ok-extend_from_slice-3.ensures.items ∙ ap₂ joins e3 look in
     night_whole n ls count _ (c.count-count.ensures ls h l) c.if-count-eq0.false e4

@@ -69,6 +69,8 @@ SYSTEM = re.compile(r"(?<![\w.~/])/(?=(?:tmp|srv|usr/local|var/lib|mnt|etc)\b)")
 # Others: a command that names one is not run.
 OTHER = re.compile(r"(?<![\w.~/])/(?!dev/null)(?=(?:bin|boot|dev|home|lib|media|opt|proc|root|run|"
                    r"sbin|sys|usr|var)\b)")
+# What pages set for their further commands.
+VARIABLES = ["root", "line", "object", "file"]
 used = set()
 
 
@@ -108,15 +110,15 @@ class Session:
 
     def call(self, command, at=None):
         """Status and output of a command, in the folder that the one before left, with the
-        variable `root` as it left that."""
+        variables of pages as it left them."""
         self.at = at or self.at
-        words = ["sh", "-c", 'eval "$1"; status=$?; pwd > "$2"; echo "${root:-}" > "$3"; '
-                 'exit $status', "sh", self.here(command), self.folder + "/at",
-                 self.folder + "/root"]
+        words = ["sh", "-c", 'eval "$1"; status=$?; pwd > "$2"; for name in %s; do '
+                 'eval "echo \\"\\${$name:-}\\""; done > "$3"; exit $status' % " ".join(VARIABLES),
+                 "sh", self.here(command), self.folder + "/at", self.folder + "/variables"]
         done = subprocess.run(words, cwd=self.at, env=self.how, stdin=subprocess.DEVNULL,
                               stdout=subprocess.PIPE, stderr=subprocess.STDOUT, timeout=600)
         self.at = read(self.folder + "/at").rstrip("\n")
-        self.how["root"] = read(self.folder + "/root").rstrip("\n")
+        self.how.update(zip(VARIABLES, read(self.folder + "/variables").splitlines()))
         return done.returncode, common.text_of(done.stdout).replace(self.folder, "")
 
     def run(self, page, command, shown):

@@ -165,7 +165,7 @@ def cursor_files(folder, root):
     unmade = os.path.join(folder, "none/file")
     expect("file that cannot be made", run + [unmade], 3, ITEMS[:3], "cursor file failed")
     os.remove(file)
-    os.symlink(os.path.join(root, "o/v1/content/a"), file + ".new")
+    os.symlink(os.path.join(root, "o/v1/content/a"), file + ".ocfl-scrub.new")
     expect("link in the way", run + [file], 0, ITEMS[:3], OPEN)
     check("what is linked", read(os.path.join(root, "o/v1/content/a")), b"abc")
     other = os.path.join(folder, "other")

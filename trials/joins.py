@@ -182,7 +182,11 @@ def refused(folder: str) -> None:
     parts.put(2, root="/srv/other")
     parts.refused("a part of another root", "part 2: ")
     parts.put(2, whole=False)
-    parts.refused("a report that is not whole", "part 2: ")
+    parts.refused("a report that is not whole", "part 2: its report is not whole\n")
+    parts.refused("what is not known then", "what is new or gone in the whole storage root is not "
+                  "known\n")
+    common.not_yet("a part that is not whole is joined too", parts.joined()[1] is None, False,
+                   "no joined report names yet what a part left out")
     parts.put(2)
     os.remove(parts.path(2, "reports/cycle-000001"))
     parts.refused("a report that is gone", "part 2: ")

@@ -18,9 +18,17 @@ Tried, and what comes of it:
   back.
 - The report of before without the lines of an object, which is then lost: status 3, the cycle is
   named: its report is not as it was closed.
-- Lists of known findings, and of objects that must be there, that are missing, are folders or no
-  lists, or go away in the night: status 2 or 3; nothing is called complete that was not compared,
-  and the next night compares it.
+- The only report of before compressed or taken away: status 3, nothing is called gone, and no list
+  is put; once it is back, what is gone is said. An older one is there: what is gone since that is
+  said, with what is not known.
+- Cycles that left a place out, one after the other: each is compared with the one before, outside
+  of what one of the two left out; what was there is compared once it can be read. A night that is
+  killed then: the place is named, and counted.
+- Objects that were emptied, that lost their declaration, or whose inventory cannot be used: the
+  first are gone, the second undeclared, and no file of the third is called gone.
+- Lists of known findings, and of objects that must be there, that are missing, are folders, no
+  lists or empty: status 2, nothing is run; that go away in the night: status 3, nothing is called
+  complete that was not compared, and the next night compares it.
 - A list of objects at the end of a first cycle: those that are missing are named, and no cycle
   before.
 
@@ -42,6 +50,7 @@ from typing import Any
 
 import common
 from common import Stopped, check, ran, traced
+from shared import calls
 from shared.nights import tried_apart
 from shared.own_nights import Audited, Got, Nights, make_root
 
@@ -474,6 +483,20 @@ def killed_once_left_out(folder: str) -> None:
     check("it is counted", [it.get("left") for it in closings(nights)[1:2]], [1])
 
 
+def why_unread(folder: str) -> None:
+    """Of a file that cannot be read the night's message has the system's words too."""
+    nights = made(folder)
+    shutil.copytree(nights.state, folder + "/kept")
+    opened = calls.made(nights.words(), folder + "/calls")
+    call = calls.on(nights.root + "/f/v1/content/1", opened, calls.OPENS)[0]
+    nights.again()
+    shutil.copytree(folder + "/kept", nights.state)
+    status, out, note = traced(call.rule("error=EACCES"), nights.words())
+    check("said", (status, "S08\tf/v1/content/1\t-\n" in out,
+                   "f/v1/content/1: Permission denied (os error 13)\n" in out, note),
+          (1, True, True, ""))
+
+
 # What is not an object any more
 
 def no_object_any_more(folder: str) -> None:
@@ -536,7 +559,7 @@ def changed_once_closed(folder: str) -> None:
 PARTS = [nothing_is_gone, gone, new_and_repaired, many, objects_first, known_findings, each_finding_once,
          odd_names_gone, expected, lists_that_fail, disturbed_nights, after_an_incomplete_one,
          lost_lines_before, no_report_before, not_compared_for_long, older_report,
-         no_report_there, place_left_out, left_out_at_first, killed_once_left_out,
+         no_report_there, place_left_out, left_out_at_first, killed_once_left_out, why_unread,
          no_object_any_more, each_repair, changed_once_closed]
 
 

@@ -116,6 +116,14 @@ def another_root(folder: str) -> None:
     other = Nights(nights.state, make_root(folder + "/other"))
     is_refused("another path", other.night(), 3, audited.root, nights, kept)
     is_refused("another path, with --create", other.first(), 3, audited.root, nights, kept)
+    log = nights.has("log")
+    is_refused("no such path", Nights(nights.state, folder + "/none").night(), 3, "", nights, kept)
+    check("its log is not that root's", nights.has("log") == log, True)
+    gone = Audited(audited.root).root
+    os.rename(gone, folder + "/away")
+    is_refused("the root is gone", nights.night(), 3, "", nights, kept)
+    os.rename(folder + "/away", gone)
+    check("that is logged", nights.has("log") == log, False)
     declaration = audited.root + "/0=ocfl_1.1"
     os.rename(declaration, audited.root + "/0=ocfl_1.0")
     common.write(audited.root + "/0=ocfl_1.0", b"ocfl_1.0\n")
@@ -158,6 +166,26 @@ def link_that_moves(folder: str) -> None:
         os.remove(folder + "/root")
 
 
+def exchanged(folder: str) -> None:
+    """Another folder of the same declaration takes the root's place in the night: no report has
+    lines of both."""
+    audited, _ = made(folder)
+    other, away = make_root(folder + "/other"), folder + "/away"
+    shutil.rmtree(other + "/d")
+    for when in range(4, 16, 2):
+        nights = Nights("%s/state-%d" % (folder, when), audited.root)
+        stopped = Stopped([], "fsync", nights.words(*PLAN), when)
+        with stopped:
+            os.rename(audited.root, away)
+            os.rename(other, audited.root)
+        os.rename(audited.root, other)
+        os.rename(away, audited.root)
+        status, out, note = stopped.ended
+        check("the night, %d" % when, (status, "leads to another folder" in note, nights.closed(),
+                                       audited.false_lines(out)), (3, True, [], []))
+        check("then, %d" % when, audited.faults_after(nights, out), [])
+
+
 def unmounted(folder: str) -> None:
     """The root is unmounted between two slices, and within one."""
     case = Exchanged(folder)
@@ -179,8 +207,10 @@ def mounted_anew(folder: str) -> None:
     older = make_root(folder + "/older")
     os.rename(older + "/0=ocfl_1.1", older + "/0=ocfl_1.0")
     common.write(older + "/0=ocfl_1.0", b"ocfl_1.0\n")
+    like = make_root(folder + "/like")
+    shutil.rmtree(like + "/d")
     for name, other in [("an empty folder", folder + "/empty"), ("another root", older),
-                        ("an object", case.disk + "/a")]:
+                        ("an object", case.disk + "/a"), ("one like it", like)]:
         for when in range(5, 20, 4):
             case.tried("%s after fsync %d" % (name, when), [], "fsync", when, other)
 
@@ -565,8 +595,8 @@ def cut_and_refused(folder: str) -> None:
     check("then", audited.faults_after(nights, said), [])
 
 
-PARTS = [no_storage_root, another_root, names_that_are_gone, link_that_moves, folder_of_scripts,
-         no_checkpoint, changed_checkpoint, shorter_report, changed_report, longer_report,
+PARTS = [no_storage_root, another_root, names_that_are_gone, link_that_moves, exchanged,
+         folder_of_scripts, no_checkpoint, changed_checkpoint, shorter_report, changed_report, longer_report,
          links_in_the_folder, rights, copies_beside, odd_folders, odd_names,
          names_that_are_left_out, stop_at_faults, stop_file, cut_and_refused]
 MOUNTING = [unmounted, mounted_anew, not_mounted, unmounted_state]

@@ -230,7 +230,7 @@ def failing_file(folder):
         case.run[4] = "1"
         ran(case.run)
         before = read(case.file)
-        rules = ["-P", case.file + ".new", "-e", "inject=%s:error=%s" % (call, error)]
+        rules = ["-P", case.file + ".ocfl-scrub.new", "-e", "inject=%s:error=%s" % (call, error)]
         got = traced(rules, case.run)
         check(name, got, (3, ITEMS[3], note("cursor file failed")))
         check(name + ": the file is whole", read(case.file), before)
@@ -253,7 +253,7 @@ def synced_file(folder):
         of = re.findall(r"^f[a-z]*sync\(\d+<(.*?)>\)", read(log).decode(), re.MULTILINE)
         kinds = ["sync" if it.endswith("sync") else it[:6] for it in made]
         check("run %d: synced, renamed, synced" % number, kinds, ["sync", "rename", "sync"])
-        check("run %d: the text, and its folder" % number, of, [case.file + ".new", case.folder])
+        check("run %d: the text, and its folder" % number, of, [case.file + ".ocfl-scrub.new", case.folder])
 
 
 def unread_file(folder):

@@ -130,7 +130,7 @@ def runs_with_a_cursor(refusing, folder, name, root, choice=()):
     whole = ["run", "--cursor", file, "--budget", "1T", *choice, root]
 
     def begin():
-        for each in (file, file + ".new"):
+        for each in (file, file + ".ocfl-scrub.new"):
             if os.path.exists(each):
                 os.remove(each)
         common.ran(words)
@@ -149,7 +149,7 @@ def runs_with_a_cursor(refusing, folder, name, root, choice=()):
             rest = common.ran(whole)[1]
         joined = rest if kept else out + rest
         is_told = status in (0, 1) or status == 3 and said == OUT_OF_MEMORY
-        if joined != went or not is_told or os.path.exists(file + ".new"):
+        if joined != went or not is_told or os.path.exists(file + ".ocfl-scrub.new"):
             odd.append((calls, status, out, said, rest))
         if kept and calls in inside:
             stays.append((calls, status, out, said))
@@ -164,9 +164,9 @@ def refused_before_it_writes(refusing, folder, root):
     odd = []
     run = ["run", "--cursor", file, "--budget", "4", root]
     for call, (status, out, said) in refusing.each(run):
-        if os.path.exists(file) or os.path.exists(file + ".new") or status not in (2, 3):
+        if os.path.exists(file) or os.path.exists(file + ".ocfl-scrub.new") or status not in (2, 3):
             odd.append((call, status, out, said))
-            for each in (file, file + ".new"):
+            for each in (file, file + ".ocfl-scrub.new"):
                 if os.path.exists(each):
                     os.remove(each)
     check("nothing is written into the root", odd, [])

@@ -113,7 +113,7 @@ def moments_of(calls, most, dice):
         for text in lines[1:]:
             call = text.split("(")[0]
             counts[call] = counts.get(call, 0) + 1
-            is_storing = is_storing or "cursor.new" in text
+            is_storing = is_storing or "cursor.ocfl-scrub.new" in text
             (storing if is_storing else others).append((number, call, counts[call]))
     return storing + dice.sample(others, max(0, min(len(others), most - len(storing))))
 
@@ -138,7 +138,7 @@ def exact_moment(cycle, stored, moment):
         joined += "".join(common.nights(cycle.run))
     check(name + ": joined", joined, "".join(cycle.items))
     # a cycle that was ended by the killed run may leave what it wrote beside the file
-    left = set(os.listdir(cycle.folder)) - {"cursor.new"}
+    left = set(os.listdir(cycle.folder)) - {"cursor.ocfl-scrub.new"}
     check(name + ": what is left", left, {"cursor"})
     return status == -signal.SIGKILL
 

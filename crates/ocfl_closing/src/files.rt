@@ -61,7 +61,7 @@ pub fn put_in_place<R>(rt: &R, file: &str, text: &[u8]) -> io::Result<()>
 where
     R: Files + AllocGlobal,
 {
-    let beside = format!(in rt.alloc(); "{file}.new")?;
+    let beside = format!(in rt.alloc(); "{file}.ocfl-scrub.new")?;
     let placed = write_synced(rt, beside.as_str(), text).and_then(|()| fs::rename(
         rt,
         beside.as_str(),

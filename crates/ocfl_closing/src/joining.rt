@@ -9,7 +9,7 @@ use crate::part_facts::{Facts, last_of_all, part_path, place_of, read_all};
 use crate::saying::STOPPED;
 use crate::sound::is_sound;
 use crate::state::{folder_failure, hold_folder, open_state};
-use ocfl_compare::{ClosedPart, MissingPart, find_missing, join_part};
+use ocfl_compare::{ClosedPart, MissingPart, PartFault, find_missing, join_part};
 use ocfl_line::JoinAsked;
 use ocfl_parts::{PartsStop, Separators, read_parts};
 use ocfl_scope::ScopeStop;
@@ -118,9 +118,15 @@ fn root_of(parts: &[Option<ClosedPart>]) -> &[u8] {
 }
 
 /// Names the parts that cannot be joined, and gives the status.
-fn say_missing<R: Eprint>(rt: &R, missing: &[MissingPart]) -> u8 {
+fn say_missing<R: Eprint>(rt: &R, cycle: u64, missing: &[MissingPart]) -> u8 {
     for one in missing {
         let _ = eprintln!(rt; "ocfl-scrub: part {}: {}", one.part, one.fault);
+    }
+    if missing.iter().any(|one| one.fault == PartFault::Incomplete) {
+        let _ = eprintln!(rt;
+            "ocfl-scrub: the reports of cycle {cycle} are not joined: what is new or gone in the \
+             whole storage root is not known"
+        );
     }
     STOPPED
 }
@@ -385,7 +391,7 @@ impl AllParts<'_> {
             return Ok(0);
         }
         if !missing.is_empty() {
-            return Ok(say_missing(rt, &missing));
+            return Ok(say_missing(rt, cycle, &missing));
         }
         if self.say_untold(rt, cycle)? {
             return Ok(STOPPED);

@@ -2,7 +2,7 @@
 
 use crate::closed::places_of;
 use crate::failing::Failure;
-use crate::files::{lies_inside, path_of};
+use crate::files::{folder_of, lies_inside, path_of};
 use crate::making::{FILE_MODE, file_failure, is_there};
 use crate::stand::Standing;
 use crate::state_dir::StateDir;
@@ -230,16 +230,48 @@ where
     }
 }
 
-/// Whether the folder is one of nights over this storage root, by its checkpoint.
-pub fn is_of_root<R>(alloc: Global, folder: &mut StateDir<'_, R>, root: &str) -> bool
+/// The path of the storage root that the nights of a folder read, by its checkpoint.
+fn own_root<R>(alloc: Global, folder: &mut StateDir<'_, R>) -> Option<Place>
 where
     R: Files<File = File> + AllocGlobal,
 {
-    match folder.checkpoint() {
-        Ok(Some(bytes)) => match decode_checkpoint(alloc, &bytes) {
-            Ok(checkpoint) => { root.strip_prefix('/') == Some(checkpoint.root.path.path()) }
-            Err(_) => false,
-        },
-        Ok(None) | Err(_) => false,
+    let bytes = folder.checkpoint().ok()??;
+    Some(decode_checkpoint(alloc, &bytes).ok()?.into_path())
+}
+
+/// Whether this is the path of a folder from `/` on.
+fn is_path(folder: &str, root: &Place) -> bool {
+    folder.trim_end_matches('/').strip_prefix('/') == Some(root.path())
+}
+
+/// Whether a path that leads nowhere would be that of the storage root: by its text, or by the
+/// folder that it is in.
+fn would_be<R: Files + AllocGlobal>(rt: &R, path: &str, root: &Place) -> bool {
+    let path = path.trim_end_matches('/');
+    let Some((_, name)) = path.rsplit_once('/') else {
+        return false;
+    };
+    match (path_of(rt, folder_of(path)), root.split_last()) {
+        (Ok(Some(above)), Some((folder, last))) => {
+            let above = above.as_path().as_str().strip_prefix('/');
+            name == last && above == Some(folder)
+        }
+        _ => is_path(path, root),
+    }
+}
+
+/// Whether the nights of a folder read the storage root with this path, as far as can be told: a
+/// link that leads nowhere may lead to it.
+pub fn is_of_root<R>(rt: &R, folder: &mut StateDir<'_, R>, path: &str) -> bool
+where
+    R: Files<File = File> + AllocGlobal,
+{
+    let Some(root) = own_root(rt.alloc(), folder) else {
+        return false;
+    };
+    match path_of(rt, path) {
+        Ok(Some(resolved)) => is_path(resolved.as_path().as_str(), &root),
+        Ok(None) => is_there(rt, path) || would_be(rt, path, &root),
+        Err(_) => false,
     }
 }

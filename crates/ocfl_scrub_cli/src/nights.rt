@@ -524,7 +524,7 @@ where
     }
     let state = asked.state.as_str();
     if let Ok(mut folder) = StateDir::open(rt, state, false) {
-        if !is_of_root(rt.alloc(), &mut folder, asked.root.as_str()) {
+        if !is_of_root(rt, &mut folder, asked.root.as_str()) {
             return;
         }
         let program = running_digest(rt).ok();

@@ -9,10 +9,10 @@ use Rattle.ocfl_tree.specs.Place.{Text, Place, place_cmp}
 use Rattle.ocfl_tree.proofs.Orders.{place_cmp_exact, place_cmp_total, not_below_itself, below_from_greater}
 use Rattle.ocfl_report.specs.{Line.{Line, line_of}, Text.{code_text}, declared.code.Code.{Code}}
 use Rattle.ocfl_report.specs.declared.line.Line.{Line as MadeLine}
-use Rattle.ocfl_compare.specs.Kinds.{is_empty, tells_object, tells_file}
-use Rattle.ocfl_compare.specs.Changes.{has_code, with_code, codes_from, new_codes, Change, found, when, row_text, change_word, changes_text}
+use Rattle.ocfl_compare.specs.Kinds.{is_empty, tells_object, tells_file, hides}
+use Rattle.ocfl_compare.specs.Changes.{has_code, with_code, codes_from, new_codes, Change, found, repaired, when, row_text, change_word, changes_text}
 use Rattle.ocfl_compare.specs.Internal.Reading.{listed, HasRead, IsNotAbove, IsBelow, IsAt, GoesOn}
-use Rattle.ocfl_compare.specs.Internal.Telling.{IsTold, new_text}
+use Rattle.ocfl_compare.specs.Internal.Telling.{IsTold, new_text, repaired_text}
 use Rattle.ocfl_compare.specs.Internal.Turns.{AreTaken}
 use Rattle.ocfl_compare.specs.declared.told.Told.{Told}
 
@@ -30,11 +30,12 @@ not_empty [] l = refl
 not_empty (m ∷ ls) l = refl
 
 pub told_more : (told after : Told) (own : List Line) (l : Line) → IsTold told own → after.absent ≡ false → after.object ≡ told.object || tells_object l → after.file ≡ told.file || tells_file l
-    → after.findings.items ≡ with_code told.findings.items l.code → IsTold after (own ++ l ∷ [])
-told_more told after own l h absent object file findings = record {
+    → after.hidden ≡ told.hidden || hides l → after.findings.items ≡ with_code told.findings.items l.code → IsTold after (own ++ l ∷ [])
+told_more told after own l h absent object file hidden findings = record {
   absent = absent ∙ not_empty own l;
   object = object ∙ ap (λ b. b || tells_object l) h.object ∙ sym (any_more tells_object own l);
   file = file ∙ ap (λ b. b || tells_file l) h.file ∙ sym (any_more tells_file own l);
+  hidden = hidden ∙ ap (λ b. b || hides l) h.hidden ∙ sym (any_more hides own l);
   findings = findings ∙ ap (λ cs. with_code cs l.code) h.findings ∙ sym (codes_more [] own l);
 }
 
@@ -59,6 +60,18 @@ new_texts p before (c ∷ now) = by (not (has_code before c)) (new_texts p befor
 
 pub new_rows : (p : Place) (start two : Text) (before now a b : List Code) → two ≡ start ++ flat_map (new_text p a) b → a ≡ before → b ≡ now → two ≡ start ++ changes_text p (map found (new_codes before now))
 new_rows p start two before now a b e f g = e ∙ (λ i. start ++ flat_map (new_text p (f i)) (g i)) ∙ ap (λ t. start ++ t) (sym (new_texts p before now))
+
+repaired_texts : (p : Place) (now before : List Code) → changes_text p (map repaired (new_codes now before)) ≡ flat_map (repaired_text p now) before
+repaired_texts p now [] = refl
+repaired_texts p now (c ∷ before) = by (not (has_code now c)) (repaired_texts p now before)
+  where
+    by : (b : Bool) → changes_text p (map repaired (new_codes now before)) ≡ flat_map (repaired_text p now) before
+        → changes_text p (map repaired (cond b (c ∷ new_codes now before) (new_codes now before))) ≡ cond b (row_text (change_word (repaired c)) p) [] ++ flat_map (repaired_text p now) before
+    by true e = ap (λ t. row_text (change_word (repaired c)) p ++ t) e
+    by false e = e
+
+pub repaired_rows : (p : Place) (start one : Text) (now before a b : List Code) → one ≡ start ++ flat_map (repaired_text p a) b → a ≡ now → b ≡ before → one ≡ start ++ changes_text p (map repaired (new_codes now before))
+repaired_rows p start one now before a b e f g = e ∙ (λ i. start ++ flat_map (repaired_text p (f i)) (g i)) ∙ ap (λ t. start ++ t) (sym (repaired_texts p now before))
 
 -- the rows of four changes in turn
 pub all_rows : (p : Place) (a b c d : List Change) (start one two three four : Text) → one ≡ start ++ changes_text p a → two ≡ one ++ changes_text p b → three ≡ two ++ changes_text p c

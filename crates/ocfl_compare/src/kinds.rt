@@ -73,10 +73,7 @@ fn is_file_code(code: Code, detail: &str) -> bool
 {
     match code {
         Code::Clean => !is_dash(detail),
-        Code::E023
-        | Code::E092
-        | Code::E093
-        | Code::S08 => true,
+        Code::E023 | Code::E092 | Code::E093 | Code::S08 => true,
         Code::E001
         | Code::E003
         | Code::E007

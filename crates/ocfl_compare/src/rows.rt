@@ -1,5 +1,5 @@
 //! The text of what changed at a place.
-ghost use Rattle.std.specs.Prelude.{◌≡◌, [], ◌++◌, List, OnOk, flat_map, if◌then◌else◌, map};
+ghost use Rattle.std.specs.Prelude.{◌≡◌, ◌&&◌, [], ◌++◌, List, OnOk, flat_map, if◌then◌else◌, map, not};
 ghost use Rattle.std.specs.List.{list_any};
 ghost use Rattle.ocfl_tree.specs.Place.{Place as ModelPlace};
 ghost use Rattle.ocfl_report.specs.Line.{Line as ModelLine};
@@ -57,7 +57,7 @@ fn put_answer(asked: Question, sides: Sides<'_>, rows: &mut Vec<u8>) -> Result<(
     let Sides { place, before, now } = sides;
     match asked {
         Question::Changed => put_changes(sides, rows),
-        Question::Expected => put_row_if(!now.object && before.object, "expected", place, rows),
+        Question::Expected => put_row_if(is_object_gone(before, now), "expected", place, rows),
     }
 }
 
@@ -68,15 +68,30 @@ fn put_changes(sides: Sides<'_>, rows: &mut Vec<u8>) -> Result<(), AllocError>
         (told_changes sides.entry.before.now sides.entry.now.now)) }
 {
     let Sides { place, before, now } = sides;
-    put_row_if(!now.object && before.object, "object", place, rows)?;
-    put_row_if(now.absent && before.file, "file", place, rows)?;
+    put_row_if(is_object_gone(before, now), "object", place, rows)?;
+    put_row_if(is_file_gone(before, now), "file", place, rows)?;
     put_new(
         place,
         before.findings.as_slice(),
         now.findings.as_slice(),
         rows,
     )?;
-    put_all_repaired(sides, rows)
+    put_all_repaired(sides, rows)?;
+    Ok(())
+}
+
+/// Whether there was a line of an object, and there is none now.
+fn is_object_gone(before: &Told, now: &Told) -> bool
+    ensures { result ≡ not now.now.object && before.now.object }
+{
+    !now.object && before.object
+}
+
+/// Whether there was a line of a content file, and there is no line at all now.
+fn is_file_gone(before: &Told, now: &Told) -> bool
+    ensures { result ≡ now.now.absent && before.now.file }
+{
+    now.absent && before.file
 }
 
 /// Appends a row for each code that is repaired, if the place was looked at.

@@ -20,7 +20,7 @@ const NOW: &str = "ok\t.\t-\nok\to\t-\nE092\to/v1/content/a\tsha512 aa bb\n\
 ok\to/v1/content/b\t4\n";
 
 /// Two reports, and what changed between them.
-const NEW_FINDINGS: [(&str, &str, &str); 12] = [
+const NEW_FINDINGS: [(&str, &str, &str); 14] = [
     ("ok\to\t-\n", "E060\to\tsha512 aa bb\n", "E060\to\n"),
     (
         "E101\to\ta\n",
@@ -47,25 +47,71 @@ const NEW_FINDINGS: [(&str, &str, &str); 12] = [
     (
         "E060\to\tsha512 aa bb\n",
         "S07\to\tblake2b\n",
-        "repaired\to\n",
+        "repaired E060\to\n",
     ),
-    ("E060\to\tsha512 aa bb\n", "ok\to\t-\n", "repaired\to\n"),
+    (
+        "E060\to\tsha512 aa bb\n",
+        "ok\to\t-\n",
+        "repaired E060\to\n",
+    ),
+    (
+        "E092\to\tsha512 aa bb\nE093\to\tmd5 aa bb\n",
+        "ok\to\t3\n",
+        "repaired E092\to\nrepaired E093\to\n",
+    ),
+    (
+        "E092\to\tsha512 aa bb\nE093\to\tmd5 aa bb\n",
+        "E093\to\tmd5 aa bb\n",
+        "repaired E092\to\n",
+    ),
     ("E072\to\t-\n", "", ""),
     ("E092\to\tsha256 missing\n", "E023\to\t-\n", "E023\to\n"),
     ("S07\to\tblake2b\n", "ok\to\t-\n", ""),
 ];
 
+/// Two reports of which the second may lack a finding because nobody looked for it, and what changed
+/// between them.
+const HIDDEN: [(&str, &str, &str); 8] = [
+    // The head stops: at its inventory, or before it.
+    (
+        "E060\to\tsha512 aa bb\nE101\to\ta\n",
+        "E033\to\t-\n",
+        "E033\to\n",
+    ),
+    ("E101\to\ta\n", "E003\to\t-\n", "E003\to\n"),
+    // The file could not be read, or nothing names it any more.
+    ("E092\to\tsha512 aa bb\n", "S08\to\t-\n", "S08\to\n"),
+    ("E092\to\tsha512 missing\n", "E023\to\t-\n", "E023\to\n"),
+    ("E093\to\tmd5 aa bb\n", "S04\to\t-\n", "S04\to\n"),
+    // The object is gone.
+    (
+        "E060\to\tsha512 aa bb\n",
+        "E073\to\t-\n",
+        "object\to\nE073\to\n",
+    ),
+    ("E080\t.\t-\n", "E069\t.\t-\n", "E069\t.\n"),
+    // It is looked at again.
+    (
+        "E003\to\t-\n",
+        "E058\to\tsha512\nE101\to\ta\n",
+        "E058\to\nE101\to\nrepaired E003\to\n",
+    ),
+];
+
 /// Branches that were left out, and what changed elsewhere.
 const LEFT_OUT: [(&[&str], &str); 6] = [
-    (&["p"], "E092\to/v1/content/a\nrepaired\to/v1/content/b\n"),
+    (
+        &["p"],
+        "E092\to/v1/content/a\nrepaired E092\to/v1/content/b\n",
+    ),
     (&["o"], "object\tp\nfile\tp/v1/content/c\n"),
     (
         &["o/v1/content/a"],
-        "repaired\to/v1/content/b\nobject\tp\nfile\tp/v1/content/c\n",
+        "repaired E092\to/v1/content/b\nobject\tp\nfile\tp/v1/content/c\n",
     ),
     (
         &["p/v1"],
-        "E092\to/v1/content/a\nrepaired\to/v1/content/b\nobject\tp\n",
+        "E092\to/v1/content/a\nrepaired E092\to/v1/content/b\nobject\tp\n",
     ),
     (&["."], ""),
     (&["p/v1", "o"], "object\tp\n"),
@@ -168,13 +214,13 @@ fn stop_of(
 fn changes_stand_in_the_order_of_places(rt: HostRuntime) -> Result<(), Fail> {
     let alloc = rt.alloc();
     let text = changes(alloc, BEFORE, NOW, &[])?;
-    let wanted = "E092\to/v1/content/a\nrepaired\to/v1/content/b\nobject\tp\n\
+    let wanted = "E092\to/v1/content/a\nrepaired E092\to/v1/content/b\nobject\tp\n\
 file\tp/v1/content/c\n";
     assert_eq!(rt; text.as_str(), wanted);
     let text = changes(alloc, NOW, BEFORE, &[])?;
     assert_eq!(rt;
         text.as_str(),
-        "repaired\to/v1/content/a\nE092\to/v1/content/b\n"
+        "repaired E092\to/v1/content/a\nE092\to/v1/content/b\n"
     );
     let text = changes(alloc, "", NOW, &[])?;
     assert_eq!(rt; text.as_str(), "E092\to/v1/content/a\n");
@@ -215,11 +261,25 @@ fn objects_and_content_files_can_be_gone(rt: HostRuntime) -> Result<(), Fail> {
                 wanted,
                 "{report}"
             );
-            // With any line at the place nothing is gone there.
+            // With another line at the place the object is gone, and no file is.
             let text = changes(alloc, report, "S05\t.\t-\nS05\to\t-\n", &[])?;
-            assert_eq!(rt; text.as_str().contains("object\t"), false, "{report}");
+            let is_object = wanted == "object\to\n";
+            assert_eq!(rt; text.as_str().contains("object\t"), is_object, "{report}");
             assert_eq!(rt; text.as_str().contains("file\t"), false, "{report}");
+            // With a line of an object it is not.
+            let text = changes(alloc, report, "ok\t.\t-\nE063\to\t-\n", &[])?;
+            assert_eq!(rt; text.as_str().contains("object\t"), false, "{report}");
         }
+    }
+    Ok(())
+}
+
+#[test]
+fn what_nobody_looked_for_is_not_repaired(rt: HostRuntime) -> Result<(), Fail> {
+    let alloc = rt.alloc();
+    for (before, now, wanted) in HIDDEN {
+        let text = changes(alloc, before, now, &[])?;
+        assert_eq!(rt; text.as_str(), wanted, "{before}{now}");
     }
     Ok(())
 }

@@ -7,7 +7,7 @@ through. They were tried in the crate of the definition, some alone, others toge
 other definitions, each of which a case, a clause or a function of its own refused. Those were tried
 against the modules that refused them, and not against the whole crate. What refused an edit is a
 worked case, a law, the contract of a function, or a lemma that one of these rests on. After `of a
-law` the laws alone were tried, and refused it.
+law` the laws alone were tried, and refused it. The definitions that no edit changes come first.
 
 A lemma that refuses a weaker definition may only be where the fact is made, in its stronger form.
 Then the edit does not show that a law or a contract needs what was lost. This is said of the edits
@@ -15,6 +15,7 @@ of which it is known.
 """
 from __future__ import annotations
 
+import glob
 import os
 import re
 import signal
@@ -37,6 +38,8 @@ def print_tried(*chosen: str) -> None:
     all_edits = collection.every_edit()
     for crate in chosen or crates():
         found = by_definition([edit for edit in all_edits if edit.crate == crate])
+        for module, names in unchanged(crate, set(found)):
+            print("%s %s: no edit changes %s" % (crate, module, ", ".join(names)))
         for (source, name), edits in found.items():
             print("%s %s: %s" % (crate, os.path.splitext(source)[0][len("specs/"):], name))
             for edit in edits:
@@ -51,6 +54,19 @@ def by_definition(edits: list[Edit]) -> dict[tuple[str, str], list[Edit]]:
         if edit.source.startswith("specs/"):
             found.setdefault((edit.source, definition_of(edit)), []).append(edit)
     return found
+
+
+def unchanged(crate: str, changed: set[tuple[str, str]]) -> list[tuple[str, list[str]]]:
+    """The definitions of a crate that are in none of these pairs of a source and a name, by file;
+    those of private functions are left out."""
+    top, left = folder_of(crate), []
+    for path in sorted(glob.glob(os.path.join(top, "specs", "*.antt"))):
+        source = os.path.relpath(path, top)
+        with open(path, encoding="utf-8") as file:
+            names = [it for it in DEFINITION.findall(file.read()) if (source, it) not in changed]
+        if names:
+            left.append((os.path.basename(path)[:-len(".antt")], names))
+    return left
 
 
 def definition_of(edit: Edit) -> str:

@@ -27,7 +27,7 @@ import xml.etree.ElementTree
 import common
 from common import check
 from shared.nights import REPORTS, Nights, make_root
-from shared.states import LINES, State, is_finding, line, ran, read, tools, tried, write
+from shared.states import EXPECTED, LINES, State, is_finding, line, ran, read, tools, tried, write
 
 
 def status(state, *words, now="2026-03-10T05:00:00Z"):
@@ -52,17 +52,17 @@ def standing(folder, root="/srv/ocfl"):
 def statuses(folder):
     state = standing(folder)
     calm = "/srv/ocfl: %slast night 2026-03-09T22:00:00Z, status 0; cycle 2 is open, 30 of 100 " \
-        "done, 5 night(s) left; last whole cycle 1 on 2026-03-04; "
-    found = "4 open finding(s), 1 of weight 1 (E007 1, E023 1, E072 1, S08 1)"
-    figures = ["age=25200s;93600;180000;0", "findings=4;1;;0", "damaged=1;1;1;0", "gone=0;1;;0",
-               "progress=30%;;;0;100"]
+        "done, 5 nights left; last whole cycle 1 on 2026-03-04; %swhat is gone is not known yet"
+    found = "4 open findings, 1 of weight 1 (E007 1, E023 1, E072 1, S08 1)"
+    figures = ["age=25200s;93600;180000;0", "findings=4;1;;0", "damaged=1;1;1;0", "gone=U;1;;0",
+               "lost=U;1;1;0", "progress=30%;;;0;100"]
     check("standing", status(state), (
-        2, "OCFL-SCRUB CRITICAL - " + (calm % (found + "; "))[:-2], figures))
+        2, "OCFL-SCRUB CRITICAL - " + calm % (found + "; ", ""), figures))
     listed = ran([REPORTS, "status", "--list", state.path])[1].splitlines(True)[1:]
     check("the gravest first", listed, [LINES[11], LINES[5], LINES[10], LINES[1]])
     quiet = ["--damaged", "2,3", "--findings", "5,6"]
     check("below the limits", status(state, *quiet)[0:2],
-          (0, "OCFL-SCRUB OK - " + calm % "" + found))
+          (0, "OCFL-SCRUB OK - " + calm % ("", found + "; ")))
     for words, level in [(["--damaged", "1,2", "--findings", "-,-"], 1),
                          (["--damaged", "-,1", "--findings", "-,-"], 2),
                          (["--damaged", "2,3", "--findings", "4,5"], 1),
@@ -77,7 +77,7 @@ def statuses(folder):
         check("a night that never ran, at " + now, status(state, *quiet, now=now)[0], level)
     known = write(folder + "/known", "S08\to3-4/\nE072\n")
     given, text, after = status(state, "--known", known)
-    check("known findings", (given, ": 3 open finding(s) (E007 1, E023 1, E072 1), 1 known; "
+    check("known findings", (given, ": 3 open findings (E007 1, E023 1, E072 1), 1 known; "
                              in text, after[1:3]),
           (1, True, ["findings=3;1;;0", "damaged=0;1;1;0"]))
     for words in [[], ["--what", "x"], ["--age", "1", "x"], ["--age", "1,2,3", "x"],
@@ -110,7 +110,8 @@ def troubled(folder):
     after("a refused checkpoint", night(4), 2, "ended with status 4")
     after("findings of a night", night(1), 0, "status 1")
     after("a night that was refused", lambda state: state.refuse("2026-03-10T22:00:00Z"), 2,
-          "last night 2026-03-10T22:00:00Z, status 3")
+          "the last night ended with status 3: is its file system mounted?; last night "
+          "2026-03-10T22:00:00Z, status 3")
 
     def refused_and_made(state):
         state.refuse("2026-03-09T23:00:00Z")
@@ -120,27 +121,37 @@ def troubled(folder):
     after("lost lines", lambda state: state.put_checkpoint("after o", whole="no"), 1,
           "cycle 2 lost lines")
 
-    def closes(gone="", whole=True):
+    def closes(gone="", whole=True, **said):
         def close(state):
             state.night("2026-03-10T22:00:00Z", 2, 70, closes={
-                "at": "2026-03-10T23:00:00Z", "gone": gone, "lines": LINES, "whole": whole})
+                "at": "2026-03-10T23:00:00Z", "gone": gone, "lines": LINES, "whole": whole, **said})
             os.remove(state.path + "/report")
         return close
 
-    after("gone", closes("object\tp\n"), 1, "1 object(s) and 0 file(s) are gone")
-    after("an expected object", closes("expected\tx\nexpected\ty\n"), 1,
-          ": 2 expected object(s) are missing; ")
+    after("an object is gone", closes("object\tp\n"), 2, ": 1 object is gone; ")
+    after("files are gone", closes("file\to/x\nfile\to/y\n"), 1, ": 2 files are gone; ")
+    after("an object is no longer declared", closes("undeclared\tp\n"), 1,
+          ": 1 object is no longer declared; ")
+    after("an expected object", closes("expected\tx\nexpected\ty\n", **EXPECTED), 1,
+          ": 2 expected objects are missing; ")
+    after("nothing was compared", closes(compared=0, why="a reason"), 1,
+          ": what is gone is not known: a reason; ")
 
-    def no_longer_expected(state):
-        closes("expected\tx\nexpected\ty\n")(state)
-        state.night("2026-03-10T23:30:00Z", 3, 70, closes={"lines": LINES})
+    def then(**said):
+        def close(state):
+            closes("expected\tx\nexpected\ty\n", **EXPECTED)(state)
+            state.night("2026-03-10T23:30:00Z", 3, 70, closes={"lines": LINES, **said})
+        return close
 
-    after("nothing is expected any more", no_longer_expected, 0, "cycle 3 has ended")
+    after("nothing is expected any more", then(), 1, ": 2 expected objects are missing; ")
+    after("nothing is missing any more", then(**EXPECTED), 0, "cycle 3 has ended")
     after("nothing gone", closes(), 0,
           "cycle 2 has ended; last whole cycle 2 on 2026-03-10")
     after("an incomplete report", closes(whole=False), 1, "the report of cycle 2 is not whole")
     after("many nights", lambda state: state.night("2026-03-10T22:00:00Z", 2, 90), 0,
-          "99 of 100 done, 1 night(s) left")
+          "99 of 100 done, 1 night left")
+    after("a clock that was ahead", lambda state: state.night("2026-04-10T22:00:00Z", 2, 9), 2,
+          "the last night lies in the future, at 2026-04-10T22:00:00Z: is the clock right?")
 
 
 ODD = ["%01", "%1F", "!", "%25", "%25a", "-", "0", "01", "1", "1e0", "a", "a b", "a-", "ab", "~",
@@ -204,9 +215,8 @@ def metrics(folder):
               "cycle_read_bytes": "28", "cycle_read_files": "2", "closed_cycle": "1",
               "closed_cycle_cost": "100",
               "closed_cycle_whole": "1", "cycle_progress_ratio": "0.3", "nights_left": "5",
-              "whole_cycle_timestamp_seconds": "1772665200", "gone_objects": "0", "gone_files": "0",
-              "expected_objects_missing": "0", "known_findings": "0", "damaged": "1",
-              "open_findings": "4"}
+              "whole_cycle_timestamp_seconds": "1772665200", "gone_known": "0",
+              "known_findings": "0", "damaged": "1", "open_findings": "4"}
     rows = ["ocfl_scrub_%s%s %s" % (name, labels, value) for name, value in wanted.items()]
     rows += ['ocfl_scrub_open_findings_by_code%s,code="%s"} 1' % (labels[:-1], code)
              for code in ["E007", "E023", "E072", "S08"]]
@@ -233,6 +243,8 @@ def metrics(folder):
 
 
 # What a status must not say
+
+DAMAGE = "E092\t%s/v1/content/f\tsha256 missing"
 
 DAMAGED = line("E092", "b/v1/content/a", "sha256 x y")
 AGAIN = line("E092", "d/v1/content/a", "sha256 x y")
@@ -292,7 +304,7 @@ def is_known(folder):
     check("known findings are not listed", listed(state, "--known", known), [AGAIN])
     write(known, "E092\t./\n")
     check("all are known", listed(state, "--known", known), [])
-    check("they are counted", "0 open finding(s), 2 known" in status(state, "--known", known)[1],
+    check("they are counted", "0 open findings, 2 known" in status(state, "--known", known)[1],
           True)
     check("without a file of known ones", listed(state), [DAMAGED, AGAIN])
 
@@ -362,7 +374,18 @@ def mended(folder):
     check("all are mended", ran(call)[0], 0)
     os.rename(nights.root, nights.root + ".away")
     given, out, said = ran(call)
-    check("no root", (given, out, "a/v1/content/f could not be looked at" in said), (3, "", True))
+    check("no root", (given, out, "is it mounted? Nothing was looked at." in said), (3, "", True))
+    os.mkdir(nights.root)
+    check("an empty mount point", ran(call)[:2], (3, ""))
+    os.rmdir(nights.root)
+    os.rename(nights.root + ".away", nights.root)
+    write(files[1], "x")
+    write(nights.root + "/b/inventory.json", "{")
+    check("what is not looked at is not mended", ran(call)[:2], (
+        3, "mended\t%sno longer looked at\t%s" % tuple(found)))
+    shutil.rmtree(nights.root + "/b")
+    check("nor what is removed", ran(call)[:2], (
+        3, "mended\t%sno longer looked at\t%s" % tuple(found)))
 
 
 def losses(folder):
@@ -377,21 +400,26 @@ def losses(folder):
             r"ocfl_scrub_gone_(?:objects|files)\{.*\} (\d+)", read(folder + "/x.prom"))
 
     nights.night()
-    check("nothing is gone", gone(), (0, ["0"], [], ["0", "0"]))
+    check("nothing is known to be gone", gone(), (0, [], [], []))
     os.rename(nights.root + "/b", folder + "/b")
-    lost = ["object\tb", "file\tb/v1/content/f"]
+    os.remove(nights.root + "/c/v1/content/f")
+    lost = ["object\tb"]
     for cycle in ["2", "3", "4"]:
         nights.night()
-        check("gone after cycle " + cycle, gone(), (1, ["2"], lost, ["1", "1"]))
+        check("gone after cycle " + cycle, gone("--findings", "-,-", "--damaged", "-,-"),
+              (2, ["1"], [DAMAGE % "c"] + lost, ["1", "0"]))
+    write(nights.root + "/c/v1/content/f", "c")
     text = nights.has("reports/statement-000004")
     check("in a later statement", re.findall("(?m)^(?:Objects|Files) gone.*", text), [
         "Objects gone: 0", "Files gone: 0", "Objects gone and not back: 1",
-        "Files gone and not back: 1"])
-    known = write(folder + "/known", "object\tb\n")
-    check("an object that is known", gone("--known", known), (1, ["1"], lost[1:], ["0", "1"]))
-    write(known, "object\tb\nfile\tb/\n")
-    check("all of it is known", gone("--known", known), (0, ["0"], [], ["0", "0"]))
+        "Files gone and not back: 0"])
+    given, out, _ = ran([REPORTS, "recheck", nights.state])
+    check("looked at again", (given, out), (1, "mended\t%s\ngone\tobject\tb\n" % (DAMAGE % "c")))
+    known = write(folder + "/known", "object\tb\nE092\t./\n")
+    check("an object that is known", gone("--known", known), (0, ["0"], [], ["0", "0"]))
     os.rename(folder + "/b", nights.root + "/b")
+    check("it is there again", ran([REPORTS, "recheck", nights.state])[1].splitlines()[-1:],
+          ["back\tobject\tb"])
     nights.part()
     nights.night()
     check("back", gone(), (0, ["0"], [], ["0", "0"]))
@@ -429,8 +457,8 @@ def page(folder):
         "<meta[^>]*>", "", out).replace("<!DOCTYPE html>", ""))
     texts = [text for element in root.iter() for text in [element.text] if text]
     check("what it shows", [text in texts for text in [
-        "CRITICAL", "5 open finding(s), 2 of weight 1 (E007 1, E023 1, E072 1, E092 1, S08 1)",
-        "<b>&amp;<script>alert(1)</script>", "<i>", "30 of 100", "2026-03-09T22:00:00Z"]],
+        "CRITICAL", "5 open findings, 2 of weight 1 (E007 1, E023 1, E072 1, E092 1, S08 1)",
+        "<b>&amp;<script>alert(1)</script>", "<i>", "30 %", "2026-03-09T22:00:00Z"]],
           [True] * 6)
     check("no script, nothing from elsewhere", re.findall("<script|src=|href=|url\\(|http", out),
           [])

@@ -100,7 +100,7 @@ def table_of_codes():
 
 # Statements
 
-TEXT = """ocfl-scrub statement 2
+TEXT = """ocfl-scrub statement 3
 
 Storage root: /srv/ocfl%09"\\%C3%BC%25|
 Declaration sums SHA-256: {declaration}
@@ -137,12 +137,18 @@ Algorithms not computed: x 2
 Compared with cycle: 1
 Report compared with, SHA-256: {earlier}
 New findings: 4
+Changed findings: 0
 Former findings: 0
+Findings no longer looked at: 0
 Objects gone: 1
+Objects no longer declared: 0
 Files gone: 2
 List of what is gone, SHA-256: {gone}
+Expected objects listed: 160
 Expected objects missing: 1
+List of expected objects, SHA-256: {expected}
 Objects gone and not back: 1
+Objects no longer declared, and not back: 0
 Files gone and not back: 2
 Program: ocfl-scrub 0.1.0
 Program commit: 0123abcd
@@ -166,7 +172,7 @@ def text_of(made, state):
     return TEXT.format(declaration="d" * 64, state=state.path, host=os.uname().nodename,
                        gone=digest(GONE.encode()), program=digest(common.read(made)),
                        digest=digest("".join(LINES).encode()), not_looked_at=NOT_LOOKED_AT,
-                       earlier=digest(LINES[0].encode()), not_said=NOT_SAID)
+                       earlier=digest(LINES[0].encode()), not_said=NOT_SAID, expected="e" * 64)
 
 
 def statement(folder):
@@ -184,8 +190,9 @@ def statement(folder):
     first = state.has("reports/statement-000001")
     check("what it says", [text in first for text in [
         "\nCycle: 1\n", "\nNights: 1\n", "\nRuns: 1\n", "\nReport lines: 1\n",
-        "\nCompared with cycle: nothing\n", "\nObjects gone: not known\n",
-        "\nExpected objects missing: not known\n", "\nFindings: 0\nAlgo",
+        "\nCompared with cycle: nothing\nNot compared: there is no earlier cycle\n",
+        "\nObjects gone: not known\n", "\nExpected objects missing: not asked\n",
+        "\nFindings: 0\nAlgo",
         "\nReport SHA-256: %s\n" % digest(LINES[0].encode())]], [True] * 9)
     write(state.path + "/reports/statement-000002", "kept\n")
     check("again", ask("statement", state.path, 2, OCFL_SCRUB=made), (0, "", ""))
@@ -205,13 +212,16 @@ def as_json(text):
                "Broken lines", "Objects", "Objects without findings", "Content files",
                "Files found right",
                "Files not found right", "Bytes found right", "Findings", "Compared with cycle",
-               "New findings", "Former findings", "Objects gone", "Files gone",
-               "Expected objects missing", "Objects gone and not back", "Files gone and not back"}
-    made = {"form": "ocfl-scrub statement 2",
+               "New findings", "Changed findings", "Former findings",
+               "Findings no longer looked at", "Objects gone", "Objects no longer declared",
+               "Files gone", "Expected objects listed", "Expected objects missing",
+               "Objects gone and not back", "Objects no longer declared, and not back",
+               "Files gone and not back"}
+    made = {"form": "ocfl-scrub statement 3",
             "findings_by_code": {name[9:]: int(value) for name, value in rows
-                                 if name.startswith("Findings ")}}
+                                 if re.fullmatch("Findings [A-Z0-9]+", name)}}
     for name, value in rows:
-        if not name.startswith("Findings "):
+        if not re.fullmatch("Findings [A-Z0-9]+", name):
             key = name.lower().replace(", ", "_").replace(" ", "_").replace("-", "_")
             made[key] = int(value) if name in numbers else value
     made["whole"] = dict(rows)["Whole"] == "yes"
@@ -380,15 +390,20 @@ def verifying(folder):
     ask("statement", state.path, 2, OCFL_SCRUB=made)
     file = state.path + "/reports/statement-000002"
     report = state.path + "/reports/cycle-000002"
-    holds = (0, "%s is what statement-000002 says\n" % report, "")
-    check("it holds", ask("verify", file), holds)
+    given, out, said = ask("verify", file)
+    check("it holds", (given, out.splitlines()[0], said),
+          (0, "%s is what statement-000002 says" % report, ""))
+    check("what only the JSON says", out.splitlines()[1:], [
+        "only statement-000002.json says the same: " + "; ".join(repeated_in(text))])
     with open(report, "rb") as plain:
         write(folder + "/other.gz", gzip.compress(plain.read()))
     check("of another copy", ask("verify", file, folder + "/other.gz")[0], 0)
     counted = ["Report lines", "Broken lines", "Report SHA-256", "Objects", "Findings S08",
                "Content files",
                "Objects without findings", "Files found right", "Bytes found right", "Findings",
-               "Objects gone", "Files gone", "List of what is gone, SHA-256", "Whole",
+               "New findings", "Changed findings", "Former findings",
+               "Findings no longer looked at", "Objects gone", "Files gone",
+               "List of what is gone, SHA-256", "Whole",
                "Expected objects missing", "Findings E007"]
     for name in counted:
         old = re.search("^%s: (.*)$" % name, text, re.M)[1]
@@ -411,6 +426,21 @@ def verifying(folder):
     for words, status in [([], 2), ([file, file, file], 2), (["--what"], 2),
                           ([folder + "/none"], 3), ([report], 3), ([file, folder + "/none"], 3)]:
         check("verify %d" % status, ask("verify", *words)[0:2], (status, ""))
+
+
+def repeated_in(text):
+    """The lines of a statement that nothing beside it shows."""
+    names = [row.partition(": ")[0] for row in text.splitlines()[2:]]
+    shown = {"Cycle", "Report", "Whole", "Report lines", "Broken lines", "Report SHA-256",
+             "Objects", "Objects without findings", "Content files", "Files found right",
+             "Files not found right", "Bytes found right", "Findings", "Findings E007",
+             "Findings E023", "Findings E072", "Findings S08", "Algorithms of wrong digests",
+             "Algorithms not computed", "Report compared with, SHA-256", "New findings",
+             "Changed findings", "Former findings", "Findings no longer looked at", "Objects gone",
+             "Objects no longer declared", "Files gone", "List of what is gone, SHA-256",
+             "Expected objects missing"}
+    empty = {"Programs of its runs, SHA-256", "Statement before, SHA-256"}
+    return [name for name in names if name not in shown | empty]
 
 
 def changed_reports(file, report):
@@ -460,8 +490,8 @@ def lost(name):
     """The events of what is gone, when the cycle was closed. A file that is gone is of the root."""
     closed = "2026-02-03T23:00:00Z"
     return [("cycle-000002:gone:1", closed, [("fail", "gone: p")], ("OCFL object path", "p")),
-            ("cycle-000002:gone:2", closed, [("fail", "gone: p/v1/content/a")], name),
-            ("cycle-000002:gone:3", closed, [("fail", "gone: p/v1/content/b")], name),
+            ("cycle-000002:gone:2", closed, [("fail", "gone: o/v1/content/a")], name),
+            ("cycle-000002:gone:3", closed, [("fail", "gone: o/v1/content/b")], name),
             ("cycle-000002:gone:4", closed, [("fail", "missing: z")], ("OCFL object path", "z"))]
 
 
@@ -524,6 +554,11 @@ def strange_paths(folder, state, root, made):
         "%%%02X" % byte for byte in c.encode()) for c in path) for path in paths]
     kept = common.read(state.path + "/reports/cycle-000002")
     write(state.path + "/reports/cycle-000002", "".join(line("ok", path) for path in shown))
+    given, said = premis_of(state, "--each", "object")
+    check("of a report that is another one", (given, "was changed since it was closed" in said),
+          (3, True))
+    os.remove(state.path + "/reports/statement-000002")
+    ask("statement", state.path, 2, OCFL_SCRUB=made)
     ids = [event[3][1] for event in premis_of(state, "--ids", "--each", "object")[:-4]]
     check("ids of strange paths", ids, ["id %d" % number for number in range(len(paths))])
     write(state.path + "/reports/cycle-000002", kept)

@@ -649,7 +649,7 @@ class Moved(Asked):
                 ("statement-000001", "Statement before, SHA-256")]:
             os.rename(os.path.join(made.path, "reports", name), away)
             given, out, _ = self.ask("verify", file)
-            self.assertEqual((given, out.splitlines()[2:]),
+            self.assertEqual((given, out.splitlines()[1:2]),
                              (4, ["not checked, without %s: %s" % (name, lines)]))
             os.rename(away, os.path.join(made.path, "reports", name))
 
@@ -874,8 +874,8 @@ class Telling(Asked):
             os.utime(os.path.join(made.path, name), (at_, at_))
         os.symlink(self.put(b"secret\n", "secret"), made.path + "/tonight.link")
         given = {"INVOCATION_ID": "c", "EXIT_STATUS": "0"}
-        self.assertEqual(self.run_tell(made, **given), (0, "", "ocfl-scrub: archive: a word on the "
-                         "night\ntext of tonight.b\ntext of tonight.a\ntext of tonight.c\n"))
+        self.assertEqual(self.run_tell(made, **given), (0, "", "ocfl-scrub: archive: a message "
+                         "about the nights\ntext of tonight.b\ntext of tonight.a\ntext of tonight.c\n"))
         self.assertEqual(sorted(it for it in os.listdir(made.path) if it.startswith("ton")),
                          ["tonight", "tonight.d.new", "tonight.link"])
         self.assertEqual(self.run_tell(made, **given), (0, "", ""))

@@ -62,11 +62,11 @@ class Losses(Folder):
     def test_until_they_are_back(self):
         self.report("cycle-000001", b"a", b"b", b"c")
         self.report("cycle-000002", b"a")
-        self.put(b"object\tb\nfile\tb/x\nobject\tc\nexpected\td\n", "reports/gone-000002")
+        self.put(b"object\tb\nfile\ta/x\nobject\tc\nexpected\td\n", "reports/gone-000002")
         self.report("cycle-000003", b"a", b"c")
-        lost = [b"object\tb", b"file\tb/x"]
+        lost = [b"object\tb", b"file\ta/x"]
         self.assertEqual(list(standing.losses(self.state)), lost)
-        self.assertEqual(list(standing.losses(self.state, 2)), lost + [b"object\tc"])
+        self.assertEqual(list(standing.losses(self.state, 2)), [lost[0], b"object\tc", lost[1]])
         self.assertEqual(list(standing.losses(self.state, 1)), [])
         self.put(b"ok\tb\t-\n")
         self.assertEqual(list(standing.losses(self.state)), lost[1:])
@@ -83,10 +83,10 @@ class Text(unittest.TestCase):
         made = statement.Statement({"Cycle": "2", "Whole": "no", "Findings": "3", "Host": "7",
                                     "Findings S08": "1", "Findings E092": "2", "Part from": "a%01",
                                     "Storage root": "/a%\t"})
-        self.assertEqual(made.text(), "ocfl-scrub statement 2\n\nStorage root: /a%25%09\n"
+        self.assertEqual(made.text(), "ocfl-scrub statement 3\n\nStorage root: /a%25%09\n"
                          "Part from: a%01\nHost: 7\nCycle: 2\nWhole: no\nFindings: 3\n"
                          "Findings E092: 2\nFindings S08: 1\n")
         self.assertEqual(json.loads(statement.as_json(made.text())), {
-            "form": "ocfl-scrub statement 2", "storage_root": "/a%25%09", "part_from": "a%01",
+            "form": "ocfl-scrub statement 3", "storage_root": "/a%25%09", "part_from": "a%01",
             "host": "7", "cycle": 2, "whole": False, "findings": 3,
             "findings_by_code": {"E092": 2, "S08": 1}})

@@ -368,6 +368,11 @@ class Lost(Told):
         self.cycle(1, ONE)
         self.cycle(2, TWO, b"object\tp\nfile\tp/a\nfile\tp/b/c\nfile\tp-1\n")
         self.assertIn("1 object and 1 file are gone", self.status()[1])
+        self.check(self.said(2), Objects_gone="1", Files_gone="1")
+        events = self.ask("premis", "--each", "object", self.made.path, 2)[1]
+        self.assertEqual(re.findall("Note>([a-z ]+: p.*)<", events),
+                         ["gone: p", "no longer looked at: p/a", "no longer looked at: p/b/c",
+                          "gone: p-1"])
 
     def test_expected_objects(self):
         """They stay open until a cycle searches for them, or one has a line."""

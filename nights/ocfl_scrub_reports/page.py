@@ -8,8 +8,9 @@ from typing import Iterable, Sequence
 
 from . import files, questions
 from .counts import CHANGES, of_changes
-from .log import Closing, Entry, kinds_in
+from .log import Closing, Entry
 from .shared import many
+from .standing import kinds_gone
 from .state import NOT_KNOWN, State, cycle_name
 from .statement import Statement, plain
 from .status import WORDS, Standing, with_reason
@@ -220,7 +221,7 @@ def of_statement(state: State, cycle: int) -> tuple[str, str]:
 
 def gone_text(state: State, cycle: int, closing: Closing) -> str:
     """What was gone when a cycle was closed."""
-    kinds = kinds_in(state.find("gone", cycle))
+    kinds = kinds_gone(state.find("gone", cycle))
     gone = [many(kinds[word], name) + more for word, name, more in (
         (b"object", "object", ""), (b"undeclared", "object", " no longer declared"),
         (b"file", "file", ""), (b"expected", "expected object", " missing")) if kinds[word]]

@@ -239,9 +239,12 @@ class Events:
         """What the cycle no longer found has no line in its report: an event for each line of the
         list of what is gone, at the time when the cycle was closed."""
         path = self.state.find("gone", self.cycle) if self.each != "cycle" else None
+        last = b""
         for number, line in enumerate(files.lines(path) if path else [], 1):
             kind, _, place = line.partition(b"\t")
-            note = NOTES.get(kind, b"gone: ") + place
+            last = place if kind in (b"object", b"undeclared") else last
+            is_away = kind == b"file" and is_within(place, last)
+            note = (b"no longer looked at: " if is_away else NOTES.get(kind, b"gone: ")) + place
             event = Event(":gone:%d" % number, "Loss found by an audit", 0,
                           b"." if kind == b"file" else place, [("fail", note)])
             self.event(event, self.said["Closed"])

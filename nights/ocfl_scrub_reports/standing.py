@@ -4,6 +4,7 @@ Reports are read once more for each 100,000 of these, so that no more are in mem
 """
 from __future__ import annotations
 
+from collections import Counter
 from itertools import islice
 from typing import Iterable, Iterator, NamedTuple
 
@@ -72,6 +73,16 @@ def losses_in(path: str) -> Iterator[bytes]:
             yield line
         elif line.startswith(b"file\t") and not report.is_within(place, last):
             yield line
+
+
+def kinds_gone(path: str | None) -> Counter[bytes]:
+    """How many lines of each kind a list of what is gone has, without files that nobody looked
+    at."""
+    if path is None:
+        return Counter()
+    count = Counter(line.partition(b"\t")[0] for line in losses_in(path))
+    count[b"expected"] = sum(line.startswith(EXPECTED) for line in files.lines(path))
+    return count
 
 
 def open_findings(state: State) -> Iterator[bytes]:

@@ -11,7 +11,7 @@ from dataclasses import dataclass, field
 
 from . import files, standing
 from .counts import Count, of_changes
-from .log import Closing, Comparisons, Entry, kinds_in
+from .log import Closing, Comparisons, Entry
 from .seal import is_sealed, put_seal
 from .shared import Failed, find_program, put, refuse_links
 from .state import NOT_KNOWN, State, cycle_name, find
@@ -244,7 +244,7 @@ def of_expected(closing: Closing) -> dict[str, str]:
 def of_gone(cycle: Cycle, listed: str | None) -> dict[str, str]:
     """How much was gone when the cycle was closed, as its list says. Where nobody knows what it was
     compared with, a list with rows is told of all the same."""
-    kinds, closing = kinds_in(listed), cycle.closing
+    kinds, closing = standing.kinds_gone(listed), cycle.closing
     is_known = bool(closing.compared and listed)
     made = {name: at_least(kinds[kind], is_known) for name, kind in KINDS.items()}
     if closing.list or kinds[b"expected"]:

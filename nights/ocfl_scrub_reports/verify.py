@@ -7,6 +7,7 @@ from . import files
 from .counts import CHANGES, COMPARED, Count, of_changes, of_lines
 from .log import kinds_in
 from .shared import Failed, refuse_links
+from .standing import kinds_gone
 from .state import NOT_KNOWN, cycle_name, find
 from .statement import (ADDED, FORM, KINDS, NAMES, NOT_BACK, OPTIONAL, Statement, as_json, kind_of,
                         at_least, of_known, plain)
@@ -19,6 +20,8 @@ LIST_OF_KNOWN = "List of known losses, SHA-256"
 BEFORE = "Statement before, SHA-256"
 # What a line says of a digest if there was no file, or if it was another one.
 NONE = ("", "no list", "no statement", "no report", "changed since it was closed")
+# What a line says that says nothing.
+EMPTY = (*NONE, NOT_KNOWN, "not asked")
 
 
 class Check:
@@ -105,7 +108,7 @@ class Check:
         if LIST_OF_GONE in self.lacking:
             return
         self.facts[LIST_OF_GONE] = files.digest_of(path) if path else "no list"
-        count = kinds_in(path)
+        count = kinds_gone(path) if self.form == FORM else kinds_in(path)
         for name, kind in GONE.items():
             said = self.said.get(name, "")
             if name not in self.names or self.form != FORM and said == NOT_KNOWN:
@@ -149,7 +152,7 @@ class Check:
             self.guessed.append(name)
         elif name not in self.facts and not self.has_json:
             self.unchecked.setdefault(os.path.basename(self.json), []).append(name)
-        elif name not in self.facts:
+        elif name not in self.facts and value not in EMPTY:
             self.repeated.append(name)
 
 
@@ -167,11 +170,11 @@ def show(path: str, report: str | None) -> int:
     else:
         print("%s is what %s says%s" % (check.report, name,
                                         ", as far as it could be checked" if is_partly else ""))
-    if check.repeated:
-        print("only %s says the same: %s" % (os.path.basename(check.json),
-                                             "; ".join(check.repeated)))
     for file, lines in check.unchecked.items():
         print("not checked, without %s: %s" % (file, "; ".join(lines)))
-    if check.guessed:
+    if check.repeated and not check.differences:
+        print("only %s says the same: %s" % (os.path.basename(check.json),
+                                             "; ".join(check.repeated)))
+    if check.guessed and not check.differences:
         print("not known when statements of this form were made: " + "; ".join(check.guessed))
     return 1 if check.differences else 4 if is_partly else 0

@@ -122,7 +122,9 @@ class State:
         self.spent, self.files = spent, files
         self.put_checkpoint("after o")
 
-    def close(self, began, cycle, lines=None, gone="", whole=True, packed=False, at=None):
+    def close(self, began, cycle, lines=None, gone="", whole=True, packed=False, at=None, **said):
+        """Closes a cycle. `said` is what else its row says: with which cycle it was compared, which
+        is the one before without it."""
         name = "reports/%s-%06d" % ("cycle" if whole else "incomplete", cycle)
         data = "".join(lines or []).encode()
         write(self.path + "/" + name + (".gz" if packed else ""),
@@ -130,7 +132,10 @@ class State:
         write(self.path + "/reports/gone-%06d" % cycle, gone)
         self.row(row="closing", time=seconds(at or began), night=seconds(began), cycle=cycle,
                  report=self.path + "/" + name, whole=whole, findings=0, new=0, repaired=0,
-                 gone=gone.count("\n"), left=0)
+                 gone=gone.count("\n"), left=0, **{
+                     "compared": cycle - 1 if whole else 0, "why": "", "list": "", "listed": 0,
+                     "objects": gone.count("object\t"), "files": gone.count("file\t"),
+                     "expected": gone.count("expected\t"), **said})
 
     def has(self, name):
         return read(self.path + "/" + name)
@@ -148,7 +153,8 @@ LINES = [line("ok", "."), line("E072", "a b"), line("ok", "o"), line("ok", "o/v1
          line("S07", "o2", "x"), line("ok", "o2/v1/content/a", "4611686018427387904"),
          line("S07", "o3", "x"), line("ok", "o3-4"), line("E023", "o3-4/v1/content/a"),
          line("S08", "o3-4/v1/content/a"), line("ok", "o3-4/v1/content/b", "0")]
-GONE = "object\tp\nfile\tp/v1/content/a\nfile\tp/v1/content/b\nexpected\tz\n"
+GONE = "object\tp\nfile\to/v1/content/a\nfile\to/v1/content/b\nexpected\tz\n"
+EXPECTED = {"listed": 160, "list": "e" * 64}
 
 
 def audited(folder):
@@ -159,7 +165,7 @@ def audited(folder):
     state.night("2026-02-01T22:00:00Z", 2, 4)
     state.refuse("2026-02-02T22:00:00Z")
     state.night("2026-02-03T22:00:00Z", 2, 4, 1, closes={
-        "at": "2026-02-03T23:00:00Z", "lines": LINES, "gone": GONE})
+        "at": "2026-02-03T23:00:00Z", "lines": LINES, "gone": GONE, **EXPECTED})
     state.night("2026-02-04T22:00:00Z", 3, 4)
     return state, program(folder)
 

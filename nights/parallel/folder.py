@@ -10,8 +10,19 @@ sys.path.insert(0, os.path.dirname(HERE))
 from ocfl_scrub_reports.shared import Failed, refuse_links, sync_folder
 
 
+def hold_numbers() -> None:
+    """Opens the numbers 0 to 2 where they are closed, so that no file gets the number of an output,
+    and what is written there fails."""
+    file = os.open("/dev/null", os.O_RDONLY)
+    while file <= 2:
+        os.set_inheritable(file, True)
+        file = os.open("/dev/null", os.O_RDONLY)
+    os.close(file)
+
+
 def run_as(name: str, main: object) -> None:
     """Does what a script does, and ends with its status."""
+    hold_numbers()
     try:
         sys.exit(main(sys.argv[1:]))  # type: ignore[operator]
     except (Failed, OSError, ValueError) as error:
@@ -72,12 +83,12 @@ def use(state: str, words: list[str] | None = None, create: bool = False) -> str
         raise Failed("the storage root is missing; try --help", 2)
     roots = [os.path.realpath(root) + "/" for root in [*(words or [])[-1:], state]]
     if words and (roots[0].startswith(roots[1]) or roots[1].startswith(roots[0])):
-        raise Failed("the state folder and the storage root lie one in the other", 2)
+        raise Failed("the state folder must not be inside the storage root, or contain it", 2)
     above = state if os.path.lexists(state) else os.path.dirname(os.path.abspath(state))
     for follows in (False, True) if os.geteuid() == 0 and os.path.exists(above) else ():
         owner = os.stat(above, follow_symlinks=follows).st_uid
         if owner != 0:
-            raise Failed("%s belongs to the user %d: call this as that user" % (above, owner))
+            raise Failed("%s belongs to the user %d: run this as that user" % (above, owner))
     if create and not os.path.lexists(state):
         os.mkdir(state, 0o750)
     if not os.path.isdir(state):
@@ -85,7 +96,7 @@ def use(state: str, words: list[str] | None = None, create: bool = False) -> str
                              "--create and --parts.")
     for name in ("checkpoint", "cursor", "nights"):
         if os.path.lexists(state + "/" + name):
-            raise Failed("%s is no folder of parts: it has a file %s" % (state, name))
+            raise Failed("%s is not a folder of parts: it has a file %s" % (state, name))
     refuse_links(*(state + "/" + name for name in ("parts", "said", "log", "given", "reports")))
     return state
 

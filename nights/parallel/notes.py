@@ -3,21 +3,60 @@ from __future__ import annotations
 
 import fcntl
 import os
+import re
 
 from folder import part
 from given import ranges
+
+NOTE = re.compile("([0-9]{6,})-[0-9]+[.][0-9]+")
+FINDING = re.compile(rb"[ES][0-9]+\t.*\t.*\n")
+# The words by which a night names its part, and those after which a place of the root is named.
+OF_PART = re.compile(rb"^([0-9]+ finding\S* tonight in )part [0-9]+ of ")
+OF_PLACE = re.compile(rb"\t|left out: |stopped at ")
+# Stands for the folder of a part: no text has this byte.
+OWN = b"\0"
+
+
+def escaped(path: str) -> bytes:
+    """A path as the program shows it."""
+    return re.sub(rb"[^ -$&-~]", lambda it: b"%%%02X" % it[0], os.fsencode(path))
+
+
+def once(lines: list[bytes]) -> list[bytes]:
+    """The lines of a text, in which no finding is there twice."""
+    made: list[bytes] = []
+    seen: set[bytes] = set()
+    above = 0
+    for line in [*lines, b""]:
+        is_finding = FINDING.fullmatch(line)
+        if above and not is_finding:
+            made.append(b"%d of these %s shown above.\n" % (above, b"are" if above > 1 else b"is"))
+            above = 0
+        if is_finding and line in seen:
+            above += 1
+        else:
+            made.append(line)
+            seen.add(line)
+    return made
 
 
 class Notes:
     """The files of DIR/said, but for those into which a night still writes."""
 
     def __init__(self, state: str) -> None:
+        self.state = state
         self.paths: list[str] = []
         # The numbers of the parts that said a text, which names the folder of none.
         self.texts: dict[bytes, list[int]] = {}
+        # What somebody else put there.
+        self.strange: list[str] = []
         folder = state + "/said"
         for name in sorted(os.listdir(folder) if os.path.isdir(folder) else []):
-            self.take(folder + "/" + name, int(name.partition("-")[0]))
+            named = NOTE.fullmatch(name)
+            if named:
+                self.take(folder + "/" + name, int(named[1]))
+            else:
+                self.strange.append(folder + "/" + name)
 
     def take(self, path: str, number: int) -> None:
         with open(os.open(path, os.O_RDWR | os.O_NOFOLLOW), "rb") as file:
@@ -25,10 +64,21 @@ class Notes:
                 fcntl.flock(file, fcntl.LOCK_EX | fcntl.LOCK_NB)
             except BlockingIOError:
                 return
-            text = file.read().replace(part(number).encode(), b"part-*")
+            lines = file.read().splitlines(True)
         self.paths.append(path)
+        own = os.fsencode("%s/%s" % (self.state, part(number)))
+        text = b"".join(self.without(own, it) for it in (once(lines) if number else lines))
         if text:
             self.texts.setdefault(text, []).append(number)
+
+    def without(self, own: bytes, line: bytes) -> bytes:
+        """A line without the folder of its part, unless it has a place, which may have that name,
+        and without the number of that."""
+        if OF_PLACE.search(line):
+            return line
+        for path in {own, escaped(os.fsdecode(own))}:
+            line = re.sub(rb"(?<![^ '])" + re.escape(path) + rb"(?![^/:, '\n])", OWN, line)
+        return OF_PART.sub(rb"\1", line)
 
     def numbers(self) -> set[int]:
         """The parts that said something; 0 for what was said of all."""
@@ -38,10 +88,11 @@ class Notes:
         """What all of them say, in the order of parts. What several say is there once."""
         said = []
         for text, numbers in self.texts.items():
-            if len(set(numbers)) == 1:
-                text = text.replace(b"part-*", part(numbers[0]).encode())
+            own = part(numbers[0]) if len(set(numbers)) == 1 else "part-*"
             said.append(b"" if numbers[0] == 0 else b"In %s:\n" % ranges(set(numbers)).encode())
-            said.append(text)
+            said.append(text.replace(OWN, escaped(self.state + "/" + own)))
+        said += [b"%s is no note of a part, and was passed over: remove it.\n" % escaped(it)
+                 for it in self.strange]
         return b"".join(said)
 
     def remove(self) -> None:

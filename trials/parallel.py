@@ -195,6 +195,162 @@ def unjoined(folder):
     check("back", counted()[2], "0")
 
 
+def missed_end(folder):
+    """A cycle that no `end` joined is joined before its parts are given out anew, and stated; what
+    was lost in it is gone until it is back."""
+    nights = Together(folder + "/state", small_root(folder))
+    nights.night()
+    shutil.rmtree(nights.root + "/o05")
+    nights.make(nights.given())
+    second = audit(nights.root)
+    write(nights.root + "/o01/v1/content/a", "damaged")
+    status, out, said = nights.night()
+    check("the next night", (status, "Nothing ended the last night" in out, said), (3, True, ""))
+    check("both are joined", (nights.has("reports/cycle-000002"), nights.has(
+        "reports/cycle-000003")), (second, audit(nights.root)))
+    check("what is gone", sorted((nights.has("reports/gone-000002") or "").splitlines()), [
+        "file\to05/v1/content/a", "file\to05/v1/content/b", "object\to05"])
+    for cycle in (2, 3):
+        check_statement("statement %d" % cycle, nights, cycle)
+    check("not back", "\nObjects gone and not back: 1\n" in (nights.has(
+        "reports/statement-000003") or ""), True)
+
+
+def untold_closing(folder):
+    """A part that is killed between the closing of its cycle and its list of what is gone is given
+    out again; nothing is joined before, and then all that is gone is listed."""
+    for call in range(4, 13):
+        there = "%s/%d" % (folder, call)
+        os.mkdir(there)
+        nights = Together(there + "/state", small_root(there))
+        nights.night()
+        for place in ("o01", "o04"):
+            shutil.rmtree(nights.root + "/" + place)
+        numbers = nights.given()
+        ran(["strace", "-f", "--quiet=all", "-o", "/dev/null", "-e",
+             "inject=rename,renameat,renameat2:signal=KILL:when=%d" % call, NIGHTS
+             + "/parallel/part", "--state", nights.state, "--part", "2", nights.root])
+        nights.make([number for number in numbers if number != "2"])
+        is_cut = os.path.exists(nights.part(2, "reports/cycle-000002")) and not os.path.exists(
+            nights.part(2, "reports/gone-000002"))
+        nights.end()
+        if is_cut:
+            check("not joined after call %d" % call, nights.has("reports/cycle-000002"), None)
+        nights.make(nights.given())
+        nights.end()
+        check("all is listed after call %d" % call, [row for row in (nights.has(
+            "reports/gone-000002") or "").splitlines() if row.startswith("object")],
+            ["object\to01", "object\to04"])
+        if is_cut:
+            return
+    check("a part was killed there", False, True)
+
+
+def held_join(folder):
+    """Where another call of `join` is under way, `end` waits for it."""
+    nights, numbers = begun(folder)
+    nights.make(numbers)
+    write(folder + "/program", '''#!/bin/sh
+[ "$1" != join ] || [ -e "$0.second" ] || { : > "$0.second"; echo "ocfl-scrub: held" >&2; exit 75; }
+exec "%s" "$@"
+''' % PROGRAM, 0o755)
+    status, out, said = nights.by_hand("end", OCFL_SCRUB=folder + "/program")
+    check("it waits", (status, out, said), (0, "", ""))
+    nights.is_audit("joined")
+
+
+def other_roots(folder):
+    """A part that saw a root of far fewer names than another one is named."""
+    nights, numbers = begun(folder)
+    away = nights.root + "-away"
+    nights.make(numbers[:3])
+    for number in range(8):
+        os.makedirs(away, exist_ok=True)
+        os.rename("%s/o%02d" % (nights.root, number), "%s/o%02d" % (away, number))
+    nights.make(numbers[3:])
+    status, out, _ = nights.end()
+    check("it is named", (status, "had 10 names when parts 1-3 began" in out, "at most 2 when part 4"
+                          in out), (3, True, True))
+    check("once", nights.end(), (0, "", ""))
+    common.not_yet("it is not joined as whole", nights.has("reports/cycle-000001"), None,
+                   "the program joins by place and declaration alone")
+
+
+# Does what `begin` asks of the program, and kills the one that asks.
+KILLING = '''#!/bin/sh
+case $* in *" --end 1 "*) kill -KILL $PPID ;; esac
+exec "%s" "$@"
+'''
+
+
+def no_beginning(folder):
+    """A night of which `begin` is killed, or has no room, is told with status 3."""
+    nights = Together(folder + "/state", small_root(folder, ["o01"]))
+    nights.night()
+    write(folder + "/program", KILLING % PROGRAM, 0o755)
+    status, out, said = nights.night(OCFL_SCRUB=folder + "/program")
+    check("killed", (status, "was not begun" in out + said, "signal 9" in out + said),
+          (3, True, True))
+    check("status", nights.level(), 2)
+    check("nothing is left of it", (nights.night()[0], [name for name in os.listdir(
+        nights.state) if name.startswith("t")]), (1, []))
+    os.mkdir(folder + "/disk")
+    words = nights.words(parts=4)
+    words[words.index("--state") + 1] = folder + "/disk"
+    status, out, said = ran(["unshare", "-m", "sh", "-c", FULL, "sh", folder + "/disk",
+                             nights.state, *words])
+    if status == 99:
+        print("not tried: nothing can be mounted here")
+    else:
+        check("no room", (status, "was not begun" in said, "No space left" in said),
+              (3, True, True))
+
+
+# A small disk that has the state and no room.
+FULL = '''mount -t tmpfs -o size=2m tmpfs "$1" || exit 99
+cp -a "$2/." "$1" || exit 98
+head -c 8M /dev/zero > "$1/filler" 2> /dev/null
+shift 2
+exec "$@"
+'''
+
+
+def other_parts(folder):
+    """Other parts than a folder has are refused, and the same words as before are not."""
+    nights = Together(folder + "/state", small_root(folder))
+    nights.night(parts=4)
+    before = common.snapshot(nights.state)
+    for words in (["--create"], []):
+        for parts in ("8", "3"):
+            status, out, said = ran([NIGHTS + "/parallel/nightly", *words, "--parts", parts,
+                                     "--state", nights.state, nights.root])
+            check("%s parts" % parts, (status, out, "is divided into 4 part" in said,
+                                       "new folder" in said), (2, "", True, True))
+    write(folder + "/parts", "o01\n")
+    check("a file of others", nights.night(parts=folder + "/parts")[0], 2)
+    kept = {path: it for path, it in before.items() if b"/lock." not in path}
+    now = common.snapshot(nights.state)
+    check("no night was made", [path for path in kept if path.endswith(b"log")
+                                and kept[path] != now[path]], [])
+    check("the same words", nights.night(parts=4), (0, "", ""))
+    many = Together(folder + "/many", nights.root)
+    check("more than the root gives", (many.night(parts=500)[0], many.night(parts=500)[0]), (0, 0))
+    write(folder + "/same", nights.has("parts"))
+    check("the same separators", nights.night(parts=folder + "/same")[0], 0)
+
+
+def closed_output(folder):
+    """A message for which standard output is closed is written into no file, and is said later."""
+    nights, numbers = begun(folder, ["o01"])
+    nights.make(numbers)
+    end = [NIGHTS + "/parallel/end", "--state", nights.state]
+    for closing in (">&-", ">&- 2>&-", "<&- >&- 2>&-"):
+        check("closed: " + closing, ran(["sh", "-c", 'exec "$@" ' + closing, "sh", *end])[0], 3)
+    check("no lock has it", [nights.has(name) for name in ("lock.parts", "log") if "E092" in (
+        nights.has(name) or "")], [])
+    check("then it is said", lines_in_message(nights.end()[1]), findings(audit(nights.root)))
+
+
 def ends(folder):
     """An end by the clock is one for all parts, and a part after it counts as run."""
     nights = Together(folder + "/state", small_root(folder))
@@ -328,8 +484,9 @@ def dashes(folder):
     check("an end", ran([NIGHTS + "/parallel/end", "--state=-state"], cwd=folder)[0], 0)
 
 
-PARTS = [cycles, one_message, by_schedulers, unread, unjoined, ends, signals, cut_closing,
-         two_at_once, room, seals, by_a_service, usage, dashes]
+PARTS = [cycles, one_message, by_schedulers, unread, unjoined, missed_end, untold_closing,
+         held_join, other_roots, no_beginning, other_parts, closed_output, ends, signals,
+         cut_closing, two_at_once, room, seals, by_a_service, usage, dashes]
 
 
 def check_all(folder):

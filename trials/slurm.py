@@ -142,7 +142,7 @@ def requeued(site):
     site.unmark("held", "4")
     site.finish()
     out = read(site.nights.path("slurm/part-2.out"))
-    check("the task that was queued again", re.findall(r"part 2 .*started (\d) time", out)[-2:],
+    check("the task that was queued again", re.findall(r"part 2 .*, start (\d)\n", out)[-2:],
           ["1", "2"])
     check("its part", site.nights.rows(2)[-1]["status"], 0)
     site.check_unmade("the one that failed", "part 5")

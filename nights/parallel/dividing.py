@@ -2,11 +2,38 @@
 from __future__ import annotations
 
 import os
+import shutil
 import subprocess
-import tempfile
 
 from folder import part
-from ocfl_scrub_reports.shared import Failed, find_program, put, sync_folder
+from given import count_parts
+from ocfl_scrub_reports.shared import Failed, find_program, put, refuse_links, sync_folder
+
+OTHERS = "%s is divided into %d part(s), which stay: leave --parts out, or take a new folder"
+
+
+def asked(state: str) -> str:
+    """The file that says how many parts were asked for, if a number was."""
+    return state + "/parts.asked"
+
+
+def refuse_others(state: str, parts: str) -> None:
+    """Fails if a folder that is divided already is to have other parts than it has. The root may
+    give fewer than were asked for."""
+    if not parts or not os.path.isfile(state + "/parts"):
+        return
+    count, most = count_parts(state), None
+    if parts.isdecimal():
+        refuse_links(asked(state))
+        if os.path.isfile(asked(state)):
+            with open(asked(state), encoding="ascii") as file:
+                most = int(file.read())
+        is_same = int(parts) in (count, most) or most is None and int(parts) > count
+    else:
+        with open(state + "/parts", "rb") as now, open(parts, "rb") as others:
+            is_same = now.read() == others.read()
+    if not is_same:
+        raise Failed(OTHERS % (state, count), 2)
 
 
 def divide(state: str, parts: str, words: list[str]) -> None:
@@ -19,6 +46,8 @@ def divide(state: str, parts: str, words: list[str]) -> None:
     for number in range(1, data.count(b"\n") + 2):
         os.makedirs("%s/%s" % (state, part(number)), 0o750, exist_ok=True)
     sync_folder(state)
+    if parts.isdecimal():
+        put(b"%d\n" % int(parts), asked(state))
     put(data, state + "/parts")
 
 
@@ -30,12 +59,24 @@ def separators(parts: str, root: str) -> bytes:
         return file.read()
 
 
+def clear(path: str) -> None:
+    """Removes a folder that this made, also one that a killed call left."""
+    if os.path.lexists(path):
+        refuse_links(path)
+        shutil.rmtree(path)
+
+
 def try_night(state: str, data: bytes, words: list[str]) -> None:
     """Has the program try root, separators and options: a night that is over before it begins."""
-    with tempfile.TemporaryDirectory(dir=state) as tried:
+    tried = state + "/tried"
+    clear(tried)
+    os.mkdir(tried, 0o700)
+    try:
         put(data, tried + "/parts")
         output_of(["night", "--create", "--state", tried + "/state", "--parts", tried + "/parts",
                    "--part", str(data.count(b"\n") + 1), "--end", "1", *words])
+    finally:
+        clear(tried)
 
 
 def output_of(words: list[str]) -> bytes:

@@ -1,14 +1,17 @@
 """Which parts of a storage root were given out, and what came of it."""
 from __future__ import annotations
 
+import glob
 import json
 import os
 import re
 import subprocess
 import time
+from dataclasses import dataclass
+from pathlib import Path
 from typing import Iterable
 
-from folder import note, opened, part
+from folder import HERE, note, opened, part
 from ocfl_scrub_reports.files import time_text
 from ocfl_scrub_reports.shared import put
 from ocfl_scrub_reports.state import numbered_in
@@ -43,14 +46,16 @@ def count_parts(state: str) -> int:
 
 def closed(state: str, number: int) -> dict[int, bool]:
     """The cycles that a part has closed, and whether their reports are whole. One that a night was
-    closing when it was killed is none: its next night ends that."""
+    closing when it was killed is none, nor is one without the list of what is gone: the part's next
+    night ends that."""
     folder = "%s/%s" % (state, part(number))
     closing = None
     if os.path.isfile(folder + "/checkpoint"):
         with open(folder + "/checkpoint", "rb") as file:
             closing = CLOSING.search(file.read())
+    listed = {it.cycle for it in numbered_in(folder + "/reports", "gone")}
     return {it.cycle: it.is_whole for it in numbered_in(folder + "/reports", "incomplete", "cycle")
-            if not (closing and it.cycle == int(closing[1]))}
+            if it.cycle in listed and not (closing and it.cycle == int(closing[1]))}
 
 
 def log(state: str, night: int, row: str, **more: object) -> None:
@@ -67,6 +72,37 @@ def leave(state: str, text: str) -> None:
     file = note(state, 0)
     os.write(file, os.fsencode(text + "\n"))
     os.close(file)
+
+
+@dataclass
+class Begun:
+    """What a call of `begin` gave out, or its status and why it gave out nothing."""
+    numbers: list[str]
+    status: int = 0
+    why: str = ""
+
+
+def begin(words: list[str]) -> Begun:
+    """Calls `begin` with these words."""
+    done = subprocess.run([HERE + "/begin", *words], capture_output=True, check=False)
+    if done.returncode == 0:
+        return Begun(done.stdout.decode().split())
+    why = os.fsdecode(done.stderr).strip().removeprefix("parallel/begin: ")
+    if done.returncode < 0:
+        why = (why + "\nparallel/begin was killed by signal %d" % -done.returncode).strip()
+    return Begun([], done.returncode if done.returncode > 1 else 3,
+                 why or "parallel/begin ended with status %d" % done.returncode)
+
+
+def leave_if_unsaid(state: str, begun: Begun) -> bool:
+    """Leaves why a night was not begun, unless `begin` did. Gives whether that is left now."""
+    try:
+        texts = [Path(it).read_bytes() for it in glob.glob(glob.escape(state) + "/said/000000-*")]
+        if not any(os.fsencode(begun.why) in it for it in texts):
+            leave(state, "The night was not begun: " + begun.why)
+    except OSError:
+        return False
+    return True
 
 
 def size_of_log(state: str, number: int) -> int:

@@ -3,38 +3,114 @@ from __future__ import annotations
 
 import os
 import re
+import time
 from pathlib import Path
 
 from folder import part
-from given import closed, count_parts, ranges, run
+from given import closed, count_parts, leave, ranges, run
 from ocfl_scrub_reports.shared import find_program, put
 from ocfl_scrub_reports.state import cycle_name, find, numbered_in
 
 STATEMENT = re.compile("statement-([0-9]+)")
+# How many names the top folder of the root had when the cycle began.
+NAMES = re.compile(rb"\nnames ([0-9]+) ")
+# The status of a program that found a lock held, and how many seconds that is waited for.
+HELD, PATIENCE = 75, 60
 
 
 def reports_of(state: str, number: int) -> str:
     return "%s/%s/reports" % (state, part(number))
 
 
+class Parts:
+    """What all parts have closed, and which of it is not joined."""
+
+    def __init__(self, state: str) -> None:
+        self.state, self.reports = state, state + "/reports"
+        self.closed = {it: closed(state, it) for it in range(1, count_parts(state) + 1)}
+
+    def is_joined(self, cycle: int) -> bool:
+        return bool(find(self.reports, "cycle", cycle) or find(self.reports, "incomplete", cycle))
+
+    def unjoined(self) -> list[int]:
+        """The cycles that all parts have closed and that are not joined, the oldest first."""
+        of_all = set.intersection(*map(set, self.closed.values()))
+        return sorted(it for it in of_all if not self.is_joined(it))
+
+    def list_gone(self, cycle: int) -> None:
+        """Puts the list of what is gone. It counts also if this cycle is not joined: the next one
+        is compared with it."""
+        if not find(self.reports, "gone", cycle):
+            gone = [find(reports_of(self.state, number), "gone", cycle) for number in self.closed]
+            put(b"".join(Path(path).read_bytes() for path in gone if path),
+                "%s/%s" % (self.reports, cycle_name("gone", cycle)))
+
+    def lacking(self, cycle: int) -> list[int]:
+        """The parts whose reports of a cycle are not whole."""
+        return [number for number, it in self.closed.items() if it.get(cycle) is False]
+
+    def not_whole(self, cycle: int) -> str:
+        lacking = self.lacking(cycle)
+        return ("The reports of cycle %d are not joined: that of %s is not whole."
+                % (cycle, ranges(lacking))) if lacking else ""
+
+    def skipped(self, last: int) -> list[int]:
+        """The cycles before this one that are never joined, since a part has no report of them, or
+        no list of what is gone. Those of which the list of all is there were named before."""
+        listed = max((it.cycle for it in numbered_in(self.reports, "gone")), default=0)
+        known = {it.cycle for number in self.closed for it in numbered_in(
+            reports_of(self.state, number), "cycle", "incomplete")}
+        return sorted(it for it in known - set.intersection(*map(set, self.closed.values()))
+                      if listed < it < last)
+
+    def other_roots(self, cycle: int) -> str:
+        """Says which parts saw a root with less than half of the names that another one saw. Empty
+        if none did, as far as their checkpoints say it."""
+        seen = {number: int(it[1]) for number in self.closed
+                for path in filter(None, [find(reports_of(self.state, number), "checkpoint", cycle)])
+                for it in filter(None, [NAMES.search(Path(path).read_bytes())])}
+        most = max(seen.values(), default=0)
+        few = [number for number in seen if 2 * seen[number] < most]
+        if not few:
+            return ""
+        return ("In cycle %d the top folder of the storage root had %d names when %s began, and at "
+                "most %d when %s did: does each machine see the same storage root there?" % (
+                    cycle, most, ranges(it for it in seen if seen[it] == most),
+                    max(seen[it] for it in few), ranges(few)))
+
+
+def call_join(state: str) -> tuple[int, str]:
+    """Has the program join what can be joined. Another call, or the last moments of a night, are
+    waited for."""
+    until = time.monotonic() + PATIENCE
+    words = [find_program(), "join", "--parts", state + "/parts", "--state", state]
+    status, text = run(words)
+    while status == HELD and time.monotonic() < until:
+        time.sleep(0.5)
+        status, text = run(words)
+    return status, text
+
+
 def join(state: str, cycle: int) -> str:
-    """Joins the reports of the last cycle that all parts have closed, if that is not done. Says
-    what keeps them from it: that a report is not whole, on the night of that cycle alone."""
-    parts = {number: closed(state, number) for number in range(1, count_parts(state) + 1)}
-    last = min(max(it, default=0) for it in parts.values())
-    if last == 0 or find(state + "/reports", "cycle", last):
-        return ""
-    # It counts also if this cycle is not joined: the next one is compared with it.
-    gone = [find(reports_of(state, number), "gone", last) for number in parts]
-    put(b"".join(Path(path).read_bytes() for path in gone if path),
-        "%s/reports/%s" % (state, cycle_name("gone", last)))
-    lacking = [number for number, it in parts.items() if it.get(last) is False]
-    if lacking:
-        return "" if last != cycle else (
-            "The reports of cycle %d are not joined: that of %s is not whole." % (
-                last, ranges(lacking)))
-    status, text = run([find_program(), "join", "--parts", state + "/parts", "--state", state])
-    return text if status == 0 else "The reports of cycle %d are not joined:\n%s" % (last, text)
+    """Joins each cycle that all parts have closed and that is not joined, the oldest first. Says
+    what keeps one from it, and of the cycle that was given out also what its parts say."""
+    parts = Parts(state)
+    cycles = parts.unjoined()
+    for it in parts.skipped(cycles[-1]) if cycles else ():
+        leave(state, "The reports of cycle %d are never joined: a part has no report of it, or no "
+                     "list of what is gone." % it)
+    for it in cycles:
+        parts.list_gone(it)
+    whole = [it for it in cycles if not parts.lacking(it)]
+    status, text = call_join(state) if whole else (0, "")
+    failed = [it for it in whole if not parts.is_joined(it)]
+    said = [text] if status == 0 or whole == cycles else []
+    if failed:
+        said = ["The reports of cycle %s are not joined:\n%s" % (
+            ", ".join(map(str, failed)), text)]
+    if cycle in cycles:
+        said += [parts.not_whole(cycle), parts.other_roots(cycle)]
+    return "\n".join(filter(None, said))
 
 
 def make_room(state: str) -> None:

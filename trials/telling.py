@@ -127,7 +127,8 @@ def a_word_of_a_good_night(folder):
     in_service(nights, 1)
     write(nights.root + "/o/v1/content/b", "")
     status, said = in_service(nights, 2)
-    check("told", (status, "a message about the nights" in said, "repaired" in said), (0, True, True))
+    check("told", (status, "archive: findings repaired" in said, "are repaired" in said),
+          (0, True, True))
     check("silent again", in_service(nights, 3), (0, ""))
 
 

@@ -13,10 +13,13 @@ from . import files
 from .state import is_held
 from .statement import plain
 
-WORDS = {"0": "{}: a message about the nights", "1": "findings in {}",
+WORDS = {"0": "{}: a message of the nights", "1": "findings in {}",
          "75": "{}: another night still runs"}
 NO_TEXT = ("It left no text in its folder, or the text was sent already. If it could not write "
-           "there,\nthe journal has what it said: journalctl -u ocfl-scrub@%s\n")
+           "there,\n%s.\n")
+NO_ROOM = "What it said could not be written into %s: is there room for it?\nElse %s.\n"
+# How many seconds a mail may take. What hangs must not keep the messages of later nights.
+PATIENCE = 300
 
 
 @dataclass
@@ -38,6 +41,7 @@ class Night:
         # The text of this night, and those of earlier ones of which nobody was told.
         own = os.path.join(self.state, "tonight." + self.number)
         self.own = own if self.number and has_text(own) else None
+        self.is_cut = bool(self.number) and is_empty(own)
         unsent = [it for it in self.texts() if it != own]
         self.unsent = [] if is_held(self.state) else unsent
 
@@ -57,29 +61,53 @@ class Night:
         if self.status == "0" and not self.own and not self.unsent:
             return None
         stopped = "{}: the night stopped with status " + self.status
-        return WORDS.get(self.status, stopped).replace("{}", self.shown)
+        words = WORDS.get(self.status, stopped)
+        if self.status == "0" and not self.unsent and b" repaired" in self.said():
+            words = "{}: findings repaired"
+        return words.replace("{}", self.shown)
+
+    def said(self) -> bytes:
+        """What this night and earlier ones left to be sent."""
+        return b"".join(map(files.read, [*self.unsent, *filter(None, [self.own])]))
+
+    def where(self) -> str:
+        """Who has what a night said that left no text."""
+        if "SERVICE_RESULT" in self.given:
+            return "the journal has what it said: journalctl -u ocfl-scrub@" + self.shown
+        return "its standard error has what it said"
 
     def text(self) -> bytes:
-        said = b"".join(map(files.read, self.unsent))
-        if self.own:
-            said += files.read(self.own)
-        elif not self.has_begun:
-            said += ("Nothing was audited. systemctl status ocfl-scrub@%s says why.\n"
-                     % self.shown).encode()
-        elif not said and self.code == "exited":
-            said = (NO_TEXT % self.shown).encode()
+        said = self.said()
+        if not self.own:
+            said += self.why_no_text(bool(said)).encode()
         again = b"" if self.code == "exited" else (
             b"The next night goes on from the last checkpoint.\n")
         return said + again
+
+    def why_no_text(self, is_said: bool) -> str:
+        """What is said of a night without a text. Empty if others are sent, and it ended well."""
+        if self.is_cut and self.code == "exited" and self.status != "0":
+            return NO_ROOM % (plain("", self.state), self.where())
+        if not self.has_begun:
+            return ("Nothing was audited. systemctl status ocfl-scrub@%s says why.\n"
+                    % self.shown)
+        return "" if is_said or self.code != "exited" else NO_TEXT % self.where()
 
     def forget(self) -> None:
         """The text was sent: the last one stays as `tonight`, until another one is sent."""
         for path in [*self.unsent, *filter(None, [self.own])]:
             os.replace(path, os.path.join(self.state, "tonight"))
+        if self.is_cut:
+            os.remove(os.path.join(self.state, "tonight." + self.number))
 
 
 def has_text(path: str) -> bool:
     return not os.path.islink(path) and os.path.isfile(path) and os.path.getsize(path) > 0
+
+
+def is_empty(path: str) -> bool:
+    """Whether the file of a text is there and took nothing."""
+    return not os.path.islink(path) and os.path.isfile(path) and os.path.getsize(path) == 0
 
 
 def send(night: Night) -> int:
@@ -104,6 +132,7 @@ def mail(subject: str, text: bytes, to: str) -> bool:
     # A mail program that ends before it has read all of it must not end this one.
     signal.signal(signal.SIGPIPE, signal.SIG_IGN)
     try:
-        return subprocess.run(["mail", "-s", subject, to], input=text, check=False).returncode == 0
-    except OSError:
+        return subprocess.run(["mail", "-s", subject, to], input=text, check=False,
+                              timeout=PATIENCE).returncode == 0
+    except (OSError, subprocess.TimeoutExpired):
         return False

@@ -1,5 +1,5 @@
 #!/usr/bin/env python3
-"""CPU time of `hash_open` against coreutils, as ratios of paired rounds.
+"""CPU time of `hash_open` against coreutils, each at its best of some rounds.
 
     bench/digests.py [ROUNDS]
 
@@ -7,8 +7,8 @@ Makes a copy of the repository's crates with one program over them in a new fold
 builds it (a few minutes where no earlier check is kept in `out/`), makes the files, and prints a
 table. It needs `rt`, coreutils and 2 GB of disk, and takes the new folder away again. Files are
 read once before the rounds, so that they lie in the page cache. A round times our program and its
-counterpart, one after the other, by the user and system time of the processes; the round with the
-best ratio counts.
+counterpart, one after the other, by the user and system time of the processes; the least time of
+each counts.
 """
 import os
 import pathlib
@@ -56,9 +56,9 @@ def cpu(command):
 
 
 def best(ours, theirs):
-    """The round of the best ratio: what ours took, what theirs took."""
+    """The least that ours took in any round, and the least that theirs did."""
     rounds = [(sum(map(cpu, ours)), sum(map(cpu, theirs))) for _ in range(ROUNDS)]
-    return min(rounds, key=lambda pair: pair[0] / pair[1])
+    return min(pair[0] for pair in rounds), min(pair[1] for pair in rounds)
 
 
 def processor():

@@ -61,7 +61,7 @@ enum Argument<'a> {
 // What help says of each.
 const ROOT: &str = "The folder of the storage root";
 
-const PATH: &str = "A place in it, written as in report lines; . is the root";
+const PATH: &str = "A place in it, as report lines write it or by its real name; . is the root";
 
 const FILE: &str = "The cursor file, or the checkpoint of a state folder";
 
@@ -102,23 +102,24 @@ the budget";
 
 const SLICE: &str = "How much each run reads before the next checkpoint: N as for the budget";
 
-const HOURS: &str = "Begins no run after so many hours: 1 to 24";
+const HOURS: &str = "Begins no run once this many hours have passed: 1 to 24";
 
 const UNTIL: &str = "Begins no run after the clock next shows this time: 00:00 to 23:59";
 
 const END: &str = "Begins no run from this time on, in seconds since 1970-01-01 00:00 UTC";
 
-const KNOWN: &str = "Findings that are known and are not said, a line of a report each";
+const KNOWN: &str = "A file of known findings, which messages leave out: report lines, one a line";
 
-const EXPECTED: &str = "The objects that must be there, a path a line; not with a part";
+const EXPECTED: &str = "A file of the objects that must be there, one path a line; it cannot be \
+used with a part";
 
-const CREATE: &str = "Begins a first cycle where the state folder has no checkpoint";
+const CREATE: &str = "Begins the first cycle if the state folder has no checkpoint";
 
-const FORCE_ROOT: &str = "Takes ROOT for the root of this folder, though it differs from the one \
-of before";
+const FORCE_ROOT: &str = "Goes on even if the declaration of ROOT has changed or most of its names \
+are gone; a root at another path needs a new state folder";
 
-const STOP_AT_FAULTS: &str = "Ends the night at the first place that cannot be read, which is else \
-left out of the cycle, with all below it";
+const STOP_AT_FAULTS: &str = "Ends the night at the first place that cannot be read; without it, a \
+place that fails twice is left out of the cycle, with all below it";
 
 const PART_STATES: &str = "The folder that has the state folders of the parts: part-000001 and so \
 on";

@@ -40,11 +40,11 @@ impl Complaint<'_> {
             ),
             Complaint::Unpaired => String::from_str(
                 alloc,
-                "'--parts <FILE>' and '--part <K>' are given together",
+                "'--parts <FILE>' and '--part <K>' must be used together",
             ),
             Complaint::Both => String::from_str(
                 alloc,
-                "'--under <PLACE>' is not given with '--parts <FILE>' or '--part <K>'",
+                "'--under <PLACE>' cannot be used with '--parts <FILE>' or '--part <K>'",
             ),
             Complaint::Split => String::from_str(
                 alloc,
@@ -53,12 +53,12 @@ impl Complaint<'_> {
             ),
             Complaint::Expected => String::from_str(
                 alloc,
-                "'--expected <FILE>' is not given with '--parts <FILE>': objects are expected of \
-                 a whole storage root",
+                "'--expected <FILE>' cannot be used with '--parts <FILE>': it lists the objects \
+                 of a whole storage root",
             ),
             Complaint::Ends => String::from_str(
                 alloc,
-                "only one of '--hours <H>', '--until <HH:MM>' and '--end <SECONDS>' is given",
+                "only one of '--hours <H>', '--until <HH:MM>' and '--end <SECONDS>' can be used",
             ),
             Complaint::Time { value } => format!(in alloc;
                 "invalid value '{value}' for '--until <HH:MM>': HH:MM is 00:00 to 23:59"

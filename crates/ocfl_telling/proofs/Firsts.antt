@@ -26,7 +26,7 @@ none_behind (Some p) = refl
 
 pub first_shown : (g : Gravest) (ls : List Line) → IsOf g ls
     → or_place (first_place (map line_of g.bytes.lines.items)) (or_place (first_place (map line_of g.objects.lines.items))
-        (or_place (first_place (map line_of g.records.lines.items)) (or_place (first_place (map line_of g.positions.lines.items)) None))) ≡ first_place (gravest ls)
+    (or_place (first_place (map line_of g.records.lines.items)) (or_place (first_place (map line_of g.positions.lines.items)) None))) ≡ first_place (gravest ls)
 first_shown g ls h =
     let A = of_weight Bytes ls in
     let B = of_weight Object ls in

@@ -8,7 +8,7 @@ use Rattle.ocfl_telling.specs.declared.closing.GoneKind.TheVariants.{Object, Und
 use Rattle.ocfl_telling.specs.{declared.closing.Gone.{Gone}, declared.closing.Closing.{Closing}}
 
 abbrev pub not_whole_text : ℕ → Text → Text
-not_whole_text cycle report = codes "Cycle " ++ decimal cycle ++ codes " has ended, and its report is not whole: " ++ escape report ++ codes "\n"
+not_whole_text cycle report = codes "Cycle " ++ decimal cycle ++ codes " ended, but its report is incomplete: " ++ escape report ++ codes "\n"
 
 abbrev pub ended_text : Bool → ℕ → Text → Text
 ended_text whole cycle report = if whole then [] else not_whole_text cycle report
@@ -48,7 +48,7 @@ abbrev pub repaired_head : ℕ → ℕ → ℕ → Text
 repaired_head count cycle before = decimal count ++ codes " finding(s) of cycle " ++ decimal before ++ codes " are repaired in cycle " ++ decimal cycle ++ codes ":\n"
 
 abbrev pub gone_head : ℕ → ℕ → Text
-gone_head count cycle = decimal count ++ codes " object(s) and file(s) are in no report of cycle " ++ decimal cycle ++ codes ":\n"
+gone_head count cycle = decimal count ++ codes " object(s) and file(s) are gone or missing in cycle " ++ decimal cycle ++ codes ":\n"
 
 abbrev pub new_text : Closing → Text
 new_text c = section_text c.appeared_count (new_head c.appeared_count c.cycle c.before) (lines_text (map line_of (take most_shown c.appeared.now)))

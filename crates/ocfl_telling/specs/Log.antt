@@ -47,14 +47,22 @@ left_with r place why = object (counts (codes "cycle") r.cycle (counts (codes "n
     (says (codes "why") why no_members))))))
 
 -- a closing, with the path of its report, and why nothing was compared
-abbrev pub closing_with : ClosingRow → Text → Text → Data
-closing_with r report why = object (counts (codes "compared") r.compared (counts (codes "cycle") r.cycle
+abbrev pub closing_counts : ClosingRow → Members → Members
+closing_counts r rest = counts (codes "compared") r.compared (counts (codes "cycle") r.cycle
     (counts (codes "expected") r.expected (counts (codes "files") r.files (counts (codes "findings") r.findings
     (counts (codes "gone") r.gone (counts (codes "left") r.left (says (codes "list") r.list.now
-    (counts (codes "listed") r.listed (counts (codes "new") r.appeared (counts (codes "night") r.night
-    (counts (codes "objects") r.objects (counts (codes "repaired") r.repaired (says (codes "report") report
-    (says (codes "row") (codes "closing") (counts (codes "time") r.time
-    (member (codes "whole") (boolean r.whole) (says (codes "why") why no_members))))))))))))))))))
+    (counts (codes "listed") r.listed rest))))))))
+
+abbrev pub closing_changed : ClosingRow → Members → Members
+closing_changed r rest = counts (codes "new") r.appeared (counts (codes "night") r.night
+    (counts (codes "objects") r.objects (counts (codes "repaired") r.repaired rest)))
+
+abbrev pub closing_last : ClosingRow → Text → Text → Members
+closing_last r report why = says (codes "report") report (says (codes "row") (codes "closing")
+    (counts (codes "time") r.time (member (codes "whole") (boolean r.whole) (says (codes "why") why no_members))))
+
+abbrev pub closing_with : ClosingRow → Text → Text → Data
+closing_with r report why = object (closing_counts r (closing_changed r (closing_last r report why)))
 
 -- a refusal, with what is said of it
 abbrev pub refusal_with : RefusalRow → Text → Data

@@ -83,7 +83,7 @@ fn not_whole(alloc: Global, cycle: u64, report: &str) -> Result<String, AllocErr
     ensures { IfOk result (λ text. string_bytes text ≡ not_whole_text cycle report.now) }
 {
     let report = Shown(report);
-    format!(in alloc; "Cycle {cycle} has ended, and its report is not whole: {report}\n")
+    format!(in alloc; "Cycle {cycle} ended, but its report is incomplete: {report}\n")
 }
 
 /// That nothing was compared, and why.
@@ -229,7 +229,7 @@ fn repaired_head_of(
 fn gone_head_of(alloc: Global, count: u64, cycle: u64) -> Result<String, AllocError>
     ensures { IfOk result (λ text. string_bytes text ≡ gone_head count cycle) }
 {
-    format!(in alloc; "{count} object(s) and file(s) are in no report of cycle {cycle}:\n")
+    format!(in alloc; "{count} object(s) and file(s) are gone or missing in cycle {cycle}:\n")
 }
 
 /// Appends what is new, and what is repaired.
@@ -246,7 +246,7 @@ fn put_changes(alloc: Global, closing: &Closing<'_>, text: &mut Vec<u8>) -> Resu
     put_findings(alloc, head.as_str(), repaired, closing.earlier, text)
 }
 
-/// What is said of a closed cycle: that its report is not whole, if so; that nothing was compared,
+/// What is said of a closed cycle: that its report is incomplete, if so; that nothing was compared,
 /// if so, and why; then what is new, repaired and gone, the first 20 of each by name, and how many
 /// more. Nothing if there is nothing to say.
 pub fn closing_text(alloc: Global, closing: &Closing<'_>) -> Result<Vec<u8>, AllocError>

@@ -3,14 +3,15 @@
 //!
 //! Each has a member `row`, which says what it is of, and times in seconds since 1970. Paths,
 //! places and the system's words are escaped as in reports, so a line has printable ASCII alone.
-ghost use Rattle.std.specs.Prelude.{◌≡◌, ◌≤◌, false, IfOk, string_bytes};
-ghost use Rattle.serde_json.specs.{Data.{Data, depth}, View.{view}, Written.{has_float}};
-ghost use Rattle.ocfl_telling.specs.Log.{IsJsonLine, stands_text, row_text, row_data, row_with, why_text, slice_with, left_with, closing_with, refusal_with, night_with};
+ghost use Rattle.std.specs.Prelude.{◌≡◌, ◌≤◌, false, IfOk, OnOk, string_bytes};
+ghost use Rattle.serde_json.specs.Data.{Data, depth, no_members};
+ghost use Rattle.serde_json.specs.{View.{members_view, view}, Written.{has_float}};
+ghost use Rattle.ocfl_telling.specs.Log.{IsJsonLine, stands_text, row_text, row_data, row_with, why_text, slice_with, left_with, closing_counts, closing_changed, closing_last, closing_with, refusal_with, night_with};
 
 use crate::shown::Shown;
 use ocfl_report::DisplayPlace;
 use ocfl_tree::Place;
-use serde_json::{Value, json};
+use serde_json::{Map, ToValue, Value, json, put};
 use std::alloc::{AllocError, Global};
 
 /// Where a cursor stands.
@@ -203,6 +204,16 @@ macro_rules! members_of {
     (@ $row:ident $name:ident $value:expr) => { $value };
 }
 
+/// Appends members to those of an object, as `members_of` has them.
+macro_rules! put_members {
+    (in $alloc:expr; $map:ident $row:ident { $($name:ident $(: $value:expr)?),+ }) => {
+        $(
+            let value = members_of!(@ $row $name $($value)?);
+            put($map, $alloc, stringify!($name), ToValue::to_value(value, $alloc)?)?;
+        )+
+    };
+}
+
 /// What the line of a slice says.
 fn slice_value(alloc: Global, row: &SliceRow<'_>, stands: &str) -> Result<Value, AllocError>
     ensures { IfOk result (λ v. view v ≡ slice_with row.now stands.now) }
@@ -217,15 +228,56 @@ fn slice_value(alloc: Global, row: &SliceRow<'_>, stands: &str) -> Result<Value,
 }
 
 /// What the line of a place that is left out says.
-fn left_value(
-    alloc: Global,
-    row: &LeftRow<'_>,
-    place: &str,
-    why: &str,
-) -> Result<Value, AllocError>
+fn left_value(alloc: Global, row: &LeftRow<'_>, place: &str, why: &str) -> Result<Value, AllocError>
     ensures { IfOk result (λ v. view v ≡ left_with row.now place.now why.now) }
 {
     members_of!(in alloc; row { cycle, night, place: place, row: "left", time, why: why })
+}
+
+/// Appends the first members of the line of a closing, by the order of their names.
+fn put_counts(
+    alloc: Global,
+    row: &ClosingRow<'_>,
+    map: &mut Map<String, Value>,
+) -> Result<(), AllocError>
+    requires { members_view map.now.entries ≡ no_members }
+    ensures { OnOk result (members_view map.new.entries ≡ closing_counts row.now no_members) }
+{
+    put_members!(in alloc; map row {
+        compared, cycle, expected, files, findings, gone, left, list, listed
+    });
+    Ok(())
+}
+
+/// Appends those that follow.
+fn put_changed(
+    alloc: Global,
+    row: &ClosingRow<'_>,
+    map: &mut Map<String, Value>,
+) -> Result<(), AllocError>
+    requires { members_view map.now.entries ≡ closing_counts row.now no_members }
+    ensures { OnOk result (members_view map.new.entries
+        ≡ closing_counts row.now (closing_changed row.now no_members)) }
+{
+    put_members!(in alloc; map row { new: row.appeared, night, objects, repaired });
+    Ok(())
+}
+
+/// Appends the last ones.
+fn put_last(
+    alloc: Global,
+    row: &ClosingRow<'_>,
+    report: &str,
+    why: &str,
+    map: &mut Map<String, Value>,
+) -> Result<(), AllocError>
+    requires { members_view map.now.entries
+        ≡ closing_counts row.now (closing_changed row.now no_members) }
+    ensures { OnOk result (members_view map.new.entries ≡ closing_counts row.now
+        (closing_changed row.now (closing_last row.now report.now why.now))) }
+{
+    put_members!(in alloc; map row { report: report, row: "closing", time, whole, why: why });
+    Ok(())
 }
 
 /// What the line of a closing says.
@@ -237,15 +289,11 @@ fn closing_value(
 ) -> Result<Value, AllocError>
     ensures { IfOk result (λ v. view v ≡ closing_with row.now report.now why.now) }
 {
-    members_of!(in alloc; row {
-        compared, cycle, expected, files, findings, gone, left, list, listed,
-        new: row.appeared,
-        night, objects, repaired,
-        report: report,
-        row: "closing",
-        time, whole,
-        why: why
-    })
+    let mut map = Map::new(alloc);
+    put_counts(alloc, row, &mut map)?;
+    put_changed(alloc, row, &mut map)?;
+    put_last(alloc, row, report, why, &mut map)?;
+    Ok(Value::Object(map))
 }
 
 /// What the line of a refusal says.
@@ -268,12 +316,7 @@ fn night_value(alloc: Global, row: &NightRow<'_>, program: &str) -> Result<Value
 }
 
 /// What the line of a row says, with its text and its reason.
-fn row_value(
-    alloc: Global,
-    row: &LogRow<'_>,
-    words: &str,
-    why: &str,
-) -> Result<Value, AllocError>
+fn row_value(alloc: Global, row: &LogRow<'_>, words: &str, why: &str) -> Result<Value, AllocError>
     ensures { IfOk result (λ v. view v ≡ row_with row.now words.now why.now) }
 {
     match row {

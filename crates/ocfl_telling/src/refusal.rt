@@ -65,15 +65,17 @@ fn reason(
              --create."
         ),
         RefusalMessage::HasReports => format!(in alloc;
-            "{state} has reports of earlier nights, and no checkpoint. Put it back, or begin anew \
+            "{state} has reports of earlier nights, and no checkpoint. Put it back, or start over \
              in another folder."
         ),
-        RefusalMessage::NotCheckpoint => format!(in alloc; "{state}/checkpoint is no checkpoint."),
+        RefusalMessage::NotCheckpoint => format!(in alloc;
+            "{state}/checkpoint is not a checkpoint."
+        ),
         RefusalMessage::Version => format!(in alloc; "{state}/checkpoint is of another version."),
         RefusalMessage::Damaged => format!(in alloc; "{state}/checkpoint is damaged."),
         RefusalMessage::Malformed => format!(in alloc; "{state}/checkpoint is malformed."),
         RefusalMessage::OfScripts => format!(in alloc;
-            "{state} is a folder of earlier scripts, with a cursor and a log of nights. Begin anew \
+            "{state} is a folder of earlier scripts, with a cursor and a log of nights. Start over \
              in another folder."
         ),
         RefusalMessage::NoRoot => format!(in alloc;
@@ -88,7 +90,7 @@ fn reason(
             "{root} is not the storage root that the night began with: is its file system mounted?"
         ),
         RefusalMessage::Worn => format!(in alloc;
-            "The number of the cycle in {state} can grow no more."
+            "The number of the cycle in {state} cannot grow any further."
         ),
     }
 }
@@ -104,7 +106,10 @@ fn other_root(
         ≡ other_root_text bound.now root.entry.0.now state.entry.0.now) }
 {
     let bound = Shown(bound);
-    format!(in alloc; "{state} belongs to the storage root {bound}, and this one is {root}.")
+    format!(in alloc;
+        "{state} belongs to the storage root {bound}, and this one is {root}. A root at another \
+         path needs a new state folder."
+    )
 }
 
 /// Of a root whose declaration is another one.
@@ -112,7 +117,9 @@ fn other_declaration(alloc: Global, root: Shown<'_>, state: Shown<'_>) -> Result
     ensures { IfOk result (λ text. string_bytes text
         ≡ other_declaration_text root.entry.0.now state.entry.0.now) }
 {
-    format!(in alloc; "{state}: the declaration of {root} is not the one of before.")
+    format!(in alloc;
+        "{state}: the declaration of {root} is not the one of before. --force-root runs it anyway."
+    )
 }
 
 /// Of a folder that is another part's.
@@ -120,7 +127,10 @@ fn other_part(alloc: Global, root: Shown<'_>, state: Shown<'_>) -> Result<String
     ensures { IfOk result (λ text. string_bytes text
         ≡ other_part_text root.entry.0.now state.entry.0.now) }
 {
-    format!(in alloc; "{state} belongs to another part of {root}, or to all of it.")
+    format!(in alloc;
+        "{state} belongs to another part of {root}, or to all of it. Other parts need new state \
+         folders."
+    )
 }
 
 /// Of a root that lost most of its names.
@@ -130,7 +140,7 @@ fn names_gone(alloc: Global, gone: u64, before: u64, root: Shown<'_>) -> Result<
 {
     format!(in alloc;
         "{gone} of the {before} names in {root} are gone: is its file system mounted? --force-root \
-         runs it all the same."
+         runs it anyway."
     )
 }
 

@@ -4,8 +4,9 @@ use crate::tests::common::store::place_of;
 use ocfl_report::{Line, TextStop, read_line};
 use ocfl_telling::{
     Closing, ClosingRow, Found, Gone, GoneKind, Gravest, Known, KnownEntry, KnownStop, LeftRow,
-    LogRow, Night, NightRow, Reach, RefusalMessage, RefusalRow, SliceRow, Stands, StopMessage,
-    Weight, closing_text, log_line, night_text, read_known, refusal_text, stop_text, weigh,
+    LogRow, Night, NightRow, Quoted, Reach, RefusalMessage, RefusalRow, SliceRow, Stands,
+    StopMessage, Weight, closing_text, log_line, night_text, read_known, refusal_text, stop_text,
+    weigh,
 };
 use ocfl_tree::Place;
 use std::alloc::Global;
@@ -61,7 +62,6 @@ E092\tb/v1/content/f\tsha512 00 11
 E092\td\tmd5 missing
 E060\tc\tsha512
 E072\ta\t-
-To look at one again: ocfl-scrub check /srv/%C3%A9%0A PATH, with the path as shown above.
 ";
 
 #[test]
@@ -73,6 +73,68 @@ fn nights_say_what_is_gravest_first(rt: HostRuntime) -> Result<(), Fail> {
         assert_eq!(rt; found.count(), 4, "{piece}");
         let text = String::from_utf8(night_text(alloc, &NIGHT, &found)?)?;
         assert_eq!(rt; text.as_str(), MESSAGE, "{piece}");
+    }
+    Ok(())
+}
+
+/// A storage root, the path of a place in reports, and the words of the command to look at it.
+const COMMANDS: [(&str, &str, &str); 9] = [
+    ("/srv/ocfl", "a/f.txt", "'/srv/ocfl' 'a/f.txt'"),
+    ("/srv/ocfl", ".", "'/srv/ocfl' '.'"),
+    (
+        "/srv/it's",
+        "a;b$(touch ran).txt",
+        "'/srv/it'\\''s' 'a;b$(touch ran).txt'",
+    ),
+    (
+        "/srv/ocfl",
+        "it's 'so'",
+        "'/srv/ocfl' 'it'\\''s '\\''so'\\'''",
+    ),
+    (
+        "/srv/\u{e9}",
+        "Brief an M%C3%BCller.pdf",
+        "'/srv/\u{e9}' 'Brief an M\u{fc}ller.pdf'",
+    ),
+    // A path of a report is read as that: the name `a%25b` is not the one of `a%b`.
+    ("/srv/ocfl", "a%25b", "'/srv/ocfl' 'a%25b'"),
+    ("/srv/ocfl", "a%0A'b", "'/srv/ocfl' 'a%0A'\\''b'"),
+    ("/srv/ocfl", "a%C2%9B2J", "'/srv/ocfl' 'a%C2%9B2J'"),
+    ("/srv/ocfl", "-r/f", "-- '/srv/ocfl' '-r/f'"),
+];
+
+#[test]
+fn nights_show_a_command_to_paste(rt: HostRuntime) -> Result<(), Fail> {
+    let alloc = rt.alloc();
+    let known = Known::new(alloc);
+    for (root, path, words) in COMMANDS {
+        let report = format!(in alloc; "E072\t{path}\t-\n")?;
+        let found = found_in(alloc, &known, report.as_str(), 1000)?;
+        let night = Night { root, ..NIGHT };
+        let text = String::from_utf8(night_text(alloc, &night, &found)?)?;
+        let wanted = format!(in alloc;
+            "\nTo check one of them again, for example the first: ocfl-scrub check {words}\n"
+        )?;
+        assert!(rt; text.as_str().ends_with(wanted.as_str()), "{path}");
+    }
+    Ok(())
+}
+
+/// A text, and as a word of a command line.
+const QUOTED: [(&str, &str); 6] = [
+    ("", "''"),
+    ("a b", "'a b'"),
+    ("'", "''\\'''"),
+    ("$(ran)`ran`;\\", "'$(ran)`ran`;\\'"),
+    ("100% \u{fc}", "'100% \u{fc}'"),
+    ("\u{fc}%\u{1b}[2J'", "'%C3%BC%25%1B[2J'\\'''"),
+];
+
+#[test]
+fn texts_are_quoted(rt: HostRuntime) -> Result<(), Fail> {
+    for (text, word) in QUOTED {
+        let quoted = format!(in rt.alloc(); "{}", Quoted(text))?;
+        assert_eq!(rt; quoted.as_str(), word, "{text}");
     }
     Ok(())
 }
@@ -101,9 +163,7 @@ fn nights_show_twenty(rt: HostRuntime) -> Result<(), Fail> {
         let text = String::from_utf8(night_text(alloc, &part, &found)?)?;
         let shown = many(alloc, "E072", 20)?;
         let wanted = format!(in alloc;
-            "{count} finding(s) tonight in part 7 of /srv/%C3%A9%0A, cycle 2, run 4:\n{shown}{more}\
-             To look at one again: ocfl-scrub check /srv/%C3%A9%0A PATH, with the path as shown \
-             above.\n"
+            "{count} finding(s) tonight in part 7 of /srv/%C3%A9%0A, cycle 2, run 4:\n{shown}{more}"
         )?;
         assert_eq!(rt; text.as_str(), wanted.as_str(), "{count}");
     }
@@ -228,12 +288,19 @@ fn refusals_say_why(rt: HostRuntime) -> Result<(), Fail> {
         ),
         (
             RefusalMessage::OtherRoot("/srv/\u{1b}[2J"),
-            "S belongs to the storage root /srv/%1B[2J, and this one is R. Nothing was run.\n",
+            "S belongs to the storage root /srv/%1B[2J, and this one is R. A root at another path \
+             needs a new state folder. Nothing was run.\n",
         ),
         (
             RefusalMessage::NamesGone { gone: 3, before: 5 },
-            "3 of the 5 names in R are gone: is its file system mounted? --force-root runs it all \
-             the same. Nothing was run.\n",
+            "3 of the 5 names in R are gone: is its file system mounted? --force-root runs it \
+             anyway. Nothing was run.\n",
+        ),
+        (
+            RefusalMessage::Older { cycle: 7 },
+            "S/checkpoint is older than S/reports, where cycle 7 is closed already: put back the \
+             newest checkpoint, or move the reports from that cycle on to another folder. Nothing \
+             was run.\n",
         ),
         (
             RefusalMessage::RootChanged,
@@ -284,6 +351,7 @@ fn quiet<'a>() -> Closing<'a> {
     Closing {
         cycle: 3,
         before: 2,
+        uncompared: "",
         whole: true,
         report: "reports/cycle-000003",
         earlier: "reports/cycle-000002",
@@ -297,15 +365,17 @@ fn quiet<'a>() -> Closing<'a> {
     }
 }
 
-const CLOSED: &str = "Cycle 3 has ended, and its report is not whole: reports/cycle-000003
+const CLOSED: &str = "Cycle 3 ended, but its report is incomplete: reports/cycle-000003
 1 finding(s) of cycle 3 are new since cycle 2:
 E092\ta\tx
 22 finding(s) of cycle 2 are repaired in cycle 3:
 E072\tb\t-
 and 21 more, in reports/cycle-000002
-2 object(s) and file(s) are in no report of cycle 3:
+4 object(s) and file(s) are gone or missing in cycle 3:
 object\to
-file\to/v1/content/f
+undeclared\tp
+file\tq/v1/content/f
+expected\tr
 ";
 
 #[test]
@@ -317,7 +387,12 @@ fn closings_say_what_changed(rt: HostRuntime) -> Result<(), Fail> {
     let mut repaired = Vec::new(alloc);
     repaired.push(line_of(alloc, "E072\tb\t-\n")?)?;
     let mut gone = Vec::new(alloc);
-    for (kind, path) in [(GoneKind::Object, "o"), (GoneKind::File, "o/v1/content/f")] {
+    for (kind, path) in [
+        (GoneKind::Object, "o"),
+        (GoneKind::Undeclared, "p"),
+        (GoneKind::File, "q/v1/content/f"),
+        (GoneKind::Expected, "r"),
+    ] {
         let place = place_of(alloc, path)?;
         gone.push(Gone { kind, place })?;
     }
@@ -328,11 +403,28 @@ fn closings_say_what_changed(rt: HostRuntime) -> Result<(), Fail> {
         repaired: repaired.as_slice(),
         repaired_count: 22,
         gone: gone.as_slice(),
-        gone_count: 2,
+        gone_count: 4,
         ..quiet()
     };
     let text = String::from_utf8(closing_text(alloc, &closing)?)?;
     assert_eq!(rt; text.as_str(), CLOSED);
+    Ok(())
+}
+
+#[test]
+fn closings_say_why_nothing_was_compared(rt: HostRuntime) -> Result<(), Fail> {
+    let alloc = rt.alloc();
+    let closing = Closing {
+        whole: false,
+        uncompared: "/s/reports/cycle-000002\nis gone",
+        ..quiet()
+    };
+    let text = String::from_utf8(closing_text(alloc, &closing)?)?;
+    assert_eq!(rt;
+        text.as_str(),
+        "Cycle 3 ended, but its report is incomplete: reports/cycle-000003\nWhat is new or gone \
+         since the last report is not known: /s/reports/cycle-000002%0Ais gone\n"
+    );
     Ok(())
 }
 
@@ -361,6 +453,7 @@ fn left_row(place: &Place) -> LogRow<'_> {
         night: 2,
         cycle: 3,
         place,
+        why: "Permission\tdenied",
     })
 }
 
@@ -371,9 +464,16 @@ const CLOSING_ROW: ClosingRow<'static> = ClosingRow {
     report: "/s/\u{9b}",
     whole: true,
     findings: 4,
+    compared: 2,
+    why: "\u{9b}",
     appeared: 5,
     repaired: 6,
-    gone: 7,
+    gone: 33,
+    objects: 10,
+    files: 11,
+    expected: 12,
+    listed: 13,
+    list: "0a",
     left: 8,
 };
 
@@ -419,10 +519,13 @@ const SLICE: &str =
 \"row\":\"slice\",\"run\":2,\"seconds\":9,\"spent\":5,\"stands\":\"after a\\\"\\\\/%0A\",\
 \"status\":3,\"time\":1700000001}\n";
 
-const LEFT: &str = "{\"cycle\":3,\"night\":2,\"place\":\"a/b%0A\",\"row\":\"left\",\"time\":1}\n";
+const LEFT: &str = "{\"cycle\":3,\"night\":2,\"place\":\"a/b%0A\",\"row\":\"left\",\"time\":1,\
+\"why\":\"Permission%09denied\"}\n";
 
-const CLOSING: &str = "{\"cycle\":3,\"findings\":4,\"gone\":7,\"left\":8,\"new\":5,\"night\":2,\
-\"repaired\":6,\"report\":\"/s/%C2%9B\",\"row\":\"closing\",\"time\":1,\"whole\":true}\n";
+const CLOSING: &str = "{\"compared\":2,\"cycle\":3,\"expected\":12,\"files\":11,\"findings\":4,\
+\"gone\":33,\"left\":8,\"list\":\"0a\",\"listed\":13,\"new\":5,\"night\":2,\"objects\":10,\
+\"repaired\":6,\"report\":\"/s/%C2%9B\",\"row\":\"closing\",\"time\":1,\"whole\":true,\
+\"why\":\"%C2%9B\"}\n";
 
 const REFUSAL: &str =
     "{\"night\":2,\"row\":\"refusal\",\"said\":\"no%09one\",\"status\":75,\"time\":1}\n";
@@ -431,9 +534,10 @@ const NIGHT_LINE: &str = "{\"cost\":18446744073709551615,\"findings\":5,\"left\"
 \"program\":\"0f\",\"row\":\"night\",\"runs\":3,\"seconds\":4,\"status\":0,\"time\":1}\n";
 
 /// A list, and how many entries it has.
-const LISTS: [(&str, usize); 8] = [
+const LISTS: [(&str, usize); 9] = [
     ("", 0),
     ("# a remark\n\n#\n", 0),
+    ("object\ta\nundeclared\tb\nfile\tc/f\nexpected\td\n", 0),
     ("E092\ta/b\tsha512 00 11\n", 1),
     ("E092\ta/b\n", 1),
     ("E072\ta/\n", 1),

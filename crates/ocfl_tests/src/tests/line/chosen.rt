@@ -110,9 +110,9 @@ fn refuses_half_a_part(rt: HostRuntime) -> Result<(), Fail> {
             "run [OPTIONS] --cursor <FILE> --budget <N> <ROOT>"
         };
         let why = if line.contains("--under") {
-            "'--under <PLACE>' is not given with '--parts <FILE>' or '--part <K>'"
+            "'--under <PLACE>' cannot be used with '--parts <FILE>' or '--part <K>'"
         } else {
-            "'--parts <FILE>' and '--part <K>' are given together"
+            "'--parts <FILE>' and '--part <K>' must be used together"
         };
         let wanted = format!(in rt.alloc();
             "error: {why}\n\nUsage: ocfl-scrub {usage}\n\nFor more information, try '--help'.\n"

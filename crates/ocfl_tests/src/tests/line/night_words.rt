@@ -238,19 +238,19 @@ fn refuses_words_that_a_night_does_not_take(rt: HostRuntime) {
 const COMPLAINTS: &[(&str, &str)] = &[
     (
         "--hours 1 --until 06:00",
-        "only one of '--hours <H>', '--until <HH:MM>' and '--end <SECONDS>' is given",
+        "only one of '--hours <H>', '--until <HH:MM>' and '--end <SECONDS>' can be used",
     ),
     (
         "--hours 1 --end 5",
-        "only one of '--hours <H>', '--until <HH:MM>' and '--end <SECONDS>' is given",
+        "only one of '--hours <H>', '--until <HH:MM>' and '--end <SECONDS>' can be used",
     ),
     (
         "--until 06:00 --end 5",
-        "only one of '--hours <H>', '--until <HH:MM>' and '--end <SECONDS>' is given",
+        "only one of '--hours <H>', '--until <HH:MM>' and '--end <SECONDS>' can be used",
     ),
     (
         "--hours 1 --until 24:00 --end 5",
-        "only one of '--hours <H>', '--until <HH:MM>' and '--end <SECONDS>' is given",
+        "only one of '--hours <H>', '--until <HH:MM>' and '--end <SECONDS>' can be used",
     ),
     (
         "--until 24:00",
@@ -262,15 +262,15 @@ const COMPLAINTS: &[(&str, &str)] = &[
     ),
     (
         "--parts F",
-        "'--parts <FILE>' and '--part <K>' are given together",
+        "'--parts <FILE>' and '--part <K>' must be used together",
     ),
     (
         "--part 1",
-        "'--parts <FILE>' and '--part <K>' are given together",
+        "'--parts <FILE>' and '--part <K>' must be used together",
     ),
     (
         "--parts F --part 1 --expected E",
-        "'--expected <FILE>' is not given with '--parts <FILE>': objects are expected of a whole \
+        "'--expected <FILE>' cannot be used with '--parts <FILE>': it lists the objects of a whole \
          storage root",
     ),
 ];

@@ -5,7 +5,7 @@ import os
 import tempfile
 import unittest
 
-from gate import definitions, lists
+from gate import definitions, lists, tried
 
 USES = """\
 ghost use Rattle.ocfl_tree.specs.Place.{Place, Text};
@@ -104,3 +104,10 @@ class Contracts(unittest.TestCase):
         self.assertEqual(lists.contracts_of(table), [
             ("ocfl_night", "laws", "nights_are_sound"), ("ocfl_scrub", "cycling", "cycle"),
             ("ocfl_tree", "tree", None)])
+
+
+class Unchanged(unittest.TestCase):
+    def test_definitions_that_no_edit_changes(self) -> None:
+        left = dict(tried.unchanged("ocfl_tree", {("specs/Place.antt", "Place")}))
+        self.assertIn("Text", left["Place"])
+        self.assertNotIn("Place", left["Place"])

@@ -19,7 +19,7 @@ OWN = b"\0"
 
 def escaped(path: str) -> bytes:
     """A path as the program shows it."""
-    return re.sub(rb"[^ -$&-~]", lambda it: b"%%%02X" % it[0], os.fsencode(path))
+    return re.sub(rb"[^ -$&-~]", lambda it: b"%%%02X" % ord(it[0]), os.fsencode(path))
 
 
 def once(lines: list[bytes]) -> list[bytes]:
@@ -91,7 +91,7 @@ class Notes:
             own = part(numbers[0]) if len(set(numbers)) == 1 else "part-*"
             said.append(b"" if numbers[0] == 0 else b"In %s:\n" % ranges(set(numbers)).encode())
             said.append(text.replace(OWN, escaped(self.state + "/" + own)))
-        said += [b"%s is no note of a part, and was passed over: remove it.\n" % escaped(it)
+        said += [b"%s is not a note of a part, and was passed over: remove it.\n" % escaped(it)
                  for it in self.strange]
         return b"".join(said)
 

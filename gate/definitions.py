@@ -17,7 +17,8 @@ Named = tuple[str, str, str]
 # What a source or a definition takes from the definitions of a crate of this repository.
 USE = re.compile(r"(?m)^ *(?:ghost )?(?:pub )?use Rattle\.(ocfl_\w+)\.specs\.(.*?);?$")
 # Where a definition begins: other lines at a line's start are equations of the last one.
-BEGIN = re.compile(r"(?:pub )?(?:(?:abbrev|unfoldable|record|data) )(?:pub )?(\S+)|(?:pub )?(\S+) :")
+BEGIN = re.compile(r"(?:pub )?(?:(?:abbrev|unfoldable|record|data) )(?:pub )?(\S+)"
+                   r"|(?:pub )?(\S+) :")
 # A trait or a type of a source, up to its end.
 BLOCK = r"(?m)^(?:pub )?(?:trait|struct|enum) %s\b[^\n]*?(?:;$|\n(?:.*\n)*?\}$)"
 # A function of a source, up to its body or its end.

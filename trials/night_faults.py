@@ -20,6 +20,8 @@ Tried, and what comes of it:
   file's size; a full or missing folder for temporary files; the state folder read-only, removed
   or moved under a night: status 3; then the next nights close a report that is the audit, byte
   for byte, and each finding is said; nothing is made anew in silence. It mounts for that.
+- A folder that cannot be listed, with `--stop-at-faults`: status 3, nothing is left out and no
+  report is closed; the cycle goes on once the folder can be read.
 - Two nights at once: status 75, and nothing is changed.
 - A night that gets SIGTERM, SIGINT or SIGHUP: it ends as by a kill, and the next one goes on.
 
@@ -33,6 +35,7 @@ Seen to fail on these faults, each planted alone:
 - A failing output is taken for one that took all; a failing standard error stops a night; what is
   said goes through a temporary file.
 - A signal ends a night with status 3.
+- `--stop-at-faults` does nothing.
 """
 import os
 import resource
@@ -331,8 +334,27 @@ def killed_as_a_group(folder: str) -> None:
         check(number.name + ": then", audited.faults_after(nights, out), [])
 
 
-PARTS = [each_call, going_on, for_ever, no_locks, full_output, no_streams, full_error, removed,
-         two_at_once, killed_as_a_group, limited_size]
+def stop_at_faults(folder: str) -> None:
+    """With `--stop-at-faults` a night ends at a place that cannot be read and leaves nothing out.
+    Its cycle stays open, and goes on once the place can be read."""
+    objects = {place: {"v1/content/a": b"abc"} for place in ["a", "m", "z"]}
+    root = common.make_root(folder + "/root", objects)
+    os.mkdir(root + "/k")
+    common.write(os.fsdecode(os.fsencode(root + "/k/") + b"\xff"), b"")
+    nights = Nights(folder + "/state", root)
+    words = [*PLAN, "--stop-at-faults"]
+    for name in ["first", "second"]:
+        status, out, note = nights.night(*words)
+        check("the %s night" % name, (status, "stopped at k" in note, "left out" in out + note,
+                                      nights.closed()), (3, True, False, []))
+    check("nothing is left out", "left 0\n" in nights.shown(), True)
+    shutil.rmtree(root + "/k")
+    status, _, note = nights.night(*words)
+    check("then it goes on", (status, note, nights.whole(1)), (0, "", Audited(root).report))
+
+
+PARTS = [each_call, stop_at_faults, going_on, for_ever, no_locks, full_output, no_streams,
+         full_error, removed, two_at_once, killed_as_a_group, limited_size]
 MOUNTING = [output_for_a_part, full_state, full_tmp, read_only]
 
 

@@ -39,8 +39,6 @@ Tried, and what comes of it:
 - Folders with such names that cannot be listed: status 3, they are named as left out, all else is
   in a report that is incomplete; the next cycle is the audit, and other parts go on. Of parts:
   `night_parts.py`.
-- The same with `--stop-at-faults`: status 3, nothing is left out and no report is closed; the
-  cycle goes on once the folder can be read.
 
 Seen to fail on these faults, each planted alone:
 
@@ -57,7 +55,6 @@ Seen to fail on these faults, each planted alone:
 - A report that cannot be read, or all before a missing one, are left out of comparisons; an
   incomplete report is called whole.
 - Copies are removed.
-- `--stop-at-faults` does nothing.
 """
 import os
 import re
@@ -535,26 +532,6 @@ def names_that_are_left_out(folder: str) -> None:
         check("then", nights.whole(2), audited.report)
 
 
-def stop_at_faults(folder: str) -> None:
-    """With `--stop-at-faults` a night ends at a place that cannot be read and leaves nothing out.
-    Its cycle stays open, and goes on once the place can be read."""
-    objects = {place: {"v1/content/a": b"abc"} for place in ["a", "m", "z"]}
-    root = common.make_root(folder + "/root", objects)
-    os.mkdir(root + "/k")
-    common.write(os.fsdecode(os.fsencode(root + "/k/") + b"\xff"), b"")
-    nights = Nights(folder + "/state", root)
-    words = [*PLAN, "--stop-at-faults"]
-    for name in ["first", "second"]:
-        status, out, note = nights.night(*words)
-        check("the %s night" % name, (status, "stopped at k" in note, "left out" in out + note,
-                                      nights.closed()), (3, True, False, []))
-    shown = nights.shown()
-    check("nothing is left out", "left 0\n" in shown, True)
-    shutil.rmtree(root + "/k")
-    status, _, note = nights.night(*words)
-    check("then it goes on", (status, note, nights.whole(1)), (0, "", Audited(root).report))
-
-
 # A night that is asked to stop
 
 def stop_file(folder: str) -> None:
@@ -598,7 +575,7 @@ def cut_and_refused(folder: str) -> None:
 PARTS = [no_storage_root, another_root, names_that_are_gone, link_that_moves, exchanged,
          folder_of_scripts, no_checkpoint, changed_checkpoint, shorter_report, changed_report, longer_report,
          links_in_the_folder, rights, copies_beside, odd_folders, odd_names,
-         names_that_are_left_out, stop_at_faults, stop_file, cut_and_refused]
+         names_that_are_left_out, stop_file, cut_and_refused]
 MOUNTING = [unmounted, mounted_anew, not_mounted, unmounted_state]
 OF_ROOT = [files_of_another]
 

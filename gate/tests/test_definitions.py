@@ -66,8 +66,8 @@ class Definitions(unittest.TestCase):
         self.assertEqual(definitions.uses(USES), {
             "Place": ("ocfl_tree", "Place", "Place"), "Text": ("ocfl_tree", "Place", "Text"),
             "Content": ("ocfl_state", "Content", "Content"),
-            "Tail": ("ocfl_state", "Pieces", "HasTail"), "one": ("ocfl_state", "Pieces.Deep", "one"),
-            "two": ("ocfl_state", "Pieces.Deep", "two"), "IsName": ("ocfl_tree", "Name", "IsName")})
+            "Tail": ("ocfl_state", "Pieces", "HasTail"),
+            "one": ("ocfl_state", "Pieces.Deep", "one"), "two": ("ocfl_state", "Pieces.Deep", "two"), "IsName": ("ocfl_tree", "Name", "IsName")})
 
     def test_contracts_of_functions_traits_and_types(self) -> None:
         with tempfile.TemporaryDirectory() as folder:

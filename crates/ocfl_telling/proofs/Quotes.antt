@@ -1,5 +1,5 @@
 -- Texts within single quotes.
-use Rattle.std.proofs.Common.{◌≡◌, ◌≢◌, ℕ, ◌<◌, ◌==◌, suc, false, List, [], ◌∷◌, ◌++◌, length, get_or, refl, sym, ap, ◌∙◌, append_assoc, arith}
+use Rattle.std.proofs.Common.{◌≡◌, ◌≢◌, ℕ, ◌<◌, ◌==◌, suc, false, [], ◌∷◌, ◌++◌, length, get_or, refl, sym, ap, ◌∙◌, append_assoc, arith}
 use Rattle.std.proofs.{lemmas.Bool.Decides.{nat_tests}, lemmas.Grind.{flat_map-append}}
 use Rattle.std.specs.Prelude.{flat_map}
 use Rattle.ocfl_tree.specs.Place.{Text}

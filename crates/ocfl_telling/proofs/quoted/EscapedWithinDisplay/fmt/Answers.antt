@@ -1,5 +1,5 @@
-use Rattle.std.proofs.Common.{[], ◌++◌, ◌≡◌, refl, sym, ap, ◌∙◌, append_assoc, append-nil, rules}
-use Rattle.std.proofs.{Output.{has_written_append, has_written_of_eq}, lemmas.Grind.{flat_map-append}}
+use Rattle.std.proofs.Common.{[], ◌++◌, ◌≡◌, refl, sym, ap, ◌∙◌, append_assoc, rules}
+use Rattle.std.proofs.{Output.{has_written_append}, lemmas.Grind.{flat_map-append}}
 use Rattle.std.specs.Prelude.{flat_map}
 use Rattle.percent_encoding.specs.Iter.{encoded_text}
 use Rattle.ocfl_report.specs.Text.{escape}

@@ -19,7 +19,7 @@ why_text Memory state = codes "out of memory"
 -- what the next night does
 abbrev pub next_text : StopMessage → Text
 next_text (At place) = codes ". The next one tries that place again.\n"
-next_text _ = codes ". The next one goes on from the checkpoint.\n"
+next_text _ = codes ". The next one continues from the checkpoint.\n"
 
 abbrev pub stop_text : StopMessage → Option Text → Option ℕ → Text → Text → Text
 stop_text stop words part root state = codes "The night of " ++ whose_text part root ++ codes " stopped: " ++ why_text stop state ++ brackets_text words ++ next_text stop

@@ -71,7 +71,7 @@ fn next(stop: StopMessage<'_>) -> &'static str
     match stop {
         StopMessage::At(_) => ". The next one tries that place again.\n",
         StopMessage::Output | StopMessage::State | StopMessage::Memory => {
-            ". The next one goes on from the checkpoint.\n"
+            ". The next one continues from the checkpoint.\n"
         }
     }
 }

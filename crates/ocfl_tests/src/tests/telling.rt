@@ -331,13 +331,13 @@ fn stops_say_why(rt: HostRuntime) -> Result<(), Fail> {
             Some("No space left on device"),
             Some(2),
             "The night of part 2 of R stopped: S failed (No space left on device). The next one \
-             goes on from the checkpoint.\n",
+             continues from the checkpoint.\n",
         ),
         (
             StopMessage::Memory,
             None,
             None,
-            "The night of R stopped: out of memory. The next one goes on from the checkpoint.\n",
+            "The night of R stopped: out of memory. The next one continues from the checkpoint.\n",
         ),
     ] {
         let text = stop_text(alloc, stop, words, part, "R", "S")?;

@@ -875,7 +875,8 @@ class Telling(Asked):
         os.symlink(self.put(b"secret\n", "secret"), made.path + "/tonight.link")
         given = {"INVOCATION_ID": "c", "EXIT_STATUS": "0"}
         self.assertEqual(self.run_tell(made, **given), (0, "", "ocfl-scrub: archive: a message "
-                         "about the nights\ntext of tonight.b\ntext of tonight.a\ntext of tonight.c\n"))
+                         "about the nights\ntext of tonight.b\ntext of tonight.a\n"
+                         "text of tonight.c\n"))
         self.assertEqual(sorted(it for it in os.listdir(made.path) if it.startswith("ton")),
                          ["tonight", "tonight.d.new", "tonight.link"])
         self.assertEqual(self.run_tell(made, **given), (0, "", ""))

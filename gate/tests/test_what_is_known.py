@@ -1,5 +1,5 @@
-"""Tests what `nights/ocfl_scrub_reports` says where nothing was compared, where a report was changed,
-and where a clock was wrong: that it is not known, and why."""
+"""Tests what `nights/ocfl_scrub_reports` says where nothing was compared, where a report was
+changed, and where a clock was wrong: that it is not known, and why."""
 import hashlib
 import json
 import os
@@ -72,8 +72,8 @@ class NotCompared(Told):
                    Files_gone="not known", New_findings="not known",
                    Objects_gone_and_not_back="not known", Files_gone_and_not_back="not known")
         given, out = self.status()
-        self.assertEqual((given, "; what is gone is not known: %s;" % WHY in out, " gone=U;" in out),
-                         (1, True, True), out)
+        self.assertEqual((given, "; what is gone is not known: %s;" % WHY in out,
+                          " gone=U;" in out), (1, True, True), out)
         self.assertIn("<td>not known: %s</td>" % WHY, self.ask("page", *NOW, self.made.path)[1])
         events = self.ask("premis", self.made.path, 2)[1]
         self.assertIn("; what is gone is not known: %s<" % WHY, events)
@@ -477,8 +477,9 @@ class Verified(Told):
         with open(self.path_of(2)) as file:
             text = file.read()
         os.remove(self.path_of(2) + ".json")
-        for old, new in [("Objects gone: 1", "Objects gone: 0"), ("Objects gone: 1", "Objects gone: "
-                         "not known"), ("New findings: 1", "New findings: 0"),
+        for old, new in [("Objects gone: 1", "Objects gone: 0"),
+                         ("Objects gone: 1", "Objects gone: not known"),
+                         ("New findings: 1", "New findings: 0"),
                          ("Former findings: 1", "Former findings: 0")]:
             self.made.put("reports/statement-000002", text.replace(old, new, 1).encode())
             self.assertEqual(self.ask("verify", self.path_of(2))[0], 1, new)

@@ -44,8 +44,8 @@ class Line(NamedTuple):
 
 
 class Mark(NamedTuple):
-    """What a checkpoint has of a report (docs/RULES.md, "Checkpoint text"): its bytes and lines, the
-    digest that chains its whole pieces of 4 MiB, and that of what follows them."""
+    """What a checkpoint has of a report (docs/RULES.md, "Checkpoint text"): its bytes and lines,
+    the digest that chains its whole pieces of 4 MiB, and that of what follows them."""
     bytes: int
     lines: int
     pieces: str

@@ -51,7 +51,7 @@ pub struct NightAsked {
     pub expected: Option<String>,
     /// Whether a state folder without a checkpoint is begun in.
     pub create: bool,
-    /// Whether another storage root than the one before is taken.
+    /// Whether it goes on though the root's declaration has changed or most of its names are gone.
     pub force_root: bool,
     /// Whether it ends at a place that cannot be read, and leaves no branch out.
     pub stop_at_faults: bool,

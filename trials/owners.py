@@ -92,9 +92,10 @@ def writing(folder):
     check("a statement as root", (other.asks("statement", state, "1")[0], os.stat(
         other.nights.path("reports/statement-000001")).st_uid), (0, NOBODY))
     before = common.snapshot(state)
-    for words in [["--state", state, root], ["--for-tell", "--state", state, root]]:
+    for words in [["--state", state, root], ["--for-tell", "--state", state, root],
+                  ["--create", "--state", state + "/first", root]]:
         status, out, said = other.calls("nightly", *words)
-        check("a night as root", (status, out, "is another user's" in said), (3, "", True))
+        check("a night as root", (status, out, "belongs to another user" in said), (3, "", True))
     check("nothing in the folder has changed", common.snapshot(state) == before, True)
     check("all of it is the user's", other.owners(), {NOBODY})
     for name in ["checkpoint.new", "log", "report", "tonight"]:

@@ -13,6 +13,13 @@ Tried, and what comes of it:
   cycle is the audit.
 - Cycles that are not joined: damage, its repair, a loss and its return: `status` has each once,
   as the last cycle has it; before, damage counted once a cycle and losses were forgotten.
+- A cycle that no `end` joined: it is joined and stated with the next one, and what was lost in it
+  is gone until it is back. Before, it had no report, no statement and no list.
+- A part that is killed between the closing of its cycle and its list of what is gone: nothing is
+  joined before that list is there. Before, the list of all lacked it for ever.
+- `begin` that is killed, or has no room: status 3, and why. Before: status 0, without a word.
+- Other parts than the folder has: status 2. Closed outputs: no file has the message, and the next
+  `end` says it. A part that saw a root of far fewer names: it is named.
 - A part that is killed at each renaming of its night: it is given out again until its cycle is
   closed, and the cycle is joined; before, a part killed while it closed its cycle was never given
   out again.

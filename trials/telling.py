@@ -13,6 +13,11 @@ Tried, and what comes of it. Each row was seen to fail on scripts that lacked it
 - The text of a night that is under way: what tells of another night leaves it.
 - A text that was sent: nothing sends it again, and no journal is named that has nothing.
 - A night that systemd could not begin: told.
+- Two nights with one ID: both are sent. Before, the second one was not run.
+- A disk without room for the text: the night says so to its own standard error, and the message
+  too. Before, no reason was anywhere.
+- The line for cron: its mail has the root and the result in its subject.
+- Outputs that are closed: no file of the folder has what was written to them.
 - Names with line feeds, control bytes and backslashes: they make no header, no line and no
   control byte.
 - The command at the end of a message, pasted into a shell, for names with quotes, `$(..)`, spaces,
@@ -308,32 +313,95 @@ def of_a_user(folder):
         "%h/.local/state/ocfl-scrub/%i"])
 
 
-# Names that mean something to a shell, or that reports escape.
-NAMES = ["a;b$(touch ran).txt", "it's `touch ran`.txt", "it's & 'it'", "Brief an M\u00fcller.pdf",
-         "interview 3.wav", "#hash&amp;.txt", "100% fertig.txt", "a%25b", "line\nfeed\ttab",
-         "\033[2J\u009b", "*?", "a\\nb", "!x"]
+def one_session(folder):
+    """Two nights by hand in one session of a user's service manager, which have one ID: both leave
+    their texts, and both are sent."""
+    nights = Nights(folder + "/state", make_root(folder + "/root"))
+    os.makedirs(nights.state)
+    write(nights.root + "/o/v1/content/b", "b")
+    check("the first", night_alone(nights, 1), 1)
+    write(nights.root + "/o/v1/content/b", "")
+    check("the second", nights.night("--for-tell", INVOCATION_ID="night1"), (0, "", ""))
+    said = run_tell(nights, 1, 0)
+    check("both are sent", (said[0], said[1].count(WRONG_B) > 0, " repaired" in said[1]), (0, True, True))
+    check("once", run_tell(nights, 1, 0), (0, ""))
 
 
-def pasted(folder):
-    """The command at the end of a night's message can be pasted, whatever root and file are called:
-    it looks at that file, and runs nothing else."""
-    os.makedirs(folder + "/bin")
-    os.symlink(os.path.abspath(PROGRAM), folder + "/bin/ocfl-scrub")
-    path = folder + "/bin:" + os.environ["PATH"]
-    for number, name in enumerate(NAMES):
-        root = "%s/a root; it's $(touch ran) %d" % (folder, number)
-        common.make_root(root, {"o": {"v1/content/" + name: b"abc"}})
-        write(root + "/o/v1/content/" + name, "x")
-        out = ran([PROGRAM, "night", "--create", "--state", "%s/state-%d" % (folder, number),
-                   "--", root])[1]
-        command = out.splitlines()[-1].partition(": ")[2]
-        status, found, said = ran(["sh", "-c", command], cwd=folder, PATH=path)
-        check("pasted: %r" % name, (status, found, said), (1, out.splitlines(True)[1], ""))
-    check("and nothing else ran", os.path.exists(folder + "/ran"), False)
+# A small disk that has the state and no room, for a night of each of two IDs.
+FULL = """mount -t tmpfs -o size=1m tmpfs "$1" || exit 99
+mkdir "$1/state" && head -c 4M /dev/zero > "$1/filler" 2> /dev/null
+shift
+INVOCATION_ID=night1 "$@"; status=$?
+ls "$DISK/state"
+INVOCATION_ID=night1 EXIT_CODE=exited EXIT_STATUS=$status SERVICE_RESULT=exit-code MAIL= \\
+    "$REPORTS" tell archive "$DISK/state" 2>&1
+exit $status
+"""
 
 
-PARTS = [by_hand, once, of_this_night, a_word_of_a_good_night, under_way, links, as_the_user,
-         not_sent, sent, no_text, not_begun, names, pasted, of_a_user]
+def no_room(folder):
+    """A night whose text could not be written says so to its own standard error, and so does what
+    tells of it."""
+    make_root(folder + "/root")
+    os.mkdir(folder + "/disk")
+    words = [NIGHTS + "/nightly", "--create", "--for-tell", "--state", folder + "/disk/state",
+             folder + "/root"]
+    status, out, said = ran(["unshare", "-m", "sh", "-c", FULL, "sh", folder + "/disk", *words],
+                            DISK=folder + "/disk", REPORTS=REPORTS)
+    if status == 99:
+        print("not tried: nothing can be mounted here")
+        return
+    check("the night", (status, "nightly: status 3" in said, "room" in said), (3, True, True))
+    check("what tells of it", ("could not be written into" in out, "journalctl" in out),
+          (True, True))
+
+
+def by_cron(folder):
+    """The line for cron sends a mail whose subject has the root and the result; without `mail` the
+    same goes to cron."""
+    nights = Nights(folder + "/state", make_root(folder + "/root"))
+    nights.part()
+    write(nights.root + "/o/v1/content/b", "b")
+    text = read(NIGHTS + "/ocfl-scrub.cron").replace("/usr/local/share/ocfl-scrub", NIGHTS)
+    settings = dict(re.findall(r"(?m)^([A-Z]+)=(.*)$", text))
+    settings.update(STATE=nights.state, ROOT=nights.root, LIMIT="unlimited")
+    line = re.search(r"(?m)^[0-9*].*$", text)[0].split(None, 6)[6]
+    sent = mailing(folder)
+    for name, mail in [("by mail", {"MAIL": "root", "PATH": sent["PATH"]}), ("by cron", {
+            "MAIL": ""})]:
+        write(nights.root + "/o/v1/content/b", name)
+        status, out, said = ran(["sh", "-c", line], **{**settings, **mail})
+        got = out + said if name == "by cron" else (read(folder + "/mailed") or "").replace(
+            "-s ", "").replace(" root\n", "\n", 1)
+        check(name, (status, got.splitlines()[0], "E092" in got),
+              (0, "ocfl-scrub: findings in " + nights.root, True))
+        check(name + " alone", (out + said != "") == (name == "by cron"), True)
+
+
+def closed_output(folder):
+    """A night for which outputs are closed writes what it says into no file of its folder."""
+    nights = Nights(folder + "/state", make_root(folder + "/root"))
+    write(nights.root + "/o/v1/content/b", "b")
+    for closing in (">&-", "2>&-", ">&- 2>&-", "<&- >&- 2>&-"):
+        shutil.rmtree(nights.state, ignore_errors=True)
+        words = nights.words()
+        ran(["sh", "-c", 'exec "$@" ' + closing, "sh", *words])
+        there = [name for name in os.listdir(nights.state) if name not in ("report", "reports")
+                 and "E092\t" in (nights.has(name) or "") and os.path.isfile(nights.path(name))]
+        check("closed: " + closing, there, [])
+
+
+def limits(folder):
+    """What sends has an end by the clock in each unit: a mail that hangs keeps no later message."""
+    for name in ("ocfl-scrub-tell@", "ocfl-scrub-tell-failed@"):
+        unit = read("%s/systemd/%s.service" % (NIGHTS, name))
+        check(name, "\nTimeoutStartSec=10min\n" in unit, True)
+    unit = read(NIGHTS + "/systemd/user/ocfl-scrub@.service")
+    check("of a user", "\nTimeoutStopSec=10min\n" in unit, True)
+
+
+PARTS = [one_session, no_room, by_cron, closed_output, limits, by_hand, once, of_this_night, a_word_of_a_good_night, under_way, links, as_the_user,
+         not_sent, sent, no_text, not_begun, names, of_a_user]
 
 
 def check_all(folder):

@@ -557,7 +557,7 @@ class Checkpoint(Asked):
             made.put("checkpoint", text)
             made.night(1, 1, 1, 3, 9)
             given, out, _ = self.ask("status", made.path)
-            self.assertEqual((given, "is no checkpoint of this version" in out), (3, True))
+            self.assertEqual((given, "is not a checkpoint of this version" in out), (3, True))
 
 
 class OfScripts(Asked):

@@ -50,9 +50,11 @@ class Looking:
 
     def refuse_other_root(self) -> None:
         """Fails unless there is a storage root: in an empty folder nothing is found."""
-        if b"ok\t.\t-" not in (self.lines_at(b".") or []):
-            raise Failed("no storage root is at %s: is it mounted? Nothing was looked at."
-                         % self.root)
+        lines = self.lines_at(b".") or []
+        if b"ok\t.\t-" not in lines:
+            found = [files.text_of(it).partition("\t")[0] for it in lines[:1]]
+            raise Failed("there is no sound storage root at %s%s: is it mounted? Nothing was looked "
+                         "at." % (self.root, "".join(" (%s)" % it for it in found)))
 
     def at_findings(self, place: bytes, before: list[bytes], leave_out: Known) -> int:
         """Says what became of the findings at a place. Only what has a line of that very place was

@@ -141,7 +141,7 @@ class State:
             return {}
         rows = files.lines(path)
         if next(rows, b"") != CHECKPOINT:
-            raise Failed(path + " is no checkpoint of this version")
+            raise Failed(path + " is not a checkpoint of this version")
         made: dict[str, list[str]] = {}
         for row in rows:
             name, _, value = files.text_of(row).partition(" ")

@@ -258,7 +258,7 @@ def held_join(folder):
     nights, numbers = begun(folder)
     nights.make(numbers)
     write(folder + "/program", '''#!/bin/sh
-[ "$1" != join ] || [ -e "$0.second" ] || { : > "$0.second"; echo "ocfl-scrub: held" >&2; exit 75; }
+if [ "$1" = join ] && [ ! -e "$0.second" ]; then : > "$0.second"; echo held >&2; exit 75; fi
 exec "%s" "$@"
 ''' % PROGRAM, 0o755)
     status, out, said = nights.by_hand("end", OCFL_SCRUB=folder + "/program")
@@ -276,8 +276,8 @@ def other_roots(folder):
         os.rename("%s/o%02d" % (nights.root, number), "%s/o%02d" % (away, number))
     nights.make(numbers[3:])
     status, out, _ = nights.end()
-    check("it is named", (status, "had 10 names when parts 1-3 began" in out, "at most 2 when part 4"
-                          in out), (3, True, True))
+    check("it is named", (status, "had 10 names when parts 1-3 began" in out,
+                          "at most 2 when part 4" in out), (3, True, True))
     check("once", nights.end(), (0, "", ""))
     common.not_yet("it is not joined as whole", nights.has("reports/cycle-000001"), None,
                    "the program joins by place and declaration alone")

@@ -14,6 +14,8 @@ Tried, and what comes of it:
 - 14 parts where an array has ten tasks; 1,300 parts, a Slurm without arrays, one that refuses a
   job: several arrays; nothing is begun; status 3, and `status` is not OK. The last two use
   commands in the place of Slurm's.
+- A second night while the job that ends the last one waits: 75, and no job is given. Before, all
+  parts were given out twice, with an alarm.
 - The job of the message queued again while its mail hangs: the mail is sent.
 """
 import os
@@ -204,13 +206,20 @@ echo "MaxArraySize            = ${WIDEST:-1001}"
 """
 
 
+# Shows each job that it is asked for as one that waits.
+SQUEUE = """#!/bin/sh
+[ ! -e "$TAKEN.queued" ] || echo PENDING
+"""
+
+
 def without_slurm(folder):
     """A night of more parts than one array takes is given whole; a Slurm without arrays is named
     before anything is begun; one that refuses a job leaves a night that is no good one."""
     root = common.make_root(folder + "/root", {})
     for number in range(1300):
         os.mkdir("%s/n-%04d" % (root, number))
-    for name, text in [("sbatch", SBATCH), ("scontrol", SCONTROL), ("scancel", "#!/bin/sh\n")]:
+    for name, text in [("sbatch", SBATCH), ("scontrol", SCONTROL), ("scancel", "#!/bin/sh\n"),
+                       ("squeue", SQUEUE)]:
         write("%s/bin/%s" % (folder, name), text, 0o755)
     taken = folder + "/taken"
     for widest, arrays in [(0, None), (100001, ["1-1300"]), (501, ["1-500", "1-500", "1-300"])]:
@@ -224,6 +233,12 @@ def without_slurm(folder):
             continue
         check("arrays of less than %d" % widest, (status, said, read(taken).splitlines()),
               (0, "", [*arrays, "no array"]))
+    write(taken + ".queued", "")
+    status, out, said = submitted(folder, nights, 501)
+    check("a second night while the last one is queued", (status, out, "is still pending" in said,
+                                                          len(read(taken).splitlines())),
+          (75, "", True, 4))
+    os.remove(taken + ".queued")
     for number in range(70):
         for name in ("parts-%d.1", "end-%d.out"):
             write(nights.path("slurm/" + name % number), "")
@@ -232,7 +247,7 @@ def without_slurm(folder):
     status, out, said = submitted(folder, nights, 501)
     names = os.listdir(nights.path("slurm"))
     check("what is older than sixty nights is gone", [len(names), "parts-10.1" in names,
-                                                      "end-9.out" in names], [121, False, False])
+                                                      "end-9.out" in names], [122, False, False])
     check("refused", (status, "Slurm did not take all jobs" in said, nights.level()), (3, True, 2))
     check("the parts are told", " in parts 1-1300: " in out, True)
     for words in [["--hours", "x"], ["--budget", "4x"], ["--at-once", "x"]]:

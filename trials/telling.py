@@ -323,7 +323,8 @@ def one_session(folder):
     write(nights.root + "/o/v1/content/b", "")
     check("the second", nights.night("--for-tell", INVOCATION_ID="night1"), (0, "", ""))
     said = run_tell(nights, 1, 0)
-    check("both are sent", (said[0], said[1].count(WRONG_B) > 0, " repaired" in said[1]), (0, True, True))
+    check("both are sent", (said[0], said[1].count(WRONG_B) > 0, " repaired" in said[1]),
+          (0, True, True))
     check("once", run_tell(nights, 1, 0), (0, ""))
 
 
@@ -392,7 +393,7 @@ def closed_output(folder):
 
 
 def limits(folder):
-    """What sends has an end by the clock in each unit: a mail that hangs keeps no later message."""
+    """What sends has an end by the clock in each unit."""
     for name in ("ocfl-scrub-tell@", "ocfl-scrub-tell-failed@"):
         unit = read("%s/systemd/%s.service" % (NIGHTS, name))
         check(name, "\nTimeoutStartSec=10min\n" in unit, True)
@@ -400,8 +401,9 @@ def limits(folder):
     check("of a user", "\nTimeoutStopSec=10min\n" in unit, True)
 
 
-PARTS = [one_session, no_room, by_cron, closed_output, limits, by_hand, once, of_this_night, a_word_of_a_good_night, under_way, links, as_the_user,
-         not_sent, sent, no_text, not_begun, names, of_a_user]
+PARTS = [by_hand, once, of_this_night, a_word_of_a_good_night, under_way, links, as_the_user,
+         not_sent, sent, no_text, not_begun, names, of_a_user, one_session, no_room, by_cron,
+         closed_output, limits]
 
 
 def check_all(folder):

@@ -63,12 +63,23 @@ class Parts:
         return sorted(it for it in known - set.intersection(*map(set, self.closed.values()))
                       if listed < it < last)
 
+    def leave_skipped(self, last: list[int]) -> None:
+        """Leaves of each of these that it is never joined."""
+        for it in self.skipped(last[0]) if last else ():
+            leave(self.state, "The reports of cycle %d are never joined: a part has no report of "
+                              "it, or no list of what is gone." % it)
+
+    def names_of(self, number: int, cycle: int) -> int | None:
+        """How many names the top folder had when a part began a cycle. None if nothing says it."""
+        path = find(reports_of(self.state, number), "checkpoint", cycle)
+        found = NAMES.search(Path(path).read_bytes()) if path else None
+        return int(found[1]) if found else None
+
     def other_roots(self, cycle: int) -> str:
         """Says which parts saw a root with less than half of the names that another one saw. Empty
         if none did, as far as their checkpoints say it."""
-        seen = {number: int(it[1]) for number in self.closed
-                for path in filter(None, [find(reports_of(self.state, number), "checkpoint", cycle)])
-                for it in filter(None, [NAMES.search(Path(path).read_bytes())])}
+        seen = {number: self.names_of(number, cycle) for number in self.closed}
+        seen = {number: count for number, count in seen.items() if count is not None}
         most = max(seen.values(), default=0)
         few = [number for number in seen if 2 * seen[number] < most]
         if not few:
@@ -96,9 +107,7 @@ def join(state: str, cycle: int) -> str:
     what keeps one from it, and of the cycle that was given out also what its parts say."""
     parts = Parts(state)
     cycles = parts.unjoined()
-    for it in parts.skipped(cycles[-1]) if cycles else ():
-        leave(state, "The reports of cycle %d are never joined: a part has no report of it, or no "
-                     "list of what is gone." % it)
+    parts.leave_skipped(cycles[-1:])
     for it in cycles:
         parts.list_gone(it)
     whole = [it for it in cycles if not parts.lacking(it)]

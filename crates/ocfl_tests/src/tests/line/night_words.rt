@@ -320,6 +320,12 @@ fn shows_help_of_nights(rt: HostRuntime) -> Result<(), Fail> {
             ),
             ("night --help", "\n      --until <HH:MM>    "),
             ("night --help", "\n      --force-root       "),
+            // A root at another path is refused all the same.
+            ("night --help", " has changed or most of its names are gone"),
+            (
+                "night --help",
+                "a root at another path needs a new state folder",
+            ),
             ("night --help", "\n      --stop-at-faults   "),
             (
                 "join --help",

@@ -78,8 +78,8 @@ class Parts:
     def other_roots(self, cycle: int) -> str:
         """Says which parts saw a root with less than half of the names that another one saw. Empty
         if none did, as far as their checkpoints say it."""
-        seen = {number: self.names_of(number, cycle) for number in self.closed}
-        seen = {number: count for number, count in seen.items() if count is not None}
+        counts = {number: self.names_of(number, cycle) for number in self.closed}
+        seen = {number: count for number, count in counts.items() if count is not None}
         most = max(seen.values(), default=0)
         few = [number for number in seen if 2 * seen[number] < most]
         if not few:

@@ -1,8 +1,9 @@
 //! The checkpoint: what one night leaves for the next.
 ghost use Rattle.std.specs.Prelude.{◌≡◌};
-use ocfl_tree::Place;
+
 use crate::checkpoint_parts::{Left, Phase, ReportMark, RootIdentity, TopNames};
 use ocfl_cursor::{Cursor, PartEnds};
+use ocfl_tree::Place;
 use std::marker::Model;
 
 /// What one night leaves for the next: whose root is read, how much of the report belongs to the

@@ -24,6 +24,8 @@ Tried, and what comes of it:
   with the system's reason. It needs root.
 - A checkpoint with another digit, cut, empty, zeros, of another version: status 4, and nothing is
   written.
+- A checkpoint of an earlier cycle that is put back: status 3, and nothing is written; with the
+  newest one the cycle is whole.
 - A report that lost its end or all of it: status 3, it is closed as incomplete, and the next
   cycle is whole.
 - A report of the right length with another size in a line, another byte, or zeros: it is closed
@@ -50,6 +52,7 @@ Seen to fail on these faults, each planted alone:
 - A folder of another root or part, a damaged checkpoint, a folder of scripts or reports without a
   checkpoint are removed, and begun anew.
 - A report is emptied where the root is not there.
+- It is not asked whether the cycle that a checkpoint says is open is closed already.
 - Status 3 is 0; status 2 is 0; nothing is said on standard error.
 - All is said twice; by `echo` of a shell; with `%0A` and `%1B` decoded.
 - A report that cannot be read, or all before a missing one, are left out of comparisons; an
@@ -344,6 +347,27 @@ def changed_checkpoint(folder: str) -> None:
     check("as it was", audited.faults_after(nights, said), [])
 
 
+def older_checkpoint(folder: str) -> None:
+    """A checkpoint of an earlier cycle, put back beside the reports of later ones, is refused."""
+    audited, nights = made(folder)
+    older = []
+    for name, more in [("after the first cycle", []), ("in the second cycle", ["--files", "2"])]:
+        nights.night(*PLAN, *more)
+        older.append((name, common.read(nights.path("checkpoint"))))
+    nights.night("--slice", SLICE)
+    nights.night("--slice", SLICE, "--files", "2")
+    newest = common.read(nights.path("checkpoint"))
+    check("two cycles are closed", nights.closed(), ["cycle-000001", "cycle-000002"])
+    for name, text in older:
+        common.write(nights.path("checkpoint"), text)
+        kept = nights.kept()
+        is_refused(name, nights.night("--slice", SLICE), 3, nights.state, nights, kept)
+        is_refused(name + ", with --create", nights.first(), 3, nights.state, nights, kept)
+    common.write(nights.path("checkpoint"), newest)
+    check("the newest", nights.night("--slice", SLICE)[0], 1)
+    check("its cycle is whole", nights.whole(3) == audited.report, True)
+
+
 def after_a_change(name: str, folder: str, change: Any) -> tuple[Any, Any]:
     """A report that was changed between two nights: what the next one makes of its cycle, and
     whether the cycle after that is the audit."""
@@ -572,9 +596,9 @@ def cut_and_refused(folder: str) -> None:
     check("then", audited.faults_after(nights, said), [])
 
 
-PARTS = [no_storage_root, another_root, names_that_are_gone, link_that_moves, exchanged,
-         folder_of_scripts, no_checkpoint, changed_checkpoint, shorter_report, changed_report, longer_report,
-         links_in_the_folder, rights, copies_beside, odd_folders, odd_names,
+PARTS = [no_storage_root, another_root, names_that_are_gone, link_that_moves, folder_of_scripts,
+         no_checkpoint, changed_checkpoint, older_checkpoint, shorter_report, changed_report,
+         longer_report, links_in_the_folder, rights, copies_beside, odd_folders, odd_names,
          names_that_are_left_out, stop_file, cut_and_refused]
 MOUNTING = [unmounted, mounted_anew, not_mounted, unmounted_state]
 OF_ROOT = [files_of_another]

@@ -7,7 +7,7 @@ use Rattle.ocfl_identity.specs.declared.identity.NoIdentity.TheVariants as none
 use Rattle.ocfl_state.specs.{Checkpoint.{Checkpoint, IsCheckpointText}, Content.{Content}}
 use Rattle.ocfl_state.proofs.CheckpointTexts.{text_determines}
 use Rattle.ocfl_night.specs.Site.{IsForeign, IsOther, IsOtherThan, IsOwn, IsSameRoot}
-use Rattle.ocfl_night.specs.{Ending.{unopened_by}, Refusing.{IsBarred, IsRefused, another, no_root, other_root, undeclared}}
+use Rattle.ocfl_night.specs.{Ending.{unopened_by}, Older.{IfOlder}, Refusing.{IfForeign, IsBarred, IsRefused, another, no_root, older, other_root, undeclared}}
 use Rattle.ocfl_night.specs.declared.refusal.{NotOpened.TheVariants.{Refused}, Refusal.{Refusal}}
 use Rattle.ocfl_night.specs.{Sound.{IsAt}, declared.plan.Plan.{Plan}, declared.site.Site.{Site}}
 
@@ -39,11 +39,11 @@ other_by root id k is (inr gone) = inr (omega (arith, gone, is.count))
 -- ---- of a night
 
 -- a root that is looked at declares itself, so what bars a night is a checkpoint
-pub barred_by : {told : Bool} {s : Store} {site : Site} {plan : Plan} {c : Content} (id : Identity) → IfTold told s (λ root. IsIdentityOf root id) → id.declarations.items ≢ [] → IsBarred told s site plan c
-    → (k : Checkpoint) × (IsAt k c × IsForeign site id plan.force_root k)
-barred_by id is declares (another k at others) = (k, (at, inl others))
-barred_by id is declares (other_root tells root over k at other force) = (k, (at, inr (force, other_by root id k (is tells root over) other)))
-barred_by id is declares (undeclared tells root over none) = absurd (declares ((is tells root over).declarations ∙ none))
+pub barred_by : {told : Bool} {s : Store} {site : Site} {plan : Plan} {c : Content} {P : Type 0} (id : Identity) → IfTold told s (λ root. IsIdentityOf root id) → id.declarations.items ≢ [] → IfForeign site id plan c P → IfOlder c P → IsBarred told s site plan c → P
+barred_by id is declares of_foreign of_older (another k at others) = of_foreign k at (inl others)
+barred_by id is declares of_foreign of_older (other_root tells root over k at other force) = of_foreign k at (inr (force, other_by root id k (is tells root over) other))
+barred_by id is declares of_foreign of_older (older k at n below by) = of_older k at n below by
+barred_by id is declares of_foreign of_older (undeclared tells root over none) = absurd (declares ((is tells root over).declarations ∙ none))
 
 -- one that is not begun since its root declares nothing
 pub no_root_by : {told : Bool} {s : Store} {site : Site} {plan : Plan} {c : Content} {why : Refusal} (r : Result Identity NoIdentity) (e : NoIdentity) → r ≡ Err e → unopened_by e ≡ Refused why

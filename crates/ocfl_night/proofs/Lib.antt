@@ -13,3 +13,4 @@ pub mod Compared
 pub mod Lost
 pub mod Around
 pub mod Branches
+pub mod Newest

@@ -44,6 +44,10 @@ module _ {F : Type 0} {may_leave : F → Outcomes} {moment : F → ℕ} {left_si
       back : (c : Content) → After step (may_leave g) c → After step (may_leave f) c
       back c (d, may, taken) = let before = first.now d may in (before.0, before.1, subst (λ (x : Content). step x c) before.2 taken)
 
+  -- two calls that changed nothing
+  pub same_twice : {f g h : F} → Passes may_leave moment left_since Same f g → Passes may_leave moment left_since Same g h → Passes may_leave moment left_since Same f h
+  same_twice first second = same_first (λ d c same. same) first second
+
   -- what reads show is still all that a crash leaves
   pub only_same : (seen : F → Content) {f g : F} → Passes may_leave moment left_since Same f g → seen g ≡ seen f → Only (seen f) (may_leave f) → Only (seen g) (may_leave g)
   only_same seen p same only c n = let from = p.now c n in from.2 ∙ only from.0 from.1 ∙ sym same

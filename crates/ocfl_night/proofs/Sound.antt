@@ -325,7 +325,7 @@ module _ {part : Part} {t : Text} {k : Checkpoint} {d : Content} where
   pub shut_closing : IsMoved part t k d → is_closed d.closed k.cursor.cycle ≡ true
   shut_closing w = last_closed part 1 k.cursor.cycle d.closed w.earlier w.counted
 
-  not_shut : IsClosing part t k d → is_closed d.closed k.cursor.cycle ≡ false
+  pub not_shut : IsClosing part t k d → is_closed d.closed k.cursor.cycle ≡ false
   not_shut w = not_closed part 1 k.cursor.cycle k.cursor.cycle d.closed w.earlier (omega arith)
 
   whole_report : IsClosing part t k d → (k.whole ≡ true) × (k.left ≡ []) → IsWholeReport part (record { cycle = k.cursor.cycle; whole = closes_whole k; report = d.report })

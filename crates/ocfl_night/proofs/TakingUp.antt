@@ -7,7 +7,7 @@ use Rattle.ocfl_state.specs.Crash.{Outcomes, Only, Same, Passes, LeavesOnly}
 use Rattle.ocfl_state.specs.declared.checkpoint_parts.ReportMark.{ReportMark}
 use Rattle.ocfl_state.specs.declared.checkpoint_parts.Phase.TheVariants.{Open, Closing}
 use Rattle.ocfl_night.specs.Sound.{Stands, IsNew, IsSoundAt, IsSound, IsKept, IsAt, IsSettled, IsReady, IsFound, IsFoundReady}
-use Rattle.ocfl_night.proofs.Moments.{OnlyNow, unchanged, leaves_weaker, joined_moments}
+use Rattle.ocfl_night.proofs.Moments.{OnlyNow, only_same, unchanged, leaves_weaker, joined_moments}
 use Rattle.ocfl_night.proofs.Heard.{kept_found}
 use Rattle.ocfl_night.proofs.Sound.{holds_sound, new_sound, sound_new, cut_open}
 
@@ -39,6 +39,14 @@ module _ {F : Type 0} {seen : F → Content} {may_leave : F → Outcomes} {part 
     only = only;
   }
 
+-- a call changed nothing
+pub settled_still : {F : Type 0} {seen : F → Content} {may_leave : F → Outcomes} {moment : F → ℕ} {left_since : F → ℕ → Outcomes} {part : Part} {t : Text} {k : Checkpoint} {f g : F} → IsSettled seen may_leave part t k f → seen g ≡ seen f → Passes may_leave moment left_since Same f g → IsSettled seen may_leave part t k g
+settled_still {seen = seen} {part = part} {t} {k} r same p = record {
+  at = subst (IsAt k) (sym same) r.at;
+  stands = subst (Stands part t k) (sym same) r.stands;
+  only = only_same seen p same r.only;
+}
+
 -- what is opened, if the report is as its checkpoint says
 pub taken_as : {F : Type 0} {seen : F → Content} {may_leave : F → Outcomes} {part : Part} {t : Text} {k opened : Checkpoint} {there : Option ReportMark} {f : F} → (there ≡ None → opened ≡ k) → (there ≡ None) × IsReady seen may_leave part t k f → IsReady seen may_leave part t opened f
 taken_as {seen = seen} {may_leave} {part} {t} {f = f} same up = subst (λ (x : Checkpoint). IsReady seen may_leave part t x f) (sym (same up.0)) up.1
@@ -46,7 +54,7 @@ taken_as {seen = seen} {may_leave} {part} {t} {f = f} same up = subst (λ (x : C
 -- ---- opening
 
 -- this checkpoint is there
-settled_there : {F : Type 0} {seen : F → Content} {may_leave : F → Outcomes} {part : Part} {t : Text} {k : Checkpoint} {l : F} {d : Content} → IsSoundAt part t d → IsAt k d → seen l ≡ d → Only (seen l) (may_leave l) → IsSettled seen may_leave part t k l
+pub settled_there : {F : Type 0} {seen : F → Content} {may_leave : F → Outcomes} {part : Part} {t : Text} {k : Checkpoint} {l : F} {d : Content} → IsSoundAt part t d → IsAt k d → seen l ≡ d → Only (seen l) (may_leave l) → IsSettled seen may_leave part t k l
 settled_there {part = part} {t} {k} sound at same only =
     let h = holds_sound sound at in
     record { at = subst (IsAt k) (sym same) h.at; stands = subst (Stands part t k) (sym same) h.stands; only = only }

@@ -9,5 +9,6 @@ pub mod Status
 pub mod Leaving
 pub mod Ending
 pub mod Pace
+pub mod Older
 pub mod Refusing
 pub mod Stopping

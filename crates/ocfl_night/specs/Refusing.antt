@@ -1,15 +1,16 @@
 -- When a night is refused, for each reason: the first that applies.
-use Rattle.std.specs.Prelude.{◌≡◌, ◌≢◌, ◌⊎◌, ◌-◌, [], Bool, IsTrue, true, false, Some, None, Result, Err, IsErr, ℕ}
+use Rattle.std.specs.Prelude.{◌≡◌, ◌≢◌, ◌⊎◌, ◌-◌, ◌<◌, ◌^◌, [], Bool, IsTrue, true, false, Some, None, Result, Err, IsErr, ℕ}
 use Rattle.ocfl_tree.specs.{Place.{Text}, Listing.{entries_in}, StorageRoot.{StorageRoot}, Store.{Store, IfTold}}
 use Rattle.ocfl_identity.specs.Identity.{IsIdentityOf, declarations_among}
 use Rattle.ocfl_identity.specs.declared.identity.Identity.{Identity}
 use Rattle.ocfl_cursor.specs.declared.refused.Refused.TheVariants as refused
 use Rattle.ocfl_state.specs.{Checkpoint.{Checkpoint}, CheckpointRefusal.{RefusedRightly}}
 use Rattle.ocfl_state.specs.{Content.{Content, is_closed}, Crash.{Outcomes}}
+use Rattle.ocfl_night.specs.Older.{IsOlder}
 use Rattle.ocfl_night.specs.{Site.{AreMostGone, IsAnothers, IsForeign, IsOtherThan, IsOwn}, Sound.{IsAt}, Steps.{IsUntouched}}
 use Rattle.ocfl_night.specs.{declared.plan.Plan.{Plan}, declared.site.Site.{Site}}
 use Rattle.ocfl_night.specs.declared.refusal.{NotOpened.{NotOpened}, NotOpened.TheVariants.{Refused}, Refusal.{Refusal}}
-use Rattle.ocfl_night.specs.declared.refusal.Refusal.TheVariants.{NoCheckpoint, HasReports, Unread, NoRoot, OtherRoot, OtherPart, OtherDeclaration, NamesGone}
+use Rattle.ocfl_night.specs.declared.refusal.Refusal.TheVariants.{NoCheckpoint, HasReports, Unread, NoRoot, OtherRoot, OtherPart, OtherDeclaration, NamesGone, Older}
 
 -- if a night is refused, this holds of the reason
 abbrev pub IfRefused : {A : Type 0} → Result A NotOpened → (Refusal → Type 0) → Type 0
@@ -58,11 +59,17 @@ IsChangedRoot id k _ = ⊥
 abbrev pub IsDisowned : Site → Identity → Bool → Checkpoint → Refusal → Type 0
 IsDisowned site id force k why = IsMisplaced site k why ⊎ (IsOwn site k × ((force ≡ false) × IsChangedRoot id k why))
 
+-- for a checkpoint: the closed report of that cycle shows that it is an older one
+abbrev pub IsOutdated : Checkpoint → Content → Refusal → Type 0
+IsOutdated k c (Older cycle) = IsOlder k c cycle
+IsOutdated k c _ = ⊥
+
 -- a folder of this content is refused, over a root with this identity
 pub data IsFolderRefused (site : Site) (id : Identity) (plan : Plan) (c : Content) (why : Refusal) : Type 0 where
   none : c.checkpoint ≡ None → IsUnbegun plan.create c why → IsFolderRefused site id plan c why
   unread : HasUnread c why → IsFolderRefused site id plan c why
   not_own : (k : Checkpoint) → IsAt k c → IsDisowned site id plan.force_root k why → IsFolderRefused site id plan c why
+  outdated : (k : Checkpoint) → IsAt k c → IsOwn site k → IsOutdated k c why → IsFolderRefused site id plan c why
 
 -- a night over a store is refused: the root has no declaration, or with its identity the folder is
 pub data IsRefused (told : Bool) (s : Store) (site : Site) (plan : Plan) (c : Content) (why : Refusal) : Type 0 where
@@ -75,9 +82,10 @@ pub data IsRefused (told : Bool) (s : Store) (site : Site) (plan : Plan) (c : Co
 abbrev pub IfForeign : Site → Identity → Plan → Content → Type 0 → Type 0
 IfForeign site id plan c Holds = (k : Checkpoint) → IsAt k c → IsForeign site id plan.force_root k → Holds
 
--- the checkpoint in a folder of this content is of another root or part, or unless forced the root
--- of a store is not as it was, or it has no declaration
+-- the checkpoint in a folder of this content is of another root or part or an older one, or unless
+-- forced the root of a store is not as it was, or it has no declaration
 pub data IsBarred (told : Bool) (s : Store) (site : Site) (plan : Plan) (c : Content) : Type 0 where
   another : (k : Checkpoint) → IsAt k c → IsAnothers site k → IsBarred told s site plan c
   other_root : IsTrue told → (root : StorageRoot) → s.tree ≡ root → (k : Checkpoint) → IsAt k c → IsOtherThan root k → plan.force_root ≡ false → IsBarred told s site plan c
+  older : (k : Checkpoint) → IsAt k c → (cycle : ℕ) → cycle < 2 ^ 64 → IsOlder k c cycle → IsBarred told s site plan c
   undeclared : IsTrue told → (root : StorageRoot) → s.tree ≡ root → declarations_among (entries_in root []) ≡ [] → IsBarred told s site plan c

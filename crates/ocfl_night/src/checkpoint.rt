@@ -3,6 +3,7 @@ ghost use Rattle.std.specs.Prelude.{◌≡◌, ◌≤◌, ◌↔◌, [], IfErr, 
 ghost use Rattle.ocfl_tree.specs.Place.{Text};
 ghost use Rattle.ocfl_state.specs.CheckpointRefusal.{RefusedRightly};
 ghost use Rattle.ocfl_state.specs.{Checkpoint.{IsCheckpointText}, Crash.{Same, Only, Passes}};
+ghost use Rattle.ocfl_night.specs.Older.{IsNumber, open_cycle};
 ghost use Rattle.ocfl_night.specs.{Refusing.{HasUnread, IfRefused, IsUnread}, Site.{no_report}, Sound.{IsAt}, Stopping.{IsPutStop}};
 ghost use Rattle.ocfl_night.specs.declared.refusal.Refusal.{Refusal as ModelRefusal};
 ghost use Rattle.ocfl_night.specs.Steps.{IsCheckpointPut, MayCheckpoint, begun_anew, closes_whole, with_all_told};
@@ -54,6 +55,17 @@ pub(crate) fn cycle_of(checkpoint: &Checkpoint) -> u64
     ensures { result ≡ checkpoint.now.cursor.cycle }
 {
     checkpoint.cursor.cycle()
+}
+
+/// The cycle that is open, or comes after one that has ended. `None` if it has no number.
+pub(crate) fn open_cycle_of(checkpoint: &Checkpoint) -> Option<u64>
+    ensures { IsNumber result (open_cycle checkpoint.now) }
+{
+    let cursor = &checkpoint.cursor;
+    match cursor.state() {
+        State::Start | State::After(_) => Some(cursor.cycle()),
+        State::Ended => cursor.cycle().checked_add(1),
+    }
 }
 
 /// Whether all of the report is said.

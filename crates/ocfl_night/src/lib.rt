@@ -16,6 +16,10 @@
 //!   So does one of a root that declares no storage root, has another declaration, or lost more
 //!   than half of its names; with `force_root` the last two pass. A night that ends as `Refused`
 //!   has changed nothing, and the reason that it gives holds.
+//! - A folder whose checkpoint is older than its reports stays as it was too: the cycle that it says
+//!   is open, or the one after it, is closed, or the report that it says is to be closed is, and
+//!   there is another one. No folder that nights have left, ended or crashed at any moment, is
+//!   refused so.
 //! - The report has the lines of a run only if the files that declared the root were there, and the
 //!   same, after it (`slice`).
 //! - A checkpoint has the length, the lines and the digests of the report that it speaks of, and
@@ -41,6 +45,7 @@ mod laws;
 mod leaving;
 mod looking;
 mod nights;
+mod older;
 mod opening;
 mod owning;
 mod pace;

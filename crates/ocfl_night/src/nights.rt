@@ -8,6 +8,8 @@ ghost use Rattle.ocfl_state.specs.Crash.{LeavesOnly};
 ghost use Rattle.ocfl_state.specs.declared.checkpoint_parts.Phase.TheVariants.{Open};
 ghost use Rattle.ocfl_night.specs.Leaving.{StillMayLeave, done_by, has_end, remedy_at};
 ghost use Rattle.ocfl_night.specs.Promises.{IfLost, IfReady, IfReadyIn, IsSafe, IsSafeIn, OnShort, SameClosed};
+ghost use Rattle.ocfl_night.specs.Older.{IfOlder};
+ghost use Rattle.ocfl_night.specs.declared.refusal.Refusal.TheVariants.{Older};
 ghost use Rattle.ocfl_night.specs.Refusing.{IfForeign, IfRefused, IsBarred, IsFolderRefused, IsRefused, IsTurnedAway, OnRefused};
 ghost use Rattle.ocfl_night.specs.{Site.{part_at}, Steps.{IsNotBegun, IsUntouched, IsWalkAt}};
 ghost use Rattle.ocfl_night.specs.Sound.{IsAllSaid, IsHeard, IsHeardSince, IsKept, IsOneMore, IsReady, IsReadySince, IsSound};
@@ -302,6 +304,8 @@ fn catch_up<S: StateFolder, W: Write>(
         (IsFolderRefused site.now identity.now plan.now (S.seen folder.old)) }
     ensures foreign { IsTrue S.told → IfForeign site.now identity.now plan.now (S.seen folder.old)
         (IsTurnedAway result S.seen S.may_leave S.moment S.left_since folder.old folder.new) }
+    ensures older { IsTrue S.told → IfOlder (S.seen folder.old)
+        (IsTurnedAway result S.seen S.may_leave S.moment S.left_since folder.old folder.new) }
     ensures lost { IsTrue S.told → IfLost (S.seen folder.old) (OnOk result (IsTrue lost.new)) }
     ensures all { IfOk result (λ k. k.told ≡ k.report.bytes) }
 {
@@ -439,12 +443,17 @@ pub fn night<S: StateFolder, T: Tree, C: Clock, W: Write>(
     ensures rightly { IsTrue S.told → (why : ModelRefusal) → result.end ≡ halt.Refused why
         → IsRefused T.told (T.state tree.old) site.now plan.now (S.seen folder.old) why }
 
-    // So does one in the folder of another root or part, or over a root that is not as it was or
-    // declares nothing.
+    // So does one in the folder of another root or part, with a checkpoint that is older than the
+    // reports, or over a root that is not as it was or declares nothing.
     ensures barred { IsTrue S.told
         → IsBarred T.told (T.state tree.old) site.now plan.now (S.seen folder.old)
         → IsNotBegun result.end
         × IsUntouched S.seen S.may_leave S.moment S.left_since folder.old folder.new }
+
+    // No folder that nights have left, ended or crashed at any moment, is called older than its
+    // reports.
+    ensures newest { IsTrue S.told → (part : ModelPart) → IsKept S.may_leave part folder.old
+        → (cycle : ℕ) → result.end ≢ halt.Refused (Older cycle) }
 
     // If bytes of the report were lost or changed, it says so, unless it is refused or something
     // is troubled.

@@ -1,16 +1,18 @@
 //! Opening a night: what the last one left is taken up, if it is that of these nights.
-ghost use Rattle.std.specs.Prelude.{◌≡◌, ◌↔◌, [], IfOk, IsSome, IsTrue, OnOk, None, false, true, length, take};
+ghost use Rattle.std.specs.Prelude.{◌≡◌, ◌↔◌, ◌<◌, ◌^◌, ℕ, [], IfOk, IsSome, IsTrue, OnOk, None, false, true, length, take};
 ghost use Rattle.ocfl_audit.specs.Parts.{Part};
 ghost use Rattle.ocfl_tree.specs.Place.{Text};
 ghost use Rattle.ocfl_state.specs.Content.{is_closed, with_report};
 ghost use Rattle.ocfl_state.specs.Crash.{LeavesOnly, Only, Passes, Same};
 ghost use Rattle.ocfl_state.specs.declared.checkpoint_parts.Phase.TheVariants.{Closing};
 ghost use Rattle.ocfl_night.specs.Promises.{IfLost, SameClosed};
-ghost use Rattle.ocfl_night.specs.Refusing.{HasReport, IfForeign, IfRefused, IsFolderRefused, IsTurnedAway, IsUnbegun, OnRefused};
+ghost use Rattle.ocfl_night.specs.Older.{IfOlder, IsOlder};
+ghost use Rattle.ocfl_night.specs.Refusing.{HasReport, IfForeign, IfRefused, IsFolderRefused, IsOutdated, IsTurnedAway, IsUnbegun, OnRefused};
 ghost use Rattle.ocfl_night.specs.Sound.{IsFound, IsFoundReady, IsKept, IsNew, IsReady, IsSettled, IsSoundAt};
 ghost use Rattle.ocfl_night.specs.Steps.{IsChanged, IsLost, IsShortened, KeepsFront};
 
 use crate::checkpoint::{bytes_of, cycle_of, look, phase_of, put_checkpoint, report_of};
+use crate::older::refuse_older;
 use crate::owning::{first_checkpoint, own, with_root};
 use crate::plan::Plan;
 use crate::refusal::{NotOpened, Refusal};
@@ -213,6 +215,34 @@ fn resume<S: StateFolder>(
     })
 }
 
+/// Goes on from a checkpoint of this root and this part, if it is not older than the reports.
+fn go_on<S: StateFolder>(
+    alloc: Global,
+    folder: &mut S,
+    checkpoint: Checkpoint,
+    identity: &Identity,
+) -> Result<Opened, NotOpened>
+    ensures any_moment { IsTrue S.told → (part : Part) (t : Text)
+        → IsSettled S.seen S.may_leave part t checkpoint folder.old
+        → LeavesOnly S.moment S.left_since folder.old folder.new (IsSoundAt part t) }
+    ensures ready { IsTrue S.told → (part : Part) (t : Text)
+        → IsSettled S.seen S.may_leave part t checkpoint folder.old
+        → IfOk result (λ opened. IsReady S.seen S.may_leave part t
+        opened.checkpoint folder.new) }
+    ensures closed { IsTrue S.told → OnOk result (SameClosed S.seen folder.old folder.new) }
+    ensures lost { IsTrue S.told → IsLost checkpoint (S.seen folder.old)
+        → IfOk result (λ opened. IsTrue opened.lost × (opened.checkpoint.whole ≡ false)) }
+    ensures refused { IsTrue S.told → OnRefused result (S.seen folder.new ≡ S.seen folder.old) }
+    ensures rightly { IsTrue S.told
+        → IfRefused result (IsOutdated checkpoint (S.seen folder.old)) }
+    ensures older { IsTrue S.told → (cycle : ℕ) → cycle < 2 ^ 64
+        → IsOlder checkpoint (S.seen folder.old) cycle
+        → IsTurnedAway result S.seen S.may_leave S.moment S.left_since folder.old folder.new }
+{
+    refuse_older(folder, &checkpoint)?;
+    Ok(resume(alloc, folder, checkpoint, identity)?)
+}
+
 /// Takes up what the last night left, however it ended, if it was one over this root and this part.
 pub fn open<S: StateFolder>(
     alloc: Global,
@@ -243,6 +273,9 @@ pub fn open<S: StateFolder>(
     // it was.
     ensures foreign { IsTrue S.told → IfForeign site.now identity.now plan.now (S.seen folder.old)
         (IsTurnedAway result S.seen S.may_leave S.moment S.left_since folder.old folder.new) }
+    // Nor is one whose reports show that its checkpoint is an older one.
+    ensures older { IsTrue S.told → IfOlder (S.seen folder.old)
+        (IsTurnedAway result S.seen S.may_leave S.moment S.left_since folder.old folder.new) }
 {
     let Some(found) = look(alloc, folder)? else {
         if !plan.create {
@@ -251,7 +284,7 @@ pub fn open<S: StateFolder>(
         return begin(alloc, folder, site, identity);
     };
     match own(found, site, identity, plan.force_root) {
-        Ok(checkpoint) => Ok(resume(alloc, folder, checkpoint, identity)?),
+        Ok(checkpoint) => go_on(alloc, folder, checkpoint, identity),
         Err(why) => Err(NotOpened::Refused(why)),
     }
 }

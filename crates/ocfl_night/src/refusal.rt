@@ -28,6 +28,10 @@ pub enum Refusal {
     OtherPart,
     /// The root's declaration is not the one of before.
     OtherDeclaration,
+    /// The checkpoint is older than the reports: that of this cycle is closed already, which is the
+    /// cycle that it says is open or the one after it. Or it is the cycle whose report it says is
+    /// to be closed, and there is an open report besides.
+    Older(u64),
     /// More than half of the names in the root's top folder are gone since the cycle began.
     NamesGone {
         /// How many are gone.

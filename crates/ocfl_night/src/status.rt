@@ -25,7 +25,7 @@ fn status_of_refusal(refusal: &Refusal) -> u8
         Refusal::Unread(_) => 4,
         Refusal::NoCheckpoint | Refusal::HasReports | Refusal::NoRoot => 3,
         Refusal::OtherRoot(_) | Refusal::OtherPart | Refusal::OtherDeclaration => 3,
-        Refusal::NamesGone { .. } => 3,
+        Refusal::NamesGone { .. } | Refusal::Older(_) => 3,
     }
 }
 

@@ -21,6 +21,7 @@ use std::io::Write;
 use std::test::Fail;
 
 mod lost;
+mod older;
 mod slices;
 
 /// The audit of the root of three files, whose costs are 4, 1 and 4.
@@ -191,6 +192,7 @@ fn ending(end: &Halt) -> &'static str {
         Halt::Refused(Refusal::OtherPart) => "other part",
         Halt::Refused(Refusal::OtherDeclaration) => "other declaration",
         Halt::Refused(Refusal::NamesGone { .. }) => "names gone",
+        Halt::Refused(Refusal::Older(_)) => "older",
         Halt::Troubled(Stop::Output) => "output",
         Halt::Troubled(Stop::Folder(_)) => "folder",
         Halt::Troubled(Stop::Unread(_)) => "unread",

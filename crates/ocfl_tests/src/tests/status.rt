@@ -10,6 +10,7 @@ fn ends_have_statuses(rt: HostRuntime) -> Result<(), Fail> {
         (Halt::Asked, 0),
         (Halt::RootChanged, 3),
         (Halt::Refused(Refusal::NoCheckpoint), 3),
+        (Halt::Refused(Refusal::Older(2)), 3),
         (Halt::Refused(Refusal::Unread(Refused::Damaged)), 4),
     ];
     for (halt, status) in rows {

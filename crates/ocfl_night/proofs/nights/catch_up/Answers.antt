@@ -40,3 +40,12 @@ pub returns-in_err-opened-clause-rightly : goal.returns-in_err-opened-clause-rig
 returns-in_err-opened-clause-rightly g c = λ told why is.
     let p = err_from_is_err_and c.from_residual.result c.from_residual.ensures.1 in
     c.in_err-opened.ensures.rightly told why (cc (p.1, p.2, is))
+
+pub returns-in_err-opened-clause-older : goal.returns-in_err-opened-clause-older
+returns-in_err-opened-clause-older g c = λ told k at n below older. (is_err _ c.from_residual.result c.from_residual.ensures.1, (c.open.ensures.older told k at n below older).1)
+
+pub returns-in_err-speak-clause-older : goal.returns-in_err-speak-clause-older
+returns-in_err-speak-clause-older g c = λ told k at n below older. absurd (cc (c.in_ok-opened.ensures.older told k at n below older).0)
+
+pub returns-clause-older : goal.returns-clause-older
+returns-clause-older g c = λ told k at n below older. absurd (cc (c.in_ok-opened.ensures.older told k at n below older).0)

@@ -7,6 +7,7 @@ use Rattle.ocfl_night.specs.{Clock.{BeginsInTime}, Leaving.{has_end}, Nights.{Is
 use Rattle.ocfl_night.specs.{Sound.{IsOneMore}, Steps.{IsNotBegun}}
 use Rattle.ocfl_night.proofs.{Clocks.{fewer, none_begun}, Moments.{leaves_weaker}}
 use Rattle.ocfl_night.proofs.Heard.{heard_through, on_ok, ready_since, since_sound}
+use Rattle.ocfl_night.proofs.Newest.{newest}
 use Rattle.ocfl_night.proofs.nights.night.Given as given
 use Rattle.ocfl_night.proofs.nights.night.Goals.{After-make_runs-through}
 use Rattle.ocfl_night.proofs.nights.night.Goals as goal
@@ -38,6 +39,7 @@ returns g c =
       refused = λ told why is. absurd (runs.ensures.unrefused why (c.ended.ensures.refused why (sym c.account-2.ensures.end ∙ is)));
       rightly = λ told why is. absurd (runs.ensures.unrefused why (c.ended.ensures.refused why (sym c.account-2.ensures.end ∙ is)));
       barred = λ told barred. absurd (cc (c.in-Ok.ensures.barred told barred).0);
+      newest = λ told every kept cycle is. absurd (runs.ensures.unrefused _ (c.ended.ensures.refused _ (sym c.account-2.ensures.end ∙ is)));
       lost = λ told k at lost well other. subst (λ (b : Bool). IsTrue b) (sym c.account-2.ensures.lost) (c.in-Ok.ensures.lost told k at lost);
       ended = λ told tells root over short kept cycle is.
           subst (λ (old : List Closed). IsOneMore part cycle old (s runs.new.folder).closed) (c.in-Ok.ensures.closed told)
@@ -64,6 +66,7 @@ returns-in-Err g c =
       refused = λ told why is. c.in-Err.ensures.refused told why (ap Err (c.unbegun.ensures.refused why (sym c.account.ensures.end ∙ is)));
       rightly = λ told why is. c.in-Err.ensures.rightly told why (ap Err (c.unbegun.ensures.refused why (sym c.account.ensures.end ∙ is)));
       barred = λ told barred. (subst IsNotBegun (sym c.account.ensures.end) c.unbegun.ensures.not_begun, (c.set_out.ensures.barred told barred).1);
+      newest = λ told every kept cycle is. newest every (kept _ (g.met.S.StateFolder.stays told c.args.folder.now)) (c.in-Err.ensures.rightly told _ (ap Err (c.unbegun.ensures.refused _ (sym c.account.ensures.end ∙ is))));
       lost = λ told k at lost well unrefused. absurd (c.unbegun.ensures.said (λ why is. well why (c.account.ensures.end ∙ is)) (λ why is. unrefused why (c.account.ensures.end ∙ is)));
       ended = λ told tells root over short kept cycle is. absurd (subst IsNotBegun (sym c.account.ensures.end ∙ is) c.unbegun.ensures.not_begun);
       few = subst (λ (v : Vec Place Global). length v.items ≤ 16) (sym c.account.ensures.left) left.few;

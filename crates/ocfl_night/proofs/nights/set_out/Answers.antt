@@ -24,13 +24,15 @@ returns-in_err-identity-clause-barred g c = λ told barred. (is_err _ c.from_res
 
 pub returns-in_err-checkpoint-clause-barred : goal.returns-in_err-checkpoint-clause-barred
 returns-in_err-checkpoint-clause-barred g c = λ told barred.
-    let k = barred_by c.in_ok-identity.identity c.in_ok-identity.ensures.told c.in_ok-identity.ensures.declares barred in
-    (is_err _ c.from_residual-in_err-checkpoint.result c.from_residual-in_err-checkpoint.ensures.1, (c.catch_up.ensures.foreign told k.0 k.1.0 k.1.1).1)
+    let tells = c.catch_up.ensures in
+    let same = barred_by c.in_ok-identity.identity c.in_ok-identity.ensures.told c.in_ok-identity.ensures.declares (λ k at foreign. (tells.foreign told k at foreign).1) (λ k at n below older. (tells.older told k at n below older).1) barred in
+    (is_err _ c.from_residual-in_err-checkpoint.result c.from_residual-in_err-checkpoint.ensures.1, same)
 
 pub returns-clause-barred : goal.returns-clause-barred
 returns-clause-barred g c = λ told barred.
-    let k = barred_by c.in_ok-identity.identity c.in_ok-identity.ensures.told c.in_ok-identity.ensures.declares barred in
-    absurd (cc (c.in_ok-checkpoint.ensures.foreign told k.0 k.1.0 k.1.1).0)
+    let tells = c.in_ok-checkpoint.ensures in
+    let no : ⊥ = barred_by c.in_ok-identity.identity c.in_ok-identity.ensures.told c.in_ok-identity.ensures.declares (λ k at foreign. absurd (cc (tells.foreign told k at foreign).0)) (λ k at n below older. absurd (cc (tells.older told k at n below older).0)) barred in
+    absurd no
 
 pub returns-in_err-identity-clause-rightly : goal.returns-in_err-identity-clause-rightly
 returns-in_err-identity-clause-rightly g c = λ told why is.

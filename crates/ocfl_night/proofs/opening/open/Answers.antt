@@ -1,28 +1,26 @@
-use Rattle.std.proofs.{Common.{◌≡◌, ◌∙◌, [], ap, refl, sym, subst}, lemmas.Result.{IfOk-weaker}}
+use Rattle.std.proofs.{Common.{◌≡◌, ◌∙◌, [], ap, refl, sym, subst}, lemmas.Result.{IfOk-weaker, on_ok_weaker}}
 use Rattle.ocfl_state.specs.{Checkpoint.{Checkpoint}, Content.{Content}}
-use Rattle.ocfl_night.specs.{Refusing.{IsDisowned, not_own}, Sound.{IsNew}, Steps.{IsLost}}
-use Rattle.ocfl_night.proofs.{Foreigners.{at_once, own_at}, Moments.{unchanged}, Heard.{is_err, kept_found}}
+use Rattle.ocfl_night.specs.{Older.{IsOlder}, Refusing.{IsDisowned, IsOutdated, not_own, outdated}, Sound.{IsNew}, Steps.{IsLost}}
+use Rattle.ocfl_night.proofs.{Foreigners.{at_once, own_at}, Moments.{same_twice, unchanged}, Heard.{is_err, kept_found}}
 use Rattle.ocfl_night.proofs.Sound.{sound_new}
-use Rattle.ocfl_night.proofs.TakingUp.{found_on, found_ready, none_found, same_found, shown_new, some_found, taken_moments, taken_ready}
+use Rattle.ocfl_night.proofs.TakingUp.{found_on, found_ready, none_found, same_found, settled_there, shown_new, some_found, taken_moments}
 use Rattle.ocfl_night.proofs.opening.open.Goals as goal
 
 pub returns-in-Err-clause-any_moment : goal.returns-in-Err-clause-any_moment
 returns-in-Err-clause-any_moment g c = λ told part kept. unchanged (g.met.S.StateFolder.only_now told) (λ x n. kept_found kept n) (c.look.ensures.crash told)
 
-pub returns-in_err-resume-in-Ok-clause-any_moment : goal.returns-in_err-resume-in-Ok-clause-any_moment
-returns-in_err-resume-in-Ok-clause-any_moment g c = λ told part kept.
+pub returns-in-Ok-clause-any_moment : goal.returns-in-Ok-clause-any_moment
+returns-in-Ok-clause-any_moment g c = λ told part kept.
     let at = same_found (c.in_ok-found.ensures.value told) c.in-Some.is c.in-Ok.ensures.same in
-    taken_moments (g.met.S.StateFolder.only_now told) (g.met.S.StateFolder.stays told c.args.folder.now) kept (c.look.ensures.crash told) at (c.look.ensures.seen told) (c.in_ok-found.ensures.only told) (c.resume.ensures.any_moment told part)
+    taken_moments (g.met.S.StateFolder.only_now told) (g.met.S.StateFolder.stays told c.args.folder.now) kept (c.look.ensures.crash told) at (c.look.ensures.seen told) (c.in_ok-found.ensures.only told) (c.go_on.ensures.any_moment told part)
 
-pub returns-in_ok-resume-in-Ok-clause-any_moment : goal.returns-in_ok-resume-in-Ok-clause-any_moment
-returns-in_ok-resume-in-Ok-clause-any_moment g c = λ told part kept.
+pub returns-in-Ok-clause-ready : goal.returns-in-Ok-clause-ready
+returns-in-Ok-clause-ready g c = λ told part kept.
+    let was = g.met.S.StateFolder.stays told c.args.folder.now in
+    let sound = kept (g.S.StateFolder.seen c.args.folder.now) was in
     let at = same_found (c.in_ok-found.ensures.value told) c.in-Some.is c.in-Ok.ensures.same in
-    taken_moments (g.met.S.StateFolder.only_now told) (g.met.S.StateFolder.stays told c.args.folder.now) kept (c.look.ensures.crash told) at (c.look.ensures.seen told) (c.in_ok-found.ensures.only told) (c.resume.ensures.any_moment told part)
-
-pub returns-in_ok-resume-in-Ok-clause-ready : goal.returns-in_ok-resume-in-Ok-clause-ready
-returns-in_ok-resume-in-Ok-clause-ready g c = λ told part kept.
-    let at = same_found (c.in_ok-found.ensures.value told) c.in-Some.is c.in-Ok.ensures.same in
-    taken_ready (g.met.S.StateFolder.stays told c.args.folder.now) kept at (c.look.ensures.seen told) (c.in_ok-found.ensures.only told) (c.in_ok-resume-in-Ok.ensures.ready told part)
+    IfOk-weaker c.go_on.result _ _ (λ o r. found_ready _ was sound.1 r)
+    (c.go_on.ensures.ready told part sound.0 (settled_there sound.1 at (c.look.ensures.seen told) (c.in_ok-found.ensures.only told)))
 
 pub returns-in_default-clause-any_moment : goal.returns-in_default-clause-any_moment
 returns-in_default-clause-any_moment g c = λ told part kept.
@@ -50,21 +48,34 @@ returns-in_default-clause-foreign g c = λ told k at foreign. let none = none_fo
 pub returns-in-Err-clause-foreign : goal.returns-in-Err-clause-foreign
 returns-in-Err-clause-foreign g c = λ told k at foreign. (refl, record { same = c.look.ensures.seen told; crash = c.look.ensures.crash told })
 
-pub returns-in_err-resume-in-Ok-clause-foreign : goal.returns-in_err-resume-in-Ok-clause-foreign
-returns-in_err-resume-in-Ok-clause-foreign g c = λ told k at foreign.
+pub returns-in-Ok-clause-foreign : goal.returns-in-Ok-clause-foreign
+returns-in-Ok-clause-foreign g c = λ told k at foreign.
     absurd (own_at (some_found (c.in_ok-found.ensures.value told) c.in-Some.is) at c.in-Ok.ensures.own c.in-Ok.ensures.root foreign)
 
-pub returns-in_ok-resume-in-Ok-clause-foreign : goal.returns-in_ok-resume-in-Ok-clause-foreign
-returns-in_ok-resume-in-Ok-clause-foreign g c = λ told k at foreign.
-    absurd (own_at (some_found (c.in_ok-found.ensures.value told) c.in-Some.is) at c.in-Ok.ensures.own c.in-Ok.ensures.root foreign)
+pub returns-in_err-found-clause-older : goal.returns-in_err-found-clause-older
+returns-in_err-found-clause-older g c = λ told k at n below older. (is_err _ c.from_residual.result c.from_residual.ensures.1, record { same = c.look.ensures.seen told; crash = c.look.ensures.crash told })
+
+pub returns-in_default-clause-older : goal.returns-in_default-clause-older
+returns-in_default-clause-older g c = λ told k at n below older. let none = none_found (g.S.StateFolder.seen c.args.folder.now) (c.in_ok-found.ensures.value told) c.in_default.is in absurd (cc (none, at.is))
+
+pub returns-in-Err-clause-older : goal.returns-in-Err-clause-older
+returns-in-Err-clause-older g c = λ told k at n below older. (refl, record { same = c.look.ensures.seen told; crash = c.look.ensures.crash told })
+
+pub returns-in-Ok-clause-older : goal.returns-in-Ok-clause-older
+returns-in-Ok-clause-older g c = λ told k at n below older.
+    let s = g.S.StateFolder.seen in
+    let is = c.in-Ok.ensures.same ∙ at_once (some_found (c.in_ok-found.ensures.value told) c.in-Some.is) at in
+    let by = subst (λ (x : Content). IsOlder c.in-Ok.checkpoint x n) (sym (c.look.ensures.seen told)) (subst (λ (x : Checkpoint). IsOlder x (s c.args.folder.now) n) (sym is) older) in
+    let away = c.go_on.ensures.older told n below by in
+    (away.0, record { same = away.1.same ∙ c.look.ensures.seen told; crash = same_twice (c.look.ensures.crash told) away.1.crash })
 
 pub returns-in_default-clause-lost : goal.returns-in_default-clause-lost
 returns-in_default-clause-lost g c = λ told k at lost. let none = none_found (g.S.StateFolder.seen c.args.folder.now) (c.in_ok-found.ensures.value told) c.in_default.is in absurd (cc (none, at.is))
 
-pub returns-in_ok-resume-in-Ok-clause-lost : goal.returns-in_ok-resume-in-Ok-clause-lost
-returns-in_ok-resume-in-Ok-clause-lost g c = λ told k at lost.
+pub returns-in-Ok-clause-lost : goal.returns-in-Ok-clause-lost
+returns-in-Ok-clause-lost g c = λ told k at lost.
     let is = c.in-Ok.ensures.same ∙ at_once (some_found (c.in_ok-found.ensures.value told) c.in-Some.is) at in
-    c.in_ok-resume-in-Ok.ensures.lost told (subst (λ (x : Content). IsLost c.in-Ok.checkpoint x) (sym (c.look.ensures.seen told)) (subst (λ (x : Checkpoint). IsLost x (g.S.StateFolder.seen c.args.folder.now)) (sym is) lost))
+    c.go_on.ensures.lost told (subst (λ (x : Content). IsLost c.in-Ok.checkpoint x) (sym (c.look.ensures.seen told)) (subst (λ (x : Checkpoint). IsLost x (g.S.StateFolder.seen c.args.folder.now)) (sym is) lost))
 
 pub returns-in_err-found-clause-any_moment : goal.returns-in_err-found-clause-any_moment
 returns-in_err-found-clause-any_moment g c = λ told part kept. unchanged (g.met.S.StateFolder.only_now told) (λ x n. kept_found kept n) (c.look.ensures.crash told)
@@ -73,3 +84,15 @@ pub returns-in-Err-clause-rightly : goal.returns-in-Err-clause-rightly
 returns-in-Err-clause-rightly g c = λ told why is.
     let same : c.in-Err.why ≡ why = cc is in
     not_own c.in-Some.found (some_found (c.in_ok-found.ensures.value told) c.in-Some.is) (subst (λ w. IsDisowned c.args.site.now c.args.identity.now c.args.plan.now.force_root c.in-Some.found w) same c.in-Err.ensures.rightly)
+
+pub returns-in-Ok-clause-closed : goal.returns-in-Ok-clause-closed
+returns-in-Ok-clause-closed g c = λ told. on_ok_weaker c.go_on.result (λ same. same ∙ ap (λ (x : Content). x.closed) (c.look.ensures.seen told)) (c.go_on.ensures.closed told)
+
+pub returns-in-Ok-clause-refused : goal.returns-in-Ok-clause-refused
+returns-in-Ok-clause-refused g c = λ told why is. c.go_on.ensures.refused told why is ∙ c.look.ensures.seen told
+
+pub returns-in-Ok-clause-rightly : goal.returns-in-Ok-clause-rightly
+returns-in-Ok-clause-rightly g c = λ told why is.
+    let found = c.in-Some.found in
+    let by = subst (λ (x : Content). IsOutdated c.in-Ok.checkpoint x why) (c.look.ensures.seen told) (c.go_on.ensures.rightly told why is) in
+    outdated found (some_found (c.in_ok-found.ensures.value told) c.in-Some.is) c.in-Ok.ensures.own (subst (λ (x : Checkpoint). IsOutdated x (g.S.StateFolder.seen c.args.folder.now) why) c.in-Ok.ensures.same by)

@@ -11,8 +11,8 @@ use Rattle.ocfl_scrub.specs.Joining.{PartRun, Ran}
 use Rattle.ocfl_scrub.specs.declared.running.RunStatus.{RunStatus}
 use Rattle.ocfl_scrub.specs.declared.running.RunStatus.TheVariants as status
 use Rattle.ocfl_state.specs.{Content.{Closed, is_closed}, declared.checkpoint_parts.Left.{Left}}
-use Rattle.ocfl_night.specs.Chain.{RootRun, joined, LeadTo, EndAt, past, past_branch, part_after, from_after, LedBy, Led, LedToEnd, IsWholeReport, AreClosed}
-use Rattle.ocfl_night.specs.Sound.{closed_text}
+use Rattle.ocfl_night.specs.Chain.{RootRun, look_of, AreLooked, joined, LeadTo, EndAt, past, past_branch, part_after, from_after, LedBy, Led, LedToEnd, IsClosedAs, AreClosed}
+use Rattle.ocfl_night.specs.{Looks.{Look, Rounds, IsOneOf}, Sound.{closed_text}}
 
 -- a beginning of nothing
 abbrev pub nothing : Text
@@ -53,6 +53,11 @@ pub leave_on : (part : Part) (c d : Cursor) (runs : List RootRun) (left : List L
 leave_on part c d runs [] l led stood = (runs, ([], (d, (sym (append-nil runs), (led, (stood, refl))))))
 leave_on part c d runs (x ∷ left) l (first, (rest, (e, (are, (leads, (there, led)))))) stood = (first, (rest, (e, (are, (leads, (there, leave_on (past_branch part x) e d rest left l led stood))))))
 
+-- it was one of these looks, as those before
+pub looked_on : (looks : Option (List Look)) (runs : List RootRun) (r : RootRun) → AreLooked looks runs → IsOneOf looks (look_of r) → AreLooked looks (runs ++ r ∷ [])
+looked_on looks [] r all one = (one, tt)
+looked_on looks (q ∷ runs) r all one = (all.0, looked_on looks runs r all.1 one)
+
 pub joined_on : (runs : List RootRun) (r : RootRun) → joined (runs ++ r ∷ []) ≡ joined runs ++ r.run.report
 joined_on runs r =
     flat_map-append (λ (x : RootRun). x.run.report) runs (r ∷ []) ∙ ap (λ (l : Text). joined runs ++ l) (append-nil r.run.report)
@@ -90,13 +95,13 @@ next_cycle_begun c is = subst (λ (s : State). (begun_in c s).cycle ≡ c.cycle 
 
 -- ---- closed reports
 
-pub closed_up : (part : Part) (n next : ℕ) (closed : List Closed) → AreClosed part n closed next → n ≤ next
-closed_up part n next [] are = omega (arith, are)
-closed_up part n next (d ∷ closed) are = let more = closed_up part (n + 1) next closed are.2 in omega (arith, more)
+pub closed_up : (rounds : Rounds) (n next : ℕ) (closed : List Closed) → AreClosed rounds n closed next → n ≤ next
+closed_up rounds n next [] are = omega (arith, are)
+closed_up rounds n next (d ∷ closed) are = let more = closed_up rounds (n + 1) next closed are.2 in omega (arith, more)
 
-pub closed_on : (part : Part) (n next : ℕ) (closed : List Closed) (d : Closed) → AreClosed part n closed next → d.cycle ≡ next → (d.whole ≡ true → IsWholeReport part d) → AreClosed part n (closed ++ d ∷ []) (next + 1)
-closed_on part n next [] d are cycle whole = (cycle ∙ are, whole, ap (λ (x : ℕ). x + 1) are)
-closed_on part n next (x ∷ closed) d are cycle whole = (are.0, are.1, closed_on part (n + 1) next closed d are.2 cycle whole)
+pub closed_on : (rounds : Rounds) (n next : ℕ) (closed : List Closed) (d : Closed) → AreClosed rounds n closed next → d.cycle ≡ next → IsClosedAs rounds d → AreClosed rounds n (closed ++ d ∷ []) (next + 1)
+closed_on rounds n next [] d are cycle whole = (cycle ∙ are, whole, ap (λ (x : ℕ). x + 1) are)
+closed_on rounds n next (x ∷ closed) d are cycle whole = (are.0, are.1, closed_on rounds (n + 1) next closed d are.2 cycle whole)
 
 differs : (a b : ℕ) → (a ≡ b → ⊥) → (a == b) ≡ false
 differs a b other = by (eqb_tells a b)
@@ -116,22 +121,22 @@ or_true true b q = refl
 or_true false b q = q
 
 -- no report of a later cycle is closed
-pub not_closed : (part : Part) (n next cycle : ℕ) (closed : List Closed) → AreClosed part n closed next → next ≤ cycle → is_closed closed cycle ≡ false
-not_closed part n next cycle [] are le = refl
-not_closed part n next cycle (d ∷ closed) are le =
-    let up = closed_up part (n + 1) next closed are.2 in
+pub not_closed : (rounds : Rounds) (n next cycle : ℕ) (closed : List Closed) → AreClosed rounds n closed next → next ≤ cycle → is_closed closed cycle ≡ false
+not_closed rounds n next cycle [] are le = refl
+not_closed rounds n next cycle (d ∷ closed) are le =
+    let up = closed_up rounds (n + 1) next closed are.2 in
     let other : (d.cycle ≡ cycle → ⊥) = λ is. omega (arith, is, are.0, up, le) in
-    or_false (d.cycle == cycle) (is_closed closed cycle) (differs d.cycle cycle other) (not_closed part (n + 1) next cycle closed are.2 le)
+    or_false (d.cycle == cycle) (is_closed closed cycle) (differs d.cycle cycle other) (not_closed rounds (n + 1) next cycle closed are.2 le)
 
 -- that of the last cycle is
-pub last_closed : (part : Part) (n last : ℕ) (closed : List Closed) → AreClosed part n closed (last + 1) → n ≤ last → is_closed closed last ≡ true
-last_closed part n last [] are le = absurd (omega (arith, are, le))
-last_closed part n last (d ∷ []) are le =
+pub last_closed : (rounds : Rounds) (n last : ℕ) (closed : List Closed) → AreClosed rounds n closed (last + 1) → n ≤ last → is_closed closed last ≡ true
+last_closed rounds n last [] are le = absurd (omega (arith, are, le))
+last_closed rounds n last (d ∷ []) are le =
     let same : d.cycle ≡ last = omega (arith, are.0, are.2) in
     or_left (d.cycle == last) false (eq-eqb d.cycle last same)
-last_closed part n last (d ∷ e ∷ closed) are le =
-    let up = closed_up part (n + 1 + 1) (last + 1) closed are.2.2 in
-    or_true (d.cycle == last) (is_closed (e ∷ closed) last) (last_closed part (n + 1) last (e ∷ closed) are.2 (omega (arith, up)))
+last_closed rounds n last (d ∷ e ∷ closed) are le =
+    let up = closed_up rounds (n + 1 + 1) (last + 1) closed are.2.2 in
+    or_true (d.cycle == last) (is_closed (e ∷ closed) last) (last_closed rounds (n + 1) last (e ∷ closed) are.2 (omega (arith, up)))
 
 pub closed_text_on : (closed : List Closed) (d : Closed) → closed_text (closed ++ d ∷ []) ≡ closed_text closed ++ d.report
 closed_text_on closed d =

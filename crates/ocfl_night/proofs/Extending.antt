@@ -1,26 +1,171 @@
--- What a run brings to the report.
-use Rattle.std.proofs.{Common.{◌≡◌, ◌≢◌, [], ◌++◌, ◌∙◌, ap, subst}, lemmas.List.{append-nil}}
-use Rattle.ocfl_tree.specs.{Place.{Text}, StorageRoot.{StorageRoot}}
-use Rattle.ocfl_audit.specs.{Parts.{Part}, Runs.{Limits}}
+-- What a run brings to the report, and what it looked at.
+use Rattle.std.proofs.{Common.{◌≡◌, ◌≢◌, ◌+◌, ◌≤◌, ℕ, [], ◌++◌, ◌∙◌, Bool, true, List, length, Option, None, Some, ap, arith, append_assoc, refl, subst, sym}, lemmas.List.{append-nil, append_cancel_left}}
+use Rattle.ocfl_tree.specs.{Place.{Text, Place}, Ascending.{IsAmong}, StorageRoot.{StorageRoot}}
+use Rattle.ocfl_tree.specs.{Store.{Store, failed_openings}, declared.store.Opening.{Opening}}
+use Rattle.ocfl_report.specs.Text.{text}
+use Rattle.ocfl_audit.specs.{Audit.{Unread}, Parts.{Part}, Runs.{Limits}, Trail.{unread_of}}
+use Rattle.ocfl_audit.specs.Due.{hashed_among}
+use Rattle.ocfl_audit.proofs.Trails.{unread_behind}
 use Rattle.ocfl_cursor.specs.Cursor.{Cursor}
-use Rattle.ocfl_scrub.specs.{Joining.{PartRun, Ran}, declared.running.RunEnd.{RunEnd}}
+use Rattle.ocfl_scrub.specs.{Call.{Call, known_call}, Keeping.{GoesOnFrom, RunsOn}, Joining.{PartRun, Ran, items_out}}
+use Rattle.ocfl_scrub.specs.Running.{RunEndsWithin, RunsFromWithin, place_in}
+use Rattle.ocfl_scrub.specs.{declared.running.RunEnd.{RunEnd}, declared.running.RunStatus.{RunStatus}}
 use Rattle.ocfl_scrub.specs.declared.running.RunStatus.TheVariants as status
 use Rattle.ocfl_scrub.specs.declared.stop.ReportStop.TheVariants.{Output}
-use Rattle.ocfl_night.specs.Steps.{IsRun}
+use Rattle.ocfl_scrub.proofs.CycleRuns.{report_at}
+use Rattle.ocfl_night.specs.{Looks.{Counts, Look, look_between, opened_since}, Steps.{IsRun}}
+use Rattle.ocfl_night.proofs.Looks.{counts_by, counts_did, failed_append, first_within, since_is}
 
-abbrev pub HasReport : StorageRoot → Part → Cursor → Limits → RunEnd → Text → Text → Type 0
-HasReport root part c limits ran old new = (r : PartRun) × ((cut : Text) × ((r.limits ≡ limits) × ((r.ran ≡ ran)
-    × ((new ≡ old ++ (r.report ++ cut)) × ((ran.end ≢ status.Stopped Output → cut ≡ []) × Ran root part c r)))))
+-- ---- what a run counts
 
-pub run_of : (root : StorageRoot) (part : Part) (c : Cursor) (limits : Limits) (ran : RunEnd) (old new : Text) → HasReport root part c limits ran old new → old ≡ [] → ran.end ≢ status.Stopped Output → IsRun part c root new ran
-run_of root part c limits ran old new h empty whole =
-    let r = h.0 in
-    let rest = h.1.1 in
-    let cut = h.1.0 in
-    let text : new ≡ r.report = rest.1.1.0 ∙ ap (λ (l : Text). l ++ (r.report ++ cut)) empty ∙ ap (λ (l : Text). r.report ++ l) (rest.1.1.1.0 whole) ∙ append-nil r.report in
-    record { run = r; ran_is = rest.1.0; made = rest.1.1.1.1; lines_are = text }
+counts_ends : (call : Call) (part : Part) (from last : Option Place) (l : Limits) (spent files : ℕ) (finding : Bool) (end : RunStatus) → RunEndsWithin call part from last l spent files finding end → Counts call.before call.after
+counts_ends call part from last l spent files finding status.Ended h = counts_did h.looks.audits.did
+counts_ends call part from last l spent files finding status.Spent h = counts_did h.1.looks.audits.did
+counts_ends call part from last l spent files finding (status.Stopped why) h = counts_did h.looks.fails.did
+counts_ends call part from last l spent files finding status.Worn h = absurd h
+
+-- ---- what it wrote and opened
+
+-- a run from one store to another, with all that it opened
+record Reported (root : StorageRoot) (s t : Store) (old new : Text) (part : Part) (c : Cursor) (ran : RunEnd) : Type 0 where
+  pub run : PartRun
+  pub cut : Text
+  pub ran_is : run.ran ≡ ran
+  pub wrote : new ≡ old ++ (run.report ++ cut)
+  pub uncut : ran.end ≢ status.Stopped Output → cut ≡ []
+  pub made : Ran root part c run
+  pub opened_is : t.openings ≡ s.openings ++ run.opened
+
+module _ (root : StorageRoot) (s t : Store) (old : Text) (part : Part) (c : Cursor) (l : Limits) where
+  ran_by : (ran : RunEnd) (report cut : Text) (opened : List Opening) (new : Text) → old ++ (report ++ cut) ≡ new → t.openings ≡ s.openings ++ opened
+      → (h : RunsFromWithin (known_call root s t old new) part c l ran)
+      → report ≡ text (items_out (known_call root s t old new) part (place_in c.state) h.last l ran.spent ran.files ran.found ran.end h.run)
+      → Ran root part c (record { limits = l; report = report; opened = opened; ran = ran })
+  ran_by ran report cut opened new e openings =
+      subst (λ (x : Text). (h : RunsFromWithin (known_call root s t old x) part c l ran)
+      → report ≡ text (items_out (known_call root s t old x) part (place_in c.state) h.last l ran.spent ran.files ran.found ran.end h.run) → Ran root part c (record { limits = l; report = report; opened = opened; ran = ran })) e
+      (λ h is. record { before = s; behind = t; old = old; cut = cut; runs = h; report_is = is; opened_is = openings })
+
+  reported : (ran : RunEnd) (new : Text) → RunsFromWithin (known_call root s t old new) part c l ran → Reported root s t old new part c ran
+  reported ran new h =
+      let r = report_at root s t old new part c l ran.cursor ran.spent ran.files ran.found ran.end h in
+      let report : Text = text (items_out (known_call root s t old new) part (place_in c.state) h.last l ran.spent ran.files ran.found ran.end h.run) in
+      record {
+        run = record { limits = l; report = report; opened = r.opened; ran = ran };
+        cut = r.cut;
+        ran_is = refl;
+        wrote = r.wrote;
+        uncut = r.uncut;
+        made = ran_by ran report r.cut r.opened new (sym r.wrote) r.opened_is h refl;
+        opened_is = r.opened_is;
+      }
+
+-- ---- what it looked at
+
+-- a run from one store to another, with all that it looked at there
+record Looked (root : StorageRoot) (s t : Store) (old new : Text) (part : Part) (c : Cursor) (ran : RunEnd) : Type 0 where
+  pub run : PartRun
+  pub cut : Text
+  pub ran_is : run.ran ≡ ran
+  pub wrote : new ≡ old ++ (run.report ++ cut)
+  pub uncut : ran.end ≢ status.Stopped Output → cut ≡ []
+  pub made : Ran root part c run
+  pub unread : unread_of root (opened_since s t) ≡ unread_of root run.opened
+  pub counts : Counts s t
+
+module _ (root : StorageRoot) (s t : Store) (old new : Text) (part : Part) (c : Cursor) (l : Limits) (ran : RunEnd) where
+  -- it began a walk
+  looked_first : RunsFromWithin (known_call root s t old new) part c l ran → Looked root s t old new part c ran
+  looked_first h =
+      let r = reported root s t old part c l ran new h in
+      record {
+        run = r.run;
+        cut = r.cut;
+        ran_is = r.ran_is;
+        wrote = r.wrote;
+        uncut = r.uncut;
+        made = r.made;
+        unread = ap (unread_of root) (since_is s t r.run.opened r.opened_is);
+        counts = counts_ends (known_call root s t old new) part (place_in c.state) h.last l ran.spent ran.files ran.found ran.end h.run;
+      }
+
+  -- it went on with one
+  module _ (p : Place) (h : GoesOnFrom (known_call root s t old new) part p c l ran) where
+    abbrev added : List Opening
+    added = h.alike.added.openings
+
+    abbrev down : List Opening
+    down = h.down.trail
+
+    abbrev way : List Opening
+    way = h.way.trail
+
+    here : t.openings ≡ s.openings ++ added
+    here = ap (λ (x : Store). x.openings) h.alike.here
+
+    there : h.behind.openings ≡ h.before.openings ++ (down ++ (way ++ added))
+    there =
+        ap (λ (x : Store). x.openings) h.alike.there
+        ∙ ap (λ (os : List Opening). os ++ added) (h.way.audits.did.openings_are ∙ ap (λ (os : List Opening). os ++ way) h.down.audits.did.openings_are)
+        ∙ append_assoc (h.before.openings ++ down) way added
+        ∙ append_assoc h.before.openings down (way ++ added)
+
+    none_down : unread_of root (down ++ (way ++ added)) ≡ unread_of root added
+    unfolding hashed_among
+    none_down = unread_behind root down (way ++ added) h.down.audits.opened ∙ unread_behind root way added h.way.audits.opened
+
+    no_failure : (trail : List Opening) → unread_of root trail ≡ unread_of root [] → length (unread_of root trail) ≡ 0
+    no_failure trail is = ap length is
+
+    failed : failed_openings added ≤ h.alike.added.failures
+    unfolding hashed_among
+    failed =
+        let counts = counts_ends (known_call root h.before h.behind old new) part (place_in c.state) h.runs.last l ran.spent ran.files ran.found ran.end h.runs.run in
+        let since : failed_openings (opened_since h.before h.behind) ≡ failed_openings down + (failed_openings way + failed_openings added) =
+        ap failed_openings (since_is h.before h.behind (down ++ (way ++ added)) there) ∙ failed_append down (way ++ added) ∙ ap (λ (n : ℕ). failed_openings down + n) (failed_append way added) in
+        let one : length (unread_of root down) ≡ 0 = no_failure down (sym (ap (unread_of root) (append-nil down)) ∙ unread_behind root down [] h.down.audits.opened) in
+        let two : length (unread_of root way) ≡ 0 = no_failure way (sym (ap (unread_of root) (append-nil way)) ∙ unread_behind root way [] h.way.audits.opened) in
+        omega (arith, counts.failures, since, one, two, h.down.audits.did.failures_are, h.way.audits.did.failures_are, ap (λ (x : Store). x.failures) h.alike.there)
+
+    looked_on : Looked root s t old new part c ran
+    looked_on =
+        let r = reported root h.before h.behind old part c l ran new h.runs in
+        let opened : r.run.opened ≡ down ++ (way ++ added) = append_cancel_left h.before.openings r.run.opened (down ++ (way ++ added)) (sym r.opened_is ∙ there) in
+        record {
+          run = r.run;
+          cut = r.cut;
+          ran_is = r.ran_is;
+          wrote = r.wrote;
+          uncut = r.uncut;
+          made = r.made;
+          unread = ap (unread_of root) (since_is s t added here) ∙ sym (ap (unread_of root) opened ∙ none_down);
+          counts = counts_by s t added here (omega (arith, failed, ap (λ (x : Store). x.failures) h.alike.here));
+        }
+
+  looked_by : (met : Option Place) → RunsOn (known_call root s t old new) part met c l ran → Looked root s t old new part c ran
+  looked_by None h = looked_first h
+  looked_by (Some p) h = looked_on p h
+
+-- ---- what it brings
+
+module _ (root : StorageRoot) (s t : Store) (old new : Text) (part : Part) (c : Cursor) (l : Limits) (ran : RunEnd) (met : Option Place) (h : RunsOn (known_call root s t old new) part met c l ran) where
+  pub run_counts : Counts s t
+  run_counts = (looked_by root s t old new part c l ran met h).counts
+
+  -- and then the root was looked at
+  pub run_of : {u : Store} → Counts t u → old ≡ [] → ran.end ≢ status.Stopped Output → IsRun part c (look_between true root s u) new ran
+  run_of {u} after empty whole =
+      let r = looked_by root s t old new part c l ran met h in
+      let text : new ≡ r.run.report = r.wrote ∙ ap (λ (x : Text). x ++ (r.run.report ++ r.cut)) empty ∙ ap (λ (x : Text). r.run.report ++ x) (r.uncut whole) ∙ append-nil r.run.report in
+      record {
+        run = r.run;
+        ran_is = r.ran_is;
+        made = r.made;
+        lines_are = text;
+        looked = λ e is. (first_within r.counts after root).unread e (subst (λ (x : Unread). IsAmong x e) (sym r.unread) is);
+      }
 
 -- of a part, a cursor and lines that are known by two names
-pub run_at : {root : StorageRoot} {rest part : Part} {made c : Cursor} {ran : RunEnd} {new lines : Text} → rest ≡ part → made ≡ c → new ≡ lines → IsRun rest made root new ran → IsRun part c root lines ran
-run_at {root} {rest} {part} {made} {c} {ran} {new} there same text run =
-    subst (λ (l : Text). IsRun part c root l ran) text (subst (λ (x : Cursor). IsRun part x root new ran) same (subst (λ (y : Part). IsRun y made root new ran) there run))
+pub run_at : {look : Look} {rest part : Part} {made c : Cursor} {ran : RunEnd} {new lines : Text} → rest ≡ part → made ≡ c → new ≡ lines → IsRun rest made look new ran → IsRun part c look lines ran
+run_at {look} {rest} {part} {made} {c} {ran} {new} there same text run =
+    subst (λ (l : Text). IsRun part c look l ran) text (subst (λ (x : Cursor). IsRun part x look new ran) same (subst (λ (y : Part). IsRun y made look new ran) there run))

@@ -3,7 +3,7 @@ use Rattle.std.proofs.Common.{◌≡◌, inr, inl, refl, ℕ, [], ◌++◌, Opti
 use Rattle.std.proofs.{KnownBytes.{Appends-nil, Appends-trans}, lemmas.List.{append-nil}}
 use Rattle.std.specs.{Result.{IsErr, IsErrAnd, IsOk, OnOk}, Io.KnownBytes.{Appends}}
 use Rattle.ocfl_tree.specs.Place.{Text}
-use Rattle.ocfl_audit.specs.Parts.{Part}
+use Rattle.ocfl_night.specs.Looks.{Rounds}
 use Rattle.ocfl_state.specs.{Checkpoint.{Checkpoint}, Content.{Content}}
 use Rattle.ocfl_state.specs.Crash.{Outcomes, Only, Same, Passes, LeavesOnly}
 use Rattle.ocfl_night.specs.Sound.{Stands, IsSoundAt, IsSound, IsReady, IsHeard, IsHeardReady, IsFound, IsFoundReady, IsHeardSince, IsReadySince}
@@ -20,16 +20,16 @@ grew_none s = ([], Appends-nil s)
 pub grew_on : (s0 s1 s2 : Option Text) → Grew s0 s1 → Grew s1 s2 → Grew s0 s2
 grew_on s0 s1 s2 a b = (a.0 ++ b.0, Appends-trans s0 s1 s2 a.0 b.0 a.1 b.1)
 
-module _ {part : Part} {t : Text} {s0 s1 : Option Text} {c : Content} where
-  pub not_more : IsSoundAt part t c → Grew s0 s1 → IsHeard part t s0 s1 c
+module _ {rounds : Rounds} {t : Text} {s0 s1 : Option Text} {c : Content} where
+  pub not_more : IsSoundAt rounds t c → Grew s0 s1 → IsHeard rounds t s0 s1 c
   not_more sound grew = record {
     more = [];
-    sound = subst (λ (x : Text). IsSoundAt part x c) (sym (append-nil t)) sound;
+    sound = subst (λ (x : Text). IsSoundAt rounds x c) (sym (append-nil t)) sound;
     others = grew.0;
     took = grew.1;
   }
 
-  all_more : (more : Text) → IsSoundAt part (t ++ more) c → Appends s0 s1 more → IsHeard part t s0 s1 c
+  all_more : (more : Text) → IsSoundAt rounds (t ++ more) c → Appends s0 s1 more → IsHeard rounds t s0 s1 c
   all_more more sound took = record {
     more = more;
     sound = sound;
@@ -37,8 +37,8 @@ module _ {part : Part} {t : Text} {s0 s1 : Option Text} {c : Content} where
     took = subst (Appends s0 s1) (sym (append-nil more)) took;
   }
 
-module _ {part : Part} {t : Text} {s0 s1 s2 : Option Text} {c : Content} where
-  heard_longer : Grew s1 s2 → IsHeard part t s0 s1 c → IsHeard part t s0 s2 c
+module _ {rounds : Rounds} {t : Text} {s0 s1 s2 : Option Text} {c : Content} where
+  heard_longer : Grew s1 s2 → IsHeard rounds t s0 s1 c → IsHeard rounds t s0 s2 c
   heard_longer grew h = record {
     more = h.more;
     sound = h.sound;
@@ -46,32 +46,32 @@ module _ {part : Part} {t : Text} {s0 s1 s2 : Option Text} {c : Content} where
     took = subst (Appends s0 s2) (append_assoc h.more h.others grew.0) (Appends-trans s0 s1 s2 (h.more ++ h.others) grew.0 h.took grew.1);
   }
 
-  heard_on : (a : Text) → Appends s0 s1 a → IsHeard part (t ++ a) s1 s2 c → IsHeard part t s0 s2 c
+  heard_on : (a : Text) → Appends s0 s1 a → IsHeard rounds (t ++ a) s1 s2 c → IsHeard rounds t s0 s2 c
   heard_on a took h = record {
     more = a ++ h.more;
-    sound = subst (λ (x : Text). IsSoundAt part x c) (append_assoc t a h.more) h.sound;
+    sound = subst (λ (x : Text). IsSoundAt rounds x c) (append_assoc t a h.more) h.sound;
     others = h.others;
     took = subst (Appends s0 s2) (sym (append_assoc a h.more h.others)) (Appends-trans s0 s1 s2 a (h.more ++ h.others) took h.took);
   }
 
-pub same_ready : {F : Type 0} {seen : F → Content} {may_leave : F → Outcomes} {part : Part} {t : Text} {s : Option Text} {k : Checkpoint} {f : F} → IsReady seen may_leave part t k f → IsHeardReady seen may_leave part t s s k f
-same_ready {seen = seen} {may_leave} {part} {t} {s} {k} {f} r = record { more = []; ready = subst (λ (x : Text). IsReady seen may_leave part x k f) (sym (append-nil t)) r; took = Appends-nil s }
+pub same_ready : {F : Type 0} {seen : F → Content} {may_leave : F → Outcomes} {rounds : Rounds} {t : Text} {s : Option Text} {k : Checkpoint} {f : F} → IsReady seen may_leave rounds t k f → IsHeardReady seen may_leave rounds t s s k f
+same_ready {seen = seen} {may_leave} {rounds} {t} {s} {k} {f} r = record { more = []; ready = subst (λ (x : Text). IsReady seen may_leave rounds x k f) (sym (append-nil t)) r; took = Appends-nil s }
 
 -- nothing was said
-pub silent : {F : Type 0} {moment : F → ℕ} {left_since : F → ℕ → Outcomes} {part : Part} {t : Text} {s0 s1 : Option Text} {f g : F} → Grew s0 s1 → LeavesOnly moment left_since f g (IsSoundAt part t) → LeavesOnly moment left_since f g (IsHeard part t s0 s1)
+pub silent : {F : Type 0} {moment : F → ℕ} {left_since : F → ℕ → Outcomes} {rounds : Rounds} {t : Text} {s0 s1 : Option Text} {f g : F} → Grew s0 s1 → LeavesOnly moment left_since f g (IsSoundAt rounds t) → LeavesOnly moment left_since f g (IsHeard rounds t s0 s1)
 silent grew p = leaves_weaker (λ c is. not_more is grew) p
 
 -- something was said, and then no more
-pub said_on : {F : Type 0} {seen : F → Content} {may_leave : F → Outcomes} {moment : F → ℕ} {left_since : F → ℕ → Outcomes} {part : Part} {t : Text} {s0 s1 : Option Text} {k : Checkpoint} {f g h : F} (said : IsHeardReady seen may_leave part t s0 s1 k g)
-    → LeavesOnly moment left_since f g (IsHeard part t s0 s1) → LeavesOnly moment left_since g h (IsSoundAt part (t ++ said.more)) → LeavesOnly moment left_since f h (IsHeard part t s0 s1)
+pub said_on : {F : Type 0} {seen : F → Content} {may_leave : F → Outcomes} {moment : F → ℕ} {left_since : F → ℕ → Outcomes} {rounds : Rounds} {t : Text} {s0 s1 : Option Text} {k : Checkpoint} {f g h : F} (said : IsHeardReady seen may_leave rounds t s0 s1 k g)
+    → LeavesOnly moment left_since f g (IsHeard rounds t s0 s1) → LeavesOnly moment left_since g h (IsSoundAt rounds (t ++ said.more)) → LeavesOnly moment left_since f h (IsHeard rounds t s0 s1)
 said_on said p q = joined_moments p (leaves_weaker (λ c is. all_more said.more is said.took) q)
 
 -- all that a checkpoint did not say yet is said
-module _ {F : Type 0} {seen : F → Content} {may_leave : F → Outcomes} {moment : F → ℕ} {left_since : F → ℕ → Outcomes} {part : Part} {t : Text} {k next : Checkpoint} {s0 s1 : Option Text} {f g h : F}
-    (r : IsReady seen may_leave part t k f) (took : Appends s0 s1 (unsaid k (seen f))) (p : Passes may_leave moment left_since Same f g) (same : seen g ≡ seen f)
-    (stands : Stands part (t ++ unsaid k (seen f)) next (seen f)) where
+module _ {F : Type 0} {seen : F → Content} {may_leave : F → Outcomes} {moment : F → ℕ} {left_since : F → ℕ → Outcomes} {rounds : Rounds} {t : Text} {k next : Checkpoint} {s0 s1 : Option Text} {f g h : F}
+    (r : IsReady seen may_leave rounds t k f) (took : Appends s0 s1 (unsaid k (seen f))) (p : Passes may_leave moment left_since Same f g) (same : seen g ≡ seen f)
+    (stands : Stands rounds (t ++ unsaid k (seen f)) next (seen f)) where
   -- a checkpoint is put, and says so
-  pub heard_put : OnlyNow may_leave moment left_since → Passes may_leave moment left_since (MayCheckpoint next) g h → LeavesOnly moment left_since f h (IsHeard part t s0 s1)
+  pub heard_put : OnlyNow may_leave moment left_since → Passes may_leave moment left_since (MayCheckpoint next) g h → LeavesOnly moment left_since f h (IsHeard rounds t s0 s1)
   heard_put only_now q =
       let there = ready_on r same p in
       let grew : Grew s0 s1 = (unsaid k (seen f), took) in
@@ -79,54 +79,54 @@ module _ {F : Type 0} {seen : F → Content} {may_leave : F → Outcomes} {momen
       (silent grew (unchanged only_now (ready_sound r) p))
       (leaves only_now (λ c n. not_more (ready_sound there c n) grew) (λ d c n mark. put d c (there.only d n) (not_more (ready_sound there d n) grew) mark) q)
     where
-      put : (d c : Content) → d ≡ seen g → IsHeard part t s0 s1 d → MayCheckpoint next d c → IsHeard part t s0 s1 c
-      put d c at old (inl is) = subst (IsHeard part t s0 s1) (sym is) old
-      put d c at old (inr (bytes, (text, is))) = all_more (unsaid k (seen f)) (sound_holds (marked_put (subst (Stands part (t ++ unsaid k (seen f)) next) (sym (at ∙ same)) stands) (record { bytes = bytes; text = text; put = is }))) took
+      put : (d c : Content) → d ≡ seen g → IsHeard rounds t s0 s1 d → MayCheckpoint next d c → IsHeard rounds t s0 s1 c
+      put d c at old (inl is) = subst (IsHeard rounds t s0 s1) (sym is) old
+      put d c at old (inr (bytes, (text, is))) = all_more (unsaid k (seen f)) (sound_holds (marked_put (subst (Stands rounds (t ++ unsaid k (seen f)) next) (sym (at ∙ same)) stands) (record { bytes = bytes; text = text; put = is }))) took
 
-  pub put_heard : IsCheckpointPut next (seen g) (seen h) → next.report.bytes ≡ k.report.bytes → next.phase ≡ k.phase → Only (seen h) (may_leave h) → IsHeardReady seen may_leave part t s0 s1 next h
+  pub put_heard : IsCheckpointPut next (seen g) (seen h) → next.report.bytes ≡ k.report.bytes → next.phase ≡ k.phase → Only (seen h) (may_leave h) → IsHeardReady seen may_leave rounds t s0 s1 next h
   put_heard put bytes phase only = record {
     more = unsaid k (seen f);
-    ready = put_on (ready_on r same p) (subst (Stands part (t ++ unsaid k (seen f)) next) (sym same) stands) put bytes phase only;
+    ready = put_on (ready_on r same p) (subst (Stands rounds (t ++ unsaid k (seen f)) next) (sym same) stands) put bytes phase only;
     took = took;
   }
 
 -- ---- since a night began
 
-module _ {part : Part} {outcomes : Outcomes} {s0 s1 : Option Text} {c : Content} where
-  pub found_heard : Grew s0 s1 → IsFound part outcomes c → IsHeardSince part outcomes s0 s1 c
+module _ {rounds : Rounds} {outcomes : Outcomes} {s0 s1 : Option Text} {c : Content} where
+  pub found_heard : Grew s0 s1 → IsFound rounds outcomes c → IsHeardSince rounds outcomes s0 s1 c
   found_heard grew h = record { from = h.from; was = h.was; t = h.t; before = h.before; heard = not_more h.now grew }
 
-  pub since_longer : {s2 : Option Text} → Grew s1 s2 → IsHeardSince part outcomes s0 s1 c → IsHeardSince part outcomes s0 s2 c
+  pub since_longer : {s2 : Option Text} → Grew s1 s2 → IsHeardSince rounds outcomes s0 s1 c → IsHeardSince rounds outcomes s0 s2 c
   since_longer grew h = record { from = h.from; was = h.was; t = h.t; before = h.before; heard = heard_longer grew h.heard }
 
-  pub since_sound : IsHeardSince part outcomes s0 s1 c → IsSound part c
+  pub since_sound : IsHeardSince rounds outcomes s0 s1 c → IsSound rounds c
   since_sound h = (h.t ++ h.heard.more, h.heard.sound)
 
   module _ {F : Type 0} {seen : F → Content} {may_leave : F → Outcomes} {k : Checkpoint} {f : F} where
-    pub since_found : (r : IsFoundReady seen may_leave part outcomes k f) → IsHeard part r.t s0 s1 c → IsHeardSince part outcomes s0 s1 c
+    pub since_found : (r : IsFoundReady seen may_leave rounds outcomes k f) → IsHeard rounds r.t s0 s1 c → IsHeardSince rounds outcomes s0 s1 c
     since_found r h = record { from = r.from; was = r.was; t = r.t; before = r.before; heard = h }
 
-    pub since_ready : {s2 : Option Text} (r : IsReadySince seen may_leave part outcomes s0 s1 k f) → IsHeard part (r.t ++ r.heard.more) s1 s2 c → IsHeardSince part outcomes s0 s2 c
+    pub since_ready : {s2 : Option Text} (r : IsReadySince seen may_leave rounds outcomes s0 s1 k f) → IsHeard rounds (r.t ++ r.heard.more) s1 s2 c → IsHeardSince rounds outcomes s0 s2 c
     since_ready r h = record { from = r.from; was = r.was; t = r.t; before = r.before; heard = heard_on r.heard.more r.heard.took h }
 
 -- of a part that is known by two names
-module _ {F : Type 0} {seen : F → Content} {may_leave : F → Outcomes} {outcomes : Outcomes} {s0 s1 : Option Text} {k : Checkpoint} {a : F} {part given : Part} (same : given ≡ part) (r : IsReadySince seen may_leave part outcomes s0 s1 k a) where
+module _ {F : Type 0} {seen : F → Content} {may_leave : F → Outcomes} {outcomes : Outcomes} {s0 s1 : Option Text} {k : Checkpoint} {a : F} {rounds given : Rounds} (same : given ≡ rounds) (r : IsReadySince seen may_leave rounds outcomes s0 s1 k a) where
   pub ready_since : IsReady seen may_leave given (r.t ++ r.heard.more) k a
-  ready_since = subst (λ (p : Part). IsReady seen may_leave p (r.t ++ r.heard.more) k a) (sym same) r.heard.ready
+  ready_since = subst (λ (p : Rounds). IsReady seen may_leave p (r.t ++ r.heard.more) k a) (sym same) r.heard.ready
 
-  pub heard_through : {moment : F → ℕ} {left_since : F → ℕ → Outcomes} {s2 : Option Text} {f b : F} → LeavesOnly moment left_since f a (IsHeardSince part outcomes s0 s1) → Grew s1 s2
-      → LeavesOnly moment left_since a b (IsHeard given (r.t ++ r.heard.more) s1 s2) → LeavesOnly moment left_since f b (IsHeardSince part outcomes s0 s2)
+  pub heard_through : {moment : F → ℕ} {left_since : F → ℕ → Outcomes} {s2 : Option Text} {f b : F} → LeavesOnly moment left_since f a (IsHeardSince rounds outcomes s0 s1) → Grew s1 s2
+      → LeavesOnly moment left_since a b (IsHeard given (r.t ++ r.heard.more) s1 s2) → LeavesOnly moment left_since f b (IsHeardSince rounds outcomes s0 s2)
   heard_through {s2 = s2} p grew q =
       joined_moments
       (leaves_weaker (λ c h. since_longer grew h) p)
-      (leaves_weaker (λ c h. since_ready r (subst (λ (p : Part). IsHeard p (r.t ++ r.heard.more) s1 s2 c) same h)) q)
+      (leaves_weaker (λ c h. since_ready r (subst (λ (p : Rounds). IsHeard p (r.t ++ r.heard.more) s1 s2 c) same h)) q)
 
-pub kept_found : {part : Part} {outcomes : Outcomes} {c : Content} → ((d : Content) → outcomes d → IsSound part d) → outcomes c → IsFound part outcomes c
+pub kept_found : {rounds : Rounds} {outcomes : Outcomes} {c : Content} → ((d : Content) → outcomes d → IsSound rounds d) → outcomes c → IsFound rounds outcomes c
 kept_found {c = c} kept was = let s = kept c was in record { from = c; was = was; t = s.0; before = s.1; now = s.1 }
 
 -- nothing is called, and nothing was said
-pub begun_heard : {F : Type 0} {may_leave : F → Outcomes} {moment : F → ℕ} {left_since : F → ℕ → Outcomes} {part : Part} {s : Option Text} {f : F} → OnlyNow may_leave moment left_since
-    → ((d : Content) → may_leave f d → IsSound part d) → LeavesOnly moment left_since f f (IsHeardSince part (may_leave f) s s)
+pub begun_heard : {F : Type 0} {may_leave : F → Outcomes} {moment : F → ℕ} {left_since : F → ℕ → Outcomes} {rounds : Rounds} {s : Option Text} {f : F} → OnlyNow may_leave moment left_since
+    → ((d : Content) → may_leave f d → IsSound rounds d) → LeavesOnly moment left_since f f (IsHeardSince rounds (may_leave f) s s)
 begun_heard only_now kept = unmoved only_now (λ c n. found_heard (grew_none _) (kept_found kept n))
 
 -- what holds if there is a value, if there is one

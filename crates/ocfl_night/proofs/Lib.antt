@@ -1,4 +1,5 @@
 pub mod Moments
+pub mod Looks
 pub mod Chains
 pub mod Sound
 pub mod Heard

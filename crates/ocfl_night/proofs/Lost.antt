@@ -3,7 +3,7 @@ use Rattle.std.proofs.Common.{◌≡◌, ◌↔◌, inl, inr, [], take, refl, sy
 use Rattle.std.proofs.lemmas.List.{append-nil, take_all, length-take}
 use Rattle.std.specs.Prelude.{IsTrue, not}
 use Rattle.ocfl_tree.specs.Place.{Text}
-use Rattle.ocfl_audit.specs.Parts.{Part}
+use Rattle.ocfl_night.specs.Looks.{Rounds}
 use Rattle.ocfl_state.specs.{Checkpoint.{Checkpoint}, Content.{Content, with_report, is_closed}}
 use Rattle.ocfl_state.specs.{Finding.{IsWhole, IsWholeWith, IfLost}, Pieces.{HasTail, tail_of}}
 use Rattle.ocfl_state.specs.declared.checkpoint_parts.Phase.TheVariants.{Closing}
@@ -29,10 +29,10 @@ whole_has_tail found digests P is fits = (subst (λ (f : FoundReport). IsWhole f
 -- ---- what a checkpoint speaks of
 
 -- in a sound folder it is there, unless it is closed
-pub begins_as : (part : Part) (t : Text) (k : Checkpoint) (c : Content) → Stands part t k c → (k.phase ≡ Closing → is_closed c.closed k.cursor.cycle ≡ false) → BeginsAs k.report c.report
-begins_as part t k c (inl o) there = record { text = o.text; is = o.report; begins = o.begins }
-begins_as part t k c (inr (inl w)) there = record { text = c.report; is = w.report; begins = ([], sym (append-nil c.report)) }
-begins_as part t k c (inr (inr w)) there = let shut = shut_closing w in let open_still = there w.phase in absurd (cc (shut, open_still))
+pub begins_as : (rounds : Rounds) (t : Text) (k : Checkpoint) (c : Content) → Stands rounds t k c → (k.phase ≡ Closing → is_closed c.closed k.cursor.cycle ≡ false) → BeginsAs k.report c.report
+begins_as rounds t k c (inl o) there = record { text = o.text; is = o.report; begins = o.begins }
+begins_as rounds t k c (inr (inl w)) there = record { text = c.report; is = w.report; begins = ([], sym (append-nil c.report)) }
+begins_as rounds t k c (inr (inr w)) there = let shut = shut_closing w in let open_still = there w.phase in absurd (cc (shut, open_still))
 
 -- ---- a report that is cut to the length of a mark
 

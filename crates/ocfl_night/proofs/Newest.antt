@@ -2,9 +2,8 @@
 use Rattle.std.proofs.Common.{◌≡◌, ◌≢◌, inl, inr, ℕ, [], ◌≤◌, ◌∙◌, ap, subst, arith}
 use Rattle.std.specs.Prelude.{IfSome, IsTrue, Bool, false, Option, Some, None}
 use Rattle.ocfl_tree.specs.{Place.{Text}, Store.{Store}}
-use Rattle.ocfl_audit.specs.Parts.{Part}
 use Rattle.ocfl_state.specs.{Checkpoint.{Checkpoint}, Content.{Content, is_closed}}
-use Rattle.ocfl_night.specs.{Chain.{AreClosed}, Sound.{Stands, IsSound}}
+use Rattle.ocfl_night.specs.{Chain.{AreClosed}, Looks.{Rounds}, Sound.{Stands, IsSound}}
 use Rattle.ocfl_state.specs.declared.checkpoint_parts.Phase.TheVariants.{Closing}
 use Rattle.ocfl_night.specs.{Older.{IsBesides, IsOlder, IsToCome, open_cycle}, Refusing.{IsRefused, no_root, in_folder, none, unread, not_own, outdated}}
 use Rattle.ocfl_night.specs.{declared.plan.Plan.{Plan}, declared.site.Site.{Site}}
@@ -12,27 +11,27 @@ use Rattle.ocfl_night.specs.declared.refusal.Refusal.TheVariants.{Older}
 use Rattle.ocfl_night.proofs.{Chains.{next_cycle_begun, not_closed}, Sound.{holds_sound, not_shut}}
 
 -- no closed report is of a cycle from that one on
-not_to_come : (part : Part) (k : Checkpoint) (c : Content) (n : ℕ) {next : ℕ} → AreClosed part 1 c.closed next → next ≤ open_cycle k → IsToCome k n → IsTrue (is_closed c.closed n) → ⊥
-not_to_come part k c n {next} are le (inl is) shut = let unshut : is_closed c.closed n ≡ false = not_closed part 1 next n c.closed are (omega (arith, le, is)) in cc (unshut, shut)
-not_to_come part k c n {next} are le (inr is) shut = let unshut : is_closed c.closed n ≡ false = not_closed part 1 next n c.closed are (omega (arith, le, is)) in cc (unshut, shut)
+not_to_come : (rounds : Rounds) (k : Checkpoint) (c : Content) (n : ℕ) {next : ℕ} → AreClosed rounds 1 c.closed next → next ≤ open_cycle k → IsToCome k n → IsTrue (is_closed c.closed n) → ⊥
+not_to_come rounds k c n {next} are le (inl is) shut = let unshut : is_closed c.closed n ≡ false = not_closed rounds 1 next n c.closed are (omega (arith, le, is)) in cc (unshut, shut)
+not_to_come rounds k c n {next} are le (inr is) shut = let unshut : is_closed c.closed n ≡ false = not_closed rounds 1 next n c.closed are (omega (arith, le, is)) in cc (unshut, shut)
 
-module _ {part : Part} {t : Text} {k : Checkpoint} {c : Content} {n : ℕ} where
-  pub never_older : Stands part t k c → IsOlder k c n → ⊥
-  never_older (inl o) (inl older) = not_to_come part k c n o.earlier (omega arith) older.0 older.1
+module _ {rounds : Rounds} {t : Text} {k : Checkpoint} {c : Content} {n : ℕ} where
+  pub never_older : Stands rounds t k c → IsOlder k c n → ⊥
+  never_older (inl o) (inl older) = not_to_come rounds k c n o.earlier (omega arith) older.0 older.1
   never_older (inl o) (inr b) = cc (o.phase, b.phase)
-  never_older (inr (inl w)) (inl older) = not_to_come part k c n w.earlier (omega (arith, next_cycle_begun k.cursor w.ends)) older.0 older.1
+  never_older (inr (inl w)) (inl older) = not_to_come rounds k c n w.earlier (omega (arith, next_cycle_begun k.cursor w.ends)) older.0 older.1
   never_older (inr (inl w)) (inr b) = cc (not_shut w, b.is, b.closed)
-  never_older (inr (inr w)) (inl older) = not_to_come part k c n w.earlier (omega (arith, next_cycle_begun k.cursor w.ends)) older.0 older.1
+  never_older (inr (inr w)) (inl older) = not_to_come rounds k c n w.earlier (omega (arith, next_cycle_begun k.cursor w.ends)) older.0 older.1
   never_older (inr (inr w)) (inr b) = b.another w.empty
 
 -- so no night over what nights have left is refused for that
-pub newest : {told : Bool} {s : Store} {site : Site} {plan : Plan} {c : Content} {n : ℕ} (part : Part) → IsSound part c → IsRefused told s site plan c (Older n) → ⊥
-newest part sound (no_root is bare) = cc is
-newest part sound (in_folder id tells (none empty why)) = why
-newest part sound (in_folder id tells (unread h)) = h.1.1
-newest part sound (in_folder id tells (not_own k at (inl why))) = why
-newest part sound (in_folder id tells (not_own k at (inr why))) = why.1.1
-newest part sound (in_folder id tells (outdated k at own older)) = never_older (holds_sound sound.1 at).stands older
+pub newest : {told : Bool} {s : Store} {site : Site} {plan : Plan} {c : Content} {n : ℕ} (rounds : Rounds) → IsSound rounds c → IsRefused told s site plan c (Older n) → ⊥
+newest rounds sound (no_root is bare) = cc is
+newest rounds sound (in_folder id tells (none empty why)) = why
+newest rounds sound (in_folder id tells (unread h)) = h.1.1
+newest rounds sound (in_folder id tells (not_own k at (inl why))) = why
+newest rounds sound (in_folder id tells (not_own k at (inr why))) = why.1.1
+newest rounds sound (in_folder id tells (outdated k at own older)) = never_older (holds_sound sound.1 at).stands older
 
 -- ---- of what a folder answers
 

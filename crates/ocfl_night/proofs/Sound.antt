@@ -1,7 +1,7 @@
 -- What the steps of a night keep.
 use Rattle.std.proofs.Common.{◌≡◌, ◌≢◌, ◌⊎◌, inl, inr, ℕ, ◌+◌, ◌-◌, ◌≤◌, List, [], ◌∷◌, ◌++◌, length, take, drop, Option, None, MatchOption, Bool, ◌&&◌, refl, sym, ◌∙◌, ap, subst, arith, append_assoc, length-append, true, false, take-append-drop}
 use Rattle.std.proofs.lemmas.List.{append-nil, take_all, take-append-le, length-drop}
-use Rattle.ocfl_tree.specs.{Place.{Text, Place}, StorageRoot.{StorageRoot}}
+use Rattle.ocfl_tree.specs.Place.{Text, Place}
 use Rattle.ocfl_audit.specs.{Lines.{is_empty}, Parts.{Part}}
 use Rattle.ocfl_cursor.specs.Cursor.{Cursor}
 use Rattle.ocfl_scrub.specs.{Running.{place_in, begun}, declared.running.RunEnd.{RunEnd}}
@@ -17,70 +17,72 @@ use Rattle.ocfl_state.specs.declared.checkpoint_parts.ReportMark.{ReportMark}
 use Rattle.ocfl_state.specs.declared.checkpoint_parts.RootIdentity.{RootIdentity}
 use Rattle.ocfl_state.specs.declared.checkpoint_parts.TopNames.{TopNames}
 use Rattle.ocfl_state.proofs.CheckpointTexts.{text_determines}
-use Rattle.ocfl_night.specs.Chain.{RootRun, joined, part_after, Led, LedToEnd, IsWholeReport, AreClosed}
+use Rattle.ocfl_night.specs.Chain.{RootRun, joined, look_of, part_after, Led, LedToEnd, IsPartialReport, IsWholeReport, AreClosed}
+use Rattle.ocfl_night.specs.Looks.{IfGiven, IsOneOf, IsWithin, Look, Rounds}
 use Rattle.ocfl_night.specs.Sound.{closed_text, HasRuns, IsOpen, IsClosing, IsMoved, Stands, IsNew, IsMarked, IsSoundAt, IsAt, IsSettled, IsReady, IsOneMore}
 use Rattle.ocfl_night.specs.{Site.{first_checkpoint}, declared.site.Site.{Site}}
 use Rattle.ocfl_identity.specs.declared.identity.Identity.{Identity}
 use Rattle.ocfl_night.specs.Steps.{begun_anew, closes_whole, left_at, with_left, KeepsFront, MayCheckpoint, IsCheckpointPut, IsMoveDone, MayMoveAt, IsRun, IsNext, unsaid, with_all_told}
+use Rattle.ocfl_night.proofs.Looks.{given_on, given_so, one_of_on}
 use Rattle.ocfl_night.proofs.Moments.{OnlyNow, leaves, left_after, joined_moments, only_same}
-use Rattle.ocfl_night.proofs.Chains.{led_on, led_to_end, leave_on, joined_on, same_cycle, ended_cursor, next_cycle_begun, closed_up, closed_on, not_closed, last_closed, closed_text_on, take_nothing}
+use Rattle.ocfl_night.proofs.Chains.{led_on, led_to_end, leave_on, looked_on, joined_on, same_cycle, ended_cursor, next_cycle_begun, closed_up, closed_on, not_closed, last_closed, closed_text_on, take_nothing}
 
 -- how long a report is of which a checkpoint has the summary
 pub long : (text : Text) (m : ReportMark) → m ≡ summary_of text → m.bytes ≡ length text
 long text m is = ap (λ (x : ReportMark). x.bytes) is
 
 -- at a checkpoint, and as it says
-pub record Holds (part : Part) (t : Text) (k : Checkpoint) (c : Content) : Type 0 where
+pub record Holds (rounds : Rounds) (t : Text) (k : Checkpoint) (c : Content) : Type 0 where
   pub at : IsAt k c
-  pub stands : Stands part t k c
+  pub stands : Stands rounds t k c
 
 -- a checkpoint with these bytes is as it says, or there is none and no night was there
-abbrev Says : Part → Text → Content → Option (List ℕ) → Type 0
-Says part t c o = MatchOption o (IsNew t c) (λ bytes. IsMarked part t bytes c)
+abbrev Says : Rounds → Text → Content → Option (List ℕ) → Type 0
+Says rounds t c o = MatchOption o (IsNew t c) (λ bytes. IsMarked rounds t bytes c)
 
-module _ {part : Part} {t : Text} {c : Content} where
-  pub sound_holds : {k : Checkpoint} → Holds part t k c → IsSoundAt part t c
-  sound_holds {k} h = subst (Says part t c) (sym h.at.is) (record { checkpoint = k; is = h.at.text; stands = h.stands })
+module _ {rounds : Rounds} {t : Text} {c : Content} where
+  pub sound_holds : {k : Checkpoint} → Holds rounds t k c → IsSoundAt rounds t c
+  sound_holds {k} h = subst (Says rounds t c) (sym h.at.is) (record { checkpoint = k; is = h.at.text; stands = h.stands })
 
-  pub holds_sound : {k : Checkpoint} → IsSoundAt part t c → IsAt k c → Holds part t k c
+  pub holds_sound : {k : Checkpoint} → IsSoundAt rounds t c → IsAt k c → Holds rounds t k c
   holds_sound {k} sound at =
-      let marked : IsMarked part t at.bytes c = subst (Says part t c) at.is sound in
+      let marked : IsMarked rounds t at.bytes c = subst (Says rounds t c) at.is sound in
       let same : marked.checkpoint ≡ k = text_determines at.bytes marked.checkpoint k marked.is at.text in
-      record { at = at; stands = subst (λ (x : Checkpoint). Stands part t x c) same marked.stands }
+      record { at = at; stands = subst (λ (x : Checkpoint). Stands rounds t x c) same marked.stands }
 
   -- what a checkpoint says of the root is no matter here, nor its bytes
-  pub stands_as : {k : Checkpoint} {root : RootIdentity} {names : TopNames} {bytes : Option (List ℕ)} → Stands part t k c → Stands part t (record k { root = root; names = names }) (record c { checkpoint = bytes })
-  stands_as (inl o) = inl (record { phase = o.phase; led = o.led; text = o.text; report = o.report; begins = o.begins; is_whole = o.is_whole; told = o.told; told_is = o.told_is; earlier = o.earlier })
-  stands_as (inr (inl w)) = inr (inl (record { phase = w.phase; led = w.led; ends = w.ends; report = w.report; is_whole = w.is_whole; told = w.told; told_is = w.told_is; earlier = w.earlier }))
+  pub stands_as : {k : Checkpoint} {root : RootIdentity} {names : TopNames} {bytes : Option (List ℕ)} → Stands rounds t k c → Stands rounds t (record k { root = root; names = names }) (record c { checkpoint = bytes })
+  stands_as (inl o) = inl (record { phase = o.phase; led = o.led; text = o.text; report = o.report; begins = o.begins; is_whole = o.is_whole; lossless = o.lossless; told = o.told; told_is = o.told_is; earlier = o.earlier })
+  stands_as (inr (inl w)) = inr (inl (record { phase = w.phase; led = w.led; ends = w.ends; report = w.report; is_whole = w.is_whole; lossless = w.lossless; told = w.told; told_is = w.told_is; earlier = w.earlier }))
   stands_as (inr (inr w)) = inr (inr (record { phase = w.phase; ends = w.ends; counted = w.counted; empty = w.empty; told = w.told; told_is = w.told_is; earlier = w.earlier }))
 
-  pub renamed : {k next : Checkpoint} {root : RootIdentity} {names : TopNames} → next ≡ record k { root = root; names = names } → Stands part t k c → Stands part t next c
-  renamed is stands = subst (λ (x : Checkpoint). Stands part t x c) (sym is) (stands_as stands)
+  pub renamed : {k next : Checkpoint} {root : RootIdentity} {names : TopNames} → next ≡ record k { root = root; names = names } → Stands rounds t k c → Stands rounds t next c
+  renamed is stands = subst (λ (x : Checkpoint). Stands rounds t x c) (sym is) (stands_as stands)
 
-pub new_sound : (part : Part) {t : Text} {c : Content} → IsSoundAt part t c → c.checkpoint ≡ None → IsNew t c
-new_sound part {t} {c} sound none = subst (Says part t c) none sound
+pub new_sound : (rounds : Rounds) {t : Text} {c : Content} → IsSoundAt rounds t c → c.checkpoint ≡ None → IsNew t c
+new_sound rounds {t} {c} sound none = subst (Says rounds t c) none sound
 
-pub sound_new : (part : Part) {t : Text} {c : Content} → c.checkpoint ≡ None → IsNew t c → IsSoundAt part t c
-sound_new part {t} {c} none new = subst (Says part t c) (sym none) new
+pub sound_new : (rounds : Rounds) {t : Text} {c : Content} → c.checkpoint ≡ None → IsNew t c → IsSoundAt rounds t c
+sound_new rounds {t} {c} none new = subst (Says rounds t c) (sym none) new
 
-module _ {part : Part} {t : Text} {k : Checkpoint} {d c : Content} where
-  pub marked_put : Stands part t k d → IsCheckpointPut k d c → Holds part t k c
-  marked_put stands put = subst (Holds part t k) (sym put.put) (record { at = record { bytes = put.bytes; is = refl; text = put.text }; stands = stands_as stands })
+module _ {rounds : Rounds} {t : Text} {k : Checkpoint} {d c : Content} where
+  pub marked_put : Stands rounds t k d → IsCheckpointPut k d c → Holds rounds t k c
+  marked_put stands put = subst (Holds rounds t k) (sym put.put) (record { at = record { bytes = put.bytes; is = refl; text = put.text }; stands = stands_as stands })
 
   -- the old checkpoint or the new one
-  pub sound_mark : IsSoundAt part t d → Stands part t k d → MayCheckpoint k d c → IsSoundAt part t c
-  sound_mark sound stands (inl same) = subst (IsSoundAt part t) (sym same) sound
+  pub sound_mark : IsSoundAt rounds t d → Stands rounds t k d → MayCheckpoint k d c → IsSoundAt rounds t c
+  sound_mark sound stands (inl same) = subst (IsSoundAt rounds t) (sym same) sound
   sound_mark sound stands (inr (bytes, (text, put))) = sound_holds (marked_put stands (record { bytes = bytes; text = text; put = put }))
 
 -- ---- phases
 
-module _ {part : Part} {t : Text} {k : Checkpoint} {c : Content} where
-  pub open_of : k.phase ≡ Open → Stands part t k c → IsOpen part t k c
+module _ {rounds : Rounds} {t : Text} {k : Checkpoint} {c : Content} where
+  pub open_of : k.phase ≡ Open → Stands rounds t k c → IsOpen rounds t k c
   open_of is (inl o) = o
   open_of is (inr (inl w)) = absurd (cc (is, w.phase))
   open_of is (inr (inr w)) = absurd (cc (is, w.phase))
 
-  pub closing_of : k.phase ≡ Closing → Stands part t k c → IsClosing part t k c ⊎ IsMoved part t k c
+  pub closing_of : k.phase ≡ Closing → Stands rounds t k c → IsClosing rounds t k c ⊎ IsMoved rounds t k c
   closing_of is (inl o) = absurd (cc (is, o.phase))
   closing_of is (inr w) = w
 
@@ -89,14 +91,14 @@ moved_at : {k : Checkpoint} {d c : Content} → c.checkpoint ≡ d.checkpoint �
 moved_at same at = record { bytes = at.bytes; is = same ∙ at.is; text = at.text }
 
 -- the report is another one after the checkpoint's bytes
-reopened : {part : Part} {t : Text} {k : Checkpoint} {d c : Content} (o : IsOpen part t k d) → Begins o.text c.report → c.closed ≡ d.closed → IsOpen part t k c
-reopened {part} {t} {k} o begins closed =
+reopened : {rounds : Rounds} {t : Text} {k : Checkpoint} {d c : Content} (o : IsOpen rounds t k d) → Begins o.text c.report → c.closed ≡ d.closed → IsOpen rounds t k c
+reopened {rounds} {t} {k} o begins closed =
     let told_is = o.told_is ∙ ap (λ (l : List Closed). closed_text l ++ take k.told o.text) (sym closed) in
-    let earlier = subst (λ (l : List Closed). AreClosed part 1 l (begun k.cursor).cycle) (sym closed) o.earlier in
-    record { phase = o.phase; led = o.led; text = o.text; report = o.report; begins = begins; is_whole = o.is_whole; told = o.told; told_is = told_is; earlier = earlier }
+    let earlier = subst (λ (l : List Closed). AreClosed rounds 1 l (begun k.cursor).cycle) (sym closed) o.earlier in
+    record { phase = o.phase; led = o.led; text = o.text; report = o.report; begins = begins; is_whole = o.is_whole; lossless = o.lossless; told = o.told; told_is = told_is; earlier = earlier }
 
 -- it is torn there
-pub torn : {part : Part} {t : Text} {k : Checkpoint} {n : ℕ} {d c : Content} → k.phase ≡ Open → k.report.bytes ≤ n → Holds part t k d → KeepsFront n d c → Holds part t k c
+pub torn : {rounds : Rounds} {t : Text} {k : Checkpoint} {n : ℕ} {d c : Content} → k.phase ≡ Open → k.report.bytes ≤ n → Holds rounds t k d → KeepsFront n d c → Holds rounds t k c
 torn {k = k} is le h keeps =
     let o = open_of is h.stands in
     let begins = keeps.front o.text (omega (arith, long o.text k.report o.report, le)) o.begins in
@@ -114,19 +116,19 @@ begins_exact front text b long =
     b.1 ∙ ap (λ (l : Text). front ++ l) (none_left b.0 left) ∙ append-nil front
 
 -- the report of a checkpoint after which there is nothing
-exact_text : {part : Part} {t : Text} {k : Checkpoint} {c : Content} (o : IsOpen part t k c) → length c.report ≡ k.report.bytes → c.report ≡ o.text
+exact_text : {rounds : Rounds} {t : Text} {k : Checkpoint} {c : Content} (o : IsOpen rounds t k c) → length c.report ≡ k.report.bytes → c.report ≡ o.text
 exact_text {k = k} {c = c} o exact = begins_exact o.text c.report o.begins (exact ∙ long o.text k.report o.report)
 
 -- ---- the checkpoint after a run
 
-pub record After_run (part : Part) (t : Text) (next : Checkpoint) (c : Content) : Type 0 where
-  pub stands : Stands part t next c
+pub record After_run (rounds : Rounds) (t : Text) (next : Checkpoint) (c : Content) : Type 0 where
+  pub stands : Stands rounds t next c
   pub exact : next.phase ≡ Open → length c.report ≡ next.report.bytes
 
-module _ {part : Part} {t : Text} {k next : Checkpoint} {root : StorageRoot} {ran : RunEnd} {d c : Content} {lines : Text} (o : IsOpen part t k d) (exact : length d.report ≡ k.report.bytes)
-    (e : IsRun (part_after part k.left) k.cursor root lines ran) (grown : c ≡ with_report (d.report ++ lines) d) (n : IsNext k ran (summary_of c.report) next) where
+module _ {rounds : Rounds} {t : Text} {k next : Checkpoint} {look : Look} {ran : RunEnd} {d c : Content} {lines : Text} (o : IsOpen rounds t k d) (exact : length d.report ≡ k.report.bytes)
+    (one : IsOneOf rounds.looks look) (e : IsRun (part_after rounds.part k.left) k.cursor look lines ran) (grown : c ≡ with_report (d.report ++ lines) d) (n : IsNext k ran (summary_of c.report) next) where
   abbrev r : RootRun
-  r = record { root = root; run = e.run }
+  r = record { root = look.root; run = e.run }
 
   now : c.report ≡ o.text ++ e.run.report
   now = ap (λ (x : Content). x.report) grown ∙ ap (λ (l : Text). d.report ++ l) e.lines_are ∙ ap (λ (l : Text). l ++ e.run.report) (exact_text o exact)
@@ -155,133 +157,142 @@ module _ {part : Part} {t : Text} {k next : Checkpoint} {root : StorageRoot} {ra
   whole : next.whole ≡ true → c.report ≡ joined (o.led.runs ++ r ∷ [])
   whole is = now ∙ ap (λ (l : Text). l ++ e.run.report) (o.is_whole (sym (ap (λ (x : Checkpoint). x.whole) n.rest_is) ∙ is)) ∙ sym (joined_on o.led.runs r)
 
-  led_by : (Leads : Part → Cursor → List RootRun → List Left → Cursor → Type 0) {last : Cursor} → last ≡ next.cursor → Leads part o.led.first (o.led.runs ++ r ∷ []) k.left last → HasRuns Leads part next.left next.cursor
+  lossless : IfGiven rounds.looks (next.whole ≡ true)
+  lossless = given_on rounds.looks (λ sure. ap (λ (x : Checkpoint). x.whole) n.rest_is ∙ sure) o.lossless
+
+  led_by : (Leads : Part → Cursor → List RootRun → List Left → Cursor → Type 0) {last : Cursor} → last ≡ next.cursor → Leads rounds.part o.led.first (o.led.runs ++ r ∷ []) k.left last → HasRuns Leads rounds next.left next.cursor
   led_by Leads {last} is chain = record {
     first = o.led.first;
     runs = o.led.runs ++ r ∷ [];
     starts = o.led.starts;
-    chain = subst (Leads part o.led.first (o.led.runs ++ r ∷ []) next.left) is (subst (λ (left : List Left). Leads part o.led.first (o.led.runs ++ r ∷ []) left last) (sym (ap (λ (x : Checkpoint). x.left) n.rest_is)) chain);
+    chain = subst (Leads rounds.part o.led.first (o.led.runs ++ r ∷ []) next.left) is (subst (λ (left : List Left). Leads rounds.part o.led.first (o.led.runs ++ r ∷ []) left last) (sym (ap (λ (x : Checkpoint). x.left) n.rest_is)) chain);
+    looked = looked_on rounds.looks o.led.runs r o.led.looked (one_of_on rounds.looks within one);
   }
+    where
+      within : IsWithin (look_of r) look
+      within = record { root = refl; unread = e.looked }
 
-  goes : e.run.ran.end ≢ status.Ended → After_run part t next c
+  goes : e.run.ran.end ≢ status.Ended → After_run rounds t next c
   unfolding led_by
   goes not_ended =
-      let open_now : IsOpen part t next c = record {
+      let open_now : IsOpen rounds t next c = record {
         phase = n.goes_on (λ is. not_ended (ap (λ (x : RunEnd). x.end) e.ran_is ∙ is));
-        led = led_by Led (ap (λ (x : RunEnd). x.cursor) e.ran_is ∙ sym n.cursor_is) (led_on part o.led.first k.cursor o.led.runs k.left r o.led.chain e.made not_ended);
+        led = led_by Led (ap (λ (x : RunEnd). x.cursor) e.ran_is ∙ sym n.cursor_is) (led_on rounds.part o.led.first k.cursor o.led.runs k.left r o.led.chain e.made not_ended);
         text = c.report;
         report = n.report_is;
         begins = ([], sym (append-nil c.report));
         is_whole = whole;
+        lossless = lossless;
         told = told;
         told_is = told_text;
-        earlier = subst (λ (m : ℕ). AreClosed part 1 c.closed m) (sym (same_cycle root (part_after part k.left) k.cursor e.run e.made not_ended) ∙ ap (λ (x : RunEnd). (begun x.cursor).cycle) e.ran_is ∙ ap (λ (x : Cursor). (begun x).cycle) (sym n.cursor_is)) (subst (λ (l : List Closed). AreClosed part 1 l (begun k.cursor).cycle) (sym closed) o.earlier);
+        earlier = subst (λ (m : ℕ). AreClosed rounds 1 c.closed m) (sym (same_cycle look.root (part_after rounds.part k.left) k.cursor e.run e.made not_ended) ∙ ap (λ (x : RunEnd). (begun x.cursor).cycle) e.ran_is ∙ ap (λ (x : Cursor). (begun x).cycle) (sym n.cursor_is)) (subst (λ (l : List Closed). AreClosed rounds 1 l (begun k.cursor).cycle) (sym closed) o.earlier);
       } in
       record { stands = inl open_now; exact = λ is. sym counted }
 
-  ends : e.run.ran.end ≡ status.Ended → After_run part t next c
+  ends : e.run.ran.end ≡ status.Ended → After_run rounds t next c
   unfolding led_by
   ends is =
-      let at = ended_cursor root (part_after part k.left) k.cursor e.run e.made is in
+      let at = ended_cursor look.root (part_after rounds.part k.left) k.cursor e.run e.made is in
       let cursor : e.run.ran.cursor ≡ next.cursor = ap (λ (x : RunEnd). x.cursor) e.ran_is ∙ sym n.cursor_is in
       let phase : next.phase ≡ Closing = n.ended (sym (ap (λ (x : RunEnd). x.end) e.ran_is) ∙ is) in
-      let closing_now : IsClosing part t next c = record {
+      let closing_now : IsClosing rounds t next c = record {
         phase = phase;
-        led = led_by LedToEnd cursor (led_to_end part o.led.first k.cursor o.led.runs k.left r o.led.chain e.made is);
+        led = led_by LedToEnd cursor (led_to_end rounds.part o.led.first k.cursor o.led.runs k.left r o.led.chain e.made is);
         ends = ap (λ (x : Cursor). x.state) (sym cursor) ∙ at.0;
         report = n.report_is;
         is_whole = whole;
+        lossless = lossless;
         told = told;
         told_is = told_text;
-        earlier = subst (λ (m : ℕ). AreClosed part 1 c.closed m) (sym at.1 ∙ ap (λ (x : Cursor). x.cycle) cursor) (subst (λ (l : List Closed). AreClosed part 1 l (begun k.cursor).cycle) (sym closed) o.earlier);
+        earlier = subst (λ (m : ℕ). AreClosed rounds 1 c.closed m) (sym at.1 ∙ ap (λ (x : Cursor). x.cycle) cursor) (subst (λ (l : List Closed). AreClosed rounds 1 l (begun k.cursor).cycle) (sym closed) o.earlier);
       } in
       record { stands = inr (inl closing_now); exact = λ is. absurd (cc (phase, is)) }
 
-  by : (s : RunStatus) → e.run.ran.end ≡ s → After_run part t next c
+  by : (s : RunStatus) → e.run.ran.end ≡ s → After_run rounds t next c
   by status.Ended is = ends is
   by status.Spent is = goes (λ x. absurd (cc (is, x)))
   by (status.Stopped why) is = goes (λ x. absurd (cc (is, x)))
   by status.Worn is = goes (λ x. absurd (cc (is, x)))
 
-  after_run : After_run part t next c
+  after_run : After_run rounds t next c
   after_run = by e.run.ran.end refl
 
 -- ---- a folder at a checkpoint
 
-module _ {F : Type 0} {seen : F → Content} {may_leave : F → Outcomes} {part : Part} {t : Text} {k : Checkpoint} {f : F} where
-  pub settled_holds : IsSettled seen may_leave part t k f → (c : Content) → may_leave f c → Holds part t k c
-  settled_holds r c left = subst (Holds part t k) (sym (r.only c left)) (record { at = r.at; stands = r.stands })
+module _ {F : Type 0} {seen : F → Content} {may_leave : F → Outcomes} {rounds : Rounds} {t : Text} {k : Checkpoint} {f : F} where
+  pub settled_holds : IsSettled seen may_leave rounds t k f → (c : Content) → may_leave f c → Holds rounds t k c
+  settled_holds r c left = subst (Holds rounds t k) (sym (r.only c left)) (record { at = r.at; stands = r.stands })
 
-  pub settled_sound : IsSettled seen may_leave part t k f → (c : Content) → may_leave f c → IsSoundAt part t c
+  pub settled_sound : IsSettled seen may_leave rounds t k f → (c : Content) → may_leave f c → IsSoundAt rounds t c
   settled_sound r c left = sound_holds (settled_holds r c left)
 
-  settled : IsReady seen may_leave part t k f → IsSettled seen may_leave part t k f
+  settled : IsReady seen may_leave rounds t k f → IsSettled seen may_leave rounds t k f
   settled r = record { at = r.at; stands = r.stands; only = r.only }
 
-  pub ready_holds : IsReady seen may_leave part t k f → (c : Content) → may_leave f c → Holds part t k c
+  pub ready_holds : IsReady seen may_leave rounds t k f → (c : Content) → may_leave f c → Holds rounds t k c
   ready_holds r c left = settled_holds (settled r) c left
 
-  pub ready_sound : IsReady seen may_leave part t k f → (c : Content) → may_leave f c → IsSoundAt part t c
+  pub ready_sound : IsReady seen may_leave rounds t k f → (c : Content) → may_leave f c → IsSoundAt rounds t c
   ready_sound r c left = settled_sound (settled r) c left
 
   -- a call changed nothing
-  pub ready_on : {moment : F → ℕ} {left_since : F → ℕ → Outcomes} {g : F} → IsReady seen may_leave part t k f → seen g ≡ seen f → Passes may_leave moment left_since Same f g → IsReady seen may_leave part t k g
+  pub ready_on : {moment : F → ℕ} {left_since : F → ℕ → Outcomes} {g : F} → IsReady seen may_leave rounds t k f → seen g ≡ seen f → Passes may_leave moment left_since Same f g → IsReady seen may_leave rounds t k g
   ready_on r same p = record {
     at = subst (IsAt k) (sym same) r.at;
-    stands = subst (Stands part t k) (sym same) r.stands;
+    stands = subst (Stands rounds t k) (sym same) r.stands;
     exact = λ is. ap (λ (x : Content). length x.report) same ∙ r.exact is;
     only = only_same seen p same r.only;
   }
 
   -- a checkpoint was put
-  pub put_ready : {d : Content} → IsCheckpointPut k d (seen f) → Stands part t k d → (k.phase ≡ Open → length d.report ≡ k.report.bytes) → Only (seen f) (may_leave f) → IsReady seen may_leave part t k f
+  pub put_ready : {d : Content} → IsCheckpointPut k d (seen f) → Stands rounds t k d → (k.phase ≡ Open → length d.report ≡ k.report.bytes) → Only (seen f) (may_leave f) → IsReady seen may_leave rounds t k f
   put_ready put stands exact only =
       let holds = marked_put stands put in
       record { at = holds.at; stands = holds.stands; exact = λ is. ap (λ (x : Content). length x.report) put.put ∙ exact is; only = only }
 
   -- what is torn is after the checkpoint's bytes
-  pub torn_sound : {n : ℕ} → k.phase ≡ Open → k.report.bytes ≤ n → IsSettled seen may_leave part t k f → (d c : Content) → may_leave f d → KeepsFront n d c → IsSoundAt part t c
+  pub torn_sound : {n : ℕ} → k.phase ≡ Open → k.report.bytes ≤ n → IsSettled seen may_leave rounds t k f → (d c : Content) → may_leave f d → KeepsFront n d c → IsSoundAt rounds t c
   torn_sound is le r d c left keeps = sound_holds (torn is le (settled_holds r d left) keeps)
 
-  pub run_sound : k.phase ≡ Open → IsReady seen may_leave part t k f → (d c : Content) → may_leave f d → KeepsFront (length (seen f).report) d c → IsSoundAt part t c
+  pub run_sound : k.phase ≡ Open → IsReady seen may_leave rounds t k f → (d c : Content) → may_leave f d → KeepsFront (length (seen f).report) d c → IsSoundAt rounds t c
   run_sound is r d c left keeps = torn_sound is (omega (arith, r.exact is)) (settled r) d c left keeps
 
   -- the checkpoint has the mark of the whole report
-  pub ready_mark : k.phase ≡ Open → IsReady seen may_leave part t k f → k.report ≡ summary_of (seen f).report
+  pub ready_mark : k.phase ≡ Open → IsReady seen may_leave rounds t k f → k.report ≡ summary_of (seen f).report
   ready_mark is r =
       let o = open_of is r.stands in
       o.report ∙ ap summary_of (sym (exact_text o (r.exact is)))
 
-  pub after_extended : {next : Checkpoint} {root : StorageRoot} {ran : RunEnd} {lines : Text} {c : Content} {mark report : ReportMark} → k.phase ≡ Open → IsReady seen may_leave part t k f
-      → IsRun (part_after part k.left) k.cursor root lines ran → c ≡ with_report ((seen f).report ++ lines) (seen f)
-      → mark ≡ k.report → (mark ≡ summary_of (seen f).report → report ≡ summary_of c.report) → IsNext k ran report next → After_run part t next c
-  after_extended {next} {ran = ran} is r run grown marked keeps n =
-      after_run (open_of is r.stands) (r.exact is) run grown (subst (λ (m : ReportMark). IsNext k ran m next) (keeps (marked ∙ ready_mark is r)) n)
+  pub after_extended : {next : Checkpoint} {look : Look} {ran : RunEnd} {lines : Text} {c : Content} {mark report : ReportMark} → k.phase ≡ Open → IsReady seen may_leave rounds t k f
+      → IsOneOf rounds.looks look → IsRun (part_after rounds.part k.left) k.cursor look lines ran → c ≡ with_report ((seen f).report ++ lines) (seen f)
+      → mark ≡ k.report → (mark ≡ summary_of (seen f).report → report ≡ summary_of c.report) → IsNext k ran report next → After_run rounds t next c
+  after_extended {next} {ran = ran} is r one run grown marked keeps n =
+      after_run (open_of is r.stands) (r.exact is) one run grown (subst (λ (m : ReportMark). IsNext k ran m next) (keeps (marked ∙ ready_mark is r)) n)
 
 -- a checkpoint was put after another one
-pub put_on : {F : Type 0} {seen : F → Content} {may_leave : F → Outcomes} {part : Part} {t u : Text} {k next : Checkpoint} {f h : F} → IsReady seen may_leave part t k f → Stands part u next (seen f) → IsCheckpointPut next (seen f) (seen h)
-    → next.report.bytes ≡ k.report.bytes → next.phase ≡ k.phase → Only (seen h) (may_leave h) → IsReady seen may_leave part u next h
+pub put_on : {F : Type 0} {seen : F → Content} {may_leave : F → Outcomes} {rounds : Rounds} {t u : Text} {k next : Checkpoint} {f h : F} → IsReady seen may_leave rounds t k f → Stands rounds u next (seen f) → IsCheckpointPut next (seen f) (seen h)
+    → next.report.bytes ≡ k.report.bytes → next.phase ≡ k.phase → Only (seen h) (may_leave h) → IsReady seen may_leave rounds u next h
 put_on r stands put bytes phase only = put_ready put stands (λ is. r.exact (sym phase ∙ is) ∙ sym bytes) only
 
-module _ {F : Type 0} {may_leave : F → Outcomes} {moment : F → ℕ} {left_since : F → ℕ → Outcomes} (only_now : OnlyNow may_leave moment left_since) {part : Part} {t : Text} {k : Checkpoint} {shown : Content} {g h : F} where
+module _ {F : Type 0} {may_leave : F → Outcomes} {moment : F → ℕ} {left_since : F → ℕ → Outcomes} (only_now : OnlyNow may_leave moment left_since) {rounds : Rounds} {t : Text} {k : Checkpoint} {shown : Content} {g h : F} where
   -- a checkpoint is put
-  pub mark_moments : ((c : Content) → may_leave g c → IsSoundAt part t c) → Only shown (may_leave g) → Stands part t k shown → Passes may_leave moment left_since (MayCheckpoint k) g h → LeavesOnly moment left_since g h (IsSoundAt part t)
-  mark_moments here only stands p = leaves only_now here (λ d c n mark. sound_mark (here d n) (subst (Stands part t k) (sym (only d n)) stands) mark) p
+  pub mark_moments : ((c : Content) → may_leave g c → IsSoundAt rounds t c) → Only shown (may_leave g) → Stands rounds t k shown → Passes may_leave moment left_since (MayCheckpoint k) g h → LeavesOnly moment left_since g h (IsSoundAt rounds t)
+  mark_moments here only stands p = leaves only_now here (λ d c n mark. sound_mark (here d n) (subst (Stands rounds t k) (sym (only d n)) stands) mark) p
 
   -- and before it something else is done
-  pub mark_after : {step : Step} {f : F} → ((c : Content) → may_leave f c → IsSoundAt part t c) → ((d c : Content) → may_leave f d → step d c → IsSoundAt part t c) → Passes may_leave moment left_since step f g
-      → Only shown (may_leave g) → Stands part t k shown → Passes may_leave moment left_since (MayCheckpoint k) g h → LeavesOnly moment left_since f h (IsSoundAt part t)
+  pub mark_after : {step : Step} {f : F} → ((c : Content) → may_leave f c → IsSoundAt rounds t c) → ((d c : Content) → may_leave f d → step d c → IsSoundAt rounds t c) → Passes may_leave moment left_since step f g
+      → Only shown (may_leave g) → Stands rounds t k shown → Passes may_leave moment left_since (MayCheckpoint k) g h → LeavesOnly moment left_since f h (IsSoundAt rounds t)
   mark_after here after p only stands q = joined_moments (leaves only_now here after p) (mark_moments (left_after after p) only stands q)
 
 -- a checkpoint is put after another one
-pub put_moments : {F : Type 0} {seen : F → Content} {may_leave : F → Outcomes} {moment : F → ℕ} {left_since : F → ℕ → Outcomes} {part : Part} {t : Text} {k next : Checkpoint} {f h : F} → OnlyNow may_leave moment left_since
-    → IsReady seen may_leave part t k f → Stands part t next (seen f) → Passes may_leave moment left_since (MayCheckpoint next) f h → LeavesOnly moment left_since f h (IsSoundAt part t)
+pub put_moments : {F : Type 0} {seen : F → Content} {may_leave : F → Outcomes} {moment : F → ℕ} {left_since : F → ℕ → Outcomes} {rounds : Rounds} {t : Text} {k next : Checkpoint} {f h : F} → OnlyNow may_leave moment left_since
+    → IsReady seen may_leave rounds t k f → Stands rounds t next (seen f) → Passes may_leave moment left_since (MayCheckpoint next) f h → LeavesOnly moment left_since f h (IsSoundAt rounds t)
 put_moments only_now r stands p = mark_moments only_now (ready_sound r) r.only stands p
 
 -- ---- opening
 
 -- what is cut is after the checkpoint's bytes
-pub cut_open : {part : Part} {t : Text} {k : Checkpoint} {d c : Content} → k.phase ≡ Open → Holds part t k d → c ≡ with_report (take k.report.bytes d.report) d → Holds part t k c × (length c.report ≡ k.report.bytes)
+pub cut_open : {rounds : Rounds} {t : Text} {k : Checkpoint} {d c : Content} → k.phase ≡ Open → Holds rounds t k d → c ≡ with_report (take k.report.bytes d.report) d → Holds rounds t k c × (length c.report ≡ k.report.bytes)
 cut_open {k = k} {d} {c} is h cut =
     let o = open_of is h.stands in
     let n = k.report.bytes in
@@ -292,24 +303,25 @@ cut_open {k = k} {d} {c} is h cut =
     (record { at = moved_at (ap (λ (x : Content). x.checkpoint) cut) h.at; stands = inl open_still }, ap length report ∙ sym counted)
 
 -- there is nothing of a cycle's report yet
-fresh_stands : {part : Part} {t : Text} {c : Content} (k : Checkpoint) → place_in k.cursor.state ≡ None → t ≡ closed_text c.closed → AreClosed part 1 c.closed (begun k.cursor).cycle → Stands part t (begun_anew k) c
-fresh_stands {c = c} k starts told_is earlier = inl (record {
+fresh_stands : {rounds : Rounds} {t : Text} {c : Content} (k : Checkpoint) → place_in k.cursor.state ≡ None → t ≡ closed_text c.closed → AreClosed rounds 1 c.closed (begun k.cursor).cycle → Stands rounds t (begun_anew k) c
+fresh_stands {rounds} {c = c} k starts told_is earlier = inl (record {
   phase = refl;
-  led = record { first = k.cursor; runs = []; starts = starts; chain = refl };
+  led = record { first = k.cursor; runs = []; starts = starts; chain = refl; looked = tt };
   text = [];
   report = refl;
   begins = (c.report, refl);
   is_whole = λ is. refl;
+  lossless = given_so rounds.looks refl;
   told = omega arith;
   told_is = told_is ∙ sym (ap (λ (l : Text). closed_text c.closed ++ l) (take_nothing 0) ∙ append-nil (closed_text c.closed));
   earlier = earlier;
 })
 
 -- the first checkpoint
-pub first_stands : {part : Part} {k : Checkpoint} {c : Content} (site : Site) (id : Identity) → k ≡ first_checkpoint site id → IsNew [] c → Stands part [] k c
-first_stands {part} {k} {c} site id is new =
-    subst (λ (x : Checkpoint). Stands part [] x c) (sym is)
-    (fresh_stands (first_checkpoint site id) refl (sym (ap closed_text new.closed)) (subst (λ (l : List Closed). AreClosed part 1 l 1) (sym new.closed) refl))
+pub first_stands : {rounds : Rounds} {k : Checkpoint} {c : Content} (site : Site) (id : Identity) → k ≡ first_checkpoint site id → IsNew [] c → Stands rounds [] k c
+first_stands {rounds} {k} {c} site id is new =
+    subst (λ (x : Checkpoint). Stands rounds [] x c) (sym is)
+    (fresh_stands (first_checkpoint site id) refl (sym (ap closed_text new.closed)) (subst (λ (l : List Closed). AreClosed rounds 1 l 1) (sym new.closed) refl))
 
 -- ---- closing
 
@@ -321,70 +333,85 @@ closes_by true [] both = (refl, refl)
 closes_by true (l ∷ left) both = absurd (both_ways (sym both))
 closes_by false left both = absurd (both_ways (sym both))
 
-module _ {part : Part} {t : Text} {k : Checkpoint} {d : Content} where
-  pub shut_closing : IsMoved part t k d → is_closed d.closed k.cursor.cycle ≡ true
-  shut_closing w = last_closed part 1 k.cursor.cycle d.closed w.earlier w.counted
+module _ {rounds : Rounds} {t : Text} {k : Checkpoint} {d : Content} where
+  pub shut_closing : IsMoved rounds t k d → is_closed d.closed k.cursor.cycle ≡ true
+  shut_closing w = last_closed rounds 1 k.cursor.cycle d.closed w.earlier w.counted
 
-  pub not_shut : IsClosing part t k d → is_closed d.closed k.cursor.cycle ≡ false
-  not_shut w = not_closed part 1 k.cursor.cycle k.cursor.cycle d.closed w.earlier (omega arith)
+  pub not_shut : IsClosing rounds t k d → is_closed d.closed k.cursor.cycle ≡ false
+  not_shut w = not_closed rounds 1 k.cursor.cycle k.cursor.cycle d.closed w.earlier (omega arith)
 
-  whole_report : IsClosing part t k d → (k.whole ≡ true) × (k.left ≡ []) → IsWholeReport part (record { cycle = k.cursor.cycle; whole = closes_whole k; report = d.report })
+  whole_report : IsClosing rounds t k d → (k.whole ≡ true) × (k.left ≡ []) → IsWholeReport rounds (record { cycle = k.cursor.cycle; whole = closes_whole k; report = d.report })
   whole_report w both = record {
     first = w.led.first;
     runs = w.led.runs;
     last = k.cursor;
     starts = w.led.starts;
-    chain = subst (λ (l : List Left). LedToEnd part w.led.first w.led.runs l k.cursor) both.1 w.led.chain;
+    chain = subst (λ (l : List Left). LedToEnd rounds.part w.led.first w.led.runs l k.cursor) both.1 w.led.chain;
+    looked = w.led.looked;
     cycle = refl;
     report = w.is_whole both.0;
   }
 
+  partial_report : IsClosing rounds t k d → k.whole ≡ true → closes_whole k ≡ false → IsPartialReport rounds (record { cycle = k.cursor.cycle; whole = closes_whole k; report = d.report })
+  partial_report w sure incomplete = record {
+    first = w.led.first;
+    runs = w.led.runs;
+    left = k.left;
+    last = k.cursor;
+    starts = w.led.starts;
+    some = λ none. both_ways (sym (ap (λ (b : Bool). b && is_empty k.left) sure ∙ ap (λ (l : List Left). true && is_empty l) none) ∙ incomplete);
+    chain = w.led.chain;
+    looked = w.led.looked;
+    cycle = refl;
+    report = w.is_whole sure;
+  }
+
   module _ {c : Content} (is : k.phase ≡ Closing) (told : k.told ≡ k.report.bytes) where
-    after_move : IsClosing part t k d → c ≡ moved k.cursor.cycle (closes_whole k) d → IsMoved part t k c
+    after_move : IsClosing rounds t k d → c ≡ moved k.cursor.cycle (closes_whole k) d → IsMoved rounds t k c
     after_move w put =
         let x : Closed = record { cycle = k.cursor.cycle; whole = closes_whole k; report = d.report } in
         let closed : c.closed ≡ d.closed ++ x ∷ [] = ap (λ (y : Content). y.closed) put in
         record {
           phase = is;
           ends = w.ends;
-          counted = closed_up part 1 k.cursor.cycle d.closed w.earlier;
+          counted = closed_up rounds 1 k.cursor.cycle d.closed w.earlier;
           empty = ap (λ (y : Content). y.report) put;
           told = told;
           told_is = w.told_is ∙ ap (λ (l : Text). closed_text d.closed ++ l) (take_all k.told d.report (omega (arith, told, long d.report k.report w.report))) ∙ sym (ap closed_text closed ∙ closed_text_on d.closed x);
-          earlier = subst (λ (l : List Closed). AreClosed part 1 l (k.cursor.cycle + 1)) (sym closed) (closed_on part 1 k.cursor.cycle d.closed x w.earlier refl (λ whole. whole_report w (closes_by k.whole k.left whole)));
+          earlier = subst (λ (l : List Closed). AreClosed rounds 1 l (k.cursor.cycle + 1)) (sym closed) (closed_on rounds 1 k.cursor.cycle d.closed x w.earlier refl (record { whole = λ whole. whole_report w (closes_by k.whole k.left whole); partial = given_on rounds.looks (λ sure incomplete. partial_report w sure incomplete) w.lossless }));
         }
 
-    pub move_done : Stands part t k d → IsMoveDone k.cursor.cycle (closes_whole k) d c → IsMoved part t k c
+    pub move_done : Stands rounds t k d → IsMoveDone k.cursor.cycle (closes_whole k) d c → IsMoved rounds t k c
     move_done stands done = both (closing_of is stands) done
       where
-        both : IsClosing part t k d ⊎ IsMoved part t k d → IsMoveDone k.cursor.cycle (closes_whole k) d c → IsMoved part t k c
+        both : IsClosing rounds t k d ⊎ IsMoved rounds t k d → IsMoveDone k.cursor.cycle (closes_whole k) d c → IsMoved rounds t k c
         both (inl w) (inl was) = absurd (cc (not_shut w, was.0))
         both (inl w) (inr now) = after_move w now.1
-        both (inr w) (inl was) = subst (IsMoved part t k) (sym was.1) w
+        both (inr w) (inl was) = subst (IsMoved rounds t k) (sym was.1) w
         both (inr w) (inr now) = absurd (cc (shut_closing w, now.0))
 
-    pub move_holds : {shown : Content} → Holds part t k d → d ≡ shown → MayMoveAt k.cursor.cycle (closes_whole k) shown d c → Holds part t k c
-    move_holds h same (inl stayed) = subst (Holds part t k) (sym stayed) h
+    pub move_holds : {shown : Content} → Holds rounds t k d → d ≡ shown → MayMoveAt k.cursor.cycle (closes_whole k) shown d c → Holds rounds t k c
+    move_holds h same (inl stayed) = subst (Holds rounds t k) (sym stayed) h
     move_holds h same (inr now) = record {
       at = moved_at (ap (λ (x : Content). x.checkpoint) now.1) h.at;
       stands = inr (inr (move_done h.stands (inr (ap (λ (x : Content). is_closed x.closed k.cursor.cycle) same ∙ now.0, now.1))));
     }
 
 -- the next cycle begins at the cursor that ended the last one
-pub next_stands : {part : Part} {t : Text} {k next : Checkpoint} {c : Content} → next ≡ begun_anew k → IsMoved part t k c → Stands part t next c
-next_stands {part} {t} {k} {next} {c} is w =
-    subst (λ (x : Checkpoint). Stands part t x c) (sym is)
-    (fresh_stands k (ap place_in w.ends) w.told_is (subst (λ (m : ℕ). AreClosed part 1 c.closed m) (sym (next_cycle_begun k.cursor w.ends)) w.earlier))
+pub next_stands : {rounds : Rounds} {t : Text} {k next : Checkpoint} {c : Content} → next ≡ begun_anew k → IsMoved rounds t k c → Stands rounds t next c
+next_stands {rounds} {t} {k} {next} {c} is w =
+    subst (λ (x : Checkpoint). Stands rounds t x c) (sym is)
+    (fresh_stands k (ap place_in w.ends) w.told_is (subst (λ (m : ℕ). AreClosed rounds 1 c.closed m) (sym (next_cycle_begun k.cursor w.ends)) w.earlier))
 
 -- ---- leaving a branch out
 
 -- the checkpoint that names it
-pub left_stands : {part : Part} {t : Text} {k next : Checkpoint} {c : Content} (branch : Place) → next ≡ with_left branch k → k.phase ≡ Open → Stands part t k c → Stands part t next c
-left_stands {part} {t} {k} {c = c} branch same is stands =
+pub left_stands : {rounds : Rounds} {t : Text} {k next : Checkpoint} {c : Content} (branch : Place) → next ≡ with_left branch k → k.phase ≡ Open → Stands rounds t k c → Stands rounds t next c
+left_stands {rounds} {t} {k} {c = c} branch same is stands =
     let o = open_of is stands in
-    let chain = leave_on part o.led.first k.cursor o.led.runs k.left (left_at branch k) o.led.chain refl in
-    subst (λ (x : Checkpoint). Stands part t x c) (sym same)
-    (inl (record { phase = o.phase; led = record { first = o.led.first; runs = o.led.runs; starts = o.led.starts; chain = chain }; text = o.text; report = o.report; begins = o.begins; is_whole = o.is_whole; told = o.told; told_is = o.told_is; earlier = o.earlier }))
+    let chain = leave_on rounds.part o.led.first k.cursor o.led.runs k.left (left_at branch k) o.led.chain refl in
+    subst (λ (x : Checkpoint). Stands rounds t x c) (sym same)
+    (inl (record { phase = o.phase; led = record { first = o.led.first; runs = o.led.runs; starts = o.led.starts; chain = chain; looked = o.led.looked }; text = o.text; report = o.report; begins = o.begins; is_whole = o.is_whole; lossless = o.lossless; told = o.told; told_is = o.told_is; earlier = o.earlier }))
 
 -- ---- saying
 
@@ -398,24 +425,24 @@ told_now t k c text counted le same is =
     ∙ append_assoc (closed_text c.closed) (take k.told text) (unsaid k c)
     ∙ ap (λ (l : Text). closed_text c.closed ++ l) (ap (λ (l : Text). take k.told text ++ take (k.report.bytes - k.told) (drop k.told l)) same ∙ more_of text k.told k.report.bytes counted le)
 
-module _ {part : Part} {t : Text} {k : Checkpoint} {c : Content} (some : k.told ≡ k.report.bytes → ⊥) (exact : k.phase ≡ Open → length c.report ≡ k.report.bytes) where
-  said_stands : Stands part t k c → Stands part (t ++ unsaid k c) (with_all_told k) c
+module _ {rounds : Rounds} {t : Text} {k : Checkpoint} {c : Content} (some : k.told ≡ k.report.bytes → ⊥) (exact : k.phase ≡ Open → length c.report ≡ k.report.bytes) where
+  said_stands : Stands rounds t k c → Stands rounds (t ++ unsaid k c) (with_all_told k) c
   said_stands (inl o) =
       let told_is = told_now t k c o.text (long o.text k.report o.report) o.told (exact_text o (exact o.phase)) o.told_is in
-      inl (record { phase = o.phase; led = o.led; text = o.text; report = o.report; begins = o.begins; is_whole = o.is_whole; told = omega arith; told_is = told_is; earlier = o.earlier })
+      inl (record { phase = o.phase; led = o.led; text = o.text; report = o.report; begins = o.begins; is_whole = o.is_whole; lossless = o.lossless; told = omega arith; told_is = told_is; earlier = o.earlier })
   said_stands (inr (inl w)) =
       let told_is = told_now t k c c.report (long c.report k.report w.report) w.told refl w.told_is in
-      inr (inl (record { phase = w.phase; led = w.led; ends = w.ends; report = w.report; is_whole = w.is_whole; told = omega arith; told_is = told_is; earlier = w.earlier }))
+      inr (inl (record { phase = w.phase; led = w.led; ends = w.ends; report = w.report; is_whole = w.is_whole; lossless = w.lossless; told = omega arith; told_is = told_is; earlier = w.earlier }))
   said_stands (inr (inr w)) = absurd (some w.told)
 
-pub said_by : {F : Type 0} {seen : F → Content} {may_leave : F → Outcomes} {part : Part} {t : Text} {k next : Checkpoint} {f : F} → next ≡ with_all_told k → (k.told ≡ k.report.bytes → ⊥) → IsReady seen may_leave part t k f → Stands part (t ++ unsaid k (seen f)) next (seen f)
-said_by {seen = seen} {part = part} {t} {k} {f = f} is some r = subst (λ (x : Checkpoint). Stands part (t ++ unsaid k (seen f)) x (seen f)) (sym is) (said_stands some r.exact r.stands)
+pub said_by : {F : Type 0} {seen : F → Content} {may_leave : F → Outcomes} {rounds : Rounds} {t : Text} {k next : Checkpoint} {f : F} → next ≡ with_all_told k → (k.told ≡ k.report.bytes → ⊥) → IsReady seen may_leave rounds t k f → Stands rounds (t ++ unsaid k (seen f)) next (seen f)
+said_by {seen = seen} {rounds = rounds} {t} {k} {f = f} is some r = subst (λ (x : Checkpoint). Stands rounds (t ++ unsaid k (seen f)) x (seen f)) (sym is) (said_stands some r.exact r.stands)
 
 -- ---- a report is closed
 
-pub one_more : {part : Part} {t : Text} {k next : Checkpoint} {a b c : Content} → IsMoveDone k.cursor.cycle (closes_whole k) a b → IsMoved part t k b → IsCheckpointPut next b c → IsOneMore part k.cursor.cycle a.closed c.closed
-one_more {part} {k = k} {a = a} {b} {c} done w put = record {
-  now = subst (λ (l : List Closed). AreClosed part 1 l (k.cursor.cycle + 1)) (sym same) w.earlier;
+pub one_more : {rounds : Rounds} {t : Text} {k next : Checkpoint} {a b c : Content} → IsMoveDone k.cursor.cycle (closes_whole k) a b → IsMoved rounds t k b → IsCheckpointPut next b c → IsOneMore rounds k.cursor.cycle a.closed c.closed
+one_more {rounds} {k = k} {a = a} {b} {c} done w put = record {
+  now = subst (λ (l : List Closed). AreClosed rounds 1 l (k.cursor.cycle + 1)) (sym same) w.earlier;
   before = by done;
 }
   where

@@ -1,7 +1,7 @@
 -- How a night takes up what the last one left.
 use Rattle.std.proofs.Common.{◌≡◌, ℕ, [], Option, Some, None, MatchOption, refl, sym, ◌∙◌, ap, subst, take}
 use Rattle.ocfl_tree.specs.Place.{Text}
-use Rattle.ocfl_audit.specs.Parts.{Part}
+use Rattle.ocfl_night.specs.Looks.{Rounds}
 use Rattle.ocfl_state.specs.{Checkpoint.{Checkpoint}, Content.{Content, with_report}}
 use Rattle.ocfl_state.specs.Crash.{Outcomes, Only, Same, Passes, LeavesOnly}
 use Rattle.ocfl_state.specs.declared.checkpoint_parts.ReportMark.{ReportMark}
@@ -12,74 +12,74 @@ use Rattle.ocfl_night.proofs.Heard.{kept_found}
 use Rattle.ocfl_night.proofs.Sound.{holds_sound, new_sound, sound_new, cut_open}
 
 -- before the first checkpoint
-pub new_here : (part : Part) {outcomes : Outcomes} {d : Content} → Only d outcomes → d.checkpoint ≡ None → IsNew [] d → (c : Content) → outcomes c → IsSoundAt part [] c
-new_here part only none new c left = subst (IsSoundAt part []) (sym (only c left)) (sound_new part none new)
+pub new_here : (rounds : Rounds) {outcomes : Outcomes} {d : Content} → Only d outcomes → d.checkpoint ≡ None → IsNew [] d → (c : Content) → outcomes c → IsSoundAt rounds [] c
+new_here rounds only none new c left = subst (IsSoundAt rounds []) (sym (only c left)) (sound_new rounds none new)
 
-pub begun_moments : {F : Type 0} {may_leave : F → Outcomes} {moment : F → ℕ} {left_since : F → ℕ → Outcomes} {f g h : F} {d c : Content} (part : Part) → OnlyNow may_leave moment left_since
+pub begun_moments : {F : Type 0} {may_leave : F → Outcomes} {moment : F → ℕ} {left_since : F → ℕ → Outcomes} {f g h : F} {d c : Content} (rounds : Rounds) → OnlyNow may_leave moment left_since
     → Only d (may_leave f) → d.checkpoint ≡ None → IsNew [] d → Passes may_leave moment left_since Same f g → c ≡ d
-    → (Only c (may_leave g) → c.checkpoint ≡ None → IsNew [] c → LeavesOnly moment left_since g h (IsSoundAt part [])) → LeavesOnly moment left_since f h (IsSoundAt part [])
-begun_moments part only_now only none new p same then =
+    → (Only c (may_leave g) → c.checkpoint ≡ None → IsNew [] c → LeavesOnly moment left_since g h (IsSoundAt rounds [])) → LeavesOnly moment left_since f h (IsSoundAt rounds [])
+begun_moments rounds only_now only none new p same then =
     joined_moments
-    (unchanged only_now (new_here part only none new) p)
+    (unchanged only_now (new_here rounds only none new) p)
     (then (λ x n. let from = p.now x n in from.2 ∙ only from.0 from.1 ∙ sym same) (ap (λ (x : Content). x.checkpoint) same ∙ none) (subst (IsNew []) (sym same) new))
 
 -- ---- what is taken up
 
-module _ {F : Type 0} {seen : F → Content} {may_leave : F → Outcomes} {part : Part} {t : Text} {k : Checkpoint} {f g : F} where
-  pub cut_ready : k.phase ≡ Open → IsSettled seen may_leave part t k f → seen g ≡ with_report (take k.report.bytes (seen f).report) (seen f) → Only (seen g) (may_leave g) → IsReady seen may_leave part t k g
+module _ {F : Type 0} {seen : F → Content} {may_leave : F → Outcomes} {rounds : Rounds} {t : Text} {k : Checkpoint} {f g : F} where
+  pub cut_ready : k.phase ≡ Open → IsSettled seen may_leave rounds t k f → seen g ≡ with_report (take k.report.bytes (seen f).report) (seen f) → Only (seen g) (may_leave g) → IsReady seen may_leave rounds t k g
   cut_ready is r cut only =
       let now = cut_open is (record { at = r.at; stands = r.stands }) cut in
       record { at = now.0.at; stands = now.0.stands; exact = λ phase. now.1; only = only }
 
-  pub settled_on : k.phase ≡ Closing → IsSettled seen may_leave part t k f → seen g ≡ seen f → Only (seen g) (may_leave g) → IsReady seen may_leave part t k g
+  pub settled_on : k.phase ≡ Closing → IsSettled seen may_leave rounds t k f → seen g ≡ seen f → Only (seen g) (may_leave g) → IsReady seen may_leave rounds t k g
   settled_on is r same only = record {
     at = subst (IsAt k) (sym same) r.at;
-    stands = subst (Stands part t k) (sym same) r.stands;
+    stands = subst (Stands rounds t k) (sym same) r.stands;
     exact = λ phase. absurd (cc (is, phase));
     only = only;
   }
 
 -- a call changed nothing
-pub settled_still : {F : Type 0} {seen : F → Content} {may_leave : F → Outcomes} {moment : F → ℕ} {left_since : F → ℕ → Outcomes} {part : Part} {t : Text} {k : Checkpoint} {f g : F} → IsSettled seen may_leave part t k f → seen g ≡ seen f → Passes may_leave moment left_since Same f g → IsSettled seen may_leave part t k g
-settled_still {seen = seen} {part = part} {t} {k} r same p = record {
+pub settled_still : {F : Type 0} {seen : F → Content} {may_leave : F → Outcomes} {moment : F → ℕ} {left_since : F → ℕ → Outcomes} {rounds : Rounds} {t : Text} {k : Checkpoint} {f g : F} → IsSettled seen may_leave rounds t k f → seen g ≡ seen f → Passes may_leave moment left_since Same f g → IsSettled seen may_leave rounds t k g
+settled_still {seen = seen} {rounds = rounds} {t} {k} r same p = record {
   at = subst (IsAt k) (sym same) r.at;
-  stands = subst (Stands part t k) (sym same) r.stands;
+  stands = subst (Stands rounds t k) (sym same) r.stands;
   only = only_same seen p same r.only;
 }
 
 -- what is opened, if the report is as its checkpoint says
-pub taken_as : {F : Type 0} {seen : F → Content} {may_leave : F → Outcomes} {part : Part} {t : Text} {k opened : Checkpoint} {there : Option ReportMark} {f : F} → (there ≡ None → opened ≡ k) → (there ≡ None) × IsReady seen may_leave part t k f → IsReady seen may_leave part t opened f
-taken_as {seen = seen} {may_leave} {part} {t} {f = f} same up = subst (λ (x : Checkpoint). IsReady seen may_leave part t x f) (sym (same up.0)) up.1
+pub taken_as : {F : Type 0} {seen : F → Content} {may_leave : F → Outcomes} {rounds : Rounds} {t : Text} {k opened : Checkpoint} {there : Option ReportMark} {f : F} → (there ≡ None → opened ≡ k) → (there ≡ None) × IsReady seen may_leave rounds t k f → IsReady seen may_leave rounds t opened f
+taken_as {seen = seen} {may_leave} {rounds} {t} {f = f} same up = subst (λ (x : Checkpoint). IsReady seen may_leave rounds t x f) (sym (same up.0)) up.1
 
 -- ---- opening
 
 -- this checkpoint is there
-pub settled_there : {F : Type 0} {seen : F → Content} {may_leave : F → Outcomes} {part : Part} {t : Text} {k : Checkpoint} {l : F} {d : Content} → IsSoundAt part t d → IsAt k d → seen l ≡ d → Only (seen l) (may_leave l) → IsSettled seen may_leave part t k l
-settled_there {part = part} {t} {k} sound at same only =
+pub settled_there : {F : Type 0} {seen : F → Content} {may_leave : F → Outcomes} {rounds : Rounds} {t : Text} {k : Checkpoint} {l : F} {d : Content} → IsSoundAt rounds t d → IsAt k d → seen l ≡ d → Only (seen l) (may_leave l) → IsSettled seen may_leave rounds t k l
+settled_there {rounds = rounds} {t} {k} sound at same only =
     let h = holds_sound sound at in
-    record { at = subst (IsAt k) (sym same) h.at; stands = subst (Stands part t k) (sym same) h.stands; only = only }
+    record { at = subst (IsAt k) (sym same) h.at; stands = subst (Stands rounds t k) (sym same) h.stands; only = only }
 
-module _ {F : Type 0} {seen : F → Content} {may_leave : F → Outcomes} {part : Part} {outcomes : Outcomes} {next : Checkpoint} {h : F} where
-  pub found_ready : {t : Text} (d : Content) → outcomes d → IsSoundAt part t d → IsReady seen may_leave part t next h → IsFoundReady seen may_leave part outcomes next h
+module _ {F : Type 0} {seen : F → Content} {may_leave : F → Outcomes} {rounds : Rounds} {outcomes : Outcomes} {next : Checkpoint} {h : F} where
+  pub found_ready : {t : Text} (d : Content) → outcomes d → IsSoundAt rounds t d → IsReady seen may_leave rounds t next h → IsFoundReady seen may_leave rounds outcomes next h
   found_ready {t} d was before ready = record { from = d; was = was; t = t; before = before; ready = ready }
 
-  pub taken_ready : {k : Checkpoint} {l : F} {d : Content} → outcomes d → ((c : Content) → outcomes c → IsSound part c) → IsAt k d → seen l ≡ d → Only (seen l) (may_leave l) → ((t : Text) → IsSettled seen may_leave part t k l → IsReady seen may_leave part t next h) → IsFoundReady seen may_leave part outcomes next h
+  pub taken_ready : {k : Checkpoint} {l : F} {d : Content} → outcomes d → ((c : Content) → outcomes c → IsSound rounds c) → IsAt k d → seen l ≡ d → Only (seen l) (may_leave l) → ((t : Text) → IsSettled seen may_leave rounds t k l → IsReady seen may_leave rounds t next h) → IsFoundReady seen may_leave rounds outcomes next h
   taken_ready {d = d} was kept at same only then = let sound = kept d was in found_ready d was sound.1 (then sound.0 (settled_there sound.1 at same only))
 
-module _ {F : Type 0} {may_leave : F → Outcomes} {moment : F → ℕ} {left_since : F → ℕ → Outcomes} {part : Part} {f l h : F} {d : Content} (only_now : OnlyNow may_leave moment left_since) (was : may_leave f d) (kept : IsKept may_leave part f) (p : Passes may_leave moment left_since Same f l) where
+module _ {F : Type 0} {may_leave : F → Outcomes} {moment : F → ℕ} {left_since : F → ℕ → Outcomes} {rounds : Rounds} {f l h : F} {d : Content} (only_now : OnlyNow may_leave moment left_since) (was : may_leave f d) (kept : IsKept may_leave rounds f) (p : Passes may_leave moment left_since Same f l) where
   -- what is called after a look
-  pub found_on : {t : Text} → IsSoundAt part t d → LeavesOnly moment left_since l h (IsSoundAt part t) → LeavesOnly moment left_since f h (IsFound part (may_leave f))
+  pub found_on : {t : Text} → IsSoundAt rounds t d → LeavesOnly moment left_since l h (IsSoundAt rounds t) → LeavesOnly moment left_since f h (IsFound rounds (may_leave f))
   found_on {t} before q =
       joined_moments
       (unchanged only_now (λ c n. kept_found kept n) p)
       (leaves_weaker (λ c now. record { from = d; was = was; t = t; before = before; now = now }) q)
 
-  pub taken_moments : {seen : F → Content} {k : Checkpoint} → IsAt k d → seen l ≡ d → Only (seen l) (may_leave l) → ((t : Text) → IsSettled seen may_leave part t k l → LeavesOnly moment left_since l h (IsSoundAt part t)) → LeavesOnly moment left_since f h (IsFound part (may_leave f))
+  pub taken_moments : {seen : F → Content} {k : Checkpoint} → IsAt k d → seen l ≡ d → Only (seen l) (may_leave l) → ((t : Text) → IsSettled seen may_leave rounds t k l → LeavesOnly moment left_since l h (IsSoundAt rounds t)) → LeavesOnly moment left_since f h (IsFound rounds (may_leave f))
   taken_moments at same only then = let sound = kept d was in found_on sound.1 (then sound.0 (settled_there sound.1 at same only))
 
 -- no checkpoint is there
-pub shown_new : (part : Part) {c : Content} → IsSound part c → c.checkpoint ≡ None → IsNew [] c
-shown_new part sound none = let new = new_sound part sound.1 none in record { report = new.report; closed = new.closed; told_is = refl }
+pub shown_new : (rounds : Rounds) {c : Content} → IsSound rounds c → c.checkpoint ≡ None → IsNew [] c
+shown_new rounds sound none = let new = new_sound rounds sound.1 none in record { report = new.report; closed = new.closed; told_is = refl }
 
 pub none_found : (c : Content) {found : Option Checkpoint} → MatchOption found (c.checkpoint ≡ None) (λ k. IsAt k c) → found ≡ None → c.checkpoint ≡ None
 none_found c value is = subst (λ (o : Option Checkpoint). MatchOption o (c.checkpoint ≡ None) (λ k. IsAt k c)) is value

@@ -1,19 +1,28 @@
 -- Chains of runs: what nights write of one cycle, each run from the cursor that the one before it
 -- answered, also around branches that are left out; and what a closed report is.
-use Rattle.std.specs.Prelude.{◌≡◌, ◌≢◌, ℕ, ◌+◌, List, [], ◌∷◌, ◌++◌, true, not, Option, Some, None, filter, flat_map}
-use Rattle.std.specs.Ordering.{is_lt}
+use Rattle.std.specs.Prelude.{◌≡◌, ◌≢◌, ℕ, ◌+◌, List, [], ◌∷◌, ◌++◌, true, false, not, Option, Some, None, filter, flat_map}
+use Rattle.std.specs.{List.{AllByRecursion}, Ordering.{is_lt}}
 use Rattle.ocfl_tree.specs.{Place.{Text, Place, place_cmp}, StorageRoot.{StorageRoot}}
 use Rattle.ocfl_report.specs.Line.{Item}
-use Rattle.ocfl_audit.specs.{Audit.{after}, Parts.{Part, within}}
+use Rattle.ocfl_audit.specs.{Audit.{after}, Parts.{Part, within}, Trail.{unread_of}}
 use Rattle.ocfl_cursor.specs.Cursor.{Cursor}
 use Rattle.ocfl_scrub.specs.{Running.{place_in}, Joining.{PartRun, Ran}}
 use Rattle.ocfl_scrub.specs.declared.running.RunStatus.TheVariants as status
 use Rattle.ocfl_state.specs.{Content.{Closed}, declared.checkpoint_parts.Left.{Left}}
+use Rattle.ocfl_night.specs.Looks.{Look, IfGiven, IsOneOf, Rounds}
 
 -- a run, and the storage root as it was then
 pub record RootRun : Type 0 where
   pub root : StorageRoot
   pub run : PartRun
+
+-- what it looked at
+abbrev pub look_of : RootRun → Look
+look_of r = record { root = r.root; unread = Some (unread_of r.root r.run.opened) }
+
+-- each of some runs was one of these looks, if any are given
+abbrev pub AreLooked : Option (List Look) → List RootRun → Type 0
+AreLooked looks runs = AllByRecursion (λ r. IsOneOf looks (look_of r)) runs
 
 -- what runs wrote, joined
 abbrev pub joined : List RootRun → Text
@@ -81,17 +90,36 @@ around part from (l ∷ left) items = up_to l.after (after (within part items) f
 -- ---- closed reports
 
 -- a closed report is what a whole chain of its cycle wrote
-pub record IsWholeReport (part : Part) (d : Closed) : Type 0 where
+pub record IsWholeReport (rounds : Rounds) (d : Closed) : Type 0 where
   pub first : Cursor
   pub runs : List RootRun
   pub last : Cursor
   pub starts : place_in first.state ≡ None
-  pub chain : EndAt part first runs last
+  pub chain : EndAt rounds.part first runs last
+  pub looked : AreLooked rounds.looks runs
   pub cycle : d.cycle ≡ last.cycle
   pub report : d.report ≡ joined runs
 
--- the closed reports of the cycles from one on, each once, up to the one before the next; each that
--- is called whole is what a whole chain wrote
-abbrev pub AreClosed : Part → ℕ → List Closed → ℕ → Type 0
-AreClosed part n [] next = next ≡ n
-AreClosed part n (d ∷ closed) next = (d.cycle ≡ n) × (d.whole ≡ true → IsWholeReport part d) × AreClosed part (n + 1) closed next
+-- a closed report is what the runs of its cycle wrote around the branches that were left out
+pub record IsPartialReport (rounds : Rounds) (d : Closed) : Type 0 where
+  pub first : Cursor
+  pub runs : List RootRun
+  pub left : List Left
+  pub last : Cursor
+  pub starts : place_in first.state ≡ None
+  pub some : left ≢ []
+  pub chain : LedToEnd rounds.part first runs left last
+  pub looked : AreLooked rounds.looks runs
+  pub cycle : d.cycle ≡ last.cycle
+  pub report : d.report ≡ joined runs
+
+-- one that is called whole is what a whole chain wrote, and any other one, unless something was lost,
+-- what was written around branches that were left out
+pub record IsClosedAs (rounds : Rounds) (d : Closed) : Type 0 where
+  pub whole : d.whole ≡ true → IsWholeReport rounds d
+  pub partial : IfGiven rounds.looks (d.whole ≡ false → IsPartialReport rounds d)
+
+-- the closed reports of the cycles from one on, each once, up to the one before the next
+abbrev pub AreClosed : Rounds → ℕ → List Closed → ℕ → Type 0
+AreClosed rounds n [] next = next ≡ n
+AreClosed rounds n (d ∷ closed) next = (d.cycle ≡ n) × IsClosedAs rounds d × AreClosed rounds (n + 1) closed next

@@ -1,4 +1,5 @@
 pub mod Site
+pub mod Looks
 pub mod Chain
 pub mod Sound
 pub mod Steps

@@ -1,22 +1,28 @@
 -- Any nights over one state folder, each ended or crashed.
-use Rattle.std.specs.Prelude.{◌≡◌, ℕ, ◌++◌, List, [], ◌∷◌, Option, Some, ⊤}
-use Rattle.ocfl_tree.specs.Place.{Text}
-use Rattle.ocfl_audit.specs.Parts.{Part}
+use Rattle.std.specs.Prelude.{◌≡◌, ◌≢◌, ℕ, ◌++◌, List, [], ◌∷◌, Option, None, Some, true, false, map, ⊤}
+use Rattle.std.specs.{Io.KnownBytes.{Appends}, List.{AllByRecursion}}
+use Rattle.ocfl_tree.specs.{Place.{Place, Text}, Ascending.{IsAmong}, StorageRoot.{StorageRoot}}
+use Rattle.ocfl_report.specs.Text.{text}
+use Rattle.ocfl_audit.specs.{Audit.{Unread, audit}, Parts.{Part, within}}
 use Rattle.ocfl_state.specs.{Content.{Content, Closed}, Crash.{Outcomes, LeavesOnly}}
-use Rattle.ocfl_night.specs.{Chain.{AreClosed}, Sound.{IsSoundAt, IsKept, IsHeardSince}}
+use Rattle.ocfl_state.specs.declared.checkpoint_parts.Left.{Left}
+use Rattle.ocfl_night.specs.{Chain.{AreClosed, around}, Looks.{IsNoMore, Look, Rounds, WithLook}, Sound.{IsSoundAt, IsKept, IsHeardSince}}
 
 -- What a night promises: if each crash before it leaves a sound content, so does each since then, and
--- more than was told is told only if the output took it.
-abbrev pub IsSafeNight : {F : Type 0} → (F → Outcomes) → (F → ℕ) → (F → ℕ → Outcomes) → Part → F → F → Option Text → Option Text → Type 0
-IsSafeNight may_leave moment left_since part began ended old new = IsKept may_leave part began → LeavesOnly moment left_since began ended (IsHeardSince part (may_leave began) old new)
+-- more than was told is told only if the output took it. That holds whatever looks the runs are
+-- within, if that of this night is within one of them.
+abbrev pub IsSafeNight : {F : Type 0} → (F → Outcomes) → (F → ℕ) → (F → ℕ → Outcomes) → Part → Look → F → F → Option Text → Option Text → Type 0
+IsSafeNight may_leave moment left_since part look began ended old new =
+    WithLook part look (λ rounds. IsKept may_leave rounds began → LeavesOnly moment left_since began ended (IsHeardSince rounds (may_leave began) old new))
 
--- a night: the folder when it began and when it was last seen, and what its output had taken before
--- and then
+-- a night: the folder when it began and when it was last seen, what its store was looked at for, and
+-- what is known that its output had taken before and then
 pub record Night (F : Type 0) : Type 0 where
   pub began : F
   pub ended : F
-  pub before : Text
-  pub said : Text
+  pub look : Look
+  pub before : Option Text
+  pub said : Option Text
 
 -- Nights over a part. The first begins on one of these outcomes, and each other one on what a crash of
 -- the one before it, at any moment, may have left, or on its end.
@@ -24,7 +30,7 @@ abbrev pub AreNights : {F : Type 0} → (F → Outcomes) → (F → ℕ) → (F 
 AreNights may_leave moment left_since part outcomes [] = ⊤
 AreNights may_leave moment left_since part outcomes (n ∷ nights) =
     ((c : Content) → may_leave n.began c → outcomes c)
-    × IsSafeNight may_leave moment left_since part n.began n.ended (Some n.before) (Some n.said)
+    × IsSafeNight may_leave moment left_since part n.look n.began n.ended n.before n.said
     × AreNights may_leave moment left_since part (left_since n.ended (moment n.began)) nights
 
 -- whatever a crash at any moment of each night may have left
@@ -34,16 +40,50 @@ AtAnyMoment moment left_since Holds (n ∷ nights) = ((c : Content) → left_sin
 
 -- the closed reports are those of the first cycles, each once, and each that is called whole is what a
 -- whole chain of runs wrote
-abbrev pub AreWhole : Part → List Closed → Type 0
-AreWhole part closed = (next : ℕ) × AreClosed part 1 closed next
+abbrev pub AreWhole : Rounds → List Closed → Type 0
+AreWhole rounds closed = (next : ℕ) × AreClosed rounds 1 closed next
+
+-- of each of some closed reports that is called whole this holds
+abbrev pub EachWhole : (Text → Type 0) → List Closed → Type 0
+EachWhole Holds closed = (d : Closed) → IsAmong closed d → d.whole ≡ true → Holds d.report
+
+-- a text is the audit of a part, in which a file is called unreadable only if one of these looks
+-- could not read it
+pub record IsAuditBut (root : StorageRoot) (part : Part) (looks : List Look) (report : Text) : Type 0 where
+  pub unread : Unread
+  pub is : report ≡ text (within part (audit root unread))
+  pub each : (e : Place × ℕ) → IsAmong unread e → (l : Look) × (IsAmong looks l × IsNoMore (Some (e ∷ [])) l.unread)
+
+-- all nights looked at this storage root
+abbrev pub AreOver : {F : Type 0} → StorageRoot → List (Night F) → Type 0
+AreOver root nights = AllByRecursion (λ n. n.look.root ≡ root) nights
+
+-- and could read each content file that they opened
+abbrev pub HaveReadAll : {F : Type 0} → List (Night F) → Type 0
+HaveReadAll nights = AllByRecursion (λ n. n.look.unread ≡ Some []) nights
+
+-- a text is the audit of a part but for branches that were left out, at least one: up to where each
+-- was, and then what comes after it
+pub record IsAround (root : StorageRoot) (part : Part) (report : Text) : Type 0 where
+  pub left : List Left
+  pub some : left ≢ []
+  pub is : report ≡ text (around part None left (audit root []))
+
+-- of each other one this holds
+abbrev pub EachOther : (Text → Type 0) → List Closed → Type 0
+EachOther Holds closed = (d : Closed) → IsAmong closed d → d.whole ≡ false → Holds d.report
+
+-- the rounds that these nights are
+abbrev pub rounds_of : {F : Type 0} → Part → List (Night F) → Rounds
+rounds_of part nights = record { part = part; looks = Some (map (λ n. n.look) nights) }
 
 -- a text is joined from what each of these nights' outputs took first, the last night first
 abbrev pub IsTaken : {F : Type 0} → List (Night F) → Text → Type 0
 IsTaken [] told = told ≡ []
-IsTaken (n ∷ earlier) told = (t : Text) × ((more : Text) × ((told ≡ t ++ more) × (((others : Text) × (n.said ≡ n.before ++ (more ++ others))) × IsTaken earlier t)))
+IsTaken (n ∷ earlier) told = (t : Text) × ((more : Text) × ((told ≡ t ++ more) × (((others : Text) × Appends n.before n.said (more ++ others)) × IsTaken earlier t)))
 
 -- at any moment of each night, what was told was taken by its output and those before it
-abbrev pub AllTaken : {F : Type 0} → (F → ℕ) → (F → ℕ → Outcomes) → Part → List (Night F) → List (Night F) → Type 0
-AllTaken moment left_since part earlier [] = ⊤
-AllTaken moment left_since part earlier (n ∷ nights) =
-    ((c : Content) → left_since n.ended (moment n.began) c → (t : Text) × (IsSoundAt part t c × IsTaken (n ∷ earlier) t)) × AllTaken moment left_since part (n ∷ earlier) nights
+abbrev pub AllTaken : {F : Type 0} → (F → ℕ) → (F → ℕ → Outcomes) → Rounds → List (Night F) → List (Night F) → Type 0
+AllTaken moment left_since rounds earlier [] = ⊤
+AllTaken moment left_since rounds earlier (n ∷ nights) =
+    ((c : Content) → left_since n.ended (moment n.began) c → (t : Text) × (IsSoundAt rounds t c × IsTaken (n ∷ earlier) t)) × AllTaken moment left_since rounds (n ∷ earlier) nights

@@ -5,7 +5,7 @@ use Rattle.ocfl_audit.specs.Parts.{Part}
 use Rattle.ocfl_item.specs.Judging.{HasShortFiles}
 use Rattle.ocfl_scrub.specs.declared.kept.KeptWalk.{KeptWalk}
 use Rattle.ocfl_state.specs.{Checkpoint.{Checkpoint}, Content.{Content}, Crash.{Outcomes, LeavesOnly}}
-use Rattle.ocfl_night.specs.{Sound.{IsAt, IsSoundAt, IsReady}, Steps.{IsLost, IsWalkAt}}
+use Rattle.ocfl_night.specs.{Looks.{Rounds}, Sound.{IsAt, IsSoundAt, IsReady}, Steps.{IsLost, IsWalkAt}}
 
 -- ---- when
 
@@ -13,17 +13,21 @@ use Rattle.ocfl_night.specs.{Sound.{IsAt, IsSoundAt, IsReady}, Steps.{IsLost, Is
 abbrev pub OnShort : Bool → Store → Type 0 → Type 0
 OnShort told s Holds = IfTold told s (λ root. HasShortFiles root → Holds)
 
+-- and what is said of that root
+abbrev pub OverShort : Bool → Store → (StorageRoot → Type 0) → Type 0
+OverShort told s Holds = IfTold told s (λ root. HasShortFiles root → Holds root)
+
 -- the same, if a walk is kept that goes on where the run from a checkpoint begins
 abbrev pub IfWalkAt : Bool → Store → Part → Checkpoint → KeptWalk → (StorageRoot → Type 0) → Type 0
 IfWalkAt told s part k kept Holds = IfTold told s (λ root. HasShortFiles root → IsWalkAt root part k kept → Holds root)
 
 -- in a folder that is ready at a checkpoint, whatever text was told
-abbrev pub IfReadyIn : {F : Type 0} → (F → Content) → (F → Outcomes) → Part → Checkpoint → F → (Text → Type 0) → Type 0
-IfReadyIn seen may_leave part k folder Holds = (t : Text) → IsReady seen may_leave part t k folder → Holds t
+abbrev pub IfReadyIn : {F : Type 0} → (F → Content) → (F → Outcomes) → Rounds → Checkpoint → F → (Text → Type 0) → Type 0
+IfReadyIn seen may_leave rounds k folder Holds = (t : Text) → IsReady seen may_leave rounds t k folder → Holds t
 
--- the same of any part
-abbrev pub IfReady : {F : Type 0} → (F → Content) → (F → Outcomes) → Checkpoint → F → (Part → Text → Type 0) → Type 0
-IfReady seen may_leave k folder Holds = (part : Part) → IfReadyIn seen may_leave part k folder (Holds part)
+-- the same of any rounds
+abbrev pub IfReady : {F : Type 0} → (F → Content) → (F → Outcomes) → Checkpoint → F → (Rounds → Text → Type 0) → Type 0
+IfReady seen may_leave k folder Holds = (rounds : Rounds) → IfReadyIn seen may_leave rounds k folder (Holds rounds)
 
 -- if bytes of a report were lost or changed that is not closed yet
 abbrev pub IfLost : Content → Type 0 → Type 0
@@ -32,12 +36,12 @@ IfLost c Holds = (k : Checkpoint) → IsAt k c → IsLost k c → Holds
 -- ---- what
 
 -- in a folder that is ready, a crash at any moment leaves what is sound
-abbrev pub IsSafeIn : {F : Type 0} → (F → Content) → (F → Outcomes) → (F → ℕ) → (F → ℕ → Outcomes) → Part → Checkpoint → F → F → Type 0
-IsSafeIn seen may_leave moment left_since part k old new = IfReadyIn seen may_leave part k old (λ t. LeavesOnly moment left_since old new (IsSoundAt part t))
+abbrev pub IsSafeIn : {F : Type 0} → (F → Content) → (F → Outcomes) → (F → ℕ) → (F → ℕ → Outcomes) → Rounds → Checkpoint → F → F → Type 0
+IsSafeIn seen may_leave moment left_since rounds k old new = IfReadyIn seen may_leave rounds k old (λ t. LeavesOnly moment left_since old new (IsSoundAt rounds t))
 
--- the same of any part
+-- the same of any rounds
 abbrev pub IsSafe : {F : Type 0} → (F → Content) → (F → Outcomes) → (F → ℕ) → (F → ℕ → Outcomes) → Checkpoint → F → F → Type 0
-IsSafe seen may_leave moment left_since k old new = (part : Part) → IsSafeIn seen may_leave moment left_since part k old new
+IsSafe seen may_leave moment left_since k old new = (rounds : Rounds) → IsSafeIn seen may_leave moment left_since rounds k old new
 
 -- the closed reports are those of before
 abbrev pub SameClosed : {F : Type 0} → (F → Content) → F → F → Type 0

@@ -8,56 +8,59 @@ use Rattle.ocfl_scrub.specs.Running.{place_in, begun}
 use Rattle.ocfl_state.specs.{Checkpoint.{Checkpoint, IsCheckpointText}, Content.{Content, Closed}}
 use Rattle.ocfl_state.specs.{Crash.{Outcomes, Begins, Only}, Pieces.{summary_of}}
 use Rattle.ocfl_state.specs.declared.checkpoint_parts.{Left.{Left}, Phase.TheVariants.{Open, Closing}}
-use Rattle.ocfl_night.specs.Chain.{RootRun, joined, Led, LedToEnd, AreClosed}
+use Rattle.ocfl_night.specs.{Looks.{IfGiven, Rounds}, Chain.{RootRun, joined, AreLooked, Led, LedToEnd, AreClosed}}
 
 -- the closed reports, joined
 abbrev pub closed_text : List Closed → Text
 closed_text closed = flat_map (λ d. d.report) closed
 
 -- a chain of a cycle's runs from its start to a cursor, around the branches that were left out
-pub record HasRuns (Leads : Part → Cursor → List RootRun → List Left → Cursor → Type 0) (part : Part) (left : List Left) (last : Cursor) : Type 0 where
+pub record HasRuns (Leads : Part → Cursor → List RootRun → List Left → Cursor → Type 0) (rounds : Rounds) (left : List Left) (last : Cursor) : Type 0 where
   pub first : Cursor
   pub runs : List RootRun
   pub starts : place_in first.state ≡ None
-  pub chain : Leads part first runs left last
+  pub chain : Leads rounds.part first runs left last
+  pub looked : AreLooked rounds.looks runs
 
 -- The cycle goes on: its runs lead to the checkpoint's cursor. The report begins with the text of
 -- which the checkpoint has the length, the lines and the digests, and if nothing was lost that is
 -- what the runs wrote. Of all the reports t was told.
-pub record IsOpen (part : Part) (t : Text) (k : Checkpoint) (c : Content) : Type 0 where
+pub record IsOpen (rounds : Rounds) (t : Text) (k : Checkpoint) (c : Content) : Type 0 where
   pub phase : k.phase ≡ Open
-  pub led : HasRuns Led part k.left k.cursor
+  pub led : HasRuns Led rounds k.left k.cursor
   pub text : Text
   pub report : k.report ≡ summary_of text
   pub begins : Begins text c.report
   pub is_whole : k.whole ≡ true → text ≡ joined led.runs
+  pub lossless : IfGiven rounds.looks (k.whole ≡ true)
   pub told : k.told ≤ k.report.bytes
   pub told_is : t ≡ closed_text c.closed ++ take k.told text
-  pub earlier : AreClosed part 1 c.closed (begun k.cursor).cycle
+  pub earlier : AreClosed rounds 1 c.closed (begun k.cursor).cycle
 
 -- the cycle has ended, and its report is to be closed
-pub record IsClosing (part : Part) (t : Text) (k : Checkpoint) (c : Content) : Type 0 where
+pub record IsClosing (rounds : Rounds) (t : Text) (k : Checkpoint) (c : Content) : Type 0 where
   pub phase : k.phase ≡ Closing
-  pub led : HasRuns LedToEnd part k.left k.cursor
+  pub led : HasRuns LedToEnd rounds k.left k.cursor
   pub ends : k.cursor.state ≡ ended
   pub report : k.report ≡ summary_of c.report
   pub is_whole : k.whole ≡ true → c.report ≡ joined led.runs
+  pub lossless : IfGiven rounds.looks (k.whole ≡ true)
   pub told : k.told ≤ k.report.bytes
   pub told_is : t ≡ closed_text c.closed ++ take k.told c.report
-  pub earlier : AreClosed part 1 c.closed k.cursor.cycle
+  pub earlier : AreClosed rounds 1 c.closed k.cursor.cycle
 
 -- it is closed, and all of it was told
-pub record IsMoved (part : Part) (t : Text) (k : Checkpoint) (c : Content) : Type 0 where
+pub record IsMoved (rounds : Rounds) (t : Text) (k : Checkpoint) (c : Content) : Type 0 where
   pub phase : k.phase ≡ Closing
   pub ends : k.cursor.state ≡ ended
   pub counted : 1 ≤ k.cursor.cycle
   pub empty : c.report ≡ []
   pub told : k.told ≡ k.report.bytes
   pub told_is : t ≡ closed_text c.closed
-  pub earlier : AreClosed part 1 c.closed (k.cursor.cycle + 1)
+  pub earlier : AreClosed rounds 1 c.closed (k.cursor.cycle + 1)
 
-abbrev pub Stands : Part → Text → Checkpoint → Content → Type 0
-Stands part t k c = IsOpen part t k c ⊎ (IsClosing part t k c ⊎ IsMoved part t k c)
+abbrev pub Stands : Rounds → Text → Checkpoint → Content → Type 0
+Stands rounds t k c = IsOpen rounds t k c ⊎ (IsClosing rounds t k c ⊎ IsMoved rounds t k c)
 
 -- no night was there
 pub record IsNew (t : Text) (c : Content) : Type 0 where
@@ -66,21 +69,21 @@ pub record IsNew (t : Text) (c : Content) : Type 0 where
   pub told_is : t ≡ []
 
 -- these are the text of a checkpoint, and the report and the closed ones are as it says
-pub record IsMarked (part : Part) (t : Text) (bytes : List ℕ) (c : Content) : Type 0 where
+pub record IsMarked (rounds : Rounds) (t : Text) (bytes : List ℕ) (c : Content) : Type 0 where
   pub checkpoint : Checkpoint
   pub is : IsCheckpointText bytes checkpoint
-  pub stands : Stands part t checkpoint c
+  pub stands : Stands rounds t checkpoint c
 
--- a content is as nights over a part leave it, which have told this text
-abbrev pub IsSoundAt : Part → Text → Content → Type 0
-IsSoundAt part t c = MatchOption c.checkpoint (IsNew t c) (λ bytes. IsMarked part t bytes c)
+-- a content is as these rounds of nights leave it, which have told this text
+abbrev pub IsSoundAt : Rounds → Text → Content → Type 0
+IsSoundAt rounds t c = MatchOption c.checkpoint (IsNew t c) (λ bytes. IsMarked rounds t bytes c)
 
-abbrev pub IsSound : Part → Content → Type 0
-IsSound part c = (t : Text) × IsSoundAt part t c
+abbrev pub IsSound : Rounds → Content → Type 0
+IsSound rounds c = (t : Text) × IsSoundAt rounds t c
 
 -- a crash now leaves a sound content
-abbrev pub IsKept : {F : Type 0} → (F → Outcomes) → Part → F → Type 0
-IsKept may_leave part folder = (c : Content) → may_leave folder c → IsSound part c
+abbrev pub IsKept : {F : Type 0} → (F → Outcomes) → Rounds → F → Type 0
+IsKept may_leave rounds folder = (c : Content) → may_leave folder c → IsSound rounds c
 
 -- the checkpoint is this one
 pub record IsAt (k : Checkpoint) (c : Content) : Type 0 where
@@ -89,15 +92,15 @@ pub record IsAt (k : Checkpoint) (c : Content) : Type 0 where
   pub text : IsCheckpointText bytes k
 
 -- the folder is at this checkpoint, and all that is read is on the disk
-pub record IsSettled {F : Type 0} (seen : F → Content) (may_leave : F → Outcomes) (part : Part) (t : Text) (k : Checkpoint) (folder : F) : Type 0 where
+pub record IsSettled {F : Type 0} (seen : F → Content) (may_leave : F → Outcomes) (rounds : Rounds) (t : Text) (k : Checkpoint) (folder : F) : Type 0 where
   pub at : IsAt k (seen folder)
-  pub stands : Stands part t k (seen folder)
+  pub stands : Stands rounds t k (seen folder)
   pub only : Only (seen folder) (may_leave folder)
 
 -- the same, and the report of a cycle that goes on has no more than the checkpoint says
-pub record IsReady {F : Type 0} (seen : F → Content) (may_leave : F → Outcomes) (part : Part) (t : Text) (k : Checkpoint) (folder : F) : Type 0 where
+pub record IsReady {F : Type 0} (seen : F → Content) (may_leave : F → Outcomes) (rounds : Rounds) (t : Text) (k : Checkpoint) (folder : F) : Type 0 where
   pub at : IsAt k (seen folder)
-  pub stands : Stands part t k (seen folder)
+  pub stands : Stands rounds t k (seen folder)
   pub exact : k.phase ≡ Open → length (seen folder).report ≡ k.report.bytes
   pub only : Only (seen folder) (may_leave folder)
 
@@ -110,54 +113,54 @@ pub record IsAllSaid (c : Content) : Type 0 where
 -- ---- what an output heard
 
 -- what was told is t and more, and an output took all of the more since then
-pub record IsHeard (part : Part) (t : Text) (old new : Option Text) (c : Content) : Type 0 where
+pub record IsHeard (rounds : Rounds) (t : Text) (old new : Option Text) (c : Content) : Type 0 where
   pub more : Text
-  pub sound : IsSoundAt part (t ++ more) c
+  pub sound : IsSoundAt rounds (t ++ more) c
   pub others : Text
   pub took : Appends old new (more ++ others)
 
 -- a folder is ready, with t and more told, and that is what an output took since then
-pub record IsHeardReady {F : Type 0} (seen : F → Content) (may_leave : F → Outcomes) (part : Part) (t : Text) (old new : Option Text) (k : Checkpoint) (folder : F) : Type 0 where
+pub record IsHeardReady {F : Type 0} (seen : F → Content) (may_leave : F → Outcomes) (rounds : Rounds) (t : Text) (old new : Option Text) (k : Checkpoint) (folder : F) : Type 0 where
   pub more : Text
-  pub ready : IsReady seen may_leave part (t ++ more) k folder
+  pub ready : IsReady seen may_leave rounds (t ++ more) k folder
   pub took : Appends old new more
 
 -- what one of these outcomes told is told still
-pub record IsFound (part : Part) (outcomes : Outcomes) (c : Content) : Type 0 where
+pub record IsFound (rounds : Rounds) (outcomes : Outcomes) (c : Content) : Type 0 where
   pub from : Content
   pub was : outcomes from
   pub t : Text
-  pub before : IsSoundAt part t from
-  pub now : IsSoundAt part t c
+  pub before : IsSoundAt rounds t from
+  pub now : IsSoundAt rounds t c
 
 -- a folder is ready, with what one of these outcomes told
-pub record IsFoundReady {F : Type 0} (seen : F → Content) (may_leave : F → Outcomes) (part : Part) (outcomes : Outcomes) (k : Checkpoint) (folder : F) : Type 0 where
+pub record IsFoundReady {F : Type 0} (seen : F → Content) (may_leave : F → Outcomes) (rounds : Rounds) (outcomes : Outcomes) (k : Checkpoint) (folder : F) : Type 0 where
   pub from : Content
   pub was : outcomes from
   pub t : Text
-  pub before : IsSoundAt part t from
-  pub ready : IsReady seen may_leave part t k folder
+  pub before : IsSoundAt rounds t from
+  pub ready : IsReady seen may_leave rounds t k folder
 
 -- what one of these outcomes told is told still, and more than that only if an output took it
-pub record IsHeardSince (part : Part) (outcomes : Outcomes) (old new : Option Text) (c : Content) : Type 0 where
+pub record IsHeardSince (rounds : Rounds) (outcomes : Outcomes) (old new : Option Text) (c : Content) : Type 0 where
   pub from : Content
   pub was : outcomes from
   pub t : Text
-  pub before : IsSoundAt part t from
-  pub heard : IsHeard part t old new c
+  pub before : IsSoundAt rounds t from
+  pub heard : IsHeard rounds t old new c
 
 -- a folder is ready, with what one of these outcomes told and what an output took since then
-pub record IsReadySince {F : Type 0} (seen : F → Content) (may_leave : F → Outcomes) (part : Part) (outcomes : Outcomes) (old new : Option Text) (k : Checkpoint) (folder : F) : Type 0 where
+pub record IsReadySince {F : Type 0} (seen : F → Content) (may_leave : F → Outcomes) (rounds : Rounds) (outcomes : Outcomes) (old new : Option Text) (k : Checkpoint) (folder : F) : Type 0 where
   pub from : Content
   pub was : outcomes from
   pub t : Text
-  pub before : IsSoundAt part t from
-  pub heard : IsHeardReady seen may_leave part t old new k folder
+  pub before : IsSoundAt rounds t from
+  pub heard : IsHeardReady seen may_leave rounds t old new k folder
 
 -- ---- the closed reports
 
 -- they are those of the cycles up to this one; before there was one less, or a crash had come right
 -- after the last one was closed, and there were as many
-pub record IsOneMore (part : Part) (cycle : ℕ) (old new : List Closed) : Type 0 where
-  pub now : AreClosed part 1 new (cycle + 1)
+pub record IsOneMore (rounds : Rounds) (cycle : ℕ) (old new : List Closed) : Type 0 where
+  pub now : AreClosed rounds 1 new (cycle + 1)
   pub before : (new ≡ old) ⊎ ((d : Closed) × (new ≡ old ++ d ∷ []))

@@ -1,7 +1,7 @@
 -- What the steps of a night do to a state folder.
-use Rattle.std.specs.Prelude.{◌≡◌, ◌≢◌, ◌⊎◌, ℕ, ◌-◌, ◌≤◌, [], ◌∷◌, ◌++◌, ◌&&◌, Bool, IsTrue, true, false, length, take, drop, ⊤}
+use Rattle.std.specs.Prelude.{◌≡◌, ◌≢◌, ◌⊎◌, ℕ, ◌-◌, ◌≤◌, [], ◌∷◌, ◌++◌, ◌&&◌, Bool, IsTrue, true, false, Some, length, take, drop, ⊤}
 use Rattle.ocfl_tree.specs.{Place.{Text, Place}, StorageRoot.{StorageRoot}}
-use Rattle.ocfl_audit.specs.{Lines.{is_empty}, Parts.{Part}}
+use Rattle.ocfl_audit.specs.{Lines.{is_empty}, Parts.{Part}, Trail.{unread_of}}
 use Rattle.ocfl_cursor.specs.Cursor.{Cursor}
 use Rattle.ocfl_scrub.specs.{Running.{place_in}, Joining.{PartRun, Ran}}
 use Rattle.ocfl_scrub.specs.{Keeping.{IsReady as IsWalkReady}, declared.kept.KeptWalk.{KeptWalk}}
@@ -13,7 +13,8 @@ use Rattle.ocfl_state.specs.Crash.{Outcomes, Step, Same, Begins, Passes}
 use Rattle.ocfl_state.specs.{Pieces.{HasTail, summary_of}, declared.checkpoint_parts.Left.{Left}}
 use Rattle.ocfl_state.specs.declared.checkpoint_parts.ReportMark.{ReportMark}
 use Rattle.ocfl_state.specs.declared.checkpoint_parts.Phase.TheVariants.{Open, Closing}
-use Rattle.ocfl_night.specs.{Chain.{part_after}, Site.{no_report}, declared.plan.Halt.{Halt}}
+use Rattle.ocfl_night.specs.{Chain.{part_after}, Looks.{Look, IsNoMore}, Site.{no_report}}
+use Rattle.ocfl_night.specs.declared.plan.Halt.{Halt}
 use Rattle.ocfl_night.specs.declared.plan.Halt.TheVariants as halt
 
 -- ---- what is made of a checkpoint
@@ -101,11 +102,12 @@ IsMoveDone cycle whole old new = (IsTrue (is_closed old.closed cycle) × (new �
 abbrev pub MayMoveAt : ℕ → Bool → Content → Step
 MayMoveAt cycle whole shown old new = (new ≡ old) ⊎ ((is_closed shown.closed cycle ≡ false) × (new ≡ moved cycle whole old))
 
--- a run was made from a cursor over a root, and wrote these lines
-pub record IsRun (part : Part) (c : Cursor) (root : StorageRoot) (lines : Text) (ran : RunEnd) : Type 0 where
+-- a run was made from a cursor, within a look at a root, and wrote these lines
+pub record IsRun (part : Part) (c : Cursor) (look : Look) (lines : Text) (ran : RunEnd) : Type 0 where
   pub run : PartRun
   pub ran_is : run.ran ≡ ran
-  pub made : Ran root part c run
+  pub made : Ran look.root part c run
+  pub looked : IsNoMore (Some (unread_of look.root run.opened)) look.unread
   pub lines_are : lines ≡ run.report
 
 -- the walk that is kept goes on where the run from a checkpoint's cursor begins

@@ -69,9 +69,9 @@ fn close<S: StateFolder>(
     ensures any_moment { IsTrue S.told → IsSafe S.seen S.may_leave S.moment S.left_since
         checkpoint folder.old folder.new }
     ensures ready { IsTrue S.told → IfReady S.seen S.may_leave checkpoint folder.old
-        (λ part t. IfOk result (λ next. IsReady S.seen S.may_leave part t next folder.new)) }
+        (λ rounds t. IfOk result (λ next. IsReady S.seen S.may_leave rounds t next folder.new)) }
     ensures closed { IsTrue S.told → IfReady S.seen S.may_leave checkpoint folder.old
-        (λ part _. OnOk result (IsOneMore part checkpoint.cursor.cycle
+        (λ rounds _. OnOk result (IsOneMore rounds checkpoint.cursor.cycle
         (S.seen folder.old).closed (S.seen folder.new).closed)) }
     ensures all { IfOk result (λ next. next.told ≡ next.report.bytes) }
     ensures stop { IfErr result (IsCloseStop checkpoint) }
@@ -94,7 +94,7 @@ pub fn finish<S: StateFolder>(
     ensures any_moment { IsTrue S.told → IsSafe S.seen S.may_leave S.moment S.left_since
         checkpoint folder.old folder.new }
     ensures closed { IsTrue S.told → IfReady S.seen S.may_leave checkpoint folder.old
-        (λ part _. IfOk result (λ ended. IfSome ended (λ cycle. IsOneMore part cycle
+        (λ rounds _. IfOk result (λ ended. IfSome ended (λ cycle. IsOneMore rounds cycle
         (S.seen folder.old).closed (S.seen folder.new).closed))) }
     ensures said { IsTrue S.told → IfReady S.seen S.may_leave checkpoint folder.old
         (λ _ _. checkpoint.told ≡ checkpoint.report.bytes

@@ -1,17 +1,26 @@
 //! The laws of nights.
-ghost use Rattle.std.specs.{Prelude.{◌≡◌, [], List, map}, List.{AllByRecursion}};
-ghost use Rattle.ocfl_tree.specs.StorageRoot.{StorageRoot};
+ghost use Rattle.std.specs.{Prelude.{◌≡◌, [], IsTrue, List, Some, map, true}, List.{AllByRecursion}};
+ghost use Rattle.ocfl_tree.specs.{StorageRoot.{StorageRoot}, Store.{Store}};
+ghost use Rattle.ocfl_item.specs.Judging.{HasShortFiles};
 ghost use Rattle.ocfl_report.specs.Text.{text};
 ghost use Rattle.ocfl_audit.specs.{Audit.{audit}, Parts.{Part, within}, Trail.{unread_of}};
 ghost use Rattle.ocfl_cursor.specs.Cursor.{Cursor};
 ghost use Rattle.ocfl_scrub.specs.{Joining.{unread_together}, Running.{place_in}};
-ghost use Rattle.ocfl_state.specs.{Content.{Closed, empty}, declared.checkpoint_parts.Left.{Left}};
+ghost use Rattle.ocfl_state.specs.{Content.{Closed, Content, empty}, declared.checkpoint_parts.Left.{Left}};
 ghost use Rattle.ocfl_night.specs.Chain.{IsWholeReport, LedToEnd, RootRun, around, joined};
-ghost use Rattle.ocfl_night.specs.Sound.{IsSound};
-ghost use Rattle.ocfl_night.specs.Nights.{AllTaken, AreNights, AreWhole, AtAnyMoment, Night};
+ghost use Rattle.ocfl_night.specs.{Looks.{Counts, Rounds, is_known_of, look_between, of_any}};
+ghost use Rattle.ocfl_night.specs.{Site.{part_at}, Sound.{IsSound}};
+ghost use Rattle.ocfl_night.specs.Nights.{AllTaken, AreNights, AreOver, AreWhole, AtAnyMoment, EachOther, EachWhole, HaveReadAll, IsAround, IsAuditBut, Night, rounds_of};
 
+use crate::nights::night;
+use crate::plan::{Clock, NightEnd, Plan};
+use crate::site::Site;
+use ocfl_digest::Block;
 use ocfl_scrub::parts::runs_that_stop_join;
 use ocfl_state::StateFolder;
+use ocfl_tree::Tree;
+use std::alloc::Global;
+use std::io::Write;
 
 /// Whatever nights there were over a part, from an empty folder on, each ended, killed or crashed
 /// at any moment: what a crash may have left is sound. The closed reports are those of the first
@@ -19,33 +28,100 @@ use ocfl_state::StateFolder;
 pub fn nights_are_sound<S: StateFolder>()
     ensures sound { (part : Part) (nights : List (Night S))
         → AreNights S.may_leave S.moment S.left_since part (λ c. c ≡ empty) nights
-        → AtAnyMoment S.moment S.left_since (IsSound part) nights }
+        → AtAnyMoment S.moment S.left_since (IsSound (rounds_of part nights)) nights }
     ensures whole { (part : Part) (nights : List (Night S))
         → AreNights S.may_leave S.moment S.left_since part (λ c. c ≡ empty) nights
-        → AtAnyMoment S.moment S.left_since (λ c. AreWhole part c.closed) nights }
+        → AtAnyMoment S.moment S.left_since (λ c. AreWhole (rounds_of part nights) c.closed)
+        nights }
 {}
 
 /// Whatever such nights there were: what was told at any moment is what their outputs took.
 pub fn what_was_told_was_taken<S: StateFolder>()
     ensures { (part : Part) (nights : List (Night S))
         → AreNights S.may_leave S.moment S.left_since part (λ c. c ≡ empty) nights
-        → AllTaken S.moment S.left_since part [] nights }
+        → AllTaken S.moment S.left_since (of_any part) [] nights }
 {}
 
 /// A report that is closed as whole, all of whose runs were over one storage root, is the audit of
 /// the part, in which just the files are called unreadable that could not be read by the run that
 /// took them. It is exactly the audit if all could be read.
 pub fn a_whole_report_is_the_audit()
-    ensures unread { (root : StorageRoot) (part : Part) (d : Closed) (w : IsWholeReport part d)
-        → AllByRecursion (λ r. r.root ≡ root) w.runs
-        → d.report ≡ text (within part (audit root
+    ensures unread { (root : StorageRoot) (rounds : Rounds) (d : Closed)
+        (w : IsWholeReport rounds d) → AllByRecursion (λ r. r.root ≡ root) w.runs
+        → d.report ≡ text (within rounds.part (audit root
         (unread_together root (map (λ r. r.run) w.runs)))) }
-    ensures exact { (root : StorageRoot) (part : Part) (d : Closed) (w : IsWholeReport part d)
-        → AllByRecursion (λ r. r.root ≡ root) w.runs
+    ensures exact { (root : StorageRoot) (rounds : Rounds) (d : Closed)
+        (w : IsWholeReport rounds d) → AllByRecursion (λ r. r.root ≡ root) w.runs
         → unread_together root (map (λ r. r.run) w.runs) ≡ []
-        → d.report ≡ text (within part (audit root [])) }
+        → d.report ≡ text (within rounds.part (audit root [])) }
 {
     runs_that_stop_join();
+}
+
+/// Whatever nights there were over a part of one storage root, from an empty folder on, each ended,
+/// killed or crashed at any moment: each closed report that is called whole is the audit of the
+/// part, in which only files are called unreadable that one of the nights could not read. It is
+/// exactly the audit if the nights could read each content file that they opened.
+pub fn each_whole_report_is_the_audit<S: StateFolder>()
+    ensures unread { (root : StorageRoot) (part : Part) (nights : List (Night S))
+        → AreNights S.may_leave S.moment S.left_since part (λ c. c ≡ empty) nights
+        → AreOver root nights → AtAnyMoment S.moment S.left_since (λ c. EachWhole
+        (IsAuditBut root part (map (λ n. n.look) nights)) c.closed) nights }
+    ensures exact { (root : StorageRoot) (part : Part) (nights : List (Night S))
+        → AreNights S.may_leave S.moment S.left_since part (λ c. c ≡ empty) nights
+        → AreOver root nights → HaveReadAll nights
+        → AtAnyMoment S.moment S.left_since (λ c. EachWhole
+        (λ report. report ≡ text (within part (audit root []))) c.closed) nights }
+{
+    runs_that_stop_join();
+}
+
+/// Whatever such nights there were, which could read each content file that they opened: a closed
+/// report that is not called whole is exactly the audit of the part but for branches that were left
+/// out, of which there is one at least. Nothing of it was lost.
+pub fn each_other_report_is_the_audit_around_what_was_left_out<S: StateFolder>()
+    ensures { (root : StorageRoot) (part : Part) (nights : List (Night S))
+        → AreNights S.may_leave S.moment S.left_since part (λ c. c ≡ empty) nights
+        → AreOver root nights → HaveReadAll nights → AtAnyMoment S.moment S.left_since
+        (λ c. EachOther (IsAround root part) c.closed) nights }
+{
+    runs_that_stop_join();
+}
+
+/// If no failure of a store was counted, each content file that was opened meanwhile was read.
+pub fn where_nothing_failed_all_was_read()
+    ensures { (root : StorageRoot) (s t : Store) → Counts s t → t.failures ≡ s.failures
+        → (look_between true root s t).unread ≡ Some [] }
+{}
+
+/// Two nights, the second of which takes up what the first one left. If both stores are of one root
+/// and nothing failed in them, and memory was not refused, then whatever a crash may leave in the
+/// second: each closed report that is called whole is exactly the audit of the part.
+pub fn two_nights<S: StateFolder, T: Tree, C: Clock, W: Write>(
+    alloc: Global,
+    folder: &mut S,
+    first: &mut T,
+    second: &mut T,
+    site: &Site,
+    plan: &Plan,
+    clock: &mut C,
+    block: &mut Block,
+    out: &mut W,
+) -> (NightEnd, NightEnd)
+    ensures { IsTrue S.told → (root : StorageRoot) → HasShortFiles root
+        → IsTrue T.told → (T.state first.old).tree ≡ root → (T.state second.old).tree ≡ root
+        → ((c : Content) → S.may_leave folder.old c → c ≡ empty)
+        → is_known_of result.0.end ≡ true → is_known_of result.1.end ≡ true
+        → (T.state first.new).failures ≡ (T.state first.old).failures
+        → (T.state second.new).failures ≡ (T.state second.old).failures
+        → (c : Content) → S.may_leave folder.new c → EachWhole (λ report. report
+        ≡ text (within (part_at site.now.ends) (audit root []))) c.closed }
+{
+    each_whole_report_is_the_audit::<S>();
+    where_nothing_failed_all_was_read();
+    let one = night(alloc, folder, first, site, plan, clock, block, out);
+    let two = night(alloc, folder, second, site, plan, clock, block, out);
+    (one, two)
 }
 
 /// The report of a cycle that left branches out is exactly the audit of the part up to where the

@@ -161,7 +161,7 @@ pub fn leave_out<S: StateFolder>(
     ensures any_moment { IsTrue S.told → IsSafe S.seen S.may_leave S.moment S.left_since
         checkpoint folder.old folder.new }
     ensures ready { IsTrue S.told → IfReady S.seen S.may_leave checkpoint folder.old
-        (λ part t. IfOk result (λ next. IsReady S.seen S.may_leave part t next folder.new)) }
+        (λ rounds t. IfOk result (λ next. IsReady S.seen S.may_leave rounds t next folder.new)) }
     ensures closed { IsTrue S.told → OnOk result (SameClosed S.seen folder.old folder.new) }
     ensures stop { IfErr result (IsPutStop checkpoint) }
 {

@@ -10,6 +10,10 @@
 //!   cycle that has ended.
 //! - If each crash before it leaves a sound content, so does a crash at any moment of it. At no
 //!   moment does a checkpoint count more as said than before and what the output took since.
+//! - All that it keeps was written by runs over the root that its store tells. Of any nights over one
+//!   root, from an empty folder on, each ended or crashed at any moment: a closed report that is
+//!   called whole is the audit, in which only files are called unreadable that one of the nights
+//!   could not read; any other is the audit around branches that were left out, if all was read.
 //! - At its end all of the report is said, also what earlier nights left, unless its end is
 //!   `Refused` or `Troubled`.
 //! - A folder whose checkpoint is of another root or part stays as it was, whenever a crash comes.
@@ -62,8 +66,9 @@ mod tally;
 pub use checkpoint::{look, put_checkpoint};
 pub use closing::finish;
 pub use laws::{
-    a_whole_report_is_the_audit, nights_are_sound, what_is_left_out_is_missing_alone,
-    what_was_told_was_taken,
+    a_whole_report_is_the_audit, each_other_report_is_the_audit_around_what_was_left_out,
+    each_whole_report_is_the_audit, nights_are_sound, two_nights,
+    what_is_left_out_is_missing_alone, what_was_told_was_taken, where_nothing_failed_all_was_read,
 };
 pub use leaving::leave_out;
 pub use nights::night;

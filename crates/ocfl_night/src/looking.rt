@@ -1,7 +1,8 @@
 //! Looking at the storage root: when a night begins, and after each run.
-ghost use Rattle.std.specs.Prelude.{◌≡◌, IfErr, IsTrue, OnOk};
+ghost use Rattle.std.specs.Prelude.{◌≡◌, IfErr, IsTrue, OnOk, true};
 ghost use Rattle.ocfl_tree.specs.Store.{IfTold};
-ghost use Rattle.ocfl_night.specs.{Ending.{unopened_by}, Site.{IsStill}, Stopping.{IsRunStop}};
+ghost use Rattle.ocfl_night.specs.{Ending.{unopened_by}, Looks.{Counts, is_known_kept}};
+ghost use Rattle.ocfl_night.specs.{Promises.{OverShort}, Site.{IsStill}, Stopping.{IsRunStop}};
 
 use crate::refusal::{NotOpened, Refusal};
 use crate::stop::Stop;
@@ -43,11 +44,14 @@ pub(crate) fn look_again<T: Tree>(
     ensures keeps { IsTrue T.told → (T.state tree.new).tree ≡ (T.state tree.old).tree }
     ensures still { IfTold T.told (T.state tree.old) (λ root.
         OnOk result (IsStill identity.now root)) }
+    ensures counts { OverShort T.told (T.state tree.old) (λ root. is_known_kept result ≡ true
+        → Counts (T.state tree.old) (T.state tree.new)) }
     ensures stop { IfErr result IsRunStop }
 {
     match is_still_declared(alloc, tree, identity, block) {
         Ok(true) => Ok(()),
-        Ok(false) | Err(NoIdentity::Undeclared) => Err(NotKept::RootChanged),
+        Ok(false) => Err(NotKept::RootChanged),
+        Err(NoIdentity::Undeclared) => Err(NotKept::RootChanged),
         Err(NoIdentity::Unread(place)) => Err(NotKept::Unread(place)),
         Err(NoIdentity::Memory) => Err(NotKept::Troubled(Stop::Folder(FolderTrouble::Memory))),
     }

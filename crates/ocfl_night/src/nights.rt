@@ -1,5 +1,5 @@
 //! A night.
-ghost use Rattle.std.specs.Prelude.{◌≡◌, ◌≢◌, ◌⊎◌, ◌↔◌, ◌+◌, ◌≤◌, ◌++◌, ◌∷◌, [], IfOk, IfSome, IsErr, All, IsOk, IsSome, IsTrue, List, Err, Ok, OnOk, OnSome, Some, false, length, ℕ};
+ghost use Rattle.std.specs.Prelude.{◌≡◌, ◌≢◌, ◌⊎◌, ◌↔◌, ◌+◌, ◌≤◌, ◌++◌, ◌∷◌, [], IfOk, IfSome, IsErr, All, IsOk, IsSome, IsTrue, List, Err, Ok, OnOk, OnSome, Some, false, true, length, ℕ};
 ghost use Rattle.std.specs.Io.KnownBytes.{Appends};
 ghost use Rattle.ocfl_audit.specs.Parts.{Part as ModelPart};
 ghost use Rattle.ocfl_tree.specs.StorageRoot.{StorageRoot};
@@ -7,7 +7,8 @@ ghost use Rattle.ocfl_scrub.specs.Starting.{part_of};
 ghost use Rattle.ocfl_state.specs.Crash.{LeavesOnly};
 ghost use Rattle.ocfl_state.specs.declared.checkpoint_parts.Phase.TheVariants.{Open};
 ghost use Rattle.ocfl_night.specs.Leaving.{StillMayLeave, done_by, has_end, remedy_at};
-ghost use Rattle.ocfl_night.specs.Promises.{IfLost, IfReady, IfReadyIn, IsSafe, IsSafeIn, OnShort, SameClosed};
+ghost use Rattle.ocfl_night.specs.Looks.{Counts, Rounds, WithLook, is_known, is_known_of, is_known_opened, look_between, of_any};
+ghost use Rattle.ocfl_night.specs.Promises.{IfLost, IfReady, IfReadyIn, IsSafe, IsSafeIn, OnShort, OverShort, SameClosed};
 ghost use Rattle.ocfl_night.specs.Older.{IfOlder};
 ghost use Rattle.ocfl_night.specs.declared.refusal.Refusal.TheVariants.{Older};
 ghost use Rattle.ocfl_night.specs.Refusing.{IfForeign, IfRefused, IsBarred, IsFolderRefused, IsRefused, IsTurnedAway, OnRefused};
@@ -172,7 +173,7 @@ fn pass_by<S: StateFolder>(
     ensures any_moment { IsTrue S.told → IsSafe S.seen S.may_leave S.moment S.left_since
         checkpoint folder.old folder.new }
     ensures ready { IsTrue S.told → IfReady S.seen S.may_leave checkpoint folder.old
-        (λ part t. IfOk result (λ next. IsReady S.seen S.may_leave part t next.0 folder.new)) }
+        (λ rounds t. IfOk result (λ next. IsReady S.seen S.may_leave rounds t next.0 folder.new)) }
     ensures closed { IsTrue S.told → OnOk result (SameClosed S.seen folder.old folder.new) }
     ensures runs { tally.new.runs ≡ tally.old.runs }
 
@@ -207,7 +208,7 @@ fn go_on_after<S: StateFolder>(
     ensures any_moment { IsTrue S.told → IsSafe S.seen S.may_leave S.moment S.left_since
         made.checkpoint folder.old folder.new }
     ensures ready { IsTrue S.told → IfReady S.seen S.may_leave made.checkpoint folder.old
-        (λ part t. IfOk result (λ next. IsReady S.seen S.may_leave part t next.0 folder.new)) }
+        (λ rounds t. IfOk result (λ next. IsReady S.seen S.may_leave rounds t next.0 folder.new)) }
     ensures closed { IsTrue S.told → OnOk result (SameClosed S.seen folder.old folder.new) }
     ensures runs { tally.new.runs ≡ tally.old.runs }
     ensures walk { (part : ModelPart) (root : StorageRoot)
@@ -245,12 +246,19 @@ fn runs<S: StateFolder, T: Tree, C: Clock>(
     tally: &mut Tally,
     block: &mut Block,
 ) -> Result<(Checkpoint, Pause), Stop>
-    ensures any_moment { IsTrue S.told → OnShort T.told (T.state tree.old)
-        (IsSafeIn S.seen S.may_leave S.moment S.left_since (part_of part.now) start
-        folder.old folder.new) }
-    ensures ready { IsTrue S.told → OnShort T.told (T.state tree.old)
-        (IfReadyIn S.seen S.may_leave (part_of part.now) start folder.old (λ t. IfOk result
-        (λ next. IsReady S.seen S.may_leave (part_of part.now) t next.0 folder.new))) }
+    ensures any_moment { IsTrue S.told → OverShort T.told (T.state tree.old) (λ root.
+        WithLook (part_of part.now)
+        (look_between (is_known result) root (T.state tree.old) (T.state tree.new))
+        (λ rounds. IsSafeIn S.seen S.may_leave S.moment S.left_since rounds start
+        folder.old folder.new)) }
+    ensures ready { IsTrue S.told → OverShort T.told (T.state tree.old) (λ root.
+        WithLook (part_of part.now)
+        (look_between (is_known result) root (T.state tree.old) (T.state tree.new))
+        (λ rounds. IfReadyIn S.seen S.may_leave rounds start folder.old (λ t. IfOk result
+        (λ next. IsReady S.seen S.may_leave rounds t next.0 folder.new)))) }
+    ensures root { OverShort T.told (T.state tree.old) (λ root. (T.state tree.new).tree ≡ root) }
+    ensures counts { OverShort T.told (T.state tree.old) (λ root. is_known result ≡ true
+        → Counts (T.state tree.old) (T.state tree.new)) }
     ensures closed { IsTrue S.told → OnOk result (SameClosed S.seen folder.old folder.new) }
     ensures clock { IsTrue C.told → BeginsInTime plan.now.end
         (C.answers clock.old) (C.answers clock.new) tally.old.runs tally.new.runs }
@@ -291,11 +299,11 @@ fn catch_up<S: StateFolder, W: Write>(
     out: &mut W,
     lost: &mut bool,
 ) -> Result<Checkpoint, NotOpened>
-    ensures heard { IsTrue S.told → (part : ModelPart) → IsKept S.may_leave part folder.old
-        → LeavesOnly S.moment S.left_since folder.old folder.new (IsHeardSince part
+    ensures heard { IsTrue S.told → (rounds : Rounds) → IsKept S.may_leave rounds folder.old
+        → LeavesOnly S.moment S.left_since folder.old folder.new (IsHeardSince rounds
         (S.may_leave folder.old) (W.contents out.old) (W.contents out.new)) }
-    ensures ready { IsTrue S.told → (part : ModelPart) → IsKept S.may_leave part folder.old
-        → IfOk result (λ k. IsReadySince S.seen S.may_leave part (S.may_leave folder.old)
+    ensures ready { IsTrue S.told → (rounds : Rounds) → IsKept S.may_leave rounds folder.old
+        → IfOk result (λ k. IsReadySince S.seen S.may_leave rounds (S.may_leave folder.old)
         (W.contents out.old) (W.contents out.new) k folder.new) }
     ensures grew { (more : List ℕ) × Appends (W.contents out.old) (W.contents out.new) more }
     ensures closed { IsTrue S.told → OnOk result (SameClosed S.seen folder.old folder.new) }
@@ -328,20 +336,27 @@ fn make_runs<S: StateFolder, T: Tree, C: Clock, W: Write>(
     block: &mut Block,
     out: &mut W,
 ) -> Result<Halt, Stop>
-    ensures heard { IsTrue S.told → OnShort T.told (T.state tree.old)
-        (IfReadyIn S.seen S.may_leave (part_of part.now) checkpoint folder.old
+    ensures heard { IsTrue S.told → OverShort T.told (T.state tree.old) (λ root.
+        WithLook (part_of part.now)
+        (look_between (is_known result) root (T.state tree.old) (T.state tree.new))
+        (λ rounds. IfReadyIn S.seen S.may_leave rounds checkpoint folder.old
         (λ t. LeavesOnly S.moment S.left_since folder.old folder.new
-        (IsHeard (part_of part.now) t (W.contents out.old) (W.contents out.new)))) }
+        (IsHeard rounds t (W.contents out.old) (W.contents out.new))))) }
+    ensures root { OverShort T.told (T.state tree.old) (λ root. (T.state tree.new).tree ≡ root) }
+    ensures counts { OverShort T.told (T.state tree.old) (λ root. is_known result ≡ true
+        → Counts (T.state tree.old) (T.state tree.new)) }
     ensures grew { (more : List ℕ) × Appends (W.contents out.old) (W.contents out.new) more }
-    ensures ended { IsTrue S.told → OnShort T.told (T.state tree.old)
-        (IfReadyIn S.seen S.may_leave (part_of part.now) checkpoint folder.old (λ _. (cycle : ℕ)
-        → result ≡ Ok (halt.CycleEnded cycle) → IsOneMore (part_of part.now) cycle
-        (S.seen folder.old).closed (S.seen folder.new).closed)) }
+    ensures ended { IsTrue S.told → OverShort T.told (T.state tree.old) (λ root.
+        WithLook (part_of part.now)
+        (look_between (is_known result) root (T.state tree.old) (T.state tree.new))
+        (λ rounds. IfReadyIn S.seen S.may_leave rounds checkpoint folder.old
+        (λ _. (cycle : ℕ) → result ≡ Ok (halt.CycleEnded cycle) → IsOneMore rounds cycle
+        (S.seen folder.old).closed (S.seen folder.new).closed))) }
     ensures clock { IsTrue C.told → BeginsInTime plan.now.end
         (C.answers clock.old) (C.answers clock.new) tally.old.runs tally.new.runs }
     ensures left { StillMayLeave plan.now.stop_at_faults tally.old tally.new }
     ensures said { IsTrue S.told → OnShort T.told (T.state tree.old)
-        (IfReadyIn S.seen S.may_leave (part_of part.now) checkpoint folder.old
+        (IfReadyIn S.seen S.may_leave (of_any (part_of part.now)) checkpoint folder.old
         (λ _. OnOk result (IsAllSaid (S.seen folder.new)))) }
     ensures unrefused { (why : ModelRefusal) → result ≢ Ok (halt.Refused why) }
 {
@@ -374,11 +389,13 @@ fn set_out<S: StateFolder, T: Tree, W: Write>(
 ) -> Result<Begun, NotOpened>
     ensures part { IfOk result (λ begun. part_of begun.part ≡ part_at site.now.ends) }
     ensures root { IsTrue T.told → (T.state tree.new).tree ≡ (T.state tree.old).tree }
-    ensures heard { IsTrue S.told → (part : ModelPart) → IsKept S.may_leave part folder.old
-        → LeavesOnly S.moment S.left_since folder.old folder.new (IsHeardSince part
+    ensures counts { OverShort T.told (T.state tree.old) (λ root.
+        is_known_opened result ≡ true → Counts (T.state tree.old) (T.state tree.new)) }
+    ensures heard { IsTrue S.told → (rounds : Rounds) → IsKept S.may_leave rounds folder.old
+        → LeavesOnly S.moment S.left_since folder.old folder.new (IsHeardSince rounds
         (S.may_leave folder.old) (W.contents out.old) (W.contents out.new)) }
-    ensures ready { IsTrue S.told → (part : ModelPart) → IsKept S.may_leave part folder.old
-        → IfOk result (λ begun. IsReadySince S.seen S.may_leave part (S.may_leave folder.old)
+    ensures ready { IsTrue S.told → (rounds : Rounds) → IsKept S.may_leave rounds folder.old
+        → IfOk result (λ begun. IsReadySince S.seen S.may_leave rounds (S.may_leave folder.old)
         (W.contents out.old) (W.contents out.new) begun.checkpoint folder.new) }
     ensures grew { (more : List ℕ) × Appends (W.contents out.old) (W.contents out.new) more }
     ensures closed { IsTrue S.told → OnOk result (SameClosed S.seen folder.old folder.new) }
@@ -417,22 +434,33 @@ pub fn night<S: StateFolder, T: Tree, C: Clock, W: Write>(
     out: &mut W,
 ) -> NightEnd
     // If each crash before it leaves a sound content, so does a crash at any moment of it.
-    ensures any_moment { IsTrue S.told → OnShort T.told (T.state tree.old)
-        (IsKept S.may_leave (part_at site.now.ends) folder.old → LeavesOnly S.moment S.left_since
-        folder.old folder.new (IsSound (part_at site.now.ends))) }
-    ensures kept { IsTrue S.told → OnShort T.told (T.state tree.old)
-        (IsKept S.may_leave (part_at site.now.ends) folder.old
-        → IsKept S.may_leave (part_at site.now.ends) folder.new) }
+    ensures any_moment { IsTrue S.told → OverShort T.told (T.state tree.old) (λ root.
+        WithLook (part_at site.now.ends)
+        (look_between (is_known_of result.end) root (T.state tree.old) (T.state tree.new))
+        (λ rounds. IsKept S.may_leave rounds folder.old
+        → LeavesOnly S.moment S.left_since folder.old folder.new (IsSound rounds))) }
+    ensures kept { IsTrue S.told → OverShort T.told (T.state tree.old) (λ root.
+        WithLook (part_at site.now.ends)
+        (look_between (is_known_of result.end) root (T.state tree.old) (T.state tree.new))
+        (λ rounds. IsKept S.may_leave rounds folder.old → IsKept S.may_leave rounds folder.new)) }
 
-    // Nothing more is told, at any moment, than was told before and the output has taken since.
-    ensures heard { IsTrue S.told → OnShort T.told (T.state tree.old)
-        (IsSafeNight S.may_leave S.moment S.left_since (part_at site.now.ends)
+    // Nothing more is told, at any moment, than was told before and the output has taken since. All
+    // of it was written by runs over this root, which could not read more than this night could
+    // not, or by those of before.
+    ensures heard { IsTrue S.told → OverShort T.told (T.state tree.old) (λ root.
+        IsSafeNight S.may_leave S.moment S.left_since (part_at site.now.ends)
+        (look_between (is_known_of result.end) root (T.state tree.old) (T.state tree.new))
         folder.old folder.new (W.contents out.old) (W.contents out.new)) }
+
+    // The root stays, and what its store was looked at for is known, unless memory was refused.
+    ensures root { OverShort T.told (T.state tree.old) (λ root. (T.state tree.new).tree ≡ root) }
+    ensures counts { OverShort T.told (T.state tree.old) (λ root. is_known_of result.end ≡ true
+        → Counts (T.state tree.old) (T.state tree.new)) }
 
     // Unless it is refused or something is troubled, all of the report is said, also what earlier
     // nights left.
     ensures said { IsTrue S.told → OnShort T.told (T.state tree.old)
-        (IsKept S.may_leave (part_at site.now.ends) folder.old
+        (IsKept S.may_leave (of_any (part_at site.now.ends)) folder.old
         → ((why : ModelStop) → result.end ≢ halt.Troubled why)
         → ((why : ModelRefusal) → result.end ≢ halt.Refused why)
         → IsAllSaid (S.seen folder.new)) }
@@ -452,7 +480,7 @@ pub fn night<S: StateFolder, T: Tree, C: Clock, W: Write>(
 
     // No folder that nights have left, ended or crashed at any moment, is called older than its
     // reports.
-    ensures newest { IsTrue S.told → (part : ModelPart) → IsKept S.may_leave part folder.old
+    ensures newest { IsTrue S.told → (rounds : Rounds) → IsKept S.may_leave rounds folder.old
         → (cycle : ℕ) → result.end ≢ halt.Refused (Older cycle) }
 
     // If bytes of the report were lost or changed, it says so, unless it is refused or something
@@ -462,11 +490,12 @@ pub fn night<S: StateFolder, T: Tree, C: Clock, W: Write>(
         → ((why : ModelRefusal) → result.end ≢ halt.Refused why) → IsTrue result.lost) }
 
     // The report of a cycle that is said to have ended is closed.
-    ensures ended { IsTrue S.told → OnShort T.told (T.state tree.old)
-        (IsKept S.may_leave (part_at site.now.ends) folder.old
-        → (cycle : ℕ) → result.end ≡ halt.CycleEnded cycle
-        → IsOneMore (part_at site.now.ends) cycle
-        (S.seen folder.old).closed (S.seen folder.new).closed) }
+    ensures ended { IsTrue S.told → OverShort T.told (T.state tree.old) (λ root.
+        WithLook (part_at site.now.ends)
+        (look_between (is_known_of result.end) root (T.state tree.old) (T.state tree.new))
+        (λ rounds. IsKept S.may_leave rounds folder.old → (cycle : ℕ)
+        → result.end ≡ halt.CycleEnded cycle → IsOneMore rounds cycle
+        (S.seen folder.old).closed (S.seen folder.new).closed)) }
 
     // At most 16 branches are left out, none if the night is to stop at faults, and neither the
     // storage root nor one after which no place comes.

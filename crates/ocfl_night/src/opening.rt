@@ -1,11 +1,10 @@
 //! Opening a night: what the last one left is taken up, if it is that of these nights.
 ghost use Rattle.std.specs.Prelude.{◌≡◌, ◌↔◌, ◌<◌, ◌^◌, ℕ, [], IfOk, IsSome, IsTrue, OnOk, None, false, true, length, take};
-ghost use Rattle.ocfl_audit.specs.Parts.{Part};
 ghost use Rattle.ocfl_tree.specs.Place.{Text};
 ghost use Rattle.ocfl_state.specs.Content.{is_closed, with_report};
 ghost use Rattle.ocfl_state.specs.Crash.{LeavesOnly, Only, Passes, Same};
 ghost use Rattle.ocfl_state.specs.declared.checkpoint_parts.Phase.TheVariants.{Closing};
-ghost use Rattle.ocfl_night.specs.Promises.{IfLost, SameClosed};
+ghost use Rattle.ocfl_night.specs.{Looks.{Rounds}, Promises.{IfLost, SameClosed}};
 ghost use Rattle.ocfl_night.specs.Older.{IfOlder, IsOlder};
 ghost use Rattle.ocfl_night.specs.Refusing.{HasReport, IfForeign, IfRefused, IsFolderRefused, IsOutdated, IsTurnedAway, IsUnbegun, OnRefused};
 ghost use Rattle.ocfl_night.specs.Sound.{IsFound, IsFoundReady, IsKept, IsNew, IsReady, IsSettled, IsSoundAt};
@@ -72,13 +71,13 @@ fn begin<S: StateFolder>(
     identity: &Identity,
 ) -> Result<Opened, NotOpened>
     ensures empty { IsTrue S.told → OnOk result (length (S.seen folder.old).report ≡ 0) }
-    ensures any_moment { IsTrue S.told → (part : Part)
+    ensures any_moment { IsTrue S.told → (rounds : Rounds)
         → Only (S.seen folder.old) (S.may_leave folder.old)
         → (S.seen folder.old).checkpoint ≡ None → IsNew [] (S.seen folder.old)
-        → LeavesOnly S.moment S.left_since folder.old folder.new (IsSoundAt part []) }
-    ensures ready { IsTrue S.told → (part : Part)
+        → LeavesOnly S.moment S.left_since folder.old folder.new (IsSoundAt rounds []) }
+    ensures ready { IsTrue S.told → (rounds : Rounds)
         → Only (S.seen folder.old) (S.may_leave folder.old) → IsNew [] (S.seen folder.old)
-        → IfOk result (λ opened. IsReady S.seen S.may_leave part []
+        → IfOk result (λ opened. IsReady S.seen S.may_leave rounds []
         opened.checkpoint folder.new) }
     ensures closed { IsTrue S.told → OnOk result (SameClosed S.seen folder.old folder.new) }
     ensures refused { IsTrue S.told → OnRefused result (S.seen folder.new ≡ S.seen folder.old) }
@@ -97,12 +96,12 @@ fn begin<S: StateFolder>(
 
 /// Whether the report of a cycle that has ended is still to be closed.
 fn is_to_close<S: StateFolder>(folder: &mut S, checkpoint: &Checkpoint) -> Result<bool, Stop>
-    ensures any_moment { IsTrue S.told → (part : Part) (t : Text)
-        → IsSettled S.seen S.may_leave part t checkpoint.now folder.old
-        → LeavesOnly S.moment S.left_since folder.old folder.new (IsSoundAt part t) }
-    ensures ready { IsTrue S.told → checkpoint.now.phase ≡ Closing → (part : Part) (t : Text)
-        → IsSettled S.seen S.may_leave part t checkpoint.now folder.old
-        → OnOk result (IsReady S.seen S.may_leave part t checkpoint.now folder.new) }
+    ensures any_moment { IsTrue S.told → (rounds : Rounds) (t : Text)
+        → IsSettled S.seen S.may_leave rounds t checkpoint.now folder.old
+        → LeavesOnly S.moment S.left_since folder.old folder.new (IsSoundAt rounds t) }
+    ensures ready { IsTrue S.told → checkpoint.now.phase ≡ Closing → (rounds : Rounds) (t : Text)
+        → IsSettled S.seen S.may_leave rounds t checkpoint.now folder.old
+        → OnOk result (IsReady S.seen S.may_leave rounds t checkpoint.now folder.new) }
     ensures value { IsTrue S.told → IfOk result (λ there. IsTrue there
         ↔ (is_closed (S.seen folder.old).closed checkpoint.now.cursor.cycle ≡ false)) }
     ensures seen { IsTrue S.told → S.seen folder.new ≡ S.seen folder.old }
@@ -113,12 +112,12 @@ fn is_to_close<S: StateFolder>(folder: &mut S, checkpoint: &Checkpoint) -> Resul
 /// Cuts away what the checkpoint does not speak of. Gives whether what it speaks of is still to be
 /// closed.
 fn settle<S: StateFolder>(folder: &mut S, checkpoint: &Checkpoint) -> Result<bool, Stop>
-    ensures any_moment { IsTrue S.told → (part : Part) (t : Text)
-        → IsSettled S.seen S.may_leave part t checkpoint.now folder.old
-        → LeavesOnly S.moment S.left_since folder.old folder.new (IsSoundAt part t) }
-    ensures ready { IsTrue S.told → (part : Part) (t : Text)
-        → IsSettled S.seen S.may_leave part t checkpoint.now folder.old
-        → OnOk result (IsReady S.seen S.may_leave part t checkpoint.now folder.new) }
+    ensures any_moment { IsTrue S.told → (rounds : Rounds) (t : Text)
+        → IsSettled S.seen S.may_leave rounds t checkpoint.now folder.old
+        → LeavesOnly S.moment S.left_since folder.old folder.new (IsSoundAt rounds t) }
+    ensures ready { IsTrue S.told → (rounds : Rounds) (t : Text)
+        → IsSettled S.seen S.may_leave rounds t checkpoint.now folder.old
+        → OnOk result (IsReady S.seen S.may_leave rounds t checkpoint.now folder.new) }
     ensures there { IsTrue S.told → IfOk result (λ there. IsTrue there
         → checkpoint.now.phase ≡ Closing
         → is_closed (S.seen folder.new).closed checkpoint.now.cursor.cycle ≡ false) }
@@ -141,13 +140,13 @@ fn take_up<S: StateFolder>(
     folder: &mut S,
     checkpoint: &Checkpoint,
 ) -> Result<Option<ReportMark>, Stop>
-    ensures any_moment { IsTrue S.told → (part : Part) (t : Text)
-        → IsSettled S.seen S.may_leave part t checkpoint.now folder.old
-        → LeavesOnly S.moment S.left_since folder.old folder.new (IsSoundAt part t) }
-    ensures ready { IsTrue S.told → (part : Part) (t : Text)
-        → IsSettled S.seen S.may_leave part t checkpoint.now folder.old
+    ensures any_moment { IsTrue S.told → (rounds : Rounds) (t : Text)
+        → IsSettled S.seen S.may_leave rounds t checkpoint.now folder.old
+        → LeavesOnly S.moment S.left_since folder.old folder.new (IsSoundAt rounds t) }
+    ensures ready { IsTrue S.told → (rounds : Rounds) (t : Text)
+        → IsSettled S.seen S.may_leave rounds t checkpoint.now folder.old
         → IfOk result (λ lost. (lost ≡ None)
-        × IsReady S.seen S.may_leave part t checkpoint.now folder.new) }
+        × IsReady S.seen S.may_leave rounds t checkpoint.now folder.new) }
     ensures lost { IsTrue S.told → IsLost checkpoint.now (S.seen folder.old)
         → IfOk result (λ lost. IsSome lost) }
     ensures closed { IsTrue S.told → OnOk result (SameClosed S.seen folder.old folder.new) }
@@ -193,12 +192,12 @@ fn resume<S: StateFolder>(
     checkpoint: Checkpoint,
     identity: &Identity,
 ) -> Result<Opened, Stop>
-    ensures any_moment { IsTrue S.told → (part : Part) (t : Text)
-        → IsSettled S.seen S.may_leave part t checkpoint folder.old
-        → LeavesOnly S.moment S.left_since folder.old folder.new (IsSoundAt part t) }
-    ensures ready { IsTrue S.told → (part : Part) (t : Text)
-        → IsSettled S.seen S.may_leave part t checkpoint folder.old
-        → IfOk result (λ opened. IsReady S.seen S.may_leave part t
+    ensures any_moment { IsTrue S.told → (rounds : Rounds) (t : Text)
+        → IsSettled S.seen S.may_leave rounds t checkpoint folder.old
+        → LeavesOnly S.moment S.left_since folder.old folder.new (IsSoundAt rounds t) }
+    ensures ready { IsTrue S.told → (rounds : Rounds) (t : Text)
+        → IsSettled S.seen S.may_leave rounds t checkpoint folder.old
+        → IfOk result (λ opened. IsReady S.seen S.may_leave rounds t
         opened.checkpoint folder.new) }
     ensures closed { IsTrue S.told → OnOk result (SameClosed S.seen folder.old folder.new) }
     ensures lost { IsTrue S.told → IsLost checkpoint (S.seen folder.old)
@@ -222,12 +221,12 @@ fn go_on<S: StateFolder>(
     checkpoint: Checkpoint,
     identity: &Identity,
 ) -> Result<Opened, NotOpened>
-    ensures any_moment { IsTrue S.told → (part : Part) (t : Text)
-        → IsSettled S.seen S.may_leave part t checkpoint folder.old
-        → LeavesOnly S.moment S.left_since folder.old folder.new (IsSoundAt part t) }
-    ensures ready { IsTrue S.told → (part : Part) (t : Text)
-        → IsSettled S.seen S.may_leave part t checkpoint folder.old
-        → IfOk result (λ opened. IsReady S.seen S.may_leave part t
+    ensures any_moment { IsTrue S.told → (rounds : Rounds) (t : Text)
+        → IsSettled S.seen S.may_leave rounds t checkpoint folder.old
+        → LeavesOnly S.moment S.left_since folder.old folder.new (IsSoundAt rounds t) }
+    ensures ready { IsTrue S.told → (rounds : Rounds) (t : Text)
+        → IsSettled S.seen S.may_leave rounds t checkpoint folder.old
+        → IfOk result (λ opened. IsReady S.seen S.may_leave rounds t
         opened.checkpoint folder.new) }
     ensures closed { IsTrue S.told → OnOk result (SameClosed S.seen folder.old folder.new) }
     ensures lost { IsTrue S.told → IsLost checkpoint (S.seen folder.old)
@@ -251,11 +250,11 @@ pub fn open<S: StateFolder>(
     identity: &Identity,
     plan: &Plan,
 ) -> Result<Opened, NotOpened>
-    ensures any_moment { IsTrue S.told → (part : Part) → IsKept S.may_leave part folder.old
+    ensures any_moment { IsTrue S.told → (rounds : Rounds) → IsKept S.may_leave rounds folder.old
         → LeavesOnly S.moment S.left_since folder.old folder.new
-        (IsFound part (S.may_leave folder.old)) }
-    ensures ready { IsTrue S.told → (part : Part) → IsKept S.may_leave part folder.old
-        → IfOk result (λ opened. IsFoundReady S.seen S.may_leave part
+        (IsFound rounds (S.may_leave folder.old)) }
+    ensures ready { IsTrue S.told → (rounds : Rounds) → IsKept S.may_leave rounds folder.old
+        → IfOk result (λ opened. IsFoundReady S.seen S.may_leave rounds
         (S.may_leave folder.old) opened.checkpoint folder.new) }
     ensures closed { IsTrue S.told → OnOk result (SameClosed S.seen folder.old folder.new) }
     // A report without a checkpoint is never begun anew.

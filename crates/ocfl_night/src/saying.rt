@@ -109,10 +109,10 @@ pub fn speak<S: StateFolder, W: Write>(
     checkpoint: Checkpoint,
 ) -> Result<Checkpoint, Stop>
     ensures heard { IsTrue S.told → IfReady S.seen S.may_leave checkpoint folder.old
-        (λ part t. LeavesOnly S.moment S.left_since folder.old folder.new
-        (IsHeard part t (W.contents out.old) (W.contents out.new))) }
+        (λ rounds t. LeavesOnly S.moment S.left_since folder.old folder.new
+        (IsHeard rounds t (W.contents out.old) (W.contents out.new))) }
     ensures ready { IsTrue S.told → IfReady S.seen S.may_leave checkpoint folder.old
-        (λ part t. IfOk result (λ next. IsHeardReady S.seen S.may_leave part t
+        (λ rounds t. IfOk result (λ next. IsHeardReady S.seen S.may_leave rounds t
         (W.contents out.old) (W.contents out.new) next folder.new)) }
     ensures all { IfOk result (λ next. next ≡ with_all_told checkpoint) }
     ensures grew { (more : List ℕ) × Appends (W.contents out.old) (W.contents out.new) more }

@@ -1,6 +1,5 @@
 //! A slice: one run, whose lines are appended, come to the disk, and then count.
-ghost use Rattle.std.specs.Prelude.{◌≡◌, ◌≢◌, ◌⊎◌, ◌++◌, IfErr, IfNone, IfOk, IsTrue, OnOk, length};
-ghost use Rattle.ocfl_audit.specs.Parts.{Part as ModelPart};
+ghost use Rattle.std.specs.Prelude.{◌≡◌, ◌≢◌, ◌⊎◌, ◌++◌, IfErr, IfNone, IfOk, IsTrue, OnOk, length, true};
 ghost use Rattle.ocfl_tree.specs.{Place.{Text}, StorageRoot.{StorageRoot}, Store.{IfTold}};
 ghost use Rattle.ocfl_item.specs.Judging.{HasShortFiles};
 ghost use Rattle.ocfl_scrub.specs.{Keeping.{IsReady as IsWalkReady}, Running.{place_in}};
@@ -12,6 +11,7 @@ ghost use Rattle.ocfl_state.specs.Pieces.{summary_of};
 ghost use Rattle.ocfl_state.specs.declared.checkpoint_parts.ReportMark.{ReportMark as ModelMark};
 ghost use Rattle.ocfl_state.specs.declared.checkpoint_parts.Phase.TheVariants.{Closing, Open};
 ghost use Rattle.ocfl_night.specs.Chain.{part_after};
+ghost use Rattle.ocfl_night.specs.Looks.{Counts, IsOneOf, Look, Rounds, WithLook, is_known, is_known_kept, is_known_unkept, look_between};
 ghost use Rattle.ocfl_night.specs.Ending.{IsAway, IsMadeBy, IsSlice, IsUnkept, KeepsTo, lost_by, slice_end};
 ghost use Rattle.ocfl_night.specs.Promises.{IfReadyIn, IfWalkAt, IsSafeIn, SameClosed};
 ghost use Rattle.ocfl_night.specs.{Site.{IsStill}, Sound.{IsReady, IsSoundAt}};
@@ -25,7 +25,6 @@ use crate::stop::Stop;
 use ocfl_cursor::{Cursor, Limits};
 use ocfl_digest::Block;
 use ocfl_identity::Identity;
-use ocfl_scrub::parts::each_run_that_goes_on_has_a_report;
 use ocfl_scrub::{KeptWalk, Part, ReportStop, RunEnd, RunStatus, run_on};
 use ocfl_state::{Checkpoint, FolderTrouble, Phase, ReportMark, StateFolder, append_marked};
 use ocfl_tree::{Place, Tree};
@@ -59,7 +58,11 @@ fn make_run<T: Tree>(
 ) -> Result<(RunEnd, Vec<u8>), NotKept>
     ensures run { IfTold T.told (T.state tree.old) (λ root. HasShortFiles root
         → IsWalkReady root (part_of part.now) (place_in cursor.state) kept.old
-        → IfOk result (λ r. IsRun (part_of part.now) cursor root r.1.items r.0)) }
+        → IfOk result (λ r. IsRun (part_of part.now) cursor
+        (look_between true root (T.state tree.old) (T.state tree.new)) r.1.items r.0)) }
+    ensures counts { IfTold T.told (T.state tree.old) (λ root. HasShortFiles root
+        → IsWalkReady root (part_of part.now) (place_in cursor.state) kept.old
+        → is_known_kept result ≡ true → Counts (T.state tree.old) (T.state tree.new)) }
     ensures walk { IfTold T.told (T.state tree.old) (λ root. HasShortFiles root
         → IsWalkReady root (part_of part.now) (place_in cursor.state) kept.old
         → IfOk result (λ r. IsWalkReady root (part_of part.now) (place_in r.0.cursor.state)
@@ -73,7 +76,6 @@ fn make_run<T: Tree>(
 {
     let mut lines: Vec<u8> = Vec::new(alloc);
     let ran = run_on(alloc, tree, part, kept, cursor, limits, block, &mut lines);
-    each_run_that_goes_on_has_a_report();
     if let Some(why) = lost(&ran.end) {
         return Err(NotKept::Troubled(why));
     }
@@ -184,6 +186,7 @@ fn after_run(mut checkpoint: Checkpoint, ran: RunEnd, report: ReportMark) -> Mad
 /// A slice of whose run nothing is kept, and why: `Err` if something is troubled.
 fn unkept(checkpoint: Checkpoint, why: NotKept) -> Result<Made, Stop>
     ensures unkept { IfOk result (IsUnkept checkpoint) }
+    ensures known { is_known result ≡ is_known_unkept why }
     ensures stop { IsRunStop why → IfErr result IsSliceStop }
 {
     match why {
@@ -216,14 +219,16 @@ fn keep<S: StateFolder>(
     lines: &[u8],
 ) -> Result<Made, Stop>
     requires { checkpoint.phase ≡ Open }
-    ensures any_moment { IsTrue S.told → (part : ModelPart) (root : StorageRoot)
-        → IsRun (part_after part checkpoint.left) checkpoint.cursor root lines.now ran → (t : Text)
-        → IsReady S.seen S.may_leave part t checkpoint folder.old
-        → LeavesOnly S.moment S.left_since folder.old folder.new (IsSoundAt part t) }
-    ensures ready { IsTrue S.told → (part : ModelPart) (root : StorageRoot)
-        → IsRun (part_after part checkpoint.left) checkpoint.cursor root lines.now ran → (t : Text)
-        → IsReady S.seen S.may_leave part t checkpoint folder.old
-        → IfOk result (λ made. IsReady S.seen S.may_leave part t made.checkpoint folder.new) }
+    ensures any_moment { IsTrue S.told → (rounds : Rounds) (look : Look)
+        → IsOneOf rounds.looks look
+        → IsRun (part_after rounds.part checkpoint.left) checkpoint.cursor look lines.now ran
+        → (t : Text) → IsReady S.seen S.may_leave rounds t checkpoint folder.old
+        → LeavesOnly S.moment S.left_since folder.old folder.new (IsSoundAt rounds t) }
+    ensures ready { IsTrue S.told → (rounds : Rounds) (look : Look)
+        → IsOneOf rounds.looks look
+        → IsRun (part_after rounds.part checkpoint.left) checkpoint.cursor look lines.now ran
+        → (t : Text) → IsReady S.seen S.may_leave rounds t checkpoint folder.old
+        → IfOk result (λ made. IsReady S.seen S.may_leave rounds t made.checkpoint folder.new) }
     ensures closed { IsTrue S.told → OnOk result (SameClosed S.seen folder.old folder.new) }
     ensures next { IfOk result (λ made. (report : ModelMark)
         × IsNext checkpoint ran report made.checkpoint) }
@@ -256,15 +261,20 @@ pub fn slice<S: StateFolder, T: Tree>(
 ) -> Result<Made, Stop>
     requires { checkpoint.phase ≡ Open }
     ensures any_moment { IsTrue S.told → IfWalkAt T.told (T.state tree.old)
-        (part_of part.now) checkpoint kept.old (λ _. IsSafeIn S.seen S.may_leave
-        S.moment S.left_since (part_of part.now) checkpoint folder.old folder.new) }
+        (part_of part.now) checkpoint kept.old (λ root. WithLook (part_of part.now)
+        (look_between (is_known result) root (T.state tree.old) (T.state tree.new))
+        (λ rounds. IsSafeIn S.seen S.may_leave S.moment S.left_since
+        rounds checkpoint folder.old folder.new)) }
     ensures ready { IsTrue S.told → IfWalkAt T.told (T.state tree.old)
-        (part_of part.now) checkpoint kept.old (λ _.
-        IfReadyIn S.seen S.may_leave (part_of part.now) checkpoint folder.old (λ t. IfOk result
-        (λ made. IsReady S.seen S.may_leave (part_of part.now) t made.checkpoint folder.new))) }
+        (part_of part.now) checkpoint kept.old (λ root. WithLook (part_of part.now)
+        (look_between (is_known result) root (T.state tree.old) (T.state tree.new))
+        (λ rounds. IfReadyIn S.seen S.may_leave rounds checkpoint folder.old (λ t. IfOk result
+        (λ made. IsReady S.seen S.may_leave rounds t made.checkpoint folder.new)))) }
     ensures closed { IsTrue S.told → OnOk result (SameClosed S.seen folder.old folder.new) }
     ensures root { IfWalkAt T.told (T.state tree.old) (part_of part.now) checkpoint kept.old
         (λ root. (T.state tree.new).tree ≡ root) }
+    ensures counts { IfWalkAt T.told (T.state tree.old) (part_of part.now) checkpoint kept.old
+        (λ root. is_known result ≡ true → Counts (T.state tree.old) (T.state tree.new)) }
 
     // The next slice may go on with the walk that is kept.
     ensures walk { IfWalkAt T.told (T.state tree.old) (part_of part.now) checkpoint kept.old

@@ -6,29 +6,29 @@ use Rattle.ocfl_night.proofs.Compared.{is_moved, move_sound, ready_to_close}
 use Rattle.ocfl_night.proofs.closing.close.Goals as goal
 
 pub returns-in_err-move_as-clause-any_moment : goal.returns-in_err-move_as-clause-any_moment
-returns-in_err-move_as-clause-any_moment g c = λ told part t r.
+returns-in_err-move_as-clause-any_moment g c = λ told rounds t r.
     let all = c.is_all_told.ensures.0 c.if-not-is_all_told.false in
     leaves (g.met.S.StateFolder.only_now told) (ready_sound r) (move_sound c.requires all r) (c.move_as.ensures.crash told (ready_to_close c.requires r))
 
 pub returns-in_err-put_checkpoint-clause-any_moment : goal.returns-in_err-put_checkpoint-clause-any_moment
-returns-in_err-put_checkpoint-clause-any_moment g c = λ told part t r.
+returns-in_err-put_checkpoint-clause-any_moment g c = λ told rounds t r.
     let all = c.is_all_told.ensures.0 c.if-not-is_all_told.false in
     mark_after (g.met.S.StateFolder.only_now told) (ready_sound r) (move_sound c.requires all r) (c.move_as.ensures.crash told (ready_to_close c.requires r)) (c.in_ok-move_as.ensures.durable told r.only)
     (next_stands c.begun_anew-next.ensures (is_moved c.requires all r (c.in_ok-move_as.ensures.moved told))) (c.put_checkpoint.ensures.crash told)
 
 pub returns-clause-any_moment : goal.returns-clause-any_moment
-returns-clause-any_moment g c = λ told part t r.
+returns-clause-any_moment g c = λ told rounds t r.
     let all = c.is_all_told.ensures.0 c.if-not-is_all_told.false in
     mark_after (g.met.S.StateFolder.only_now told) (ready_sound r) (move_sound c.requires all r) (c.move_as.ensures.crash told (ready_to_close c.requires r)) (c.in_ok-move_as.ensures.durable told r.only)
     (next_stands c.begun_anew-next.ensures (is_moved c.requires all r (c.in_ok-move_as.ensures.moved told))) (c.put_checkpoint.ensures.crash told)
 
 pub returns-clause-ready : goal.returns-clause-ready
-returns-clause-ready g c = λ told part t r.
+returns-clause-ready g c = λ told rounds t r.
     let is = c.begun_anew-next.ensures in
     let moved = is_moved c.requires (c.is_all_told.ensures.0 c.if-not-is_all_told.false) r (c.in_ok-move_as.ensures.moved told) in
     put_ready (c.in_ok-put_checkpoint.ensures.put told) (next_stands is moved) (λ phase. ap length moved.empty ∙ sym (ap (λ (x : Checkpoint). x.report.bytes) is)) (c.in_ok-put_checkpoint.ensures.durable told (c.in_ok-move_as.ensures.durable told r.only))
 
 pub returns-clause-closed : goal.returns-clause-closed
-returns-clause-closed g c = λ told part t r.
+returns-clause-closed g c = λ told rounds t r.
     let moved = is_moved c.requires (c.is_all_told.ensures.0 c.if-not-is_all_told.false) r (c.in_ok-move_as.ensures.moved told) in
     one_more (c.in_ok-move_as.ensures.moved told (ready_to_close c.requires r)) moved (c.in_ok-put_checkpoint.ensures.put told)

@@ -4,14 +4,14 @@ use Rattle.ocfl_night.proofs.closing.finish.Goals as goal
 
 pub returns-in_ok-close-in-Closing-clause-closed :
     goal.returns-in_ok-close-in-Closing-clause-closed
-returns-in_ok-close-in-Closing-clause-closed g c = λ told part t r.
+returns-in_ok-close-in-Closing-clause-closed g c = λ told rounds t r.
     let s = g.S.StateFolder.seen in
-    subst (λ (n : ℕ). IsOneMore part n (s c.args.folder.now).closed (s c.close.new.folder).closed) (sym c.cycle_of-cycle.ensures) (c.in_ok-close-in-Closing.ensures.closed told part t r)
+    subst (λ (n : ℕ). IsOneMore rounds n (s c.args.folder.now).closed (s c.close.new.folder).closed) (sym c.cycle_of-cycle.ensures) (c.in_ok-close-in-Closing.ensures.closed told rounds t r)
 
 pub returns-in-Open-clause-said : goal.returns-in-Open-clause-said
-returns-in-Open-clause-said g c = λ told part t r all. record { checkpoint = c.args.checkpoint; at = r.at; all = all }
+returns-in-Open-clause-said g c = λ told rounds t r all. record { checkpoint = c.args.checkpoint; at = r.at; all = all }
 
 pub returns-in_ok-close-in-Closing-clause-said : goal.returns-in_ok-close-in-Closing-clause-said
-returns-in_ok-close-in-Closing-clause-said g c = λ told part t r all.
-    let next = c.in_ok-close-in-Closing.ensures.ready told part t r in
+returns-in_ok-close-in-Closing-clause-said g c = λ told rounds t r all.
+    let next = c.in_ok-close-in-Closing.ensures.ready told rounds t r in
     record { checkpoint = _; at = next.at; all = c.in_ok-close-in-Closing.ensures.all }

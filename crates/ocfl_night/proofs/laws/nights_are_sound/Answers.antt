@@ -1,13 +1,14 @@
-use Rattle.std.proofs.Common.{◌≡◌, []}
+use Rattle.std.proofs.Common.{◌≡◌, [], Some}
+use Rattle.std.specs.Prelude.{map}
 use Rattle.ocfl_state.specs.Content.{Content, empty}
-use Rattle.ocfl_night.proofs.AnyNights.{all_sound, all_whole, empty_sound}
+use Rattle.ocfl_night.specs.Nights.{rounds_of}
+use Rattle.ocfl_night.proofs.AnyNights.{all_sound, are_in, at_any, empty_sound, sound_whole}
 use Rattle.ocfl_night.proofs.laws.nights_are_sound.Goals as goal
 
 pub returns-clause-sound : goal.returns-clause-sound
 returns-clause-sound g c = λ part nights are.
-    all_sound g.S.StateFolder.may_leave g.S.StateFolder.moment g.S.StateFolder.left_since part (λ (x : Content). x ≡ empty) nights (λ x is. ([], empty_sound part x is)) are
+    all_sound g.S.StateFolder.may_leave g.S.StateFolder.moment g.S.StateFolder.left_since part (Some (map (λ n. n.look) nights)) (λ (x : Content). x ≡ empty) nights (are_in nights) (λ x is. ([], empty_sound (rounds_of part nights) x is)) are
 
 pub returns-clause-whole : goal.returns-clause-whole
 returns-clause-whole g c = λ part nights are.
-    let sound = all_sound g.S.StateFolder.may_leave g.S.StateFolder.moment g.S.StateFolder.left_since part (λ (x : Content). x ≡ empty) nights (λ x is. ([], empty_sound part x is)) are in
-    all_whole g.S.StateFolder.may_leave g.S.StateFolder.moment g.S.StateFolder.left_since part nights sound
+    at_any g.S.StateFolder.moment g.S.StateFolder.left_since nights (λ x sound. sound_whole (rounds_of part nights) x sound) (returns-clause-sound g c part nights are)

@@ -5,22 +5,22 @@ use Rattle.ocfl_night.proofs.Heard.{found_heard, grew_none, is_err, since_found}
 use Rattle.ocfl_night.proofs.nights.catch_up.Goals as goal
 
 pub returns-in_err-opened-clause-heard : goal.returns-in_err-opened-clause-heard
-returns-in_err-opened-clause-heard g c = λ told part kept. leaves_weaker (λ x h. found_heard (grew_none _) h) (c.open.ensures.any_moment told part kept)
+returns-in_err-opened-clause-heard g c = λ told rounds kept. leaves_weaker (λ x h. found_heard (grew_none _) h) (c.open.ensures.any_moment told rounds kept)
 
 pub returns-in_err-speak-clause-heard : goal.returns-in_err-speak-clause-heard
-returns-in_err-speak-clause-heard g c = λ told part kept.
-    let r = c.in_ok-opened.ensures.ready told part kept in
-    joined_moments (leaves_weaker (λ x h. found_heard c.speak.ensures.grew h) (c.open.ensures.any_moment told part kept)) (leaves_weaker (λ x h. since_found r h) (c.speak.ensures.heard told part r.t r.ready))
+returns-in_err-speak-clause-heard g c = λ told rounds kept.
+    let r = c.in_ok-opened.ensures.ready told rounds kept in
+    joined_moments (leaves_weaker (λ x h. found_heard c.speak.ensures.grew h) (c.open.ensures.any_moment told rounds kept)) (leaves_weaker (λ x h. since_found r h) (c.speak.ensures.heard told rounds r.t r.ready))
 
 pub returns-clause-heard : goal.returns-clause-heard
-returns-clause-heard g c = λ told part kept.
-    let r = c.in_ok-opened.ensures.ready told part kept in
-    joined_moments (leaves_weaker (λ x h. found_heard c.speak.ensures.grew h) (c.open.ensures.any_moment told part kept)) (leaves_weaker (λ x h. since_found r h) (c.speak.ensures.heard told part r.t r.ready))
+returns-clause-heard g c = λ told rounds kept.
+    let r = c.in_ok-opened.ensures.ready told rounds kept in
+    joined_moments (leaves_weaker (λ x h. found_heard c.speak.ensures.grew h) (c.open.ensures.any_moment told rounds kept)) (leaves_weaker (λ x h. since_found r h) (c.speak.ensures.heard told rounds r.t r.ready))
 
 pub returns-clause-ready : goal.returns-clause-ready
-returns-clause-ready g c = λ told part kept.
-    let r = c.in_ok-opened.ensures.ready told part kept in
-    record { from = r.from; was = r.was; t = r.t; before = r.before; heard = c.in_ok-speak.ensures.ready told part r.t r.ready }
+returns-clause-ready g c = λ told rounds kept.
+    let r = c.in_ok-opened.ensures.ready told rounds kept in
+    record { from = r.from; was = r.was; t = r.t; before = r.before; heard = c.in_ok-speak.ensures.ready told rounds r.t r.ready }
 
 pub returns-clause-all : goal.returns-clause-all
 returns-clause-all g c =

@@ -4,19 +4,19 @@ use Rattle.ocfl_night.proofs.{Moments.{unmoved}, Sound.{ready_sound}}
 use Rattle.ocfl_night.proofs.nights.pass_by.Goals as goal
 
 pub returns-then-ne-clause-any_moment : goal.returns-then-ne-clause-any_moment
-returns-then-ne-clause-any_moment g c = λ told part t r. unmoved (g.met.S.StateFolder.only_now told) (ready_sound r)
+returns-then-ne-clause-any_moment g c = λ told rounds t r. unmoved (g.met.S.StateFolder.only_now told) (ready_sound r)
 
 pub returns-in_err-remedy-clause-any_moment : goal.returns-in_err-remedy-clause-any_moment
-returns-in_err-remedy-clause-any_moment g c = λ told part t r. unmoved (g.met.S.StateFolder.only_now told) (ready_sound r)
+returns-in_err-remedy-clause-any_moment g c = λ told rounds t r. unmoved (g.met.S.StateFolder.only_now told) (ready_sound r)
 
 pub returns-in-TryAgain-clause-any_moment : goal.returns-in-TryAgain-clause-any_moment
-returns-in-TryAgain-clause-any_moment g c = λ told part t r. unmoved (g.met.S.StateFolder.only_now told) (ready_sound r)
+returns-in-TryAgain-clause-any_moment g c = λ told rounds t r. unmoved (g.met.S.StateFolder.only_now told) (ready_sound r)
 
 pub returns-in-TryAgain-clause-done : goal.returns-in-TryAgain-clause-done
 returns-in-TryAgain-clause-done g c = λ there. ap (done_by c.args.checkpoint c.args.place) (sym c.in-TryAgain.is ∙ c.in_ok-remedy.ensures.is)
 
 pub returns-in-Halt-clause-any_moment : goal.returns-in-Halt-clause-any_moment
-returns-in-Halt-clause-any_moment g c = λ told part t r. unmoved (g.met.S.StateFolder.only_now told) (ready_sound r)
+returns-in-Halt-clause-any_moment g c = λ told rounds t r. unmoved (g.met.S.StateFolder.only_now told) (ready_sound r)
 
 pub returns-in-Halt-clause-done : goal.returns-in-Halt-clause-done
 returns-in-Halt-clause-done g c = λ there. ap (done_by c.args.checkpoint c.args.place) (sym c.in-Halt.is ∙ c.in_ok-remedy.ensures.is)

@@ -1,11 +1,11 @@
-use Rattle.std.proofs.Common.{◌≡◌}
+use Rattle.std.proofs.Common.{◌≡◌, true}
 use Rattle.ocfl_tree.specs.{Place.{Text}, Store.{IfTold}}
 use Rattle.ocfl_item.specs.Judging.{HasShortFiles}
 use Rattle.std.specs.Prelude.{IsTrue}
 use Rattle.ocfl_scrub.specs.Starting.{part_of}
 use Rattle.ocfl_state.specs.Crash.{LeavesOnly}
-use Rattle.ocfl_night.specs.{Clock.{BeginsInTime}, Leaving.{MayLeave}, Sound.{IsReady, IsSoundAt}}
-use Rattle.ocfl_night.specs.Steps.{IsWalkAt}
+use Rattle.ocfl_night.specs.{Clock.{BeginsInTime}, Leaving.{MayLeave}, Looks.{Counts, WithLook, look_between}}
+use Rattle.ocfl_night.specs.{Sound.{IsReady, IsSoundAt}, Steps.{IsWalkAt}}
 use Rattle.ocfl_night.proofs.nights.runs.Given as goal
 
 abbrev pub invariant-loop-run : goal.invariant-loop-run
@@ -13,9 +13,12 @@ invariant-loop-run g l =
     let part = part_of l.fn.part in
     let seen = g.S.StateFolder.seen in
     let may_leave = g.S.StateFolder.may_leave in
+    let before = g.T.Tree.state l.fn.tree in
+    let now = g.T.Tree.state l.tree in
     record {
-      any_moment : IsTrue g.S.StateFolder.told → IfTold g.T.Tree.told (g.T.Tree.state l.fn.tree) (λ root. HasShortFiles root → (t : Text) → IsReady seen may_leave part t l.fn.start l.fn.folder → LeavesOnly g.S.StateFolder.moment g.S.StateFolder.left_since l.fn.folder l.folder (IsSoundAt part t));
-      ready : IsTrue g.S.StateFolder.told → IfTold g.T.Tree.told (g.T.Tree.state l.fn.tree) (λ root. HasShortFiles root → (t : Text) → IsReady seen may_leave part t l.fn.start l.fn.folder → IsReady seen may_leave part t l.checkpoint l.folder);
+      any_moment : IsTrue g.S.StateFolder.told → IfTold g.T.Tree.told before (λ root. HasShortFiles root → WithLook part (look_between true root before now) (λ rounds. (t : Text) → IsReady seen may_leave rounds t l.fn.start l.fn.folder → LeavesOnly g.S.StateFolder.moment g.S.StateFolder.left_since l.fn.folder l.folder (IsSoundAt rounds t)));
+      ready : IsTrue g.S.StateFolder.told → IfTold g.T.Tree.told before (λ root. HasShortFiles root → WithLook part (look_between true root before now) (λ rounds. (t : Text) → IsReady seen may_leave rounds t l.fn.start l.fn.folder → IsReady seen may_leave rounds t l.checkpoint l.folder));
+      counts : IfTold g.T.Tree.told before (λ root. HasShortFiles root → Counts before now);
       closed : IsTrue g.S.StateFolder.told → (seen l.folder).closed ≡ (seen l.fn.folder).closed;
       clock : IsTrue g.C.Clock.told → BeginsInTime l.fn.plan.end (g.C.Clock.answers l.fn.clock) (g.C.Clock.answers l.clock) l.fn.tally.runs l.tally.runs;
       left : MayLeave l.fn.plan.stop_at_faults l.fn.tally.left.items → MayLeave l.fn.plan.stop_at_faults l.tally.left.items;

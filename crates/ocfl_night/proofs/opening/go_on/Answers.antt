@@ -6,21 +6,21 @@ use Rattle.ocfl_night.proofs.{Sound.{settled_sound}, TakingUp.{settled_still}}
 use Rattle.ocfl_night.proofs.opening.go_on.Goals as goal
 
 pub returns-in_err-refuse_older-clause-any_moment : goal.returns-in_err-refuse_older-clause-any_moment
-returns-in_err-refuse_older-clause-any_moment g c = λ told part t r. unchanged (g.met.S.StateFolder.only_now told) (settled_sound r) (c.refuse_older.ensures.crash told)
+returns-in_err-refuse_older-clause-any_moment g c = λ told rounds t r. unchanged (g.met.S.StateFolder.only_now told) (settled_sound r) (c.refuse_older.ensures.crash told)
 
 pub returns-in_err-resume-clause-any_moment : goal.returns-in_err-resume-clause-any_moment
-returns-in_err-resume-clause-any_moment g c = λ told part t r.
+returns-in_err-resume-clause-any_moment g c = λ told rounds t r.
     let still = settled_still r (c.refuse_older.ensures.seen told) (c.refuse_older.ensures.crash told) in
-    joined_moments (unchanged (g.met.S.StateFolder.only_now told) (settled_sound r) (c.refuse_older.ensures.crash told)) (c.resume.ensures.any_moment told part t still)
+    joined_moments (unchanged (g.met.S.StateFolder.only_now told) (settled_sound r) (c.refuse_older.ensures.crash told)) (c.resume.ensures.any_moment told rounds t still)
 
 pub returns-clause-any_moment : goal.returns-clause-any_moment
-returns-clause-any_moment g c = λ told part t r.
+returns-clause-any_moment g c = λ told rounds t r.
     let still = settled_still r (c.refuse_older.ensures.seen told) (c.refuse_older.ensures.crash told) in
-    joined_moments (unchanged (g.met.S.StateFolder.only_now told) (settled_sound r) (c.refuse_older.ensures.crash told)) (c.resume.ensures.any_moment told part t still)
+    joined_moments (unchanged (g.met.S.StateFolder.only_now told) (settled_sound r) (c.refuse_older.ensures.crash told)) (c.resume.ensures.any_moment told rounds t still)
 
 pub returns-clause-ready : goal.returns-clause-ready
-returns-clause-ready g c = λ told part t r.
-    c.in_ok-resume.ensures.ready told part t (settled_still r (c.refuse_older.ensures.seen told) (c.refuse_older.ensures.crash told))
+returns-clause-ready g c = λ told rounds t r.
+    c.in_ok-resume.ensures.ready told rounds t (settled_still r (c.refuse_older.ensures.seen told) (c.refuse_older.ensures.crash told))
 
 pub returns-clause-closed : goal.returns-clause-closed
 returns-clause-closed g c = λ told. c.in_ok-resume.ensures.closed told ∙ ap (λ (x : Content). x.closed) (c.refuse_older.ensures.seen told)

@@ -7,37 +7,37 @@ use Rattle.ocfl_night.proofs.TakingUp.{found_on, found_ready, none_found, same_f
 use Rattle.ocfl_night.proofs.opening.open.Goals as goal
 
 pub returns-in-Err-clause-any_moment : goal.returns-in-Err-clause-any_moment
-returns-in-Err-clause-any_moment g c = λ told part kept. unchanged (g.met.S.StateFolder.only_now told) (λ x n. kept_found kept n) (c.look.ensures.crash told)
+returns-in-Err-clause-any_moment g c = λ told rounds kept. unchanged (g.met.S.StateFolder.only_now told) (λ x n. kept_found kept n) (c.look.ensures.crash told)
 
 pub returns-in-Ok-clause-any_moment : goal.returns-in-Ok-clause-any_moment
-returns-in-Ok-clause-any_moment g c = λ told part kept.
+returns-in-Ok-clause-any_moment g c = λ told rounds kept.
     let at = same_found (c.in_ok-found.ensures.value told) c.in-Some.is c.in-Ok.ensures.same in
-    taken_moments (g.met.S.StateFolder.only_now told) (g.met.S.StateFolder.stays told c.args.folder.now) kept (c.look.ensures.crash told) at (c.look.ensures.seen told) (c.in_ok-found.ensures.only told) (c.go_on.ensures.any_moment told part)
+    taken_moments (g.met.S.StateFolder.only_now told) (g.met.S.StateFolder.stays told c.args.folder.now) kept (c.look.ensures.crash told) at (c.look.ensures.seen told) (c.in_ok-found.ensures.only told) (c.go_on.ensures.any_moment told rounds)
 
 pub returns-in-Ok-clause-ready : goal.returns-in-Ok-clause-ready
-returns-in-Ok-clause-ready g c = λ told part kept.
+returns-in-Ok-clause-ready g c = λ told rounds kept.
     let was = g.met.S.StateFolder.stays told c.args.folder.now in
     let sound = kept (g.S.StateFolder.seen c.args.folder.now) was in
     let at = same_found (c.in_ok-found.ensures.value told) c.in-Some.is c.in-Ok.ensures.same in
     IfOk-weaker c.go_on.result _ _ (λ o r. found_ready _ was sound.1 r)
-    (c.go_on.ensures.ready told part sound.0 (settled_there sound.1 at (c.look.ensures.seen told) (c.in_ok-found.ensures.only told)))
+    (c.go_on.ensures.ready told rounds sound.0 (settled_there sound.1 at (c.look.ensures.seen told) (c.in_ok-found.ensures.only told)))
 
 pub returns-in_default-clause-any_moment : goal.returns-in_default-clause-any_moment
-returns-in_default-clause-any_moment g c = λ told part kept.
+returns-in_default-clause-any_moment g c = λ told rounds kept.
     let was = g.met.S.StateFolder.stays told c.args.folder.now in
     let same = c.look.ensures.seen told in
     let none = none_found (g.S.StateFolder.seen c.args.folder.now) (c.in_ok-found.ensures.value told) c.in_default.is in
-    let new = shown_new part (kept (g.S.StateFolder.seen c.args.folder.now) was) none in
-    found_on (g.met.S.StateFolder.only_now told) was kept (c.look.ensures.crash told) (sound_new part none new)
-    (c.begin.ensures.any_moment told part (c.in_ok-found.ensures.only told) (ap (λ (x : Content). x.checkpoint) same ∙ none) (subst (IsNew []) (sym same) new))
+    let new = shown_new rounds (kept (g.S.StateFolder.seen c.args.folder.now) was) none in
+    found_on (g.met.S.StateFolder.only_now told) was kept (c.look.ensures.crash told) (sound_new rounds none new)
+    (c.begin.ensures.any_moment told rounds (c.in_ok-found.ensures.only told) (ap (λ (x : Content). x.checkpoint) same ∙ none) (subst (IsNew []) (sym same) new))
 
 pub returns-in_default-clause-ready : goal.returns-in_default-clause-ready
-returns-in_default-clause-ready g c = λ told part kept.
+returns-in_default-clause-ready g c = λ told rounds kept.
     let was = g.met.S.StateFolder.stays told c.args.folder.now in
     let none = none_found (g.S.StateFolder.seen c.args.folder.now) (c.in_ok-found.ensures.value told) c.in_default.is in
-    let new = shown_new part (kept (g.S.StateFolder.seen c.args.folder.now) was) none in
-    IfOk-weaker c.begin.result _ _ (λ o r. found_ready _ was (sound_new part none new) r)
-    (c.begin.ensures.ready told part (c.in_ok-found.ensures.only told) (subst (IsNew []) (sym (c.look.ensures.seen told)) new))
+    let new = shown_new rounds (kept (g.S.StateFolder.seen c.args.folder.now) was) none in
+    IfOk-weaker c.begin.result _ _ (λ o r. found_ready _ was (sound_new rounds none new) r)
+    (c.begin.ensures.ready told rounds (c.in_ok-found.ensures.only told) (subst (IsNew []) (sym (c.look.ensures.seen told)) new))
 
 pub returns-in_err-found-clause-foreign : goal.returns-in_err-found-clause-foreign
 returns-in_err-found-clause-foreign g c = λ told k at foreign. (is_err _ c.from_residual.result c.from_residual.ensures.1, record { same = c.look.ensures.seen told; crash = c.look.ensures.crash told })
@@ -78,7 +78,7 @@ returns-in-Ok-clause-lost g c = λ told k at lost.
     c.go_on.ensures.lost told (subst (λ (x : Content). IsLost c.in-Ok.checkpoint x) (sym (c.look.ensures.seen told)) (subst (λ (x : Checkpoint). IsLost x (g.S.StateFolder.seen c.args.folder.now)) (sym is) lost))
 
 pub returns-in_err-found-clause-any_moment : goal.returns-in_err-found-clause-any_moment
-returns-in_err-found-clause-any_moment g c = λ told part kept. unchanged (g.met.S.StateFolder.only_now told) (λ x n. kept_found kept n) (c.look.ensures.crash told)
+returns-in_err-found-clause-any_moment g c = λ told rounds kept. unchanged (g.met.S.StateFolder.only_now told) (λ x n. kept_found kept n) (c.look.ensures.crash told)
 
 pub returns-in-Err-clause-rightly : goal.returns-in-Err-clause-rightly
 returns-in-Err-clause-rightly g c = λ told why is.

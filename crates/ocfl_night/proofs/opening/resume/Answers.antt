@@ -4,19 +4,19 @@ use Rattle.ocfl_night.proofs.{Moments.{joined_moments}, Sound.{put_moments, put_
 use Rattle.ocfl_night.proofs.opening.resume.Goals as goal
 
 pub returns-in_err-put_checkpoint-clause-any_moment : goal.returns-in_err-put_checkpoint-clause-any_moment
-returns-in_err-put_checkpoint-clause-any_moment g c = λ told part t r.
-    let ready = taken_as c.fitted-opened.ensures.same (c.in_ok-there.ensures.ready told part t r) in
-    joined_moments (c.take_up.ensures.any_moment told part t r) (put_moments (g.met.S.StateFolder.only_now told) ready (renamed c.with_root-next.ensures.1 ready.stands) (c.put_checkpoint.ensures.crash told))
+returns-in_err-put_checkpoint-clause-any_moment g c = λ told rounds t r.
+    let ready = taken_as c.fitted-opened.ensures.same (c.in_ok-there.ensures.ready told rounds t r) in
+    joined_moments (c.take_up.ensures.any_moment told rounds t r) (put_moments (g.met.S.StateFolder.only_now told) ready (renamed c.with_root-next.ensures.1 ready.stands) (c.put_checkpoint.ensures.crash told))
 
 pub returns-clause-any_moment : goal.returns-clause-any_moment
-returns-clause-any_moment g c = λ told part t r.
-    let ready = taken_as c.fitted-opened.ensures.same (c.in_ok-there.ensures.ready told part t r) in
-    joined_moments (c.take_up.ensures.any_moment told part t r) (put_moments (g.met.S.StateFolder.only_now told) ready (renamed c.with_root-next.ensures.1 ready.stands) (c.put_checkpoint.ensures.crash told))
+returns-clause-any_moment g c = λ told rounds t r.
+    let ready = taken_as c.fitted-opened.ensures.same (c.in_ok-there.ensures.ready told rounds t r) in
+    joined_moments (c.take_up.ensures.any_moment told rounds t r) (put_moments (g.met.S.StateFolder.only_now told) ready (renamed c.with_root-next.ensures.1 ready.stands) (c.put_checkpoint.ensures.crash told))
 
 pub returns-clause-ready : goal.returns-clause-ready
-returns-clause-ready g c = λ told part t r.
+returns-clause-ready g c = λ told rounds t r.
     let is = c.with_root-next.ensures.1 in
-    let ready = taken_as c.fitted-opened.ensures.same (c.in_ok-there.ensures.ready told part t r) in
+    let ready = taken_as c.fitted-opened.ensures.same (c.in_ok-there.ensures.ready told rounds t r) in
     put_on ready (renamed is ready.stands) (c.in_ok-put_checkpoint.ensures.put told) (ap (λ (x : Checkpoint). x.report.bytes) is) (ap (λ (x : Checkpoint). x.phase) is) (c.in_ok-put_checkpoint.ensures.durable told ready.only)
 
 pub returns-clause-closed : goal.returns-clause-closed

@@ -7,15 +7,15 @@ use Rattle.ocfl_night.proofs.{Sound.{settled_sound, torn_sound}, TakingUp.{cut_r
 use Rattle.ocfl_night.proofs.opening.settle.Goals as goal
 
 pub returns-in_err-trim-in-Open-clause-any_moment : goal.returns-in_err-trim-in-Open-clause-any_moment
-returns-in_err-trim-in-Open-clause-any_moment g c = λ told part t r.
+returns-in_err-trim-in-Open-clause-any_moment g c = λ told rounds t r.
     leaves (g.met.S.StateFolder.only_now told) (settled_sound r) (torn_sound (sym c.phase_of.ensures ∙ c.in-Open.is) (omega arith) r) (c.trim.ensures.crash told)
 
 pub returns-in_ok-trim-in-Open-clause-any_moment : goal.returns-in_ok-trim-in-Open-clause-any_moment
-returns-in_ok-trim-in-Open-clause-any_moment g c = λ told part t r.
+returns-in_ok-trim-in-Open-clause-any_moment g c = λ told rounds t r.
     leaves (g.met.S.StateFolder.only_now told) (settled_sound r) (torn_sound (sym c.phase_of.ensures ∙ c.in-Open.is) (omega arith) r) (c.trim.ensures.crash told)
 
 pub returns-in_ok-trim-in-Open-clause-ready : goal.returns-in_ok-trim-in-Open-clause-ready
-returns-in_ok-trim-in-Open-clause-ready g c = λ told part t r.
+returns-in_ok-trim-in-Open-clause-ready g c = λ told rounds t r.
     let s = g.S.StateFolder.seen in
     let f = c.args.folder.now in
     let cut = c.in_ok-trim-in-Open.ensures.cut told ∙ ap (λ (n : ℕ). with_report (take n (s f).report) (s f)) c.bytes_of.ensures in
@@ -37,7 +37,7 @@ pub returns-in_ok-trim-in-Open-clause-closed : goal.returns-in_ok-trim-in-Open-c
 returns-in_ok-trim-in-Open-clause-closed g c = λ told. ap (λ (x : Content). x.closed) (c.in_ok-trim-in-Open.ensures.cut told)
 
 pub returns-in-Closing-clause-ready : goal.returns-in-Closing-clause-ready
-returns-in-Closing-clause-ready g c = λ told part t r. c.is_to_close.ensures.ready told (sym c.phase_of.ensures ∙ c.in-Closing.is) part t r
+returns-in-Closing-clause-ready g c = λ told rounds t r. c.is_to_close.ensures.ready told (sym c.phase_of.ensures ∙ c.in-Closing.is) rounds t r
 
 pub returns-in-Closing-clause-there : goal.returns-in-Closing-clause-there
 returns-in-Closing-clause-there g c = λ told.

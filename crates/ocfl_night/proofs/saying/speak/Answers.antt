@@ -5,20 +5,20 @@ use Rattle.ocfl_night.proofs.Heard.{heard_put, put_heard, same_ready, silent, gr
 use Rattle.ocfl_night.proofs.saying.speak.Goals as goal
 
 pub returns-in_err-say_rest-clause-heard : goal.returns-in_err-say_rest-clause-heard
-returns-in_err-say_rest-clause-heard g c = λ told part t r. silent c.say_rest.ensures.grew (unchanged (g.met.S.StateFolder.only_now told) (ready_sound r) (c.say_rest.ensures.crash told))
+returns-in_err-say_rest-clause-heard g c = λ told rounds t r. silent c.say_rest.ensures.grew (unchanged (g.met.S.StateFolder.only_now told) (ready_sound r) (c.say_rest.ensures.crash told))
 
 pub returns-in_err-put_checkpoint-clause-heard : goal.returns-in_err-put_checkpoint-clause-heard
-returns-in_err-put_checkpoint-clause-heard g c = λ told part t r.
+returns-in_err-put_checkpoint-clause-heard g c = λ told rounds t r.
     let some : c.args.checkpoint.told ≡ c.args.checkpoint.report.bytes → ⊥ = λ is. absurd (cc (is, c.is_all_told.ensures.1 is, c.if-is_all_told.false)) in
     heard_put r (c.in_ok-say_rest.ensures.said told) (c.say_rest.ensures.crash told) (c.say_rest.ensures.seen told) (said_by c.with_all_told-next.ensures some r) (g.met.S.StateFolder.only_now told) (c.put_checkpoint.ensures.crash told)
 
 pub returns-clause-heard : goal.returns-clause-heard
-returns-clause-heard g c = λ told part t r.
+returns-clause-heard g c = λ told rounds t r.
     let some : c.args.checkpoint.told ≡ c.args.checkpoint.report.bytes → ⊥ = λ is. absurd (cc (is, c.is_all_told.ensures.1 is, c.if-is_all_told.false)) in
     heard_put r (c.in_ok-say_rest.ensures.said told) (c.say_rest.ensures.crash told) (c.say_rest.ensures.seen told) (said_by c.with_all_told-next.ensures some r) (g.met.S.StateFolder.only_now told) (c.put_checkpoint.ensures.crash told)
 
 pub returns-clause-ready : goal.returns-clause-ready
-returns-clause-ready g c = λ told part t r.
+returns-clause-ready g c = λ told rounds t r.
     let some : c.args.checkpoint.told ≡ c.args.checkpoint.report.bytes → ⊥ = λ is. absurd (cc (is, c.is_all_told.ensures.1 is, c.if-is_all_told.false)) in
     let is = c.with_all_told-next.ensures in
     put_heard r (c.in_ok-say_rest.ensures.said told) (c.say_rest.ensures.crash told) (c.say_rest.ensures.seen told) (said_by is some r) (c.in_ok-put_checkpoint.ensures.put told)
@@ -26,10 +26,10 @@ returns-clause-ready g c = λ told part t r.
     (c.in_ok-put_checkpoint.ensures.durable told (only_same g.S.StateFolder.seen (c.say_rest.ensures.crash told) (c.say_rest.ensures.seen told) r.only))
 
 pub returns-then-is_all_told-clause-heard : goal.returns-then-is_all_told-clause-heard
-returns-then-is_all_told-clause-heard g c = λ told part t r. silent (grew_none _) (unmoved (g.met.S.StateFolder.only_now told) (ready_sound r))
+returns-then-is_all_told-clause-heard g c = λ told rounds t r. silent (grew_none _) (unmoved (g.met.S.StateFolder.only_now told) (ready_sound r))
 
 pub returns-then-is_all_told-clause-ready : goal.returns-then-is_all_told-clause-ready
-returns-then-is_all_told-clause-ready g c = λ told part t r. same_ready r
+returns-then-is_all_told-clause-ready g c = λ told rounds t r. same_ready r
 
 pub returns-then-is_all_told-clause-all : goal.returns-then-is_all_told-clause-all
 returns-then-is_all_told-clause-all g c =
@@ -37,4 +37,4 @@ returns-then-is_all_told-clause-all g c =
     ap (λ (n : ℕ). record k { told = n }) (c.is_all_told.ensures.0 c.if-is_all_told.true)
 
 pub returns-then-not-tells_within-clause-heard : goal.returns-then-not-tells_within-clause-heard
-returns-then-not-tells_within-clause-heard g c = λ told part t r. silent (grew_none _) (unmoved (g.met.S.StateFolder.only_now told) (ready_sound r))
+returns-then-not-tells_within-clause-heard g c = λ told rounds t r. silent (grew_none _) (unmoved (g.met.S.StateFolder.only_now told) (ready_sound r))

@@ -25,7 +25,8 @@ Tried, and what comes of it:
 - A checkpoint with another digit, cut, empty, zeros, of another version: status 4, and nothing is
   written.
 - A checkpoint of an earlier cycle that is put back: status 3, and nothing is written; with the
-  newest one the cycle is whole.
+  newest one the cycle is whole, and so is the next one with that of the last closed cycle, once
+  the open report is moved away.
 - A report that lost its end or all of it: status 3, it is closed as incomplete, and the next
   cycle is whole.
 - A report of the right length with another size in a line, another byte, or zeros: it is closed
@@ -366,6 +367,16 @@ def older_checkpoint(folder: str) -> None:
     common.write(nights.path("checkpoint"), newest)
     check("the newest", nights.night("--slice", SLICE)[0], 1)
     check("its cycle is whole", nights.whole(3) == audited.report, True)
+    nights.night("--slice", SLICE, "--files", "2")
+    shutil.copy(nights.path("reports/checkpoint-000003"), nights.path("checkpoint"))
+    kept = nights.kept()
+    is_refused("that of the last cycle", nights.night("--slice", SLICE), 3, nights.state, nights,
+               kept)
+    os.rename(nights.path("report"), folder + "/report")
+    ended = [nights.night("--slice", SLICE)[0] for _ in range(2)]
+    check("it goes on without the open report", (ended[-1], nights.closed()),
+          (1, ["cycle-00000%d" % cycle for cycle in (1, 2, 3, 4)]))
+    check("the next cycle is whole", nights.whole(4) == audited.report, True)
 
 
 def after_a_change(name: str, folder: str, change: Any) -> tuple[Any, Any]:

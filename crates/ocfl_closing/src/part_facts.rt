@@ -94,7 +94,7 @@ fn refused(alloc: Global, path: &str, why: Refused) -> Result<Failure, AllocErro
     Ok(Failure::stopped(format!(in alloc; "{}/checkpoint: {why}\n", Shown(path))?))
 }
 
-/// The bytes of the checkpoint in the state folder of a part. `None` if there is none.
+/// The bytes of the checkpoint in the state folder of a part, if one is there.
 fn read_bytes<R>(rt: &R, path: &str) -> Result<Option<Vec<u8>>, Failure>
 where
     R: Files<File = File> + AllocGlobal,

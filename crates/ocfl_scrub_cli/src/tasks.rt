@@ -201,7 +201,8 @@ where
     ended.status
 }
 
-/// Says what a deed ended with: of one place with its path, and why it is none.
+/// Says what a deed ended with. Of a check of one path it names the path, and says why it names
+/// no place.
 fn say_end<R: Eprint>(rt: &R, deed: &Deed, ended: &Ended) {
     match (&ended.note, deed) {
         (Note::NoItem, Deed::Check(path)) => {

@@ -42,7 +42,7 @@ pub struct Gone {
 pub struct Closing<'a> {
     /// The number of the cycle.
     pub cycle: u64,
-    /// The number of the cycle that it was compared with; 0 if there is none before it.
+    /// The number of the cycle that it was compared with; 0 if it was not compared.
     pub before: u64,
     /// Why nothing was compared. Empty if it was, or if there is no cycle before it.
     pub uncompared: &'a str,

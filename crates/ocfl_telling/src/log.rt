@@ -86,7 +86,7 @@ pub struct ClosingRow<'a> {
     pub findings: u64,
     /// The number of the cycle whose report it was compared with; 0 if it was compared with none.
     pub compared: u64,
-    /// Why it was compared with none. Empty if it was compared, or if there is none before it.
+    /// Why it was not compared. Empty if it was compared, and for the first cycle.
     pub why: &'a str,
     /// How many of its findings the report before did not have.
     pub appeared: u64,

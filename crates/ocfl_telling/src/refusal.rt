@@ -150,8 +150,9 @@ fn older(alloc: Global, cycle: u64, state: Shown<'_>) -> Result<String, AllocErr
         (λ text. string_bytes text ≡ older_text cycle state.entry.0.now) }
 {
     format!(in alloc;
-        "{state}/checkpoint is older than {state}/reports, where cycle {cycle} is closed already: \
-         put back the newest checkpoint, or move the reports from that cycle on to another folder."
+        "{state}/checkpoint is older than {state}/reports, where cycle {cycle} is closed already. \
+         Put back the newest checkpoint. If there is none, move its report to another folder, and \
+         copy the last reports/checkpoint-N to checkpoint."
     )
 }
 

@@ -40,10 +40,7 @@ const LINKS: [(&str, &str); 3] = [
 ];
 
 /// Makes a folder with these entries and links, and with the file `big`.
-fn filled<'a>(
-    rt: &'a HostRuntime,
-    top: &str,
-) -> Result<FsTree<WholePaths<'a, HostRuntime>>, Fail> {
+fn filled<'a>(rt: &'a HostRuntime, top: &str) -> Result<FsTree<WholePaths<'a, HostRuntime>>, Fail> {
     let alloc = rt.alloc();
     if fs::exists(rt, top)? {
         fs::remove_dir_all(rt, top)?;

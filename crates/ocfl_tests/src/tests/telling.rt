@@ -298,9 +298,9 @@ fn refusals_say_why(rt: HostRuntime) -> Result<(), Fail> {
         ),
         (
             RefusalMessage::Older { cycle: 7 },
-            "S/checkpoint is older than S/reports, where cycle 7 is closed already: put back the \
-             newest checkpoint, or move the reports from that cycle on to another folder. Nothing \
-             was run.\n",
+            "S/checkpoint is older than S/reports, where cycle 7 is closed already. Put back the \
+             newest checkpoint. If there is none, move its report to another folder, and copy the \
+             last reports/checkpoint-N to checkpoint. Nothing was run.\n",
         ),
         (
             RefusalMessage::RootChanged,

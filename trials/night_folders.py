@@ -607,10 +607,10 @@ def cut_and_refused(folder: str) -> None:
     check("then", audited.faults_after(nights, said), [])
 
 
-PARTS = [no_storage_root, another_root, names_that_are_gone, link_that_moves, folder_of_scripts,
-         no_checkpoint, changed_checkpoint, older_checkpoint, shorter_report, changed_report,
-         longer_report, links_in_the_folder, rights, copies_beside, odd_folders, odd_names,
-         names_that_are_left_out, stop_file, cut_and_refused]
+PARTS = [no_storage_root, another_root, names_that_are_gone, link_that_moves, exchanged,
+         folder_of_scripts, no_checkpoint, changed_checkpoint, older_checkpoint, shorter_report,
+         changed_report, longer_report, links_in_the_folder, rights, copies_beside, odd_folders,
+         odd_names, names_that_are_left_out, stop_file, cut_and_refused]
 MOUNTING = [unmounted, mounted_anew, not_mounted, unmounted_state]
 OF_ROOT = [files_of_another]
 

@@ -9,7 +9,6 @@ import json
 import os
 import re
 import resource
-import shutil
 import sys
 import tempfile
 

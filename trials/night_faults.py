@@ -45,7 +45,7 @@ import subprocess
 from typing import Any
 
 import common
-from common import Stopped, end, check, ran, start, traced
+from common import Stopped, end, check, start, traced
 from shared.nights import tried_apart
 from shared.own_nights import SLICE, Audited, Got, Moment, Nights, at_once, make_root, recorded
 from shared.spaces import can_mount, folder_at, memory_at, mount, unmount

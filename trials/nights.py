@@ -31,7 +31,7 @@ import subprocess
 import time
 
 import common
-from common import PROGRAM, digest, check
+from common import PROGRAM, check
 from shared.nights import (ITEMS, NIGHTS, REPORTS, WRONG_B, Nights, ask, make_root, ran, read,
                            tried_apart, write)
 

@@ -27,7 +27,7 @@ import time
 import common
 from common import PROGRAM, check
 from shared.nights import NIGHTS, ran, read, tried, write
-from shared.parallel import Together, audit, findings, check_statement, lines_in_message
+from shared.parallel import Together, audit, findings, check_statement
 from shared.slurm import Slurm
 
 PARTS = 14

@@ -172,7 +172,7 @@ def unread(folder):
 
 def unjoined(folder):
     """Of cycles that are not joined, `status` takes each place as the last one has it, and what was
-    gone in them is gone until it is back."""
+    gone in them is gone until it is back. Whether more is gone is not known then."""
     nights = Together(folder + "/state", small_root(folder, ["o01"]))
     place = Place(nights.root, "o03/v1/content")
     nights.night()
@@ -180,26 +180,26 @@ def unjoined(folder):
 
     def counted():
         words = [REPORTS, "status", nights.state]
-        return re.findall(r"\b(?:findings|damaged|gone)=([0-9]+)", ran(words)[1])
+        return re.findall(r"\b(?:findings|damaged|gone)=([0-9]+|U)", ran(words)[1])
 
-    check("before", counted(), ["1", "1", "0"])
+    check("before", counted(), ["1", "1", "U"])
     shutil.rmtree(nights.root + "/o05")
-    check("a cycle that is not joined", (nights.night()[0], counted()), (3, ["1", "1", "3"]))
-    check("a second one", (nights.night()[0], counted()), (3, ["1", "1", "3"]))
+    check("a cycle that is not joined", (nights.night()[0], counted()), (3, ["1", "1", "1"]))
+    check("a second one", (nights.night()[0], counted()), (3, ["1", "1", "1"]))
     write(nights.root + "/o01/v1/content/a", "abc")
-    check("repaired in a third one", (nights.night()[0], counted()), (3, ["0", "0", "3"]))
+    check("repaired in a third one", (nights.night()[0], counted()), (3, ["0", "0", "1"]))
     check("it has ended", "cycle 4 has ended" in ran([REPORTS, "status", nights.state])[1], True)
     place.mend()
     nights.night()
     nights.is_audit("joined", 5)
     check_statement("its statement", nights, 5)
-    check("gone still", (counted(), "\nObjects gone and not back: 1\n" in nights.has(
-        "reports/statement-000005")), (["0", "0", "3"], True))
+    check("gone still", (counted(), "\nObjects gone and not back: at least 1\n" in nights.has(
+        "reports/statement-000005")), (["0", "0", "1"], True))
     check("of a part", sorted(map(os.path.basename, glob.glob(nights.part(1, "reports/cycle-*")))),
           ["cycle-000004", "cycle-000005"])
     shutil.copytree(nights.root + "/o06", nights.root + "/o05")
     nights.night()
-    check("back", counted()[2], "0")
+    check("back, of what is known", counted()[2], "U")
 
 
 def missed_end(folder):
@@ -215,8 +215,8 @@ def missed_end(folder):
     check("the next night", (status, "Nothing ended the last night" in out, said), (3, True, ""))
     check("both are joined", (nights.has("reports/cycle-000002"), nights.has(
         "reports/cycle-000003")), (second, audit(nights.root)))
-    check("what is gone", sorted((nights.has("reports/gone-000002") or "").splitlines()), [
-        "file\to05/v1/content/a", "file\to05/v1/content/b", "object\to05"])
+    check("what is gone", (nights.has("reports/gone-000002") or "").splitlines(),
+          ["object\to05"])
     for cycle in (2, 3):
         check_statement("statement %d" % cycle, nights, cycle)
     check("not back", "\nObjects gone and not back: 1\n" in (nights.has(
@@ -431,8 +431,7 @@ def room(folder):
     shutil.rmtree(nights.root + "/o05")
     nights.night()
     gone = nights.has("reports/gone-000006")
-    check("what is gone is listed of all", sorted(gone.splitlines()), [
-        "file\to05/v1/content/a", "file\to05/v1/content/b", "object\to05"])
+    check("what is gone is listed of all", gone.splitlines(), ["object\to05"])
 
 
 def seals(folder):

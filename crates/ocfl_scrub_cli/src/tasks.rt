@@ -8,6 +8,7 @@ use crate::saying::{
 use crate::scope::read_scope;
 use crate::showing::show_file;
 use ocfl_closing::files::{lies_inside, open_if_there, put_in_place};
+use ocfl_closing::reasons::Reasons;
 use ocfl_cursor::{State, read_cursor, read_part_cursor};
 use ocfl_deed::Deed;
 use ocfl_digest::Block;
@@ -16,6 +17,7 @@ use ocfl_line::{Chosen, Task};
 use ocfl_scope::{Scope, ScopeStop};
 use ocfl_scrub::{Note, Performed, perform_part};
 use ocfl_tree::Tree;
+use std::cell::Cell;
 use std::rt::{Env, Files};
 use std::time::Clock;
 use std::{fs, io};
@@ -98,7 +100,8 @@ where
     let Ok(mut folder) = FsTree::entering(rt, root_of(task)) else {
         return Err(Note::OutOfMemory);
     };
-    let performed = perform_over(rt, task, scope, shown_on, &mut folder, block)?;
+    let reasons = Cell::new(Reasons::new(rt.alloc()));
+    let performed = perform_over(rt, task, scope, shown_on, &mut folder, &reasons, block)?;
     Ok(Done {
         performed,
         reason: folder.reason(),
@@ -112,6 +115,7 @@ fn perform_over<R, T>(
     scope: &Scope,
     shown_on: Terminals,
     store: &mut T,
+    reasons: &Cell<Reasons>,
     block: &mut Block,
 ) -> Result<Performed, Note>
 where
@@ -124,7 +128,7 @@ where
     } else {
         None
     };
-    let mut store = Watched::over(rt, store, shown_on.error, None, last_cost);
+    let mut store = Watched::over(rt, store, shown_on.error, Some(reasons), last_cost);
     let mut out = Clearing {
         rt,
         is_shared: shown_on.output,

@@ -16,6 +16,7 @@ use std::alloc::{AllocError, Global};
 pub(crate) fn is_own(refusal: &Refusal) -> bool {
     match refusal {
         Refusal::NoRoot | Refusal::OtherDeclaration | Refusal::NamesGone { .. } => true,
+        Refusal::Older(_) => true,
         Refusal::NoCheckpoint | Refusal::HasReports | Refusal::Unread(_) => false,
         Refusal::OtherRoot(_) | Refusal::OtherPart => false,
     }
@@ -100,6 +101,7 @@ fn text_of_refusal(
         Refusal::NoRoot => RefusalMessage::NoRoot,
         Refusal::OtherRoot(_) => RefusalMessage::OtherRoot(bound.as_str()),
         Refusal::OtherPart => RefusalMessage::OtherPart,
+        Refusal::Older(cycle) => RefusalMessage::Older { cycle: *cycle },
         Refusal::OtherDeclaration => RefusalMessage::OtherDeclaration,
         Refusal::NamesGone { gone, before } => RefusalMessage::NamesGone {
             gone: *gone,

@@ -15,7 +15,7 @@ FILES = re.compile(r"`(ocfl_\w+)`: ((?:`\w+`(?:, )?)+)")
 # A crate or a name, with the modules before it, in a cell of a table.
 CONTRACT = re.compile(r"`(?:(ocfl_\w+)|(?:\w+::)*(\w+))`")
 # Crates of which no contract is named.
-WITHOUT_CONTRACTS = (TESTS, "ocfl_scrub_cli")
+WITHOUT_CONTRACTS = (TESTS, "ocfl_scrub_cli", "ocfl_closing")
 # A name of several words, as functions, types and definitions have.
 CITED = re.compile(r"`(?:\w+::)*([A-Za-z]\w*(?:[a-z][A-Z]|_)\w+)`")
 

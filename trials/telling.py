@@ -401,9 +401,33 @@ def limits(folder):
     check("of a user", "\nTimeoutStopSec=10min\n" in unit, True)
 
 
-PARTS = [by_hand, once, of_this_night, a_word_of_a_good_night, under_way, links, as_the_user,
-         not_sent, sent, no_text, not_begun, names, of_a_user, one_session, no_room, by_cron,
-         closed_output, limits]
+# Names that mean something to a shell, or that reports escape.
+NAMES = ["a;b$(touch ran).txt", "it's `touch ran`.txt", "it's & 'it'", "Brief an M\u00fcller.pdf",
+         "interview 3.wav", "#hash&amp;.txt", "100% fertig.txt", "a%25b", "line\nfeed\ttab",
+         "\033[2J\u009b", "*?", "a\\nb", "!x"]
+
+
+def pasted(folder):
+    """The command at the end of a night's message can be pasted, whatever root and file are called:
+    it looks at that file, and runs nothing else."""
+    os.makedirs(folder + "/bin")
+    os.symlink(os.path.abspath(PROGRAM), folder + "/bin/ocfl-scrub")
+    path = folder + "/bin:" + os.environ["PATH"]
+    for number, name in enumerate(NAMES):
+        root = "%s/a root; it's $(touch ran) %d" % (folder, number)
+        common.make_root(root, {"o": {"v1/content/" + name: b"abc"}})
+        write(root + "/o/v1/content/" + name, "x")
+        out = ran([PROGRAM, "night", "--create", "--state", "%s/state-%d" % (folder, number),
+                   "--", root])[1]
+        command = out.splitlines()[-1].partition(": ")[2]
+        status, found, said = ran(["sh", "-c", command], cwd=folder, PATH=path)
+        check("pasted: %r" % name, (status, found, said), (1, out.splitlines(True)[1], ""))
+    check("and nothing else ran", os.path.exists(folder + "/ran"), False)
+
+
+PARTS = [one_session, no_room, by_cron, closed_output, limits, by_hand, once, of_this_night,
+         a_word_of_a_good_night, under_way, links, as_the_user, not_sent, sent, no_text, not_begun,
+         names, pasted, of_a_user]
 
 
 def check_all(folder):

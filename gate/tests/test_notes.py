@@ -264,7 +264,7 @@ class Told(State):
     def test_subjects(self):
         for text, status, subject in [("1 finding(s) of cycle 1 are repaired:\n", "0",
                                        "archive: findings repaired"),
-                                      ("x\n", "0", "archive: a message of the nights"),
+                                      ("x\n", "0", "archive: a message about the nights"),
                                       ("x\n", "1", "findings in archive")]:
             self.put("tonight.x", text)
             self.assertEqual(self.told(EXIT_STATUS=status)[1].splitlines()[0],

@@ -13,7 +13,7 @@ from . import files
 from .state import is_held
 from .statement import plain
 
-WORDS = {"0": "{}: a message of the nights", "1": "findings in {}",
+WORDS = {"0": "{}: a message about the nights", "1": "findings in {}",
          "75": "{}: another night still runs"}
 NO_TEXT = ("It left no text in its folder, or the text was sent already. If it could not write "
            "there,\n%s.\n")

@@ -1,0 +1,36 @@
+"""Tests what is read as cited by the rules of nights."""
+import unittest
+
+from gate import rules
+
+PAGE = """\
+# Rules
+
+## Nights
+
+Bytes are lost (`Steps`: `IsLost`, `no_such`; clause `lost`). It is named (`leave_out`, clause
+`named`), and said (`Sound`: `told_is`; clauses `said`, `unheard`; `other`, clause `named`).
+Its text is that of `night_text`, `no_text` in `Night` of `ocfl_telling`. By the law `nights_are_sound`,
+law `no_law`, and law `what_was_taken_is_not_read_again` of `ocfl_scrub`.
+
+## Limits
+
+Not `Nowhere`: `read`.
+"""
+
+
+class Rules(unittest.TestCase):
+    def test_what_is_cited_and_not_there(self) -> None:
+        self.assertEqual(list(rules.lost(rules.section(PAGE))), [
+            "Steps of ocfl_night has no definition, and no field, no_such",
+            "Night of ocfl_telling has no definition, and no field, no_text",
+            "the contract of night has no clause unheard",
+            "the contract of other has no clause named",
+            "there is no law no_law of ocfl_night"])
+
+    def test_a_text_without_citations(self) -> None:
+        self.assertEqual(list(rules.lost("Nothing.")), ["it cites no definition, or no clause"])
+
+    def test_files_that_are_not_there(self) -> None:
+        self.assertFalse(rules.is_defined("ocfl_night", "Nowhere", "IsLost"))
+        self.assertTrue(rules.is_defined("ocfl_night", "Refusing", "no_root"))

@@ -161,22 +161,49 @@ def shown(found: set[Named], by_name: bool) -> str:
     return "\n".join(lines)
 
 
+def cited_by(words: Iterable[str]) -> set[Named]:
+    """The definitions that contracts cite, each `CRATE/FILE` or `CRATE/FILE:NAME`.
+
+    Raises ValueError if a word is not of this form, OSError if there is no such file, and
+    LookupError if it has nothing of that name."""
+    begun: list[Named] = []
+    for word in words:
+        found = re.fullmatch(r"(\w+)/([\w/]+)(?::(\w+))?", word)
+        if found is None:
+            raise ValueError(word)
+        begun += contract(source_of(found[1], found[2]), found[3])
+    return closure(begun)
+
+
+def split(words: list[str]) -> tuple[list[str], list[str], bool]:
+    """The contracts of a command line, those after `--beyond`, and whether names are wanted."""
+    own, known, by_name, words = [], [], False, list(words)
+    while words:
+        word = words.pop(0)
+        if word == "--beyond" and words:
+            known.append(words.pop(0))
+        elif word == "--names":
+            by_name = True
+        else:
+            own.append(word)
+    return own, known, by_name
+
+
 def main(words: list[str], usage: str) -> int:
     """Prints which definitions contracts cite; gives the exit status."""
-    by_name = "--names" in words
-    words = [word for word in words if word != "--names"]
+    own, known, by_name = split(words)
     if words == ["--help"]:
         print(usage)
         return 0
-    wanted = [re.fullmatch(r"(\w+)/([\w/]+)(?::(\w+))?", word) for word in words]
-    if not all(wanted) or not wanted:
-        print(usage, file=sys.stderr)
-        return 2
     try:
-        begun = [it for found in wanted if found
-                 for it in contract(source_of(found[1], found[2]), found[3])]
+        found = cited_by(own) - cited_by(known)
+    except ValueError:
+        own = []
     except (OSError, LookupError) as error:
         print("docs/definitions: %s" % error, file=sys.stderr)
         return 1
-    print(shown(closure(begun), by_name))
+    if not own:
+        print(usage, file=sys.stderr)
+        return 2
+    print(shown(found, by_name))
     return 0

@@ -14,6 +14,9 @@ NAMED = re.compile(r"`(?:\w+::)*(\w+)`")
 FILES = re.compile(r"`(ocfl_\w+)`: ((?:`\w+`(?:, )?)+)")
 # A crate or a name, with the modules before it, in a cell of a table.
 CONTRACT = re.compile(r"`(?:(ocfl_\w+)|(?:\w+::)*(\w+))`")
+# The contracts of a cycle, and of a night and of the laws of nights.
+CYCLE = [("ocfl_scrub", "cycling", "cycle")]
+NIGHTS = [("ocfl_night", "nights", "night"), ("ocfl_night", "laws", None)]
 # Crates of which no contract is named.
 WITHOUT_CONTRACTS = (TESTS, "ocfl_scrub_cli", "ocfl_closing")
 # A name of several words, as functions, types and definitions have.
@@ -50,28 +53,42 @@ def of_crates():
 
 def of_definitions():
     """The definitions to believe, and those of the tables of definitions."""
-    page, of_cycle, listed, faults = "docs/ASSURANCE.md", set(), set(), []
-    for crate, *files in rows(page, "The definitions to believe"):
-        (crate,), first, others = NAMED.findall(crate), *map(NAMED.findall, files)
-        of_cycle.update("%s %s" % (crate, file) for file in first)
-        listed.update("%s %s" % (crate, file) for file in first + others)
-    cited = files_of([("ocfl_scrub", "cycling", "cycle")])
-    faults += differing("definitions that `cycle` cites", page, of_cycle, cited)
-    named = files_of(contracts_of(rows(page, "Promises"))) | cited
-    faults += differing("definitions that a contract of its promises cites", page, listed, named)
+    page, faults = "docs/ASSURANCE.md", []
+    columns = [set(), set(), set()]
+    for crate, *cells in rows(page, "The definitions to believe"):
+        (crate,) = NAMED.findall(crate)
+        for column, cell in zip(columns, cells):
+            column.update("%s %s" % (crate, file) for file in NAMED.findall(cell))
+    of_cycle, of_nights, others = to_read(contracts_of(rows(page, "Promises")))
+    for what, listed, cited in [
+            ("that `cycle` cites", columns[0], of_cycle),
+            ("that `night` and the laws of nights cite, and `cycle` does not", columns[1],
+             of_nights),
+            ("that only other contracts of its promises cite", columns[2], others)]:
+        faults += differing("definitions " + what, page, listed, cited)
     for crate, files in FILES.findall(text_of("docs/MAP.md")):
         faults += ["%s %s: docs/MAP.md names it, and there is no such file" % (crate, file)
                    for file in NAMED.findall(files) if not os.path.exists(specs_of(crate, file))]
     return faults
 
 
-def files_of(contracts):
-    """The files of the definitions that these contracts cite, themselves or through others, except
-    those of private functions."""
-    begun = [it for crate, module, name in contracts
-             for it in definitions.contract(definitions.source_of(crate, module), name)]
-    return {"%s %s" % it[:2] for it in definitions.closure(begun)
-            if not it[1].startswith("Internal.")}
+def to_read(contracts):
+    """The files of definitions that `cycle` cites, those with what `night` and the laws of nights
+    cite beyond that, and those that other contracts cite beside all of these."""
+    first, added = files_of(cited(CYCLE)), files_of(cited(NIGHTS) - cited(CYCLE))
+    return first, added, files_of(cited(contracts)) - first - added
+
+
+def cited(contracts):
+    """The definitions that these contracts cite, themselves or through others."""
+    return definitions.closure(it for crate, module, name in contracts
+                               for it in definitions.contract(
+                                   definitions.source_of(crate, module), name))
+
+
+def files_of(found):
+    """The files of these definitions, except those of private functions."""
+    return {"%s %s" % it[:2] for it in found if not it[1].startswith("Internal.")}
 
 
 def contracts_of(table):

@@ -1,5 +1,5 @@
-"""What the rules of nights cite, in `docs/RULES.md`: each definition is in the file that is named with
-it, each clause is one of the contract that is named, and each law is there."""
+"""What the rules of nights cite, in `docs/RULES.md`: each definition is in the file that is named
+with it, each clause is one of the contract that is named, and each law is there."""
 from __future__ import annotations
 
 import re

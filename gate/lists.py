@@ -54,11 +54,7 @@ def of_crates():
 def of_definitions():
     """The definitions to believe, and those of the tables of definitions."""
     page, faults = "docs/ASSURANCE.md", []
-    columns = [set(), set(), set()]
-    for crate, *cells in rows(page, "The definitions to believe"):
-        (crate,) = NAMED.findall(crate)
-        for column, cell in zip(columns, cells):
-            column.update("%s %s" % (crate, file) for file in NAMED.findall(cell))
+    columns = [{"%s %s" % it for it in column} for column in reading_list(page)]
     of_cycle, of_nights, others = to_read(contracts_of(rows(page, "Promises")))
     for what, listed, cited in [
             ("that `cycle` cites", columns[0], of_cycle),
@@ -70,6 +66,21 @@ def of_definitions():
         faults += ["%s %s: docs/MAP.md names it, and there is no such file" % (crate, file)
                    for file in NAMED.findall(files) if not os.path.exists(specs_of(crate, file))]
     return faults
+
+
+def reading_list(page):
+    """The files of definitions that a page lists, each with its crate, in each column."""
+    columns = [set(), set(), set()]
+    for crate, *cells in rows(page, "The definitions to believe"):
+        (crate,) = NAMED.findall(crate)
+        for column, cell in zip(columns, cells):
+            column.update((crate, file) for file in NAMED.findall(cell))
+    return columns
+
+
+def listed(page):
+    """The same of all columns."""
+    return set().union(*reading_list(page))
 
 
 def to_read(contracts):

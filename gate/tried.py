@@ -21,10 +21,14 @@ import re
 import signal
 import sys
 
-from gate import collection
+from gate import collection, lists
+from gate.commands import fail
 from gate.edit_files import Edit
 from gate.repository import crates, folder_of
 
+# What the page says of them: how many no edit changes, and how many there are.
+SAID = re.compile(r"no edit changes ([\d,]+) of the ([\d,]+) definitions of the reading list")
+PAGE = "docs/ASSURANCE.md"
 DEFINITION = re.compile(r"(?m)^(?:pub )?(?:abbrev|record|data|unfoldable) (?:pub )?(\w+)")
 
 
@@ -45,6 +49,31 @@ def print_tried(*chosen: str) -> None:
             for edit in edits:
                 print("    %s%s: %s%s" % (edit.name, " (gate)" * edit.in_gate, edit.says,
                                           edit.refused_by and " Refused by %s." % edit.refused_by))
+
+
+def looked_at() -> tuple[int, int]:
+    """Says whether the page counts the definitions of its reading list otherwise, as one check."""
+    said = [tuple(int(it.replace(",", "")) for it in found)
+            for found in SAID.findall(lists.text_of(PAGE))]
+    true = counts(lists.listed(PAGE), collection.every_edit())
+    if said == [true]:
+        return 1, 0
+    return fail("%s: it is to say once that no edit changes %s of the %s definitions of the "
+                "reading list" % (PAGE, *(format(it, ",") for it in true)))
+
+
+def counts(listed: set[tuple[str, str]], edits: list[Edit]) -> tuple[int, int]:
+    """How many definitions of these files, each with its crate, no edit changes, and how many there
+    are."""
+    of = {crate: [edit for edit in edits if edit.crate == crate] for crate, _ in listed}
+    changed = {crate: set(by_definition(its)) for crate, its in of.items()}
+    return how_many(listed, changed), how_many(listed, dict.fromkeys(of, set()))
+
+
+def how_many(listed: set[tuple[str, str]], changed: dict[str, set[tuple[str, str]]]) -> int:
+    """How many definitions of these files are in none of the pairs of their crate."""
+    return sum(len(names) for crate, pairs in changed.items()
+               for file, names in unchanged(crate, pairs) if (crate, file) in listed)
 
 
 def by_definition(edits: list[Edit]) -> dict[tuple[str, str], list[Edit]]:

@@ -6,6 +6,7 @@ import tempfile
 import unittest
 
 from gate import definitions, lists, tried
+from gate.edit_files import Change, Edit
 
 USES = """\
 ghost use Rattle.ocfl_tree.specs.Place.{Place, Text};
@@ -111,3 +112,13 @@ class Unchanged(unittest.TestCase):
         left = dict(tried.unchanged("ocfl_tree", {("specs/Place.antt", "Place")}))
         self.assertIn("Text", left["Place"])
         self.assertNotIn("Place", left["Place"])
+
+    def test_counts_of_files(self) -> None:
+        change = Change("specs/Place.antt", "pub Place :", "pub Place  :")
+        edits = [Edit("ocfl_tree", "specs/Place/any", "", (change,)),
+                 Edit("ocfl_tree", "place/body", "", (Change("src/place.rt", "a", "b"),))]
+        all_of_it = len(dict(tried.unchanged("ocfl_tree", set()))["Place"])
+        self.assertGreater(all_of_it, 5)
+        self.assertEqual(tried.counts({("ocfl_tree", "Place")}, edits),
+                         (all_of_it - 1, all_of_it))
+        self.assertEqual(tried.counts({("ocfl_tree", "Place")}, []), (all_of_it, all_of_it))

@@ -92,13 +92,34 @@ class Definitions(unittest.TestCase):
     def test_statuses(self) -> None:
         for words, status in [(["ocfl_night/nights:night"], 0), (["--help"], 0), ([], 2),
                               (["--names", "ocfl_tree/place"], 0), (["ocfl_night"], 2),
-                              (["ocfl_night/nights:nothing"], 1), (["ocfl_night/nowhere"], 1)]:
+                              (["ocfl_night/nights:nothing"], 1), (["ocfl_night/nowhere"], 1),
+                              (["--beyond", "ocfl_tree/place", "ocfl_tree/tree"], 0),
+                              (["--beyond", "ocfl_tree/nowhere", "ocfl_tree/tree"], 1),
+                              (["--beyond", "ocfl_tree/place"], 2), (["--beyond"], 2)]:
             with contextlib.redirect_stdout(io.StringIO()), \
                     contextlib.redirect_stderr(io.StringIO()):
                 self.assertEqual(definitions.main(words, "usage"), status, words)
 
 
+    def test_what_is_beyond_another_contract(self) -> None:
+        told = io.StringIO()
+        with contextlib.redirect_stdout(told):
+            definitions.main(["--names", "--beyond", "ocfl_scrub/cycling:cycle",
+                              "ocfl_night/nights:night"], "usage")
+        files = [line.partition(":")[0] for line in told.getvalue().splitlines()]
+        self.assertIn("ocfl_night, Sound", files)
+        self.assertNotIn("ocfl_audit, Lines", files)
+
+
 class Contracts(unittest.TestCase):
+    def test_files_to_read_for_a_cycle_for_nights_and_for_the_rest(self) -> None:
+        cycle, nights, others = lists.to_read(
+            [("ocfl_scrub", "cycling", "cycle"), ("ocfl_night", "nights", "night"),
+             ("ocfl_clock", "next", "next_time")])
+        self.assertIn("ocfl_audit Runs", cycle)
+        self.assertIn("ocfl_night Sound", nights - cycle)
+        self.assertEqual(others, {"ocfl_clock Clock"})
+
     def test_contracts_that_a_table_names(self) -> None:
         table = [["a promise", "`ocfl_scrub`: `cycle`, `told`; law `nights_are_sound`"],
                  ["another", "all public calls of `ocfl_item`"], ["types", "`ocfl_tree`: `Tree`"]]

@@ -15,8 +15,8 @@ Tried, and what comes of it:
   next nights close a report that is the audit, byte for byte, and each finding is said. It mounts
   for that.
 - An object, a folder of a root, an empty one or none as the root; another root, declaration or
-  part; a root that lost most of its names: status 3, and nothing is written. Of parts:
-  `night_parts.py`.
+  part; a root that lost most of its names, also if some go each night: status 3, and nothing is
+  written. Of parts: `night_parts.py`.
 - A folder of the nightly scripts; reports without a checkpoint; a state folder that is not
   mounted; the folder of a whole root's nights for a part, and for `join`: status 3, and nothing
   is written. Of parts: `night_parts.py`.
@@ -30,7 +30,7 @@ Tried, and what comes of it:
 - A report that lost its end or all of it: status 3, it is closed as incomplete, and the next
   cycle is whole.
 - A report of the right length with another size in a line, another byte, or zeros: it is closed
-  as incomplete, which is said.
+  as incomplete, which is said; what no output had taken of it before is said too.
 - Links and pipes in place of each file of the folder: status 3, none is followed or opened.
 - Nights under the masks 000, 022 and 077: nothing of the state is open to others or can be
   written by the group.
@@ -54,6 +54,8 @@ Seen to fail on these faults, each planted alone:
   checkpoint are removed, and begun anew.
 - A report is emptied where the root is not there.
 - It is not asked whether the cycle that a checkpoint says is open is closed already.
+- The names of a root are compared with those of the last night; all of a report that was changed
+  counts as said.
 - Status 3 is 0; status 2 is 0; nothing is said on standard error.
 - All is said twice; by `echo` of a shell; with `%0A` and `%1B` decoded.
 - A report that cannot be read, or all before a missing one, are left out of comparisons; an
@@ -69,7 +71,7 @@ from typing import Any
 import common
 from common import Stopped, check, ran
 from shared.nights import tried_apart
-from shared.own_nights import SLICE, Audited, Exchanged, Got, Nights, make_root
+from shared.own_nights import SLICE, Audited, Exchanged, Got, Nights, is_finding, make_root
 from shared.spaces import can_mount, folder_at, unmount
 
 PLAN = ["--create", "--slice", SLICE]
@@ -144,6 +146,20 @@ def names_that_are_gone(folder: str) -> None:
         os.rename(audited.root + "/" + place, folder + "/gone " + place)
     is_refused("gone", nights.night(), 3, "--force-root", nights, kept)
     check("with a word", nights.night("--force-root", "--slice", SLICE)[0] in (0, 1), True)
+
+
+def names_that_go_night_by_night(folder: str) -> None:
+    """Two of the six names go before the second night, and two before the third: those are counted
+    that were there when the cycle began."""
+    audited, nights = made(folder)
+    nights.night(*PLAN, "--files", "1")
+    for names in [["0 empty", "e"], ["b", "d"]]:
+        check("a night over what is left", nights.night("--files", "1")[0] in (0, 1), True)
+        kept = nights.kept()
+        for name in names:
+            os.rename(audited.root + "/" + name, folder + "/gone " + name)
+    is_refused("four of six are gone", nights.night("--files", "1"), 3, "4 of the 6 names", nights,
+               kept)
 
 
 def link_that_moves(folder: str) -> None:
@@ -421,6 +437,20 @@ def changed_report(folder: str) -> None:
         check(name, after_a_change(name, folder, change), INCOMPLETE)
 
 
+def unsaid_in_a_changed_report(folder: str) -> None:
+    """What no output took of a report that was changed since is said, as far as it is there."""
+    _, nights = made(folder)
+    with open("/dev/full", "wb") as full:
+        status = nights.night(*PLAN, "--files", "5", stdout=full)[0]
+    report = common.read(nights.path("report"))
+    common.write(nights.path("report"), report.replace(b"/0\t3\n", b"/0\t2\n", 1))
+    unsaid = [line for line in common.text_of(report).splitlines(True) if is_finding(line)]
+    check("what is unsaid", (status, len(unsaid) > 2), (3, True))
+    status, said, _ = nights.night("--files", "1")
+    check("it is said after the change",
+          (status, [line for line in unsaid if line not in said.splitlines(True)]), (3, []))
+
+
 def longer_report(folder: str) -> None:
     """What a killed night appended beyond its checkpoint is cut away."""
     for name, more in [("half a line", b"ok\ta/v1/con"), ("zeros", bytes(5000)),
@@ -607,10 +637,11 @@ def cut_and_refused(folder: str) -> None:
     check("then", audited.faults_after(nights, said), [])
 
 
-PARTS = [no_storage_root, another_root, names_that_are_gone, link_that_moves, exchanged,
-         folder_of_scripts, no_checkpoint, changed_checkpoint, older_checkpoint, shorter_report,
-         changed_report, longer_report, links_in_the_folder, rights, copies_beside, odd_folders,
-         odd_names, names_that_are_left_out, stop_file, cut_and_refused]
+PARTS = [no_storage_root, another_root, names_that_are_gone, names_that_go_night_by_night,
+         link_that_moves, exchanged, folder_of_scripts, no_checkpoint, changed_checkpoint,
+         older_checkpoint, shorter_report, changed_report, unsaid_in_a_changed_report,
+         longer_report, links_in_the_folder, rights, copies_beside, odd_folders, odd_names,
+         names_that_are_left_out, stop_file, cut_and_refused]
 MOUNTING = [unmounted, mounted_anew, not_mounted, unmounted_state]
 OF_ROOT = [files_of_another]
 

@@ -43,7 +43,7 @@ Tried, and what comes of it:
   in a report that is incomplete; the next cycle is the audit, and other parts go on. Of parts:
   `night_parts.py`.
 
-Seen to fail on these faults, each planted alone:
+Seen to fail on these faults, each planted alone, or beside others that other rows see:
 
 - A report is not cut.
 - The root is not looked at again after a run.
@@ -55,7 +55,7 @@ Seen to fail on these faults, each planted alone:
 - A report is emptied where the root is not there.
 - It is not asked whether the cycle that a checkpoint says is open is closed already.
 - The names of a root are compared with those of the last night; all of a report that was changed
-  counts as said.
+  counts as said; no run is bound by the files that its night may start.
 - Status 3 is 0; status 2 is 0; nothing is said on standard error.
 - All is said twice; by `echo` of a shell; with `%0A` and `%1B` decoded.
 - A report that cannot be read, or all before a missing one, are left out of comparisons; an

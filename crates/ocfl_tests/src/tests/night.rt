@@ -248,6 +248,7 @@ fn one_night_makes_all_runs(rt: HostRuntime) -> Result<(), Fail> {
     Ok(())
 }
 
+// Seen to fail if a night begins without being asked to, and if one begins beside closed reports.
 #[test]
 fn a_folder_is_begun_in_only_if_asked(rt: HostRuntime) -> Result<(), Fail> {
     let mut nights = Nights::new(rt.alloc());

@@ -50,6 +50,7 @@ fn with_another_byte(alloc: Global, bytes: &[u8], place: usize) -> Result<Vec<u8
     Ok(changed)
 }
 
+// Seen to fail if each night says that bytes of its report were lost.
 #[test]
 fn a_report_with_another_byte_is_lost_once(rt: HostRuntime) -> Result<(), Fail> {
     let alloc = rt.alloc();

@@ -26,9 +26,10 @@ fn most_listed(store: &MemTree) -> usize {
     times.max().unwrap_or(0)
 }
 
-/// A night of three slices lists the directories of objects once, and opens their files once. The
-/// root is listed twice, before the slices and by the walk. Its declaration is opened so too, and
-/// after each slice.
+// A night of three slices lists the directories of objects once, and opens their files once. The
+// root is listed twice, before the slices and by the walk. Its declaration is opened so too, and
+// after each slice.
+// Seen to fail if each run first reads as much again, by a walk of its own.
 #[test]
 fn slices_of_a_night_list_and_read_nothing_again(rt: HostRuntime) -> Result<(), Fail> {
     let alloc = rt.alloc();
@@ -85,8 +86,9 @@ impl Clock for Later {
     fn hears(&mut self, _made: &Made) {}
 }
 
-/// The files cost 4, 1 and 4, and the first slice reads one. The second reads the others, unless
-/// that would take more than a minute, or longer than until the end, at the rate of the first.
+// The files cost 4, 1 and 4, and the first slice reads one. The second reads the others, unless
+// that would take more than a minute, or longer than until the end, at the rate of the first.
+// Seen to fail if no run is bound by the budget of a slice.
 #[test]
 fn slices_shrink_to_a_minute_and_near_the_end(rt: HostRuntime) -> Result<(), Fail> {
     let alloc = rt.alloc();

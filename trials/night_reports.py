@@ -138,7 +138,25 @@ def parts(folder):
     check("events", ask("premis", "--each", "object", nights.state, "1")[1].count("<event>"), 3)
 
 
-PARTS = [statements, questions, parts]
+def unfinished(folder):
+    """What a power cut left of a statement beside its place is taken away by the next call, and
+    nothing else."""
+    nights = Nights(folder)
+    nights.night()
+    others = ["statement-000001.txt", "my-statement-000001.new", "statement-1.new"]
+    for name in ["statement-000001.new", "statement-000001.json.new", "known-000001.new",
+                 "statement-000007.asc.new", *others]:
+        write(nights.path("reports/" + name), "half")
+    check("finished", ask("finish", nights.state), (0, "", ""))
+    check("what is there", sorted(it for it in os.listdir(nights.path("reports")) if not it.startswith(
+        ("cycle", "gone", "checkpoint"))), sorted(["statement-000001", "statement-000001.json", *others]))
+    write(nights.path("reports/statement-000001.new"), "half")
+    check("finished, with nothing to do", ask("finish", nights.state), (0, "", ""))
+    check("taken away", os.path.exists(nights.path("reports/statement-000001.new")), False)
+    check("it holds", nights.holds(1), 0)
+
+
+PARTS = [statements, questions, parts, unfinished]
 
 
 def check_all(folder):

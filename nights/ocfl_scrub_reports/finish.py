@@ -5,6 +5,7 @@ from __future__ import annotations
 import fcntl
 import gzip
 import os
+import re
 from contextlib import contextmanager
 from typing import Iterator
 
@@ -14,6 +15,8 @@ from .shared import Failed, create, refuse_links, sync, sync_folder
 from .state import Closed, State, cycle_name
 
 HELD = 75
+# What a kill or a power cut leaves of a file of a statement that it kept from its place.
+UNFINISHED = re.compile(r"(statement|known)-[0-9]{6,}([.].*)?[.]new")
 
 
 @contextmanager
@@ -37,8 +40,14 @@ def finish(state: State, seal: str | None, known: str | None, keep: int | None) 
     state.refuse_links()
     with hold_lock(state):
         status = max([make_statement(state, it, seal, known) for it in state.closed()], default=0)
+        remove_unfinished(state)
         tidy(state, keep)
     return status
+
+
+def remove_unfinished(state: State) -> None:
+    for name in filter(UNFINISHED.fullmatch, files.names_in(state.reports)):
+        os.remove(os.path.join(state.reports, name))
 
 
 def make_statement(state: State, closed: Closed, seal: str | None, known: str | None) -> int:

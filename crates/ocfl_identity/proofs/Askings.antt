@@ -1,13 +1,15 @@
 -- What a store is asked while declarations are read.
-use Rattle.std.proofs.Common.{◌≡◌, ◌⊎◌, inl, inr, ◌∙◌, ℕ, true, false, List, [], ◌∷◌, ◌++◌, drop, length, refl, sym, ap, subst, Option, Some, None, append_assoc, append-nil}
-use Rattle.std.specs.{Prelude.{String, string_bytes}, Option.{option_map}}
+use Rattle.std.proofs.Common.{◌≡◌, ◌⊎◌, inl, inr, ◌∙◌, ℕ, true, false, List, [], ◌∷◌, ◌++◌, drop, length, refl, sym, ap, subst, Option, Some, None, Result, Ok, Err, append_assoc, append-nil}
+use Rattle.std.specs.{Prelude.{IfErr, String, string_bytes}, Option.{option_map}}
 use Rattle.std.specs.declared.alloc.Global.{Global}
 use Rattle.ocfl_tree.specs.{Place.{Text, Place}, StorageRoot.{StorageRoot, file_at}}
-use Rattle.ocfl_tree.specs.{Store.{Store, Did}, Calls.{opening}, declared.store.Opening.{Opening}}
-use Rattle.ocfl_tree.proofs.Stores.{did_then}
+use Rattle.ocfl_tree.specs.{Store.{Store, Did}, Calls.{ListFails, opening}, declared.store.Opening.{Opening}}
+use Rattle.ocfl_tree.specs.declared.store.Trouble.{Trouble}
+use Rattle.ocfl_tree.specs.declared.store.Trouble.TheVariants as trouble
+use Rattle.ocfl_tree.proofs.Stores.{did_nothing, did_then}
 use Rattle.ocfl_digest.specs.{Hashing.{StopsHashing}, declared.stop.Cause.{Cause}}
-use Rattle.ocfl_digest.specs.declared.stop.Cause.TheVariants.{Device, Absent, TooLong}
-use Rattle.ocfl_identity.specs.Identity.{IsUnread, in_listing, in_opening, too_long, digits_of, opened_then, openings_of}
+use Rattle.ocfl_digest.specs.declared.stop.Cause.TheVariants.{Device, Absent, Memory, TooLong}
+use Rattle.ocfl_identity.specs.Identity.{IsUnread, in_listing, in_opening, too_long, OpensFirst, digits_of, opened_then, openings_of}
 
 -- the openings of the names before an index were made
 pub record AreOpened (root : StorageRoot) (s t : Store) (names : List Text) (start : ℕ) : Type 0 where
@@ -103,3 +105,46 @@ unread_listed root s t u p q top h unread = unread_behind root s t u [] ([] ∷ 
 -- with nothing after it
 pub listed_alone : (s t u : Store) (p : Place) → p ≡ [] → Did s t [] (p ∷ []) 0 → u ≡ t → Did s u [] ([] ∷ []) 0
 listed_alone s t u p top h same = subst (λ x. Did s x [] ([] ∷ []) 0) (sym same) (subst (λ q. Did s t [] (q ∷ []) 0) top h)
+
+-- ---- memory that was refused
+
+pub err_always : {A E : Type 0} (r : Result A E) {P : E → Type 0} → ((e : E) → P e) → IfErr r P
+err_always (Ok x) all = tt
+err_always (Err e) all = all e
+
+pub first_none : (s : Store) (os : List Opening) → OpensFirst s s os []
+first_none s os = record { made = []; rest = os; are = refl; did = did_nothing s }
+
+pub first_all : {s t : Store} {os : List Opening} {listed : List Place} → Did s t os listed 0 → OpensFirst s t os listed
+first_all {os = os} did = record { made = os; rest = []; are = append-nil os; did = did }
+
+-- of one file
+pub first_file : (root : StorageRoot) (s t : Store) (n : Text) (p : Place) (given : ℕ) (cause : Cause) → cause ≡ Memory → StopsHashing root s t p given cause
+    → OpensFirst s t (openings_of root (n ∷ [])) []
+first_file root s t n p given cause is h =
+    let stops : StopsHashing root s t p given Memory = subst (StopsHashing root s t p given) is h in
+    record { made = []; rest = openings_of root (n ∷ []); are = refl; did = stops.did }
+
+-- what begins the openings of one name begins those of more
+first_then : (n : Text) (file : Option Text) (made rest later : List Opening) → made ++ rest ≡ opened_then n file [] → (more : List Opening) × (made ++ more ≡ opened_then n file later)
+first_then n None made rest later are = (rest, are)
+first_then n (Some bytes) made rest later are = (rest ++ later, sym (append_assoc made rest later) ∙ ap (λ os. os ++ later) are)
+
+pub first_names : (root : StorageRoot) (s t u : Store) (names rest : List Text) (n : Text) (i : ℕ) → AreOpened root s t names i → drop i names ≡ n ∷ rest
+    → OpensFirst t u (openings_of root (n ∷ [])) [] → OpensFirst s u (openings_of root names) []
+first_names root s t u names rest n i h first one =
+    let then = first_then n (file_at root (n ∷ [])) one.made one.rest (openings_of root rest) one.are in
+    record {
+      made = h.done ++ one.made;
+      rest = then.0;
+      are = append_assoc h.done one.made then.0 ∙ ap (λ os. h.done ++ os) (then.1 ∙ ap (openings_of root) (sym first)) ∙ h.is;
+      did = did_then s t u h.done one.made [] [] 0 h.did one.did;
+    }
+
+-- after the listing of the top folder
+pub first_listed : (s t u : Store) (p : Place) (os all : List Opening) → p ≡ [] → os ≡ all → Did s t [] (p ∷ []) 0 → OpensFirst t u os [] → OpensFirst s u all ([] ∷ [])
+first_listed s t u p os all top same h one = record { made = one.made; rest = one.rest; are = one.are ∙ same; did = opened_listed s t u p one.made top h one.did }
+
+-- and if that was refused
+pub list_refused : (s t : Store) (p : Place) (why : Trouble) → why ≡ trouble.Memory → ListFails s t p why → Did s t [] [] 0
+list_refused s t p why is h = let fails : ListFails s t p trouble.Memory = subst (ListFails s t p) is h in fails.fails.did

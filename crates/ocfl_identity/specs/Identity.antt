@@ -62,6 +62,14 @@ abbrev pub openings_of : StorageRoot → List Text → List Opening
 openings_of root [] = []
 openings_of root (n ∷ names) = opened_then n (file_at root (n ∷ [])) (openings_of root names)
 
+-- Of these openings the first were made, maybe none or all, and these directories were listed.
+-- Nothing failed.
+pub record OpensFirst (s t : Store) (openings : List Opening) (listed : List Place) : Type 0 where
+  pub made : List Opening
+  pub rest : List Opening
+  pub are : made ++ rest ≡ openings
+  pub did : Did s t made listed 0
+
 -- A place could not be read, if these directories are listed: the device failed in the listing
 -- of the top folder, or in the opening of a file, which was the last call; or the file has 2^62
 -- bytes or more.

@@ -8,7 +8,7 @@ ghost use Rattle.ocfl_tree.specs.{Place.{Place as ModelPlace}, Store.{Did, IfTol
 ghost use Rattle.ocfl_tree.specs.StorageRoot.{file_at};
 ghost use Rattle.ocfl_digest.specs.Digests.{digest_in};
 ghost use Rattle.ocfl_digest.specs.declared.algorithm.Algorithm.TheVariants.{Sha256 as OfSha256};
-ghost use Rattle.ocfl_identity.specs.Identity.{IsUnread, declared_by, digits_of, openings_of};
+ghost use Rattle.ocfl_identity.specs.Identity.{IsUnread, OpensFirst, declared_by, digits_of, openings_of};
 ghost use Rattle.ocfl_identity.specs.Identity.{sum_line};
 
 use crate::identity::NoIdentity;
@@ -47,6 +47,9 @@ fn sum_of_file<T: Tree>(
     ensures unread { IfTold T.told (T.state store.old) (λ root. IfErr result (λ why.
         (p : ModelPlace) → why ≡ NoIdentity.Unread p
         → IsUnread root (T.state store.old) (T.state store.new) [] p)) }
+    ensures refused { IfTold T.told (T.state store.old) (λ root. IfErr result (λ why.
+        why ≡ NoIdentity.Memory → OpensFirst (T.state store.old) (T.state store.new)
+        (openings_of root (name.now ∷ [])) [])) }
 {
     let place = Place::root(alloc).child(name)?;
     let wanted = Wanted::none().with(Algorithm::Sha256);
@@ -90,6 +93,9 @@ pub(crate) fn hash_declarations<T: Tree>(
     ensures unread { IfTold T.told (T.state store.old) (λ root. IfErr result (λ why.
         (p : ModelPlace) → why ≡ NoIdentity.Unread p
         → IsUnread root (T.state store.old) (T.state store.new) [] p)) }
+    ensures refused { IfTold T.told (T.state store.old) (λ root. IfErr result (λ why.
+        why ≡ NoIdentity.Memory → OpensFirst (T.state store.old) (T.state store.new)
+        (openings_of root names.now) [])) }
 {
     let mut hasher = Sha256::new();
     for name in names {

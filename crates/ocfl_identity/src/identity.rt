@@ -1,9 +1,9 @@
 //! The identity of a storage root.
-ghost use Rattle.std.specs.Prelude.{◌≡◌, ◌≢◌, ◌↔◌, ◌∷◌, [], IsTrue, IfOk, IfErr, Some, Err};
+ghost use Rattle.std.specs.Prelude.{◌≡◌, ◌≢◌, ◌↔◌, ◌⊎◌, ◌∷◌, [], IsTrue, IfOk, IfErr, Some, Err};
 ghost use Rattle.ocfl_tree.specs.{Place.{Place as ModelPlace}, Listing.{entries_in}};
 ghost use Rattle.ocfl_tree.specs.Store.{Did, IfTold};
 ghost use Rattle.ocfl_identity.specs.declared.identity.NoIdentity.TheVariants.{Memory};
-ghost use Rattle.ocfl_identity.specs.Identity.{IsIdentityOf, IsUnread, declarations_among};
+ghost use Rattle.ocfl_identity.specs.Identity.{IsIdentityOf, IsUnread, OpensFirst, declarations_among};
 ghost use Rattle.ocfl_identity.specs.Identity.{declared_by, openings_of};
 
 use crate::declared::hash_declarations;
@@ -68,6 +68,12 @@ pub fn look_at_root<T: Tree>(
     ensures unread { IfTold T.told (T.state store.old) (λ root. IfErr result (λ why.
         (p : ModelPlace) → why ≡ NoIdentity.Unread p
         → IsUnread root (T.state store.old) (T.state store.new) ([] ∷ []) p)) }
+    // Where memory was refused, nothing was asked, or the top folder was listed and the first of
+    // its declarations were opened, each once.
+    ensures refused { IfTold T.told (T.state store.old) (λ root. IfErr result (λ why.
+        why ≡ NoIdentity.Memory → Did (T.state store.old) (T.state store.new) [] [] 0
+        ⊎ OpensFirst (T.state store.old) (T.state store.new)
+        (openings_of root (declarations_among (entries_in root []))) ([] ∷ []))) }
 {
     let top = Place::root(alloc);
     let mut entries = match store.list(&top) {
@@ -99,6 +105,9 @@ fn identify<T: Tree>(
     ensures unread { IfTold T.told (T.state store.old) (λ root. entries.now ≡ entries_in root []
         → IfErr result (λ why. (p : ModelPlace) → why ≡ NoIdentity.Unread p
         → IsUnread root (T.state store.old) (T.state store.new) [] p)) }
+    ensures refused { IfTold T.told (T.state store.old) (λ root. IfErr result (λ why.
+        why ≡ NoIdentity.Memory → OpensFirst (T.state store.old) (T.state store.new)
+        (openings_of root (declarations_among entries.now)) [])) }
 {
     let declarations = declarations(alloc, entries)?;
     if declarations.is_empty() {
@@ -135,6 +144,10 @@ pub fn is_still_declared<T: Tree>(
     ensures unread { IfTold T.told (T.state store.old) (λ root. IfErr result (λ why.
         (p : ModelPlace) → why ≡ NoIdentity.Unread p
         → IsUnread root (T.state store.old) (T.state store.new) [] p)) }
+    // Where memory was refused, the first of them were opened, each once.
+    ensures refused { IfTold T.told (T.state store.old) (λ root. IfErr result (λ why.
+        why ≡ NoIdentity.Memory → OpensFirst (T.state store.old) (T.state store.new)
+        (openings_of root identity.now.declarations.items) [])) }
 {
     match hash_declarations(alloc, store, &identity.declarations, block)? {
         Some(declared) => Ok(declared == identity.declared),

@@ -2,7 +2,7 @@ use Rattle.std.proofs.Common.{◌∙◌, ◌+◌, ◌++◌, ◌∷◌, [], Some,
 use Rattle.std.proofs.{lemmas.List.{drop_all, drop_more}, lemmas.Result.{err_from_is_err_and}}
 use Rattle.std.specs.{Prelude.{string_bytes}, Option.{option_map}}
 use Rattle.ocfl_tree.specs.StorageRoot.{file_at}
-use Rattle.ocfl_identity.proofs.Askings.{file_there, gone_file, opened_all, opened_next, opened_some, unread_behind}
+use Rattle.ocfl_identity.proofs.Askings.{file_there, first_names, gone_file, opened_all, opened_next, opened_some, unread_behind}
 use Rattle.ocfl_identity.proofs.Sums.{before_next}
 use Rattle.ocfl_identity.specs.Identity.{digits_of, sum_line}
 use Rattle.ocfl_identity.proofs.declared.hash_declarations.Goals as goal
@@ -49,3 +49,13 @@ loop-name-preserved g c =
           let there = file_there c.in_ok-digits.field-0 c.in-Some.digits (file_at root (n ∷ [])) c.in-Some.is (c.in_ok-digits.ensures.told told root here) in
           opened_next root _ _ _ names (drop (i + 1) names) n i (i + 1) there.0 (inv.opened told root is) first refl there.1 (c.in_ok-digits.ensures.opened told root here);
     }
+
+pub returns-in_err-digits-clause-refused : goal.returns-in_err-digits-clause-refused
+returns-in_err-digits-clause-refused g c = λ told root is.
+    let inv = c.loop-name.invariant in
+    let names = c.args.names.now in
+    let i = c.loop-name.name-index in
+    let n = c.name-item.result in
+    let first = drop_more names i n c.loop-name-test.true ∙ ap (λ y. y ∷ drop (i + 1) names) (sym c.name-item.is) in
+    let p = err_from_is_err_and c.from_residual.result c.from_residual.ensures.1 in
+    rw (p.1, p.2) (λ memory. first_names root _ _ _ names (drop (i + 1) names) n i (inv.opened told root is) first (c.in_err-digits.ensures.refused told root (inv.keeps told ∙ is) memory))

@@ -6,7 +6,7 @@ use Rattle.hex.specs.Hex.{encode_lower}
 use Rattle.ocfl_tree.specs.StorageRoot.{file_at}
 use Rattle.ocfl_digest.specs.declared.algorithm.Algorithm.TheVariants.{Sha256 as OfSha256}
 use Rattle.ocfl_identity.specs.Identity.{digits_of}
-use Rattle.ocfl_identity.proofs.Askings.{file_absent, file_hashed, file_unread}
+use Rattle.ocfl_identity.proofs.Askings.{err_always, file_absent, file_hashed, file_unread, first_all, first_file, first_none}
 use Rattle.ocfl_identity.proofs.declared.sum_of_file.Goals as goal
 
 pub returns-in_err-sha256_digits-in-Ok-clause-keeps : goal.returns-in_err-sha256_digits-in-Ok-clause-keeps
@@ -41,3 +41,14 @@ returns-in-Absent-clause-opened g c = λ told root is.
 pub returns-in-Device-clause-unread : goal.returns-in-Device-clause-unread
 returns-in-Device-clause-unread g c = λ told root is q e.
     file_unread root _ _ c.in_ok-place.place q _ c.in-Err.stop.cause c.in-Device.is (cc e) (c.in-Err.ensures.hashes told root is)
+
+pub returns-in_err-place-clause-refused : goal.returns-in_err-place-clause-refused
+returns-in_err-place-clause-refused g c = λ told root is. err_always c.from_residual.result (λ why memory. first_none _ _)
+
+pub returns-in_err-sha256_digits-in-Ok-clause-refused : goal.returns-in_err-sha256_digits-in-Ok-clause-refused
+returns-in_err-sha256_digits-in-Ok-clause-refused g c = λ told root is.
+    let h = c.in-Ok.ensures.hashes told root is in
+    err_always c.from_residual-in_err-sha256_digits-in-Ok.result (λ why memory. first_all (file_hashed root _ _ c.args.name.now _ _ h.bytes (c.in_ok-place.ensures ∙ ap (λ d. d ++ c.args.name.now ∷ []) c.root.ensures) h.is_file h.length_is h.did))
+
+pub returns-in-Memory-clause-refused : goal.returns-in-Memory-clause-refused
+returns-in-Memory-clause-refused g c = λ told root is memory. first_file root _ _ c.args.name.now _ _ _ c.in-Memory.is (c.in-Err.ensures.hashes told root is)

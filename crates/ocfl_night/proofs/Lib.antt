@@ -10,6 +10,7 @@ pub mod Foreigners
 pub mod Pieces
 pub mod Extending
 pub mod Clocks
+pub mod Runs
 pub mod Compared
 pub mod Lost
 pub mod Around

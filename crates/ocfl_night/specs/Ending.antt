@@ -13,7 +13,8 @@ use Rattle.ocfl_state.specs.declared.checkpoint_parts.Phase.TheVariants.{Open, C
 use Rattle.ocfl_state.specs.{Checkpoint.{Checkpoint}, declared.folder.FolderTrouble.TheVariants.{Memory}}
 use Rattle.ocfl_identity.specs.declared.identity.NoIdentity.{NoIdentity}
 use Rattle.ocfl_identity.specs.declared.identity.NoIdentity.TheVariants as none
-use Rattle.ocfl_night.specs.{declared.plan.Halt.{Halt}, declared.plan.Pause.{Pause}}
+use Rattle.ocfl_state.specs.declared.checkpoint_parts.ReportMark.{ReportMark}
+use Rattle.ocfl_night.specs.{Steps.{IsNext}, declared.plan.Halt.{Halt}, declared.plan.Pause.{Pause}}
 use Rattle.ocfl_night.specs.{declared.refusal.NotOpened.{NotOpened}, declared.slicing.Made.{Made}}
 use Rattle.ocfl_night.specs.{declared.slicing.SliceEnd.{SliceEnd}, declared.stop.Stop.{Stop}}
 use Rattle.ocfl_night.specs.declared.plan.Halt.TheVariants as halt
@@ -111,6 +112,10 @@ pub record IsUnkept (k : Checkpoint) (made : Made) : Type 0 where
   pub found : made.found ≡ false
   pub away : IsAway made.end
 
+-- a checkpoint after a run
+abbrev pub IsNextBy : Checkpoint → RunEnd → Checkpoint → Type 0
+IsNextBy k ran next = (report : ReportMark) × IsNext k ran report next
+
 -- what a slice made is what a run within these limits did, or nothing is kept of it
 abbrev pub IsSlice : Checkpoint → Limits → Made → Type 0
-IsSlice k limits made = IsUnkept k made ⊎ ((ran : RunEnd) × (KeepsTo k.cursor limits ran × IsMadeBy ran made))
+IsSlice k limits made = IsUnkept k made ⊎ ((ran : RunEnd) × (KeepsTo k.cursor limits ran × IsMadeBy ran made × IsNextBy k ran made.checkpoint))

@@ -7,7 +7,7 @@ use Rattle.ocfl_inventory.specs.declared.declaration.Level.TheVariants.{Object}
 use Rattle.ocfl_audit.specs.Zone.{inventory_name}
 use Rattle.ocfl_item.specs.declared.fault.Fault.TheVariants as fault
 use Rattle.ocfl_state.specs.Checkpoint.{Checkpoint}
-use Rattle.ocfl_night.specs.{Chain.{past}, Steps.{with_left}, declared.plan.Pause.{Pause}}
+use Rattle.ocfl_night.specs.{Chain.{past}, Done.{Done, counted}, Steps.{with_left}, declared.plan.Pause.{Pause}}
 use Rattle.ocfl_night.specs.declared.tally.Remedy.{Remedy}
 use Rattle.ocfl_night.specs.declared.tally.Remedy.TheVariants.{TryAgain, LeaveOut, Halt}
 use Rattle.ocfl_night.specs.declared.tally.Tally.{Tally}
@@ -58,10 +58,10 @@ is_at (Some tried) p = place_eq tried p
 
 -- The place is tried once more, and then its branch is left out. A night that is to stop at faults
 -- halts, and so does one after the 64th run that stopped.
-abbrev pub remedy_at : Bool → Tally → Place → Remedy
-remedy_at strict tally p =
-    if strict || nat_le 64 tally.stops then Halt
-    else (if is_at tally.tried p then remedy_by (branch_for tally.left.items p) else TryAgain)
+abbrev pub remedy_at : Bool → Done → Place → Remedy
+remedy_at strict d p =
+    if strict || nat_le 64 d.stops then Halt
+    else (if is_at d.tried p then remedy_by (branch_for d.left p) else TryAgain)
 
 -- the place that is tried once more
 abbrev pub tried_by : Place → Remedy → Option Place
@@ -72,6 +72,10 @@ tried_by p _ = None
 abbrev pub left_by : Remedy → List Place
 left_by (LeaveOut branch) = branch ∷ []
 left_by _ = []
+
+-- what is done then
+abbrev pub with_remedy : Place → Remedy → Done → Done
+with_remedy p remedy d = record d { stops = counted d.stops 1; tried = tried_by p remedy; left = d.left ++ left_by remedy }
 
 -- the checkpoint after it, and what halts the night
 abbrev pub done_by : Checkpoint → Place → Remedy → Checkpoint × Option Pause

@@ -10,6 +10,8 @@ pub mod Status
 pub mod Leaving
 pub mod Ending
 pub mod Pace
+pub mod Done
+pub mod Runs
 pub mod Older
 pub mod Refusing
 pub mod Stopping

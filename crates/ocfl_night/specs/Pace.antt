@@ -1,6 +1,6 @@
 -- What the next run may spend, by what the runs before it did.
 use Rattle.std.specs.Prelude.{ℕ, ◌-◌, ◌*◌, ◌/◌, ◌^◌, ◌==◌, ◌||◌, Option, Some, None, if◌then◌else◌, max, min, unwrap_or}
-use Rattle.ocfl_night.specs.{declared.plan.Plan.{Plan}, declared.tally.Tally.{Tally}}
+use Rattle.ocfl_night.specs.{Done.{Done}, declared.plan.Plan.{Plan}}
 
 -- a minute, or what is left until the end
 abbrev pub seconds_left : Option ℕ → ℕ → ℕ
@@ -21,13 +21,13 @@ paced most spent began now end = at_most most (cost_in (seconds_left end now) sp
 
 -- ---- the limits of a run that begins now
 
-abbrev pub budget_at : Plan → Tally → ℕ → ℕ
-budget_at plan tally now = paced plan.slice_budget tally.spent (unwrap_or tally.began now) now plan.end
+abbrev pub budget_at : Plan → Done → ℕ → ℕ
+budget_at plan d now = paced plan.slice_budget d.spent (unwrap_or d.began now) now plan.end
 
 -- how many files it may start
-abbrev pub files_at : Plan → Tally → ℕ
-files_at plan tally = fewer plan.files
+abbrev pub files_at : Plan → Done → ℕ
+files_at plan d = fewer plan.files
   where
     fewer : Option ℕ → ℕ
     fewer None = plan.slice_files
-    fewer (Some most) = min (most - tally.files) plan.slice_files
+    fewer (Some most) = min (most - d.files) plan.slice_files

@@ -8,6 +8,8 @@ ghost use Rattle.ocfl_cursor.specs.Cursor.{Cursor};
 ghost use Rattle.ocfl_scrub.specs.{Joining.{unread_together}, Running.{place_in}};
 ghost use Rattle.ocfl_state.specs.{Content.{Closed, Content, empty}, declared.checkpoint_parts.Left.{Left}};
 ghost use Rattle.ocfl_night.specs.Chain.{IsWholeReport, LedToEnd, RootRun, around, joined};
+ghost use Rattle.ocfl_night.specs.{Clock.{BeginsInTime, Event}, Runs.{IsNight}};
+ghost use Rattle.ocfl_night.specs.declared.plan.{NightEnd.{NightEnd as ModelEnd}, Plan.{Plan as ModelPlan}};
 ghost use Rattle.ocfl_night.specs.{Looks.{Counts, Rounds, is_known_of, look_between, of_any}};
 ghost use Rattle.ocfl_night.specs.{Site.{part_at}, Sound.{IsSound}};
 ghost use Rattle.ocfl_night.specs.Nights.{AllTaken, AreNights, AreOver, AreWhole, AtAnyMoment, EachOther, EachWhole, HaveReadAll, IsAround, IsAuditBut, Night, rounds_of};
@@ -87,6 +89,13 @@ pub fn each_other_report_is_the_audit_around_what_was_left_out<S: StateFolder>()
 {
     runs_that_stop_join();
 }
+
+/// No run of a night is begun but where the clock has answered that the end has not come.
+#[tactic(auto, using(crate::proofs::Clocks::begins_in_time))]
+pub fn runs_begin_before_the_end()
+    ensures { (plan : ModelPlan) (old new : List Event) (end : ModelEnd)
+        → IsNight plan old new end → BeginsInTime plan.end old new end.runs }
+{}
 
 /// If no failure of a store was counted, each content file that was opened meanwhile was read.
 pub fn where_nothing_failed_all_was_read()

@@ -36,11 +36,14 @@
 //!   not closed as whole.
 //! - The closed reports after a cycle that it says has ended are those up to that cycle. Before
 //!   there was one less, or as many if a crash came right after the last one was closed.
-//! - It begins at most as many runs as its clock gave times before the end. Each may spend no more
-//!   than runs spend in a minute, or until the end, at the rate of those before.
+//! - It is the list of its runs. Each begins where the one before it led, after its clock answered
+//!   that the night is not asked to stop and a time before the end. It keeps to the limits that the
+//!   plan gives for that time and for what was done: no more than runs spend in a minute, or until
+//!   the end, at the rate of those before. The night ends for the reason that it gives, and what it
+//!   answers of its runs and of the branches that it left out is of this list.
 //! - All but the last holds of a state folder and a store that are as they tell, over a root with
 //!   no file of 2^62 bytes or more; what is said of another root or part needs no store that tells.
-//!   The last holds of a clock that tells its answers.
+//!   The last holds of a clock that tells what it answered and heard.
 #![tactic(auto)]
 
 mod checkpoint;

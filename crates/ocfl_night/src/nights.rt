@@ -6,7 +6,7 @@ ghost use Rattle.ocfl_tree.specs.StorageRoot.{StorageRoot};
 ghost use Rattle.ocfl_scrub.specs.Starting.{part_of};
 ghost use Rattle.ocfl_state.specs.Crash.{LeavesOnly};
 ghost use Rattle.ocfl_state.specs.declared.checkpoint_parts.Phase.TheVariants.{Open};
-ghost use Rattle.ocfl_night.specs.Leaving.{StillMayLeave, done_by, has_end, remedy_at};
+ghost use Rattle.ocfl_night.specs.Leaving.{StillMayLeave, done_by, has_end, remedy_at, with_remedy};
 ghost use Rattle.ocfl_night.specs.Looks.{Counts, Rounds, WithLook, is_known, is_known_of, is_known_opened, look_between, of_any};
 ghost use Rattle.ocfl_night.specs.Promises.{IfLost, IfReady, IfReadyIn, IsSafe, IsSafeIn, OnShort, OverShort, SameClosed};
 ghost use Rattle.ocfl_night.specs.Older.{IfOlder};
@@ -14,7 +14,8 @@ ghost use Rattle.ocfl_night.specs.declared.refusal.Refusal.TheVariants.{Older};
 ghost use Rattle.ocfl_night.specs.Refusing.{IfForeign, IfRefused, IsBarred, IsFolderRefused, IsRefused, IsTurnedAway, OnRefused};
 ghost use Rattle.ocfl_night.specs.{Site.{part_at}, Steps.{IsNotBegun, IsUntouched, IsWalkAt}};
 ghost use Rattle.ocfl_night.specs.Sound.{IsAllSaid, IsHeard, IsHeardSince, IsKept, IsOneMore, IsReady, IsReadySince, IsSound};
-ghost use Rattle.ocfl_night.specs.Clock.{BeginsInTime, is_before};
+ghost use Rattle.ocfl_night.specs.{Clock.{is_before}, Done.{done_of}};
+ghost use Rattle.ocfl_night.specs.Runs.{AreMade, EndsBy, IsAllowed, IsEndedBy, IsNight, StopsOpen, after_made, turn_of};
 ghost use Rattle.ocfl_night.specs.Ending.{ended_by, halt_after, halt_of, place_or_pause, unbegun_by};
 ghost use Rattle.ocfl_night.specs.{Pace.{budget_at, files_at}, Nights.{IsSafeNight}};
 ghost use Rattle.ocfl_night.specs.declared.stop.Stop.{Stop as ModelStop};
@@ -55,26 +56,9 @@ fn is_before(now: u64, end: Option<u64>) -> bool
     }
 }
 
-/// The time, if the end of the plan has not come.
-fn time_before_end<C: Clock>(plan: &Plan, clock: &mut C) -> Option<u64>
-    ensures more { IsTrue C.told → OnSome result ((n : ℕ) → BeginsInTime plan.now.end
-        (C.answers clock.old) (C.answers clock.new) n (n + 1)) }
-    ensures same { IsTrue C.told → (n : ℕ) → BeginsInTime plan.now.end
-        (C.answers clock.old) (C.answers clock.new) n n }
-    ensures now { IsTrue C.told → IfSome result (λ now. C.answers clock.new
-        ≡ C.answers clock.old ++ now ∷ []) }
-{
-    let now = clock.now();
-    if is_before(now, plan.end) {
-        Some(now)
-    } else {
-        None
-    }
-}
-
 /// How many files the next run may start.
 fn files_left(plan: &Plan, tally: &Tally) -> u64
-    ensures { result ≡ files_at plan.now tally.now }
+    ensures { result ≡ files_at plan.now (done_of tally.now) }
 {
     match plan.files {
         Some(most) => most.saturating_sub(tally.files).min(plan.slice_files),
@@ -84,9 +68,10 @@ fn files_left(plan: &Plan, tally: &Tally) -> u64
 
 /// The limits of a run that begins now. `None` if no further file may be started.
 fn next_limits(plan: &Plan, tally: &Tally, now: u64) -> Option<Limits>
-    ensures budget { IfSome result (λ limits. limits.budget ≡ budget_at plan.now tally.now now) }
-    ensures files { IfSome result (λ limits. limits.files ≡ files_at plan.now tally.now) }
-    ensures none { IsSome result ↔ IsLimit (files_at plan.now tally.now) }
+    ensures budget { IfSome result (λ limits.
+        limits.budget ≡ budget_at plan.now (done_of tally.now) now) }
+    ensures files { IfSome result (λ limits. limits.files ≡ files_at plan.now (done_of tally.now)) }
+    ensures none { IsSome result ↔ IsLimit (files_at plan.now (done_of tally.now)) }
 {
     let files = FileLimit::new(files_left(plan, tally))?;
     let began = tally.began.unwrap_or(now);
@@ -98,21 +83,16 @@ fn next_limits(plan: &Plan, tally: &Tally, now: u64) -> Option<Limits>
 
 /// The limits of the next run, and the time at which it begins. Or why none is made.
 fn allowed<C: Clock>(plan: &Plan, clock: &mut C, tally: &Tally) -> Result<(Limits, u64), Pause>
-    ensures more { IsTrue C.told → OnOk result ((n : ℕ) → BeginsInTime plan.now.end
-        (C.answers clock.old) (C.answers clock.new) n (n + 1)) }
-    ensures same { IsTrue C.told → (n : ℕ) → BeginsInTime plan.now.end
-        (C.answers clock.old) (C.answers clock.new) n n }
-    ensures budget { IfOk result (λ a. a.0.budget ≡ budget_at plan.now tally.now a.1) }
-    ensures files { IfOk result (λ a. a.0.files ≡ files_at plan.now tally.now) }
-    ensures now { IsTrue C.told → IfOk result (λ a. C.answers clock.new
-        ≡ C.answers clock.old ++ a.1 ∷ []) }
+    ensures { IsTrue C.told → IsAllowed plan.now (done_of tally.now)
+        (C.events clock.old) (C.events clock.new) result }
 {
     if clock.is_stopped() {
         return Err(Pause::Asked);
     }
-    let Some(now) = time_before_end(plan, clock) else {
+    let now = clock.now();
+    if !is_before(now, plan.end) {
         return Err(Pause::TimeUp);
-    };
+    }
     match next_limits(plan, tally, now) {
         Some(limits) => Ok((limits, now)),
         None => Err(Pause::Spent),
@@ -179,7 +159,10 @@ fn pass_by<S: StateFolder>(
 
     // What is done is what the place, the branches left out before and the plan call for.
     ensures done { checkpoint.phase ≡ Open → IfOk result (λ next. next
-        ≡ done_by checkpoint place (remedy_at plan.now.stop_at_faults tally.old place)) }
+        ≡ done_by checkpoint place
+        (remedy_at plan.now.stop_at_faults (done_of tally.old) place)) }
+    ensures tally { checkpoint.phase ≡ Open → OnOk result (done_of tally.new ≡ with_remedy place
+        (remedy_at plan.now.stop_at_faults (done_of tally.old) place) (done_of tally.old)) }
     ensures left { StillMayLeave plan.now.stop_at_faults tally.old tally.new }
 {
     if phase_of(&checkpoint) != Phase::Open {
@@ -215,6 +198,8 @@ fn go_on_after<S: StateFolder>(
         → IsWalkAt root part made.checkpoint kept.old
         → IfOk result (λ next. IsWalkAt root part next.0 kept.new) }
     ensures left { StillMayLeave plan.now.stop_at_faults tally.old tally.new }
+    ensures turn { StopsOpen made → IfOk result (λ next. turn_of (done_of tally.new) next
+        ≡ after_made plan.now.stop_at_faults (done_of tally.old) made) }
 {
     let Made {
         checkpoint,
@@ -260,8 +245,9 @@ fn runs<S: StateFolder, T: Tree, C: Clock>(
     ensures counts { OverShort T.told (T.state tree.old) (λ root. is_known result ≡ true
         → Counts (T.state tree.old) (T.state tree.new)) }
     ensures closed { IsTrue S.told → OnOk result (SameClosed S.seen folder.old folder.new) }
-    ensures clock { IsTrue C.told → BeginsInTime plan.now.end
-        (C.answers clock.old) (C.answers clock.new) tally.old.runs tally.new.runs }
+    ensures told { IsTrue C.told → AreMade plan.now (C.events clock.old) (C.events clock.new)
+        (done_of tally.old) start
+        (λ d k last. IsEndedBy plan.now d k last (done_of tally.new) result) }
     ensures left { StillMayLeave plan.now.stop_at_faults tally.old tally.new }
 {
     let mut kept = KeptWalk::none();
@@ -286,7 +272,7 @@ fn runs<S: StateFolder, T: Tree, C: Clock>(
             return Ok((checkpoint, pause));
         }
     }
-    Ok((checkpoint, Pause::Spent))
+    Err(Stop::Worn)
 }
 
 /// Takes up what the last night left, and says what it left unsaid.
@@ -352,8 +338,9 @@ fn make_runs<S: StateFolder, T: Tree, C: Clock, W: Write>(
         (λ rounds. IfReadyIn S.seen S.may_leave rounds checkpoint folder.old
         (λ _. (cycle : ℕ) → result ≡ Ok (halt.CycleEnded cycle) → IsOneMore rounds cycle
         (S.seen folder.old).closed (S.seen folder.new).closed))) }
-    ensures clock { IsTrue C.told → BeginsInTime plan.now.end
-        (C.answers clock.old) (C.answers clock.new) tally.old.runs tally.new.runs }
+    ensures told { IsTrue C.told → AreMade plan.now (C.events clock.old) (C.events clock.new)
+        (done_of tally.old) checkpoint
+        (EndsBy plan.now (ended_by result) (done_of tally.new)) }
     ensures left { StillMayLeave plan.now.stop_at_faults tally.old tally.new }
     ensures said { IsTrue S.told → OnShort T.told (T.state tree.old)
         (IfReadyIn S.seen S.may_leave (of_any (part_of part.now)) checkpoint folder.old
@@ -503,9 +490,11 @@ pub fn night<S: StateFolder, T: Tree, C: Clock, W: Write>(
     ensures none_left { IsTrue plan.now.stop_at_faults → result.left.items ≡ [] }
     ensures ends { All (λ branch. IsTrue (has_end branch)) result.left.items }
 
-    // No run is begun but where the clock has answered that the end has not come.
-    ensures clock { IsTrue C.told → BeginsInTime plan.now.end
-        (C.answers clock.old) (C.answers clock.new) 0 result.runs }
+    // It is the list of its runs. Each was begun where the one before it led, after the clock
+    // answered that the night is not asked to stop and that the end has not come, within the limits
+    // of the plan. It ended for the reason that it gives, and its figures are those of the runs.
+    ensures told { IsTrue C.told
+        → IsNight plan.now (C.events clock.old) (C.events clock.new) result }
 {
     let mut tally = Tally::none(alloc);
     let mut lost = false;

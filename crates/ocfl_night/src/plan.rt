@@ -1,5 +1,6 @@
 //! What a night may do, and what it did.
-ghost use Rattle.std.specs.Prelude.{◌≡◌, ◌++◌, ◌∷◌, [], Bool, IsTrue, List, ℕ};
+ghost use Rattle.std.specs.Prelude.{◌≡◌, ◌++◌, ◌∷◌, [], Bool, IsTrue, List};
+ghost use Rattle.ocfl_night.specs.Clock.{Asked, Event, Heard, Read};
 
 use crate::refusal::Refusal;
 use crate::slicing::Made;
@@ -11,23 +12,23 @@ use ocfl_walk::Fault;
 /// A clock, which also knows whether the night is asked to stop, and hears of its runs. It may
 /// answer anything.
 pub trait Clock {
-    /// Whether the clock is told. If not, the clause promises nothing.
+    /// Whether the clock is told. If not, the clauses promise nothing.
     ghost told: { Bool };
 
-    /// What it answered so far, oldest first.
-    ghost answers: { Self → List ℕ };
+    /// What it answered and heard so far, oldest first.
+    ghost events: { Self → List Event };
 
     /// The time, in seconds since the epoch.
     fn now(&mut self) -> u64
-        ensures { IsTrue told → answers self.new ≡ answers self.old ++ result ∷ [] };
+        ensures { IsTrue told → events self.new ≡ events self.old ++ Read result ∷ [] };
 
     /// Whether the night is asked to stop. It is asked before each run.
     fn is_stopped(&mut self) -> bool
-        ensures { IsTrue told → answers self.new ≡ answers self.old };
+        ensures { IsTrue told → events self.new ≡ events self.old ++ Asked result ∷ [] };
 
     /// It hears what a run made, right after it.
     fn hears(&mut self, made: &Made)
-        ensures { IsTrue told → answers self.new ≡ answers self.old };
+        ensures { IsTrue told → events self.new ≡ events self.old ++ Heard made.now ∷ [] };
 }
 
 /// What a night may do.

@@ -1,6 +1,7 @@
 //! What a night has done so far, and what it does about a run that stopped at a place.
-ghost use Rattle.std.specs.Prelude.{◌≡◌, ◌+◌, ◌-◌, ◌^◌, ◌++◌, Bool, IfOk, None, Some, false, min, unwrap_or};
-ghost use Rattle.ocfl_night.specs.Leaving.{MayLeave, branch_for, is_at, left_by, remedy_at, remedy_by, tried_by};
+ghost use Rattle.std.specs.Prelude.{◌≡◌, ◌++◌, Bool, IfOk, false};
+ghost use Rattle.ocfl_night.specs.Done.{done_of, nothing_done, with_begun, with_made, with_none_tried};
+ghost use Rattle.ocfl_night.specs.Leaving.{MayLeave, branch_for, is_at, left_by, remedy_at, remedy_by, tried_by, with_remedy};
 
 use crate::leaving::{branch_at, end_of};
 use crate::slicing::Made;
@@ -43,7 +44,7 @@ pub(crate) enum Remedy {
 
 impl Tally {
     pub(crate) fn none(alloc: Global) -> Tally
-        ensures runs { result.runs ≡ 0 }
+        ensures nothing { done_of result ≡ nothing_done }
         ensures left { (strict : Bool) → MayLeave strict result.left.items }
     {
         Tally {
@@ -59,12 +60,7 @@ impl Tally {
 
     /// A run is begun at this time.
     pub(crate) fn begin(&mut self, now: u64)
-        ensures runs { self.new.runs ≡ min (self.old.runs + 1) (2 ^ 64 - 1) }
-        ensures began { self.new.began ≡ Some (unwrap_or self.old.began now) }
-        ensures same { self.new ≡ record self.old {
-          runs = self.new.runs;
-          began = self.new.began;
-        } }
+        ensures done { done_of self.new ≡ with_begun now (done_of self.old) }
     {
         self.runs = self.runs.saturating_add(1);
         self.began = Some(self.began.unwrap_or(now));
@@ -72,12 +68,7 @@ impl Tally {
 
     /// A run is made.
     pub(crate) fn count(&mut self, made: &Made)
-        ensures spent { self.new.spent ≡ min (self.old.spent + made.now.spent) (2 ^ 64 - 1) }
-        ensures files { self.new.files ≡ min (self.old.files + made.now.files) (2 ^ 64 - 1) }
-        ensures same { self.new ≡ record self.old {
-          spent = self.new.spent;
-          files = self.new.files;
-        } }
+        ensures done { done_of self.new ≡ with_made made.now (done_of self.old) }
     {
         self.spent = self.spent.saturating_add(made.spent);
         self.files = self.files.saturating_add(made.files);
@@ -85,7 +76,7 @@ impl Tally {
 
     /// The last run did not stop at a place.
     pub(crate) fn forget_try(&mut self)
-        ensures { self.new ≡ record self.old { tried = None } }
+        ensures done { done_of self.new ≡ with_none_tried (done_of self.old) }
     {
         self.tried = None;
     }
@@ -130,18 +121,13 @@ impl Tally {
         place: &Place,
         strict: bool,
     ) -> Result<Remedy, AllocError>
-        ensures is { IfOk result (λ remedy. remedy ≡ remedy_at strict self.old place.now) }
-        ensures stops { self.new.stops ≡ min (self.old.stops + 1) (2 ^ 64 - 1) }
-        ensures tried { IfOk result (λ remedy. self.new.tried ≡ tried_by place.now remedy) }
-        ensures left { IfOk result (λ remedy.
-            self.new.left.items ≡ self.old.left.items ++ left_by remedy) }
+        ensures is { IfOk result (λ remedy.
+            remedy ≡ remedy_at strict (done_of self.old) place.now) }
+        ensures done { IfOk result (λ remedy.
+            done_of self.new ≡ with_remedy place.now remedy (done_of self.old)) }
+        ensures runs { self.new.runs ≡ self.old.runs }
         ensures may_leave { MayLeave strict self.old.left.items
             → MayLeave strict self.new.left.items }
-        ensures same { self.new ≡ record self.old {
-          stops = self.new.stops;
-          tried = self.new.tried;
-          left = self.new.left;
-        } }
     {
         let tried = self.tried.take();
         self.stops = self.stops.saturating_add(1);

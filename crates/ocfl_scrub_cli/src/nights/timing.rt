@@ -65,7 +65,7 @@ impl<R: Files<File = File> + AllocGlobal> NightClock<'_, R> {
 impl<R: Files<File = File> + AllocGlobal + Clock> ocfl_night::Clock for NightClock<'_, R> {
     ghost told = { false };
 
-    ghost answers = { λ _. [] };
+    ghost events = { λ _. [] };
 
     fn now(&mut self) -> u64 {
         seconds_now(self.rt)

@@ -55,7 +55,7 @@ impl Still {
 impl Clock for Still {
     ghost told = { false };
 
-    ghost answers = { λ _. [] };
+    ghost events = { λ _. [] };
 
     fn now(&mut self) -> u64 {
         self.time

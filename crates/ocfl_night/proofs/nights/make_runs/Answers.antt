@@ -4,7 +4,8 @@ use Rattle.std.specs.Prelude.{IfSome}
 use Rattle.ocfl_scrub.specs.Starting.{part_of}
 use Rattle.ocfl_state.specs.{Checkpoint.{Checkpoint}, Content.{Closed}}
 use Rattle.ocfl_night.specs.Looks.{IsOneOf, Rounds, is_known, look_between, of_any}
-use Rattle.ocfl_night.specs.Sound.{IsOneMore}
+use Rattle.ocfl_night.specs.{Done.{done_of}, Sound.{IsOneMore}}
+use Rattle.ocfl_night.proofs.Runs.{halted_so, made_so, troubled_after, troubled_in}
 use Rattle.ocfl_night.proofs.{Looks.{known_one, known_same, one_ok}, Moments.{joined_moments}, Heard.{grew_none, said_on, silent}}
 use Rattle.ocfl_night.proofs.nights.make_runs.Goals as goal
 
@@ -66,3 +67,22 @@ returns-clause-said g c = λ told tells root over short t r.
     let said = c.in_ok-said.ensures.ready told rounds t (c.in_ok-last.ensures.ready told tells root over short None tt t r) in
     let all = c.in_ok-said.ensures.all in
     c.in_ok-ended.ensures.said told rounds (t ++ said.more) said.ready (ap (λ (x : Checkpoint). x.told) all ∙ sym (ap (λ (x : Checkpoint). x.report.bytes) all))
+
+pub returns-in_err-last-clause-told : goal.returns-in_err-last-clause-told
+returns-in_err-last-clause-told g c = λ told.
+    let p = err_from_is_err_and c.from_residual.result c.from_residual.ensures.1 in
+    made_so (troubled_in c.args.plan.now (done_of c.runs.new.tally) p.1) (c.in_err-last.ensures.told told)
+
+pub returns-in_err-said-clause-told : goal.returns-in_err-said-clause-told
+returns-in_err-said-clause-told g c = λ told.
+    let p = err_from_is_err_and c.from_residual-in_err-said.result c.from_residual-in_err-said.ensures.1 in
+    made_so (troubled_after c.args.plan.now (done_of c.runs.new.tally) c.in_ok-last.last c.in_ok-last.pause p.1) (c.in_ok-last.ensures.told told)
+
+pub returns-in_err-ended-clause-told : goal.returns-in_err-ended-clause-told
+returns-in_err-ended-clause-told g c = λ told.
+    let p = err_from_is_err_and c.from_residual-in_err-ended.result c.from_residual-in_err-ended.ensures.1 in
+    made_so (troubled_after c.args.plan.now (done_of c.runs.new.tally) c.in_ok-last.last c.in_ok-last.pause p.1) (c.in_ok-last.ensures.told told)
+
+pub returns-clause-told : goal.returns-clause-told
+returns-clause-told g c = λ told.
+    made_so (halted_so c.args.plan.now (done_of c.runs.new.tally) c.in_ok-last.last c.in_ok-said.said c.in_ok-last.pause c.in_ok-ended.ended c.in_ok-said.ensures.all c.in_ok-ended.ensures.ended c.halt_after.ensures.is) (c.in_ok-last.ensures.told told)

@@ -1,13 +1,13 @@
-use Rattle.std.proofs.Common.{◌≡◌, ◌≤◌, ◌++◌, ◌∙◌, ℕ, [], All, Bool, Err, Global, List, Option, Vec, ap, arith, length, subst, sym, true}
+use Rattle.std.proofs.Common.{◌≡◌, ◌≤◌, ◌++◌, ◌∙◌, ℕ, [], All, Bool, Err, Global, List, Option, Vec, ap, inl, inr, length, refl, subst, sym, true}
 use Rattle.std.specs.Prelude.{IsTrue}
 use Rattle.ocfl_tree.specs.{Place.{Place}, StorageRoot.{StorageRoot}}
 use Rattle.ocfl_item.specs.Judging.{HasShortFiles}
 use Rattle.ocfl_audit.specs.Parts.{Part}
 use Rattle.ocfl_state.specs.Content.{Closed}
-use Rattle.ocfl_night.specs.{Clock.{BeginsInTime}, Leaving.{has_end}, Nights.{IsSafeNight}, Site.{part_at}}
+use Rattle.ocfl_night.specs.{Done.{Done, done_of}, Leaving.{has_end}, Nights.{IsSafeNight}, Site.{part_at}}
 use Rattle.ocfl_night.specs.Looks.{Counts, IsOneOf, Look, Rounds, is_known, is_known_of, is_known_opened, look_between, of_any}
 use Rattle.ocfl_night.specs.{Sound.{IsOneMore}, Steps.{IsNotBegun}}
-use Rattle.ocfl_night.proofs.{Clocks.{fewer, none_begun}, Moments.{leaves_weaker}}
+use Rattle.ocfl_night.proofs.{Moments.{leaves_weaker}, Runs.{made_from}}
 use Rattle.ocfl_night.proofs.Looks.{counts_on, known_through, known_unbegun, known_within, last_of, one_of_on}
 use Rattle.ocfl_night.proofs.Heard.{heard_through, on_ok, ready_since, since_sound}
 use Rattle.ocfl_night.proofs.Newest.{newest}
@@ -75,7 +75,13 @@ returns g c =
       few = subst (λ (v : Vec Place Global). length v.items ≤ 16) (sym c.account-2.ensures.left) left.few;
       none_left = λ strict. subst (λ (v : Vec Place Global). v.items ≡ []) (sym c.account-2.ensures.left) (left.none strict);
       ends = subst (λ (v : Vec Place Global). All (λ b. IsTrue (has_end b)) v.items) (sym c.account-2.ensures.left) left.ends;
-      clock = λ told. fewer (subst (λ (n : ℕ). BeginsInTime c.args.plan.now.end (g.C.Clock.answers c.args.clock.now) (g.C.Clock.answers runs.new.clock) n runs.new.tally.runs) c.none-tally.ensures.runs (runs.ensures.clock told)) (omega (arith, c.account-2.ensures.runs));
+      told = λ told. inl (record {
+        start = c.in-Ok.begun.checkpoint;
+        done = done_of runs.new.tally;
+        runs = made_from c.args.plan.now (g.C.Clock.events c.args.clock.now) (g.C.Clock.events runs.new.clock) (done_of runs.new.tally) c.in-Ok.begun.checkpoint c.none-tally.ensures.nothing (c.account-2.ensures.end ∙ c.ended.ensures.is) (runs.ensures.told told);
+        begun = c.account-2.ensures.runs;
+        left = ap (λ (v : Vec Place Global). v.items) c.account-2.ensures.left;
+      });
     }
 
 -- it was not begun
@@ -101,5 +107,10 @@ returns-in-Err g c =
       few = subst (λ (v : Vec Place Global). length v.items ≤ 16) (sym c.account.ensures.left) left.few;
       none_left = λ strict. subst (λ (v : Vec Place Global). v.items ≡ []) (sym c.account.ensures.left) (left.none strict);
       ends = subst (λ (v : Vec Place Global). All (λ b. IsTrue (has_end b)) v.items) (sym c.account.ensures.left) left.ends;
-      clock = λ told. fewer none_begun (omega (arith, c.account.ensures.runs, c.none-tally.ensures.runs));
+      told = λ told. inr (record {
+        not_begun = subst IsNotBegun (sym c.account.ensures.end) c.unbegun.ensures.not_begun;
+        same = refl;
+        runs = c.account.ensures.runs ∙ ap (λ (d : Done). d.runs) c.none-tally.ensures.nothing;
+        left = ap (λ (v : Vec Place Global). v.items) c.account.ensures.left ∙ ap (λ (d : Done). d.left) c.none-tally.ensures.nothing;
+      });
     }

@@ -1,13 +1,16 @@
-use Rattle.std.proofs.Common.{◌≡◌, ◌∙◌, Bool, List, Option, ap, arith, refl, subst, sym, true, ℕ}
-use Rattle.std.proofs.lemmas.Result.{err_from_is_err_and}
+use Rattle.std.proofs.Common.{◌≡◌, ◌∙◌, ◌++◌, ◌∷◌, [], append_assoc, inl, inr, rules, Bool, List, Option, ap, arith, false, refl, subst, sym, true, ℕ}
+use Rattle.std.proofs.lemmas.{List.{append-nil}, Result.{err_from_is_err_and}}
 use Rattle.std.specs.Prelude.{IsTrue}
 use Rattle.ocfl_tree.specs.{Place.{Text}, StorageRoot.{StorageRoot}}
 use Rattle.ocfl_item.specs.Judging.{HasShortFiles}
 use Rattle.ocfl_scrub.specs.Starting.{part_of}
-use Rattle.ocfl_night.specs.{Clock.{BeginsInTime}, Leaving.{MayLeave}, declared.tally.Tally.{Tally}}
+use Rattle.ocfl_night.specs.{Clock.{Event, Asked, Read, Heard}, Done.{Done, done_of, with_begun, with_made}, Leaving.{MayLeave}, declared.tally.Tally.{Tally}}
+use Rattle.ocfl_state.specs.declared.checkpoint_parts.Phase.TheVariants.{Open, Closing}
+use Rattle.ocfl_night.specs.Runs.{Run, IsRunOf, MayBeginAt, events_of, turn_of}
+use Rattle.ocfl_night.specs.declared.plan.Pause.{Pause}
 use Rattle.ocfl_night.specs.Looks.{Counts, IsOneOf, Look, is_known, look_between}
 use Rattle.ocfl_night.specs.{Promises.{IsSafeIn}, Sound.{IsReady}}
-use Rattle.ocfl_night.proofs.{Clocks.{begun_on, fewer, none_begun}, KeptWalks.{walk_none}}
+use Rattle.ocfl_night.proofs.{KeptWalks.{walk_none}, Runs.{and_then, failed_so, led_by, none_yet, paused, paused_before, run_more}}
 use Rattle.ocfl_night.proofs.Looks.{counts_none, counts_on, first_of, known_one, known_same, last_of}
 use Rattle.ocfl_night.proofs.{Moments.{joined_moments, unmoved}, Sound.{ready_sound}}
 use Rattle.ocfl_night.proofs.nights.runs.Given as given
@@ -45,12 +48,19 @@ module _ (g : given.Over) (c : After-go_on_after g) (tells : IsTrue g.T.Tree.tol
         (joined_moments (inv.any_moment told tells root over short looks looks_before t r) (c.slice.ensures.any_moment told tells root (inv.root tells root over short) short (inv.walk tells root over short) looks there t (inv.ready told tells root over short looks looks_before t r)))
         (c.go_on_after.ensures.any_moment told (record { part = part_of c.args.part.now; looks = looks }) t (made_ready told t r))
 
-timed : (g : given.Over) (c : After-go_on_after g) → IsTrue g.C.Clock.told → BeginsInTime c.args.plan.now.end (g.C.Clock.answers c.args.clock.now) (g.C.Clock.answers c.hears.new.self) c.args.tally.now.runs c.go_on_after.new.tally.runs
-timed g c told =
-    let count = c.loop-run.tally.runs in
-    begun_on (c.loop-run.invariant.clock told)
-    (subst (λ (a : List ℕ). BeginsInTime c.args.plan.now.end (g.C.Clock.answers c.loop-run.clock) a count c.go_on_after.new.tally.runs) (sym (c.hears.ensures told))
-    (fewer (c.in-Ok.ensures.more told count) (omega (arith, c.go_on_after.ensures.runs, ap (λ (x : Tally). x.runs) c.count.ensures.same, c.begin.ensures.runs))))
+-- a run that was made, and what the clock heard of it
+module _ (g : given.Over) (c : After-go_on_after g) (told : IsTrue g.C.Clock.told) where
+  abbrev run : Run
+  run = record { now = c.in-Ok.allowed.1; made = c.in_ok-made.made }
+
+  may : MayBeginAt c.args.plan.now (done_of c.loop-run.tally) c.loop-run.checkpoint c.in-Ok.allowed.1
+  may = let is = c.in-Ok.ensures told in record { goes_on = search rules; in_time = is.1; files = is.2 }
+
+  is_run : IsRunOf c.args.plan.now (done_of c.loop-run.tally) c.loop-run.checkpoint run
+  is_run = let is = c.in-Ok.ensures told in record { may = may; limits = c.in-Ok.allowed.0; budget = is.3; files = is.4; made = c.in_ok-made.ensures.slice }
+
+  heard : g.C.Clock.events c.hears.new.self ≡ g.C.Clock.events c.loop-run.clock ++ events_of run
+  heard = c.hears.ensures told ∙ ap (λ (x : List Event). x ++ Heard c.in_ok-made.made ∷ []) (c.in-Ok.ensures told).0 ∙ append_assoc (g.C.Clock.events c.loop-run.clock) _ _
 
 pub loop-run-init : goal.loop-run-init
 loop-run-init g c = record {
@@ -58,7 +68,7 @@ loop-run-init g c = record {
   ready = λ told tells root over short looks one t r. r;
   counts = λ tells root over short. counts_none (g.T.Tree.state c.args.tree.now);
   closed = λ told. refl;
-  clock = λ told. none_begun;
+  told = λ told. none_yet;
   left = λ may. may;
   root = λ tells root over short. over;
   walk = λ tells root over short. walk_none root (part_of c.args.part.now) c.args.start c.none-kept.result c.none-kept.ensures;
@@ -121,18 +131,6 @@ returns-in-Some-clause-root g c = λ tells root over short.
     let inv = c.loop-run.invariant in
     c.slice.ensures.root tells root (inv.root tells root over short) short (inv.walk tells root over short)
 
-pub returns-in-Err-clause-clock : goal.returns-in-Err-clause-clock
-returns-in-Err-clause-clock g c = λ told. begun_on (c.loop-run.invariant.clock told) (c.allowed.ensures.same told c.loop-run.tally.runs)
-
-pub returns-in_err-made-clause-clock : goal.returns-in_err-made-clause-clock
-returns-in_err-made-clause-clock g c = λ told. begun_on (c.loop-run.invariant.clock told) (fewer (c.in-Ok.ensures.more told c.loop-run.tally.runs) (omega (arith, c.begin.ensures.runs)))
-
-pub returns-in_err-next-clause-clock : goal.returns-in_err-next-clause-clock
-returns-in_err-next-clause-clock g c = timed g (goal.at.returns-in_err-next-clause-clock g c).After-go_on_after
-
-pub returns-in-Some-clause-clock : goal.returns-in-Some-clause-clock
-returns-in-Some-clause-clock g c = timed g (goal.at.returns-in-Some-clause-clock g c).After-go_on_after
-
 pub returns-in-Some-clause-ready : goal.returns-in-Some-clause-ready
 returns-in-Some-clause-ready g c = λ told tells root over short looks one t r.
     c.in_ok-next.ensures.ready told (record { part = part_of c.args.part.now; looks = looks }) t (made_ready g (goal.at.returns-in-Some-clause-ready g c).After-go_on_after tells root over short looks one told t r)
@@ -149,8 +147,35 @@ loop-run-preserved g c =
       ready = λ told tells root over short looks one t r. c.in_ok-next.ensures.ready told (record { part = part_of c.args.part.now; looks = looks }) t (made_ready g at tells root over short looks one told t r);
       counts = counts_then g at;
       closed = λ told. c.in_ok-next.ensures.closed told ∙ c.in_ok-made.ensures.closed told ∙ inv.closed told;
-      clock = timed g at;
-      left = λ may. c.go_on_after.ensures.left (subst (MayLeave c.args.plan.now.stop_at_faults) (sym (ap (λ (x : Tally). x.left.items) c.count.ensures.same ∙ ap (λ (x : Tally). x.left.items) c.begin.ensures.same)) (inv.left may));
+      told = λ told. run_more (run g at told) (inv.told told) (heard g at told) (is_run g at told) (led_by c.args.plan.now (done_of c.loop-run.tally) c.in-Ok.allowed.1 (may g at told).goes_on c.in_ok-made.ensures.slice c.begin.ensures.done c.count.ensures.done c.in_ok-next.ensures.turn ∙ ap (λ (o : Option Pause). turn_of (done_of c.go_on_after.new.tally) (c.in_ok-next.next, o)) c.in_default.is);
+      left = λ may. c.go_on_after.ensures.left (subst (MayLeave c.args.plan.now.stop_at_faults) (sym (ap (λ (x : Done). x.left) c.count.ensures.done ∙ ap (λ (x : Done). x.left) c.begin.ensures.done)) (inv.left may));
       root = λ tells root over short. c.slice.ensures.root tells root (inv.root tells root over short) short (inv.walk tells root over short);
       walk = λ tells root over short. c.in_ok-next.ensures.walk (part_of c.args.part.now) root (c.in_ok-made.ensures.walk tells root (inv.root tells root over short) short (inv.walk tells root over short));
     }
+
+pub returns-in-Err-clause-told : goal.returns-in-Err-clause-told
+returns-in-Err-clause-told g c = λ told. paused_before c.in-Err.pause (c.loop-run.invariant.told told) (search rules) (c.in-Err.ensures told)
+
+pub returns-clause-told : goal.returns-clause-told
+returns-clause-told g c = λ told. and_then [] (c.loop-run.invariant.told told) (sym (append-nil _)) (inr (refl, refl))
+
+pub returns-in_err-made-clause-told : goal.returns-in_err-made-clause-told
+returns-in_err-made-clause-told g c = λ told.
+    let is = c.in-Ok.ensures told in
+    let p = err_from_is_err_and c.from_residual.result c.from_residual.ensures.1 in
+    and_then (Asked false ∷ Read c.in-Ok.allowed.1 ∷ []) (c.loop-run.invariant.told told) is.0
+    (failed_so c.args.plan.now (done_of c.loop-run.tally) (done_of c.begin.new.self) c.loop-run.checkpoint _ p.1 (inl (record { now = c.in-Ok.allowed.1; may = record { goes_on = search rules; in_time = is.1; files = is.2 }; events = inl refl; runs = ap (λ (d : Done). d.runs) c.begin.ensures.done })))
+
+pub returns-in_err-next-clause-told : goal.returns-in_err-next-clause-told
+returns-in_err-next-clause-told g c = λ told.
+    let at = (goal.at.returns-in_err-next-clause-told g c).After-go_on_after in
+    let p = err_from_is_err_and c.from_residual-in_err-next.result c.from_residual-in_err-next.ensures.1 in
+    let runs = c.go_on_after.ensures.runs ∙ ap (λ (d : Done). d.runs) c.count.ensures.done ∙ ap (λ (d : Done). d.runs) c.begin.ensures.done in
+    and_then (events_of (run g at told)) (c.loop-run.invariant.told told) (heard g at told)
+    (failed_so c.args.plan.now (done_of c.loop-run.tally) (done_of c.go_on_after.new.tally) c.loop-run.checkpoint _ p.1 (inl (record { now = c.in-Ok.allowed.1; may = may g at told; events = inr (c.in_ok-made.made, refl); runs = runs })))
+
+pub returns-in-Some-clause-told : goal.returns-in-Some-clause-told
+returns-in-Some-clause-told g c = λ told.
+    let at = (goal.at.returns-in-Some-clause-told g c).After-go_on_after in
+    let halts = led_by c.args.plan.now (done_of c.loop-run.tally) c.in-Ok.allowed.1 (may g at told).goes_on c.in_ok-made.ensures.slice c.begin.ensures.done c.count.ensures.done c.in_ok-next.ensures.turn ∙ ap (λ (o : Option Pause). turn_of (done_of c.go_on_after.new.tally) (c.in_ok-next.next, o)) c.in-Some.is in
+    and_then (events_of (run g at told)) (c.loop-run.invariant.told told) (heard g at told) (paused c.in-Some.pause (is_run g at told) halts)

@@ -71,7 +71,7 @@ struct Later {
 impl Clock for Later {
     ghost told = { false };
 
-    ghost answers = { λ _. [] };
+    ghost events = { λ _. [] };
 
     fn now(&mut self) -> u64 {
         let time = self.time;

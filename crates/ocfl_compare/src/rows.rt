@@ -80,7 +80,7 @@ fn put_changes(sides: Sides<'_>, rows: &mut Vec<u8>) -> Result<(), AllocError>
     Ok(())
 }
 
-/// Whether there was a line of an object, and there is none now.
+/// Whether a line of an object was there before and is not there now.
 fn is_object_gone(before: &Told, now: &Told) -> bool
     ensures { result ≡ not now.now.object && before.now.object }
 {

@@ -12,8 +12,8 @@ use std::fs;
 use std::io::{self, ErrorKind};
 use std::rt::{Env, Files};
 
-/// The folder at a path from `/` on, by last names alone: the process itself is where the
-/// folder does. Once it was entered, another folder at that path is none.
+/// The folder at a path from `/` on, by last names alone: the process itself goes into it.
+/// Another folder that is put at that path later is not taken for it.
 #[derive(Drop)]
 pub struct Entering<'a, R: Files + Env + AllocGlobal> {
     rt: &'a R,

@@ -39,8 +39,8 @@
 //! - It is the list of its runs. Each begins where the one before it led, after its clock answered
 //!   that the night is not asked to stop and a time before the end. It keeps to the limits that the
 //!   plan gives for that time and for what was done: no more than runs spend in a minute, or until
-//!   the end, at the rate of those before. The night ends for the reason that it gives, and what it
-//!   answers of its runs and of the branches that it left out is of this list.
+//!   the end, at the rate of those before. By this list the night ends for the reason that it
+//!   gives, unless it is troubled, and it answers how many runs it began and what it left out.
 //! - All but the last holds of a state folder and a store that are as they tell, over a root with
 //!   no file of 2^62 bytes or more; what is said of another root or part needs no store that tells.
 //!   The last holds of a clock that tells what it answered and heard.

@@ -1,5 +1,5 @@
 //! A night.
-ghost use Rattle.std.specs.Prelude.{◌≡◌, ◌≢◌, ◌⊎◌, ◌↔◌, ◌+◌, ◌≤◌, ◌++◌, ◌∷◌, [], IfOk, IfSome, IsErr, All, IsOk, IsSome, IsTrue, List, Err, Ok, OnOk, OnSome, Some, false, true, length, ℕ};
+ghost use Rattle.std.specs.Prelude.{◌≡◌, ◌≢◌, ◌⊎◌, ◌↔◌, ◌≤◌, [], IfOk, IfSome, IsErr, All, IsOk, IsSome, IsTrue, List, Err, Ok, OnOk, Some, false, true, length, ℕ};
 ghost use Rattle.std.specs.Io.KnownBytes.{Appends};
 ghost use Rattle.ocfl_audit.specs.Parts.{Part as ModelPart};
 ghost use Rattle.ocfl_tree.specs.StorageRoot.{StorageRoot};
@@ -492,7 +492,7 @@ pub fn night<S: StateFolder, T: Tree, C: Clock, W: Write>(
 
     // It is the list of its runs. Each was begun where the one before it led, after the clock
     // answered that the night is not asked to stop and that the end has not come, within the limits
-    // of the plan. It ended for the reason that it gives, and its figures are those of the runs.
+    // of the plan. By these it ended as it says, unless troubled, and its figures are theirs.
     ensures told { IsTrue C.told
         → IsNight plan.now (C.events clock.old) (C.events clock.new) result }
 {

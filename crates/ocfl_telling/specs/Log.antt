@@ -48,10 +48,10 @@ left_with r place why = object (counts (codes "cycle") r.cycle (counts (codes "n
 
 -- a closing, with the path of its report, and why nothing was compared
 abbrev pub closing_counts : ClosingRow → Members → Members
-closing_counts r rest = counts (codes "compared") r.compared (counts (codes "cycle") r.cycle
-    (counts (codes "expected") r.expected (counts (codes "files") r.files (counts (codes "findings") r.findings
-    (counts (codes "gone") r.gone (counts (codes "left") r.left (says (codes "list") r.list.now
-    (counts (codes "listed") r.listed rest))))))))
+closing_counts r rest = counts (codes "back") r.back (counts (codes "compared") r.compared
+    (counts (codes "cycle") r.cycle (counts (codes "expected") r.expected (counts (codes "files") r.files
+    (counts (codes "findings") r.findings (counts (codes "gone") r.gone (counts (codes "left") r.left
+    (says (codes "list") r.list.now (counts (codes "listed") r.listed rest)))))))))
 
 abbrev pub closing_changed : ClosingRow → Members → Members
 closing_changed r rest = counts (codes "new") r.appeared (counts (codes "night") r.night
@@ -59,7 +59,8 @@ closing_changed r rest = counts (codes "new") r.appeared (counts (codes "night")
 
 abbrev pub closing_last : ClosingRow → Text → Text → Members
 closing_last r report why = says (codes "report") report (says (codes "row") (codes "closing")
-    (counts (codes "time") r.time (member (codes "whole") (boolean r.whole) (says (codes "why") why no_members))))
+    (counts (codes "time") r.time (counts (codes "unlooked") r.unlooked
+    (member (codes "whole") (boolean r.whole) (says (codes "why") why no_members)))))
 
 abbrev pub closing_with : ClosingRow → Text → Text → Data
 closing_with r report why = object (closing_counts r (closing_changed r (closing_last r report why)))

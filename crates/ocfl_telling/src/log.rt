@@ -92,13 +92,18 @@ pub struct ClosingRow<'a> {
     pub appeared: u64,
     /// How many findings of that report are right now.
     pub repaired: u64,
+    /// How many objects have a line again that an earlier list called gone or undeclared.
+    pub back: u64,
     /// How many objects and files of that report have no line any more, and how many objects of the
     /// list have none: the sum of the three numbers that follow.
     pub gone: u64,
     /// How many objects of the report before have no line any more.
     pub objects: u64,
-    /// How many files of it have none.
+    /// How many files of it have none, of objects that are looked at.
     pub files: u64,
+    /// How many files of it are not looked at any more, and count with their object: it is gone, or
+    /// its head stops now.
+    pub unlooked: u64,
     /// How many objects of the list of those that are expected have no line.
     pub expected: u64,
     /// How many objects the list has.
@@ -244,7 +249,7 @@ fn put_counts(
     ensures { OnOk result (members_view map.new.entries ≡ closing_counts row.now no_members) }
 {
     put_members!(in alloc; map row {
-        compared, cycle, expected, files, findings, gone, left, list, listed
+        back, compared, cycle, expected, files, findings, gone, left, list, listed
     });
     Ok(())
 }
@@ -276,7 +281,12 @@ fn put_last(
     ensures { OnOk result (members_view map.new.entries ≡ closing_counts row.now
         (closing_changed row.now (closing_last row.now report.now why.now))) }
 {
-    put_members!(in alloc; map row { report: report, row: "closing", time, whole, why: why });
+    put_members!(in alloc; map row {
+        report: report,
+        row: "closing",
+        time, unlooked, whole,
+        why: why
+    });
     Ok(())
 }
 

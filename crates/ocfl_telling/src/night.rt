@@ -208,7 +208,7 @@ fn put_all(lines: &[Line], text: &mut Vec<u8>) -> Result<(), AllocError>
 }
 
 /// Appends the gravest findings.
-fn put_gravest(found: &Gravest, text: &mut Vec<u8>) -> Result<(), AllocError>
+pub(crate) fn put_gravest(found: &Gravest, text: &mut Vec<u8>) -> Result<(), AllocError>
     ensures { OnOk result ((ls : List ModelLine) → IsOf found.now ls
         → text.new.items ≡ text.old.items ++ lines_text (gravest ls)) }
 {

@@ -3,6 +3,7 @@ pub mod Weights
 pub mod Heaps
 pub mod Pieces
 pub mod ShownLines
+pub mod Closings
 pub mod Lists
 pub mod LogRows
 pub mod Firsts

@@ -57,13 +57,14 @@ abbrev pub closing_changed : ClosingRow → Members → Members
 closing_changed r rest = counts (codes "new") r.appeared (counts (codes "night") r.night
     (counts (codes "objects") r.objects (counts (codes "repaired") r.repaired rest)))
 
-abbrev pub closing_last : ClosingRow → Text → Text → Members
-closing_last r report why = says (codes "report") report (says (codes "row") (codes "closing")
-    (counts (codes "time") r.time (counts (codes "unlooked") r.unlooked
-    (member (codes "whole") (boolean r.whole) (says (codes "why") why no_members)))))
+abbrev pub closing_named : ClosingRow → Text → Members → Members
+closing_named r report rest = says (codes "report") report (says (codes "row") (codes "closing") (counts (codes "time") r.time rest))
+
+abbrev pub closing_last : ClosingRow → Text → Members
+closing_last r why = counts (codes "unlooked") r.unlooked (member (codes "whole") (boolean r.whole) (says (codes "why") why no_members))
 
 abbrev pub closing_with : ClosingRow → Text → Text → Data
-closing_with r report why = object (closing_counts r (closing_changed r (closing_last r report why)))
+closing_with r report why = object (closing_counts r (closing_changed r (closing_named r report (closing_last r why))))
 
 -- a refusal, with what is said of it
 abbrev pub refusal_with : RefusalRow → Text → Data

@@ -231,7 +231,7 @@ fn put_back_lines(back: &[Place], text: &mut Vec<u8>) -> Result<(), AllocError>
     ensures { OnOk result
         (text.new.items ≡ text.old.items ++ back_lines (take most_shown back.now)) }
 {
-    put_all_back_lines(&back[..back.len().min(SHOWN)], text)
+    put_all_back_lines(&back[..SHOWN.min(back.len())], text)
 }
 
 /// Appends their lines.

@@ -6,7 +6,7 @@
 ghost use Rattle.std.specs.Prelude.{◌≡◌, ◌≤◌, false, IfOk, OnOk, string_bytes};
 ghost use Rattle.serde_json.specs.Data.{Data, depth, no_members};
 ghost use Rattle.serde_json.specs.{View.{members_view, view}, Written.{has_float}};
-ghost use Rattle.ocfl_telling.specs.Log.{IsJsonLine, stands_text, row_text, row_data, row_with, why_text, slice_with, left_with, closing_counts, closing_changed, closing_last, closing_with, refusal_with, night_with};
+ghost use Rattle.ocfl_telling.specs.Log.{IsJsonLine, stands_text, row_text, row_data, row_with, why_text, slice_with, left_with, closing_counts, closing_changed, closing_named, closing_last, closing_with, refusal_with, night_with};
 
 use crate::shown::Shown;
 use ocfl_report::DisplayPlace;
@@ -268,6 +268,22 @@ fn put_changed(
     Ok(())
 }
 
+/// Appends which report it is, and when it was closed.
+fn put_named(
+    alloc: Global,
+    row: &ClosingRow<'_>,
+    report: &str,
+    map: &mut Map<String, Value>,
+) -> Result<(), AllocError>
+    requires { members_view map.now.entries
+        ≡ closing_counts row.now (closing_changed row.now no_members) }
+    ensures { OnOk result (members_view map.new.entries ≡ closing_counts row.now
+        (closing_changed row.now (closing_named row.now report.now no_members))) }
+{
+    put_members!(in alloc; map row { report: report, row: "closing", time });
+    Ok(())
+}
+
 /// Appends the last ones.
 fn put_last(
     alloc: Global,
@@ -276,17 +292,13 @@ fn put_last(
     why: &str,
     map: &mut Map<String, Value>,
 ) -> Result<(), AllocError>
-    requires { members_view map.now.entries
-        ≡ closing_counts row.now (closing_changed row.now no_members) }
+    requires { members_view map.now.entries ≡ closing_counts row.now
+        (closing_changed row.now (closing_named row.now report.now no_members)) }
     ensures { OnOk result (members_view map.new.entries ≡ closing_counts row.now
-        (closing_changed row.now (closing_last row.now report.now why.now))) }
+        (closing_changed row.now (closing_named row.now report.now
+        (closing_last row.now why.now)))) }
 {
-    put_members!(in alloc; map row {
-        report: report,
-        row: "closing",
-        time, unlooked, whole,
-        why: why
-    });
+    put_members!(in alloc; map row { unlooked, whole, why: why });
     Ok(())
 }
 
@@ -302,6 +314,7 @@ fn closing_value(
     let mut map = Map::new(alloc);
     put_counts(alloc, row, &mut map)?;
     put_changed(alloc, row, &mut map)?;
+    put_named(alloc, row, report, &mut map)?;
     put_last(alloc, row, report, why, &mut map)?;
     Ok(Value::Object(map))
 }

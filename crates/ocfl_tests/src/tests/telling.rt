@@ -5,8 +5,8 @@ use ocfl_report::{Line, TextStop, read_line};
 use ocfl_telling::{
     Closing, ClosingRow, Found, Gone, GoneKind, Gravest, Known, KnownEntry, KnownStop, LeftRow,
     LogRow, Night, NightRow, Quoted, Reach, RefusalMessage, RefusalRow, SliceRow, Stands,
-    StopMessage, Weight, closing_text, log_line, night_text, read_known, refusal_text, stop_text,
-    weigh,
+    StopMessage, Weight, closed_before_text, closing_text, log_line, night_text, read_known,
+    refusal_text, stop_text, weigh,
 };
 use ocfl_tree::Place;
 use std::alloc::Global;
@@ -346,8 +346,8 @@ fn stops_say_why(rt: HostRuntime) -> Result<(), Fail> {
     Ok(())
 }
 
-/// A closing of which there is nothing to say.
-fn quiet<'a>() -> Closing<'a> {
+/// A closing of which there is nothing to say, with these findings that were not said.
+fn quiet<'a>(appeared: &'a Gravest) -> Closing<'a> {
     Closing {
         cycle: 3,
         before: 2,
@@ -356,34 +356,47 @@ fn quiet<'a>() -> Closing<'a> {
         report: "reports/cycle-000003",
         earlier: "reports/cycle-000002",
         list: "reports/gone-000003",
-        appeared: &[],
+        appeared,
         appeared_count: 0,
+        said: 0,
         repaired: &[],
         repaired_count: 0,
+        back: &[],
+        back_count: 0,
         gone: &[],
         gone_count: 0,
+        unlooked: 0,
     }
 }
 
 const CLOSED: &str = "Cycle 3 ended, but its report is incomplete: reports/cycle-000003
-1 finding(s) of cycle 3 are new since cycle 2:
-E092\ta\tx
+25 finding(s) of cycle 3 are new since cycle 2, 3 of them above:
+E092\tb\tx
+E072\ta\t-
+and 20 more, in reports/cycle-000003
 22 finding(s) of cycle 2 are repaired in cycle 3:
 E072\tb\t-
 and 21 more, in reports/cycle-000002
+2 object(s) are back in cycle 3:
+object\ts
+and 1 more, in reports/cycle-000003
 4 object(s) and file(s) are gone or missing in cycle 3:
 object\to
 undeclared\tp
 file\tq/v1/content/f
 expected\tr
+5 file(s) of objects that are gone, or whose inventory cannot be used, are not looked at any more.
 ";
 
 #[test]
 fn closings_say_what_changed(rt: HostRuntime) -> Result<(), Fail> {
     let alloc = rt.alloc();
-    assert!(rt; closing_text(alloc, &quiet())?.is_empty());
-    let mut new = Vec::new(alloc);
-    new.push(line_of(alloc, "E092\ta\tx\n")?)?;
+    let mut new = Gravest::new(alloc);
+    assert!(rt; closing_text(alloc, &quiet(&new))?.is_empty());
+    new.add(line_of(alloc, "E072\ta\t-\n")?)?;
+    new.add(line_of(alloc, "E092\tb\tx\n")?)?;
+    let mut back = Vec::new(alloc);
+    back.push(place_of(alloc, "s")?)?;
     let mut repaired = Vec::new(alloc);
     repaired.push(line_of(alloc, "E072\tb\t-\n")?)?;
     let mut gone = Vec::new(alloc);
@@ -398,26 +411,76 @@ fn closings_say_what_changed(rt: HostRuntime) -> Result<(), Fail> {
     }
     let closing = Closing {
         whole: false,
-        appeared: new.as_slice(),
-        appeared_count: 1,
+        appeared_count: 25,
+        said: 3,
         repaired: repaired.as_slice(),
         repaired_count: 22,
+        back: back.as_slice(),
+        back_count: 2,
         gone: gone.as_slice(),
         gone_count: 4,
-        ..quiet()
+        unlooked: 5,
+        ..quiet(&new)
     };
     let text = String::from_utf8(closing_text(alloc, &closing)?)?;
     assert_eq!(rt; text.as_str(), CLOSED);
     Ok(())
 }
 
+/// How many findings are new, how many of them the night said, and what is said of them then.
+const ABOVE: [(u64, u64, &str); 4] = [
+    (0, 0, ""),
+    (
+        1,
+        0,
+        "1 finding(s) of cycle 3 are new since cycle 2:\nE092\ta\tx\n",
+    ),
+    (
+        2,
+        1,
+        "2 finding(s) of cycle 3 are new since cycle 2, 1 of them above:\nE092\ta\tx\n",
+    ),
+    (
+        2,
+        2,
+        "2 finding(s) of cycle 3 are new since cycle 2, 2 of them above.\n",
+    ),
+];
+
+#[test]
+fn closings_say_no_line_twice(rt: HostRuntime) -> Result<(), Fail> {
+    let alloc = rt.alloc();
+    let mut new = Gravest::new(alloc);
+    new.add(line_of(alloc, "E092\ta\tx\n")?)?;
+    for (appeared_count, said, wanted) in ABOVE {
+        let closing = Closing {
+            appeared_count,
+            said,
+            ..quiet(&new)
+        };
+        let text = String::from_utf8(closing_text(alloc, &closing)?)?;
+        assert_eq!(rt; text.as_str(), wanted);
+    }
+    Ok(())
+}
+
+#[test]
+fn cycles_that_were_closed_before_are_said(rt: HostRuntime) -> Result<(), Fail> {
+    assert_eq!(rt;
+        closed_before_text(rt.alloc(), 7)?.as_str(),
+        "The report of cycle 7 was closed before: what this night read of it is in no report.\n"
+    );
+    Ok(())
+}
+
 #[test]
 fn closings_say_why_nothing_was_compared(rt: HostRuntime) -> Result<(), Fail> {
     let alloc = rt.alloc();
+    let none = Gravest::new(alloc);
     let closing = Closing {
         whole: false,
         uncompared: "/s/reports/cycle-000002\nis gone",
-        ..quiet()
+        ..quiet(&none)
     };
     let text = String::from_utf8(closing_text(alloc, &closing)?)?;
     assert_eq!(rt;
@@ -468,9 +531,11 @@ const CLOSING_ROW: ClosingRow<'static> = ClosingRow {
     why: "\u{9b}",
     appeared: 5,
     repaired: 6,
+    back: 15,
     gone: 33,
     objects: 10,
     files: 11,
+    unlooked: 14,
     expected: 12,
     listed: 13,
     list: "0a",
@@ -522,10 +587,11 @@ const SLICE: &str =
 const LEFT: &str = "{\"cycle\":3,\"night\":2,\"place\":\"a/b%0A\",\"row\":\"left\",\"time\":1,\
 \"why\":\"Permission%09denied\"}\n";
 
-const CLOSING: &str = "{\"compared\":2,\"cycle\":3,\"expected\":12,\"files\":11,\"findings\":4,\
+const CLOSING: &str =
+    "{\"back\":15,\"compared\":2,\"cycle\":3,\"expected\":12,\"files\":11,\"findings\":4,\
 \"gone\":33,\"left\":8,\"list\":\"0a\",\"listed\":13,\"new\":5,\"night\":2,\"objects\":10,\
-\"repaired\":6,\"report\":\"/s/%C2%9B\",\"row\":\"closing\",\"time\":1,\"whole\":true,\
-\"why\":\"%C2%9B\"}\n";
+\"repaired\":6,\"report\":\"/s/%C2%9B\",\"row\":\"closing\",\"time\":1,\"unlooked\":14,\
+\"whole\":true,\"why\":\"%C2%9B\"}\n";
 
 const REFUSAL: &str =
     "{\"night\":2,\"row\":\"refusal\",\"said\":\"no%09one\",\"status\":75,\"time\":1}\n";

@@ -110,15 +110,6 @@ impl<R: Files<File = File> + AllocGlobal + Clone + Drop> FsState<R> {
         self.reason
     }
 
-    /// Whether a file `stop` is in the folder, whatever it is.
-    pub fn has_stop(&mut self) -> Result<bool, FolderTrouble>
-        ensures kept { IfErr result (λ trouble. IsKept self.new trouble) }
-        ensures same { OnOk result (self.new ≡ self.old) }
-    {
-        let found = self.disk.has(StateFile::Stop);
-        self.answer(found)
-    }
-
     /// Appends a line to the file `log`, whole or not at all. It is not brought to the disk.
     pub fn append_log(&mut self, line: &[u8]) -> Result<(), FolderTrouble>
         ensures kept { IfErr result (λ trouble. IsKept self.new trouble) }

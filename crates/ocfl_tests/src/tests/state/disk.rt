@@ -166,9 +166,6 @@ fn a_failed_call_keeps_its_reason(rt: HostRuntime) -> Result<(), Fail> {
 fn other_files_are_read_and_written(rt: HostRuntime) -> Result<(), Fail> {
     fresh(&rt, "others")?;
     let mut folder = open(&rt, "others", true)?;
-    assert!(rt; !folder.has_stop()?);
-    fs::write(&rt, "others/stop", "")?;
-    assert!(rt; folder.has_stop()?);
     folder.append_log(b"one\n")?;
     let log = FsLog::at(rt.clone()?, "others")?;
     log.append(b"two\n").map_err(|reason| reason.trouble())?;

@@ -5,6 +5,7 @@ pub mod Pieces
 pub mod ShownLines
 pub mod Closings
 pub mod Lists
+pub mod Knowns
 pub mod LogRows
 pub mod Firsts
 pub mod Quotes

@@ -6,7 +6,7 @@ use Rattle.std.proofs.lemmas.List.Elements.{All-append, All-cons, All-nil, filte
 use Rattle.std.specs.Prelude.{All, codes}
 use Rattle.ocfl_tree.specs.Place.{Text}
 use Rattle.ocfl_report.proofs.{Inputs.{IsReadTo, all_read}, Separators.{first_parts}}
-use Rattle.ocfl_telling.specs.List.{IsBadLine, IsEntry, IsEntryAs, IsKnownText, IsRemark, IsRow, IsSaid, KnownStopsRightly, Row, entries_of, max_bytes, row_text, rows_text}
+use Rattle.ocfl_telling.specs.List.{IsBadLine, IsEntry, IsEntryAs, IsKnownText, IsRemark, IsRow, IsSaid, KnownStopsRightly, ListsEntries, Row, entries_of, max_bytes, row_text, rows_text}
 use Rattle.ocfl_telling.specs.declared.known.Reach.{Reach}
 use Rattle.ocfl_telling.specs.declared.known.Reach.TheVariants.{One, Place, Branch}
 use Rattle.ocfl_telling.specs.declared.known.KnownEntry.{KnownEntry}
@@ -70,6 +70,10 @@ known_read None read es is h = tt
 known_read (Some b) read es is h =
     let limited : IsKnownText (take limit b) es = subst (λ t. IsKnownText t es) is h in
     subst (λ t. IsKnownText t es) (all_read limit max_bytes b (omega arith) limited.short) limited
+
+pub entries_read : (known : Option Text) (read : Text) (es : List KnownEntry) → IsRead known read → ListsEntries read es → IfSome known (λ b. ListsEntries b es)
+entries_read None read es is h = tt
+entries_read (Some b) read es is h = (h.0, known_read (Some b) read h.0 is h.1, h.2)
 
 pub stop_read : (known : Option Text) (read : Text) (stop : KnownStop) → IsRead known read → KnownStopsRightly read stop → IfSome known (λ b. KnownStopsRightly b stop)
 stop_read None read stop is h = tt

@@ -1,6 +1,7 @@
 -- Findings that are known, and the text of a list of them.
 use Rattle.std.specs.{Prelude.{List, Bool, ◌&&◌, not}, List.{filter, list_any}}
-use Rattle.ocfl_tree.specs.Place.{text_eq, place_eq, begins}
+use Rattle.std.specs.declared.cmp.Ordering.{Ordering}
+use Rattle.ocfl_tree.specs.Place.{Place as Spot, place_cmp, text_eq, place_eq, begins}
 use Rattle.ocfl_report.specs.{Line.{Line, line_of}, Text.{code_text}, declared.code.Code.{Code}}
 use Rattle.ocfl_telling.specs.declared.known.Reach.{Reach}
 use Rattle.ocfl_telling.specs.declared.known.Reach.TheVariants.{One, Place, Branch}
@@ -22,6 +23,14 @@ names l e = code_eq e.line.code l.code && reaches e.reach (line_of e.line) l
 
 abbrev pub is_known : List KnownEntry → Line → Bool
 is_known es l = list_any (names l) es
+
+-- entries by their places
+abbrev pub entry_cmp : KnownEntry → KnownEntry → Ordering
+entry_cmp e f = place_cmp e.line.place f.line.place
+
+-- the entry is of this place, and names the line
+abbrev pub names_at : Spot → Line → KnownEntry → Bool
+names_at p l e = place_eq e.line.place p && names l e
 
 -- the lines that a list leaves
 abbrev pub unknown : List KnownEntry → List Line → List Line

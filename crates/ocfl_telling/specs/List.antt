@@ -1,6 +1,6 @@
 -- The text of a list of known findings.
 use Rattle.std.specs.Prelude.{◌≡◌, ◌≢◌, ◌⊎◌, ℕ, ◌+◌, ◌<◌, ◌≤◌, List, [], ◌∷◌, ◌++◌, All, Option, Some, None, codes, flat_map, length, ⊤}
-use Rattle.std.specs.List.{filter_map}
+use Rattle.std.specs.{List.{filter_map}, List.Sorted.{IsPermutation}}
 use Rattle.ocfl_tree.specs.Place.{Text}
 use Rattle.ocfl_report.specs.{Line.{Line, line_of}, Text.{IsLineText}}
 use Rattle.ocfl_telling.specs.declared.known.Reach.{Reach}
@@ -86,6 +86,10 @@ pub record IsKnownText (b : Text) (es : List KnownEntry) : Type 0 where
   pub text : Text
   pub ended : IsEnded b text
   pub list : IsList text es
+
+-- and the entries are these, in some order
+abbrev pub ListsEntries : Text → List KnownEntry → Type 0
+ListsEntries b es = (read : List KnownEntry) × IsKnownText b read × IsPermutation read es
 
 -- or their line with this number is the first that is none of a list
 pub record IsBadLine (b : Text) (n : ℕ) : Type 0 where

@@ -39,10 +39,10 @@ impl Found {
     /// time. [`TextStop::Bad`] if one of their lines is not a line of a report.
     pub fn take(self, alloc: Global, known: &Known, bytes: &[u8]) -> Result<Found, TextStop>
         ensures ok { IfOk result (λ found. (b : ModelText)
-            → IsAfter known.now.entries.items self b
-            → IsAfter known.now.entries.items found (b ++ bytes.now)) }
+            → IsAfter known.now self b
+            → IsAfter known.now found (b ++ bytes.now)) }
         ensures bad { result ≡ Err TextStop.Bad → (b : ModelText)
-            → IsAfter known.now.entries.items self b → HasBadLine (b ++ bytes.now) }
+            → IsAfter known.now self b → HasBadLine (b ++ bytes.now) }
     {
         let mut found = self;
         let mut left = bytes;
@@ -58,10 +58,10 @@ impl Found {
     fn end_line(self, alloc: Global, known: &Known, part: &[u8]) -> Result<Found, TextStop>
         requires { All (λ c. c ≢ 10) part.now }
         ensures ok { IfOk result (λ found. (b : ModelText)
-            → IsAfter known.now.entries.items self b
-            → IsAfter known.now.entries.items found (b ++ (part.now ++ 10 ∷ []))) }
+            → IsAfter known.now self b
+            → IsAfter known.now found (b ++ (part.now ++ 10 ∷ []))) }
         ensures bad { result ≡ Err TextStop.Bad → (b after : ModelText)
-            → IsAfter known.now.entries.items self b
+            → IsAfter known.now self b
             → HasBadLine (b ++ (part.now ++ 10 ∷ []) ++ after) }
     {
         let Found {
@@ -92,8 +92,8 @@ impl Found {
 /// Takes a line, unless it is known.
 fn add_unknown(gravest: &mut Gravest, known: &Known, line: Line) -> Result<(), AllocError>
     ensures { OnOk result ((ls : List ModelLine)
-        → IsOf gravest.old (unknown known.now.entries.items ls)
-        → IsOf gravest.new (unknown known.now.entries.items (ls ++ line_of line ∷ []))) }
+        → IsOf gravest.old (unknown known.now ls)
+        → IsOf gravest.new (unknown known.now (ls ++ line_of line ∷ []))) }
 {
     if known.names(&line) {
         return Ok(());

@@ -1,8 +1,10 @@
-//! The laws of weights.
+//! The laws of weights, and of lists of known findings.
 ghost use Rattle.std.specs.Prelude.{◌≡◌, List, length, is_some};
 ghost use Rattle.ocfl_report.specs.Line.{Line as ModelLine, is_finding_code};
 ghost use Rattle.ocfl_report.specs.declared.code.Code.{Code as ModelCode};
-ghost use Rattle.ocfl_telling.specs.{Weight.{weight_of}, Gravest.{findings, by_weight}};
+ghost use Rattle.std.specs.List.Sorted.{IsPermutation};
+ghost use Rattle.ocfl_telling.specs.{Known.{is_known}, Weight.{weight_of}, Gravest.{findings, by_weight}};
+ghost use Rattle.ocfl_telling.specs.declared.known.KnownEntry.{KnownEntry as ModelEntry};
 
 /// Just the findings have a weight.
 #[tactic(auto, using(crate::proofs::Weights::weighed))]
@@ -14,4 +16,11 @@ pub fn findings_have_weights()
 #[tactic(auto, using(crate::proofs::Weights::all_weighed))]
 pub fn all_findings_are_ordered()
     ensures { (ls : List ModelLine) → length (by_weight ls) ≡ length (findings ls) }
+{}
+
+/// Which findings a list names does not depend on the order of its entries.
+#[tactic(auto, using(crate::proofs::Knowns::known_in_any_order))]
+pub fn order_of_entries_does_not_matter()
+    ensures { (es fs : List ModelEntry) (l : ModelLine) → IsPermutation es fs
+        → is_known es l ≡ is_known fs l }
 {}

@@ -1,8 +1,9 @@
 //! Reading a list of known findings from its text.
 ghost use Rattle.std.specs.Prelude.{◌≡◌, ◌≢◌, ◌⊎◌, ◌↔◌, ◌++◌, ◌∷◌, [], IfOk, IfErr, IfSome, IsNone, IsTrue, OnOk};
+ghost use Rattle.std.specs.List.Sorted.{IsPermutation};
 ghost use Rattle.ocfl_tree.specs.Place.{Text as ModelText};
 ghost use Rattle.ocfl_report.specs.{Line.{Line as ModelLine, line_of}, Text.{IsLineText}};
-ghost use Rattle.ocfl_telling.specs.List.{BeginsWith, HasFeed, IsEnded, IsEntry, IsKnownText, IsList, IsRemark, IsRow, NamesLoss, KnownStopsRightly, Row as ModelRow, RowsStop, entries_of, row_text};
+ghost use Rattle.ocfl_telling.specs.List.{BeginsWith, HasFeed, IsEnded, IsEntry, IsKnownText, IsList, IsRemark, IsRow, NamesLoss, KnownStopsRightly, ListsEntries, Row as ModelRow, RowsStop, entries_of, row_text};
 ghost use Rattle.ocfl_telling.specs.declared.known.KnownEntry.{KnownEntry as ModelEntry};
 
 use crate::known::{Known, KnownEntry, Reach};
@@ -39,7 +40,7 @@ pub enum KnownStop {
 pub fn read_known<R: Read>(alloc: Global, reader: &mut R) -> Result<Known, KnownStop>
     ensures known { IfOk result
         (λ known. IfSome (R.remaining reader.old)
-        (λ bytes. IsKnownText bytes known.entries.items)) }
+        (λ bytes. ListsEntries bytes known)) }
     ensures refused { IfErr result
         (λ stop. IfSome (R.remaining reader.old) (λ bytes. KnownStopsRightly bytes stop)) }
 {
@@ -52,7 +53,7 @@ pub fn read_known<R: Read>(alloc: Global, reader: &mut R) -> Result<Known, Known
 
 /// The list whose text the bytes are.
 fn read_text(alloc: Global, bytes: Vec<u8>) -> Result<Known, KnownStop>
-    ensures known { IfOk result (λ known. IsKnownText bytes.items known.entries.items) }
+    ensures known { IfOk result (λ known. ListsEntries bytes.items known) }
     ensures refused { IfErr result (λ stop. KnownStopsRightly bytes.items stop) }
 {
     if bytes.len() > MAX_BYTES {
@@ -62,7 +63,19 @@ fn read_text(alloc: Global, bytes: Vec<u8>) -> Result<Known, KnownStop>
     if end_last_line(&mut text).is_err() {
         return Err(KnownStop::Memory);
     }
-    read_rows(alloc, text.as_slice())
+    let entries = read_rows(alloc, text.as_slice())?;
+    sorted_by_place(entries)
+}
+
+/// The list of these entries.
+fn sorted_by_place(entries: Vec<KnownEntry>) -> Result<Known, KnownStop>
+    ensures known { IfOk result (λ known. IsPermutation entries.items known) }
+    ensures memory { IfErr result (λ stop. stop ≡ KnownStop.Memory) }
+{
+    match Known::of(entries) {
+        Ok(known) => Ok(known),
+        Err(_) => Err(KnownStop::Memory),
+    }
 }
 
 /// Appends the line feed that the last line may lack.
@@ -89,16 +102,16 @@ fn is_ended(bytes: &[u8]) -> bool
     }
 }
 
-/// The list of these lines.
-fn read_rows(alloc: Global, bytes: &[u8]) -> Result<Known, KnownStop>
-    ensures known { IfOk result (λ known. IsList bytes.now known.entries.items) }
+/// The entries of these lines.
+fn read_rows(alloc: Global, bytes: &[u8]) -> Result<Vec<KnownEntry>, KnownStop>
+    ensures known { IfOk result (λ entries. IsList bytes.now entries.items) }
     ensures refused { IfErr result (λ stop. RowsStop bytes.now stop) }
 {
     let mut entries = Vec::new(alloc);
     let mut rest = bytes;
     for number in 1..usize::MAX {
         if rest.is_empty() {
-            return Ok(Known { entries });
+            return Ok(entries);
         }
         match take_row(alloc, rest, &mut entries) {
             Ok(after) => rest = after,

@@ -226,7 +226,7 @@ fn known_as(alloc: Global, reach: Reach, text: &str) -> Result<Known, Fail> {
     let mut entries = Vec::new(alloc);
     let line = line_of(alloc, text)?;
     entries.push(KnownEntry { reach, line })?;
-    Ok(Known { entries })
+    Ok(Known::of(entries)?)
 }
 
 /// An entry, a report of lines that it names, and one of lines that it does not.
@@ -263,6 +263,70 @@ fn lists_name_findings(rt: HostRuntime) -> Result<(), Fail> {
                 assert_eq!(rt; known.names(&line), wanted, "{entry}{line:?}");
             }
         }
+    }
+    Ok(())
+}
+
+/// Places by their paths, each before those that come after it.
+const PLACES: [&str; 7] = [".", "a", "a/b", "a/b/c", "a-b", "a-b/c", "b"];
+
+/// Whether an entry of this place names a finding of another one.
+fn is_reached(reach: Reach, path: &str, other: &str) -> bool {
+    match reach {
+        Reach::One | Reach::Place => path == other,
+        Reach::Branch if path == "." || path == other => true,
+        Reach::Branch => match other.strip_prefix(path) {
+            Some(rest) => rest.starts_with('/'),
+            None => false,
+        },
+    }
+}
+
+/// Entries of each reach at two places, in both orders, name what one of them names.
+#[test]
+fn lists_of_two_entries_name_what_each_names(rt: HostRuntime) -> Result<(), Fail> {
+    let alloc = rt.alloc();
+    for path in PLACES {
+        for next in PLACES {
+            for reach in [Reach::One, Reach::Place, Reach::Branch] {
+                let mut entries = Vec::new(alloc);
+                for (reach, path) in [(reach, path), (Reach::Branch, next)] {
+                    let line = line_of(alloc, format!(in alloc; "E092\t{path}\t-\n")?.as_str())?;
+                    entries.push(KnownEntry { reach, line })?;
+                }
+                let known = Known::of(entries)?;
+                for other in PLACES {
+                    let text = format!(in alloc; "E092\t{other}\t-\n")?;
+                    let wanted = is_reached(reach, path, other)
+                        || is_reached(Reach::Branch, next, other);
+                    assert_eq!(rt;
+                        known.names(&line_of(alloc, text.as_str())?),
+                        wanted,
+                        "{path} {next} {other}"
+                    );
+                }
+            }
+        }
+    }
+    Ok(())
+}
+
+/// Each entry of a long list names its finding, in whichever order they come, and no other.
+#[test]
+fn long_lists_name_their_findings(rt: HostRuntime) -> Result<(), Fail> {
+    let alloc = rt.alloc();
+    let mut entries = Vec::new(alloc);
+    for number in 0..100u64 {
+        let path = number * 37 % 100;
+        let line = line_of(alloc, format!(in alloc; "E092\to/{path}\t-\n")?.as_str())?;
+        let reach = Reach::Place;
+        entries.push(KnownEntry { reach, line })?;
+    }
+    let known = Known::of(entries)?;
+    assert_eq!(rt; known.count(), 100);
+    for path in 0..200u64 {
+        let line = line_of(alloc, format!(in alloc; "E092\to/{path}\tx\n")?.as_str())?;
+        assert_eq!(rt; known.names(&line), path < 100, "{path}");
     }
     Ok(())
 }
@@ -617,11 +681,7 @@ fn lists_of_known_findings_are_read(rt: HostRuntime) -> Result<(), Fail> {
     let alloc = rt.alloc();
     for (text, count) in LISTS {
         let mut reader = text.as_bytes();
-        assert_eq!(rt;
-            read_known(alloc, &mut reader)?.entries.len(),
-            count,
-            "{text}"
-        );
+        assert_eq!(rt; read_known(alloc, &mut reader)?.count(), count, "{text}");
     }
     let mut reader = b"E072\t./\nE092\ta\nE093\tb\tmd5 missing\n".as_slice();
     let known = read_known(alloc, &mut reader)?;

@@ -5,7 +5,7 @@ use Rattle.ocfl_telling.proofs.Pieces.{bad_joined, cut_on, rest_joined, rest_kep
 use Rattle.ocfl_telling.proofs.found.Found.take.Goals as goal
 
 pub loop-part-init : goal.loop-part-init
-loop-part-init c = record { done = []; cut = refl; after = λ b h. subst (IsAfter c.args.known.now.entries.items c.args.self) (sym (append-nil b)) h }
+loop-part-init c = record { done = []; cut = refl; after = λ b h. subst (IsAfter c.args.known.now c.args.self) (sym (append-nil b)) h }
 
 pub returns-in_err-found-clause-bad : goal.returns-in_err-found-clause-bad
 returns-in_err-found-clause-bad c = λ e b h.
@@ -20,13 +20,13 @@ loop-part-preserved c =
     record {
       done = inv.done ++ (c.in-Some.part.now ++ 10 ∷ []);
       cut = cut_on inv.done c.in-Some.part.now c.in-Some.after.now c.args.bytes.now c.loop-part.left.now inv.cut c.in-Some.ensures.found;
-      after = λ b h. subst (IsAfter c.args.known.now.entries.items c.in_ok-found.found) (append_assoc b inv.done (c.in-Some.part.now ++ 10 ∷ []))
+      after = λ b h. subst (IsAfter c.args.known.now c.in_ok-found.found) (append_assoc b inv.done (c.in-Some.part.now ++ 10 ∷ []))
           (c.in_ok-found.ensures.ok (b ++ inv.done) (inv.after b h));
     }
 
 pub returns-clause-ok : goal.returns-clause-ok
 returns-clause-ok c = λ b h.
     let inv = c.loop-part.invariant in
-    subst (IsAfter c.args.known.now.entries.items _) (rest_joined b inv.done c.args.bytes.now c.loop-part.left.now inv.cut)
-    (rest_kept c.args.known.now.entries.items c.loop-part.found _ (b ++ inv.done) c.loop-part.left.now (inv.after b h) (c.in_default.ensures.missing refl)
+    subst (IsAfter c.args.known.now _) (rest_joined b inv.done c.args.bytes.now c.loop-part.left.now inv.cut)
+    (rest_kept c.args.known.now c.loop-part.found _ (b ++ inv.done) c.loop-part.left.now (inv.after b h) (c.in_default.ensures.missing refl)
     c.in_ok-extend_from_slice.ensures.items refl)

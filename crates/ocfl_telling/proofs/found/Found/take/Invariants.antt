@@ -7,7 +7,7 @@ abbrev pub invariant-loop-part : goal.invariant-loop-part
 invariant-loop-part l = record {
   done : Text;
   cut : l.bytes ≡ done ++ l.left;
-  after : (b : Text) → IsAfter l.known.entries.items l.fn.self b → IsAfter l.known.entries.items l.found (b ++ done);
+  after : (b : Text) → IsAfter l.known l.fn.self b → IsAfter l.known l.found (b ++ done);
 }
 
 abbrev pub decreases-loop-part : goal.decreases-loop-part

@@ -99,7 +99,3 @@ gone_text c = section_text c.gone_count (gone_head c.gone_count c.cycle) (gone_l
 abbrev pub closing_text : Closing → List Line → Text
 closing_text c ls = ended_text c.whole c.cycle c.report.now ++ uncompared_text c.uncompared.now ++ new_text c ls ++ repaired_text c ++ back_text c
     ++ gone_text c ++ unlooked_text c.unlooked
-
--- of a night that read on in a cycle that has a closed report
-abbrev pub closed_before_text : ℕ → Text
-closed_before_text cycle = codes "The report of cycle " ++ decimal cycle ++ codes " was closed before: what this night read of it is in no report.\n"

@@ -3,7 +3,7 @@
 ghost use Rattle.std.specs.Prelude.{◌≡◌, ◌++◌, ◌^◌, ◌<◌, List, length, map, take, IfOk, OnOk, string_bytes};
 ghost use Rattle.ocfl_report.specs.{Line.{Line as ModelLine, line_of}, Text.{lines_text}};
 ghost use Rattle.ocfl_telling.specs.Gravest.{IsOf, by_weight, most_shown};
-ghost use Rattle.ocfl_telling.specs.Closing.{closing_text as text_of_closing, above_text, back_head, back_line, back_lines, back_text, closed_before_text as text_of_closed_before, ended_text, gone_lines, gone_line, section_text, not_shown, new_head, repaired_head, gone_head, kind_text, new_text, repaired_text, not_known_text, not_whole_text, some_above_text, some_unlooked_text, uncompared_text, unlooked_text, unsaid_text};
+ghost use Rattle.ocfl_telling.specs.Closing.{closing_text as text_of_closing, above_text, back_head, back_line, back_lines, back_text, ended_text, gone_lines, gone_line, section_text, not_shown, new_head, repaired_head, gone_head, kind_text, new_text, repaired_text, not_known_text, not_whole_text, some_above_text, some_unlooked_text, uncompared_text, unlooked_text, unsaid_text};
 ghost use Rattle.ocfl_telling.specs.Night.{more_text};
 
 use crate::gravest::{Gravest, SHOWN};
@@ -414,15 +414,4 @@ pub fn closing_text(alloc: Global, closing: &Closing<'_>) -> Result<Vec<u8>, All
     put_all_gone(alloc, head.as_str(), closing, &mut text)?;
     text.extend_from_slice(unlooked(alloc, closing.unlooked)?.as_bytes())?;
     Ok(text)
-}
-
-/// What is said of a night that read on in a cycle whose report was closed before, as after a state
-/// folder was restored from a copy.
-pub fn closed_before_text(alloc: Global, cycle: u64) -> Result<String, AllocError>
-    ensures { IfOk result (λ text. string_bytes text ≡ text_of_closed_before cycle) }
-{
-    format!(in alloc;
-        "The report of cycle {cycle} was closed before: what this night read of it is in no \
-         report.\n"
-    )
 }

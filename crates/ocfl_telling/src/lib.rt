@@ -20,7 +20,7 @@ mod shown;
 mod stop;
 mod weight;
 
-pub use closing::{Closing, Gone, GoneKind, closed_before_text, closing_text};
+pub use closing::{Closing, Gone, GoneKind, closing_text};
 pub use found::Found;
 pub use gravest::{Gravest, Kept, SHOWN};
 pub use known::{Known, KnownEntry, Reach};

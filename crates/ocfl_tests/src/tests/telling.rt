@@ -5,8 +5,8 @@ use ocfl_report::{Line, TextStop, read_line};
 use ocfl_telling::{
     Closing, ClosingRow, Found, Gone, GoneKind, Gravest, Known, KnownEntry, KnownStop, LeftRow,
     LogRow, Night, NightRow, Quoted, Reach, RefusalMessage, RefusalRow, SliceRow, Stands,
-    StopMessage, Weight, closed_before_text, closing_text, log_line, night_text, read_known,
-    refusal_text, stop_text, weigh,
+    StopMessage, Weight, closing_text, log_line, night_text, read_known, refusal_text, stop_text,
+    weigh,
 };
 use ocfl_tree::Place;
 use std::alloc::Global;
@@ -525,15 +525,6 @@ fn closings_say_no_line_twice(rt: HostRuntime) -> Result<(), Fail> {
         let text = String::from_utf8(closing_text(alloc, &closing)?)?;
         assert_eq!(rt; text.as_str(), wanted);
     }
-    Ok(())
-}
-
-#[test]
-fn cycles_that_were_closed_before_are_said(rt: HostRuntime) -> Result<(), Fail> {
-    assert_eq!(rt;
-        closed_before_text(rt.alloc(), 7)?.as_str(),
-        "The report of cycle 7 was closed before: what this night read of it is in no report.\n"
-    );
     Ok(())
 }
 

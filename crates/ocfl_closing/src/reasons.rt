@@ -1,10 +1,10 @@
-//! Why places of a storage root could not be read, in the system's words.
+//! Why places of a storage root could not be read, in words.
 
 use ocfl_report::DisplayPlace;
 use ocfl_tree::Place;
 use std::alloc::{AllocError, Global};
 use std::cell::Cell;
-use std::io;
+use std::{io, mem};
 
 /// Of how many places the reason is kept at most.
 const MOST: usize = 1_000;
@@ -13,7 +13,7 @@ const MOST: usize = 1_000;
 #[derive(Debug, Drop)]
 pub struct Reason {
     pub place: Place,
-    pub error: io::Error,
+    pub words: String,
 }
 
 /// Why the places could not be read that were met last: those of up to 1,000 places.
@@ -21,7 +21,15 @@ pub struct Reason {
 pub struct Reasons {
     kept: Vec<Reason>,
     /// That of the last call that failed.
-    last: Option<io::Error>,
+    last: Option<String>,
+}
+
+/// A copy of some words. `None` if there are none, or no memory for them.
+fn copy_of(alloc: Global, words: &Option<String>) -> Option<String> {
+    match words {
+        Some(words) => String::from_str(alloc, words.as_str()).ok(),
+        None => None,
+    }
 }
 
 impl Reasons {
@@ -33,49 +41,68 @@ impl Reasons {
         }
     }
 
-    /// Keeps why a place could not be read. One for which there is no memory is not kept.
-    fn keep(&mut self, place: &Place, error: io::Error) {
-        self.last = Some(error);
+    /// Keeps why a place could not be read. What there is no memory for is not kept.
+    fn keep(&mut self, alloc: Global, place: &Place, words: Option<String>) {
+        let copy = copy_of(alloc, &words);
+        self.last = words;
         if self.kept.len() >= MOST || self.find(place).is_some() {
             return;
         }
-        if let Ok(place) = place.try_clone() {
-            let _ = self.kept.push(Reason { place, error });
+        if let (Some(words), Ok(place)) = (copy, place.try_clone()) {
+            let _ = self.kept.push(Reason { place, words });
         }
     }
 
     /// Why a place could not be read, if that is kept.
-    pub fn find(&self, place: &Place) -> Option<io::Error> {
+    pub fn find(&self, place: &Place) -> Option<&str> {
         for reason in &self.kept {
             if reason.place == *place {
-                return Some(reason.error);
+                return Some(reason.words.as_str());
             }
         }
         None
     }
 }
 
-/// Keeps in a cell why a place could not be read.
-pub fn keep_reason(alloc: Global, cell: &Cell<Reasons>, place: &Place, error: io::Error) {
+/// Keeps in a cell why a place could not be read; no words if there was no memory for them.
+pub fn keep_reason(alloc: Global, cell: &Cell<Reasons>, place: &Place, words: Option<String>) {
     let mut reasons = cell.replace(Reasons::new(alloc));
-    reasons.keep(place, error);
+    reasons.keep(alloc, place, words);
     cell.set(reasons);
 }
 
 /// Why the last call failed that did.
-pub fn last_reason(alloc: Global, cell: &Cell<Reasons>) -> Option<io::Error> {
+pub fn last_reason(alloc: Global, cell: &Cell<Reasons>) -> Option<String> {
     let reasons = cell.replace(Reasons::new(alloc));
-    let last = reasons.last;
+    let last = copy_of(alloc, &reasons.last);
     cell.set(reasons);
     last
 }
 
-/// Takes all that is kept.
+/// Why a call failed, with all that is kept of it if it is the last one that failed.
+pub fn words_on(
+    alloc: Global,
+    cell: &Cell<Reasons>,
+    error: io::Error,
+) -> Result<String, AllocError> {
+    let words = format!(in alloc; "{error}")?;
+    match last_reason(alloc, cell) {
+        Some(last) if last.as_str().starts_with(words.as_str()) => Ok(last),
+        _ => Ok(words),
+    }
+}
+
+/// Takes all that is kept, but for why the last call failed.
 pub fn take_reasons(alloc: Global, cell: &Cell<Reasons>) -> Reasons {
-    cell.replace(Reasons::new(alloc))
+    let mut reasons = cell.replace(Reasons::new(alloc));
+    cell.set(Reasons {
+        kept: Vec::new(alloc),
+        last: mem::replace(&mut reasons.last, None),
+    });
+    reasons
 }
 
 /// The line that says why a place could not be read.
-pub fn reason_line(alloc: Global, place: &Place, error: io::Error) -> Result<String, AllocError> {
-    format!(in alloc; "{}: {error}\n", DisplayPlace(place))
+pub fn reason_line(alloc: Global, place: &Place, words: &str) -> Result<String, AllocError> {
+    format!(in alloc; "{}: {words}\n", DisplayPlace(place))
 }

@@ -228,8 +228,8 @@ fn put_reasons_of(
 ) -> Result<usize, AllocError> {
     for line in &lines[..lines.len().min(room)] {
         if line.code == Code::S08 {
-            if let Some(error) = reasons.find(&line.place) {
-                text.extend_from_slice(reason_line(alloc, &line.place, error)?.as_bytes())?;
+            if let Some(words) = reasons.find(&line.place) {
+                text.extend_from_slice(reason_line(alloc, &line.place, words)?.as_bytes())?;
             }
         }
     }

@@ -2,6 +2,7 @@
 //! standard error with progress on a terminal, and the exit status.
 #![tactic(auto)]
 
+mod naming;
 mod nights;
 mod paths;
 mod progress;

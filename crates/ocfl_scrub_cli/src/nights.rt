@@ -18,7 +18,7 @@ use ocfl_closing::closing::Closings;
 use ocfl_closing::failing::{Failure, say_failure, say_text};
 use ocfl_closing::lists::{find_known, refuse_unfit};
 use ocfl_closing::making::file_failure;
-use ocfl_closing::reasons::{Reason as Why, Reasons};
+use ocfl_closing::reasons::{Reason as Why, Reasons, words_on};
 use ocfl_closing::stand::Standing;
 use ocfl_closing::state::{Begun, is_of_root, open_state, read_begun, refuse_overlap, words_of};
 use ocfl_closing::state_dir::StateDir;
@@ -68,7 +68,7 @@ struct Made {
     findings: u64,
     broken: u64,
     /// Why the last call over the storage root failed that did.
-    reason: Option<io::Error>,
+    why: Option<String>,
     /// The places that were left out in it, and why.
     left: Vec<Why>,
 }
@@ -81,7 +81,7 @@ impl Drop for Made {
             cost: _cost,
             findings: _findings,
             broken: _broken,
-            reason: _reason,
+            why: _why,
             left: _left,
         } = self;
     }
@@ -202,13 +202,13 @@ fn night_over<R, S, T, C, W>(
     shown: Shown,
 ) -> NightEnd
 where
-    R: AllocGlobal + Clock + Eprint,
+    R: Files + AllocGlobal + Clock + Eprint,
     S: StateFolder,
     T: Tree + Reasoned,
     C: ocfl_night::Clock,
     W: Write,
 {
-    let mut tree = Watched::over(rt, tree, shown.is_shown, Some(reasons), shown.last_cost);
+    let mut tree = Watched::over(rt, tree, shown.is_shown, reasons, shown.last_cost);
     night(
         rt.alloc(),
         folder,
@@ -230,7 +230,7 @@ fn night_in<R, S, C, W>(
     out: &mut W,
     reasons: &Cell<Reasons>,
     shown: Shown,
-) -> Result<(NightEnd, Option<io::Error>), Failure>
+) -> Result<(NightEnd, Option<String>), Failure>
 where
     R: Files + Env + AllocGlobal + Clock + Eprint,
     S: StateFolder,
@@ -244,7 +244,7 @@ where
     let end = night_over(
         rt, given, folder, &mut tree, clock, &mut block, out, reasons, shown,
     );
-    Ok((end, tree.reason()))
+    Ok((end, why_of(rt.alloc(), reasons, tree.reason())))
 }
 
 /// Makes a night over an open folder. `now` is where the nights stand.
@@ -275,13 +275,13 @@ where
         now.clone()?,
         out,
     );
-    let (end, reason) = night_in(rt, given, folder, &mut clock, &mut teller, &reasons, shown)?;
+    let (end, why) = night_in(rt, given, folder, &mut clock, &mut teller, &reasons, shown)?;
     Ok(Made {
         end,
         cost: began.spent_until(now.get()),
         findings: teller.findings(),
         broken: teller.broken(),
-        reason,
+        why,
         left: Vec::new(rt.alloc()),
     })
 }
@@ -328,11 +328,12 @@ where
     earlier.max(status_told(rt, now))
 }
 
-/// The system's words on the last call over the storage root that failed.
-fn why_of(alloc: Global, reason: Option<io::Error>) -> Result<Option<String>, AllocError> {
-    match reason {
-        Some(error) => Ok(Some(format!(in alloc; "{error}")?)),
-        None => Ok(None),
+/// The words on the last call over the storage root that failed. None if there is no memory for
+/// them.
+fn why_of(alloc: Global, reasons: &Cell<Reasons>, error: Option<io::Error>) -> Option<String> {
+    match error {
+        Some(error) => words_on(alloc, reasons, error).ok(),
+        None => None,
     }
 }
 
@@ -349,8 +350,8 @@ where
 {
     let alloc = rt.alloc();
     let words = words_of(alloc, folder.reason())?;
-    let why = why_of(alloc, made.reason)?;
-    let said = ending_text(alloc, &made.end.end, text_of(&words), text_of(&why), names)?;
+    let why = text_of(&made.why);
+    let said = ending_text(alloc, &made.end.end, text_of(&words), why, names)?;
     if let Some(said) = &said {
         say_text(rt, said.as_str());
     }

@@ -1,6 +1,7 @@
 //! Progress: one line on a terminal, which is written over again while a command works.
 ghost use Rattle.std.specs.Prelude.{◌≡◌};
 
+use crate::naming::why_failed;
 use ocfl_closing::reasons::{Reasons, keep_reason};
 use ocfl_folder::{FsTree, System};
 use ocfl_inventory::{Level, is_declaration_name};
@@ -9,6 +10,7 @@ use ocfl_tree::{Entry, Kind, Place, Tree, Trouble};
 use std::alloc::AllocError;
 use std::cell::Cell;
 use std::io::{self, IsTerminal, Write};
+use std::rt::Files;
 use std::time::{Clock, Instant};
 
 /// The work from one showing to the next, in bytes: a fifth of a second and more.
@@ -75,13 +77,12 @@ impl<S: System + Drop> Reasoned for FsTree<S> {
     }
 }
 
-/// A store that shows how much of its content was read, and keeps why a place could not be read, if
-/// that is asked for.
+/// A store that shows how much of its content was read, and keeps why a place could not be read.
 pub(crate) struct Watched<'a, R, T> {
     store: &'a mut T,
     rt: &'a R,
     is_shown: bool,
-    reasons: Option<&'a Cell<Reasons>>,
+    reasons: &'a Cell<Reasons>,
     /// What the last cycle cost, if that is known.
     last_cost: Option<u128>,
     /// When the work began, if the clock can be read.
@@ -118,12 +119,12 @@ impl<R, T> Drop for Watched<'_, R, T> {
     }
 }
 
-impl<'a, R: AllocGlobal + Clock + Eprint, T: Reasoned> Watched<'a, R, T> {
+impl<'a, R: Files + AllocGlobal + Clock + Eprint, T: Reasoned> Watched<'a, R, T> {
     pub(crate) fn over(
         rt: &'a R,
         store: &'a mut T,
         is_shown: bool,
-        reasons: Option<&'a Cell<Reasons>>,
+        reasons: &'a Cell<Reasons>,
         last_cost: Option<u128>,
     ) -> Watched<'a, R, T> {
         Watched {
@@ -146,9 +147,6 @@ impl<'a, R: AllocGlobal + Clock + Eprint, T: Reasoned> Watched<'a, R, T> {
     fn reach(&mut self, place: &Place)
         ensures { self.new.store ≡ self.old.store }
     {
-        if !self.is_shown && self.reasons.is_none() {
-            return;
-        }
         // Its text is made when it is shown. If memory is refused, the place before stays.
         if let Ok(place) = place.try_clone() {
             self.place = place;
@@ -161,8 +159,9 @@ impl<'a, R: AllocGlobal + Clock + Eprint, T: Reasoned> Watched<'a, R, T> {
         if trouble != Trouble::Device {
             return;
         }
-        if let (Some(reasons), Some(error)) = (self.reasons, self.store.reason_of_last()) {
-            keep_reason(self.rt.alloc(), reasons, &self.place, error);
+        if let Some(error) = self.store.reason_of_last() {
+            let words = why_failed(self.rt, error).ok();
+            keep_reason(self.rt.alloc(), self.reasons, &self.place, words);
         }
     }
 
@@ -255,7 +254,7 @@ impl<'a, R: AllocGlobal + Clock + Eprint, T: Reasoned> Watched<'a, R, T> {
 }
 
 /// Does what the inner store does, with the same contract.
-impl<R: AllocGlobal + Clock + Eprint, T: Tree + Reasoned> Tree for Watched<'_, R, T> {
+impl<R: Files + AllocGlobal + Clock + Eprint, T: Tree + Reasoned> Tree for Watched<'_, R, T> {
     ghost told = { T.told };
 
     ghost state = { λ watched. T.state watched.store.now };

@@ -6,6 +6,7 @@ use ocfl_parts::SplitStop;
 use ocfl_report::DisplayPlace;
 use ocfl_scope::ScopeStop;
 use ocfl_scrub::Note;
+use std::fmt::Display;
 use std::io;
 use thiserror::Error;
 
@@ -60,7 +61,7 @@ impl NotDone {
 pub(crate) fn say_stop<R: Eprint>(rt: &R, stop: &NotDone) -> u8 {
     let _ = eprintln!(rt; "ocfl-scrub: {stop}");
     if let NotDone::Reasoned(note, reason) = stop {
-        say_reason(rt, note, *reason);
+        say_reason(rt, note, reason);
     }
     stop.status()
 }
@@ -73,8 +74,12 @@ pub(crate) fn say_note<R: Eprint>(rt: &R, note: &Note) {
 }
 
 /// Says why a store did not answer at a place, if that is what a command stopped for.
-pub(crate) fn say_reason<R: Eprint>(rt: &R, note: &Note, reason: Option<io::Error>) {
-    if let (Note::StoppedAt(place), Some(error)) = (note, reason) {
-        let _ = eprintln!(rt; "ocfl-scrub: {}: {error}", DisplayPlace(place));
+pub(crate) fn say_reason<R, D>(rt: &R, note: &Note, reason: &Option<D>)
+where
+    R: Eprint,
+    D: Display,
+{
+    if let (Note::StoppedAt(place), Some(why)) = (note, reason) {
+        let _ = eprintln!(rt; "ocfl-scrub: {}: {why}", DisplayPlace(place));
     }
 }

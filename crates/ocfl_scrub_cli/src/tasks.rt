@@ -8,7 +8,7 @@ use crate::saying::{
 use crate::scope::read_scope;
 use crate::showing::show_file;
 use ocfl_closing::files::{lies_inside, open_if_there, put_in_place};
-use ocfl_closing::reasons::Reasons;
+use ocfl_closing::reasons::{Reasons, words_on};
 use ocfl_cursor::{State, read_cursor, read_part_cursor};
 use ocfl_deed::Deed;
 use ocfl_digest::Block;
@@ -83,7 +83,7 @@ where
 #[derive(Drop)]
 struct Done {
     performed: Performed,
-    reason: Option<io::Error>,
+    reason: Option<String>,
 }
 
 /// Does the deed over its folder. Fails with what is to be said if it cannot begin.
@@ -102,10 +102,11 @@ where
     };
     let reasons = Cell::new(Reasons::new(rt.alloc()));
     let performed = perform_over(rt, task, scope, shown_on, &mut folder, &reasons, block)?;
-    Ok(Done {
-        performed,
-        reason: folder.reason(),
-    })
+    let reason = match folder.reason() {
+        Some(error) => words_on(rt.alloc(), &reasons, error).ok(),
+        None => None,
+    };
+    Ok(Done { performed, reason })
 }
 
 /// Does the deed over a store, and shows progress. Fails with what is to be said if it cannot begin.
@@ -128,7 +129,7 @@ where
     } else {
         None
     };
-    let mut store = Watched::over(rt, store, shown_on.error, Some(reasons), last_cost);
+    let mut store = Watched::over(rt, store, shown_on.error, reasons, last_cost);
     let mut out = Clearing {
         rt,
         is_shared: shown_on.output,
@@ -163,7 +164,7 @@ where
 struct Ended {
     status: u8,
     note: Note,
-    reason: Option<io::Error>,
+    reason: Option<String>,
 }
 
 /// Does the deed, stores its cursor, and gives the status with what is to be said.
@@ -218,7 +219,7 @@ fn say_end<R: Eprint>(rt: &R, deed: &Deed, ended: &Ended) {
         }
         _ => {
             say_note(rt, &ended.note);
-            say_reason(rt, &ended.note, ended.reason);
+            say_reason(rt, &ended.note, &ended.reason);
         }
     }
 }

@@ -53,7 +53,7 @@ pub(crate) fn left_text(
 ) -> Result<String, AllocError> {
     for reason in left {
         if reason.place == *branch {
-            let why = reason.error;
+            let why = reason.words.as_str();
             return format!(in alloc; "left out: {}: {why}\n", DisplayPlace(branch));
         }
     }

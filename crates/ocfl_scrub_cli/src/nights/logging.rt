@@ -106,11 +106,11 @@ impl<'a, R: Files<File = File> + AllocGlobal + Clock> Journal<'a, R> {
         }
     }
 
-    /// Appends the line of a place that a checkpoint names as left out, and why it was, if that is
-    /// known.
-    pub(crate) fn left(&self, cycle: u64, left: &Left, error: Option<io::Error>) {
+    /// Appends the line of a place that a checkpoint names as left out, and why it was; that is
+    /// empty if it is not known.
+    pub(crate) fn left(&self, cycle: u64, left: &Left, why: &str) {
         let time = seconds_now(self.rt);
-        self.append(left_text(self.rt.alloc(), time, self.night, cycle, left, error));
+        self.append(left_text(self.rt.alloc(), time, self.night, cycle, left, why));
     }
 }
 
@@ -121,18 +121,14 @@ fn left_text(
     night: u64,
     cycle: u64,
     left: &Left,
-    error: Option<io::Error>,
+    why: &str,
 ) -> Result<String, AllocError> {
-    let why = match error {
-        Some(error) => format!(in alloc; "{error}")?,
-        None => String::new(alloc),
-    };
     let row = LeftRow {
         time,
         night,
         cycle,
         place: &left.place,
-        why: why.as_str(),
+        why,
     };
     log_line(alloc, &LogRow::Left(row))
 }

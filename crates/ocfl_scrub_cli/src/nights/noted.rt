@@ -69,10 +69,14 @@ impl<'a, R: Files<File = File> + AllocGlobal + Clock> Noting<'a, R> {
         let Some(left) = checkpoint.left.last() else {
             return;
         };
-        let error = last_reason(self.alloc, &self.reasons);
-        self.journal.left(checkpoint.cursor.cycle(), left, error);
-        if let (Some(error), Ok(place)) = (error, left.place.try_clone()) {
-            let _ = self.left.push(Reason { place, error });
+        let cycle = checkpoint.cursor.cycle();
+        let Some(words) = last_reason(self.alloc, &self.reasons) else {
+            self.journal.left(cycle, left, "");
+            return;
+        };
+        self.journal.left(cycle, left, words.as_str());
+        if let Ok(place) = left.place.try_clone() {
+            let _ = self.left.push(Reason { place, words });
         }
     }
 }

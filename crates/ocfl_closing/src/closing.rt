@@ -3,6 +3,7 @@
 //! The list of what is gone is put in its place once all was said. While it is not there, the next
 //! night compares again.
 
+use crate::back::{Places, gone_before, without};
 use crate::closed::{
     ClosedCycle, Earlier, MOST_BACK, both, find_closed, find_earlier, open_report, outside,
 };
@@ -42,6 +43,8 @@ pub struct Closings<'a, 'n, R: Files<File = File> + AllocGlobal> {
     pub expected: Option<&'n str>,
     /// When the night began.
     pub night: u64,
+    /// The lines that its messages have.
+    pub said: &'n [Line],
 }
 
 /// The paths of the files of a closed cycle.
@@ -157,6 +160,8 @@ struct Account {
     /// How many findings the report has, and the whole lines of those that are new.
     findings: Findings,
     repaired: Vec<Line>,
+    /// Objects that are back.
+    back: Vec<Place>,
     /// How many objects the list has of those that must be there, and the digest of its bytes;
     /// empty if none was searched.
     listed: u64,
@@ -171,6 +176,7 @@ impl Drop for Account {
             gone: _gone,
             findings: _findings,
             repaired: _repaired,
+            back: _back,
             listed: _listed,
             list: _list,
         } = self;
@@ -184,6 +190,11 @@ impl Account {
             .appeared_count
             .saturating_sub(self.findings.known)
     }
+
+    /// How many objects are back.
+    fn back_count(&self) -> u64 {
+        u64::try_from(self.back.len()).unwrap_or(u64::MAX)
+    }
 }
 
 /// What is said of a closed cycle.
@@ -194,7 +205,7 @@ fn text_of(
     account: &Account,
 ) -> Result<Vec<u8>, AllocError> {
     let changes = &account.changes;
-    let mut text = closing_text(
+    closing_text(
         alloc,
         &Closing {
             cycle: pair.now.cycle,
@@ -204,25 +215,17 @@ fn text_of(
             earlier: paths.earlier.as_str(),
             list: paths.list.as_str(),
             uncompared: pair.why.as_str(),
-            appeared: &account.findings.lines,
+            appeared: &account.findings.gravest,
             appeared_count: account.appeared(),
+            said: account.findings.said,
             repaired: &account.repaired,
             repaired_count: changes.repaired_count,
+            back: &account.back,
+            back_count: account.back_count(),
             gone: &account.gone,
             gone_count: changes.gone_count(),
+            unlooked: changes.unlooked,
         },
-    )?;
-    if changes.unlooked > 0 {
-        text.extend_from_slice(unlooked(alloc, changes.unlooked)?.as_bytes())?;
-    }
-    Ok(text)
-}
-
-/// How many files are not looked at any more.
-fn unlooked(alloc: Global, count: u64) -> Result<String, AllocError> {
-    format!(in alloc;
-        "{count} file(s) of objects that are gone, or whose inventory cannot be used, are not \
-         looked at any more.\n"
     )
 }
 
@@ -414,11 +417,18 @@ impl<R: Files<File = File> + AllocGlobal + Clock> Closings<'_, '_, R> {
         }
     }
 
-    /// The findings of the report of a cycle, with the whole lines of these.
-    fn find_in(&mut self, cycle: u64, named: &[Line], known: &Known) -> Result<Findings, Failure> {
+    /// The findings of the report of a cycle, with the whole lines of these, but for those that
+    /// were said.
+    fn find_in(
+        &mut self,
+        cycle: u64,
+        named: &[Line],
+        known: &Known,
+        said: &[Line],
+    ) -> Result<Findings, Failure> {
         let alloc = self.rt.alloc();
         let mut report = self.reader_of(cycle)?;
-        match find_lines(alloc, &mut report, named, known) {
+        match find_lines(alloc, &mut report, named, known, said) {
             Ok(found) => Ok(found),
             Err(error) => Err(Failure::stopped(format!(in alloc;
                 "the report of cycle {cycle} in {}: {error}\n",
@@ -434,8 +444,8 @@ impl<R: Files<File = File> + AllocGlobal + Clock> Closings<'_, '_, R> {
             return Ok(Vec::new(alloc));
         }
         let none = Known::new(alloc);
-        let found = self.find_in(cycle, &changes.repaired, &none)?;
-        Ok(found.into_lines())
+        let found = self.find_in(cycle, &changes.repaired, &none, &[])?;
+        Ok(found.into_lines(alloc)?)
     }
 
     /// The whole lines of what is repaired, as the reports before have them.
@@ -452,6 +462,46 @@ impl<R: Files<File = File> + AllocGlobal + Clock> Closings<'_, '_, R> {
             }
         }
         Ok(repaired)
+    }
+
+    /// Which of these objects have no line of an object in the report of a cycle, outside of these
+    /// places.
+    fn find_lacking(
+        &mut self,
+        cycle: u64,
+        objects: &mut Vec<Place>,
+        left: &[Place],
+    ) -> Result<Vec<Place>, Failure> {
+        let alloc = self.rt.alloc();
+        let mut lacking = Places::new(alloc);
+        let mut report = self.reader_of(cycle)?;
+        match find_expected(alloc, objects, &mut report, left, &mut lacking) {
+            Ok(()) => Ok(lacking.places),
+            Err(stop) => {
+                let error = report.get_ref().error();
+                Err(uncompared(alloc, cycle, cycle, stop, error)?)
+            }
+        }
+    }
+
+    /// The objects that are back: an earlier closing calls them gone, and this report has a line of
+    /// an object again, which the report before has not.
+    fn find_back(&mut self, pair: &Pair) -> Result<Vec<Place>, Failure> {
+        let alloc = self.rt.alloc();
+        let Some(before) = &pair.before else {
+            return Ok(Vec::new(alloc));
+        };
+        let mut gone = gone_before(self.rt, self.names.state, pair.now.cycle)?;
+        if gone.is_empty() {
+            return Ok(gone);
+        }
+        let left = both(alloc, &pair.now.left, &before.left)?;
+        let mut lacking = self.find_lacking(before.cycle, &mut gone, &left)?;
+        if lacking.is_empty() {
+            return Ok(lacking);
+        }
+        let still = self.find_lacking(pair.now.cycle, &mut lacking, &left)?;
+        Ok(without(alloc, lacking, &still)?)
     }
 
     /// Finds all that is said of a closed cycle, with the list of what is gone beside its place.
@@ -490,7 +540,7 @@ impl<R: Files<File = File> + AllocGlobal + Clock> Closings<'_, '_, R> {
         let findings = if pair.now.lost {
             Findings::new(alloc)
         } else {
-            self.find_in(pair.now.cycle, &changes.appeared, self.known)?
+            self.find_in(pair.now.cycle, &changes.appeared, self.known, self.said)?
         };
         let (listed, list) = listed;
         Ok(Account {
@@ -498,6 +548,7 @@ impl<R: Files<File = File> + AllocGlobal + Clock> Closings<'_, '_, R> {
             changes,
             findings,
             repaired,
+            back: self.find_back(pair)?,
             listed,
             list,
         })
@@ -523,9 +574,11 @@ impl<R: Files<File = File> + AllocGlobal + Clock> Closings<'_, '_, R> {
             why: if compared == 0 { pair.why.as_str() } else { "" },
             appeared: account.appeared(),
             repaired: changes.repaired_count,
+            back: account.back_count(),
             gone: changes.gone_count(),
             objects: changes.objects.count,
             files: changes.files.count,
+            unlooked: changes.unlooked,
             expected: changes.expected.count,
             listed: account.listed,
             list: account.list.as_str(),

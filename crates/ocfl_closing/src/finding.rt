@@ -3,12 +3,12 @@
 use crate::reading::{TakeLine, take_lines};
 use crate::telling::{CLEAN, error_of};
 use ocfl_report::{Code, Line, read_line};
-use ocfl_telling::{Known, SHOWN};
+use ocfl_telling::{Gravest, Kept, Known};
 use std::alloc::{AllocError, Global};
 use std::io::{self, BufRead};
 
 /// What a report has of findings that are named.
-#[derive(Debug, Drop)]
+#[derive(Debug)]
 pub struct Findings {
     /// How many findings there are of all.
     pub count: u64,
@@ -16,8 +16,23 @@ pub struct Findings {
     matched: usize,
     /// How many of these are known.
     pub known: u64,
-    /// The first of the others, as many as are shown.
-    pub lines: Vec<Line>,
+    /// How many of the others were said already.
+    pub said: u64,
+    /// The gravest of the rest.
+    pub gravest: Gravest,
+}
+
+/// Written by hand, so that to let it go is one call wherever that happens.
+impl Drop for Findings {
+    fn drop(self) {
+        let Findings {
+            count: _count,
+            matched: _matched,
+            known: _known,
+            said: _said,
+            gravest: _gravest,
+        } = self;
+    }
 }
 
 impl Findings {
@@ -27,33 +42,52 @@ impl Findings {
             count: 0,
             matched: 0,
             known: 0,
-            lines: Vec::new(alloc),
+            said: 0,
+            gravest: Gravest::new(alloc),
         }
     }
 
-    /// Their lines alone.
-    pub(crate) fn into_lines(self) -> Vec<Line> {
+    /// The lines of those that are kept, in the order of places.
+    pub(crate) fn into_lines(self, alloc: Global) -> Result<Vec<Line>, AllocError> {
         let Findings {
             count: _count,
             matched: _matched,
             known: _known,
-            lines,
+            said: _said,
+            gravest,
         } = self;
-        lines
+        let mut lines = lines_of(alloc, gravest)?;
+        lines.sort_by(|line: &Line, next: &Line| line.place.cmp(&next.place))?;
+        Ok(lines)
     }
+}
 
-    /// Takes one that is named.
-    fn take(&mut self, known: &Known, line: Line) -> Result<(), AllocError> {
-        self.matched = self.matched.saturating_add(1);
-        if known.names(&line) {
-            self.known = self.known.saturating_add(1);
-            return Ok(());
-        }
-        if self.lines.len() < SHOWN {
-            self.lines.push(line)?;
-        }
-        Ok(())
+/// The lines that are kept of some findings, the gravest first.
+pub(crate) fn lines_of(alloc: Global, gravest: Gravest) -> Result<Vec<Line>, AllocError> {
+    let Gravest {
+        bytes,
+        objects,
+        records,
+        positions,
+    } = gravest;
+    let mut lines = Vec::new(alloc);
+    move_lines(bytes, &mut lines)?;
+    move_lines(objects, &mut lines)?;
+    move_lines(records, &mut lines)?;
+    move_lines(positions, &mut lines)?;
+    Ok(lines)
+}
+
+/// Moves the lines that are kept behind others.
+fn move_lines(kept: Kept, lines: &mut Vec<Line>) -> Result<(), AllocError> {
+    let Kept {
+        lines: moved,
+        count: _count,
+    } = kept;
+    for line in moved {
+        lines.push(line)?;
     }
+    Ok(())
 }
 
 /// Whether a line is the one that is named: of that place, and of that code if one is named.
@@ -74,12 +108,57 @@ fn finding_of(alloc: Global, text: &[u8]) -> io::Result<Option<Line>> {
     }
 }
 
+/// Whether the lines say the same of the same place.
+fn is_same(line: &Line, other: &Line) -> bool {
+    line.code == other.code && line.place == other.place && line.detail == other.detail
+}
+
 /// A search for the findings that are named.
-#[derive(Drop)]
 struct Search<'a> {
     named: &'a [Line],
     known: &'a Known,
+    said: &'a [Line],
     found: Findings,
+}
+
+/// Written by hand, so that to let it go is one call wherever that happens.
+impl Drop for Search<'_> {
+    fn drop(self) {
+        let Search {
+            named: _named,
+            known: _known,
+            said: _said,
+            found: _found,
+        } = self;
+    }
+}
+
+impl Search<'_> {
+    /// What was found.
+    fn into_found(self) -> Findings {
+        let Search {
+            named: _named,
+            known: _known,
+            said: _said,
+            found,
+        } = self;
+        found
+    }
+
+    /// Takes one that is named.
+    fn take_named(&mut self, line: Line) -> Result<(), AllocError> {
+        let found = &mut self.found;
+        found.matched = found.matched.saturating_add(1);
+        if self.known.names(&line) {
+            found.known = found.known.saturating_add(1);
+            return Ok(());
+        }
+        if self.said.iter().any(|said| is_same(said, &line)) {
+            found.said = found.said.saturating_add(1);
+            return Ok(());
+        }
+        found.gravest.add(line)
+    }
 }
 
 impl TakeLine for Search<'_> {
@@ -89,7 +168,7 @@ impl TakeLine for Search<'_> {
         };
         self.found.count = self.found.count.saturating_add(1);
         match self.named.get(self.found.matched) {
-            Some(next) if is_named(next, &line) => self.found.take(self.known, line)?,
+            Some(next) if is_named(next, &line) => self.take_named(line)?,
             _ => (),
         }
         Ok(true)
@@ -97,18 +176,20 @@ impl TakeLine for Search<'_> {
 }
 
 /// Looks for findings in a report. They are named by their places and codes, in its order; under
-/// the code of no finding any one of the place is meant.
+/// the code of no finding any one of the place is meant. `said` are those that were said already.
 pub fn find_lines<'a, B: BufRead>(
     alloc: Global,
     report: &mut B,
     named: &'a [Line],
     known: &'a Known,
+    said: &'a [Line],
 ) -> io::Result<Findings> {
     let mut search = Search {
         named,
         known,
+        said,
         found: Findings::new(alloc),
     };
     take_lines(alloc, report, &mut search)?;
-    Ok(search.found)
+    Ok(search.into_found())
 }

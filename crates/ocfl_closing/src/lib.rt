@@ -1,6 +1,7 @@
 //! What is said of closed reports, and joining them.
 #![tactic(auto)]
 
+mod back;
 mod closed;
 pub mod closing;
 pub mod failing;

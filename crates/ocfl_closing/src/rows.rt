@@ -186,7 +186,7 @@ fn broken() -> io::Error {
 }
 
 /// The place with a path as reports write it.
-fn place_of(alloc: Global, path: &[u8]) -> io::Result<Place> {
+pub(crate) fn place_of(alloc: Global, path: &[u8]) -> io::Result<Place> {
     match read_place(alloc, path) {
         Ok(place) => Ok(place),
         Err(_) => Err(broken()),
@@ -204,13 +204,13 @@ fn is_stop(code: Code) -> bool {
 
 /// A row: its word, and its place with the text of it.
 #[derive(Clone, Copy)]
-struct Row<'a> {
-    word: &'a [u8],
-    path: &'a [u8],
+pub(crate) struct Row<'a> {
+    pub(crate) word: &'a [u8],
+    pub(crate) path: &'a [u8],
 }
 
 /// The parts of a row, with its line feed.
-fn row_of(text: &[u8]) -> io::Result<Row<'_>> {
+pub(crate) fn row_of(text: &[u8]) -> io::Result<Row<'_>> {
     let Some((word, rest)) = split_once(text, b'\t') else {
         return Err(broken());
     };

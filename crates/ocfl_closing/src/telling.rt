@@ -1,5 +1,6 @@
 //! The output of a night: the bytes of its report come in, and what was found goes out.
 
+use crate::finding::lines_of;
 use crate::reasons::{Reasons, reason_line, take_reasons};
 use crate::stand::Standing;
 use ocfl_report::{Code, Line, TextStop, read_line, write_all_of};
@@ -45,6 +46,8 @@ pub struct Teller<'n, W: Drop> {
     /// How many findings were said, and how many lines were left out.
     findings: u64,
     broken: u64,
+    /// The lines that were said.
+    said: Vec<Line>,
     out: W,
 }
 
@@ -62,6 +65,7 @@ impl<W: Drop> Drop for Teller<'_, W> {
             rest: _rest,
             findings: _findings,
             broken: _broken,
+            said: _said,
             out: _out,
         } = self;
     }
@@ -88,6 +92,7 @@ impl<'n, W: Write + Drop> Teller<'n, W> {
             rest: Vec::new(alloc),
             findings: 0,
             broken: 0,
+            said: Vec::new(alloc),
             out,
         }
     }
@@ -100,6 +105,35 @@ impl<'n, W: Write + Drop> Teller<'n, W> {
     /// How many lines were no report lines.
     pub fn broken(&self) -> u64 {
         self.broken
+    }
+
+    /// The lines that were said: of each message the gravest, as many as are shown.
+    pub fn into_said(self) -> Vec<Line> {
+        let Teller {
+            alloc: _alloc,
+            names: _names,
+            known: _known,
+            reasons: _reasons,
+            now: _now,
+            said_to: _said_to,
+            found: _found,
+            rest: _rest,
+            findings: _findings,
+            broken: _broken,
+            said,
+            out: _out,
+        } = self;
+        said
+    }
+
+    /// Keeps the lines that a message has. Those for which there is no memory are not kept.
+    fn keep_said(&mut self, gravest: Gravest) -> Result<(), AllocError> {
+        let mut lines = lines_of(self.alloc, gravest)?;
+        lines.truncate(SHOWN);
+        for line in lines {
+            self.said.push(line)?;
+        }
+        Ok(())
     }
 
     /// Takes a line that is a report's, with its line feed.
@@ -165,6 +199,7 @@ impl<'n, W: Write + Drop> Teller<'n, W> {
         self.findings = self.findings.saturating_add(count);
         self.said_to = now;
         self.found = Some(Found::new(self.alloc));
+        let _ = self.keep_said(gravest);
         Ok(())
     }
 }

@@ -29,6 +29,7 @@ use ocfl_digest::Block;
 use ocfl_folder::FsTree;
 use ocfl_line::NightAsked;
 use ocfl_night::{Halt, NightEnd, Plan, Site, night, status_found, status_of};
+use ocfl_report::Line;
 use ocfl_state::{Reason, StateFile, StateFolder};
 use ocfl_telling::{Known, NightRow};
 use ocfl_tree::{Place, Tree};
@@ -67,6 +68,8 @@ struct Made {
     /// How many findings were said, and how many lines of the report were none.
     findings: u64,
     broken: u64,
+    /// The lines of the report that were said.
+    said: Vec<Line>,
     /// Why the last call over the storage root failed that did.
     why: Option<String>,
     /// The places that were left out in it, and why.
@@ -81,6 +84,7 @@ impl Drop for Made {
             cost: _cost,
             findings: _findings,
             broken: _broken,
+            said: _said,
             why: _why,
             left: _left,
         } = self;
@@ -281,6 +285,7 @@ where
         cost: began.spent_until(now.get()),
         findings: teller.findings(),
         broken: teller.broken(),
+        said: teller.into_said(),
         why,
         left: Vec::new(rt.alloc()),
     })
@@ -444,6 +449,7 @@ where
         known: &given.known,
         expected: text_of(&given.asked.expected),
         night: given.began,
+        said: &made.said,
     };
     let told = tell_closings(&mut closings, begun.standing.last_closed(), made);
     let found = status_found(is_partial(made), made.findings);

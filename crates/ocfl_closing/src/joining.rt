@@ -5,7 +5,9 @@ use crate::closing::list_path;
 use crate::failing::{Failure, say_failure};
 use crate::kept::is_as_closed;
 use crate::making::{file_failure, is_there, make_file, make_folder, put_made};
-use crate::part_facts::{Facts, last_of_all, part_path, place_of, read_all};
+use crate::part_facts::{
+    Facts, is_few, last_of_all, most_of, part_path, place_of, read_all, read_all_names,
+};
 use crate::saying::STOPPED;
 use crate::sound::is_sound;
 use crate::state::{folder_failure, hold_folder, open_state};
@@ -366,6 +368,44 @@ impl AllParts<'_> {
         Ok(is_any)
     }
 
+    /// Names the parts that saw less than half of the names that another one saw in the storage
+    /// root when a cycle began: their machines may see another root at its path.
+    fn say_few<R>(&self, rt: &R, cycle: u64) -> Result<bool, Failure>
+    where
+        R: Files<File = File> + AllocGlobal + Eprint,
+    {
+        let all = read_all_names(rt, self.state, self.facts.len(), cycle)?;
+        let most = most_of(&all);
+        let mut is_any = false;
+        for (index, one) in all.iter().enumerate() {
+            let names = one.unwrap_or(most);
+            if is_few(names, most) {
+                let number = index.saturating_add(1);
+                let _ = eprintln!(rt;
+                    "ocfl-scrub: part {number}: the storage root had {names} names when its cycle \
+                     {cycle} began, and {most} when that of another part did"
+                );
+                is_any = true;
+            }
+        }
+        Ok(is_any)
+    }
+
+    /// Whether a part saw less than half of the names that another one saw when a cycle began.
+    fn has_few<R>(&self, rt: &R, cycle: u64) -> Result<bool, Failure>
+    where
+        R: Files<File = File> + AllocGlobal,
+    {
+        let all = read_all_names(rt, self.state, self.facts.len(), cycle)?;
+        let most = most_of(&all);
+        for one in &all {
+            if is_few(one.unwrap_or(most), most) {
+                return Ok(true);
+            }
+        }
+        Ok(false)
+    }
+
     /// Joins the reports of a cycle, unless they are joined already, and gives the status.
     fn join_cycle<R>(&self, rt: &R, cycle: u64) -> Result<u8, Failure>
     where
@@ -393,20 +433,23 @@ impl AllParts<'_> {
         if !missing.is_empty() {
             return Ok(say_missing(rt, cycle, &missing));
         }
-        if self.say_untold(rt, cycle)? {
+        if self.say_untold(rt, cycle)? || self.say_few(rt, cycle)? {
             return Ok(STOPPED);
         }
         put_joined(rt, &joining, path.as_str())?;
         Ok(0)
     }
 
-    /// The same of a cycle before the last one. One of which a part has no whole report never can
-    /// be joined, and was named when it was the last.
+    /// The same of a cycle before the last one. One of which a part has no whole report, or saw far
+    /// fewer names, never can be joined, and was named when it was the last.
     fn join_earlier<R>(&self, rt: &R, cycle: u64) -> Result<u8, Failure>
     where
         R: Files<File = File> + AllocGlobal + Eprint,
     {
-        if is_joined(rt, self.state, cycle)? || !self.has_all(rt, cycle)? {
+        if is_joined(rt, self.state, cycle)?
+            || !self.has_all(rt, cycle)?
+            || self.has_few(rt, cycle)?
+        {
             return Ok(0);
         }
         self.join_cycle(rt, cycle)

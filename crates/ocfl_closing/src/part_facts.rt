@@ -1,6 +1,7 @@
 //! What the state folders of parts say of their nights.
 
 use crate::failing::Failure;
+use crate::kept::read_kept;
 use crate::making::is_there;
 use crate::stand::Standing;
 use crate::state::{folder_failure, open_state};
@@ -140,6 +141,51 @@ where
         all.push(read_facts(rt, path.as_str())?)?;
     }
     Ok(all)
+}
+
+/// How many names the storage root had when a part began a cycle, if that was kept.
+fn read_names<R>(rt: &R, path: &str, cycle: u64) -> Result<Option<u64>, Failure>
+where
+    R: Files<File = File> + AllocGlobal,
+{
+    let mut folder = open_state(rt, path, path, false)?;
+    match read_kept(rt.alloc(), &mut folder, path, cycle)? {
+        Some(Some(checkpoint)) => Ok(Some(checkpoint.names.count)),
+        Some(None) | None => Ok(None),
+    }
+}
+
+/// The same of all parts.
+pub(crate) fn read_all_names<R>(
+    rt: &R,
+    state: &str,
+    count: usize,
+    cycle: u64,
+) -> Result<Vec<Option<u64>>, Failure>
+where
+    R: Files<File = File> + AllocGlobal,
+{
+    let alloc = rt.alloc();
+    let mut all = Vec::new(alloc);
+    for number in 1..=count {
+        let path = part_path(alloc, state, number)?;
+        all.push(read_names(rt, path.as_str(), cycle)?)?;
+    }
+    Ok(all)
+}
+
+/// The most of these numbers; 0 if none is known.
+pub(crate) fn most_of(all: &[Option<u64>]) -> u64 {
+    let mut most = 0;
+    for one in all {
+        most = one.unwrap_or(0).max(most);
+    }
+    most
+}
+
+/// Whether a number of names is less than half of the most.
+pub(crate) fn is_few(names: u64, most: u64) -> bool {
+    names < most.saturating_sub(names)
 }
 
 /// The last cycle that each part has closed. 0 if one has closed none.

@@ -143,6 +143,8 @@ Findings no longer looked at: 0
 Objects gone: 1
 Objects no longer declared: 0
 Files gone: 2
+Files no longer looked at: 3
+Objects back: 1
 List of what is gone, SHA-256: {gone}
 Expected objects listed: 160
 Expected objects missing: 1
@@ -214,7 +216,8 @@ def as_json(text):
                "Files not found right", "Bytes found right", "Findings", "Compared with cycle",
                "New findings", "Changed findings", "Former findings",
                "Findings no longer looked at", "Objects gone", "Objects no longer declared",
-               "Files gone", "Expected objects listed", "Expected objects missing",
+               "Files gone", "Files no longer looked at", "Objects back",
+               "Expected objects listed", "Expected objects missing",
                "Objects gone and not back", "Objects no longer declared, and not back",
                "Files gone and not back"}
     made = {"form": "ocfl-scrub statement 3",

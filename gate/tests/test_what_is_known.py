@@ -401,6 +401,106 @@ class Lost(Told):
         self.check(self.said(1), Expected_objects_listed="not asked")
 
 
+class Counted(Told):
+    """What the row of a closing alone counts: files no longer looked at, and objects that are
+    back."""
+
+    NAMES = ("Files no longer looked at", "Objects back")
+
+    def counts(self, said):
+        return [said.get(name) for name in self.NAMES]
+
+    def page_row(self, cycle):
+        """The cells of a closed cycle on the page: what was gone, and what was back."""
+        table = self.ask("page", *NOW, self.made.path)[1].partition("Closed cycles")[2]
+        cells = re.search(r'<th scope="row">%d</th>(<td.*)</tr>' % cycle, table)[1]
+        return re.findall("<td[^>]*>(.*?)</td>", cells)[4:6]
+
+    def of_figures(self):
+        figures = self.figures()
+        return [figures.get("closed_cycle_" + name) for name in ("unlooked_files", "objects_back")]
+
+    def test_they_are_counted(self):
+        self.cycle(1, ONE, unlooked=0, back=0)
+        self.cycle(2, TWO, GONE, unlooked=3, back=1)
+        self.assertEqual(self.counts(self.said(2)), ["3", "1"])
+        with open(self.path_of(2) + ".json") as file:
+            same = json.load(file)
+        self.assertEqual((same["files_no_longer_looked_at"], same["objects_back"]), (3, 1))
+        self.assertIn("Files no longer looked at; Objects back;",
+                      self.ask("verify", self.path_of(2))[1])
+        self.assertEqual(self.page_row(2), ["1 object, 1 file, 3 files no longer looked at",
+                                            "1 object"])
+        self.assertEqual(self.of_figures(), ["3", "1"])
+        self.cycle(3, TWO, unlooked=0, back=0)
+        self.assertEqual(self.counts(self.said(3)), ["0", "0"])
+        self.assertEqual(self.page_row(3), ["nothing", "nothing"])
+        self.assertEqual(self.of_figures(), ["0", "0"])
+
+    def test_nothing_was_compared(self):
+        self.cycle(1, ONE, unlooked=0, back=0)
+        self.assertEqual(self.counts(self.said(1)), ["not known"] * 2)
+        self.assertEqual(self.page_row(1)[1], "not known")
+        self.assertEqual(self.of_figures(), [None, None])
+        self.cycle(2, TWO, compared=0, why=WHY, unlooked=0, back=0)
+        self.assertEqual(self.counts(self.said(2)), ["not known"] * 2)
+
+    def test_a_row_that_does_not_say_it(self):
+        """Those of earlier versions."""
+        self.cycle(1, ONE)
+        self.cycle(2, TWO, GONE)
+        said = self.said(2)
+        self.assertEqual(self.counts(said), [None, None])
+        self.check(said, Objects_gone="1")
+        self.assertEqual(self.page_row(2), ["1 object, 1 file", "not known"])
+        self.assertEqual(self.of_figures(), [None, None])
+        self.cycle(3, TWO, unlooked=None, back=-1)
+        self.assertEqual(self.counts(self.said(3)), [None, None])
+
+    def test_another_number(self):
+        """The statement says another one than its JSON, or lacks it."""
+        self.cycle(1, ONE)
+        self.cycle(2, TWO, GONE, unlooked=3, back=1)
+        self.said(2)
+        with open(self.path_of(2)) as file:
+            text = file.read()
+        for old, new in [("Objects back: 1", "Objects back: 0"), ("Objects back: 1\n", ""),
+                         ("Objects back: 1\n", "Objects back: 1\nObjects back: 1\n")]:
+            self.made.put("reports/statement-000002", text.replace(old, new).encode())
+            self.assertEqual(self.ask("verify", self.path_of(2))[0], 1, new)
+
+    def test_forms_of_before_have_no_such_line(self):
+        self.cycle(1, ONE)
+        self.cycle(2, TWO, GONE, unlooked=3, back=1)
+        self.said(2)
+        with open(self.path_of(2)) as file:
+            text = file.read().replace("statement 3", "statement 2", 1)
+        self.made.put("reports/statement-000002", text.encode())
+        given, out, _ = self.ask("verify", self.path_of(2))
+        self.assertEqual((given, "no statement has the line: Objects back: 1" in out), (1, True))
+
+    def joined(self, *rows):
+        """The statement of a second cycle whose parts have these members in their rows."""
+        parts = [Program(self.at("joined/part-%06d" % number), cycle=3) for number in (1, 2)]
+        os.mkdir(self.at("joined/reports"))
+        for cycle in (1, 2):
+            for part, more in zip(parts, rows):
+                part.slice(cycle, cycle, 1, 7, 18, stands="ended")
+                part.close(cycle, cycle, ONE, **more)
+                part.log_night(cycle)
+            self.put(ONE, "joined/reports/cycle-%06d" % cycle)
+            self.put(b"", "joined/reports/gone-%06d" % cycle)
+        self.made.path = self.at("joined")
+        return self.counts(self.said(2))
+
+    def test_of_parts(self):
+        self.assertEqual(self.joined({"unlooked": 2, "back": 1}, {"unlooked": 3, "back": 0}),
+                         ["5", "1"])
+
+    def test_of_parts_of_which_one_does_not_say_it(self):
+        self.assertEqual(self.joined({"unlooked": 2, "back": 1}, {"unlooked": 3}), ["5", None])
+
+
 class New(Told):
     """New, changed and former findings, by code and place."""
 

@@ -46,6 +46,10 @@ class Closing:
     list: str = ""
     # How many places were left out.
     left: int = 0
+    # How many files were no longer looked at, and how many objects were back. None if the log does
+    # not say it.
+    unlooked: int | None = None
+    back: int | None = None
 
     def why_not_compared(self, cycle: int) -> str:
         """Why nobody knows what this cycle lost; empty if it was compared."""
@@ -140,9 +144,14 @@ def in_brief(lines: Iterable[bytes]) -> Iterator[dict[str, Any]]:
     yield from filter(None, map(row_of, held))
 
 
-def number(row: dict[str, Any], name: str) -> int:
+def number_if_any(row: dict[str, Any], name: str) -> int | None:
+    """A number of a row; None if the row has none, as those of earlier versions."""
     value = row.get(name)
-    return value if type(value) is int and value >= 0 else 0
+    return value if type(value) is int and value >= 0 else None
+
+
+def number(row: dict[str, Any], name: str) -> int:
+    return number_if_any(row, name) or 0
 
 
 def words(row: dict[str, Any], name: str) -> str:
@@ -268,7 +277,7 @@ def closing_of(row: dict[str, Any]) -> Closing:
     return Closing(
         os.path.basename(words(row, "report")), row.get("whole") is True, True, compared,
         words(row, "why"), number(row, "gone"), number(row, "listed"), words(row, "list"),
-        number(row, "left"))
+        number(row, "left"), number_if_any(row, "unlooked"), number_if_any(row, "back"))
 
 
 class Comparisons:
@@ -372,7 +381,10 @@ class Joining:
             return entry
         return replace(entry, began=max(it.began for it in found.values()), closing=replace(
             entry.closing, is_logged=True, left=sum(it.left for it in closings.values()),
-            gone=sum(it.gone for it in closings.values()), **of_all_parts(closings, entry.cycle)))
+            gone=sum(it.gone for it in closings.values()),
+            unlooked=sum_if_all(it.unlooked for it in closings.values()),
+            back=sum_if_all(it.back for it in closings.values()),
+            **of_all_parts(closings, entry.cycle)))
 
 
 def later(known: Entry | None, entry: Entry) -> Entry:
@@ -383,6 +395,16 @@ def later(known: Entry | None, entry: Entry) -> Entry:
     if not entry.closing or not entry.closing.is_logged:
         return known
     return replace(entry, began=known.began)
+
+
+def sum_if_all(counts: Iterable[int | None]) -> int | None:
+    """The sum of what parts say; None if one of them does not say it."""
+    total = 0
+    for count in counts:
+        if count is None:
+            return None
+        total += count
+    return total
 
 
 def of_all_parts(closings: dict[int, Closing], cycle: int) -> dict[str, Any]:

@@ -202,12 +202,12 @@ def about_cycles(state: State, standing: Standing) -> str:
     closings = standing.log.comparisons.closings
     rows = [(cycle, it.began if closings[cycle].is_logged else NOT_KNOWN,
              *of_statement(state, cycle), "yes" if closings[cycle].is_whole else "no",
-             gone_text(state, cycle, closings[cycle]), cycle_name(
+             gone_text(state, cycle, closings[cycle]), back_text(closings[cycle]), cycle_name(
                  "statement", cycle) if state.find("statement", cycle) else "none")
             for cycle, it in sorted(ended.items(), reverse=True)[:SHOWN]]
     return section("Closed cycles", table("Their reports and statements lie in %s" % plain(
         "", state.reports), ("cycle", "closed", "files found right", "bytes found right", "whole",
-                             "gone", "statement"), rows) if rows else "")
+                             "gone", "back", "statement"), rows) if rows else "")
 
 
 def of_statement(state: State, cycle: int) -> tuple[str, str]:
@@ -225,8 +225,17 @@ def gone_text(state: State, cycle: int, closing: Closing) -> str:
     gone = [many(kinds[word], name) + more for word, name, more in (
         (b"object", "object", ""), (b"undeclared", "object", " no longer declared"),
         (b"file", "file", ""), (b"expected", "expected object", " missing")) if kinds[word]]
+    if closing.unlooked:
+        gone.append(many(closing.unlooked, "file") + " no longer looked at")
     why = closing.why_not_compared(cycle)
     return ", ".join(gone + ["not known: " + why] * bool(why)) or "nothing"
+
+
+def back_text(closing: Closing) -> str:
+    """How many objects were back when a cycle was closed."""
+    if closing.back is None or not closing.compared:
+        return NOT_KNOWN
+    return many(closing.back, "object") if closing.back else "nothing"
 
 
 def show(state: State, standing: Standing, weights: Weights, root: str, now: str) -> None:

@@ -23,8 +23,8 @@ ADDED = {"ocfl-scrub statement 1": set(),
          "ocfl-scrub statement 2": {"Nights cut", "Places left out", "Place left out *"},
          FORM: {"Why left out *", "Not compared", "Changed findings",
                 "Findings no longer looked at", "Objects no longer declared",
-                "Expected objects listed", "List of expected objects, SHA-256",
-                "Objects no longer declared, and not back"}}
+                "Files no longer looked at", "Objects back", "Expected objects listed",
+                "List of expected objects, SHA-256", "Objects no longer declared, and not back"}}
 # The lines in their order. `*` stands for each code, and for the number of a place.
 NAMES = [
     "Storage root", "Declaration sums SHA-256", "State folder", "Part from", "Part below", "Host",
@@ -36,23 +36,24 @@ NAMES = [
     "Algorithms not computed", "Compared with cycle", "Not compared",
     "Report compared with, SHA-256", "New findings", "Changed findings", "Former findings",
     "Findings no longer looked at", "Objects gone", "Objects no longer declared", "Files gone",
-    "List of what is gone, SHA-256", "Expected objects listed", "Expected objects missing",
-    "List of expected objects, SHA-256", "Objects gone and not back",
-    "Objects no longer declared, and not back", "Files gone and not back", "Known losses",
+    "Files no longer looked at", "Objects back", "List of what is gone, SHA-256",
+    "Expected objects listed", "Expected objects missing", "List of expected objects, SHA-256",
+    "Objects gone and not back", "Objects no longer declared, and not back",
+    "Files gone and not back", "Known losses",
     "List of known losses, SHA-256", "Program", "Program commit", "Program SHA-256",
     "Program file dated", "Programs of its runs, SHA-256", "Statement before, SHA-256",
     "Not looked at", "Not said"]
 # Lines that only some statements have.
-OPTIONAL = {"Part from", "Part below", "Not compared", "Known losses",
-            "List of known losses, SHA-256"}
+OPTIONAL = {"Part from", "Part below", "Not compared", "Files no longer looked at", "Objects back",
+            "Known losses", "List of known losses, SHA-256"}
 NUMBERS = {"Cycle", "Nights", "Nights cut", "Runs", "Places left out", "Report lines",
            "Broken lines", "Objects", "Objects without findings", "Content files",
            "Files found right", "Files not found right", "Bytes found right", "Findings",
            "Compared with cycle", "New findings", "Changed findings", "Former findings",
            "Findings no longer looked at", "Objects gone", "Objects no longer declared",
-           "Files gone", "Expected objects listed", "Expected objects missing",
-           "Objects gone and not back", "Objects no longer declared, and not back",
-           "Files gone and not back", "Known losses"}
+           "Files gone", "Files no longer looked at", "Objects back", "Expected objects listed",
+           "Expected objects missing", "Objects gone and not back",
+           "Objects no longer declared, and not back", "Files gone and not back", "Known losses"}
 # Lines whose values are places, which are written as in reports.
 PLACES = re.compile("Part (from|below)|(Place|Why) left out .*")
 NOT_LOOKED_AT = ("versions, states and ids of inventories; inventories of versions; logs and "
@@ -218,7 +219,7 @@ def of_log(cycle: Cycle) -> dict[str, str]:
             "Places left out": left if closing.is_whole or closing.is_logged else NOT_KNOWN,
             **{"Place left out %d" % at: place for at, place in enumerate(cycle.left, 1)},
             **{"Why left out %d" % at: why for at, why in enumerate(cycle.left.values(), 1) if why},
-            **of_comparison(cycle), **of_expected(closing)}
+            **of_comparison(cycle), **of_unlooked(closing), **of_expected(closing)}
 
 
 def of_comparison(cycle: Cycle) -> dict[str, str]:
@@ -230,6 +231,14 @@ def of_comparison(cycle: Cycle) -> dict[str, str]:
         return {"Compared with cycle": ", ".join(map(str, compared))}
     return {"Compared with cycle": "nothing",
             "Not compared": cycle.closing.why_not_compared(cycle.number)}
+
+
+def of_unlooked(closing: Closing) -> dict[str, str]:
+    """How many files are no longer looked at, and how many objects are back. A row of an earlier
+    version does not say it, and then these lines are left out."""
+    counts = {"Files no longer looked at": closing.unlooked, "Objects back": closing.back}
+    return {name: str(count) if closing.compared else NOT_KNOWN
+            for name, count in counts.items() if count is not None}
 
 
 def of_expected(closing: Closing) -> dict[str, str]:

@@ -135,7 +135,7 @@ class State:
                  gone=gone.count("\n"), left=0, **{
                      "compared": cycle - 1 if whole else 0, "why": "", "list": "", "listed": 0,
                      "objects": gone.count("object\t"), "files": gone.count("file\t"),
-                     "expected": gone.count("expected\t"), **said})
+                     "expected": gone.count("expected\t"), "unlooked": 0, "back": 0, **said})
 
     def has(self, name):
         return read(self.path + "/" + name)
@@ -155,6 +155,7 @@ LINES = [line("ok", "."), line("E072", "a b"), line("ok", "o"), line("ok", "o/v1
          line("S08", "o3-4/v1/content/a"), line("ok", "o3-4/v1/content/b", "0")]
 GONE = "object\tp\nfile\to/v1/content/a\nfile\to/v1/content/b\nexpected\tz\n"
 EXPECTED = {"listed": 160, "list": "e" * 64}
+COUNTED = {"unlooked": 3, "back": 1}
 
 
 def audited(folder):
@@ -165,7 +166,7 @@ def audited(folder):
     state.night("2026-02-01T22:00:00Z", 2, 4)
     state.refuse("2026-02-02T22:00:00Z")
     state.night("2026-02-03T22:00:00Z", 2, 4, 1, closes={
-        "at": "2026-02-03T23:00:00Z", "lines": LINES, "gone": GONE, **EXPECTED})
+        "at": "2026-02-03T23:00:00Z", "lines": LINES, "gone": GONE, **EXPECTED, **COUNTED})
     state.night("2026-02-04T22:00:00Z", 3, 4)
     return state, program(folder)
 

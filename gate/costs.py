@@ -70,7 +70,7 @@ def looked_at() -> tuple[int, int]:
     except ValueError:
         pass
     return fail("CONTRIBUTING.md: its table of costs is not that of bench/proof_minutes.tsv; "
-                "bench/change_costs.py --write mends it")
+                "bench/change_costs.py --write fixes it")
 
 
 def write() -> None:

@@ -107,8 +107,8 @@ def questions(folder):
            ["b/p/v1/content/c", "ok", "1"], ["c/q/v1/content/d", "ok", "2"]])
     write(nights.root + "/a/o/v1/content/b", "")
     given, out, _ = ask("recheck", nights.state)
-    check("mended", (given, [row.split("\t")[:3] for row in out.splitlines()]), (
-        1, [["mended", "E092", "a/o/v1/content/b"], ["gone", "object", "b/p"]]))
+    check("repaired", (given, [row.split("\t")[:3] for row in out.splitlines()]), (
+        1, [["repaired", "E092", "a/o/v1/content/b"], ["gone", "object", "b/p"]]))
     check("a page", "Fixity of " in ask("page", nights.state)[1], True)
     common.make_object(nights.root + "/b/p", OBJECTS["b/p"])
     nights.night()

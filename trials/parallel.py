@@ -9,7 +9,7 @@ Tried, and what comes of it:
 
 - 15 nights of 24 parts; parts and nights that SIGKILL and SIGTERM end: each joined report is
   `audit`, byte for byte, and each finding was told.
-- A place that cannot be read: named with its part, status 3; the other parts end; mended, the
+- A place that cannot be read: named with its part, status 3; the other parts end; repaired, the
   cycle is the audit.
 - Cycles that are not joined: damage, its repair, a loss and its return: `status` has each once,
   as the last cycle has it; before, damage counted once a cycle and losses were forgotten.
@@ -156,7 +156,7 @@ def cost_of_start(nights):
 
 def unread(folder):
     """A place that cannot be read is left out of its part alone, whose cycle is not joined; the
-    next one is, once the place is mended."""
+    next one is, once the place is repaired."""
     nights = Together(folder + "/state", small_root(folder))
     place = Place(nights.root, "o03/v1/content")
     place.spoil()
@@ -166,7 +166,7 @@ def unread(folder):
                                     for number in range(1, 5)], [1, 0, 1, 1])
     check("it is not joined", nights.has("reports/cycle-000001"), None)
     place.mend()
-    check("mended", nights.night(), (0, "", ""))
+    check("repaired", nights.night(), (0, "", ""))
     nights.is_audit("then it is the audit", 2)
 
 

@@ -4,7 +4,7 @@ shows, and follows what README says of a damaged file.
 
 usage: samples.py
 
-README's steps mend a file whose name has a quote, a space, a letter that is not ASCII, a `%`, a
+README's steps repair a file whose name has a quote, a space, a letter that is not ASCII, a `%`, a
 line feed, or what a shell takes for a command, and an inventory whose copy is in a version. Seen to
 fail on steps that have the name as reports write it, or without quotes.
 """

@@ -8,7 +8,7 @@ Tried, and what comes of it. Each row was seen to fail on scripts that lacked it
 
 - An object that is gone for three cycles, known, and back: `status` and each statement count it
   until it is back, and `status` not while it is known.
-- Damaged files, one mended, one damaged otherwise: `recheck` says which.
+- Damaged files, one repaired, one damaged otherwise: `recheck` says which.
 - Names that are markup, in the page of `ocfl-scrub-reports page`: they are shown as they are, in
   Chromium too if it is there.
 - A place that reports did not come to which are not whole: its findings stay open, in the line,
@@ -351,8 +351,8 @@ def missing(folder):
                                    " gone=2;" in out), (1, True, False, True))
 
 
-def mended(folder):
-    """What is mended is said by a look at each place alone."""
+def repaired(folder):
+    """What is repaired is said by a look at each place alone."""
     objects = {name: {"v1/content/f": name.encode()} for name in "abc"}
     nights = Nights(folder + "/state", common.make_root(folder + "/root", objects))
     files = [nights.root + "/%s/v1/content/f" % name for name in "abc"]
@@ -361,17 +361,17 @@ def mended(folder):
     nights.night()
     found = listed(nights)
     call = [REPORTS, "recheck", nights.state]
-    check("nothing is mended", ran(call), (1, "".join("open\t" + text for text in found), ""))
+    check("nothing is repaired", ran(call), (1, "".join("open\t" + text for text in found), ""))
     write(files[0], "a")
-    check("one is", ran(call), (1, "mended\t%sopen\t%s" % tuple(found), ""))
+    check("one is", ran(call), (1, "repaired\t%sopen\t%s" % tuple(found), ""))
     write(files[1], "y")
     given, out, _ = ran(call)
     check("damaged otherwise", (given, [row.split("\t")[:2] for row in out.splitlines()]), (
-        1, [["mended", "E092"], ["mended", "E092"], ["new", "E092"]]))
+        1, [["repaired", "E092"], ["repaired", "E092"], ["new", "E092"]]))
     known = write(folder + "/known", "E092\tb/\n")
-    check("known", ran([*call, "--known", known]), (0, "mended\t" + found[0], ""))
+    check("known", ran([*call, "--known", known]), (0, "repaired\t" + found[0], ""))
     write(files[1], "b")
-    check("all are mended", ran(call)[0], 0)
+    check("all are repaired", ran(call)[0], 0)
     os.rename(nights.root, nights.root + ".away")
     given, out, said = ran(call)
     check("no root", (given, out, "is it mounted? Nothing was looked at." in said), (3, "", True))
@@ -381,11 +381,11 @@ def mended(folder):
     os.rename(nights.root + ".away", nights.root)
     write(files[1], "x")
     write(nights.root + "/b/inventory.json", "{")
-    check("what is not looked at is not mended", ran(call)[:2], (
-        3, "mended\t%sno longer looked at\t%s" % tuple(found)))
+    check("what is not looked at is not repaired", ran(call)[:2], (
+        3, "repaired\t%sno longer looked at\t%s" % tuple(found)))
     shutil.rmtree(nights.root + "/b")
     check("nor what is removed", ran(call)[:2], (
-        3, "mended\t%sno longer looked at\t%s" % tuple(found)))
+        3, "repaired\t%sno longer looked at\t%s" % tuple(found)))
 
 
 def losses(folder):
@@ -414,7 +414,7 @@ def losses(folder):
         "Objects gone: 0", "Files gone: 0", "Objects gone and not back: 1",
         "Files gone and not back: 0"])
     given, out, _ = ran([REPORTS, "recheck", nights.state])
-    check("looked at again", (given, out), (1, "mended\t%s\ngone\tobject\tb\n" % (DAMAGE % "c")))
+    check("looked at again", (given, out), (1, "repaired\t%s\ngone\tobject\tb\n" % (DAMAGE % "c")))
     known = write(folder + "/known", "object\tb\nE092\t./\n")
     check("an object that is known", gone("--known", known), (0, ["0"], [], ["0", "0"]))
     os.rename(folder + "/b", nights.root + "/b")
@@ -480,7 +480,7 @@ def strange_paths(folder):
 def check_all(folder):
     tools({"gzip": "gzip"})
     for part in [statuses, troubled, open_findings, metrics, not_whole, is_known, once,
-                 refused, missing, losses, mended, page, strange_paths]:
+                 refused, missing, losses, repaired, page, strange_paths]:
         os.mkdir(os.path.join(folder, part.__name__))
         tried(part, os.path.join(folder, part.__name__))
 

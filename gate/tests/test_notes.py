@@ -264,6 +264,10 @@ class Told(State):
     def test_subjects(self):
         for text, status, subject in [("1 finding(s) of cycle 1 are repaired:\n", "0",
                                        "archive: findings repaired"),
+                                      ("2 object(s) are back in cycle 3:\nobject\to1\n", "0",
+                                       "archive: objects are back"),
+                                      ("object\to are back in cycle 3\n", "0",
+                                       "archive: a message about the nights"),
                                       ("x\n", "0", "archive: a message about the nights"),
                                       ("x\n", "1", "findings in archive")]:
             self.put("tonight.x", text)

@@ -649,12 +649,12 @@ class Rechecked(Told):
         self.put(b"ok\t.\t-\n" + lines, "now")
         return self.ask("recheck", self.made.path)
 
-    def test_what_has_no_line_is_not_mended(self):
+    def test_what_has_no_line_is_not_repaired(self):
         self.assertEqual(self.recheck(b"ok\to/a\t3\n"), (
-            3, "mended\tE092\to/a\tsha512 x y\nno longer looked at\tE072\tq\t-\n", ""))
+            3, "repaired\tE092\to/a\tsha512 x y\nno longer looked at\tE072\tq\t-\n", ""))
         self.assertEqual(self.recheck(b"ok\to/a\t3\nok\tq\t-\n")[0], 0)
         self.assertEqual(self.recheck(b"ok\to/a\t3\nE072\tq\t-\nE073\tq\t-\n"), (
-            1, "mended\tE092\to/a\tsha512 x y\nopen\tE072\tq\t-\nnew\tE073\tq\t-\n", ""))
+            1, "repaired\tE092\to/a\tsha512 x y\nopen\tE072\tq\t-\nnew\tE073\tq\t-\n", ""))
 
     def test_without_the_root(self):
         self.put(b"E069\t.\t-\nok\to/a\t3\nok\tq\t-\n", "now")
@@ -669,7 +669,7 @@ class Rechecked(Told):
                                      b"ok\to/z\t3\n")
         self.assertEqual((given, sorted(out.splitlines())), (1, [
             "back\tfile\to/z", "back\tobject\tlost", "gone\tfile\to/y", "gone\tobject\tempty",
-            "mended\tE072\tq\t-", "mended\tE092\to/a\tsha512 x y"]))
+            "repaired\tE072\tq\t-", "repaired\tE092\to/a\tsha512 x y"]))
 
 
 class Small(Told):

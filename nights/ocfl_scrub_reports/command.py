@@ -269,7 +269,7 @@ COMMANDS: list[tuple[str, Does, str, str, Iterable[Callable[[Parser], object]], 
     ("page", do_page, "writes a page that shows how the nights are going", "~/audit > index.html",
      [*JUDGING, STATE], "It is one file of HTML without scripts, for a browser or a printer."),
     ("recheck", do_recheck,
-     "looks again at the places of open findings, and says which are mended", "~/audit",
+     "looks again at the places of open findings, and says which are repaired", "~/audit",
      [WITHOUT_KNOWN, STATE],
      "What is gone comes after `gone` or `back`. Ends with 1 if a finding is still open, a new one "
      "is there or something is still gone, and with 3 if a place was not looked at. The next cycle "

@@ -1,4 +1,4 @@
-"""Looks again at the places of open findings, and at what is gone, and says what is mended."""
+"""Looks again at the places of open findings, and at what is gone, and says what is repaired."""
 from __future__ import annotations
 
 import subprocess
@@ -12,7 +12,7 @@ from .weights import Known, Weights
 
 
 def show(state: State, known: str | None) -> int:
-    """Writes each open finding after `mended` or `open`, and what was not found there before after
+    """Writes each open finding after `repaired` or `open`, and what was not found there before after
     `new`; what is gone comes after `back` or `gone`. Gives 1 if something is open, new or gone, 3
     if a place was not looked at, and else 0. Fails if the storage root is not there."""
     state.refuse_links()
@@ -66,7 +66,7 @@ class Looking:
             print_after("no longer looked at", before)
             return 3
         now = [line for line in lines if not line.startswith((b"ok\t", b"S07\t"))]
-        print_after("mended", [it for it in before if it not in now])
+        print_after("repaired", [it for it in before if it not in now])
         bad = print_after("open", [it for it in before if it in now])
         bad += print_after("new", [it for it in leave_out.without(now) if it not in before])
         return int(bad > 0)

@@ -3,6 +3,7 @@ from __future__ import annotations
 
 import glob
 import os
+import re
 import signal
 import subprocess
 import sys
@@ -18,6 +19,9 @@ WORDS = {"0": "{}: a message about the nights", "1": "findings in {}",
 NO_TEXT = ("It left no text in its folder, or the text was sent already. If it could not write "
            "there,\n%s.\n")
 NO_ROOM = "What it said could not be written into %s: is there room for it?\nElse %s.\n"
+# What a night says that found nothing bad, and its words.
+GOOD = [(re.compile(b" repaired"), "{}: findings repaired"),
+        (re.compile(rb"(?m)^[0-9]+ object\S* \S+ back in cycle "), "{}: objects are back")]
 # How many seconds a mail may take. What hangs must not keep the messages of later nights.
 PATIENCE = 300
 
@@ -62,8 +66,9 @@ class Night:
             return None
         stopped = "{}: the night stopped with status " + self.status
         words = WORDS.get(self.status, stopped)
-        if self.status == "0" and not self.unsent and b" repaired" in self.said():
-            words = "{}: findings repaired"
+        if self.status == "0" and not self.unsent:
+            said = self.said()
+            words = next((it for found, it in GOOD if found.search(said)), words)
         return words.replace("{}", self.shown)
 
     def said(self) -> bytes:

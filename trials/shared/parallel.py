@@ -61,7 +61,7 @@ def small_root(folder, damaged=(), count=9):
 
 
 class Place:
-    """A directory of a storage root that cannot be read until it is mended."""
+    """A directory of a storage root that cannot be read until it is repaired."""
 
     def __init__(self, root, place):
         self.place = place

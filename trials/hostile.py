@@ -202,6 +202,8 @@ def names(folder):
         write(os.path.join(os.fsencode(os.path.join(root, at)), b"\xff"), b"")
         items = {".": [], "h": OK[:1], "o": OK[:1]}.get(stopped, OK[:2])
         audits("a name that is no text in '%s'" % at, root, items, "stopped at " + stopped, 3)
+        check("it is shown, in '%s'" % at, common.reason,
+              "it holds a name that is not UTF-8: \\xFF")
 
 
 def long_paths(folder):

@@ -26,6 +26,9 @@ Tried, and what comes of it:
   killed then: the place is named, and counted.
 - Objects that were emptied, that lost their declaration, or whose inventory cannot be used: the
   first are gone, the second undeclared, and no file of the third is called gone.
+- A cycle that ends in one night, and one of two nights: no line is there twice, the gravest are
+  first.
+- Objects that are back, damaged too, and gone once more: each is said once.
 - Lists of known findings, and of objects that must be there, that are missing, are folders, no
   lists or empty: status 2, nothing is run; that go away in the night: status 3, nothing is called
   complete that was not compared, and the next night compares it.
@@ -60,6 +63,11 @@ PLACES = ["(c)", "+b", "-a", "..d", ".e", "f", "g/h", "i"]
 OF_F = "object\tf\n"
 UNLOOKED = "%d file(s) of objects that are gone, or whose inventory cannot be used, are not looked " \
     "at any more.\n"
+NEW = "%d finding(s) of cycle %d are new since cycle %d"
+ABOVE = ", %d of them above"
+BACK = "%d object(s) are back in cycle %d:\n"
+# Why a folder with the name 0xFF is left out.
+NOT_UTF_8 = "it holds a name that is not UTF-8: \\xFF"
 
 
 def made(folder: str) -> Nights:
@@ -100,7 +108,7 @@ def gone(folder: str) -> None:
     status, out, _ = nights.night()
     check("a file that an inventory lists is no loss", (status, out.count("E092\ti/v1/content/2\t"),
                                                         nights.has("reports/gone-000004")),
-          (1, 2, ""))
+          (1, 1, ""))
 
 
 def new_and_repaired(folder: str) -> None:
@@ -109,7 +117,8 @@ def new_and_repaired(folder: str) -> None:
     common.write(path, b"abd")
     status, out, _ = nights.night()
     finding = [line for line in audit_of(nights).splitlines(True) if line.startswith("E092\t")]
-    check("new", (status, "are new since cycle 1" in out, out.count(finding[0])), (1, True, 2))
+    check("new", (status, NEW % (1, 2, 1) + ABOVE % 1 + ".\n" in out, out.count(finding[0])),
+          (1, True, 1))
     status, out, _ = nights.night()
     check("as before", (status, "are new since" in out, out.count(finding[0])),
           (1, False, 1))
@@ -118,6 +127,49 @@ def new_and_repaired(folder: str) -> None:
     check("repaired", (status, "are repaired in cycle 4" in out, out.count(finding[0])),
           (0, True, 1))
     check("and then", nights.night(), (0, "", ""))
+
+
+def lines_in(text: str) -> list[str]:
+    """The lines of findings in a text, each by its code and its place."""
+    return [line.rsplit("\t", 1)[0] for line in text.splitlines()
+            if line[:1] in ("E", "S") and line.count("\t") == 2]
+
+
+def no_line_twice(folder: str) -> None:
+    """What the message of a night has, its closing only counts. What an earlier night of the cycle
+    said, the closing has again, the gravest first."""
+    nights = made(folder)
+    common.write(nights.root + "/+s/stray", b"")
+    common.write(nights.root + "/-a/v1/content/1", b"abd")
+    common.write(nights.root + "/-a/v1/content/3", b"")
+    early = ["E092\t-a/v1/content/1", "E023\t-a/v1/content/3", "E072\t+s/stray"]
+    status, out, _ = nights.night("--files", "9")
+    check("what is found first", (status, lines_in(out), "new since" in out), (1, early, False))
+    common.write(nights.root + "/i/v1/content/1", b"abd")
+    status, out, _ = nights.night()
+    late, head = "E092\ti/v1/content/1", NEW % (4, 2, 1) + ABOVE % 1 + ":\n"
+    check("the end of the cycle", (status, head in out, lines_in(out)), (1, True, [late, *early]))
+    common.write(nights.root + "/~s/stray", b"")
+    os.remove(nights.root + "/g/h/v1/content/1")
+    status, out, note = nights.night()
+    check("a cycle of one night", (status, NEW % (2, 3, 2) + ABOVE % 2 + ".\n" in out,
+                                   out.count("new since"), sorted(lines_in(out)), note),
+          (1, True, 1, sorted(lines_in(audit_of(nights))), ""))
+
+
+def many_new(folder: str) -> None:
+    """Of more than twenty new findings the message has the gravest twenty, and the closing the next
+    ones: it counts those of the message, and says where the rest is."""
+    nights = made(folder)
+    for number in range(45):
+        common.write("%s/i/v1/content/new%02d" % (nights.root, number), b"")
+    common.write(nights.root + "/+s/stray", b"")
+    status, out, _ = nights.night()
+    first, head, then = out.partition(NEW % (46, 2, 1) + ABOVE % 20 + ":\n")
+    shown = ["E023\ti/v1/content/new%02d" % number for number in range(40)]
+    check("new", (status, lines_in(first), head != "", lines_in(then)),
+          (1, shown[:20], True, shown[20:]))
+    check("and more", "and 6 more, in %s/reports/cycle-000002\n" % nights.state in then, True)
 
 
 def many(folder: str) -> None:
@@ -374,14 +426,16 @@ def older_report(folder: str) -> None:
     status, out, note = nights.night()
     check("gone", (status, OF_F in out, "the report of cycle 2 is not in" in out,
                    "so this is since cycle 1" in out, note), (3, True, True, True, ""))
-    check("its row", closings(nights)[-1], {"cycle": 3, "compared": 1, "objects": 1})
+    check("its row", closings(nights)[-1],
+          {"cycle": 3, "compared": 1, "objects": 1, "unlooked": 2})
 
 
 def closings(nights: Nights) -> list[dict[str, Any]]:
     """The rows of the log on closings: of each the members that are not 0 or empty."""
     rows = [json.loads(line) for line in common.read(nights.path("log")).splitlines()]
-    shown = ("cycle", "compared", "objects", "files", "expected", "listed", "left")
-    return [{name: row[name] for name in shown if row[name]} for row in rows
+    shown = ("cycle", "compared", "objects", "files", "unlooked", "back", "expected", "listed",
+             "left")
+    return [{name: row[name] for name in shown if row.get(name)} for row in rows
             if row["row"] == "closing"]
 
 
@@ -403,7 +457,7 @@ def no_report_there(folder: str) -> None:
         os.rename(path + ".gz" if name == "compressed" else folder + "/away", path)
         check_said_later(name + ": it is back", nights, "", True)
         check(name + ": its row then", closings(nights)[-1],
-              {"cycle": 2, "compared": 1, "objects": 1})
+              {"cycle": 2, "compared": 1, "objects": 1, "unlooked": 2})
 
 
 # Cycles with a place left out
@@ -432,14 +486,15 @@ def place_left_out(folder: str) -> None:
         "object\tf\nexpected\tf\nexpected\tlost\n" + UNLOOKED % 2), nights.closed()[-1]),
           (3, True, "incomplete-000003"))
     check("its list", nights.has("reports/gone-000003"), OF_F + "expected\tf\nexpected\tlost\n")
-    check("its row", closings(nights)[-1], {"cycle": 3, "compared": 2, "objects": 1, "expected": 2,
-                                            "listed": 9, "left": 1})
-    check("the reason", "left out: m: it holds a name that is not UTF-8\n" in note, True)
+    check("its row", closings(nights)[-1], {"cycle": 3, "compared": 2, "objects": 1, "unlooked": 2,
+                                            "expected": 2, "listed": 9, "left": 1})
+    check("the reason", "left out: m: %s\n" % NOT_UTF_8 in note, True)
     remove_object(nights, "+b")
     status, out, _ = nights.night()
     check("another loss, the next cycle", (status, "object\t+b\n" in out, OF_F in out,
                                            closings(nights)[-1]),
-          (3, True, False, {"cycle": 4, "compared": 3, "objects": 1, "left": 1}))
+          (3, True, False,
+           {"cycle": 4, "compared": 3, "objects": 1, "unlooked": 2, "left": 1}))
     shutil.rmtree(os.fsencode(path))
     os.rename(folder + "/m", nights.root + "/m")
     shutil.rmtree(hidden)
@@ -518,6 +573,38 @@ def no_object_any_more(folder: str) -> None:
     common.make_object(nights.root + "/.e", FILES)
     status, out, _ = nights.night()
     check("all is back", (status, nights.has("reports/gone-000003")), (0, ""))
+    check("it is said", (BACK % (2, 3) + "object\tf\nobject\ti\n" in out, out.count("object\t")),
+          (True, 2))
+    check("the rows", closings(nights), [
+        {"cycle": 1}, {"cycle": 2, "compared": 1, "objects": 2, "unlooked": 6},
+        {"cycle": 3, "compared": 2, "back": 2}])
+    check("it is said once", nights.night(), (0, "", ""))
+
+
+def back_later(folder: str) -> None:
+    """An object is back some cycles after it was called gone, another one has gone meanwhile, and
+    a new one was never gone."""
+    nights = made(folder)
+    remove_object(nights)
+    nights.night()
+    remove_object(nights, "i")
+    status, out, _ = nights.night()
+    check("another loss", (status, "back in" in out, "object\ti\n" in out), (1, False, True))
+    common.make_object(nights.root + "/new", FILES)
+    check("a new object", nights.night(), (0, "", ""))
+    common.make_object(nights.root + "/f", FILES)
+    common.write(nights.root + "/f/v1/content/1", b"abd")
+    status, out, _ = nights.night()
+    check("one is back, with damage", (status, BACK % (1, 5) + OF_F in out,
+                                       out.count("E092\tf/v1/content/1\t")), (1, True, 1))
+    remove_object(nights)
+    status, out, _ = nights.night()
+    check("and gone again", (status, OF_F in out, "back in" in out), (1, True, False))
+    common.make_object(nights.root + "/f", FILES)
+    common.make_object(nights.root + "/i", FILES)
+    status, out, _ = nights.night()
+    check("both are back", (status, BACK % (2, 7) + OF_F + "object\ti\n" in out), (0, True))
+    check("the rows", [row.get("back", 0) for row in closings(nights)], [0, 0, 0, 0, 1, 0, 2])
 
 
 def each_repair(folder: str) -> None:
@@ -556,11 +643,12 @@ def changed_once_closed(folder: str) -> None:
     check("as it was", OF_F in nights.night("--files", "1")[1], True)
 
 
-PARTS = [nothing_is_gone, gone, new_and_repaired, many, objects_first, known_findings, each_finding_once,
-         odd_names_gone, expected, lists_that_fail, disturbed_nights, after_an_incomplete_one,
+PARTS = [nothing_is_gone, gone, new_and_repaired, no_line_twice, many_new, many, objects_first,
+         known_findings, each_finding_once, odd_names_gone, expected, lists_that_fail,
+         disturbed_nights, after_an_incomplete_one,
          lost_lines_before, no_report_before, not_compared_for_long, older_report,
          no_report_there, place_left_out, left_out_at_first, killed_once_left_out, why_unread,
-         no_object_any_more, each_repair, changed_once_closed]
+         no_object_any_more, back_later, each_repair, changed_once_closed]
 
 
 def check_all(folder: str) -> None:

@@ -24,9 +24,9 @@ Tried, and what comes of it:
   with the system's reason. It needs root.
 - A checkpoint with another digit, cut, empty, zeros, of another version: status 4, and nothing is
   written.
-- A checkpoint of an earlier cycle that is put back: status 3, and nothing is written; with the
-  newest one the cycle is whole, and so is the next one with that of the last closed cycle, once
-  the open report is moved away.
+- A checkpoint of an earlier cycle that is put back, or a whole folder: status 3, and nothing is
+  written; with the newest one the cycle is whole, and so is the next one with that of the last
+  closed cycle, once the open report is moved away.
 - A report that lost its end or all of it: status 3, it is closed as incomplete, and the next
   cycle is whole.
 - A report of the right length with another size in a line, another byte, or zeros: it is closed
@@ -39,9 +39,9 @@ Tried, and what comes of it:
 - Objects, roots and state folders whose names have backslashes, line feeds, controls or quotes,
   begin with `-`, or sort before `.`: the report is the audit, and what is said has no byte of a
   name that a terminal takes as its own.
-- Folders with such names that cannot be listed: status 3, they are named as left out, all else is
-  in a report that is incomplete; the next cycle is the audit, and other parts go on. Of parts:
-  `night_parts.py`.
+- Folders with such names that cannot be listed: status 3, they are named as left out, with the
+  name that is not UTF-8, all else is in a report that is incomplete; the next cycle is the audit,
+  and other parts go on. Of parts: `night_parts.py`.
 
 Seen to fail on these faults, each planted alone, or beside others that other rows see:
 
@@ -395,6 +395,21 @@ def older_checkpoint(folder: str) -> None:
     check("the next cycle is whole", nights.whole(4) == audited.report, True)
 
 
+def older_folder(folder: str) -> None:
+    """A copy of the whole folder, made in the second cycle and put back over it once that cycle is
+    closed, is refused: what further nights would read was in no report."""
+    _, nights = made(folder)
+    nights.night(*PLAN)
+    nights.night("--slice", SLICE, "--files", "2")
+    shutil.copytree(nights.state, folder + "/copy")
+    nights.night("--slice", SLICE)
+    shutil.copytree(folder + "/copy", nights.state, dirs_exist_ok=True)
+    kept = nights.kept()
+    for name in ("a night", "the next one"):
+        is_refused(name, nights.night("--slice", SLICE), 3, "where cycle 2 is closed already",
+                   nights, kept)
+
+
 def after_a_change(name: str, folder: str, change: Any) -> tuple[Any, Any]:
     """A report that was changed between two nights: what the next one makes of its cycle, and
     whether the cycle after that is the audit."""
@@ -585,8 +600,8 @@ def names_that_are_left_out(folder: str) -> None:
         shown = name.replace("\n", "%0A")
         status, out, note = nights.night(*PLAN)
         check("a night, " + name, (
-            status, "left out: %s: it holds a name that is not UTF-8\n" % shown in note, controls(out + note),
-            "\nAll is well" in out + note), (3, True, [], False))
+            status, "left out: %s: it holds a name that is not UTF-8: \\xFF\n" % shown in note,
+            controls(out + note), "\nAll is well" in out + note), (3, True, [], False))
         check("what was found is said", out.count("E092\t!first/v1/content/a\t"), 1)
         os.remove(bad)
         audited = Audited(root)
@@ -639,7 +654,7 @@ def cut_and_refused(folder: str) -> None:
 
 PARTS = [no_storage_root, another_root, names_that_are_gone, names_that_go_night_by_night,
          link_that_moves, exchanged, folder_of_scripts, no_checkpoint, changed_checkpoint,
-         older_checkpoint, shorter_report, changed_report, unsaid_in_a_changed_report,
+         older_checkpoint, older_folder, shorter_report, changed_report, unsaid_in_a_changed_report,
          longer_report, links_in_the_folder, rights, copies_beside, odd_folders, odd_names,
          names_that_are_left_out, stop_file, cut_and_refused]
 MOUNTING = [unmounted, mounted_anew, not_mounted, unmounted_state]

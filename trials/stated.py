@@ -12,7 +12,10 @@ Tried, and what comes of it. Each row was seen to fail on scripts that lacked it
   its `Oldest verification`.
 - A night that was killed: the statement counts it, and `status` calls it cut.
 - A folder that could not be listed: the statement counts it, and its object does not count as
-  without findings.
+  without findings. The name that is not UTF-8 there is in the message, the log, the statement and
+  `status`.
+- An object that is gone, and back: the statement has how many files are no longer looked at, and
+  that it is back, as the message has it.
 - A report that lost the line of a finding: how many objects are without findings is not known.
 - A cycle that lost an object, or lacks an expected one: its PREMIS event is `fail`, and says so.
 - Ends of parts with `%`: they stand as in the file of separators.
@@ -114,8 +117,12 @@ def left_out(folder):
     nights = Nights(folder + "/state", make_root(folder + "/root"))
     bad = os.fsencode(nights.root) + b"/o/v1/content/d"
     os.mkdir(bad)
-    write(os.fsdecode(bad + b"/\xff"), "")
-    check("a night", nights.night()[0], 3)
+    write(os.fsdecode(bad + b"/M\xfcll\\er\n"), "")
+    why = "it holds a name that is not UTF-8: M\\xFCll\\x5Cer\\x0A"
+    status, _, said = nights.night()
+    check("a night", (status, "left out: o/v1/content/d: %s\n" % why in said), (3, True))
+    check("why", (lines_of(nights, 1).get("Why left out 1"), [row["why"] for row in nights.rows(
+        "left")], why in ask("status", nights.state)[1]), (why, [why], True))
     lines, named = lines_of(nights, 1), [row["place"] for row in nights.rows("left")]
     check("what it says", [lines.get(name) for name in ["Whole", "Report", "Places left out"]],
           ["no", "incomplete-000001", "1"])
@@ -126,6 +133,32 @@ def left_out(folder):
     shutil.rmtree(bad)
     check("the next night", (nights.night()[0], lines_of(nights, 2).get("Places left out"),
                              lines_of(nights, 2)["Objects without findings"]), (0, "0", "1"))
+
+
+def counted(folder):
+    """How many files are no longer looked at, and how many objects are back, is what the night
+    said."""
+    nights = Nights(folder + "/state", make_root(folder + "/root"))
+    shutil.copytree(nights.root + "/o", nights.root + "/p")
+    figures = folder + "/figures"
+
+    def counts(cycle):
+        ask("status", "--prometheus", figures, nights.state)
+        said = lines_of(nights, cycle)
+        return [said.get("Files no longer looked at"), said.get("Objects back"), *re.findall(
+            r"(?m)^ocfl_scrub_closed_cycle_(?:unlooked_files|objects_back)\{.*\} (\d+)$",
+            read(figures))]
+
+    nights.night()
+    check("nothing was compared", counts(1), ["not known", "not known"])
+    os.rename(nights.root + "/p", folder + "/p")
+    out = nights.night()[1]
+    check("an object is gone", ("\n3 file(s) of objects that are gone, or" in out, counts(2)),
+          (True, ["3", "0", "3", "0"]))
+    os.rename(folder + "/p", nights.root + "/p")
+    check("it is back", (nights.night()[:2], counts(3)), (
+        (0, "1 object(s) are back in cycle 3:\nobject\tp\n"), ["0", "1", "0", "1"]))
+    check("all hold", [verified(file_of(nights, cycle))[0] for cycle in (1, 2, 3)], [0, 0, 0])
 
 
 def lost_lines(folder):
@@ -322,8 +355,8 @@ def copies_are_no_seals(folder):
           (0, False))
 
 
-PARTS = [programs, oldest, cut, left_out, lost_lines, ends_of_parts, declaration, two_folders,
-         checking, losses, chained, no_list, copies_are_no_seals]
+PARTS = [programs, oldest, cut, left_out, counted, lost_lines, ends_of_parts, declaration,
+         two_folders, checking, losses, chained, no_list, copies_are_no_seals]
 
 
 def check_all(folder):

@@ -75,7 +75,7 @@ def moment(text: str) -> int:
 # them, and no others than a command needs.
 
 def named(*paths: str | None) -> None:
-    """Goes on with the rights of the user whose these files are."""
+    """Continues with the rights of the user whose these files are."""
     files.drop_to_owners_of(filter(None, paths))
 
 
@@ -261,7 +261,7 @@ COMMANDS: list[tuple[str, Does, str, str, Iterable[Callable[[Parser], object]], 
      "--known ~/known --list ~/audit",
      [*JUDGING, argument("--list", action="store_true",
                          help="list the open findings that are not known below the line, the "
-                              "gravest first, and then what is gone"),
+                              "most serious first, and then what is gone"),
       argument("--prometheus", metavar="FILE",
                help="write the figures for the textfile collector of node_exporter"), STATE],
      "Ends with 0 to 3 for OK, WARNING, CRITICAL and UNKNOWN, as plugins of monitors do. W,C is a "

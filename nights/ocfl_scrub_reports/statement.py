@@ -1,4 +1,4 @@
-"""The statement of a closed cycle: what was audited, when, by which program, what came of it."""
+"""The statement of a closed cycle: what was audited, when, by which program, with what result."""
 from __future__ import annotations
 
 import hashlib

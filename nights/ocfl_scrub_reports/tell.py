@@ -86,7 +86,7 @@ class Night:
         if not self.own:
             said += self.why_no_text(bool(said)).encode()
         again = b"" if self.code == "exited" else (
-            b"The next night goes on from the last checkpoint.\n")
+            b"The next night continues from the last checkpoint.\n")
         return said + again
 
     def why_no_text(self, is_said: bool) -> str:

@@ -1,4 +1,4 @@
-"""Which parts of a storage root were given out, and what came of it."""
+"""Which parts of a storage root were given out, and with what result."""
 from __future__ import annotations
 
 import glob

@@ -13,12 +13,14 @@ hashing, by blocks of SHA-512. What the hashing of files and inventories takes b
 """
 from __future__ import annotations
 
+import argparse
 import os
 import re
 import shutil
 import subprocess
 import sys
 import tempfile
+from typing import Sequence
 
 import contents
 import measure
@@ -107,12 +109,11 @@ def print_instructions() -> None:
           % (short / files, beside_hashing(short, longer, inventories, files)), flush=True)
 
 
-def measured(root):
+def measured(root: str, rounds: int) -> None:
     list_file = root + ".list"
     find = "find %s -path '*/v1/content/*' -type f -print0 | xargs -0 sha512sum" % root
     with open(list_file, "w") as file:
         subprocess.run(find, shell=True, stdout=file, check=True)
-    rounds = int(sys.argv[1]) if len(sys.argv) > 1 else measure.ROUNDS
     against = [("sha512sum -c --quiet LIST", "sha512sum -c --quiet %s" % list_file, 1.5),
                ("find -print0 \\| xargs -0 sha512sum", find, 0.75)]
     commands = [measure.audit_of(root), *(command for _, command, _ in against)]
@@ -124,12 +125,24 @@ def measured(root):
         measure.note("small", name.replace("\\", ""), own / other, wanted)
 
 
-def main():
+def rounds_of(words: Sequence[str]) -> int:
+    """How many rounds a command line asks for. Ends with the usage if that is asked, or if the
+    words are wrong, before anything is made."""
+    parser = argparse.ArgumentParser(
+        prog="small.py", description=__doc__, formatter_class=argparse.RawDescriptionHelpFormatter,
+        usage=argparse.SUPPRESS)
+    parser.add_argument("rounds", metavar="ROUNDS", nargs="?", type=int, default=measure.ROUNDS,
+                        help="how often the commands take turns: %(default)s without it")
+    return parser.parse_args(words).rounds
+
+
+def main(words: Sequence[str]) -> None:
+    rounds = rounds_of(words)
     measure.head("audit", "microseconds a file", "against", "microseconds a file", "ratio",
                  "wanted")
-    measure.with_root(small_files, measured, print_calls)
+    measure.with_root(small_files, lambda root: measured(root, rounds), print_calls)
     print_instructions()
 
 
 if __name__ == "__main__":
-    main()
+    main(sys.argv[1:])

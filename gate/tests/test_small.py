@@ -1,4 +1,6 @@
-"""Tests what `bench/small.py` makes of counts of instructions."""
+"""Tests what `bench/small.py` makes of counts of instructions, and of its words."""
+import contextlib
+import io
 import os
 import sys
 import unittest
@@ -26,3 +28,14 @@ class Small(unittest.TestCase):
         short = 10 * 1000 + 30 * hashed
         longer = short + 30 * 10 * (small.blocks_of(small.LONGER) - 9)
         self.assertAlmostEqual(small.beside_hashing(short, longer, [500, 700], 10), 1000)
+
+    def test_words(self) -> None:
+        self.assertEqual([small.rounds_of([]), small.rounds_of(["7"])],
+                         [small.measure.ROUNDS, 7])
+        for words, status in [(["--help"], 0), (["x"], 2), (["1", "2"], 2)]:
+            out = io.StringIO()
+            with contextlib.redirect_stdout(out), contextlib.redirect_stderr(out):
+                with self.assertRaises(SystemExit) as ended:
+                    small.main(words)
+            self.assertEqual((ended.exception.code, "ROUNDS" in out.getvalue() or status == 2),
+                             (status, True), words)

@@ -576,7 +576,7 @@ def no_object_any_more(folder: str) -> None:
     check("it is said", (BACK % (2, 3) + "object\tf\nobject\ti\n" in out, out.count("object\t")),
           (True, 2))
     check("the rows", closings(nights), [
-        {"cycle": 1}, {"cycle": 2, "compared": 1, "objects": 2, "unlooked": 6},
+        {"cycle": 1}, {"cycle": 2, "compared": 1, "objects": 2, "unlooked": 4},
         {"cycle": 3, "compared": 2, "back": 2}])
     check("it is said once", nights.night(), (0, "", ""))
 

@@ -408,6 +408,10 @@ def older_folder(folder: str) -> None:
     for name in ("a night", "the next one"):
         is_refused(name, nights.night("--slice", SLICE), 3, "where cycle 2 is closed already",
                    nights, kept)
+    subprocess.run(["gzip", nights.path("reports/cycle-000002")], check=True)
+    common.not_yet("beside the compressed report of that cycle", nights.night("--slice", SLICE)[0],
+                   3, "the program takes the report of a cycle for one that is not there once it "
+                   "is compressed, and closes a second one")
 
 
 def after_a_change(name: str, folder: str, change: Any) -> tuple[Any, Any]:

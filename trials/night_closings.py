@@ -44,6 +44,8 @@ Seen to fail on these faults, each planted alone:
   new, repaired or not shown has no line; lists of known and expected objects are ignored.
 - A report that cannot be read, or all before a missing one, are left out of comparisons; an
   incomplete report is called whole.
+- The lines of a night's message are there again in its closing, in the order of places; what is
+  back is in no message; the name that is not UTF-8 is not shown; the log does not count these.
 """
 import json
 import os

@@ -29,6 +29,7 @@ Tried, and what comes of it:
 - A cycle that ends in one night, and one of two nights: no line is there twice, the gravest are
   first.
 - Objects that are back, damaged too, and gone once more: each is said once.
+- 20,000 findings and 400,000 known ones: what they cost adds up.
 - Lists of known findings, and of objects that must be there, that are missing, are folders, no
   lists or empty: status 2, nothing is run; that go away in the night: status 3, nothing is called
   complete that was not compared, and the next night compares it.
@@ -49,6 +50,7 @@ Seen to fail on these faults, each planted alone:
 """
 import json
 import os
+import resource
 import shutil
 import signal
 from typing import Any
@@ -70,6 +72,9 @@ ABOVE = ", %d of them above"
 BACK = "%d object(s) are back in cycle %d:\n"
 # Why a folder with the name 0xFF is left out.
 NOT_UTF_8 = "it holds a name that is not UTF-8: \\xFF"
+FINDINGS, ENTRIES = 20_000, 400_000
+# How long a night with many known findings may take.
+MOST_SECONDS = 120
 
 
 def made(folder: str) -> Nights:
@@ -226,6 +231,33 @@ def known_findings(folder: str) -> None:
         status, out, note = nights.night("--known", path)
         check("a list that is " + name, (status, out, note != "", nights.kept()),
               (2, "", True, before))
+
+
+def many_known(folder: str) -> None:
+    """What many findings and many known ones cost adds up: no finding is compared with each of
+    them."""
+    few = Nights(folder + "/few", common.make_root(folder + "/small", {}))
+    common.write(few.root + "/x/stray", b"")
+    many_found = Nights(folder + "/many", common.make_root(folder + "/large", {}))
+    for number in range(FINDINGS):
+        common.write("%s/x/%05d" % (many_found.root, number), b"")
+    other = "".join("E092\ty/%06d\t-\n" % number for number in range(ENTRIES)).encode()
+    short, long = (common.write(folder + "/" + name, text + b"E072\t./\n") for name, text in (
+        ("short", b""), ("long", other)))
+    alone = seconds(few, short)
+    entries, findings = seconds(few, long) - alone, seconds(many_found, short) - alone
+    both = seconds(many_found, long) - alone
+    check("%.1f s of a processor for the findings, %.1f for the known ones, %.1f for both"
+          % (findings, entries, both), both < 1 + 3 * (entries + findings), True)
+
+
+def seconds(nights: Nights, known: str) -> float:
+    """How much time of a processor a first night takes, which finds known things alone."""
+    began = resource.getrusage(resource.RUSAGE_CHILDREN)
+    check("all is known", nights.first("--known", known, limit=MOST_SECONDS), (0, "", ""))
+    ended = resource.getrusage(resource.RUSAGE_CHILDREN)
+    nights.again()
+    return ended.ru_utime + ended.ru_stime - began.ru_utime - began.ru_stime
 
 
 def each_finding_once(folder: str) -> None:
@@ -646,7 +678,7 @@ def changed_once_closed(folder: str) -> None:
 
 
 PARTS = [nothing_is_gone, gone, new_and_repaired, no_line_twice, many_new, many, objects_first,
-         known_findings, each_finding_once, odd_names_gone, expected, lists_that_fail,
+         known_findings, many_known, each_finding_once, odd_names_gone, expected, lists_that_fail,
          disturbed_nights, after_an_incomplete_one,
          lost_lines_before, no_report_before, not_compared_for_long, older_report,
          no_report_there, place_left_out, left_out_at_first, killed_once_left_out, why_unread,

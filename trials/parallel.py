@@ -267,7 +267,8 @@ exec "%s" "$@"
 
 
 def other_roots(folder):
-    """A part that saw a root of far fewer names than another one is named."""
+    """A part that saw a root of far fewer names than another one is named, and its cycle is not
+    joined."""
     nights, numbers = begun(folder)
     away = nights.root + "-away"
     nights.make(numbers[:3])
@@ -279,8 +280,18 @@ def other_roots(folder):
     check("it is named", (status, "had 10 names when parts 1-3 began" in out,
                           "at most 2 when part 4" in out), (3, True, True))
     check("once", nights.end(), (0, "", ""))
-    common.not_yet("it is not joined as whole", nights.has("reports/cycle-000001"), None,
-                   "the program joins by place and declaration alone")
+    check("it is not joined", nights.has("reports/cycle-000001"), None)
+    status, _, said = ran([PROGRAM, "join", "--parts", nights.path("parts"), "--state",
+                           nights.state])
+    check("nor by hand", (status, "part 4: the storage root had 2 names when its cycle 1 began, "
+                          "and 10 when that of another part did" in said,
+                          nights.has("reports/cycle-000001")), (3, True, None))
+    for number in range(8):
+        os.rename("%s/o%02d" % (away, number), "%s/o%02d" % (nights.root, number))
+    nights.make(nights.given())
+    check("the next cycle", nights.end()[0], 0)
+    nights.is_audit("the next cycle", 2)
+    check("and the first one still not", nights.has("reports/cycle-000001"), None)
 
 
 # Does what `begin` asks of the program, and kills the one that asks.

@@ -121,7 +121,7 @@ class Joined(State):
             status = statuses[min(self.called, len(statuses) - 1)]
             self.called += 1
             for it in parts.unjoined() if status == 0 else ():
-                if not parts.lacking(it):
+                if parts.can_join(it):
                     self.put("reports/cycle-%06d" % it, "")
             return status, "" if status == 0 else "why"
 
@@ -188,12 +188,16 @@ class Joined(State):
         self.assertEqual(self.join(2, [75]), "The reports of cycle 2 are not joined:\nwhy")
 
     def test_parts_that_saw_far_fewer_names_are_named(self):
+        """Their cycle is not joined, which is said on its night; the others are."""
         for few, is_said in [(1, True), (3, True), (4, False), (8, False)]:
             self.close(1, few)
             self.close(2, few, names=few)
             said = self.join(few)
             self.assertEqual("had 8 names when part 1 began, and at most %d when part 2 did" % few
                              in said, is_said, said)
+            self.assertEqual(joining.Parts(self.state).is_joined(few), not is_said)
+        self.assertEqual(self.join(8), "")
+        self.assertEqual(joining.Parts(self.state).unjoined(), [1, 3])
 
 
 class Divided(State):

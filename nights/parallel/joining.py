@@ -75,17 +75,26 @@ class Parts:
         found = NAMES.search(Path(path).read_bytes()) if path else None
         return int(found[1]) if found else None
 
-    def other_roots(self, cycle: int) -> str:
-        """Says which parts saw a root with less than half of the names that another one saw. Empty
-        if none did, as far as their checkpoints say it."""
+    def few(self, cycle: int) -> tuple[dict[int, int], list[int]]:
+        """How many names each part saw, as far as their checkpoints say it, and which parts saw
+        less than half of what another one saw. The program does not join such a cycle."""
         counts = {number: self.names_of(number, cycle) for number in self.closed}
         seen = {number: count for number, count in counts.items() if count is not None}
         most = max(seen.values(), default=0)
-        few = [number for number in seen if 2 * seen[number] < most]
+        return seen, [number for number in seen if 2 * seen[number] < most]
+
+    def can_join(self, cycle: int) -> bool:
+        return not self.lacking(cycle) and not self.few(cycle)[1]
+
+    def other_roots(self, cycle: int) -> str:
+        """Says which parts saw another root, by how many names it had. Empty if none did."""
+        seen, few = self.few(cycle)
         if not few:
             return ""
-        return ("In cycle %d the top folder of the storage root had %d names when %s began, and at "
-                "most %d when %s did: does each machine see the same storage root there?" % (
+        most = max(seen.values())
+        return ("The reports of cycle %d are not joined: the top folder of the storage root had %d "
+                "names when %s began, and at most %d when %s did. Does each machine see the same "
+                "storage root there?" % (
                     cycle, most, ranges(it for it in seen if seen[it] == most),
                     max(seen[it] for it in few), ranges(few)))
 
@@ -110,7 +119,7 @@ def join(state: str, cycle: int) -> str:
     parts.leave_skipped(cycles[-1:])
     for it in cycles:
         parts.list_gone(it)
-    whole = [it for it in cycles if not parts.lacking(it)]
+    whole = [it for it in cycles if parts.can_join(it)]
     status, text = call_join(state) if whole else (0, "")
     failed = [it for it in whole if not parts.is_joined(it)]
     said = [text] if status == 0 or whole == cycles else []

@@ -13,7 +13,7 @@ use Rattle.ocfl_scrub.specs.{Running.{begun, place_in}, Joining.{PartRun, Ran, A
 use Rattle.ocfl_state.specs.{Checkpoint.{Checkpoint}, Content.{Content, Closed, empty}}
 use Rattle.ocfl_state.specs.Crash.{Outcomes}
 use Rattle.ocfl_night.specs.Chain.{RootRun, around, look_of, AreLooked, joined, EndAt, IsClosedAs, IsPartialReport, IsWholeReport, AreClosed}
-use Rattle.ocfl_night.specs.Looks.{Counts, IsNoMore, IsOneOf, IsWithin, Look, Rounds, look_between, of_any, opened_since}
+use Rattle.ocfl_night.specs.Looks.{Counts, IsOneOf, IsWithin, Look, Rounds, look_between, of_any, opened_since}
 use Rattle.ocfl_night.specs.Sound.{closed_text, Stands, IsNew, IsMarked, IsSoundAt, IsSound, IsKept}
 use Rattle.ocfl_night.specs.Nights.{Night, AreNights, AreOver, AtAnyMoment, AreWhole, HaveReadAll, IsAround, IsAuditBut, IsTaken, AllTaken, rounds_of}
 use Rattle.ocfl_state.proofs.CheckpointTexts.{text_determines}
@@ -59,11 +59,7 @@ told_once rounds t u c a b = told_twice rounds t u c.checkpoint c a b
 -- ---- the looks of nights
 
 same_look : (l : Look) → IsWithin l l
-same_look l = record { root = refl; unread = by l.unread }
-  where
-    by : (o : Option Unread) → IsNoMore o o
-    by None = tt
-    by (Some u) = λ e is. is
+same_look l = record { root = refl; unread = λ e is. is }
 
 module _ {F : Type 0} where
   -- each night's look is one of these
@@ -151,15 +147,7 @@ module _ (root : StorageRoot) (looks : List Look) where
   over_one one (r ∷ runs) looked = (looked.0.1.1.root ∙ one looked.0.0 looked.0.1.0, over_one one runs looked.1)
 
   abbrev CouldNot : Place × ℕ → Type 0
-  CouldNot e = (l : Look) × (IsAmong looks l × IsNoMore (Some (e ∷ [])) l.unread)
-
-  one_more : (e : Place × ℕ) (u : Unread) (most : Option Unread) → IsNoMore (Some u) most → IsAmong u e → IsNoMore (Some (e ∷ [])) most
-  one_more e u None few is = tt
-  one_more e u (Some v) few is = λ x among. single x among
-    where
-      single : (x : Place × ℕ) → IsAmong (e ∷ []) x → IsAmong v x
-      single x (inl same) = subst (λ (y : Place × ℕ). IsAmong v y) (sym same) (few e is)
-      single x (inr later) = absurd later
+  CouldNot e = (l : Look) × (IsAmong looks l × IsAmong l.unread e)
 
   among_filter : (keeps : Place × ℕ → Bool) (u : Unread) (e : Place × ℕ) → IsAmong (filter keeps u) e → IsAmong u e
   among_filter keeps u e is = (among_from_filter keeps u e is).0
@@ -167,7 +155,7 @@ module _ (root : StorageRoot) (looks : List Look) where
   unread_among : (r : RootRun) → r.root ≡ root → IsOneOf (Some looks) (look_of r) → (e : Place × ℕ) → IsAmong (unread_by root r.run) e → CouldNot e
   unread_among r over one e is =
       let opened : IsAmong (unread_of r.root r.run.opened) e = subst (λ (x : StorageRoot). IsAmong (unread_of x r.run.opened) e) (sym over) (among_filter (λ x. is_taken r.run.ran.cursor.state x.0) (unread_of root r.run.opened) e is) in
-      (one.0, (one.1.0, one_more e (unread_of r.root r.run.opened) one.0.unread one.1.1.unread opened))
+      (one.0, (one.1.0, one.1.1.unread e opened))
 
   -- what they could not read, one of the looks could not
   pub unread_each : (runs : List RootRun) → AllByRecursion (λ r. r.root ≡ root) runs → AreLooked (Some looks) runs → (e : Place × ℕ) → IsAmong (unread_together root (map (λ r. r.run) runs)) e → CouldNot e
@@ -188,8 +176,8 @@ module _ {F : Type 0} (root : StorageRoot) (nights : List (Night F)) (over : Are
 
   read_none : HaveReadAll nights → (e : Place × ℕ) → CouldNot root all_looks e → ⊥
   read_none read e could =
-      let all : could.0.unread ≡ Some [] = among_map (λ (l : Look). l.unread ≡ Some []) (λ n. n.look) nights read could.0 could.1.0 in
-      subst (λ (o : Option Unread). IsNoMore (Some (e ∷ [])) o) all could.1.1 e (inl refl)
+      let all : could.0.unread ≡ [] = among_map (λ (l : Look). l.unread ≡ []) (λ n. n.look) nights read could.0 could.1.0 in
+      subst (λ (u : Unread). IsAmong u e) all could.1.1
 
   module _ (join : (root : StorageRoot) (part : Part) (c : Cursor) (runs : List PartRun) → place_in c.state ≡ None → AreOneCycle root part c runs → (cursor_after c runs).state ≡ ended → reports_of runs ≡ text (within part (audit root (unread_together root runs)))) (part : Part) where
     module _ (d : Closed) (w : IsWholeReport (rounds_of part nights) d) where
@@ -227,7 +215,7 @@ module _ {F : Type 0} (root : StorageRoot) (nights : List (Night F)) (over : Are
       where
         read_run : (r : RootRun) → r.root ≡ root → IsOneOf (Some all_looks) (look_of r) → unread_of root r.run.opened ≡ []
         read_run r over one =
-            none_among (unread_of root r.run.opened) (λ e is. read_none read e (one.0, (one.1.0, one_more root all_looks e (unread_of r.root r.run.opened) one.0.unread one.1.1.unread (subst (λ (x : StorageRoot). IsAmong (unread_of x r.run.opened) e) (sym over) is))))
+            none_among (unread_of root r.run.opened) (λ e is. read_none read e (one.0, (one.1.0, one.1.1.unread e (subst (λ (x : StorageRoot). IsAmong (unread_of x r.run.opened) e) (sym over) is))))
 
         read_runs : (runs : List RootRun) → AllByRecursion (λ r. r.root ≡ root) runs → AreLooked (Some all_looks) runs → AllByRecursion (λ r. unread_of root r.run.opened ≡ []) runs
         read_runs [] over looked = tt
@@ -254,15 +242,5 @@ no_unread root os none =
     let content : Opening → Bool = λ o. not (is_meta root o.place) in
     ap (map (λ (o : Opening). (o.place, o.given))) (filters_turn failed content os ∙ ap (filter content) (nothing_there (filter failed os) none))
 
-pub all_read : (root : StorageRoot) (s t : Store) → Counts s t → t.failures ≡ s.failures → (look_between true root s t).unread ≡ Some []
-all_read root s t counts same = ap (λ (u : Unread). Some u) (no_unread root (opened_since s t) (omega (arith, counts.failures, same)))
-
--- ---- two nights
-
-pub known_root : (known : Bool) (root : StorageRoot) (s t : Store) → (look_between known root s t).root ≡ root
-known_root true root s t = refl
-known_root false root s t = refl
-
-pub known_read : (known : Bool) (root : StorageRoot) (s t : Store) → known ≡ true → (look_between true root s t).unread ≡ Some [] → (look_between known root s t).unread ≡ Some []
-known_read true root s t is read = read
-known_read false root s t is read = absurd (cc is)
+pub all_read : (root : StorageRoot) (s t : Store) → Counts s t → t.failures ≡ s.failures → (look_between root s t).unread ≡ []
+all_read root s t counts same = no_unread root (opened_since s t) (omega (arith, counts.failures, same))

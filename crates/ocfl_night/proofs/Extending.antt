@@ -1,5 +1,5 @@
 -- What a run brings to the report, and what it looked at.
-use Rattle.std.proofs.{Common.{◌≡◌, ◌≢◌, ◌+◌, ◌≤◌, ℕ, [], ◌++◌, ◌∙◌, Bool, true, List, length, Option, None, Some, ap, arith, append_assoc, refl, subst, sym}, lemmas.List.{append-nil, append_cancel_left}}
+use Rattle.std.proofs.{Common.{◌≡◌, ◌≢◌, ◌+◌, ◌≤◌, ℕ, [], ◌++◌, ◌∙◌, Bool, List, length, Option, None, Some, ap, arith, append_assoc, refl, subst, sym}, lemmas.List.{append-nil, append_cancel_left}}
 use Rattle.ocfl_tree.specs.{Place.{Text, Place}, Ascending.{IsAmong}, StorageRoot.{StorageRoot}}
 use Rattle.ocfl_tree.specs.{Store.{Store, failed_openings}, declared.store.Opening.{Opening}}
 use Rattle.ocfl_report.specs.Text.{text}
@@ -153,7 +153,7 @@ module _ (root : StorageRoot) (s t : Store) (old new : Text) (part : Part) (c : 
   run_counts = (looked_by root s t old new part c l ran met h).counts
 
   -- and then the root was looked at
-  pub run_of : {u : Store} → Counts t u → old ≡ [] → ran.end ≢ status.Stopped Output → IsRun part c (look_between true root s u) new ran
+  pub run_of : {u : Store} → Counts t u → old ≡ [] → ran.end ≢ status.Stopped Output → IsRun part c (look_between root s u) new ran
   run_of {u} after empty whole =
       let r = looked_by root s t old new part c l ran met h in
       let text : new ≡ r.run.report = r.wrote ∙ ap (λ (x : Text). x ++ (r.run.report ++ r.cut)) empty ∙ ap (λ (x : Text). r.run.report ++ x) (r.uncut whole) ∙ append-nil r.run.report in

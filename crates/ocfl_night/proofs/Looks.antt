@@ -1,5 +1,5 @@
 -- Looks at a storage root, and what a store counts meanwhile.
-use Rattle.std.proofs.Common.{◌≡◌, ◌≢◌, ℕ, ◌+◌, ◌≤◌, List, [], ◌++◌, Option, Some, None, Bool, true, false, Result, Ok, Err, refl, sym, ◌∙◌, ap, subst, arith, append_assoc, length, length-append, drop, filter}
+use Rattle.std.proofs.Common.{◌≡◌, ◌≢◌, ◌⊎◌, ⊎_elim, ℕ, ◌+◌, ◌≤◌, List, [], ◌++◌, Option, Some, None, refl, sym, ◌∙◌, ap, subst, arith, append_assoc, length, length-append, drop, filter}
 use Rattle.std.proofs.{lemmas.List.{append-nil, drop-append-le, drop_all}, lemmas.List.Elements.{filter-append}}
 use Rattle.std.specs.Option.{option_and_then}
 use Rattle.ocfl_tree.specs.{Place.{Text, Place}, Ascending.{IsAmong}, StorageRoot.{Leaf, StorageRoot, at, bytes_of, dir, file, other}}
@@ -8,15 +8,12 @@ use Rattle.ocfl_tree.proofs.Orders.{among_left, among_right}
 use Rattle.ocfl_audit.specs.{Audit.{Unread}, Trail.{unread_of}}
 use Rattle.ocfl_item.proofs.AuditingLaws.{unread_append}
 use Rattle.ocfl_item.specs.Judging.{HasShortFiles}
-use Rattle.ocfl_identity.specs.Identity.{IsUnread, in_listing, in_opening, too_long}
+use Rattle.ocfl_identity.specs.Identity.{IsUnread, OpensFirst, in_listing, in_opening, too_long}
 use Rattle.ocfl_scrub.specs.declared.running.RunStatus.{RunStatus}
 use Rattle.ocfl_scrub.specs.declared.running.RunStatus.TheVariants as status
-use Rattle.ocfl_night.specs.Looks.{Counts, IfGiven, IsNoMore, IsOneOf, IsWithin, Look, is_known, is_known_kept, is_known_of, is_known_opened, is_known_unopened, look_between, opened_since}
+use Rattle.ocfl_night.specs.Looks.{Counts, IfGiven, IsOneOf, IsWithin, Look, look_between, opened_since}
 use Rattle.ocfl_identity.specs.declared.identity.NoIdentity.{NoIdentity}
 use Rattle.ocfl_identity.specs.declared.identity.NoIdentity.TheVariants as none
-use Rattle.ocfl_night.specs.Ending.{ended_by, unbegun_by, unopened_by}
-use Rattle.ocfl_night.specs.declared.{looking.NotKept.{NotKept}, plan.Halt.{Halt}, refusal.NotOpened.{NotOpened}, stop.Stop.{Stop}}
-use Rattle.ocfl_night.specs.declared.refusal.NotOpened.TheVariants as unopened
 
 -- ---- what a store counts
 
@@ -58,13 +55,13 @@ module _ {r s t : Store} (p : Counts r s) (q : Counts s t) where
   unread_both : (root : StorageRoot) → unread_of root (opened_since r t) ≡ unread_of root (opened_since r s) ++ unread_of root (opened_since s t)
   unread_both root = ap (unread_of root) since_both ∙ unread_append root (opened_since r s) (opened_since s t)
 
-  pub first_within : (root : StorageRoot) → IsWithin (look_between true root r s) (look_between true root r t)
+  pub first_within : (root : StorageRoot) → IsWithin (look_between root r s) (look_between root r t)
   first_within root = record {
     root = refl;
     unread = λ e is. subst (λ (u : Unread). IsAmong u e) (sym (unread_both root)) (among_left (unread_of root (opened_since r s)) (unread_of root (opened_since s t)) e is);
   }
 
-  pub last_within : (root : StorageRoot) → IsWithin (look_between true root s t) (look_between true root r t)
+  pub last_within : (root : StorageRoot) → IsWithin (look_between root s t) (look_between root r t)
   last_within root = record {
     root = refl;
     unread = λ e is. subst (λ (u : Unread). IsAmong u e) (sym (unread_both root)) (among_right (unread_of root (opened_since r s)) (unread_of root (opened_since s t)) e is);
@@ -72,14 +69,8 @@ module _ {r s t : Store} (p : Counts r s) (q : Counts s t) where
 
 -- ---- looks
 
-no_more_on : (a b c : Option Unread) → IsNoMore a b → IsNoMore b c → IsNoMore a c
-no_more_on a b None p q = tt
-no_more_on a None (Some z) p q = absurd q
-no_more_on None (Some y) (Some z) p q = absurd p
-no_more_on (Some x) (Some y) (Some z) p q = λ e is. q e (p e is)
-
 pub within_on : {a b c : Look} → IsWithin a b → IsWithin b c → IsWithin a c
-within_on {a} {b} {c} p q = record { root = p.root ∙ q.root; unread = no_more_on a.unread b.unread c.unread p.unread q.unread }
+within_on {a} {b} {c} p q = record { root = p.root ∙ q.root; unread = λ e is. q.unread e (p.unread e is) }
 
 pub one_of_on : {a b : Look} (looks : Option (List Look)) → IsWithin a b → IsOneOf looks b → IsOneOf looks a
 one_of_on None p is = tt
@@ -93,26 +84,13 @@ pub given_so : {P : Type 0} (looks : Option (List Look)) → P → IfGiven looks
 given_so None p = tt
 given_so (Some looks) p = p
 
--- more is known
-pub known_within : (root : StorageRoot) (s t : Store) (few many : Bool) → (many ≡ true → few ≡ true) → IsWithin (look_between few root s t) (look_between many root s t)
-known_within root s t true true more = record { root = refl; unread = λ e is. is }
-known_within root s t false true more = absurd (let e = more refl in cc e)
-known_within root s t true false more = record { root = refl; unread = tt }
-known_within root s t false false more = record { root = refl; unread = tt }
+-- the first steps, and the last
+module _ {r s t : Store} (root : StorageRoot) (looks : Option (List Look)) (p : Counts r s) (q : Counts s t) (is : IsOneOf looks (look_between root r t)) where
+  pub first_of : IsOneOf looks (look_between root r s)
+  first_of = one_of_on looks (first_within p q root) is
 
--- if it is one of some looks by what is known, it is with all that happened
-pub known_one : (root : StorageRoot) (s t : Store) (looks : Option (List Look)) (many : Bool) → IsOneOf looks (look_between many root s t) → IsOneOf looks (look_between true root s t)
-known_one root s t looks many is = one_of_on looks (known_within root s t true many (λ e. refl)) is
-
--- the first steps, and the last, if it is known what the last was looked at for
-module _ {r s t : Store} (root : StorageRoot) (looks : Option (List Look)) where
-  pub first_of : (known : Bool) → Counts r s → (known ≡ true → Counts s t) → IsOneOf looks (look_between known root r t) → IsOneOf looks (look_between true root r s)
-  first_of true p q is = one_of_on looks (first_within p (q refl) root) is
-  first_of false p q is = one_of_on looks (record { root = refl; unread = tt }) is
-
-  pub last_of : (known : Bool) → Counts r s → (known ≡ true → Counts s t) → IsOneOf looks (look_between known root r t) → IsOneOf looks (look_between known root s t)
-  last_of true p q is = one_of_on looks (last_within p (q refl) root) is
-  last_of false p q is = one_of_on looks (record { root = refl; unread = tt }) is
+  pub last_of : IsOneOf looks (look_between root s t)
+  last_of = one_of_on looks (last_within p q root) is
 
 -- a run that was not made did nothing
 pub counts_either : {s t : Store} (end : RunStatus) → (end ≢ status.Worn → Counts s t) → (end ≡ status.Worn → t ≡ s) → Counts s t
@@ -133,33 +111,13 @@ counts_unread short (in_listing is there did) = counts_did did
 counts_unread short (in_opening before given did) = counts_did did
 counts_unread {root} {p = p} short (too_long bytes is long) = absurd (let few = short p bytes (leaf_there (at root p) bytes is) in omega (arith, few, long))
 
--- of what `?` hands on
-pub known_kept : {A B : Type 0} {r : Result A NotKept} {q : Result B NotKept} {e : NotKept} → r ≡ Err e → q ≡ Err e → is_known_kept q ≡ true → is_known_kept r ≡ true
-known_kept one two known = ap is_known_kept one ∙ sym (ap is_known_kept two) ∙ known
+-- memory was refused
+pub counts_first : {s t : Store} {os : List Opening} {listed : List Place} → OpensFirst s t os listed → Counts s t
+counts_first first = counts_did first.did
 
-pub known_same : {A B : Type 0} {r : Result A Stop} {q : Result B Stop} {e : Stop} → r ≡ Err e → q ≡ Err e → is_known q ≡ is_known r
-known_same one two = ap is_known two ∙ sym (ap is_known one)
-
--- the root has no identity, and memory is not why
-unidentified : {root : StorageRoot} {s t : Store} {listed : List Place} (e : NoIdentity) → HasShortFiles root → (e ≡ none.Undeclared → Did s t [] listed 0) → ((p : Place) → e ≡ none.Unread p → IsUnread root s t listed p)
-    → is_known_unopened (unopened_by e) ≡ true → Counts s t
-unidentified none.Undeclared short bare unread known = counts_did (bare refl)
-unidentified (none.Unread p) short bare unread known = counts_unread short (unread p refl)
-unidentified none.Memory short bare unread known = absurd (cc known)
-
-pub counts_unidentified : {A B : Type 0} (r : Result A NoIdentity) (q : Result B NotOpened) (e : NoIdentity) {root : StorageRoot} {s t : Store} {listed : List Place} → r ≡ Err e → q ≡ Err (unopened_by e) → HasShortFiles root
-    → (r ≡ Err none.Undeclared → Did s t [] listed 0) → ((p : Place) → e ≡ none.Unread p → IsUnread root s t listed p) → is_known_opened q ≡ true → Counts s t
-counts_unidentified r q e was is short bare unread known = unidentified e short (λ x. bare (was ∙ ap Err x)) unread (sym (ap is_known_opened is) ∙ known)
-
--- ---- whether it is known of a whole night
-
-pub known_through : (through : Result Halt Stop) → is_known_of (ended_by through) ≡ true → is_known through ≡ true
-known_through (Ok h) known = refl
-known_through (Err why) known = known
-
-pub known_unbegun : (why : NotOpened) → is_known_of (unbegun_by why) ≡ true → is_known_unopened why ≡ true
-known_unbegun (unopened.Refused why) known = refl
-known_unbegun (unopened.Troubled why) known = known
-
-pub one_ok : {A : Type 0} {r : Result A Stop} {x : A} (root : StorageRoot) (s t : Store) (looks : Option (List Look)) → r ≡ Ok x → IsOneOf looks (look_between true root s t) → IsOneOf looks (look_between (is_known r) root s t)
-one_ok root s t looks is one = subst (λ (known : Bool). IsOneOf looks (look_between known root s t)) (sym (ap is_known is)) one
+-- the root has no identity
+pub counts_unidentified : {root : StorageRoot} {s t : Store} {os : List Opening} {listed : List Place} (e : NoIdentity) → HasShortFiles root → (e ≡ none.Undeclared → Did s t [] listed 0)
+    → ((p : Place) → e ≡ none.Unread p → IsUnread root s t listed p) → (e ≡ none.Memory → Did s t [] [] 0 ⊎ OpensFirst s t os listed) → Counts s t
+counts_unidentified none.Undeclared short bare unread refused = counts_did (bare refl)
+counts_unidentified (none.Unread p) short bare unread refused = counts_unread short (unread p refl)
+counts_unidentified none.Memory short bare unread refused = ⊎_elim counts_did counts_first (refused refl)

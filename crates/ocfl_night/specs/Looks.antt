@@ -1,15 +1,8 @@
 -- What calls looked at: which storage root, and which content files they could not read.
-use Rattle.std.specs.Prelude.{◌≡◌, ℕ, ◌+◌, ◌≤◌, List, ◌++◌, Bool, true, false, Option, Some, None, Result, Ok, Err, drop, length, ⊤}
+use Rattle.std.specs.Prelude.{◌≡◌, ℕ, ◌+◌, ◌≤◌, List, ◌++◌, Option, Some, None, drop, length, ⊤}
 use Rattle.ocfl_tree.specs.{Place.{Place}, Ascending.{IsAmong}, StorageRoot.{StorageRoot}}
 use Rattle.ocfl_tree.specs.{Store.{Store, failed_openings}, declared.store.Opening.{Opening}}
 use Rattle.ocfl_audit.specs.{Audit.{Unread}, Parts.{Part}, Trail.{unread_of}}
-use Rattle.ocfl_state.specs.declared.folder.FolderTrouble.TheVariants.{Memory}
-use Rattle.ocfl_night.specs.declared.{looking.NotKept.{NotKept}, plan.Halt.{Halt}}
-use Rattle.ocfl_night.specs.declared.{refusal.NotOpened.{NotOpened}, stop.Stop.{Stop}}
-use Rattle.ocfl_night.specs.declared.looking.NotKept.TheVariants as unkept
-use Rattle.ocfl_night.specs.declared.refusal.NotOpened.TheVariants as unopened
-use Rattle.ocfl_night.specs.declared.plan.Halt.TheVariants as halt
-use Rattle.ocfl_night.specs.declared.stop.Stop.TheVariants.{Folder}
 
 -- ---- of a store
 
@@ -24,21 +17,18 @@ pub record Counts (s t : Store) : Type 0 where
 
 -- ---- looks
 
--- a storage root, and the content files that could not be read; none if that is not known
+-- a storage root, and the content files that could not be read
 pub record Look : Type 0 where
   pub root : StorageRoot
-  pub unread : Option Unread
+  pub unread : Unread
 
--- what a store of this root was looked at for from one moment to another, if that is known
-abbrev pub look_between : Bool → StorageRoot → Store → Store → Look
-look_between true root s t = record { root = root; unread = Some (unread_of root (opened_since s t)) }
-look_between false root s t = record { root = root; unread = None }
+-- what a store of this root was looked at for from one moment to another
+abbrev pub look_between : StorageRoot → Store → Store → Look
+look_between root s t = record { root = root; unread = unread_of root (opened_since s t) }
 
 -- no more was unread
-abbrev pub IsNoMore : Option Unread → Option Unread → Type 0
-IsNoMore few None = ⊤
-IsNoMore None (Some most) = ⊥
-IsNoMore (Some few) (Some most) = (e : Place × ℕ) → IsAmong few e → IsAmong most e
+abbrev pub IsNoMore : Unread → Unread → Type 0
+IsNoMore few most = (e : Place × ℕ) → IsAmong few e → IsAmong most e
 
 -- a look at the same root, in which no more was unread
 pub record IsWithin (small large : Look) : Type 0 where
@@ -70,35 +60,3 @@ of_any part = record { part = part; looks = None }
 -- whatever looks are given, if this is within one of them
 abbrev pub WithLook : Part → Look → (Rounds → Type 0) → Type 0
 WithLook part look Holds = (looks : Option (List Look)) → IsOneOf looks look → Holds (record { part = part; looks = looks })
-
--- ---- whether it is known what a store was looked at for
-
--- not after a step that ended for memory, since the last look at the root may have
-abbrev pub is_known_stop : Stop → Bool
-is_known_stop (Folder Memory) = false
-is_known_stop _ = true
-
-abbrev pub is_known : {A : Type 0} → Result A Stop → Bool
-is_known (Ok x) = true
-is_known (Err why) = is_known_stop why
-
-abbrev pub is_known_unkept : NotKept → Bool
-is_known_unkept (unkept.Troubled why) = is_known_stop why
-is_known_unkept _ = true
-
-abbrev pub is_known_kept : {A : Type 0} → Result A NotKept → Bool
-is_known_kept (Ok x) = true
-is_known_kept (Err why) = is_known_unkept why
-
-abbrev pub is_known_unopened : NotOpened → Bool
-is_known_unopened (unopened.Troubled why) = is_known_stop why
-is_known_unopened _ = true
-
-abbrev pub is_known_opened : {A : Type 0} → Result A NotOpened → Bool
-is_known_opened (Ok x) = true
-is_known_opened (Err why) = is_known_unopened why
-
--- nor after such a night
-abbrev pub is_known_of : Halt → Bool
-is_known_of (halt.Troubled why) = is_known_stop why
-is_known_of _ = true

@@ -6,7 +6,7 @@ use Rattle.ocfl_report.specs.Text.{text}
 use Rattle.ocfl_audit.specs.{Audit.{Unread, audit}, Parts.{Part, within}}
 use Rattle.ocfl_state.specs.{Content.{Content, Closed}, Crash.{Outcomes, LeavesOnly}}
 use Rattle.ocfl_state.specs.declared.checkpoint_parts.Left.{Left}
-use Rattle.ocfl_night.specs.{Chain.{AreClosed, around}, Looks.{IsNoMore, Look, Rounds, WithLook}, Sound.{IsSoundAt, IsKept, IsHeardSince}}
+use Rattle.ocfl_night.specs.{Chain.{AreClosed, around}, Looks.{Look, Rounds, WithLook}, Sound.{IsSoundAt, IsKept, IsHeardSince}}
 
 -- What a night promises: if each crash before it leaves a sound content, so does each since then, and
 -- more than was told is told only if the output took it. That holds whatever looks the runs are
@@ -52,7 +52,7 @@ EachWhole Holds closed = (d : Closed) → IsAmong closed d → d.whole ≡ true 
 pub record IsAuditBut (root : StorageRoot) (part : Part) (looks : List Look) (report : Text) : Type 0 where
   pub unread : Unread
   pub is : report ≡ text (within part (audit root unread))
-  pub each : (e : Place × ℕ) → IsAmong unread e → (l : Look) × (IsAmong looks l × IsNoMore (Some (e ∷ [])) l.unread)
+  pub each : (e : Place × ℕ) → IsAmong unread e → (l : Look) × (IsAmong looks l × IsAmong l.unread e)
 
 -- all nights looked at this storage root
 abbrev pub AreOver : {F : Type 0} → StorageRoot → List (Night F) → Type 0
@@ -60,7 +60,7 @@ AreOver root nights = AllByRecursion (λ n. n.look.root ≡ root) nights
 
 -- and could read each content file that they opened
 abbrev pub HaveReadAll : {F : Type 0} → List (Night F) → Type 0
-HaveReadAll nights = AllByRecursion (λ n. n.look.unread ≡ Some []) nights
+HaveReadAll nights = AllByRecursion (λ n. n.look.unread ≡ []) nights
 
 -- a text is the audit of a part but for branches that were left out, at least one: up to where each
 -- was, and then what comes after it

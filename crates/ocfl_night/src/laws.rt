@@ -10,7 +10,7 @@ ghost use Rattle.ocfl_state.specs.{Content.{Closed, Content, empty}, declared.ch
 ghost use Rattle.ocfl_night.specs.Chain.{IsWholeReport, LedToEnd, RootRun, around, joined};
 ghost use Rattle.ocfl_night.specs.{Clock.{BeginsInTime, Event}, Runs.{IsNight}};
 ghost use Rattle.ocfl_night.specs.declared.plan.{NightEnd.{NightEnd as ModelEnd}, Plan.{Plan as ModelPlan}};
-ghost use Rattle.ocfl_night.specs.{Looks.{Counts, Rounds, is_known_of, look_between, of_any}};
+ghost use Rattle.ocfl_night.specs.{Looks.{Counts, Rounds, look_between, of_any}};
 ghost use Rattle.ocfl_night.specs.{Site.{part_at}, Sound.{IsSound}};
 ghost use Rattle.ocfl_night.specs.Nights.{AllTaken, AreNights, AreOver, AreWhole, AtAnyMoment, EachOther, EachWhole, HaveReadAll, IsAround, IsAuditBut, Night, rounds_of};
 
@@ -100,12 +100,12 @@ pub fn runs_begin_before_the_end()
 /// If no failure of a store was counted, each content file that was opened meanwhile was read.
 pub fn where_nothing_failed_all_was_read()
     ensures { (root : StorageRoot) (s t : Store) → Counts s t → t.failures ≡ s.failures
-        → (look_between true root s t).unread ≡ Some [] }
+        → (look_between root s t).unread ≡ [] }
 {}
 
 /// Two nights, the second of which takes up what the first one left. If both stores are of one root
-/// and nothing failed in them, and memory was not refused, then whatever a crash may leave in the
-/// second: each closed report that is called whole is exactly the audit of the part.
+/// and nothing failed in them, then whatever a crash may leave in the second: each closed report
+/// that is called whole is exactly the audit of the part.
 pub fn two_nights<S: StateFolder, T: Tree, C: Clock, W: Write>(
     alloc: Global,
     folder: &mut S,
@@ -120,7 +120,6 @@ pub fn two_nights<S: StateFolder, T: Tree, C: Clock, W: Write>(
     ensures { IsTrue S.told → (root : StorageRoot) → HasShortFiles root
         → IsTrue T.told → (T.state first.old).tree ≡ root → (T.state second.old).tree ≡ root
         → ((c : Content) → S.may_leave folder.old c → c ≡ empty)
-        → is_known_of result.0.end ≡ true → is_known_of result.1.end ≡ true
         → (T.state first.new).failures ≡ (T.state first.old).failures
         → (T.state second.new).failures ≡ (T.state second.old).failures
         → (c : Content) → S.may_leave folder.new c → EachWhole (λ report. report

@@ -1,7 +1,7 @@
 //! Looking at the storage root: when a night begins, and after each run.
 ghost use Rattle.std.specs.Prelude.{◌≡◌, IfErr, IsTrue, OnOk, true};
 ghost use Rattle.ocfl_tree.specs.Store.{IfTold};
-ghost use Rattle.ocfl_night.specs.{Ending.{unopened_by}, Looks.{Counts, is_known_kept}};
+ghost use Rattle.ocfl_night.specs.{Ending.{unopened_by}, Looks.{Counts}};
 ghost use Rattle.ocfl_night.specs.{Promises.{OverShort}, Site.{IsStill}, Stopping.{IsRunStop}};
 
 use crate::refusal::{NotOpened, Refusal};
@@ -44,8 +44,8 @@ pub(crate) fn look_again<T: Tree>(
     ensures keeps { IsTrue T.told → (T.state tree.new).tree ≡ (T.state tree.old).tree }
     ensures still { IfTold T.told (T.state tree.old) (λ root.
         OnOk result (IsStill identity.now root)) }
-    ensures counts { OverShort T.told (T.state tree.old) (λ root. is_known_kept result ≡ true
-        → Counts (T.state tree.old) (T.state tree.new)) }
+    ensures counts { OverShort T.told (T.state tree.old) (λ root.
+        Counts (T.state tree.old) (T.state tree.new)) }
     ensures stop { IfErr result IsRunStop }
 {
     match is_still_declared(alloc, tree, identity, block) {

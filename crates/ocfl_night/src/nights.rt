@@ -7,7 +7,7 @@ ghost use Rattle.ocfl_scrub.specs.Starting.{part_of};
 ghost use Rattle.ocfl_state.specs.Crash.{LeavesOnly};
 ghost use Rattle.ocfl_state.specs.declared.checkpoint_parts.Phase.TheVariants.{Open};
 ghost use Rattle.ocfl_night.specs.Leaving.{StillMayLeave, done_by, has_end, remedy_at, with_remedy};
-ghost use Rattle.ocfl_night.specs.Looks.{Counts, Rounds, WithLook, is_known, is_known_of, is_known_opened, look_between, of_any};
+ghost use Rattle.ocfl_night.specs.Looks.{Counts, Rounds, WithLook, look_between, of_any};
 ghost use Rattle.ocfl_night.specs.Promises.{IfLost, IfReady, IfReadyIn, IsSafe, IsSafeIn, OnShort, OverShort, SameClosed};
 ghost use Rattle.ocfl_night.specs.Older.{IfOlder};
 ghost use Rattle.ocfl_night.specs.declared.refusal.Refusal.TheVariants.{Older};
@@ -233,17 +233,17 @@ fn runs<S: StateFolder, T: Tree, C: Clock>(
 ) -> Result<(Checkpoint, Pause), Stop>
     ensures any_moment { IsTrue S.told → OverShort T.told (T.state tree.old) (λ root.
         WithLook (part_of part.now)
-        (look_between (is_known result) root (T.state tree.old) (T.state tree.new))
+        (look_between root (T.state tree.old) (T.state tree.new))
         (λ rounds. IsSafeIn S.seen S.may_leave S.moment S.left_since rounds start
         folder.old folder.new)) }
     ensures ready { IsTrue S.told → OverShort T.told (T.state tree.old) (λ root.
         WithLook (part_of part.now)
-        (look_between (is_known result) root (T.state tree.old) (T.state tree.new))
+        (look_between root (T.state tree.old) (T.state tree.new))
         (λ rounds. IfReadyIn S.seen S.may_leave rounds start folder.old (λ t. IfOk result
         (λ next. IsReady S.seen S.may_leave rounds t next.0 folder.new)))) }
     ensures root { OverShort T.told (T.state tree.old) (λ root. (T.state tree.new).tree ≡ root) }
-    ensures counts { OverShort T.told (T.state tree.old) (λ root. is_known result ≡ true
-        → Counts (T.state tree.old) (T.state tree.new)) }
+    ensures counts { OverShort T.told (T.state tree.old) (λ root.
+        Counts (T.state tree.old) (T.state tree.new)) }
     ensures closed { IsTrue S.told → OnOk result (SameClosed S.seen folder.old folder.new) }
     ensures told { IsTrue C.told → AreMade plan.now (C.events clock.old) (C.events clock.new)
         (done_of tally.old) start
@@ -324,17 +324,17 @@ fn make_runs<S: StateFolder, T: Tree, C: Clock, W: Write>(
 ) -> Result<Halt, Stop>
     ensures heard { IsTrue S.told → OverShort T.told (T.state tree.old) (λ root.
         WithLook (part_of part.now)
-        (look_between (is_known result) root (T.state tree.old) (T.state tree.new))
+        (look_between root (T.state tree.old) (T.state tree.new))
         (λ rounds. IfReadyIn S.seen S.may_leave rounds checkpoint folder.old
         (λ t. LeavesOnly S.moment S.left_since folder.old folder.new
         (IsHeard rounds t (W.contents out.old) (W.contents out.new))))) }
     ensures root { OverShort T.told (T.state tree.old) (λ root. (T.state tree.new).tree ≡ root) }
-    ensures counts { OverShort T.told (T.state tree.old) (λ root. is_known result ≡ true
-        → Counts (T.state tree.old) (T.state tree.new)) }
+    ensures counts { OverShort T.told (T.state tree.old) (λ root.
+        Counts (T.state tree.old) (T.state tree.new)) }
     ensures grew { (more : List ℕ) × Appends (W.contents out.old) (W.contents out.new) more }
     ensures ended { IsTrue S.told → OverShort T.told (T.state tree.old) (λ root.
         WithLook (part_of part.now)
-        (look_between (is_known result) root (T.state tree.old) (T.state tree.new))
+        (look_between root (T.state tree.old) (T.state tree.new))
         (λ rounds. IfReadyIn S.seen S.may_leave rounds checkpoint folder.old
         (λ _. (cycle : ℕ) → result ≡ Ok (halt.CycleEnded cycle) → IsOneMore rounds cycle
         (S.seen folder.old).closed (S.seen folder.new).closed))) }
@@ -377,7 +377,7 @@ fn set_out<S: StateFolder, T: Tree, W: Write>(
     ensures part { IfOk result (λ begun. part_of begun.part ≡ part_at site.now.ends) }
     ensures root { IsTrue T.told → (T.state tree.new).tree ≡ (T.state tree.old).tree }
     ensures counts { OverShort T.told (T.state tree.old) (λ root.
-        is_known_opened result ≡ true → Counts (T.state tree.old) (T.state tree.new)) }
+        Counts (T.state tree.old) (T.state tree.new)) }
     ensures heard { IsTrue S.told → (rounds : Rounds) → IsKept S.may_leave rounds folder.old
         → LeavesOnly S.moment S.left_since folder.old folder.new (IsHeardSince rounds
         (S.may_leave folder.old) (W.contents out.old) (W.contents out.new)) }
@@ -423,12 +423,12 @@ pub fn night<S: StateFolder, T: Tree, C: Clock, W: Write>(
     // If each crash before it leaves a sound content, so does a crash at any moment of it.
     ensures any_moment { IsTrue S.told → OverShort T.told (T.state tree.old) (λ root.
         WithLook (part_at site.now.ends)
-        (look_between (is_known_of result.end) root (T.state tree.old) (T.state tree.new))
+        (look_between root (T.state tree.old) (T.state tree.new))
         (λ rounds. IsKept S.may_leave rounds folder.old
         → LeavesOnly S.moment S.left_since folder.old folder.new (IsSound rounds))) }
     ensures kept { IsTrue S.told → OverShort T.told (T.state tree.old) (λ root.
         WithLook (part_at site.now.ends)
-        (look_between (is_known_of result.end) root (T.state tree.old) (T.state tree.new))
+        (look_between root (T.state tree.old) (T.state tree.new))
         (λ rounds. IsKept S.may_leave rounds folder.old → IsKept S.may_leave rounds folder.new)) }
 
     // Nothing more is told, at any moment, than was told before and the output has taken since. All
@@ -436,13 +436,13 @@ pub fn night<S: StateFolder, T: Tree, C: Clock, W: Write>(
     // not, or by those of before.
     ensures heard { IsTrue S.told → OverShort T.told (T.state tree.old) (λ root.
         IsSafeNight S.may_leave S.moment S.left_since (part_at site.now.ends)
-        (look_between (is_known_of result.end) root (T.state tree.old) (T.state tree.new))
+        (look_between root (T.state tree.old) (T.state tree.new))
         folder.old folder.new (W.contents out.old) (W.contents out.new)) }
 
-    // The root stays, and what its store was looked at for is known, unless memory was refused.
+    // The root stays, and what its store was looked at for is known.
     ensures root { OverShort T.told (T.state tree.old) (λ root. (T.state tree.new).tree ≡ root) }
-    ensures counts { OverShort T.told (T.state tree.old) (λ root. is_known_of result.end ≡ true
-        → Counts (T.state tree.old) (T.state tree.new)) }
+    ensures counts { OverShort T.told (T.state tree.old) (λ root.
+        Counts (T.state tree.old) (T.state tree.new)) }
 
     // Unless it is refused or something is troubled, all of the report is said, also what earlier
     // nights left.
@@ -479,7 +479,7 @@ pub fn night<S: StateFolder, T: Tree, C: Clock, W: Write>(
     // The report of a cycle that is said to have ended is closed.
     ensures ended { IsTrue S.told → OverShort T.told (T.state tree.old) (λ root.
         WithLook (part_at site.now.ends)
-        (look_between (is_known_of result.end) root (T.state tree.old) (T.state tree.new))
+        (look_between root (T.state tree.old) (T.state tree.new))
         (λ rounds. IsKept S.may_leave rounds folder.old → (cycle : ℕ)
         → result.end ≡ halt.CycleEnded cycle → IsOneMore rounds cycle
         (S.seen folder.old).closed (S.seen folder.new).closed)) }

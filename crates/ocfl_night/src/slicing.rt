@@ -11,7 +11,7 @@ ghost use Rattle.ocfl_state.specs.Pieces.{summary_of};
 ghost use Rattle.ocfl_state.specs.declared.checkpoint_parts.ReportMark.{ReportMark as ModelMark};
 ghost use Rattle.ocfl_state.specs.declared.checkpoint_parts.Phase.TheVariants.{Closing, Open};
 ghost use Rattle.ocfl_night.specs.Chain.{part_after};
-ghost use Rattle.ocfl_night.specs.Looks.{Counts, IsOneOf, Look, Rounds, WithLook, is_known, is_known_kept, is_known_unkept, look_between};
+ghost use Rattle.ocfl_night.specs.Looks.{Counts, IsOneOf, Look, Rounds, WithLook, look_between};
 ghost use Rattle.ocfl_night.specs.Ending.{IsAway, IsMadeBy, IsSlice, IsUnkept, KeepsTo, lost_by, slice_end};
 ghost use Rattle.ocfl_night.specs.Promises.{IfReadyIn, IfWalkAt, IsSafeIn, SameClosed};
 ghost use Rattle.ocfl_night.specs.{Site.{IsStill}, Sound.{IsReady, IsSoundAt}};
@@ -59,10 +59,10 @@ fn make_run<T: Tree>(
     ensures run { IfTold T.told (T.state tree.old) (λ root. HasShortFiles root
         → IsWalkReady root (part_of part.now) (place_in cursor.state) kept.old
         → IfOk result (λ r. IsRun (part_of part.now) cursor
-        (look_between true root (T.state tree.old) (T.state tree.new)) r.1.items r.0)) }
+        (look_between root (T.state tree.old) (T.state tree.new)) r.1.items r.0)) }
     ensures counts { IfTold T.told (T.state tree.old) (λ root. HasShortFiles root
         → IsWalkReady root (part_of part.now) (place_in cursor.state) kept.old
-        → is_known_kept result ≡ true → Counts (T.state tree.old) (T.state tree.new)) }
+        → Counts (T.state tree.old) (T.state tree.new)) }
     ensures walk { IfTold T.told (T.state tree.old) (λ root. HasShortFiles root
         → IsWalkReady root (part_of part.now) (place_in cursor.state) kept.old
         → IfOk result (λ r. IsWalkReady root (part_of part.now) (place_in r.0.cursor.state)
@@ -186,7 +186,6 @@ fn after_run(mut checkpoint: Checkpoint, ran: RunEnd, report: ReportMark) -> Mad
 /// A slice of whose run nothing is kept, and why: `Err` if something is troubled.
 fn unkept(checkpoint: Checkpoint, why: NotKept) -> Result<Made, Stop>
     ensures unkept { IfOk result (IsUnkept checkpoint) }
-    ensures known { is_known result ≡ is_known_unkept why }
     ensures stop { IsRunStop why → IfErr result IsSliceStop }
 {
     match why {
@@ -262,19 +261,19 @@ pub fn slice<S: StateFolder, T: Tree>(
     requires { checkpoint.phase ≡ Open }
     ensures any_moment { IsTrue S.told → IfWalkAt T.told (T.state tree.old)
         (part_of part.now) checkpoint kept.old (λ root. WithLook (part_of part.now)
-        (look_between (is_known result) root (T.state tree.old) (T.state tree.new))
+        (look_between root (T.state tree.old) (T.state tree.new))
         (λ rounds. IsSafeIn S.seen S.may_leave S.moment S.left_since
         rounds checkpoint folder.old folder.new)) }
     ensures ready { IsTrue S.told → IfWalkAt T.told (T.state tree.old)
         (part_of part.now) checkpoint kept.old (λ root. WithLook (part_of part.now)
-        (look_between (is_known result) root (T.state tree.old) (T.state tree.new))
+        (look_between root (T.state tree.old) (T.state tree.new))
         (λ rounds. IfReadyIn S.seen S.may_leave rounds checkpoint folder.old (λ t. IfOk result
         (λ made. IsReady S.seen S.may_leave rounds t made.checkpoint folder.new)))) }
     ensures closed { IsTrue S.told → OnOk result (SameClosed S.seen folder.old folder.new) }
     ensures root { IfWalkAt T.told (T.state tree.old) (part_of part.now) checkpoint kept.old
         (λ root. (T.state tree.new).tree ≡ root) }
     ensures counts { IfWalkAt T.told (T.state tree.old) (part_of part.now) checkpoint kept.old
-        (λ root. is_known result ≡ true → Counts (T.state tree.old) (T.state tree.new)) }
+        (λ root. Counts (T.state tree.old) (T.state tree.new)) }
 
     // The next slice may go on with the walk that is kept.
     ensures walk { IfWalkAt T.told (T.state tree.old) (part_of part.now) checkpoint kept.old

@@ -1,11 +1,11 @@
-use Rattle.std.proofs.Common.{[], ◌∷◌, None}
-use Rattle.ocfl_night.specs.Looks.{is_known_of, look_between, of_any}
+use Rattle.std.proofs.Common.{[], ◌∷◌, None, refl}
+use Rattle.ocfl_night.specs.Looks.{look_between, of_any}
 use Rattle.ocfl_night.specs.{Nights.{Night}, Site.{part_at}}
-use Rattle.ocfl_night.proofs.{AnyNights.{empty_sound, known_read, known_root}, Heard.{since_sound}}
+use Rattle.ocfl_night.proofs.{AnyNights.{empty_sound}, Heard.{since_sound}}
 use Rattle.ocfl_night.proofs.laws.two_nights.Goals as goal
 
 pub returns : goal.returns
-returns g c = λ told root short tells over1 over2 fresh known1 known2 well1 well2 d left.
+returns g c = λ told root short tells over1 over2 fresh well1 well2 d left.
     let part = part_at c.args.site.now.ends in
     let f0 = c.args.folder.now in
     let f1 = c.night-one.new.folder in
@@ -14,16 +14,16 @@ returns g c = λ told root short tells over1 over2 fresh known1 known2 well1 wel
     let t1 = g.T.Tree.state c.night-one.new.tree in
     let s2 = g.T.Tree.state c.args.second.now in
     let t2 = g.T.Tree.state c.night-two.new.tree in
-    let l1 = look_between (is_known_of c.night-one.result.end) root s1 t1 in
-    let l2 = look_between (is_known_of c.night-two.result.end) root s2 t2 in
+    let l1 = look_between root s1 t1 in
+    let l2 = look_between root s2 t2 in
     let safe1 = c.night-one.ensures.heard told tells root over1 short in
     let safe2 = c.night-two.ensures.heard told tells root over2 short in
     let n1 : Night _ = record { began = f0; ended = f1; look = l1; before = g.W.Write.contents c.args.out.now; said = g.W.Write.contents c.night-one.new.out } in
     let n2 : Night _ = record { began = f1; ended = f2; look = l2; before = g.W.Write.contents c.night-one.new.out; said = g.W.Write.contents c.night-two.new.out } in
     let first = safe1 None tt (λ x l. ([], empty_sound (of_any part) x (fresh x l))) in
-    let read1 = known_read (is_known_of c.night-one.result.end) root s1 t1 known1 (c.where_nothing_failed_all_was_read.ensures root s1 t1 (c.night-one.ensures.counts tells root over1 short known1) well1) in
-    let read2 = known_read (is_known_of c.night-two.result.end) root s2 t2 known2 (c.where_nothing_failed_all_was_read.ensures root s2 t2 (c.night-two.ensures.counts tells root over2 short known2) well2) in
+    let read1 = c.where_nothing_failed_all_was_read.ensures root s1 t1 (c.night-one.ensures.counts tells root over1 short) well1 in
+    let read2 = c.where_nothing_failed_all_was_read.ensures root s2 t2 (c.night-two.ensures.counts tells root over2 short) well2 in
     let all = c.each_whole_report_is_the_audit.ensures.exact root part (n1 ∷ n2 ∷ []) (fresh, safe1, ((λ x l. g.met.S.StateFolder.counts_now told f1 (g.S.StateFolder.moment f0) x first.later l), safe2, tt))
-    (known_root (is_known_of c.night-one.result.end) root s1 t1, (known_root (is_known_of c.night-two.result.end) root s2 t2, tt)) (read1, (read2, tt)) in
+    (refl, (refl, tt)) (read1, (read2, tt)) in
     let later = (safe2 None tt (λ x l. since_sound (first.each x (g.met.S.StateFolder.counts_now told f1 (g.S.StateFolder.moment f0) x first.later l)))).later in
     all.1.0 d (g.met.S.StateFolder.counts_now told f2 (g.S.StateFolder.moment f1) d later left)

@@ -1,55 +1,49 @@
-use Rattle.std.proofs.Common.{◌∙◌, ◌++◌, ℕ, Bool, List, Option, None, ap, sym, subst}
+use Rattle.std.proofs.Common.{◌∙◌, ◌++◌, ℕ, List, Option, None, ap, sym, subst}
 use Rattle.std.proofs.lemmas.Result.{err_from_is_err_and}
 use Rattle.std.specs.Prelude.{IfSome}
 use Rattle.ocfl_scrub.specs.Starting.{part_of}
 use Rattle.ocfl_state.specs.{Checkpoint.{Checkpoint}, Content.{Closed}}
-use Rattle.ocfl_night.specs.Looks.{IsOneOf, Rounds, is_known, look_between, of_any}
+use Rattle.ocfl_night.specs.Looks.{Rounds, of_any}
 use Rattle.ocfl_night.specs.{Done.{done_of}, Sound.{IsOneMore}}
 use Rattle.ocfl_night.proofs.Runs.{halted_so, made_so, troubled_after, troubled_in}
-use Rattle.ocfl_night.proofs.{Looks.{known_one, known_same, one_ok}, Moments.{joined_moments}, Heard.{grew_none, said_on, silent}}
+use Rattle.ocfl_night.proofs.{Moments.{joined_moments}, Heard.{grew_none, said_on, silent}}
 use Rattle.ocfl_night.proofs.nights.make_runs.Goals as goal
 
 pub returns-in_err-last-clause-heard : goal.returns-in_err-last-clause-heard
-returns-in_err-last-clause-heard g c = λ told tells root over short looks given t r.
-    let p = err_from_is_err_and c.from_residual.result c.from_residual.ensures.1 in
-    let one = subst (λ (k : Bool). IsOneOf looks (look_between k root (g.T.Tree.state c.args.tree.now) (g.T.Tree.state c.runs.new.tree))) (known_same c.in_err-last.was (cc (p.1, p.2))) given in
+returns-in_err-last-clause-heard g c = λ told tells root over short looks one t r.
     silent (grew_none _) (c.runs.ensures.any_moment told tells root over short looks one t r)
 
 pub returns-in_err-said-clause-heard : goal.returns-in_err-said-clause-heard
-returns-in_err-said-clause-heard g c = λ told tells root over short looks given t r.
+returns-in_err-said-clause-heard g c = λ told tells root over short looks one t r.
     let rounds : Rounds = record { part = part_of c.args.part.now; looks = looks } in
-    let one = known_one root _ _ looks (is_known c.from_residual-in_err-said.result) given in
     let ready = c.in_ok-last.ensures.ready told tells root over short looks one t r in
-    joined_moments (silent c.speak.ensures.grew (c.runs.ensures.any_moment told tells root over short looks (one_ok root _ _ looks c.in_ok-last.was one) t r)) (c.speak.ensures.heard told rounds t ready)
+    joined_moments (silent c.speak.ensures.grew (c.runs.ensures.any_moment told tells root over short looks one t r)) (c.speak.ensures.heard told rounds t ready)
 
 pub returns-in_err-ended-clause-heard : goal.returns-in_err-ended-clause-heard
-returns-in_err-ended-clause-heard g c = λ told tells root over short looks given t r.
+returns-in_err-ended-clause-heard g c = λ told tells root over short looks one t r.
     let rounds : Rounds = record { part = part_of c.args.part.now; looks = looks } in
-    let one = known_one root _ _ looks (is_known c.from_residual-in_err-ended.result) given in
     let ready = c.in_ok-last.ensures.ready told tells root over short looks one t r in
     let said = c.in_ok-said.ensures.ready told rounds t ready in
-    said_on said (joined_moments (silent c.speak.ensures.grew (c.runs.ensures.any_moment told tells root over short looks (one_ok root _ _ looks c.in_ok-last.was one) t r)) (c.speak.ensures.heard told rounds t ready)) (c.finish.ensures.any_moment told rounds (t ++ said.more) said.ready)
+    said_on said (joined_moments (silent c.speak.ensures.grew (c.runs.ensures.any_moment told tells root over short looks one t r)) (c.speak.ensures.heard told rounds t ready)) (c.finish.ensures.any_moment told rounds (t ++ said.more) said.ready)
 
 pub returns-clause-heard : goal.returns-clause-heard
 returns-clause-heard g c = λ told tells root over short looks one t r.
     let rounds : Rounds = record { part = part_of c.args.part.now; looks = looks } in
     let ready = c.in_ok-last.ensures.ready told tells root over short looks one t r in
     let said = c.in_ok-said.ensures.ready told rounds t ready in
-    said_on said (joined_moments (silent c.speak.ensures.grew (c.runs.ensures.any_moment told tells root over short looks (one_ok root _ _ looks c.in_ok-last.was one) t r)) (c.speak.ensures.heard told rounds t ready)) (c.finish.ensures.any_moment told rounds (t ++ said.more) said.ready)
+    said_on said (joined_moments (silent c.speak.ensures.grew (c.runs.ensures.any_moment told tells root over short looks one t r)) (c.speak.ensures.heard told rounds t ready)) (c.finish.ensures.any_moment told rounds (t ++ said.more) said.ready)
 
 pub returns-in_err-last-clause-counts : goal.returns-in_err-last-clause-counts
-returns-in_err-last-clause-counts g c = λ tells root over short known.
-    let p = err_from_is_err_and c.from_residual.result c.from_residual.ensures.1 in
-    c.runs.ensures.counts tells root over short (sym (known_same c.in_err-last.was (cc (p.1, p.2))) ∙ known)
+returns-in_err-last-clause-counts g c = λ tells root over short. c.runs.ensures.counts tells root over short
 
 pub returns-in_err-said-clause-counts : goal.returns-in_err-said-clause-counts
-returns-in_err-said-clause-counts g c = λ tells root over short known. c.runs.ensures.counts tells root over short (ap is_known c.in_ok-last.was)
+returns-in_err-said-clause-counts g c = λ tells root over short. c.runs.ensures.counts tells root over short
 
 pub returns-in_err-ended-clause-counts : goal.returns-in_err-ended-clause-counts
-returns-in_err-ended-clause-counts g c = λ tells root over short known. c.runs.ensures.counts tells root over short (ap is_known c.in_ok-last.was)
+returns-in_err-ended-clause-counts g c = λ tells root over short. c.runs.ensures.counts tells root over short
 
 pub returns-clause-counts : goal.returns-clause-counts
-returns-clause-counts g c = λ tells root over short known. c.runs.ensures.counts tells root over short (ap is_known c.in_ok-last.was)
+returns-clause-counts g c = λ tells root over short. c.runs.ensures.counts tells root over short
 
 pub returns-clause-ended : goal.returns-clause-ended
 returns-clause-ended g c = λ told tells root over short looks one t r cycle is.

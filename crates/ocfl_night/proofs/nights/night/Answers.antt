@@ -1,14 +1,14 @@
-use Rattle.std.proofs.Common.{◌≡◌, ◌≤◌, ◌++◌, ◌∙◌, ℕ, [], All, Bool, Err, Global, List, Option, Vec, ap, inl, inr, length, refl, subst, sym, true}
+use Rattle.std.proofs.Common.{◌≡◌, ◌≤◌, ◌++◌, ◌∙◌, ℕ, [], All, Bool, Err, Global, List, Option, Vec, ap, inl, inr, length, refl, subst, sym}
 use Rattle.std.specs.Prelude.{IsTrue}
 use Rattle.ocfl_tree.specs.{Place.{Place}, StorageRoot.{StorageRoot}}
 use Rattle.ocfl_item.specs.Judging.{HasShortFiles}
 use Rattle.ocfl_audit.specs.Parts.{Part}
 use Rattle.ocfl_state.specs.Content.{Closed}
 use Rattle.ocfl_night.specs.{Done.{Done, done_of}, Leaving.{has_end}, Nights.{IsSafeNight}, Site.{part_at}}
-use Rattle.ocfl_night.specs.Looks.{Counts, IsOneOf, Look, Rounds, is_known, is_known_of, is_known_opened, look_between, of_any}
+use Rattle.ocfl_night.specs.Looks.{Counts, Look, Rounds, look_between, of_any}
 use Rattle.ocfl_night.specs.{Sound.{IsOneMore}, Steps.{IsNotBegun}}
 use Rattle.ocfl_night.proofs.{Moments.{leaves_weaker}, Runs.{made_from}}
-use Rattle.ocfl_night.proofs.Looks.{counts_on, known_through, known_unbegun, known_within, last_of, one_of_on}
+use Rattle.ocfl_night.proofs.Looks.{counts_on, last_of}
 use Rattle.ocfl_night.proofs.Heard.{heard_through, on_ok, ready_since, since_sound}
 use Rattle.ocfl_night.proofs.Newest.{newest}
 use Rattle.ocfl_night.proofs.nights.night.Given as given
@@ -20,22 +20,19 @@ rounds_over part looks = record { part = part; looks = looks }
 
 -- what a night promises that was begun
 module _ (g : given.Over) (c : After-make_runs-through g) (tells : IsTrue g.T.Tree.told) (root : StorageRoot) (over : (g.T.Tree.state c.args.tree.now).tree ≡ root) (short : HasShortFiles root) where
-  abbrev known : Bool
-  known = is_known c.make_runs-through.result
-
   set_out_counts : Counts (g.T.Tree.state c.args.tree.now) (g.T.Tree.state c.set_out.new.tree)
-  set_out_counts = c.set_out.ensures.counts tells root over short (ap is_known_opened c.in-Ok.is)
+  set_out_counts = c.set_out.ensures.counts tells root over short
 
-  runs_count : known ≡ true → Counts (g.T.Tree.state c.set_out.new.tree) (g.T.Tree.state c.make_runs-through.new.tree)
+  runs_count : Counts (g.T.Tree.state c.set_out.new.tree) (g.T.Tree.state c.make_runs-through.new.tree)
   runs_count = c.make_runs-through.ensures.counts tells root (c.set_out.ensures.root tells ∙ over) short
 
   heard : IsTrue g.S.StateFolder.told
-      → IsSafeNight g.S.StateFolder.may_leave g.S.StateFolder.moment g.S.StateFolder.left_since (part_at c.args.site.now.ends) (look_between known root (g.T.Tree.state c.args.tree.now) (g.T.Tree.state c.make_runs-through.new.tree)) c.args.folder.now c.make_runs-through.new.folder (g.W.Write.contents c.args.out.now) (g.W.Write.contents c.make_runs-through.new.out)
+      → IsSafeNight g.S.StateFolder.may_leave g.S.StateFolder.moment g.S.StateFolder.left_since (part_at c.args.site.now.ends) (look_between root (g.T.Tree.state c.args.tree.now) (g.T.Tree.state c.make_runs-through.new.tree)) c.args.folder.now c.make_runs-through.new.folder (g.W.Write.contents c.args.out.now) (g.W.Write.contents c.make_runs-through.new.out)
   heard told looks one kept =
       let rounds : Rounds = record { part = part_at c.args.site.now.ends; looks = looks } in
       let same = ap (λ (p : Part). rounds_over p looks) c.in-Ok.ensures.part in
       let r = c.in-Ok.ensures.ready told rounds kept in
-      let last = last_of root looks known set_out_counts runs_count one in
+      let last = last_of root looks set_out_counts runs_count one in
       let runs = c.make_runs-through.ensures.heard told tells root (c.set_out.ensures.root tells ∙ over) short looks last (r.t ++ r.heard.more) (ready_since same r) in
       heard_through same r (c.set_out.ensures.heard told rounds kept) c.make_runs-through.ensures.grew runs
 
@@ -45,19 +42,16 @@ returns g c =
     let part = of_any (part_at c.args.site.now.ends) in
     let same = ap of_any c.in-Ok.ensures.part in
     let runs = c.make_runs-through in
-    let more : is_known_of c.account-2.result.end ≡ true → is_known runs.result ≡ true = λ is. known_through runs.result (sym (ap is_known_of (c.account-2.ensures.end ∙ c.ended.ensures.is)) ∙ is) in
-    let within : (root : StorageRoot) (looks : Option (List Look)) → IsOneOf looks (look_between (is_known_of c.account-2.result.end) root (g.T.Tree.state c.args.tree.now) (g.T.Tree.state runs.new.tree)) → IsOneOf looks (look_between (is_known runs.result) root (g.T.Tree.state c.args.tree.now) (g.T.Tree.state runs.new.tree)) = λ root looks one.
-    one_of_on looks (known_within root _ _ (is_known runs.result) (is_known_of c.account-2.result.end) more) one in
     let s = g.S.StateFolder.seen in
     let left = runs.ensures.left (c.none-tally.ensures.left c.args.plan.now.stop_at_faults) in
     record {
-      any_moment = λ told tells root over short looks one kept. leaves_weaker (λ x h. since_sound h) (heard g at tells root over short told looks (within root looks one) kept);
+      any_moment = λ told tells root over short looks one kept. leaves_weaker (λ x h. since_sound h) (heard g at tells root over short told looks one kept);
       kept = λ told tells root over short looks one kept d left.
-          let there = heard g at tells root over short told looks (within root looks one) kept in
+          let there = heard g at tells root over short told looks one kept in
           since_sound (there.each d (g.met.S.StateFolder.counts_now told runs.new.folder (g.S.StateFolder.moment c.args.folder.now) d there.later left));
-      heard = λ told tells root over short looks one. heard g at tells root over short told looks (within root looks one);
+      heard = λ told tells root over short looks one. heard g at tells root over short told looks one;
       root = λ tells root over short. runs.ensures.root tells root (c.set_out.ensures.root tells ∙ over) short;
-      counts = λ tells root over short is. counts_on (set_out_counts g at tells root over short) (runs_count g at tells root over short (more is));
+      counts = λ tells root over short. counts_on (set_out_counts g at tells root over short) (runs_count g at tells root over short);
       said = λ told tells root over short kept well other.
           on_ok runs.result (c.ended.ensures.said (λ why is. well why (c.account-2.ensures.end ∙ is))) (runs.ensures.said told tells root (c.set_out.ensures.root tells ∙ over) short _ (ready_since same (c.in-Ok.ensures.ready told part kept)));
       refused = λ told why is. absurd (runs.ensures.unrefused why (c.ended.ensures.refused why (sym c.account-2.ensures.end ∙ is)));
@@ -68,7 +62,7 @@ returns g c =
       ended = λ told tells root over short looks one kept cycle is.
           let rounds : Rounds = rounds_over (part_at c.args.site.now.ends) looks in
           let alike = ap (λ (p : Part). rounds_over p looks) c.in-Ok.ensures.part in
-          let last = last_of root looks (is_known runs.result) (set_out_counts g at tells root over short) (runs_count g at tells root over short) (within root looks one) in
+          let last = last_of root looks (set_out_counts g at tells root over short) (runs_count g at tells root over short) one in
           subst (λ (old : List Closed). IsOneMore rounds cycle old (s runs.new.folder).closed) (c.in-Ok.ensures.closed told)
           (subst (λ (p : Rounds). IsOneMore p cycle (s c.set_out.new.folder).closed (s runs.new.folder).closed) alike
           (runs.ensures.ended told tells root (c.set_out.ensures.root tells ∙ over) short looks last _ (ready_since alike (c.in-Ok.ensures.ready told rounds kept)) cycle (c.ended.ensures.ended cycle (sym c.account-2.ensures.end ∙ is))));
@@ -96,7 +90,7 @@ returns-in-Err g c =
           since_sound (there.each d (g.met.S.StateFolder.counts_now told c.set_out.new.folder (g.S.StateFolder.moment c.args.folder.now) d there.later left));
       heard = λ told tells root over short looks one kept. c.set_out.ensures.heard told (rounds_over part looks) kept;
       root = λ tells root over short. c.set_out.ensures.root tells ∙ over;
-      counts = λ tells root over short is. c.set_out.ensures.counts tells root over short (ap is_known_opened c.in-Err.is ∙ known_unbegun _ (sym (ap is_known_of (c.account.ensures.end ∙ c.unbegun.ensures.is)) ∙ is));
+      counts = λ tells root over short. c.set_out.ensures.counts tells root over short;
       said = λ told tells root over short kept well unrefused. absurd (c.unbegun.ensures.said (λ why is. well why (c.account.ensures.end ∙ is)) (λ why is. unrefused why (c.account.ensures.end ∙ is)));
       refused = λ told why is. c.in-Err.ensures.refused told why (ap Err (c.unbegun.ensures.refused why (sym c.account.ensures.end ∙ is)));
       rightly = λ told why is. c.in-Err.ensures.rightly told why (ap Err (c.unbegun.ensures.refused why (sym c.account.ensures.end ∙ is)));

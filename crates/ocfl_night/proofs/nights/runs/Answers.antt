@@ -1,4 +1,4 @@
-use Rattle.std.proofs.Common.{◌≡◌, ◌∙◌, ◌++◌, ◌∷◌, [], append_assoc, inl, inr, rules, Bool, List, Option, ap, arith, false, refl, subst, sym, true, ℕ}
+use Rattle.std.proofs.Common.{◌≡◌, ◌∙◌, ◌++◌, ◌∷◌, [], append_assoc, inl, inr, rules, List, Option, ap, arith, false, refl, subst, sym, ℕ}
 use Rattle.std.proofs.lemmas.{List.{append-nil}, Result.{err_from_is_err_and}}
 use Rattle.std.specs.Prelude.{IsTrue}
 use Rattle.ocfl_tree.specs.{Place.{Text}, StorageRoot.{StorageRoot}}
@@ -8,10 +8,10 @@ use Rattle.ocfl_night.specs.{Clock.{Event, Asked, Read, Heard}, Done.{Done, done
 use Rattle.ocfl_state.specs.declared.checkpoint_parts.Phase.TheVariants.{Open, Closing}
 use Rattle.ocfl_night.specs.Runs.{Run, IsRunOf, MayBeginAt, events_of, turn_of}
 use Rattle.ocfl_night.specs.declared.plan.Pause.{Pause}
-use Rattle.ocfl_night.specs.Looks.{Counts, IsOneOf, Look, is_known, look_between}
+use Rattle.ocfl_night.specs.Looks.{Counts, IsOneOf, Look, look_between}
 use Rattle.ocfl_night.specs.{Promises.{IsSafeIn}, Sound.{IsReady}}
 use Rattle.ocfl_night.proofs.{KeptWalks.{walk_none}, Runs.{and_then, failed_so, led_by, none_yet, paused, paused_before, run_more}}
-use Rattle.ocfl_night.proofs.Looks.{counts_none, counts_on, first_of, known_one, known_same, last_of}
+use Rattle.ocfl_night.proofs.Looks.{counts_none, counts_on, first_of, last_of}
 use Rattle.ocfl_night.proofs.{Moments.{joined_moments, unmoved}, Sound.{ready_sound}}
 use Rattle.ocfl_night.proofs.nights.runs.Given as given
 use Rattle.ocfl_night.proofs.nights.runs.Goals.{After-go_on_after}
@@ -20,17 +20,17 @@ use Rattle.ocfl_night.proofs.nights.runs.Goals as goal
 -- what was looked at before a slice that was made, and in it
 module _ (g : given.Over) (c : After-go_on_after g) (tells : IsTrue g.T.Tree.told) (root : StorageRoot) (over : (g.T.Tree.state c.args.tree.now).tree ≡ root) (short : HasShortFiles root) where
   made_counts : Counts (g.T.Tree.state c.loop-run.tree) (g.T.Tree.state c.slice.new.tree)
-  made_counts = c.slice.ensures.counts tells root (c.loop-run.invariant.root tells root over short) short (c.loop-run.invariant.walk tells root over short) (ap is_known c.in_ok-made.was)
+  made_counts = c.slice.ensures.counts tells root (c.loop-run.invariant.root tells root over short) short (c.loop-run.invariant.walk tells root over short)
 
   counts_then : Counts (g.T.Tree.state c.args.tree.now) (g.T.Tree.state c.slice.new.tree)
   counts_then = counts_on (c.loop-run.invariant.counts tells root over short) made_counts
 
-  module _ (looks : Option (List Look)) (one : IsOneOf looks (look_between true root (g.T.Tree.state c.args.tree.now) (g.T.Tree.state c.slice.new.tree))) where
-    looks_before : IsOneOf looks (look_between true root (g.T.Tree.state c.args.tree.now) (g.T.Tree.state c.loop-run.tree))
-    looks_before = first_of root looks true (c.loop-run.invariant.counts tells root over short) (λ is. made_counts) one
+  module _ (looks : Option (List Look)) (one : IsOneOf looks (look_between root (g.T.Tree.state c.args.tree.now) (g.T.Tree.state c.slice.new.tree))) where
+    looks_before : IsOneOf looks (look_between root (g.T.Tree.state c.args.tree.now) (g.T.Tree.state c.loop-run.tree))
+    looks_before = first_of root looks (c.loop-run.invariant.counts tells root over short) made_counts one
 
-    looks_in : IsOneOf looks (look_between true root (g.T.Tree.state c.loop-run.tree) (g.T.Tree.state c.slice.new.tree))
-    looks_in = last_of root looks true (c.loop-run.invariant.counts tells root over short) (λ is. made_counts) one
+    looks_in : IsOneOf looks (look_between root (g.T.Tree.state c.loop-run.tree) (g.T.Tree.state c.slice.new.tree))
+    looks_in = last_of root looks (c.loop-run.invariant.counts tells root over short) made_counts one
 
     made_ready : IsTrue g.S.StateFolder.told → (t : Text)
         → IsReady g.S.StateFolder.seen g.S.StateFolder.may_leave (record { part = part_of c.args.part.now; looks = looks }) t c.args.start c.args.folder.now
@@ -43,9 +43,8 @@ module _ (g : given.Over) (c : After-go_on_after g) (tells : IsTrue g.T.Tree.tol
     moments : IsTrue g.S.StateFolder.told → IsSafeIn g.S.StateFolder.seen g.S.StateFolder.may_leave g.S.StateFolder.moment g.S.StateFolder.left_since (record { part = part_of c.args.part.now; looks = looks }) c.args.start c.args.folder.now c.go_on_after.new.folder
     moments told t r =
         let inv = c.loop-run.invariant in
-        let there = subst (λ (known : Bool). IsOneOf looks (look_between known root (g.T.Tree.state c.loop-run.tree) (g.T.Tree.state c.slice.new.tree))) (sym (ap is_known c.in_ok-made.was)) looks_in in
         joined_moments
-        (joined_moments (inv.any_moment told tells root over short looks looks_before t r) (c.slice.ensures.any_moment told tells root (inv.root tells root over short) short (inv.walk tells root over short) looks there t (inv.ready told tells root over short looks looks_before t r)))
+        (joined_moments (inv.any_moment told tells root over short looks looks_before t r) (c.slice.ensures.any_moment told tells root (inv.root tells root over short) short (inv.walk tells root over short) looks looks_in t (inv.ready told tells root over short looks looks_before t r)))
         (c.go_on_after.ensures.any_moment told (record { part = part_of c.args.part.now; looks = looks }) t (made_ready told t r))
 
 -- a run that was made, and what the clock heard of it
@@ -75,40 +74,36 @@ loop-run-init g c = record {
 }
 
 pub returns-in_err-made-clause-any_moment : goal.returns-in_err-made-clause-any_moment
-returns-in_err-made-clause-any_moment g c = λ told tells root over short looks given t r.
+returns-in_err-made-clause-any_moment g c = λ told tells root over short looks one t r.
     let inv = c.loop-run.invariant in
-    let p = err_from_is_err_and c.from_residual.result c.from_residual.ensures.1 in
-    let known = is_known c.slice.result in
-    let one = subst (λ (k : Bool). IsOneOf looks (look_between k root (g.T.Tree.state c.args.tree.now) (g.T.Tree.state c.slice.new.tree))) (known_same c.in_err-made.was (cc (p.1, p.2))) given in
-    let counts : known ≡ true → Counts (g.T.Tree.state c.loop-run.tree) (g.T.Tree.state c.slice.new.tree) = c.slice.ensures.counts tells root (inv.root tells root over short) short (inv.walk tells root over short) in
-    let before = first_of root looks known (inv.counts tells root over short) counts one in
+    let counts : Counts (g.T.Tree.state c.loop-run.tree) (g.T.Tree.state c.slice.new.tree) = c.slice.ensures.counts tells root (inv.root tells root over short) short (inv.walk tells root over short) in
+    let before = first_of root looks (inv.counts tells root over short) counts one in
     joined_moments (inv.any_moment told tells root over short looks before t r)
-    (c.slice.ensures.any_moment told tells root (inv.root tells root over short) short (inv.walk tells root over short) looks (last_of root looks known (inv.counts tells root over short) counts one) t (inv.ready told tells root over short looks before t r))
+    (c.slice.ensures.any_moment told tells root (inv.root tells root over short) short (inv.walk tells root over short) looks (last_of root looks (inv.counts tells root over short) counts one) t (inv.ready told tells root over short looks before t r))
 
 pub returns-in_err-next-clause-any_moment : goal.returns-in_err-next-clause-any_moment
 returns-in_err-next-clause-any_moment g c = λ told tells root over short looks one.
-    moments g (goal.at.returns-in_err-next-clause-any_moment g c).After-go_on_after tells root over short looks (known_one root _ _ looks (is_known c.from_residual-in_err-next.result) one) told
+    moments g (goal.at.returns-in_err-next-clause-any_moment g c).After-go_on_after tells root over short looks one told
 
 pub returns-in-Some-clause-any_moment : goal.returns-in-Some-clause-any_moment
 returns-in-Some-clause-any_moment g c = λ told tells root over short looks one. moments g (goal.at.returns-in-Some-clause-any_moment g c).After-go_on_after tells root over short looks one told
 
 pub returns-in-Err-clause-counts : goal.returns-in-Err-clause-counts
-returns-in-Err-clause-counts g c = λ tells root over short known. c.loop-run.invariant.counts tells root over short
+returns-in-Err-clause-counts g c = λ tells root over short. c.loop-run.invariant.counts tells root over short
 
 pub returns-clause-counts : goal.returns-clause-counts
-returns-clause-counts g c = λ tells root over short known. c.loop-run.invariant.counts tells root over short
+returns-clause-counts g c = λ tells root over short. c.loop-run.invariant.counts tells root over short
 
 pub returns-in_err-made-clause-counts : goal.returns-in_err-made-clause-counts
-returns-in_err-made-clause-counts g c = λ tells root over short known.
+returns-in_err-made-clause-counts g c = λ tells root over short.
     let inv = c.loop-run.invariant in
-    let p = err_from_is_err_and c.from_residual.result c.from_residual.ensures.1 in
-    counts_on (inv.counts tells root over short) (c.slice.ensures.counts tells root (inv.root tells root over short) short (inv.walk tells root over short) (sym (known_same c.in_err-made.was (cc (p.1, p.2))) ∙ known))
+    counts_on (inv.counts tells root over short) (c.slice.ensures.counts tells root (inv.root tells root over short) short (inv.walk tells root over short))
 
 pub returns-in_err-next-clause-counts : goal.returns-in_err-next-clause-counts
-returns-in_err-next-clause-counts g c = λ tells root over short known. counts_then g (goal.at.returns-in_err-next-clause-counts g c).After-go_on_after tells root over short
+returns-in_err-next-clause-counts g c = λ tells root over short. counts_then g (goal.at.returns-in_err-next-clause-counts g c).After-go_on_after tells root over short
 
 pub returns-in-Some-clause-counts : goal.returns-in-Some-clause-counts
-returns-in-Some-clause-counts g c = λ tells root over short known. counts_then g (goal.at.returns-in-Some-clause-counts g c).After-go_on_after tells root over short
+returns-in-Some-clause-counts g c = λ tells root over short. counts_then g (goal.at.returns-in-Some-clause-counts g c).After-go_on_after tells root over short
 
 pub returns-in-Err-clause-root : goal.returns-in-Err-clause-root
 returns-in-Err-clause-root g c = λ tells root over short. c.loop-run.invariant.root tells root over short

@@ -1,4 +1,4 @@
-use Rattle.std.proofs.Common.{◌≡◌, true}
+use Rattle.std.proofs.Common.{◌≡◌}
 use Rattle.ocfl_tree.specs.{Place.{Text}, Store.{IfTold}}
 use Rattle.ocfl_item.specs.Judging.{HasShortFiles}
 use Rattle.std.specs.Prelude.{IsTrue}
@@ -17,8 +17,8 @@ invariant-loop-run g l =
     let before = g.T.Tree.state l.fn.tree in
     let now = g.T.Tree.state l.tree in
     record {
-      any_moment : IsTrue g.S.StateFolder.told → IfTold g.T.Tree.told before (λ root. HasShortFiles root → WithLook part (look_between true root before now) (λ rounds. (t : Text) → IsReady seen may_leave rounds t l.fn.start l.fn.folder → LeavesOnly g.S.StateFolder.moment g.S.StateFolder.left_since l.fn.folder l.folder (IsSoundAt rounds t)));
-      ready : IsTrue g.S.StateFolder.told → IfTold g.T.Tree.told before (λ root. HasShortFiles root → WithLook part (look_between true root before now) (λ rounds. (t : Text) → IsReady seen may_leave rounds t l.fn.start l.fn.folder → IsReady seen may_leave rounds t l.checkpoint l.folder));
+      any_moment : IsTrue g.S.StateFolder.told → IfTold g.T.Tree.told before (λ root. HasShortFiles root → WithLook part (look_between root before now) (λ rounds. (t : Text) → IsReady seen may_leave rounds t l.fn.start l.fn.folder → LeavesOnly g.S.StateFolder.moment g.S.StateFolder.left_since l.fn.folder l.folder (IsSoundAt rounds t)));
+      ready : IsTrue g.S.StateFolder.told → IfTold g.T.Tree.told before (λ root. HasShortFiles root → WithLook part (look_between root before now) (λ rounds. (t : Text) → IsReady seen may_leave rounds t l.fn.start l.fn.folder → IsReady seen may_leave rounds t l.checkpoint l.folder));
       counts : IfTold g.T.Tree.told before (λ root. HasShortFiles root → Counts before now);
       closed : IsTrue g.S.StateFolder.told → (seen l.folder).closed ≡ (seen l.fn.folder).closed;
       told : IsTrue g.C.Clock.told → SoFar l.fn.plan (g.C.Clock.events l.fn.clock) (g.C.Clock.events l.clock) (done_of l.fn.tally) l.fn.start (done_of l.tally) l.checkpoint;

@@ -1,4 +1,4 @@
-use Rattle.std.proofs.lemmas.Result.{err_from_is_err_and}
+use Rattle.std.proofs.{Common.{◌∙◌, ap, Err}, lemmas.Result.{err_from_is_err_and}}
 use Rattle.ocfl_night.specs.Refusing.{in_folder}
 use Rattle.ocfl_night.proofs.{Looks.{counts_did, counts_none, counts_unidentified}, Moments.{untouched}, Foreigners.{barred_by, no_root_by}}
 use Rattle.ocfl_night.proofs.Heard.{begun_heard, grew_none, is_err}
@@ -45,15 +45,14 @@ returns-in_err-checkpoint-clause-rightly g c = λ told why is.
     in_folder c.in_ok-identity.identity c.in_ok-identity.ensures.told (c.in_err-checkpoint.ensures.rightly told why (cc (p.1, p.2, is)))
 
 pub returns-in_err-part-clause-counts : goal.returns-in_err-part-clause-counts
-returns-in_err-part-clause-counts g c = λ tells root over short known. counts_none _
+returns-in_err-part-clause-counts g c = λ tells root over short. counts_none _
 
 pub returns-in_err-identity-clause-counts : goal.returns-in_err-identity-clause-counts
-returns-in_err-identity-clause-counts g c = λ tells root over short known.
-    let p = err_from_is_err_and c.from_residual-in_err-identity.result c.from_residual-in_err-identity.ensures.1 in
-    counts_unidentified c.look_at_root.result c.from_residual-in_err-identity.result _ c.in_err-identity.was (cc (p.1, p.2)) short (λ is. c.look_at_root.ensures.unopened tells is) (c.in_err-identity.ensures.unread tells root over) known
+returns-in_err-identity-clause-counts g c = λ tells root over short.
+    counts_unidentified _ short (λ is. c.look_at_root.ensures.unopened tells (c.in_err-identity.was ∙ ap Err is)) (c.in_err-identity.ensures.unread tells root over) (c.in_err-identity.ensures.refused tells root over)
 
 pub returns-in_err-checkpoint-clause-counts : goal.returns-in_err-checkpoint-clause-counts
-returns-in_err-checkpoint-clause-counts g c = λ tells root over short known. counts_did (c.in_ok-identity.ensures.opened tells root over)
+returns-in_err-checkpoint-clause-counts g c = λ tells root over short. counts_did (c.in_ok-identity.ensures.opened tells root over)
 
 pub returns-clause-counts : goal.returns-clause-counts
-returns-clause-counts g c = λ tells root over short known. counts_did (c.in_ok-identity.ensures.opened tells root over)
+returns-clause-counts g c = λ tells root over short. counts_did (c.in_ok-identity.ensures.opened tells root over)

@@ -1,9 +1,8 @@
 use Rattle.std.proofs.Common.{◌∙◌, ap, refl, sym, subst}
-use Rattle.std.proofs.lemmas.Result.{err_from_is_err_and}
 use Rattle.ocfl_tree.specs.StorageRoot.{StorageRoot}
 use Rattle.ocfl_scrub.specs.{Keeping.{met_at}, Starting.{part_of}, Running.{limits_of}}
-use Rattle.ocfl_night.specs.{Looks.{is_known_kept}, Site.{IsStill}}
-use Rattle.ocfl_night.proofs.{Extending.{run_counts, run_of}, Looks.{counts_either, counts_on, known_kept}}
+use Rattle.ocfl_night.specs.{Site.{IsStill}}
+use Rattle.ocfl_night.proofs.{Extending.{run_counts, run_of}, Looks.{counts_either, counts_on}}
 use Rattle.ocfl_night.proofs.slicing.make_run.Goals as goal
 
 pub returns-clause-run : goal.returns-clause-run
@@ -14,7 +13,7 @@ returns-clause-run g c = λ tells root over short ready.
     let old = c.new-lines.result.items in
     let new = c.run_on-ran.new.out.items in
     let runs = c.run_on-ran.ensures.told tells root over short c.in_default.ensures.made ready in
-    let after = c.look_again.ensures.counts tells root (c.run_on-ran.ensures.root tells root over short ready) short (ap is_known_kept c.in_ok-look_again.was) in
+    let after = c.look_again.ensures.counts tells root (c.run_on-ran.ensures.root tells root over short ready) short in
     run_of root s t old new part c.args.cursor (limits_of c.args.limits) c.run_on-ran.result (met_at c.args.kept.now) runs after c.new-lines.ensures.items c.in_default.ensures.whole
 
 pub returns-clause-walk : goal.returns-clause-walk
@@ -35,20 +34,19 @@ returns-clause-still g c = λ tells.
     subst (λ (x : StorageRoot). IsStill c.args.identity.now x) (sym (c.look_again.ensures.keeps tells)) (c.in_ok-look_again.ensures.still tells t refl)
 
 pub returns-in_err-look_again-clause-counts : goal.returns-in_err-look_again-clause-counts
-returns-in_err-look_again-clause-counts g c = λ tells root over short ready known.
-    let p = err_from_is_err_and c.from_residual.result c.from_residual.ensures.1 in
+returns-in_err-look_again-clause-counts g c = λ tells root over short ready.
     let runs = c.run_on-ran.ensures.told tells root over short c.in_default.ensures.made ready in
-    let after = c.look_again.ensures.counts tells root (c.run_on-ran.ensures.root tells root over short ready) short (known_kept c.in_err-look_again.was (cc (p.1, p.2)) known) in
+    let after = c.look_again.ensures.counts tells root (c.run_on-ran.ensures.root tells root over short ready) short in
     counts_on (run_counts root _ _ c.new-lines.result.items c.run_on-ran.new.out.items (part_of c.args.part.now) c.args.cursor (limits_of c.args.limits) c.run_on-ran.result (met_at c.args.kept.now) runs) after
 
 pub returns-clause-counts : goal.returns-clause-counts
-returns-clause-counts g c = λ tells root over short ready known.
+returns-clause-counts g c = λ tells root over short ready.
     let runs = c.run_on-ran.ensures.told tells root over short c.in_default.ensures.made ready in
-    let after = c.look_again.ensures.counts tells root (c.run_on-ran.ensures.root tells root over short ready) short (ap is_known_kept c.in_ok-look_again.was) in
+    let after = c.look_again.ensures.counts tells root (c.run_on-ran.ensures.root tells root over short ready) short in
     counts_on (run_counts root _ _ c.new-lines.result.items c.run_on-ran.new.out.items (part_of c.args.part.now) c.args.cursor (limits_of c.args.limits) c.run_on-ran.result (met_at c.args.kept.now) runs) after
 
 pub returns-in-Some-clause-counts : goal.returns-in-Some-clause-counts
-returns-in-Some-clause-counts g c = λ tells root over short ready known.
+returns-in-Some-clause-counts g c = λ tells root over short ready.
     counts_either c.run_on-ran.result.end
     (λ made. run_counts root _ _ c.new-lines.result.items c.run_on-ran.new.out.items (part_of c.args.part.now) c.args.cursor (limits_of c.args.limits) c.run_on-ran.result (met_at c.args.kept.now) (c.run_on-ran.ensures.told tells root over short made ready))
     (λ worn. ap g.T.Tree.state (c.run_on-ran.ensures.any_store.worn_silent worn).0)

@@ -2,9 +2,9 @@ use Rattle.std.proofs.Common.{◌≡◌, ◌∙◌, ap, sym}
 use Rattle.ocfl_tree.specs.StorageRoot.{StorageRoot}
 use Rattle.ocfl_scrub.specs.{Keeping.{IsReady}, Running.{place_in}, Starting.{part_of}}
 use Rattle.ocfl_state.specs.Checkpoint.{Checkpoint}
-use Rattle.ocfl_night.specs.{Chain.{part_after}, Looks.{is_known, is_known_kept}, Steps.{IsWalkAt}}
+use Rattle.ocfl_night.specs.{Chain.{part_after}, Steps.{IsWalkAt}}
 use Rattle.ocfl_night.proofs.{Extending.{run_at}, KeptWalks.{walk_from, walk_made}}
-use Rattle.ocfl_night.proofs.{Looks.{known_one}, Moments.{unmoved}, Sound.{ready_sound}}
+use Rattle.ocfl_night.proofs.{Moments.{unmoved}, Sound.{ready_sound}}
 use Rattle.ocfl_night.proofs.slicing.slice.Given as given
 use Rattle.ocfl_night.proofs.slicing.slice.Goals.{In_ok-rest}
 use Rattle.ocfl_night.proofs.slicing.slice.Goals as goal
@@ -27,21 +27,21 @@ pub returns-clause-any_moment : goal.returns-clause-any_moment
 returns-clause-any_moment g c = λ told tells root over short walk looks one t r.
     let at = (goal.at.returns-clause-any_moment g c).In_ok-rest in
     let made = c.in-Ok.ensures.run tells root over short (goes_on g at root walk) in
-    c.keep.ensures.any_moment told (record { part = part_of c.args.part.now; looks = looks }) _ (known_one root _ _ looks (is_known c.keep.result) one) (run_at (rest_is g at) c.in_ok-cursor.ensures (sym c.deref.ensures.value) made) t r
+    c.keep.ensures.any_moment told (record { part = part_of c.args.part.now; looks = looks }) _ one (run_at (rest_is g at) c.in_ok-cursor.ensures (sym c.deref.ensures.value) made) t r
 
 pub returns-clause-ready : goal.returns-clause-ready
 returns-clause-ready g c = λ told tells root over short walk looks one t r.
     let at = (goal.at.returns-clause-ready g c).In_ok-rest in
     let made = c.in-Ok.ensures.run tells root over short (goes_on g at root walk) in
-    c.keep.ensures.ready told (record { part = part_of c.args.part.now; looks = looks }) _ (known_one root _ _ looks (is_known c.keep.result) one) (run_at (rest_is g at) c.in_ok-cursor.ensures (sym c.deref.ensures.value) made) t r
+    c.keep.ensures.ready told (record { part = part_of c.args.part.now; looks = looks }) _ one (run_at (rest_is g at) c.in_ok-cursor.ensures (sym c.deref.ensures.value) made) t r
 
 pub returns-in-Err-clause-counts : goal.returns-in-Err-clause-counts
-returns-in-Err-clause-counts g c = λ tells root over short walk known.
-    c.make_run.ensures.counts tells root over short (goes_on g (goal.at.returns-in-Err-clause-counts g c).In_ok-rest root walk) (ap is_known_kept c.in-Err.is ∙ sym c.unkept.ensures.known ∙ known)
+returns-in-Err-clause-counts g c = λ tells root over short walk.
+    c.make_run.ensures.counts tells root over short (goes_on g (goal.at.returns-in-Err-clause-counts g c).In_ok-rest root walk)
 
 pub returns-clause-counts : goal.returns-clause-counts
-returns-clause-counts g c = λ tells root over short walk known.
-    c.make_run.ensures.counts tells root over short (goes_on g (goal.at.returns-clause-counts g c).In_ok-rest root walk) (ap is_known_kept c.in-Ok.is)
+returns-clause-counts g c = λ tells root over short walk.
+    c.make_run.ensures.counts tells root over short (goes_on g (goal.at.returns-clause-counts g c).In_ok-rest root walk)
 
 pub returns-in-Err-clause-root : goal.returns-in-Err-clause-root
 returns-in-Err-clause-root g c = λ tells root over short walk. c.make_run.ensures.root tells root over short (goes_on g (goal.at.returns-in-Err-clause-root g c).In_ok-rest root walk)

@@ -7,6 +7,7 @@ use Rattle.ocfl_state.specs.Crash.{Outcomes, Only, Same, Passes, LeavesOnly}
 use Rattle.ocfl_state.specs.declared.checkpoint_parts.ReportMark.{ReportMark}
 use Rattle.ocfl_state.specs.declared.checkpoint_parts.Phase.TheVariants.{Open, Closing}
 use Rattle.ocfl_night.specs.Sound.{Stands, IsNew, IsSoundAt, IsSound, IsKept, IsAt, IsSettled, IsReady, IsFound, IsFoundReady}
+use Rattle.ocfl_night.specs.Steps.{fitted}
 use Rattle.ocfl_night.proofs.Moments.{OnlyNow, only_same, unchanged, leaves_weaker, joined_moments}
 use Rattle.ocfl_night.proofs.Heard.{kept_found}
 use Rattle.ocfl_night.proofs.Sound.{holds_sound, new_sound, sound_new, cut_open}
@@ -48,8 +49,8 @@ settled_still {seen = seen} {rounds = rounds} {t} {k} r same p = record {
 }
 
 -- what is opened, if the report is as its checkpoint says
-pub taken_as : {F : Type 0} {seen : F → Content} {may_leave : F → Outcomes} {rounds : Rounds} {t : Text} {k opened : Checkpoint} {there : Option ReportMark} {f : F} → (there ≡ None → opened ≡ k) → (there ≡ None) × IsReady seen may_leave rounds t k f → IsReady seen may_leave rounds t opened f
-taken_as {seen = seen} {may_leave} {rounds} {t} {f = f} same up = subst (λ (x : Checkpoint). IsReady seen may_leave rounds t x f) (sym (same up.0)) up.1
+pub taken_as : {F : Type 0} {seen : F → Content} {may_leave : F → Outcomes} {rounds : Rounds} {t : Text} {k opened : Checkpoint} {there : Option ReportMark} {f : F} → opened ≡ fitted there k → (there ≡ None) × IsReady seen may_leave rounds t k f → IsReady seen may_leave rounds t opened f
+taken_as {seen = seen} {may_leave} {rounds} {t} {k = k} {f = f} is up = subst (λ (x : Checkpoint). IsReady seen may_leave rounds t x f) (sym (is ∙ ap (λ (o : Option ReportMark). fitted o k) up.0)) up.1
 
 -- ---- opening
 

@@ -29,7 +29,15 @@ IfReadyIn seen may_leave rounds k folder Holds = (t : Text) → IsReady seen may
 abbrev pub IfReady : {F : Type 0} → (F → Content) → (F → Outcomes) → Checkpoint → F → (Rounds → Text → Type 0) → Type 0
 IfReady seen may_leave k folder Holds = (rounds : Rounds) → IfReadyIn seen may_leave rounds k folder (Holds rounds)
 
--- if bytes of a report were lost or changed that is not closed yet
+-- if this checkpoint is there
+abbrev pub IfThere : Content → (Checkpoint → Type 0) → Type 0
+IfThere c Holds = (k : Checkpoint) → IsAt k c → Holds k
+
+-- bytes of a report were lost or changed that is not closed yet
+abbrev pub HasLost : Content → Type 0
+HasLost c = (k : Checkpoint) × (IsAt k c × IsLost k c)
+
+-- if they were
 abbrev pub IfLost : Content → Type 0 → Type 0
 IfLost c Holds = (k : Checkpoint) → IsAt k c → IsLost k c → Holds
 

@@ -1,8 +1,9 @@
 -- Whose a checkpoint is, and what it says of the root.
-use Rattle.std.specs.Prelude.{◌≡◌, ◌≢◌, ◌⊎◌, ◌+◌, ◌<◌, ◌≤◌, [], Bool, true, false, Option, Some, None, if◌then◌else◌, length}
+use Rattle.std.specs.Prelude.{◌≡◌, ◌≢◌, ◌⊎◌, ◌||◌, ◌+◌, ◌<◌, ◌≤◌, [], Bool, true, false, Option, Some, None, if◌then◌else◌, is_none, length, nat_lt}
 use Rattle.ocfl_audit.specs.Parts.{Part, whole}
 use Rattle.ocfl_cursor.specs.{Cursor.{new_cursor}, declared.ends.PartEnds.{PartEnds}}
 use Rattle.ocfl_scope.specs.Numbered.{part_between}
+use Rattle.ocfl_scrub.specs.Running.{place_in}
 use Rattle.ocfl_state.specs.{Checkpoint.{Checkpoint}, Pieces.{summary_of}}
 use Rattle.ocfl_state.specs.declared.checkpoint_parts.ReportMark.{ReportMark}
 use Rattle.ocfl_state.specs.declared.checkpoint_parts.TopNames.{TopNames}
@@ -40,11 +41,15 @@ first_checkpoint site id = record {
   cursor = new_cursor;
 }
 
--- the same with the declaration that the root has now, and with its names where they begin anew
-abbrev pub with_root : Bool → Identity → Checkpoint → Checkpoint
-with_root anew id k = record k {
+-- its names become those of now: the next run begins a cycle, or more than half of them are gone
+abbrev pub are_renewed : Identity → Checkpoint → Bool
+are_renewed id k = is_none (place_in k.cursor.state) || nat_lt (id.count + id.count) k.names.count
+
+-- the same with the declaration that the root has now, and with its names if they are renewed
+abbrev pub with_root : Identity → Checkpoint → Checkpoint
+with_root id k = record k {
   root = record { path = k.root.path; declared = id.declared };
-  names = if anew then names_now id else k.names;
+  names = if are_renewed id k then names_now id else k.names;
 }
 
 -- ---- whose it is

@@ -1,5 +1,5 @@
 -- What the steps of a night do to a state folder.
-use Rattle.std.specs.Prelude.{◌≡◌, ◌≢◌, ◌⊎◌, ℕ, ◌-◌, ◌≤◌, [], ◌∷◌, ◌++◌, ◌&&◌, Bool, IsTrue, true, false, Some, length, take, drop, ⊤}
+use Rattle.std.specs.Prelude.{◌≡◌, ◌≢◌, ◌⊎◌, ◌↔◌, ℕ, ◌-◌, ◌≤◌, min, [], ◌∷◌, ◌++◌, ◌&&◌, Bool, IsTrue, true, false, if◌then◌else◌, Option, Some, None, length, take, drop, ⊤}
 use Rattle.ocfl_tree.specs.{Place.{Text, Place}, StorageRoot.{StorageRoot}}
 use Rattle.ocfl_audit.specs.{Lines.{is_empty}, Parts.{Part}, Trail.{unread_of}}
 use Rattle.ocfl_cursor.specs.Cursor.{Cursor}
@@ -8,13 +8,14 @@ use Rattle.ocfl_scrub.specs.{Keeping.{IsReady as IsWalkReady}, declared.kept.Kep
 use Rattle.ocfl_scrub.specs.declared.running.RunEnd.{RunEnd}
 use Rattle.ocfl_scrub.specs.declared.running.RunStatus.TheVariants as status
 use Rattle.ocfl_state.specs.Checkpoint.{Checkpoint, IsCheckpointText}
-use Rattle.ocfl_state.specs.Content.{Bytes, Content, with_checkpoint, moved, is_closed}
+use Rattle.ocfl_state.specs.Content.{Bytes, Content, with_checkpoint, with_report, moved, is_closed}
 use Rattle.ocfl_state.specs.Crash.{Outcomes, Step, Same, Begins, Passes}
 use Rattle.ocfl_state.specs.{Pieces.{HasTail, summary_of}, declared.checkpoint_parts.Left.{Left}}
 use Rattle.ocfl_state.specs.declared.checkpoint_parts.ReportMark.{ReportMark}
-use Rattle.ocfl_state.specs.declared.checkpoint_parts.Phase.TheVariants.{Open, Closing}
-use Rattle.ocfl_night.specs.{Chain.{part_after}, Looks.{Look, IsNoMore}, Site.{no_report}}
-use Rattle.ocfl_night.specs.declared.plan.Halt.{Halt}
+use Rattle.ocfl_state.specs.declared.checkpoint_parts.{Phase.{Phase}, Phase.TheVariants.{Open, Closing}}
+use Rattle.ocfl_identity.specs.declared.identity.Identity.{Identity}
+use Rattle.ocfl_night.specs.{Chain.{part_after}, Looks.{Look, IsNoMore}, Site.{first_checkpoint, no_report, with_root}}
+use Rattle.ocfl_night.specs.declared.{opening.Opened.{Opened}, plan.Halt.{Halt}, site.Site.{Site}}
 use Rattle.ocfl_night.specs.declared.plan.Halt.TheVariants as halt
 
 -- ---- what is made of a checkpoint
@@ -46,14 +47,15 @@ pub record IsNext (k : Checkpoint) (ran : RunEnd) (report : ReportMark) (next : 
   pub cursor_is : next.cursor ≡ ran.cursor
   pub rest_is : next ≡ record k { phase = next.phase; report = next.report; cursor = next.cursor }
 
--- that of a report that is another one than it says: it keeps what is there
-pub record IsShortened (k : Checkpoint) (report : ReportMark) (next : Checkpoint) : Type 0 where
-  pub report_is : next.report ≡ report
-  pub whole_is : next.whole ≡ false
-  pub told : next.told ≤ report.bytes
-  pub cursor_is : next.cursor ≡ k.cursor
-  pub phase_is : next.phase ≡ k.phase
-  pub part_is : next.part ≡ k.part
+-- that of a report of which this is left: as much of it counts as said as did, but no more than
+-- there is
+abbrev pub shortened : ReportMark → Checkpoint → Checkpoint
+shortened there k = record k { whole = false; report = there; told = min k.told there.bytes }
+
+-- that with what is left of its report, if bytes of it were lost or changed
+abbrev pub fitted : Option ReportMark → Checkpoint → Checkpoint
+fitted None k = k
+fitted (Some there) k = shortened there k
 
 -- ---- whether a report is as a checkpoint says
 
@@ -72,11 +74,33 @@ pub record IsLost (k : Checkpoint) (c : Content) : Type 0 where
   pub there : k.phase ≡ Closing → is_closed c.closed k.cursor.cycle ≡ false
   pub changed : IsChanged k c
 
+-- what there is of what a checkpoint speaks of
+abbrev pub what_is_left : Checkpoint → Content → ReportMark
+what_is_left k c = summary_of (take k.report.bytes c.report)
+
+-- What is opened of a checkpoint. It says that the report was lost exactly if bytes of it were lost or
+-- changed, and then the checkpoint has what is left of it; else it stays but for the root.
+pub record IsOpened (id : Identity) (k : Checkpoint) (c : Content) (opened : Opened) : Type 0 where
+  pub lost : IsTrue opened.lost ↔ IsLost k c
+  pub checkpoint : opened.checkpoint ≡ with_root id (fitted (if opened.lost then Some (what_is_left k c) else None) k)
+
+-- where there is no checkpoint
+abbrev pub first_opened : Site → Identity → Opened
+first_opened site id = record { checkpoint = first_checkpoint site id; lost = false }
+
 -- what was not said of the report
 abbrev pub unsaid : Checkpoint → Content → Text
 unsaid k c = take (k.report.bytes - k.told) (drop k.told c.report)
 
 -- ---- what is done to a folder
+
+-- of an open report what the checkpoint does not speak of is cut away
+abbrev pub settled_in : Phase → ℕ → Content → Content
+settled_in Open most c = with_report (take most c.report) c
+settled_in Closing most c = c
+
+abbrev pub settled : Checkpoint → Content → Content
+settled k c = settled_in k.phase k.report.bytes c
 
 -- The report alone may differ, and of its first n bytes those that were there stay.
 pub record KeepsFront (n : ℕ) (old new : Content) : Type 0 where

@@ -8,7 +8,7 @@ ghost use Rattle.ocfl_state.specs.Crash.{LeavesOnly};
 ghost use Rattle.ocfl_state.specs.declared.checkpoint_parts.Phase.TheVariants.{Open};
 ghost use Rattle.ocfl_night.specs.Leaving.{StillMayLeave, done_by, has_end, remedy_at, with_remedy};
 ghost use Rattle.ocfl_night.specs.Looks.{Counts, Rounds, WithLook, look_between, of_any};
-ghost use Rattle.ocfl_night.specs.Promises.{IfLost, IfReady, IfReadyIn, IsSafe, IsSafeIn, OnShort, OverShort, SameClosed};
+ghost use Rattle.ocfl_night.specs.Promises.{HasLost, IfLost, IfReady, IfReadyIn, IsSafe, IsSafeIn, OnShort, OverShort, SameClosed};
 ghost use Rattle.ocfl_night.specs.Older.{IfOlder};
 ghost use Rattle.ocfl_night.specs.declared.refusal.Refusal.TheVariants.{Older};
 ghost use Rattle.ocfl_night.specs.Refusing.{IfForeign, IfRefused, IsBarred, IsFolderRefused, IsRefused, IsTurnedAway, OnRefused};
@@ -301,6 +301,8 @@ fn catch_up<S: StateFolder, W: Write>(
     ensures older { IsTrue S.told → IfOlder (S.seen folder.old)
         (IsTurnedAway result S.seen S.may_leave S.moment S.left_since folder.old folder.new) }
     ensures lost { IsTrue S.told → IfLost (S.seen folder.old) (OnOk result (IsTrue lost.new)) }
+    ensures lost_only { IsTrue S.told → lost.old ≡ false → IsTrue lost.new
+        → HasLost (S.seen folder.old) }
     ensures all { IfOk result (λ k. k.told ≡ k.report.bytes) }
 {
     let opened = open(alloc, folder, site, identity, plan)?;
@@ -390,6 +392,8 @@ fn set_out<S: StateFolder, T: Tree, W: Write>(
     ensures rightly { IsTrue S.told → IfRefused result
         (IsRefused T.told (T.state tree.old) site.now plan.now (S.seen folder.old)) }
     ensures lost { IsTrue S.told → IfLost (S.seen folder.old) (OnOk result (IsTrue lost.new)) }
+    ensures lost_only { IsTrue S.told → lost.old ≡ false → IsTrue lost.new
+        → HasLost (S.seen folder.old) }
     ensures barred { IsTrue S.told
         → IsBarred T.told (T.state tree.old) site.now plan.now (S.seen folder.old)
         → IsTurnedAway result S.seen S.may_leave S.moment S.left_since folder.old folder.new }
@@ -471,10 +475,11 @@ pub fn night<S: StateFolder, T: Tree, C: Clock, W: Write>(
         → (cycle : ℕ) → result.end ≢ halt.Refused (Older cycle) }
 
     // If bytes of the report were lost or changed, it says so, unless it is refused or something
-    // is troubled.
+    // is troubled. It says so in no other case.
     ensures lost { IsTrue S.told → IfLost (S.seen folder.old)
         (((why : ModelStop) → result.end ≢ halt.Troubled why)
         → ((why : ModelRefusal) → result.end ≢ halt.Refused why) → IsTrue result.lost) }
+    ensures lost_only { IsTrue S.told → IsTrue result.lost → HasLost (S.seen folder.old) }
 
     // The report of a cycle that is said to have ended is closed.
     ensures ended { IsTrue S.told → OverShort T.told (T.state tree.old) (λ root.

@@ -1,14 +1,14 @@
 //! Opening a night: what the last one left is taken up, if it is that of these nights.
-ghost use Rattle.std.specs.Prelude.{◌≡◌, ◌↔◌, ◌<◌, ◌^◌, ℕ, [], IfOk, IsSome, IsTrue, OnOk, None, false, true, length, take};
+ghost use Rattle.std.specs.Prelude.{◌≡◌, ◌↔◌, ◌<◌, ◌^◌, ℕ, [], IfOk, IfSome, IsSome, IsTrue, OnOk, None, false, true, is_some, length, take};
 ghost use Rattle.ocfl_tree.specs.Place.{Text};
 ghost use Rattle.ocfl_state.specs.Content.{is_closed, with_report};
 ghost use Rattle.ocfl_state.specs.Crash.{LeavesOnly, Only, Passes, Same};
 ghost use Rattle.ocfl_state.specs.declared.checkpoint_parts.Phase.TheVariants.{Closing};
-ghost use Rattle.ocfl_night.specs.{Looks.{Rounds}, Promises.{IfLost, SameClosed}};
+ghost use Rattle.ocfl_night.specs.{Looks.{Rounds}, Promises.{HasLost, IfLost, IfThere, SameClosed}};
 ghost use Rattle.ocfl_night.specs.Older.{IfOlder, IsOlder};
 ghost use Rattle.ocfl_night.specs.Refusing.{HasReport, IfForeign, IfRefused, IsFolderRefused, IsOutdated, IsTurnedAway, IsUnbegun, OnRefused};
 ghost use Rattle.ocfl_night.specs.Sound.{IsFound, IsFoundReady, IsKept, IsNew, IsReady, IsSettled, IsSoundAt};
-ghost use Rattle.ocfl_night.specs.Steps.{IsChanged, IsLost, IsShortened, KeepsFront};
+ghost use Rattle.ocfl_night.specs.Steps.{IsLost, IsOpened, KeepsFront, first_opened, fitted, settled, shortened, what_is_left};
 
 use crate::checkpoint::{bytes_of, cycle_of, look, phase_of, put_checkpoint, report_of};
 use crate::older::refuse_older;
@@ -80,6 +80,7 @@ fn begin<S: StateFolder>(
         → IfOk result (λ opened. IsReady S.seen S.may_leave rounds []
         opened.checkpoint folder.new) }
     ensures closed { IsTrue S.told → OnOk result (SameClosed S.seen folder.old folder.new) }
+    ensures first { IfOk result (λ opened. opened ≡ first_opened site.now identity.now) }
     ensures refused { IsTrue S.told → OnRefused result (S.seen folder.new ≡ S.seen folder.old) }
     ensures rightly { IsTrue S.told → IfRefused result (IsUnbegun true (S.seen folder.old)) }
 {
@@ -119,11 +120,10 @@ fn settle<S: StateFolder>(folder: &mut S, checkpoint: &Checkpoint) -> Result<boo
         → IsSettled S.seen S.may_leave rounds t checkpoint.now folder.old
         → OnOk result (IsReady S.seen S.may_leave rounds t checkpoint.now folder.new) }
     ensures there { IsTrue S.told → IfOk result (λ there. IsTrue there
-        → checkpoint.now.phase ≡ Closing
-        → is_closed (S.seen folder.new).closed checkpoint.now.cursor.cycle ≡ false) }
-    ensures lost { IsTrue S.told → IsLost checkpoint.now (S.seen folder.old)
-        → IfOk result (λ there. IsTrue there × IsChanged checkpoint.now (S.seen folder.new)) }
-    ensures closed { IsTrue S.told → OnOk result (SameClosed S.seen folder.old folder.new) }
+        ↔ (checkpoint.now.phase ≡ Closing
+        → is_closed (S.seen folder.old).closed checkpoint.now.cursor.cycle ≡ false)) }
+    ensures settled { IsTrue S.told → OnOk result
+        (S.seen folder.new ≡ settled checkpoint.now (S.seen folder.old)) }
 {
     match phase_of(checkpoint) {
         Phase::Open => {
@@ -147,8 +147,10 @@ fn take_up<S: StateFolder>(
         → IsSettled S.seen S.may_leave rounds t checkpoint.now folder.old
         → IfOk result (λ lost. (lost ≡ None)
         × IsReady S.seen S.may_leave rounds t checkpoint.now folder.new) }
-    ensures lost { IsTrue S.told → IsLost checkpoint.now (S.seen folder.old)
-        → IfOk result (λ lost. IsSome lost) }
+    ensures lost { IsTrue S.told → IfOk result (λ lost. IsSome lost
+        ↔ IsLost checkpoint.now (S.seen folder.old)) }
+    ensures left { IsTrue S.told → IfOk result (λ lost. IfSome lost (λ there. there
+        ≡ what_is_left checkpoint.now (S.seen folder.old))) }
     ensures closed { IsTrue S.told → OnOk result (SameClosed S.seen folder.old folder.new) }
 {
     if !settle(folder, checkpoint)? {
@@ -159,7 +161,7 @@ fn take_up<S: StateFolder>(
 
 /// The checkpoint of a report that is another one than it says: it keeps what is there.
 fn shortened(mut checkpoint: Checkpoint, report: ReportMark) -> Checkpoint
-    ensures { IsShortened checkpoint report result }
+    ensures { result ≡ shortened report checkpoint }
 {
     checkpoint.whole = false;
     checkpoint.told = checkpoint.told.min(report.bytes);
@@ -170,8 +172,8 @@ fn shortened(mut checkpoint: Checkpoint, report: ReportMark) -> Checkpoint
 /// What is opened with a checkpoint. If its report is another one than it says, it then speaks of
 /// what is there.
 fn fitted(checkpoint: Checkpoint, there: Option<ReportMark>) -> Opened
-    ensures same { there ≡ None → result.checkpoint ≡ checkpoint }
-    ensures lost { IsSome there → IsTrue result.lost × (result.checkpoint.whole ≡ false) }
+    ensures checkpoint { result.checkpoint ≡ fitted there checkpoint }
+    ensures lost { result.lost ≡ is_some there }
 {
     match there {
         None => Opened {
@@ -200,8 +202,8 @@ fn resume<S: StateFolder>(
         → IfOk result (λ opened. IsReady S.seen S.may_leave rounds t
         opened.checkpoint folder.new) }
     ensures closed { IsTrue S.told → OnOk result (SameClosed S.seen folder.old folder.new) }
-    ensures lost { IsTrue S.told → IsLost checkpoint (S.seen folder.old)
-        → IfOk result (λ opened. IsTrue opened.lost × (opened.checkpoint.whole ≡ false)) }
+    ensures opened { IsTrue S.told
+        → IfOk result (IsOpened identity.now checkpoint (S.seen folder.old)) }
 {
     let there = take_up(folder, &checkpoint)?;
     let opened = fitted(checkpoint, there);
@@ -229,8 +231,8 @@ fn go_on<S: StateFolder>(
         → IfOk result (λ opened. IsReady S.seen S.may_leave rounds t
         opened.checkpoint folder.new) }
     ensures closed { IsTrue S.told → OnOk result (SameClosed S.seen folder.old folder.new) }
-    ensures lost { IsTrue S.told → IsLost checkpoint (S.seen folder.old)
-        → IfOk result (λ opened. IsTrue opened.lost × (opened.checkpoint.whole ≡ false)) }
+    ensures opened { IsTrue S.told
+        → IfOk result (IsOpened identity.now checkpoint (S.seen folder.old)) }
     ensures refused { IsTrue S.told → OnRefused result (S.seen folder.new ≡ S.seen folder.old) }
     ensures rightly { IsTrue S.told
         → IfRefused result (IsOutdated checkpoint (S.seen folder.old)) }
@@ -261,9 +263,16 @@ pub fn open<S: StateFolder>(
     ensures empty { IsTrue S.told → (S.seen folder.old).checkpoint ≡ None
         → OnOk result (length (S.seen folder.old).report ≡ 0) }
     // A report that is shorter than its checkpoint says, or has another tail, is not taken for
-    // whole.
+    // whole, and no other one is said to be lost.
     ensures lost { IsTrue S.told → IfLost (S.seen folder.old)
         (IfOk result (λ opened. IsTrue opened.lost × (opened.checkpoint.whole ≡ false))) }
+    ensures lost_only { IsTrue S.told
+        → IfOk result (λ opened. IsTrue opened.lost → HasLost (S.seen folder.old)) }
+    // The checkpoint that is there stays but for what the root has now, and for what is lost.
+    ensures opened { IsTrue S.told → IfThere (S.seen folder.old) (λ k.
+        IfOk result (IsOpened identity.now k (S.seen folder.old))) }
+    ensures first { IsTrue S.told → (S.seen folder.old).checkpoint ≡ None
+        → IfOk result (λ opened. opened ≡ first_opened site.now identity.now) }
     // If it is refused, the folder stays as it was, and the reason holds.
     ensures refused { IsTrue S.told → OnRefused result (S.seen folder.new ≡ S.seen folder.old) }
     ensures rightly { IsTrue S.told → IfRefused result

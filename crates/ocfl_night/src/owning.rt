@@ -1,7 +1,8 @@
 //! Whether a checkpoint is that of these nights, and the root as it was.
-ghost use Rattle.std.specs.Prelude.{◌≡◌, ◌↔◌, ◌+◌, ◌<◌, Bool, IfErr, IfOk, IsTrue, OnOk, false};
+ghost use Rattle.std.specs.Prelude.{◌≡◌, ◌↔◌, ◌+◌, ◌<◌, IfErr, IfOk, IsTrue, OnOk, false, is_none};
+ghost use Rattle.ocfl_scrub.specs.Running.{place_in};
 ghost use Rattle.ocfl_night.specs.Refusing.{IsChangedRoot, IsDisowned};
-ghost use Rattle.ocfl_night.specs.Site.{AreMostGone, IsOwn, IsSameRoot, first_checkpoint, names_now, with_root};
+ghost use Rattle.ocfl_night.specs.Site.{AreMostGone, IsOwn, IsSameRoot, are_renewed, first_checkpoint, names_now, with_root};
 
 use crate::checkpoint::no_report;
 use crate::refusal::Refusal;
@@ -120,19 +121,29 @@ fn names_now(identity: &Identity) -> TopNames
 }
 
 /// Whether the next run begins a cycle.
-fn begins(cursor: &Cursor) -> bool {
+fn begins(cursor: &Cursor) -> bool
+    ensures { result ≡ is_none (place_in cursor.now.state) }
+{
     match cursor.state() {
         State::Start | State::Ended => true,
         State::After(_) => false,
     }
 }
 
-/// The checkpoint with the declaration that the root has now. Its names are those of now if a
-/// cycle begins, or if more than half of them are gone; else they stay.
-pub(crate) fn with_root(mut checkpoint: Checkpoint, identity: &Identity) -> Checkpoint
-    ensures { (anew : Bool) × (result ≡ with_root anew identity.now checkpoint) }
+/// Whether the names of a checkpoint become those of now: if a cycle begins, or if more than half
+/// of them are gone.
+fn are_renewed(checkpoint: &Checkpoint, identity: &Identity) -> bool
+    ensures { result ≡ are_renewed identity.now checkpoint.now }
 {
-    let anew = begins(&checkpoint.cursor) || are_most_gone(&checkpoint, identity);
+    begins(&checkpoint.cursor) || are_most_gone(checkpoint, identity)
+}
+
+/// The checkpoint with the declaration that the root has now, and with its names if they are
+/// renewed; else they stay.
+pub(crate) fn with_root(mut checkpoint: Checkpoint, identity: &Identity) -> Checkpoint
+    ensures { result ≡ with_root identity.now checkpoint }
+{
+    let anew = are_renewed(&checkpoint, identity);
     let declared = identity.declared;
     checkpoint.root.declared = declared;
     if anew {

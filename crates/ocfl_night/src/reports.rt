@@ -1,5 +1,5 @@
 //! The report: what a checkpoint keeps of it, and changes, as far as a crash keeps its front.
-ghost use Rattle.std.specs.Prelude.{◌≡◌, IfOk, IfSome, IsSome, IsTrue, None, OnOk, take};
+ghost use Rattle.std.specs.Prelude.{◌≡◌, ◌↔◌, IfOk, IfSome, IsSome, IsTrue, None, OnOk, take};
 ghost use Rattle.ocfl_state.specs.{Content.{with_report}, Crash.{Passes, Same}};
 ghost use Rattle.ocfl_state.specs.Pieces.{HasTail, summary_of};
 ghost use Rattle.ocfl_night.specs.Steps.{BeginsAs, KeepsFront};
@@ -16,8 +16,8 @@ pub(crate) fn find_lost<S: StateFolder>(
 ) -> Result<Option<ReportMark>, FolderTrouble>
     ensures kept { IsTrue S.told → BeginsAs mark.now (S.seen folder.old).report
         → IfOk result (λ lost. lost ≡ None) }
-    ensures lost { IsTrue S.told → (HasTail mark.now (S.seen folder.old).report → ⊥)
-        → IfOk result (λ lost. IsSome lost) }
+    ensures lost { IsTrue S.told → IfOk result (λ lost. IsSome lost
+        ↔ (HasTail mark.now (S.seen folder.old).report → ⊥)) }
     ensures there { IsTrue S.told → IfOk result (λ lost. IfSome lost (λ there.
         there ≡ summary_of (take mark.now.bytes (S.seen folder.old).report))) }
     ensures seen { IsTrue S.told → S.seen folder.new ≡ S.seen folder.old }

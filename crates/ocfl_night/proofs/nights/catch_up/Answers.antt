@@ -49,3 +49,12 @@ returns-in_err-speak-clause-older g c = λ told k at n below older. absurd (cc (
 
 pub returns-clause-older : goal.returns-clause-older
 returns-clause-older g c = λ told k at n below older. absurd (cc (c.in_ok-opened.ensures.older told k at n below older).0)
+
+pub returns-in_err-opened-clause-lost_only : goal.returns-in_err-opened-clause-lost_only
+returns-in_err-opened-clause-lost_only g c = λ told not_yet is. absurd (cc (not_yet, is))
+
+pub returns-in_err-speak-clause-lost_only : goal.returns-in_err-speak-clause-lost_only
+returns-in_err-speak-clause-lost_only g c = λ told not_yet is. c.in_ok-opened.ensures.lost_only told is
+
+pub returns-clause-lost_only : goal.returns-clause-lost_only
+returns-clause-lost_only g c = λ told not_yet is. c.in_ok-opened.ensures.lost_only told is

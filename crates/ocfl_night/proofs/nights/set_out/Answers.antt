@@ -56,3 +56,9 @@ returns-in_err-checkpoint-clause-counts g c = λ tells root over short. counts_d
 
 pub returns-clause-counts : goal.returns-clause-counts
 returns-clause-counts g c = λ tells root over short. counts_did (c.in_ok-identity.ensures.opened tells root over)
+
+pub returns-in_err-part-clause-lost_only : goal.returns-in_err-part-clause-lost_only
+returns-in_err-part-clause-lost_only g c = λ told not_yet is. absurd (cc (not_yet, is))
+
+pub returns-in_err-identity-clause-lost_only : goal.returns-in_err-identity-clause-lost_only
+returns-in_err-identity-clause-lost_only g c = λ told not_yet is. absurd (cc (not_yet, is))

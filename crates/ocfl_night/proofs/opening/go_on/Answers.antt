@@ -1,6 +1,6 @@
-use Rattle.std.proofs.{Common.{◌∙◌, ap, subst, sym}, lemmas.Result.{err_from_is_err_and}}
+use Rattle.std.proofs.{Common.{◌∙◌, ap, subst}, lemmas.Result.{err_from_is_err_and}}
 use Rattle.ocfl_state.specs.Content.{Content}
-use Rattle.ocfl_night.specs.Steps.{IsLost}
+use Rattle.ocfl_night.specs.Steps.{IsOpened}
 use Rattle.ocfl_night.proofs.{Heard.{is_err}, Moments.{joined_moments, unchanged}}
 use Rattle.ocfl_night.proofs.{Sound.{settled_sound}, TakingUp.{settled_still}}
 use Rattle.ocfl_night.proofs.opening.go_on.Goals as goal
@@ -25,9 +25,9 @@ returns-clause-ready g c = λ told rounds t r.
 pub returns-clause-closed : goal.returns-clause-closed
 returns-clause-closed g c = λ told. c.in_ok-resume.ensures.closed told ∙ ap (λ (x : Content). x.closed) (c.refuse_older.ensures.seen told)
 
-pub returns-clause-lost : goal.returns-clause-lost
-returns-clause-lost g c = λ told lost.
-    c.in_ok-resume.ensures.lost told (subst (λ (x : Content). IsLost c.args.checkpoint x) (sym (c.refuse_older.ensures.seen told)) lost)
+pub returns-clause-opened : goal.returns-clause-opened
+returns-clause-opened g c = λ told.
+    subst (λ (x : Content). IsOpened c.args.identity.now c.args.checkpoint x c.in_ok-resume.field-0) (c.refuse_older.ensures.seen told) (c.in_ok-resume.ensures.opened told)
 
 pub returns-in_err-refuse_older-clause-rightly : goal.returns-in_err-refuse_older-clause-rightly
 returns-in_err-refuse_older-clause-rightly g c = λ told why is.

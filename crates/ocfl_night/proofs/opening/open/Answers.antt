@@ -1,10 +1,21 @@
+use Rattle.std.specs.Prelude.{IfOk, IsTrue}
 use Rattle.std.proofs.{Common.{◌≡◌, ◌∙◌, [], ap, refl, sym, subst}, lemmas.Result.{IfOk-weaker, on_ok_weaker}}
 use Rattle.ocfl_state.specs.{Checkpoint.{Checkpoint}, Content.{Content}}
-use Rattle.ocfl_night.specs.{Older.{IsOlder}, Refusing.{IsDisowned, IsOutdated, not_own, outdated}, Sound.{IsNew}, Steps.{IsLost}}
+use Rattle.ocfl_night.specs.{Older.{IsOlder}, Refusing.{IsDisowned, IsOutdated, not_own, outdated}, Sound.{IsAt, IsNew}, Steps.{IsOpened}}
 use Rattle.ocfl_night.proofs.{Foreigners.{at_once, own_at}, Moments.{same_twice, unchanged}, Heard.{is_err, kept_found}}
 use Rattle.ocfl_night.proofs.Sound.{sound_new}
 use Rattle.ocfl_night.proofs.TakingUp.{found_on, found_ready, none_found, same_found, settled_there, shown_new, some_found, taken_moments}
+use Rattle.ocfl_night.proofs.Lost.{first_not, lost_opened, opened_as}
+use Rattle.ocfl_night.proofs.opening.open.Given as given
+use Rattle.ocfl_night.proofs.opening.open.Goals.{After-go_on}
 use Rattle.ocfl_night.proofs.opening.open.Goals as goal
+
+-- the checkpoint that is there is opened
+opened_here : (g : given.Over) (c : After-go_on g) (told : IsTrue g.S.StateFolder.told) (k : Checkpoint) → IsAt k (g.S.StateFolder.seen c.args.folder.now)
+    → IfOk c.go_on.result (IsOpened c.args.identity.now k (g.S.StateFolder.seen c.args.folder.now))
+opened_here g c told k at =
+    let is = c.in-Ok.ensures.same ∙ at_once (some_found (c.in_ok-found.ensures.value told) c.in-Some.is) at in
+    IfOk-weaker c.go_on.result _ _ (λ o h. opened_as is (c.look.ensures.seen told) h) (c.go_on.ensures.opened told)
 
 pub returns-in-Err-clause-any_moment : goal.returns-in-Err-clause-any_moment
 returns-in-Err-clause-any_moment g c = λ told rounds kept. unchanged (g.met.S.StateFolder.only_now told) (λ x n. kept_found kept n) (c.look.ensures.crash told)
@@ -74,8 +85,25 @@ returns-in_default-clause-lost g c = λ told k at lost. let none = none_found (g
 
 pub returns-in-Ok-clause-lost : goal.returns-in-Ok-clause-lost
 returns-in-Ok-clause-lost g c = λ told k at lost.
-    let is = c.in-Ok.ensures.same ∙ at_once (some_found (c.in_ok-found.ensures.value told) c.in-Some.is) at in
-    c.go_on.ensures.lost told (subst (λ (x : Content). IsLost c.in-Ok.checkpoint x) (sym (c.look.ensures.seen told)) (subst (λ (x : Checkpoint). IsLost x (g.S.StateFolder.seen c.args.folder.now)) (sym is) lost))
+    IfOk-weaker c.go_on.result _ _ (λ o h. lost_opened h lost) (opened_here g (goal.at.returns-in-Ok-clause-lost g c).After-go_on told k at)
+
+pub returns-in-Ok-clause-lost_only : goal.returns-in-Ok-clause-lost_only
+returns-in-Ok-clause-lost_only g c = λ told.
+    let k = c.in-Some.found in
+    let at = some_found (c.in_ok-found.ensures.value told) c.in-Some.is in
+    IfOk-weaker c.go_on.result _ _ (λ o h is. (k, (at, h.lost.0 is))) (opened_here g (goal.at.returns-in-Ok-clause-lost_only g c).After-go_on told k at)
+
+pub returns-in-Ok-clause-opened : goal.returns-in-Ok-clause-opened
+returns-in-Ok-clause-opened g c = λ told k at. opened_here g (goal.at.returns-in-Ok-clause-opened g c).After-go_on told k at
+
+pub returns-in-Ok-clause-first : goal.returns-in-Ok-clause-first
+returns-in-Ok-clause-first g c = λ told none. let at = some_found (c.in_ok-found.ensures.value told) c.in-Some.is in absurd (cc (none, at.is))
+
+pub returns-in_default-clause-lost_only : goal.returns-in_default-clause-lost_only
+returns-in_default-clause-lost_only g c = λ told. IfOk-weaker c.begin.result _ _ (λ o h is. absurd (first_not h refl is)) c.begin.ensures.first
+
+pub returns-in_default-clause-opened : goal.returns-in_default-clause-opened
+returns-in_default-clause-opened g c = λ told k at. let none = none_found (g.S.StateFolder.seen c.args.folder.now) (c.in_ok-found.ensures.value told) c.in_default.is in absurd (cc (none, at.is))
 
 pub returns-in_err-found-clause-any_moment : goal.returns-in_err-found-clause-any_moment
 returns-in_err-found-clause-any_moment g c = λ told rounds kept. unchanged (g.met.S.StateFolder.only_now told) (λ x n. kept_found kept n) (c.look.ensures.crash told)

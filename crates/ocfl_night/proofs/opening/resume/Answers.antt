@@ -1,28 +1,34 @@
 use Rattle.std.proofs.Common.{◌∙◌, ap}
 use Rattle.ocfl_state.specs.{Checkpoint.{Checkpoint}, Content.{Content}}
-use Rattle.ocfl_night.proofs.{Moments.{joined_moments}, Sound.{put_moments, put_on, renamed}, TakingUp.{taken_as}}
+use Rattle.ocfl_night.specs.Site.{with_root}
+use Rattle.ocfl_night.proofs.{Lost.{fitted_as, lost_as}, Moments.{joined_moments}, Sound.{put_moments, put_on, renamed}, TakingUp.{taken_as}}
 use Rattle.ocfl_night.proofs.opening.resume.Goals as goal
 
 pub returns-in_err-put_checkpoint-clause-any_moment : goal.returns-in_err-put_checkpoint-clause-any_moment
 returns-in_err-put_checkpoint-clause-any_moment g c = λ told rounds t r.
-    let ready = taken_as c.fitted-opened.ensures.same (c.in_ok-there.ensures.ready told rounds t r) in
-    joined_moments (c.take_up.ensures.any_moment told rounds t r) (put_moments (g.met.S.StateFolder.only_now told) ready (renamed c.with_root-next.ensures.1 ready.stands) (c.put_checkpoint.ensures.crash told))
+    let ready = taken_as c.fitted-opened.ensures.checkpoint (c.in_ok-there.ensures.ready told rounds t r) in
+    joined_moments (c.take_up.ensures.any_moment told rounds t r) (put_moments (g.met.S.StateFolder.only_now told) ready (renamed c.with_root-next.ensures ready.stands) (c.put_checkpoint.ensures.crash told))
 
 pub returns-clause-any_moment : goal.returns-clause-any_moment
 returns-clause-any_moment g c = λ told rounds t r.
-    let ready = taken_as c.fitted-opened.ensures.same (c.in_ok-there.ensures.ready told rounds t r) in
-    joined_moments (c.take_up.ensures.any_moment told rounds t r) (put_moments (g.met.S.StateFolder.only_now told) ready (renamed c.with_root-next.ensures.1 ready.stands) (c.put_checkpoint.ensures.crash told))
+    let ready = taken_as c.fitted-opened.ensures.checkpoint (c.in_ok-there.ensures.ready told rounds t r) in
+    joined_moments (c.take_up.ensures.any_moment told rounds t r) (put_moments (g.met.S.StateFolder.only_now told) ready (renamed c.with_root-next.ensures ready.stands) (c.put_checkpoint.ensures.crash told))
 
 pub returns-clause-ready : goal.returns-clause-ready
 returns-clause-ready g c = λ told rounds t r.
-    let is = c.with_root-next.ensures.1 in
-    let ready = taken_as c.fitted-opened.ensures.same (c.in_ok-there.ensures.ready told rounds t r) in
+    let is = c.with_root-next.ensures in
+    let ready = taken_as c.fitted-opened.ensures.checkpoint (c.in_ok-there.ensures.ready told rounds t r) in
     put_on ready (renamed is ready.stands) (c.in_ok-put_checkpoint.ensures.put told) (ap (λ (x : Checkpoint). x.report.bytes) is) (ap (λ (x : Checkpoint). x.phase) is) (c.in_ok-put_checkpoint.ensures.durable told ready.only)
 
 pub returns-clause-closed : goal.returns-clause-closed
 returns-clause-closed g c = λ told. ap (λ (x : Content). x.closed) (c.in_ok-put_checkpoint.ensures.put told).put ∙ c.in_ok-there.ensures.closed told
 
-pub returns-clause-lost : goal.returns-clause-lost
-returns-clause-lost g c = λ told lost.
-    let h = c.fitted-opened.ensures.lost (c.in_ok-there.ensures.lost told lost) in
-    (h.0, ap (λ (x : Checkpoint). x.whole) c.with_root-next.ensures.1 ∙ h.1)
+pub returns-clause-opened : goal.returns-clause-opened
+returns-clause-opened g c = λ told.
+    let k = c.args.checkpoint in
+    let there = c.in_ok-there.there in
+    let fits = fitted_as k there (g.S.StateFolder.seen c.args.folder.now) _ c.fitted-opened.ensures.lost (c.in_ok-there.ensures.left told) in
+    record {
+      lost = lost_as there _ c.fitted-opened.ensures.lost (c.in_ok-there.ensures.lost told);
+      checkpoint = c.with_root-next.ensures ∙ ap (with_root c.args.identity.now) (c.fitted-opened.ensures.checkpoint ∙ fits);
+    }

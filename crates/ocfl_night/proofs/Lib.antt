@@ -16,3 +16,4 @@ pub mod Lost
 pub mod Around
 pub mod Branches
 pub mod Newest
+pub mod Whole

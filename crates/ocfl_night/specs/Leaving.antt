@@ -1,12 +1,12 @@
 -- What a night does about a run that stopped at a place, and which branch it leaves out for it.
-use Rattle.std.specs.Prelude.{◌≡◌, ◌≤◌, ◌-◌, ◌++◌, ◌∷◌, [], List, Bool, IsTrue, true, false, ◌&&◌, ◌||◌, if◌then◌else◌, Option, Some, None, All, length, take, nat_lt, nat_le, nat_eq}
+use Rattle.std.specs.Prelude.{◌≡◌, ◌≤◌, ◌-◌, ◌++◌, ◌∷◌, [], List, Bool, IsTrue, true, false, ◌&&◌, ◌||◌, if◌then◌else◌, Option, Some, None, All, length, map, take, nat_lt, nat_le, nat_eq}
 use Rattle.std.specs.List.{starts_with}
 use Rattle.ocfl_tree.specs.Place.{Text, Place, text_eq, place_eq}
 use Rattle.ocfl_inventory.specs.Declaration.{is_declaration}
 use Rattle.ocfl_inventory.specs.declared.declaration.Level.TheVariants.{Object}
 use Rattle.ocfl_audit.specs.Zone.{inventory_name}
 use Rattle.ocfl_item.specs.declared.fault.Fault.TheVariants as fault
-use Rattle.ocfl_state.specs.Checkpoint.{Checkpoint}
+use Rattle.ocfl_state.specs.{Checkpoint.{Checkpoint}, declared.checkpoint_parts.Left.{Left}}
 use Rattle.ocfl_night.specs.{Chain.{past}, Done.{Done, counted}, Steps.{with_left}, declared.plan.Pause.{Pause}}
 use Rattle.ocfl_night.specs.declared.tally.Remedy.{Remedy}
 use Rattle.ocfl_night.specs.declared.tally.Remedy.TheVariants.{TryAgain, LeaveOut, Halt}
@@ -82,6 +82,14 @@ abbrev pub done_by : Checkpoint → Place → Remedy → Checkpoint × Option Pa
 done_by k p TryAgain = (k, None)
 done_by k p (LeaveOut branch) = (with_left branch k, None)
 done_by k p Halt = (k, Some (pause.Stopped (fault.Store p)))
+
+-- A night that had left out these branches leads from a checkpoint to another one, and has left out
+-- these then: the checkpoint names what was left out meanwhile, and is as whole as it was.
+pub record LeadsOn (k : Checkpoint) (had : List Place) (l : Checkpoint) (has : List Place) : Type 0 where
+  pub whole : l.whole ≡ k.whole
+  pub more : List Left
+  pub left : l.left ≡ k.left ++ more
+  pub named : has ≡ had ++ map (λ x. x.place) more
 
 -- ---- what a night may leave out
 

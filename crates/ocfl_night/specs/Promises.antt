@@ -1,11 +1,11 @@
 -- What the steps of a night promise of a state folder, and when.
-use Rattle.std.specs.Prelude.{◌≡◌, ℕ, Bool}
+use Rattle.std.specs.Prelude.{◌≡◌, ℕ, [], ◌∷◌, ◌++◌, Bool, IsTrue, false}
 use Rattle.ocfl_tree.specs.{Place.{Text}, StorageRoot.{StorageRoot}, Store.{Store, IfTold}}
 use Rattle.ocfl_audit.specs.Parts.{Part}
 use Rattle.ocfl_item.specs.Judging.{HasShortFiles}
 use Rattle.ocfl_scrub.specs.declared.kept.KeptWalk.{KeptWalk}
-use Rattle.ocfl_state.specs.{Checkpoint.{Checkpoint}, Content.{Content}, Crash.{Outcomes, LeavesOnly}}
-use Rattle.ocfl_night.specs.{Looks.{Rounds}, Sound.{IsAt, IsSoundAt, IsReady}, Steps.{IsLost, IsWalkAt}}
+use Rattle.ocfl_state.specs.{Checkpoint.{Checkpoint}, Content.{Closed, Content}, Crash.{Outcomes, LeavesOnly}}
+use Rattle.ocfl_night.specs.{Looks.{Rounds}, Sound.{IsAt, IsSoundAt, IsReady}, Steps.{IsLost, IsWalkAt, closes_whole}, declared.plan.NightEnd.{NightEnd}}
 
 -- ---- when
 
@@ -32,6 +32,20 @@ IfReady seen may_leave k folder Holds = (rounds : Rounds) → IfReadyIn seen may
 -- if this checkpoint is there
 abbrev pub IfThere : Content → (Checkpoint → Type 0) → Type 0
 IfThere c Holds = (k : Checkpoint) → IsAt k c → Holds k
+
+-- the checkpoint that is there says that nothing of its cycle's report was lost or left out
+abbrev pub IsUncut : Content → Type 0
+IsUncut c = (k : Checkpoint) → IsAt k c → IsTrue (closes_whole k)
+
+-- so it was when a night began, and the night lost and left out nothing more
+pub record IsAllThere (c : Content) (end : NightEnd) : Type 0 where
+  pub before : IsUncut c
+  pub lost : end.lost ≡ false
+  pub left : end.left.items ≡ []
+
+-- this report has come to the closed ones
+abbrev pub HasCome : Closed → Content → Content → Type 0
+HasCome d old new = new.closed ≡ old.closed ++ d ∷ []
 
 -- bytes of a report were lost or changed that is not closed yet
 abbrev pub HasLost : Content → Type 0

@@ -122,6 +122,24 @@ pub record IsCheckpointPut (k : Checkpoint) (old new : Content) : Type 0 where
 abbrev pub IsMoveDone : ℕ → Bool → Content → Content → Type 0
 IsMoveDone cycle whole old new = (IsTrue (is_closed old.closed cycle) × (new ≡ old)) ⊎ ((is_closed old.closed cycle ≡ false) × (new ≡ moved cycle whole old))
 
+-- all of a cycle's report is there: nothing of it was lost, no branch was left out, and it is as the
+-- checkpoint says
+pub record IsComplete (k : Checkpoint) (c : Content) : Type 0 where
+  pub whole : IsTrue (closes_whole k)
+  pub report : k.report ≡ summary_of c.report
+
+-- the report of a checkpoint's cycle is closed, as whole exactly if all of it is there
+pub record IsClosedExactly (k : Checkpoint) (old new : Content) : Type 0 where
+  pub whole : Bool
+  pub exactly : IsTrue whole ↔ IsComplete k old
+  pub moved : IsMoveDone k.cursor.cycle whole old new
+
+-- and the next cycle is begun
+pub record IsFinished (k : Checkpoint) (old new : Content) : Type 0 where
+  pub between : Content
+  pub closed : IsClosedExactly k old between
+  pub next : IsCheckpointPut (begun_anew k) between new
+
 -- as before, or moved, but not if one of that cycle was shown to be closed
 abbrev pub MayMoveAt : ℕ → Bool → Content → Step
 MayMoveAt cycle whole shown old new = (new ≡ old) ⊎ ((is_closed shown.closed cycle ≡ false) × (new ≡ moved cycle whole old))

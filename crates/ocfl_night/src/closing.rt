@@ -5,7 +5,7 @@ ghost use Rattle.ocfl_state.specs.Pieces.{summary_of};
 ghost use Rattle.ocfl_state.specs.declared.checkpoint_parts.Phase.TheVariants.{Closing};
 ghost use Rattle.ocfl_night.specs.Ending.{cycle_ended};
 ghost use Rattle.ocfl_night.specs.{Promises.{IfReady, IsSafe}, Sound.{IsAllSaid, IsOneMore, IsReady}};
-ghost use Rattle.ocfl_night.specs.Steps.{IsMoveDone, MayMoveAt, closes_whole};
+ghost use Rattle.ocfl_night.specs.Steps.{IsClosedExactly, IsFinished, IsMoveDone, MayMoveAt, closes_whole};
 ghost use Rattle.ocfl_night.specs.Stopping.{IsCloseStop, IsFolderStop};
 
 use crate::checkpoint::{
@@ -43,6 +43,8 @@ fn move_as<S: StateFolder>(folder: &mut S, checkpoint: &Checkpoint) -> Result<()
     ensures changed { IsTrue S.told → checkpoint.now.report ≢ summary_of (S.seen folder.old).report
         → OnOk result (IsMoveDone checkpoint.now.cursor.cycle
         false (S.seen folder.old) (S.seen folder.new)) }
+    ensures closed { IsTrue S.told → OnOk result
+        (IsClosedExactly checkpoint.now (S.seen folder.old) (S.seen folder.new)) }
     ensures durable { IsTrue S.told → OnOk result
         (Only (S.seen folder.old) (S.may_leave folder.old)
         → Only (S.seen folder.new) (S.may_leave folder.new)) }
@@ -73,6 +75,8 @@ fn close<S: StateFolder>(
     ensures closed { IsTrue S.told → IfReady S.seen S.may_leave checkpoint folder.old
         (λ rounds _. OnOk result (IsOneMore rounds checkpoint.cursor.cycle
         (S.seen folder.old).closed (S.seen folder.new).closed)) }
+    ensures finished { IsTrue S.told → OnOk result
+        (IsFinished checkpoint (S.seen folder.old) (S.seen folder.new)) }
     ensures all { IfOk result (λ next. next.told ≡ next.report.bytes) }
     ensures stop { IfErr result (IsCloseStop checkpoint) }
 {
@@ -99,6 +103,10 @@ pub fn finish<S: StateFolder>(
     ensures said { IsTrue S.told → IfReady S.seen S.may_leave checkpoint folder.old
         (λ _ _. checkpoint.told ≡ checkpoint.report.bytes
         → OnOk result (IsAllSaid (S.seen folder.new))) }
+    // It is closed as whole exactly if nothing of it was lost, no branch was left out, and it is as
+    // the checkpoint says. The next cycle begins as one of which nothing is lost or left out.
+    ensures finished { IsTrue S.told → checkpoint.phase ≡ Closing → OnOk result
+        (IsFinished checkpoint (S.seen folder.old) (S.seen folder.new)) }
     ensures ended { IfOk result (λ ended. ended
         ≡ cycle_ended checkpoint.phase checkpoint.cursor.cycle) }
     ensures stop { IfErr result (IsCloseStop checkpoint) }

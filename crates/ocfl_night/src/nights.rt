@@ -4,15 +4,15 @@ ghost use Rattle.std.specs.Io.KnownBytes.{Appends};
 ghost use Rattle.ocfl_audit.specs.Parts.{Part as ModelPart};
 ghost use Rattle.ocfl_tree.specs.StorageRoot.{StorageRoot};
 ghost use Rattle.ocfl_scrub.specs.Starting.{part_of};
-ghost use Rattle.ocfl_state.specs.Crash.{LeavesOnly};
+ghost use Rattle.ocfl_state.specs.{Content.{Closed}, Crash.{LeavesOnly}};
 ghost use Rattle.ocfl_state.specs.declared.checkpoint_parts.Phase.TheVariants.{Open};
-ghost use Rattle.ocfl_night.specs.Leaving.{StillMayLeave, done_by, has_end, remedy_at, with_remedy};
+ghost use Rattle.ocfl_night.specs.Leaving.{LeadsOn, StillMayLeave, done_by, has_end, remedy_at, with_remedy};
 ghost use Rattle.ocfl_night.specs.Looks.{Counts, Rounds, WithLook, look_between, of_any};
-ghost use Rattle.ocfl_night.specs.Promises.{HasLost, IfLost, IfReady, IfReadyIn, IsSafe, IsSafeIn, OnShort, OverShort, SameClosed};
+ghost use Rattle.ocfl_night.specs.Promises.{HasCome, HasLost, IfLost, IfReady, IfReadyIn, IsSafe, IsSafeIn, IsAllThere, IsUncut, OnShort, OverShort, SameClosed};
 ghost use Rattle.ocfl_night.specs.Older.{IfOlder};
 ghost use Rattle.ocfl_night.specs.declared.refusal.Refusal.TheVariants.{Older};
 ghost use Rattle.ocfl_night.specs.Refusing.{IfForeign, IfRefused, IsBarred, IsFolderRefused, IsRefused, IsTurnedAway, OnRefused};
-ghost use Rattle.ocfl_night.specs.{Site.{part_at}, Steps.{IsNotBegun, IsUntouched, IsWalkAt}};
+ghost use Rattle.ocfl_night.specs.{Site.{part_at}, Steps.{IsNotBegun, IsUntouched, IsWalkAt, closes_whole}};
 ghost use Rattle.ocfl_night.specs.Sound.{IsAllSaid, IsHeard, IsHeardSince, IsKept, IsOneMore, IsReady, IsReadySince, IsSound};
 ghost use Rattle.ocfl_night.specs.{Clock.{is_before}, Done.{done_of}};
 ghost use Rattle.ocfl_night.specs.Runs.{AreMade, EndsBy, IsAllowed, IsEndedBy, IsNight, StopsOpen, after_made, turn_of};
@@ -248,6 +248,8 @@ fn runs<S: StateFolder, T: Tree, C: Clock>(
     ensures told { IsTrue C.told → AreMade plan.now (C.events clock.old) (C.events clock.new)
         (done_of tally.old) start
         (λ d k last. IsEndedBy plan.now d k last (done_of tally.new) result) }
+    ensures leads { IfOk result (λ next. LeadsOn start tally.old.left.items
+        next.0 tally.new.left.items) }
     ensures left { StillMayLeave plan.now.stop_at_faults tally.old tally.new }
 {
     let mut kept = KeptWalk::none();
@@ -303,6 +305,8 @@ fn catch_up<S: StateFolder, W: Write>(
     ensures lost { IsTrue S.told → IfLost (S.seen folder.old) (OnOk result (IsTrue lost.new)) }
     ensures lost_only { IsTrue S.told → lost.old ≡ false → IsTrue lost.new
         → HasLost (S.seen folder.old) }
+    ensures whole { IsTrue S.told → IfOk result (λ k. IsTrue (closes_whole k)
+        ↔ ((lost.new ≡ false) × IsUncut (S.seen folder.old))) }
     ensures all { IfOk result (λ k. k.told ≡ k.report.bytes) }
 {
     let opened = open(alloc, folder, site, identity, plan)?;
@@ -347,6 +351,12 @@ fn make_runs<S: StateFolder, T: Tree, C: Clock, W: Write>(
     ensures said { IsTrue S.told → OnShort T.told (T.state tree.old)
         (IfReadyIn S.seen S.may_leave (of_any (part_of part.now)) checkpoint folder.old
         (λ _. OnOk result (IsAllSaid (S.seen folder.new)))) }
+    ensures whole { IsTrue S.told → OnShort T.told (T.state tree.old)
+        (IfReadyIn S.seen S.may_leave (of_any (part_of part.now)) checkpoint folder.old
+        (λ _. (cycle : ℕ) → result ≡ Ok (halt.CycleEnded cycle) → (d : Closed)
+        → HasCome d (S.seen folder.old) (S.seen folder.new) → (IsTrue d.whole
+        ↔ (IsTrue (closes_whole checkpoint)
+        × (tally.new.left.items ≡ tally.old.left.items))))) }
     ensures unrefused { (why : ModelRefusal) → result ≢ Ok (halt.Refused why) }
 {
     let (last, pause) = runs(
@@ -394,6 +404,8 @@ fn set_out<S: StateFolder, T: Tree, W: Write>(
     ensures lost { IsTrue S.told → IfLost (S.seen folder.old) (OnOk result (IsTrue lost.new)) }
     ensures lost_only { IsTrue S.told → lost.old ≡ false → IsTrue lost.new
         → HasLost (S.seen folder.old) }
+    ensures whole { IsTrue S.told → IfOk result (λ begun. IsTrue (closes_whole begun.checkpoint)
+        ↔ ((lost.new ≡ false) × IsUncut (S.seen folder.old))) }
     ensures barred { IsTrue S.told
         → IsBarred T.told (T.state tree.old) site.now plan.now (S.seen folder.old)
         → IsTurnedAway result S.seen S.may_leave S.moment S.left_since folder.old folder.new }
@@ -488,6 +500,14 @@ pub fn night<S: StateFolder, T: Tree, C: Clock, W: Write>(
         (λ rounds. IsKept S.may_leave rounds folder.old → (cycle : ℕ)
         → result.end ≡ halt.CycleEnded cycle → IsOneMore rounds cycle
         (S.seen folder.old).closed (S.seen folder.new).closed)) }
+
+    // It is called whole exactly if nothing of it was lost, and no branch was left out, by this night
+    // or before it.
+    ensures whole { IsTrue S.told → OnShort T.told (T.state tree.old)
+        (IsKept S.may_leave (of_any (part_at site.now.ends)) folder.old
+        → (cycle : ℕ) → result.end ≡ halt.CycleEnded cycle → (d : Closed)
+        → HasCome d (S.seen folder.old) (S.seen folder.new)
+        → (IsTrue d.whole ↔ IsAllThere (S.seen folder.old) result)) }
 
     // At most 16 branches are left out, none if the night is to stop at faults, and neither the
     // storage root nor one after which no place comes.

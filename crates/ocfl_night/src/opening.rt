@@ -4,11 +4,11 @@ ghost use Rattle.ocfl_tree.specs.Place.{Text};
 ghost use Rattle.ocfl_state.specs.Content.{is_closed, with_report};
 ghost use Rattle.ocfl_state.specs.Crash.{LeavesOnly, Only, Passes, Same};
 ghost use Rattle.ocfl_state.specs.declared.checkpoint_parts.Phase.TheVariants.{Closing};
-ghost use Rattle.ocfl_night.specs.{Looks.{Rounds}, Promises.{HasLost, IfLost, IfThere, SameClosed}};
+ghost use Rattle.ocfl_night.specs.{Looks.{Rounds}, Promises.{HasLost, IfLost, IfThere, IsUncut, SameClosed}};
 ghost use Rattle.ocfl_night.specs.Older.{IfOlder, IsOlder};
 ghost use Rattle.ocfl_night.specs.Refusing.{HasReport, IfForeign, IfRefused, IsFolderRefused, IsOutdated, IsTurnedAway, IsUnbegun, OnRefused};
 ghost use Rattle.ocfl_night.specs.Sound.{IsFound, IsFoundReady, IsKept, IsNew, IsReady, IsSettled, IsSoundAt};
-ghost use Rattle.ocfl_night.specs.Steps.{IsLost, IsOpened, KeepsFront, first_opened, fitted, settled, shortened, what_is_left};
+ghost use Rattle.ocfl_night.specs.Steps.{IsLost, IsOpened, KeepsFront, closes_whole, first_opened, fitted, settled, shortened, what_is_left};
 
 use crate::checkpoint::{bytes_of, cycle_of, look, phase_of, put_checkpoint, report_of};
 use crate::older::refuse_older;
@@ -271,6 +271,9 @@ pub fn open<S: StateFolder>(
     // The checkpoint that is there stays but for what the root has now, and for what is lost.
     ensures opened { IsTrue S.told → IfThere (S.seen folder.old) (λ k.
         IfOk result (IsOpened identity.now k (S.seen folder.old))) }
+    ensures whole { IsTrue S.told → IfOk result (λ opened.
+        IsTrue (closes_whole opened.checkpoint)
+        ↔ ((opened.lost ≡ false) × IsUncut (S.seen folder.old))) }
     ensures first { IsTrue S.told → (S.seen folder.old).checkpoint ≡ None
         → IfOk result (λ opened. opened ≡ first_opened site.now identity.now) }
     // If it is refused, the folder stays as it was, and the reason holds.

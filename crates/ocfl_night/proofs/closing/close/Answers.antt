@@ -1,5 +1,6 @@
-use Rattle.std.proofs.Common.{◌∙◌, ap, length, sym}
+use Rattle.std.proofs.Common.{◌∙◌, ap, length, subst, sym}
 use Rattle.ocfl_state.specs.Checkpoint.{Checkpoint}
+use Rattle.ocfl_night.specs.Steps.{IsCheckpointPut}
 use Rattle.ocfl_night.proofs.Moments.{leaves}
 use Rattle.ocfl_night.proofs.Sound.{mark_after, next_stands, one_more, put_ready, ready_sound}
 use Rattle.ocfl_night.proofs.Compared.{is_moved, move_sound, ready_to_close}
@@ -32,3 +33,12 @@ pub returns-clause-closed : goal.returns-clause-closed
 returns-clause-closed g c = λ told rounds t r.
     let moved = is_moved c.requires (c.is_all_told.ensures.0 c.if-not-is_all_told.false) r (c.in_ok-move_as.ensures.moved told) in
     one_more (c.in_ok-move_as.ensures.moved told (ready_to_close c.requires r)) moved (c.in_ok-put_checkpoint.ensures.put told)
+
+pub returns-clause-finished : goal.returns-clause-finished
+returns-clause-finished g c = λ told.
+    let s = g.S.StateFolder.seen in
+    record {
+      between = s c.move_as.new.folder;
+      closed = c.in_ok-move_as.ensures.closed told;
+      next = subst (λ (k : Checkpoint). IsCheckpointPut k (s c.move_as.new.folder) (s c.put_checkpoint.new.folder)) c.begun_anew-next.ensures (c.in_ok-put_checkpoint.ensures.put told);
+    }

@@ -1,4 +1,4 @@
-use Rattle.std.proofs.Common.{ℕ, subst, sym}
+use Rattle.std.proofs.Common.{◌∙◌, ℕ, subst, sym}
 use Rattle.ocfl_night.specs.Sound.{IsOneMore}
 use Rattle.ocfl_night.proofs.closing.finish.Goals as goal
 
@@ -15,3 +15,9 @@ pub returns-in_ok-close-in-Closing-clause-said : goal.returns-in_ok-close-in-Clo
 returns-in_ok-close-in-Closing-clause-said g c = λ told rounds t r all.
     let next = c.in_ok-close-in-Closing.ensures.ready told rounds t r in
     record { checkpoint = _; at = next.at; all = c.in_ok-close-in-Closing.ensures.all }
+
+pub returns-in-Open-clause-finished : goal.returns-in-Open-clause-finished
+returns-in-Open-clause-finished g c = λ told ends. let open_still = sym c.phase_of.ensures ∙ c.in-Open.is in absurd (cc (open_still, ends))
+
+pub returns-in_ok-close-in-Closing-clause-finished : goal.returns-in_ok-close-in-Closing-clause-finished
+returns-in_ok-close-in-Closing-clause-finished g c = λ told ends. c.in_ok-close-in-Closing.ensures.finished told

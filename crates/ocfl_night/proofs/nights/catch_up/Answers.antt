@@ -2,6 +2,7 @@ use Rattle.std.proofs.{Common.{◌∙◌, ap, sym}, lemmas.Result.{err_from_is_e
 use Rattle.ocfl_state.specs.Checkpoint.{Checkpoint}
 use Rattle.ocfl_night.proofs.Moments.{joined_moments, leaves_weaker}
 use Rattle.ocfl_night.proofs.Heard.{found_heard, grew_none, is_err, since_found}
+use Rattle.ocfl_night.proofs.Whole.{told_whole}
 use Rattle.ocfl_night.proofs.nights.catch_up.Goals as goal
 
 pub returns-in_err-opened-clause-heard : goal.returns-in_err-opened-clause-heard
@@ -58,3 +59,6 @@ returns-in_err-speak-clause-lost_only g c = λ told not_yet is. c.in_ok-opened.e
 
 pub returns-clause-lost_only : goal.returns-clause-lost_only
 returns-clause-lost_only g c = λ told not_yet is. c.in_ok-opened.ensures.lost_only told is
+
+pub returns-clause-whole : goal.returns-clause-whole
+returns-clause-whole g c = λ told. told_whole c.in_ok-opened.opened.checkpoint c.in_ok-speak.ensures.all (c.in_ok-opened.ensures.whole told)

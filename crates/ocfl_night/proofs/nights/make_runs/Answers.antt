@@ -1,4 +1,4 @@
-use Rattle.std.proofs.Common.{◌∙◌, ◌++◌, ℕ, List, Option, None, ap, sym, subst}
+use Rattle.std.proofs.Common.{◌∙◌, ◌++◌, ◌∷◌, [], ℕ, List, Option, None, ap, sym, subst}
 use Rattle.std.proofs.lemmas.Result.{err_from_is_err_and}
 use Rattle.std.specs.Prelude.{IfSome}
 use Rattle.ocfl_scrub.specs.Starting.{part_of}
@@ -7,6 +7,7 @@ use Rattle.ocfl_night.specs.Looks.{Rounds, of_any}
 use Rattle.ocfl_night.specs.{Done.{done_of}, Sound.{IsOneMore}}
 use Rattle.ocfl_night.proofs.Runs.{halted_so, made_so, troubled_after, troubled_in}
 use Rattle.ocfl_night.proofs.{Moments.{joined_moments}, Heard.{grew_none, said_on, silent}}
+use Rattle.ocfl_night.proofs.Whole.{closing_by, come_whole, grown_whole, told_whole}
 use Rattle.ocfl_night.proofs.nights.make_runs.Goals as goal
 
 pub returns-in_err-last-clause-heard : goal.returns-in_err-last-clause-heard
@@ -80,3 +81,13 @@ returns-in_err-ended-clause-told g c = λ told.
 pub returns-clause-told : goal.returns-clause-told
 returns-clause-told g c = λ told.
     made_so (halted_so c.args.plan.now (done_of c.runs.new.tally) c.in_ok-last.last c.in_ok-said.said c.in_ok-last.pause c.in_ok-ended.ended c.in_ok-said.ensures.all c.in_ok-ended.ensures.ended c.halt_after.ensures.is) (c.in_ok-last.ensures.told told)
+
+pub returns-clause-whole : goal.returns-clause-whole
+returns-clause-whole g c = λ told tells root over short t r cycle is d come.
+    let rounds = of_any (part_of c.args.part.now) in
+    let said = c.in_ok-said.ensures.ready told rounds t (c.in_ok-last.ensures.ready told tells root over short None tt t r) in
+    let ends = closing_by c.in_ok-said.said.phase c.in_ok-said.said.cursor.cycle cycle (sym c.in_ok-ended.ensures.ended ∙ c.halt_after.ensures.ended cycle (cc is)) in
+    let closed = c.in_ok-said.ensures.closed told ∙ c.in_ok-last.ensures.closed told in
+    let fits = come_whole ends said.ready (c.in_ok-ended.ensures.finished told ends) d (come ∙ ap (λ (l : List Closed). l ++ d ∷ []) (sym closed)) in
+    let all = told_whole c.in_ok-last.last c.in_ok-said.ensures.all (grown_whole c.in_ok-last.ensures.leads) in
+    ((λ it. all.0 (fits.0 it)), (λ both. fits.1 (all.1 both)))

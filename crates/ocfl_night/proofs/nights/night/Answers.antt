@@ -1,4 +1,4 @@
-use Rattle.std.proofs.Common.{◌≡◌, ◌≤◌, ◌++◌, ◌∙◌, ℕ, [], All, Bool, Err, Global, List, Option, Vec, ap, inl, inr, length, refl, subst, sym}
+use Rattle.std.proofs.Common.{◌≡◌, ◌≤◌, ◌++◌, ◌∷◌, ◌∙◌, [], All, Bool, Err, Global, List, Option, Vec, ap, inl, inr, length, refl, subst, sym}
 use Rattle.std.specs.Prelude.{IsTrue}
 use Rattle.ocfl_tree.specs.{Place.{Place}, StorageRoot.{StorageRoot}}
 use Rattle.ocfl_item.specs.Judging.{HasShortFiles}
@@ -67,6 +67,15 @@ returns g c =
           subst (λ (old : List Closed). IsOneMore rounds cycle old (s runs.new.folder).closed) (c.in-Ok.ensures.closed told)
           (subst (λ (p : Rounds). IsOneMore p cycle (s c.set_out.new.folder).closed (s runs.new.folder).closed) alike
           (runs.ensures.ended told tells root (c.set_out.ensures.root tells ∙ over) short looks last _ (ready_since alike (c.in-Ok.ensures.ready told rounds kept)) cycle (c.ended.ensures.ended cycle (sym c.account-2.ensures.end ∙ is))));
+      whole = λ told tells root over short kept cycle is d come.
+          let come_then = come ∙ ap (λ (l : List Closed). l ++ d ∷ []) (sym (c.in-Ok.ensures.closed told)) in
+          let fits = runs.ensures.whole told tells root (c.set_out.ensures.root tells ∙ over) short _ (ready_since same (c.in-Ok.ensures.ready told part kept)) cycle (c.ended.ensures.ended cycle (sym c.account-2.ensures.end ∙ is)) d come_then in
+          let begun = c.in-Ok.ensures.whole told in
+          let none = ap (λ (x : Done). x.left) c.none-tally.ensures.nothing in
+          let now = ap (λ (v : Vec Place Global). v.items) c.account-2.ensures.left in (
+            (λ it. let all = fits.0 it in let both = begun.0 all.0 in record { before = both.1; lost = c.account-2.ensures.lost ∙ both.0; left = now ∙ all.1 ∙ none }),
+            (λ all. fits.1 (begun.1 (sym c.account-2.ensures.lost ∙ all.lost, all.before), sym now ∙ all.left ∙ sym none)),
+          );
       few = subst (λ (v : Vec Place Global). length v.items ≤ 16) (sym c.account-2.ensures.left) left.few;
       none_left = λ strict. subst (λ (v : Vec Place Global). v.items ≡ []) (sym c.account-2.ensures.left) (left.none strict);
       ends = subst (λ (v : Vec Place Global). All (λ b. IsTrue (has_end b)) v.items) (sym c.account-2.ensures.left) left.ends;
@@ -100,6 +109,7 @@ returns-in-Err g c =
       lost_only = λ told is. c.set_out.ensures.lost_only told refl (sym c.account.ensures.lost ∙ is);
       lost = λ told k at lost well unrefused. absurd (c.unbegun.ensures.said (λ why is. well why (c.account.ensures.end ∙ is)) (λ why is. unrefused why (c.account.ensures.end ∙ is)));
       ended = λ told tells root over short looks one kept cycle is. absurd (subst IsNotBegun (sym c.account.ensures.end ∙ is) c.unbegun.ensures.not_begun);
+      whole = λ told tells root over short kept cycle is d come. absurd (subst IsNotBegun (sym c.account.ensures.end ∙ is) c.unbegun.ensures.not_begun);
       few = subst (λ (v : Vec Place Global). length v.items ≤ 16) (sym c.account.ensures.left) left.few;
       none_left = λ strict. subst (λ (v : Vec Place Global). v.items ≡ []) (sym c.account.ensures.left) (left.none strict);
       ends = subst (λ (v : Vec Place Global). All (λ b. IsTrue (has_end b)) v.items) (sym c.account.ensures.left) left.ends;

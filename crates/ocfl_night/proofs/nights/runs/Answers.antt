@@ -1,18 +1,20 @@
-use Rattle.std.proofs.Common.{◌≡◌, ◌∙◌, ◌++◌, ◌∷◌, [], append_assoc, inl, inr, rules, List, Option, ap, arith, false, refl, subst, sym, ℕ}
+use Rattle.std.proofs.Common.{◌≡◌, ◌∙◌, ◌++◌, ◌∷◌, [], append_assoc, inl, inr, rules, List, Option, ap, false, refl, subst, sym}
 use Rattle.std.proofs.lemmas.{List.{append-nil}, Result.{err_from_is_err_and}}
 use Rattle.std.specs.Prelude.{IsTrue}
 use Rattle.ocfl_tree.specs.{Place.{Text}, StorageRoot.{StorageRoot}}
 use Rattle.ocfl_item.specs.Judging.{HasShortFiles}
 use Rattle.ocfl_scrub.specs.Starting.{part_of}
-use Rattle.ocfl_night.specs.{Clock.{Event, Asked, Read, Heard}, Done.{Done, done_of, with_begun, with_made}, Leaving.{MayLeave}, declared.tally.Tally.{Tally}}
-use Rattle.ocfl_state.specs.declared.checkpoint_parts.Phase.TheVariants.{Open, Closing}
-use Rattle.ocfl_night.specs.Runs.{Run, IsRunOf, MayBeginAt, events_of, turn_of}
+use Rattle.ocfl_night.specs.{Clock.{Event, Asked, Read, Heard}, Done.{Done, done_of}, Leaving.{LeadsOn, MayLeave}}
+use Rattle.ocfl_state.specs.declared.checkpoint_parts.Phase.TheVariants.{Open}
+use Rattle.ocfl_night.specs.Runs.{Run, IsRunOf, MayBeginAt, StopsOpen, after_made, events_of, turn_of}
 use Rattle.ocfl_night.specs.declared.plan.Pause.{Pause}
 use Rattle.ocfl_night.specs.Looks.{Counts, IsOneOf, Look, look_between}
 use Rattle.ocfl_night.specs.{Promises.{IsSafeIn}, Sound.{IsReady}}
 use Rattle.ocfl_night.proofs.{KeptWalks.{walk_none}, Runs.{and_then, failed_so, led_by, none_yet, paused, paused_before, run_more}}
 use Rattle.ocfl_night.proofs.Looks.{counts_none, counts_on, first_of, last_of}
 use Rattle.ocfl_night.proofs.{Moments.{joined_moments, unmoved}, Sound.{ready_sound}}
+use Rattle.ocfl_state.specs.Checkpoint.{Checkpoint}
+use Rattle.ocfl_night.proofs.Whole.{grown_on, none_grown, run_grown}
 use Rattle.ocfl_night.proofs.nights.runs.Given as given
 use Rattle.ocfl_night.proofs.nights.runs.Goals.{After-go_on_after}
 use Rattle.ocfl_night.proofs.nights.runs.Goals as goal
@@ -61,6 +63,12 @@ module _ (g : given.Over) (c : After-go_on_after g) (told : IsTrue g.C.Clock.tol
   heard : g.C.Clock.events c.hears.new.self ≡ g.C.Clock.events c.loop-run.clock ++ events_of run
   heard = c.hears.ensures told ∙ ap (λ (x : List Event). x ++ Heard c.in_ok-made.made ∷ []) (c.in-Ok.ensures told).0 ∙ append_assoc (g.C.Clock.events c.loop-run.clock) _ _
 
+-- where a run leads, with what was left out for it
+turned : (g : given.Over) (c : After-go_on_after g) {next : Checkpoint × Option Pause} → c.loop-run.checkpoint.phase ≡ Open → (StopsOpen c.in_ok-made.made → turn_of (done_of c.go_on_after.new.tally) next ≡ after_made c.args.plan.now.stop_at_faults (done_of c.count.new.self) c.in_ok-made.made)
+    → LeadsOn c.loop-run.checkpoint c.loop-run.tally.left.items next.0 c.go_on_after.new.tally.left.items
+turned g c going led =
+    run_grown c.args.plan.now (done_of c.loop-run.tally) (record { now = c.in-Ok.allowed.1; made = c.in_ok-made.made }) c.in_ok-made.ensures.slice (led_by c.args.plan.now (done_of c.loop-run.tally) c.in-Ok.allowed.1 going c.in_ok-made.ensures.slice c.begin.ensures.done c.count.ensures.done led)
+
 pub loop-run-init : goal.loop-run-init
 loop-run-init g c = record {
   any_moment = λ told tells root over short looks one t r. unmoved (g.met.S.StateFolder.only_now told) (ready_sound r);
@@ -68,6 +76,7 @@ loop-run-init g c = record {
   counts = λ tells root over short. counts_none (g.T.Tree.state c.args.tree.now);
   closed = λ told. refl;
   told = λ told. none_yet;
+  leads = none_grown;
   left = λ may. may;
   root = λ tells root over short. over;
   walk = λ tells root over short. walk_none root (part_of c.args.part.now) c.args.start c.none-kept.result c.none-kept.ensures;
@@ -142,6 +151,7 @@ loop-run-preserved g c =
       ready = λ told tells root over short looks one t r. c.in_ok-next.ensures.ready told (record { part = part_of c.args.part.now; looks = looks }) t (made_ready g at tells root over short looks one told t r);
       counts = counts_then g at;
       closed = λ told. c.in_ok-next.ensures.closed told ∙ c.in_ok-made.ensures.closed told ∙ inv.closed told;
+      leads = grown_on inv.leads (turned g at (search rules) c.in_ok-next.ensures.turn);
       told = λ told. run_more (run g at told) (inv.told told) (heard g at told) (is_run g at told) (led_by c.args.plan.now (done_of c.loop-run.tally) c.in-Ok.allowed.1 (may g at told).goes_on c.in_ok-made.ensures.slice c.begin.ensures.done c.count.ensures.done c.in_ok-next.ensures.turn ∙ ap (λ (o : Option Pause). turn_of (done_of c.go_on_after.new.tally) (c.in_ok-next.next, o)) c.in_default.is);
       left = λ may. c.go_on_after.ensures.left (subst (MayLeave c.args.plan.now.stop_at_faults) (sym (ap (λ (x : Done). x.left) c.count.ensures.done ∙ ap (λ (x : Done). x.left) c.begin.ensures.done)) (inv.left may));
       root = λ tells root over short. c.slice.ensures.root tells root (inv.root tells root over short) short (inv.walk tells root over short);
@@ -174,3 +184,6 @@ returns-in-Some-clause-told g c = λ told.
     let at = (goal.at.returns-in-Some-clause-told g c).After-go_on_after in
     let halts = led_by c.args.plan.now (done_of c.loop-run.tally) c.in-Ok.allowed.1 (may g at told).goes_on c.in_ok-made.ensures.slice c.begin.ensures.done c.count.ensures.done c.in_ok-next.ensures.turn ∙ ap (λ (o : Option Pause). turn_of (done_of c.go_on_after.new.tally) (c.in_ok-next.next, o)) c.in-Some.is in
     and_then (events_of (run g at told)) (c.loop-run.invariant.told told) (heard g at told) (paused c.in-Some.pause (is_run g at told) halts)
+
+pub returns-in-Some-clause-leads : goal.returns-in-Some-clause-leads
+returns-in-Some-clause-leads g c = grown_on c.loop-run.invariant.leads (turned g (goal.at.returns-in-Some-clause-leads g c).After-go_on_after (search rules) c.in_ok-next.ensures.turn)

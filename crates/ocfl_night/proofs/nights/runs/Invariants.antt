@@ -4,7 +4,7 @@ use Rattle.ocfl_item.specs.Judging.{HasShortFiles}
 use Rattle.std.specs.Prelude.{IsTrue}
 use Rattle.ocfl_scrub.specs.Starting.{part_of}
 use Rattle.ocfl_state.specs.Crash.{LeavesOnly}
-use Rattle.ocfl_night.specs.{Done.{done_of}, Leaving.{MayLeave}, Looks.{Counts, WithLook, look_between}}
+use Rattle.ocfl_night.specs.{Done.{done_of}, Leaving.{LeadsOn, MayLeave}, Looks.{Counts, WithLook, look_between}}
 use Rattle.ocfl_night.specs.{Sound.{IsReady, IsSoundAt}, Steps.{IsWalkAt}}
 use Rattle.ocfl_night.proofs.Runs.{SoFar}
 use Rattle.ocfl_night.proofs.nights.runs.Given as goal
@@ -22,6 +22,7 @@ invariant-loop-run g l =
       counts : IfTold g.T.Tree.told before (λ root. HasShortFiles root → Counts before now);
       closed : IsTrue g.S.StateFolder.told → (seen l.folder).closed ≡ (seen l.fn.folder).closed;
       told : IsTrue g.C.Clock.told → SoFar l.fn.plan (g.C.Clock.events l.fn.clock) (g.C.Clock.events l.clock) (done_of l.fn.tally) l.fn.start (done_of l.tally) l.checkpoint;
+      leads : LeadsOn l.fn.start l.fn.tally.left.items l.checkpoint l.tally.left.items;
       left : MayLeave l.fn.plan.stop_at_faults l.fn.tally.left.items → MayLeave l.fn.plan.stop_at_faults l.tally.left.items;
       root : IfTold g.T.Tree.told (g.T.Tree.state l.fn.tree) (λ root. HasShortFiles root → (g.T.Tree.state l.tree).tree ≡ root);
       walk : IfTold g.T.Tree.told (g.T.Tree.state l.fn.tree) (λ root. HasShortFiles root → IsWalkAt root part l.checkpoint l.kept);

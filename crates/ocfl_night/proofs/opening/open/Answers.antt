@@ -5,7 +5,7 @@ use Rattle.ocfl_night.specs.{Older.{IsOlder}, Refusing.{IsDisowned, IsOutdated, 
 use Rattle.ocfl_night.proofs.{Foreigners.{at_once, own_at}, Moments.{same_twice, unchanged}, Heard.{is_err, kept_found}}
 use Rattle.ocfl_night.proofs.Sound.{sound_new}
 use Rattle.ocfl_night.proofs.TakingUp.{found_on, found_ready, none_found, same_found, settled_there, shown_new, some_found, taken_moments}
-use Rattle.ocfl_night.proofs.Lost.{first_not, lost_opened, opened_as}
+use Rattle.ocfl_night.proofs.{Lost.{first_not, lost_opened, opened_as}, Whole.{first_whole, opened_whole}}
 use Rattle.ocfl_night.proofs.opening.open.Given as given
 use Rattle.ocfl_night.proofs.opening.open.Goals.{After-go_on}
 use Rattle.ocfl_night.proofs.opening.open.Goals as goal
@@ -124,3 +124,13 @@ returns-in-Ok-clause-rightly g c = λ told why is.
     let found = c.in-Some.found in
     let by = subst (λ (x : Content). IsOutdated c.in-Ok.checkpoint x why) (c.look.ensures.seen told) (c.go_on.ensures.rightly told why is) in
     outdated found (some_found (c.in_ok-found.ensures.value told) c.in-Some.is) c.in-Ok.ensures.own (subst (λ (x : Checkpoint). IsOutdated x (g.S.StateFolder.seen c.args.folder.now) why) c.in-Ok.ensures.same by)
+
+pub returns-in-Ok-clause-whole : goal.returns-in-Ok-clause-whole
+returns-in-Ok-clause-whole g c = λ told.
+    let at = some_found (c.in_ok-found.ensures.value told) c.in-Some.is in
+    IfOk-weaker c.go_on.result _ _ (λ o h. opened_whole at h) (opened_here g (goal.at.returns-in-Ok-clause-whole g c).After-go_on told _ at)
+
+pub returns-in_default-clause-whole : goal.returns-in_default-clause-whole
+returns-in_default-clause-whole g c = λ told.
+    let none = none_found (g.S.StateFolder.seen c.args.folder.now) (c.in_ok-found.ensures.value told) c.in_default.is in
+    IfOk-weaker c.begin.result _ _ (λ o h. first_whole none h refl refl) c.begin.ensures.first

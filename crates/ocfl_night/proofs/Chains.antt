@@ -69,7 +69,7 @@ pub left_by_run : (root : StorageRoot) (part : Part) (c : Cursor) (r : PartRun) 
     → (last : Option Place) × (r.ran.cursor ≡ after_run (begun c) r.ran.spent r.ran.files (state_after r.ran.end last))
 left_by_run root part c r made = (made.runs.last, made.runs.cursor_is)
 
-cycle_after : (b x : Cursor) (spent files : ℕ) (end : RunStatus) (last : Option Place) → end ≢ status.Ended → x ≡ after_run b spent files (state_after end last) → (begun x).cycle ≡ b.cycle
+pub cycle_after : (b x : Cursor) (spent files : ℕ) (end : RunStatus) (last : Option Place) → end ≢ status.Ended → x ≡ after_run b spent files (state_after end last) → (begun x).cycle ≡ b.cycle
 cycle_after b x spent files status.Ended last goes is = absurd (goes refl)
 cycle_after b x spent files status.Spent None goes is = ap (λ (y : Cursor). (begun y).cycle) is
 cycle_after b x spent files status.Spent (Some p) goes is = ap (λ (y : Cursor). (begun y).cycle) is

@@ -3,7 +3,7 @@ use Rattle.std.proofs.Common.{◌≡◌, ◌⊎◌, ℕ, ◌+◌, ◌≤◌, Lis
 use Rattle.std.proofs.lemmas.List.{append-nil}
 use Rattle.std.specs.Prelude.{flat_map, if◌then◌else◌, nat_lt}
 use Rattle.ocfl_tree.specs.Place.{Place}
-use Rattle.ocfl_state.specs.Checkpoint.{Checkpoint}
+use Rattle.ocfl_state.specs.{Checkpoint.{Checkpoint}, Content.{Content}}
 use Rattle.ocfl_night.specs.Clock.{Event, Asked, Read, Heard, is_before, times, times_before, MayBegin, BeginsInTime}
 use Rattle.ocfl_night.specs.Done.{Done, counted, nothing_done}
 use Rattle.ocfl_night.specs.Runs.{Run, Turn, AreRunsOf, EndsBy, IsBegunNight, IsFailed, IsNight, IsPaused, IsRunOf, after_end, events_of, turn, turn_of}
@@ -110,8 +110,8 @@ may_begin (Some e) events few = few e refl
 both_few : (x y z a b c : ℕ) → x ≤ y + b → y ≤ z + a → z ≡ 0 → c ≡ a + b → x ≤ c
 both_few x y z a b c p q none is = omega (arith, p, q, none, is)
 
-pub begins_in_time : (plan : Plan) (old new : List Event) (end : NightEnd) → IsNight plan old new end → BeginsInTime plan.end old new end.runs
-begins_in_time plan old new end (inl n) =
+pub begins_in_time : (plan : Plan) (tells : Bool) (c : Content) (old new : List Event) (end : NightEnd) → IsNight plan tells c old new end → BeginsInTime plan.end old new end.runs
+begins_in_time plan tells c old new end (inl n) =
     let r = n.runs in
     let events = flat_map events_of r.runs ++ r.last in
     record {
@@ -121,7 +121,7 @@ begins_in_time plan old new end (inl n) =
           both_few n.done.runs r.done.runs nothing_done.runs (begun_by e (flat_map events_of r.runs)) (begun_by e r.last) (begun_by e events)
           (few_ended plan e r.done n.done r.checkpoint r.last end.end is r.ends) (begun plan e nothing_done n.start r.runs r.done r.checkpoint is r.made) refl (by_both e (flat_map events_of r.runs) r.last)));
     }
-begins_in_time plan old new end (inr n) = record {
+begins_in_time plan tells c old new end (inr n) = record {
   events = [];
   are = n.same ∙ sym (append-nil old);
   few = subst (MayBegin plan.end []) (sym n.runs) (may_begin plan.end [] (λ e is. omega arith));

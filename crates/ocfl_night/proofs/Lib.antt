@@ -17,3 +17,4 @@ pub mod Around
 pub mod Branches
 pub mod Newest
 pub mod Whole
+pub mod Beginnings

@@ -19,7 +19,7 @@ use Rattle.ocfl_state.specs.declared.checkpoint_parts.TopNames.{TopNames}
 use Rattle.ocfl_state.proofs.CheckpointTexts.{text_determines}
 use Rattle.ocfl_night.specs.Chain.{RootRun, joined, look_of, part_after, Led, LedToEnd, IsPartialReport, IsWholeReport, AreClosed}
 use Rattle.ocfl_night.specs.Looks.{IfGiven, IsOneOf, IsWithin, Look, Rounds}
-use Rattle.ocfl_night.specs.Sound.{closed_text, HasRuns, IsOpen, IsClosing, IsMoved, Stands, IsNew, IsMarked, IsSoundAt, IsAt, IsSettled, IsReady, IsOneMore}
+use Rattle.ocfl_night.specs.Sound.{closed_text, HasRuns, IsOpen, IsClosing, IsMoved, Stands, IsNew, IsMarked, IsSoundAt, IsAt, IsSettled, IsReady, IsOneMore, IsShut}
 use Rattle.ocfl_night.specs.{Site.{first_checkpoint}, declared.site.Site.{Site}}
 use Rattle.ocfl_identity.specs.declared.identity.Identity.{Identity}
 use Rattle.ocfl_night.specs.Steps.{begun_anew, closes_whole, left_at, with_left, KeepsFront, MayCheckpoint, IsCheckpointPut, IsMoveDone, MayMoveAt, IsRun, IsNext, unsaid, with_all_told}
@@ -440,8 +440,8 @@ said_by {seen = seen} {rounds = rounds} {t} {k} {f = f} is some r = subst (λ (x
 
 -- ---- a report is closed
 
-pub one_more : {rounds : Rounds} {t : Text} {k next : Checkpoint} {a b c : Content} → IsMoveDone k.cursor.cycle (closes_whole k) a b → IsMoved rounds t k b → IsCheckpointPut next b c → IsOneMore rounds k.cursor.cycle a.closed c.closed
-one_more {rounds} {k = k} {a = a} {b} {c} done w put = record {
+pub one_more : {rounds : Rounds} {t : Text} {k next : Checkpoint} {a b c : Content} → IsAt k a → k.phase ≡ Closing → IsMoveDone k.cursor.cycle (closes_whole k) a b → IsMoved rounds t k b → IsCheckpointPut next b c → IsOneMore rounds k.cursor.cycle a c
+one_more {rounds} {k = k} {a = a} {b} {c} at is done w put = record {
   now = subst (λ (l : List Closed). AreClosed rounds 1 l (k.cursor.cycle + 1)) (sym same) w.earlier;
   before = by done;
 }
@@ -449,6 +449,6 @@ one_more {rounds} {k = k} {a = a} {b} {c} done w put = record {
     same : c.closed ≡ b.closed
     same = ap (λ (x : Content). x.closed) put.put
 
-    by : IsMoveDone k.cursor.cycle (closes_whole k) a b → (c.closed ≡ a.closed) ⊎ ((d : Closed) × (c.closed ≡ a.closed ++ d ∷ []))
-    by (inl was) = inl (same ∙ ap (λ (x : Content). x.closed) was.1)
-    by (inr now) = inr (record { cycle = k.cursor.cycle; whole = closes_whole k; report = a.report }, same ∙ ap (λ (x : Content). x.closed) now.1)
+    by : IsMoveDone k.cursor.cycle (closes_whole k) a b → ((d : Closed) × (c.closed ≡ a.closed ++ d ∷ [])) ⊎ ((c.closed ≡ a.closed) × IsShut k.cursor.cycle a)
+    by (inl was) = inr (same ∙ ap (λ (x : Content). x.closed) was.1, record { checkpoint = k; at = at; phase = is; is = refl; closed = was.0 })
+    by (inr now) = inl (record { cycle = k.cursor.cycle; whole = closes_whole k; report = a.report }, same ∙ ap (λ (x : Content). x.closed) now.1)

@@ -2,9 +2,9 @@
 use Rattle.std.specs.Prelude.{◌≡◌, ◌⊎◌, ℕ, false, Option, Some, None, Result, Ok, Err, ⊤}
 use Rattle.ocfl_tree.specs.Place.{Place}
 use Rattle.ocfl_item.specs.declared.fault.Fault.TheVariants as fault
-use Rattle.ocfl_cursor.specs.{Cursor.{Cursor, State}, Moves.{after_run}}
+use Rattle.ocfl_cursor.specs.{Cursor.{Cursor}, Moves.{after_run}}
 use Rattle.ocfl_cursor.specs.declared.limits.Limits.{Limits}
-use Rattle.ocfl_scrub.specs.{Running.{IsPaid, begun, limits_of}, declared.running.RunEnd.{RunEnd}}
+use Rattle.ocfl_scrub.specs.{Running.{IsPaid, begun, limits_of, state_after}, declared.running.RunEnd.{RunEnd}}
 use Rattle.ocfl_scrub.specs.declared.running.RunStatus.{RunStatus}
 use Rattle.ocfl_scrub.specs.declared.running.RunStatus.TheVariants as status
 use Rattle.ocfl_scrub.specs.declared.stop.ReportStop.TheVariants as report
@@ -66,6 +66,15 @@ abbrev pub cycle_ended : Phase → ℕ → Option ℕ
 cycle_ended Open cycle = None
 cycle_ended Closing cycle = Some cycle
 
+-- the cycle of a checkpoint's report: that of its cursor, or the next one if that has ended and the
+-- report of the next one is open
+abbrev pub cycle_in : Phase → Cursor → ℕ
+cycle_in Open c = (begun c).cycle
+cycle_in Closing c = c.cycle
+
+abbrev pub cycle_of : Checkpoint → ℕ
+cycle_of k = cycle_in k.phase k.cursor
+
 -- what ended a night that was not begun
 abbrev pub unbegun_by : NotOpened → Halt
 unbegun_by (unopened.Refused why) = halt.Refused why
@@ -84,10 +93,11 @@ unopened_by none.Memory = unopened.Troubled (stop.Folder Memory)
 
 -- ---- figures
 
--- a run kept to these limits, and its cursor counts what it spent
+-- a run kept to these limits, and its cursor counts what it spent and is after the last place that
+-- was taken, if any was
 pub record KeepsTo (c : Cursor) (limits : Limits) (ran : RunEnd) : Type 0 where
-  pub state : State
-  pub cursor : ran.cursor ≡ after_run (begun c) ran.spent ran.files state
+  pub last : Option Place
+  pub cursor : ran.cursor ≡ after_run (begun c) ran.spent ran.files (state_after ran.end last)
   pub paid : IsPaid (limits_of limits) ran.spent ran.files
 
 -- a slice made what a run gave

@@ -11,6 +11,7 @@ pub mod Leaving
 pub mod Ending
 pub mod Pace
 pub mod Done
+pub mod Beginning
 pub mod Runs
 pub mod Older
 pub mod Refusing

@@ -1,10 +1,11 @@
 -- A night as the list of its runs, by what its clock answered and heard.
-use Rattle.std.specs.Prelude.{◌≡◌, ◌≢◌, ◌⊎◌, ℕ, List, [], ◌∷◌, ◌++◌, Bool, true, false, Option, Some, None, Result, Ok, Err, flat_map, ⊤}
+use Rattle.std.specs.Prelude.{◌≡◌, ◌≢◌, ◌⊎◌, ℕ, List, [], ◌∷◌, ◌++◌, Bool, IsTrue, true, false, Option, Some, None, Result, Ok, Err, flat_map, ⊤}
 use Rattle.ocfl_tree.specs.Place.{Place}
 use Rattle.ocfl_cursor.specs.Limits.{IsLimit}
 use Rattle.ocfl_cursor.specs.declared.limits.Limits.{Limits}
-use Rattle.ocfl_state.specs.{Checkpoint.{Checkpoint}, declared.checkpoint_parts.Phase.TheVariants.{Open, Closing}}
-use Rattle.ocfl_night.specs.{Clock.{Event, Asked, Read, Heard, is_before}, Done.{Done, nothing_done, with_begun, with_made, with_none_tried}}
+use Rattle.ocfl_state.specs.{Checkpoint.{Checkpoint}, Content.{Content}}
+use Rattle.ocfl_state.specs.declared.checkpoint_parts.Phase.TheVariants.{Open, Closing}
+use Rattle.ocfl_night.specs.{Beginning.{BeginsAt}, Clock.{Event, Asked, Read, Heard, is_before}, Done.{Done, nothing_done, with_begun, with_made, with_none_tried}}
 use Rattle.ocfl_night.specs.{Ending.{IsSlice, halt_after, cycle_ended, place_or_pause}, Leaving.{done_by, remedy_at, with_remedy}}
 use Rattle.ocfl_night.specs.{Pace.{budget_at, files_at}, Steps.{IsNotBegun}}
 use Rattle.ocfl_night.specs.declared.{plan.Halt.{Halt}, plan.NightEnd.{NightEnd}, plan.Pause.{Pause}, plan.Plan.{Plan}}
@@ -143,9 +144,11 @@ EndsBy plan halt.RootChanged e d k last = (l : Checkpoint) × IsPaused plan d k 
 EndsBy plan (halt.Refused why) e d k last = ⊥
 EndsBy plan (halt.Troubled why) e d k last = IsFailed plan d k last e ⊎ ((pause : Pause) × ((l : Checkpoint) × IsPaused plan d k last pause e l))
 
--- a night that was begun, at this checkpoint: its runs, and its figures
-pub record IsBegunNight (plan : Plan) (old new : List Event) (end : NightEnd) : Type 0 where
+-- a night that was begun, in a folder that tells this content: its runs, from the checkpoint at which
+-- it begins, and its figures
+pub record IsBegunNight (plan : Plan) (tells : Bool) (c : Content) (old new : List Event) (end : NightEnd) : Type 0 where
   pub start : Checkpoint
+  pub begins : IsTrue tells → BeginsAt plan.create c start
   pub done : Done
   pub runs : AreMade plan old new nothing_done start (EndsBy plan end.end done)
   pub begun : end.runs ≡ done.runs
@@ -158,5 +161,5 @@ pub record IsNoNight (old new : List Event) (end : NightEnd) : Type 0 where
   pub runs : end.runs ≡ 0
   pub left : end.left.items ≡ []
 
-abbrev pub IsNight : Plan → List Event → List Event → NightEnd → Type 0
-IsNight plan old new end = IsBegunNight plan old new end ⊎ IsNoNight old new end
+abbrev pub IsNight : Plan → Bool → Content → List Event → List Event → NightEnd → Type 0
+IsNight plan tells c old new end = IsBegunNight plan tells c old new end ⊎ IsNoNight old new end

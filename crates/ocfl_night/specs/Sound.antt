@@ -1,11 +1,11 @@
 -- What nights keep true of a state folder's bytes, at every moment.
-use Rattle.std.specs.Prelude.{◌≡◌, ◌⊎◌, ℕ, ◌+◌, ◌≤◌, List, [], ◌∷◌, ◌++◌, length, take, true, Option, Some, None, MatchOption, flat_map}
+use Rattle.std.specs.Prelude.{◌≡◌, ◌⊎◌, ℕ, ◌+◌, ◌≤◌, List, [], ◌∷◌, ◌++◌, length, take, true, IsTrue, Option, Some, None, MatchOption, flat_map}
 use Rattle.std.specs.Io.KnownBytes.{Appends}
 use Rattle.ocfl_tree.specs.Place.{Text}
 use Rattle.ocfl_audit.specs.Parts.{Part}
 use Rattle.ocfl_cursor.specs.Cursor.{Cursor, ended}
 use Rattle.ocfl_scrub.specs.Running.{place_in, begun}
-use Rattle.ocfl_state.specs.{Checkpoint.{Checkpoint, IsCheckpointText}, Content.{Content, Closed}}
+use Rattle.ocfl_state.specs.{Checkpoint.{Checkpoint, IsCheckpointText}, Content.{Content, Closed, is_closed}}
 use Rattle.ocfl_state.specs.{Crash.{Outcomes, Begins, Only}, Pieces.{summary_of}}
 use Rattle.ocfl_state.specs.declared.checkpoint_parts.{Left.{Left}, Phase.TheVariants.{Open, Closing}}
 use Rattle.ocfl_night.specs.{Looks.{IfGiven, Rounds}, Chain.{RootRun, joined, AreLooked, Led, LedToEnd, AreClosed}}
@@ -159,8 +159,16 @@ pub record IsReadySince {F : Type 0} (seen : F → Content) (may_leave : F → O
 
 -- ---- the closed reports
 
--- they are those of the cycles up to this one; before there was one less, or a crash had come right
--- after the last one was closed, and there were as many
-pub record IsOneMore (rounds : Rounds) (cycle : ℕ) (old new : List Closed) : Type 0 where
-  pub now : AreClosed rounds 1 new (cycle + 1)
-  pub before : (new ≡ old) ⊎ ((d : Closed) × (new ≡ old ++ d ∷ []))
+-- the report of a cycle is closed, and the checkpoint still says that it is to be
+pub record IsShut (cycle : ℕ) (c : Content) : Type 0 where
+  pub checkpoint : Checkpoint
+  pub at : IsAt checkpoint c
+  pub phase : checkpoint.phase ≡ Closing
+  pub is : checkpoint.cursor.cycle ≡ cycle
+  pub closed : IsTrue (is_closed c.closed cycle)
+
+-- They are those of the cycles up to this one. Before there was one less; or as many, where a crash had
+-- come right after the last one was closed.
+pub record IsOneMore (rounds : Rounds) (cycle : ℕ) (old new : Content) : Type 0 where
+  pub now : AreClosed rounds 1 new.closed (cycle + 1)
+  pub before : ((d : Closed) × (new.closed ≡ old.closed ++ d ∷ [])) ⊎ ((new.closed ≡ old.closed) × IsShut cycle old)

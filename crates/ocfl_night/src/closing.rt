@@ -1,10 +1,10 @@
 //! Closing the report of a cycle that has ended.
-ghost use Rattle.std.specs.Prelude.{◌≡◌, ◌≢◌, ◌⊎◌, false, IfErr, IfOk, IfSome, IsTrue, OnOk};
+ghost use Rattle.std.specs.Prelude.{◌≡◌, ◌≢◌, ◌⊎◌, false, IfErr, IfOk, IfSome, IsTrue, None, OnOk};
 ghost use Rattle.ocfl_state.specs.{Content.{is_closed}, Crash.{Only, Passes}};
 ghost use Rattle.ocfl_state.specs.Pieces.{summary_of};
 ghost use Rattle.ocfl_state.specs.declared.checkpoint_parts.Phase.TheVariants.{Closing};
 ghost use Rattle.ocfl_night.specs.Ending.{cycle_ended};
-ghost use Rattle.ocfl_night.specs.{Promises.{IfReady, IsSafe}, Sound.{IsAllSaid, IsOneMore, IsReady}};
+ghost use Rattle.ocfl_night.specs.{Promises.{IfReady, IsSafe, SameClosed}, Sound.{IsAllSaid, IsOneMore, IsReady}};
 ghost use Rattle.ocfl_night.specs.Steps.{IsClosedExactly, IsFinished, IsMoveDone, MayMoveAt, closes_whole};
 ghost use Rattle.ocfl_night.specs.Stopping.{IsCloseStop, IsFolderStop};
 
@@ -74,7 +74,7 @@ fn close<S: StateFolder>(
         (λ rounds t. IfOk result (λ next. IsReady S.seen S.may_leave rounds t next folder.new)) }
     ensures closed { IsTrue S.told → IfReady S.seen S.may_leave checkpoint folder.old
         (λ rounds _. OnOk result (IsOneMore rounds checkpoint.cursor.cycle
-        (S.seen folder.old).closed (S.seen folder.new).closed)) }
+        (S.seen folder.old) (S.seen folder.new))) }
     ensures finished { IsTrue S.told → OnOk result
         (IsFinished checkpoint (S.seen folder.old) (S.seen folder.new)) }
     ensures all { IfOk result (λ next. next.told ≡ next.report.bytes) }
@@ -99,7 +99,9 @@ pub fn finish<S: StateFolder>(
         checkpoint folder.old folder.new }
     ensures closed { IsTrue S.told → IfReady S.seen S.may_leave checkpoint folder.old
         (λ rounds _. IfOk result (λ ended. IfSome ended (λ cycle. IsOneMore rounds cycle
-        (S.seen folder.old).closed (S.seen folder.new).closed))) }
+        (S.seen folder.old) (S.seen folder.new)))) }
+    ensures goes_on { IsTrue S.told → IfOk result (λ ended. ended ≡ None
+        → SameClosed S.seen folder.old folder.new) }
     ensures said { IsTrue S.told → IfReady S.seen S.may_leave checkpoint folder.old
         (λ _ _. checkpoint.told ≡ checkpoint.report.bytes
         → OnOk result (IsAllSaid (S.seen folder.new))) }

@@ -1,5 +1,5 @@
 //! The laws of nights.
-ghost use Rattle.std.specs.{Prelude.{◌≡◌, [], IsTrue, List, Some, map, true}, List.{AllByRecursion}};
+ghost use Rattle.std.specs.{Prelude.{◌≡◌, [], Bool, IsTrue, List, Some, map, true}, List.{AllByRecursion}};
 ghost use Rattle.ocfl_tree.specs.{StorageRoot.{StorageRoot}, Store.{Store}};
 ghost use Rattle.ocfl_item.specs.Judging.{HasShortFiles};
 ghost use Rattle.ocfl_report.specs.Text.{text};
@@ -91,10 +91,10 @@ pub fn each_other_report_is_the_audit_around_what_was_left_out<S: StateFolder>()
 }
 
 /// No run of a night is begun but where the clock has answered that the end has not come.
-#[tactic(auto, using(crate::proofs::Clocks::begins_in_time))]
 pub fn runs_begin_before_the_end()
-    ensures { (plan : ModelPlan) (old new : List Event) (end : ModelEnd)
-        → IsNight plan old new end → BeginsInTime plan.end old new end.runs }
+    ensures { (plan : ModelPlan) (tells : Bool) (c : Content) (old new : List Event)
+        (end : ModelEnd) → IsNight plan tells c old new end
+        → BeginsInTime plan.end old new end.runs }
 {}
 
 /// If no failure of a store was counted, each content file that was opened meanwhile was read.

@@ -35,7 +35,10 @@
 //!   after (`leave_out`). The next run is made past it (`slice`), and a cycle that left one out is
 //!   not closed as whole.
 //! - The closed reports after a cycle that it says has ended are those up to that cycle. Before
-//!   there was one less, or as many if a crash came right after the last one was closed.
+//!   there was one less, or as many if a crash came right after the last one was closed. No night
+//!   with another end closes one, unless it is troubled.
+//! - It begins where the checkpoint of its folder stands, and in a folder without one at the first
+//!   item, if it may and no report is there.
 //! - It is the list of its runs. Each begins where the one before it led, after its clock answered
 //!   that the night is not asked to stop and a time before the end. It keeps to the limits that the
 //!   plan gives for that time and for what was done: no more than runs spend in a minute, or until

@@ -14,9 +14,9 @@ ghost use Rattle.ocfl_night.specs.declared.refusal.Refusal.TheVariants.{Older};
 ghost use Rattle.ocfl_night.specs.Refusing.{IfForeign, IfRefused, IsBarred, IsFolderRefused, IsRefused, IsTurnedAway, OnRefused};
 ghost use Rattle.ocfl_night.specs.{Site.{part_at}, Steps.{IsNotBegun, IsUntouched, IsWalkAt, closes_whole}};
 ghost use Rattle.ocfl_night.specs.Sound.{IsAllSaid, IsHeard, IsHeardSince, IsKept, IsOneMore, IsReady, IsReadySince, IsSound};
-ghost use Rattle.ocfl_night.specs.{Clock.{is_before}, Done.{done_of}};
+ghost use Rattle.ocfl_night.specs.{Beginning.{BeginsAt}, Clock.{is_before}, Done.{done_of}};
 ghost use Rattle.ocfl_night.specs.Runs.{AreMade, EndsBy, IsAllowed, IsEndedBy, IsNight, StopsOpen, after_made, turn_of};
-ghost use Rattle.ocfl_night.specs.Ending.{ended_by, halt_after, halt_of, place_or_pause, unbegun_by};
+ghost use Rattle.ocfl_night.specs.Ending.{cycle_of, ended_by, halt_after, halt_of, place_or_pause, unbegun_by};
 ghost use Rattle.ocfl_night.specs.{Pace.{budget_at, files_at}, Nights.{IsSafeNight}};
 ghost use Rattle.ocfl_night.specs.declared.stop.Stop.{Stop as ModelStop};
 ghost use Rattle.ocfl_night.specs.declared.refusal.NotOpened.TheVariants.{Refused};
@@ -250,6 +250,7 @@ fn runs<S: StateFolder, T: Tree, C: Clock>(
         (λ d k last. IsEndedBy plan.now d k last (done_of tally.new) result) }
     ensures leads { IfOk result (λ next. LeadsOn start tally.old.left.items
         next.0 tally.new.left.items) }
+    ensures cycle { IfOk result (λ next. cycle_of next.0 ≡ cycle_of start) }
     ensures left { StillMayLeave plan.now.stop_at_faults tally.old tally.new }
 {
     let mut kept = KeptWalk::none();
@@ -308,6 +309,8 @@ fn catch_up<S: StateFolder, W: Write>(
     ensures whole { IsTrue S.told → IfOk result (λ k. IsTrue (closes_whole k)
         ↔ ((lost.new ≡ false) × IsUncut (S.seen folder.old))) }
     ensures all { IfOk result (λ k. k.told ≡ k.report.bytes) }
+    ensures begins { IsTrue S.told
+        → IfOk result (BeginsAt plan.now.create (S.seen folder.old)) }
 {
     let opened = open(alloc, folder, site, identity, plan)?;
     *lost = opened.lost;
@@ -343,7 +346,9 @@ fn make_runs<S: StateFolder, T: Tree, C: Clock, W: Write>(
         (look_between root (T.state tree.old) (T.state tree.new))
         (λ rounds. IfReadyIn S.seen S.may_leave rounds checkpoint folder.old
         (λ _. (cycle : ℕ) → result ≡ Ok (halt.CycleEnded cycle) → IsOneMore rounds cycle
-        (S.seen folder.old).closed (S.seen folder.new).closed))) }
+        (S.seen folder.old) (S.seen folder.new)))) }
+    ensures goes_on { IsTrue S.told → IfOk result (λ end.
+        ((cycle : ℕ) → end ≢ halt.CycleEnded cycle) → SameClosed S.seen folder.old folder.new) }
     ensures told { IsTrue C.told → AreMade plan.now (C.events clock.old) (C.events clock.new)
         (done_of tally.old) checkpoint
         (EndsBy plan.now (ended_by result) (done_of tally.new)) }
@@ -409,6 +414,8 @@ fn set_out<S: StateFolder, T: Tree, W: Write>(
     ensures barred { IsTrue S.told
         → IsBarred T.told (T.state tree.old) site.now plan.now (S.seen folder.old)
         → IsTurnedAway result S.seen S.may_leave S.moment S.left_since folder.old folder.new }
+    ensures begins { IsTrue S.told → IfOk result (λ begun.
+        BeginsAt plan.now.create (S.seen folder.old) begun.checkpoint) }
 {
     let part = part_at(alloc, &site.ends)?;
     let identity = look_at_root(alloc, tree, block)?;
@@ -493,13 +500,17 @@ pub fn night<S: StateFolder, T: Tree, C: Clock, W: Write>(
         → ((why : ModelRefusal) → result.end ≢ halt.Refused why) → IsTrue result.lost) }
     ensures lost_only { IsTrue S.told → IsTrue result.lost → HasLost (S.seen folder.old) }
 
-    // The report of a cycle that is said to have ended is closed.
+    // If a cycle has ended, its report is closed. It was not when the night began, unless a crash
+    // had come right after it was closed. No other night closes one, unless something is troubled.
     ensures ended { IsTrue S.told → OverShort T.told (T.state tree.old) (λ root.
         WithLook (part_at site.now.ends)
         (look_between root (T.state tree.old) (T.state tree.new))
         (λ rounds. IsKept S.may_leave rounds folder.old → (cycle : ℕ)
         → result.end ≡ halt.CycleEnded cycle → IsOneMore rounds cycle
-        (S.seen folder.old).closed (S.seen folder.new).closed)) }
+        (S.seen folder.old) (S.seen folder.new))) }
+    ensures goes_on { IsTrue S.told → ((why : ModelStop) → result.end ≢ halt.Troubled why)
+        → ((cycle : ℕ) → result.end ≢ halt.CycleEnded cycle)
+        → SameClosed S.seen folder.old folder.new }
 
     // It is called whole exactly if nothing of it was lost, and no branch was left out, by this night
     // or before it.
@@ -515,11 +526,12 @@ pub fn night<S: StateFolder, T: Tree, C: Clock, W: Write>(
     ensures none_left { IsTrue plan.now.stop_at_faults → result.left.items ≡ [] }
     ensures ends { All (λ branch. IsTrue (has_end branch)) result.left.items }
 
-    // It is the list of its runs. Each was begun where the one before it led, after the clock
-    // answered that the night is not asked to stop and that the end has not come, within the limits
-    // of the plan. By these it ended as it says, unless troubled, and its figures are theirs.
-    ensures told { IsTrue C.told
-        → IsNight plan.now (C.events clock.old) (C.events clock.new) result }
+    // It is the list of its runs. The first was begun where the folder's checkpoint stood, and each
+    // other one where the one before it led, after the clock answered that the night is not asked to
+    // stop and that the end has not come, within the limits of the plan. By these it ended as it
+    // says, unless troubled, and its figures are theirs.
+    ensures told { IsTrue C.told → IsNight plan.now S.told (S.seen folder.old)
+        (C.events clock.old) (C.events clock.new) result }
 {
     let mut tally = Tally::none(alloc);
     let mut lost = false;

@@ -4,6 +4,7 @@ ghost use Rattle.ocfl_tree.specs.Place.{Text};
 ghost use Rattle.ocfl_state.specs.Content.{is_closed, with_report};
 ghost use Rattle.ocfl_state.specs.Crash.{LeavesOnly, Only, Passes, Same};
 ghost use Rattle.ocfl_state.specs.declared.checkpoint_parts.Phase.TheVariants.{Closing};
+ghost use Rattle.ocfl_night.specs.Beginning.{BeginsAt, first_position, position};
 ghost use Rattle.ocfl_night.specs.{Looks.{Rounds}, Promises.{HasLost, IfLost, IfThere, IsUncut, SameClosed}};
 ghost use Rattle.ocfl_night.specs.Older.{IfOlder, IsOlder};
 ghost use Rattle.ocfl_night.specs.Refusing.{HasReport, IfForeign, IfRefused, IsFolderRefused, IsOutdated, IsTurnedAway, IsUnbegun, OnRefused};
@@ -49,6 +50,8 @@ fn trim<S: StateFolder>(folder: &mut S, most: u64) -> Result<(), Stop>
 fn is_new<S: StateFolder>(folder: &mut S) -> Result<bool, Stop>
     ensures empty { IsTrue S.told → IfOk result (λ new. IsTrue new
         → length (S.seen folder.old).report ≡ 0) }
+    ensures unclosed { IsTrue S.told → IfOk result (λ new. IsTrue new
+        → is_closed (S.seen folder.old).closed 1 ≡ false) }
     ensures reports { IsTrue S.told → IfOk result (λ new. new ≡ false
         → HasReport (S.seen folder.old)) }
     ensures seen { IsTrue S.told → S.seen folder.new ≡ S.seen folder.old }
@@ -71,6 +74,9 @@ fn begin<S: StateFolder>(
     identity: &Identity,
 ) -> Result<Opened, NotOpened>
     ensures empty { IsTrue S.told → OnOk result (length (S.seen folder.old).report ≡ 0) }
+    ensures unclosed { IsTrue S.told
+        → OnOk result (is_closed (S.seen folder.old).closed 1 ≡ false) }
+    ensures stands { IfOk result (λ opened. position opened.checkpoint ≡ first_position) }
     ensures any_moment { IsTrue S.told → (rounds : Rounds)
         → Only (S.seen folder.old) (S.may_leave folder.old)
         → (S.seen folder.old).checkpoint ≡ None → IsNew [] (S.seen folder.old)
@@ -204,6 +210,7 @@ fn resume<S: StateFolder>(
     ensures closed { IsTrue S.told → OnOk result (SameClosed S.seen folder.old folder.new) }
     ensures opened { IsTrue S.told
         → IfOk result (IsOpened identity.now checkpoint (S.seen folder.old)) }
+    ensures stays { IfOk result (λ opened. position opened.checkpoint ≡ position checkpoint) }
 {
     let there = take_up(folder, &checkpoint)?;
     let opened = fitted(checkpoint, there);
@@ -239,6 +246,7 @@ fn go_on<S: StateFolder>(
     ensures older { IsTrue S.told → (cycle : ℕ) → cycle < 2 ^ 64
         → IsOlder checkpoint (S.seen folder.old) cycle
         → IsTurnedAway result S.seen S.may_leave S.moment S.left_since folder.old folder.new }
+    ensures stays { IfOk result (λ opened. position opened.checkpoint ≡ position checkpoint) }
 {
     refuse_older(folder, &checkpoint)?;
     Ok(resume(alloc, folder, checkpoint, identity)?)
@@ -259,6 +267,10 @@ pub fn open<S: StateFolder>(
         → IfOk result (λ opened. IsFoundReady S.seen S.may_leave rounds
         (S.may_leave folder.old) opened.checkpoint folder.new) }
     ensures closed { IsTrue S.told → OnOk result (SameClosed S.seen folder.old folder.new) }
+    // It begins where the checkpoint of the folder stands. In a folder without one it begins at the
+    // first item, if it may, and if no report is there.
+    ensures begins { IsTrue S.told → IfOk result (λ opened.
+        BeginsAt plan.now.create (S.seen folder.old) opened.checkpoint) }
     // A report without a checkpoint is never begun anew.
     ensures empty { IsTrue S.told → (S.seen folder.old).checkpoint ≡ None
         → OnOk result (length (S.seen folder.old).report ≡ 0) }

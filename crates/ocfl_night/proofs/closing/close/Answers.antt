@@ -32,7 +32,7 @@ returns-clause-ready g c = λ told rounds t r.
 pub returns-clause-closed : goal.returns-clause-closed
 returns-clause-closed g c = λ told rounds t r.
     let moved = is_moved c.requires (c.is_all_told.ensures.0 c.if-not-is_all_told.false) r (c.in_ok-move_as.ensures.moved told) in
-    one_more (c.in_ok-move_as.ensures.moved told (ready_to_close c.requires r)) moved (c.in_ok-put_checkpoint.ensures.put told)
+    one_more r.at c.requires (c.in_ok-move_as.ensures.moved told (ready_to_close c.requires r)) moved (c.in_ok-put_checkpoint.ensures.put told)
 
 pub returns-clause-finished : goal.returns-clause-finished
 returns-clause-finished g c = λ told.

@@ -6,7 +6,7 @@ pub returns-in_ok-close-in-Closing-clause-closed :
     goal.returns-in_ok-close-in-Closing-clause-closed
 returns-in_ok-close-in-Closing-clause-closed g c = λ told rounds t r.
     let s = g.S.StateFolder.seen in
-    subst (λ (n : ℕ). IsOneMore rounds n (s c.args.folder.now).closed (s c.close.new.folder).closed) (sym c.cycle_of-cycle.ensures) (c.in_ok-close-in-Closing.ensures.closed told rounds t r)
+    subst (λ (n : ℕ). IsOneMore rounds n (s c.args.folder.now) (s c.close.new.folder)) (sym c.cycle_of-cycle.ensures) (c.in_ok-close-in-Closing.ensures.closed told rounds t r)
 
 pub returns-in-Open-clause-said : goal.returns-in-Open-clause-said
 returns-in-Open-clause-said g c = λ told rounds t r all. record { checkpoint = c.args.checkpoint; at = r.at; all = all }

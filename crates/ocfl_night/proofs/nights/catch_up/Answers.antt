@@ -1,5 +1,7 @@
 use Rattle.std.proofs.{Common.{◌∙◌, ap, sym}, lemmas.Result.{err_from_is_err_and}}
 use Rattle.ocfl_state.specs.Checkpoint.{Checkpoint}
+use Rattle.ocfl_night.specs.Beginning.{position}
+use Rattle.ocfl_night.proofs.Beginnings.{begins_so}
 use Rattle.ocfl_night.proofs.Moments.{joined_moments, leaves_weaker}
 use Rattle.ocfl_night.proofs.Heard.{found_heard, grew_none, is_err, since_found}
 use Rattle.ocfl_night.proofs.Whole.{told_whole}
@@ -62,3 +64,6 @@ returns-clause-lost_only g c = λ told not_yet is. c.in_ok-opened.ensures.lost_o
 
 pub returns-clause-whole : goal.returns-clause-whole
 returns-clause-whole g c = λ told. told_whole c.in_ok-opened.opened.checkpoint c.in_ok-speak.ensures.all (c.in_ok-opened.ensures.whole told)
+
+pub returns-clause-begins : goal.returns-clause-begins
+returns-clause-begins g c = λ told. begins_so (ap position c.in_ok-speak.ensures.all) (c.in_ok-opened.ensures.begins told)

@@ -1,10 +1,11 @@
 use Rattle.std.proofs.Common.{◌∙◌, ◌++◌, ◌∷◌, [], ℕ, List, Option, None, ap, sym, subst}
 use Rattle.std.proofs.lemmas.Result.{err_from_is_err_and}
-use Rattle.std.specs.Prelude.{IfSome}
+use Rattle.std.specs.Prelude.{◌≡◌, IfSome, IsTrue}
 use Rattle.ocfl_scrub.specs.Starting.{part_of}
-use Rattle.ocfl_state.specs.{Checkpoint.{Checkpoint}, Content.{Closed}}
+use Rattle.ocfl_state.specs.{Checkpoint.{Checkpoint}, Content.{Closed, is_closed}}
 use Rattle.ocfl_night.specs.Looks.{Rounds, of_any}
-use Rattle.ocfl_night.specs.{Done.{done_of}, Sound.{IsOneMore}}
+use Rattle.ocfl_night.specs.{Done.{done_of}, Ending.{cycle_of}, Sound.{IsOneMore}}
+use Rattle.ocfl_night.proofs.Beginnings.{ended_in, none_ended, one_more_since, shut_before}
 use Rattle.ocfl_night.proofs.Runs.{halted_so, made_so, troubled_after, troubled_in}
 use Rattle.ocfl_night.proofs.{Moments.{joined_moments}, Heard.{grew_none, said_on, silent}}
 use Rattle.ocfl_night.proofs.Whole.{closing_by, come_whole, grown_whole, told_whole}
@@ -50,11 +51,17 @@ pub returns-clause-ended : goal.returns-clause-ended
 returns-clause-ended g c = λ told tells root over short looks one t r cycle is.
     let rounds : Rounds = record { part = part_of c.args.part.now; looks = looks } in
     let s = g.S.StateFolder.seen in
-    let new = (s c.finish.new.folder).closed in
     let said = c.in_ok-said.ensures.ready told rounds t (c.in_ok-last.ensures.ready told tells root over short looks one t r) in
     let closed = c.in_ok-ended.ensures.closed told rounds (t ++ said.more) said.ready in
-    let more = subst (λ (o : Option ℕ). IfSome o (λ n. IsOneMore rounds n (s c.speak.new.folder).closed new)) (c.halt_after.ensures.ended cycle (cc is)) closed in
-    subst (λ (old : List Closed). IsOneMore rounds cycle old new) (c.in_ok-said.ensures.closed told ∙ c.in_ok-last.ensures.closed told) more
+    let ends = c.halt_after.ensures.ended cycle (cc is) in
+    let more = subst (λ (o : Option ℕ). IfSome o (λ n. IsOneMore rounds n (s c.speak.new.folder) (s c.finish.new.folder))) ends closed in
+    let same = c.in_ok-said.ensures.closed told ∙ c.in_ok-last.ensures.closed told in
+    let it : cycle ≡ cycle_of c.args.checkpoint = ended_in c.in_ok-said.said cycle (sym ends ∙ c.in_ok-ended.ensures.ended) ∙ ap cycle_of c.in_ok-said.ensures.all ∙ c.in_ok-last.ensures.cycle in
+    one_more_since same (λ shut. shut_before rounds c.args.checkpoint (s c.args.folder.now) it (subst (λ (l : List Closed). IsTrue (is_closed l cycle)) same shut.closed) r.at r.stands) more
+
+pub returns-clause-goes_on : goal.returns-clause-goes_on
+returns-clause-goes_on g c = λ told other.
+    c.in_ok-ended.ensures.goes_on told (none_ended c.in_ok-ended.ended c.in_ok-last.pause c.halt_after.ensures.is other) ∙ c.in_ok-said.ensures.closed told ∙ c.in_ok-last.ensures.closed told
 
 pub returns-clause-said : goal.returns-clause-said
 returns-clause-said g c = λ told tells root over short t r.

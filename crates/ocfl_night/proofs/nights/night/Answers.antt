@@ -3,10 +3,11 @@ use Rattle.std.specs.Prelude.{IsTrue}
 use Rattle.ocfl_tree.specs.{Place.{Place}, StorageRoot.{StorageRoot}}
 use Rattle.ocfl_item.specs.Judging.{HasShortFiles}
 use Rattle.ocfl_audit.specs.Parts.{Part}
-use Rattle.ocfl_state.specs.Content.{Closed}
+use Rattle.ocfl_state.specs.Content.{Closed, Content}
 use Rattle.ocfl_night.specs.{Done.{Done, done_of}, Leaving.{has_end}, Nights.{IsSafeNight}, Site.{part_at}}
 use Rattle.ocfl_night.specs.Looks.{Counts, Look, Rounds, look_between, of_any}
 use Rattle.ocfl_night.specs.{Sound.{IsOneMore}, Steps.{IsNotBegun}}
+use Rattle.ocfl_night.proofs.Beginnings.{one_more_since, refused_still, shut_since, still_on}
 use Rattle.ocfl_night.proofs.{Moments.{leaves_weaker}, Runs.{made_from}}
 use Rattle.ocfl_night.proofs.Looks.{counts_on, last_of}
 use Rattle.ocfl_night.proofs.Heard.{heard_through, on_ok, ready_since, since_sound}
@@ -64,9 +65,12 @@ returns g c =
           let rounds : Rounds = rounds_over (part_at c.args.site.now.ends) looks in
           let alike = ap (λ (p : Part). rounds_over p looks) c.in-Ok.ensures.part in
           let last = last_of root looks (set_out_counts g at tells root over short) (runs_count g at tells root over short) one in
-          subst (λ (old : List Closed). IsOneMore rounds cycle old (s runs.new.folder).closed) (c.in-Ok.ensures.closed told)
-          (subst (λ (p : Rounds). IsOneMore p cycle (s c.set_out.new.folder).closed (s runs.new.folder).closed) alike
-          (runs.ensures.ended told tells root (c.set_out.ensures.root tells ∙ over) short looks last _ (ready_since alike (c.in-Ok.ensures.ready told rounds kept)) cycle (c.ended.ensures.ended cycle (sym c.account-2.ensures.end ∙ is))));
+          let ready = c.in-Ok.ensures.ready told rounds kept in
+          one_more_since (c.in-Ok.ensures.closed told) (λ shut. shut_since (c.in-Ok.ensures.begins told) ready.heard.ready.at (c.in-Ok.ensures.closed told) shut)
+          (subst (λ (p : Rounds). IsOneMore p cycle (s c.set_out.new.folder) (s runs.new.folder)) alike
+          (runs.ensures.ended told tells root (c.set_out.ensures.root tells ∙ over) short looks last _ (ready_since alike ready) cycle (c.ended.ensures.ended cycle (sym c.account-2.ensures.end ∙ is))));
+      goes_on = λ told well other.
+          still_on runs.result (c.ended.ensures.said (λ why is. well why (c.account-2.ensures.end ∙ is))) (runs.ensures.goes_on told) (c.account-2.ensures.end ∙ c.ended.ensures.is) other ∙ c.in-Ok.ensures.closed told;
       whole = λ told tells root over short kept cycle is d come.
           let come_then = come ∙ ap (λ (l : List Closed). l ++ d ∷ []) (sym (c.in-Ok.ensures.closed told)) in
           let fits = runs.ensures.whole told tells root (c.set_out.ensures.root tells ∙ over) short _ (ready_since same (c.in-Ok.ensures.ready told part kept)) cycle (c.ended.ensures.ended cycle (sym c.account-2.ensures.end ∙ is)) d come_then in
@@ -81,6 +85,7 @@ returns g c =
       ends = subst (λ (v : Vec Place Global). All (λ b. IsTrue (has_end b)) v.items) (sym c.account-2.ensures.left) left.ends;
       told = λ told. inl (record {
         start = c.in-Ok.begun.checkpoint;
+        begins = c.in-Ok.ensures.begins;
         done = done_of runs.new.tally;
         runs = made_from c.args.plan.now (g.C.Clock.events c.args.clock.now) (g.C.Clock.events runs.new.clock) (done_of runs.new.tally) c.in-Ok.begun.checkpoint c.none-tally.ensures.nothing (c.account-2.ensures.end ∙ c.ended.ensures.is) (runs.ensures.told told);
         begun = c.account-2.ensures.runs;
@@ -110,6 +115,8 @@ returns-in-Err g c =
       lost = λ told k at lost well unrefused. absurd (c.unbegun.ensures.said (λ why is. well why (c.account.ensures.end ∙ is)) (λ why is. unrefused why (c.account.ensures.end ∙ is)));
       ended = λ told tells root over short looks one kept cycle is. absurd (subst IsNotBegun (sym c.account.ensures.end ∙ is) c.unbegun.ensures.not_begun);
       whole = λ told tells root over short kept cycle is d come. absurd (subst IsNotBegun (sym c.account.ensures.end ∙ is) c.unbegun.ensures.not_begun);
+      goes_on = λ told well other.
+          refused_still c.in-Err.why (c.account.ensures.end ∙ c.unbegun.ensures.is) well (λ why is. ap (λ (x : Content). x.closed) (c.in-Err.ensures.refused told why (ap Err is)));
       few = subst (λ (v : Vec Place Global). length v.items ≤ 16) (sym c.account.ensures.left) left.few;
       none_left = λ strict. subst (λ (v : Vec Place Global). v.items ≡ []) (sym c.account.ensures.left) (left.none strict);
       ends = subst (λ (v : Vec Place Global). All (λ b. IsTrue (has_end b)) v.items) (sym c.account.ensures.left) left.ends;

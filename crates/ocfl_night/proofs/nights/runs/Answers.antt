@@ -10,7 +10,7 @@ use Rattle.ocfl_night.specs.Runs.{Run, IsRunOf, MayBeginAt, StopsOpen, after_mad
 use Rattle.ocfl_night.specs.declared.plan.Pause.{Pause}
 use Rattle.ocfl_night.specs.Looks.{Counts, IsOneOf, Look, look_between}
 use Rattle.ocfl_night.specs.{Promises.{IsSafeIn}, Sound.{IsReady}}
-use Rattle.ocfl_night.proofs.{KeptWalks.{walk_none}, Runs.{and_then, failed_so, led_by, none_yet, paused, paused_before, run_more}}
+use Rattle.ocfl_night.proofs.{Beginnings.{next_in}, KeptWalks.{walk_none}, Runs.{and_then, failed_so, led_by, none_yet, paused, paused_before, run_more}}
 use Rattle.ocfl_night.proofs.Looks.{counts_none, counts_on, first_of, last_of}
 use Rattle.ocfl_night.proofs.{Moments.{joined_moments, unmoved}, Sound.{ready_sound}}
 use Rattle.ocfl_state.specs.Checkpoint.{Checkpoint}
@@ -75,6 +75,7 @@ loop-run-init g c = record {
   ready = λ told tells root over short looks one t r. r;
   counts = λ tells root over short. counts_none (g.T.Tree.state c.args.tree.now);
   closed = λ told. refl;
+  cycle = refl;
   told = λ told. none_yet;
   leads = none_grown;
   left = λ may. may;
@@ -142,6 +143,10 @@ returns-in-Some-clause-ready g c = λ told tells root over short looks one t r.
 pub returns-in-Some-clause-closed : goal.returns-in-Some-clause-closed
 returns-in-Some-clause-closed g c = λ told. c.in_ok-next.ensures.closed told ∙ c.in_ok-made.ensures.closed told ∙ c.loop-run.invariant.closed told
 
+pub returns-in-Some-clause-cycle : goal.returns-in-Some-clause-cycle
+returns-in-Some-clause-cycle g c =
+    next_in c.args.plan.now.stop_at_faults (done_of c.count.new.self) (done_of c.go_on_after.new.tally) (c.in_ok-next.next, c.in_ok-next.pause) (search rules) c.in_ok-made.ensures.slice c.in_ok-next.ensures.turn ∙ c.loop-run.invariant.cycle
+
 pub loop-run-preserved : goal.loop-run-preserved
 loop-run-preserved g c =
     let inv = c.loop-run.invariant in
@@ -152,6 +157,7 @@ loop-run-preserved g c =
       counts = counts_then g at;
       closed = λ told. c.in_ok-next.ensures.closed told ∙ c.in_ok-made.ensures.closed told ∙ inv.closed told;
       leads = grown_on inv.leads (turned g at (search rules) c.in_ok-next.ensures.turn);
+      cycle = next_in c.args.plan.now.stop_at_faults (done_of c.count.new.self) (done_of c.go_on_after.new.tally) (c.in_ok-next.next, c.in_ok-next.pause) (search rules) c.in_ok-made.ensures.slice c.in_ok-next.ensures.turn ∙ inv.cycle;
       told = λ told. run_more (run g at told) (inv.told told) (heard g at told) (is_run g at told) (led_by c.args.plan.now (done_of c.loop-run.tally) c.in-Ok.allowed.1 (may g at told).goes_on c.in_ok-made.ensures.slice c.begin.ensures.done c.count.ensures.done c.in_ok-next.ensures.turn ∙ ap (λ (o : Option Pause). turn_of (done_of c.go_on_after.new.tally) (c.in_ok-next.next, o)) c.in_default.is);
       left = λ may. c.go_on_after.ensures.left (subst (MayLeave c.args.plan.now.stop_at_faults) (sym (ap (λ (x : Done). x.left) c.count.ensures.done ∙ ap (λ (x : Done). x.left) c.begin.ensures.done)) (inv.left may));
       root = λ tells root over short. c.slice.ensures.root tells root (inv.root tells root over short) short (inv.walk tells root over short);

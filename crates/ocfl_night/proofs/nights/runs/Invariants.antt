@@ -4,7 +4,7 @@ use Rattle.ocfl_item.specs.Judging.{HasShortFiles}
 use Rattle.std.specs.Prelude.{IsTrue}
 use Rattle.ocfl_scrub.specs.Starting.{part_of}
 use Rattle.ocfl_state.specs.Crash.{LeavesOnly}
-use Rattle.ocfl_night.specs.{Done.{done_of}, Leaving.{LeadsOn, MayLeave}, Looks.{Counts, WithLook, look_between}}
+use Rattle.ocfl_night.specs.{Done.{done_of}, Ending.{cycle_of}, Leaving.{LeadsOn, MayLeave}, Looks.{Counts, WithLook, look_between}}
 use Rattle.ocfl_night.specs.{Sound.{IsReady, IsSoundAt}, Steps.{IsWalkAt}}
 use Rattle.ocfl_night.proofs.Runs.{SoFar}
 use Rattle.ocfl_night.proofs.nights.runs.Given as goal
@@ -21,6 +21,7 @@ invariant-loop-run g l =
       ready : IsTrue g.S.StateFolder.told → IfTold g.T.Tree.told before (λ root. HasShortFiles root → WithLook part (look_between root before now) (λ rounds. (t : Text) → IsReady seen may_leave rounds t l.fn.start l.fn.folder → IsReady seen may_leave rounds t l.checkpoint l.folder));
       counts : IfTold g.T.Tree.told before (λ root. HasShortFiles root → Counts before now);
       closed : IsTrue g.S.StateFolder.told → (seen l.folder).closed ≡ (seen l.fn.folder).closed;
+      cycle : cycle_of l.checkpoint ≡ cycle_of l.fn.start;
       told : IsTrue g.C.Clock.told → SoFar l.fn.plan (g.C.Clock.events l.fn.clock) (g.C.Clock.events l.clock) (done_of l.fn.tally) l.fn.start (done_of l.tally) l.checkpoint;
       leads : LeadsOn l.fn.start l.fn.tally.left.items l.checkpoint l.tally.left.items;
       left : MayLeave l.fn.plan.stop_at_faults l.fn.tally.left.items → MayLeave l.fn.plan.stop_at_faults l.tally.left.items;

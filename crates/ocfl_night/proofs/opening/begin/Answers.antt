@@ -1,6 +1,6 @@
 use Rattle.std.proofs.Common.{◌≡◌, ◌∙◌, [], ap, length, refl, subst, sym, true}
 use Rattle.ocfl_state.specs.{Checkpoint.{Checkpoint}, Content.{Content}}
-use Rattle.ocfl_night.specs.{Refusing.{IsUnbegun}, Sound.{IsNew}, declared.refusal.Refusal.TheVariants.{HasReports}}
+use Rattle.ocfl_night.specs.{Beginning.{position}, Refusing.{IsUnbegun}, Sound.{IsNew}, declared.refusal.Refusal.TheVariants.{HasReports}}
 use Rattle.ocfl_night.proofs.{Moments.{unmoved}, Sound.{first_stands, mark_moments, put_ready}}
 use Rattle.ocfl_night.proofs.TakingUp.{begun_moments, new_here}
 use Rattle.ocfl_night.proofs.opening.begin.Goals as goal
@@ -26,6 +26,9 @@ returns-clause-ready g c = λ told rounds only new.
     let still = subst (IsNew []) (sym (c.is_new.ensures.seen told)) new in
     put_ready (c.in_ok-put_checkpoint.ensures.put told) (first_stands c.args.site.now c.args.identity.now is still) (λ phase. ap length still.report ∙ sym (ap (λ (x : Checkpoint). x.report.bytes) is))
     (c.in_ok-put_checkpoint.ensures.durable told (c.is_new.ensures.only told only))
+
+pub returns-clause-stands : goal.returns-clause-stands
+returns-clause-stands g c = ap position c.in_ok-checkpoint.ensures
 
 pub returns-clause-closed : goal.returns-clause-closed
 returns-clause-closed g c = λ told. ap (λ (x : Content). x.closed) (c.in_ok-put_checkpoint.ensures.put told).put ∙ ap (λ (x : Content). x.closed) (c.is_new.ensures.seen told)

@@ -1,8 +1,8 @@
 use Rattle.std.specs.Prelude.{IfOk, IsTrue}
-use Rattle.std.proofs.{Common.{◌≡◌, ◌∙◌, [], ap, refl, sym, subst}, lemmas.Result.{IfOk-weaker, on_ok_weaker}}
+use Rattle.std.proofs.{Common.{◌≡◌, ◌∙◌, [], ap, refl, rules, sym, subst}, lemmas.Result.{IfOk-weaker, on_ok_weaker}}
 use Rattle.ocfl_state.specs.{Checkpoint.{Checkpoint}, Content.{Content}}
-use Rattle.ocfl_night.specs.{Older.{IsOlder}, Refusing.{IsDisowned, IsOutdated, not_own, outdated}, Sound.{IsAt, IsNew}, Steps.{IsOpened}}
-use Rattle.ocfl_night.proofs.{Foreigners.{at_once, own_at}, Moments.{same_twice, unchanged}, Heard.{is_err, kept_found}}
+use Rattle.ocfl_night.specs.{Beginning.{further, position}, Older.{IsOlder}, Refusing.{IsDisowned, IsOutdated, not_own, outdated}, Sound.{IsAt, IsNew}, Steps.{IsOpened}}
+use Rattle.ocfl_night.proofs.{Beginnings.{begun_first}, Foreigners.{at_once, own_at}, Moments.{same_twice, unchanged}, Heard.{is_err, kept_found}}
 use Rattle.ocfl_night.proofs.Sound.{sound_new}
 use Rattle.ocfl_night.proofs.TakingUp.{found_on, found_ready, none_found, same_found, settled_there, shown_new, some_found, taken_moments}
 use Rattle.ocfl_night.proofs.{Lost.{first_not, lost_opened, opened_as}, Whole.{first_whole, opened_whole}}
@@ -134,3 +134,13 @@ pub returns-in_default-clause-whole : goal.returns-in_default-clause-whole
 returns-in_default-clause-whole g c = λ told.
     let none = none_found (g.S.StateFolder.seen c.args.folder.now) (c.in_ok-found.ensures.value told) c.in_default.is in
     IfOk-weaker c.begin.result _ _ (λ o h. first_whole none h refl refl) c.begin.ensures.first
+
+pub returns-in_default-clause-begins : goal.returns-in_default-clause-begins
+returns-in_default-clause-begins g c = λ told.
+    let same = c.look.ensures.seen told in
+    let none = none_found (g.S.StateFolder.seen c.args.folder.now) (c.in_ok-found.ensures.value told) c.in_default.is in
+    begun_first (g.S.StateFolder.seen c.args.folder.now) (g.S.StateFolder.seen c.look.new.folder) c.begin.result (search rules) none (ap (λ (x : Content). x.report) same) (ap (λ (x : Content). x.closed) same) (c.begin.ensures.empty told) (c.begin.ensures.unclosed told) c.begin.ensures.stands
+
+pub returns-in-Ok-clause-begins : goal.returns-in-Ok-clause-begins
+returns-in-Ok-clause-begins g c = λ told.
+    IfOk-weaker c.go_on.result _ _ (λ o at. further c.in-Some.found (some_found (c.in_ok-found.ensures.value told) c.in-Some.is) (at ∙ ap position c.in-Ok.ensures.same)) c.go_on.ensures.stays

@@ -1,7 +1,7 @@
 use Rattle.std.proofs.Common.{◌∙◌, ap}
 use Rattle.ocfl_state.specs.{Checkpoint.{Checkpoint}, Content.{Content}}
-use Rattle.ocfl_night.specs.Site.{with_root}
-use Rattle.ocfl_night.proofs.{Lost.{fitted_as, lost_as}, Moments.{joined_moments}, Sound.{put_moments, put_on, renamed}, TakingUp.{taken_as}}
+use Rattle.ocfl_night.specs.{Beginning.{position}, Site.{with_root}}
+use Rattle.ocfl_night.proofs.{Beginnings.{fitted_stays}, Lost.{fitted_as, lost_as}, Moments.{joined_moments}, Sound.{put_moments, put_on, renamed}, TakingUp.{taken_as}}
 use Rattle.ocfl_night.proofs.opening.resume.Goals as goal
 
 pub returns-in_err-put_checkpoint-clause-any_moment : goal.returns-in_err-put_checkpoint-clause-any_moment
@@ -32,3 +32,6 @@ returns-clause-opened g c = λ told.
       lost = lost_as there _ c.fitted-opened.ensures.lost (c.in_ok-there.ensures.lost told);
       checkpoint = c.with_root-next.ensures ∙ ap (with_root c.args.identity.now) (c.fitted-opened.ensures.checkpoint ∙ fits);
     }
+
+pub returns-clause-stays : goal.returns-clause-stays
+returns-clause-stays g c = ap position c.with_root-next.ensures ∙ ap position c.fitted-opened.ensures.checkpoint ∙ fitted_stays c.in_ok-there.there c.args.checkpoint

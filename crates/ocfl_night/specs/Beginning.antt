@@ -1,0 +1,34 @@
+-- Where a night begins: where the checkpoint of its folder stands, or where there is none, at the
+-- first item.
+use Rattle.std.specs.Prelude.{◌≡◌, List, [], Bool, true, false, None}
+use Rattle.ocfl_cursor.specs.Cursor.{Cursor, new_cursor}
+use Rattle.ocfl_state.specs.{Checkpoint.{Checkpoint}, Content.{Content, is_closed}}
+use Rattle.ocfl_state.specs.declared.checkpoint_parts.{Left.{Left}, Phase.{Phase}, Phase.TheVariants.{Open}}
+use Rattle.ocfl_night.specs.Sound.{IsAt}
+
+-- what of a checkpoint says where the next run begins: its cursor, whether the cycle goes on, and the
+-- branches that were left out
+pub record Position : Type 0 where
+  pub cursor : Cursor
+  pub phase : Phase
+  pub left : List Left
+
+abbrev pub position : Checkpoint → Position
+position k = record { cursor = k.cursor; phase = k.phase; left = k.left }
+
+-- at the first item of the first cycle, with nothing left out
+abbrev pub first_position : Position
+first_position = record { cursor = new_cursor; phase = Open; left = [] }
+
+-- a first night begins in it: there is no checkpoint, one may be made, and no report is there, open or
+-- of the first cycle
+pub record IsBegunIn (create : Bool) (c : Content) : Type 0 where
+  pub none : c.checkpoint ≡ None
+  pub may : create ≡ true
+  pub empty : c.report ≡ []
+  pub unclosed : is_closed c.closed 1 ≡ false
+
+-- a night in a folder of this content begins at this checkpoint
+pub data BeginsAt (create : Bool) (c : Content) (start : Checkpoint) : Type 0 where
+  first : IsBegunIn create c → position start ≡ first_position → BeginsAt create c start
+  further : (k : Checkpoint) → IsAt k c → position start ≡ position k → BeginsAt create c start

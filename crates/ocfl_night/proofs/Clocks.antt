@@ -6,7 +6,7 @@ use Rattle.ocfl_tree.specs.Place.{Place}
 use Rattle.ocfl_state.specs.{Checkpoint.{Checkpoint}, Content.{Content}}
 use Rattle.ocfl_night.specs.Clock.{Event, Asked, Read, Heard, is_before, times, times_before, MayBegin, BeginsInTime}
 use Rattle.ocfl_night.specs.Done.{Done, counted, nothing_done}
-use Rattle.ocfl_night.specs.Runs.{Run, Turn, AreRunsOf, EndsBy, IsBegunNight, IsFailed, IsNight, IsPaused, IsRunOf, after_end, events_of, turn, turn_of}
+use Rattle.ocfl_night.specs.Runs.{Run, Turn, AreRunsOf, EndsBy, IsBegunNight, IsFailed, IsNight, IsPaused, IsRunOf, after_end, after_it, events_of, in_it, turn, turn_of}
 use Rattle.ocfl_night.specs.declared.{plan.Halt.{Halt}, plan.NightEnd.{NightEnd}, plan.Pause.{Pause}, plan.Plan.{Plan}, slicing.Made.{Made}}
 use Rattle.ocfl_night.specs.declared.plan.Halt.TheVariants as halt
 use Rattle.ocfl_night.specs.declared.plan.Pause.TheVariants as pause
@@ -81,14 +81,10 @@ few_paused plan end d e k l last pause.Spent is p = few_same end e d last p.3
 few_paused plan end d e k l last (pause.Stopped why) is p = few_halted plan end p.run is p.is p.events p.halts
 few_paused plan end d e k l last pause.RootChanged is p = few_halted plan end p.run is p.is p.events p.halts
 
-few_heard : (end : ℕ) (e d : Done) (now : ℕ) (last : List Event) → e.runs ≡ counted d.runs 1 → nat_lt now end ≡ true
-    → (last ≡ Asked false ∷ Read now ∷ []) ⊎ ((made : Made) × (last ≡ Asked false ∷ Read now ∷ Heard made ∷ [])) → e.runs ≤ d.runs + begun_by end last
-few_heard end e d now last runs in_time (inl is) = few_one end e d now last [] runs in_time is
-few_heard end e d now last runs in_time (inr p) = few_one end e d now last (Heard p.0 ∷ []) runs in_time p.1
-
 few_failed : (plan : Plan) (end : ℕ) (d e : Done) (k : Checkpoint) (last : List Event) → plan.end ≡ Some end → IsFailed plan d k last e → e.runs ≤ d.runs + begun_by end last
 few_failed plan end d e k last is (inr p) = few_same end e d last p.1
-few_failed plan end d e k last is (inl b) = few_heard end e d b.now last b.runs (before plan.end b.now is b.may.in_time) b.events
+few_failed plan end d e k last is (inl (in_it now may events same)) = few_one end e d now last [] (ap (λ (x : Done). x.runs) same) (before plan.end now is may.in_time) events
+few_failed plan end d e k last is (inl (after_it r run events runs left)) = few_one end e d r.now last (Heard r.made ∷ []) runs (before plan.end r.now is run.may.in_time) events
 
 few_ended : (plan : Plan) (end : ℕ) (d e : Done) (k : Checkpoint) (last : List Event) (h : Halt) → plan.end ≡ Some end → EndsBy plan h e d k last → e.runs ≤ d.runs + begun_by end last
 few_ended plan end d e k last (halt.CycleEnded n) is p = few_same end e d last p.3

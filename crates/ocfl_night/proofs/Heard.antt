@@ -1,7 +1,7 @@
 -- What an output heard.
 use Rattle.std.proofs.Common.{◌≡◌, inr, inl, refl, ℕ, [], ◌++◌, Option, sym, ◌∙◌, subst, append_assoc, Result, Ok, Err}
 use Rattle.std.proofs.{KnownBytes.{Appends-nil, Appends-trans}, lemmas.List.{append-nil}}
-use Rattle.std.specs.{Result.{IsErr, IsErrAnd, IsOk, OnOk}, Io.KnownBytes.{Appends}}
+use Rattle.std.specs.{Result.{IsErr, IsErrAnd, IsOk, OnErr, OnOk}, Io.KnownBytes.{Appends}}
 use Rattle.ocfl_tree.specs.Place.{Text}
 use Rattle.ocfl_night.specs.Looks.{Rounds}
 use Rattle.ocfl_state.specs.{Checkpoint.{Checkpoint}, Content.{Content}}
@@ -133,6 +133,11 @@ begun_heard only_now kept = unmoved only_now (λ c n. found_heard (grew_none _) 
 pub on_ok : {T E P : Type 0} (r : Result T E) → IsOk r → OnOk r P → P
 on_ok (Ok x) ok p = p
 on_ok (Err e) ok p = absurd (cc ok)
+
+-- and what holds is what holds if there is none
+pub on_err : {T E P : Type 0} (r : Result T E) → P → OnErr r P
+on_err (Ok x) p = tt
+on_err (Err e) p = p
 
 pub ok_inj : {T E : Type 0} (x y : T) (r : Result T E) → r ≡ Ok x → r ≡ Ok y → x ≡ y
 ok_inj x y r a b = cc (a, b)

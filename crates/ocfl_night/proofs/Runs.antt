@@ -7,9 +7,9 @@ use Rattle.ocfl_item.specs.declared.fault.Fault.TheVariants as fault
 use Rattle.ocfl_cursor.specs.declared.limits.Limits.{Limits}
 use Rattle.ocfl_state.specs.{Checkpoint.{Checkpoint}, declared.checkpoint_parts.Phase.{Phase}}
 use Rattle.ocfl_state.specs.declared.checkpoint_parts.Phase.TheVariants.{Open, Closing}
-use Rattle.ocfl_night.specs.{Clock.{Event, Asked, Read, Heard}, Done.{Done, with_begun, with_made}, Leaving.{done_by, remedy_at}, Steps.{with_all_told}}
+use Rattle.ocfl_night.specs.{Clock.{Event, Asked, Read, Heard}, Done.{Done, with_begun, with_made}, Leaving.{MayHaveLeftAt, done_by, remedy_at}, Steps.{with_all_told}}
 use Rattle.ocfl_night.specs.Ending.{IsSlice, cycle_ended, ended_by, halt_after, halt_of, place_or_pause, slice_end}
-use Rattle.ocfl_night.specs.Runs.{Run, Turn, AreMade, AreRunsOf, EndsBy, IsAllowed, IsEndedBy, IsFailed, IsHalted, IsPaused, IsRunOf, StopsOpen, after_end, after_made, events_of, turn, turn_of}
+use Rattle.ocfl_night.specs.Runs.{Run, Turn, AreMade, AreRunsOf, EndsBy, IsAllowed, IsEndedBy, IsFailed, IsHalted, IsPaused, IsRunOf, MayHaveLeft, StopsOpen, after_end, after_made, events_of, turn, turn_of}
 use Rattle.ocfl_night.specs.declared.{plan.Halt.{Halt}, plan.Pause.{Pause}, plan.Plan.{Plan}, stop.Stop.{Stop}, tally.Remedy.{Remedy}}
 use Rattle.ocfl_night.specs.declared.slicing.{Made.{Made}, SliceEnd.{SliceEnd}}
 use Rattle.ocfl_night.specs.declared.plan.Pause.TheVariants as pause
@@ -156,6 +156,11 @@ pub led_by : (plan : Plan) (d : Done) (now : ℕ) {begun made_then e : Done} {k 
     → (StopsOpen made → turn_of e next ≡ after_made plan.stop_at_faults made_then made) → turn plan d (record { now = now; made = made }) ≡ turn_of e next
 led_by plan d now {made = made} going is at_first then led =
     ap (λ (x : Done). after_made plan.stop_at_faults (with_made made x) made) (sym at_first) ∙ ap (λ (x : Done). after_made plan.stop_at_faults x made) (sym then) ∙ sym (led (stops_open going is))
+
+-- what one may have left out that failed after it
+pub left_by_place : (strict : Bool) (d e : Done) (made : Made) {p : Place} → place_or_pause made.end ≡ Ok p → MayHaveLeftAt strict d p e → MayHaveLeft strict d made e
+left_by_place strict d e made at (inl same) = inl same
+left_by_place strict d e made at (inr more) = inr (more ∙ sym (ap (λ (x : Result Place (Option Pause)). (after_end strict d made.checkpoint x).done.left) at))
 
 -- one that failed
 pub failed_so : (plan : Plan) (d e : Done) (k : Checkpoint) (last : List Event) {r : Result (Checkpoint × Pause) Stop} {why : Stop} → r ≡ Err why → IsFailed plan d k last e → IsEndedBy plan d k last e r

@@ -1,5 +1,5 @@
 -- What a night does about a run that stopped at a place, and which branch it leaves out for it.
-use Rattle.std.specs.Prelude.{◌≡◌, ◌≤◌, ◌-◌, ◌++◌, ◌∷◌, [], List, Bool, IsTrue, true, false, ◌&&◌, ◌||◌, if◌then◌else◌, Option, Some, None, All, length, map, take, nat_lt, nat_le, nat_eq}
+use Rattle.std.specs.Prelude.{◌≡◌, ◌⊎◌, ◌≤◌, ◌-◌, ◌++◌, ◌∷◌, [], List, Bool, IsTrue, true, false, ◌&&◌, ◌||◌, if◌then◌else◌, Option, Some, None, All, length, map, take, nat_lt, nat_le, nat_eq}
 use Rattle.std.specs.List.{starts_with}
 use Rattle.ocfl_tree.specs.Place.{Text, Place, text_eq, place_eq}
 use Rattle.ocfl_inventory.specs.Declaration.{is_declaration}
@@ -90,6 +90,10 @@ pub record LeadsOn (k : Checkpoint) (had : List Place) (l : Checkpoint) (has : L
   pub more : List Left
   pub left : l.left ≡ k.left ++ more
   pub named : has ≡ had ++ map (λ x. x.place) more
+
+-- no branch more was left out, or the one that is to be for this place
+abbrev pub MayHaveLeftAt : Bool → Done → Place → Done → Type 0
+MayHaveLeftAt strict d p e = (e.left ≡ d.left) ⊎ (e.left ≡ d.left ++ left_by (remedy_at strict d p))
 
 -- ---- what a night may leave out
 

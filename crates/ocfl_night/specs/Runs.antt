@@ -105,12 +105,15 @@ IsPaused plan d k last pause.Spent e l = (k.phase ≡ Open) × ((now : ℕ) × (
 IsPaused plan d k last (pause.Stopped why) e l = IsHalted plan d k last (pause.Stopped why) e l
 IsPaused plan d k last pause.RootChanged e l = IsHalted plan d k last pause.RootChanged e l
 
--- a run was begun in which something failed, whether the clock heard of it or not
-pub record IsBroken (plan : Plan) (d : Done) (k : Checkpoint) (last : List Event) (e : Done) : Type 0 where
-  pub now : ℕ
-  pub may : MayBeginAt plan d k now
-  pub events : (last ≡ Asked false ∷ Read now ∷ []) ⊎ ((made : Made) × (last ≡ Asked false ∷ Read now ∷ Heard made ∷ []))
-  pub runs : e.runs ≡ (with_begun now d).runs
+-- after a run no branch more was left out, or the one that is to be for it
+abbrev pub MayHaveLeft : Bool → Done → Made → Done → Type 0
+MayHaveLeft strict d made e = (e.left ≡ d.left) ⊎ (e.left ≡ (after_made strict d made).done.left)
+
+-- a run was begun, and something failed in it, or after it once the clock had heard of it
+pub data IsBroken (plan : Plan) (d : Done) (k : Checkpoint) (last : List Event) (e : Done) : Type 0 where
+  in_it : (now : ℕ) → MayBeginAt plan d k now → last ≡ Asked false ∷ Read now ∷ [] → e ≡ with_begun now d → IsBroken plan d k last e
+  after_it : (r : Run) → IsRunOf plan d k r → last ≡ events_of r → e.runs ≡ (with_begun r.now d).runs
+      → MayHaveLeft plan.stop_at_faults (with_made r.made (with_begun r.now d)) r.made e → IsBroken plan d k last e
 
 -- that, or no further run could be counted
 abbrev pub IsFailed : Plan → Done → Checkpoint → List Event → Done → Type 0

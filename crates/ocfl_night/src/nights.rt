@@ -1,12 +1,12 @@
 //! A night.
-ghost use Rattle.std.specs.Prelude.{◌≡◌, ◌≢◌, ◌⊎◌, ◌↔◌, ◌≤◌, [], IfOk, IfSome, IsErr, All, IsOk, IsSome, IsTrue, List, Err, Ok, OnOk, Some, false, true, length, ℕ};
+ghost use Rattle.std.specs.Prelude.{◌≡◌, ◌≢◌, ◌⊎◌, ◌↔◌, ◌≤◌, [], IfOk, IfSome, IsErr, All, IsOk, IsSome, IsTrue, List, Err, Ok, OnErr, OnOk, Some, false, true, length, ℕ};
 ghost use Rattle.std.specs.Io.KnownBytes.{Appends};
 ghost use Rattle.ocfl_audit.specs.Parts.{Part as ModelPart};
 ghost use Rattle.ocfl_tree.specs.StorageRoot.{StorageRoot};
 ghost use Rattle.ocfl_scrub.specs.Starting.{part_of};
 ghost use Rattle.ocfl_state.specs.{Content.{Closed}, Crash.{LeavesOnly}};
 ghost use Rattle.ocfl_state.specs.declared.checkpoint_parts.Phase.TheVariants.{Open};
-ghost use Rattle.ocfl_night.specs.Leaving.{LeadsOn, StillMayLeave, done_by, has_end, remedy_at, with_remedy};
+ghost use Rattle.ocfl_night.specs.Leaving.{LeadsOn, MayHaveLeftAt, StillMayLeave, done_by, has_end, remedy_at, with_remedy};
 ghost use Rattle.ocfl_night.specs.Looks.{Counts, Rounds, WithLook, look_between, of_any};
 ghost use Rattle.ocfl_night.specs.Promises.{HasCome, HasLost, IfLost, IfReady, IfReadyIn, IsSafe, IsSafeIn, IsAllThere, IsUncut, OnShort, OverShort, SameClosed};
 ghost use Rattle.ocfl_night.specs.Older.{IfOlder};
@@ -15,7 +15,7 @@ ghost use Rattle.ocfl_night.specs.Refusing.{IfForeign, IfRefused, IsBarred, IsFo
 ghost use Rattle.ocfl_night.specs.{Site.{part_at}, Steps.{IsNotBegun, IsUntouched, IsWalkAt, closes_whole}};
 ghost use Rattle.ocfl_night.specs.Sound.{IsAllSaid, IsHeard, IsHeardSince, IsKept, IsOneMore, IsReady, IsReadySince, IsSound};
 ghost use Rattle.ocfl_night.specs.{Beginning.{BeginsAt}, Clock.{is_before}, Done.{done_of}};
-ghost use Rattle.ocfl_night.specs.Runs.{AreMade, EndsBy, IsAllowed, IsEndedBy, IsNight, StopsOpen, after_made, turn_of};
+ghost use Rattle.ocfl_night.specs.Runs.{AreMade, EndsBy, IsAllowed, IsEndedBy, IsNight, MayHaveLeft, StopsOpen, after_made, turn_of};
 ghost use Rattle.ocfl_night.specs.Ending.{cycle_of, ended_by, halt_after, halt_of, place_or_pause, unbegun_by};
 ghost use Rattle.ocfl_night.specs.{Pace.{budget_at, files_at}, Nights.{IsSafeNight}};
 ghost use Rattle.ocfl_night.specs.declared.stop.Stop.{Stop as ModelStop};
@@ -163,6 +163,8 @@ fn pass_by<S: StateFolder>(
         (remedy_at plan.now.stop_at_faults (done_of tally.old) place)) }
     ensures tally { checkpoint.phase ≡ Open → OnOk result (done_of tally.new ≡ with_remedy place
         (remedy_at plan.now.stop_at_faults (done_of tally.old) place) (done_of tally.old)) }
+    ensures broken { OnErr result (MayHaveLeftAt plan.now.stop_at_faults (done_of tally.old) place
+        (done_of tally.new)) }
     ensures left { StillMayLeave plan.now.stop_at_faults tally.old tally.new }
 {
     if phase_of(&checkpoint) != Phase::Open {
@@ -200,6 +202,8 @@ fn go_on_after<S: StateFolder>(
     ensures left { StillMayLeave plan.now.stop_at_faults tally.old tally.new }
     ensures turn { StopsOpen made → IfOk result (λ next. turn_of (done_of tally.new) next
         ≡ after_made plan.now.stop_at_faults (done_of tally.old) made) }
+    ensures broken { OnErr result (MayHaveLeft plan.now.stop_at_faults (done_of tally.old) made
+        (done_of tally.new)) }
 {
     let Made {
         checkpoint,

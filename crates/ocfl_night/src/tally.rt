@@ -1,5 +1,5 @@
 //! What a night has done so far, and what it does about a run that stopped at a place.
-ghost use Rattle.std.specs.Prelude.{◌≡◌, ◌++◌, Bool, IfOk, false};
+ghost use Rattle.std.specs.Prelude.{◌≡◌, ◌++◌, Bool, IfOk, OnErr, false};
 ghost use Rattle.ocfl_night.specs.Done.{done_of, nothing_done, with_begun, with_made, with_none_tried};
 ghost use Rattle.ocfl_night.specs.Leaving.{MayLeave, branch_for, is_at, left_by, remedy_at, remedy_by, tried_by, with_remedy};
 
@@ -103,6 +103,7 @@ impl Tally {
             self.new.left.items ≡ self.old.left.items ++ left_by remedy) }
         ensures may_leave { MayLeave false self.old.left.items
             → MayLeave false self.new.left.items }
+        ensures kept { OnErr result (self.new.left.items ≡ self.old.left.items) }
         ensures same { self.new ≡ record self.old { left = self.new.left } }
     {
         match self.branch_for(alloc, place)? {
@@ -125,6 +126,7 @@ impl Tally {
             remedy ≡ remedy_at strict (done_of self.old) place.now) }
         ensures done { IfOk result (λ remedy.
             done_of self.new ≡ with_remedy place.now remedy (done_of self.old)) }
+        ensures kept { OnErr result (self.new.left.items ≡ self.old.left.items) }
         ensures runs { self.new.runs ≡ self.old.runs }
         ensures may_leave { MayLeave strict self.old.left.items
             → MayLeave strict self.new.left.items }

@@ -1,6 +1,6 @@
-use Rattle.std.proofs.Common.{◌∙◌, ap, sym}
-use Rattle.ocfl_night.specs.Leaving.{done_by}
-use Rattle.ocfl_night.proofs.{Moments.{unmoved}, Sound.{ready_sound}}
+use Rattle.std.proofs.Common.{◌∙◌, ◌++◌, ap, inl, inr, sym}
+use Rattle.ocfl_night.specs.{Done.{Done, done_of}, Leaving.{done_by, left_by}, declared.tally.Remedy.{Remedy}}
+use Rattle.ocfl_night.proofs.{Heard.{on_err}, Moments.{unmoved}, Sound.{ready_sound}}
 use Rattle.ocfl_night.proofs.nights.pass_by.Goals as goal
 
 pub returns-then-ne-clause-any_moment : goal.returns-then-ne-clause-any_moment
@@ -20,3 +20,10 @@ returns-in-Halt-clause-any_moment g c = λ told rounds t r. unmoved (g.met.S.Sta
 
 pub returns-in-Halt-clause-done : goal.returns-in-Halt-clause-done
 returns-in-Halt-clause-done g c = λ there. ap (done_by c.args.checkpoint c.args.place) (sym c.in-Halt.is ∙ c.in_ok-remedy.ensures.is)
+
+pub returns-in_err-remedy-clause-broken : goal.returns-in_err-remedy-clause-broken
+returns-in_err-remedy-clause-broken g c = on_err c.from_residual.result (inl c.in_err-remedy.ensures.kept)
+
+pub returns-in_err-next-in-LeaveOut-clause-broken : goal.returns-in_err-next-in-LeaveOut-clause-broken
+returns-in_err-next-in-LeaveOut-clause-broken g c =
+    on_err c.from_residual-in_err-next-in-LeaveOut.result (inr (ap (λ (d : Done). d.left) c.in_ok-remedy.ensures.done ∙ ap (λ (r : Remedy). (done_of c.args.tally.now).left ++ left_by r) c.in_ok-remedy.ensures.is))

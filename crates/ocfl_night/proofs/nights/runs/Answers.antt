@@ -4,9 +4,9 @@ use Rattle.std.specs.Prelude.{IsTrue}
 use Rattle.ocfl_tree.specs.{Place.{Text}, StorageRoot.{StorageRoot}}
 use Rattle.ocfl_item.specs.Judging.{HasShortFiles}
 use Rattle.ocfl_scrub.specs.Starting.{part_of}
-use Rattle.ocfl_night.specs.{Clock.{Event, Asked, Read, Heard}, Done.{Done, done_of}, Leaving.{LeadsOn, MayLeave}}
+use Rattle.ocfl_night.specs.{Clock.{Event, Asked, Read, Heard}, Done.{Done, done_of, with_made}, Leaving.{LeadsOn, MayLeave}}
 use Rattle.ocfl_state.specs.declared.checkpoint_parts.Phase.TheVariants.{Open}
-use Rattle.ocfl_night.specs.Runs.{Run, IsRunOf, MayBeginAt, StopsOpen, after_made, events_of, turn_of}
+use Rattle.ocfl_night.specs.Runs.{Run, IsRunOf, MayBeginAt, MayHaveLeft, StopsOpen, after_it, after_made, events_of, in_it, turn_of}
 use Rattle.ocfl_night.specs.declared.plan.Pause.{Pause}
 use Rattle.ocfl_night.specs.Looks.{Counts, IsOneOf, Look, look_between}
 use Rattle.ocfl_night.specs.{Promises.{IsSafeIn}, Sound.{IsReady}}
@@ -175,15 +175,16 @@ returns-in_err-made-clause-told g c = λ told.
     let is = c.in-Ok.ensures told in
     let p = err_from_is_err_and c.from_residual.result c.from_residual.ensures.1 in
     and_then (Asked false ∷ Read c.in-Ok.allowed.1 ∷ []) (c.loop-run.invariant.told told) is.0
-    (failed_so c.args.plan.now (done_of c.loop-run.tally) (done_of c.begin.new.self) c.loop-run.checkpoint _ p.1 (inl (record { now = c.in-Ok.allowed.1; may = record { goes_on = search rules; in_time = is.1; files = is.2 }; events = inl refl; runs = ap (λ (d : Done). d.runs) c.begin.ensures.done })))
+    (failed_so c.args.plan.now (done_of c.loop-run.tally) (done_of c.begin.new.self) c.loop-run.checkpoint _ p.1 (inl (in_it c.in-Ok.allowed.1 (record { goes_on = search rules; in_time = is.1; files = is.2 }) refl c.begin.ensures.done)))
 
 pub returns-in_err-next-clause-told : goal.returns-in_err-next-clause-told
 returns-in_err-next-clause-told g c = λ told.
     let at = (goal.at.returns-in_err-next-clause-told g c).After-go_on_after in
     let p = err_from_is_err_and c.from_residual-in_err-next.result c.from_residual-in_err-next.ensures.1 in
     let runs = c.go_on_after.ensures.runs ∙ ap (λ (d : Done). d.runs) c.count.ensures.done ∙ ap (λ (d : Done). d.runs) c.begin.ensures.done in
+    let left = subst (λ (d : Done). MayHaveLeft c.args.plan.now.stop_at_faults d c.in_ok-made.made (done_of c.go_on_after.new.tally)) (c.count.ensures.done ∙ ap (with_made c.in_ok-made.made) c.begin.ensures.done) c.in_err-next.ensures.broken in
     and_then (events_of (run g at told)) (c.loop-run.invariant.told told) (heard g at told)
-    (failed_so c.args.plan.now (done_of c.loop-run.tally) (done_of c.go_on_after.new.tally) c.loop-run.checkpoint _ p.1 (inl (record { now = c.in-Ok.allowed.1; may = may g at told; events = inr (c.in_ok-made.made, refl); runs = runs })))
+    (failed_so c.args.plan.now (done_of c.loop-run.tally) (done_of c.go_on_after.new.tally) c.loop-run.checkpoint _ p.1 (inl (after_it (run g at told) (is_run g at told) refl runs left)))
 
 pub returns-in-Some-clause-told : goal.returns-in-Some-clause-told
 returns-in-Some-clause-told g c = λ told.

@@ -598,7 +598,7 @@ def takes_little(folder):
         check("%s within 100 MB" % name, (given, said), (2 if name == "status" else 0, ""))
         opened = [row for row in read(calls).splitlines() if row.endswith("<%s>" % report)]
         check("%s opens the report once" % name, len(opened), 1)
-        check("%s takes less than a minute" % name, used() - began < 60, True)
+        check("%s takes less than two minutes" % name, used() - began < 120, True)
     text = state.has("reports/statement-000002")
     check("it counts all", ["Report lines: 1000001\n" in text, "Findings E072: 250000\n" in text],
           [True, True])

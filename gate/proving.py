@@ -23,7 +23,7 @@ def main():
     os.chdir(sys.argv[1])
     rt = toolchain.load()
     whole = built_whole(toolchain.crates_of(rt, os.getcwd()))
-    build(rt, whole)
+    toolchain.build_whole(rt, whole)
     fill(rt, due.chosen(collection.listed()), whole)
     return rt.main(["ci"])
 
@@ -32,22 +32,6 @@ def built_whole(made):
     """The crates whose libraries are built with their proofs."""
     above = [it.name for crate in made.values() for it in crate.below()]
     return {name for name in made if above.count(name) <= FEW}
-
-
-def build(rt, whole):
-    """Has `rt ci` build these libraries with their proofs, and take none without from an earlier
-    run: their edits would need a proof of their own."""
-    made, key = rt.Crate.ci, rt.Kept.key
-
-    def ci(crate, flags, tests):
-        if crate.name in whole:
-            crate.cuts_libraries = False
-        return made(crate, flags, tests)
-
-    def key_of(kept, crate):
-        return key(kept, crate) + "-with-proofs" * (crate.name in whole)
-
-    rt.Crate.ci, rt.Kept.key = ci, key_of
 
 
 def fill(rt, edits, whole):

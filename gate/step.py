@@ -9,10 +9,12 @@ import json
 import os
 import re
 import resource
+import shutil
 import sys
 import tempfile
 
 from gate import collection, functions, rounds, toolchain
+from gate.repository import copy_or_link
 
 KEPT = "out/incremental"
 # The status of a check that was called wrongly, as with a path that fits no function.
@@ -87,7 +89,8 @@ def over(rt, crate):
     """Links to what a crate kept, so that each check is made over the same."""
     with tempfile.TemporaryDirectory() as room:
         kept = os.path.join(room, "kept")
-        rt.linked(os.path.join(crate.folder, KEPT), kept)
+        if os.path.isdir(os.path.join(crate.folder, KEPT)):
+            shutil.copytree(os.path.join(crate.folder, KEPT), kept, copy_function=copy_or_link)
         yield kept
 
 
@@ -113,8 +116,7 @@ def alone(rt, crate, edit):
         if refused:
             return True, refused
         verdict, text = rt.must_fail(crate, file, ["--jobs", "1"], kept)
-    # `rt` gives a word for each verdict, of which these two are refusals.
-    return verdict in (rt.REFUSED, rt.AT_LIMIT), text.split(": ", 1)[-1]
+    return toolchain.is_refusal(rt, verdict), text.split(": ", 1)[-1]
 
 
 def by_laws(rt, crate, edit, kept):

@@ -67,7 +67,7 @@ class Steps:
     def try_over(self, name, kind, waits, shared, alone):
         """Tries edits over what a step of that kind keeps of a crate, and then sees that it is
         still what that step left."""
-        kept, lines = Kept(self.rt, self.made[name]), self.lines(name)
+        kept, lines = Kept(self.made[name]), self.lines(name)
         key = name, kind, ()
         proof = self.put(key, waits, lines // (10 if kind == "base" else 1),
                          functools.partial(kept.leave, self.folder, key, waits))
@@ -80,20 +80,30 @@ class Steps:
 class Kept:
     """What is kept of a crate, over which its edits are tried."""
 
-    def __init__(self, rt, crate):
-        self.rt, self.place, self.files = rt, os.path.join(crate.folder, KEPT), {}
+    def __init__(self, crate):
+        self.place, self.files = os.path.join(crate.folder, KEPT), {}
 
     def leave(self, folder, key, waits, given, jobs):
         """Takes the step that keeps it."""
         result = step(folder, key, waits, given, jobs)
-        self.files = self.rt.listing(self.place)
+        self.files = listing(self.place)
         return result
 
     def compare(self, key, _given, _jobs):
         """Whether no file of it was changed since, lost or added."""
-        well = self.rt.listing(self.place) == self.files
+        well = listing(self.place) == self.files
         text = "what was kept is as it was" if well else "what was kept was changed by a check"
         return report_step(key, Step([(well, text)], 0))
+
+
+def listing(place):
+    """The files below a folder, each with its size and when it was changed."""
+    found = {}
+    for folder, _, names in os.walk(place):
+        for path in (os.path.join(folder, name) for name in names):
+            look = os.stat(path)
+            found[os.path.relpath(path, place)] = look.st_size, look.st_mtime_ns
+    return found
 
 
 def tasks_beside(rt, folder, edits, whole):

@@ -9,7 +9,7 @@ import tempfile
 import types
 import unittest
 
-from gate import commands, proving, rounds, step, trying
+from gate import commands, proving, rounds, step, toolchain, trying
 from gate.collection import listed as every_listed
 from gate.repository import below, crates
 
@@ -75,9 +75,8 @@ class Rooms(unittest.TestCase):
         for name in below(["ocfl_digest", "ocfl_parts"]):
             if name.startswith("ocfl_"):
                 self.made[name] = Crate(name, self.room.name, self.made)
-        self.rt = types.SimpleNamespace(need=lambda crate: 1, listing=listing, in_lanes=one_by_one,
-                                        rtlib=types.SimpleNamespace(
-                                            crates_below=lambda folder: self.made.values()))
+        below_it = types.SimpleNamespace(crates_below=lambda folder: self.made.values())
+        self.rt = types.SimpleNamespace(need=lambda crate: 1, in_lanes=one_by_one, rtlib=below_it)
 
     def crate(self):
         return self.made["ocfl_digest"]
@@ -87,12 +86,6 @@ class Rooms(unittest.TestCase):
         os.makedirs(os.path.dirname(file), exist_ok=True)
         with open(file, "wb") as it:
             it.write(content)
-
-
-def listing(folder):
-    """The sizes of the files of a folder, in the place of what `rt` looks at."""
-    return {name: os.path.getsize(os.path.join(folder, name))
-            for name in sorted(os.listdir(folder))}
 
 
 def one_by_one(tasks):
@@ -156,8 +149,8 @@ class Steps(Rooms):
 class Bases(Rooms):
     def test_changed_work_is_seen(self):
         self.write(trying.KEPT + "/a.oantt", b"one")
-        kept = trying.Kept(self.rt, self.crate())
-        kept.files = listing(kept.place)
+        kept = trying.Kept(self.crate())
+        kept.files = trying.listing(kept.place)
         key = "ocfl_digest", "end", ()
         with contextlib.redirect_stdout(io.StringIO()):
             self.assertTrue(kept.compare(key, {}, 1).told[0][0])
@@ -207,12 +200,24 @@ class Bases(Rooms):
                 return "sum"
 
         rt = types.SimpleNamespace(Crate=Built, Kept=Known)
-        proving.build(rt, {"high"})
+        toolchain.build_whole(rt, {"high"})
         self.assertFalse(rt.Crate("high").ci([], False))
         self.assertTrue(rt.Crate("low").ci([], False))
         # (what an earlier run kept without its proofs has another name)
         self.assertNotEqual(rt.Kept().key(rt.Crate("high")), "sum")
         self.assertEqual(rt.Kept().key(rt.Crate("low")), "sum")
+
+    def test_libraries_are_built_whole_where_nothing_is_kept(self):
+        """Some kits keep no proofs for later runs."""
+        class Built:
+            name, cuts_libraries = "high", True
+
+            def ci(self, flags, tests):
+                return self.cuts_libraries
+
+        rt = types.SimpleNamespace(Crate=Built)
+        toolchain.build_whole(rt, {"high"})
+        self.assertFalse(rt.Crate().ci([], False))
 
     def test_libraries_with_few_above_are_built_whole(self):
         low, *above = [types.SimpleNamespace(name="a%d" % at) for at in range(proving.FEW + 2)]
@@ -237,7 +242,6 @@ class Prover(Rooms):
         rtlib = types.SimpleNamespace(STALE=re.compile("stale"))
         self.rt = types.SimpleNamespace(REFUSED="refused", AT_LIMIT="limit", rtlib=rtlib,
                                         checked=self.checked, must_fail=self.must_fail,
-                                        linked=lambda folder, to: None,
                                         edited=lambda text, folder: ({"src/lib.rt": ""}, None),
                                         unread=lambda line, changed: "cannot be read" in line)
 

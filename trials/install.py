@@ -61,10 +61,13 @@ share/ocfl-scrub/ocfl_scrub_reports/__init__.py 644
 share/ocfl-scrub/ocfl_scrub_reports/codes 644
 share/ocfl-scrub/ocfl_scrub_reports/command.py 644
 share/ocfl-scrub/ocfl_scrub_reports/counts.py 644
+share/ocfl-scrub/ocfl_scrub_reports/cycle_page.py 644
 share/ocfl-scrub/ocfl_scrub_reports/database.py 644
 share/ocfl-scrub/ocfl_scrub_reports/files.py 644
 share/ocfl-scrub/ocfl_scrub_reports/finish.py 644
 share/ocfl-scrub/ocfl_scrub_reports/log.py 644
+share/ocfl-scrub/ocfl_scrub_reports/markup.py 644
+share/ocfl-scrub/ocfl_scrub_reports/objects.py 644
 share/ocfl-scrub/ocfl_scrub_reports/page.py 644
 share/ocfl-scrub/ocfl_scrub_reports/premis.py 644
 share/ocfl-scrub/ocfl_scrub_reports/questions.py 644

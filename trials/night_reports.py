@@ -1,9 +1,10 @@
 #!/usr/bin/env python3
 """Tries what `ocfl-scrub-reports` makes of the folders of `ocfl-scrub night` and `ocfl-scrub join`,
-without `nightly`: statements that hold, what is open and gone, and events.
+without `nightly`: statements that hold, what is open and gone, events, and pages.
 
 usage: night_reports.py [PART]...
 """
+import html
 import json
 import os
 import re
@@ -138,6 +139,53 @@ def parts(folder):
     check("events", ask("premis", "--each", "object", nights.state, "1")[1].count("<event>"), 3)
 
 
+# Names of files, and as a page shows them: frames as brackets.
+NAMES = [("Brief an M\xfcller.pdf",) * 2, ("<script>alert(1)<!--",) * 2, ("\"'onload='x",) * 2,
+         ("&lt;b",) * 2, ("a\x1b[2J\n", "a[%1B][2J[%0A]"), ("\u202egpj.exe", "[%E2%80%AE]gpj.exe"),
+         ("100%", "100%"), ("\u65e5\u672c",) * 2]
+
+
+def shown(page):
+    """The text of a page as a browser shows it, with brackets for frames and `|` after a cell."""
+    page = re.sub('<span class="byte">(.*?)</span>', "[\\1]", page.partition("</style>")[2])
+    page = re.sub("</t[dh]>", "|", re.sub("\n+", "\n", page))
+    return html.unescape(re.sub("</?[a-z][^<>]*>", "", page))
+
+
+def pages(folder):
+    """The page of a cycle: of one that is good, and of one with damage whose names are hostile."""
+    nights = Nights(folder, {"a/o": {"v1/content/" + name: b"abc" for name, _ in NAMES},
+                             "b/p": {"v1/content/c": b"abcd"}})
+    inventory = nights.root + "/a/o/inventory.json"
+    for cycle in (1, 2):
+        nights.night()
+        ask("finish", nights.state)
+    status, good, said = ask("cycle", nights.state, "2")
+    check("a good cycle", (status, said, [piece for piece in [
+        "OK", "Nothing was found: 9 content files of 2 objects were read to the end, and are right.",
+        "Nothing is gone since cycle 1."] if piece not in shown(good)]), (0, "", []))
+    for name, _ in NAMES:
+        write(nights.root + "/a/o/v1/content/" + name, "abd")
+    shutil.rmtree(nights.root + "/b/p")
+    nights.night()
+    ask("finish", "--seal", 'cp "$1" "$1.copy"', nights.state)
+    status, page, said = ask("cycle", nights.state, "3")
+    rows = ["v1/content/%s|bytes have changed|E092|expected sha256 %s.., found %s..|new|" % (
+        name, digest(b"abc")[:12], digest(b"abd")[:12]) for _, name in NAMES]
+    sealed = digest(common.read(nights.path("reports/statement-000003")))
+    pieces = ["CRITICAL", "8 findings; 8 of them say", "1 object is gone.", "object|b/p|",
+              "Object at a/o", "statement-000003.copy|%s|" % sealed, *rows]
+    check("a page of damage", (status, said, [it for it in pieces if it not in shown(page)]),
+          (0, "", []))
+    check("it runs and loads nothing", re.findall(
+        "<(?:script|img|link|iframe|object|a)|<[a-z][^<>]*\\bon[a-z]+=|url[(]|https?:", page), [])
+    given = json.loads(common.read(inventory))
+    write(inventory, json.dumps({**given, "id": "urn:<i>:1"}))
+    check("by its id", "Object urn:<i>:1" in shown(ask("cycle", nights.state, "3")[1]), True)
+    check("how the nights go", [name for _, name in NAMES if "v1/content/%s|" % name not in shown(
+        ask("page", nights.state)[1])], [])
+
+
 def unfinished(folder):
     """What a power cut left of a statement beside its place is taken away by the next call, and
     nothing else."""
@@ -156,7 +204,7 @@ def unfinished(folder):
     check("it holds", nights.holds(1), 0)
 
 
-PARTS = [statements, questions, parts, unfinished]
+PARTS = [statements, questions, parts, pages, unfinished]
 
 
 def check_all(folder):

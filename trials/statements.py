@@ -93,6 +93,7 @@ def table_of_codes():
     rows = [row.split("\t") for row in table.splitlines() if row[0] != "#"]
     check("codes of the table", sorted(row[0] for row in rows), sorted(codes))
     check("their weights", sorted({row[1] for row in rows}), ["-", "1", "2", "3", "4"])
+    check("their words", [row[0] for row in rows if len(row) != 4 or not row[3]], [])
     apart = {"E001", "E015", "E023", "E024", "E069", "E072", "E073", "E076", "E080", "E092", "E093",
              "S04", "S05", "S08"}
     check("codes of no object's head", {row[0] for row in rows if row[2] == "place"}, apart)

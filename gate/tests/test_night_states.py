@@ -99,9 +99,11 @@ class Program:
             self.put("reports/gone-%06d" % cycle, gone)
         said = {"compared": compared, "why": "", "objects": gone.count(b"object\t"),
                 "files": gone.count(b"file\t"), "expected": 0, "listed": 0, "list": "", **more}
+        repaired = said.pop("repaired", 0)
         self.log(row="closing", time=at(night_of(day)) + 1800, night=at(night_of(day)), cycle=cycle,
-                 report=os.path.join(self.path, name), whole=whole, findings=2, new=0, repaired=0,
-                 gone=gone.count(b"\n"), left=left, **({} if compared is None else said))
+                 report=os.path.join(self.path, name), whole=whole, findings=2, new=0,
+                 repaired=repaired, gone=gone.count(b"\n"), left=left,
+                 **({} if compared is None else said))
 
     def keep_checkpoint(self, cycle, report):
         """Puts the checkpoint that closed a cycle with this report of less than 4 MiB."""
@@ -532,7 +534,7 @@ class LeftOut(Asked):
         made.night(1, 3, 1, 3, 9, 3)
         self.assertIn("; cycle 3 will not be whole: left out b, d;",
                       self.ask("status", *NOW, made.path)[1])
-        self.assertIn("<td>b; d</td>", self.ask("page", *NOW, made.path)[1])
+        self.assertIn("<td><bdi>b; d</bdi></td>", self.ask("page", *NOW, made.path)[1])
 
 
 class Checkpoint(Asked):

@@ -348,7 +348,7 @@ class Lost(Told):
         self.check(said, Objects_gone="1", Objects_no_longer_declared="1")
         self.assertEqual(said["Objects no longer declared, and not back"], "1")
         self.assertEqual(self.status("--list")[1].splitlines()[-2:], ["object\ts", "undeclared\tp"])
-        self.assertIn("<td>p</td>", self.ask("page", *NOW, self.made.path)[1])
+        self.assertIn("<bdi>p</bdi>", self.ask("page", *NOW, self.made.path)[1])
         events = self.ask("premis", "--each", "object", self.made.path, 2)[1]
         self.assertIn("no longer declared, and not looked at: p<", events)
         self.assertIn("Objects no longer declared: 1<", self.ask("premis", self.made.path, 2)[1])
@@ -384,7 +384,7 @@ class Lost(Told):
         self.cycle(2, ONE, whole=False, left=1, compared=1)
         self.check(self.said(2), Expected_objects_missing="not asked")
         self.assertEqual(self.status("--list")[1].splitlines()[-2:], ["expected\tx", "expected\ty"])
-        self.assertIn("<td>y</td>", self.ask("page", *NOW, self.made.path)[1])
+        self.assertIn("<bdi>y</bdi>", self.ask("page", *NOW, self.made.path)[1])
         self.assertEqual(self.figures()["expected_objects_missing"], "2")
         known = self.put(b"expected\tx\n", "known")
         self.assertIn("1 expected object is missing", self.status("--known", known)[1])

@@ -133,6 +133,11 @@ def do_verify(given: Given) -> int:
     return verify.show(given.statement, given.report)
 
 
+def do_cycle(given: Given) -> None:
+    from . import cycle_page
+    cycle_page.show(state_of(given), given.cycle, Weights(given.codes))
+
+
 def do_page(given: Given) -> None:
     from . import page
     state, standing = standing_of(given)
@@ -268,6 +273,11 @@ COMMANDS: list[tuple[str, Does, str, str, Iterable[Callable[[Parser], object]], 
      "warning from W on and an alarm from C on, - is never."),
     ("page", do_page, "writes a page that shows how the nights are going", "~/audit > index.html",
      [*JUDGING, STATE], "It is one file of HTML without scripts, for a browser or a printer."),
+    ("cycle", do_cycle, "writes a page about a closed cycle, to be filed or printed",
+     "~/audit 1 > cycle-1.html", [CODES, STATE, CYCLE],
+     "It is one file of HTML without scripts: what was read, found, gone, back and not looked at, "
+     "and the cycle's statement, which is needed. Objects are named by the ids in their "
+     "inventories, which are read."),
     ("recheck", do_recheck,
      "looks again at the places of open findings, and says which are repaired", "~/audit",
      [WITHOUT_KNOWN, STATE],

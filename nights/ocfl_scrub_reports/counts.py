@@ -161,15 +161,32 @@ def of_changes(found: IO[bytes], report: str, earlier: str | None,
 
 def of_former(found: IO[bytes], report: str, before: IO[bytes]) -> dict[str, str]:
     """What became of the findings of before."""
-    lacking, changed, count = files.spool(), 0, 0
+    lacking, count, changed = lacking_in(before, found)
+    away = sum(1 for _ in standing.left_over(questions.lines_of(lacking), [[report]]))
+    return {"Changed findings": str(changed), "Former findings": str(count - away),
+            "Findings no longer looked at": str(away)}
+
+
+def lacking_in(before: IO[bytes], found: IO[bytes]) -> tuple[IO[bytes], int, int]:
+    """The codes and places of before that are not found there now, how many they are, and how many
+    others have another detail now."""
+    lacking, count, changed = files.spool(), 0, 0
     for key, is_known, is_changed in beside(before, found):
         changed += is_changed
         if not is_known:
             count += 1
             lacking.write(key + b"\n")
-    away = sum(1 for _ in standing.left_over(questions.lines_of(lacking), [[report]]))
-    return {"Changed findings": str(changed), "Former findings": str(count - away),
-            "Findings no longer looked at": str(away)}
+    return lacking, count, changed
+
+
+def former(found: IO[bytes], report: str, before: IO[bytes]) -> Iterator[bytes]:
+    """The codes and places of before that are not found there now, though the place has a line."""
+    # Without a name the spool is closed before it is read.
+    lacking, _, _ = lacking_in(before, found)
+    rest = questions.lines_of(lacking)
+    while held := list(islice(rest, questions.HELD)):
+        away = set(standing.left_over(held, [[report]]))
+        yield from (it for it in held if it not in away)
 
 
 def is_within_any(path: bytes, places: Iterable[bytes]) -> bool:

@@ -46,10 +46,11 @@ class Closing:
     list: str = ""
     # How many places were left out.
     left: int = 0
-    # How many files were no longer looked at, and how many objects were back. None if the log does
-    # not say it.
+    # How many files were no longer looked at, how many objects were back, and how many findings of
+    # before were repaired. None if the log does not say it.
     unlooked: int | None = None
     back: int | None = None
+    repaired: int | None = None
 
     def why_not_compared(self, cycle: int) -> str:
         """Why nobody knows what this cycle lost; empty if it was compared."""
@@ -277,7 +278,8 @@ def closing_of(row: dict[str, Any]) -> Closing:
     return Closing(
         os.path.basename(words(row, "report")), row.get("whole") is True, True, compared,
         words(row, "why"), number(row, "gone"), number(row, "listed"), words(row, "list"),
-        number(row, "left"), number_if_any(row, "unlooked"), number_if_any(row, "back"))
+        number(row, "left"), number_if_any(row, "unlooked"), number_if_any(row, "back"),
+        number_if_any(row, "repaired"))
 
 
 class Comparisons:
@@ -384,6 +386,7 @@ class Joining:
             gone=sum(it.gone for it in closings.values()),
             unlooked=sum_if_all(it.unlooked for it in closings.values()),
             back=sum_if_all(it.back for it in closings.values()),
+            repaired=sum_if_all(it.repaired for it in closings.values()),
             **of_all_parts(closings, entry.cycle)))
 
 

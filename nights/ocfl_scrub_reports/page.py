@@ -2,44 +2,28 @@
 runs no script."""
 from __future__ import annotations
 
+import math
 from dataclasses import dataclass
-from html import escape
 from typing import Iterable, Sequence
 
-from . import files, questions
+from . import files, markup, questions
 from .counts import CHANGES, of_changes
 from .log import Closing, Entry
-from .shared import many
+from .markup import (SIZES, SPANS, Units, detail, measured, place, section, shown, size, span,
+                     table, text, unit_of)
+from .shared import many, many_are
 from .standing import kinds_gone
 from .state import NOT_KNOWN, State, cycle_name
 from .statement import Statement, plain
-from .status import WORDS, Standing, with_reason
+from .status import Standing, with_reason
 from .weights import Weights
 
 SHOWN = 200
 # What the words of a list of what is gone stand for.
-LOST = {"undeclared": "object, no longer declared", "expected": "expected object"}
+LOST = {b"undeclared": "object, no longer declared", b"expected": "expected object, missing"}
+# What the status of a night means.
+RESULTS = {"0": ", no finding", "1": ", findings", "cut": ""}
 NIGHTS = 60
-STYLE = """
-:root { color-scheme: light dark; --bar: #36c; --line: #8888; --good: #2a7; --bad: #c33; }
-body { font: 1rem/1.5 system-ui, sans-serif; max-width: 70rem; margin: 2rem auto; padding: 0 1rem; }
-table { border-collapse: collapse; margin: 1rem 0; max-width: 100%; }
-caption, h2 { text-align: left; font-weight: 600; }
-th, td { border-bottom: 1px solid var(--line); padding: .2rem .8rem .2rem 0; text-align: left;
-  vertical-align: top; overflow-wrap: anywhere; }
-th { white-space: nowrap; } tbody th { font-weight: normal; }
-td.number { text-align: right; }
-svg { width: 100%; height: auto; } svg { max-width: 45rem; display: block; }
-svg rect { fill: var(--bar); } svg .done { fill: var(--good); }
-svg .open { fill: var(--line); } svg text { fill: currentColor; font-size: 9px; }
-svg line { stroke: var(--line); } .level { font-size: 1.2rem; font-weight: 600; }
-.level span { padding: .1rem .6rem; border-radius: .3rem; color: #fff; background: #777; }
-.level .ok { background: #187a50; } .level .warning { background: #8a5a00; }
-.level .critical { background: #b3261e; }
-code { overflow-wrap: anywhere; }
-@media (prefers-color-scheme: dark) { :root { --bar: #8ad; --good: #5c9; --bad: #f88; } }
-@media print { body { max-width: none; margin: 0; } }
-"""
 
 
 @dataclass
@@ -48,6 +32,9 @@ class Night:
     bytes: int = 0
     seconds: int = 0
     status: str = "cut"
+
+    def has_failed(self) -> bool:
+        return self.status not in ("0", "1", "under way")
 
 
 def nights_of(entries: Iterable[Entry]) -> list[tuple[str, Night]]:
@@ -58,84 +45,67 @@ def nights_of(entries: Iterable[Entry]) -> list[tuple[str, Night]]:
             night = found.setdefault(entry.night, Night())
             night.bytes += entry.cost * entry.is_run()
             night.seconds += entry.seconds * entry.is_run()
-            night.status = entry.status or night.status
+            refused = entry.kind if entry.is_run() and entry.cycle == 0 else ""
+            night.status = entry.status or refused or night.status
     return list(found.items())[-NIGHTS:]
 
 
-# Pieces of HTML. All texts are escaped here.
-
-def text(value: object) -> str:
-    return escape(str(value))
-
-
-def table(caption: str, heads: Sequence[str], rows: Iterable[Sequence[object]]) -> str:
-    head = "".join('<th scope="col">%s</th>' % text(name) for name in heads)
-    body = "".join('<tr><th scope="row">%s</th>%s</tr>\n' % (
-        text(first), "".join(map(cell, others))) for first, *others in rows)
-    return ("<table><caption>%s</caption>\n<thead><tr>%s</tr></thead>\n<tbody>%s</tbody></table>\n"
-            % (text(caption), head, body))
-
-
-def cell(value: object) -> str:
-    return '<td%s>%s</td>' % (' class="number"' if isinstance(value, (int, float)) else "",
-                              "{:,}".format(value) if isinstance(value, int) else text(value))
-
-
-def section(name: str, *content: str) -> str:
-    made = "".join(content)
-    return "<section><h2>%s</h2>\n%s</section>\n" % (text(name), made) if made else ""
-
+# Plots
 
 def plot(title: str, height: int, drawn: Iterable[str]) -> str:
     return '<p>%s</p>\n<svg viewBox="0 0 600 %d" role="img" aria-label="%s">%s</svg>\n' % (
         text(title), height, text(title), "".join(drawn))
 
 
-def bars(title: str, values: Sequence[tuple[str, float, str]], least: float) -> str:
-    """A plot of bars: the name, the value and the shown value of each. The highest has its value
-    beside it, and no scale is finer than `least`."""
-    name, most, shown = max(values, key=lambda it: it[1], default=("", 0, ""))
+def steps_to(most: float) -> list[float]:
+    """Round numbers from 0 on, in equal steps: two to four of them above 0, of which the last one
+    is the first that is not below `most`."""
+    power = 10.0 ** math.floor(math.log10(most))
+    step = next(it * power for it in (0.5, 1, 2, 5) if most <= 4 * it * power)
+    return [at * step for at in range(math.ceil(most / step) + 1)]
+
+
+def bars(title: str, values: Sequence[tuple[str, float, bool]], units: Units) -> str:
+    """A plot of bars over a scale: the name and the value of each, in the least unit, and whether
+    its night failed, which an x above the bar says."""
+    most = max((value for _, value, _ in values), default=0)
     if most <= 0:
         return ""
-    width, scale = 530 / max(len(values), 12), 80 / max(most, least)
-    top = 110 - scale * most
-    axes = ['<line x1="0" x2="600" y1="%.1f" y2="%.1f"/><text x="535" y="%.1f">%s</text>' % (
-        at, at, at - 2, text(label)) for at, label in ((top, shown), (110, "0"))]
+    of_unit, unit = unit_of(most, units)
+    steps = steps_to(most / of_unit)
+    width, scale = 530 / max(len(values), 12), 80 / steps[-1] / of_unit
+    lines = ['<line x1="0" x2="530" y1="%.1f" y2="%.1f"/><text x="535" y="%.1f">%s</text>' % (
+        at, at, at + 3, text("%g %s" % (step, unit)))
+        for step in steps for at in [110 - scale * of_unit * step]]
     ends = ['<text x="0" y="122">%s</text>' % text(values[0][0][:10])]
-    if len(values) > 12:
-        ends.append('<text x="%.1f" y="122" text-anchor="end">%s</text>' % (
-            len(values) * width, text(values[-1][0][:10])))
-    return plot(title, 126, [*axes, *ends, *(
-        '<rect x="%.1f" y="%.1f" width="%.1f" height="%.1f"><title>%s: %s</title></rect>' % (
-            at * width, 110 - scale * value, width * 0.8, scale * value, text(name), text(shown))
-        for at, (name, value, shown) in enumerate(values))])
+    if len(values) > 2:
+        ends.append('<text x="%.1f" y="122" text-anchor="%s">%s</text>' % (
+            max(len(values) * width, 100), "end" if len(values) > 3 else "start",
+            text(values[-1][0][:10])))
+    return plot(title, 126, [*lines, *ends, *(
+        '<text x="%.1f" y="%.1f" text-anchor="middle">x</text>' % (
+            (at + 0.4) * width, 107 - scale * value)
+        for at, (_, value, is_bad) in enumerate(values) if is_bad), *(
+        '<rect%s x="%.1f" y="%.1f" width="%.1f" height="%.1f"><title>%s: %s</title></rect>' % (
+            ' class="bad"' * is_bad, at * width, 110 - scale * value, width * 0.8, scale * value,
+            text(name), text(measured(value, units)))
+        for at, (name, value, is_bad) in enumerate(values))])
 
 
 def strip(done: Sequence[bool]) -> str:
     """A strip of parts, which shows which are done."""
     width = 600 / max(len(done), 1)
-    return plot("%d of %d parts are done" % (sum(done), len(done)), 20, (
+    return plot("%d of %s done" % (sum(done), many_are(len(done), "part")), 20, (
         '<rect class="%s" x="%.2f" width="%.2f" height="20"/>' % (
             "done" if it else "open", at * width, width * 0.9)
         for at, it in enumerate(done))) if done else ""
-
-
-def size(count: float) -> str:
-    """Bytes with a unit of a thousand."""
-    for unit in ("bytes", "kB", "MB", "GB", "TB"):
-        if count < 1000:
-            break
-        count /= 1000
-    else:
-        unit = "PB"
-    return "%.3g %s" % (count, unit)
 
 
 # Sections
 
 def about_cycle(state: State, standing: Standing) -> str:
     log = standing.log
-    facts = [("cycle", "none" if log.cycle is None else str(log.cycle)),
+    facts: list[tuple[str, str]] = [("cycle", "none" if log.cycle is None else str(log.cycle)),
              ("files read", "{:,}".format(log.files)),
              ("bytes read", size(log.spent - log.files)),
              ("the last night began", log.night or "never"),
@@ -145,42 +115,51 @@ def about_cycle(state: State, standing: Standing) -> str:
     if standing.left is not None:
         facts.append(("nights left", str(standing.left)))
     if log.cycle in log.left_out:
-        facts.append(("left out", "; ".join(
-            with_reason(*it) for it in log.left_out[log.cycle].items())))
+        facts.append(("left out", shown(files.bytes_of("; ".join(
+            with_reason(*it) for it in log.left_out[log.cycle].items())))))
     parts = [not log.is_open or any(it.cycle == log.cycle for it in state.closed_of_part(part))
              for part in state.folders()]
     return section("The open cycle" if log.is_open else "The last cycle",
                    table("Progress", ("what", "value"), facts), strip(parts))
 
 
-def about_nights(nights: list[tuple[str, Night]]) -> str:
-    rows = [(began, size(it.bytes), "%.1f" % (it.seconds / 3600), it.status)
+def about_nights(nights: list[tuple[str, Night]], is_under_way: bool) -> str:
+    """The last nights. The last one of all may be under way."""
+    if nights and is_under_way:
+        nights[-1][1].status = "under way"
+    rows = [(began, size(it.bytes), span(it.seconds),
+             size(it.bytes / it.seconds) + "/s" if it.seconds else "",
+             it.status + RESULTS.get(it.status, ", failed" if it.has_failed() else ""))
             for began, it in reversed(nights)]
-    return section("Nights", bars("Bytes that each night read", [
-        (began, it.bytes, size(it.bytes)) for began, it in nights], 1),
-        bars("Hours of each night", [(began, it.seconds / 3600, "%.1f h" % (it.seconds / 3600))
-                                     for began, it in nights], 1),
-        table("The last nights", ("began", "read", "hours", "status"), rows))
+    has_failed = any(it.has_failed() for _, it in nights)
+    return section("Nights", bars("How much each night read", [
+        (began, it.bytes, it.has_failed()) for began, it in nights], SIZES),
+        bars("How long each night read", [(began, it.seconds, it.has_failed())
+                                          for began, it in nights], SPANS),
+        markup.paragraph("A night with an x above its bar was cut, or failed.")
+        if has_failed else "",
+        table("The last nights", ("began", "read", "in", "speed", "status"), rows))
 
 
 def about_findings(standing: Standing, weights: Weights) -> str:
     found = standing.found
+    of_codes = Weights()
     rows: list[list[str]] = []
     gone: list[tuple[str, str]] = []
-    found.listed.seek(0)
-    for line in found.listed:
-        words = files.text_of(line.rstrip(b"\n")).split("\t")
+    for line in questions.lines_of(found.listed):
+        words = line.split(b"\t")
         if len(words) == 3 and len(rows) < SHOWN:
-            rows.append([weights.weight(line).decode(), *words])
+            rows.append([weights.weight(line).decode(), words[0].decode(), place(words[1]),
+                         of_codes.meaning(words[0], words[2]), detail(words[0], words[2])])
         elif len(words) == 2 and len(gone) < SHOWN:
-            gone.append((LOST.get(words[0], words[0]), words[1]))
+            gone.append((LOST.get(words[0], words[0].decode()), place(words[1])))
     left = standing.open + standing.gone - len(rows) - len(gone)
     more = "<p>and {:,} more, which status --list has</p>\n".format(left) if left > 0 else ""
     unknown = "<p>What %s is not known: %s</p>\n" % (
         "else is gone" if standing.gone else "is gone", text(standing.unknown))
     return section(
         "What is open", "<p>%s</p>\n" % text(standing.findings_text()),
-        table("Open findings", ("weight", "code", "place", "detail"), rows) if rows else "",
+        table("Open findings", ("weight", "code", "place", "what", "detail"), rows) if rows else "",
         table("Gone and not back", ("what", "place"), gone) if gone else "",
         unknown if standing.unknown else "", more)
 
@@ -213,7 +192,7 @@ def about_cycles(state: State, standing: Standing) -> str:
 def of_statement(state: State, cycle: int) -> tuple[str, str]:
     """How many files and bytes a cycle found right, by its statement."""
     path = state.find("statement", cycle)
-    said = Statement.read(path) if path else {}
+    said = Statement.read(path) if path else Statement()
     count, sizes = (said.get(name, "") for name in ("Files found right", "Bytes found right"))
     return ("{:,}".format(int(count)) if count.isdecimal() else NOT_KNOWN,
             size(int(sizes)) if sizes.isdecimal() else NOT_KNOWN)
@@ -240,19 +219,10 @@ def back_text(closing: Closing) -> str:
 
 def show(state: State, standing: Standing, weights: Weights, root: str, now: str) -> None:
     """Writes the page to standard output."""
-    name = plain("", root)
-    level = "".join("<li>%s</li>" % text(reason) for reason in standing.reasons)
     body = "".join([
-        "<h1>Fixity of %s</h1>\n<p class=\"level\"><span class=\"%s\">%s</span></p>\n<ul>%s</ul>\n"
-        "<p>As of %s</p>\n" % (text(name), WORDS[standing.level].lower(), WORDS[standing.level],
-                               level, text(now)),
-        about_cycle(state, standing), about_findings(standing, weights),
-        about_changes(state), about_nights(nights_of(state.entries(True))),
+        "<h1>Fixity of %s</h1>\n" % text(root), markup.level(standing.level, standing.reasons),
+        markup.paragraph("As of %s" % now),
+        about_cycle(state, standing), about_findings(standing, weights), about_changes(state),
+        about_nights(nights_of(state.entries(True)), standing.log.is_under_way),
         about_cycles(state, standing)])
-    page = ('<!DOCTYPE html>\n<html lang="en">\n<head>\n<meta charset="utf-8">\n<meta name='
-            '"viewport" content="width=device-width">\n<title>Fixity of %s</title>\n<style>%s'
-            '</style>\n</head>\n<body>\n<main>\n%s</main>\n</body>\n</html>\n'
-            % (text(name), STYLE, body))
-    out = files.spool()
-    out.write(page.encode("ascii", "xmlcharrefreplace"))
-    files.pour(out)
+    markup.write("Fixity of " + plain("", root), body)

@@ -1,16 +1,15 @@
 """The fixity events of a closed cycle as PREMIS 3 XML."""
 from __future__ import annotations
 
-import json
 import os
 import re
 from bisect import bisect_left
 from dataclasses import dataclass, field
 from typing import Iterator
-from urllib.parse import unquote_to_bytes
 
 from . import files
 from .counts import Digests
+from .objects import id_of
 from .report import Line, Reading, is_within
 from .shared import Failed, many
 from .state import State
@@ -114,7 +113,7 @@ class Events:
         if path != self.shown:
             self.shown = path
             by_path = ("OCFL object path", path.decode())
-            found = self.id_of(path) if self.with_ids else None
+            found = id_of(self.root_folder, path) if self.with_ids else None
             self.identity = ("OCFL object id", found) if found is not None else by_path
             pairs = [self.identity, by_path] if found is not None else [by_path]
             self.put_object(*pairs)
@@ -124,18 +123,6 @@ class Events:
         made = element("object", identified("objectIdentifier", *pairs))
         made = made.replace("<object>", '<object xsi:type="intellectualEntity">', 1)
         self.objects.write(made.encode())
-
-    def id_of(self, path: bytes) -> str | None:
-        """The id in an object's inventory, if there is one that can be read."""
-        names = (unquote_to_bytes(name) for name in path.split(b"/"))
-        file = os.path.join(files.bytes_of(self.root_folder), *names, b"inventory.json")
-        try:
-            with open(file, "rb") as inventory:
-                known = json.load(inventory)
-        except (OSError, ValueError, RecursionError):
-            return None
-        found = known.get("id") if isinstance(known, dict) else None
-        return found if isinstance(found, str) and found else None
 
     # Events
 

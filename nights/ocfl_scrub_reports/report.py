@@ -7,7 +7,7 @@ from __future__ import annotations
 
 import hashlib
 import re
-from typing import Callable, Iterable, Iterator, NamedTuple, Sequence
+from typing import Callable, Container, Iterable, Iterator, NamedTuple, Sequence
 
 from . import files
 from .shared import Failed
@@ -186,6 +186,17 @@ def paths(path: str) -> Iterator[list[bytes]]:
     """The paths of all lines, many at a time."""
     for block in Reading(path).blocks():
         yield block.split(b"\t")[1::2]
+
+
+def lines_at(path: str, places: Container[bytes]) -> Iterator[Line]:
+    """The lines at these places."""
+    reading = Reading(path)
+    for block in reading.blocks():
+        if any(it in places for it in block.split(b"\t")[1::2]):
+            for number, line in enumerate(block[1:-1].split(b"\n"), reading.lines + 1):
+                columns = line.split(b"\t")
+                if len(columns) == 3 and columns[1] in places:
+                    yield Line(number, *columns)
 
 
 def objects(path: str) -> Iterator[list[bytes]]:

@@ -14,6 +14,14 @@ def many(count: int, name: str) -> str:
     return "%d %s%s" % (count, name, "" if count == 1 else "s")
 
 
+def many_are(count: int, name: str) -> str:
+    return many(count, name) + (" is" if count == 1 else " are")
+
+
+def many_were(count: int, name: str) -> str:
+    return many(count, name) + (" was" if count == 1 else " were")
+
+
 class Failed(Exception):
     """Ends a command with a text and a status."""
 

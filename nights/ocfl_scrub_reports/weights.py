@@ -5,21 +5,26 @@ import os
 
 from . import files
 
+# The codes of files that have another digest or are missing, which their detail says.
+CAN_BE_MISSING = (b"E092", b"E093")
 TABLE = os.path.join(os.path.dirname(os.path.abspath(__file__)), "codes")
 
 
 class Weights:
-    """The table of codes: how grave each is, and whether it is said of an object itself."""
+    """The table of codes: how grave each is, whether it is said of an object itself, and what it
+    means. A table may lack the meanings."""
 
     def __init__(self, path: str = TABLE) -> None:
         self.of_code: dict[bytes, bytes] = {}
         self.of_objects: set[bytes] = set()
+        self.words: dict[bytes, str] = {}
         for line in files.lines(path):
             columns = line.split(b"\t")
-            if len(columns) == 3 and not line.startswith(b"#"):
+            if len(columns) in (3, 4) and not line.startswith(b"#"):
                 self.of_code[columns[0]] = columns[1]
                 if columns[2] == b"object":
                     self.of_objects.add(columns[0])
+                self.words.update((columns[0], it.decode()) for it in columns[3:])
 
     def weight(self, line: bytes) -> bytes:
         """The weight of a finding. A code that the table lacks is grave until it has one."""
@@ -28,6 +33,14 @@ class Weights:
     def is_of_object(self, code: bytes, path: bytes, detail: bytes) -> bool:
         """Whether this line is of an object itself; the lines of its files follow it."""
         return path != b"." and (detail == b"-" if code == b"ok" else code in self.of_objects)
+
+    def meaning(self, code: bytes, detail: bytes | None) -> str:
+        """What a finding means, in words; empty if the table does not say it. Without its detail
+        nobody knows whether a file is missing."""
+        if code in CAN_BE_MISSING and detail is None:
+            return self.words.get(code, "") + ", or missing"
+        is_missing = code in CAN_BE_MISSING and (detail or b"").endswith(b" missing")
+        return "missing" if is_missing else self.words.get(code, "")
 
 
 class Known:

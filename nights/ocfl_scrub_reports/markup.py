@@ -1,0 +1,180 @@
+"""Pieces of HTML for the pages, which need no other file and run no script. All texts are escaped
+here."""
+from __future__ import annotations
+
+import re
+from html import escape
+from typing import Iterable, Sequence, Tuple
+from urllib.parse import unquote_to_bytes
+
+from . import files
+from .counts import OF_DIGESTS
+from .status import WORDS
+
+STYLE = """
+:root { color-scheme: light dark; --bar: #36c; --line: #8888; --good: #187a50; --warn: #8a5a00;
+  --bad: #b3261e; }
+body { font: 1rem/1.5 system-ui, sans-serif; max-width: 70rem; margin: 2rem auto; padding: 0 1rem; }
+table { border-collapse: collapse; margin: 1rem 0; max-width: 100%; }
+caption, h2, h3 { text-align: left; font-weight: 600; }
+h3 { margin-bottom: 0; } h3 + p { margin-top: 0; }
+th, td { border-bottom: 1px solid var(--line); padding: .2rem .8rem .2rem 0; text-align: left;
+  vertical-align: top; overflow-wrap: break-word; }
+caption { white-space: nowrap; } bdi { overflow-wrap: anywhere; }
+th { white-space: nowrap; } tbody th { font-weight: normal; white-space: normal; }
+td.number { text-align: right; } td.number, td.time { white-space: nowrap; }
+.place, pre { white-space: pre-wrap; } pre { overflow-wrap: anywhere; }
+table .place { display: inline-block; max-width: 32rem; }
+.byte { border: 1px solid; border-radius: .2em; padding: 0 .1em; margin: 0 .1em; font-size: .8em;
+  font-family: monospace; }
+svg { width: 100%; height: auto; max-width: 45rem; display: block; }
+svg rect { fill: var(--bar); } svg .done { fill: var(--good); } svg .open { fill: var(--line); }
+svg .bad { fill: var(--bad); }
+svg text { fill: currentColor; font-size: 9px; } svg line { stroke: var(--line); }
+.level { font-size: 1.2rem; font-weight: 600; }
+.level span { padding: .1rem .6rem; border-radius: .3rem; border: 2px solid #777; color: #fff;
+  background: #666; }
+.level .ok { border-color: var(--good); background: var(--good); }
+.level .warning { border: 2px dashed #fff; background: var(--warn); }
+.level .critical { border: 4px double #fff; background: var(--bad); }
+@media (prefers-color-scheme: dark) { :root { --bar: #8ad; } svg .done { fill: #5c9; }
+  svg .bad { fill: #f88; } }
+@media print {
+  :root { color-scheme: light; --bar: #36c; }
+  @page { margin: 15mm; }
+  body { max-width: none; margin: 0; padding: 0; font-size: 10pt; }
+  .level span[class] { color: #000; background: none; border-color: #000; }
+  h2, h3, caption { break-after: avoid; } h3 + p { break-after: avoid; }
+  tr, svg { break-inside: avoid; } thead { display: table-header-group; }
+}
+"""
+# A time as logs and statements have it.
+TIME = re.compile("[0-9]{4}-[0-9]{2}-[0-9]{2}T[0-9:]{8}Z")
+# How many digits of a digest are shown.
+DIGITS = 12
+# Units, the least one first, each with how many of the least it is.
+Units = Sequence[Tuple[float, str]]
+SIZES: Units = [(1, "bytes"), (1e3, "kB"), (1e6, "MB"), (1e9, "GB"), (1e12, "TB"), (1e15, "PB")]
+SPANS: Units = [(1, "s"), (60, "min"), (3600, "h")]
+
+
+class Markup(str):
+    """A text that is HTML already."""
+
+
+# Texts
+
+def text(value: object) -> str:
+    """A text as HTML. What would not be seen, or would change how others are shown, is written as
+    its bytes, each as `%` and two digits in a frame: controls, marks of direction, bytes that are
+    no UTF-8."""
+    if isinstance(value, Markup):
+        return value
+    given = str(value)
+    return escape(given) if given.isprintable() else "".join(
+        escape(it) if it.isprintable() else '<span class="byte">%s</span>' % bytes_in(it)
+        for it in given)
+
+
+def bytes_in(character: str) -> str:
+    """The bytes of a character; of one that stands for a byte that is no UTF-8, that byte."""
+    is_byte = "\udc80" <= character <= "\udcff"
+    return "".join("%%%02X" % byte for byte in character.encode(
+        "utf-8", "surrogateescape" if is_byte else "surrogatepass"))
+
+
+def shown(escaped: bytes) -> Markup:
+    """A text as reports write it, as it is. No mark of direction in it reaches beyond it."""
+    return Markup("<bdi>%s</bdi>" % text(unquote_to_bytes(escaped).decode(
+        "utf-8", "surrogateescape")))
+
+
+def place(path: bytes) -> Markup:
+    """A place as reports write it, with its names as they are."""
+    return Markup('<span class="place" dir="ltr">%s</span>' % "/<wbr>".join(
+        map(shown, path.split(b"/"))))
+
+
+def detail(code: bytes, said: bytes) -> Markup:
+    """The detail of a finding: of digests the first digits, else what it says, if anything."""
+    if said == b"-" or code not in OF_DIGESTS:
+        return Markup("") if said == b"-" else shown(said)
+    algorithm, _, digests = said.partition(b" ")
+    expected, _, found = digests.rpartition(b" ")
+    if not expected:
+        return Markup("expected a digest of %s" % shown(algorithm))
+    return Markup("expected %s %s, found %s" % (shown(algorithm), cut(expected), cut(found)))
+
+
+def cut(digest: bytes) -> str:
+    return shown(digest) if len(digest) <= DIGITS else "%s.." % shown(digest[:DIGITS])
+
+
+def unit_of(count: float, units: Units) -> tuple[float, str]:
+    """The greatest of the units that is not above a count; the first if all are."""
+    return next((it for it in reversed(units) if it[0] <= count), units[0])
+
+
+def measured(count: float, units: Units) -> str:
+    """A count with its unit, by three digits."""
+    of_unit, name = unit_of(count * 1.0005 if count >= units[0][0] else count, units)
+    count /= of_unit
+    digits = "%.3g" % count if count < 1000 else "{:,.0f}".format(count)
+    return "%s %s" % (digits, "byte" if name == "bytes" and count == 1 else name)
+
+
+def size(count: float) -> str:
+    """Bytes with a unit of a thousand."""
+    return measured(count, SIZES)
+
+
+def span(seconds: float) -> str:
+    """A time span with its unit."""
+    return measured(seconds, SPANS)
+
+
+# Elements
+
+def paragraph(value: object) -> str:
+    return "<p>%s</p>\n" % text(value)
+
+
+def listed(values: Iterable[object]) -> str:
+    made = "".join("<li>%s</li>" % text(it) for it in values)
+    return "<ul>%s</ul>\n" % made if made else ""
+
+
+def table(caption: str, heads: Sequence[str], rows: Iterable[Sequence[object]]) -> str:
+    head = "".join('<th scope="col">%s</th>' % text(name) for name in heads)
+    body = "".join('<tr><th scope="row">%s</th>%s</tr>\n' % (
+        text(first), "".join(map(cell, others))) for first, *others in rows)
+    return ("<table>%s\n<thead><tr>%s</tr></thead>\n<tbody>%s</tbody></table>\n" % (
+        "<caption>%s</caption>" % text(caption) if caption else "", head, body))
+
+
+def cell(value: object) -> str:
+    if isinstance(value, int):
+        return '<td class="number">{:,}</td>'.format(value)
+    kind = ' class="time"' if TIME.fullmatch(str(value)) else ""
+    return "<td%s>%s</td>" % (kind, text(value))
+
+
+def section(name: str, *content: str) -> str:
+    made = "".join(content)
+    return "<section><h2>%s</h2>\n%s</section>\n" % (text(name), made) if made else ""
+
+
+def level(number: int, reasons: Iterable[object]) -> str:
+    """How grave it is as a word, and why."""
+    return '<p class="level"><span class="%s">%s</span></p>\n%s' % (
+        WORDS[number].lower(), WORDS[number], listed(reasons))
+
+
+def write(title: str, body: str) -> None:
+    """Writes a page to standard output."""
+    page = ('<!DOCTYPE html>\n<html lang="en">\n<head>\n<meta charset="utf-8">\n<meta name='
+            '"viewport" content="width=device-width">\n<title>%s</title>\n<style>%s</style>\n'
+            '</head>\n<body>\n<main>\n%s</main>\n</body>\n</html>\n' % (text(title), STYLE, body))
+    out = files.spool()
+    out.write(page.encode("ascii", "xmlcharrefreplace"))
+    files.pour(out)

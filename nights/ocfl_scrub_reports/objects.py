@@ -1,0 +1,66 @@
+"""Files and inventories of a storage root, by their places as reports write them. No link below the
+root is followed."""
+from __future__ import annotations
+
+import json
+import os
+import stat
+from typing import IO, Any
+from urllib.parse import unquote_to_bytes
+
+from . import files
+
+# What an object's inventory is called, and how long one is read: as the program reads it.
+INVENTORY = b"inventory.json"
+MOST = 268435456
+
+
+def names_of(place: bytes) -> list[bytes]:
+    """The names of a place from the storage root down. Fails if one of them is none."""
+    names = [] if place == b"." else [unquote_to_bytes(name) for name in place.split(b"/")]
+    if any(name in (b"", b".", b"..") or b"/" in name or b"\0" in name for name in names):
+        raise OSError("no place has the name of a folder above: " + place.decode())
+    return names
+
+
+def open_file(root: str, place: bytes) -> IO[bytes]:
+    """Opens a file below a folder. Fails if it is none, or behind a link."""
+    *above, last = names_of(place) or [b"."]
+    folder = os.open(root, os.O_RDONLY | os.O_DIRECTORY)
+    try:
+        for name in above:
+            inner = os.open(name, os.O_RDONLY | os.O_DIRECTORY | os.O_NOFOLLOW, dir_fd=folder)
+            os.close(folder)
+            folder = inner
+        # A pipe would wait for somebody who writes.
+        number = os.open(last, os.O_RDONLY | os.O_NOFOLLOW | os.O_NONBLOCK, dir_fd=folder)
+    finally:
+        os.close(folder)
+    file = open(number, "rb")
+    if not stat.S_ISREG(os.fstat(number).st_mode):
+        file.close()
+        raise OSError("not a file: " + place.decode())
+    return file
+
+
+def inventory_of(root: str, place: bytes) -> dict[str, Any] | None:
+    """The inventory of an object, or of one of its version folders, which is read whole; None if
+    none can be read."""
+    try:
+        with open_file(root, place + b"/" + INVENTORY) as file:
+            data = file.read(MOST + 1)
+        known = json.loads(data) if len(data) <= MOST else None
+    except (OSError, ValueError, RecursionError):
+        return None
+    return known if isinstance(known, dict) else None
+
+
+def id_of(root: str, place: bytes) -> str | None:
+    """The OCFL id in an object's inventory, if one can be read."""
+    found = (inventory_of(root, place) or {}).get("id")
+    return found if isinstance(found, str) and found else None
+
+
+def is_root(path: str) -> bool:
+    """Whether a storage root is there: a folder with a declaration."""
+    return any(name.startswith("0=ocfl_") for name in files.names_in(path))

@@ -72,6 +72,7 @@ share/ocfl-scrub/ocfl_scrub_reports/page.py 644
 share/ocfl-scrub/ocfl_scrub_reports/premis.py 644
 share/ocfl-scrub/ocfl_scrub_reports/questions.py 644
 share/ocfl-scrub/ocfl_scrub_reports/recheck.py 644
+share/ocfl-scrub/ocfl_scrub_reports/repair.py 644
 share/ocfl-scrub/ocfl_scrub_reports/report.py 644
 share/ocfl-scrub/ocfl_scrub_reports/seal.py 644
 share/ocfl-scrub/ocfl_scrub_reports/shared.py 644

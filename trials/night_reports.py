@@ -1,6 +1,7 @@
 #!/usr/bin/env python3
 """Tries what `ocfl-scrub-reports` makes of the folders of `ocfl-scrub night` and `ocfl-scrub join`,
-without `nightly`: statements that hold, what is open and gone, events, and pages.
+without `nightly`: statements that hold, what is open and gone, events, pages, and
+what would repair it.
 
 usage: night_reports.py [PART]...
 """
@@ -186,6 +187,53 @@ def pages(folder):
         ask("page", nights.state)[1])], [])
 
 
+def repairs(folder):
+    """The commands of `repair`, run by bash, repair what was damaged: by a copy, by another object,
+    and by the newest version. No name of a file is run."""
+    objects = {"a/o": {"v1/content/" + name: name.encode() for name, _ in NAMES},
+               "a/p": {"v1/content/$(touch ran).txt": b"twice"}, "b/q": {"v1/content/c": b"twice"},
+               "c/r": {"v1/content/d": b"d"}}
+    nights = Nights(folder, objects)
+    for place in objects:
+        path = nights.root + "/" + place + "/inventory.json"
+        inventory = {**json.loads(common.read(path)), "head": "v1"}
+        common.put_inventory(nights.root + "/" + place, json.dumps(inventory).encode())
+        for name in ("inventory.json", "inventory.json.sha256"):
+            shutil.copy(nights.root + "/" + place + "/" + name, nights.root + "/" + place + "/v1")
+    copy = folder + "/a copy"
+    shutil.copytree(nights.root, copy)
+    check("a good cycle", nights.night()[0], 0)
+    before = common.snapshot(nights.root)
+    for name, _ in NAMES[:4]:
+        write(nights.root + "/a/o/v1/content/" + name, "x")
+    for name, _ in NAMES[4:]:
+        os.remove(nights.root + "/a/o/v1/content/" + name)
+    write(nights.root + "/a/p/v1/content/$(touch ran).txt", "once")
+    write(nights.root + "/c/r/inventory.json", "{")
+    check("a night", nights.night()[0], 1)
+    given, out, said = ask("repair", nights.state)
+    check("without the copy", (given, said, [it for it in out.splitlines() if it[:2] == "cp"]), (
+        1, "", ["cp -p -- %s/b/q/v1/content/c '%s/a/p/v1/content/$(touch ran).txt'" % (
+            nights.root, nights.root),
+                "cp -p -- %s/c/r/v1/inventory.json %s/c/r/inventory.json" % (
+                    nights.root, nights.root)]))
+    given, out, said = ask("repair", "--copy", copy, nights.state)
+    check("with it", (given, said, out.count("\ncp -p -- ")), (0, "", len(NAMES) + 2))
+    check("sizes", [size for size in {len(name.encode()) for name, _ in NAMES}
+                    if ", %d byte" % size not in out], [])
+    changed = common.snapshot(nights.root)
+    check("it changes nothing", changed != before and ask(
+        "repair", nights.state)[0] == 1 and common.snapshot(nights.root) == changed, True)
+    check("the commands", ran(["bash", "-euc", out], cwd=folder)[0], 0)
+    check("nothing was run", os.path.exists(folder + "/ran"), False)
+    check("all is right", ran([PROGRAM, "audit", nights.root])[0], 0)
+    check("recheck", {row.split("\t")[0] for row in ask("recheck", nights.state)[1].splitlines()},
+          {"repaired"})
+    given, out, said = ask("repair", nights.state)
+    check("nothing is left", (given, out.count("it has that digest now"), "\ncp " in out),
+          (0, len(NAMES) + 2, False))
+
+
 def unfinished(folder):
     """What a power cut left of a statement beside its place is taken away by the next call, and
     nothing else."""
@@ -204,7 +252,7 @@ def unfinished(folder):
     check("it holds", nights.holds(1), 0)
 
 
-PARTS = [statements, questions, parts, pages, unfinished]
+PARTS = [statements, questions, parts, pages, repairs, unfinished]
 
 
 def check_all(folder):

@@ -54,7 +54,9 @@ THEN = {
         "./nightly --state ~/audit --hours 1 /srv/ocfl",
         "sleep 1.1; ./nightly --state ~/audit --slice 1 --files 1 /srv/ocfl",
         "mkdir -p /var/lib/node_exporter /var/lib/ocfl-scrub /srv/www/fixity",
-        "cp -R ~/audit /var/lib/ocfl-scrub/archive"],
+        "cp -R ~/audit /var/lib/ocfl-scrub/archive",
+        "mkdir -p /mnt/copy/letters/v1/content",
+        "echo 'Yours sincerely' > /mnt/copy/letters/v1/content/damaged.txt"],
     "/usr/local/share/ocfl-scrub/nightly --create --state /var/lib/audit \\\n    --until 06:00 "
     "/srv/ocfl": [
         "/usr/local/share/ocfl-scrub/nightly --state /var/lib/audit --hours 1 /srv/ocfl"],

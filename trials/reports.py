@@ -92,7 +92,7 @@ def simple_questions(folder):
 
 
 NAMES = ["findings", "totals", "bytes", "changed", "json", "unverified", "database", "statement",
-         "finish", "verify", "premis", "status", "page", "cycle", "recheck", "tell"]
+         "finish", "verify", "premis", "status", "page", "cycle", "recheck", "repair", "tell"]
 
 
 def commands(folder):

@@ -177,6 +177,11 @@ def do_recheck(given: Given) -> int:
     return recheck.show(state_of(given), given.known)
 
 
+def do_repair(given: Given) -> int:
+    from . import repair
+    return repair.show(state_of(given), given.copy, given.known)
+
+
 def do_tell(given: Given) -> int:
     from . import tell
     named(given.state)
@@ -284,6 +289,13 @@ COMMANDS: list[tuple[str, Does, str, str, Iterable[Callable[[Parser], object]], 
      "What is gone comes after `gone` or `back`. Ends with 1 if a finding is still open, a new one "
      "is there or something is still gone, and with 3 if a place was not looked at. The next cycle "
      "says the same in its report."),
+    ("repair", do_repair, "shows what would repair open findings, and copies nothing",
+     "--copy /mnt/copy ~/audit",
+     [argument("--copy", metavar="DIR",
+               help="a copy of the storage root, whose files at the same places are looked at"),
+      WITHOUT_KNOWN, STATE],
+     "For each damaged file the digest and the size that were expected, which files have them, and "
+     "the command that copies one, for bash. Ends with 1 if of some no right file was found."),
     ("tell", do_tell, "sends what a night said", "archive ~/audit",
      [argument("name", metavar="NAME"), STATE],
      "It goes by mail to $MAIL or else to standard error; to both with JOURNAL=yes. systemd calls "

@@ -5,7 +5,7 @@ from __future__ import annotations
 import json
 import os
 import stat
-from typing import IO, Any
+from typing import IO, Any, Iterable, Sequence
 from urllib.parse import unquote_to_bytes
 
 from . import files
@@ -23,15 +23,23 @@ def names_of(place: bytes) -> list[bytes]:
     return names
 
 
+def open_folder(root: str, names: Iterable[bytes]) -> int:
+    """Opens a folder below another one, name by name. Fails if it is none, or behind a link."""
+    folder = os.open(root, os.O_RDONLY | os.O_DIRECTORY)
+    for name in names:
+        try:
+            inner = os.open(name, os.O_RDONLY | os.O_DIRECTORY | os.O_NOFOLLOW, dir_fd=folder)
+        finally:
+            os.close(folder)
+        folder = inner
+    return folder
+
+
 def open_file(root: str, place: bytes) -> IO[bytes]:
     """Opens a file below a folder. Fails if it is none, or behind a link."""
     *above, last = names_of(place) or [b"."]
-    folder = os.open(root, os.O_RDONLY | os.O_DIRECTORY)
+    folder = open_folder(root, above)
     try:
-        for name in above:
-            inner = os.open(name, os.O_RDONLY | os.O_DIRECTORY | os.O_NOFOLLOW, dir_fd=folder)
-            os.close(folder)
-            folder = inner
         # A pipe would wait for somebody who writes.
         number = os.open(last, os.O_RDONLY | os.O_NOFOLLOW | os.O_NONBLOCK, dir_fd=folder)
     finally:
@@ -41,6 +49,19 @@ def open_file(root: str, place: bytes) -> IO[bytes]:
         file.close()
         raise OSError("not a file: " + place.decode())
     return file
+
+
+def is_way_to(root: str, names: Sequence[bytes]) -> bool:
+    """Whether these names lead to a folder, or to where there is nothing yet, through no link and
+    no file."""
+    for end in range(len(names) + 1):
+        try:
+            os.close(open_folder(root, names[:end]))
+        except FileNotFoundError:
+            return True
+        except OSError:
+            return False
+    return True
 
 
 def inventory_of(root: str, place: bytes) -> dict[str, Any] | None:

@@ -199,6 +199,24 @@ def lines_at(path: str, places: Container[bytes]) -> Iterator[Line]:
                     yield Line(number, *columns)
 
 
+def right_ones(path: str, sizes: Iterable[int] | None) -> Iterator[tuple[bytes, bytes, int]]:
+    """The content files that were found right, those of these sizes or all: the object before each,
+    its place and its size."""
+    which = rb"[0-9]+" if sizes is None else b"|".join(b"%d" % it for it in sorted(sizes))
+    right = re.compile(rb"\nok\t([^\t\n]+)\t(%s)(?=\n)" % which)
+    weights, last = Weights(), b""
+    for block in Reading(path).blocks():
+        heads = [(found.start(), found[2]) for found in APART.finditer(block)
+                 if weights.is_of_object(*found.groups())]
+        at = 0
+        for found in right.finditer(block):
+            while at < len(heads) and heads[at][0] < found.start():
+                last, at = heads[at][1], at + 1
+            if is_within(found[1], last):
+                yield last, found[1], int(found[2])
+        last = heads[-1][1] if heads else last
+
+
 def objects(path: str) -> Iterator[list[bytes]]:
     """The places of all lines of objects, many at a time."""
     weights = Weights()

@@ -1,7 +1,7 @@
 #!/usr/bin/env python3
 """Tries what `ocfl-scrub-reports` makes of the folders of `ocfl-scrub night` and `ocfl-scrub join`,
-without `nightly`: statements that hold, what is open and gone, events, pages, and
-what would repair it.
+without `nightly`: statements that hold, what is open and gone, events, pages, what would repair
+it, and several storage roots.
 
 usage: night_reports.py [PART]...
 """
@@ -174,7 +174,7 @@ def pages(folder):
     rows = ["v1/content/%s|bytes have changed|E092|expected sha256 %s.., found %s..|new|" % (
         name, digest(b"abc")[:12], digest(b"abd")[:12]) for _, name in NAMES]
     sealed = digest(common.read(nights.path("reports/statement-000003")))
-    pieces = ["CRITICAL", "8 findings; 8 of them say", "1 object is gone.", "object|b/p|",
+    pieces = ["CRITICAL", "9 findings; 8 of them say", "1 object is gone.", "object|b/p|",
               "Object at a/o", "statement-000003.copy|%s|" % sealed, *rows]
     check("a page of damage", (status, said, [it for it in pieces if it not in shown(page)]),
           (0, "", []))
@@ -234,6 +234,32 @@ def repairs(folder):
           (0, len(NAMES) + 2, False))
 
 
+def several(folder):
+    """A line, a part of the page and the figures for each of two roots, by a file of folders."""
+    both = [Nights(folder + "/" + name) for name in ("first", "second")]
+    for nights in both:
+        nights.night()
+        nights.night()
+    write(both[1].root + "/a/o/v1/content/a", "x")
+    both[1].night()
+    write(folder + "/states", "".join(it.state + "\n" for it in both))
+    given, out, said = ask("status", "--states", folder + "/states", "--prometheus",
+                           folder + "/figures")
+    check("a line each", (given, said, [row.partition(": ")[0] for row in out.splitlines()]), (
+        2, "", ["OCFL-SCRUB CRITICAL - 2 storage roots", "OCFL-SCRUB OK - " + both[0].root,
+                "OCFL-SCRUB CRITICAL - " + both[1].root]))
+    check("figures of each", [row.rpartition(" ")[2] for row in read(
+        folder + "/figures").splitlines() if row.startswith("ocfl_scrub_damaged{")], ["0", "1"])
+    page = shown(ask("page", "--states", folder + "/states")[1])
+    check("one page", [it for it in [both[0].root + "|OK|0|0|", both[1].root + "|CRITICAL|1|0|",
+                                     "v1/content/a|bytes have changed|"] if it not in page], [])
+    for nights in both:
+        write(nights.path("tonight.1"), "of %s\n" % nights.root)
+    given, _, said = ask("tell", "all", *(it.state for it in both), EXIT_STATUS="1", MAIL="")
+    check("one message", (given, said), (0, "ocfl-scrub: findings in all\n" + "\n".join(
+        "%s:\n\nof %s\n" % (it.state, it.root) for it in both)))
+
+
 def unfinished(folder):
     """What a power cut left of a statement beside its place is taken away by the next call, and
     nothing else."""
@@ -252,7 +278,7 @@ def unfinished(folder):
     check("it holds", nights.holds(1), 0)
 
 
-PARTS = [statements, questions, parts, pages, repairs, unfinished]
+PARTS = [statements, questions, parts, pages, repairs, several, unfinished]
 
 
 def check_all(folder):

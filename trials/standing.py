@@ -81,7 +81,7 @@ def statuses(folder):
                              in text, after[1:3]),
           (1, True, ["findings=3;1;;0", "damaged=0;1;1;0"]))
     for words in [[], ["--what", "x"], ["--age", "1", "x"], ["--age", "1,2,3", "x"],
-                  ["--age", ",1", "x"], ["--gone", "1,-2", "x"], ["--list", "x", "y"], ["--known"]]:
+                  ["--age", ",1", "x"], ["--gone", "1,-2", "x"], ["--list"], ["--known"]]:
         check("usage of status: " + " ".join(words), ran([REPORTS, "status"] + words)[0:2],
               (3, ""))
     for name, words in [("folder", [folder + "/none"]),

@@ -231,8 +231,8 @@ class Divided(State):
 
 class Told(State):
     def told(self, **given_on):
-        night = tell.Night("archive", self.state, {"EXIT_CODE": "exited", "EXIT_STATUS": "3",
-                                                   "INVOCATION_ID": "x", **given_on})
+        night = tell.Night("archive", [self.state], {"EXIT_CODE": "exited", "EXIT_STATUS": "3",
+                                                     "INVOCATION_ID": "x", **given_on})
         with contextlib.redirect_stderr(io.TextIOWrapper(io.BytesIO(), write_through=True)) as out:
             status = tell.send(night)
             out.seek(0)

@@ -17,7 +17,7 @@ from .state import State, open_state
 from .weights import TABLE, Weights
 
 if TYPE_CHECKING:
-    from .status import Standing
+    from .status import Root
 
 PROGRAM = "ocfl-scrub-reports"
 LIMITS = [("--age", "26,50", "hours since the last night began"),
@@ -140,36 +140,58 @@ def do_cycle(given: Given) -> None:
 
 def do_page(given: Given) -> None:
     from . import page
-    state, standing = standing_of(given)
-    page.show(state, standing, Weights(given.codes), state.bound_to("root") or given.state,
-              files.time_text(standing.now))
+    roots = roots_of(given)
+    if len(roots) == 1 and roots[0].error:
+        raise Failed(roots[0].error)
+    page.show(roots, Weights(given.codes), files.time_text(present(given)))
 
 
-def standing_of(given: Given) -> tuple[State, Standing]:
-    """A folder of state, and how its nights stand."""
+def present(given: Given) -> int:
+    return int(time.time()) if given.now is None else int(given.now)
+
+
+def folders_of(given: Given) -> list[str]:
+    """The folders of state that are given, and those that a file lists."""
+    named(*given.state, given.states)
+    listed = [files.text_of(line) for line in (files.lines(given.states) if given.states else ())
+              if line and not line.startswith(b"#")]
+    if not given.state and not listed:
+        given.parser.error("a folder of state is needed: STATE or --states FILE")
+    return [*given.state, *listed]
+
+
+def roots_of(given: Given) -> list[Root]:
+    """How the nights of each folder stand. One of which nobody can say it keeps no other back."""
     from . import status
-    state = state_of(given)
     judged = {it: getattr(given, it) for it in [name[2:].replace("-", "_") for name, *_ in LIMITS]}
-    return state, status.standing_of(state, given.known, Weights(given.codes), judged,
-                                     int(time.time()) if given.now is None else given.now)
+    weights, now, made = Weights(given.codes), present(given), []
+    for folder in folders_of(given):
+        try:
+            named(folder)
+            state = open_state(folder)
+            standing = status.standing_of(state, given.known, weights, judged, now)
+            made.append(status.Root(folder, state.bound_to("root") or folder, state, standing))
+        except (Failed, OSError, ValueError) as error:
+            made.append(status.Root(folder, folder, error=str(error)))
+    return made
 
 
 def do_status(given: Given) -> int:
     from . import status
     try:
-        state, standing = standing_of(given)
-        root = state.bound_to("root") or given.state
+        roots = roots_of(given)
     except (Failed, OSError, ValueError) as error:
-        # A bar would begin the figures, and a line feed another line.
-        print("OCFL-SCRUB UNKNOWN - " + re.sub(r"[|\n]", "?", str(error)))
-        return 3
-    print(standing.line(root))
-    if given.list:
-        files.pour(standing.found.listed)
-    if given.prometheus:
-        status.put_metrics(standing.metrics_text(root, os.path.realpath(given.state)),
-                           given.prometheus)
-    return standing.level
+        roots = [status.Root("", "", error=str(error))]
+    if len(roots) > 1:
+        print(status.summary(roots))
+    for root in roots:
+        figures = root.standing.figures() if root.standing and len(roots) == 1 else ""
+        print(root.line() + figures)
+        if given.list and root.standing:
+            files.pour(root.standing.found.listed)
+    if given.prometheus and (len(roots) > 1 or roots[0].standing):
+        status.put_metrics(status.metrics_text(roots), given.prometheus)
+    return status.worst_of(roots)
 
 
 def do_recheck(given: Given) -> int:
@@ -184,8 +206,7 @@ def do_repair(given: Given) -> int:
 
 def do_tell(given: Given) -> int:
     from . import tell
-    named(given.state)
-    return tell.send(tell.Night(given.name, given.state, os.environ))
+    return tell.send(tell.Night(given.name, folders_of(given), os.environ))
 
 
 # What each command takes
@@ -197,6 +218,12 @@ def argument(*names: str, **given: Any) -> Callable[[Parser], object]:
 REPORTS = argument("report", metavar="REPORT", nargs="+", type=report_at,
                    help="plain, or compressed by gzip, with or without .gz in its name")
 STATE = argument("state", metavar="STATE", help="the folder of state of the nights")
+# Of commands that take several.
+STATES = [argument("--states", metavar="FILE",
+                   help="the folders of state that FILE has, a path on each line; a line that "
+                        "begins with # is a remark"),
+          argument("state", metavar="STATE", nargs="*",
+                   help="a folder of state of the nights; of several, something is said of each")]
 CYCLE = argument("cycle", metavar="CYCLE", type=cycle)
 WITHOUT_KNOWN = argument("--known", metavar="FILE", help="without those that FILE names: " + KNOWN)
 CODES = argument("--codes", metavar="FILE", default=TABLE,
@@ -273,11 +300,12 @@ COMMANDS: list[tuple[str, Does, str, str, Iterable[Callable[[Parser], object]], 
                          help="list the open findings that are not known below the line, the "
                               "most serious first, and then what is gone"),
       argument("--prometheus", metavar="FILE",
-               help="write the figures for the textfile collector of node_exporter"), STATE],
-     "Ends with 0 to 3 for OK, WARNING, CRITICAL and UNKNOWN, as plugins of monitors do. W,C is a "
-     "warning from W on and an alarm from C on, - is never."),
+               help="write the figures for the textfile collector of node_exporter"), *STATES],
+     "Ends with 0 to 3 for OK, WARNING, CRITICAL and UNKNOWN, as plugins of monitors do; of "
+     "several folders with the worst. W,C is a warning from W on and an alarm from C on, - is "
+     "never."),
     ("page", do_page, "writes a page that shows how the nights are going", "~/audit > index.html",
-     [*JUDGING, STATE], "It is one file of HTML without scripts, for a browser or a printer."),
+     [*JUDGING, *STATES], "It is one file of HTML without scripts, for a browser or a printer."),
     ("cycle", do_cycle, "writes a page about a closed cycle, to be filed or printed",
      "~/audit 1 > cycle-1.html", [CODES, STATE, CYCLE],
      "It is one file of HTML without scripts: what was read, found, gone, back and not looked at, "
@@ -297,7 +325,7 @@ COMMANDS: list[tuple[str, Does, str, str, Iterable[Callable[[Parser], object]], 
      "For each damaged file the digest and the size that were expected, which files have them, and "
      "the command that copies one, for bash. Ends with 1 if of some no right file was found."),
     ("tell", do_tell, "sends what a night said", "archive ~/audit",
-     [argument("name", metavar="NAME"), STATE],
+     [argument("name", metavar="NAME"), *STATES],
      "It goes by mail to $MAIL or else to standard error; to both with JOURNAL=yes. systemd calls "
      "it after each night.")]
 

@@ -31,21 +31,21 @@ svg { width: 100%; height: auto; max-width: 45rem; display: block; }
 svg rect { fill: var(--bar); } svg .done { fill: var(--good); } svg .open { fill: var(--line); }
 svg .bad { fill: var(--bad); }
 svg text { fill: currentColor; font-size: 9px; } svg line { stroke: var(--line); }
-.level { font-size: 1.2rem; font-weight: 600; }
-.level span { padding: .1rem .6rem; border-radius: .3rem; border: 2px solid #777; color: #fff;
-  background: #666; }
-.level .ok { border-color: var(--good); background: var(--good); }
-.level .warning { border: 2px dashed #fff; background: var(--warn); }
-.level .critical { border: 4px double #fff; background: var(--bad); }
+.verdict { font-size: 1.2rem; }
+.level { padding: .1rem .6rem; border-radius: .3rem; border: 2px dotted #fff; color: #fff;
+  background: #666; font-weight: 600; }
+.level.ok { border: 2px solid var(--good); background: var(--good); }
+.level.warning { border: 2px dashed #fff; background: var(--warn); }
+.level.critical { border: 4px double #fff; background: var(--bad); }
 @media (prefers-color-scheme: dark) { :root { --bar: #8ad; } svg .done { fill: #5c9; }
   svg .bad { fill: #f88; } }
 @media print {
   :root { color-scheme: light; --bar: #36c; }
   @page { margin: 15mm; }
   body { max-width: none; margin: 0; padding: 0; font-size: 10pt; }
-  .level span[class] { color: #000; background: none; border-color: #000; }
+  .level[class] { color: #000; background: none; border-color: #000; }
   h2, h3, caption { break-after: avoid; } h3 + p { break-after: avoid; }
-  tr, svg { break-inside: avoid; } thead { display: table-header-group; }
+  tr, svg { break-inside: avoid; } article { break-before: page; } thead { display: table-header-group; }
 }
 """
 # A time as logs and statements have it.
@@ -164,10 +164,14 @@ def section(name: str, *content: str) -> str:
     return "<section><h2>%s</h2>\n%s</section>\n" % (text(name), made) if made else ""
 
 
+def badge(number: int) -> Markup:
+    """How grave it is as a word, in a frame and a colour of its own."""
+    return Markup('<span class="level %s">%s</span>' % (WORDS[number].lower(), WORDS[number]))
+
+
 def level(number: int, reasons: Iterable[object]) -> str:
-    """How grave it is as a word, and why."""
-    return '<p class="level"><span class="%s">%s</span></p>\n%s' % (
-        WORDS[number].lower(), WORDS[number], listed(reasons))
+    """How grave it is, and why."""
+    return "<p class=\"verdict\">%s</p>\n%s" % (badge(number), listed(reasons))
 
 
 def write(title: str, body: str) -> None:

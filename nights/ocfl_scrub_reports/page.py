@@ -9,13 +9,13 @@ from typing import Iterable, Sequence
 from . import files, markup, questions
 from .counts import CHANGES, of_changes
 from .log import Closing, Entry
-from .markup import (SIZES, SPANS, Units, detail, measured, place, section, shown, size, span,
+from .markup import (SIZES, SPANS, Markup, Units, detail, measured, place, section, shown, size, span,
                      table, text, unit_of)
 from .shared import many, many_are
 from .standing import kinds_gone
 from .state import NOT_KNOWN, State, cycle_name
 from .statement import Statement, plain
-from .status import Standing, with_reason
+from .status import Root, Standing, with_reason, worst_of
 from .weights import Weights
 
 SHOWN = 200
@@ -217,12 +217,46 @@ def back_text(closing: Closing) -> str:
     return many(closing.back, "object") if closing.back else "nothing"
 
 
-def show(state: State, standing: Standing, weights: Weights, root: str, now: str) -> None:
-    """Writes the page to standard output."""
-    body = "".join([
-        "<h1>Fixity of %s</h1>\n" % text(root), markup.level(standing.level, standing.reasons),
-        markup.paragraph("As of %s" % now),
-        about_cycle(state, standing), about_findings(standing, weights), about_changes(state),
+def about_root(root: Root, weights: Weights) -> str:
+    """All that is said of one storage root."""
+    if root.state is None or root.standing is None:
+        return markup.level(3, [root.error])
+    state, standing = root.state, root.standing
+    return "".join([
+        markup.level(standing.level, standing.reasons), about_cycle(state, standing),
+        about_findings(standing, weights), about_changes(state),
         about_nights(nights_of(state.entries(True)), standing.log.is_under_way),
         about_cycles(state, standing)])
-    markup.write("Fixity of " + plain("", root), body)
+
+
+def about_all(roots: Sequence[Root]) -> str:
+    """A table of several storage roots, each with the place on the page where more is said."""
+    rows = [(Markup('<a href="#root-%d">%s</a>' % (at, text(it.root))), markup.badge(it.level),
+             *in_short(it.standing)) for at, it in enumerate(roots, 1)]
+    return table("The storage roots", ("root", "state", "open findings", "gone", "last night",
+                                       "cycle"), rows)
+
+
+def in_short(standing: Standing | None) -> tuple[object, ...]:
+    if standing is None:
+        return NOT_KNOWN, NOT_KNOWN, NOT_KNOWN, NOT_KNOWN
+    log = standing.log
+    done = "" if standing.done is None else ", %d %% done" % standing.done
+    return (standing.open, standing.gone if standing.gone or not standing.unknown else NOT_KNOWN,
+            log.night or "never", "none" if log.cycle is None else "%d %s%s" % (
+                log.cycle, "is open" if log.is_open else "has ended", done))
+
+
+def show(roots: Sequence[Root], weights: Weights, now: str) -> None:
+    """Writes a page about one storage root, or several, to standard output."""
+    as_of = markup.paragraph("As of %s" % now)
+    if len(roots) == 1:
+        name = roots[0].root
+        markup.write("Fixity of " + plain("", name), "<h1>Fixity of %s</h1>\n%s%s" % (
+            text(name), as_of, about_root(roots[0], weights)))
+        return
+    name = many(len(roots), "storage root")
+    body = "".join('<article id="root-%d">\n<h1>%s</h1>\n%s</article>\n' % (
+        at, text(it.root), about_root(it, weights)) for at, it in enumerate(roots, 1))
+    markup.write("Fixity of " + name, "<h1>Fixity of %s</h1>\n%s%s%s%s" % (
+        name, as_of, markup.level(worst_of(roots), []), about_all(roots), body))

@@ -9,7 +9,7 @@ from collections import Counter
 from dataclasses import dataclass, field
 from datetime import datetime, timezone
 from itertools import chain
-from typing import IO, Callable, Iterator, Optional, Tuple
+from typing import IO, Callable, Iterator, Optional, Sequence, Tuple
 
 from . import files, standing
 from .log import Closing, Comparisons, Entry, kinds_in, rank, worst
@@ -297,10 +297,9 @@ class Standing:
     # The line
 
     def line(self, root: str) -> str:
-        """The line for a monitor. A bar would begin the figures."""
+        """The line for a monitor, without its figures. A bar would begin them."""
         text = "OCFL-SCRUB %s - %s" % (WORDS[self.level], BREAKING.sub("?", root))
-        parts = [*self.reasons, *self.about_nights()]
-        return text + ": " + "; ".join(parts) + self.figures()
+        return text + ": " + "; ".join([*self.reasons, *self.about_nights()])
 
     def about_nights(self) -> list[str]:
         log = self.log
@@ -332,22 +331,66 @@ class Standing:
                               for name, value, unit in found)
         return text + (" progress=%d%%;;;0;100" % self.done if self.done is not None else "")
 
-    # Figures for Prometheus
 
-    def metrics_text(self, root: str, state: str) -> str:
-        labels = 'root="%s",state="%s"' % (label(root), label(state))
-        head = "# HELP ocfl_scrub_%s %s\n# TYPE ocfl_scrub_%s gauge\n"
-        figures = [(name, more, value(self)) for name, more, value in FIGURES
-                   if self.log.night] or [(*FIGURES[0][:2], 0)]
-        text = "".join(head % (name, more, name) + "ocfl_scrub_%s{%s} %s\n" % (
-            name, labels, "%.6g" % value if value != int(value) else "%d" % value)
-                       for name, more, value in figures if value is not None)
-        if self.log.night and self.found.count:
-            name = "open_findings_by_code"
-            text += head % (name, "The same by their codes.", name)
-            text += "".join('ocfl_scrub_%s{%s,code="%s"} %d\n' % (
-                name, labels, code, self.found.count[code]) for code in sorted(self.found.count))
-        return text
+@dataclass
+class Root:
+    """A folder of state, its storage root, and how its nights stand; or why nobody can say it."""
+    folder: str
+    root: str
+    state: State | None = None
+    standing: Standing | None = None
+    error: str = ""
+
+    @property
+    def level(self) -> int:
+        return self.standing.level if self.standing else 3
+
+    def line(self) -> str:
+        """The line for a monitor, without its figures."""
+        return self.standing.line(self.root) if self.standing else (
+            "OCFL-SCRUB UNKNOWN - " + BREAKING.sub("?", self.error))
+
+
+def worst_of(roots: Sequence[Root]) -> int:
+    """The level of several roots: what needs somebody goes before what nobody knows."""
+    return max((it.level for it in roots), key=(0, 1, 3, 2).index)
+
+
+def summary(roots: Sequence[Root]) -> str:
+    """What is said of several roots before the line of each."""
+    count = Counter(it.level for it in roots)
+    return "OCFL-SCRUB %s - %s: %s" % (
+        WORDS[worst_of(roots)], many(len(roots), "storage root"),
+        ", ".join("%d %s" % (count[level], WORDS[level]) for level in (2, 3, 1, 0) if count[level]))
+
+
+# Figures for Prometheus
+
+def metrics_text(roots: Sequence[Root]) -> str:
+    """The figures of all roots. One of which nobody can say anything has had no night."""
+    head = "# HELP ocfl_scrub_%s %s\n# TYPE ocfl_scrub_%s gauge\n"
+    text = ""
+    for name, more, value in FIGURES:
+        samples = [(it, figure_of(it, name, value)) for it in roots]
+        made = "".join("ocfl_scrub_%s{%s} %s\n" % (
+            name, labels_of(it), "%.6g" % figure if figure != int(figure) else "%d" % figure)
+                       for it, figure in samples if figure is not None)
+        text += head % (name, more, name) + made if made else ""
+    name = "open_findings_by_code"
+    made = "".join('ocfl_scrub_%s{%s,code="%s"} %d\n' % (name, labels_of(it), code, count)
+                   for it in roots if it.standing and it.standing.log.night
+                   for code, count in sorted(it.standing.found.count.items()))
+    return text + (head % (name, "The same by their codes.", name) + made if made else "")
+
+
+def figure_of(root: Root, name: str, value: Callable[[Standing], float | None]) -> float | None:
+    if root.standing and root.standing.log.night:
+        return value(root.standing)
+    return 0 if name == FIGURES[0][0] else None
+
+
+def labels_of(root: Root) -> str:
+    return 'root="%s",state="%s"' % (label(root.root), label(os.path.realpath(root.folder)))
 
 
 def of_closed(value: Callable[[Standing, Entry], float]) -> Callable[[Standing], float | None]:

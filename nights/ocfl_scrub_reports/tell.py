@@ -8,7 +8,7 @@ import signal
 import subprocess
 import sys
 from dataclasses import dataclass
-from typing import Mapping
+from typing import Mapping, Sequence
 
 from . import files
 from .state import is_held
@@ -26,11 +26,41 @@ GOOD = [(re.compile(b" repaired"), "{}: findings repaired"),
 PATIENCE = 300
 
 
+class Folder:
+    """A folder of state, and the texts in it: that of this night, and those of earlier ones of
+    which nobody was told."""
+
+    def __init__(self, path: str, number: str) -> None:
+        self.path = path
+        own = os.path.join(path, "tonight." + number)
+        self.own = own if number and has_text(own) else None
+        self.cut = own if number and is_empty(own) else None
+        self.unsent = [] if is_held(path) else [it for it in self.texts() if it != own]
+
+    def texts(self) -> list[str]:
+        """The texts that were not sent, in the order of their nights."""
+        names = glob.glob(os.path.join(glob.escape(self.path), "tonight.*"))
+        return sorted((it for it in names if not it.endswith(".new") and has_text(it)),
+                      key=lambda it: (os.stat(it).st_mtime_ns, it))
+
+    def said(self) -> bytes:
+        """What this night and earlier ones left to be sent."""
+        return b"".join(map(files.read, [*self.unsent, *filter(None, [self.own])]))
+
+    def forget(self) -> None:
+        """The texts were sent: the last one stays as `tonight`, until another one is sent."""
+        for path in [*self.unsent, *filter(None, [self.own])]:
+            os.replace(path, os.path.join(self.path, "tonight"))
+        if self.cut:
+            os.remove(self.cut)
+
+
 @dataclass
 class Night:
-    """A night as systemd tells of it, and the text that it left."""
+    """A night as systemd tells of it, over one folder of state or several, and the texts that it
+    left."""
     name: str
-    state: str
+    states: Sequence[str]
     given: Mapping[str, str]
 
     def __post_init__(self) -> None:
@@ -41,19 +71,9 @@ class Night:
         self.result = self.given.get("SERVICE_RESULT", "")
         # systemd has no status of a night that it could not begin.
         self.has_begun = bool(self.given.get("EXIT_CODE")) or self.result in ("", "success")
-        self.number = self.given.get("INVOCATION_ID", "")
-        # The text of this night, and those of earlier ones of which nobody was told.
-        own = os.path.join(self.state, "tonight." + self.number)
-        self.own = own if self.number and has_text(own) else None
-        self.is_cut = bool(self.number) and is_empty(own)
-        unsent = [it for it in self.texts() if it != own]
-        self.unsent = [] if is_held(self.state) else unsent
-
-    def texts(self) -> list[str]:
-        """The texts that were not sent, in the order of their nights."""
-        names = glob.glob(os.path.join(glob.escape(self.state), "tonight.*"))
-        return sorted((it for it in names if not it.endswith(".new") and has_text(it)),
-                      key=lambda it: (os.stat(it).st_mtime_ns, it))
+        self.folders = [Folder(it, self.given.get("INVOCATION_ID", "")) for it in self.states]
+        self.has_own = any(it.own for it in self.folders)
+        self.has_unsent = any(it.unsent for it in self.folders)
 
     def subject(self) -> str | None:
         """None where there is nothing to tell."""
@@ -62,18 +82,22 @@ class Night:
         if self.code != "exited":
             why = self.status + (", " + self.result if self.result else "")
             return "%s: the night was killed (%s)" % (self.shown, why)
-        if self.status == "0" and not self.own and not self.unsent:
+        if self.status == "0" and not self.has_own and not self.has_unsent:
             return None
         stopped = "{}: the night stopped with status " + self.status
         words = WORDS.get(self.status, stopped)
-        if self.status == "0" and not self.unsent:
+        if self.status == "0" and not self.has_unsent:
             said = self.said()
             words = next((it for found, it in GOOD if found.search(said)), words)
         return words.replace("{}", self.shown)
 
     def said(self) -> bytes:
-        """What this night and earlier ones left to be sent."""
-        return b"".join(map(files.read, [*self.unsent, *filter(None, [self.own])]))
+        """What was left to be sent; of several folders after the path of each."""
+        texts = [(it, it.said()) for it in self.folders]
+        if len(texts) == 1:
+            return texts[0][1]
+        return b"\n".join(b"%s:\n\n%s" % (plain("", it.path).encode(), said)
+                          for it, said in texts if said)
 
     def where(self) -> str:
         """Who has what a night said that left no text."""
@@ -83,7 +107,7 @@ class Night:
 
     def text(self) -> bytes:
         said = self.said()
-        if not self.own:
+        if not self.has_own:
             said += self.why_no_text(bool(said)).encode()
         again = b"" if self.code == "exited" else (
             b"The next night continues from the last checkpoint.\n")
@@ -91,19 +115,17 @@ class Night:
 
     def why_no_text(self, is_said: bool) -> str:
         """What is said of a night without a text. Empty if others are sent, and it ended well."""
-        if self.is_cut and self.code == "exited" and self.status != "0":
-            return NO_ROOM % (plain("", self.state), self.where())
+        cut = [it.path for it in self.folders if it.cut]
+        if cut and self.code == "exited" and self.status != "0":
+            return NO_ROOM % (", ".join(plain("", it) for it in cut), self.where())
         if not self.has_begun:
             return ("Nothing was audited. systemctl status ocfl-scrub@%s says why.\n"
                     % self.shown)
         return "" if is_said or self.code != "exited" else NO_TEXT % self.where()
 
     def forget(self) -> None:
-        """The text was sent: the last one stays as `tonight`, until another one is sent."""
-        for path in [*self.unsent, *filter(None, [self.own])]:
-            os.replace(path, os.path.join(self.state, "tonight"))
-        if self.is_cut:
-            os.remove(os.path.join(self.state, "tonight." + self.number))
+        for it in self.folders:
+            it.forget()
 
 
 def has_text(path: str) -> bool:

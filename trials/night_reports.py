@@ -137,6 +137,8 @@ def parts(folder):
     check("as JSON", json.loads(read(nights.path(
         "reports/statement-000001.json")))["objects"], 3)
     check("how it is going", nights.status("--age", "-,-")[:2], (0, []))
+    check("its page", "Nothing was found: 4 content files of 3 objects were read to the end" in ask(
+        "cycle", nights.state, "1")[1], True)
     check("events", ask("premis", "--each", "object", nights.state, "1")[1].count("<event>"), 3)
 
 

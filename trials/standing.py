@@ -455,7 +455,7 @@ def page(folder):
           (0, "", True, True))
     root = xml.etree.ElementTree.fromstring(re.sub(
         "<meta[^>]*>", "", out).replace("<!DOCTYPE html>", ""))
-    texts = [text for element in root.iter() for text in [element.text] if text]
+    texts = "".join(root.itertext())
     check("what it shows", [text in texts for text in [
         "CRITICAL", "5 open findings, 2 of weight 1 (E007 1, E023 1, E072 1, E092 1, S08 1)",
         "<b>&amp;<script>alert(1)</script>", "<i>", "30 %", "2026-03-09T22:00:00Z"]],

@@ -8,6 +8,7 @@ from html.parser import HTMLParser
 
 from gate.tests.test_night_states import NOW, Asked, Program, at, night_of
 from ocfl_scrub_reports import markup, page
+from ocfl_scrub_reports.statement import ADDED, FORM
 
 # Names as reports write them, and as a page shows them: what is not seen, or changes the order of
 # what is, as its bytes.
@@ -189,6 +190,7 @@ class Cycles(Asked):
                       place="q/%1B<script>", why="Permission <b>: M\\xFC")
         self.cycle(2, FIRST[:62], whole=False, left=2, compared=1)
         self.has(self.page(2), "WARNING", "Nothing was found where it looked",
+                 "Nothing is gone since cycle 1, outside of what was left out.",
                  "The report is not whole: 2 places were left out.", "No: 2 places were left out.",
                  "q/[%1B]<script>|Permission <b>: M\\xFC|",
                  "1 place was left out whose name the log does not say.")
@@ -232,9 +234,23 @@ class Cycles(Asked):
         os.remove(self.made.path + "/reports/gone-000002")
         self.has(self.page(2), "1 object is gone.", "The list of it is not there any more.")
         self.made.put("reports/cycle-000001", SECOND)
-        self.has(self.page(2), "not known: the report of cycle 1 is not the one that was compared")
+        status, out, said = self.ask("cycle", self.made.path, 2)
+        self.assertEqual((status, out, "does not hold: Report compared with" in said), (3, "", True))
         os.remove(self.made.path + "/reports/cycle-000001")
         self.has(self.page(2), "not known: the report of cycle 1 is not there any more")
+
+    def test_a_statement_that_was_changed(self):
+        path = self.made.path + "/reports/statement-000001"
+        with open(path) as file:
+            text = file.read()
+        self.has(self.page(1), "It was compared with its report for this page, and holds.")
+        self.made.put("reports/statement-000001", text.replace("right: 4", "right: 9").encode())
+        status, out, said = self.ask("cycle", self.made.path, 1)
+        self.assertEqual((status, out, "does not hold: Files found right" in said), (3, "", True))
+        self.made.put("reports/statement-000001", text.encode())
+        os.remove(path + ".json")
+        self.has(self.page(1), "as far as it could be checked.\n", "not checked, without statement-"
+                 "000001.json: Storage root;")
 
     def test_no_statement(self):
         self.assertEqual(self.ask("cycle", self.made.path, 2)[0:2], (3, ""))
@@ -244,9 +260,11 @@ class Cycles(Asked):
         self.cycle(2, FIRST, compared=0, why="x")
         path = self.made.path + "/reports/statement-000002"
         with open(path) as file:
-            text = file.read().replace("statement 3", "statement 2")
+            rows = file.read().replace("statement 3", "statement 2").splitlines(True)
         self.made.put("reports/statement-000002", re.sub(
-            "(?m)^(Objects|Files) gone: .*", "\\1 gone: 0", text).encode())
+            "(?m)^(Objects|Files) gone(.*): .*", "\\1 gone\\2: 0", "".join(
+                it for it in rows if it.partition(":")[0] not in ADDED[FORM])).encode())
+        os.remove(path + ".json")
         shown = self.page(2)
         self.has(shown, "What is gone is not known: a statement of its form")
         self.assertNotIn("Nothing is gone", shown)

@@ -239,6 +239,15 @@ class Repairs(Asked):
         self.assertEqual(self.repair()[1][1],
                          "# it is what the manifest says; what the fixity block says is wrong")
 
+    def test_an_inventory_that_names_a_command(self):
+        self.write("o/inventory.json", json.dumps({"digestAlgorithm": "sha512", "manifest": {
+            "\ntouch ran\n": ["v1/content/a"]}}).encode())
+        for found in ("%0Atouch ran%0A " + sum_of(b"abc"), "missing"):
+            self.finds("E092\to/v1/content/a\tsha512 " + found)
+            status, lines = self.repair("--copy", self.copy)
+            self.assertEqual((status, [it for it in lines if it[:1] not in ("#", "")]), (1, []))
+            self.assertIn("# no inventory that can be read says what it must be", lines)
+
     def test_missing_by_the_fixity_block(self):
         self.finds("E093\to/v9/content/gone\tmd5 missing")
         self.write("o/v9/content/gone", b"", self.copy)

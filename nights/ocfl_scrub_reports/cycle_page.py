@@ -8,14 +8,14 @@ from itertools import islice
 from typing import Iterable, Iterator, NamedTuple
 
 from . import files, markup, questions, standing
-from .counts import COMPARED, Digests, beside, former
+from .counts import Digests, beside, former
 from .markup import Markup, detail, paragraph, place, section, shown, size, table, text
 from .objects import id_of, is_root
 from .report import Line, Reading, is_within, lines_at
 from .shared import Failed, many, many_are, many_were
 from .state import NOT_KNOWN, State, cycle_name
 from .statement import FORM, Statement, cycle_of, plain
-from .verify import GUESSED, LIST_OF_GONE
+from .verify import GUESSED, LIST_OF_GONE, Check
 from .weights import Weights
 
 # So many rows of one kind are shown.
@@ -84,19 +84,18 @@ def object_above(path: bytes, objects: set[bytes]) -> bytes:
 
 
 class Page:
-    """What a page says of one cycle. Fails if it has no statement, or if its report is not the one
-    that the statement is about."""
+    """What a page says of one cycle. Fails if it has no statement, or if that does not hold."""
 
     def __init__(self, state: State, cycle: int, weights: Weights) -> None:
-        self.state, self.cycle, self.weights = state, cycle, weights
+        self.state, self.cycle = state, cycle
         self.said = Statement.of(state, cycle)
         self.report = self.said.report_beside(state.reports)
         self.is_whole = self.said.get("Whole") == "yes"
         self.words = Weights()
         self.root = state.bound_to("root")
+        self.check = Check(state.find("statement", cycle) or "", self.report)
         # What statements of earlier forms say of losses was guessed.
-        path = state.find("statement", cycle)
-        self.is_guessed = bool(path) and next(files.lines(path or "")) != FORM.encode()
+        self.is_guessed = self.check.form != FORM
         self.gone = self.gone_now()
         undeclared = {it.partition(b"\t")[2] for it in self.gone or ()
                       if it.startswith(b"undeclared\t")}
@@ -104,6 +103,10 @@ class Page:
         self.findings = Findings(self.report, weights, undeclared, digests)
         if digests.text() != self.said.get("Report SHA-256") or not digests.is_as_closed():
             raise Failed("%s was changed since it was closed" % self.report)
+        self.check.find_facts()
+        self.check.compare()
+        if self.check.differences:
+            raise Failed("%s does not hold: %s" % (self.check.path, self.check.differences[0]))
         self.earlier, self.why_no_earlier = self.find_earlier()
 
     def gone_now(self) -> list[bytes] | None:
@@ -123,11 +126,8 @@ class Page:
         if not compared.isdecimal() or self.is_guessed:
             return None, self.why_not_compared()
         path = self.state.find_report(int(compared))
-        if path is None:
-            return None, "the report of cycle %s is not there any more" % compared
-        if files.digest_of(path) != self.said.get(COMPARED):
-            return None, "the report of cycle %s is not the one that was compared" % compared
-        return path, ""
+        why = "" if path else "the report of cycle %s is not there any more" % compared
+        return path, why
 
     def why_not_compared(self) -> str:
         compared = self.said.get("Compared with cycle", NOT_KNOWN)
@@ -185,7 +185,9 @@ class Page:
             yield "What %s is not known: %s" % ("else is gone" if any(
                 count for count, *_ in counts) else "is gone", self.why_not_compared())
         elif not any(count for count, *_ in counts):
-            yield "Nothing is gone since cycle %s" % self.said.get("Compared with cycle", "")
+            yield "Nothing is gone since cycle %s%s" % (
+                self.said.get("Compared with cycle", ""),
+                ", outside of what was left out" * bool(self.number("Places left out")))
         before = len(list(islice(self.gone_before(), SHOWN)))
         if before:
             yield "What was gone before, and is not back: %s%s" % (
@@ -263,8 +265,8 @@ class Page:
         """The findings of one object, or of what is in none."""
         identity = id_of(self.root, path) if path and has_ids else None
         head = ("<h3>Outside of any object</h3>\n" if not path else
-                "<h3>Object %s</h3>\n<p>%s</p>\n" % (text(Markup("<bdi>%s</bdi>" % text(identity))),
-                                                     place(path)) if identity else
+                "<h3>Object <bdi>%s</bdi></h3>\n<p>%s</p>\n" % (text(identity), place(path))
+                if identity else
                 "<h3>Object at %s</h3>\n" % place(path))
         return head + table("", ("place", "what", "code", "detail", "since the cycle before"), [
             (place_within(it.line.path, path), self.words.meaning(it.line.code, it.line.detail),
@@ -403,6 +405,10 @@ class Page:
         return section(
             "The statement", table("", ("what", "file", "SHA-256"), rows),
             "" if seal else paragraph("The statement has no seal."),
+            paragraph("It was compared with its report for this page, and holds%s." % (
+                ", as far as it could be checked" if self.check.unchecked else "")),
+            markup.listed("not checked, without %s: %s" % (file, "; ".join(names))
+                          for file, names in self.check.unchecked.items()),
             '<pre class="statement">%s</pre>\n' % "\n".join(
                 text(it) for it in files.text_of(files.read(path)).split("\n")))
 

@@ -91,7 +91,7 @@ def shown(escaped: bytes) -> Markup:
 
 def place(path: bytes) -> Markup:
     """A place as reports write it, with its names as they are."""
-    return Markup('<span class="place" dir="ltr">%s</span>' % "/<wbr>".join(
+    return Markup('<span class="place" dir="ltr">%s</span>' % "/<wbr/>".join(
         map(shown, path.split(b"/"))))
 
 

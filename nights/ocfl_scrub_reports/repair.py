@@ -20,6 +20,7 @@ from .objects import INVENTORY, inventory_of, is_way_to, names_of, open_file
 from .recheck import Looking
 from .shared import Failed, find_program, many, many_are
 from .state import State
+from .statement import plain
 from .weights import Known
 
 # Findings that the right bytes repair: of content files, and of inventories.
@@ -29,6 +30,7 @@ OF_INVENTORIES = (b"E060", b"E063")
 SIDECARS = ("sha512", "sha256")
 PYTHON_NAMES = {"sha512/256": "sha512_256"}
 ALGORITHMS = {"md5", "sha1", "sha256", "sha512", "sha512/256"}
+DIGEST = re.compile("[0-9A-Fa-f]+")
 VERSION = re.compile(rb"v([0-9]+)")
 SIDECAR = re.compile(rb"([0-9A-Fa-f]+)[ \t]+inventory\.json[ \t\r\n]*")
 # So many closed reports are searched for the size of a file, and so many files are named that have
@@ -54,7 +56,9 @@ class Wanted:
     is_inventory: bool = False
 
     def expect(self, algorithm: str, digest: str) -> None:
-        if algorithm in ALGORITHMS and digest and not self.digest:
+        """Takes the first digest that is one: an inventory can name any text."""
+        is_one = algorithm in ALGORITHMS and DIGEST.fullmatch(digest)
+        if is_one and not self.digest:
             self.algorithm, self.digest = algorithm, digest.lower()
 
 
@@ -369,7 +373,8 @@ def put(line: bytes) -> None:
 
 
 def note(text: str) -> None:
-    put(b"# " + files.bytes_of(text))
+    """Writes a comment. A line feed would end it, and begin a command."""
+    put(b"# " + plain("Place left out 1", text).encode())
 
 
 def show(state: State, copy: str | None, known: str | None) -> int:

@@ -5,13 +5,10 @@ import json
 import os
 import shutil
 import subprocess
-from unittest import mock
 
 from gate.tests.test_night_states import Asked, Program
 from ocfl_scrub_reports import repair
 
-# A program that finds a sound storage root.
-STUB = b"#!/bin/sh\nprintf 'ok\\t.\\t-\\n'\n"
 # Words, and how bash takes them.
 WORDS = [(b"a", b"a"), (b"a b", b"'a b'"), (b"it's", b"'it'\"'\"'s'"), (b"$(ran)", b"'$(ran)'"),
          ("\xfc".encode(), "'\xfc'".encode()), (b"a\nb'\\", b"$'a\\x0ab\\'\\\\'"),
@@ -45,12 +42,8 @@ class Repairs(Asked):
 
     def setUp(self):
         super().setUp()
-        stub = self.put(STUB, "sound")
-        os.chmod(stub, 0o755)
-        given = mock.patch.dict(os.environ, {"OCFL_SCRUB": stub})
-        given.start()
-        self.addCleanup(given.stop)
         self.root, self.copy = self.at("root"), self.at("copy of it")
+        self.write("0=ocfl_1.1", b"ocfl_1.1\n")
         for path, data in self.FILES.items():
             self.write(path, data)
         for place, head in (("o", "v2"), ("p", "v1")):
@@ -273,3 +266,8 @@ class Repairs(Asked):
 
     def test_nothing_is_open(self):
         self.assertEqual(self.repair(), (0, []))
+
+    def test_no_storage_root(self):
+        os.rename(self.root + "/0=ocfl_1.1", self.root + "/0=ocfl_object_1.1")
+        self.assertEqual(self.ask("repair", self.made.path), (
+            3, "", "there is no storage root at %s: is it mounted?\n" % self.root))

@@ -4,6 +4,7 @@ from __future__ import annotations
 
 import json
 import os
+import re
 import stat
 from typing import IO, Any, Iterable, Sequence
 from urllib.parse import unquote_to_bytes
@@ -13,6 +14,7 @@ from . import files
 # What an object's inventory is called, and how long one is read: as the program reads it.
 INVENTORY = b"inventory.json"
 MOST = 268435456
+DECLARATION = re.compile("0=ocfl_[0-9]")
 
 
 def names_of(place: bytes) -> list[bytes]:
@@ -84,4 +86,4 @@ def id_of(root: str, place: bytes) -> str | None:
 
 def is_root(path: str) -> bool:
     """Whether a storage root is there: a folder with a declaration."""
-    return any(name.startswith("0=ocfl_") for name in files.names_in(path))
+    return any(DECLARATION.match(name) for name in files.names_in(path))

@@ -16,9 +16,8 @@ from typing import Any, Container, Iterable, Iterator
 from urllib.parse import unquote_to_bytes
 
 from . import files, report, standing
-from .objects import INVENTORY, inventory_of, is_way_to, names_of, open_file
-from .recheck import Looking
-from .shared import Failed, find_program, many, many_are
+from .objects import INVENTORY, inventory_of, is_root, is_way_to, names_of, open_file
+from .shared import Failed, many, many_are
 from .state import State
 from .statement import plain
 from .weights import Known
@@ -386,7 +385,8 @@ def show(state: State, copy: str | None, known: str | None) -> int:
         raise Failed("%s is not bound to a storage root" % state.path)
     if copy is not None and not os.path.isdir(copy):
         raise Failed(copy + " is not a folder")
-    Looking(find_program(), root).refuse_other_root()
+    if not is_root(root):
+        raise Failed("there is no storage root at %s: is it mounted?" % root)
     found = open_in(state, Known(known))
     reports = [path for group in standing.groups_of(state) for path in group.reports]
     objects = objects_of(reports, [it.place for it in found.wanted])

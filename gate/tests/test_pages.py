@@ -198,6 +198,13 @@ class Cycles(Asked):
         self.has(self.page(3), "q/[%1B]<script>/x|a file outside of any object|E072||not looked at "
                  "then|", "r|a file outside of any object|E072||new|")
 
+    def test_another_form_of_unicode(self):
+        self.cycle(2, b"ok\t.\t-\nok\to\t-\nE092\to/Mu%CC%88\tmd5 missing\nE023\to/M%C3%BC\t-\n"
+                   b"E023\to/M\t-\n")
+        self.has(self.page(2), "Mu\u0308|missing|E092|", "M|not in the inventory|E023|",
+                 "M\xfc|not in the inventory: the name of a missing file in another form of "
+                 "Unicode|E023|")
+
     def test_what_is_back(self):
         self.cycle(2, SECOND, LOST, back=0)
         self.cycle(3, FIRST, b"object\ts\n", back=2)
@@ -235,7 +242,8 @@ class Cycles(Asked):
         self.has(self.page(2), "1 object is gone.", "The list of it is not there any more.")
         self.made.put("reports/cycle-000001", SECOND)
         status, out, said = self.ask("cycle", self.made.path, 2)
-        self.assertEqual((status, out, "does not hold: Report compared with" in said), (3, "", True))
+        self.assertEqual((status, out, "does not hold: Report compared with" in said),
+                         (3, "", True))
         os.remove(self.made.path + "/reports/cycle-000001")
         self.has(self.page(2), "not known: the report of cycle 1 is not there any more")
 

@@ -10,7 +10,7 @@ from typing import Iterable, Iterator, NamedTuple
 from . import files, markup, questions, standing
 from .counts import Digests, beside, former
 from .markup import Markup, detail, paragraph, place, section, shown, size, table, text
-from .objects import id_of, is_root
+from .objects import id_of, in_one_form, is_root
 from .report import Line, Reading, is_within, lines_at
 from .shared import Failed, many, many_are, many_were
 from .state import NOT_KNOWN, State, cycle_name
@@ -28,6 +28,7 @@ GONE = [("Objects gone", "object", "gone"), ("Objects no longer declared", "obje
         ("Files gone", "file", "gone"), ("Expected objects missing", "expected object", "missing")]
 NOT_BACK = ["Objects gone and not back", "Objects no longer declared, and not back",
             "Files gone and not back"]
+OTHER_FORM = ": the name of a missing file in another form of Unicode"
 GRAVE = "bytes are not those that were taken in, or could not be read"
 
 
@@ -268,8 +269,11 @@ class Page:
                 "<h3>Object <bdi>%s</bdi></h3>\n<p>%s</p>\n" % (text(identity), place(path))
                 if identity else
                 "<h3>Object at %s</h3>\n" % place(path))
+        missing = {in_one_form(it.line.path) for it in found
+                   if it.line.detail.endswith(b" missing")}
         return head + table("", ("place", "what", "code", "detail", "since the cycle before"), [
-            (place_within(it.line.path, path), self.words.meaning(it.line.code, it.line.detail),
+            (place_within(it.line.path, path), self.words.meaning(it.line.code, it.line.detail)
+             + OTHER_FORM * (it.line.code == b"E023" and in_one_form(it.line.path) in missing),
              it.line.code.decode(), detail(it.line.code, it.line.detail),
              now.get(it.line.code + b"\t" + it.line.path, NOT_KNOWN)) for it in found])
 

@@ -45,7 +45,8 @@ svg text { fill: currentColor; font-size: 9px; } svg line { stroke: var(--line);
   body { max-width: none; margin: 0; padding: 0; font-size: 10pt; }
   .level[class] { color: #000; background: none; border-color: #000; }
   h2, h3, caption { break-after: avoid; } h3 + p { break-after: avoid; }
-  tr, svg { break-inside: avoid; } article { break-before: page; } thead { display: table-header-group; }
+  tr, svg { break-inside: avoid; } article { break-before: page; }
+  thead { display: table-header-group; }
 }
 """
 # A time as logs and statements have it.

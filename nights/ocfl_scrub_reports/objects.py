@@ -6,6 +6,7 @@ import json
 import os
 import re
 import stat
+import unicodedata
 from typing import IO, Any, Iterable, Sequence
 from urllib.parse import unquote_to_bytes
 
@@ -23,6 +24,11 @@ def names_of(place: bytes) -> list[bytes]:
     if any(name in (b"", b".", b"..") or b"/" in name or b"\0" in name for name in names):
         raise OSError("no place has the name of a folder above: " + place.decode())
     return names
+
+
+def in_one_form(place: bytes) -> str:
+    """A place in one form of Unicode: a copy may have written its names in another one."""
+    return unicodedata.normalize("NFC", unquote_to_bytes(place).decode("utf-8", "replace"))
 
 
 def open_folder(root: str, names: Iterable[bytes]) -> int:

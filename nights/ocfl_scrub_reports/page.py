@@ -9,8 +9,8 @@ from typing import Iterable, Sequence
 from . import files, markup, questions
 from .counts import CHANGES, of_changes
 from .log import Closing, Entry
-from .markup import (SIZES, SPANS, Markup, Units, detail, measured, place, section, shown, size, span,
-                     table, text, unit_of)
+from .markup import (SIZES, SPANS, Markup, Units, detail, measured, place, section, shown, size,
+                     span, table, text, unit_of)
 from .shared import many, many_are
 from .standing import kinds_gone
 from .state import NOT_KNOWN, State, cycle_name
@@ -109,7 +109,8 @@ def about_cycle(state: State, standing: Standing) -> str:
              ("files read", "{:,}".format(log.files)),
              ("bytes read", size(log.spent - log.files)),
              ("the last night began", log.night or "never"),
-             ("status of the last night", log.status + (", under way" if log.is_under_way else ""))]
+             ("status of the last night", log.status + RESULTS.get(log.status, "")
+              + (", under way" if log.is_under_way else ""))]
     if standing.done is not None:
         facts.append(("progress, by the cost of the cycle before", "%d %%" % standing.done))
     if standing.left is not None:

@@ -8,7 +8,6 @@ import re
 import shlex
 import stat
 import sys
-import unicodedata
 from collections import Counter
 from dataclasses import dataclass, field
 from itertools import groupby
@@ -16,7 +15,7 @@ from typing import Any, Container, Iterable, Iterator
 from urllib.parse import unquote_to_bytes
 
 from . import files, report, standing
-from .objects import INVENTORY, inventory_of, is_root, is_way_to, names_of, open_file
+from .objects import INVENTORY, in_one_form, inventory_of, is_root, is_way_to, names_of, open_file
 from .shared import Failed, many, many_are
 from .state import State
 from .statement import plain
@@ -110,10 +109,6 @@ class Open:
             self.others.update(code.decode() for code in codes)
         if b"E023" in codes:
             self.strays[in_one_form(place)] = place
-
-
-def in_one_form(place: bytes) -> str:
-    return unicodedata.normalize("NFC", unquote_to_bytes(place).decode("utf-8", "replace"))
 
 
 def open_in(state: State, leave_out: Known) -> Open:

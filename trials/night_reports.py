@@ -139,6 +139,7 @@ def parts(folder):
     check("how it is going", nights.status("--age", "-,-")[:2], (0, []))
     check("its page", "Nothing was found: 4 content files of 3 objects were read to the end" in ask(
         "cycle", nights.state, "1")[1], True)
+    check("nothing to repair", ask("repair", nights.state), (0, "", ""))
     check("events", ask("premis", "--each", "object", nights.state, "1")[1].count("<event>"), 3)
 
 
@@ -185,6 +186,14 @@ def pages(folder):
     given = json.loads(common.read(inventory))
     write(inventory, json.dumps({**given, "id": "urn:<i>:1"}))
     check("by its id", "Object urn:<i>:1" in shown(ask("cycle", nights.state, "3")[1]), True)
+    write(nights.root.encode() + b"/z/M\xfc<b>", b"")
+    check("a night that leaves a place out", nights.night()[0], 3)
+    ask("finish", nights.state)
+    page = shown(ask("cycle", nights.state, "4")[1])
+    check("it is not whole", [it for it in [
+        "The report is not whole: 1 place was left out.", "outside of what was left out",
+        "z|it holds a name that is not UTF-8: M\\xFC<b>|", "E092|expected sha256", "|as before|"]
+                              if it not in page], [])
     check("how the nights go", [name for _, name in NAMES if "v1/content/%s|" % name not in shown(
         ask("page", nights.state)[1])], [])
 

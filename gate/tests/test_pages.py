@@ -93,6 +93,8 @@ class Texts(Asked):
                  "expected sha512 4dff4ea340f0.., found 40b244112641.."),
                 (b"E092", b"md5 missing", "expected a digest of md5"), (b"E073", b"-", ""),
                 (b"E060", b"sha256 %3Cab 12", "expected sha256 <ab, found 12"),
+                (b"E060", b"sha256 0123456789ab 0123456789abc",
+                 "expected sha256 0123456789ab, found 0123456789ab.."),
                 (b"E099", b"a//%22", 'a//"')]:
             self.assertEqual(Read(markup.detail(code, said)).text, shown)
 
@@ -151,6 +153,7 @@ class Cycles(Asked):
             "1 file is no longer looked at", "1 finding is repaired.",
             "o/v1/content/c|bytes have changed, or missing|E092|right|",
             "r/v1/content/a|could not be read|S08|not in the inventory|", "has no seal")
+        self.assertNotIn("gone before", shown)
         self.assertLess(shown.index("Object urn"), shown.index("Object at r"))
         self.assertLess(shown.index("Object at r"), shown.index("Object at q"))
 
@@ -176,6 +179,44 @@ class Cycles(Asked):
         self.has(self.page(3), "OK\n", "Nothing was found: 1 content file of 1 object was read to "
                  "the end, and is right.\nNothing is gone since cycle 2.\n",
                  "Nothing: no line of the report is a finding.")
+
+    def test_what_is_not_good(self):
+        """Nothing was found, and yet not all is well."""
+        right = b"ok\t.\t-\nok\to\t-\nok\to/v1/content/a\t3\n"
+        self.cycle(2, right, compared=0, why="x")
+        self.has(self.page(2), "WARNING", "Nothing was found: ", "What is gone is not known: x.")
+        self.cycle(3, right + b"not a line\n")
+        self.has(self.page(3), "WARNING", "Nothing was found: ", "Nothing is gone since cycle 2.",
+                 "Broken lines: 1")
+
+    def test_findings_of_before(self):
+        """Those at places without a line now are not looked at, and not called right."""
+        before = (b"E092\to/v1/content/a\tmd5 0 1\nE092\to/v1/content/b\tmd5 0 1\n"
+                  b"E092\to/v1/content/c\tmd5 0 1\nE092\to/v1/content/d\tmd5 0 1\n")
+        self.cycle(2, b"ok\t.\t-\nok\to\t-\n" + before)
+        self.cycle(3, b"ok\t.\t-\nok\to\t-\nE092\to/v1/content/a\tmd5 0 1\n"
+                   b"E092\to/v1/content/b\tmd5 0 2\nok\to/v1/content/c\t3\n", repaired=1)
+        shown = self.page(3)
+        self.has(shown, "v1/content/a|bytes have changed|E092|expected md5 0, found 1|as before|",
+                 "v1/content/b|bytes have changed|E092|expected md5 0, found 2|with another "
+                 "detail|",
+                 "o/v1/content/c|bytes have changed, or missing|E092|right|",
+                 "1 finding was not looked at again: it is of the report before, at a place")
+        self.assertNotIn("o/v1/content/d", shown)
+
+    def test_what_is_known(self):
+        known = self.put(LOST[:9], "known")
+        self.made.slice(2, 2, 1, 9, 1300, 1, "ended", 1300)
+        self.made.close(2, 2, SECOND, LOST)
+        self.made.log_night(2, 1)
+        self.ask("statement", "--known", known, self.made.path, 2)
+        self.has(self.page(2), "object, known|p|", "object, no longer declared|q|")
+
+    def test_another_checkpoint(self):
+        self.cycle(2, SECOND, LOST)
+        self.made.keep_checkpoint(2, FIRST)
+        status, out, said = self.ask("cycle", self.made.path, 2)
+        self.assertEqual((status, out, "was changed since it was closed" in said), (3, "", True))
 
     def test_what_is_not_known(self):
         self.has(self.page(1), "What is gone is not known: there is no earlier cycle.",
@@ -302,6 +343,8 @@ class Nights(Asked):
         self.assertEqual((status, [name for _, name in NAMES if "|%s|" % name not in read.text]),
                          (0, []))
         self.assertTrue({"script", "img", "b"}.isdisjoint(tag for tag, _ in read.elements))
+        self.assertEqual([given.get("class") for tag, given in read.elements if tag == "rect"],
+                         [None, "bad"] * 2)
         for piece in ["Fixity of /srv/<b>\"[%E2%80%AE]\n", "object|<img>[%0A]|", "CRITICAL",
                       "2026-03-01T22:00:00Z|2 GB|1 h|556 kB/s|1, findings|",
                       "2026-03-02T22:00:00Z|0 bytes|0 s||3, failed|", "2 GB", "1.5 GB", "0.5 h",

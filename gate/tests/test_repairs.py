@@ -5,9 +5,10 @@ import json
 import os
 import shutil
 import subprocess
+from unittest import mock
 
 from gate.tests.test_night_states import Asked, Program
-from ocfl_scrub_reports import repair
+from ocfl_scrub_reports import files, objects, repair, report
 
 # Words, and how bash takes them.
 WORDS = [(b"a", b"a"), (b"a b", b"'a b'"), (b"it's", b"'it'\"'\"'s'"), (b"$(ran)", b"'$(ran)'"),
@@ -32,6 +33,33 @@ class Words(Asked):
             done = subprocess.run(["bash", "-c", b"printf %s " + word], stdout=subprocess.PIPE,
                                   check=True)
             self.assertEqual(done.stdout, data)
+
+
+    def test_comments(self):
+        out = self.output_of(repair.note, "a\n\x1b%0A\xfc")
+        self.assertEqual(out, b"# a%0A%1B%0A%C3%BC\n")
+
+    def test_names(self):
+        self.assertEqual(objects.names_of(b"a/%C3%BC"), [b"a", b"\xc3\xbc"])
+        for place in (b"a/../b", b"..", b"a//b", b"a/%2E", b"a%2Fb", b"a%00"):
+            self.assertRaises(OSError, objects.names_of, place)
+
+    def test_right_files_of_many_blocks(self):
+        """The object before a file may be in an earlier block."""
+        lines = [b"ok\t.\t-"]
+        right = []
+        for name in (b"a", b"b/c"):
+            lines.append(b"ok\t%s\t-" % name)
+            for number in range(40):
+                path = b"%s/v1/content/%02d" % (name, number)
+                lines.append(b"ok\t%s\t%d" % (path, number % 7))
+                right.append((name, path, number % 7))
+        path = self.put(b"\n".join(lines) + b"\n")
+        for block in (64, 1 << 20):
+            with mock.patch.object(files, "BLOCK", block):
+                self.assertEqual(list(report.right_ones(path, None)), right)
+                self.assertEqual(list(report.right_ones(path, {3, 5})),
+                                 [it for it in right if it[2] in (3, 5)])
 
 
 class Repairs(Asked):
@@ -213,6 +241,45 @@ class Repairs(Asked):
             "# but not the expected one", "# no right file was found"])
         self.assertEqual(self.run_commands(self.repair("--copy", self.copy)[1]), 1)
         self.assertEqual(sum_of(self.read("o/inventory.json")), expected)
+
+    def test_a_version_with_another_sidecar(self):
+        data = self.read("o/inventory.json")
+        self.write("o/inventory.json", b"")
+        self.write("o/v2/inventory.json.sha512", b"%s inventory.json\n" % (b"0" * 128))
+        self.finds("E060\to\tsha512 %s %s" % (sum_of(data), sum_of(b"")))
+        self.assertEqual(self.repair()[1][2:4], [
+            "# the newest version has no inventory with the digest of its sidecar",
+            "# no right file was found"])
+
+    def test_a_pipe(self):
+        """A pipe has no bytes, and is not taken for the empty file."""
+        name = "o/v2/content/Mu\u0308\x1b'.txt"
+        for root in (self.root, self.copy):
+            os.remove(os.path.join(root, name))
+        os.mkfifo(os.path.join(self.copy, name))
+        self.finds("E092\t%s\tsha512 missing" % escaped(name))
+        self.assertEqual(self.repair("--copy", self.copy)[1][2],
+                         "# in the copy: not there, or it cannot be read")
+
+    def test_a_finding_of_the_open_cycle(self):
+        """The last closed report found the file itself right, which is no source for it."""
+        self.write("p/v1/content/c", b"abd")
+        line = "E092\tp/v1/content/c\tsha512 %s %s" % (sum_of(b"abc"), sum_of(b"abd"))
+        self.made.put("report", ("ok\t.\t-\nok\tp\t-\n%s\n" % line).encode())
+        self.assertEqual(self.repair()[1][:4], [
+            "# " + line, "# expected: sha512 %s, 3 bytes" % sum_of(b"abc"),
+            "# in this root: o/v1/content/a",
+            "cp -p -- %s/o/v1/content/a %s/p/v1/content/c" % (self.root, self.root)])
+
+    def test_a_stray_of_the_fixity_block(self):
+        """The manifest does not name it, so the fixity block says what it must be."""
+        self.write("o/v9/content/gone", b"x")
+        self.write("o/v9/content/gone", b"", self.copy)
+        self.finds("E023\to/v9/content/gone\t-", "E093\to/v9/content/gone\tmd5 %s %s" % (
+            sum_of(b"", "md5"), sum_of(b"x", "md5")))
+        status, lines = self.repair("--copy", self.copy)
+        self.assertEqual((status, self.run_commands(lines), self.read("o/v9/content/gone")),
+                         (0, 1, b""))
 
     def test_links(self):
         """Nothing is copied through a link, which may lead anywhere."""

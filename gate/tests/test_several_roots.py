@@ -123,6 +123,12 @@ class Told(Several):
             ("ocfl-scrub: archives: the night stopped with status 3",
              "%s:\n\nof good\n\n%s:\n\nof bad\n" % (self.good, self.bad))])
 
+    def test_one_folder(self):
+        """Its text is sent as it is."""
+        self.put(b"a finding\n", "bad/tonight.1")
+        night = tell.Night("archive", [self.bad], {"EXIT_STATUS": "1"})
+        self.assertEqual(night.text(), b"a finding\n")
+
     def test_no_text(self):
         self.put(b"", "good/tonight.x")
         (subject, text), = self.tell(EXIT_STATUS="3", EXIT_CODE="exited", INVOCATION_ID="x")

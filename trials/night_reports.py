@@ -4,6 +4,14 @@ without `nightly`: statements that hold, what is open and gone, events, pages, w
 it, and several storage roots.
 
 usage: night_reports.py [PART]...
+
+Seen to fail on these faults, each planted alone:
+
+- A page shows a name as markup, or a mark of direction as it is; it does not look for an object's
+  id, or says that nothing is gone without a word on what was left out.
+- `repair` does not quote a name, does not look for other files of the digest or at the newest
+  version's inventory, or copies what is right by now.
+- Of several roots the status is that of the first, or the message has the text of one folder alone.
 """
 import html
 import json

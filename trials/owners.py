@@ -110,7 +110,8 @@ def reading(folder):
     state = other.nights.state
     report = other.nights.path("reports/cycle-000001")
     for name in ["reports/cycle-000001", "reports/cycle-000002", "report", "reports/gone-000001",
-                 "log", "checkpoint", "reports/statement-000001"]:
+                 "log", "checkpoint", "reports/statement-000001",
+                 "reports/statement-000001.sealed", "reports/known-000001"]:
         kept = common.read(other.nights.path(name)) if os.path.exists(
             other.nights.path(name)) else None
         other.link(name)
@@ -119,6 +120,7 @@ def reading(folder):
                       ["json", report],
                       ["verify", other.nights.path("reports/statement-000001")],
                       ["premis", "--each", "finding", state, "1"],
+                      ["cycle", state, "1"], ["page", state], ["repair", state],
                       ["unverified", "2030-01-01", state],
                       ["database", state, folder + "/tmp/db"]]:
             said = other.asks(*words)

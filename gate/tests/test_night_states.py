@@ -569,8 +569,10 @@ class OfScripts(Asked):
             os.mkdir(self.at("of-" + name))
             self.put(b"", "of-%s/%s" % (name, name))
             for words in (["status"], ["page"], ["finish"], ["unverified", "2026-03-01"],
-                          ["recheck"], ["database"], ["statement"], ["premis"]):
-                last = {"database": [self.at("made")], "statement": [1], "premis": [1]}
+                          ["recheck"], ["repair"], ["database"], ["statement"], ["premis"],
+                          ["cycle"]):
+                last = {"database": [self.at("made")], "statement": [1], "premis": [1],
+                        "cycle": [1]}
                 given, out, err = self.ask(*words, self.at("of-" + name), *last.get(words[0], []))
                 self.assertEqual(given, 3, (name, words))
                 self.assertIn(self.at("of-" + name) + " is a folder of the scripts", out + err)
@@ -929,7 +931,8 @@ class Owners(Asked):
                           ["unverified", "2026-03-01", made.path], ["recheck", made.path],
                           ["database", made.path, self.at("made")], ["tell", "x", made.path],
                           ["statement", made.path, 2], ["premis", made.path, 1],
-                          ["verify", made.path + "/reports/statement-000001"],
+                          ["cycle", made.path, 1], ["repair", made.path],
+                          ["status", self.folder + "/none", made.path], ["verify", made.path + "/reports/statement-000001"],
                           ["findings", report], ["totals", report], ["bytes", report],
                           ["json", report], ["changed", report, report]]:
                 self.assertEqual(set(self.dropped(*words)), {7}, words)
@@ -978,6 +981,7 @@ class Words(Asked):
             for words in [["findings", "--", "-report"], ["totals", "--", "-report"],
                           ["changed", "--", "-report", "-report"],
                           ["statement", "--", "-state", "1"], ["premis", "--", "-state", "1"],
+                          ["cycle", "--", "-state", "1"],
                           ["database", "--", "-state", "-made"], ["tell", "--", "-x", "-state"]]:
                 self.assertEqual(self.ask(*words)[0], 0, words)
         finally:

@@ -173,6 +173,24 @@ class Cycles(Asked):
         os.remove(path + ".asc")
         self.has(self.page(2), "seal|statement-000002.asc|it is not there|")
 
+    def test_links_in_the_folder(self):
+        """None is followed: what a seal's list names is beside the statement."""
+        self.ask("statement", "--seal", 'printf abc > "$1.asc"', self.made.path, 1)
+        path = self.made.path + "/reports/statement-000001"
+        self.made.put("reports/statement-000001.sealed", b"../log\n../../x.asc\n")
+        self.has(self.page(1), "seal|log|it is not there|", "seal|x.asc|it is not there|")
+        for name in ("log", "statement-000001.sealed", "statement-000001"):
+            kept = path + ".kept"
+            where = os.path.join(self.made.path, "reports", name)
+            if os.path.exists(where):
+                os.rename(where, kept)
+            os.symlink(kept if os.path.exists(kept) else "/etc/passwd", where)
+            status, out, said = self.ask("cycle", self.made.path, 1)
+            self.assertEqual((status, out, "is a link" in said), (3, "", True), name)
+            os.remove(where)
+            if os.path.exists(kept):
+                os.rename(kept, where)
+
     def test_all_is_well(self):
         self.cycle(2, b"ok\t.\t-\nok\to\t-\nok\to/v1/content/a\t3\n")
         self.cycle(3, b"ok\t.\t-\nok\to\t-\nok\to/v1/content/a\t3\n", back=0)

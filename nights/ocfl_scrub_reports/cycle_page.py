@@ -12,7 +12,7 @@ from .counts import Digests, beside, former
 from .markup import Markup, detail, paragraph, place, section, shown, size, table, text
 from .objects import id_of, in_one_form, is_root
 from .report import Line, Reading, is_within, lines_at
-from .shared import Failed, many, many_are, many_were
+from .shared import Failed, many, many_are, many_were, refuse_links
 from .state import NOT_KNOWN, State, cycle_name
 from .statement import FORM, Statement, cycle_of, plain
 from .verify import GUESSED, LIST_OF_GONE, Check
@@ -393,9 +393,10 @@ class Page:
 
     def about_statement(self) -> str:
         path = os.path.join(self.state.reports, cycle_name("statement", self.cycle))
-        seal = [] if not files.is_file(path + ".sealed") else [
-            os.path.join(self.state.reports, files.text_of(it))
-            for it in files.lines(path + ".sealed")]
+        refuse_links(path + ".sealed")
+        seal = [os.path.join(self.state.reports, os.path.basename(files.text_of(it))) for it in (
+            files.lines(path + ".sealed") if files.is_file(path + ".sealed") else ())]
+        refuse_links(*seal)
         rows: list[tuple[object, object, object]] = [
             ("statement", plain("", os.path.basename(path)), files.digest_of(path)),
             ("report, without compression", self.said.get("Report"),

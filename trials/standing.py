@@ -460,7 +460,7 @@ def page(folder):
         "CRITICAL", "5 open findings, 2 of weight 1 (E007 1, E023 1, E072 1, E092 1, S08 1)",
         "<b>&amp;<script>alert(1)</script>", "<i>", "30 %", "2026-03-09T22:00:00Z"]],
           [True] * 6)
-    check("no script, nothing from elsewhere", re.findall("<script|src=|href=|url\\(|http", out),
+    check("no script, nothing from elsewhere", re.findall("<script|src=|href=|url\\(|https?:", out),
           [])
     check("a plot of each night", len(list(root.iter("rect"))), 12)
     in_a_browser(write(folder + "/index.html", out), folder)

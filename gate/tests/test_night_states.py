@@ -932,7 +932,8 @@ class Owners(Asked):
                           ["database", made.path, self.at("made")], ["tell", "x", made.path],
                           ["statement", made.path, 2], ["premis", made.path, 1],
                           ["cycle", made.path, 1], ["repair", made.path],
-                          ["status", self.folder + "/none", made.path], ["verify", made.path + "/reports/statement-000001"],
+                          ["status", self.folder + "/none", made.path],
+                          ["verify", made.path + "/reports/statement-000001"],
                           ["findings", report], ["totals", report], ["bytes", report],
                           ["json", report], ["changed", report, report]]:
                 self.assertEqual(set(self.dropped(*words)), {7}, words)

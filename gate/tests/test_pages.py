@@ -127,8 +127,11 @@ class Cycles(Asked):
             "p", "ul", "li", "table", "caption", "thead", "tbody", "tr", "th", "td", "span", "bdi",
             "wbr", "pre"})
         self.assertLessEqual({name for _, given in read.elements for name in given}, {
-            "lang", "charset", "name", "content", "class", "scope", "dir"})
+            "lang", "charset", "name", "content", "class", "scope", "dir", "http-equiv"})
         self.assertNotRegex(out, "url[(]|@import|https?:")
+        self.assertIn({"http-equiv": "Content-Security-Policy",
+                       "content": "default-src 'none'; style-src 'unsafe-inline'"},
+                      [given for tag, given in read.elements if tag == "meta"])
         return re.sub("\n+", "\n", read.text)
 
     def has(self, text, *pieces):

@@ -49,6 +49,9 @@ svg text { fill: currentColor; font-size: 9px; } svg line { stroke: var(--line);
   thead { display: table-header-group; }
 }
 """
+# A browser runs and loads nothing, whatever stands on the page.
+POLICY = ('<meta http-equiv="Content-Security-Policy" content="default-src \'none\'; '
+          'style-src \'unsafe-inline\'">\n')
 # A time as logs and statements have it.
 TIME = re.compile("[0-9]{4}-[0-9]{2}-[0-9]{2}T[0-9:]{8}Z")
 # How many digits of a digest are shown.
@@ -177,9 +180,10 @@ def level(number: int, reasons: Iterable[object]) -> str:
 
 def write(title: str, body: str) -> None:
     """Writes a page to standard output."""
-    page = ('<!DOCTYPE html>\n<html lang="en">\n<head>\n<meta charset="utf-8">\n<meta name='
+    page = ('<!DOCTYPE html>\n<html lang="en">\n<head>\n<meta charset="utf-8">\n%s<meta name='
             '"viewport" content="width=device-width">\n<title>%s</title>\n<style>%s</style>\n'
-            '</head>\n<body>\n<main>\n%s</main>\n</body>\n</html>\n' % (text(title), STYLE, body))
+            '</head>\n<body>\n<main>\n%s</main>\n</body>\n</html>\n'
+            % (POLICY, text(title), STYLE, body))
     out = files.spool()
     out.write(page.encode("ascii", "xmlcharrefreplace"))
     files.pour(out)

@@ -1,9 +1,10 @@
 """Which edits of the gate are due: those of each crate that changed since its edits were last
 refused, and of each tenth crate of the others, by the commit.
 
-What refuses an edit is read from the crate's files and from those of the crates below it. The file
-`gate/refused.tsv` keeps, by crate, the sum of them at which all edits of the gate were refused, and
-the commit at which that was seen."""
+What refuses an edit is read from the crate's files, from those of the crates below it, and from the
+laws of its definitions, where these stand in a crate above it. The file `gate/refused.tsv` keeps, by
+crate, the sum of them at which all edits of the gate were refused, and the commit at which that was
+seen."""
 from __future__ import annotations
 
 import hashlib
@@ -11,7 +12,7 @@ import os
 import re
 from typing import Iterable
 
-from gate import minutes
+from gate import above, minutes
 from gate.commands import print_line
 from gate.edit_files import Edit
 from gate.repository import TOP, below, crates, folder_of
@@ -38,7 +39,7 @@ def logic(top: str = TOP) -> str:
 def sum_of(crate: str, top: str = TOP) -> str:
     """The SHA-256 of all that the edits of a crate are tried on, and of what tries them."""
     found = hashlib.sha256(("logic %s\n" % logic(top)).encode())
-    for name in below([crate]):
+    for name in below(above.crates_with([crate])):
         parts = (*READ, "edits") if name == crate else READ
         for path in (it for part in parts
                      for it in files_in(os.path.join(folder_of(name, top), part))):

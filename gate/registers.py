@@ -14,7 +14,7 @@ from gate.functions import seen_outside
 from gate.repository import TESTS, TOP, crates, folder_of
 
 # The modules that have laws, beside those whose name says so.
-OF_LAWS = ("headline", "records", "parts", "handing")
+OF_LAWS = ("headline", "records", "commands", "parts", "handing")
 BLOCK = re.compile(r"(?:unsafe )?impl(?:<.*?>)? |(?:pub )?trait ")
 OWNER = re.compile(r"(?:.*\bfor )?(?:pub )?(?:unsafe )?(?:trait |impl(?:<.*?>)? )?(\w+)")
 FUNCTION = re.compile(r"( *)(pub(?:\(crate\))? )?(?:const )?(?:unsafe )?fn (\w+)")

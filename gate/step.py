@@ -13,7 +13,7 @@ import shutil
 import sys
 import tempfile
 
-from gate import collection, functions, rounds, toolchain
+from gate import above, collection, functions, rounds, toolchain
 from gate.repository import copy_or_link
 
 KEPT = "out/incremental"
@@ -57,7 +57,8 @@ def lay_out(crate):
     its own, in a folder for this build of the prover. A check takes only what is up to date."""
     with open(os.path.join(crate.rlib, "format")) as it:
         build = re.search(r"(?m)^rattle-build (\S+)$", it.read())
-    folder = os.path.join(crate.folder, KEPT, build[1].replace("/", "_"))
+    whole = os.path.join(crate.folder, KEPT)
+    folder = os.path.join(whole + ".new", build[1].replace("/", "_"))
     carried = os.path.join(crate.rlib, "toolchain", "checked")
     with open(carried + ".json") as it:
         rows = [json.loads(line) for line in it]
@@ -71,6 +72,8 @@ def lay_out(crate):
                 for path in paths_of(name):
                     with open(os.path.join(folder, path), "wb") as file:
                         file.write(module)
+    # (another step may link what is kept, and then must find each file whole)
+    os.rename(whole + ".new", whole)
 
 
 def paths_of(module):
@@ -120,15 +123,35 @@ def alone(rt, crate, edit):
 
 
 def by_laws(rt, crate, edit, kept):
-    """What of the crate's laws refuses an edit of definitions, or nothing."""
+    """What refuses an edit of definitions, of the crate's laws or of those that stand above it in a
+    crate of their own, or nothing."""
     texts, fault = rt.edited(edit.text(), crate.folder)
-    laws = functions.laws_of(crate.name)
-    if fault or not laws or not all(path.startswith("specs/") for path in texts):
+    if fault or not all(path.startswith("specs/") for path in texts):
         return ""
-    lines = lines_of_check(rt, crate, texts, ["--jobs", "1", *only(laws)], kept) or []
+    laws = functions.laws_of(crate.name)
+    flags = ["--jobs", "1", *only(laws)]
+    lines = (laws and lines_of_check(rt, crate, texts, flags, kept)) or []
+    return refused_by_law(lines) or refused_by_law(lines_above(rt, crate, texts, kept))
+
+
+def refused_by_law(lines):
+    """What of these lines says that a law is not proved, or nothing."""
     if not any(NOT_PROVED.match(line) for line in lines):
         return ""
     return refusal([line for line in lines if SAID.match(line)])
+
+
+def lines_above(rt, crate, texts, kept):
+    """The lines of a check of the laws that stand above a crate, with these texts in the crate: none
+    where the prover refused nothing."""
+    top = os.path.dirname(os.path.dirname(crate.folder))
+    laws = toolchain.crates_of(rt, top).get(above.LAWS_OF.get(crate.name))
+    if laws is None:
+        return []
+    with contextlib.suppress(OSError):
+        shutil.copytree(os.path.join(laws.folder, KEPT), kept, copy_function=copy_or_link,
+                        dirs_exist_ok=True)
+    return refusing(rt, above.checked(rt, laws, crate, texts, kept), "only=", texts)
 
 
 def by_function(rt, crate, edit, kept):
@@ -190,8 +213,13 @@ def lines_of_check(rt, crate, texts, flags, kept):
     ran = rt.checked(crate, texts, flags, kept)
     if ran.returncode == UNASKED:
         return None
-    lines = ran.stdout.rstrip("\n").split("\n")
     last = "only=" if "--only" in flags else "logic=not-proved"
+    return refusing(rt, ran, last, texts)
+
+
+def refusing(rt, ran, last, texts):
+    """The lines of a check that refused something, and whose last line begins so, or none."""
+    lines = ran.stdout.rstrip("\n").split("\n")
     told = ran.returncode == 1 and lines[-1].startswith(last) and is_read(rt, ran, lines, texts)
     return lines if told else []
 

@@ -10,7 +10,8 @@ import sys
 
 # What the gate uses of the command. Some kits also have `Kept`, which keeps proofs for later runs.
 USED = ("Crate.ci", "checked", "edited", "in_lanes", "main", "must_fail", "need", "processors",
-        "unread", "rtlib.ALLOW_C", "rtlib.STALE", "rtlib.crates_below")
+        "unread", "rtlib.ALLOW_C", "rtlib.RATTLE", "rtlib.STALE", "rtlib.crates_below",
+        "rtlib.guarded")
 
 
 def load():

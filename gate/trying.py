@@ -15,7 +15,7 @@ import tempfile
 import threading
 import time
 
-from gate import rounds, toolchain
+from gate import above, rounds, toolchain
 from gate.step import KEPT, NAMES_ALONE
 from gate.commands import fail, print_line
 from gate.repository import TOP, below, copy_to, crates
@@ -38,7 +38,7 @@ def try_edits(edits):
         return fail("the command rt is not found; README.md says what it needs")
     began = time.monotonic()
     with tempfile.TemporaryDirectory(prefix="ocfl-scrub-edits-") as folder:
-        copy_to(folder, below({edit.crate for edit in edits}), kept=True)
+        copy_to(folder, below(above.crates_with({edit.crate for edit in edits})), kept=True)
         wells, faults = count_refused(rt.in_lanes(tasks_of(rt, folder, edits)))
     print_line("the edits took %.1f minutes" % ((time.monotonic() - began) / 60))
     return wells, faults

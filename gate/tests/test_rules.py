@@ -11,7 +11,7 @@ PAGE = """\
 Bytes are lost (`Steps`: `IsLost`, `no_such`; clause `lost`). It is named (`leave_out`, clause
 `named`), and said (`Sound`: `told_is`; clauses `said`, `unheard`; `other`, clause `named`).
 Its text is that of `night_text`, `no_text` in `Night` of `ocfl_telling`. By the law
-`nights_are_sound`, law `no_law`, and law `what_was_taken_is_not_read_again` of `ocfl_scrub`.
+`nights_are_sound`, law `no_law`, and law `what_was_taken_is_not_read_again` of `ocfl_laws`.
 
 ## Limits
 

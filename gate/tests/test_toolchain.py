@@ -13,8 +13,9 @@ class Command(unittest.TestCase):
 
     def test_what_is_missing_is_named(self):
         rt = types.SimpleNamespace(**{name: None for name in toolchain.USED if "." not in name})
-        self.assertEqual(toolchain.missing(rt),
-                         ["Crate.ci", "rtlib.ALLOW_C", "rtlib.STALE", "rtlib.crates_below"])
+        self.assertEqual(toolchain.missing(rt), ["Crate.ci", "rtlib.ALLOW_C", "rtlib.RATTLE",
+                                                 "rtlib.STALE", "rtlib.crates_below",
+                                                 "rtlib.guarded"])
 
     def test_verdicts_of_each_kit(self):
         words = types.SimpleNamespace(REFUSED="refused", AT_LIMIT="limit")

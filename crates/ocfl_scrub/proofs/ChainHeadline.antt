@@ -23,8 +23,8 @@ use Rattle.ocfl_scrub.proofs.AuditLaws.{none_left}
 use Rattle.ocfl_scrub.proofs.ChainParts.{calls_of, AreMade, AreSpent, last_end, LastEnds, Apart, apart}
 use Rattle.ocfl_scrub.proofs.ChainLaws.{given, place_there, spent_not_ended, counted, together}
 use Rattle.ocfl_scrub.proofs.{CutLaws.{cut_and_left, taken_test}, CycleEndLaws.{part_headline}}
-use Rattle.ocfl_scrub.proofs.{JoinLaws.{some_first}, PartLaws.{cut_paid}, Paying.{Paid}}
-use Rattle.ocfl_scrub.proofs.{RunLaws.{no_first}, RunPlaces.{after_front}}
+use Rattle.ocfl_scrub.proofs.{PartLaws.{cut_paid}, Paying.{Paid}}
+use Rattle.ocfl_scrub.proofs.{RunLaws.{no_first, some_item}, RunPlaces.{after_front}}
 use Rattle.ocfl_scrub.proofs.RunsJoined.{runs_go_on, runs_end}
 
 -- ---- what is paid for stays within the limits
@@ -134,7 +134,7 @@ module _ (root : StorageRoot) (part : Part) where
         let place_is : place_in r.ran.cursor.state ≡ k.last = ap (λ y. place_in y.state) k.cursor_is ∙ ap (λ y. place_in (state_after y k.last)) e ∙ place_there k.last in
         let rest : List Item = left (above from) r.limits in
         let on : runs_after ls rest ≡ runs (above (place_in r.ran.cursor.state)) ls =
-        runs_go_on rest ls (some_first rest h.0 x.next_is) ∙ ap (λ is. runs is ls) (sym (ap above place_is ∙ x.goes_on)) in
+        runs_go_on rest ls (some_item rest h.0 x.next_is) ∙ ap (λ is. runs is ls) (sym (ap above place_is ∙ x.goes_on)) in
         (x.below, subst (EachStartsBelow ls calls) (sym on) later)
 
   -- in a chain that counts no failure, its first run counts none

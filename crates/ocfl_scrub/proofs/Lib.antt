@@ -8,7 +8,6 @@ pub mod Passing
 pub mod PassLaws
 pub mod LoopLaws
 pub mod LookLaws
-pub mod LooksOnce
 pub mod AuditLaws
 pub mod AuditTurns
 pub mod OrderLaws
@@ -22,7 +21,6 @@ pub mod DirectoryLaws
 pub mod ChainRuns
 pub mod ChainLaws
 pub mod ChainHeadline
-pub mod ChainLooks
 pub mod ChainParts
 pub mod CycleLoop
 pub mod MeterLaws
@@ -38,16 +36,5 @@ pub mod KeptTurns
 pub mod RunLaws
 pub mod PerformLaws
 pub mod ScopeLaws
-pub mod ScopeEnds
-pub mod NoteLaws
-pub mod UncutLaws
-pub mod FileLaws
-pub mod OverrunLaws
-pub mod RecordLaws
-pub mod JoinLaws
-pub mod HeadlineLaws
 pub mod CycleRuns
 pub mod KeptRuns
-pub mod CallsJoined
-pub mod CallsMade
-mod OpeningLaws

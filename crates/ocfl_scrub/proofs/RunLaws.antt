@@ -6,7 +6,7 @@ use Rattle.ocfl_tree.specs.{Place.{Text, Place, place_cmp}, Ascending.{IsBeforeA
 use Rattle.ocfl_tree.specs.{StorageRoot.{StorageRoot}, Store.{Store}}
 use Rattle.ocfl_tree.specs.declared.store.Opening.{Opening}
 use Rattle.ocfl_report.specs.{Line.{Item, found}, Text.{text}}
-use Rattle.ocfl_audit.specs.{Audit.{audit, after, total_cost, given_by}, Lines.{is_hashed}}
+use Rattle.ocfl_audit.specs.{Audit.{audit, after, total_cost, given_by}, Lines.{is_empty, is_hashed}}
 use Rattle.ocfl_audit.specs.{Due.{items_at}, Between.{IsWithin}, Parts.{Part, within}}
 use Rattle.ocfl_audit.specs.Trail.{unread_of}
 use Rattle.ocfl_audit.specs.Runs.{Limits, files_of, total_files, cut_len, cut, left}
@@ -190,6 +190,10 @@ not_run root part s t old from l why g = record {
 pub no_first : (items : List Item) → None ≡ slice_get (places items) 0 → items ≡ []
 no_first [] e = refl
 no_first (i ∷ items) e = absurd cc
+
+pub some_item : (items : List Item) (p : Place) → Some p ≡ slice_get (places items) 0 → is_empty items ≡ false
+some_item [] p e = absurd cc
+some_item (i ∷ items) p e = refl
 
 a_first : (items : List Item) (p : Place) → Some p ≡ slice_get (places items) 0 → items ≢ []
 a_first [] p e f = absurd cc

@@ -6,7 +6,7 @@ use Rattle.ocfl_tree.specs.{Place.{Text, Place, place_cmp}, StorageRoot.{Storage
 use Rattle.ocfl_tree.specs.{Store.{Store}, declared.store.Opening.{Opening}}
 use Rattle.ocfl_report.specs.{Line.{Item}, Text.{text}}
 use Rattle.ocfl_audit.specs.{Audit.{Unread, after}, Parts.{Part}, Runs.{Limits}}
-use Rattle.ocfl_audit.specs.Trail.{content_trail, unread_of}
+use Rattle.ocfl_audit.specs.Trail.{unread_of}
 use Rattle.ocfl_cursor.specs.Cursor.{State, start, behind, ended, Cursor}
 use Rattle.ocfl_scrub.specs.{Call.{Call, known_call}, Types.{RunEnd, RunStatus}}
 use Rattle.ocfl_scrub.specs.Running.{place_in, taken_in, RunEndsWithin, RunsFromWithin}
@@ -20,27 +20,9 @@ pub record PartRun : Type 0 where
   pub opened : List Opening
   pub ran : RunEnd
 
--- it was made from a cursor, and no failure was counted
-pub record RanWell (root : StorageRoot) (part : Part) (c : Cursor) (r : PartRun) : Type 0 where
-  pub before : Store
-  pub behind : Store
-  pub old : Text
-  pub runs : RunsFromWithin (known_call root before behind old (old ++ r.report)) part c r.limits r.ran
-  pub opened_is : behind.openings ≡ before.openings ++ r.opened
-  pub unfailing : behind.failures ≡ before.failures
-
--- each was made from the cursor that the one before it answered, and the last ended the cycle
-abbrev pub AreRuns : StorageRoot → Part → Cursor → List PartRun → Type 0
-AreRuns root part c [] = ⊥
-AreRuns root part c (r ∷ []) = RanWell root part c r × (r.ran.end ≡ status.Ended)
-AreRuns root part c (r ∷ q ∷ runs) = RanWell root part c r × ((r.ran.end ≡ status.Spent) × AreRuns root part r.ran.cursor (q ∷ runs))
-
--- what they wrote and opened together
+-- what some runs wrote together
 abbrev pub reports_of : List PartRun → Text
 reports_of runs = flat_map (λ r. r.report) runs
-
-abbrev pub opened_by : StorageRoot → List PartRun → List Place
-opened_by root runs = flat_map (λ r. content_trail root r.opened) runs
 
 -- the runs of one cycle of a part
 pub record PartCycle : Type 0 where
@@ -48,12 +30,7 @@ pub record PartCycle : Type 0 where
   pub first : Cursor
   pub runs : List PartRun
 
--- they begin with the part's first item and end with the cycle
-pub record IsPartCycle (root : StorageRoot) (d : PartCycle) : Type 0 where
-  pub begins : place_in d.first.state ≡ None
-  pub are : AreRuns root d.part d.first d.runs
-
--- ---- the same if any run may stop, and may meet files that it cannot read
+-- ---- any run may stop, and may meet files that it cannot read
 
 -- the items of a run whose lines went out whole
 abbrev pub items_out : (call : Call) (part : Part) (from last : Option Place) (limits : Limits) (spent files : ℕ) (finding : Bool) (end : RunStatus) → RunEndsWithin call part from last limits spent files finding end → List Item

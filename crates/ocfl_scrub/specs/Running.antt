@@ -5,7 +5,7 @@ use Rattle.std.specs.{List.{last_or}, Option.{option_map_or}}
 use Rattle.ocfl_tree.specs.{Place.{Place}, StorageRoot.{StorageRoot}, Store.{Store}}
 use Rattle.ocfl_tree.specs.declared.store.Opening.{Opening}
 use Rattle.ocfl_report.specs.{Line.{Item}, Text.{text}}
-use Rattle.ocfl_audit.specs.{Audit.{audit, after}, Parts.{Part, whole, within}}
+use Rattle.ocfl_audit.specs.{Audit.{audit, after}, Parts.{Part, within}}
 use Rattle.ocfl_audit.specs.Runs.{Limits, sum_of, cut, left}
 use Rattle.ocfl_cursor.specs.{Cursor.{State, start, behind, ended, Cursor}, Meter.{max_cost}}
 use Rattle.ocfl_cursor.specs.Moves.{next_cycle, after_run}
@@ -113,20 +113,6 @@ pub record RunsFromWithin (call : Call) (part : Part) (c : Cursor) (limits : Lim
   pub run : RunEndsWithin call part (place_in c.state) last limits ran.spent ran.files ran.found ran.end
   pub cursor_is : ran.cursor ≡ after_run (begun_in c c.state) ran.spent ran.files (state_after ran.end last)
 
--- ---- of the whole, which is one part
-
-abbrev pub Runs : Call → Option Place → Option Place → Limits → ℕ → ℕ → Bool → Option Place → Type 0
-Runs call from last limits spent files finding next = RunsWithin call whole from last limits spent files finding next
-
-abbrev pub RunStops : Call → Option Place → Option Place → Limits → ℕ → ℕ → Bool → ReportStop → Type 0
-RunStops call from last limits spent files finding why = RunStopsWithin call whole from last limits spent files finding why
-
-abbrev pub RunEnds : Call → Option Place → Option Place → Limits → ℕ → ℕ → Bool → RunStatus → Type 0
-RunEnds call from last limits spent files finding end = RunEndsWithin call whole from last limits spent files finding end
-
-abbrev pub RunsFrom : Call → Cursor → Limits → RunEnd → Type 0
-RunsFrom call c limits ran = RunsFromWithin call whole c limits ran
-
 -- ---- if no failure was counted
 
 -- the text and the figures of a run are those of the cut of the audit of files that can all be read
@@ -140,9 +126,6 @@ RunsCleanlyWithin call part c limits spent files finding status.Ended = RunsClea
 RunsCleanlyWithin call part c limits spent files finding status.Spent = RunsCleanWithin call part (place_in c.state) limits spent files finding × (left (after (within part (audit call.root [])) (place_in c.state)) limits ≢ [])
 RunsCleanlyWithin call part c limits spent files finding (status.Stopped why) = ⊤
 RunsCleanlyWithin call part c limits spent files finding status.Worn = ⊤
-
-abbrev pub RunsCleanly : Call → Cursor → Limits → ℕ → ℕ → Bool → RunStatus → Type 0
-RunsCleanly call c limits spent files finding end = RunsCleanlyWithin call whole c limits spent files finding end
 
 -- ---- all that a run of a part does, on any store, and on one that tells its tree
 

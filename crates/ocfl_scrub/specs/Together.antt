@@ -4,7 +4,7 @@ use Rattle.std.specs.{List.{last_or}, Option.{option_map_or}}
 use Rattle.ocfl_tree.specs.{Place.{Place}, StorageRoot.{StorageRoot}}
 use Rattle.ocfl_tree.specs.declared.store.Opening.{Opening}
 use Rattle.ocfl_report.specs.{Line.{Item}, Text.{text}}
-use Rattle.ocfl_audit.specs.{Audit.{total_cost}, Parts.{Part, whole}}
+use Rattle.ocfl_audit.specs.{Audit.{total_cost}, Parts.{Part}}
 use Rattle.ocfl_audit.specs.Runs.{Limits, runs, joined, IsAtLeast, FilesFit, sum_of}
 use Rattle.ocfl_cursor.specs.Cursor.{State, start, behind, ended, Cursor}
 use Rattle.ocfl_item.specs.{Looking.{IsFront}, Auditing.{Audits, Fails}}
@@ -88,17 +88,3 @@ pub record CyclesToWithin (call : Call) (part : Part) (limits : List Limits) (c 
   pub last : Option Place
   pub cycle : CycleEndsWithin call part last limits c.spent c.files finding c.runs end
   pub cursor_is : c ≡ cycle_cursor c.runs c.spent c.files (cycle_state end last)
-
--- ---- the same of the whole
-
-abbrev pub Cycles : Call → Option Place → List Limits → ℕ → ℕ → Bool → ℕ → Bool → Type 0
-Cycles call last limits spent files finding count ends = CyclesWithin call whole last limits spent files finding count ends
-
-abbrev pub CycleStops : Call → Option Place → List Limits → ℕ → ℕ → Bool → ℕ → ReportStop → Type 0
-CycleStops call last limits spent files finding count why = CycleStopsWithin call whole last limits spent files finding count why
-
-abbrev pub CycleEnds : Call → Option Place → List Limits → ℕ → ℕ → Bool → ℕ → CycleStatus → Type 0
-CycleEnds call last limits spent files finding count end = CycleEndsWithin call whole last limits spent files finding count end
-
-abbrev pub CyclesTo : Call → List Limits → Cursor → Bool → CycleStatus → Type 0
-CyclesTo call limits c finding end = CyclesToWithin call whole limits c finding end

@@ -37,11 +37,5 @@ AuditEndsWithin call part last finding (end.Stopped why) = AuditStopsWithin call
 
 -- ---- of the whole, which is one part
 
-abbrev pub AuditsAll : Call → Option Place → Bool → Type 0
-AuditsAll call last finding = AuditsWithin call whole last finding
-
-abbrev pub AuditStops : Call → Option Place → Bool → ReportStop → Type 0
-AuditStops call last finding why = AuditStopsWithin call whole last finding why
-
 abbrev pub AuditEnds : Call → Option Place → Bool → AuditStatus → Type 0
 AuditEnds call last finding end = AuditEndsWithin call whole last finding end

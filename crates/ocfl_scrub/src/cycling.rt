@@ -51,8 +51,8 @@ pub struct CycleEnd {
 /// no run. A run that stopped is counted, even if it took nothing. Running out of memory for a
 /// cursor's text is a stop for `Fault::Memory`, with the cursor of the last run.
 ///
-/// What it keeps while the root stays unchanged and every call succeeds is a law over `told`:
-/// [`headline`](crate::headline).
+/// What it keeps while the root stays unchanged and every call succeeds is a law over `told`, the
+/// module `headline` of `ocfl_laws`.
 pub fn cycle<T: Tree, W: Write>(
     alloc: Global,
     store: &mut T,

@@ -37,13 +37,13 @@
 //! # What is proved of an audit of the whole
 //!
 //! - `audit` writes the text of the whole audit, in which an unreadable content file has the lines
-//!   of one (`AuditsAll`).
+//!   of one (`AuditsWithin`).
 //! - The content files opened are the hashed ones, in order, each once. The directories listed and
 //!   the inventories read are those that an audit looks into and reads, in order, each once.
 //! - If nothing failed, the text is that of the audit of the tree, and `found` says whether a line
 //!   is a finding (`unfailing`).
 //! - After a stop the items up to `last` went out whole, in order. Of the next item a proper
-//!   beginning went out, which is empty unless the output failed (`AuditStops`).
+//!   beginning went out, which is empty unless the output failed (`AuditStopsWithin`).
 //! - On every store, unless the output stops, the bytes that went out are lines, and `found` says
 //!   whether one is a finding.
 //! - `audited` adds the status and the note.
@@ -54,7 +54,7 @@
 //! limits:
 //!
 //! - `run` writes the text of the greatest cut that the limits allow of the items above the
-//!   cursor's place. What it spent, started and found is that of the cut (`Runs`).
+//!   cursor's place. What it spent, started and found is that of the cut (`RunsWithin`).
 //! - The content files opened are the hashed ones of the cut, in order, each once.
 //! - The run ends the cycle exactly if no item is left after the cut.
 //! - The directories listed are the first ones on the way to the cursor's place, and those from
@@ -63,8 +63,9 @@
 //!   from there on, each once.
 //! - What it spent passes the budget by less than the last file's cost.
 //! - After a stop the first items of the cut went out whole, in order. Of the next item a proper
-//!   beginning went out, which is empty unless the output failed (`RunStops`).
-//! - The cursor counts one run more, and is after the last item that went out whole (`RunsFrom`).
+//!   beginning went out, which is empty unless the output failed (`RunStopsWithin`).
+//! - The cursor counts one run more, and is after the last item that went out whole
+//!   (`RunsFromWithin`).
 //! - If nothing failed, all of this is said of the audit of the tree (`unfailing`).
 //!
 //! These hold on every store:
@@ -81,8 +82,9 @@
 //!   the first limits, each from the cursor, the store and the output that the one before left. All
 //!   but the last were ended by their limits. Count, cursor and `found` are theirs.
 //! - So `cycle` writes what the runs of its limits take of the audit, one after the other, and
-//!   returns the cursor of the last (`CyclesTo`, `Cycles`, by `a_cycle_does_what_its_runs_do`). It
-//!   ends the cycle exactly if that is the whole audit.
+//!   returns the cursor of the last (`CyclesToWithin`, `CyclesWithin`, by the law
+//!   `a_cycle_does_what_its_runs_do` of `ocfl_laws`). It ends the cycle exactly if that is the
+//!   whole audit.
 //! - What is listed and read is what each run lists and reads, and nothing between two runs.
 //! - Each hashed file is opened once.
 //! - Together the runs make at most as many openings of inventories as there are inventories, and
@@ -93,13 +95,13 @@
 //! - Budgets that sum to the cost are enough, in as many runs as there are such budgets, if the
 //!   limits on files fit as RULES says.
 //! - After a stop the items of the runs before the last went out whole, and what was begun belongs
-//!   to the last run (`CycleStops`). The number of runs returned is that of the runs made: no run
-//!   lists the storage root twice (`each_run_of_a_cycle_looks_once`), so none that has begun may be
-//!   left out; and the call that failed is the last of its run, so none is counted twice. It is at
-//!   least 1 if there are limits (`made` of `any_store`).
-//! - The law `a_cycle_keeps_the_headline` is the main promise, if nothing failed (`Headline`). Its
-//!   `starts_below` says of each run which items it took, and that it started each file only while
-//!   its limits allowed it.
+//!   to the last run (`CycleStopsWithin`). The number of runs returned is that of the runs made: no
+//!   run lists the storage root twice (`each_run_of_a_cycle_looks_once` of `ocfl_laws`), so none
+//!   that has begun may be left out; and the call that failed is the last of its run, so none is
+//!   counted twice. It is at least 1 if there are limits (`made` of `any_store`).
+//! - The law `a_cycle_keeps_the_headline` of `ocfl_laws` is the main promise, if nothing failed
+//!   (`Headline`). Its `starts_below` says of each run which items it took, and that it started
+//!   each file only while its limits allowed it.
 //!
 //! # What is proved of a part
 //!
@@ -112,7 +114,7 @@
 //!   the run before, the next one lists only directories of the part above the item that they did
 //!   not allow to start, and reads only inventories above it (`LooksAbove`). A run that goes down
 //!   first would write the same by the same calls from that item on (`GoesOnFrom`), so the laws
-//!   of joining hold of it too (`each_run_that_goes_on_has_a_report`).
+//!   of joining hold of it too (`each_run_that_goes_on_has_a_report` of `ocfl_laws`).
 //! - `run_part` takes the greatest cut that the limits allow of the part's items above the cursor's
 //!   place (`RunsWithin`). It ends the cycle exactly if no item of the part is left after the cut.
 //! - It begins with the part's first item if the cursor is at its start, has ended, or has a place
@@ -124,38 +126,15 @@
 //!   begins, and those of the part from there on, each once.
 //! - Each file that is opened is right in a directory that the call listed, content files too, also
 //!   if the call stops. So nothing of an object outside of the part is opened but of the one that
-//!   holds the place where the call begins (`openings_lie_where_it_was_listed`).
+//!   holds the place where the call begins (`openings_lie_where_it_was_listed` of `ocfl_laws`).
 //! - After a stop, what was listed and read is the first of these (`AuditStopsWithin`,
 //!   `RunStopsWithin`).
 //! - `cycle_part` is a chain of runs of the part (`CycleOfRunsWithin`), so what it lists and reads
 //!   is what these runs may. It makes few runs, by the part's own cost and files. That many limits
 //!   are enough (`CyclesWithin`, `HeadlineOfPart`).
 //!
-//! Two laws say what runs and parts did together, if no failure was counted:
-//!
-//! - The reports of the runs of one cycle of a part, joined, are what the audit has there. The
-//!   hashed files of the part were opened in order, each once, and the runs are few
-//!   (`runs_of_a_part_join`).
-//! - The reports of all parts that separators make, joined, are the audit, and each hashed file was
-//!   opened once (`parts_join_to_the_audit`).
-//!
-//! Two more let runs in that stopped, and files that could not be read (`AreOneCycle`):
-//!
-//! - The report of a run is the lines of the items that it took whole. If the output failed, a
-//!   beginning of the next item's lines may follow it, and belongs to no report
-//!   (`each_run_has_a_report`).
-//! - The reports of runs that each went on from the cursor of the one before, joined, are what the
-//!   audit has there up to the last cursor (`runs_that_stop_join`). Called unreadable are just the
-//!   files that could not be read by the run that took them (`unread_together`). A file that failed
-//!   in a run that stopped before its lines went out is opened again, and judged, by the next. If
-//!   the last run ended the cycle, the reports are all of it.
-//! - Of the runs that did not stop there are at most T / B plus F / N plus one, whether or not the
-//!   cycle has ended.
-//! - The reports of all parts whose cycles ended, joined, are the audit in which just these files
-//!   are called unreadable (`parts_with_runs_that_stop_join`).
-//!
-//! Audits of parts, each with its own unreadable files, join in the same way (`parts_apart_join` of
-//! `ocfl_audit`).
+//! The laws of `ocfl_laws` say what runs and parts did together, also if runs stopped and files
+//! could not be read.
 //!
 //! # What is proved of a command
 //!
@@ -210,18 +189,13 @@ mod auditing;
 mod checking;
 mod command;
 mod cycling;
-pub mod handing;
-pub mod headline;
 mod kept;
-pub mod laws;
 mod note;
 mod part;
 mod part_performing;
 pub mod parts;
 mod performing;
-pub mod records;
 mod running;
-pub mod scope_laws;
 mod stop;
 mod taking;
 

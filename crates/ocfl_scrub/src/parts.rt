@@ -1,63 +1,13 @@
-//! The laws of parts: what the runs of a part wrote, joined, and what the parts of a storage root
-//! wrote together.
-ghost use Rattle.std.specs.Prelude.{◌≡◌, ◌≤◌, ◌+◌, ◌++◌, ◌/◌, ℕ, Bool, List, [], ◌∷◌, Option, None, All, false, filter, flat_map, length, map};
-ghost use Rattle.std.specs.List.{AllByRecursion};
-ghost use Rattle.ocfl_tree.specs.{Place.{Place, Text, place_cmp}, Ascending.{IsAmong, IsAscending}};
-ghost use Rattle.ocfl_tree.specs.{StorageRoot.{StorageRoot}, Store.{Store}};
-ghost use Rattle.ocfl_tree.specs.declared.store.Opening.{Opening};
+//! What runs of one cycle of a part take together, of which any may stop. The laws of nights rest
+//! on it; the other laws are those of `ocfl_laws`.
+ghost use Rattle.std.specs.Prelude.{◌≡◌, ◌≤◌, ◌+◌, ◌++◌, ◌/◌, ℕ, List, None, All, map};
+ghost use Rattle.ocfl_tree.specs.StorageRoot.{StorageRoot};
 ghost use Rattle.ocfl_report.specs.Text.{text};
-ghost use Rattle.ocfl_audit.specs.{Audit.{audit, total_cost}, Due.{hashed_among, item_places}};
-ghost use Rattle.ocfl_audit.specs.{Lines.{is_empty}, Parts.{Part, parts_of, places_within, within}};
-ghost use Rattle.ocfl_audit.specs.Runs.{IsAtLeast, Limits, total_files};
-ghost use Rattle.ocfl_audit.specs.Trail.{content_trail, heads_of};
+ghost use Rattle.ocfl_audit.specs.{Audit.{audit, total_cost}, Parts.{Part, within}};
+ghost use Rattle.ocfl_audit.specs.Runs.{IsAtLeast, total_files};
 ghost use Rattle.ocfl_cursor.specs.Cursor.{Cursor, ended};
-ghost use Rattle.ocfl_item.specs.Auditing.{FailedAt};
-ghost use Rattle.ocfl_item.specs.declared.fault.Fault.TheVariants as fault;
-ghost use Rattle.ocfl_scrub.specs.{Call.{Call, known_call}, Chaining.{CycleOfRunsWithin, IsMadeOf}};
-ghost use Rattle.ocfl_scrub.specs.{Checking.{CheckEnds}, Openings.{OpensNear, OpensWithin}};
-ghost use Rattle.ocfl_scrub.specs.Running.{RunEndsWithin, RunsFromWithin, begun, place_in};
-ghost use Rattle.ocfl_scrub.specs.Joining.{AreOneCycle, AreRuns, HasReport, IsPartCycle, IsWholeCycle, PartCycle, PartRun, Ran, cursor_after, is_taken, left_by, opened_by, reports_of, unread_together, unstopped};
-ghost use Rattle.ocfl_scrub.specs.{Keeping.{RunsOn}, WholeAudit.{AuditEndsWithin}};
-ghost use Rattle.ocfl_scrub.specs.Types.{AuditStatus, CycleEnd, RunEnd, RunStatus};
-ghost use Rattle.ocfl_scrub.specs.declared.cycling.CycleStatus.TheVariants as cycle;
-ghost use Rattle.ocfl_scrub.specs.declared.stop.ReportStop.TheVariants as halt;
-
-/// If no failure was counted, the reports of the runs of one cycle of a part, joined, are what the
-/// audit has there, whatever processes made them. Each hashed file of the part was opened once, in
-/// order. If each budget is at least B and each limit on files at least N, there are at most
-/// cost / B + files / N + 1 runs. Cost and files are the part's, and each quotient is rounded down.
-#[tactic(auto, using(crate::proofs::JoinLaws::part_reports, crate::proofs::JoinLaws::part_opened))]
-pub fn runs_of_a_part_join()
-    ensures reports { (root : StorageRoot) (part : Part) (c : Cursor) (runs : List PartRun)
-        → place_in c.state ≡ None → AreRuns root part c runs
-        → reports_of runs ≡ text (within part (audit root [])) }
-    ensures opened { (root : StorageRoot) (part : Part) (c : Cursor) (runs : List PartRun)
-        → place_in c.state ≡ None → AreRuns root part c runs
-        → opened_by root runs ≡ hashed_among root (places_within part (item_places root)) }
-    ensures few { (root : StorageRoot) (part : Part) (c : Cursor) (runs : List PartRun)
-        → place_in c.state ≡ None → AreRuns root part c runs → (b n : ℕ) → 1 ≤ b → 1 ≤ n
-        → All (IsAtLeast b n) (map (λ r. r.limits) runs)
-        → length runs ≤ total_cost (within part (audit root [])) / b
-        + total_files (within part (audit root [])) / n + 1 }
-{}
-
-/// While the root stays unchanged and every call succeeds, the reports of all parts that separators
-/// make, joined in order, are exactly the audit of the whole root. Any number of runs, by any
-/// processes, may make the report of a part. Each hashed file is opened once, by one of them.
-#[tactic(auto, using(crate::proofs::JoinLaws::all_reports, crate::proofs::JoinLaws::all_opened))]
-pub fn parts_join_to_the_audit()
-    ensures reports { (root : StorageRoot) (separators : List Place) (cycles : List PartCycle)
-        → IsAscending place_cmp separators
-        → map (λ d. d.part) cycles ≡ parts_of separators
-        → AllByRecursion (IsPartCycle root) cycles
-        → flat_map (λ d. reports_of d.runs) cycles ≡ text (audit root []) }
-    ensures opened { (root : StorageRoot) (separators : List Place) (cycles : List PartCycle)
-        → IsAscending place_cmp separators
-        → map (λ d. d.part) cycles ≡ parts_of separators
-        → AllByRecursion (IsPartCycle root) cycles
-        → flat_map (λ d. opened_by root d.runs) cycles
-        ≡ hashed_among root (item_places root) }
-{}
+ghost use Rattle.ocfl_scrub.specs.Running.{place_in};
+ghost use Rattle.ocfl_scrub.specs.Joining.{AreOneCycle, PartRun, cursor_after, left_by, reports_of, unread_together, unstopped};
 
 /// Runs of one cycle of a part, each from the cursor of the one before it. Any may stop at a call
 /// that fails, and any may meet content that it cannot read. Their reports, joined, are the audit
@@ -81,116 +31,4 @@ pub fn runs_that_stop_join()
         → All (IsAtLeast b n) (map (λ r. r.limits) runs) → unstopped runs
         ≤ total_cost (within part (audit root (unread_together root runs))) / b
         + total_files (within part (audit root (unread_together root runs))) / n + 1 }
-{}
-
-/// The same of the parts that separators make, if the cycle of each has ended: the reports, joined
-/// in order, are the audit of the whole root, in which just the files are called unreadable that
-/// could not be read by the run that took them.
-#[tactic(auto, using(crate::proofs::CycleRuns::parts_reports))]
-pub fn parts_with_runs_that_stop_join()
-    ensures { (root : StorageRoot) (separators : List Place) (cycles : List PartCycle)
-        → IsAscending place_cmp separators
-        → map (λ d. d.part) cycles ≡ parts_of separators
-        → AllByRecursion (IsWholeCycle root) cycles
-        → flat_map (λ d. reports_of d.runs) cycles
-        ≡ text (audit root (flat_map (λ d. unread_together root d.runs) cycles)) }
-{}
-
-/// What `run_part` says of a run (`told`) gives it a report: the text that it wrote, except for a
-/// beginning of the next item's lines if the output failed.
-pub fn each_run_has_a_report()
-    ensures { (root : StorageRoot) (s t : Store) (old new : Text) (part : Part) (c : Cursor)
-        (limits : Limits) (ran : RunEnd)
-        → RunsFromWithin (known_call root s t old new) part c limits ran
-        → HasReport root old new part c limits ran }
-{}
-
-/// So has a run that goes on with the walk of the run before it, by what `run_on` says of it.
-#[tactic(auto, using(crate::proofs::KeptRuns::goes_on_reported))]
-pub fn each_run_that_goes_on_has_a_report()
-    ensures { (root : StorageRoot) (s t : Store) (old new : Text) (part : Part)
-        (met : Option Place) (c : Cursor) (limits : Limits) (ran : RunEnd)
-        → RunsOn (known_call root s t old new) part met c limits ran
-        → HasReport root old new part c limits ran }
-{}
-
-/// What a cursor has taken is not read again in its cycle: each content file that a run opens comes
-/// after it, whether the run ends, stops, or is lost with its report.
-pub fn what_was_taken_is_not_read_again()
-    ensures { (root : StorageRoot) (part : Part) (c : Cursor) (r : PartRun) → Ran root part c r
-        → (p : Place) → IsAmong (content_trail root r.opened) p
-        → is_taken (begun c).state p ≡ false }
-{}
-
-/// The audit of a part lists each directory once and reads each inventory once, in order, whether
-/// it ends or stops.
-#[tactic(auto, using(crate::proofs::LooksOnce::part_lists_once, crate::proofs::LooksOnce::part_reads_once))]
-pub fn an_audit_of_a_part_looks_once()
-    ensures listed { (call : Call) (part : Part) (last : Option Place) (finding : Bool)
-        (end : AuditStatus) → AuditEndsWithin call part last finding end → (listed : List Place)
-        × ((call.after.listings ≡ call.before.listings ++ listed) × IsAscending place_cmp listed) }
-    ensures read { (call : Call) (part : Part) (last : Option Place) (finding : Bool)
-        (end : AuditStatus) → AuditEndsWithin call part last finding end → (trail : List Opening)
-        × ((call.after.openings ≡ call.before.openings ++ trail)
-        × IsAscending place_cmp (heads_of call.root trail)) }
-{}
-
-/// So does a run of a part.
-#[tactic(auto, using(crate::proofs::LooksOnce::run_lists_once, crate::proofs::LooksOnce::run_reads_once))]
-pub fn a_run_of_a_part_looks_once()
-    ensures listed { (call : Call) (part : Part) (from last : Option Place) (limits : Limits)
-        (spent files : ℕ) (finding : Bool) (end : RunStatus)
-        → RunEndsWithin call part from last limits spent files finding end → (listed : List Place)
-        × ((call.after.listings ≡ call.before.listings ++ listed) × IsAscending place_cmp listed) }
-    ensures read { (call : Call) (part : Part) (from last : Option Place) (limits : Limits)
-        (spent files : ℕ) (finding : Bool) (end : RunStatus)
-        → RunEndsWithin call part from last limits spent files finding end
-        → (trail : List Opening) × ((call.after.openings ≡ call.before.openings ++ trail)
-        × IsAscending place_cmp (heads_of call.root trail)) }
-{}
-
-/// Each file that an audit, a run or a check opens is right in a directory that the call listed,
-/// content files too, and even if the call stopped. Each such directory is in the part or on the
-/// way down to where the call began; of a check it is on the way to its place.
-pub fn openings_lie_where_it_was_listed()
-    ensures audit { (call : Call) (part : Part) (last : Option Place) (finding : Bool)
-        (end : AuditStatus) → AuditEndsWithin call part last finding end
-        → OpensWithin part None call.before call.after }
-    ensures run { (call : Call) (part : Part) (from last : Option Place) (limits : Limits)
-        (spent files : ℕ) (finding : Bool) (end : RunStatus)
-        → RunEndsWithin call part from last limits spent files finding end
-        → OpensWithin part from call.before call.after }
-    ensures check { (call : Call) (p : Place) (item finding : Bool) (end : AuditStatus)
-        → CheckEnds call p item finding end → (listed : List Place)
-        × (OpensNear call.before call.after listed
-        × ((d : Place) → IsAmong listed d → (q : Place) × (p ≡ d ++ q))) }
-{}
-
-/// Each run of a cycle lists each directory at most once and reads each inventory at most once, in
-/// order, and nothing is listed or read between two runs. So a cycle has at least as many runs as
-/// listings of the storage root. If a call of the store failed, it was the last listing or the last
-/// opening of the last run that is counted, and no other listing of that run failed.
-pub fn each_run_of_a_cycle_looks_once()
-    ensures listed { (call : Call) (part : Part) (limits : List Limits) (ran : CycleEnd)
-        → CycleOfRunsWithin call part limits ran → (looks : List (List Place))
-        × ((length looks ≡ ran.runs)
-        × ((call.after.listings ≡ call.before.listings ++ flat_map (λ ls. ls) looks)
-        × AllByRecursion (IsAscending place_cmp) looks)) }
-    ensures read { (call : Call) (part : Part) (limits : List Limits) (ran : CycleEnd)
-        → CycleOfRunsWithin call part limits ran → (trails : List (List Opening))
-        × ((length trails ≡ ran.runs)
-        × ((call.after.openings ≡ call.before.openings ++ flat_map (λ os. os) trails)
-        × AllByRecursion (λ os. IsAscending place_cmp (heads_of call.root os)) trails)) }
-    ensures root { (call : Call) (part : Part) (limits : List Limits) (ran : CycleEnd)
-        → CycleOfRunsWithin call part limits ran → (listed : List Place)
-        × ((call.after.listings ≡ call.before.listings ++ listed)
-        × (length (filter is_empty listed) ≤ ran.runs)) }
-    ensures failed { (call : Call) (part : Part) (limits : List Limits) (ran : CycleEnd)
-        → CycleOfRunsWithin call part limits ran → (q : Place)
-        → ran.end ≡ cycle.Stopped (halt.Fault (fault.Store q)) → (calls : List Call) × ((k : Call)
-        × (IsMadeOf call (calls ++ k ∷ []) × ((length (calls ++ k ∷ []) ≡ ran.runs)
-        × ((listed : List Place) × ((trail : List Opening)
-        × ((k.after.listings ≡ k.before.listings ++ listed)
-        × ((k.after.openings ≡ k.before.openings ++ trail)
-        × FailedAt call.root k.before k.after listed trail q))))))) }
 {}

@@ -1,0 +1,13 @@
+mod LooksOnce
+mod ChainLooks
+mod ScopeEnds
+mod NoteLaws
+mod UncutLaws
+mod FileLaws
+mod OverrunLaws
+mod RecordLaws
+mod JoinLaws
+mod HeadlineLaws
+mod CallsJoined
+mod CallsMade
+mod OpeningLaws

@@ -1,0 +1,4 @@
+pub mod Whole
+pub mod Openings
+pub mod Joined
+pub mod Handing

@@ -1,5 +1,0 @@
-use Rattle.ocfl_scrub.proofs.CallsJoined.{calls_few}
-use Rattle.ocfl_scrub.proofs.handing.calls_on_a_part_join.Goals as goal
-
-pub returns-clause-few : goal.returns-clause-few
-returns-clause-few c = calls_few

@@ -1,5 +1,0 @@
-use Rattle.ocfl_scrub.proofs.CallsJoined.{called_opened, called_reports}
-use Rattle.ocfl_scrub.proofs.handing.calls_on_all_parts_join_to_the_audit.Goals as goal
-
-pub returns : goal.returns
-returns c = record { reports = called_reports; opened = called_opened }

@@ -1,5 +1,0 @@
-use Rattle.ocfl_scrub.proofs.OverrunLaws.{less_than_the_last}
-use Rattle.ocfl_scrub.proofs.laws.overrun_is_less_than_the_last_file.Goals as goal
-
-pub returns : goal.returns
-returns c = less_than_the_last

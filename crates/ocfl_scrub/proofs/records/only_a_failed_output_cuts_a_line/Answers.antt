@@ -1,9 +1,0 @@
-use Rattle.ocfl_scrub.proofs.UncutLaws.{uncut_by_a_stop, uncut_by_memory}
-use Rattle.ocfl_scrub.proofs.records.only_a_failed_output_cuts_a_line.Goals as goal
-
-pub returns : goal.returns
-returns c = record {
-  stopped = uncut_by_a_stop;
-  memory = uncut_by_memory;
-  check = λ s t old new known path said h. h.lines.none;
-}

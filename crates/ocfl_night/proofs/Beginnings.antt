@@ -10,7 +10,7 @@ use Rattle.ocfl_scrub.specs.declared.running.RunStatus.TheVariants as status
 use Rattle.ocfl_state.specs.{Checkpoint.{Checkpoint}, Content.{Content, Closed, is_closed}}
 use Rattle.ocfl_state.specs.declared.checkpoint_parts.{Phase.{Phase}, Phase.TheVariants.{Open, Closing}, ReportMark.{ReportMark}}
 use Rattle.ocfl_night.specs.Beginning.{BeginsAt, Position, first, first_position, further, position}
-use Rattle.ocfl_night.specs.{Chain.{AreClosed}, Done.{Done}, Leaving.{done_by, remedy_at}, Looks.{Rounds}}
+use Rattle.ocfl_night.specs.{Chain.{HasClosed}, Done.{Done}, Leaving.{done_by, remedy_at}, Looks.{Rounds}}
 use Rattle.ocfl_night.specs.Ending.{IsSlice, cycle_ended, cycle_in, cycle_of, ended_by, halt_after, place_or_pause, unbegun_by}
 use Rattle.ocfl_night.specs.Runs.{StopsOpen, Turn, after_end, after_made, turn_of}
 use Rattle.ocfl_night.specs.Sound.{IsAt, IsOneMore, IsShut, Stands}
@@ -20,7 +20,7 @@ use Rattle.ocfl_night.specs.declared.refusal.NotOpened.TheVariants as unopened
 use Rattle.ocfl_night.specs.declared.{plan.Halt.{Halt}, plan.Pause.{Pause}, slicing.Made.{Made}, tally.Remedy.{Remedy}}
 use Rattle.ocfl_night.specs.declared.plan.Halt.TheVariants as halt
 use Rattle.ocfl_night.specs.declared.tally.Remedy.TheVariants as remedy
-use Rattle.ocfl_night.proofs.{Chains.{cycle_after, not_closed}, Foreigners.{at_once}, Runs.{stops_open}}
+use Rattle.ocfl_night.proofs.{Chains.{cycle_after, not_there}, Foreigners.{at_once}, Runs.{stops_open}}
 
 -- ---- where a night begins
 
@@ -95,8 +95,8 @@ next_in strict d e {made = made} next going is led =
 
 -- it was closed when the night began
 module _ (rounds : Rounds) (k : Checkpoint) (c : Content) {cycle : ℕ} (is : cycle ≡ cycle_of k) (shut : IsTrue (is_closed c.closed cycle)) where
-  unshut : {phase : Phase} → k.phase ≡ phase → AreClosed rounds 1 c.closed (cycle_in phase k.cursor) → ⊥
-  unshut {phase} at are = let still : is_closed c.closed cycle ≡ false = not_closed rounds 1 (cycle_in phase k.cursor) cycle c.closed are (omega (arith, is, in_cycle k at)) in cc (still, shut)
+  unshut : {phase : Phase} → k.phase ≡ phase → HasClosed rounds (cycle_in phase k.cursor) c.closed → ⊥
+  unshut at has = let still : is_closed c.closed cycle ≡ false = not_there has (omega (arith, is, in_cycle k at)) in cc (still, shut)
 
   pub shut_before : {t : Text} → IsAt k c → Stands rounds t k c → IsShut cycle c
   shut_before at (inl o) = absurd (unshut o.phase o.earlier)
@@ -104,7 +104,7 @@ module _ (rounds : Rounds) (k : Checkpoint) (c : Content) {cycle : ℕ} (is : cy
   shut_before at (inr (inr w)) = record { checkpoint = k; at = at; phase = w.phase; is = sym (is ∙ in_cycle k w.phase); closed = shut }
 
 pub one_more_since : {rounds : Rounds} {cycle : ℕ} {old mid new : Content} → mid.closed ≡ old.closed → (IsShut cycle mid → IsShut cycle old) → IsOneMore rounds cycle mid new → IsOneMore rounds cycle old new
-one_more_since {cycle = cycle} {old} {mid} {new} same shut m = record { now = m.now; before = by m.before }
+one_more_since {cycle = cycle} {old} {mid} {new} same shut m = record { now = m.now; there = m.there; before = by m.before }
   where
     by : ((d : Closed) × (new.closed ≡ mid.closed ++ d ∷ [])) ⊎ ((new.closed ≡ mid.closed) × IsShut cycle mid) → ((d : Closed) × (new.closed ≡ old.closed ++ d ∷ [])) ⊎ ((new.closed ≡ old.closed) × IsShut cycle old)
     by (inl one) = inl (one.0, one.1 ∙ ap (λ (l : List Closed). l ++ one.0 ∷ []) same)

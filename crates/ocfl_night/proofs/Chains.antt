@@ -1,9 +1,9 @@
 -- Chains of runs, and the closed reports.
-use Rattle.std.proofs.Common.{◌≡◌, ◌≢◌, ◌⊎◌, inl, inr, ℕ, zero, suc, ◌+◌, ◌≤◌, List, [], ◌∷◌, ◌++◌, Option, Some, None, refl, sym, ◌∙◌, ap, subst, arith, append_assoc, Bool, true, false, ◌||◌, ◌==◌, take, ◌-◌, length, length-append}
+use Rattle.std.proofs.Common.{◌≡◌, ◌≢◌, ◌⊎◌, ⊎_elim, inl, inr, ℕ, zero, suc, ◌+◌, ◌≤◌, List, [], ◌∷◌, ◌++◌, Option, Some, None, refl, sym, ◌∙◌, ap, subst, arith, append_assoc, Bool, true, false, ◌||◌, ◌==◌, take, ◌-◌, length, length-append}
 use Rattle.std.proofs.{lemmas.List.{append-nil, take_all, take-append-le}, lemmas.Bool.{eq-eqb}}
 use Rattle.std.proofs.{lemmas.Bool.Decides.{eqb_tells}, lemmas.List.Concat.{flat_map-append}}
 use Rattle.std.specs.Prelude.{slice_get}
-use Rattle.ocfl_tree.specs.{Place.{Text, Place}, StorageRoot.{StorageRoot}}
+use Rattle.ocfl_tree.specs.{Place.{Text, Place}, Ascending.{IsAmong}, StorageRoot.{StorageRoot}}
 use Rattle.ocfl_audit.specs.Parts.{Part}
 use Rattle.ocfl_cursor.specs.{Cursor.{Cursor, State, ended}, Moves.{after_run}}
 use Rattle.ocfl_scrub.specs.Running.{place_in, begun, begun_in, state_after}
@@ -11,8 +11,8 @@ use Rattle.ocfl_scrub.specs.Joining.{PartRun, Ran}
 use Rattle.ocfl_scrub.specs.declared.running.RunStatus.{RunStatus}
 use Rattle.ocfl_scrub.specs.declared.running.RunStatus.TheVariants as status
 use Rattle.ocfl_state.specs.{Content.{Closed, is_closed}, declared.checkpoint_parts.Left.{Left}}
-use Rattle.ocfl_night.specs.Chain.{RootRun, look_of, AreLooked, joined, LeadTo, EndAt, past, past_branch, part_after, from_after, LedBy, Led, LedToEnd, IsClosedAs, AreClosed}
-use Rattle.ocfl_night.specs.{Looks.{Look, Rounds, IsOneOf}, Sound.{closed_text}}
+use Rattle.ocfl_night.specs.Chain.{RootRun, look_of, AreLooked, joined, LeadTo, EndAt, past, past_branch, part_after, from_after, LedBy, Led, LedToEnd, IsClosedAs, AreClosed, AreLeft, HasClosed}
+use Rattle.ocfl_night.specs.{Looks.{Known, MayBeGone, Rounds, IsOneOf}, Sound.{closed_text}}
 
 -- a beginning of nothing
 abbrev pub nothing : Text
@@ -54,9 +54,9 @@ leave_on part c d runs [] l led stood = (runs, ([], (d, (sym (append-nil runs), 
 leave_on part c d runs (x ∷ left) l (first, (rest, (e, (are, (leads, (there, led)))))) stood = (first, (rest, (e, (are, (leads, (there, leave_on (past_branch part x) e d rest left l led stood))))))
 
 -- it was one of these looks, as those before
-pub looked_on : (looks : Option (List Look)) (runs : List RootRun) (r : RootRun) → AreLooked looks runs → IsOneOf looks (look_of r) → AreLooked looks (runs ++ r ∷ [])
-looked_on looks [] r all one = (one, tt)
-looked_on looks (q ∷ runs) r all one = (all.0, looked_on looks runs r all.1 one)
+pub looked_on : (known : Option Known) (runs : List RootRun) (r : RootRun) → AreLooked known runs → IsOneOf known (look_of r) → AreLooked known (runs ++ r ∷ [])
+looked_on known [] r all one = (one, tt)
+looked_on known (q ∷ runs) r all one = (all.0, looked_on known runs r all.1 one)
 
 pub joined_on : (runs : List RootRun) (r : RootRun) → joined (runs ++ r ∷ []) ≡ joined runs ++ r.run.report
 joined_on runs r =
@@ -128,15 +128,71 @@ not_closed rounds n next cycle (d ∷ closed) are le =
     let other : (d.cycle ≡ cycle → ⊥) = λ is. omega (arith, is, are.0, up, le) in
     or_false (d.cycle == cycle) (is_closed closed cycle) (differs d.cycle cycle other) (not_closed rounds (n + 1) next cycle closed are.2 le)
 
--- that of the last cycle is
-pub last_closed : (rounds : Rounds) (n last : ℕ) (closed : List Closed) → AreClosed rounds n closed (last + 1) → n ≤ last → is_closed closed last ≡ true
-last_closed rounds n last [] are le = absurd (omega (arith, are, le))
-last_closed rounds n last (d ∷ []) are le =
-    let same : d.cycle ≡ last = omega (arith, are.0, are.2) in
-    or_left (d.cycle == last) false (eq-eqb d.cycle last same)
-last_closed rounds n last (d ∷ e ∷ closed) are le =
-    let up = closed_up rounds (n + 1 + 1) (last + 1) closed are.2.2 in
-    or_true (d.cycle == last) (is_closed (e ∷ closed) last) (last_closed rounds (n + 1) last (e ∷ closed) are.2 (omega (arith, up)))
+-- that which came last is
+pub last_closed : (closed : List Closed) (d : Closed) → is_closed (closed ++ d ∷ []) d.cycle ≡ true
+last_closed [] d = or_left (d.cycle == d.cycle) false (eq-eqb d.cycle d.cycle refl)
+last_closed (x ∷ closed) d = or_true (x.cycle == d.cycle) (is_closed (closed ++ d ∷ []) d.cycle) (last_closed closed d)
+
+-- ---- what is left of them
+
+neither : (a b : Bool) → (a || b) ≡ false → (a ≡ false) × (b ≡ false)
+neither true b is = absurd (cc is)
+neither false b is = (refl, is)
+
+module _ (Gone : ℕ → Type 0) where
+  pub left_all : (closed : List Closed) → AreLeft Gone closed closed
+  left_all [] = refl
+  left_all (x ∷ closed) = inl (closed, (refl, left_all closed))
+
+  pub left_on : (closed left : List Closed) (d : Closed) → AreLeft Gone closed left → AreLeft Gone (closed ++ d ∷ []) (left ++ d ∷ [])
+  left_on [] left d is = inl ([], (ap (λ (l : List Closed). l ++ d ∷ []) is, refl))
+  left_on (x ∷ closed) left d (inl (rest, (same, more))) = inl (rest ++ d ∷ [], (ap (λ (l : List Closed). l ++ d ∷ []) same, left_on closed rest d more))
+  left_on (x ∷ closed) left d (inr (gone, more)) = inr (gone, left_on closed left d more)
+
+  left_unclosed : (closed left : List Closed) (cycle : ℕ) → AreLeft Gone closed left → is_closed closed cycle ≡ false → is_closed left cycle ≡ false
+  left_unclosed [] left cycle is un = ap (λ (l : List Closed). is_closed l cycle) is
+  left_unclosed (x ∷ closed) left cycle (inl (rest, (same, more))) un =
+      let both = neither (x.cycle == cycle) (is_closed closed cycle) un in
+      ap (λ (l : List Closed). is_closed l cycle) same ∙ or_false (x.cycle == cycle) (is_closed rest cycle) both.0 (left_unclosed closed rest cycle more both.1)
+  left_unclosed (x ∷ closed) left cycle (inr (gone, more)) un = left_unclosed closed left cycle more (neither (x.cycle == cycle) (is_closed closed cycle) un).1
+
+  pub left_among : (closed left : List Closed) → AreLeft Gone closed left → (d : Closed) → IsAmong left d → IsAmong closed d
+  left_among [] left is d among = absurd (subst (λ (l : List Closed). IsAmong l d) is among)
+  left_among (x ∷ closed) left (inl (rest, (same, more))) d among = ⊎_elim (λ first. inl first) (λ later. inr (left_among closed rest more d later)) (subst (λ (l : List Closed). IsAmong l d) same among)
+  left_among (x ∷ closed) left (inr (gone, more)) d among = inr (left_among closed left more d among)
+
+  -- and what is left of these
+  pub left_again : (More : ℕ → Type 0) → ((cycle : ℕ) → More cycle → Gone cycle) → (closed left now : List Closed) → AreLeft Gone closed left → AreLeft More left now → AreLeft Gone closed now
+  left_again More goes [] left now is again = subst (λ (l : List Closed). AreLeft More l now) is again
+  left_again More goes (x ∷ closed) left now (inl (rest, (same, more))) again =
+      ⊎_elim
+      (λ h. inl (h.0, (h.1.0, left_again More goes closed rest h.0 more h.1.1)))
+      (λ h. inr (goes x.cycle h.0, left_again More goes closed rest now more h.1))
+      (subst (λ (l : List Closed). AreLeft More l now) same again)
+  left_again More goes (x ∷ closed) left now (inr (gone, more)) again = inr (gone, left_again More goes closed left now more again)
+
+module _ {rounds : Rounds} where
+  -- the same, by another name
+  abbrev pub has_in : {next : ℕ} {closed now : List Closed} → now ≡ closed → HasClosed rounds next closed → HasClosed rounds next now
+  has_in same h = record { all = h.all; are = h.are; left = subst (AreLeft (MayBeGone rounds.known) h.all) (sym same) h.left }
+
+  abbrev pub has_at : {next then : ℕ} {closed : List Closed} → next ≡ then → HasClosed rounds next closed → HasClosed rounds then closed
+  has_at same h = record { all = h.all; are = subst (AreClosed rounds 1 h.all) same h.are; left = h.left }
+
+  -- one more
+  abbrev pub has_on : {next : ℕ} {closed now : List Closed} (d : Closed) → now ≡ closed ++ d ∷ [] → d.cycle ≡ next → IsClosedAs rounds d → HasClosed rounds next closed → HasClosed rounds (next + 1) now
+  has_on {next} {closed} d same cycle is h = record {
+    all = h.all ++ d ∷ [];
+    are = closed_on rounds 1 next h.all d h.are cycle is;
+    left = subst (AreLeft (MayBeGone rounds.known) (h.all ++ d ∷ [])) (sym same) (left_on (MayBeGone rounds.known) h.all closed d h.left);
+  }
+
+  -- none, before the first cycle
+  abbrev pub has_none : {closed : List Closed} → closed ≡ [] → HasClosed rounds 1 closed
+  has_none same = record { all = []; are = refl; left = same }
+
+  pub not_there : {next cycle : ℕ} {closed : List Closed} → HasClosed rounds next closed → next ≤ cycle → is_closed closed cycle ≡ false
+  not_there {next} {cycle} {closed} h le = left_unclosed (MayBeGone rounds.known) h.all closed cycle h.left (not_closed rounds 1 next cycle h.all h.are le)
 
 pub closed_text_on : (closed : List Closed) (d : Closed) → closed_text (closed ++ d ∷ []) ≡ closed_text closed ++ d.report
 closed_text_on closed d =

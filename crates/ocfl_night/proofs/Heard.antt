@@ -6,7 +6,7 @@ use Rattle.ocfl_tree.specs.Place.{Text}
 use Rattle.ocfl_night.specs.Looks.{Rounds}
 use Rattle.ocfl_state.specs.{Checkpoint.{Checkpoint}, Content.{Content}}
 use Rattle.ocfl_state.specs.Crash.{Outcomes, Only, Same, Passes, LeavesOnly}
-use Rattle.ocfl_night.specs.Sound.{Stands, IsSoundAt, IsSound, IsReady, IsHeard, IsHeardReady, IsFound, IsFoundReady, IsHeardSince, IsReadySince}
+use Rattle.ocfl_night.specs.Sound.{Stands, IsSoundAt, IsSound, AreSound, IsReady, IsHeard, IsHeardReady, IsFound, IsFoundReady, IsHeardSince, IsReadySince}
 use Rattle.ocfl_night.specs.Steps.{MayCheckpoint, IsCheckpointPut, unsaid}
 use Rattle.ocfl_night.proofs.Moments.{OnlyNow, leaves, unchanged, unmoved, leaves_weaker, joined_moments}
 use Rattle.ocfl_night.proofs.Sound.{sound_holds, marked_put, ready_sound, ready_on, put_on}
@@ -92,41 +92,45 @@ module _ {F : Type 0} {seen : F → Content} {may_leave : F → Outcomes} {momen
 
 -- ---- since a night began
 
-module _ {rounds : Rounds} {outcomes : Outcomes} {s0 s1 : Option Text} {c : Content} where
-  pub found_heard : Grew s0 s1 → IsFound rounds outcomes c → IsHeardSince rounds outcomes s0 s1 c
-  found_heard grew h = record { from = h.from; was = h.was; t = h.t; before = h.before; heard = not_more h.now grew }
+module _ {rounds : Rounds} {outcomes : Outcomes} {kept : AreSound rounds outcomes} {s0 s1 : Option Text} {c : Content} where
+  pub found_heard : Grew s0 s1 → IsFound rounds outcomes kept c → IsHeardSince rounds outcomes kept s0 s1 c
+  found_heard grew h = record { from = h.from; was = h.was; heard = not_more h.now grew }
 
-  pub since_longer : {s2 : Option Text} → Grew s1 s2 → IsHeardSince rounds outcomes s0 s1 c → IsHeardSince rounds outcomes s0 s2 c
-  since_longer grew h = record { from = h.from; was = h.was; t = h.t; before = h.before; heard = heard_longer grew h.heard }
+  pub since_longer : {s2 : Option Text} → Grew s1 s2 → IsHeardSince rounds outcomes kept s0 s1 c → IsHeardSince rounds outcomes kept s0 s2 c
+  since_longer grew h = record { from = h.from; was = h.was; heard = heard_longer grew h.heard }
 
-  pub since_sound : IsHeardSince rounds outcomes s0 s1 c → IsSound rounds c
-  since_sound h = (h.t ++ h.heard.more, h.heard.sound)
+  pub since_sound : IsHeardSince rounds outcomes kept s0 s1 c → IsSound rounds c
+  since_sound h = ((kept h.from h.was).0 ++ h.heard.more, h.heard.sound)
 
   module _ {F : Type 0} {seen : F → Content} {may_leave : F → Outcomes} {k : Checkpoint} {f : F} where
-    pub since_found : (r : IsFoundReady seen may_leave rounds outcomes k f) → IsHeard rounds r.t s0 s1 c → IsHeardSince rounds outcomes s0 s1 c
-    since_found r h = record { from = r.from; was = r.was; t = r.t; before = r.before; heard = h }
+    pub since_found : (r : IsFoundReady seen may_leave rounds outcomes kept k f) → IsHeard rounds (kept r.from r.was).0 s0 s1 c → IsHeardSince rounds outcomes kept s0 s1 c
+    since_found r h = record { from = r.from; was = r.was; heard = h }
 
-    pub since_ready : {s2 : Option Text} (r : IsReadySince seen may_leave rounds outcomes s0 s1 k f) → IsHeard rounds (r.t ++ r.heard.more) s1 s2 c → IsHeardSince rounds outcomes s0 s2 c
-    since_ready r h = record { from = r.from; was = r.was; t = r.t; before = r.before; heard = heard_on r.heard.more r.heard.took h }
+    pub since_ready : {s2 : Option Text} (r : IsReadySince seen may_leave rounds outcomes kept s0 s1 k f) → IsHeard rounds ((kept r.from r.was).0 ++ r.heard.more) s1 s2 c → IsHeardSince rounds outcomes kept s0 s2 c
+    since_ready r h = record { from = r.from; was = r.was; heard = heard_on r.heard.more r.heard.took h }
 
 -- of a part that is known by two names
-module _ {F : Type 0} {seen : F → Content} {may_leave : F → Outcomes} {outcomes : Outcomes} {s0 s1 : Option Text} {k : Checkpoint} {a : F} {rounds given : Rounds} (same : given ≡ rounds) (r : IsReadySince seen may_leave rounds outcomes s0 s1 k a) where
-  pub ready_since : IsReady seen may_leave given (r.t ++ r.heard.more) k a
-  ready_since = subst (λ (p : Rounds). IsReady seen may_leave p (r.t ++ r.heard.more) k a) (sym same) r.heard.ready
+module _ {F : Type 0} {seen : F → Content} {may_leave : F → Outcomes} {outcomes : Outcomes} {s0 s1 : Option Text} {k : Checkpoint} {a : F} {rounds given : Rounds} {kept : AreSound rounds outcomes} (same : given ≡ rounds) (r : IsReadySince seen may_leave rounds outcomes kept s0 s1 k a) where
+  -- all that was told
+  abbrev pub told_since : Text
+  told_since = (kept r.from r.was).0 ++ r.heard.more
 
-  pub heard_through : {moment : F → ℕ} {left_since : F → ℕ → Outcomes} {s2 : Option Text} {f b : F} → LeavesOnly moment left_since f a (IsHeardSince rounds outcomes s0 s1) → Grew s1 s2
-      → LeavesOnly moment left_since a b (IsHeard given (r.t ++ r.heard.more) s1 s2) → LeavesOnly moment left_since f b (IsHeardSince rounds outcomes s0 s2)
+  pub ready_since : IsReady seen may_leave given told_since k a
+  ready_since = subst (λ (p : Rounds). IsReady seen may_leave p told_since k a) (sym same) r.heard.ready
+
+  pub heard_through : {moment : F → ℕ} {left_since : F → ℕ → Outcomes} {s2 : Option Text} {f b : F} → LeavesOnly moment left_since f a (IsHeardSince rounds outcomes kept s0 s1) → Grew s1 s2
+      → LeavesOnly moment left_since a b (IsHeard given told_since s1 s2) → LeavesOnly moment left_since f b (IsHeardSince rounds outcomes kept s0 s2)
   heard_through {s2 = s2} p grew q =
       joined_moments
       (leaves_weaker (λ c h. since_longer grew h) p)
-      (leaves_weaker (λ c h. since_ready r (subst (λ (p : Rounds). IsHeard p (r.t ++ r.heard.more) s1 s2 c) same h)) q)
+      (leaves_weaker (λ c h. since_ready r (subst (λ (p : Rounds). IsHeard p told_since s1 s2 c) same h)) q)
 
-pub kept_found : {rounds : Rounds} {outcomes : Outcomes} {c : Content} → ((d : Content) → outcomes d → IsSound rounds d) → outcomes c → IsFound rounds outcomes c
-kept_found {c = c} kept was = let s = kept c was in record { from = c; was = was; t = s.0; before = s.1; now = s.1 }
+pub kept_found : {rounds : Rounds} {outcomes : Outcomes} {c : Content} (kept : AreSound rounds outcomes) → outcomes c → IsFound rounds outcomes kept c
+kept_found {c = c} kept was = record { from = c; was = was; now = (kept c was).1 }
 
 -- nothing is called, and nothing was said
 pub begun_heard : {F : Type 0} {may_leave : F → Outcomes} {moment : F → ℕ} {left_since : F → ℕ → Outcomes} {rounds : Rounds} {s : Option Text} {f : F} → OnlyNow may_leave moment left_since
-    → ((d : Content) → may_leave f d → IsSound rounds d) → LeavesOnly moment left_since f f (IsHeardSince rounds (may_leave f) s s)
+    → (kept : AreSound rounds (may_leave f)) → LeavesOnly moment left_since f f (IsHeardSince rounds (may_leave f) kept s s)
 begun_heard only_now kept = unmoved only_now (λ c n. found_heard (grew_none _) (kept_found kept n))
 
 -- what holds if there is a value, if there is one

@@ -11,7 +11,7 @@ use Rattle.ocfl_item.specs.Judging.{HasShortFiles}
 use Rattle.ocfl_identity.specs.Identity.{IsUnread, OpensFirst, in_listing, in_opening, too_long}
 use Rattle.ocfl_scrub.specs.declared.running.RunStatus.{RunStatus}
 use Rattle.ocfl_scrub.specs.declared.running.RunStatus.TheVariants as status
-use Rattle.ocfl_night.specs.Looks.{Counts, IfGiven, IsOneOf, IsWithin, Look, look_between, opened_since}
+use Rattle.ocfl_night.specs.Looks.{Counts, IfGiven, IsOneOf, IsWithin, Known, Look, look_between, opened_since}
 use Rattle.ocfl_identity.specs.declared.identity.NoIdentity.{NoIdentity}
 use Rattle.ocfl_identity.specs.declared.identity.NoIdentity.TheVariants as none
 
@@ -72,25 +72,25 @@ module _ {r s t : Store} (p : Counts r s) (q : Counts s t) where
 pub within_on : {a b c : Look} → IsWithin a b → IsWithin b c → IsWithin a c
 within_on {a} {b} {c} p q = record { root = p.root ∙ q.root; unread = λ e is. q.unread e (p.unread e is) }
 
-pub one_of_on : {a b : Look} (looks : Option (List Look)) → IsWithin a b → IsOneOf looks b → IsOneOf looks a
+pub one_of_on : {a b : Look} (known : Option Known) → IsWithin a b → IsOneOf known b → IsOneOf known a
 one_of_on None p is = tt
-one_of_on (Some looks) p is = (is.0, (is.1.0, within_on p is.1.1))
+one_of_on (Some known) p is = (is.0, (is.1.0, within_on p is.1.1))
 
-pub given_on : {P Q : Type 0} (looks : Option (List Look)) → (P → Q) → IfGiven looks P → IfGiven looks Q
+pub given_on : {P Q : Type 0} (known : Option Known) → (P → Q) → IfGiven known P → IfGiven known Q
 given_on None more p = tt
-given_on (Some looks) more p = more p
+given_on (Some known) more p = more p
 
-pub given_so : {P : Type 0} (looks : Option (List Look)) → P → IfGiven looks P
+pub given_so : {P : Type 0} (known : Option Known) → P → IfGiven known P
 given_so None p = tt
-given_so (Some looks) p = p
+given_so (Some known) p = p
 
 -- the first steps, and the last
-module _ {r s t : Store} (root : StorageRoot) (looks : Option (List Look)) (p : Counts r s) (q : Counts s t) (is : IsOneOf looks (look_between root r t)) where
-  pub first_of : IsOneOf looks (look_between root r s)
-  first_of = one_of_on looks (first_within p q root) is
+module _ {r s t : Store} (root : StorageRoot) (known : Option Known) (p : Counts r s) (q : Counts s t) (is : IsOneOf known (look_between root r t)) where
+  pub first_of : IsOneOf known (look_between root r s)
+  first_of = one_of_on known (first_within p q root) is
 
-  pub last_of : IsOneOf looks (look_between root s t)
-  last_of = one_of_on looks (last_within p q root) is
+  pub last_of : IsOneOf known (look_between root s t)
+  last_of = one_of_on known (last_within p q root) is
 
 -- a run that was not made did nothing
 pub counts_either : {s t : Store} (end : RunStatus) → (end ≢ status.Worn → Counts s t) → (end ≡ status.Worn → t ≡ s) → Counts s t

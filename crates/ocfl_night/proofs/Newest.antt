@@ -3,17 +3,17 @@ use Rattle.std.proofs.Common.{◌≡◌, ◌≢◌, inl, inr, ℕ, [], ◌≤◌
 use Rattle.std.specs.Prelude.{IfSome, IsTrue, Bool, false, Option, Some, None}
 use Rattle.ocfl_tree.specs.{Place.{Text}, Store.{Store}}
 use Rattle.ocfl_state.specs.{Checkpoint.{Checkpoint}, Content.{Content, is_closed}}
-use Rattle.ocfl_night.specs.{Chain.{AreClosed}, Looks.{Rounds}, Sound.{Stands, IsSound}}
+use Rattle.ocfl_night.specs.{Chain.{HasClosed}, Looks.{Rounds}, Sound.{Stands, IsSound}}
 use Rattle.ocfl_state.specs.declared.checkpoint_parts.Phase.TheVariants.{Closing}
 use Rattle.ocfl_night.specs.{Older.{IsBesides, IsOlder, IsToCome, open_cycle}, Refusing.{IsRefused, no_root, in_folder, none, unread, not_own, outdated}}
 use Rattle.ocfl_night.specs.{declared.plan.Plan.{Plan}, declared.site.Site.{Site}}
 use Rattle.ocfl_night.specs.declared.refusal.Refusal.TheVariants.{Older}
-use Rattle.ocfl_night.proofs.{Chains.{next_cycle_begun, not_closed}, Sound.{holds_sound, not_shut}}
+use Rattle.ocfl_night.proofs.{Chains.{next_cycle_begun, not_there}, Sound.{holds_sound, not_shut}}
 
 -- no closed report is of a cycle from that one on
-not_to_come : (rounds : Rounds) (k : Checkpoint) (c : Content) (n : ℕ) {next : ℕ} → AreClosed rounds 1 c.closed next → next ≤ open_cycle k → IsToCome k n → IsTrue (is_closed c.closed n) → ⊥
-not_to_come rounds k c n {next} are le (inl is) shut = let unshut : is_closed c.closed n ≡ false = not_closed rounds 1 next n c.closed are (omega (arith, le, is)) in cc (unshut, shut)
-not_to_come rounds k c n {next} are le (inr is) shut = let unshut : is_closed c.closed n ≡ false = not_closed rounds 1 next n c.closed are (omega (arith, le, is)) in cc (unshut, shut)
+not_to_come : (rounds : Rounds) (k : Checkpoint) (c : Content) (n : ℕ) {next : ℕ} → HasClosed rounds next c.closed → next ≤ open_cycle k → IsToCome k n → IsTrue (is_closed c.closed n) → ⊥
+not_to_come rounds k c n has le (inl is) shut = let unshut : is_closed c.closed n ≡ false = not_there has (omega (arith, le, is)) in cc (unshut, shut)
+not_to_come rounds k c n has le (inr is) shut = let unshut : is_closed c.closed n ≡ false = not_there has (omega (arith, le, is)) in cc (unshut, shut)
 
 module _ {rounds : Rounds} {t : Text} {k : Checkpoint} {c : Content} {n : ℕ} where
   pub never_older : Stands rounds t k c → IsOlder k c n → ⊥

@@ -1,5 +1,5 @@
 -- What the steps of a night keep.
-use Rattle.std.proofs.Common.{◌≡◌, ◌≢◌, ◌⊎◌, inl, inr, ℕ, ◌+◌, ◌-◌, ◌≤◌, List, [], ◌∷◌, ◌++◌, length, take, drop, Option, None, MatchOption, Bool, ◌&&◌, refl, sym, ◌∙◌, ap, subst, arith, append_assoc, length-append, true, false, take-append-drop}
+use Rattle.std.proofs.Common.{◌≡◌, ◌≢◌, ◌⊎◌, inl, inr, ℕ, ◌-◌, ◌≤◌, List, [], ◌∷◌, ◌++◌, length, take, drop, Option, None, MatchOption, Bool, ◌&&◌, refl, sym, ◌∙◌, ap, subst, arith, append_assoc, length-append, true, false, take-append-drop}
 use Rattle.std.proofs.lemmas.List.{append-nil, take_all, take-append-le, length-drop}
 use Rattle.ocfl_tree.specs.Place.{Text, Place}
 use Rattle.ocfl_audit.specs.{Lines.{is_empty}, Parts.{Part}}
@@ -17,7 +17,7 @@ use Rattle.ocfl_state.specs.declared.checkpoint_parts.ReportMark.{ReportMark}
 use Rattle.ocfl_state.specs.declared.checkpoint_parts.RootIdentity.{RootIdentity}
 use Rattle.ocfl_state.specs.declared.checkpoint_parts.TopNames.{TopNames}
 use Rattle.ocfl_state.proofs.CheckpointTexts.{text_determines}
-use Rattle.ocfl_night.specs.Chain.{RootRun, joined, look_of, part_after, Led, LedToEnd, IsPartialReport, IsWholeReport, AreClosed}
+use Rattle.ocfl_night.specs.Chain.{RootRun, joined, look_of, part_after, Led, LedToEnd, IsPartialReport, IsWholeReport, HasClosed}
 use Rattle.ocfl_night.specs.Looks.{IfGiven, IsOneOf, IsWithin, Look, Rounds}
 use Rattle.ocfl_night.specs.Sound.{closed_text, HasRuns, IsOpen, IsClosing, IsMoved, Stands, IsNew, IsMarked, IsSoundAt, IsAt, IsSettled, IsReady, IsOneMore, IsShut}
 use Rattle.ocfl_night.specs.{Site.{first_checkpoint}, declared.site.Site.{Site}}
@@ -25,7 +25,7 @@ use Rattle.ocfl_identity.specs.declared.identity.Identity.{Identity}
 use Rattle.ocfl_night.specs.Steps.{begun_anew, closes_whole, left_at, with_left, KeepsFront, MayCheckpoint, IsCheckpointPut, IsMoveDone, MayMoveAt, IsRun, IsNext, unsaid, with_all_told}
 use Rattle.ocfl_night.proofs.Looks.{given_on, given_so, one_of_on}
 use Rattle.ocfl_night.proofs.Moments.{OnlyNow, leaves, left_after, joined_moments, only_same}
-use Rattle.ocfl_night.proofs.Chains.{led_on, led_to_end, leave_on, looked_on, joined_on, same_cycle, ended_cursor, next_cycle_begun, closed_up, closed_on, not_closed, last_closed, closed_text_on, take_nothing}
+use Rattle.ocfl_night.proofs.Chains.{led_on, led_to_end, leave_on, looked_on, joined_on, same_cycle, ended_cursor, next_cycle_begun, has_at, has_in, has_none, has_on, not_there, last_closed, closed_text_on, take_nothing}
 
 -- how long a report is of which a checkpoint has the summary
 pub long : (text : Text) (m : ReportMark) → m ≡ summary_of text → m.bytes ≡ length text
@@ -54,7 +54,7 @@ module _ {rounds : Rounds} {t : Text} {c : Content} where
   pub stands_as : {k : Checkpoint} {root : RootIdentity} {names : TopNames} {bytes : Option (List ℕ)} → Stands rounds t k c → Stands rounds t (record k { root = root; names = names }) (record c { checkpoint = bytes })
   stands_as (inl o) = inl (record { phase = o.phase; led = o.led; text = o.text; report = o.report; begins = o.begins; is_whole = o.is_whole; lossless = o.lossless; told = o.told; told_is = o.told_is; earlier = o.earlier })
   stands_as (inr (inl w)) = inr (inl (record { phase = w.phase; led = w.led; ends = w.ends; report = w.report; is_whole = w.is_whole; lossless = w.lossless; told = w.told; told_is = w.told_is; earlier = w.earlier }))
-  stands_as (inr (inr w)) = inr (inr (record { phase = w.phase; ends = w.ends; counted = w.counted; empty = w.empty; told = w.told; told_is = w.told_is; earlier = w.earlier }))
+  stands_as (inr (inr w)) = inr (inr (record { phase = w.phase; ends = w.ends; empty = w.empty; there = w.there; told = w.told; told_is = w.told_is; earlier = w.earlier }))
 
   pub renamed : {k next : Checkpoint} {root : RootIdentity} {names : TopNames} → next ≡ record k { root = root; names = names } → Stands rounds t k c → Stands rounds t next c
   renamed is stands = subst (λ (x : Checkpoint). Stands rounds t x c) (sym is) (stands_as stands)
@@ -92,10 +92,8 @@ moved_at same at = record { bytes = at.bytes; is = same ∙ at.is; text = at.tex
 
 -- the report is another one after the checkpoint's bytes
 reopened : {rounds : Rounds} {t : Text} {k : Checkpoint} {d c : Content} (o : IsOpen rounds t k d) → Begins o.text c.report → c.closed ≡ d.closed → IsOpen rounds t k c
-reopened {rounds} {t} {k} o begins closed =
-    let told_is = o.told_is ∙ ap (λ (l : List Closed). closed_text l ++ take k.told o.text) (sym closed) in
-    let earlier = subst (λ (l : List Closed). AreClosed rounds 1 l (begun k.cursor).cycle) (sym closed) o.earlier in
-    record { phase = o.phase; led = o.led; text = o.text; report = o.report; begins = begins; is_whole = o.is_whole; lossless = o.lossless; told = o.told; told_is = told_is; earlier = earlier }
+reopened o begins closed =
+    record { phase = o.phase; led = o.led; text = o.text; report = o.report; begins = begins; is_whole = o.is_whole; lossless = o.lossless; told = o.told; earlier = has_in closed o.earlier; told_is = o.told_is }
 
 -- it is torn there
 pub torn : {rounds : Rounds} {t : Text} {k : Checkpoint} {n : ℕ} {d c : Content} → k.phase ≡ Open → k.report.bytes ≤ n → Holds rounds t k d → KeepsFront n d c → Holds rounds t k c
@@ -126,7 +124,7 @@ pub record After_run (rounds : Rounds) (t : Text) (next : Checkpoint) (c : Conte
   pub exact : next.phase ≡ Open → length c.report ≡ next.report.bytes
 
 module _ {rounds : Rounds} {t : Text} {k next : Checkpoint} {look : Look} {ran : RunEnd} {d c : Content} {lines : Text} (o : IsOpen rounds t k d) (exact : length d.report ≡ k.report.bytes)
-    (one : IsOneOf rounds.looks look) (e : IsRun (part_after rounds.part k.left) k.cursor look lines ran) (grown : c ≡ with_report (d.report ++ lines) d) (n : IsNext k ran (summary_of c.report) next) where
+    (one : IsOneOf rounds.known look) (e : IsRun (part_after rounds.part k.left) k.cursor look lines ran) (grown : c ≡ with_report (d.report ++ lines) d) (n : IsNext k ran (summary_of c.report) next) where
   abbrev r : RootRun
   r = record { root = look.root; run = e.run }
 
@@ -148,17 +146,16 @@ module _ {rounds : Rounds} {t : Text} {k next : Checkpoint} {look : Look} {ran :
   told : next.told ≤ next.report.bytes
   told = omega (arith, told_same, counted, o.told, long o.text k.report o.report, longer)
 
-  told_text : t ≡ closed_text c.closed ++ take next.told c.report
+  told_text : t ≡ closed_text o.earlier.all ++ take next.told c.report
   told_text =
       o.told_is
-      ∙ ap (λ (l : List Closed). closed_text l ++ take k.told o.text) (sym closed)
-      ∙ ap (λ (l : Text). closed_text c.closed ++ l) (sym (take-append-le k.told o.text e.run.report (omega (arith, o.told, long o.text k.report o.report))) ∙ ap (take k.told) (sym now) ∙ ap (λ (m : ℕ). take m c.report) (sym told_same))
+      ∙ ap (λ (l : Text). closed_text o.earlier.all ++ l) (sym (take-append-le k.told o.text e.run.report (omega (arith, o.told, long o.text k.report o.report))) ∙ ap (take k.told) (sym now) ∙ ap (λ (m : ℕ). take m c.report) (sym told_same))
 
   whole : next.whole ≡ true → c.report ≡ joined (o.led.runs ++ r ∷ [])
   whole is = now ∙ ap (λ (l : Text). l ++ e.run.report) (o.is_whole (sym (ap (λ (x : Checkpoint). x.whole) n.rest_is) ∙ is)) ∙ sym (joined_on o.led.runs r)
 
-  lossless : IfGiven rounds.looks (next.whole ≡ true)
-  lossless = given_on rounds.looks (λ sure. ap (λ (x : Checkpoint). x.whole) n.rest_is ∙ sure) o.lossless
+  lossless : IfGiven rounds.known (next.whole ≡ true)
+  lossless = given_on rounds.known (λ sure. ap (λ (x : Checkpoint). x.whole) n.rest_is ∙ sure) o.lossless
 
   led_by : (Leads : Part → Cursor → List RootRun → List Left → Cursor → Type 0) {last : Cursor} → last ≡ next.cursor → Leads rounds.part o.led.first (o.led.runs ++ r ∷ []) k.left last → HasRuns Leads rounds next.left next.cursor
   led_by Leads {last} is chain = record {
@@ -166,7 +163,7 @@ module _ {rounds : Rounds} {t : Text} {k next : Checkpoint} {look : Look} {ran :
     runs = o.led.runs ++ r ∷ [];
     starts = o.led.starts;
     chain = subst (Leads rounds.part o.led.first (o.led.runs ++ r ∷ []) next.left) is (subst (λ (left : List Left). Leads rounds.part o.led.first (o.led.runs ++ r ∷ []) left last) (sym (ap (λ (x : Checkpoint). x.left) n.rest_is)) chain);
-    looked = looked_on rounds.looks o.led.runs r o.led.looked (one_of_on rounds.looks within one);
+    looked = looked_on rounds.known o.led.runs r o.led.looked (one_of_on rounds.known within one);
   }
     where
       within : IsWithin (look_of r) look
@@ -184,8 +181,8 @@ module _ {rounds : Rounds} {t : Text} {k next : Checkpoint} {look : Look} {ran :
         is_whole = whole;
         lossless = lossless;
         told = told;
+        earlier = has_at (sym (same_cycle look.root (part_after rounds.part k.left) k.cursor e.run e.made not_ended) ∙ ap (λ (x : RunEnd). (begun x.cursor).cycle) e.ran_is ∙ ap (λ (x : Cursor). (begun x).cycle) (sym n.cursor_is)) (has_in closed o.earlier);
         told_is = told_text;
-        earlier = subst (λ (m : ℕ). AreClosed rounds 1 c.closed m) (sym (same_cycle look.root (part_after rounds.part k.left) k.cursor e.run e.made not_ended) ∙ ap (λ (x : RunEnd). (begun x.cursor).cycle) e.ran_is ∙ ap (λ (x : Cursor). (begun x).cycle) (sym n.cursor_is)) (subst (λ (l : List Closed). AreClosed rounds 1 l (begun k.cursor).cycle) (sym closed) o.earlier);
       } in
       record { stands = inl open_now; exact = λ is. sym counted }
 
@@ -203,8 +200,8 @@ module _ {rounds : Rounds} {t : Text} {k next : Checkpoint} {look : Look} {ran :
         is_whole = whole;
         lossless = lossless;
         told = told;
+        earlier = has_at (sym at.1 ∙ ap (λ (x : Cursor). x.cycle) cursor) (has_in closed o.earlier);
         told_is = told_text;
-        earlier = subst (λ (m : ℕ). AreClosed rounds 1 c.closed m) (sym at.1 ∙ ap (λ (x : Cursor). x.cycle) cursor) (subst (λ (l : List Closed). AreClosed rounds 1 l (begun k.cursor).cycle) (sym closed) o.earlier);
       } in
       record { stands = inr (inl closing_now); exact = λ is. absurd (cc (phase, is)) }
 
@@ -264,7 +261,7 @@ module _ {F : Type 0} {seen : F → Content} {may_leave : F → Outcomes} {round
       o.report ∙ ap summary_of (sym (exact_text o (r.exact is)))
 
   pub after_extended : {next : Checkpoint} {look : Look} {ran : RunEnd} {lines : Text} {c : Content} {mark report : ReportMark} → k.phase ≡ Open → IsReady seen may_leave rounds t k f
-      → IsOneOf rounds.looks look → IsRun (part_after rounds.part k.left) k.cursor look lines ran → c ≡ with_report ((seen f).report ++ lines) (seen f)
+      → IsOneOf rounds.known look → IsRun (part_after rounds.part k.left) k.cursor look lines ran → c ≡ with_report ((seen f).report ++ lines) (seen f)
       → mark ≡ k.report → (mark ≡ summary_of (seen f).report → report ≡ summary_of c.report) → IsNext k ran report next → After_run rounds t next c
   after_extended {next} {ran = ran} is r one run grown marked keeps n =
       after_run (open_of is r.stands) (r.exact is) one run grown (subst (λ (m : ReportMark). IsNext k ran m next) (keeps (marked ∙ ready_mark is r)) n)
@@ -303,25 +300,25 @@ cut_open {k = k} {d} {c} is h cut =
     (record { at = moved_at (ap (λ (x : Content). x.checkpoint) cut) h.at; stands = inl open_still }, ap length report ∙ sym counted)
 
 -- there is nothing of a cycle's report yet
-fresh_stands : {rounds : Rounds} {t : Text} {c : Content} (k : Checkpoint) → place_in k.cursor.state ≡ None → t ≡ closed_text c.closed → AreClosed rounds 1 c.closed (begun k.cursor).cycle → Stands rounds t (begun_anew k) c
-fresh_stands {rounds} {c = c} k starts told_is earlier = inl (record {
+fresh_stands : {rounds : Rounds} {t : Text} {c : Content} (k : Checkpoint) → place_in k.cursor.state ≡ None → (earlier : HasClosed rounds (begun k.cursor).cycle c.closed) → t ≡ closed_text earlier.all → Stands rounds t (begun_anew k) c
+fresh_stands {rounds} {c = c} k starts earlier told_is = inl (record {
   phase = refl;
   led = record { first = k.cursor; runs = []; starts = starts; chain = refl; looked = tt };
   text = [];
   report = refl;
   begins = (c.report, refl);
   is_whole = λ is. refl;
-  lossless = given_so rounds.looks refl;
+  lossless = given_so rounds.known refl;
   told = omega arith;
-  told_is = told_is ∙ sym (ap (λ (l : Text). closed_text c.closed ++ l) (take_nothing 0) ∙ append-nil (closed_text c.closed));
   earlier = earlier;
+  told_is = told_is ∙ sym (ap (λ (l : Text). closed_text earlier.all ++ l) (take_nothing 0) ∙ append-nil (closed_text earlier.all));
 })
 
 -- the first checkpoint
 pub first_stands : {rounds : Rounds} {k : Checkpoint} {c : Content} (site : Site) (id : Identity) → k ≡ first_checkpoint site id → IsNew [] c → Stands rounds [] k c
 first_stands {rounds} {k} {c} site id is new =
     subst (λ (x : Checkpoint). Stands rounds [] x c) (sym is)
-    (fresh_stands (first_checkpoint site id) refl (sym (ap closed_text new.closed)) (subst (λ (l : List Closed). AreClosed rounds 1 l 1) (sym new.closed) refl))
+    (fresh_stands (first_checkpoint site id) refl (has_none new.closed) refl)
 
 -- ---- closing
 
@@ -335,10 +332,10 @@ closes_by false left both = absurd (both_ways (sym both))
 
 module _ {rounds : Rounds} {t : Text} {k : Checkpoint} {d : Content} where
   pub shut_closing : IsMoved rounds t k d → is_closed d.closed k.cursor.cycle ≡ true
-  shut_closing w = last_closed rounds 1 k.cursor.cycle d.closed w.earlier w.counted
+  shut_closing w = w.there
 
   pub not_shut : IsClosing rounds t k d → is_closed d.closed k.cursor.cycle ≡ false
-  not_shut w = not_closed rounds 1 k.cursor.cycle k.cursor.cycle d.closed w.earlier (omega arith)
+  not_shut w = not_there w.earlier (omega arith)
 
   whole_report : IsClosing rounds t k d → (k.whole ≡ true) × (k.left ≡ []) → IsWholeReport rounds (record { cycle = k.cursor.cycle; whole = closes_whole k; report = d.report })
   whole_report w both = record {
@@ -374,11 +371,11 @@ module _ {rounds : Rounds} {t : Text} {k : Checkpoint} {d : Content} where
         record {
           phase = is;
           ends = w.ends;
-          counted = closed_up rounds 1 k.cursor.cycle d.closed w.earlier;
           empty = ap (λ (y : Content). y.report) put;
+          there = ap (λ (l : List Closed). is_closed l k.cursor.cycle) closed ∙ last_closed d.closed x;
           told = told;
-          told_is = w.told_is ∙ ap (λ (l : Text). closed_text d.closed ++ l) (take_all k.told d.report (omega (arith, told, long d.report k.report w.report))) ∙ sym (ap closed_text closed ∙ closed_text_on d.closed x);
-          earlier = subst (λ (l : List Closed). AreClosed rounds 1 l (k.cursor.cycle + 1)) (sym closed) (closed_on rounds 1 k.cursor.cycle d.closed x w.earlier refl (record { whole = λ whole. whole_report w (closes_by k.whole k.left whole); partial = given_on rounds.looks (λ sure incomplete. partial_report w sure incomplete) w.lossless }));
+          earlier = has_on x closed refl (record { whole = λ whole. whole_report w (closes_by k.whole k.left whole); partial = given_on rounds.known (λ sure incomplete. partial_report w sure incomplete) w.lossless }) w.earlier;
+          told_is = w.told_is ∙ ap (λ (l : Text). closed_text w.earlier.all ++ l) (take_all k.told d.report (omega (arith, told, long d.report k.report w.report))) ∙ sym (closed_text_on w.earlier.all x);
         }
 
     pub move_done : Stands rounds t k d → IsMoveDone k.cursor.cycle (closes_whole k) d c → IsMoved rounds t k c
@@ -401,7 +398,7 @@ module _ {rounds : Rounds} {t : Text} {k : Checkpoint} {d : Content} where
 pub next_stands : {rounds : Rounds} {t : Text} {k next : Checkpoint} {c : Content} → next ≡ begun_anew k → IsMoved rounds t k c → Stands rounds t next c
 next_stands {rounds} {t} {k} {next} {c} is w =
     subst (λ (x : Checkpoint). Stands rounds t x c) (sym is)
-    (fresh_stands k (ap place_in w.ends) w.told_is (subst (λ (m : ℕ). AreClosed rounds 1 c.closed m) (sym (next_cycle_begun k.cursor w.ends)) w.earlier))
+    (fresh_stands k (ap place_in w.ends) (has_at (sym (next_cycle_begun k.cursor w.ends)) w.earlier) w.told_is)
 
 -- ---- leaving a branch out
 
@@ -419,19 +416,19 @@ more_of : (report : Text) (told bytes : ℕ) → bytes ≡ length report → tol
 more_of report told bytes long le =
     ap (λ (l : Text). take told report ++ l) (take_all (bytes - told) (drop told report) (omega (arith, length-drop told report, long, le))) ∙ take-append-drop told report ∙ sym (take_all bytes report (omega (arith, long)))
 
-told_now : (t : Text) (k : Checkpoint) (c : Content) (text : Text) → k.report.bytes ≡ length text → k.told ≤ k.report.bytes → c.report ≡ text → t ≡ closed_text c.closed ++ take k.told text → t ++ unsaid k c ≡ closed_text c.closed ++ take k.report.bytes text
-told_now t k c text counted le same is =
+told_now : (t before : Text) (k : Checkpoint) (c : Content) (text : Text) → k.report.bytes ≡ length text → k.told ≤ k.report.bytes → c.report ≡ text → t ≡ before ++ take k.told text → t ++ unsaid k c ≡ before ++ take k.report.bytes text
+told_now t before k c text counted le same is =
     ap (λ (l : Text). l ++ unsaid k c) is
-    ∙ append_assoc (closed_text c.closed) (take k.told text) (unsaid k c)
-    ∙ ap (λ (l : Text). closed_text c.closed ++ l) (ap (λ (l : Text). take k.told text ++ take (k.report.bytes - k.told) (drop k.told l)) same ∙ more_of text k.told k.report.bytes counted le)
+    ∙ append_assoc before (take k.told text) (unsaid k c)
+    ∙ ap (λ (l : Text). before ++ l) (ap (λ (l : Text). take k.told text ++ take (k.report.bytes - k.told) (drop k.told l)) same ∙ more_of text k.told k.report.bytes counted le)
 
 module _ {rounds : Rounds} {t : Text} {k : Checkpoint} {c : Content} (some : k.told ≡ k.report.bytes → ⊥) (exact : k.phase ≡ Open → length c.report ≡ k.report.bytes) where
   said_stands : Stands rounds t k c → Stands rounds (t ++ unsaid k c) (with_all_told k) c
   said_stands (inl o) =
-      let told_is = told_now t k c o.text (long o.text k.report o.report) o.told (exact_text o (exact o.phase)) o.told_is in
+      let told_is = told_now t (closed_text o.earlier.all) k c o.text (long o.text k.report o.report) o.told (exact_text o (exact o.phase)) o.told_is in
       inl (record { phase = o.phase; led = o.led; text = o.text; report = o.report; begins = o.begins; is_whole = o.is_whole; lossless = o.lossless; told = omega arith; told_is = told_is; earlier = o.earlier })
   said_stands (inr (inl w)) =
-      let told_is = told_now t k c c.report (long c.report k.report w.report) w.told refl w.told_is in
+      let told_is = told_now t (closed_text w.earlier.all) k c c.report (long c.report k.report w.report) w.told refl w.told_is in
       inr (inl (record { phase = w.phase; led = w.led; ends = w.ends; report = w.report; is_whole = w.is_whole; lossless = w.lossless; told = omega arith; told_is = told_is; earlier = w.earlier }))
   said_stands (inr (inr w)) = absurd (some w.told)
 
@@ -442,7 +439,8 @@ said_by {seen = seen} {rounds = rounds} {t} {k} {f = f} is some r = subst (λ (x
 
 pub one_more : {rounds : Rounds} {t : Text} {k next : Checkpoint} {a b c : Content} → IsAt k a → k.phase ≡ Closing → IsMoveDone k.cursor.cycle (closes_whole k) a b → IsMoved rounds t k b → IsCheckpointPut next b c → IsOneMore rounds k.cursor.cycle a c
 one_more {rounds} {k = k} {a = a} {b} {c} at is done w put = record {
-  now = subst (λ (l : List Closed). AreClosed rounds 1 l (k.cursor.cycle + 1)) (sym same) w.earlier;
+  now = has_in same w.earlier;
+  there = ap (λ (l : List Closed). is_closed l k.cursor.cycle) same ∙ w.there;
   before = by done;
 }
   where

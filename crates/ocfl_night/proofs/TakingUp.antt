@@ -6,7 +6,7 @@ use Rattle.ocfl_state.specs.{Checkpoint.{Checkpoint}, Content.{Content, with_rep
 use Rattle.ocfl_state.specs.Crash.{Outcomes, Only, Same, Passes, LeavesOnly}
 use Rattle.ocfl_state.specs.declared.checkpoint_parts.ReportMark.{ReportMark}
 use Rattle.ocfl_state.specs.declared.checkpoint_parts.Phase.TheVariants.{Open, Closing}
-use Rattle.ocfl_night.specs.Sound.{Stands, IsNew, IsSoundAt, IsSound, IsKept, IsAt, IsSettled, IsReady, IsFound, IsFoundReady}
+use Rattle.ocfl_night.specs.Sound.{Stands, IsNew, IsSoundAt, IsSound, AreSound, IsKept, IsAt, IsSettled, IsReady, IsFound, IsFoundReady}
 use Rattle.ocfl_night.specs.Steps.{fitted}
 use Rattle.ocfl_night.proofs.Moments.{OnlyNow, only_same, unchanged, leaves_weaker, joined_moments}
 use Rattle.ocfl_night.proofs.Heard.{kept_found}
@@ -60,27 +60,30 @@ settled_there {rounds = rounds} {t} {k} sound at same only =
     let h = holds_sound sound at in
     record { at = subst (IsAt k) (sym same) h.at; stands = subst (Stands rounds t k) (sym same) h.stands; only = only }
 
-module _ {F : Type 0} {seen : F → Content} {may_leave : F → Outcomes} {rounds : Rounds} {outcomes : Outcomes} {next : Checkpoint} {h : F} where
-  pub found_ready : {t : Text} (d : Content) → outcomes d → IsSoundAt rounds t d → IsReady seen may_leave rounds t next h → IsFoundReady seen may_leave rounds outcomes next h
-  found_ready {t} d was before ready = record { from = d; was = was; t = t; before = before; ready = ready }
-
-  pub taken_ready : {k : Checkpoint} {l : F} {d : Content} → outcomes d → ((c : Content) → outcomes c → IsSound rounds c) → IsAt k d → seen l ≡ d → Only (seen l) (may_leave l) → ((t : Text) → IsSettled seen may_leave rounds t k l → IsReady seen may_leave rounds t next h) → IsFoundReady seen may_leave rounds outcomes next h
-  taken_ready {d = d} was kept at same only then = let sound = kept d was in found_ready d was sound.1 (then sound.0 (settled_there sound.1 at same only))
+-- with the text that was told there
+pub found_ready : {F : Type 0} {seen : F → Content} {may_leave : F → Outcomes} {rounds : Rounds} {outcomes : Outcomes} {next : Checkpoint} {h : F} {t : Text} (kept : AreSound rounds outcomes) (d : Content) (was : outcomes d) → (kept d was).0 ≡ t → IsReady seen may_leave rounds t next h
+    → IsFoundReady seen may_leave rounds outcomes kept next h
+found_ready {seen = seen} {may_leave} {rounds} {next = next} {h} kept d was same ready =
+    record { from = d; was = was; ready = subst (λ (t : Text). IsReady seen may_leave rounds t next h) (sym same) ready }
 
 module _ {F : Type 0} {may_leave : F → Outcomes} {moment : F → ℕ} {left_since : F → ℕ → Outcomes} {rounds : Rounds} {f l h : F} {d : Content} (only_now : OnlyNow may_leave moment left_since) (was : may_leave f d) (kept : IsKept may_leave rounds f) (p : Passes may_leave moment left_since Same f l) where
   -- what is called after a look
-  pub found_on : {t : Text} → IsSoundAt rounds t d → LeavesOnly moment left_since l h (IsSoundAt rounds t) → LeavesOnly moment left_since f h (IsFound rounds (may_leave f))
-  found_on {t} before q =
+  pub found_on : {t : Text} → (kept d was).0 ≡ t → LeavesOnly moment left_since l h (IsSoundAt rounds t) → LeavesOnly moment left_since f h (IsFound rounds (may_leave f) kept)
+  found_on {t} same q =
       joined_moments
       (unchanged only_now (λ c n. kept_found kept n) p)
-      (leaves_weaker (λ c now. record { from = d; was = was; t = t; before = before; now = now }) q)
+      (leaves_weaker (λ c now. record { from = d; was = was; now = subst (λ (u : Text). IsSoundAt rounds u c) (sym same) now }) q)
 
-  pub taken_moments : {seen : F → Content} {k : Checkpoint} → IsAt k d → seen l ≡ d → Only (seen l) (may_leave l) → ((t : Text) → IsSettled seen may_leave rounds t k l → LeavesOnly moment left_since l h (IsSoundAt rounds t)) → LeavesOnly moment left_since f h (IsFound rounds (may_leave f))
-  taken_moments at same only then = let sound = kept d was in found_on sound.1 (then sound.0 (settled_there sound.1 at same only))
+  pub taken_moments : {seen : F → Content} {k : Checkpoint} → IsAt k d → seen l ≡ d → Only (seen l) (may_leave l) → ((t : Text) → IsSettled seen may_leave rounds t k l → LeavesOnly moment left_since l h (IsSoundAt rounds t)) → LeavesOnly moment left_since f h (IsFound rounds (may_leave f) kept)
+  taken_moments at same only then = let sound = kept d was in found_on refl (then sound.0 (settled_there sound.1 at same only))
 
 -- no checkpoint is there
 pub shown_new : (rounds : Rounds) {c : Content} → IsSound rounds c → c.checkpoint ≡ None → IsNew [] c
 shown_new rounds sound none = let new = new_sound rounds sound.1 none in record { report = new.report; closed = new.closed; told_is = refl }
+
+-- and nothing was told
+pub told_none : (rounds : Rounds) (c : Content) (sound : IsSound rounds c) → c.checkpoint ≡ None → sound.0 ≡ []
+told_none rounds c sound none = (new_sound rounds sound.1 none).told_is
 
 pub none_found : (c : Content) {found : Option Checkpoint} → MatchOption found (c.checkpoint ≡ None) (λ k. IsAt k c) → found ≡ None → c.checkpoint ≡ None
 none_found c value is = subst (λ (o : Option Checkpoint). MatchOption o (c.checkpoint ≡ None) (λ k. IsAt k c)) is value

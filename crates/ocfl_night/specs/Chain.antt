@@ -1,6 +1,6 @@
 -- Chains of runs: what nights write of one cycle, each run from the cursor that the one before it
 -- answered, also around branches that are left out; and what a closed report is.
-use Rattle.std.specs.Prelude.{◌≡◌, ◌≢◌, ℕ, ◌+◌, List, [], ◌∷◌, ◌++◌, true, false, not, Option, Some, None, filter, flat_map}
+use Rattle.std.specs.Prelude.{◌≡◌, ◌≢◌, ◌⊎◌, ℕ, ◌+◌, List, [], ◌∷◌, ◌++◌, true, false, not, Option, Some, None, filter, flat_map}
 use Rattle.std.specs.{List.{AllByRecursion}, Ordering.{is_lt}}
 use Rattle.ocfl_tree.specs.{Place.{Text, Place, place_cmp}, StorageRoot.{StorageRoot}}
 use Rattle.ocfl_report.specs.Line.{Item}
@@ -9,7 +9,7 @@ use Rattle.ocfl_cursor.specs.Cursor.{Cursor}
 use Rattle.ocfl_scrub.specs.{Running.{place_in}, Joining.{PartRun, Ran}}
 use Rattle.ocfl_scrub.specs.declared.running.RunStatus.TheVariants as status
 use Rattle.ocfl_state.specs.{Content.{Closed}, declared.checkpoint_parts.Left.{Left}}
-use Rattle.ocfl_night.specs.Looks.{Look, IfGiven, IsOneOf, Rounds}
+use Rattle.ocfl_night.specs.Looks.{Known, Look, IfGiven, IsOneOf, MayBeGone, Rounds}
 
 -- a run, and the storage root as it was then
 pub record RootRun : Type 0 where
@@ -20,9 +20,9 @@ pub record RootRun : Type 0 where
 abbrev pub look_of : RootRun → Look
 look_of r = record { root = r.root; unread = unread_of r.root r.run.opened }
 
--- each of some runs was one of these looks, if any are given
-abbrev pub AreLooked : Option (List Look) → List RootRun → Type 0
-AreLooked looks runs = AllByRecursion (λ r. IsOneOf looks (look_of r)) runs
+-- each of some runs was one of these looks, if any are known
+abbrev pub AreLooked : Option Known → List RootRun → Type 0
+AreLooked known runs = AllByRecursion (λ r. IsOneOf known (look_of r)) runs
 
 -- what runs wrote, joined
 abbrev pub joined : List RootRun → Text
@@ -96,7 +96,7 @@ pub record IsWholeReport (rounds : Rounds) (d : Closed) : Type 0 where
   pub last : Cursor
   pub starts : place_in first.state ≡ None
   pub chain : EndAt rounds.part first runs last
-  pub looked : AreLooked rounds.looks runs
+  pub looked : AreLooked rounds.known runs
   pub cycle : d.cycle ≡ last.cycle
   pub report : d.report ≡ joined runs
 
@@ -109,7 +109,7 @@ pub record IsPartialReport (rounds : Rounds) (d : Closed) : Type 0 where
   pub starts : place_in first.state ≡ None
   pub some : left ≢ []
   pub chain : LedToEnd rounds.part first runs left last
-  pub looked : AreLooked rounds.looks runs
+  pub looked : AreLooked rounds.known runs
   pub cycle : d.cycle ≡ last.cycle
   pub report : d.report ≡ joined runs
 
@@ -117,9 +117,21 @@ pub record IsPartialReport (rounds : Rounds) (d : Closed) : Type 0 where
 -- what was written around branches that were left out
 pub record IsClosedAs (rounds : Rounds) (d : Closed) : Type 0 where
   pub whole : d.whole ≡ true → IsWholeReport rounds d
-  pub partial : IfGiven rounds.looks (d.whole ≡ false → IsPartialReport rounds d)
+  pub partial : IfGiven rounds.known (d.whole ≡ false → IsPartialReport rounds d)
 
 -- the closed reports of the cycles from one on, each once, up to the one before the next
 abbrev pub AreClosed : Rounds → ℕ → List Closed → ℕ → Type 0
 AreClosed rounds n [] next = next ≡ n
 AreClosed rounds n (d ∷ closed) next = (d.cycle ≡ n) × IsClosedAs rounds d × AreClosed rounds (n + 1) closed next
+
+-- what is left of closed reports if only those of some cycles may be gone
+abbrev pub AreLeft : (ℕ → Type 0) → List Closed → List Closed → Type 0
+AreLeft Gone [] left = left ≡ []
+AreLeft Gone (d ∷ closed) left = ((rest : List Closed) × ((left ≡ d ∷ rest) × AreLeft Gone closed rest)) ⊎ (Gone d.cycle × AreLeft Gone closed left)
+
+-- the closed reports that are there are what is left of those of all cycles up to the one before the
+-- next
+pub record HasClosed (rounds : Rounds) (next : ℕ) (closed : List Closed) : Type 0 where
+  pub all : List Closed
+  pub are : AreClosed rounds 1 all next
+  pub left : AreLeft (MayBeGone rounds.known) all closed

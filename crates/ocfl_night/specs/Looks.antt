@@ -35,28 +35,39 @@ pub record IsWithin (small large : Look) : Type 0 where
   pub root : small.root ≡ large.root
   pub unread : IsNoMore small.unread large.unread
 
--- within one of these, if any are given
-abbrev pub IsOneOf : Option (List Look) → Look → Type 0
-IsOneOf None l = ⊤
-IsOneOf (Some looks) l = (large : Look) × (IsAmong looks large × IsWithin l large)
-
--- this holds if looks are given
-abbrev pub IfGiven : Option (List Look) → Type 0 → Type 0
-IfGiven None Holds = ⊤
-IfGiven (Some looks) Holds = Holds
-
 -- ---- what nights are over
 
--- A part, and the looks that their runs are within, if any are given. Then too no report of theirs
--- was ever found to be another one than its checkpoint says.
+-- what is known of nights: the looks that their runs are within, and of which cycles closed reports
+-- may have been taken away between them
+pub record Known : Type 0 where
+  pub looks : List Look
+  pub gone : List ℕ
+
+-- within one of these looks, if any are known
+abbrev pub IsOneOf : Option Known → Look → Type 0
+IsOneOf None l = ⊤
+IsOneOf (Some known) l = (large : Look) × (IsAmong known.looks large × IsWithin l large)
+
+-- the closed report of a cycle may have been taken away
+abbrev pub MayBeGone : Option Known → ℕ → Type 0
+MayBeGone None cycle = ⊤
+MayBeGone (Some known) cycle = IsAmong known.gone cycle
+
+-- this holds if something is known
+abbrev pub IfGiven : Option Known → Type 0 → Type 0
+IfGiven None Holds = ⊤
+IfGiven (Some known) Holds = Holds
+
+-- A part, and what is known of the nights. If anything is, no report of theirs was ever found to be
+-- another one than its checkpoint says.
 pub record Rounds : Type 0 where
   pub part : Part
-  pub looks : Option (List Look)
+  pub known : Option Known
 
--- over a part, and whatever their runs looked at
+-- over a part, whatever their runs looked at, and whatever was taken away
 abbrev pub of_any : Part → Rounds
-of_any part = record { part = part; looks = None }
+of_any part = record { part = part; known = None }
 
--- whatever looks are given, if this is within one of them
+-- whatever is known, if this is within one of its looks
 abbrev pub WithLook : Part → Look → (Rounds → Type 0) → Type 0
-WithLook part look Holds = (looks : Option (List Look)) → IsOneOf looks look → Holds (record { part = part; looks = looks })
+WithLook part look Holds = (known : Option Known) → IsOneOf known look → Holds (record { part = part; known = known })

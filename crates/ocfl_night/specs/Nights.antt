@@ -1,35 +1,47 @@
 -- Any nights over one state folder, each ended or crashed.
-use Rattle.std.specs.Prelude.{◌≡◌, ◌≢◌, ℕ, ◌++◌, List, [], ◌∷◌, Option, None, Some, true, false, map, ⊤}
+use Rattle.std.specs.Prelude.{◌≡◌, ◌≢◌, ℕ, ◌++◌, List, [], ◌∷◌, Option, None, Some, IsTrue, true, false, map, flat_map, ⊤}
 use Rattle.std.specs.{Io.KnownBytes.{Appends}, List.{AllByRecursion}}
 use Rattle.ocfl_tree.specs.{Place.{Place, Text}, Ascending.{IsAmong}, StorageRoot.{StorageRoot}}
 use Rattle.ocfl_report.specs.Text.{text}
 use Rattle.ocfl_audit.specs.{Audit.{Unread, audit}, Parts.{Part, within}}
-use Rattle.ocfl_state.specs.{Content.{Content, Closed}, Crash.{Outcomes, LeavesOnly}}
-use Rattle.ocfl_state.specs.declared.checkpoint_parts.Left.{Left}
-use Rattle.ocfl_night.specs.{Chain.{AreClosed, around}, Looks.{Look, Rounds, WithLook}, Sound.{IsSoundAt, IsKept, IsHeardSince}}
+use Rattle.ocfl_state.specs.{Content.{Content, Closed, is_closed}, Crash.{Outcomes, Follows, LeavesOnly}}
+use Rattle.ocfl_state.specs.Checkpoint.{Checkpoint}
+use Rattle.ocfl_state.specs.declared.checkpoint_parts.{Left.{Left}, Phase.TheVariants.{Closing}}
+use Rattle.ocfl_night.specs.{Chain.{AreLeft, HasClosed, around}, Looks.{Known, Look, Rounds, WithLook}, Sound.{IsAt, IsSoundAt, IsKept, IsHeardSince}}
 
 -- What a night promises: if each crash before it leaves a sound content, so does each since then, and
 -- more than was told is told only if the output took it. That holds whatever looks the runs are
 -- within, if that of this night is within one of them.
 abbrev pub IsSafeNight : {F : Type 0} → (F → Outcomes) → (F → ℕ) → (F → ℕ → Outcomes) → Part → Look → F → F → Option Text → Option Text → Type 0
 IsSafeNight may_leave moment left_since part look began ended old new =
-    WithLook part look (λ rounds. IsKept may_leave rounds began → LeavesOnly moment left_since began ended (IsHeardSince rounds (may_leave began) old new))
+    WithLook part look (λ rounds. (kept : IsKept may_leave rounds began) → LeavesOnly moment left_since began ended (IsHeardSince rounds (may_leave began) kept old new))
 
--- a night: the folder when it began and when it was last seen, what its store was looked at for, and
--- what is known that its output had taken before and then
+-- A night: of which cycles closed reports may have been taken away before it, the folder when it began
+-- and when it was last seen, what its store was looked at for, and what is known that its output had
+-- taken before and then.
 pub record Night (F : Type 0) : Type 0 where
+  pub gone : List ℕ
   pub began : F
   pub ended : F
   pub look : Look
   pub before : Option Text
   pub said : Option Text
 
+-- Between two nights closed reports of some cycles may be taken away, but not that of the checkpoint's
+-- own cycle while the checkpoint says that it is to be closed.
+pub record IsTidied (gone : List ℕ) (old new : Content) : Type 0 where
+  pub checkpoint : new.checkpoint ≡ old.checkpoint
+  pub report : new.report ≡ old.report
+  pub closed : AreLeft (IsAmong gone) old.closed new.closed
+  pub stays : (k : Checkpoint) → IsAt k old → k.phase ≡ Closing → IsTrue (is_closed old.closed k.cursor.cycle) → IsTrue (is_closed new.closed k.cursor.cycle)
+
 -- Nights over a part. The first begins on one of these outcomes, and each other one on what a crash of
--- the one before it, at any moment, may have left, or on its end.
+-- the one before it, at any moment, may have left, or on its end; but closed reports may have been
+-- taken away meanwhile.
 abbrev pub AreNights : {F : Type 0} → (F → Outcomes) → (F → ℕ) → (F → ℕ → Outcomes) → Part → Outcomes → List (Night F) → Type 0
 AreNights may_leave moment left_since part outcomes [] = ⊤
 AreNights may_leave moment left_since part outcomes (n ∷ nights) =
-    ((c : Content) → may_leave n.began c → outcomes c)
+    Follows (IsTidied n.gone) outcomes (may_leave n.began)
     × IsSafeNight may_leave moment left_since part n.look n.began n.ended n.before n.said
     × AreNights may_leave moment left_since part (left_since n.ended (moment n.began)) nights
 
@@ -38,10 +50,10 @@ abbrev pub AtAnyMoment : {F : Type 0} → (F → ℕ) → (F → ℕ → Outcome
 AtAnyMoment moment left_since Holds [] = ⊤
 AtAnyMoment moment left_since Holds (n ∷ nights) = ((c : Content) → left_since n.ended (moment n.began) c → Holds c) × AtAnyMoment moment left_since Holds nights
 
--- the closed reports are those of the first cycles, each once, and each that is called whole is what a
--- whole chain of runs wrote
+-- The closed reports are those of the first cycles, each once, but for those that were taken away, and
+-- each that is called whole is what a whole chain of runs wrote.
 abbrev pub AreWhole : Rounds → List Closed → Type 0
-AreWhole rounds closed = (next : ℕ) × AreClosed rounds 1 closed next
+AreWhole rounds closed = (next : ℕ) × HasClosed rounds next closed
 
 -- of each of some closed reports that is called whole this holds
 abbrev pub EachWhole : (Text → Type 0) → List Closed → Type 0
@@ -73,9 +85,13 @@ pub record IsAround (root : StorageRoot) (part : Part) (report : Text) : Type 0 
 abbrev pub EachOther : (Text → Type 0) → List Closed → Type 0
 EachOther Holds closed = (d : Closed) → IsAmong closed d → d.whole ≡ false → Holds d.report
 
--- the rounds that these nights are
+-- what is known of these nights
+abbrev pub known_of : {F : Type 0} → List (Night F) → Known
+known_of nights = record { looks = map (λ n. n.look) nights; gone = flat_map (λ n. n.gone) nights }
+
+-- the rounds that they are
 abbrev pub rounds_of : {F : Type 0} → Part → List (Night F) → Rounds
-rounds_of part nights = record { part = part; looks = Some (map (λ n. n.look) nights) }
+rounds_of part nights = record { part = part; known = Some (known_of nights) }
 
 -- a text is joined from what each of these nights' outputs took first, the last night first
 abbrev pub IsTaken : {F : Type 0} → List (Night F) → Text → Type 0

@@ -8,7 +8,7 @@ use Rattle.ocfl_scrub.specs.Running.{place_in, begun}
 use Rattle.ocfl_state.specs.{Checkpoint.{Checkpoint, IsCheckpointText}, Content.{Content, Closed, is_closed}}
 use Rattle.ocfl_state.specs.{Crash.{Outcomes, Begins, Only}, Pieces.{summary_of}}
 use Rattle.ocfl_state.specs.declared.checkpoint_parts.{Left.{Left}, Phase.TheVariants.{Open, Closing}}
-use Rattle.ocfl_night.specs.{Looks.{IfGiven, Rounds}, Chain.{RootRun, joined, AreLooked, Led, LedToEnd, AreClosed}}
+use Rattle.ocfl_night.specs.{Looks.{IfGiven, Rounds}, Chain.{RootRun, joined, AreLooked, Led, LedToEnd, HasClosed}}
 
 -- the closed reports, joined
 abbrev pub closed_text : List Closed → Text
@@ -20,7 +20,7 @@ pub record HasRuns (Leads : Part → Cursor → List RootRun → List Left → C
   pub runs : List RootRun
   pub starts : place_in first.state ≡ None
   pub chain : Leads rounds.part first runs left last
-  pub looked : AreLooked rounds.looks runs
+  pub looked : AreLooked rounds.known runs
 
 -- The cycle goes on: its runs lead to the checkpoint's cursor. The report begins with the text of
 -- which the checkpoint has the length, the lines and the digests, and if nothing was lost that is
@@ -32,10 +32,10 @@ pub record IsOpen (rounds : Rounds) (t : Text) (k : Checkpoint) (c : Content) : 
   pub report : k.report ≡ summary_of text
   pub begins : Begins text c.report
   pub is_whole : k.whole ≡ true → text ≡ joined led.runs
-  pub lossless : IfGiven rounds.looks (k.whole ≡ true)
+  pub lossless : IfGiven rounds.known (k.whole ≡ true)
   pub told : k.told ≤ k.report.bytes
-  pub told_is : t ≡ closed_text c.closed ++ take k.told text
-  pub earlier : AreClosed rounds 1 c.closed (begun k.cursor).cycle
+  pub earlier : HasClosed rounds (begun k.cursor).cycle c.closed
+  pub told_is : t ≡ closed_text earlier.all ++ take k.told text
 
 -- the cycle has ended, and its report is to be closed
 pub record IsClosing (rounds : Rounds) (t : Text) (k : Checkpoint) (c : Content) : Type 0 where
@@ -44,20 +44,20 @@ pub record IsClosing (rounds : Rounds) (t : Text) (k : Checkpoint) (c : Content)
   pub ends : k.cursor.state ≡ ended
   pub report : k.report ≡ summary_of c.report
   pub is_whole : k.whole ≡ true → c.report ≡ joined led.runs
-  pub lossless : IfGiven rounds.looks (k.whole ≡ true)
+  pub lossless : IfGiven rounds.known (k.whole ≡ true)
   pub told : k.told ≤ k.report.bytes
-  pub told_is : t ≡ closed_text c.closed ++ take k.told c.report
-  pub earlier : AreClosed rounds 1 c.closed k.cursor.cycle
+  pub earlier : HasClosed rounds k.cursor.cycle c.closed
+  pub told_is : t ≡ closed_text earlier.all ++ take k.told c.report
 
--- it is closed, and all of it was told
+-- it is closed, which is seen by its closed report, and all of it was told
 pub record IsMoved (rounds : Rounds) (t : Text) (k : Checkpoint) (c : Content) : Type 0 where
   pub phase : k.phase ≡ Closing
   pub ends : k.cursor.state ≡ ended
-  pub counted : 1 ≤ k.cursor.cycle
   pub empty : c.report ≡ []
+  pub there : IsTrue (is_closed c.closed k.cursor.cycle)
   pub told : k.told ≡ k.report.bytes
-  pub told_is : t ≡ closed_text c.closed
-  pub earlier : AreClosed rounds 1 c.closed (k.cursor.cycle + 1)
+  pub earlier : HasClosed rounds (k.cursor.cycle + 1) c.closed
+  pub told_is : t ≡ closed_text earlier.all
 
 abbrev pub Stands : Rounds → Text → Checkpoint → Content → Type 0
 Stands rounds t k c = IsOpen rounds t k c ⊎ (IsClosing rounds t k c ⊎ IsMoved rounds t k c)
@@ -81,9 +81,13 @@ IsSoundAt rounds t c = MatchOption c.checkpoint (IsNew t c) (λ bytes. IsMarked 
 abbrev pub IsSound : Rounds → Content → Type 0
 IsSound rounds c = (t : Text) × IsSoundAt rounds t c
 
+-- each of these outcomes is sound
+abbrev pub AreSound : Rounds → Outcomes → Type 0
+AreSound rounds outcomes = (c : Content) → outcomes c → IsSound rounds c
+
 -- a crash now leaves a sound content
 abbrev pub IsKept : {F : Type 0} → (F → Outcomes) → Rounds → F → Type 0
-IsKept may_leave rounds folder = (c : Content) → may_leave folder c → IsSound rounds c
+IsKept may_leave rounds folder = AreSound rounds (may_leave folder)
 
 -- the checkpoint is this one
 pub record IsAt (k : Checkpoint) (c : Content) : Type 0 where
@@ -125,37 +129,29 @@ pub record IsHeardReady {F : Type 0} (seen : F → Content) (may_leave : F → O
   pub ready : IsReady seen may_leave rounds (t ++ more) k folder
   pub took : Appends old new more
 
--- what one of these outcomes told is told still
-pub record IsFound (rounds : Rounds) (outcomes : Outcomes) (c : Content) : Type 0 where
+-- what one of these outcomes told, each of which is sound, is told still
+pub record IsFound (rounds : Rounds) (outcomes : Outcomes) (sound : AreSound rounds outcomes) (c : Content) : Type 0 where
   pub from : Content
   pub was : outcomes from
-  pub t : Text
-  pub before : IsSoundAt rounds t from
-  pub now : IsSoundAt rounds t c
+  pub now : IsSoundAt rounds (sound from was).0 c
 
--- a folder is ready, with what one of these outcomes told
-pub record IsFoundReady {F : Type 0} (seen : F → Content) (may_leave : F → Outcomes) (rounds : Rounds) (outcomes : Outcomes) (k : Checkpoint) (folder : F) : Type 0 where
+-- a folder is ready, with what one of them told
+pub record IsFoundReady {F : Type 0} (seen : F → Content) (may_leave : F → Outcomes) (rounds : Rounds) (outcomes : Outcomes) (sound : AreSound rounds outcomes) (k : Checkpoint) (folder : F) : Type 0 where
   pub from : Content
   pub was : outcomes from
-  pub t : Text
-  pub before : IsSoundAt rounds t from
-  pub ready : IsReady seen may_leave rounds t k folder
+  pub ready : IsReady seen may_leave rounds (sound from was).0 k folder
 
--- what one of these outcomes told is told still, and more than that only if an output took it
-pub record IsHeardSince (rounds : Rounds) (outcomes : Outcomes) (old new : Option Text) (c : Content) : Type 0 where
+-- what one of them told is told still, and more than that only if an output took it
+pub record IsHeardSince (rounds : Rounds) (outcomes : Outcomes) (sound : AreSound rounds outcomes) (old new : Option Text) (c : Content) : Type 0 where
   pub from : Content
   pub was : outcomes from
-  pub t : Text
-  pub before : IsSoundAt rounds t from
-  pub heard : IsHeard rounds t old new c
+  pub heard : IsHeard rounds (sound from was).0 old new c
 
--- a folder is ready, with what one of these outcomes told and what an output took since then
-pub record IsReadySince {F : Type 0} (seen : F → Content) (may_leave : F → Outcomes) (rounds : Rounds) (outcomes : Outcomes) (old new : Option Text) (k : Checkpoint) (folder : F) : Type 0 where
+-- a folder is ready, with what one of them told and what an output took since then
+pub record IsReadySince {F : Type 0} (seen : F → Content) (may_leave : F → Outcomes) (rounds : Rounds) (outcomes : Outcomes) (sound : AreSound rounds outcomes) (old new : Option Text) (k : Checkpoint) (folder : F) : Type 0 where
   pub from : Content
   pub was : outcomes from
-  pub t : Text
-  pub before : IsSoundAt rounds t from
-  pub heard : IsHeardReady seen may_leave rounds t old new k folder
+  pub heard : IsHeardReady seen may_leave rounds (sound from was).0 old new k folder
 
 -- ---- the closed reports
 
@@ -167,8 +163,9 @@ pub record IsShut (cycle : ℕ) (c : Content) : Type 0 where
   pub is : checkpoint.cursor.cycle ≡ cycle
   pub closed : IsTrue (is_closed c.closed cycle)
 
--- They are those of the cycles up to this one. Before there was one less; or as many, where a crash had
--- come right after the last one was closed.
+-- They are what is left of those of the cycles up to this one, which is there. Before there was one
+-- less; or as many, where a crash had come right after the last one was closed.
 pub record IsOneMore (rounds : Rounds) (cycle : ℕ) (old new : Content) : Type 0 where
-  pub now : AreClosed rounds 1 new.closed (cycle + 1)
+  pub now : HasClosed rounds (cycle + 1) new.closed
+  pub there : IsTrue (is_closed new.closed cycle)
   pub before : ((d : Closed) × (new.closed ≡ old.closed ++ d ∷ [])) ⊎ ((new.closed ≡ old.closed) × IsShut cycle old)

@@ -27,6 +27,9 @@ use std::io::Write;
 /// Whatever nights there were over a part, from an empty folder on, each ended, killed or crashed
 /// at any moment: what a crash may have left is sound. The closed reports are those of the first
 /// cycles, each once, and each that is called whole is what one whole chain of runs wrote.
+///
+/// Between two nights closed reports may have been taken away, but not that of a checkpoint's cycle
+/// while the checkpoint says that it is to be closed.
 pub fn nights_are_sound<S: StateFolder>()
     ensures sound { (part : Part) (nights : List (Night S))
         → AreNights S.may_leave S.moment S.left_since part (λ c. c ≡ empty) nights

@@ -14,6 +14,8 @@
 //!   root, from an empty folder on, each ended or crashed at any moment: a closed report that is
 //!   called whole is the audit, in which only files are called unreadable that one of the nights
 //!   could not read; any other is the audit around branches that were left out, if all was read.
+//!   Between two nights closed reports may be taken away, but not that of a checkpoint's cycle
+//!   while the checkpoint says that it is to be closed.
 //! - At its end all of the report is said, also what earlier nights left, unless its end is
 //!   `Refused` or `Troubled`.
 //! - A folder whose checkpoint is of another root or part stays as it was, whenever a crash comes.
@@ -34,9 +36,9 @@
 //! - A branch is left out only by a checkpoint that names it, with the place that the cursor was
 //!   after (`leave_out`). The next run is made past it (`slice`), and a cycle that left one out is
 //!   not closed as whole.
-//! - The closed reports after a cycle that it says has ended are those up to that cycle. Before
-//!   there was one less, or as many if a crash came right after the last one was closed. No night
-//!   with another end closes one, unless it is troubled.
+//! - The closed reports after a cycle that it says has ended are those up to that cycle, but for
+//!   those that were taken away before. Before there was one less, or as many if a crash came right
+//!   after the last one was closed. No night with another end closes one, unless it is troubled.
 //! - It begins where the checkpoint of its folder stands, and in a folder without one at the first
 //!   item, if it may and no report is there.
 //! - It is the list of its runs. Each begins where the one before it led, after its clock answered

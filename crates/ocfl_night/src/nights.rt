@@ -292,11 +292,13 @@ fn catch_up<S: StateFolder, W: Write>(
     out: &mut W,
     lost: &mut bool,
 ) -> Result<Checkpoint, NotOpened>
-    ensures heard { IsTrue S.told → (rounds : Rounds) → IsKept S.may_leave rounds folder.old
+    ensures heard { IsTrue S.told → (rounds : Rounds)
+        → (kept : IsKept S.may_leave rounds folder.old)
         → LeavesOnly S.moment S.left_since folder.old folder.new (IsHeardSince rounds
-        (S.may_leave folder.old) (W.contents out.old) (W.contents out.new)) }
-    ensures ready { IsTrue S.told → (rounds : Rounds) → IsKept S.may_leave rounds folder.old
-        → IfOk result (λ k. IsReadySince S.seen S.may_leave rounds (S.may_leave folder.old)
+        (S.may_leave folder.old) kept (W.contents out.old) (W.contents out.new)) }
+    ensures ready { IsTrue S.told → (rounds : Rounds)
+        → (kept : IsKept S.may_leave rounds folder.old)
+        → IfOk result (λ k. IsReadySince S.seen S.may_leave rounds (S.may_leave folder.old) kept
         (W.contents out.old) (W.contents out.new) k folder.new) }
     ensures grew { (more : List ℕ) × Appends (W.contents out.old) (W.contents out.new) more }
     ensures closed { IsTrue S.told → OnOk result (SameClosed S.seen folder.old folder.new) }
@@ -399,11 +401,13 @@ fn set_out<S: StateFolder, T: Tree, W: Write>(
     ensures root { IsTrue T.told → (T.state tree.new).tree ≡ (T.state tree.old).tree }
     ensures counts { OverShort T.told (T.state tree.old) (λ root.
         Counts (T.state tree.old) (T.state tree.new)) }
-    ensures heard { IsTrue S.told → (rounds : Rounds) → IsKept S.may_leave rounds folder.old
+    ensures heard { IsTrue S.told → (rounds : Rounds)
+        → (kept : IsKept S.may_leave rounds folder.old)
         → LeavesOnly S.moment S.left_since folder.old folder.new (IsHeardSince rounds
-        (S.may_leave folder.old) (W.contents out.old) (W.contents out.new)) }
-    ensures ready { IsTrue S.told → (rounds : Rounds) → IsKept S.may_leave rounds folder.old
-        → IfOk result (λ begun. IsReadySince S.seen S.may_leave rounds (S.may_leave folder.old)
+        (S.may_leave folder.old) kept (W.contents out.old) (W.contents out.new)) }
+    ensures ready { IsTrue S.told → (rounds : Rounds)
+        → (kept : IsKept S.may_leave rounds folder.old) → IfOk result (λ begun.
+        IsReadySince S.seen S.may_leave rounds (S.may_leave folder.old) kept
         (W.contents out.old) (W.contents out.new) begun.checkpoint folder.new) }
     ensures grew { (more : List ℕ) × Appends (W.contents out.old) (W.contents out.new) more }
     ensures closed { IsTrue S.told → OnOk result (SameClosed S.seen folder.old folder.new) }

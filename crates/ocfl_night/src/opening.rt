@@ -260,12 +260,14 @@ pub fn open<S: StateFolder>(
     identity: &Identity,
     plan: &Plan,
 ) -> Result<Opened, NotOpened>
-    ensures any_moment { IsTrue S.told → (rounds : Rounds) → IsKept S.may_leave rounds folder.old
+    ensures any_moment { IsTrue S.told → (rounds : Rounds)
+        → (kept : IsKept S.may_leave rounds folder.old)
         → LeavesOnly S.moment S.left_since folder.old folder.new
-        (IsFound rounds (S.may_leave folder.old)) }
-    ensures ready { IsTrue S.told → (rounds : Rounds) → IsKept S.may_leave rounds folder.old
+        (IsFound rounds (S.may_leave folder.old) kept) }
+    ensures ready { IsTrue S.told → (rounds : Rounds)
+        → (kept : IsKept S.may_leave rounds folder.old)
         → IfOk result (λ opened. IsFoundReady S.seen S.may_leave rounds
-        (S.may_leave folder.old) opened.checkpoint folder.new) }
+        (S.may_leave folder.old) kept opened.checkpoint folder.new) }
     ensures closed { IsTrue S.told → OnOk result (SameClosed S.seen folder.old folder.new) }
     // It begins where the checkpoint of the folder stands. In a folder without one it begins at the
     // first item, if it may, and if no report is there.

@@ -219,12 +219,12 @@ fn keep<S: StateFolder>(
 ) -> Result<Made, Stop>
     requires { checkpoint.phase ≡ Open }
     ensures any_moment { IsTrue S.told → (rounds : Rounds) (look : Look)
-        → IsOneOf rounds.looks look
+        → IsOneOf rounds.known look
         → IsRun (part_after rounds.part checkpoint.left) checkpoint.cursor look lines.now ran
         → (t : Text) → IsReady S.seen S.may_leave rounds t checkpoint folder.old
         → LeavesOnly S.moment S.left_since folder.old folder.new (IsSoundAt rounds t) }
     ensures ready { IsTrue S.told → (rounds : Rounds) (look : Look)
-        → IsOneOf rounds.looks look
+        → IsOneOf rounds.known look
         → IsRun (part_after rounds.part checkpoint.left) checkpoint.cursor look lines.now ran
         → (t : Text) → IsReady S.seen S.may_leave rounds t checkpoint folder.old
         → IfOk result (λ made. IsReady S.seen S.may_leave rounds t made.checkpoint folder.new) }

@@ -1,13 +1,12 @@
 use Rattle.std.proofs.Common.{◌≡◌, [], Some}
-use Rattle.std.specs.Prelude.{map}
 use Rattle.ocfl_state.specs.Content.{Content, empty}
-use Rattle.ocfl_night.specs.Nights.{rounds_of}
+use Rattle.ocfl_night.specs.Nights.{known_of, rounds_of}
 use Rattle.ocfl_night.proofs.AnyNights.{all_sound, are_in, at_any, empty_sound, sound_whole}
 use Rattle.ocfl_night.proofs.laws.nights_are_sound.Goals as goal
 
 pub returns-clause-sound : goal.returns-clause-sound
 returns-clause-sound g c = λ part nights are.
-    all_sound g.S.StateFolder.may_leave g.S.StateFolder.moment g.S.StateFolder.left_since part (Some (map (λ n. n.look) nights)) (λ (x : Content). x ≡ empty) nights (are_in nights) (λ x is. ([], empty_sound (rounds_of part nights) x is)) are
+    all_sound g.S.StateFolder.may_leave g.S.StateFolder.moment g.S.StateFolder.left_since part (Some (known_of nights)) (λ (x : Content). x ≡ empty) nights (are_in nights) (λ x is. ([], empty_sound (rounds_of part nights) x is)) are
 
 pub returns-clause-whole : goal.returns-clause-whole
 returns-clause-whole g c = λ part nights are.

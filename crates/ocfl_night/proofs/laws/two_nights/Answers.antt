@@ -1,7 +1,7 @@
 use Rattle.std.proofs.Common.{[], ◌∷◌, None, refl}
 use Rattle.ocfl_night.specs.Looks.{look_between, of_any}
 use Rattle.ocfl_night.specs.{Nights.{Night}, Site.{part_at}}
-use Rattle.ocfl_night.proofs.{AnyNights.{empty_sound}, Heard.{since_sound}}
+use Rattle.ocfl_night.proofs.{AnyNights.{empty_sound, untidied}, Heard.{since_sound}}
 use Rattle.ocfl_night.proofs.laws.two_nights.Goals as goal
 
 pub returns : goal.returns
@@ -18,12 +18,12 @@ returns g c = λ told root short tells over1 over2 fresh well1 well2 d left.
     let l2 = look_between root s2 t2 in
     let safe1 = c.night-one.ensures.heard told tells root over1 short in
     let safe2 = c.night-two.ensures.heard told tells root over2 short in
-    let n1 : Night _ = record { began = f0; ended = f1; look = l1; before = g.W.Write.contents c.args.out.now; said = g.W.Write.contents c.night-one.new.out } in
-    let n2 : Night _ = record { began = f1; ended = f2; look = l2; before = g.W.Write.contents c.night-one.new.out; said = g.W.Write.contents c.night-two.new.out } in
+    let n1 : Night _ = record { gone = []; began = f0; ended = f1; look = l1; before = g.W.Write.contents c.args.out.now; said = g.W.Write.contents c.night-one.new.out } in
+    let n2 : Night _ = record { gone = []; began = f1; ended = f2; look = l2; before = g.W.Write.contents c.night-one.new.out; said = g.W.Write.contents c.night-two.new.out } in
     let first = safe1 None tt (λ x l. ([], empty_sound (of_any part) x (fresh x l))) in
     let read1 = c.where_nothing_failed_all_was_read.ensures root s1 t1 (c.night-one.ensures.counts tells root over1 short) well1 in
     let read2 = c.where_nothing_failed_all_was_read.ensures root s2 t2 (c.night-two.ensures.counts tells root over2 short) well2 in
-    let all = c.each_whole_report_is_the_audit.ensures.exact root part (n1 ∷ n2 ∷ []) (fresh, safe1, ((λ x l. g.met.S.StateFolder.counts_now told f1 (g.S.StateFolder.moment f0) x first.later l), safe2, tt))
+    let all = c.each_whole_report_is_the_audit.ensures.exact root part (n1 ∷ n2 ∷ []) ((λ x l. (x, fresh x l, untidied x)), safe1, ((λ x l. (x, g.met.S.StateFolder.counts_now told f1 (g.S.StateFolder.moment f0) x first.later l, untidied x)), safe2, tt))
     (refl, (refl, tt)) (read1, (read2, tt)) in
     let later = (safe2 None tt (λ x l. since_sound (first.each x (g.met.S.StateFolder.counts_now told f1 (g.S.StateFolder.moment f0) x first.later l)))).later in
     all.1.0 d (g.met.S.StateFolder.counts_now told f2 (g.S.StateFolder.moment f1) d later left)

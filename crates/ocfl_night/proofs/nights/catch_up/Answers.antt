@@ -13,17 +13,17 @@ returns-in_err-opened-clause-heard g c = λ told rounds kept. leaves_weaker (λ 
 pub returns-in_err-speak-clause-heard : goal.returns-in_err-speak-clause-heard
 returns-in_err-speak-clause-heard g c = λ told rounds kept.
     let r = c.in_ok-opened.ensures.ready told rounds kept in
-    joined_moments (leaves_weaker (λ x h. found_heard c.speak.ensures.grew h) (c.open.ensures.any_moment told rounds kept)) (leaves_weaker (λ x h. since_found r h) (c.speak.ensures.heard told rounds r.t r.ready))
+    joined_moments (leaves_weaker (λ x h. found_heard c.speak.ensures.grew h) (c.open.ensures.any_moment told rounds kept)) (leaves_weaker (λ x h. since_found r h) (c.speak.ensures.heard told rounds (kept r.from r.was).0 r.ready))
 
 pub returns-clause-heard : goal.returns-clause-heard
 returns-clause-heard g c = λ told rounds kept.
     let r = c.in_ok-opened.ensures.ready told rounds kept in
-    joined_moments (leaves_weaker (λ x h. found_heard c.speak.ensures.grew h) (c.open.ensures.any_moment told rounds kept)) (leaves_weaker (λ x h. since_found r h) (c.speak.ensures.heard told rounds r.t r.ready))
+    joined_moments (leaves_weaker (λ x h. found_heard c.speak.ensures.grew h) (c.open.ensures.any_moment told rounds kept)) (leaves_weaker (λ x h. since_found r h) (c.speak.ensures.heard told rounds (kept r.from r.was).0 r.ready))
 
 pub returns-clause-ready : goal.returns-clause-ready
 returns-clause-ready g c = λ told rounds kept.
     let r = c.in_ok-opened.ensures.ready told rounds kept in
-    record { from = r.from; was = r.was; t = r.t; before = r.before; heard = c.in_ok-speak.ensures.ready told rounds r.t r.ready }
+    record { from = r.from; was = r.was; heard = c.in_ok-speak.ensures.ready told rounds (kept r.from r.was).0 r.ready }
 
 pub returns-clause-all : goal.returns-clause-all
 returns-clause-all g c =

@@ -12,28 +12,28 @@ use Rattle.ocfl_night.proofs.Whole.{closing_by, come_whole, grown_whole, told_wh
 use Rattle.ocfl_night.proofs.nights.make_runs.Goals as goal
 
 pub returns-in_err-last-clause-heard : goal.returns-in_err-last-clause-heard
-returns-in_err-last-clause-heard g c = λ told tells root over short looks one t r.
-    silent (grew_none _) (c.runs.ensures.any_moment told tells root over short looks one t r)
+returns-in_err-last-clause-heard g c = λ told tells root over short known one t r.
+    silent (grew_none _) (c.runs.ensures.any_moment told tells root over short known one t r)
 
 pub returns-in_err-said-clause-heard : goal.returns-in_err-said-clause-heard
-returns-in_err-said-clause-heard g c = λ told tells root over short looks one t r.
-    let rounds : Rounds = record { part = part_of c.args.part.now; looks = looks } in
-    let ready = c.in_ok-last.ensures.ready told tells root over short looks one t r in
-    joined_moments (silent c.speak.ensures.grew (c.runs.ensures.any_moment told tells root over short looks one t r)) (c.speak.ensures.heard told rounds t ready)
+returns-in_err-said-clause-heard g c = λ told tells root over short known one t r.
+    let rounds : Rounds = record { part = part_of c.args.part.now; known = known } in
+    let ready = c.in_ok-last.ensures.ready told tells root over short known one t r in
+    joined_moments (silent c.speak.ensures.grew (c.runs.ensures.any_moment told tells root over short known one t r)) (c.speak.ensures.heard told rounds t ready)
 
 pub returns-in_err-ended-clause-heard : goal.returns-in_err-ended-clause-heard
-returns-in_err-ended-clause-heard g c = λ told tells root over short looks one t r.
-    let rounds : Rounds = record { part = part_of c.args.part.now; looks = looks } in
-    let ready = c.in_ok-last.ensures.ready told tells root over short looks one t r in
+returns-in_err-ended-clause-heard g c = λ told tells root over short known one t r.
+    let rounds : Rounds = record { part = part_of c.args.part.now; known = known } in
+    let ready = c.in_ok-last.ensures.ready told tells root over short known one t r in
     let said = c.in_ok-said.ensures.ready told rounds t ready in
-    said_on said (joined_moments (silent c.speak.ensures.grew (c.runs.ensures.any_moment told tells root over short looks one t r)) (c.speak.ensures.heard told rounds t ready)) (c.finish.ensures.any_moment told rounds (t ++ said.more) said.ready)
+    said_on said (joined_moments (silent c.speak.ensures.grew (c.runs.ensures.any_moment told tells root over short known one t r)) (c.speak.ensures.heard told rounds t ready)) (c.finish.ensures.any_moment told rounds (t ++ said.more) said.ready)
 
 pub returns-clause-heard : goal.returns-clause-heard
-returns-clause-heard g c = λ told tells root over short looks one t r.
-    let rounds : Rounds = record { part = part_of c.args.part.now; looks = looks } in
-    let ready = c.in_ok-last.ensures.ready told tells root over short looks one t r in
+returns-clause-heard g c = λ told tells root over short known one t r.
+    let rounds : Rounds = record { part = part_of c.args.part.now; known = known } in
+    let ready = c.in_ok-last.ensures.ready told tells root over short known one t r in
     let said = c.in_ok-said.ensures.ready told rounds t ready in
-    said_on said (joined_moments (silent c.speak.ensures.grew (c.runs.ensures.any_moment told tells root over short looks one t r)) (c.speak.ensures.heard told rounds t ready)) (c.finish.ensures.any_moment told rounds (t ++ said.more) said.ready)
+    said_on said (joined_moments (silent c.speak.ensures.grew (c.runs.ensures.any_moment told tells root over short known one t r)) (c.speak.ensures.heard told rounds t ready)) (c.finish.ensures.any_moment told rounds (t ++ said.more) said.ready)
 
 pub returns-in_err-last-clause-counts : goal.returns-in_err-last-clause-counts
 returns-in_err-last-clause-counts g c = λ tells root over short. c.runs.ensures.counts tells root over short
@@ -48,10 +48,10 @@ pub returns-clause-counts : goal.returns-clause-counts
 returns-clause-counts g c = λ tells root over short. c.runs.ensures.counts tells root over short
 
 pub returns-clause-ended : goal.returns-clause-ended
-returns-clause-ended g c = λ told tells root over short looks one t r cycle is.
-    let rounds : Rounds = record { part = part_of c.args.part.now; looks = looks } in
+returns-clause-ended g c = λ told tells root over short known one t r cycle is.
+    let rounds : Rounds = record { part = part_of c.args.part.now; known = known } in
     let s = g.S.StateFolder.seen in
-    let said = c.in_ok-said.ensures.ready told rounds t (c.in_ok-last.ensures.ready told tells root over short looks one t r) in
+    let said = c.in_ok-said.ensures.ready told rounds t (c.in_ok-last.ensures.ready told tells root over short known one t r) in
     let closed = c.in_ok-ended.ensures.closed told rounds (t ++ said.more) said.ready in
     let ends = c.halt_after.ensures.ended cycle (cc is) in
     let more = subst (λ (o : Option ℕ). IfSome o (λ n. IsOneMore rounds n (s c.speak.new.folder) (s c.finish.new.folder))) ends closed in

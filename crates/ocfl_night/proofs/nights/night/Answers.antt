@@ -5,19 +5,19 @@ use Rattle.ocfl_item.specs.Judging.{HasShortFiles}
 use Rattle.ocfl_audit.specs.Parts.{Part}
 use Rattle.ocfl_state.specs.Content.{Closed, Content}
 use Rattle.ocfl_night.specs.{Done.{Done, done_of}, Leaving.{has_end}, Nights.{IsSafeNight}, Site.{part_at}}
-use Rattle.ocfl_night.specs.Looks.{Counts, Look, Rounds, look_between, of_any}
+use Rattle.ocfl_night.specs.Looks.{Counts, Known, Rounds, look_between, of_any}
 use Rattle.ocfl_night.specs.{Sound.{IsOneMore}, Steps.{IsNotBegun}}
 use Rattle.ocfl_night.proofs.Beginnings.{one_more_since, refused_still, shut_since, still_on}
 use Rattle.ocfl_night.proofs.{Moments.{leaves_weaker}, Runs.{made_from}}
 use Rattle.ocfl_night.proofs.Looks.{counts_on, last_of}
-use Rattle.ocfl_night.proofs.Heard.{heard_through, on_ok, ready_since, since_sound}
+use Rattle.ocfl_night.proofs.Heard.{heard_through, on_ok, ready_since, since_sound, told_since}
 use Rattle.ocfl_night.proofs.Newest.{newest}
 use Rattle.ocfl_night.proofs.nights.night.Given as given
 use Rattle.ocfl_night.proofs.nights.night.Goals.{After-make_runs-through}
 use Rattle.ocfl_night.proofs.nights.night.Goals as goal
 
-abbrev rounds_over : Part → Option (List Look) → Rounds
-rounds_over part looks = record { part = part; looks = looks }
+abbrev rounds_over : Part → Option Known → Rounds
+rounds_over part known = record { part = part; known = known }
 
 -- what a night promises that was begun
 module _ (g : given.Over) (c : After-make_runs-through g) (tells : IsTrue g.T.Tree.told) (root : StorageRoot) (over : (g.T.Tree.state c.args.tree.now).tree ≡ root) (short : HasShortFiles root) where
@@ -29,12 +29,12 @@ module _ (g : given.Over) (c : After-make_runs-through g) (tells : IsTrue g.T.Tr
 
   heard : IsTrue g.S.StateFolder.told
       → IsSafeNight g.S.StateFolder.may_leave g.S.StateFolder.moment g.S.StateFolder.left_since (part_at c.args.site.now.ends) (look_between root (g.T.Tree.state c.args.tree.now) (g.T.Tree.state c.make_runs-through.new.tree)) c.args.folder.now c.make_runs-through.new.folder (g.W.Write.contents c.args.out.now) (g.W.Write.contents c.make_runs-through.new.out)
-  heard told looks one kept =
-      let rounds : Rounds = record { part = part_at c.args.site.now.ends; looks = looks } in
-      let same = ap (λ (p : Part). rounds_over p looks) c.in-Ok.ensures.part in
+  heard told known one kept =
+      let rounds : Rounds = record { part = part_at c.args.site.now.ends; known = known } in
+      let same = ap (λ (p : Part). rounds_over p known) c.in-Ok.ensures.part in
       let r = c.in-Ok.ensures.ready told rounds kept in
-      let last = last_of root looks set_out_counts runs_count one in
-      let runs = c.make_runs-through.ensures.heard told tells root (c.set_out.ensures.root tells ∙ over) short looks last (r.t ++ r.heard.more) (ready_since same r) in
+      let last = last_of root known set_out_counts runs_count one in
+      let runs = c.make_runs-through.ensures.heard told tells root (c.set_out.ensures.root tells ∙ over) short known last (told_since same r) (ready_since same r) in
       heard_through same r (c.set_out.ensures.heard told rounds kept) c.make_runs-through.ensures.grew runs
 
 pub returns : goal.returns
@@ -46,11 +46,11 @@ returns g c =
     let s = g.S.StateFolder.seen in
     let left = runs.ensures.left (c.none-tally.ensures.left c.args.plan.now.stop_at_faults) in
     record {
-      any_moment = λ told tells root over short looks one kept. leaves_weaker (λ x h. since_sound h) (heard g at tells root over short told looks one kept);
-      kept = λ told tells root over short looks one kept d left.
-          let there = heard g at tells root over short told looks one kept in
+      any_moment = λ told tells root over short known one kept. leaves_weaker (λ x h. since_sound h) (heard g at tells root over short told known one kept);
+      kept = λ told tells root over short known one kept d left.
+          let there = heard g at tells root over short told known one kept in
           since_sound (there.each d (g.met.S.StateFolder.counts_now told runs.new.folder (g.S.StateFolder.moment c.args.folder.now) d there.later left));
-      heard = λ told tells root over short looks one. heard g at tells root over short told looks one;
+      heard = λ told tells root over short known one. heard g at tells root over short told known one;
       root = λ tells root over short. runs.ensures.root tells root (c.set_out.ensures.root tells ∙ over) short;
       counts = λ tells root over short. counts_on (set_out_counts g at tells root over short) (runs_count g at tells root over short);
       said = λ told tells root over short kept well other.
@@ -61,14 +61,14 @@ returns g c =
       newest = λ told rounds kept cycle is. absurd (runs.ensures.unrefused _ (c.ended.ensures.refused _ (sym c.account-2.ensures.end ∙ is)));
       lost = λ told k at lost well other. subst (λ (b : Bool). IsTrue b) (sym c.account-2.ensures.lost) (c.in-Ok.ensures.lost told k at lost);
       lost_only = λ told is. c.set_out.ensures.lost_only told refl (sym c.account-2.ensures.lost ∙ is);
-      ended = λ told tells root over short looks one kept cycle is.
-          let rounds : Rounds = rounds_over (part_at c.args.site.now.ends) looks in
-          let alike = ap (λ (p : Part). rounds_over p looks) c.in-Ok.ensures.part in
-          let last = last_of root looks (set_out_counts g at tells root over short) (runs_count g at tells root over short) one in
+      ended = λ told tells root over short known one kept cycle is.
+          let rounds : Rounds = rounds_over (part_at c.args.site.now.ends) known in
+          let alike = ap (λ (p : Part). rounds_over p known) c.in-Ok.ensures.part in
+          let last = last_of root known (set_out_counts g at tells root over short) (runs_count g at tells root over short) one in
           let ready = c.in-Ok.ensures.ready told rounds kept in
           one_more_since (c.in-Ok.ensures.closed told) (λ shut. shut_since (c.in-Ok.ensures.begins told) ready.heard.ready.at (c.in-Ok.ensures.closed told) shut)
           (subst (λ (p : Rounds). IsOneMore p cycle (s c.set_out.new.folder) (s runs.new.folder)) alike
-          (runs.ensures.ended told tells root (c.set_out.ensures.root tells ∙ over) short looks last _ (ready_since alike ready) cycle (c.ended.ensures.ended cycle (sym c.account-2.ensures.end ∙ is))));
+          (runs.ensures.ended told tells root (c.set_out.ensures.root tells ∙ over) short known last _ (ready_since alike ready) cycle (c.ended.ensures.ended cycle (sym c.account-2.ensures.end ∙ is))));
       goes_on = λ told well other.
           still_on runs.result (c.ended.ensures.said (λ why is. well why (c.account-2.ensures.end ∙ is))) (runs.ensures.goes_on told) (c.account-2.ensures.end ∙ c.ended.ensures.is) other ∙ c.in-Ok.ensures.closed told;
       whole = λ told tells root over short kept cycle is d come.
@@ -99,11 +99,11 @@ returns-in-Err g c =
     let part = part_at c.args.site.now.ends in
     let left = c.none-tally.ensures.left c.args.plan.now.stop_at_faults in
     record {
-      any_moment = λ told tells root over short looks one kept. leaves_weaker (λ x h. since_sound h) (c.set_out.ensures.heard told (rounds_over part looks) kept);
-      kept = λ told tells root over short looks one kept d left.
-          let there = c.set_out.ensures.heard told (rounds_over part looks) kept in
+      any_moment = λ told tells root over short known one kept. leaves_weaker (λ x h. since_sound h) (c.set_out.ensures.heard told (rounds_over part known) kept);
+      kept = λ told tells root over short known one kept d left.
+          let there = c.set_out.ensures.heard told (rounds_over part known) kept in
           since_sound (there.each d (g.met.S.StateFolder.counts_now told c.set_out.new.folder (g.S.StateFolder.moment c.args.folder.now) d there.later left));
-      heard = λ told tells root over short looks one kept. c.set_out.ensures.heard told (rounds_over part looks) kept;
+      heard = λ told tells root over short known one kept. c.set_out.ensures.heard told (rounds_over part known) kept;
       root = λ tells root over short. c.set_out.ensures.root tells ∙ over;
       counts = λ tells root over short. c.set_out.ensures.counts tells root over short;
       said = λ told tells root over short kept well unrefused. absurd (c.unbegun.ensures.said (λ why is. well why (c.account.ensures.end ∙ is)) (λ why is. unrefused why (c.account.ensures.end ∙ is)));
@@ -113,7 +113,7 @@ returns-in-Err g c =
       newest = λ told rounds kept cycle is. newest rounds (kept _ (g.met.S.StateFolder.stays told c.args.folder.now)) (c.in-Err.ensures.rightly told _ (ap Err (c.unbegun.ensures.refused _ (sym c.account.ensures.end ∙ is))));
       lost_only = λ told is. c.set_out.ensures.lost_only told refl (sym c.account.ensures.lost ∙ is);
       lost = λ told k at lost well unrefused. absurd (c.unbegun.ensures.said (λ why is. well why (c.account.ensures.end ∙ is)) (λ why is. unrefused why (c.account.ensures.end ∙ is)));
-      ended = λ told tells root over short looks one kept cycle is. absurd (subst IsNotBegun (sym c.account.ensures.end ∙ is) c.unbegun.ensures.not_begun);
+      ended = λ told tells root over short known one kept cycle is. absurd (subst IsNotBegun (sym c.account.ensures.end ∙ is) c.unbegun.ensures.not_begun);
       whole = λ told tells root over short kept cycle is d come. absurd (subst IsNotBegun (sym c.account.ensures.end ∙ is) c.unbegun.ensures.not_begun);
       goes_on = λ told well other.
           refused_still c.in-Err.why (c.account.ensures.end ∙ c.unbegun.ensures.is) well (λ why is. ap (λ (x : Content). x.closed) (c.in-Err.ensures.refused told why (ap Err is)));

@@ -8,7 +8,7 @@ use Rattle.ocfl_night.specs.{Clock.{Event, Asked, Read, Heard}, Done.{Done, done
 use Rattle.ocfl_state.specs.declared.checkpoint_parts.Phase.TheVariants.{Open}
 use Rattle.ocfl_night.specs.Runs.{Run, IsRunOf, MayBeginAt, MayHaveLeft, StopsOpen, after_it, after_made, events_of, in_it, turn_of}
 use Rattle.ocfl_night.specs.declared.plan.Pause.{Pause}
-use Rattle.ocfl_night.specs.Looks.{Counts, IsOneOf, Look, look_between}
+use Rattle.ocfl_night.specs.Looks.{Counts, IsOneOf, Known, look_between}
 use Rattle.ocfl_night.specs.{Promises.{IsSafeIn}, Sound.{IsReady}}
 use Rattle.ocfl_night.proofs.{Beginnings.{next_in}, KeptWalks.{walk_none}, Runs.{and_then, failed_so, led_by, none_yet, paused, paused_before, run_more}}
 use Rattle.ocfl_night.proofs.Looks.{counts_none, counts_on, first_of, last_of}
@@ -27,27 +27,27 @@ module _ (g : given.Over) (c : After-go_on_after g) (tells : IsTrue g.T.Tree.tol
   counts_then : Counts (g.T.Tree.state c.args.tree.now) (g.T.Tree.state c.slice.new.tree)
   counts_then = counts_on (c.loop-run.invariant.counts tells root over short) made_counts
 
-  module _ (looks : Option (List Look)) (one : IsOneOf looks (look_between root (g.T.Tree.state c.args.tree.now) (g.T.Tree.state c.slice.new.tree))) where
-    looks_before : IsOneOf looks (look_between root (g.T.Tree.state c.args.tree.now) (g.T.Tree.state c.loop-run.tree))
-    looks_before = first_of root looks (c.loop-run.invariant.counts tells root over short) made_counts one
+  module _ (known : Option Known) (one : IsOneOf known (look_between root (g.T.Tree.state c.args.tree.now) (g.T.Tree.state c.slice.new.tree))) where
+    one_before : IsOneOf known (look_between root (g.T.Tree.state c.args.tree.now) (g.T.Tree.state c.loop-run.tree))
+    one_before = first_of root known (c.loop-run.invariant.counts tells root over short) made_counts one
 
-    looks_in : IsOneOf looks (look_between root (g.T.Tree.state c.loop-run.tree) (g.T.Tree.state c.slice.new.tree))
-    looks_in = last_of root looks (c.loop-run.invariant.counts tells root over short) made_counts one
+    one_in : IsOneOf known (look_between root (g.T.Tree.state c.loop-run.tree) (g.T.Tree.state c.slice.new.tree))
+    one_in = last_of root known (c.loop-run.invariant.counts tells root over short) made_counts one
 
     made_ready : IsTrue g.S.StateFolder.told → (t : Text)
-        → IsReady g.S.StateFolder.seen g.S.StateFolder.may_leave (record { part = part_of c.args.part.now; looks = looks }) t c.args.start c.args.folder.now
-        → IsReady g.S.StateFolder.seen g.S.StateFolder.may_leave (record { part = part_of c.args.part.now; looks = looks }) t c.in_ok-made.made.checkpoint c.slice.new.folder
+        → IsReady g.S.StateFolder.seen g.S.StateFolder.may_leave (record { part = part_of c.args.part.now; known = known }) t c.args.start c.args.folder.now
+        → IsReady g.S.StateFolder.seen g.S.StateFolder.may_leave (record { part = part_of c.args.part.now; known = known }) t c.in_ok-made.made.checkpoint c.slice.new.folder
     made_ready told t r =
         let inv = c.loop-run.invariant in
-        c.in_ok-made.ensures.ready told tells root (inv.root tells root over short) short (inv.walk tells root over short) looks looks_in t (inv.ready told tells root over short looks looks_before t r)
+        c.in_ok-made.ensures.ready told tells root (inv.root tells root over short) short (inv.walk tells root over short) known one_in t (inv.ready told tells root over short known one_before t r)
 
     -- after it, and what is done after it
-    moments : IsTrue g.S.StateFolder.told → IsSafeIn g.S.StateFolder.seen g.S.StateFolder.may_leave g.S.StateFolder.moment g.S.StateFolder.left_since (record { part = part_of c.args.part.now; looks = looks }) c.args.start c.args.folder.now c.go_on_after.new.folder
+    moments : IsTrue g.S.StateFolder.told → IsSafeIn g.S.StateFolder.seen g.S.StateFolder.may_leave g.S.StateFolder.moment g.S.StateFolder.left_since (record { part = part_of c.args.part.now; known = known }) c.args.start c.args.folder.now c.go_on_after.new.folder
     moments told t r =
         let inv = c.loop-run.invariant in
         joined_moments
-        (joined_moments (inv.any_moment told tells root over short looks looks_before t r) (c.slice.ensures.any_moment told tells root (inv.root tells root over short) short (inv.walk tells root over short) looks looks_in t (inv.ready told tells root over short looks looks_before t r)))
-        (c.go_on_after.ensures.any_moment told (record { part = part_of c.args.part.now; looks = looks }) t (made_ready told t r))
+        (joined_moments (inv.any_moment told tells root over short known one_before t r) (c.slice.ensures.any_moment told tells root (inv.root tells root over short) short (inv.walk tells root over short) known one_in t (inv.ready told tells root over short known one_before t r)))
+        (c.go_on_after.ensures.any_moment told (record { part = part_of c.args.part.now; known = known }) t (made_ready told t r))
 
 -- a run that was made, and what the clock heard of it
 module _ (g : given.Over) (c : After-go_on_after g) (told : IsTrue g.C.Clock.told) where
@@ -71,8 +71,8 @@ turned g c going led =
 
 pub loop-run-init : goal.loop-run-init
 loop-run-init g c = record {
-  any_moment = λ told tells root over short looks one t r. unmoved (g.met.S.StateFolder.only_now told) (ready_sound r);
-  ready = λ told tells root over short looks one t r. r;
+  any_moment = λ told tells root over short known one t r. unmoved (g.met.S.StateFolder.only_now told) (ready_sound r);
+  ready = λ told tells root over short known one t r. r;
   counts = λ tells root over short. counts_none (g.T.Tree.state c.args.tree.now);
   closed = λ told. refl;
   cycle = refl;
@@ -84,19 +84,19 @@ loop-run-init g c = record {
 }
 
 pub returns-in_err-made-clause-any_moment : goal.returns-in_err-made-clause-any_moment
-returns-in_err-made-clause-any_moment g c = λ told tells root over short looks one t r.
+returns-in_err-made-clause-any_moment g c = λ told tells root over short known one t r.
     let inv = c.loop-run.invariant in
     let counts : Counts (g.T.Tree.state c.loop-run.tree) (g.T.Tree.state c.slice.new.tree) = c.slice.ensures.counts tells root (inv.root tells root over short) short (inv.walk tells root over short) in
-    let before = first_of root looks (inv.counts tells root over short) counts one in
-    joined_moments (inv.any_moment told tells root over short looks before t r)
-    (c.slice.ensures.any_moment told tells root (inv.root tells root over short) short (inv.walk tells root over short) looks (last_of root looks (inv.counts tells root over short) counts one) t (inv.ready told tells root over short looks before t r))
+    let before = first_of root known (inv.counts tells root over short) counts one in
+    joined_moments (inv.any_moment told tells root over short known before t r)
+    (c.slice.ensures.any_moment told tells root (inv.root tells root over short) short (inv.walk tells root over short) known (last_of root known (inv.counts tells root over short) counts one) t (inv.ready told tells root over short known before t r))
 
 pub returns-in_err-next-clause-any_moment : goal.returns-in_err-next-clause-any_moment
-returns-in_err-next-clause-any_moment g c = λ told tells root over short looks one.
-    moments g (goal.at.returns-in_err-next-clause-any_moment g c).After-go_on_after tells root over short looks one told
+returns-in_err-next-clause-any_moment g c = λ told tells root over short known one.
+    moments g (goal.at.returns-in_err-next-clause-any_moment g c).After-go_on_after tells root over short known one told
 
 pub returns-in-Some-clause-any_moment : goal.returns-in-Some-clause-any_moment
-returns-in-Some-clause-any_moment g c = λ told tells root over short looks one. moments g (goal.at.returns-in-Some-clause-any_moment g c).After-go_on_after tells root over short looks one told
+returns-in-Some-clause-any_moment g c = λ told tells root over short known one. moments g (goal.at.returns-in-Some-clause-any_moment g c).After-go_on_after tells root over short known one told
 
 pub returns-in-Err-clause-counts : goal.returns-in-Err-clause-counts
 returns-in-Err-clause-counts g c = λ tells root over short. c.loop-run.invariant.counts tells root over short
@@ -137,8 +137,8 @@ returns-in-Some-clause-root g c = λ tells root over short.
     c.slice.ensures.root tells root (inv.root tells root over short) short (inv.walk tells root over short)
 
 pub returns-in-Some-clause-ready : goal.returns-in-Some-clause-ready
-returns-in-Some-clause-ready g c = λ told tells root over short looks one t r.
-    c.in_ok-next.ensures.ready told (record { part = part_of c.args.part.now; looks = looks }) t (made_ready g (goal.at.returns-in-Some-clause-ready g c).After-go_on_after tells root over short looks one told t r)
+returns-in-Some-clause-ready g c = λ told tells root over short known one t r.
+    c.in_ok-next.ensures.ready told (record { part = part_of c.args.part.now; known = known }) t (made_ready g (goal.at.returns-in-Some-clause-ready g c).After-go_on_after tells root over short known one told t r)
 
 pub returns-in-Some-clause-closed : goal.returns-in-Some-clause-closed
 returns-in-Some-clause-closed g c = λ told. c.in_ok-next.ensures.closed told ∙ c.in_ok-made.ensures.closed told ∙ c.loop-run.invariant.closed told
@@ -152,8 +152,8 @@ loop-run-preserved g c =
     let inv = c.loop-run.invariant in
     let at = (goal.at.loop-run-preserved g c).After-go_on_after in
     record {
-      any_moment = λ told tells root over short looks one. moments g at tells root over short looks one told;
-      ready = λ told tells root over short looks one t r. c.in_ok-next.ensures.ready told (record { part = part_of c.args.part.now; looks = looks }) t (made_ready g at tells root over short looks one told t r);
+      any_moment = λ told tells root over short known one. moments g at tells root over short known one told;
+      ready = λ told tells root over short known one t r. c.in_ok-next.ensures.ready told (record { part = part_of c.args.part.now; known = known }) t (made_ready g at tells root over short known one told t r);
       counts = counts_then g at;
       closed = λ told. c.in_ok-next.ensures.closed told ∙ c.in_ok-made.ensures.closed told ∙ inv.closed told;
       leads = grown_on inv.leads (turned g at (search rules) c.in_ok-next.ensures.turn);

@@ -3,8 +3,7 @@ use Rattle.std.proofs.{Common.{◌≡◌, ◌∙◌, [], ap, refl, rules, sym, s
 use Rattle.ocfl_state.specs.{Checkpoint.{Checkpoint}, Content.{Content}}
 use Rattle.ocfl_night.specs.{Beginning.{further, position}, Older.{IsOlder}, Refusing.{IsDisowned, IsOutdated, not_own, outdated}, Sound.{IsAt, IsNew}, Steps.{IsOpened}}
 use Rattle.ocfl_night.proofs.{Beginnings.{begun_first}, Foreigners.{at_once, own_at}, Moments.{same_twice, unchanged}, Heard.{is_err, kept_found}}
-use Rattle.ocfl_night.proofs.Sound.{sound_new}
-use Rattle.ocfl_night.proofs.TakingUp.{found_on, found_ready, none_found, same_found, settled_there, shown_new, some_found, taken_moments}
+use Rattle.ocfl_night.proofs.TakingUp.{found_on, found_ready, none_found, same_found, settled_there, shown_new, some_found, taken_moments, told_none}
 use Rattle.ocfl_night.proofs.{Lost.{first_not, lost_opened, opened_as}, Whole.{first_whole, opened_whole}}
 use Rattle.ocfl_night.proofs.opening.open.Given as given
 use Rattle.ocfl_night.proofs.opening.open.Goals.{After-go_on}
@@ -30,7 +29,7 @@ returns-in-Ok-clause-ready g c = λ told rounds kept.
     let was = g.met.S.StateFolder.stays told c.args.folder.now in
     let sound = kept (g.S.StateFolder.seen c.args.folder.now) was in
     let at = same_found (c.in_ok-found.ensures.value told) c.in-Some.is c.in-Ok.ensures.same in
-    IfOk-weaker c.go_on.result _ _ (λ o r. found_ready _ was sound.1 r)
+    IfOk-weaker c.go_on.result _ _ (λ o r. found_ready kept _ was refl r)
     (c.go_on.ensures.ready told rounds sound.0 (settled_there sound.1 at (c.look.ensures.seen told) (c.in_ok-found.ensures.only told)))
 
 pub returns-in_default-clause-any_moment : goal.returns-in_default-clause-any_moment
@@ -39,7 +38,7 @@ returns-in_default-clause-any_moment g c = λ told rounds kept.
     let same = c.look.ensures.seen told in
     let none = none_found (g.S.StateFolder.seen c.args.folder.now) (c.in_ok-found.ensures.value told) c.in_default.is in
     let new = shown_new rounds (kept (g.S.StateFolder.seen c.args.folder.now) was) none in
-    found_on (g.met.S.StateFolder.only_now told) was kept (c.look.ensures.crash told) (sound_new rounds none new)
+    found_on (g.met.S.StateFolder.only_now told) was kept (c.look.ensures.crash told) (told_none rounds _ (kept (g.S.StateFolder.seen c.args.folder.now) was) none)
     (c.begin.ensures.any_moment told rounds (c.in_ok-found.ensures.only told) (ap (λ (x : Content). x.checkpoint) same ∙ none) (subst (IsNew []) (sym same) new))
 
 pub returns-in_default-clause-ready : goal.returns-in_default-clause-ready
@@ -47,7 +46,7 @@ returns-in_default-clause-ready g c = λ told rounds kept.
     let was = g.met.S.StateFolder.stays told c.args.folder.now in
     let none = none_found (g.S.StateFolder.seen c.args.folder.now) (c.in_ok-found.ensures.value told) c.in_default.is in
     let new = shown_new rounds (kept (g.S.StateFolder.seen c.args.folder.now) was) none in
-    IfOk-weaker c.begin.result _ _ (λ o r. found_ready _ was (sound_new rounds none new) r)
+    IfOk-weaker c.begin.result _ _ (λ o r. found_ready kept _ was (told_none rounds _ (kept (g.S.StateFolder.seen c.args.folder.now) was) none) r)
     (c.begin.ensures.ready told rounds (c.in_ok-found.ensures.only told) (subst (IsNew []) (sym (c.look.ensures.seen told)) new))
 
 pub returns-in_err-found-clause-foreign : goal.returns-in_err-found-clause-foreign

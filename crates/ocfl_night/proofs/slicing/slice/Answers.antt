@@ -18,22 +18,22 @@ goes_on : (g : given.Over) (c : In_ok-rest g) (root : StorageRoot) → IsWalkAt 
 goes_on g c root walk = walk_from root c.args.kept.now _ (part_of c.args.part.now) c.args.checkpoint _ (rest_is g c) c.in_ok-cursor.ensures walk
 
 pub returns-in_err-cursor-clause-any_moment : goal.returns-in_err-cursor-clause-any_moment
-returns-in_err-cursor-clause-any_moment g c = λ told tells root over short walk looks one t r. unmoved (g.met.S.StateFolder.only_now told) (ready_sound r)
+returns-in_err-cursor-clause-any_moment g c = λ told tells root over short walk known one t r. unmoved (g.met.S.StateFolder.only_now told) (ready_sound r)
 
 pub returns-in_err-rest-clause-any_moment : goal.returns-in_err-rest-clause-any_moment
-returns-in_err-rest-clause-any_moment g c = λ told tells root over short walk looks one t r. unmoved (g.met.S.StateFolder.only_now told) (ready_sound r)
+returns-in_err-rest-clause-any_moment g c = λ told tells root over short walk known one t r. unmoved (g.met.S.StateFolder.only_now told) (ready_sound r)
 
 pub returns-clause-any_moment : goal.returns-clause-any_moment
-returns-clause-any_moment g c = λ told tells root over short walk looks one t r.
+returns-clause-any_moment g c = λ told tells root over short walk known one t r.
     let at = (goal.at.returns-clause-any_moment g c).In_ok-rest in
     let made = c.in-Ok.ensures.run tells root over short (goes_on g at root walk) in
-    c.keep.ensures.any_moment told (record { part = part_of c.args.part.now; looks = looks }) _ one (run_at (rest_is g at) c.in_ok-cursor.ensures (sym c.deref.ensures.value) made) t r
+    c.keep.ensures.any_moment told (record { part = part_of c.args.part.now; known = known }) _ one (run_at (rest_is g at) c.in_ok-cursor.ensures (sym c.deref.ensures.value) made) t r
 
 pub returns-clause-ready : goal.returns-clause-ready
-returns-clause-ready g c = λ told tells root over short walk looks one t r.
+returns-clause-ready g c = λ told tells root over short walk known one t r.
     let at = (goal.at.returns-clause-ready g c).In_ok-rest in
     let made = c.in-Ok.ensures.run tells root over short (goes_on g at root walk) in
-    c.keep.ensures.ready told (record { part = part_of c.args.part.now; looks = looks }) _ one (run_at (rest_is g at) c.in_ok-cursor.ensures (sym c.deref.ensures.value) made) t r
+    c.keep.ensures.ready told (record { part = part_of c.args.part.now; known = known }) _ one (run_at (rest_is g at) c.in_ok-cursor.ensures (sym c.deref.ensures.value) made) t r
 
 pub returns-in-Err-clause-counts : goal.returns-in-Err-clause-counts
 returns-in-Err-clause-counts g c = λ tells root over short walk.

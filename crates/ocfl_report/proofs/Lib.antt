@@ -11,4 +11,5 @@ pub mod Inputs
 pub mod PathTexts
 pub mod LineTexts
 pub mod Fields
+pub mod Growing
 pub mod FindingLaws

@@ -8,7 +8,7 @@ use percent_encoding::percent_encode;
 use std::fmt;
 
 /// A place whose `Display` is its text in a report, as [`put_place`](crate::put_place) appends it.
-#[derive(Clone, Copy, Debug)]
+#[derive(Clone, Copy)]
 pub struct DisplayPlace<'a>(pub &'a Place);
 
 impl fmt::Display for DisplayPlace<'_> {

@@ -1,14 +1,14 @@
 //! Escaped text, after RFC 3986, 2.1, with this report's own set of bytes that stay as they are.
-ghost use Rattle.std.specs.Prelude.{◌≡◌, ◌+◌, ◌<◌, ◌≤◌, ◌++◌, ◌↔◌, IsTrue, OnOk, OnErr, length, vec_len, vec_capacity, IfOk, IfSome, IsNone};
-ghost use Rattle.std.specs.{Cow.{cow_str_bytes}, Io.{StartsWith}, Str.{IsUtf8}};
+ghost use Rattle.std.specs.Prelude.{◌≡◌, ◌+◌, ◌<◌, ◌≤◌, ◌++◌, ◌↔◌, IsTrue, OnOk, OnErr, length, vec_len, vec_capacity, IfOk, string_bytes};
+ghost use Rattle.std.specs.{Io.{StartsWith}, Str.{IsUtf8}};
 ghost use Rattle.ocfl_tree.specs.Place.{Text as ModelText};
 ghost use Rattle.ocfl_report.specs.Text.{escape};
 
+use crate::stop::TextStop;
 use percent_encoding::{
     AsciiSet, CONTROLS, DecodeError, ascii_set, percent_decode, percent_encode,
 };
 use std::alloc::{AllocError, Global};
-use std::borrow::CowStr;
 
 /// The ASCII bytes that are escaped: the controls, DEL among them, and `%`. The bytes outside ASCII
 /// always are.
@@ -45,21 +45,20 @@ pub(crate) fn is_escaped_form(bytes: &[u8], text: &[u8]) -> bool
     rest.is_empty()
 }
 
-/// The text whose escaped form the bytes are, and `None` if no text has that form.
-pub(crate) fn read_escaped(alloc: Global, bytes: &[u8]) -> Result<Option<CowStr<'_>>, AllocError>
-    ensures text { IfOk result
-        (λ read. IfSome read (λ text. bytes.now ≡ escape (cow_str_bytes text))) }
-    ensures none { IfOk result (λ read. IsNone read
-        → (text : ModelText) → IsUtf8 text → bytes.now ≡ escape text → ⊥) }
+/// The text whose escaped form the bytes are. [`TextStop::Bad`] if no text has that form.
+pub(crate) fn read_escaped(alloc: Global, bytes: &[u8]) -> Result<String, TextStop>
+    ensures text { IfOk result (λ text. bytes.now ≡ escape (string_bytes text)) }
+    ensures bad { result ≡ Err TextStop.Bad
+        → (text : ModelText) → IsUtf8 text → bytes.now ≡ escape text → ⊥ }
 {
     let text = match percent_decode(bytes).decode_utf8(alloc) {
         Ok(text) => text,
-        Err(DecodeError::Utf8(_)) => return Ok(None),
-        Err(DecodeError::OutOfMemory) => return Err(AllocError),
+        Err(DecodeError::Utf8(_)) => return Err(TextStop::Bad),
+        Err(DecodeError::OutOfMemory) => return Err(TextStop::Memory),
     };
     // Decoding takes more than one form of a text: small digits, and escapes of any byte.
     if !is_escaped_form(bytes, text.as_str().as_bytes()) {
-        return Ok(None);
+        return Err(TextStop::Bad);
     }
-    Ok(Some(text))
+    Ok(text.into_owned(alloc)?)
 }

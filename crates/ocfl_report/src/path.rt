@@ -31,7 +31,6 @@ pub fn put_place(place: &Place, out: &mut Vec<u8>) -> Result<(), AllocError>
 
 /// Appends the text of the place. If memory is refused a beginning of it is left after what was
 /// there.
-#[tactic(auto, using(crate::proofs::PathTexts::root_text, crate::proofs::PathTexts::path_text))]
 pub(crate) fn put_text(place: &Place, out: &mut Vec<u8>) -> Result<(), AllocError>
     ensures ok { OnOk result (out.new.items ≡ out.old.items ++ place_text place.now) }
     ensures begins { StartsWith out.new.items out.old.items }
@@ -66,10 +65,8 @@ pub fn read_place(alloc: Global, bytes: &[u8]) -> Result<Place, TextStop>
         return Err(TextStop::Bad);
     }
     // Escaping leaves a slash as it is, so that all names are read at once.
-    let Some(path) = read_escaped(alloc, bytes)? else {
-        return Err(TextStop::Bad);
-    };
-    match Place::from_path(path.into_owned(alloc)?) {
+    let path = read_escaped(alloc, bytes)?;
+    match Place::from_path(path) {
         Some(place) => Ok(place),
         None => Err(TextStop::Bad),
     }

@@ -27,10 +27,7 @@ pub fn read_line(alloc: Global, bytes: &[u8]) -> Result<Line, TextStop>
         return Err(TextStop::Bad);
     };
     let place = read_place(alloc, fields.place)?;
-    let Some(detail) = read_escaped(alloc, fields.detail)? else {
-        return Err(TextStop::Bad);
-    };
-    let detail = detail.into_owned(alloc)?;
+    let detail = read_escaped(alloc, fields.detail)?;
     Ok(Line {
         code,
         place,

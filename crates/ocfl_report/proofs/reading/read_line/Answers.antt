@@ -1,7 +1,6 @@
-use Rattle.std.proofs.Common.{◌∙◌, sym, ap, subst, refl, IsNone, string_bytes}
-use Rattle.std.proofs.{lemmas.Str.{IsUtf8-string_bytes}, lemmas.Option.{MatchOption-at_some}}
-use Rattle.std.proofs.{lemmas.Result.{err_from_is_err_and}}
-use Rattle.ocfl_report.specs.{Line.{Line}, Text.{escape}}
+use Rattle.std.proofs.Common.{refl, string_bytes}
+use Rattle.std.proofs.{lemmas.Str.{IsUtf8-string_bytes}, lemmas.Result.{err_from_is_err_and}}
+use Rattle.ocfl_report.specs.Line.{Line}
 use Rattle.ocfl_report.proofs.LineTexts.{fields_of, IsLine-from_text, text_from_fields}
 use Rattle.ocfl_report.proofs.reading.read_line.Goals as goal
 
@@ -17,20 +16,19 @@ returns-in_err-place-clause-bad c = λ bad l h.
     let parts = fields_of c.args.bytes.now f.code.now f.place.now f.detail.now l (IsLine-from_text _ l h) c.in-Some.ensures.first.0 c.in-Some.ensures.first.1 c.in-Some.ensures.some h.is in
     c.in_err-place.ensures.bad (let p = err_from_is_err_and c.from_residual.result c.from_residual.ensures.1 in cc (p.1, p.2, bad)) l.place h.place parts.1.0
 
-pub returns-in_default-2-clause-bad : goal.returns-in_default-2-clause-bad
-returns-in_default-2-clause-bad c = λ _ l h.
+pub returns-in_err-detail-clause-bad : goal.returns-in_err-detail-clause-bad
+returns-in_err-detail-clause-bad c = λ bad l h.
     let f = c.in-Some.fields in
     let parts = fields_of c.args.bytes.now f.code.now f.place.now f.detail.now l (IsLine-from_text _ l h) c.in-Some.ensures.first.0 c.in-Some.ensures.first.1 c.in-Some.ensures.some h.is in
-    c.in_ok-detail.ensures.none (subst IsNone (sym c.in_default-2.is) refl) l.detail h.detail parts.1.1
+    let p = err_from_is_err_and c.from_residual-in_err-detail.result c.from_residual-in_err-detail.ensures.1 in
+    c.in_err-detail.ensures.bad (cc (p.1, p.2, bad)) l.detail h.detail parts.1.1
 
 pub returns-clause-ok : goal.returns-clause-ok
 returns-clause-ok c =
     let f = c.in-Some.fields in
-    let read = MatchOption-at_some _ _ _ c.in-Some-2.is c.in_ok-detail.ensures.text in
-    let line : Line = record { code = c.in-Some-read_code.code; place = c.in_ok-place.place; detail = string_bytes c.in_ok-detail-2.detail } in
+    let line : Line = record { code = c.in-Some-read_code.code; place = c.in_ok-place.place; detail = string_bytes c.in_ok-detail.detail } in
     record {
       place = c.in_ok-place.ensures.names;
-      detail = IsUtf8-string_bytes c.in_ok-detail-2.detail;
-      is = text_from_fields c.args.bytes.now f.code.now f.place.now f.detail.now line c.in-Some.ensures.some c.in-Some-read_code.ensures.some c.in_ok-place.ensures.ok
-          (read ∙ ap escape (sym c.in_ok-detail-2.ensures.ok));
+      detail = IsUtf8-string_bytes c.in_ok-detail.detail;
+      is = text_from_fields c.args.bytes.now f.code.now f.place.now f.detail.now line c.in-Some.ensures.some c.in-Some-read_code.ensures.some c.in_ok-place.ensures.ok c.in_ok-detail.ensures.text;
     }

@@ -1,17 +1,24 @@
 -- Commands that are built step by step.
-use Rattle.std.proofs.Common.{◌∙◌, ap, ap₂, sym, Bool, ℕ, ◌+◌, ◌<◌, List, length, map, take, get_or}
-use Rattle.std.proofs.lemmas.List.{map_more}
+use Rattle.std.proofs.Common.{◌≡◌, ◌∙◌, ap, ap₂, sym, Bool, false, ℕ, ◌+◌, ◌<◌, List, length, map, take, drop, get_or}
+use Rattle.std.proofs.lemmas.List.{at_drop_more, map_more}
 use Rattle.std.specs.Prelude.{◌||◌}
-use Rattle.clap.specs.Words.{App, AddsArg, AddsSubcommand, Text, with_rule, with_subcommand}
+use Rattle.clap.specs.Words.{App, AddsArg, AddsSubcommand, Text, app_of, with_rule, with_subcommand}
 use Rattle.clap.specs.{declared.builder.arg.Arg.{Arg}, declared.builder.command.Command.{Command}}
-use Rattle.ocfl_line.specs.Line.{IsArg, IsCommand, app_with, rule_for}
-use Rattle.ocfl_line.specs.declared.command.Argument.{Argument}
+use Rattle.clap.specs.declared.builder.command.Command.TheViews.{out-Command}
+use Rattle.ocfl_line.specs.Line.{IsArg, IsCommand, app_with, line_app, rule_for}
+use Rattle.ocfl_line.specs.Internal.Shapes.{app_for, with_subcommands}
+use Rattle.ocfl_line.specs.{declared.command.Argument.{Argument}, declared.command.Subcommand.{Subcommand}}
 
--- a command and a subcommand are what they are to be, and so is the command with it
-pub added : (a s : App) (old sub new : Command) → IsCommand a old → IsCommand s sub
-    → AddsSubcommand old sub new → IsCommand (with_subcommand a s.top) new
-added a s old sub new above below adds = (
-  adds.shape below.1 ∙ ap₂ with_subcommand above.0 (ap (λ (x : App). x.top) below.0),
+-- with the subcommands from the i-th one on it is the whole program
+abbrev pub IsBuiltUpTo : List Subcommand → ℕ → Command → Type 0
+IsBuiltUpTo rows i c = (with_subcommands (app_of c) (drop i rows) ≡ line_app) × ((out-Command c).has_globals ≡ false)
+
+-- one more subcommand
+pub added : (rows : List Subcommand) (i : ℕ) (d : Subcommand) (old sub new : Command) → i < length rows → IsBuiltUpTo rows i old
+    → IsCommand (app_for (get_or rows i d)) sub → AddsSubcommand old sub new → IsBuiltUpTo rows (i + 1) new
+added rows i d old sub new within above below adds = (
+  ap (λ (a : App). with_subcommands a (drop (i + 1) rows)) (adds.shape below.1 ∙ ap (λ (a : App). with_subcommand (app_of old) a.top) below.0)
+      ∙ sym (at_drop_more (with_subcommands (app_of old)) rows i d within) ∙ above.0,
   adds.globals ∙ ap₂ (λ (x y : Bool). x || y) above.1 below.1,
 )
 

@@ -3,3 +3,4 @@ pub mod Budget
 pub mod TimeOfDay
 pub mod Asks
 pub mod Stop
+pub mod Internal

@@ -1,12 +1,15 @@
 //! The program's subcommands and arguments, as `clap` takes them.
-ghost use Rattle.std.specs.Prelude.{IfOk, map};
-ghost use Rattle.clap.specs.Words.{App, with_subcommand};
-ghost use Rattle.ocfl_line.specs.Line.{IsArg, IsCommand, app_with, bare_app, budget_rule, count_rule, cursor_rule, end_rule, files_rule, flag_rule, hours_rule, line_app, named_rule, needed_rule, optional_rule, part_rule, rule_for, runs_rule, wanted_rule};
+ghost use Rattle.std.specs.Prelude.{◌≡◌, IfOk};
+ghost use Rattle.clap.specs.Words.{Rule};
+ghost use Rattle.ocfl_line.specs.Line.{IsArg, IsCommand, bare_app, line_app, rule_for};
+ghost use Rattle.ocfl_line.specs.Internal.Shapes.{app_for, range_parser, shape_rule, value_rule, with_subcommands};
 
 use crate::command::Argument::{
     Budget, Count, Cursor, End, Files, Flag, Hours, Named, Needed, Optional, Part, Parts, Quiet,
     Root, Runs, Wanted,
 };
+use crate::command::Taken::{Nothing, Number, Words, WordsOr};
+use clap::builder::ValueParser;
 use clap::{Arg, ArgAction, Command, value_parser};
 use std::alloc::{AllocError, Global};
 
@@ -74,6 +77,8 @@ each file: 1 to 4611686018427387904, alone or with a unit: K, M, G, T, KiB, MiB,
 
 const FILES: &str = "The most files that a run starts: N as for the budget";
 
+const MAX_FILES: &str = "4611686018427387904";
+
 const RUNS: &str = "The most runs: 1 to 100000";
 
 const QUIET: &str = "Shows no progress; it is shown where standard error is a terminal";
@@ -124,230 +129,216 @@ place that fails twice is left out of the cycle, with all below it";
 const PART_STATES: &str = "The folder that has the state folders of the parts: part-000001 and so \
 on";
 
-/// An argument that has a value and may be left out.
-fn optional<'a>(alloc: Global, id: &'a str, value: &'a str, help: &'a str) -> Arg<'a>
-    ensures { IsArg (optional_rule id.now) result }
-{
-    Arg::new(alloc, id).value_name(value).help(help)
+/// The value of an argument.
+#[derive(Clone, Copy)]
+enum Taken<'a> {
+    /// There is none: the argument is a flag.
+    Nothing,
+    /// A text, which help calls this.
+    Words(&'a str),
+    /// The same, and the text if it is left out.
+    WordsOr(&'a str, &'a str),
+    /// A number, which help calls this, within a range.
+    Number(&'a str, Range),
 }
 
-/// An option that may be left out, whose id is its name.
-fn named<'a>(alloc: Global, id: &'a str, value: &'a str, help: &'a str) -> Arg<'a>
-    ensures { IsArg (named_rule id.now) result }
-{
-    optional(alloc, id, value, help).long(id)
+/// Which numbers of 64 bits are taken.
+#[derive(Clone, Copy)]
+enum Range {
+    /// Those of parts.
+    Part,
+    /// Those of how many there are at most.
+    Count,
+    /// Hours of a night.
+    Hours,
+    /// All.
+    Any,
 }
 
-/// Which of the parts.
-fn part_option<'a>(alloc: Global) -> Arg<'a>
-    ensures { IsArg part_rule result }
+/// How `clap` takes an argument: its id, what help says of it, its name if it is an option, whether
+/// it must be given, and its value.
+#[derive(Clone, Copy)]
+struct Shape<'a>(&'a str, &'a str, Option<&'a str>, bool, Taken<'a>);
+
+/// How `clap` takes an argument.
+fn shape_of<'a>(argument: Argument<'a>) -> Shape<'a>
+    ensures { shape_rule result ≡ rule_for argument.entry }
 {
-    named(alloc, "part", "K", PART).value_parser(value_parser!(u64).range(1..=100001))
+    match argument {
+        Needed(id, value, help) => Shape(id, help, None, true, Words(value)),
+        Optional(id, value, help) => Shape(id, help, None, false, Words(value)),
+        Wanted(id, value, help) => Shape(id, help, Some(id), true, Words(value)),
+        Named(id, value, help) => Shape(id, help, Some(id), false, Words(value)),
+        Flag(id, help) => Shape(id, help, Some(id), false, Nothing),
+        Root => Shape("root", ROOT, None, true, Words("ROOT")),
+        Cursor => Shape("file", CURSOR, Some("cursor"), true, Words("FILE")),
+        Budget => Shape("budget", BUDGET, Some("budget"), true, Words("N")),
+        Files => Shape(
+            "files",
+            FILES,
+            Some("files"),
+            false,
+            WordsOr("N", MAX_FILES),
+        ),
+        Runs => Shape(
+            "runs",
+            RUNS,
+            Some("runs"),
+            true,
+            Number("COUNT", Range::Count),
+        ),
+        Quiet => Shape("quiet", QUIET, Some("quiet"), false, Nothing),
+        Parts => Shape("parts", PARTS, Some("parts"), false, Words("FILE")),
+        Part => Shape("part", PART, Some("part"), false, Number("K", Range::Part)),
+        Count => Shape(
+            "count",
+            COUNT,
+            Some("parts"),
+            false,
+            Number("COUNT", Range::Count),
+        ),
+        Hours => Shape(
+            "hours",
+            HOURS,
+            Some("hours"),
+            false,
+            Number("H", Range::Hours),
+        ),
+        End => Shape(
+            "end",
+            END,
+            Some("end"),
+            false,
+            Number("SECONDS", Range::Any),
+        ),
+    }
 }
 
-/// How many parts.
-fn count_option<'a>(alloc: Global) -> Arg<'a>
-    ensures { IsArg count_rule result }
+/// What `clap` reads the numbers of a range by.
+fn parser_of<'a>(range: Range) -> ValueParser<'a>
+    ensures { result ≡ range_parser range }
 {
-    optional(alloc, "count", "COUNT", COUNT)
-        .long("parts")
-        .value_parser(value_parser!(u64).range(1..=100000))
+    match range {
+        Range::Part => value_parser!(u64).range(1..=100001),
+        Range::Count => value_parser!(u64).range(1..=100000),
+        Range::Hours => value_parser!(u64).range(1..=24),
+        Range::Any => value_parser!(u64),
+    }
 }
 
-/// An argument that has a value and must be given.
-fn needed<'a>(alloc: Global, id: &'a str, value: &'a str, help: &'a str) -> Arg<'a>
-    ensures { IsArg (needed_rule id.now) result }
+/// The argument with its value.
+fn with_value<'a>(arg: Arg<'a>, taken: Taken<'a>) -> Arg<'a>
+    ensures { (rule : Rule) → IsArg rule arg.entry → IsArg (value_rule taken.entry rule) result }
 {
-    Arg::new(alloc, id)
-        .value_name(value)
-        .help(help)
-        .required(true)
-}
-
-/// An option that must be given, whose id is its name.
-fn wanted<'a>(alloc: Global, id: &'a str, value: &'a str, help: &'a str) -> Arg<'a>
-    ensures { IsArg (wanted_rule id.now) result }
-{
-    needed(alloc, id, value, help).long(id)
-}
-
-/// The file of the cursor, as an option.
-fn cursor_option<'a>(alloc: Global) -> Arg<'a>
-    ensures { IsArg cursor_rule result }
-{
-    needed(alloc, "file", "FILE", CURSOR).long("cursor")
-}
-
-/// The budget of a run, whose text `clap` does not read.
-fn budget_option<'a>(alloc: Global) -> Arg<'a>
-    ensures { IsArg budget_rule result }
-{
-    needed(alloc, "budget", "N", BUDGET).long("budget")
-}
-
-/// The most files of a run, whose text `clap` does not read.
-fn files_option<'a>(alloc: Global) -> Arg<'a>
-    ensures { IsArg files_rule result }
-{
-    named(alloc, "files", "N", FILES).default_value("4611686018427387904")
-}
-
-/// The most runs of a cycle.
-fn runs_option<'a>(alloc: Global) -> Arg<'a>
-    ensures { IsArg runs_rule result }
-{
-    needed(alloc, "runs", "COUNT", RUNS)
-        .long("runs")
-        .value_parser(value_parser!(u64).range(1..=100000))
-}
-
-/// How many hours a night makes run after run.
-fn hours_option<'a>(alloc: Global) -> Arg<'a>
-    ensures { IsArg hours_rule result }
-{
-    named(alloc, "hours", "H", HOURS).value_parser(value_parser!(u64).range(1..=24))
-}
-
-/// The time from which on a night begins no run.
-fn end_option<'a>(alloc: Global) -> Arg<'a>
-    ensures { IsArg end_rule result }
-{
-    named(alloc, "end", "SECONDS", END).value_parser(value_parser!(u64))
-}
-
-/// A flag, whose id is its name.
-fn flag<'a>(alloc: Global, id: &'a str, help: &'a str) -> Arg<'a>
-    ensures { IsArg (flag_rule id.now) result }
-{
-    Arg::new(alloc, id)
-        .long(id)
-        .help(help)
-        .action(ArgAction::SetTrue)
+    match taken {
+        Nothing => arg.action(ArgAction::SetTrue),
+        Words(name) => arg.value_name(name),
+        WordsOr(name, text) => arg.value_name(name).default_value(text),
+        Number(name, range) => arg.value_name(name).value_parser(parser_of(range)),
+    }
 }
 
 /// The argument as `clap` takes it.
 fn arg_of<'a>(alloc: Global, argument: Argument<'a>) -> Arg<'a>
     ensures { IsArg (rule_for argument.entry) result }
 {
-    match argument {
-        Needed(id, value, help) => needed(alloc, id, value, help),
-        Optional(id, value, help) => optional(alloc, id, value, help),
-        Wanted(id, value, help) => wanted(alloc, id, value, help),
-        Named(id, value, help) => named(alloc, id, value, help),
-        Flag(id, help) => flag(alloc, id, help),
-        Root => needed(alloc, "root", "ROOT", ROOT),
-        Cursor => cursor_option(alloc),
-        Budget => budget_option(alloc),
-        Files => files_option(alloc),
-        Runs => runs_option(alloc),
-        Quiet => flag(alloc, "quiet", QUIET),
-        Parts => named(alloc, "parts", "FILE", PARTS),
-        Part => part_option(alloc),
-        Count => count_option(alloc),
-        Hours => hours_option(alloc),
-        End => end_option(alloc),
+    let Shape(id, help, long, required, taken) = shape_of(argument);
+    let arg = Arg::new(alloc, id).help(help).required(required);
+    match long {
+        Some(name) => with_value(arg.long(name), taken),
+        None => with_value(arg, taken),
     }
 }
 
-/// What help says of a subcommand.
+/// A subcommand.
 #[derive(Clone, Copy)]
-struct Help<'a> {
+struct Subcommand<'a> {
+    /// Its name.
+    name: &'a str,
     /// One sentence on what it does.
     about: &'a str,
     /// How it is called, if its arguments do not say that.
     usage: Option<&'a str>,
     /// A whole line that calls it.
     example: &'a str,
+    /// Its arguments, as help shows them.
+    arguments: &'a [Argument<'a>],
 }
 
-/// The command with this usage, if any.
-fn with_usage<'a>(command: Command<'a>, usage: Option<&'a str>) -> Command<'a>
-    ensures { (app : App) → IsCommand app command.entry → IsCommand app result }
-{
-    match usage {
-        Some(usage) => command.override_usage(usage),
-        None => command,
-    }
-}
-
-/// A subcommand: its name, what help says of it, and its arguments.
+/// The subcommand as `clap` takes it.
 fn build_subcommand<'a>(
     alloc: Global,
-    name: &'a str,
-    help: Help<'a>,
-    arguments: &[Argument<'a>],
+    subcommand: Subcommand<'a>,
 ) -> Result<Command<'a>, AllocError>
-    ensures { IfOk result (IsCommand (app_with name.now (map rule_for arguments.now))) }
+    ensures { IfOk result (IsCommand (app_for subcommand.entry)) }
 {
-    let command = Command::new(alloc, name)
-        .about(help.about)
-        .after_help(help.example);
-    let mut command = with_usage(command, help.usage);
+    let arguments = subcommand.arguments;
+    let mut command = Command::new(alloc, subcommand.name)
+        .about(subcommand.about)
+        .after_help(subcommand.example);
     for &argument in arguments {
         command = command.arg(arg_of(alloc, argument))?;
     }
-    Ok(command)
+    match subcommand.usage {
+        Some(usage) => Ok(command.override_usage(usage)),
+        None => Ok(command),
+    }
 }
 
-/// The command with one more subcommand.
-fn add_subcommand<'a>(
-    command: Command<'a>,
-    alloc: Global,
-    name: &'a str,
-    help: Help<'a>,
-    arguments: &[Argument<'a>],
-) -> Result<Command<'a>, AllocError>
-    // `clap` reads the result as the command with this subcommand after its others.
-    ensures { IfOk result (λ new. (app : App) → IsCommand app command.entry
-        → IsCommand (with_subcommand app (app_with name.now (map rule_for arguments.now)).top)
-        new) }
-{
-    command.subcommand(build_subcommand(alloc, name, help, arguments)?)
-}
-
-// What help says of the subcommands.
-const AUDIT: Help<'static> = Help {
+// The subcommands.
+const AUDIT: Subcommand<'static> = Subcommand {
+    name: "audit",
     about: "Writes the report lines of the whole storage root, of a branch or of a part",
     usage: None,
     example: "\
 Example:
   ocfl-scrub audit --under letters /srv/ocfl",
+    arguments: AUDIT_ARGUMENTS,
 };
 
-const RUN: Help<'static> = Help {
+const RUN: Subcommand<'static> = Subcommand {
+    name: "run",
     about: "Writes the report lines of one run, from where the cursor file says",
     usage: None,
     example: "\
 Example:
   ocfl-scrub run --parts root.parts --part 7 --cursor 7.cursor --budget 10G /srv/ocfl",
+    arguments: RUN_ARGUMENTS,
 };
 
-const CYCLE: Help<'static> = Help {
+const CYCLE: Subcommand<'static> = Subcommand {
+    name: "cycle",
     about: "Writes the report lines of one run after the other, without a cursor file",
     usage: None,
     example: "\
 Example:
   ocfl-scrub cycle --budget 10G --runs 30 /srv/ocfl",
+    arguments: CYCLE_ARGUMENTS,
 };
 
-const NIGHT: Help<'static> = Help {
+const NIGHT: Subcommand<'static> = Subcommand {
+    name: "night",
     about: "Makes one night: takes up what the last one left, makes runs until something ends it, \
 and writes what was found",
     usage: None,
     example: "\
 Example:
   ocfl-scrub night --state /var/lib/audit --until 06:00 /srv/ocfl",
+    arguments: NIGHT_ARGUMENTS,
 };
 
-const CHECK: Help<'static> = Help {
+const CHECK: Subcommand<'static> = Subcommand {
+    name: "check",
     about: "Writes the report lines of one place",
     usage: None,
     example: "\
 Example:
   ocfl-scrub check /srv/ocfl letters/v1/content/good.txt",
+    arguments: CHECK_ARGUMENTS,
 };
 
-const SPLIT: Help<'static> = Help {
+const SPLIT: Subcommand<'static> = Subcommand {
+    name: "split",
     about: "Writes the separators of parts: with --parts and ROOT by listing, with --budget and \
 --report by cost",
     usage: Some(
@@ -357,22 +348,27 @@ const SPLIT: Help<'static> = Help {
     example: "\
 Example:
   ocfl-scrub split --parts 100 /srv/ocfl > root.parts",
+    arguments: SPLIT_ARGUMENTS,
 };
 
-const JOIN: Help<'static> = Help {
+const JOIN: Subcommand<'static> = Subcommand {
+    name: "join",
     about: "Joins the closed reports of all parts of one cycle",
     usage: None,
     example: "\
 Example:
   ocfl-scrub join --parts root.parts --state /shared/audit",
+    arguments: JOIN_ARGUMENTS,
 };
 
-const SHOW: Help<'static> = Help {
+const SHOW: Subcommand<'static> = Subcommand {
+    name: "show",
     about: "Writes what a cursor file or a checkpoint says",
     usage: None,
     example: "\
 Example:
   ocfl-scrub show root.cursor",
+    arguments: SHOW_ARGUMENTS,
 };
 
 // The arguments of the subcommands.
@@ -433,33 +429,41 @@ fn bare_command<'a>(alloc: Global) -> Command<'a>
         .subcommand_required(true)
 }
 
+// All of them, as help shows them.
+const SUBCOMMANDS: &[Subcommand<'static>] = &[AUDIT, RUN, CYCLE, NIGHT, CHECK, SPLIT, JOIN, SHOW];
+
+/// All subcommands.
+fn all_subcommands() -> &'static [Subcommand<'static>]
+    // With them the program's own texts are the whole command line.
+    ensures { with_subcommands bare_app result.now ≡ line_app }
+{
+    SUBCOMMANDS
+}
+
 /// The command that reads the words of a command line.
 pub(crate) fn line_command<'a>(alloc: Global) -> Result<Command<'a>, AllocError>
     ensures { IfOk result (IsCommand line_app) }
 {
-    let command = bare_command(alloc);
-    let command = add_subcommand(command, alloc, "audit", AUDIT, AUDIT_ARGUMENTS)?;
-    let command = add_subcommand(command, alloc, "run", RUN, RUN_ARGUMENTS)?;
-    let command = add_subcommand(command, alloc, "cycle", CYCLE, CYCLE_ARGUMENTS)?;
-    let command = add_subcommand(command, alloc, "night", NIGHT, NIGHT_ARGUMENTS)?;
-    let command = add_subcommand(command, alloc, "check", CHECK, CHECK_ARGUMENTS)?;
-    let command = add_subcommand(command, alloc, "split", SPLIT, SPLIT_ARGUMENTS)?;
-    let command = add_subcommand(command, alloc, "join", JOIN, JOIN_ARGUMENTS)?;
-    add_subcommand(command, alloc, "show", SHOW, SHOW_ARGUMENTS)
+    let subcommands = all_subcommands();
+    let mut command = bare_command(alloc);
+    for &subcommand in subcommands {
+        command = command.subcommand(build_subcommand(alloc, subcommand)?)?;
+    }
+    Ok(command)
+}
+
+/// The subcommand of this name.
+fn find_subcommand(name: &str) -> Subcommand<'static> {
+    for &subcommand in all_subcommands() {
+        if subcommand.name == name {
+            return subcommand;
+        }
+    }
+    SHOW
 }
 
 /// The subcommand of this name by itself, which shows its usage as the whole command does.
-pub(crate) fn single_command<'a>(alloc: Global, name: &'a str) -> Result<Command<'a>, AllocError> {
-    let (help, arguments) = match name {
-        "audit" => (AUDIT, AUDIT_ARGUMENTS),
-        "run" => (RUN, RUN_ARGUMENTS),
-        "cycle" => (CYCLE, CYCLE_ARGUMENTS),
-        "night" => (NIGHT, NIGHT_ARGUMENTS),
-        "check" => (CHECK, CHECK_ARGUMENTS),
-        "split" => (SPLIT, SPLIT_ARGUMENTS),
-        "join" => (JOIN, JOIN_ARGUMENTS),
-        _ => (SHOW, SHOW_ARGUMENTS),
-    };
+pub(crate) fn single_command<'a>(alloc: Global, name: &str) -> Result<Command<'a>, AllocError> {
     let shown = format!(in alloc; "ocfl-scrub {name}")?;
-    build_subcommand(alloc, name, help, arguments)?.bin_name(shown.as_str())
+    build_subcommand(alloc, find_subcommand(name))?.bin_name(shown.as_str())
 }

@@ -2,13 +2,14 @@
 ghost use Rattle.std.specs.Prelude.{◌↔◌, String, IfOk, IfSome, IsNone, IsTrue};
 ghost use Rattle.std.specs.declared.alloc.Global.{Global};
 ghost use Rattle.clap.specs.Words.{found_of, rows_of};
-ghost use Rattle.ocfl_line.specs.Asks.{ExpectsOfPart, HasBounds, HasText, IsJoin, IsNight, IsRead, MayHaveSize};
+ghost use Rattle.ocfl_line.specs.Asks.{ExpectsOfPart, HasBounds, HasText, IsChosen, IsJoin, IsNight, IsRead, MayHaveSize};
 
 use crate::budget::read_amount;
 use crate::choosing::chosen_by;
 use crate::ending::until_of;
 use crate::night::{JoinAsked, NightAsked, NightBounds};
-use crate::values::{copied, is_given, is_left_out, text_of};
+use crate::task::Chosen;
+use crate::values::{copied, each_of, is_given, is_left_out, text_of};
 use clap::ArgMatches;
 use ocfl_cursor::Budget;
 use std::alloc::{AllocError, Global};
@@ -89,14 +90,28 @@ pub(crate) fn night_by(
     let Some(bounds) = bounds_of(inner) else {
         return Ok(None);
     };
-    let Some(chosen) = chosen_by(alloc, inner)? else {
-        return Ok(None);
-    };
+    match chosen_by(alloc, inner)? {
+        Some(chosen) => night_of(alloc, inner, bounds, chosen),
+        None => Ok(None),
+    }
+}
+
+/// The night with these bounds that takes these items, or `None` if a folder is not given.
+fn night_of(
+    alloc: Global,
+    inner: &ArgMatches<'_>,
+    bounds: NightBounds,
+    chosen: Chosen,
+) -> Result<Option<NightAsked>, AllocError>
+    requires of_all { ExpectsOfPart (rows_of (found_of inner.now)) → ⊥ }
+    requires bounds { HasBounds (rows_of (found_of inner.now)) bounds }
+    requires chosen { IsChosen (rows_of (found_of inner.now)) chosen }
+    ensures { IfOk result (IsRead (IsNight (rows_of (found_of inner.now)))) }
+{
     let Some((state, root)) = both_of(alloc, inner, "state", "root")? else {
         return Ok(None);
     };
-    let known = copied(alloc, inner, "known")?;
-    let expected = copied(alloc, inner, "expected")?;
+    let (known, expected) = each_of(alloc, inner, "known", "expected")?;
     Ok(Some(NightAsked {
         state,
         root,

@@ -1,14 +1,14 @@
 //! What the arguments that `clap` found ask for.
 ghost use Rattle.std.specs.Prelude.{IfOk, codes};
-ghost use Rattle.clap.specs.Words.{found_of, rows_of, subcommand_rows_of};
-ghost use Rattle.ocfl_line.specs.Asks.{Asks, HasLimits, HasRuns, IsAsked, IsDeed, IsRead, IsTask};
+ghost use Rattle.clap.specs.Words.{Text, found_of, rows_of, subcommand_rows_of};
+ghost use Rattle.ocfl_line.specs.Asks.{Asks, HasLimits, HasRuns, IsAsked, IsChosen, IsDeed, IsRead, IsTask};
 
 use crate::budget::{read_amount, read_budget};
 use crate::choosing::chosen_by;
 use crate::nights::{join_by, night_by};
 use crate::splitting::split_by;
-use crate::task::{Asked, Task};
-use crate::values::{copied, count_of, is_given, text_of};
+use crate::task::{Asked, Chosen, Task};
+use crate::values::{copied, count_of, each_of, is_given, text_of};
 use clap::ArgMatches;
 use ocfl_cursor::{FileLimit, Limits};
 use ocfl_deed::Deed;
@@ -80,19 +80,32 @@ fn task_of(alloc: Global, name: &str, inner: &ArgMatches<'_>) -> Result<Option<T
     let Some(deed) = deed_of(alloc, name, inner)? else {
         return Ok(None);
     };
-    let Some(chosen) = chosen_by(alloc, inner)? else {
-        return Ok(None);
-    };
-    let root = copied(alloc, inner, "root")?;
-    let file = copied(alloc, inner, "file")?;
+    match chosen_by(alloc, inner)? {
+        Some(chosen) => Ok(Some(task_with(alloc, inner, deed, chosen)?)),
+        None => Ok(None),
+    }
+}
+
+/// This deed with what it is done with.
+fn task_with(
+    alloc: Global,
+    inner: &ArgMatches<'_>,
+    deed: Deed,
+    chosen: Chosen,
+) -> Result<Task, AllocError>
+    ensures { IfOk result (λ task. (name : Text) → IsDeed name (rows_of (found_of inner.now)) deed
+        → IsChosen (rows_of (found_of inner.now)) chosen
+        → IsTask name (rows_of (found_of inner.now)) task) }
+{
+    let (root, file) = each_of(alloc, inner, "root", "file")?;
     let quiet = is_given(inner, "quiet");
-    Ok(Some(Task {
+    Ok(Task {
         deed,
         chosen,
         root,
         file,
         quiet,
-    }))
+    })
 }
 
 /// What the subcommand with this name and these matches asks for, or `None` if it is nothing.

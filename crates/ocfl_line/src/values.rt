@@ -28,6 +28,23 @@ pub(crate) fn copied(
     }
 }
 
+/// The texts of two arguments, each of which may be left out.
+pub(crate) fn each_of(
+    alloc: Global,
+    inner: &ArgMatches<'_>,
+    one: &str,
+    other: &str,
+) -> Result<(Option<String>, Option<String>), AllocError>
+    ensures one { IfOk result (λ both.
+        option_map string_bytes both.0 ≡ first_of one.now (rows_of (found_of inner.now))) }
+    ensures other { IfOk result (λ both.
+        option_map string_bytes both.1 ≡ first_of other.now (rows_of (found_of inner.now))) }
+{
+    let first = copied(alloc, inner, one)?;
+    let second = copied(alloc, inner, other)?;
+    Ok((first, second))
+}
+
 /// Whether an argument is left out.
 pub(crate) fn is_left_out(inner: &ArgMatches<'_>, id: &str) -> bool
     ensures { IsTrue result ↔ IsLeftOut id.now (rows_of (found_of inner.now)) }

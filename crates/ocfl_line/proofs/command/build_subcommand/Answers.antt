@@ -1,12 +1,8 @@
-use Rattle.std.proofs.Common.{[], rules}
-use Rattle.ocfl_line.specs.Line.{app_with}
+use Rattle.std.proofs.Common.{rules}
 use Rattle.ocfl_line.proofs.Commands.{given}
 use Rattle.ocfl_line.proofs.command.build_subcommand.Goals as goal
 
-pub loop-argument-init : goal.loop-argument-init
-loop-argument-init c = c.with_usage-command.ensures (app_with c.args.name.now []) (search rules)
-
 pub loop-argument-preserved : goal.loop-argument-preserved
 loop-argument-preserved c =
-    given c.args.name.now c.args.arguments.now c.loop-argument.argument-index _ c.arg_of.result c.loop-argument.command
+    given c.args.subcommand.name.now c.args.subcommand.arguments.now c.loop-argument.argument-index _ c.arg_of.result c.loop-argument.command
     c.in_ok-command.command (search rules) c.loop-argument.invariant c.arg_of.ensures c.in_ok-command.ensures

@@ -3,4 +3,4 @@ use Rattle.ocfl_line.specs.Line.{IsCommand, app_with, rule_for}
 use Rattle.ocfl_line.proofs.command.build_subcommand.Given as goal
 
 abbrev pub invariant-loop-argument : goal.invariant-loop-argument
-invariant-loop-argument l = IsCommand (app_with l.name (map rule_for (take l.argument-index l.arguments))) l.command
+invariant-loop-argument l = IsCommand (app_with l.subcommand.name.now (map rule_for (take l.argument-index l.arguments))) l.command

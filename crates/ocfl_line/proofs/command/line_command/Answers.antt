@@ -1,13 +1,16 @@
-use Rattle.std.proofs.lemmas.Result.{IfOk-weaker}
+use Rattle.std.proofs.Common.{◌∙◌, ap, rules}
+use Rattle.clap.specs.Words.{App}
+use Rattle.ocfl_line.specs.Internal.Shapes.{with_subcommands}
+use Rattle.ocfl_line.proofs.Commands.{added}
 use Rattle.ocfl_line.proofs.command.line_command.Goals as goal
 
-pub returns : goal.returns
-returns c =
-    let one = c.in_ok-command.ensures _ c.bare_command-command.ensures in
-    let two = c.in_ok-command-2.ensures _ one in
-    let three = c.in_ok-command-3.ensures _ two in
-    let four = c.in_ok-command-4.ensures _ three in
-    let five = c.in_ok-command-5.ensures _ four in
-    let six = c.in_ok-command-6.ensures _ five in
-    let seven = c.in_ok-command-7.ensures _ six in
-    IfOk-weaker c.add_subcommand-8.result _ _ (λ r h. h _ seven) c.add_subcommand-8.ensures
+pub loop-subcommand-init : goal.loop-subcommand-init
+loop-subcommand-init c = (
+  ap (λ (app : App). with_subcommands app c.all_subcommands-subcommands.result.now) c.bare_command-command.ensures.0 ∙ c.all_subcommands-subcommands.ensures,
+  c.bare_command-command.ensures.1,
+)
+
+pub loop-subcommand-preserved : goal.loop-subcommand-preserved
+loop-subcommand-preserved c =
+    added _ c.loop-subcommand.subcommand-index _ c.loop-subcommand.command c.in_ok-build_subcommand.field-0
+    c.in_ok-command.command (search rules) c.loop-subcommand.invariant c.in_ok-build_subcommand.ensures c.in_ok-command.ensures

@@ -1,6 +1,7 @@
 -- Paths and their elements.
-use Rattle.std.proofs.Common.{◌≡◌, ℕ, ◌+◌, ◌<◌, List, [], ◌∷◌, ◌++◌, Bool, true, false, refl, sym, ◌∙◌, ap, map, Bor, length, Option, Some, None, arith, lit<, get_or, drop, drop-cons, add-one, append_assoc, filter_map}
+use Rattle.std.proofs.Common.{◌≡◌, ℕ, ◌+◌, ◌<◌, List, [], ◌∷◌, ◌++◌, Bool, true, false, refl, sym, ◌∙◌, ap, map, Bor, length, Option, Some, None, arith, lit<, get_or, drop, drop-cons, add-one, append_assoc, filter_map, ◌≤◌, String, Global, string_bytes}
 use Rattle.std.proofs.lemmas.Bool.Decides.{nat_tests}
+use Rattle.std.proofs.lemmas.List.{append-nil, at_drop_all}
 use Rattle.std.proofs.lemmas.List.Splits.{slice_split_none, slice_split_first, length-slice_split}
 use Rattle.std.proofs.lemmas.List.Sums.{fails_before_first}
 use Rattle.std.proofs.lemmas.Str.Pattern.{IsSplitOnceResult, split_once_first}
@@ -61,16 +62,24 @@ content_path_from content t v n below rest h k = ap (is_content_path content) (h
 
 -- ---- the lines of bad paths
 
-pub faults_step : (content : Text) (xs : List (Bor Text)) (i : ℕ) (d : Bor Text) (front total new : List Note) → i < length xs → new ≡ front ++ cons_option (fault_note content (get_or xs i d).now) []
-    → front ++ filter_map (fault_note content) (map (λ x. x.now) (drop i xs)) ≡ total → new ++ filter_map (fault_note content) (map (λ x. x.now) (drop (i + 1) xs)) ≡ total
+-- the lines of texts, each of which is the note of a fault
+abbrev pub faults_in : Text → List (String Global) → List Note
+faults_in content xs = filter_map (fault_note content) (map string_bytes xs)
+
+pub faults_step : (content : Text) (xs : List (String Global)) (i : ℕ) (d : String Global) (front total new : List Note) → i < length xs
+    → new ≡ front ++ cons_option (fault_note content (string_bytes (get_or xs i d))) []
+    → front ++ faults_in content (drop i xs) ≡ total → new ++ faults_in content (drop (i + 1) xs) ≡ total
 faults_step content xs i d front total new h e so_far =
     let one : drop i xs ≡ get_or xs i d ∷ drop (i + 1) xs = drop-cons xs i d h ∙ ap (λ n. get_or xs i d ∷ drop n xs) (sym (add-one i)) in
-    let later : List Note = filter_map (fault_note content) (map (λ x. x.now) (drop (i + 1) xs)) in
-    let two : filter_map (fault_note content) (map (λ x. x.now) (drop i xs)) ≡ cons_option (fault_note content (get_or xs i d).now) later =
-    ap (λ ys. filter_map (fault_note content) (map (λ x. x.now) ys)) one in
-    ap (λ ys. ys ++ later) e ∙ append_assoc front (cons_option (fault_note content (get_or xs i d).now) []) later
-    ∙ ap (λ ys. front ++ ys) (joined (fault_note content (get_or xs i d).now) later ∙ sym two) ∙ so_far
+    let note = fault_note content (string_bytes (get_or xs i d)) in
+    let later : List Note = faults_in content (drop (i + 1) xs) in
+    let two : faults_in content (drop i xs) ≡ cons_option note later = ap (faults_in content) one in
+    ap (λ ys. ys ++ later) e ∙ append_assoc front (cons_option note []) later
+    ∙ ap (λ ys. front ++ ys) (joined note later ∙ sym two) ∙ so_far
   where
     joined : (o : Option Note) (ns : List Note) → cons_option o [] ++ ns ≡ cons_option o ns
     joined None ns = refl
     joined (Some n) ns = refl
+
+pub faults_end : (content : Text) (xs : List (String Global)) (i : ℕ) (front total : List Note) → length xs ≤ i → front ++ faults_in content (drop i xs) ≡ total → front ≡ total
+faults_end content xs i front total h so_far = sym (ap (λ ns. front ++ ns) (at_drop_all (faults_in content) xs i h) ∙ append-nil front) ∙ so_far

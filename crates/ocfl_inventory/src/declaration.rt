@@ -7,21 +7,21 @@ ghost use Rattle.ocfl_inventory.specs.Entries.{is_counted, IsNext, IsVersionOf, 
 use ocfl_tree::{Entry, Kind, is_bytes};
 
 /// Where a declaration is: in the storage root, or in an object root.
-#[derive(Clone, Copy, Debug, PartialEq, Eq)]
+#[derive(Clone, Copy)]
 pub enum Level {
     Root,
     Object,
 }
 
 /// A known version of OCFL.
-#[derive(Clone, Copy, Debug, PartialEq, Eq)]
+#[derive(Clone, Copy, PartialEq, Eq)]
 pub enum Version {
     V1_0,
     V1_1,
 }
 
 /// What a directory declares.
-#[derive(Clone, Copy, Debug, PartialEq, Eq)]
+#[derive(Clone, Copy, PartialEq, Eq)]
 pub enum Declared {
     /// No file is a declaration.
     None,

@@ -1,12 +1,12 @@
 //! The lines of an inventory that does not stop.
-ghost use Rattle.std.specs.Prelude.{◌≡◌, ◌++◌, ◌∷◌, [], map, flat_map, IfOk, OnOk, string_bytes};
+ghost use Rattle.std.specs.Prelude.{◌≡◌, ◌++◌, ◌∷◌, [], map, filter_map, flat_map, IfOk, OnOk, string_bytes};
 ghost use Rattle.std.specs.List.{cons_option};
 ghost use Rattle.ocfl_tree.specs.Path.{slashed};
 ghost use Rattle.ocfl_inventory.specs.Note.{note};
 ghost use Rattle.ocfl_inventory.specs.Notes.{fault_note, fault_notes, folded_keys, repeated_digests, repeated_notes};
 ghost use Rattle.ocfl_inventory.specs.Internal.Parts.{block_view, supported_view};
 ghost use Rattle.ocfl_inventory.specs.Remark.{remark_view};
-ghost use Rattle.ocfl_inventory.specs.Internal.ListsOf.{all_repeated, other_notes};
+ghost use Rattle.ocfl_inventory.specs.Internal.ListsOf.{all_repeated, repeated_note, other_notes};
 ghost use Rattle.ocfl_digest.specs.Algorithm.{algorithm_name};
 
 use crate::gather::Listed;
@@ -14,20 +14,26 @@ use crate::inventory::{Listing, Supported};
 use crate::keys::{Key, repeated};
 use crate::paths::fault;
 use crate::remark::Remark;
-use crate::texts::{borrowed, put_in_order};
+use crate::texts::put_in_order;
 use ocfl_digest::Algorithm;
 use ocfl_report::Code;
 use ocfl_tree::Place;
 use std::alloc::{AllocError, Global};
+
+/// Appends a line with this detail.
+fn add_owned(code: Code, detail: String, out: &mut Vec<Remark>) -> Result<(), AllocError>
+    ensures { OnOk result (map remark_view out.new.items
+        ≡ map remark_view out.old.items ++ note code (string_bytes detail) ∷ []) }
+{
+    Ok(out.push(Remark { code, detail })?)
+}
 
 /// Appends a line.
 fn add(alloc: Global, code: Code, detail: &str, out: &mut Vec<Remark>) -> Result<(), AllocError>
     ensures { OnOk result (map remark_view out.new.items
         ≡ map remark_view out.old.items ++ note code detail.now ∷ []) }
 {
-    let detail = String::from_str(alloc, detail)?;
-    out.push(Remark { code, detail })?;
-    Ok(())
+    add_owned(code, String::from_str(alloc, detail)?, out)
 }
 
 /// Appends the line of a bad path.
@@ -46,22 +52,34 @@ fn add_fault(
     }
 }
 
-/// Appends the lines of the bad paths among the texts, in order, each once.
-fn add_faults(
+/// Appends the lines of the bad paths among the texts, in the order of these.
+fn add_each_fault(
     alloc: Global,
     content: &str,
     texts: &[String],
     out: &mut Vec<Remark>,
 ) -> Result<(), AllocError>
     ensures { OnOk result (map remark_view out.new.items ≡ map remark_view out.old.items
-        ++ fault_notes content.now (map string_bytes texts.now)) }
+        ++ filter_map (fault_note content.now) (map string_bytes texts.now)) }
 {
-    let mut texts = borrowed(alloc, texts)?;
-    put_in_order(&mut texts);
-    for text in &texts {
-        add_fault(alloc, content, text, out)?;
+    for text in texts {
+        add_fault(alloc, content, text.as_str(), out)?;
     }
     Ok(())
+}
+
+/// Puts the texts in order, each once, and appends the lines of the bad paths among them.
+fn add_faults(
+    alloc: Global,
+    content: &str,
+    texts: &mut Vec<String>,
+    out: &mut Vec<Remark>,
+) -> Result<(), AllocError>
+    ensures { OnOk result (map remark_view out.new.items ≡ map remark_view out.old.items
+        ++ fault_notes content.now (map string_bytes texts.old.items)) }
+{
+    put_in_order(texts);
+    add_each_fault(alloc, content, texts, out)
 }
 
 /// Appends the lines of the paths that conflict.
@@ -104,70 +122,43 @@ fn repeated_keys<'t>(alloc: Global, block: &'t [Listing]) -> Result<Vec<Key<'t>>
     repeated(alloc, keys(alloc, block)?)
 }
 
-/// Appends the line of a digest that is repeated in the manifest.
-fn add_key(alloc: Global, key: &Key, out: &mut Vec<Remark>) -> Result<(), AllocError>
-    ensures { OnOk result (map remark_view out.new.items
-        ≡ map remark_view out.old.items ++ note Code.E096 key.now ∷ []) }
-{
-    let detail = key.folded(alloc)?;
-    out.push(Remark {
-        code: Code::E096,
-        detail,
-    })?;
-    Ok(())
-}
-
-/// Appends the lines of the manifest's repeated digests.
-fn add_repeated(alloc: Global, block: &[Listing], out: &mut Vec<Remark>) -> Result<(), AllocError>
-    ensures { OnOk result (map remark_view out.new.items ≡ map remark_view out.old.items
-        ++ map (note Code.E096) (repeated_digests (block_view block.now))) }
-{
-    for key in &repeated_keys(alloc, block)? {
-        add_key(alloc, key, out)?;
-    }
-    Ok(())
-}
-
 /// The detail of a digest that is repeated in an algorithm's block.
 fn beside(alloc: Global, algorithm: Algorithm, key: &Key) -> Result<String, AllocError>
     ensures { IfOk result (λ s. string_bytes s ≡ algorithm_name algorithm ++ 32 ∷ key.now) }
 {
-    let mut detail = String::from_str(alloc, algorithm.name())?;
-    detail.push_str(" ")?;
-    detail.push_str(&key.folded(alloc)?)?;
-    Ok(detail)
+    let name = algorithm.name();
+    let digest = key.folded(alloc)?;
+    format!(in alloc; "{name} {digest}")
 }
 
-/// Appends the line of a digest that is repeated in an algorithm's block.
-fn add_key_in(
+/// Appends the line of a digest that is repeated in the manifest, or in an algorithm's block.
+fn add_key(
     alloc: Global,
-    algorithm: Algorithm,
+    algorithm: Option<Algorithm>,
     key: &Key,
     out: &mut Vec<Remark>,
 ) -> Result<(), AllocError>
-    ensures { OnOk result (map remark_view out.new.items ≡ map remark_view out.old.items
-        ++ note Code.E097 (algorithm_name algorithm ++ 32 ∷ key.now) ∷ []) }
+    ensures { OnOk result (map remark_view out.new.items
+        ≡ map remark_view out.old.items ++ repeated_note algorithm key.now ∷ []) }
 {
-    let detail = beside(alloc, algorithm, key)?;
-    out.push(Remark {
-        code: Code::E097,
-        detail,
-    })?;
-    Ok(())
+    match algorithm {
+        None => add_owned(Code::E096, key.folded(alloc)?, out),
+        Some(algorithm) => add_owned(Code::E097, beside(alloc, algorithm, key)?, out),
+    }
 }
 
-/// Appends the lines of the digests that are repeated in an algorithm's block.
-fn add_repeated_in(
+/// Appends the lines of the digests that are repeated in the manifest, or in an algorithm's block.
+fn add_repeated(
     alloc: Global,
-    supported: &Supported,
+    algorithm: Option<Algorithm>,
+    block: &[Listing],
     out: &mut Vec<Remark>,
 ) -> Result<(), AllocError>
-    ensures { OnOk result (map remark_view out.new.items
-        ≡ map remark_view out.old.items ++ repeated_notes
-        (supported.now.algorithm, block_view supported.now.block.items)) }
+    ensures { OnOk result (map remark_view out.new.items ≡ map remark_view out.old.items
+        ++ map (repeated_note algorithm) (repeated_digests (block_view block.now))) }
 {
-    for key in &repeated_keys(alloc, &supported.block)? {
-        add_key_in(alloc, supported.algorithm, key, out)?;
+    for key in &repeated_keys(alloc, block)? {
+        add_key(alloc, algorithm, key, out)?;
     }
     Ok(())
 }
@@ -181,7 +172,7 @@ fn add_repeated_fixity(
         ≡ map remark_view out.old.items ++ flat_map repeated_notes (supported_view fixity.now)) }
 {
     for supported in fixity {
-        add_repeated_in(alloc, supported, out)?;
+        add_repeated(alloc, Some(supported.algorithm), &supported.block, out)?;
     }
     Ok(())
 }
@@ -196,7 +187,7 @@ pub(crate) fn repeated_lines(
         ≡ all_repeated (block_view manifest.now) (supported_view fixity.now)) }
 {
     let mut lines = Vec::new(alloc);
-    add_repeated(alloc, manifest, &mut lines)?;
+    add_repeated(alloc, None, manifest, &mut lines)?;
     add_repeated_fixity(alloc, fixity, &mut lines)?;
     Ok(lines)
 }
@@ -205,16 +196,16 @@ pub(crate) fn repeated_lines(
 pub(crate) fn add_others(
     alloc: Global,
     content: &str,
-    lists: &Listed,
+    lists: &mut Listed,
     unsupported: &[String],
     lines: &mut Vec<Remark>,
 ) -> Result<(), AllocError>
     ensures { OnOk result (map remark_view lines.new.items
-        ≡ map remark_view lines.old.items ++ other_notes content.now lists.now
+        ≡ map remark_view lines.old.items ++ other_notes content.now lists.old
         (map string_bytes unsupported.now)) }
 {
-    add_faults(alloc, content, &lists.manifest_bad, lines)?;
-    add_faults(alloc, content, &lists.fixity_bad, lines)?;
+    add_faults(alloc, content, &mut lists.manifest_bad, lines)?;
+    add_faults(alloc, content, &mut lists.fixity_bad, lines)?;
     add_conflicts(alloc, &lists.conflicting, lines)?;
     add_unsupported(alloc, unsupported, lines)
 }

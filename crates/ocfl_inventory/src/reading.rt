@@ -11,7 +11,7 @@ ghost use Rattle.ocfl_digest.specs.Algorithm.{algorithm_name, algorithm_named, s
 use crate::block::{block, member, members, take_member};
 use crate::inventory::{Inventory, Listing, Supported};
 use crate::remark::{InventoryStop, Remark};
-use crate::texts::{has_byte, owned, put_in_order};
+use crate::texts::{add_text, has_byte, put_in_order};
 use ocfl_digest::Algorithm;
 use ocfl_report::Code;
 use serde_json::{Map, Value};
@@ -180,18 +180,15 @@ fn supported_blocks(
 }
 
 /// The keys that name no supported algorithm, in the order of the members.
-fn unsupported_keys<'v>(
-    alloc: Global,
-    members: &'v Map<String, Value>,
-) -> Result<Vec<&'v str>, AllocError>
-    ensures { IfOk result (λ v. map (λ t. t.now) v.items
+fn unsupported_keys(alloc: Global, members: &Map<String, Value>) -> Result<Vec<String>, AllocError>
+    ensures { IfOk result (λ v. map string_bytes v.items
         ≡ filter (λ k. not (is_some (algorithm_named k)))
         (keys_of (members_view members.now.entries))) }
 {
     let mut found = Vec::new(alloc);
     for (key, _) in members.iter() {
         if Algorithm::named(key.as_str()).is_none() {
-            found.push(key.as_str())?;
+            add_text(alloc, key.as_str(), &mut found)?;
         }
     }
     Ok(found)
@@ -204,7 +201,7 @@ fn unsupported(alloc: Global, members: &Map<String, Value>) -> Result<Vec<String
 {
     let mut keys = unsupported_keys(alloc, members)?;
     put_in_order(&mut keys);
-    owned(alloc, &keys)
+    Ok(keys)
 }
 
 /// Takes the manifest out of the members of an inventory, which leaves the fixity block.

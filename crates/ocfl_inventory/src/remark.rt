@@ -13,7 +13,7 @@ pub struct Remark {
 }
 
 /// Why a reading stopped: memory ran out, or what its only line says.
-#[derive(Debug, Drop)]
+#[derive(Drop)]
 pub enum InventoryStop {
     Memory,
     Because(Remark),

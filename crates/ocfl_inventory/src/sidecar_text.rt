@@ -10,7 +10,7 @@ use ocfl_digest::Algorithm;
 pub const SIDE_LIMIT: usize = 4096;
 
 /// The digest that a sidecar names, as bytes.
-#[derive(Clone, Copy, Debug)]
+#[derive(Clone, Copy)]
 pub enum Sum {
     /// The 32 bytes of a `sha256` digest.
     Short([u8; 32]),

@@ -161,8 +161,14 @@ fn finish(alloc: Global, inventory: Inventory) -> Result<(Vec<Remark>, Table), A
         unsupported,
     } = inventory;
     let mut remarks = repeated_lines(alloc, &manifest, &fixity)?;
-    let (triples, listed) = gather(alloc, content.as_str(), algorithm, manifest, fixity)?;
-    add_others(alloc, content.as_str(), &listed, &unsupported, &mut remarks)?;
+    let (triples, mut listed) = gather(alloc, content.as_str(), algorithm, manifest, fixity)?;
+    add_others(
+        alloc,
+        content.as_str(),
+        &mut listed,
+        &unsupported,
+        &mut remarks,
+    )?;
     Ok((remarks, make_table(algorithm, content, triples)))
 }
 
@@ -201,7 +207,7 @@ fn to_lines(alloc: Global, remarks: Vec<Remark>) -> Result<Vec<Line>, AllocError
 }
 
 /// What one parse of the bytes of an `inventory.json` gives.
-#[derive(Debug, Drop)]
+#[derive(Drop)]
 pub struct InventoryReading {
     /// The digest algorithm that it names, `sha256` or `sha512`, if it names one of these.
     pub algorithm: Option<Algorithm>,

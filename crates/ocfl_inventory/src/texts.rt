@@ -1,5 +1,5 @@
 //! Texts: what is in them, and their order.
-ghost use Rattle.std.specs.{Prelude.{◌≡◌, ◌==◌, map, string_bytes, IfOk}, List.{list_any}};
+ghost use Rattle.std.specs.{Prelude.{◌≡◌, ◌==◌, ◌++◌, ◌∷◌, [], map, string_bytes, OnOk}, List.{list_any}};
 ghost use Rattle.ocfl_tree.specs.{Place.{text_cmp}, Ascending.{ascending}};
 
 use std::alloc::{AllocError, Global};
@@ -11,32 +11,19 @@ pub(crate) fn has_byte(bytes: &[u8], byte: u8) -> bool
 }
 
 /// Puts the texts in order, each once.
-pub(crate) fn put_in_order(texts: &mut Vec<&str>)
-    ensures { map (λ t. t.now) texts.new.items
-        ≡ ascending text_cmp (map (λ t. t.now) texts.old.items) }
+pub(crate) fn put_in_order(texts: &mut Vec<String>)
+    ensures { map string_bytes texts.new.items
+        ≡ ascending text_cmp (map string_bytes texts.old.items) }
 {
     texts.sort_unstable();
     texts.dedup();
 }
 
-/// The same texts, owned.
-pub(crate) fn owned(alloc: Global, texts: &[&str]) -> Result<Vec<String>, AllocError>
-    ensures { IfOk result (λ v. map string_bytes v.items ≡ map (λ t. t.now) texts.now) }
+/// Appends a copy of a text.
+pub(crate) fn add_text(alloc: Global, text: &str, texts: &mut Vec<String>) -> Result<(), AllocError>
+    ensures { OnOk result (map string_bytes texts.new.items
+        ≡ map string_bytes texts.old.items ++ text.now ∷ []) }
 {
-    let mut found = Vec::with_capacity(alloc, texts.len())?;
-    for text in texts {
-        found.push(String::from_str(alloc, *text)?)?;
-    }
-    Ok(found)
-}
-
-/// The same texts, borrowed.
-pub(crate) fn borrowed<'t>(alloc: Global, texts: &'t [String]) -> Result<Vec<&'t str>, AllocError>
-    ensures { IfOk result (λ v. map (λ t. t.now) v.items ≡ map string_bytes texts.now) }
-{
-    let mut found = Vec::with_capacity(alloc, texts.len())?;
-    for text in texts {
-        found.push(text.as_str())?;
-    }
-    Ok(found)
+    let copy = String::from_str(alloc, text)?;
+    Ok(texts.push(copy)?)
 }

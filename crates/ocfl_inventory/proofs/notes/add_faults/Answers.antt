@@ -1,8 +1,10 @@
-use Rattle.std.proofs.Common.{map, []}
-use Rattle.ocfl_inventory.specs.Remark.{remark_view}
-use Rattle.ocfl_inventory.proofs.PathTexts.{faults_step}
+use Rattle.std.proofs.Common.{◌≡◌, ◌++◌, ◌∙◌, List, ap, subst, map, filter_map, string_bytes}
+use Rattle.std.specs.Prelude.{OnOk}
+use Rattle.ocfl_tree.specs.Place.{Text}
+use Rattle.ocfl_inventory.specs.{Notes.{fault_note}, Remark.{remark_view}}
 use Rattle.ocfl_inventory.proofs.notes.add_faults.Goals as goal
 
-pub loop-text-preserved : goal.loop-text-preserved
-loop-text-preserved c = faults_step c.args.content.now c.deref-text-items.result.now c.loop-text.text-index (record { ref_ptr = (0, 0); now = [] })
-    (map remark_view c.loop-text.out.items) _ (map remark_view c.add_fault.new.out.items) c.loop-text-test.true c.in_ok-add_fault.ensures c.loop-text.invariant
+pub returns : goal.returns
+returns c = subst
+    (λ (ts : List Text). OnOk c.add_each_fault.result (map remark_view c.add_each_fault.new.out.items ≡ map remark_view c.args.out.now.items ++ filter_map (fault_note c.args.content.now) ts))
+    (ap (map string_bytes) c.deref.ensures.value ∙ c.put_in_order.ensures) c.add_each_fault.ensures

@@ -1,12 +1,13 @@
 -- Bytes are appended between calls that change nothing, and the digests of the report go on.
-use Rattle.std.proofs.Common.{◌≡◌, inl, inr, ⊎_elim, ℕ, ◌^◌, ◌<◌, ◌++◌, length, take, refl, sym, ap, subst, arith}
+use Rattle.std.proofs.Common.{◌≡◌, inl, inr, ⊎_elim, ℕ, ◌^◌, ◌<◌, ◌≤◌, ◌++◌, Bool, false, length, take, refl, sym, ap, subst, arith}
 use Rattle.std.proofs.lemmas.List.{take_all}
-use Rattle.std.specs.Prelude.{Option, Some, IfSome}
-use Rattle.ocfl_state.specs.Content.{Bytes, Content, with_report}
+use Rattle.std.specs.Prelude.{Option, Some, IfSome, IsTrue, Err}
+use Rattle.ocfl_state.specs.{Calls.{HasCauseOr}, Content.{Bytes, Content, with_report}}
 use Rattle.ocfl_state.specs.Crash.{Outcomes, Same, MayTear, After, Passes}
 use Rattle.ocfl_state.specs.Pieces.{Carries, rest_of, summary_of}
 use Rattle.ocfl_state.specs.declared.checkpoint_parts.ReportMark.{ReportMark}
 use Rattle.ocfl_state.specs.declared.pieces.ReportDigests.{ReportDigests}
+use Rattle.ocfl_state.specs.declared.folder.FolderTrouble.TheVariants.{Failed}
 
 -- ---- what a crash may tear
 
@@ -70,3 +71,17 @@ resumed_on mark report found digests same is carried =
 -- the report is as long as the range of its length allows
 pub in_range : (c d : Content) (bytes : Bytes) (long : ℕ) → c ≡ with_report (d.report ++ bytes) d → long ≡ length c.report → long < 2 ^ 64 → length (d.report ++ bytes) < 2 ^ 64
 in_range c d bytes long grown is short = omega (arith, is, short, ap (λ (x : Content). length x.report) grown)
+
+-- ---- what is answered
+
+pub not_both : (b : Bool) → IsTrue b → b ≡ false → ⊥
+not_both b is not = absurd (cc (is, not))
+
+-- `Failed` after three calls, for that reason
+pub fails_for : {T : Type 0} {Reason : Type 0} (n m k l : ℕ) → n ≤ m → m ≤ k → k ≤ l → Reason → HasCauseOr {T = T} Reason n l (Err Failed)
+fails_for n m k l first second third reason = record {
+  later = omega arith;
+  failed = λ is. inr reason;
+  full = λ is. absurd (cc is);
+  not_taken = λ is. absurd (cc is);
+}

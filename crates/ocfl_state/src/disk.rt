@@ -47,6 +47,20 @@ pub(crate) fn of_file<T>(file: StateFile, outcome: io::Result<T>) -> Result<T, R
     }
 }
 
+/// How many bytes a file has.
+pub(crate) fn length_of(file: StateFile, opened: &File) -> Result<u64, Reason> {
+    Ok(of_file(file, opened.metadata())?.len())
+}
+
+/// Refuses a file that is not the one that a look saw.
+fn same_as(look: &Metadata, file: StateFile, opened: File) -> Result<File, Reason> {
+    if is_same(look, &of_file(file, opened.metadata())?) {
+        Ok(opened)
+    } else {
+        Err(wrong(file, "exchanged while it was opened"))
+    }
+}
+
 /// Options for reading a file.
 pub(crate) fn for_reading() -> OpenOptions {
     let mut options = OpenOptions::new();
@@ -132,25 +146,24 @@ impl<R: Files<File = File> + AllocGlobal + Clone + Drop> Disk<R> {
         file: StateFile,
         options: &OpenOptions,
     ) -> Result<Option<File>, Reason> {
-        let Some(look) = self.look_for_file(file)? else {
-            return Ok(None);
-        };
-        let path = self.path_of(file)?;
-        let opened = of_file(file, options.open(&self.rt, path.as_str()))?;
-        if is_same(&look, &of_file(file, opened.metadata())?) {
-            Ok(Some(opened))
-        } else {
-            Err(wrong(file, "exchanged while it was opened"))
+        match self.look_for_file(file)? {
+            Some(look) => Ok(Some(same_as(&look, file, self.open_at(file, options)?)?)),
+            None => Ok(None),
         }
+    }
+
+    /// Opens what is at a name.
+    fn open_at(&self, file: StateFile, options: &OpenOptions) -> Result<File, Reason> {
+        let path = self.path_of(file)?;
+        of_file(file, options.open(&self.rt, path.as_str()))
     }
 
     /// Makes a file, and opens it for reading and appending. What is there already is refused.
     pub(crate) fn create(&self, file: StateFile) -> Result<File, Reason> {
-        let path = self.path_of(file)?;
         let mut options = for_appending();
         options.create_new(true);
         options.mode(FILE_MODE);
-        of_file(file, options.open(&self.rt, path.as_str()))
+        self.open_at(file, &options)
     }
 
     /// Opens a file for reading and appending, which is made if it is not there.

@@ -1,5 +1,5 @@
 //! The log of a state folder of the file system.
-use crate::disk::{Disk, of_file};
+use crate::disk::{Disk, length_of, of_file};
 use crate::state_file::{Reason, StateFile};
 use std::fs::File;
 use std::io::{self, Write};
@@ -11,7 +11,7 @@ where
     R: Files<File = File> + AllocGlobal + Clone + Drop,
 {
     let mut file = disk.open_or_create(StateFile::Log)?;
-    let before = of_file(StateFile::Log, file.metadata())?.len();
+    let before = length_of(StateFile::Log, &file)?;
     let written = file.write_all(line);
     if written.is_err() {
         // A part of a line is no line.

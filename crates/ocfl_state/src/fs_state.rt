@@ -2,11 +2,12 @@
 ghost use Rattle.std.specs.Prelude.{◌≡◌, ◌≤◌, ◌⊎◌, IfOk, IfSome, OnOk, IfErr, None, Ok, length};
 ghost use Rattle.ocfl_state.specs.{Calls.{most_checkpoint}, Reasons.{IsKept}};
 
-use crate::disk::{Disk, for_appending, for_reading, of_file, wrong};
+use crate::disk::{Disk, for_appending, for_reading, length_of, of_file, wrong};
 use crate::folder::{FolderTrouble, MOST_CHECKPOINT, StateFolder};
 use crate::fs_log::append_line;
 use crate::lock::{StateStop, hold};
 use crate::state_file::{Reason, StateFile, closed_file};
+use std::alloc::Global;
 use std::fs::File;
 use std::io::{self, ErrorKind, Read, Write};
 use std::marker::Model;
@@ -31,7 +32,6 @@ const NO_OFFSET: u64 = 1 << 63;
 /// `Full` is answered if the device or the quota is full, and `Memory` if memory ran out.
 /// Every other fault is `Failed`, also a checkpoint of more than 1 MiB. `reason` says why the last
 /// call failed that did.
-#[derive(Drop)]
 pub struct FsState<R: Files<File = File> + AllocGlobal + Clone + Drop> {
     disk: Disk<R>,
     /// The lock is held while this file is open.
@@ -39,6 +39,18 @@ pub struct FsState<R: Files<File = File> + AllocGlobal + Clone + Drop> {
     /// The report, once it was opened.
     report: Option<File>,
     reason: Option<Reason>,
+}
+
+/// Written by hand, so that to let it go is one call wherever that happens.
+impl<R: Files<File = File> + AllocGlobal + Clone + Drop> Drop for FsState<R> {
+    fn drop(self) {
+        let FsState {
+            disk: _disk,
+            _lock,
+            report: _report,
+            reason: _reason,
+        } = self;
+    }
 }
 
 /// Its value in clauses: why the last call failed that did.
@@ -82,6 +94,17 @@ fn fit(file: StateFile, bytes: &[u8]) -> Result<(), Reason>
         return Err(wrong(file, "more than 1 MiB"));
     }
     Ok(())
+}
+
+/// The bytes of a checkpoint's file. Of a longer file one byte more than they may be is read.
+fn read_whole(alloc: Global, there: StateFile, file: File) -> Result<Vec<u8>, Reason>
+    ensures { IfOk result (λ bytes. length bytes.items ≤ most_checkpoint) }
+{
+    let mut bytes = Vec::new(alloc);
+    let mut limited = file.take(MOST_CHECKPOINT as u64 + 1);
+    of_file(there, limited.read_to_end(&mut bytes))?;
+    fit(there, &bytes)?;
+    Ok(bytes)
 }
 
 impl<R: Files<File = File> + AllocGlobal + Clone + Drop> FsState<R> {
@@ -168,19 +191,15 @@ impl<R: Files<File = File> + AllocGlobal + Clone + Drop> FsState<R> {
         Ok(None)
     }
 
-    /// The bytes of a checkpoint. Of a longer file one byte more than they may be is read.
+    /// The bytes of a checkpoint.
     fn read_checkpoint(&self, there: StateFile) -> Result<Option<Vec<u8>>, Reason>
         ensures { IfOk result (λ found. IfSome found (λ bytes.
             length bytes.items ≤ most_checkpoint)) }
     {
-        let Some(file) = self.disk.open(there, &for_reading())? else {
-            return Ok(None);
-        };
-        let mut bytes = Vec::new(self.disk.alloc());
-        let mut limited = file.take(MOST_CHECKPOINT as u64 + 1);
-        of_file(there, limited.read_to_end(&mut bytes))?;
-        fit(there, &bytes)?;
-        Ok(Some(bytes))
+        match self.disk.open(there, &for_reading())? {
+            Some(file) => Ok(Some(read_whole(self.disk.alloc(), there, file)?)),
+            None => Ok(None),
+        }
     }
 
     /// The bytes of the checkpoint with which a report was closed.
@@ -259,7 +278,7 @@ impl<R: Files<File = File> + AllocGlobal + Clone + Drop> FsState<R> {
     {
         self.find_report()?;
         match &self.report {
-            Some(file) => Ok(of_file(StateFile::Report, file.metadata())?.len()),
+            Some(file) => length_of(StateFile::Report, file),
             None => Ok(0),
         }
     }

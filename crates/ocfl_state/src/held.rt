@@ -27,13 +27,26 @@ impl Model for ClosedReport {
 
 /// What is kept at one moment. Of the report `synced` bytes are on the disk; since then it had at
 /// most `most` bytes.
-#[derive(Debug, Drop)]
+#[derive(Debug)]
 pub(crate) struct Held {
     pub(crate) checkpoint: Option<Vec<u8>>,
     pub(crate) report: Vec<u8>,
     pub(crate) closed: Vec<ClosedReport>,
     pub(crate) synced: usize,
     pub(crate) most: usize,
+}
+
+/// Written by hand, so that to let it go is one call wherever that happens.
+impl Drop for Held {
+    fn drop(self) {
+        let Held {
+            checkpoint: _checkpoint,
+            report: _report,
+            closed: _closed,
+            synced: _synced,
+            most: _most,
+        } = self;
+    }
 }
 
 impl Model for Held {

@@ -34,23 +34,33 @@ pub enum StateFile {
     ScriptsLog,
 }
 
+impl StateFile {
+    /// Its path below the folder, but for the cycle's number that ends it.
+    fn parts(self) -> (&'static str, Option<u64>) {
+        match self {
+            StateFile::Folder => (".", None),
+            StateFile::Above => ("..", None),
+            StateFile::Checkpoint => ("checkpoint", None),
+            StateFile::NewCheckpoint => ("checkpoint.new", None),
+            StateFile::Report => ("report", None),
+            StateFile::Reports => ("reports", None),
+            StateFile::Whole(cycle) => ("reports/cycle-", Some(cycle)),
+            StateFile::Incomplete(cycle) => ("reports/incomplete-", Some(cycle)),
+            StateFile::Kept(cycle) => ("reports/checkpoint-", Some(cycle)),
+            StateFile::Lock => ("lock", None),
+            StateFile::Stop => ("stop", None),
+            StateFile::Log => ("log", None),
+            StateFile::ScriptsCursor => ("cursor", None),
+            StateFile::ScriptsLog => ("nights", None),
+        }
+    }
+}
+
 impl fmt::Display for StateFile {
     fn fmt<W: fmt::Write>(&self, f: &mut fmt::Formatter<W>) -> fmt::Result {
-        match self {
-            StateFile::Folder => f.write_str("."),
-            StateFile::Above => f.write_str(".."),
-            StateFile::Checkpoint => f.write_str("checkpoint"),
-            StateFile::NewCheckpoint => f.write_str("checkpoint.new"),
-            StateFile::Report => f.write_str("report"),
-            StateFile::Reports => f.write_str("reports"),
-            StateFile::Whole(cycle) => write!(f, "reports/cycle-{cycle:06}"),
-            StateFile::Incomplete(cycle) => write!(f, "reports/incomplete-{cycle:06}"),
-            StateFile::Kept(cycle) => write!(f, "reports/checkpoint-{cycle:06}"),
-            StateFile::Lock => f.write_str("lock"),
-            StateFile::Stop => f.write_str("stop"),
-            StateFile::Log => f.write_str("log"),
-            StateFile::ScriptsCursor => f.write_str("cursor"),
-            StateFile::ScriptsLog => f.write_str("nights"),
+        match self.parts() {
+            (path, Some(cycle)) => write!(f, "{path}{cycle:06}"),
+            (path, None) => f.write_str(path),
         }
     }
 }

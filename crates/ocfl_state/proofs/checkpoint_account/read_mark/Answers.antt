@@ -22,3 +22,6 @@ returns-clause-found c =
     c.in_ok-bytes.ensures.found
     ∙ ap (λ t. field_line (codes "report ") (sizes_text c.in_ok-bytes.bytes c.in_ok-bytes.lines) t)
     (c.in_ok-pieces.ensures.found ∙ ap (λ t. field_line (codes "pieces ") (encode_lower c.in_ok-pieces.pieces) t) c.in_ok-tail.ensures.found)
+
+pub returns-in_err-bytes-clause-missing : goal.returns-in_err-bytes-clause-missing
+returns-in_err-bytes-clause-missing c = λ e m rest h f. c.in_err-bytes.ensures.missing refl m.bytes m.lines _ h.bytes h.lines f

@@ -1,7 +1,7 @@
-use Rattle.std.proofs.Common.{◌∙◌, ◌++◌, ap, arith, inr, length, sym}
+use Rattle.std.proofs.Common.{◌∙◌, ◌++◌, ap, length, sym}
 use Rattle.ocfl_state.specs.Content.{Content, with_report}
 use Rattle.ocfl_state.specs.declared.checkpoint_parts.ReportMark.{ReportMark}
-use Rattle.ocfl_state.proofs.Marks.{appended, appended_then, resumed_on, in_range}
+use Rattle.ocfl_state.proofs.Marks.{appended, appended_then, resumed_on, in_range, not_both, fails_for}
 use Rattle.ocfl_state.proofs.extending.append_marked.Goals as goal
 
 pub returns-in_err-append-clause-crash : goal.returns-in_err-append-clause-crash
@@ -43,20 +43,10 @@ returns-then-not-is_as_long-clause-cause g c = λ told.
     let S = g.S.StateFolder in
     let bytes = c.args.bytes.now in
     let old = S.seen c.args.folder.now in
-    let first = (c.resume_digests.ensures.cause told).later in
-    let second = (c.append.ensures.cause told).later in
-    let third = (c.length.ensures.cause told).later in
     let grown = c.in_ok-append.ensures.appended told ∙ ap (λ (s : Content). with_report (s.report ++ bytes) s) (c.resume_digests.ensures.seen told) in
     let short = in_range (S.seen c.append.new.self) old bytes c.in_ok-length.field-0 grown (c.in_ok-length.ensures.value told) c.is_as_long.ensures.range in
-    record {
-      later = omega (arith, first, second, third);
-      failed = λ is. inr (λ same.
-          let carried = resumed_on c.args.mark.now old.report c.in_ok-digests.field-0 c.in-Some.digests same c.in-Some.is (c.in_ok-digests.ensures.carried told) in
-          let next = c.summary-next.ensures (old.report ++ bytes) (c.push.ensures old.report carried short) in
-          let long = c.in_ok-length.ensures.value told ∙ ap (λ (s : Content). length s.report) grown ∙ sym (ap (λ (m : ReportMark). m.bytes) next) in
-          let yes = c.is_as_long.ensures.value.1 long in
-          let no = c.if-not-is_as_long.true in
-          absurd (cc (yes, no)));
-      full = λ is. absurd (cc is);
-      not_taken = λ is. absurd (cc is);
-    }
+    fails_for _ _ _ _ (c.resume_digests.ensures.cause told).later (c.append.ensures.cause told).later (c.length.ensures.cause told).later (λ same.
+    let carried = resumed_on c.args.mark.now old.report c.in_ok-digests.field-0 c.in-Some.digests same c.in-Some.is (c.in_ok-digests.ensures.carried told) in
+    let next = c.summary-next.ensures (old.report ++ bytes) (c.push.ensures old.report carried short) in
+    let long = c.in_ok-length.ensures.value told ∙ ap (λ (s : Content). length s.report) grown ∙ sym (ap (λ (m : ReportMark). m.bytes) next) in
+    not_both c.is_as_long.result (c.is_as_long.ensures.value.1 long) c.if-not-is_as_long.true)

@@ -10,7 +10,7 @@ use Rattle.ocfl_tree.proofs.Bools.{and_first, and_second, and_both}
 use Rattle.ocfl_tree.proofs.Orders.{place_cmp_total, place_cmp_exact, true_not_false, not_below_itself, below_from_greater}
 use Rattle.ocfl_inventory.specs.Note.{Note}
 use Rattle.ocfl_audit.specs.{Zone.{seen}, Lines.{notes}, Due.{due, item_places}}
-use Rattle.ocfl_audit.specs.Between.{IsBeyond, between, looked_between, read_between}
+use Rattle.ocfl_audit.specs.Between.{IsBeyond, IsWithin, between, looked_between, read_between}
 use Rattle.ocfl_audit.specs.Stack.{NoneSeenBetween}
 use Rattle.ocfl_audit.proofs.BelowLaws.{less_from, begins_rest, text_cmp_total, text_cmp_exact}
 use Rattle.ocfl_audit.proofs.BetweenLaws.{between_on, directories, directories_ascend, from_between, from_directory, from_object, looked_seen, objects, objects_ascend, read_seen}
@@ -89,24 +89,32 @@ module _ (e : End) where
     pub over : (from : Option Place) → ((y : Place) → IsAmong ps y → IsBeyond from y → is_past e y ≡ true) → before_end e (between ps from None) ≡ []
     over from h = none_left (between ps from None) (λ y i. let k = from_between ps from None y i in h y k.0 k.1)
 
-    pub split : (from : Option Place) (b : Place) → IsAscending place_cmp ps → IsBeyond from b → is_past e b ≡ false
-        → between ps from (Some b) ++ before_end e (between ps (Some b) None) ≡ before_end e (between ps from None)
-    split from b up l n =
+    pub split : (from to : Option Place) (b : Place) → IsAscending place_cmp ps → IsBeyond from b → IsWithin to b → is_past e b ≡ false
+        → between ps from (Some b) ++ before_end e (between ps (Some b) to) ≡ before_end e (between ps from to)
+    split from to b up l w n =
         sym (
-        ap (before_end e) (sym (between_on ps up from None b l tt)) ∙ filter_append (λ z. not (is_past e z)) (between ps from (Some b)) (between ps (Some b) None)
-        ∙ ap (λ xs. xs ++ before_end e (between ps (Some b) None)) (all_left (between ps from (Some b)) (λ y i. not_past_down e b y n (from_between ps from (Some b) y i).2))
+        ap (before_end e) (sym (between_on ps up from to b l w)) ∙ filter_append (λ z. not (is_past e z)) (between ps from (Some b)) (between ps (Some b) to)
+        ∙ ap (λ xs. xs ++ before_end e (between ps (Some b) to)) (all_left (between ps from (Some b)) (λ y i. not_past_down e b y n (from_between ps from (Some b) y i).2))
         )
 
   module _ (root : StorageRoot) where
+    pub looked_to : (from to : Option Place) (b : Place) → IsBeyond from b → IsWithin to b → is_past e b ≡ false
+        → looked_between root from (Some b) ++ before_end e (looked_between root (Some b) to) ≡ before_end e (looked_between root from to)
+    unfolding looked_between
+    looked_to from to b l w n = split (directories root) from to b (directories_ascend root) l w n
+
+    pub read_to : (from to : Option Place) (b : Place) → IsBeyond from b → IsWithin to b → is_past e b ≡ false
+        → read_between root from (Some b) ++ before_end e (read_between root (Some b) to) ≡ before_end e (read_between root from to)
+    unfolding read_between
+    read_to from to b l w n = split (objects root) from to b (objects_ascend root) l w n
+
     pub looked_out : (from : Option Place) (b : Place) → IsBeyond from b → is_past e b ≡ false
         → looked_between root from (Some b) ++ before_end e (looked_between root (Some b) None) ≡ before_end e (looked_between root from None)
-    unfolding looked_between
-    looked_out from b l n = split (directories root) from b (directories_ascend root) l n
+    looked_out from b l n = looked_to from None b l tt n
 
     pub read_out : (from : Option Place) (b : Place) → IsBeyond from b → is_past e b ≡ false
         → read_between root from (Some b) ++ before_end e (read_between root (Some b) None) ≡ before_end e (read_between root from None)
-    unfolding read_between
-    read_out from b l n = split (objects root) from b (objects_ascend root) l n
+    read_out from b l n = read_to from None b l tt n
 
     -- ---- if the next place is past the end, all that is left is
 

@@ -1,5 +1,6 @@
 pub mod EndLaws
 pub mod BeforeLaws
+pub mod NextLaws
 pub mod TurnLaws
 pub mod DueTurns
 pub mod StandLaws

@@ -6,13 +6,13 @@ use Rattle.ocfl_tree.specs.{Place.{Place}, StorageRoot.{StorageRoot}, Store.{Sto
 use Rattle.ocfl_tree.specs.declared.store.Entry.{Entry}
 use Rattle.ocfl_tree.proofs.Orders.{place_cmp_total}
 use Rattle.ocfl_audit.specs.{Zone.{inside, zone}, Walk.{seen_names}, Stack.{IsStack, IsListed}}
-use Rattle.ocfl_audit.specs.{Due.{due}, Between.{IsBeyond}}
+use Rattle.ocfl_audit.specs.{Due.{due}, Between.{IsBeyond, IsWithin}}
 use Rattle.ocfl_walk.specs.Standing.{StandsAt, stand_size, AreEntries, HaveEntries, IsStanding, Pile, frames_of}
 use Rattle.ocfl_walk.specs.Internal.Standing.{IsTaken, IsTurn, left_names, left_of_folder, path_from, popped, pushed}
 use Rattle.ocfl_walk.specs.Ends.{before_end, is_past}
 use Rattle.ocfl_walk.specs.Internal.Walking.{GoesOn, GoesTo, IsBefore, NextGoesOn, NextTold, Onward, SoFar, Steps, StepsOut, StepsOutTo, StepsTo, IsPileAt}
 use Rattle.ocfl_walk.specs.{declared.end.End.{End}, declared.stand.Stand.{Stand}}
-use Rattle.ocfl_walk.specs.{declared.stand.Step.{Step}, WalkCalls.{FailsOut, Walks, WalksOut}}
+use Rattle.ocfl_walk.specs.{declared.stand.Step.{Step}, WalkCalls.{FailsOut, Walks, WalksOut, next_due}}
 use Rattle.ocfl_item.specs.{Around.{IsTableAround}, declared.fault.Fault.{Fault}}
 use Rattle.ocfl_item.specs.{declared.folder.Folder.{Folder}, declared.meeting.Around.{Around}}
 use Rattle.ocfl_item.specs.declared.pending.Pending.{Pending}
@@ -84,9 +84,10 @@ module _ (root : StorageRoot) (s t : Store) (last : Option Place) (e : End) (x :
   step_out step.Nothing g n h = let same : x ≡ h.0 = same_Some _ _ (sym g ∙ h.2.0) in (h.0, h.1, h.2, h.3, ap (is_past e) (sym same) ∙ n, h.4)
   step_out step.End g n h = absurd g
 
-  pub steps_out_to : (r : Result Step Fault) → IfOk r (λ q. GoesTo new x q) → IsBeyond last x → is_past e x ≡ false → StepsTo root s t last x new r → StepsOutTo root s t last e new r
-  steps_out_to (Ok q) g l n h = step_out q g n h
-  steps_out_to (Err why) g l n h = fails_out root s t t last x e l n why h
+  pub steps_out_to : (r : Result Step Fault) → IfOk r (λ q. GoesTo new x q) → IsBeyond last x → IsWithin (next_due root last) x → is_past e x ≡ false
+      → StepsTo root s t last x new r → StepsOutTo root s t last e new r
+  steps_out_to (Ok q) g l w n h = step_out q g n h
+  steps_out_to (Err why) g l w n h = fails_out root s t t last x e l n why w h
 
 pub stands_before : (e : End) (old new : Stand) (x : Place) → is_past e x ≡ false → (r : Result Step Fault) → IfOk r (λ q. GoesOn old new q)
     → IfOk r (λ q. GoesTo new x q) → IfOk r (λ q. IsBefore e new q)
@@ -111,7 +112,7 @@ module _ (root : StorageRoot) (s t u : Store) (last : Option Place) (e : End) (m
     where
       by : SoFar root s t last e mid → FailsOut root s u last e why
       by (inl h) = subst (λ x. FailsOut root x u last e why) h.0 (k stays last h.1)
-      by (inr h) = walks_fail_out root s t u last h.0 e h.3 h.4 why h.1 (k stays (Some h.0) h.2)
+      by (inr h) = walks_fail_out root s t u last h.0 e h.3 h.4 why h.5 h.1 (k stays (Some h.0) h.2)
 
   module _ (r : Step) (k : t.tree ≡ root → (l : Option Place) → StandsAt root mid l → StepsOut root t u l e new r) where
     next_step : (q : Step) → r ≡ q → (l : Option Place) → StandsAt root mid l → StepsOut root t u l e new q

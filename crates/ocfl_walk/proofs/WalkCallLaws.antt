@@ -1,17 +1,18 @@
 -- What the calls of a walk did adds up.
-use Rattle.std.proofs.Common.{◌≡◌, List, [], ◌++◌, refl, sym, ◌∙◌, subst, false, Option, Some, None}
+use Rattle.std.proofs.Common.{◌≡◌, List, [], ◌++◌, refl, sym, ◌∙◌, ap, subst, false, Option, Some, None}
+use Rattle.std.specs.Prelude.{slice_get}
 use Rattle.ocfl_tree.specs.{Place.{Place}, StorageRoot.{StorageRoot}, Store.{Store, Did}}
 use Rattle.ocfl_tree.specs.declared.store.Opening.{Opening}
-use Rattle.ocfl_audit.specs.{Head.{on}, Trail.{heads_of, reads_inventory}}
+use Rattle.ocfl_audit.specs.{Due.{due}, Head.{on}, Trail.{heads_of, reads_inventory}}
 use Rattle.ocfl_audit.specs.Between.{IsBeyond, IsWithin, is_looked_into, looked_between, read_between}
 use Rattle.ocfl_audit.proofs.BetweenLaws.{looked_on, read_on}
 use Rattle.ocfl_item.specs.{Looking.{IsFront, failed_place}, Auditing.{Audits, LieIn}}
 use Rattle.ocfl_item.specs.{Meeting.{Meets, MeetFails}, declared.fault.Fault.{Fault}}
 use Rattle.ocfl_item.proofs.AuditingLaws.{audits_nothing, audits_on, audits_fail, audits_meta, fails_meta, fails_nothing, front_behind, front_more, front_none}
 use Rattle.ocfl_walk.specs.Ends.{before_end, is_past}
-use Rattle.ocfl_walk.specs.WalkCalls.{FailsAmong, FailsOut, Walks, WalkFails, WalksOut}
+use Rattle.ocfl_walk.specs.WalkCalls.{FailsAmong, FailsBetween, FailsOut, Walks, WalkFails, WalksOut, next_due}
 use Rattle.ocfl_walk.specs.{Internal.Walking.{FailsTo}, declared.end.End.{End}}
-use Rattle.ocfl_walk.proofs.EndLaws.{all_kept, looked_out, read_out}
+use Rattle.ocfl_walk.proofs.{EndLaws.{all_kept, looked_out, looked_to, read_out, read_to}, NextLaws.{next_within}}
 use Rattle.ocfl_item.specs.declared.fault.Fault.TheVariants as fault
 
 -- the same with the lists of what was looked into and which inventories were read written otherwise
@@ -62,8 +63,8 @@ module _ (root : StorageRoot) (s t u : Store) (from : Option Place) (b : Place) 
     audits = audits_as (looked_on root from to b beyond within) (read_on root from to b beyond within) (audits_on root s t u [] [] _ _ _ _ v.trail w.trail v.audits w.audits);
   }
 
-  pub walks_fail : (why : Fault) → Walks root s t from (Some b) → WalkFails root t u (Some b) why → WalkFails root s u from why
-  walks_fail why v w = fails_behind root s t u (looked_on root from None b beyond tt) (read_on root from None b beyond tt) v.trail why v.audits w
+  pub walks_fail : (to : Option Place) (why : Fault) → IsWithin to b → Walks root s t from (Some b) → FailsBetween root t u (Some b) to why → FailsBetween root s u from to why
+  walks_fail to why within v w = fails_behind root s t u (looked_on root from to b beyond within) (read_on root from to b beyond within) v.trail why v.audits w
 
 -- the tree stays
 pub walks_over : (root : StorageRoot) (s t : Store) (from to : Option Place) → Walks root s t from to → t.tree ≡ root
@@ -72,14 +73,14 @@ walks_over root s t from to w = w.audits.did.tree ∙ w.audits.over
 -- ---- on to the end
 
 module _ (root : StorageRoot) (s t u : Store) (from : Option Place) (b : Place) (e : End) (beyond : IsBeyond from b) (before : is_past e b ≡ false) where
-  pub fails_out : (why : Fault) → FailsTo root s t from b why → FailsOut root s t from e why
-  fails_out why f = record {
+  pub fails_out : (why : Fault) → IsWithin (next_due root from) b → FailsTo root s t from b why → FailsOut root s t from e why
+  fails_out why within f = record {
     trail = f.trail;
     listed = f.listed;
     heads = f.heads;
     fails = f.fails;
-    listed_front = front_more f.listed _ _ _ (looked_out e root from b beyond before) f.listed_front;
-    heads_front = front_more f.heads _ _ _ (read_out e root from b beyond before) f.heads_front;
+    listed_front = front_more f.listed _ _ _ (looked_to e root from (next_due root from) b beyond within before) f.listed_front;
+    heads_front = front_more f.heads _ _ _ (read_to e root from (next_due root from) b beyond within before) f.heads_front;
   }
 
   pub walks_out : Walks root s t from (Some b) → WalksOut root t u (Some b) e → WalksOut root s u from e
@@ -88,8 +89,13 @@ module _ (root : StorageRoot) (s t u : Store) (from : Option Place) (b : Place) 
     audits = audits_as (looked_out e root from b beyond before) (read_out e root from b beyond before) (audits_on root s t u [] [] _ _ _ _ v.trail w.trail v.audits w.audits);
   }
 
-  pub walks_fail_out : (why : Fault) → Walks root s t from (Some b) → FailsOut root t u (Some b) e why → FailsOut root s u from e why
-  walks_fail_out why v w = fails_behind root s t u (looked_out e root from b beyond before) (read_out e root from b beyond before) v.trail why v.audits w
+  -- if no item lies between
+  pub walks_fail_out : (why : Fault) → due root from ≡ due root (Some b) → Walks root s t from (Some b) → FailsOut root t u (Some b) e why → FailsOut root s u from e why
+  walks_fail_out why none v w =
+      let same : next_due root from ≡ next_due root (Some b) = ap (λ ps. slice_get ps 0) none in
+      let within = next_within root b in
+      subst (λ to. FailsAmong root s u (before_end e (looked_between root from to)) (before_end e (read_between root from to)) why) (sym same)
+      (fails_behind root s t u (looked_to e root from (next_due root (Some b)) b beyond within before) (read_to e root from (next_due root (Some b)) b beyond within before) v.trail why v.audits w)
 
 -- if nothing is left before the end nothing is done
 pub walks_out_nothing : (root : StorageRoot) (s : Store) (from : Option Place) (e : End) → s.tree ≡ root → before_end e (looked_between root from None) ≡ []
@@ -116,5 +122,7 @@ module _ (root : StorageRoot) (s t : Store) (from : Option Place) (e : End) (und
   }
 
   pub fails_all : (why : Fault) → FailsOut root s t from e why → WalkFails root s t from why
-  fails_all why f = subst (λ ls. FailsAmong root s t ls (read_between root from None) why) (all_kept e under below (looked_between root from None))
-      (subst (λ hs. FailsAmong root s t (before_end e (looked_between root from None)) hs why) (all_kept e under below (read_between root from None)) f)
+  fails_all why f =
+      let to = next_due root from in
+      subst (λ ls. FailsAmong root s t ls (read_between root from to) why) (all_kept e under below (looked_between root from to))
+      (subst (λ hs. FailsAmong root s t (before_end e (looked_between root from to)) hs why) (all_kept e under below (read_between root from to)) f)

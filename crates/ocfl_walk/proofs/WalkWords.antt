@@ -93,7 +93,7 @@ module _ (root : StorageRoot) (old : Walk) (n : Text) (some : old.first ≡ Some
           (walks_on root s t u (Some before.0) h.0 h.3 (Some p.place) (not_below h.0 p.place over) h.1 k.0, stands_now root new (Some p.place) none k.1, k.2.pending, h.5 ∙ k.2.due_are)
 
       pub begins_then_fails : (why : Fault) → FailsOut root t u (Some h.0) e why → FailsOut root s u last e why
-      begins_then_fails why k = behind (λ l. FailsOut root s u l e why) (walks_fail_out root s t u (Some before.0) h.0 e h.3 h.4 why h.1 k)
+      begins_then_fails why k = behind (λ l. FailsOut root s u l e why) (walks_fail_out root s t u (Some before.0) h.0 e h.3 h.4 why h.5 h.1 k)
 
       pub begins_then_told :
           (new : Walk) → new.first ≡ None → (r : Result (Option Pending) Fault) → IfOk r (λ o. NextGoesOn mid new.stand o)

@@ -1,10 +1,10 @@
 -- What the calls of a walk did to a store that tells its tree: from one place on to another, and
 -- down to one place.
-use Rattle.std.specs.Prelude.{true, List, [], ◌∷◌, Option, Some, None, IfSome, AllPairs, ◌≡◌, ◌≢◌, filter}
+use Rattle.std.specs.Prelude.{true, List, [], ◌∷◌, Option, Some, None, IfSome, AllPairs, ◌≡◌, ◌≢◌, filter, slice_get}
 use Rattle.ocfl_tree.specs.{Place.{Place}, Ascending.{IsAmong}, StorageRoot.{StorageRoot}}
 use Rattle.ocfl_tree.specs.{Store.{Store}, declared.store.Opening.{Opening}}
 use Rattle.ocfl_audit.specs.Zone.{Zone, skipped, hierarchy, inside, zone}
-use Rattle.ocfl_audit.specs.{Between.{looked_between, read_between}, Trail.{reads_inventory}}
+use Rattle.ocfl_audit.specs.{Between.{looked_between, read_between}, Due.{due}, Trail.{reads_inventory}}
 use Rattle.ocfl_audit.specs.Walk.{is_reached}
 use Rattle.ocfl_item.specs.{Auditing.{Audits, Fails}, Looking.{IsFront, failed_place, way_to}}
 use Rattle.ocfl_item.specs.declared.fault.Fault.{Fault}
@@ -27,9 +27,17 @@ pub record FailsAmong (root : StorageRoot) (s t : Store) (looked read : List Pla
   pub listed_front : IsFront listed looked
   pub heads_front : IsFront heads read
 
--- the first of those above a place
+-- the first of those between two places
+abbrev pub FailsBetween : StorageRoot → Store → Store → Option Place → Option Place → Fault → Type 0
+FailsBetween root s t from to why = FailsAmong root s t (looked_between root from to) (read_between root from to) why
+
+-- the place of the next item above a place, and none if no item is left
+abbrev pub next_due : StorageRoot → Option Place → Option Place
+next_due root from = slice_get (due root from) 0
+
+-- the first of those from a place to the next item's
 abbrev pub WalkFails : StorageRoot → Store → Store → Option Place → Fault → Type 0
-WalkFails root s t from why = FailsAmong root s t (looked_between root from None) (read_between root from None) why
+WalkFails root s t from why = FailsBetween root s t from (next_due root from) why
 
 -- ---- from a place on to the end
 
@@ -38,9 +46,10 @@ pub record WalksOut (root : StorageRoot) (s t : Store) (from : Option Place) (e 
   pub trail : List Opening
   pub audits : Audits root s t [] (before_end e (looked_between root from None)) (before_end e (read_between root from None)) trail
 
--- the first of those, and then there was a fault
+-- the first of those up to the next item's place, and then there was a fault
 abbrev pub FailsOut : StorageRoot → Store → Store → Option Place → End → Fault → Type 0
-FailsOut root s t from e why = FailsAmong root s t (before_end e (looked_between root from None)) (before_end e (read_between root from None)) why
+FailsOut root s t from e why =
+    FailsAmong root s t (before_end e (looked_between root from (next_due root from))) (before_end e (read_between root from (next_due root from))) why
 
 -- ---- down to one place
 

@@ -9,7 +9,7 @@ ghost use Rattle.ocfl_audit.specs.{Trail.{is_meta, reads_inventory}, Walk.{is_re
 ghost use Rattle.ocfl_audit.specs.Zone.{inside, zone, beginnings};
 ghost use Rattle.ocfl_item.specs.declared.fault.Fault.{Fault};
 ghost use Rattle.ocfl_walk.specs.Before.{place_before, places_from};
-ghost use Rattle.ocfl_walk.specs.WalkCalls.{GoesDown, Walks, WalkFails, holder, way_of};
+ghost use Rattle.ocfl_walk.specs.WalkCalls.{FailsBetween, GoesDown, Walks, holder, way_of};
 
 /// What a walk did from one place to another, and from there on, it did all the way.
 #[tactic(auto, using(crate::proofs::WalkCallLaws::walks_on, crate::proofs::WalkCallLaws::walks_fail))]
@@ -17,10 +17,10 @@ pub fn walks_add_up()
     ensures on { (root : StorageRoot) (s t u : Store) (from to : Option Place) (b : Place)
         → IsBeyond from b → IsWithin to b → Walks root s t from (Some b)
         → Walks root t u (Some b) to → Walks root s u from to }
-    ensures fail { (root : StorageRoot) (s t u : Store) (from : Option Place) (b : Place)
+    ensures fail { (root : StorageRoot) (s t u : Store) (from to : Option Place) (b : Place)
         (why : Fault)
-        → IsBeyond from b → Walks root s t from (Some b) → WalkFails root t u (Some b) why
-        → WalkFails root s u from why }
+        → IsBeyond from b → IsWithin to b → Walks root s t from (Some b)
+        → FailsBetween root t u (Some b) to why → FailsBetween root s u from to why }
 {}
 
 /// On the way down to a place are its beginnings, the root first, and the place. At most one

@@ -9,8 +9,9 @@
 //!   order, each once. It reads exactly the inventories of the objects between them. It opens no
 //!   content file, and nothing fails (`Walks`).
 //! - A fault of the store names the place of the call that failed: the last opening, of metadata,
-//!   or the last listing, which alone of listings failed. That is never a hashed file's place
-//!   (`WalkFails`).
+//!   or the last listing, which alone of listings failed. That is never a hashed file's place. No
+//!   directory above the next item's place was listed then, and no inventory of an object there was
+//!   read (`WalkFails`).
 //! - On every store places ascend and have at most 255 names, and a size falls, so a walk ends.
 //!   A fault ends it: the call took the walk, and gives none back.
 //! - `Walk::start` without a place makes no call and always answers.

@@ -1,13 +1,13 @@
 -- What a walk does to a store that tells its tree.
 use Rattle.std.specs.Prelude.{◌≡◌, ◌⊎◌, ◌≤◌, [], ◌∷◌, false, Option, Some, None, Result, MatchOption, MatchResult, IfSome, length, ◌<◌, ⊤}
 use Rattle.ocfl_tree.specs.{Place.{Place}, StorageRoot.{StorageRoot}, Store.{Store}}
-use Rattle.ocfl_audit.specs.{Due.{due}, Between.{IsBeyond, looked_between, read_between}}
+use Rattle.ocfl_audit.specs.{Due.{due}, Between.{IsBeyond}}
 use Rattle.ocfl_audit.specs.Walk.{seen_names}
 use Rattle.ocfl_item.specs.Meeting.{IsItemAt}
 use Rattle.ocfl_item.specs.{Pending.{IsPending}, Around.{IsTableAround}}
 use Rattle.ocfl_item.specs.{declared.fault.Fault.{Fault}, declared.folder.Folder.{Folder}}
 use Rattle.ocfl_item.specs.declared.pending.Pending.{Pending}
-use Rattle.ocfl_walk.specs.{Ends.{before_end, is_past}, WalkCalls.{FailsAmong, FailsOut, Walks, WalksOut}}
+use Rattle.ocfl_walk.specs.{Ends.{before_end, is_past}, WalkCalls.{FailsBetween, FailsOut, Walks, WalksOut}}
 use Rattle.ocfl_walk.specs.Standing.{AreEntries, StandsAt, stand_size}
 use Rattle.ocfl_walk.specs.Internal.Standing.{IsFairPile, left_names, left_of_folder, IsAroundIf}
 use Rattle.ocfl_walk.specs.{declared.end.End.{End}, declared.stand.Met.{Met}}
@@ -46,7 +46,7 @@ step_from (Some p) = step.Item p
 
 -- the first of those up to another place, and then there was a fault
 abbrev pub FailsTo : StorageRoot → Store → Store → Option Place → Place → Fault → Type 0
-FailsTo root s t from to why = FailsAmong root s t (looked_between root from (Some to)) (read_between root from (Some to)) why
+FailsTo root s t from to why = FailsBetween root s t from (Some to) why
 
 -- one step to a place
 abbrev pub Steps : StorageRoot → Store → Store → Option Place → Stand → Step → Type 0

@@ -1,11 +1,11 @@
 use Rattle.std.proofs.{Common.{[], sym, ◌∙◌, Some, None}, lemmas.Result.{err_from_is_err_and}}
-use Rattle.ocfl_walk.specs.Internal.Walking.{StepsOutTo}
+use Rattle.ocfl_walk.specs.{Internal.Walking.{StepsOutTo}, WalkCalls.{next_due}}
 use Rattle.ocfl_walk.specs.declared.stand.Turn.TheVariants as turn
 use Rattle.ocfl_walk.proofs.Chosen.{at_first, chosen_base, chosen_begun, chosen_entry, chosen_path, kept_turn}
 use Rattle.ocfl_walk.proofs.FirstSteps.{goes_less, stays_before}
 use Rattle.ocfl_walk.proofs.StandLaws.{path_stands, stands_before, steps_out_to}
 use Rattle.ocfl_walk.proofs.StandSteps.{by_turn, ends_here, held, path_named, path_next}
-use Rattle.ocfl_walk.proofs.WalkCallLaws.{no_memory}
+use Rattle.ocfl_walk.proofs.{NextLaws.{turn_within, within_root}, WalkCallLaws.{no_memory}}
 use Rattle.ocfl_walk.proofs.stand.Stand.step.Goals as goal
 
 pub returns-in_err-turn-clause-told : goal.returns-in_err-turn-clause-told
@@ -35,7 +35,7 @@ returns-in-Base-clause-told g c = λ h root over last st.
     at_first root c.args.self.now (λ l. StepsOutTo root (g.T.Tree.state c.args.store.now) (g.T.Tree.state c.take_base.new.store) l c.args.end.now c.take_base.new.self c.take_base.result) last st
     (chosen_base c.args.self.now.last _ c.args.self.now.around c.in_ok-turn.turn c.in_ok-turn.ensures.base c.in_ok-turn.ensures.next kept.0)
     (steps_out_to root (g.T.Tree.state c.args.store.now) (g.T.Tree.state c.take_base.new.store) None c.args.end.now [] c.take_base.new.self c.take_base.result
-    c.take_base.ensures.there tt kept.1 (c.take_base.ensures.told h root over))
+    c.take_base.ensures.there tt (within_root (next_due root None)) kept.1 (c.take_base.ensures.told h root over))
 
 pub returns-in-Base-clause-before : goal.returns-in-Base-clause-before
 returns-in-Base-clause-before g c =
@@ -49,7 +49,7 @@ returns-in-Entry-clause-told g c = λ h root over last st.
     c.in_ok-turn.ensures.next c.requires.orderly
     (λ l. StepsOutTo root (g.T.Tree.state c.args.store.now) (g.T.Tree.state c.take_entry.new.store) l c.args.end.now c.take_entry.new.self c.take_entry.result) last st
     (λ p f is go. steps_out_to root (g.T.Tree.state c.args.store.now) (g.T.Tree.state c.take_entry.new.store) (Some p) c.args.end.now c.in-Entry.place
-    c.take_entry.new.self c.take_entry.result c.take_entry.ensures.there go.above kept.1 (c.take_entry.ensures.told h root over p p f (held root p _ _ is) go))
+    c.take_entry.new.self c.take_entry.result c.take_entry.ensures.there go.above (turn_within root p c.in-Entry.place _ go) kept.1 (c.take_entry.ensures.told h root over p p f (held root p _ _ is) go))
 
 pub returns-in-Entry-clause-before : goal.returns-in-Entry-clause-before
 returns-in-Entry-clause-before g c =
@@ -73,7 +73,7 @@ returns-in-Path-clause-told g c = λ h root over last st.
     (λ p f is go.
     let there = held root c.in-Path.place _ _ (path_stands root p c.in-Path.place _ _ is go.0 (next p f).0) in
     steps_out_to root (g.T.Tree.state c.args.store.now) (g.T.Tree.state c.args.store.now) (Some p) c.args.end.now c.in-Path.place c.take_missing.new.self
-    c.take_missing.result c.take_missing.ensures.there go.0.above kept.1 (c.take_missing.ensures.told (g.T.Tree.state c.args.store.now) root over p there go.0 go.1))
+    c.take_missing.result c.take_missing.ensures.there go.0.above (turn_within root p c.in-Path.place _ go.0) kept.1 (c.take_missing.ensures.told (g.T.Tree.state c.args.store.now) root over p there go.0 go.1))
 
 pub returns-in-Path-clause-before : goal.returns-in-Path-clause-before
 returns-in-Path-clause-before g c =

@@ -4,7 +4,7 @@ use Rattle.ocfl_walk.specs.{Before.{place_before}, Ends.{is_past}}
 use Rattle.ocfl_walk.specs.{Standing.{IsStanding, piles_in, spot_of}, declared.stand.Stand.{Stand}}
 use Rattle.ocfl_walk.proofs.{WalkCallLaws.{no_memory}, EndLaws.{not_past_down}}
 use Rattle.ocfl_walk.proofs.FirstSteps.{cut_held, cut_in_order, cut_no_more, cut_trims, ends_at, entry_turn, goes_at_entry, goes_at_missing, missing_next, missing_turn, one_directory, stays_before, steps_at}
-use Rattle.ocfl_walk.proofs.StandLaws.{steps_out_to}
+use Rattle.ocfl_walk.proofs.{NextLaws.{turn_within}, StandLaws.{steps_out_to}}
 use Rattle.ocfl_walk.proofs.stand.Stand.step_to.Goals as goal
 
 pub returns-in_err-place-clause-told : goal.returns-in_err-place-clause-told
@@ -83,7 +83,7 @@ returns-in-Some-unless_above-clause-told g c = λ h root over d q st first.
     steps_at root (g.T.Tree.state c.args.store.now) (g.T.Tree.state c.take_entry.new.store) q c.in-Some-unless_above.entry c.args.end.now c.args.self.now
     c.take_entry.new.self c.take_entry.result c.take_entry.ensures.there
     (steps_out_to root (g.T.Tree.state c.args.store.now) (g.T.Tree.state c.take_entry.new.store) (Some q) c.args.end.now c.in-Some-unless_above.entry
-    c.take_entry.new.self c.take_entry.result c.take_entry.ensures.there turn.above kept
+    c.take_entry.new.self c.take_entry.result c.take_entry.ensures.there turn.above (turn_within root q c.in-Some-unless_above.entry _ turn) kept
     (c.take_entry.ensures.told h root over c.in-Some.directory q c.in-Some.is held turn))
 
 pub returns-in-None-clause-goes_on : goal.returns-in-None-clause-goes_on
@@ -105,5 +105,5 @@ returns-in-None-clause-told g c = λ h root over d q st first.
     steps_at root (g.T.Tree.state c.args.store.now) (g.T.Tree.state c.args.store.now) q c.in_ok-place.place c.args.end.now c.args.self.now
     c.take_missing.new.self c.take_missing.result c.take_missing.ensures.there
     (steps_out_to root (g.T.Tree.state c.args.store.now) (g.T.Tree.state c.args.store.now) (Some q) c.args.end.now c.in_ok-place.place c.take_missing.new.self
-    c.take_missing.result c.take_missing.ensures.there turn.1.above (sym c.is_past.ensures ∙ c.if-is_past.false)
+    c.take_missing.result c.take_missing.ensures.there turn.1.above (turn_within root q c.in_ok-place.place _ turn.1) (sym c.is_past.ensures ∙ c.if-is_past.false)
     (c.take_missing.ensures.told (g.T.Tree.state c.args.store.now) root over q turn.0 turn.1 turn.2))

@@ -1,13 +1,14 @@
 -- What is between two places, cut in two at the last one taken.
 use Rattle.std.proofs.Common.{◌≡◌, ◌⊎◌, inl, inr, List, [], ◌++◌, refl, sym, ◌∙◌, ap, subst, false, Option, Some, None, append_assoc}
-use Rattle.std.specs.{Ordering.{is_lt}, declared.cmp.Ordering.TheVariants.{Less}}
-use Rattle.ocfl_tree.specs.{Place.{Place, place_cmp}, StorageRoot.{StorageRoot}}
+use Rattle.std.specs.{Prelude.{not}, Ordering.{is_lt}, declared.cmp.Ordering.TheVariants.{Less}}
+use Rattle.ocfl_tree.specs.{Place.{Place, place_cmp}, StorageRoot.{StorageRoot}, Store.{Store}}
 use Rattle.ocfl_tree.proofs.Orders.{place_cmp_total}
 use Rattle.ocfl_audit.specs.Between.{IsBeyond, IsWithin, between, looked_between, read_between}
-use Rattle.ocfl_audit.proofs.BetweenLaws.{looked_on, read_on}
-use Rattle.ocfl_item.specs.Looking.{IsFront}
-use Rattle.ocfl_walk.specs.{Ends.{is_past, before_end}, declared.end.End.{End}}
-use Rattle.ocfl_walk.proofs.{BeforeLaws.{not_below}, EndLaws.{looked_out, read_out}}
+use Rattle.ocfl_audit.proofs.{BetweenLaws.{looked_on, read_on}, Trails.{filter_append}}
+use Rattle.ocfl_item.specs.{Looking.{IsFront}, declared.fault.Fault.{Fault}}
+use Rattle.ocfl_item.proofs.AuditingLaws.{front_all, front_more}
+use Rattle.ocfl_walk.specs.{Ends.{is_past, before_end}, WalkCalls.{FailsOut, next_due}, declared.end.End.{End}}
+use Rattle.ocfl_walk.proofs.{BeforeLaws.{not_below}, EndLaws.{looked_out, read_out}, NextLaws.{next_beyond}}
 use Rattle.ocfl_scrub.proofs.{Passing.{up_to_last}, Lists.{filter_none}}
 
 -- nothing was taken, or the last place taken is above the first and before the end
@@ -84,6 +85,21 @@ module _ (root : StorageRoot) where
 
     pub read_front : IsFront (read_between root last (Some p)) (before_end e (read_between root last None))
     read_front = (before_end e (read_between root (Some p) None), sym (read_out e root last p far inside))
+
+-- up to the next item is a front of all that is left before the end
+next_front : (f : Option Place → Option Place → List Place) → ((from to : Option Place) (b : Place) → IsBeyond from b → IsWithin to b → f from (Some b) ++ f (Some b) to ≡ f from to) → (e : End) (from to : Option Place)
+    → ((b : Place) → to ≡ Some b → IsBeyond from b) → IsFront (before_end e (f from to)) (before_end e (f from None))
+next_front f joins e from None far = front_all (before_end e (f from None))
+next_front f joins e from (Some b) far =
+    (before_end e (f (Some b) None), ap (before_end e) (sym (joins from None b (far b refl) tt)) ∙ filter_append (λ z. not (is_past e z)) (f from (Some b)) (f (Some b) None))
+
+-- a walk that failed looked at that
+module _ (root : StorageRoot) (s t : Store) (from : Option Place) (e : End) (why : Fault) (w : FailsOut root s t from e why) where
+  pub lost_listed : IsFront w.listed (before_end e (looked_between root from None))
+  lost_listed = let k = next_front (looked_between root) (looked_on root) e from (next_due root from) (next_beyond root from) in front_more w.listed _ k.0 _ (sym k.1) w.listed_front
+
+  pub lost_heads : IsFront w.heads (before_end e (read_between root from None))
+  lost_heads = let k = next_front (read_between root) (read_on root) e from (next_due root from) (next_beyond root from) in front_more w.heads _ k.0 _ (sym k.1) w.heads_front
 
 -- a front of what is left is one of the whole after what was before
 pub front_behind : (before front left whole : List Place) → before ++ left ≡ whole → IsFront front left → IsFront (before ++ front) whole

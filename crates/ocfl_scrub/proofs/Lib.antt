@@ -25,6 +25,7 @@ pub mod ChainParts
 pub mod CycleLoop
 pub mod MeterLaws
 pub mod WayOrder
+pub mod AheadLaws
 pub mod WayListed
 pub mod Paying
 pub mod PayLaws

@@ -27,7 +27,7 @@ module _ (root : StorageRoot) (part : Part) (s t u : Store) (old new : Option (L
     held_front = subst (IsFront g.heads) (held_in part from root) g.heads_front;
   }
 
-  pub stops_looking : (why : ReportStop) (begun listed heads : List Place) (os : List Opening) → Fails root t u begun listed heads os (stop_place why)
+  unfoldable pub stops_looking : (why : ReportStop) (begun listed heads : List Place) (os : List Opening) → Fails root t u begun listed heads os (stop_place why)
       → IsFront listed (looked_in root part from None) → IsFront heads (read_in root part from None) → FilesLieIn root begun (g.listed ++ listed)
       → StopsLooking (call_of root s u old new) part from begun (g.trail ++ os) why
   stops_looking why begun listed heads os k listed_front heads_front files = record {
@@ -44,7 +44,7 @@ module _ (root : StorageRoot) (part : Part) (s t u : Store) (old new : Option (L
   }
 
 -- it did not come to where it begins
-pub stops_above : (root : StorageRoot) (part : Part) (s t : Store) (old new : Option (List ℕ)) (from : Option Place) (why : Fault)
+unfoldable pub stops_above : (root : StorageRoot) (part : Part) (s t : Store) (old new : Option (List ℕ)) (from : Option Place) (why : Fault)
     (g : GoDownFails root s t (entry part from) why) → StopsLooking (call_of root s t old new) part from [] g.trail (halt.Fault why)
 stops_above root part s t old new from why g =
     let no_directory : IsFront [] (looked_in root part from None) = (looked_in root part from None, refl) in

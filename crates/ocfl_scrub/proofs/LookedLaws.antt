@@ -19,7 +19,7 @@ use Rattle.ocfl_walk.proofs.WalkCallLaws.{audits_as}
 use Rattle.ocfl_scrub.specs.{Call.{call_of}, Keeping.{IsMet, LooksAbove}}
 use Rattle.ocfl_scrub.specs.Starting.{due_within, end_of, first_place, looked_in, read_in, stand, stand_by}
 use Rattle.ocfl_scrub.specs.{Taking.{Misses, Takes}, declared.kept.Met.{Met}}
-use Rattle.ocfl_scrub.proofs.BetweenLaws.{HasGoneOn, front_behind, gone_next, gone_self, looked_end, looked_next, looked_self, read_end, read_next, read_self}
+use Rattle.ocfl_scrub.proofs.BetweenLaws.{HasGoneOn, front_behind, gone_next, gone_self, lost_heads, lost_listed, looked_end, looked_next, looked_self, read_end, read_next, read_self}
 use Rattle.ocfl_scrub.proofs.Passing.{due_in}
 use Rattle.ocfl_scrub.proofs.PartStarts.{due_starts, looked_all, not_less_first, read_all}
 
@@ -144,8 +144,8 @@ module _ {root : StorageRoot} {part : Part} {s t : Store} {p q : Place} (h : Loo
       above_lost why w =
           let both = audits_fail root s t v h.done [] _ _ _ _ h.trail w.trail _ h.audits w.fails in
           above _ _ (h.trail ++ w.trail) _ both.did both.heads_are
-          (front_behind (looked_between root (Some p) (Some q)) w.listed _ (looked_in root part (Some p) None) looked_left w.listed_front)
-          (front_behind (read_between root (Some p) (Some q)) w.heads _ (read_in root part (Some p) None) read_left w.heads_front)
+          (front_behind (looked_between root (Some p) (Some q)) w.listed _ (looked_in root part (Some p) None) looked_left (lost_listed root t v (Some q) (end_of part) why w))
+          (front_behind (read_between root (Some p) (Some q)) w.heads _ (read_in root part (Some p) None) read_left (lost_heads root t v (Some q) (end_of part) why w))
 
     -- the next item is left
     pub above_spent : (old new : Option (List ℕ)) → LooksAbove (call_of root s t old new) part p

@@ -1,13 +1,13 @@
 -- A pass, item by item, and its ends.
 use Rattle.std.proofs.Common.{◌≡◌, ◌⊎◌, inl, inr, ℕ, List, [], ◌∷◌, ◌++◌, refl, sym, ◌∙◌, ap, subst, true, false, Bool, Some, None, Option, append-nil, append_assoc, take, not}
 use Rattle.std.proofs.KnownBytes.{Appends-nil, Appends-trans}
-use Rattle.std.specs.{Prelude.{cond, ◌||◌}, List.{list_any, last_or}, Ordering.{is_lt}}
+use Rattle.std.specs.{Prelude.{cond, ◌||◌, slice_get}, List.{list_any, last_or}, Ordering.{is_lt}}
 use Rattle.std.specs.{Io.KnownBytes.{Appends}, declared.cmp.Ordering.{Ordering}}
 use Rattle.std.specs.declared.cmp.Ordering.TheVariants.{Less, Equal, Greater}
 use Rattle.ocfl_tree.specs.{Place.{Place, place_cmp}, Ascending.{IsAscending, IsAmong}}
 use Rattle.ocfl_tree.specs.{StorageRoot.{StorageRoot}, Store.{Store}}
 use Rattle.ocfl_tree.specs.declared.store.Opening.{Opening}
-use Rattle.ocfl_tree.proofs.Orders.{place_cmp_total, place_cmp_exact, not_less_itself, below_from_greater, true_not_false, among_left, among_right, ascends_filter, among_from_filter}
+use Rattle.ocfl_tree.proofs.Orders.{place_cmp_total, place_cmp_exact, not_less_itself, before_each, below_from_greater, true_not_false, among_left, among_right, ascends_filter, among_from_filter}
 use Rattle.ocfl_tree.proofs.Stores.{among_either}
 use Rattle.ocfl_report.specs.Line.{Item, has_finding, found}
 use Rattle.ocfl_report.specs.Text.{lines_text, text}
@@ -18,7 +18,7 @@ use Rattle.ocfl_audit.proofs.{PartLaws.{items_ascend}, Trails.{filter_append}}
 use Rattle.ocfl_item.specs.{Auditing.{Audits, Fails}}
 use Rattle.ocfl_item.specs.declared.fault.Fault.{Fault}
 use Rattle.ocfl_scrub.specs.Types.{ReportStop}
-use Rattle.ocfl_walk.specs.{WalkCalls.{Walks, WalksOut, FailsOut}, Ends.{is_past, before_end}}
+use Rattle.ocfl_walk.specs.{WalkCalls.{Walks, WalksOut, FailsOut, next_due}, Ends.{is_past, before_end}}
 use Rattle.ocfl_walk.specs.declared.end.End.{End}
 use Rattle.ocfl_walk.proofs.{BeforeLaws.{not_below}, WalkCallLaws.{audits_as}}
 use Rattle.ocfl_scrub.specs.{Call.{call_of}, Taking.{WritesLines, PartOf, Takes, Misses, stop_place}}
@@ -26,7 +26,7 @@ use Rattle.ocfl_scrub.specs.declared.stop.ReportStop.TheVariants as halt
 use Rattle.ocfl_scrub.proofs.Passing.{up_to_last, due_in, Passes, Finishes, Halts}
 use Rattle.ocfl_scrub.proofs.Lists.{flat_append, ascends_left}
 use Rattle.ocfl_scrub.proofs.AuditsJoined.{items_before, items_behind, items_then}
-use Rattle.ocfl_scrub.proofs.BetweenLaws.{HasGoneOn, looked_self, looked_next, looked_end, looked_front, read_self, read_next, read_end, read_front, front_behind}
+use Rattle.ocfl_scrub.proofs.BetweenLaws.{HasGoneOn, looked_self, looked_next, looked_end, looked_front, read_self, read_next, read_end, read_front, lost_listed, lost_heads, front_behind}
 use Rattle.ocfl_scrub.proofs.TakeLaws.{fault_of_nothing}
 use Rattle.ocfl_item.proofs.AuditingLaws.{audits_fail, audits_nothing, audits_on}
 
@@ -177,6 +177,31 @@ among_beyond root (Some q) p i = less_from (place_cmp q p) (among_from_filter (�
 pub due_beyond : (root : StorageRoot) (last : Option Place) (p : Place) (rest : List Place) → due root last ≡ p ∷ rest → IsBeyond last p
 due_beyond root last p rest e = among_beyond root last p (subst (λ zs. IsAmong zs p) (sym e) (inl refl))
 
+-- what is due is not before a directory that was listed on the way to it
+pub ahead_of : (root : StorageRoot) (last : Option Place) (d : Place) → IsWithin (next_due root last) d → (y : Place) → IsAmong (due root last) y → is_lt (place_cmp y d) ≡ false
+ahead_of root last d near y i = by (due root last) refl near i
+  where
+    by : (ps : List Place) → due root last ≡ ps → IsWithin (slice_get ps 0) d → IsAmong ps y → is_lt (place_cmp y d) ≡ false
+    by [] e n j = absurd j
+    by (p ∷ ps) e n (inl same) = subst (λ x. is_lt (place_cmp x d) ≡ false) (sym same) n
+    by (p ∷ ps) e n (inr j) =
+        let up : IsAscending place_cmp (p ∷ ps) = subst (IsAscending place_cmp) e (due_ascends root last) in
+        not_less_or y p d (not_below p y (before_each place_cmp p ps up.0 y j)) n
+
+pub lost_ahead : (root : StorageRoot) (t u : Store) (last : Option Place) (e : End) (why : Fault) (w : FailsOut root t u last e why) (d y : Place)
+    → IsAmong w.listed d → IsAmong (due root last) y → is_lt (place_cmp y d) ≡ false
+unfolding looked_between
+lost_ahead root t u last e why w d y i j =
+    let front = subst (λ ps. IsAmong ps d) (sym w.listed_front.1) (among_left w.listed w.listed_front.0 d i) in
+    let there = (among_from_filter (λ z. not (is_past e z)) (looked_between root last (next_due root last)) d front).0 in
+    ahead_of root last d (from_between _ last (next_due root last) d there).2 y j
+
+-- and what is above the last place is not before one that was listed up to there
+pub up_ahead : (root : StorageRoot) (from last : Option Place) (d y : Place) → IsAmong (up_to_last (looked_between root) from last) d → IsAmong (due root last) y → is_lt (place_cmp y d) ≡ false
+unfolding looked_between
+up_ahead root from None d y i j = absurd i
+up_ahead root from (Some m) d y i j = not_less_or y m d (not_below m y (among_beyond root (Some m) y j)) (from_between _ from (Some m) d i).2
+
 module _ (root : StorageRoot) (e : End) (s t u : Store) (old mid : Option (List ℕ)) (from last : Option Place) (finding : Bool)
     (low : HasGoneOn e from last) (h : Passes root e s t old mid from last finding) where
   -- what was taken, and what is left before the end
@@ -237,6 +262,10 @@ module _ (root : StorageRoot) (e : End) (s t u : Store) (old mid : Option (List 
     pub due_next : due_in root e last ≡ p ∷ due_in root e (Some p)
     due_next = ap (before_end e) least ∙ ap (λ b. cond (not b) (p ∷ due_in root e (Some p)) (due_in root e (Some p))) in_front
 
+    pub next_at : (d : Place) → IsAmong (looked_between root from (Some p)) d → is_lt (place_cmp p d) ≡ false
+    unfolding looked_between
+    next_at d i = (from_between _ from (Some p) d i).2
+
     pub next_is : take 1 (due_in root e last) ≡ p ∷ []
     next_is = ap (take 1) due_next ∙ ap (λ ps. p ∷ ps) (take_nothing (due_in root e (Some p)))
 
@@ -256,6 +285,9 @@ module _ (root : StorageRoot) (e : End) (s t u : Store) (old mid : Option (List 
           fails = audits_fail root s t v h.done k.begun _ _ _ _ h.trail (w.trail ++ k.trail) _ h.audits both;
           listed_front = front_behind _ _ _ _ (looked_end root e from last low) (looked_front root e last p up in_front);
           heads_front = front_behind _ _ _ _ (read_end root e from last low) (read_front root e last p up in_front);
+          ahead = λ d y i j.
+              ahead_of root last d (subst (λ ps. IsWithin (slice_get ps 0) d) (sym least) (next_at d (subst (λ ds. IsAmong ds d) (looked_next root e from last low p up) i)))
+              y (among_from_filter (λ z. not (is_past e z)) (due root last) y j).0;
           there = λ q i d j. subst (λ ds. IsAmong ds d) (sym (looked_next root e from last low p up)) (listed_further root from e q p d (up_to_next q (among_more h.done k.begun (p ∷ []) k.one.0 q k.one.1 i)) j);
           due_are = halves;
           one = (k.one.0, next_is ∙ k.one.1);
@@ -287,8 +319,11 @@ module _ (root : StorageRoot) (e : End) (s t u : Store) (old mid : Option (List 
         listed = up_to_last (looked_between root) from last ++ w.listed;
         heads = up_to_last (read_between root) from last ++ w.heads;
         fails = audits_fail root s t u h.done [] _ _ _ _ h.trail w.trail _ h.audits w.fails;
-        listed_front = front_behind _ _ _ _ (looked_end root e from last low) w.listed_front;
-        heads_front = front_behind _ _ _ _ (read_end root e from last low) w.heads_front;
+        listed_front = front_behind _ _ _ _ (looked_end root e from last low) (lost_listed root t u last e why w);
+        heads_front = front_behind _ _ _ _ (read_end root e from last low) (lost_heads root t u last e why w);
+        ahead = λ d y i j.
+            let due_there = (among_from_filter (λ z. not (is_past e z)) (due root last) y j).0 in
+            lost_or d y due_there (among_either (up_to_last (looked_between root) from last) w.listed d i);
         there = λ q i d j. among_left (up_to_last (looked_between root) from last) w.listed d
             (listed_to_last root from e h.done done_ascends q (subst (λ qs. IsAmong qs q) (append-nil h.done) i) d j last h.last_is);
         due_are = halves;
@@ -300,6 +335,10 @@ module _ (root : StorageRoot) (e : End) (s t u : Store) (old mid : Option (List 
         part_of = fault_of_nothing why (text (items_at root trail (take 1 (due_in root e last))));
         found_is = h.found_is ∙ ap found (sym before);
       }
+    where
+      lost_or : (d y : Place) → IsAmong (due root last) y → IsAmong (up_to_last (looked_between root) from last) d ⊎ IsAmong w.listed d → is_lt (place_cmp y d) ≡ false
+      lost_or d y i (inl j) = up_ahead root from last d y j i
+      lost_or d y i (inr j) = lost_ahead root t u last e why w d y j i
 
   -- nothing is left before the end
   pub all_done : due_in root e last ≡ [] → h.done ≡ due_in root e from

@@ -8,8 +8,7 @@ use Rattle.ocfl_audit.specs.{Due.{due, items_at}, Between.{looked_between, read_
 use Rattle.ocfl_item.specs.{Looking.{IsFront}, Auditing.{Audits, Fails}}
 use Rattle.ocfl_scrub.specs.Types.{ReportStop}
 use Rattle.ocfl_walk.specs.{Ends.{before_end}, declared.end.End.{End}}
-use Rattle.ocfl_scrub.specs.Taking.{PartOf}
-use Rattle.ocfl_scrub.specs.Taking.{stop_place}
+use Rattle.ocfl_scrub.specs.{Starting.{AreAhead}, Taking.{PartOf, stop_place}}
 
 -- what is between a place and the last one taken: nothing if there is none
 abbrev pub up_to_last : (Option Place → Option Place → List Place) → Option Place → Option Place → List Place
@@ -41,7 +40,7 @@ pub record Finishes (root : StorageRoot) (e : End) (s t : Store) (old new : Opti
 
 -- from s to t the items above from were taken up to last, and then there was a fault: of the next
 -- item before the end at most a proper beginning went out. Up to each of these items all
--- directories were listed
+-- directories were listed, and none above an item that is left
 pub record Halts (root : StorageRoot) (e : End) (s t : Store) (old new : Option (List ℕ)) (from last : Option Place) (finding : Bool) (why : ReportStop) : Type 0 where
   pub done : List Place
   pub begun : List Place
@@ -51,6 +50,7 @@ pub record Halts (root : StorageRoot) (e : End) (s t : Store) (old new : Option 
   pub fails : Fails root s t (done ++ begun) listed heads trail (stop_place why)
   pub listed_front : IsFront listed (before_end e (looked_between root from None))
   pub heads_front : IsFront heads (before_end e (read_between root from None))
+  pub ahead : AreAhead listed (due_in root e last)
   pub there : (p : Place) → IsAmong (done ++ begun) p → (d : Place) → IsAmong (before_end e (looked_between root from (Some p))) d → IsAmong listed d
   pub due_are : due_in root e from ≡ done ++ due_in root e last
   pub one : IsFront begun (take 1 (due_in root e last))

@@ -2,9 +2,10 @@
 use Rattle.std.proofs.Common.{◌≡◌, ◌≢◌, ◌⊎◌, inl, inr, ℕ, suc, ◌+◌, ◌<◌, ◌≤◌, ◌^◌, List, [], ◌∷◌, ◌++◌, refl, sym, ◌∙◌, ap, subst, true, false, Bool, Some, None, Option, append-nil, take, Bor, arith}
 use Rattle.std.specs.{Prelude.{cond, slice_get}, Option.{option_map, option_copied}, Io.KnownBytes.{Appends}}
 use Rattle.std.specs.{Ordering.{is_lt}, List.{last_or}}
-use Rattle.ocfl_tree.specs.{Place.{Text, Place, place_cmp}, Ascending.{IsBeforeAll}}
+use Rattle.ocfl_tree.specs.{Place.{Text, Place, place_cmp}, Ascending.{IsAmong, IsBeforeAll}}
 use Rattle.ocfl_tree.specs.{StorageRoot.{StorageRoot}, Store.{Store}}
 use Rattle.ocfl_tree.specs.declared.store.Opening.{Opening}
+use Rattle.ocfl_tree.proofs.Orders.{among_right}
 use Rattle.ocfl_report.specs.{Line.{Item, found}, Text.{text}}
 use Rattle.ocfl_audit.specs.{Audit.{audit, after, total_cost, given_by}, Lines.{is_empty, is_hashed}}
 use Rattle.ocfl_audit.specs.{Due.{items_at}, Between.{IsWithin}, Parts.{Part, within}}
@@ -19,7 +20,7 @@ use Rattle.ocfl_walk.specs.{WalkCalls.{GoesDown, GoDownFails}}
 use Rattle.ocfl_walk.proofs.WalkCallLaws.{audits_as}
 use Rattle.ocfl_scrub.specs.{Call.{call_of}, Taking.{PartOf}, Written.{places, Figures}}
 use Rattle.ocfl_scrub.specs.Running.{taken_in, place_in, RunsWithin, RunStopsWithin, RunEndsWithin, RunsFromWithin, RunsCleanWithin, RunsCleanlyWithin, IsPaid, begun, state_after}
-use Rattle.ocfl_scrub.specs.Starting.{end_of, entry, stand, looked_in, read_in, LooksOver, StopsLooking, items_in}
+use Rattle.ocfl_scrub.specs.Starting.{AreAhead, due_within, end_of, entry, stand, looked_in, read_in, LooksOver, StopsLooking, items_in}
 use Rattle.ocfl_scrub.specs.{Beginning.{Begins}, declared.running.RunStatus.{RunStatus}}
 use Rattle.ocfl_scrub.specs.declared.running.RunStatus.TheVariants.{Ended, Spent, Stopped, Worn}
 use Rattle.ocfl_scrub.specs.declared.stop.ReportStop.TheVariants as halt
@@ -27,7 +28,8 @@ use Rattle.ocfl_scrub.proofs.Paying.{Paid, Counts, IsWithinBoth, PaysAll, PaysUp
 use Rattle.ocfl_scrub.proofs.AuditLaws.{places_of_items, take_items, nothing_out, none_left, above_are}
 use Rattle.ocfl_scrub.proofs.{PassLaws.{take_nothing}, TakeLaws.{fault_other, nothing_of}}
 use Rattle.ocfl_scrub.proofs.{MeterLaws.{paid_files}, Passing.{due_in}}
-use Rattle.ocfl_scrub.proofs.PartStarts.{looked_all, read_all, looked_to, read_to}
+use Rattle.ocfl_scrub.proofs.{AheadLaws.{ahead_both, way_ahead}, RunPlaces.{rest_is}}
+use Rattle.ocfl_scrub.proofs.PartStarts.{due_starts, looked_all, read_all, looked_to, read_to}
 use Rattle.ocfl_scrub.proofs.LookLaws.{looks_over, stops_looking, stops_above}
 use Rattle.ocfl_scrub.proofs.WayListed.{before_next, halted_lie, taken_lie}
 use Rattle.ocfl_scrub.proofs.CutLaws.{IsStop, paid_begins, cut_of_paid, left_of_paid, test_unpaid, hashed_costs}
@@ -132,6 +134,7 @@ module _ (root : StorageRoot) (part : Part) (s t u : Store) (old new : Option (L
   -- there was a fault
   pub stopped : (why : ReportStop) (h : PaysHalting root (end_of part) t u old new (stand root part from) stood l spent files finding why) → last ≡ last_or from h.halts.done
       → RunStopsWithin (call_of root s u old new) part from last l spent files finding why
+  unfolding stops_looking
   stopped why h last_is =
       let k = h.halts in
       let trail : List Opening = g.trail ++ k.trail in
@@ -151,12 +154,23 @@ module _ (root : StorageRoot) (part : Part) (s t u : Store) (old new : Option (L
       let ends = ends_at root k.trail why k.begun k.part (take 1 due_left) (take 1 others) (next_of h.next first) k.one k.part_of in
       let listed_front = subst (IsFront k.listed) (looked_all root part from) k.listed_front in
       let heads_front = subst (IsFront k.heads) (read_all root part from) k.heads_front in
+      let split : items_in root trail part from ≡ whole ++ later = are k.trail k.done due_left k.due_are in
+      let left_is : due_within root part last ≡ due_left =
+      ap (due_within root part) (last_is ∙ ap (last_or from) whole_places) ∙ sym (places_of_items root trail (due_within root part (last_or from (places whole))))
+      ∙ ap places (rest_is root part trail from whole later split) ∙ places_of_items root k.trail due_left in
+      let far : AreAhead g.listed (due_within root part last) = λ d y i j.
+      way_ahead root part from g.listed g.listed_front d y i
+      (subst (λ ps. IsAmong ps y) (sym (sym (due_starts root part from) ∙ k.due_are)) (among_right k.done due_left y (subst (λ ps. IsAmong ps y) left_is j))) in
+      let ahead : AreAhead (g.listed ++ k.listed) (due_within root part last) =
+      ahead_both g.listed k.listed (due_within root part last) far (subst (AreAhead k.listed) (sym left_is) k.ahead) in
+      let looked = subst (λ ps. (l : StopsLooking (call_of root s u old new) part from (ps ++ k.begun) trail why) × AreAhead (l.down ++ l.listed) (due_within root part last)) whole_places
+      (stops_looking root part s t u old new from g why (k.done ++ k.begun) k.listed k.heads k.trail k.fails listed_front heads_front (halted_lie root part from g.listed g.all_listed k), ahead) in
       record {
         trail = trail;
         stops = record {
           whole = whole;
           others = others;
-          items_are = ap (λ is. cut is l) (are k.trail k.done due_left k.due_are) ∙ paid_begins l whole later h.counts.paid;
+          items_are = ap (λ is. cut is l) split ∙ paid_begins l whole later h.counts.paid;
           begun = k.begun;
           one = ends.0;
           part = k.part;
@@ -165,8 +179,8 @@ module _ (root : StorageRoot) (part : Part) (s t u : Store) (old new : Option (L
           last_is = last_is ∙ ap (last_or from) whole_places;
         };
         figures = record { spent_is = h.counts.spent_is; files_is = h.counts.files_is; found_is = k.found_is };
-        looks = subst (λ ps. StopsLooking (call_of root s u old new) part from (ps ++ k.begun) trail why) whole_places
-            (stops_looking root part s t u old new from g why (k.done ++ k.begun) k.listed k.heads k.trail k.fails listed_front heads_front (halted_lie root part from g.listed g.all_listed k));
+        looks = looked.0;
+        ahead = looked.1;
       }
 
 -- the place that a walk is given by reference
@@ -177,12 +191,13 @@ lent_place (Some p) from e = e
 -- no walk was started
 pub not_run : (root : StorageRoot) (part : Part) (s t : Store) (old : Option (List ℕ)) (from : Option Place) (l : Limits) (why : Fault) → GoDownFails root s t (entry part from) why
     → RunStopsWithin (call_of root s t old old) part from from l 0 0 false (halt.Fault why)
-unfolding nothing_out
+unfolding nothing_out stops_above
 not_run root part s t old from l why g = record {
   trail = g.trail;
   stops = nothing_out (taken_in root g.trail part from l) old from (halt.Fault why) (fault_other why);
   figures = record { spent_is = refl; files_is = refl; found_is = refl };
   looks = stops_above root part s t old old from why g;
+  ahead = ahead_both g.listed [] (due_within root part from) (way_ahead root part from g.listed g.listed_front) (λ d p i j. absurd i);
 }
 
 -- ---- if no failure was counted

@@ -76,6 +76,11 @@ before_beyond : (p x y : Place) → IsUpTo p x → place_cmp p y ≡ Less → pl
 before_beyond p x y (inl e) l = subst (λ z. place_cmp z y ≡ Less) (sym e) l
 before_beyond p x y (inr k) l = place_cmp_total.trans x p y k l
 
+-- what is above a place is above the way to it
+pub way_beyond : (from : Option Place) (x y : Place) → IsAmong (way_of from) x → IsBeyond from y → place_cmp x y ≡ Less
+way_beyond None x y i l = absurd i
+way_beyond (Some p) x y i l = before_beyond p x y (way_up_to p x i) l
+
 -- ---- the object that holds a place
 
 holder_ascends : (root : StorageRoot) (z : Zone) → IsAscending place_cmp (filter (reads_inventory root) (holder_of z))

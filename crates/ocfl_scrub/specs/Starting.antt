@@ -1,6 +1,6 @@
 -- Where a walk over a part of a storage root begins, and what of the root is looked at from there
 -- on.
-use Rattle.std.specs.Prelude.{◌≡◌, List, [], ◌∷◌, ◌++◌, Bool, true, Option, Some, None, filter, if◌then◌else◌}
+use Rattle.std.specs.Prelude.{◌≡◌, List, [], ◌∷◌, ◌++◌, Bool, true, false, Option, Some, None, filter, if◌then◌else◌}
 use Rattle.std.specs.{Ordering.{is_lt}, Option.{option_map_or}}
 use Rattle.ocfl_tree.specs.{Place.{Place, place_cmp}, Ascending.{IsAmong}}
 use Rattle.ocfl_tree.specs.{StorageRoot.{StorageRoot}, declared.store.Opening.{Opening}}
@@ -72,6 +72,10 @@ due_within root part from = places_within part (due root from)
 -- the start
 abbrev pub items_in : StorageRoot → List Opening → Part → Option Place → List Item
 items_in root trail part from = after (within part (audit root (unread_of root trail))) from
+
+-- none of some places is before one of these directories
+abbrev pub AreAhead : List Place → List Place → Type 0
+AreAhead dirs ps = (d p : Place) → IsAmong dirs d → IsAmong ps p → is_lt (place_cmp p d) ≡ false
 
 -- the directories of a part that are looked into between two places, and its objects whose
 -- inventories are read

@@ -128,7 +128,8 @@
 //!   if the call stops. So nothing of an object outside of the part is opened but of the one that
 //!   holds the place where the call begins (`openings_lie_where_it_was_listed` of `ocfl_laws`).
 //! - After a stop, what was listed and read is the first of these (`AuditStopsWithin`,
-//!   `RunStopsWithin`).
+//!   `RunStopsWithin`). A run that stopped listed no directory above an item that it left (`ahead`
+//!   of `RunStopsWithin`).
 //! - `cycle_part` is a chain of runs of the part (`CycleOfRunsWithin`), so what it lists and reads
 //!   is what these runs may. It makes few runs, by the part's own cost and files. That many limits
 //!   are enough (`CyclesWithin`, `HeadlineOfPart`).

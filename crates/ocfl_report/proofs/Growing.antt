@@ -44,6 +44,15 @@ no_room_at_first n m all a same short part = omega arith
 pub no_room_for_one : (t : Text) (a : Vec ℕ Global) → t ≡ codes "." → vec_capacity a ≤ vec_len a → vec_capacity a < vec_len a + length t
 no_room_for_one t a e short = omega (arith, ap length e)
 
+-- so where a piece of a text found too little, what was put being a beginning of the whole
+pub no_room_within : (a b : Vec ℕ Global) (piece rest whole : Text) → b.items ++ (piece ++ rest) ≡ a.items ++ whole → vec_capacity a ≤ vec_capacity b
+    → vec_capacity b < vec_len b + length piece → vec_capacity a < vec_len a + length whole
+no_room_within a b piece rest whole e more short =
+    omega (arith, a.ok.0, b.ok.0, ap length e, length-append b.items (piece ++ rest), length-append piece rest, length-append a.items whole)
+
+pub at_least : (m n k : ℕ) → m ≤ n → n ≤ k → m ≤ k
+at_least m n k h l = omega arith
+
 -- what holds anyway holds of a refusal
 pub if_refused : {T E P : Type 0} (r : Result T E) → P → OnErr r P
 if_refused (Ok x) p = tt

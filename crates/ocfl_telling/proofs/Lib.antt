@@ -2,6 +2,7 @@ pub mod Taking
 pub mod Weights
 pub mod Heaps
 pub mod Pieces
+pub mod Made
 pub mod ShownLines
 pub mod Closings
 pub mod Lists

@@ -1,5 +1,5 @@
 -- Lists of known findings, line by line.
-use Rattle.std.proofs.Common.{◌≡◌, ◌≢◌, ℕ, ◌+◌, List, [], ◌∷◌, ◌++◌, length, take, Option, Some, None, IfSome, sym, ap, subst, ◌∙◌, arith, append_assoc, length-take, length-append}
+use Rattle.std.proofs.Common.{◌≡◌, ◌≢◌, ℕ, ◌+◌, ◌==◌, List, [], ◌∷◌, ◌++◌, true, length, take, Option, Some, None, IfSome, refl, sym, ap, subst, ◌∙◌, arith, append_assoc, eqb-true, length-take, length-append}
 use Rattle.std.proofs.lemmas.Grind.{flat_map-append}
 use Rattle.std.proofs.lemmas.List.{append-nil, append_cancel_right}
 use Rattle.std.proofs.lemmas.List.Elements.{All-append, All-cons, All-nil, filter_map-append}
@@ -46,6 +46,11 @@ entries_more old new rs r e f = f ∙ ap (λ t. t ++ entries_of (r ∷ [])) e �
 
 pub rows_all : (rs : List Row) (r : Row) → All IsRow rs → IsRow r → All IsRow (rs ++ r ∷ [])
 rows_all rs r h k = All-append IsRow rs (r ∷ []) h (All-cons IsRow r [] k (All-nil IsRow))
+
+-- a text without bytes
+pub no_more : (t : Text) → (length t == 0) ≡ true → t ≡ []
+no_more [] e = refl
+no_more (c ∷ t) e = let none = eqb-true (length (c ∷ t)) 0 e in absurd (omega arith)
 
 pub rows_counted : (n : ℕ) (rs : List Row) (r : Row) → n ≡ length rs + 1 → n + 1 ≡ length (rs ++ r ∷ []) + 1
 rows_counted n rs r e = omega (arith, e, length-append rs (r ∷ []))

@@ -9,3 +9,4 @@ pub mod Log
 pub mod Refusal
 pub mod Stop
 pub mod Closing
+pub mod Internal

@@ -1,20 +1,20 @@
 //! What is said of a cycle that was closed: what is new, repaired, back and gone since the last
 //! whole report, and what was left out.
-ghost use Rattle.std.specs.Prelude.{◌≡◌, ◌++◌, ◌^◌, ◌<◌, List, length, map, take, IfOk, OnOk, string_bytes};
+ghost use Rattle.std.specs.Prelude.{◌≡◌, ◌++◌, ◌^◌, ◌<◌, List, [], length, map, take, IfOk, OnOk, string_bytes};
 ghost use Rattle.ocfl_report.specs.{Line.{Line as ModelLine, line_of}, Text.{lines_text}};
 ghost use Rattle.ocfl_telling.specs.Gravest.{IsOf, by_weight, most_shown};
-ghost use Rattle.ocfl_telling.specs.Closing.{closing_text as text_of_closing, above_text, back_head, back_line, back_lines, back_text, ended_text, gone_lines, gone_line, section_text, not_shown, new_head, repaired_head, gone_head, kind_text, new_text, repaired_text, not_known_text, not_whole_text, some_above_text, some_unlooked_text, uncompared_text, unlooked_text, unsaid_text};
+ghost use Rattle.ocfl_telling.specs.Closing.{closing_text as text_of_closing, above_text, back_head, back_line, back_lines, back_text, ended_text, gone_lines, gone_line, section_text, not_shown, new_head, repaired_head, gone_head, gone_text, kind_text, new_text, repaired_text, not_known_text, not_whole_text, some_above_text, some_unlooked_text, uncompared_text, unlooked_text, unsaid_text};
 ghost use Rattle.ocfl_telling.specs.Night.{more_text};
 
 use crate::gravest::{Gravest, SHOWN};
-use crate::night::{more, put_first, put_gravest};
+use crate::night::{more, put_first, put_gravest, put_made};
 use crate::shown::Shown;
 use ocfl_report::{Line, put_place};
 use ocfl_tree::Place;
 use std::alloc::{AllocError, Global};
 
 /// What is gone.
-#[derive(Clone, Copy, Debug, PartialEq, Eq)]
+#[derive(Clone, Copy, Debug)]
 pub enum GoneKind {
     /// An object of the last whole report.
     Object,
@@ -38,7 +38,7 @@ pub struct Gone {
 /// What a closed cycle found. Each slice has the first of what it is of, 20 or more if there are
 /// as many, in the order of places; beside it is how many there are of all. In that of what is
 /// gone, objects come before files: its caller puts them so.
-#[derive(Clone, Copy, Debug)]
+#[derive(Clone, Copy)]
 pub struct Closing<'a> {
     /// The number of the cycle.
     pub cycle: u64,
@@ -190,7 +190,7 @@ fn put_all_lines(gone: &[Gone], text: &mut Vec<u8>) -> Result<(), AllocError>
     Ok(())
 }
 
-/// Appends what is gone, and how much more.
+/// Appends a line, what is gone, and how much more.
 fn put_all_gone(
     alloc: Global,
     head: &str,
@@ -407,11 +407,32 @@ pub fn closing_text(alloc: Global, closing: &Closing<'_>) -> Result<Vec<u8>, All
     ensures { IfOk result (λ text. (ls : List ModelLine) → IsOf closing.now.appeared.now ls
         → length (by_weight ls) < 2 ^ 64 → text.items ≡ text_of_closing closing.now ls) }
 {
-    let mut text = Vec::from_slice(alloc, ended(alloc, closing)?.as_bytes())?;
-    text.extend_from_slice(uncompared(alloc, closing.uncompared)?.as_bytes())?;
-    put_changes(alloc, closing, &mut text)?;
-    let head = gone_head_of(alloc, closing.gone_count, closing.cycle)?;
-    put_all_gone(alloc, head.as_str(), closing, &mut text)?;
-    text.extend_from_slice(unlooked(alloc, closing.unlooked)?.as_bytes())?;
+    let mut text = Vec::new(alloc);
+    put_closing(alloc, closing, &mut text)?;
     Ok(text)
+}
+
+/// The same, in an empty text.
+fn put_closing(alloc: Global, closing: &Closing<'_>, text: &mut Vec<u8>) -> Result<(), AllocError>
+    requires { text.now.items ≡ [] }
+    ensures { OnOk result ((ls : List ModelLine) → IsOf closing.now.appeared.now ls
+        → length (by_weight ls) < 2 ^ 64 → text.new.items ≡ text_of_closing closing.now ls) }
+{
+    put_made(ended(alloc, closing), text)?;
+    put_made(uncompared(alloc, closing.uncompared), text)?;
+    put_changes(alloc, closing, text)?;
+    put_gone_section(alloc, closing, text)?;
+    put_made(unlooked(alloc, closing.unlooked), text)
+}
+
+/// Appends what is gone.
+fn put_gone_section(
+    alloc: Global,
+    closing: &Closing<'_>,
+    text: &mut Vec<u8>,
+) -> Result<(), AllocError>
+    ensures { OnOk result (text.new.items ≡ text.old.items ++ gone_text closing.now) }
+{
+    let head = gone_head_of(alloc, closing.gone_count, closing.cycle)?;
+    put_all_gone(alloc, head.as_str(), closing, text)
 }

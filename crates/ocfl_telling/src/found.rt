@@ -10,7 +10,7 @@ use ocfl_report::{Line, TextStop, read_line, split_once};
 use std::alloc::{AllocError, Global};
 
 /// What was found in the bytes of a report so far.
-#[derive(Debug, Drop)]
+#[derive(Drop)]
 pub struct Found {
     /// The findings among the lines.
     pub gravest: Gravest,
@@ -19,7 +19,7 @@ pub struct Found {
 }
 
 impl Found {
-    ghost use Rattle.std.specs.Prelude.{◌≡◌, ◌≢◌, List, ℕ, [], ◌∷◌, ◌++◌, All, IfOk, OnErr};
+    ghost use Rattle.std.specs.Prelude.{◌≡◌, ◌≢◌, List, ℕ, [], ◌∷◌, ◌++◌, All, IfOk, OnErr, OnOk};
     ghost use Rattle.ocfl_tree.specs.Place.{Text as ModelText};
     ghost use Rattle.ocfl_telling.specs.Found.{IsAfter, AreAll, HasBadLine};
     ghost use Rattle.ocfl_telling.specs.declared.known.KnownEntry.{KnownEntry as ModelEntry};
@@ -47,7 +47,7 @@ impl Found {
         let mut found = self;
         let mut left = bytes;
         while let Some((part, after)) = split_once(left, b'\n') {
-            found = found.end_line(alloc, known, part)?;
+            found.take_end(alloc, known, part)?;
             left = after;
         }
         found.rest.extend_from_slice(left)?;
@@ -55,24 +55,20 @@ impl Found {
     }
 
     /// Takes the end of a line, up to its line feed.
-    fn end_line(self, alloc: Global, known: &Known, part: &[u8]) -> Result<Found, TextStop>
+    fn take_end(&mut self, alloc: Global, known: &Known, part: &[u8]) -> Result<(), TextStop>
         requires { All (λ c. c ≢ 10) part.now }
-        ensures ok { IfOk result (λ found. (b : ModelText)
-            → IsAfter known.now self b
-            → IsAfter known.now found (b ++ (part.now ++ 10 ∷ []))) }
+        ensures ok { OnOk result ((b : ModelText)
+            → IsAfter known.now self.old b
+            → IsAfter known.now self.new (b ++ (part.now ++ 10 ∷ []))) }
         ensures bad { result ≡ Err TextStop.Bad → (b after : ModelText)
-            → IsAfter known.now self b
+            → IsAfter known.now self.old b
             → HasBadLine (b ++ (part.now ++ 10 ∷ []) ++ after) }
     {
-        let Found {
-            mut gravest,
-            mut rest,
-        } = self;
-        put_end(part, &mut rest)?;
-        let line = read_line(alloc, rest.as_slice())?;
-        add_unknown(&mut gravest, known, line)?;
-        rest.clear();
-        Ok(Found { gravest, rest })
+        put_end(part, &mut self.rest)?;
+        let line = read_line(alloc, self.rest.as_slice())?;
+        add_unknown(&mut self.gravest, known, line)?;
+        self.rest.clear();
+        Ok(())
     }
 
     /// The findings of all the bytes. [`TextStop::Bad`] if the last line has no line feed.

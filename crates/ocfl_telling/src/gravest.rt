@@ -60,7 +60,7 @@ fn keep(kept: &mut Vec<Line>, line: Line) -> Result<(), AllocError>
 }
 
 /// The first findings of each weight, and how many there were of it.
-#[derive(Debug, Drop)]
+#[derive(Debug)]
 pub struct Gravest {
     /// Findings of [`Weight::Bytes`].
     pub bytes: Kept,
@@ -70,6 +70,17 @@ pub struct Gravest {
     pub records: Kept,
     /// Those of [`Weight::Position`].
     pub positions: Kept,
+}
+
+impl Drop for Gravest {
+    fn drop(self) {
+        let Gravest {
+            bytes: _bytes,
+            objects: _objects,
+            records: _records,
+            positions: _positions,
+        } = self;
+    }
 }
 
 impl Gravest {

@@ -4,18 +4,20 @@
 //! Each has a member `row`, which says what it is of, and times in seconds since 1970. Paths,
 //! places and the system's words are escaped as in reports, so a line has printable ASCII alone.
 ghost use Rattle.std.specs.Prelude.{◌≡◌, ◌≤◌, false, IfOk, OnOk, string_bytes};
-ghost use Rattle.serde_json.specs.Data.{Data, depth, no_members};
+ghost use Rattle.serde_json.specs.Data.{Data, depth, no_members, object};
 ghost use Rattle.serde_json.specs.{View.{members_view, view}, Written.{has_float}};
-ghost use Rattle.ocfl_telling.specs.Log.{IsJsonLine, stands_text, row_text, row_data, row_with, why_text, slice_with, left_with, closing_counts, closing_changed, closing_named, closing_last, closing_with, refusal_with, night_with};
+ghost use Rattle.ocfl_telling.specs.Log.{IsJsonLine, stands_text, row_text, row_data, row_with, why_text, slice_with, left_with, closing_with, refusal_with, night_with};
+ghost use Rattle.ocfl_telling.specs.Internal.Members.{with_member, with_members};
 
+use crate::log::Member::{Count, Flag, Words};
 use crate::shown::Shown;
 use ocfl_report::DisplayPlace;
 use ocfl_tree::Place;
-use serde_json::{Map, ToValue, Value, json, put};
+use serde_json::{Map, Value, put};
 use std::alloc::{AllocError, Global};
 
 /// Where a cursor stands.
-#[derive(Clone, Copy, Debug)]
+#[derive(Clone, Copy)]
 pub enum Stands<'a> {
     /// At the start of its cycle.
     Start,
@@ -26,7 +28,7 @@ pub enum Stands<'a> {
 }
 
 /// A slice: one run of a night.
-#[derive(Clone, Copy, Debug)]
+#[derive(Clone, Copy)]
 pub struct SliceRow<'a> {
     /// When it began.
     pub time: u64,
@@ -55,7 +57,7 @@ pub struct SliceRow<'a> {
 }
 
 /// A place that is left out of a cycle.
-#[derive(Clone, Copy, Debug)]
+#[derive(Clone, Copy)]
 pub struct LeftRow<'a> {
     /// When it was left out.
     pub time: u64,
@@ -70,7 +72,7 @@ pub struct LeftRow<'a> {
 }
 
 /// The closing of a cycle.
-#[derive(Clone, Copy, Debug)]
+#[derive(Clone, Copy)]
 pub struct ClosingRow<'a> {
     /// When the cycle was closed.
     pub time: u64,
@@ -115,7 +117,7 @@ pub struct ClosingRow<'a> {
 }
 
 /// Why a night did nothing, or stopped.
-#[derive(Clone, Copy, Debug)]
+#[derive(Clone, Copy)]
 pub struct RefusalRow<'a> {
     /// When it was refused.
     pub time: u64,
@@ -128,7 +130,7 @@ pub struct RefusalRow<'a> {
 }
 
 /// The end of a night.
-#[derive(Clone, Copy, Debug)]
+#[derive(Clone, Copy)]
 pub struct NightRow<'a> {
     /// When it ended.
     pub time: u64,
@@ -151,7 +153,7 @@ pub struct NightRow<'a> {
 }
 
 /// A row of the log.
-#[derive(Clone, Copy, Debug)]
+#[derive(Clone, Copy)]
 pub enum LogRow<'a> {
     /// A run of a night.
     Slice(SliceRow<'a>),
@@ -200,142 +202,161 @@ fn row_reason(alloc: Global, row: &LogRow<'_>) -> Result<String, AllocError>
     }
 }
 
-/// The JSON object of a row: each member that has no value here is the field of its name.
-macro_rules! members_of {
-    (in $alloc:expr; $row:ident { $($name:ident $(: $value:expr)?),+ }) => {
-        json!(in $alloc; { $((stringify!($name)): members_of!(@ $row $name $($value)?)),+ })
-    };
-    (@ $row:ident $name:ident) => { $row.$name };
-    (@ $row:ident $name:ident $value:expr) => { $value };
+/// A member of a row: its name and its value.
+#[derive(Clone, Copy)]
+enum Member<'a> {
+    /// A number.
+    Count(&'a str, u64),
+    /// A text.
+    Words(&'a str, &'a str),
+    /// A flag.
+    Flag(&'a str, bool),
 }
 
-/// Appends members to those of an object, as `members_of` has them.
-macro_rules! put_members {
-    (in $alloc:expr; $map:ident $row:ident { $($name:ident $(: $value:expr)?),+ }) => {
-        $(
-            let value = members_of!(@ $row $name $($value)?);
-            put($map, $alloc, stringify!($name), ToValue::to_value(value, $alloc)?)?;
-        )+
-    };
+/// Puts a member among those of an object.
+fn put_member(
+    alloc: Global,
+    member: Member<'_>,
+    map: &mut Map<String, Value>,
+) -> Result<(), AllocError>
+    ensures { OnOk result (members_view map.new.entries
+        ≡ with_member member.entry (members_view map.old.entries)) }
+{
+    match member {
+        Count(name, count) => put(map, alloc, name, Value::from(count)),
+        Words(name, text) => put(map, alloc, name, Value::try_from_str(alloc, text)?),
+        Flag(name, flag) => put(map, alloc, name, Value::from(flag)),
+    }
+}
+
+/// The object with these members.
+fn object_of(alloc: Global, members: &[Member<'_>]) -> Result<Value, AllocError>
+    ensures { IfOk result (λ v. view v ≡ object (with_members members.now no_members)) }
+{
+    let mut map = Map::new(alloc);
+    for &member in members {
+        put_member(alloc, member, &mut map)?;
+    }
+    Ok(Value::Object(map))
 }
 
 /// What the line of a slice says.
 fn slice_value(alloc: Global, row: &SliceRow<'_>, stands: &str) -> Result<Value, AllocError>
     ensures { IfOk result (λ v. view v ≡ slice_with row.now stands.now) }
 {
-    members_of!(in alloc; row {
-        bytes, cost, cycle, files, lines, night,
-        row: "slice",
-        run, seconds, spent,
-        stands: stands,
-        status, time
-    })
+    object_of(
+        alloc,
+        &[
+            Count("bytes", row.bytes),
+            Count("cost", row.cost),
+            Count("cycle", row.cycle),
+            Count("files", row.files),
+            Count("lines", row.lines),
+            Count("night", row.night),
+            Words("row", "slice"),
+            Count("run", row.run),
+            Count("seconds", row.seconds),
+            Count("spent", row.spent),
+            Words("stands", stands),
+            Count("status", u64::from(row.status)),
+            Count("time", row.time),
+        ],
+    )
 }
 
 /// What the line of a place that is left out says.
-fn left_value(alloc: Global, row: &LeftRow<'_>, place: &str, why: &str) -> Result<Value, AllocError>
+fn left_value<'a>(
+    alloc: Global,
+    row: &LeftRow<'_>,
+    place: &'a str,
+    why: &'a str,
+) -> Result<Value, AllocError>
     ensures { IfOk result (λ v. view v ≡ left_with row.now place.now why.now) }
 {
-    members_of!(in alloc; row { cycle, night, place: place, row: "left", time, why: why })
-}
-
-/// Appends the first members of the line of a closing, by the order of their names.
-fn put_counts(
-    alloc: Global,
-    row: &ClosingRow<'_>,
-    map: &mut Map<String, Value>,
-) -> Result<(), AllocError>
-    requires { members_view map.now.entries ≡ no_members }
-    ensures { OnOk result (members_view map.new.entries ≡ closing_counts row.now no_members) }
-{
-    put_members!(in alloc; map row {
-        back, compared, cycle, expected, files, findings, gone, left, list, listed
-    });
-    Ok(())
-}
-
-/// Appends those that follow.
-fn put_changed(
-    alloc: Global,
-    row: &ClosingRow<'_>,
-    map: &mut Map<String, Value>,
-) -> Result<(), AllocError>
-    requires { members_view map.now.entries ≡ closing_counts row.now no_members }
-    ensures { OnOk result (members_view map.new.entries
-        ≡ closing_counts row.now (closing_changed row.now no_members)) }
-{
-    put_members!(in alloc; map row { new: row.appeared, night, objects, repaired });
-    Ok(())
-}
-
-/// Appends which report it is, and when it was closed.
-fn put_named(
-    alloc: Global,
-    row: &ClosingRow<'_>,
-    report: &str,
-    map: &mut Map<String, Value>,
-) -> Result<(), AllocError>
-    requires { members_view map.now.entries
-        ≡ closing_counts row.now (closing_changed row.now no_members) }
-    ensures { OnOk result (members_view map.new.entries ≡ closing_counts row.now
-        (closing_changed row.now (closing_named row.now report.now no_members))) }
-{
-    put_members!(in alloc; map row { report: report, row: "closing", time });
-    Ok(())
-}
-
-/// Appends the last ones.
-fn put_last(
-    alloc: Global,
-    row: &ClosingRow<'_>,
-    report: &str,
-    why: &str,
-    map: &mut Map<String, Value>,
-) -> Result<(), AllocError>
-    requires { members_view map.now.entries ≡ closing_counts row.now
-        (closing_changed row.now (closing_named row.now report.now no_members)) }
-    ensures { OnOk result (members_view map.new.entries ≡ closing_counts row.now
-        (closing_changed row.now (closing_named row.now report.now
-        (closing_last row.now why.now)))) }
-{
-    put_members!(in alloc; map row { unlooked, whole, why: why });
-    Ok(())
+    object_of(
+        alloc,
+        &[
+            Count("cycle", row.cycle),
+            Count("night", row.night),
+            Words("place", place),
+            Words("row", "left"),
+            Count("time", row.time),
+            Words("why", why),
+        ],
+    )
 }
 
 /// What the line of a closing says.
-fn closing_value(
+fn closing_value<'a>(
     alloc: Global,
-    row: &ClosingRow<'_>,
-    report: &str,
-    why: &str,
+    row: &ClosingRow<'a>,
+    report: &'a str,
+    why: &'a str,
 ) -> Result<Value, AllocError>
     ensures { IfOk result (λ v. view v ≡ closing_with row.now report.now why.now) }
 {
-    let mut map = Map::new(alloc);
-    put_counts(alloc, row, &mut map)?;
-    put_changed(alloc, row, &mut map)?;
-    put_named(alloc, row, report, &mut map)?;
-    put_last(alloc, row, report, why, &mut map)?;
-    Ok(Value::Object(map))
+    object_of(
+        alloc,
+        &[
+            Count("back", row.back),
+            Count("compared", row.compared),
+            Count("cycle", row.cycle),
+            Count("expected", row.expected),
+            Count("files", row.files),
+            Count("findings", row.findings),
+            Count("gone", row.gone),
+            Count("left", row.left),
+            Words("list", row.list),
+            Count("listed", row.listed),
+            Count("new", row.appeared),
+            Count("night", row.night),
+            Count("objects", row.objects),
+            Count("repaired", row.repaired),
+            Words("report", report),
+            Words("row", "closing"),
+            Count("time", row.time),
+            Count("unlooked", row.unlooked),
+            Flag("whole", row.whole),
+            Words("why", why),
+        ],
+    )
 }
 
 /// What the line of a refusal says.
 fn refusal_value(alloc: Global, row: &RefusalRow<'_>, said: &str) -> Result<Value, AllocError>
     ensures { IfOk result (λ v. view v ≡ refusal_with row.now said.now) }
 {
-    members_of!(in alloc; row { night, row: "refusal", said: said, status, time })
+    object_of(
+        alloc,
+        &[
+            Count("night", row.night),
+            Words("row", "refusal"),
+            Words("said", said),
+            Count("status", u64::from(row.status)),
+            Count("time", row.time),
+        ],
+    )
 }
 
 /// What the line of a night says.
 fn night_value(alloc: Global, row: &NightRow<'_>, program: &str) -> Result<Value, AllocError>
     ensures { IfOk result (λ v. view v ≡ night_with row.now program.now) }
 {
-    members_of!(in alloc; row {
-        cost, findings, left, night,
-        program: program,
-        row: "night",
-        runs, seconds, status, time
-    })
+    object_of(
+        alloc,
+        &[
+            Count("cost", row.cost),
+            Count("findings", row.findings),
+            Count("left", row.left),
+            Count("night", row.night),
+            Words("program", program),
+            Words("row", "night"),
+            Count("runs", row.runs),
+            Count("seconds", row.seconds),
+            Count("status", u64::from(row.status)),
+            Count("time", row.time),
+        ],
+    )
 }
 
 /// What the line of a row says, with its text and its reason.

@@ -1,9 +1,9 @@
 //! The message after a night: the findings that were not said before.
-ghost use Rattle.std.specs.Prelude.{◌≡◌, ◌++◌, ◌-◌, ◌^◌, ◌<◌, ◌==◌, List, Some, length, map, take, option_map, OnOk, IfOk, string_bytes};
+ghost use Rattle.std.specs.Prelude.{◌≡◌, ◌++◌, ◌-◌, ◌^◌, ◌<◌, ◌==◌, List, [], Some, length, map, take, option_map, OnOk, IfOk, IsOkAnd, string_bytes};
 ghost use Rattle.std.specs.List.{list_any};
 ghost use Rattle.ocfl_report.specs.{Line.{Line as ModelLine, line_of}, Text.{lines_text}};
 ghost use Rattle.ocfl_telling.specs.Gravest.{IsOf, by_weight, gravest, most_shown};
-ghost use Rattle.ocfl_telling.specs.Night.{whose_text, runs_text, head_text, more_text, look_text, look_at_text, dashes_text, path_text, is_plain as is_plain_text, first_place, or_place, between_text, some_more_text, part_text, night_text as text_of_night};
+ghost use Rattle.ocfl_telling.specs.Night.{whose_text, runs_text, head_text, more_text, look_text, look_at_text, dashes_text, path_text, is_plain as is_plain_text, first_place, or_place, between_text, some_more_text, part_text, findings_text, night_text as text_of_night};
 
 use crate::gravest::{Gravest, SHOWN};
 use crate::quoted::{Quoted, has_control};
@@ -13,7 +13,7 @@ use ocfl_tree::Place;
 use std::alloc::{AllocError, Global};
 
 /// What a message says of its night.
-#[derive(Clone, Copy, Debug)]
+#[derive(Clone, Copy)]
 pub struct Night<'a> {
     /// The path of the storage root.
     pub root: &'a str,
@@ -232,13 +232,36 @@ pub fn night_text(alloc: Global, night: &Night<'_>, found: &Gravest) -> Result<V
     if count == 0 {
         return Ok(text);
     }
-    text.extend_from_slice(head(alloc, night, count)?.as_bytes())?;
-    put_gravest(found, &mut text)?;
-    text.extend_from_slice(more(
-        alloc,
-        night.report,
-        count.saturating_sub(SHOWN as u128),
-    )?.as_bytes())?;
-    text.extend_from_slice(look(alloc, night.root, first_found(found))?.as_bytes())?;
+    put_findings(alloc, night, count, found, &mut text)?;
     Ok(text)
+}
+
+/// The same in an empty text, of as many findings.
+fn put_findings(
+    alloc: Global,
+    night: &Night<'_>,
+    count: u128,
+    found: &Gravest,
+    text: &mut Vec<u8>,
+) -> Result<(), AllocError>
+    requires { text.now.items ≡ [] }
+    ensures { OnOk result ((ls : List ModelLine) → IsOf found.now ls
+        → text.new.items ≡ findings_text night.now count (gravest ls)) }
+{
+    put_made(head(alloc, night, count), text)?;
+    put_gravest(found, text)?;
+    let left = count.saturating_sub(SHOWN as u128);
+    put_made(more(alloc, night.report, left), text)?;
+    put_made(look(alloc, night.root, first_found(found)), text)
+}
+
+/// Appends a text, once it is made.
+pub(crate) fn put_made(
+    made: Result<String, AllocError>,
+    text: &mut Vec<u8>,
+) -> Result<(), AllocError>
+    ensures { OnOk result
+        (IsOkAnd made (λ s. text.new.items ≡ text.old.items ++ string_bytes s)) }
+{
+    text.extend_from_slice(made?.as_bytes())
 }

@@ -11,7 +11,7 @@ use std::fmt;
 /// quotes, with `'\''` for each quote in it. A text that has a control character is escaped first,
 /// as in reports. So nothing of it ends the word or the line, runs a command or moves the cursor of
 /// a terminal.
-#[derive(Clone, Copy, Debug)]
+#[derive(Clone, Copy)]
 pub struct Quoted<'a>(pub &'a str);
 
 impl fmt::Display for Quoted<'_> {
@@ -26,7 +26,7 @@ impl fmt::Display for Quoted<'_> {
 }
 
 /// A text within single quotes.
-#[derive(Clone, Copy, Debug)]
+#[derive(Clone, Copy)]
 struct Within<'a>(&'a str);
 
 impl fmt::Display for Within<'_> {
@@ -43,7 +43,7 @@ impl fmt::Display for Within<'_> {
 }
 
 /// A text within single quotes, escaped as in reports.
-#[derive(Clone, Copy, Debug)]
+#[derive(Clone, Copy)]
 struct EscapedWithin<'a>(&'a str);
 
 impl fmt::Display for EscapedWithin<'_> {

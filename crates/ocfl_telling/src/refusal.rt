@@ -1,12 +1,13 @@
 //! Why a night did nothing: a sentence for each reason.
-ghost use Rattle.std.specs.Prelude.{◌≡◌, IfOk, string_bytes};
+ghost use Rattle.std.specs.Prelude.{◌≡◌, ◌++◌, [], IfOk, string_bytes};
+ghost use Rattle.ocfl_report.specs.Text.{escape};
 ghost use Rattle.ocfl_telling.specs.Refusal.{refusal_text as text_of_refusal, reason_text, ending_text, names_gone_text, older_text, other_declaration_text, other_part_text, other_root_text};
 
 use crate::shown::Shown;
 use std::alloc::{AllocError, Global};
 
 /// Why a night did nothing.
-#[derive(Clone, Copy, Debug, PartialEq, Eq)]
+#[derive(Clone, Copy, Debug)]
 pub enum RefusalMessage<'a> {
     /// The state folder has no checkpoint.
     NoCheckpoint,
@@ -49,6 +50,24 @@ pub enum RefusalMessage<'a> {
     Worn,
 }
 
+// What is said of a state folder.
+const NO_CHECKPOINT: &str = " has no checkpoint: is its file system mounted? For a first night, \
+give --create.";
+
+const HAS_REPORTS: &str =
+    " has reports of earlier nights, and no checkpoint. Put it back, or start \
+over in another folder.";
+
+const OF_SCRIPTS: &str =
+    " is a folder of earlier scripts, with a cursor and a log of nights. Start \
+over in another folder.";
+
+// What is said of a root.
+const NO_ROOT: &str = " does not declare itself a storage root: is its file system mounted?";
+
+const ROOT_CHANGED: &str = " is not the storage root that the night began with: is its file system \
+mounted?";
+
 /// What is wrong, in words.
 fn reason(
     alloc: Global,
@@ -60,39 +79,37 @@ fn reason(
         ≡ reason_text refusal.entry root.entry.0.now state.entry.0.now) }
 {
     match refusal {
-        RefusalMessage::NoCheckpoint => format!(in alloc;
-            "{state} has no checkpoint: is its file system mounted? For a first night, give \
-             --create."
-        ),
-        RefusalMessage::HasReports => format!(in alloc;
-            "{state} has reports of earlier nights, and no checkpoint. Put it back, or start over \
-             in another folder."
-        ),
-        RefusalMessage::NotCheckpoint => format!(in alloc;
-            "{state}/checkpoint is not a checkpoint."
-        ),
-        RefusalMessage::Version => format!(in alloc; "{state}/checkpoint is of another version."),
-        RefusalMessage::Damaged => format!(in alloc; "{state}/checkpoint is damaged."),
-        RefusalMessage::Malformed => format!(in alloc; "{state}/checkpoint is malformed."),
-        RefusalMessage::OfScripts => format!(in alloc;
-            "{state} is a folder of earlier scripts, with a cursor and a log of nights. Start over \
-             in another folder."
-        ),
-        RefusalMessage::NoRoot => format!(in alloc;
-            "{root} does not declare itself a storage root: is its file system mounted?"
-        ),
+        RefusalMessage::NoCheckpoint => told_of(alloc, state, NO_CHECKPOINT),
+        RefusalMessage::HasReports => told_of(alloc, state, HAS_REPORTS),
+        RefusalMessage::NotCheckpoint => told_of(alloc, state, "/checkpoint is not a checkpoint."),
+        RefusalMessage::Version => told_of(alloc, state, "/checkpoint is of another version."),
+        RefusalMessage::Damaged => told_of(alloc, state, "/checkpoint is damaged."),
+        RefusalMessage::Malformed => told_of(alloc, state, "/checkpoint is malformed."),
+        RefusalMessage::OfScripts => told_of(alloc, state, OF_SCRIPTS),
+        RefusalMessage::NoRoot => told_of(alloc, root, NO_ROOT),
         RefusalMessage::OtherRoot(bound) => other_root(alloc, bound, root, state),
         RefusalMessage::OtherDeclaration => other_declaration(alloc, root, state),
         RefusalMessage::OtherPart => other_part(alloc, root, state),
         RefusalMessage::NamesGone { gone, before } => names_gone(alloc, gone, before, root),
         RefusalMessage::Older { cycle } => older(alloc, cycle, state),
-        RefusalMessage::RootChanged => format!(in alloc;
-            "{root} is not the storage root that the night began with: is its file system mounted?"
-        ),
-        RefusalMessage::Worn => format!(in alloc;
-            "The number of the cycle in {state} cannot grow any further."
-        ),
+        RefusalMessage::RootChanged => told_of(alloc, root, ROOT_CHANGED),
+        RefusalMessage::Worn => worn(alloc, state),
     }
+}
+
+/// A path, and what is said of it.
+fn told_of(alloc: Global, path: Shown<'_>, words: &str) -> Result<String, AllocError>
+    ensures { IfOk result (λ text. string_bytes text ≡ escape path.entry.0.now ++ words.now) }
+{
+    format!(in alloc; "{path}{words}")
+}
+
+/// Of a number that can grow no more.
+fn worn(alloc: Global, state: Shown<'_>) -> Result<String, AllocError>
+    ensures { IfOk result
+        (λ text. string_bytes text ≡ reason_text RefusalMessage.Worn [] state.entry.0.now) }
+{
+    format!(in alloc; "The number of the cycle in {state} cannot grow any further.")
 }
 
 /// Of a folder that is another root's.

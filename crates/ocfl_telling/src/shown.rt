@@ -10,7 +10,7 @@ pub(crate) const ESCAPED: AsciiSet = ascii_set!(CONTROLS.add(b'%'));
 
 /// A text whose `Display` escapes it as report lines escape names: no byte of it can move the
 /// cursor of a terminal or begin a line.
-#[derive(Clone, Copy, Debug)]
+#[derive(Clone, Copy)]
 pub struct Shown<'a>(pub &'a str);
 
 impl fmt::Display for Shown<'_> {

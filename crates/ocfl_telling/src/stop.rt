@@ -9,7 +9,7 @@ use ocfl_tree::Place;
 use std::alloc::{AllocError, Global};
 
 /// Why a night stopped.
-#[derive(Clone, Copy, Debug)]
+#[derive(Clone, Copy)]
 pub enum StopMessage<'a> {
     /// A place that could not be read, and that could not be left out.
     At(&'a Place),

@@ -7,12 +7,12 @@ use Rattle.ocfl_telling.proofs.found.Found.take.Goals as goal
 pub loop-part-init : goal.loop-part-init
 loop-part-init c = record { done = []; cut = refl; after = λ b h. subst (IsAfter c.args.known.now c.args.self) (sym (append-nil b)) h }
 
-pub returns-in_err-found-clause-bad : goal.returns-in_err-found-clause-bad
-returns-in_err-found-clause-bad c = λ e b h.
+pub returns-in_err-take_end-clause-bad : goal.returns-in_err-take_end-clause-bad
+returns-in_err-take_end-clause-bad c = λ e b h.
     let inv = c.loop-part.invariant in
     let passed = err_from_is_err_and c.from_residual.result c.from_residual.ensures.1 in
     subst HasBadLine (bad_joined b inv.done c.in-Some.part.now c.in-Some.after.now c.args.bytes.now c.loop-part.left.now inv.cut c.in-Some.ensures.found)
-    (c.in_err-found.ensures.bad (cc (passed.1, passed.2, e)) (b ++ inv.done) c.in-Some.after.now (inv.after b h))
+    (c.in_err-take_end.ensures.bad (cc (passed.1, passed.2, e)) (b ++ inv.done) c.in-Some.after.now (inv.after b h))
 
 pub loop-part-preserved : goal.loop-part-preserved
 loop-part-preserved c =
@@ -20,8 +20,8 @@ loop-part-preserved c =
     record {
       done = inv.done ++ (c.in-Some.part.now ++ 10 ∷ []);
       cut = cut_on inv.done c.in-Some.part.now c.in-Some.after.now c.args.bytes.now c.loop-part.left.now inv.cut c.in-Some.ensures.found;
-      after = λ b h. subst (IsAfter c.args.known.now c.in_ok-found.found) (append_assoc b inv.done (c.in-Some.part.now ++ 10 ∷ []))
-          (c.in_ok-found.ensures.ok (b ++ inv.done) (inv.after b h));
+      after = λ b h. subst (IsAfter c.args.known.now c.take_end.new.self) (append_assoc b inv.done (c.in-Some.part.now ++ 10 ∷ []))
+          (c.in_ok-take_end.ensures.ok (b ++ inv.done) (inv.after b h));
     }
 
 pub returns-clause-ok : goal.returns-clause-ok

@@ -1,0 +1,2 @@
+-- What private functions say: a reader of the public contracts needs none of it.
+pub mod Members

@@ -146,7 +146,7 @@ module _ {F : Type 0} (may_leave : F → Outcomes) (moment : F → ℕ) (left_si
       let h = all.each c left in
       let x = are.0 h.from h.was in
       let was = taken x.0 x.1 in
-      (was.0 ++ h.heard.more, (h.heard.sound, (was.0, (h.heard.more, (refl, ((h.heard.others, h.heard.took), was.1.1)))))) in
+      (was.0 ++ h.heard.more, (h.heard.sound, (was.0, (h.heard.more, (refl, (h.heard.took, was.1.1)))))) in
       (now, all_taken (left_since n.ended (moment n.began)) (n ∷ earlier) nights now are.2)
 
 -- what holds of the contents holds at any moment

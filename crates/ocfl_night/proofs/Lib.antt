@@ -18,3 +18,4 @@ pub mod Branches
 pub mod Newest
 pub mod Whole
 pub mod Beginnings
+pub mod Flushed

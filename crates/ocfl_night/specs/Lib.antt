@@ -1,5 +1,6 @@
 pub mod Site
 pub mod Looks
+pub mod Output
 pub mod Chain
 pub mod Sound
 pub mod Steps

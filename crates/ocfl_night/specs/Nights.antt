@@ -1,31 +1,31 @@
 -- Any nights over one state folder, each ended or crashed.
-use Rattle.std.specs.Prelude.{◌≡◌, ◌≢◌, ℕ, ◌++◌, List, [], ◌∷◌, Option, None, Some, IsTrue, true, false, map, flat_map, ⊤}
-use Rattle.std.specs.{Io.KnownBytes.{Appends}, List.{AllByRecursion}}
+use Rattle.std.specs.Prelude.{◌≡◌, ◌≢◌, ℕ, ◌++◌, List, [], ◌∷◌, None, Some, IsTrue, true, false, map, flat_map, ⊤}
+use Rattle.std.specs.List.{AllByRecursion}
 use Rattle.ocfl_tree.specs.{Place.{Place, Text}, Ascending.{IsAmong}, StorageRoot.{StorageRoot}}
 use Rattle.ocfl_report.specs.Text.{text}
 use Rattle.ocfl_audit.specs.{Audit.{Unread, audit}, Parts.{Part, within}}
 use Rattle.ocfl_state.specs.{Content.{Content, Closed, is_closed}, Crash.{Outcomes, Follows, LeavesOnly}}
 use Rattle.ocfl_state.specs.Checkpoint.{Checkpoint}
 use Rattle.ocfl_state.specs.declared.checkpoint_parts.{Left.{Left}, Phase.TheVariants.{Closing}}
-use Rattle.ocfl_night.specs.{Chain.{AreLeft, HasClosed, around}, Looks.{Known, Look, Rounds, WithLook}, Sound.{IsAt, IsSoundAt, IsKept, IsHeardSince}}
+use Rattle.ocfl_night.specs.{Chain.{AreLeft, HasClosed, around}, Looks.{Known, Look, Rounds, WithLook}, Output.{HasTaken, Said}, Sound.{IsAt, IsSoundAt, IsKept, IsHeardSince}}
 
 -- What a night promises: if each crash before it leaves a sound content, so does each since then, and
--- more than was told is told only if the output took it. That holds whatever looks the runs are
+-- more than was told is told only if the output has committed it. That holds whatever looks the runs are
 -- within, if that of this night is within one of them.
-abbrev pub IsSafeNight : {F : Type 0} → (F → Outcomes) → (F → ℕ) → (F → ℕ → Outcomes) → Part → Look → F → F → Option Text → Option Text → Type 0
+abbrev pub IsSafeNight : {F : Type 0} → (F → Outcomes) → (F → ℕ) → (F → ℕ → Outcomes) → Part → Look → F → F → Said → Said → Type 0
 IsSafeNight may_leave moment left_since part look began ended old new =
     WithLook part look (λ rounds. (kept : IsKept may_leave rounds began) → LeavesOnly moment left_since began ended (IsHeardSince rounds (may_leave began) kept old new))
 
 -- A night: of which cycles closed reports may have been taken away before it, the folder when it began
--- and when it was last seen, what its store was looked at for, and what is known that its output had
--- taken before and then.
+-- and when it was last seen, what its store was looked at for, and what its output had been given and
+-- had committed before and then.
 pub record Night (F : Type 0) : Type 0 where
   pub gone : List ℕ
   pub began : F
   pub ended : F
   pub look : Look
-  pub before : Option Text
-  pub said : Option Text
+  pub before : Said
+  pub said : Said
 
 -- Between two nights closed reports of some cycles may be taken away, but not that of the checkpoint's
 -- own cycle while the checkpoint says that it is to be closed.
@@ -93,12 +93,13 @@ known_of nights = record { looks = map (λ n. n.look) nights; gone = flat_map (�
 abbrev pub rounds_of : {F : Type 0} → Part → List (Night F) → Rounds
 rounds_of part nights = record { part = part; known = Some (known_of nights) }
 
--- a text is joined from what each of these nights' outputs took first, the last night first
+-- a text is joined from what each of these nights' outputs was given first and has committed, the last
+-- night first
 abbrev pub IsTaken : {F : Type 0} → List (Night F) → Text → Type 0
 IsTaken [] told = told ≡ []
-IsTaken (n ∷ earlier) told = (t : Text) × ((more : Text) × ((told ≡ t ++ more) × (((others : Text) × Appends n.before n.said (more ++ others)) × IsTaken earlier t)))
+IsTaken (n ∷ earlier) told = (t : Text) × ((more : Text) × ((told ≡ t ++ more) × ((more ≢ [] → HasTaken more n.before n.said) × IsTaken earlier t)))
 
--- at any moment of each night, what was told was taken by its output and those before it
+-- at any moment of each night, what was told was committed by its output and those before it
 abbrev pub AllTaken : {F : Type 0} → (F → ℕ) → (F → ℕ → Outcomes) → Rounds → List (Night F) → List (Night F) → Type 0
 AllTaken moment left_since rounds earlier [] = ⊤
 AllTaken moment left_since rounds earlier (n ∷ nights) =

@@ -1,5 +1,5 @@
 -- What nights keep true of a state folder's bytes, at every moment.
-use Rattle.std.specs.Prelude.{◌≡◌, ◌⊎◌, ℕ, ◌+◌, ◌≤◌, List, [], ◌∷◌, ◌++◌, length, take, true, IsTrue, Option, Some, None, MatchOption, flat_map}
+use Rattle.std.specs.Prelude.{◌≡◌, ◌≢◌, ◌⊎◌, ℕ, ◌+◌, ◌≤◌, List, [], ◌∷◌, ◌++◌, length, take, true, IsTrue, Some, None, MatchOption, flat_map}
 use Rattle.std.specs.Io.KnownBytes.{Appends}
 use Rattle.ocfl_tree.specs.Place.{Text}
 use Rattle.ocfl_audit.specs.Parts.{Part}
@@ -8,7 +8,7 @@ use Rattle.ocfl_scrub.specs.Running.{place_in, begun}
 use Rattle.ocfl_state.specs.{Checkpoint.{Checkpoint, IsCheckpointText}, Content.{Content, Closed, is_closed}}
 use Rattle.ocfl_state.specs.{Crash.{Outcomes, Begins, Only}, Pieces.{summary_of}}
 use Rattle.ocfl_state.specs.declared.checkpoint_parts.{Left.{Left}, Phase.TheVariants.{Open, Closing}}
-use Rattle.ocfl_night.specs.{Looks.{IfGiven, Rounds}, Chain.{RootRun, joined, AreLooked, Led, LedToEnd, HasClosed}}
+use Rattle.ocfl_night.specs.{Looks.{IfGiven, Rounds}, Output.{HasTaken, Said}, Chain.{RootRun, joined, AreLooked, Led, LedToEnd, HasClosed}}
 
 -- the closed reports, joined
 abbrev pub closed_text : List Closed → Text
@@ -116,18 +116,19 @@ pub record IsAllSaid (c : Content) : Type 0 where
 
 -- ---- what an output heard
 
--- what was told is t and more, and an output took all of the more since then
-pub record IsHeard (rounds : Rounds) (t : Text) (old new : Option Text) (c : Content) : Type 0 where
+-- what was told is t and more, and if there is more, an output has taken that since then
+pub record IsHeard (rounds : Rounds) (t : Text) (old new : Said) (c : Content) : Type 0 where
   pub more : Text
   pub sound : IsSoundAt rounds (t ++ more) c
-  pub others : Text
-  pub took : Appends old new (more ++ others)
+  pub took : more ≢ [] → HasTaken more old new
 
--- a folder is ready, with t and more told, and that is what an output took since then
-pub record IsHeardReady {F : Type 0} (seen : F → Content) (may_leave : F → Outcomes) (rounds : Rounds) (t : Text) (old new : Option Text) (k : Checkpoint) (folder : F) : Type 0 where
+-- a folder is ready, with t and more told: the more was given to an output since then, and if there is
+-- more, it has committed that
+pub record IsHeardReady {F : Type 0} (seen : F → Content) (may_leave : F → Outcomes) (rounds : Rounds) (t : Text) (old new : Said) (k : Checkpoint) (folder : F) : Type 0 where
   pub more : Text
   pub ready : IsReady seen may_leave rounds (t ++ more) k folder
-  pub took : Appends old new more
+  pub given : Appends old.given new.given more
+  pub all : more ≢ [] → new.committed ≡ new.given
 
 -- what one of these outcomes told, each of which is sound, is told still
 pub record IsFound (rounds : Rounds) (outcomes : Outcomes) (sound : AreSound rounds outcomes) (c : Content) : Type 0 where
@@ -142,13 +143,13 @@ pub record IsFoundReady {F : Type 0} (seen : F → Content) (may_leave : F → O
   pub ready : IsReady seen may_leave rounds (sound from was).0 k folder
 
 -- what one of them told is told still, and more than that only if an output took it
-pub record IsHeardSince (rounds : Rounds) (outcomes : Outcomes) (sound : AreSound rounds outcomes) (old new : Option Text) (c : Content) : Type 0 where
+pub record IsHeardSince (rounds : Rounds) (outcomes : Outcomes) (sound : AreSound rounds outcomes) (old new : Said) (c : Content) : Type 0 where
   pub from : Content
   pub was : outcomes from
   pub heard : IsHeard rounds (sound from was).0 old new c
 
 -- a folder is ready, with what one of them told and what an output took since then
-pub record IsReadySince {F : Type 0} (seen : F → Content) (may_leave : F → Outcomes) (rounds : Rounds) (outcomes : Outcomes) (sound : AreSound rounds outcomes) (old new : Option Text) (k : Checkpoint) (folder : F) : Type 0 where
+pub record IsReadySince {F : Type 0} (seen : F → Content) (may_leave : F → Outcomes) (rounds : Rounds) (outcomes : Outcomes) (sound : AreSound rounds outcomes) (old new : Said) (k : Checkpoint) (folder : F) : Type 0 where
   pub from : Content
   pub was : outcomes from
   pub heard : IsHeardReady seen may_leave rounds (sound from was).0 old new k folder

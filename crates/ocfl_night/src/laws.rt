@@ -15,6 +15,7 @@ ghost use Rattle.ocfl_night.specs.{Site.{part_at}, Sound.{IsSound}};
 ghost use Rattle.ocfl_night.specs.Nights.{AllTaken, AreNights, AreOver, AreWhole, AtAnyMoment, EachOther, EachWhole, HaveReadAll, IsAround, IsAuditBut, Night, rounds_of};
 
 use crate::nights::night;
+use crate::output::Output;
 use crate::plan::{Clock, NightEnd, Plan};
 use crate::site::Site;
 use ocfl_digest::Block;
@@ -22,7 +23,6 @@ use ocfl_scrub::parts::runs_that_stop_join;
 use ocfl_state::StateFolder;
 use ocfl_tree::Tree;
 use std::alloc::Global;
-use std::io::Write;
 
 /// Whatever nights there were over a part, from an empty folder on, each ended, killed or crashed
 /// at any moment: what a crash may have left is sound. The closed reports are those of the first
@@ -40,7 +40,8 @@ pub fn nights_are_sound<S: StateFolder>()
         nights }
 {}
 
-/// Whatever such nights there were: what was told at any moment is what their outputs took.
+/// Whatever such nights there were: what was told at any moment is what their outputs have
+/// committed.
 pub fn what_was_told_was_taken<S: StateFolder>()
     ensures { (part : Part) (nights : List (Night S))
         → AreNights S.may_leave S.moment S.left_since part (λ c. c ≡ empty) nights
@@ -109,7 +110,7 @@ pub fn where_nothing_failed_all_was_read()
 /// Two nights, the second of which takes up what the first one left. If both stores are of one root
 /// and nothing failed in them, then whatever a crash may leave in the second: each closed report
 /// that is called whole is exactly the audit of the part.
-pub fn two_nights<S: StateFolder, T: Tree, C: Clock, W: Write>(
+pub fn two_nights<S: StateFolder, T: Tree, C: Clock, O: Output>(
     alloc: Global,
     folder: &mut S,
     first: &mut T,
@@ -118,7 +119,7 @@ pub fn two_nights<S: StateFolder, T: Tree, C: Clock, W: Write>(
     plan: &Plan,
     clock: &mut C,
     block: &mut Block,
-    out: &mut W,
+    out: &mut O,
 ) -> (NightEnd, NightEnd)
     ensures { IsTrue S.told → (root : StorageRoot) → HasShortFiles root
         → IsTrue T.told → (T.state first.old).tree ≡ root → (T.state second.old).tree ≡ root

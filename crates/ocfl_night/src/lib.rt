@@ -9,7 +9,8 @@
 //!   crashed, says what was unsaid, makes runs, says what they wrote, and closes the report of a
 //!   cycle that has ended.
 //! - If each crash before it leaves a sound content, so does a crash at any moment of it. At no
-//!   moment does a checkpoint count more as said than before and what the output took since.
+//!   moment does a checkpoint count more as said than before and what the output has committed
+//!   since.
 //! - All that it keeps was written by runs over the root that its store tells. Of any nights over one
 //!   root, from an empty folder on, each ended or crashed at any moment: a closed report that is
 //!   called whole is the audit, in which only files are called unreadable that one of the nights
@@ -59,6 +60,7 @@ mod looking;
 mod nights;
 mod older;
 mod opening;
+mod output;
 mod owning;
 mod pace;
 mod plan;
@@ -81,6 +83,7 @@ pub use laws::{
 pub use leaving::leave_out;
 pub use nights::night;
 pub use opening::{Opened, open};
+pub use output::{Flushing, Output, OutputFailed};
 pub use plan::{Clock, Halt, NightEnd, Plan};
 pub use refusal::{NotOpened, Refusal};
 pub use saying::speak;

@@ -1,13 +1,12 @@
 //! A night.
 ghost use Rattle.std.specs.Prelude.{◌≡◌, ◌≢◌, ◌⊎◌, ◌↔◌, ◌≤◌, [], IfOk, IfSome, IsErr, All, IsOk, IsSome, IsTrue, List, Err, Ok, OnErr, OnOk, Some, false, true, length, ℕ};
-ghost use Rattle.std.specs.Io.KnownBytes.{Appends};
 ghost use Rattle.ocfl_audit.specs.Parts.{Part as ModelPart};
 ghost use Rattle.ocfl_tree.specs.StorageRoot.{StorageRoot};
 ghost use Rattle.ocfl_scrub.specs.Starting.{part_of};
 ghost use Rattle.ocfl_state.specs.{Content.{Closed}, Crash.{LeavesOnly}};
 ghost use Rattle.ocfl_state.specs.declared.checkpoint_parts.Phase.TheVariants.{Open};
 ghost use Rattle.ocfl_night.specs.Leaving.{LeadsOn, MayHaveLeftAt, StillMayLeave, done_by, has_end, remedy_at, with_remedy};
-ghost use Rattle.ocfl_night.specs.Looks.{Counts, Rounds, WithLook, look_between, of_any};
+ghost use Rattle.ocfl_night.specs.{Looks.{Counts, Rounds, WithLook, look_between, of_any}, Output.{Grows}};
 ghost use Rattle.ocfl_night.specs.Promises.{HasCome, HasLost, IfLost, IfReady, IfReadyIn, IsSafe, IsSafeIn, IsAllThere, IsUncut, OnShort, OverShort, SameClosed};
 ghost use Rattle.ocfl_night.specs.Older.{IfOlder};
 ghost use Rattle.ocfl_night.specs.declared.refusal.Refusal.TheVariants.{Older};
@@ -28,6 +27,7 @@ use crate::checkpoint::phase_of;
 use crate::closing::finish;
 use crate::leaving::leave_out;
 use crate::opening::open;
+use crate::output::Output;
 use crate::pace::paced;
 use crate::plan::{Clock, Halt, NightEnd, Pause, Plan};
 use crate::refusal::NotOpened;
@@ -44,7 +44,6 @@ use ocfl_state::{Checkpoint, Phase, StateFolder};
 use ocfl_tree::{Place, Tree};
 use ocfl_walk::Fault;
 use std::alloc::Global;
-use std::io::Write;
 
 /// Whether an end has not come.
 fn is_before(now: u64, end: Option<u64>) -> bool
@@ -283,24 +282,24 @@ fn runs<S: StateFolder, T: Tree, C: Clock>(
 }
 
 /// Takes up what the last night left, and says what it left unsaid.
-fn catch_up<S: StateFolder, W: Write>(
+fn catch_up<S: StateFolder, O: Output>(
     alloc: Global,
     folder: &mut S,
     site: &Site,
     identity: &Identity,
     plan: &Plan,
-    out: &mut W,
+    out: &mut O,
     lost: &mut bool,
 ) -> Result<Checkpoint, NotOpened>
     ensures heard { IsTrue S.told → (rounds : Rounds)
         → (kept : IsKept S.may_leave rounds folder.old)
         → LeavesOnly S.moment S.left_since folder.old folder.new (IsHeardSince rounds
-        (S.may_leave folder.old) kept (W.contents out.old) (W.contents out.new)) }
+        (S.may_leave folder.old) kept (O.said out.old) (O.said out.new)) }
     ensures ready { IsTrue S.told → (rounds : Rounds)
         → (kept : IsKept S.may_leave rounds folder.old)
         → IfOk result (λ k. IsReadySince S.seen S.may_leave rounds (S.may_leave folder.old) kept
-        (W.contents out.old) (W.contents out.new) k folder.new) }
-    ensures grew { (more : List ℕ) × Appends (W.contents out.old) (W.contents out.new) more }
+        (O.said out.old) (O.said out.new) k folder.new) }
+    ensures grew { Grows (O.said out.old) (O.said out.new) }
     ensures closed { IsTrue S.told → OnOk result (SameClosed S.seen folder.old folder.new) }
     ensures refused { IsTrue S.told → OnRefused result (S.seen folder.new ≡ S.seen folder.old) }
     ensures rightly { IsTrue S.told → IfRefused result
@@ -324,7 +323,7 @@ fn catch_up<S: StateFolder, W: Write>(
 }
 
 /// Makes runs, says what they wrote, and closes the report if the cycle has ended.
-fn make_runs<S: StateFolder, T: Tree, C: Clock, W: Write>(
+fn make_runs<S: StateFolder, T: Tree, C: Clock, O: Output>(
     alloc: Global,
     folder: &mut S,
     tree: &mut T,
@@ -335,18 +334,18 @@ fn make_runs<S: StateFolder, T: Tree, C: Clock, W: Write>(
     clock: &mut C,
     tally: &mut Tally,
     block: &mut Block,
-    out: &mut W,
+    out: &mut O,
 ) -> Result<Halt, Stop>
     ensures heard { IsTrue S.told → OverShort T.told (T.state tree.old) (λ root.
         WithLook (part_of part.now)
         (look_between root (T.state tree.old) (T.state tree.new))
         (λ rounds. IfReadyIn S.seen S.may_leave rounds checkpoint folder.old
         (λ t. LeavesOnly S.moment S.left_since folder.old folder.new
-        (IsHeard rounds t (W.contents out.old) (W.contents out.new))))) }
+        (IsHeard rounds t (O.said out.old) (O.said out.new))))) }
     ensures root { OverShort T.told (T.state tree.old) (λ root. (T.state tree.new).tree ≡ root) }
     ensures counts { OverShort T.told (T.state tree.old) (λ root.
         Counts (T.state tree.old) (T.state tree.new)) }
-    ensures grew { (more : List ℕ) × Appends (W.contents out.old) (W.contents out.new) more }
+    ensures grew { Grows (O.said out.old) (O.said out.new) }
     ensures ended { IsTrue S.told → OverShort T.told (T.state tree.old) (λ root.
         WithLook (part_of part.now)
         (look_between root (T.state tree.old) (T.state tree.new))
@@ -387,14 +386,14 @@ struct Begun {
 }
 
 /// Looks at the root, takes up what the last night left, and says what it left unsaid.
-fn set_out<S: StateFolder, T: Tree, W: Write>(
+fn set_out<S: StateFolder, T: Tree, O: Output>(
     alloc: Global,
     folder: &mut S,
     tree: &mut T,
     site: &Site,
     plan: &Plan,
     block: &mut Block,
-    out: &mut W,
+    out: &mut O,
     lost: &mut bool,
 ) -> Result<Begun, NotOpened>
     ensures part { IfOk result (λ begun. part_of begun.part ≡ part_at site.now.ends) }
@@ -404,12 +403,12 @@ fn set_out<S: StateFolder, T: Tree, W: Write>(
     ensures heard { IsTrue S.told → (rounds : Rounds)
         → (kept : IsKept S.may_leave rounds folder.old)
         → LeavesOnly S.moment S.left_since folder.old folder.new (IsHeardSince rounds
-        (S.may_leave folder.old) kept (W.contents out.old) (W.contents out.new)) }
+        (S.may_leave folder.old) kept (O.said out.old) (O.said out.new)) }
     ensures ready { IsTrue S.told → (rounds : Rounds)
         → (kept : IsKept S.may_leave rounds folder.old) → IfOk result (λ begun.
         IsReadySince S.seen S.may_leave rounds (S.may_leave folder.old) kept
-        (W.contents out.old) (W.contents out.new) begun.checkpoint folder.new) }
-    ensures grew { (more : List ℕ) × Appends (W.contents out.old) (W.contents out.new) more }
+        (O.said out.old) (O.said out.new) begun.checkpoint folder.new) }
+    ensures grew { Grows (O.said out.old) (O.said out.new) }
     ensures closed { IsTrue S.told → OnOk result (SameClosed S.seen folder.old folder.new) }
     ensures refused { IsTrue S.told → OnRefused result (S.seen folder.new ≡ S.seen folder.old) }
     ensures rightly { IsTrue S.told → IfRefused result
@@ -441,7 +440,7 @@ fn set_out<S: StateFolder, T: Tree, W: Write>(
 ///
 /// All clauses are of a folder and a store that are as they tell, over a root with no file of 2^62
 /// bytes or more.
-pub fn night<S: StateFolder, T: Tree, C: Clock, W: Write>(
+pub fn night<S: StateFolder, T: Tree, C: Clock, O: Output>(
     alloc: Global,
     folder: &mut S,
     tree: &mut T,
@@ -449,7 +448,7 @@ pub fn night<S: StateFolder, T: Tree, C: Clock, W: Write>(
     plan: &Plan,
     clock: &mut C,
     block: &mut Block,
-    out: &mut W,
+    out: &mut O,
 ) -> NightEnd
     // If each crash before it leaves a sound content, so does a crash at any moment of it.
     ensures any_moment { IsTrue S.told → OverShort T.told (T.state tree.old) (λ root.
@@ -462,13 +461,13 @@ pub fn night<S: StateFolder, T: Tree, C: Clock, W: Write>(
         (look_between root (T.state tree.old) (T.state tree.new))
         (λ rounds. IsKept S.may_leave rounds folder.old → IsKept S.may_leave rounds folder.new)) }
 
-    // Nothing more is told, at any moment, than was told before and the output has taken since. All
-    // of it was written by runs over this root, which could not read more than this night could
+    // Nothing more is told, at any moment, than was told before and the output has committed since.
+    // All of it was written by runs over this root, which could not read more than this night could
     // not, or by those of before.
     ensures heard { IsTrue S.told → OverShort T.told (T.state tree.old) (λ root.
         IsSafeNight S.may_leave S.moment S.left_since (part_at site.now.ends)
         (look_between root (T.state tree.old) (T.state tree.new))
-        folder.old folder.new (W.contents out.old) (W.contents out.new)) }
+        folder.old folder.new (O.said out.old) (O.said out.new)) }
 
     // The root stays, and what its store was looked at for is known.
     ensures root { OverShort T.told (T.state tree.old) (λ root. (T.state tree.new).tree ≡ root) }

@@ -1,36 +1,35 @@
 //! Saying what was not said.
-ghost use Rattle.std.specs.Prelude.{◌≡◌, ◌-◌, ◌≤◌, IfErr, IfOk, IsTrue, OnOk, take, drop, List, ℕ};
-ghost use Rattle.std.specs.Io.KnownBytes.{Appends, Keeps};
+ghost use Rattle.std.specs.Prelude.{◌≡◌, ◌-◌, ◌≤◌, IfErr, IfOk, IsTrue, OnOk, take, drop};
+ghost use Rattle.std.specs.Io.KnownBytes.{Appends};
 ghost use Rattle.ocfl_state.specs.Crash.{LeavesOnly, Passes, Same};
-ghost use Rattle.ocfl_night.specs.{Promises.{IfReady, SameClosed}, Sound.{IsHeard, IsHeardReady}};
+ghost use Rattle.ocfl_night.specs.{Output.{Grows, HasCommitted}, Promises.{IfReady, SameClosed}, Sound.{IsHeard, IsHeardReady}};
 ghost use Rattle.ocfl_night.specs.Steps.{unsaid, with_all_told};
 ghost use Rattle.ocfl_night.specs.Stopping.{IsSayStop, IsSpeakStop};
 
 use crate::checkpoint::{
     bytes_of, is_all_told, put_checkpoint, tells_within, told_of, with_all_told,
 };
+use crate::output::Output;
 use crate::stop::Stop;
-use ocfl_report::write_all_of;
 use ocfl_state::{Checkpoint, StateFolder};
 use std::alloc::Global;
-use std::io::Write;
 
 // How many bytes are read at once.
 const PIECE: usize = 8_192;
 
-/// Says a piece of the report that begins at an offset, and gives how many bytes that were: 1 to
-/// the most that are asked for. `Short` if the report has no more.
-fn say_piece<S: StateFolder, W: Write>(
+/// Gives the output a piece of the report that begins at an offset, and answers how many bytes that
+/// were: 1 to the most that are asked for. `Short` if the report has no more.
+fn say_piece<S: StateFolder, O: Output>(
     folder: &mut S,
-    out: &mut W,
+    out: &mut O,
     start: u64,
     most: u64,
 ) -> Result<u64, Stop>
     requires { 1 ≤ most }
     ensures some { IfOk result (λ count. (1 ≤ count) × (count ≤ most)) }
-    ensures said { IsTrue S.told → IfOk result (λ count. Appends (W.contents out.old)
-        (W.contents out.new) (take count (drop start (S.seen folder.old).report))) }
-    ensures grew { (more : List ℕ) × Appends (W.contents out.old) (W.contents out.new) more }
+    ensures said { IsTrue S.told → IfOk result (λ count. Appends (O.said out.old).given
+        (O.said out.new).given (take count (drop start (S.seen folder.old).report))) }
+    ensures grew { Grows (O.said out.old) (O.said out.new) }
     ensures seen { IsTrue S.told → S.seen folder.new ≡ S.seen folder.old }
     ensures crash { IsTrue S.told
         → Passes S.may_leave S.moment S.left_since Same folder.old folder.new }
@@ -42,23 +41,22 @@ fn say_piece<S: StateFolder, W: Write>(
         return Err(Stop::Short);
     }
     let told = (count as u64).min(most);
-    match write_all_of(out, &piece[..told as usize]) {
-        Ok(()) => Ok(told),
-        Err(_) => Err(Stop::Output),
-    }
+    out.give(&piece[..told as usize])?;
+    Ok(told)
 }
 
-/// Says the report's bytes from one offset to another.
-fn say_between<S: StateFolder, W: Write>(
+/// Gives the output the report's bytes from one offset to another.
+#[tactic(auto, using(crate::proofs::Heard::grows_none))]
+fn say_between<S: StateFolder, O: Output>(
     folder: &mut S,
-    out: &mut W,
+    out: &mut O,
     start: u64,
     end: u64,
 ) -> Result<(), Stop>
     requires { start ≤ end }
-    ensures said { IsTrue S.told → OnOk result (Appends (W.contents out.old)
-        (W.contents out.new) (take (end - start) (drop start (S.seen folder.old).report))) }
-    ensures grew { (more : List ℕ) × Appends (W.contents out.old) (W.contents out.new) more }
+    ensures said { IsTrue S.told → OnOk result (Appends (O.said out.old).given
+        (O.said out.new).given (take (end - start) (drop start (S.seen folder.old).report))) }
+    ensures grew { Grows (O.said out.old) (O.said out.new) }
     ensures seen { IsTrue S.told → S.seen folder.new ≡ S.seen folder.old }
     ensures crash { IsTrue S.told
         → Passes S.may_leave S.moment S.left_since Same folder.old folder.new }
@@ -71,51 +69,41 @@ fn say_between<S: StateFolder, W: Write>(
     Ok(())
 }
 
-/// Flushes an output.
-fn flush<W: Write>(out: &mut W) -> Result<(), Stop>
-    ensures kept { Keeps (W.contents out.old) (W.contents out.new) }
-    ensures stop { IfErr result IsSayStop }
-{
-    match out.flush() {
-        Ok(()) => Ok(()),
-        Err(_) => Err(Stop::Output),
-    }
-}
-
-/// Says what was not said of the report, and flushes the output.
-fn say_rest<S: StateFolder, W: Write>(
+/// Says what was not said of the report: the output has committed it.
+fn say_rest<S: StateFolder, O: Output>(
     folder: &mut S,
-    out: &mut W,
+    out: &mut O,
     checkpoint: &Checkpoint,
 ) -> Result<(), Stop>
     requires { checkpoint.now.told ≤ checkpoint.now.report.bytes }
-    ensures said { IsTrue S.told → OnOk result (Appends (W.contents out.old)
-        (W.contents out.new) (unsaid checkpoint.now (S.seen folder.old))) }
-    ensures grew { (more : List ℕ) × Appends (W.contents out.old) (W.contents out.new) more }
+    ensures said { IsTrue S.told → OnOk result (HasCommitted
+        (unsaid checkpoint.now (S.seen folder.old)) (O.said out.old) (O.said out.new)) }
+    ensures grew { Grows (O.said out.old) (O.said out.new) }
     ensures seen { IsTrue S.told → S.seen folder.new ≡ S.seen folder.old }
     ensures crash { IsTrue S.told
         → Passes S.may_leave S.moment S.left_since Same folder.old folder.new }
     ensures stop { IfErr result IsSayStop }
 {
     say_between(folder, out, told_of(checkpoint), bytes_of(checkpoint))?;
-    flush(out)
+    out.commit()?;
+    Ok(())
 }
 
 /// Says what was not said of the report, and then puts a checkpoint that says so.
-pub fn speak<S: StateFolder, W: Write>(
+pub fn speak<S: StateFolder, O: Output>(
     alloc: Global,
     folder: &mut S,
-    out: &mut W,
+    out: &mut O,
     checkpoint: Checkpoint,
 ) -> Result<Checkpoint, Stop>
     ensures heard { IsTrue S.told → IfReady S.seen S.may_leave checkpoint folder.old
         (λ rounds t. LeavesOnly S.moment S.left_since folder.old folder.new
-        (IsHeard rounds t (W.contents out.old) (W.contents out.new))) }
+        (IsHeard rounds t (O.said out.old) (O.said out.new))) }
     ensures ready { IsTrue S.told → IfReady S.seen S.may_leave checkpoint folder.old
         (λ rounds t. IfOk result (λ next. IsHeardReady S.seen S.may_leave rounds t
-        (W.contents out.old) (W.contents out.new) next folder.new)) }
+        (O.said out.old) (O.said out.new) next folder.new)) }
     ensures all { IfOk result (λ next. next ≡ with_all_told checkpoint) }
-    ensures grew { (more : List ℕ) × Appends (W.contents out.old) (W.contents out.new) more }
+    ensures grew { Grows (O.said out.old) (O.said out.new) }
     ensures closed { IsTrue S.told → OnOk result (SameClosed S.seen folder.old folder.new) }
     ensures stop { IfErr result (IsSpeakStop checkpoint) }
 {

@@ -1,8 +1,9 @@
 //! Why a night ended early.
 ghost use Rattle.std.specs.Prelude.{◌≡◌};
 ghost use Rattle.ocfl_state.specs.declared.folder.FolderTrouble.TheVariants.{Memory};
-ghost use Rattle.ocfl_night.specs.declared.stop.Stop.TheVariants.{Folder};
+ghost use Rattle.ocfl_night.specs.declared.stop.Stop.TheVariants.{Folder, Output};
 
+use crate::output::OutputFailed;
 use ocfl_state::FolderTrouble;
 use ocfl_tree::Place;
 use std::alloc::AllocError;
@@ -24,7 +25,7 @@ pub enum Stop {
     Overtold,
     /// The report ended before what was to be said of it.
     Short,
-    /// The output did not take what was said.
+    /// The output did not commit what was said.
     Output,
 }
 
@@ -33,6 +34,14 @@ impl From<FolderTrouble> for Stop {
 
     fn from(trouble: FolderTrouble) -> Stop {
         Stop::Folder(trouble)
+    }
+}
+
+impl From<OutputFailed> for Stop {
+    ghost from_gives = { λ _ e. e ≡ Output };
+
+    fn from(_failure: OutputFailed) -> Stop {
+        Stop::Output
     }
 }
 

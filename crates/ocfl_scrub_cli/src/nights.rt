@@ -28,7 +28,7 @@ use ocfl_cursor::Budget;
 use ocfl_digest::Block;
 use ocfl_folder::FsTree;
 use ocfl_line::NightAsked;
-use ocfl_night::{Halt, NightEnd, Plan, Site, night, status_found, status_of};
+use ocfl_night::{Flushing, Halt, NightEnd, Output, Plan, Site, night, status_found, status_of};
 use ocfl_report::Line;
 use ocfl_state::{Reason, StateFile, StateFolder};
 use ocfl_telling::{Known, NightRow};
@@ -194,14 +194,14 @@ where
 }
 
 /// Makes a night over a store, and shows progress.
-fn night_over<R, S, T, C, W>(
+fn night_over<R, S, T, C, O>(
     rt: &R,
     given: &Given<'_>,
     folder: &mut S,
     tree: &mut T,
     clock: &mut C,
     block: &mut Block,
-    out: &mut W,
+    out: &mut O,
     reasons: &Cell<Reasons>,
     shown: Shown,
 ) -> NightEnd
@@ -210,7 +210,7 @@ where
     S: StateFolder,
     T: Tree + Reasoned,
     C: ocfl_night::Clock,
-    W: Write,
+    O: Output,
 {
     let mut tree = Watched::over(rt, tree, shown.is_shown, reasons, shown.last_cost);
     night(
@@ -226,12 +226,12 @@ where
 }
 
 /// Makes a night over the storage root, and gives why the last call over it failed that did.
-fn night_in<R, S, C, W>(
+fn night_in<R, S, C, O>(
     rt: &R,
     given: &Given<'_>,
     folder: &mut S,
     clock: &mut C,
-    out: &mut W,
+    out: &mut O,
     reasons: &Cell<Reasons>,
     shown: Shown,
 ) -> Result<(NightEnd, Option<String>), Failure>
@@ -239,7 +239,7 @@ where
     R: Files + Env + AllocGlobal + Clock + Eprint,
     S: StateFolder,
     C: ocfl_night::Clock,
-    W: Write,
+    O: Output,
 {
     let mut block = Block::new(rt.alloc())?;
     let Ok(mut tree) = FsTree::entering(rt, given.root.as_str()) else {
@@ -279,7 +279,8 @@ where
         now.clone()?,
         out,
     );
-    let (end, why) = night_in(rt, given, folder, &mut clock, &mut teller, &reasons, shown)?;
+    let mut out = Flushing::over(&mut teller);
+    let (end, why) = night_in(rt, given, folder, &mut clock, &mut out, &reasons, shown)?;
     Ok(Made {
         end,
         cost: began.spent_until(now.get()),

@@ -6,13 +6,13 @@ mod left_out;
 use crate::tests::common::Runtime;
 use crate::tests::common::digests::lines_of;
 use crate::tests::common::odd_store::Unmounted;
-use crate::tests::common::output::Narrow;
+use crate::tests::common::output::{Losing, Narrow};
 use crate::tests::common::roots::three_files;
 use crate::tests::common::store::{change, place_of};
 use ocfl_cursor::{Budget, PartEnds, Refused};
 use ocfl_digest::Block;
 use ocfl_memory::{MemTree, Point};
-use ocfl_night::{Clock, Halt, Made, NightEnd, Plan, Refusal, Site, Stop, night};
+use ocfl_night::{Clock, Flushing, Halt, Made, NightEnd, Plan, Refusal, Site, Stop, night};
 use ocfl_state::{MemState, StateFolder, decode_checkpoint};
 use ocfl_tree::Tree;
 use sha2::{Digest, Sha256};
@@ -115,7 +115,10 @@ fn night_over<T: Tree, W: Write>(
 ) -> Result<NightEnd, Fail> {
     let mut block = Block::new(alloc)?;
     let mut clock = Still::at(5, 1 << 32);
-    Ok(night(alloc, folder, tree, site, plan, &mut clock, &mut block, out))
+    let mut out = Flushing::over(out);
+    Ok(night(
+        alloc, folder, tree, site, plan, &mut clock, &mut block, &mut out,
+    ))
 }
 
 /// A state folder, and what the nights over it said.
@@ -296,6 +299,29 @@ fn what_the_output_refused_is_said_by_the_next_night(rt: HostRuntime) -> Result<
         assert_eq!(rt; (ending(&next.end), next.runs), ("spent", 0), "{room}");
         assert_eq!(rt; nights.said.as_slice(), first.as_bytes(), "{room}");
     }
+    Ok(())
+}
+
+// Seen to fail if a night does not flush its output.
+#[test]
+fn what_a_flush_lost_is_said_by_the_next_night(rt: HostRuntime) -> Result<(), Fail> {
+    let first = lines_of(rt.alloc(), FIRST)?;
+    let mut folder = MemState::new(rt.alloc());
+    let mut losing = Losing::new(rt.alloc());
+    let made = night_of(
+        rt.alloc(),
+        &mut folder,
+        &plan(Some(1), None, true)?,
+        &mut losing,
+    )?;
+    assert_eq!(rt; ending(&made.end), "output");
+    let none = plan(Some(0), None, false)?;
+    let next = night_of(rt.alloc(), &mut folder, &none, &mut losing)?;
+    assert_eq!(rt; (ending(&next.end), next.runs), ("spent", 0));
+    assert_eq!(rt; losing.out.as_slice(), first.as_bytes());
+    let last = night_of(rt.alloc(), &mut folder, &none, &mut losing)?;
+    assert_eq!(rt; ending(&last.end), "spent");
+    assert_eq!(rt; losing.out.as_slice(), first.as_bytes());
     Ok(())
 }
 
@@ -585,7 +611,7 @@ fn a_night_that_is_asked_to_stop_begins_no_run(rt: HostRuntime) -> Result<(), Fa
             &plan(None, None, true)?,
             &mut clock,
             &mut block,
-            &mut said,
+            &mut Flushing::over(&mut said),
         );
         assert_eq!(rt; (ending(&made.end), made.runs), (want, runs), "{questions}");
         assert_eq!(rt; (clock.heard, clock.cost), (runs, cost), "{questions}");

@@ -18,8 +18,8 @@ returns g c = λ told root short tells over1 over2 fresh well1 well2 d left.
     let l2 = look_between root s2 t2 in
     let safe1 = c.night-one.ensures.heard told tells root over1 short in
     let safe2 = c.night-two.ensures.heard told tells root over2 short in
-    let n1 : Night _ = record { gone = []; began = f0; ended = f1; look = l1; before = g.W.Write.contents c.args.out.now; said = g.W.Write.contents c.night-one.new.out } in
-    let n2 : Night _ = record { gone = []; began = f1; ended = f2; look = l2; before = g.W.Write.contents c.night-one.new.out; said = g.W.Write.contents c.night-two.new.out } in
+    let n1 : Night _ = record { gone = []; began = f0; ended = f1; look = l1; before = g.O.Output.said c.args.out.now; said = g.O.Output.said c.night-one.new.out } in
+    let n2 : Night _ = record { gone = []; began = f1; ended = f2; look = l2; before = g.O.Output.said c.night-one.new.out; said = g.O.Output.said c.night-two.new.out } in
     let first = safe1 None tt (λ x l. ([], empty_sound (of_any part) x (fresh x l))) in
     let read1 = c.where_nothing_failed_all_was_read.ensures root s1 t1 (c.night-one.ensures.counts tells root over1 short) well1 in
     let read2 = c.where_nothing_failed_all_was_read.ensures root s2 t2 (c.night-two.ensures.counts tells root over2 short) well2 in

@@ -3,22 +3,22 @@ use Rattle.ocfl_state.specs.Checkpoint.{Checkpoint}
 use Rattle.ocfl_night.specs.Beginning.{position}
 use Rattle.ocfl_night.proofs.Beginnings.{begins_so}
 use Rattle.ocfl_night.proofs.Moments.{joined_moments, leaves_weaker}
-use Rattle.ocfl_night.proofs.Heard.{found_heard, grew_none, is_err, since_found}
+use Rattle.ocfl_night.proofs.Heard.{found_heard, grows_none, is_err, since_found}
 use Rattle.ocfl_night.proofs.Whole.{told_whole}
 use Rattle.ocfl_night.proofs.nights.catch_up.Goals as goal
 
 pub returns-in_err-opened-clause-heard : goal.returns-in_err-opened-clause-heard
-returns-in_err-opened-clause-heard g c = λ told rounds kept. leaves_weaker (λ x h. found_heard (grew_none _) h) (c.open.ensures.any_moment told rounds kept)
+returns-in_err-opened-clause-heard g c = λ told rounds kept. leaves_weaker (λ x h. found_heard h) (c.open.ensures.any_moment told rounds kept)
 
 pub returns-in_err-speak-clause-heard : goal.returns-in_err-speak-clause-heard
 returns-in_err-speak-clause-heard g c = λ told rounds kept.
     let r = c.in_ok-opened.ensures.ready told rounds kept in
-    joined_moments (leaves_weaker (λ x h. found_heard c.speak.ensures.grew h) (c.open.ensures.any_moment told rounds kept)) (leaves_weaker (λ x h. since_found r h) (c.speak.ensures.heard told rounds (kept r.from r.was).0 r.ready))
+    joined_moments (leaves_weaker (λ x h. found_heard h) (c.open.ensures.any_moment told rounds kept)) (leaves_weaker (λ x h. since_found r h) (c.speak.ensures.heard told rounds (kept r.from r.was).0 r.ready))
 
 pub returns-clause-heard : goal.returns-clause-heard
 returns-clause-heard g c = λ told rounds kept.
     let r = c.in_ok-opened.ensures.ready told rounds kept in
-    joined_moments (leaves_weaker (λ x h. found_heard c.speak.ensures.grew h) (c.open.ensures.any_moment told rounds kept)) (leaves_weaker (λ x h. since_found r h) (c.speak.ensures.heard told rounds (kept r.from r.was).0 r.ready))
+    joined_moments (leaves_weaker (λ x h. found_heard h) (c.open.ensures.any_moment told rounds kept)) (leaves_weaker (λ x h. since_found r h) (c.speak.ensures.heard told rounds (kept r.from r.was).0 r.ready))
 
 pub returns-clause-ready : goal.returns-clause-ready
 returns-clause-ready g c = λ told rounds kept.
@@ -67,3 +67,6 @@ returns-clause-whole g c = λ told. told_whole c.in_ok-opened.opened.checkpoint 
 
 pub returns-clause-begins : goal.returns-clause-begins
 returns-clause-begins g c = λ told. begins_so (ap position c.in_ok-speak.ensures.all) (c.in_ok-opened.ensures.begins told)
+
+pub returns-in_err-opened-clause-grew : goal.returns-in_err-opened-clause-grew
+returns-in_err-opened-clause-grew g c = grows_none _

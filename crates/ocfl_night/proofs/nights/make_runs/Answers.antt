@@ -7,33 +7,33 @@ use Rattle.ocfl_night.specs.Looks.{Rounds, of_any}
 use Rattle.ocfl_night.specs.{Done.{done_of}, Ending.{cycle_of}, Sound.{IsOneMore}}
 use Rattle.ocfl_night.proofs.Beginnings.{ended_in, none_ended, one_more_since, shut_before}
 use Rattle.ocfl_night.proofs.Runs.{halted_so, made_so, troubled_after, troubled_in}
-use Rattle.ocfl_night.proofs.{Moments.{joined_moments}, Heard.{grew_none, said_on, silent}}
+use Rattle.ocfl_night.proofs.{Moments.{joined_moments}, Heard.{grows_none, said_on, silent}}
 use Rattle.ocfl_night.proofs.Whole.{closing_by, come_whole, grown_whole, told_whole}
 use Rattle.ocfl_night.proofs.nights.make_runs.Goals as goal
 
 pub returns-in_err-last-clause-heard : goal.returns-in_err-last-clause-heard
 returns-in_err-last-clause-heard g c = λ told tells root over short known one t r.
-    silent (grew_none _) (c.runs.ensures.any_moment told tells root over short known one t r)
+    silent (c.runs.ensures.any_moment told tells root over short known one t r)
 
 pub returns-in_err-said-clause-heard : goal.returns-in_err-said-clause-heard
 returns-in_err-said-clause-heard g c = λ told tells root over short known one t r.
     let rounds : Rounds = record { part = part_of c.args.part.now; known = known } in
     let ready = c.in_ok-last.ensures.ready told tells root over short known one t r in
-    joined_moments (silent c.speak.ensures.grew (c.runs.ensures.any_moment told tells root over short known one t r)) (c.speak.ensures.heard told rounds t ready)
+    joined_moments (silent (c.runs.ensures.any_moment told tells root over short known one t r)) (c.speak.ensures.heard told rounds t ready)
 
 pub returns-in_err-ended-clause-heard : goal.returns-in_err-ended-clause-heard
 returns-in_err-ended-clause-heard g c = λ told tells root over short known one t r.
     let rounds : Rounds = record { part = part_of c.args.part.now; known = known } in
     let ready = c.in_ok-last.ensures.ready told tells root over short known one t r in
     let said = c.in_ok-said.ensures.ready told rounds t ready in
-    said_on said (joined_moments (silent c.speak.ensures.grew (c.runs.ensures.any_moment told tells root over short known one t r)) (c.speak.ensures.heard told rounds t ready)) (c.finish.ensures.any_moment told rounds (t ++ said.more) said.ready)
+    said_on said (joined_moments (silent (c.runs.ensures.any_moment told tells root over short known one t r)) (c.speak.ensures.heard told rounds t ready)) (c.finish.ensures.any_moment told rounds (t ++ said.more) said.ready)
 
 pub returns-clause-heard : goal.returns-clause-heard
 returns-clause-heard g c = λ told tells root over short known one t r.
     let rounds : Rounds = record { part = part_of c.args.part.now; known = known } in
     let ready = c.in_ok-last.ensures.ready told tells root over short known one t r in
     let said = c.in_ok-said.ensures.ready told rounds t ready in
-    said_on said (joined_moments (silent c.speak.ensures.grew (c.runs.ensures.any_moment told tells root over short known one t r)) (c.speak.ensures.heard told rounds t ready)) (c.finish.ensures.any_moment told rounds (t ++ said.more) said.ready)
+    said_on said (joined_moments (silent (c.runs.ensures.any_moment told tells root over short known one t r)) (c.speak.ensures.heard told rounds t ready)) (c.finish.ensures.any_moment told rounds (t ++ said.more) said.ready)
 
 pub returns-in_err-last-clause-counts : goal.returns-in_err-last-clause-counts
 returns-in_err-last-clause-counts g c = λ tells root over short. c.runs.ensures.counts tells root over short
@@ -98,3 +98,6 @@ returns-clause-whole g c = λ told tells root over short t r cycle is d come.
     let fits = come_whole ends said.ready (c.in_ok-ended.ensures.finished told ends) d (come ∙ ap (λ (l : List Closed). l ++ d ∷ []) (sym closed)) in
     let all = told_whole c.in_ok-last.last c.in_ok-said.ensures.all (grown_whole c.in_ok-last.ensures.leads) in
     ((λ it. all.0 (fits.0 it)), (λ both. fits.1 (all.1 both)))
+
+pub returns-in_err-last-clause-grew : goal.returns-in_err-last-clause-grew
+returns-in_err-last-clause-grew g c = grows_none _

@@ -28,7 +28,7 @@ module _ (g : given.Over) (c : After-make_runs-through g) (tells : IsTrue g.T.Tr
   runs_count = c.make_runs-through.ensures.counts tells root (c.set_out.ensures.root tells ∙ over) short
 
   heard : IsTrue g.S.StateFolder.told
-      → IsSafeNight g.S.StateFolder.may_leave g.S.StateFolder.moment g.S.StateFolder.left_since (part_at c.args.site.now.ends) (look_between root (g.T.Tree.state c.args.tree.now) (g.T.Tree.state c.make_runs-through.new.tree)) c.args.folder.now c.make_runs-through.new.folder (g.W.Write.contents c.args.out.now) (g.W.Write.contents c.make_runs-through.new.out)
+      → IsSafeNight g.S.StateFolder.may_leave g.S.StateFolder.moment g.S.StateFolder.left_since (part_at c.args.site.now.ends) (look_between root (g.T.Tree.state c.args.tree.now) (g.T.Tree.state c.make_runs-through.new.tree)) c.args.folder.now c.make_runs-through.new.folder (g.O.Output.said c.args.out.now) (g.O.Output.said c.make_runs-through.new.out)
   heard told known one kept =
       let rounds : Rounds = record { part = part_at c.args.site.now.ends; known = known } in
       let same = ap (λ (p : Part). rounds_over p known) c.in-Ok.ensures.part in

@@ -1,7 +1,7 @@
 use Rattle.std.proofs.{Common.{◌∙◌, ap, Err}, lemmas.Result.{err_from_is_err_and}}
 use Rattle.ocfl_night.specs.Refusing.{in_folder}
 use Rattle.ocfl_night.proofs.{Looks.{counts_did, counts_none, counts_unidentified}, Moments.{untouched}, Foreigners.{barred_by, no_root_by}}
-use Rattle.ocfl_night.proofs.Heard.{begun_heard, grew_none, is_err}
+use Rattle.ocfl_night.proofs.Heard.{begun_heard, grows_none, is_err}
 use Rattle.ocfl_night.proofs.nights.set_out.Goals as goal
 
 pub returns-in_err-part-clause-heard : goal.returns-in_err-part-clause-heard
@@ -11,10 +11,10 @@ pub returns-in_err-identity-clause-heard : goal.returns-in_err-identity-clause-h
 returns-in_err-identity-clause-heard g c = λ told rounds kept. begun_heard (g.met.S.StateFolder.only_now told) kept
 
 pub returns-in_err-part-clause-grew : goal.returns-in_err-part-clause-grew
-returns-in_err-part-clause-grew g c = grew_none _
+returns-in_err-part-clause-grew g c = grows_none _
 
 pub returns-in_err-identity-clause-grew : goal.returns-in_err-identity-clause-grew
-returns-in_err-identity-clause-grew g c = grew_none _
+returns-in_err-identity-clause-grew g c = grows_none _
 
 pub returns-in_err-part-clause-barred : goal.returns-in_err-part-clause-barred
 returns-in_err-part-clause-barred g c = λ told barred. (is_err _ c.from_residual.result c.from_residual.ensures.1, untouched)

@@ -1,14 +1,15 @@
-use Rattle.std.proofs.Common.{◌≡◌, ◌≤◌, ◌-◌, ℕ, List, take, drop}
+use Rattle.std.proofs.Common.{◌≡◌, ◌≤◌, ◌-◌, take, drop}
 use Rattle.std.specs.{Prelude.{IsTrue}, Io.KnownBytes.{Appends}}
 use Rattle.ocfl_state.specs.Crash.{Same, Passes}
+use Rattle.ocfl_night.specs.Output.{Grows}
 use Rattle.ocfl_night.proofs.saying.say_between.Given as goal
 
 abbrev pub invariant-loop-at : goal.invariant-loop-at
 invariant-loop-at g l = record {
   from : l.start ≤ l.at;
   up_to : l.at ≤ l.end;
-  said : IsTrue g.S.StateFolder.told → Appends (g.W.Write.contents l.fn.out) (g.W.Write.contents l.out) (take (l.at - l.start) (drop l.start (g.S.StateFolder.seen l.fn.folder).report));
-  grew : (more : List ℕ) × Appends (g.W.Write.contents l.fn.out) (g.W.Write.contents l.out) more;
+  said : IsTrue g.S.StateFolder.told → Appends (g.O.Output.said l.fn.out).given (g.O.Output.said l.out).given (take (l.at - l.start) (drop l.start (g.S.StateFolder.seen l.fn.folder).report));
+  grew : Grows (g.O.Output.said l.fn.out) (g.O.Output.said l.out);
   seen : IsTrue g.S.StateFolder.told → g.S.StateFolder.seen l.folder ≡ g.S.StateFolder.seen l.fn.folder;
   crash : IsTrue g.S.StateFolder.told → Passes g.S.StateFolder.may_leave g.S.StateFolder.moment g.S.StateFolder.left_since Same l.fn.folder l.folder;
 }

@@ -1,11 +1,11 @@
 use Rattle.std.proofs.Common.{◌≡◌, ℕ, ap}
 use Rattle.ocfl_state.specs.Checkpoint.{Checkpoint}
 use Rattle.ocfl_night.proofs.{Moments.{only_same, unchanged, unmoved}, Sound.{said_by, ready_sound}}
-use Rattle.ocfl_night.proofs.Heard.{heard_put, put_heard, same_ready, silent, grew_none}
+use Rattle.ocfl_night.proofs.Heard.{grows_none, heard_put, put_heard, same_ready, silent}
 use Rattle.ocfl_night.proofs.saying.speak.Goals as goal
 
 pub returns-in_err-say_rest-clause-heard : goal.returns-in_err-say_rest-clause-heard
-returns-in_err-say_rest-clause-heard g c = λ told rounds t r. silent c.say_rest.ensures.grew (unchanged (g.met.S.StateFolder.only_now told) (ready_sound r) (c.say_rest.ensures.crash told))
+returns-in_err-say_rest-clause-heard g c = λ told rounds t r. silent (unchanged (g.met.S.StateFolder.only_now told) (ready_sound r) (c.say_rest.ensures.crash told))
 
 pub returns-in_err-put_checkpoint-clause-heard : goal.returns-in_err-put_checkpoint-clause-heard
 returns-in_err-put_checkpoint-clause-heard g c = λ told rounds t r.
@@ -26,7 +26,7 @@ returns-clause-ready g c = λ told rounds t r.
     (c.in_ok-put_checkpoint.ensures.durable told (only_same g.S.StateFolder.seen (c.say_rest.ensures.crash told) (c.say_rest.ensures.seen told) r.only))
 
 pub returns-then-is_all_told-clause-heard : goal.returns-then-is_all_told-clause-heard
-returns-then-is_all_told-clause-heard g c = λ told rounds t r. silent (grew_none _) (unmoved (g.met.S.StateFolder.only_now told) (ready_sound r))
+returns-then-is_all_told-clause-heard g c = λ told rounds t r. silent (unmoved (g.met.S.StateFolder.only_now told) (ready_sound r))
 
 pub returns-then-is_all_told-clause-ready : goal.returns-then-is_all_told-clause-ready
 returns-then-is_all_told-clause-ready g c = λ told rounds t r. same_ready r
@@ -37,4 +37,10 @@ returns-then-is_all_told-clause-all g c =
     ap (λ (n : ℕ). record k { told = n }) (c.is_all_told.ensures.0 c.if-is_all_told.true)
 
 pub returns-then-not-tells_within-clause-heard : goal.returns-then-not-tells_within-clause-heard
-returns-then-not-tells_within-clause-heard g c = λ told rounds t r. silent (grew_none _) (unmoved (g.met.S.StateFolder.only_now told) (ready_sound r))
+returns-then-not-tells_within-clause-heard g c = λ told rounds t r. silent (unmoved (g.met.S.StateFolder.only_now told) (ready_sound r))
+
+pub returns-then-is_all_told-clause-grew : goal.returns-then-is_all_told-clause-grew
+returns-then-is_all_told-clause-grew g c = grows_none _
+
+pub returns-then-not-tells_within-clause-grew : goal.returns-then-not-tells_within-clause-grew
+returns-then-not-tells_within-clause-grew g c = grows_none _

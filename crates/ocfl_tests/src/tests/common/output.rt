@@ -57,3 +57,40 @@ impl Write for Counting {
         Ok(())
     }
 }
+
+/// Keeps bytes back until it is flushed. The first flush fails, and they are lost.
+#[derive(Drop)]
+pub struct Losing {
+    fails: bool,
+    back: Vec<u8>,
+    pub out: Vec<u8>,
+}
+
+impl Losing {
+    pub fn new(alloc: Global) -> Losing {
+        Losing {
+            fails: true,
+            back: Vec::new(alloc),
+            out: Vec::new(alloc),
+        }
+    }
+}
+
+impl Write for Losing {
+    fn write(&mut self, buffer: &[u8]) -> io::Result<usize> {
+        self.back.extend_from_slice(buffer)?;
+        Ok(buffer.len())
+    }
+
+    fn flush(&mut self) -> io::Result<()> {
+        if !self.fails {
+            self.out.extend_from_slice(&self.back)?;
+        }
+        self.back.clear();
+        if self.fails {
+            self.fails = false;
+            return Err(io::Error::from(ErrorKind::Other));
+        }
+        Ok(())
+    }
+}

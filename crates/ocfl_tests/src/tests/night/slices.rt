@@ -8,7 +8,7 @@ use crate::tests::common::store::times_opened;
 use ocfl_cursor::Budget;
 use ocfl_digest::Block;
 use ocfl_memory::MemTree;
-use ocfl_night::{Clock, Made, night};
+use ocfl_night::{Clock, Flushing, Made, night};
 use ocfl_state::MemState;
 use std::test::Fail;
 
@@ -112,7 +112,7 @@ fn slices_shrink_to_a_minute_and_near_the_end(rt: HostRuntime) -> Result<(), Fai
             &limits,
             &mut Later { time: 5, step },
             &mut block,
-            &mut said,
+            &mut Flushing::over(&mut said),
         );
         assert_eq!(rt; (ending(&made.end), made.runs), (want, runs), "{step}");
     }

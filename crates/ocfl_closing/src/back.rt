@@ -1,14 +1,16 @@
 //! Objects that earlier closings call gone, of which some may be back.
 
 use crate::closed::MOST_BACK;
-use crate::closing::list_path;
-use crate::files::open_if_there;
+use crate::kept::list_path;
 use crate::reading::{TakeLine, take_lines};
-use crate::rows::{place_of, row_of};
+use crate::room::Room;
+use crate::rows::{OBJECT, Row, place_of, row_of};
 use ocfl_tree::Place;
 use std::alloc::{AllocError, Global};
 use std::io::{self, BufReader, Write};
-use std::rt::Files;
+
+/// The word of a row of an object that is no longer declared.
+const UNDECLARED: &[u8] = b"undeclared";
 
 /// How many objects are looked for at most.
 const MOST: usize = 1_000_000;
@@ -29,27 +31,25 @@ impl Places {
         }
     }
 
-    /// Takes a row, with its line feed.
-    fn take_row(&mut self, text: &[u8]) -> io::Result<()> {
-        let row = row_of(text)?;
+    /// Takes the place of a row.
+    fn take_row(&mut self, row: Row<'_>) -> io::Result<()> {
         self.places.push(place_of(self.alloc, row.path)?)?;
         Ok(())
     }
 
     /// Takes a row of a list of what is gone, if it is of an object.
-    fn take_object(&mut self, text: &[u8]) -> io::Result<()> {
-        let row = row_of(text)?;
-        match row.word {
-            b"object" | b"undeclared" => self.take_row(text),
-            _ => Ok(()),
+    fn take_object(&mut self, row: Row<'_>) -> io::Result<()> {
+        if row.word == OBJECT || row.word == UNDECLARED {
+            return self.take_row(row);
         }
+        Ok(())
     }
 }
 
 impl Write for Places {
     fn write(&mut self, buffer: &[u8]) -> io::Result<usize> {
         for row in buffer.split_inclusive(|&byte| byte == b'\n') {
-            self.take_row(row)?;
+            self.take_row(row_of(row)?)?;
         }
         Ok(buffer.len())
     }
@@ -62,7 +62,7 @@ impl Write for Places {
 /// Takes the lines of a list of what is gone. It wants no more after one that cannot be read.
 impl TakeLine for Places {
     fn take_line(&mut self, _alloc: Global, text: &[u8]) -> io::Result<bool> {
-        self.take_object(text)?;
+        self.take_object(row_of(text)?)?;
         Ok(self.places.len() < MOST)
     }
 }
@@ -70,14 +70,14 @@ impl TakeLine for Places {
 /// Takes the objects that a closing calls gone, as far as its list is there and can be read.
 fn take_list<R>(rt: &R, state: &str, cycle: u64, gone: &mut Places) -> Result<(), AllocError>
 where
-    R: Files + AllocGlobal,
+    R: Room,
 {
-    let path = list_path(rt.alloc(), state, cycle)?;
-    if let Ok(Some(list)) = open_if_there(rt, path.as_str()) {
-        let Ok(mut reader) = BufReader::new(rt.alloc(), list) else {
+    let path = list_path(rt.global(), state, cycle)?;
+    if let Ok(Some(list)) = rt.find_file(path.as_str()) {
+        let Ok(mut reader) = BufReader::new(rt.global(), list) else {
             return Err(AllocError);
         };
-        let _ = take_lines(rt.alloc(), &mut reader, gone);
+        let _ = take_lines(rt.global(), &mut reader, gone);
     }
     Ok(())
 }
@@ -85,9 +85,9 @@ where
 /// The objects that the closings before that of a cycle call gone, up to 1,000,000.
 pub(crate) fn gone_before<R>(rt: &R, state: &str, cycle: u64) -> Result<Vec<Place>, AllocError>
 where
-    R: Files + AllocGlobal,
+    R: Room,
 {
-    let mut gone = Places::new(rt.alloc());
+    let mut gone = Places::new(rt.global());
     for back in 1..MOST_BACK {
         let before = cycle.saturating_sub(back);
         if before == 0 || gone.places.len() >= MOST {

@@ -1,20 +1,16 @@
 //! What is known of closed cycles, and which of them a cycle is compared with.
 
 use crate::failing::Failure;
-use crate::kept::{is_as_closed, read_kept};
-use crate::state::folder_failure;
-use crate::state_dir::StateDir;
-use ocfl_state::{Checkpoint, Left, OpenReport};
+use crate::kept::{is_as_closed, open_report, read_kept};
+use crate::state_dir::Folder;
+use ocfl_state::{Checkpoint, Left};
 use ocfl_tree::Place;
 use std::alloc::{AllocError, Global};
-use std::fs::File;
-use std::rt::Files;
 
 /// How many cycles back a report is looked for at most.
 pub(crate) const MOST_BACK: u64 = 1_000;
 
 /// A closed cycle whose report is there.
-#[derive(Debug)]
 pub(crate) struct ClosedCycle {
     /// Its number.
     pub(crate) cycle: u64,
@@ -39,22 +35,12 @@ impl Drop for ClosedCycle {
 }
 
 /// What a cycle is compared with.
-#[derive(Debug, Drop)]
+#[derive(Drop)]
 pub(crate) struct Earlier {
     /// The last cycle before it whose report is there and lost nothing.
     pub(crate) found: Option<ClosedCycle>,
     /// The last cycle after that one, and before this one, whose report is not there; 0 if all are.
     pub(crate) missing: u64,
-}
-
-impl Earlier {
-    /// Nothing.
-    pub(crate) fn none() -> Earlier {
-        Earlier {
-            found: None,
-            missing: 0,
-        }
-    }
 }
 
 /// The places of branches that were left out.
@@ -94,90 +80,89 @@ pub(crate) fn outside(
     Ok(rest)
 }
 
-/// The places that a cycle left out, by the checkpoint with which it was closed, and whether that
-/// says that nothing else is missing in its report.
-fn account_of(
+/// What is known of a closed cycle without a look at the bytes of its report: only the checkpoint
+/// with which it was closed may say that nothing is missing but what was left out.
+fn closed_by(
     alloc: Global,
-    kept: Option<Option<Checkpoint>>,
-) -> Result<(Vec<Place>, bool), AllocError> {
-    match kept {
-        Some(Some(checkpoint)) => {
-            let left = places_of(alloc, &checkpoint.left)?;
-            let is_known = checkpoint.whole && !left.is_empty();
-            Ok((left, is_known))
-        }
-        Some(None) | None => Ok((Vec::new(alloc), false)),
-    }
+    cycle: u64,
+    whole: bool,
+    kept: &Option<Option<Checkpoint>>,
+) -> Result<ClosedCycle, AllocError> {
+    let (left, is_known) = match kept {
+        Some(Some(checkpoint)) => (places_of(alloc, &checkpoint.left)?, checkpoint.whole),
+        _ => (Vec::new(alloc), false),
+    };
+    Ok(ClosedCycle {
+        cycle,
+        whole,
+        lost: !whole && !(is_known && !left.is_empty()),
+        left,
+    })
 }
 
-/// Opens the closed report of a cycle.
-pub(crate) fn open_report<R>(
+/// Whether the closed report of a cycle is called whole. `None` if it is not there.
+fn find_whole<F: Folder>(
     alloc: Global,
-    folder: &mut StateDir<'_, R>,
+    folder: &mut F,
     state: &str,
     cycle: u64,
-) -> Result<Option<OpenReport>, Failure>
-where
-    R: Files<File = File> + AllocGlobal,
-{
-    match folder.open_closed(cycle) {
-        Ok(found) => Ok(found),
-        Err(_) => Err(folder_failure(alloc, state, folder.reason())?),
+) -> Result<Option<bool>, Failure> {
+    match open_report(alloc, folder, state, cycle)? {
+        Some(report) => Ok(Some(report.whole)),
+        None => Ok(None),
     }
 }
 
 /// What is known of a closed cycle. `None` if its report is not there.
-pub(crate) fn find_closed<R>(
+pub(crate) fn find_closed<F: Folder>(
     alloc: Global,
-    folder: &mut StateDir<'_, R>,
+    folder: &mut F,
     state: &str,
     cycle: u64,
-) -> Result<Option<ClosedCycle>, Failure>
-where
-    R: Files<File = File> + AllocGlobal,
-{
-    let Some(report) = open_report(alloc, folder, state, cycle)? else {
+) -> Result<Option<ClosedCycle>, Failure> {
+    let Some(whole) = find_whole(alloc, folder, state, cycle)? else {
         return Ok(None);
     };
-    let whole = report.whole;
-    let (left, is_known) = account_of(alloc, read_kept(alloc, folder, state, cycle)?)?;
-    let lost = !whole && !(is_known && is_as_closed(alloc, folder, state, cycle)?);
-    Ok(Some(ClosedCycle {
+    let mut found = closed_by(
+        alloc,
         cycle,
         whole,
-        lost,
-        left,
-    }))
+        &read_kept(alloc, folder, state, cycle)?,
+    )?;
+    if !whole && !found.lost {
+        found.lost = !is_as_closed(alloc, folder, state, cycle)?;
+    }
+    Ok(Some(found))
 }
 
 /// Whether the checkpoint with which a cycle was closed says that lines of its report were lost.
-fn is_known_lost<R>(
+fn is_known_lost<F: Folder>(
     alloc: Global,
-    folder: &mut StateDir<'_, R>,
+    folder: &mut F,
     state: &str,
     cycle: u64,
-) -> Result<bool, Failure>
-where
-    R: Files<File = File> + AllocGlobal,
-{
+) -> Result<bool, Failure> {
     match read_kept(alloc, folder, state, cycle)? {
         Some(Some(checkpoint)) => Ok(!checkpoint.whole),
-        Some(None) | None => Ok(false),
+        _ => Ok(false),
     }
+}
+
+/// Whether a cycle can be compared with this one: its report lost nothing, and with `is_whole` it
+/// left nothing out either.
+fn is_fit(found: &ClosedCycle, is_whole: bool) -> bool {
+    !found.lost && (found.whole || !is_whole)
 }
 
 /// Looks for the last cycle before this one whose report is there and lost nothing; with
 /// `is_whole` for the last one that left nothing out either.
-pub(crate) fn find_earlier<R>(
+pub(crate) fn find_earlier<F: Folder>(
     alloc: Global,
-    folder: &mut StateDir<'_, R>,
+    folder: &mut F,
     state: &str,
     cycle: u64,
     is_whole: bool,
-) -> Result<Earlier, Failure>
-where
-    R: Files<File = File> + AllocGlobal,
-{
+) -> Result<Earlier, Failure> {
     let mut missing = 0;
     for back in 1..MOST_BACK {
         let before = cycle.saturating_sub(back);
@@ -185,17 +170,19 @@ where
             break;
         }
         match find_closed(alloc, folder, state, before)? {
-            Some(found) if !found.lost && (found.whole || !is_whole) => {
-                return Ok(Earlier {
-                    found: Some(found),
-                    missing,
-                });
+            Some(found) => {
+                if is_fit(&found, is_whole) {
+                    return Ok(Earlier {
+                        found: Some(found),
+                        missing,
+                    });
+                }
             }
-            Some(_) => {}
-            None if missing == 0 && !is_known_lost(alloc, folder, state, before)? => {
-                missing = before;
+            None => {
+                if missing == 0 && !is_known_lost(alloc, folder, state, before)? {
+                    missing = before;
+                }
             }
-            None => {}
         }
     }
     Ok(Earlier {

@@ -4,7 +4,7 @@ use crate::saying::{STOPPED, USAGE, say_out_of_memory};
 use std::alloc::{AllocError, AllocFailed};
 
 /// Why a step of a night failed: what is said of it, and the exit status.
-#[derive(Debug, Drop)]
+#[derive(Drop)]
 pub struct Failure {
     pub status: u8,
     /// What is said, with its line feed. `None` if memory was refused.
@@ -25,6 +25,22 @@ impl Failure {
         Failure {
             status: STOPPED,
             text: Some(text),
+        }
+    }
+
+    /// The same, or that there was no memory for the text.
+    pub(crate) fn saying(text: Result<String, AllocError>) -> Failure {
+        match text {
+            Ok(text) => Failure::stopped(text),
+            Err(error) => Failure::from(error),
+        }
+    }
+
+    /// This one, or that there was no memory for it.
+    pub(crate) fn made(failure: Result<Failure, AllocError>) -> Failure {
+        match failure {
+            Ok(failure) => failure,
+            Err(error) => Failure::from(error),
         }
     }
 }

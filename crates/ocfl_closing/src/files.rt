@@ -29,13 +29,18 @@ pub fn lies_inside<R>(rt: &R, file: &str, root: &str) -> io::Result<bool>
 where
     R: Files + AllocGlobal,
 {
-    let Some(folder) = path_of(rt, folder_of(file))? else {
-        return Ok(false);
-    };
-    let Some(root) = path_of(rt, root)? else {
-        return Ok(false);
-    };
-    Ok(folder.as_path().starts_with(root.as_path()))
+    match path_of(rt, folder_of(file))? {
+        Some(folder) => is_below(rt, &folder, root),
+        None => Ok(false),
+    }
+}
+
+/// Whether a path is that of a folder, or below it.
+fn is_below<R: Files + AllocGlobal>(rt: &R, path: &PathBuf, folder: &str) -> io::Result<bool> {
+    match path_of(rt, folder)? {
+        Some(folder) => Ok(path.as_path().starts_with(folder.as_path())),
+        None => Ok(false),
+    }
 }
 
 /// Opens a file, and gives `None` if there is no such file.
@@ -55,6 +60,20 @@ fn write_synced<R: Files>(rt: &R, file: &str, text: &[u8]) -> io::Result<()> {
     made.sync_all()
 }
 
+/// Brings the name of a file to the disk.
+pub(crate) fn sync_name<R: Files>(rt: &R, file: &str) {
+    // Not every system can sync a folder; the file is whole without it.
+    if let Ok(folder) = File::open(rt, folder_of(file)) {
+        let _ = folder.sync_all();
+    }
+}
+
+/// Puts a text in the place of a file, by way of the one beside it.
+fn put_by<R: Files>(rt: &R, beside: &str, file: &str, text: &[u8]) -> io::Result<()> {
+    write_synced(rt, beside, text)?;
+    fs::rename(rt, beside, file)
+}
+
 /// Puts a text in the place of a file: it is written beside it, synced and renamed over it, so that
 /// the file is whole at each moment.
 pub fn put_in_place<R>(rt: &R, file: &str, text: &[u8]) -> io::Result<()>
@@ -62,18 +81,11 @@ where
     R: Files + AllocGlobal,
 {
     let beside = format!(in rt.alloc(); "{file}.ocfl-scrub.new")?;
-    let placed = write_synced(rt, beside.as_str(), text).and_then(|()| fs::rename(
-        rt,
-        beside.as_str(),
-        file,
-    ));
-    if placed.is_err() {
+    let placed = put_by(rt, beside.as_str(), file, text);
+    if placed.is_ok() {
+        sync_name(rt, file);
+    } else {
         let _ = fs::remove_file(rt, beside.as_str());
-        return placed;
     }
-    // Not every system can sync a folder; the file is whole without it.
-    if let Ok(folder) = File::open(rt, folder_of(file)) {
-        let _ = folder.sync_all();
-    }
-    Ok(())
+    placed
 }

@@ -3,12 +3,11 @@
 use crate::reading::{TakeLine, take_lines};
 use crate::telling::{CLEAN, error_of};
 use ocfl_report::{Code, Line, read_line};
-use ocfl_telling::{Gravest, Kept, Known};
+use ocfl_telling::{Gravest, Known};
 use std::alloc::{AllocError, Global};
 use std::io::{self, BufRead};
 
 /// What a report has of findings that are named.
-#[derive(Debug)]
 pub struct Findings {
     /// How many findings there are of all.
     pub count: u64,
@@ -49,45 +48,26 @@ impl Findings {
 
     /// The lines of those that are kept, in the order of places.
     pub(crate) fn into_lines(self, alloc: Global) -> Result<Vec<Line>, AllocError> {
-        let Findings {
-            count: _count,
-            matched: _matched,
-            known: _known,
-            said: _said,
-            gravest,
-        } = self;
-        let mut lines = lines_of(alloc, gravest)?;
+        let mut found = self;
+        let mut lines = lines_of(alloc, &mut found.gravest)?;
         lines.sort_by(|line: &Line, next: &Line| line.place.cmp(&next.place))?;
         Ok(lines)
     }
 }
 
-/// The lines that are kept of some findings, the gravest first.
-pub(crate) fn lines_of(alloc: Global, gravest: Gravest) -> Result<Vec<Line>, AllocError> {
-    let Gravest {
-        bytes,
-        objects,
-        records,
-        positions,
-    } = gravest;
+/// Takes the lines that are kept of some findings, the gravest first.
+pub(crate) fn lines_of(alloc: Global, gravest: &mut Gravest) -> Result<Vec<Line>, AllocError> {
     let mut lines = Vec::new(alloc);
-    move_lines(bytes, &mut lines)?;
-    move_lines(objects, &mut lines)?;
-    move_lines(records, &mut lines)?;
-    move_lines(positions, &mut lines)?;
+    move_lines(gravest, &mut lines)?;
     Ok(lines)
 }
 
 /// Moves the lines that are kept behind others.
-fn move_lines(kept: Kept, lines: &mut Vec<Line>) -> Result<(), AllocError> {
-    let Kept {
-        lines: moved,
-        count: _count,
-    } = kept;
-    for line in moved {
-        lines.push(line)?;
-    }
-    Ok(())
+fn move_lines(gravest: &mut Gravest, lines: &mut Vec<Line>) -> Result<(), AllocError> {
+    lines.append(&mut gravest.bytes.lines)?;
+    lines.append(&mut gravest.objects.lines)?;
+    lines.append(&mut gravest.records.lines)?;
+    lines.append(&mut gravest.positions.lines)
 }
 
 /// Whether a line is the one that is named: of that place, and of that code if one is named.
@@ -96,14 +76,18 @@ fn is_named(named: &Line, line: &Line) -> bool {
     is_code && named.place == line.place
 }
 
+/// A line that is a finding.
+fn finding_in(line: Line) -> Option<Line> {
+    if line.is_finding() { Some(line) } else { None }
+}
+
 /// The finding of a line of a report, if it is one.
 fn finding_of(alloc: Global, text: &[u8]) -> io::Result<Option<Line>> {
     if text.starts_with(CLEAN) {
         return Ok(None);
     }
     match read_line(alloc, text) {
-        Ok(line) if line.is_finding() => Ok(Some(line)),
-        Ok(_) => Ok(None),
+        Ok(line) => Ok(finding_in(line)),
         Err(stop) => Err(error_of(stop)),
     }
 }

@@ -1,16 +1,15 @@
 //! Joining the closed reports of all parts of a storage root, of one cycle.
 
 use crate::closed::MOST_BACK;
-use crate::closing::list_path;
 use crate::failing::{Failure, say_failure};
-use crate::kept::is_as_closed;
-use crate::making::{file_failure, is_there, make_file, make_folder, put_made};
+use crate::kept::is_told;
+use crate::making::failed_file;
 use crate::part_facts::{
     Facts, is_few, last_of_all, most_of, part_path, place_of, read_all, read_all_names,
 };
+use crate::room::Room;
 use crate::saying::STOPPED;
 use crate::sound::is_sound;
-use crate::state::{folder_failure, hold_folder, open_state};
 use ocfl_compare::{ClosedPart, MissingPart, PartFault, find_missing, join_part};
 use ocfl_line::JoinAsked;
 use ocfl_parts::{PartsStop, Separators, read_parts};
@@ -22,34 +21,25 @@ use std::fs::File;
 use std::io::{self, BufReader, ErrorKind, Read, Write};
 use std::rt::Files;
 
+/// What is said of separators that were not read.
+fn unread(alloc: Global, stop: PartsStop) -> Result<Failure, AllocError> {
+    let stop = ScopeStop::Parts(stop);
+    Ok(Failure {
+        status: stop.status(),
+        text: Some(format!(in alloc; "{stop}\n")?),
+    })
+}
+
 /// Reads the separators' file.
-fn read_separators<R: Files + AllocGlobal>(rt: &R, file: &str) -> Result<Separators, Failure> {
-    let read = match File::open(rt, file) {
-        Ok(mut opened) => read_parts(rt.alloc(), &mut opened),
+fn read_separators<R: Room>(rt: &R, file: &str) -> Result<Separators, Failure> {
+    let read = match rt.open_file(file) {
+        Ok(mut opened) => read_parts(rt.global(), &mut opened),
         Err(_) => Err(PartsStop::Read),
     };
     match read {
         Ok(separators) => Ok(separators),
         Err(PartsStop::Memory) => Err(Failure::from(AllocError)),
-        Err(stop) => {
-            let stop = ScopeStop::Parts(stop);
-            Err(Failure {
-                status: stop.status(),
-                text: Some(format!(in rt.alloc(); "{stop}\n")?),
-            })
-        }
-    }
-}
-
-/// Opens the closed report of a cycle in the state folder of a part.
-fn open_report<R>(rt: &R, path: &str, cycle: u64) -> Result<Option<OpenReport>, Failure>
-where
-    R: Files<File = File> + AllocGlobal,
-{
-    let mut folder = open_state(rt, path, path, false)?;
-    match folder.open_closed(cycle) {
-        Ok(found) => Ok(found),
-        Err(_) => Err(folder_failure(rt.alloc(), path, folder.reason())?),
+        Err(stop) => Err(Failure::made(unread(rt.global(), stop))),
     }
 }
 
@@ -58,32 +48,55 @@ fn is_emptied(facts: &Facts, cycle: u64, bytes: u64) -> bool {
     bytes == 0 && facts.has_lines && facts.last == cycle
 }
 
-/// What is known of the report that a part closed.
-fn closed_part<R>(
+/// Whether the report that a part closed is called whole, and how many bytes it has. `None` if it
+/// is not there.
+fn measure<R>(rt: &R, path: &str, cycle: u64) -> Result<Option<(bool, u64)>, Failure>
+where
+    R: Room,
+{
+    let Some(report) = rt.report_in(path, cycle)? else {
+        return Ok(None);
+    };
+    match report.file.metadata() {
+        Ok(metadata) => Ok(Some((report.whole, metadata.len()))),
+        Err(error) => Err(failed_file(rt.global(), path, &error)),
+    }
+}
+
+/// What is known of a report of so many bytes that a part closed.
+fn closed_part(
+    alloc: Global,
+    facts: &Facts,
+    cycle: u64,
+    whole: bool,
+    bytes: u64,
+) -> Result<ClosedPart, AllocError> {
+    Ok(ClosedPart {
+        root: facts.root.to_vec(alloc)?,
+        from: place_of(&facts.from)?,
+        below: place_of(&facts.below)?,
+        cycle,
+        whole: whole && !is_emptied(facts, cycle, bytes),
+        bytes,
+    })
+}
+
+/// What is known of the report that the part with a number closed.
+fn find_part<R>(
     rt: &R,
-    path: &str,
+    state: &str,
+    number: usize,
     facts: &Facts,
     cycle: u64,
 ) -> Result<Option<ClosedPart>, Failure>
 where
-    R: Files<File = File> + AllocGlobal,
+    R: Room,
 {
-    let Some(report) = open_report(rt, path, cycle)? else {
-        return Ok(None);
-    };
-    let bytes = match report.file.metadata() {
-        Ok(metadata) => metadata.len(),
-        Err(error) => return Err(file_failure(rt.alloc(), path, &error)?),
-    };
-    let whole = report.whole && !is_emptied(facts, cycle, bytes);
-    Ok(Some(ClosedPart {
-        root: facts.root.to_vec(rt.alloc())?,
-        from: place_of(&facts.from)?,
-        below: place_of(&facts.below)?,
-        cycle,
-        whole,
-        bytes,
-    }))
+    let path = part_path(rt.global(), state, number)?;
+    match measure(rt, path.as_str(), cycle)? {
+        Some((whole, bytes)) => Ok(Some(closed_part(rt.global(), facts, cycle, whole, bytes)?)),
+        None => Ok(None),
+    }
 }
 
 /// What is known of the reports that all parts closed in a cycle.
@@ -94,17 +107,14 @@ fn closed_parts<R>(
     cycle: u64,
 ) -> Result<Vec<Option<ClosedPart>>, Failure>
 where
-    R: Files<File = File> + AllocGlobal,
+    R: Room,
 {
-    let alloc = rt.alloc();
-    let mut parts = Vec::new(alloc);
+    let mut parts = Vec::new(rt.global());
     for (index, one) in all.iter().enumerate() {
-        let path = part_path(alloc, state, index.saturating_add(1))?;
-        let part = match one {
-            Some(facts) => closed_part(rt, path.as_str(), facts, cycle)?,
+        parts.push(match one {
+            Some(facts) => find_part(rt, state, index.saturating_add(1), facts, cycle)?,
             None => None,
-        };
-        parts.push(part)?;
+        })?;
     }
     Ok(parts)
 }
@@ -133,50 +143,43 @@ fn say_missing<R: Eprint>(rt: &R, cycle: u64, missing: &[MissingPart]) -> u8 {
     STOPPED
 }
 
-/// Whether the report of a cycle in the state folder of a part is as it was closed.
-fn is_part_as_closed<R>(rt: &R, path: &str, cycle: u64) -> Result<bool, Failure>
+/// Whether the report of a part, which was there before, has lines of that part alone.
+fn is_part_sound<R>(rt: &R, path: &str, number: usize, part: &ClosedPart) -> Result<bool, Failure>
 where
-    R: Files<File = File> + AllocGlobal,
+    R: Room,
 {
-    let mut folder = open_state(rt, path, path, false)?;
-    is_as_closed(rt.alloc(), &mut folder, path, cycle)
-}
-
-/// That a report is not the one that its part closed.
-fn changed(alloc: Global, number: usize) -> Result<Failure, AllocError> {
-    Ok(Failure::stopped(format!(in alloc; "part {number}: its report was changed\n")?))
-}
-
-/// Refuses a report that cannot be that of its part.
-fn refuse_unsound<R>(rt: &R, path: &str, number: usize, part: &ClosedPart) -> Result<(), Failure>
-where
-    R: Files<File = File> + AllocGlobal,
-{
-    let alloc = rt.alloc();
-    if !is_part_as_closed(rt, path, part.cycle)? {
-        return Err(changed(alloc, number)?);
-    }
+    let alloc = rt.global();
     let report = open_there(rt, path, number, part.cycle)?;
     let Ok(mut reader) = BufReader::new(alloc, report.file) else {
         return Err(Failure::from(AllocError));
     };
     match is_sound(alloc, &mut reader, part) {
-        Ok(true) => Ok(()),
-        Ok(false) => Err(changed(alloc, number)?),
-        Err(error) => Err(file_failure(alloc, path, &error)?),
+        Ok(is_sound) => Ok(is_sound),
+        Err(error) => Err(failed_file(alloc, path, &error)),
     }
+}
+
+/// Refuses a report that is not the one that its part closed, or cannot be that of its part.
+fn refuse_unsound<R>(rt: &R, path: &str, number: usize, part: &ClosedPart) -> Result<(), Failure>
+where
+    R: Room,
+{
+    if rt.is_as_closed_in(path, part.cycle)? && is_part_sound(rt, path, number, part)? {
+        return Ok(());
+    }
+    Err(Failure::saying(format!(in rt.global(); "part {number}: its report was changed\n")))
 }
 
 /// Opens the closed report of a part, which was there before.
 fn open_there<R>(rt: &R, path: &str, number: usize, cycle: u64) -> Result<OpenReport, Failure>
 where
-    R: Files<File = File> + AllocGlobal,
+    R: Room,
 {
-    match open_report(rt, path, cycle)? {
+    match rt.report_in(path, cycle)? {
         Some(report) => Ok(report),
-        None => Err(Failure::stopped(format!(in rt.alloc();
+        None => Err(Failure::saying(format!(in rt.global();
             "part {number}: its report is gone\n"
-        )?)),
+        ))),
     }
 }
 
@@ -214,22 +217,21 @@ struct Joining<'a> {
 }
 
 impl Joining<'_> {
-    /// Writes the report of a part behind those before it.
-    fn write_one<R, W>(
+    /// Writes the report of a part with this state folder behind those before it.
+    fn write_part<R, W>(
         &self,
         rt: &R,
+        path: &str,
         number: usize,
         part: &ClosedPart,
         out: &mut W,
     ) -> Result<(), Failure>
     where
-        R: Files<File = File> + AllocGlobal,
+        R: Room,
         W: Write,
     {
-        let alloc = rt.alloc();
-        let path = part_path(alloc, self.state, number)?;
-        refuse_unsound(rt, path.as_str(), number, part)?;
-        let mut report = open_there(rt, path.as_str(), number, part.cycle)?;
+        refuse_unsound(rt, path, number, part)?;
+        let mut report = open_there(rt, path, number, part.cycle)?;
         match join_part(
             self.separators,
             self.root,
@@ -240,14 +242,30 @@ impl Joining<'_> {
             out,
         ) {
             Ok(()) => Ok(()),
-            Err(stop) => Err(Failure::stopped(format!(in alloc; "part {number}: {stop}\n")?)),
+            Err(stop) => Err(Failure::saying(format!(in rt.global(); "part {number}: {stop}\n"))),
         }
+    }
+
+    /// Writes the report of a part behind those before it.
+    fn write_one<R, W>(
+        &self,
+        rt: &R,
+        number: usize,
+        part: &ClosedPart,
+        out: &mut W,
+    ) -> Result<(), Failure>
+    where
+        R: Room,
+        W: Write,
+    {
+        let path = part_path(rt.global(), self.state, number)?;
+        self.write_part(rt, path.as_str(), number, part, out)
     }
 
     /// Writes all of them, one after the other.
     fn write_all<R, W>(&self, rt: &R, out: &mut W) -> Result<(), Failure>
     where
-        R: Files<File = File> + AllocGlobal,
+        R: Room,
         W: Write,
     {
         for (index, part) in self.parts.iter().enumerate() {
@@ -261,32 +279,42 @@ impl Joining<'_> {
     /// Joins all of them into a file.
     fn join_into<R>(&self, rt: &R, path: &str) -> Result<(), Failure>
     where
-        R: Files<File = File> + AllocGlobal,
+        R: Room,
     {
-        let mut out = make_file(rt, path)?;
+        let mut out = rt.make_file(path)?;
         self.write_all(rt, &mut out)?;
         match out.sync_all() {
             Ok(()) => Ok(()),
-            Err(error) => Err(file_failure(rt.alloc(), path, &error)?),
+            Err(error) => Err(failed_file(rt.global(), path, &error)),
         }
+    }
+
+    /// Whether a file has the bytes of all of them, and no more.
+    fn is_in<R>(&self, rt: &R, there: File) -> bool
+    where
+        R: Room,
+    {
+        let mut same = Same { there };
+        let joined = self.write_all(rt, &mut same);
+        let mut more = [0; 1];
+        joined.is_ok() && matches!(same.there.read(&mut more), Ok(0))
     }
 
     /// Refuses a file in place of the joined report that has other bytes than all of them.
     fn refuse_other<R>(&self, rt: &R, path: &str) -> Result<(), Failure>
     where
-        R: Files<File = File> + AllocGlobal,
+        R: Room,
     {
-        let alloc = rt.alloc();
-        let mut same = match File::open(rt, path) {
-            Ok(there) => Same { there },
-            Err(error) => return Err(file_failure(alloc, path, &error)?),
-        };
-        let joined = self.write_all(rt, &mut same);
-        let mut more = [0; 1];
-        if joined.is_ok() && matches!(same.there.read(&mut more), Ok(0)) {
-            return Ok(());
+        let alloc = rt.global();
+        match rt.open_file(path) {
+            Ok(there) => {
+                if self.is_in(rt, there) {
+                    return Ok(());
+                }
+            }
+            Err(error) => return Err(failed_file(alloc, path, &error)),
         }
-        Err(Failure::stopped(format!(in alloc; "{}: is not the joined report\n", Shown(path))?))
+        Err(Failure::saying(format!(in alloc; "{}: is not the joined report\n", Shown(path))))
     }
 }
 
@@ -304,47 +332,59 @@ fn joined_path(alloc: Global, state: &str, cycle: u64) -> Result<String, AllocEr
 }
 
 /// Whether the joined report of a cycle is there, or was compressed.
-fn is_joined<R: Files + AllocGlobal>(rt: &R, state: &str, cycle: u64) -> Result<bool, AllocError> {
-    let path = joined_path(rt.alloc(), state, cycle)?;
-    let packed = format!(in rt.alloc(); "{path}.gz")?;
-    Ok(is_there(rt, path.as_str()) || is_there(rt, packed.as_str()))
+fn is_joined<R: Room>(rt: &R, state: &str, cycle: u64) -> Result<bool, AllocError> {
+    let path = joined_path(rt.global(), state, cycle)?;
+    let packed = format!(in rt.global(); "{path}.gz")?;
+    Ok(rt.has(path.as_str()) || rt.has(packed.as_str()))
+}
+
+/// Makes the folder of the joined reports, unless it is there.
+fn make_reports<R>(rt: &R, state: &str) -> Result<(), Failure>
+where
+    R: Room,
+{
+    let folder = format!(in rt.global(); "{state}/{}", StateFile::Reports)?;
+    rt.make_folder(folder.as_str())
 }
 
 /// Joins the reports into a file beside its place, and puts it there.
 fn put_joined<R>(rt: &R, joining: &Joining<'_>, path: &str) -> Result<(), Failure>
 where
-    R: Files<File = File> + AllocGlobal,
+    R: Room,
 {
-    let alloc = rt.alloc();
-    let made = format!(in alloc; "{path}.new")?;
-    make_folder(
-        rt,
-        format!(in alloc; "{}/{}", joining.state, StateFile::Reports)?.as_str(),
-    )?;
+    let made = format!(in rt.global(); "{path}.new")?;
+    make_reports(rt, joining.state)?;
     joining.join_into(rt, made.as_str())?;
-    put_made(rt, made.as_str(), path)
+    rt.put_made(made.as_str(), path)
 }
 
 impl AllParts<'_> {
-    /// Whether a part has said what its nights found in a cycle: the list of what is gone is put
-    /// once that was said.
+    /// Whether a part has said what its nights found in a cycle.
     fn is_told<R>(&self, rt: &R, number: usize, cycle: u64) -> Result<bool, AllocError>
     where
-        R: Files + AllocGlobal,
+        R: Room,
     {
-        let path = part_path(rt.alloc(), self.state, number)?;
-        Ok(is_there(rt, list_path(rt.alloc(), path.as_str(), cycle)?.as_str()))
+        let path = part_path(rt.global(), self.state, number)?;
+        is_told(rt, path.as_str(), cycle)
+    }
+
+    /// Whether the whole report of a part in a cycle is there.
+    fn is_whole<R>(&self, rt: &R, number: usize, cycle: u64) -> Result<bool, AllocError>
+    where
+        R: Room,
+    {
+        let path = part_path(rt.global(), self.state, number)?;
+        let report = joined_path(rt.global(), path.as_str(), cycle)?;
+        Ok(rt.has(report.as_str()))
     }
 
     /// Whether the whole report of a cycle is there of each part, and was said.
     fn has_all<R>(&self, rt: &R, cycle: u64) -> Result<bool, AllocError>
     where
-        R: Files + AllocGlobal,
+        R: Room,
     {
         for number in 1..=self.facts.len() {
-            let path = part_path(rt.alloc(), self.state, number)?;
-            let report = joined_path(rt.alloc(), path.as_str(), cycle)?;
-            if !is_there(rt, report.as_str()) || !self.is_told(rt, number, cycle)? {
+            if !self.is_whole(rt, number, cycle)? || !self.is_told(rt, number, cycle)? {
                 return Ok(false);
             }
         }
@@ -354,7 +394,7 @@ impl AllParts<'_> {
     /// Names the parts that have not said what their nights found in a cycle.
     fn say_untold<R>(&self, rt: &R, cycle: u64) -> Result<bool, AllocError>
     where
-        R: Files + AllocGlobal + Eprint,
+        R: Room + Eprint,
     {
         let mut is_any = false;
         for number in 1..=self.facts.len() {
@@ -372,7 +412,7 @@ impl AllParts<'_> {
     /// root when a cycle began: their machines may see another root at its path.
     fn say_few<R>(&self, rt: &R, cycle: u64) -> Result<bool, Failure>
     where
-        R: Files<File = File> + AllocGlobal + Eprint,
+        R: Room + Eprint,
     {
         let all = read_all_names(rt, self.state, self.facts.len(), cycle)?;
         let most = most_of(&all);
@@ -394,7 +434,7 @@ impl AllParts<'_> {
     /// Whether a part saw less than half of the names that another one saw when a cycle began.
     fn has_few<R>(&self, rt: &R, cycle: u64) -> Result<bool, Failure>
     where
-        R: Files<File = File> + AllocGlobal,
+        R: Room,
     {
         let all = read_all_names(rt, self.state, self.facts.len(), cycle)?;
         let most = most_of(&all);
@@ -406,45 +446,72 @@ impl AllParts<'_> {
         Ok(false)
     }
 
-    /// Joins the reports of a cycle, unless they are joined already, and gives the status.
-    fn join_cycle<R>(&self, rt: &R, cycle: u64) -> Result<u8, Failure>
+    /// Joins reports of a cycle that all are there into a file, and gives the status.
+    fn join_ready<R>(
+        &self,
+        rt: &R,
+        cycle: u64,
+        joining: &Joining<'_>,
+        path: &str,
+    ) -> Result<u8, Failure>
     where
-        R: Files<File = File> + AllocGlobal + Eprint,
+        R: Room + Eprint,
     {
-        let alloc = rt.alloc();
-        let path = joined_path(alloc, self.state, cycle)?;
-        let is_made = cycle > 0 && is_there(rt, path.as_str());
-        let parts = closed_parts(rt, self.state, self.facts, cycle)?;
-        let root = root_of(&parts);
-        let missing = find_missing(alloc, self.separators, root, cycle, &parts)?;
+        if self.say_untold(rt, cycle)? || self.say_few(rt, cycle)? {
+            return Ok(STOPPED);
+        }
+        put_joined(rt, joining, path)?;
+        Ok(0)
+    }
+
+    /// Joins these reports of a cycle into a file, and gives the status. One that is made already
+    /// is compared with them, unless parts were tidied away.
+    fn join_closed<R>(
+        &self,
+        rt: &R,
+        cycle: u64,
+        parts: &[Option<ClosedPart>],
+        path: &str,
+        is_made: bool,
+    ) -> Result<u8, Failure>
+    where
+        R: Room + Eprint,
+    {
+        let root = root_of(parts);
+        let missing = find_missing(rt.global(), self.separators, root, cycle, parts)?;
         let joining = Joining {
             state: self.state,
             separators: self.separators,
             root,
-            parts: &parts,
+            parts,
         };
-        if is_made && missing.is_empty() {
-            joining.refuse_other(rt, path.as_str())?;
+        match (is_made, missing.is_empty()) {
+            (true, true) => {
+                joining.refuse_other(rt, path)?;
+                Ok(0)
+            }
+            (true, false) => Ok(0),
+            (false, true) => self.join_ready(rt, cycle, &joining, path),
+            (false, false) => Ok(say_missing(rt, cycle, &missing)),
         }
-        if is_made {
-            // Of parts that were tidied away nothing can be compared.
-            return Ok(0);
-        }
-        if !missing.is_empty() {
-            return Ok(say_missing(rt, cycle, &missing));
-        }
-        if self.say_untold(rt, cycle)? || self.say_few(rt, cycle)? {
-            return Ok(STOPPED);
-        }
-        put_joined(rt, &joining, path.as_str())?;
-        Ok(0)
+    }
+
+    /// Joins the reports of a cycle, unless they are joined already, and gives the status.
+    fn join_cycle<R>(&self, rt: &R, cycle: u64) -> Result<u8, Failure>
+    where
+        R: Room + Eprint,
+    {
+        let path = joined_path(rt.global(), self.state, cycle)?;
+        let is_made = cycle > 0 && rt.has(path.as_str());
+        let parts = closed_parts(rt, self.state, self.facts, cycle)?;
+        self.join_closed(rt, cycle, &parts, path.as_str(), is_made)
     }
 
     /// The same of a cycle before the last one. One of which a part has no whole report, or saw far
     /// fewer names, never can be joined, and was named when it was the last.
     fn join_earlier<R>(&self, rt: &R, cycle: u64) -> Result<u8, Failure>
     where
-        R: Files<File = File> + AllocGlobal + Eprint,
+        R: Room + Eprint,
     {
         if is_joined(rt, self.state, cycle)?
             || !self.has_all(rt, cycle)?
@@ -464,27 +531,33 @@ fn status_of<R: Eprint>(rt: &R, joined: Result<u8, Failure>) -> u8 {
     }
 }
 
-/// Joins each cycle that all parts have closed and that is not joined, the oldest first, and gives
-/// the status.
+/// Joins each cycle up to this one that is not joined, the oldest first, and gives the status.
+fn join_up_to<R>(rt: &R, all: &AllParts<'_>, last: u64) -> Result<u8, Failure>
+where
+    R: Room + Eprint,
+{
+    let mut status = 0;
+    for cycle in last.saturating_sub(MOST_BACK).max(1)..last {
+        status = status.max(status_of(rt, all.join_earlier(rt, cycle)));
+    }
+    Ok(status.max(all.join_cycle(rt, last)?))
+}
+
+/// Joins each cycle that all parts have closed and that is not joined, and gives the status.
 fn join_all<R>(rt: &R, asked: &JoinAsked) -> Result<u8, Failure>
 where
-    R: Files<File = File> + AllocGlobal + Eprint,
+    R: Room + Eprint,
 {
     let separators = read_separators(rt, asked.parts.as_str())?;
     let state = asked.state.as_str();
-    let _held = hold_folder(rt, state)?;
+    let _held = rt.hold_folder(state)?;
     let facts = read_all(rt, state, separators.len().saturating_add(1))?;
     let all = AllParts {
         state,
         separators: &separators,
         facts: &facts,
     };
-    let last = last_of_all(&facts);
-    let mut status = 0;
-    for cycle in last.saturating_sub(MOST_BACK).max(1)..last {
-        status = status.max(status_of(rt, all.join_earlier(rt, cycle)));
-    }
-    Ok(status.max(all.join_cycle(rt, last)?))
+    join_up_to(rt, &all, last_of_all(&facts))
 }
 
 /// Joins the reports of all parts of each cycle that all of them have closed, the oldest first, and

@@ -1,22 +1,20 @@
 //! Whether a closed report is as it was when it was closed.
 
 use crate::failing::Failure;
-use crate::making::file_failure;
-use crate::state::folder_failure;
-use crate::state_dir::StateDir;
+use crate::making::failed_file;
+use crate::room::Room;
+use crate::state::failed_folder;
+use crate::state_dir::Folder;
 use ocfl_cursor::Refused;
 use ocfl_state::{Checkpoint, OpenReport, ReportDigests, ReportMark, StateFile, decode_checkpoint};
 use std::alloc::{AllocError, Global};
-use std::fs::File;
 use std::io::{self, Read};
-use std::rt::Files;
 
 /// How many bytes of a report are read at once.
 const READ_LEN: usize = 16_384;
 
-/// The digests of what a reader gives until its end.
-fn digests_of<R: Read>(reader: &mut R) -> io::Result<ReportDigests> {
-    let mut digests = ReportDigests::new();
+/// Digests what a reader gives until its end.
+fn digest_all<R: Read>(reader: &mut R, digests: &mut ReportDigests) -> io::Result<()> {
     let mut buffer = [0; READ_LEN];
     for _ in 0..u64::MAX {
         let count = reader.read(&mut buffer)?;
@@ -25,29 +23,75 @@ fn digests_of<R: Read>(reader: &mut R) -> io::Result<ReportDigests> {
         }
         digests.push(&buffer[..count]);
     }
-    Ok(digests)
+    Ok(())
+}
+
+/// The mark of what a reader gives until its end.
+fn mark_of<R: Read>(reader: &mut R) -> io::Result<ReportMark> {
+    let mut digests = ReportDigests::new();
+    digest_all(reader, &mut digests)?;
+    Ok(digests.summary())
+}
+
+/// Opens the closed report of a cycle.
+pub(crate) fn open_report<F: Folder>(
+    alloc: Global,
+    folder: &mut F,
+    state: &str,
+    cycle: u64,
+) -> Result<Option<OpenReport>, Failure> {
+    match folder.open_closed(cycle) {
+        Ok(found) => Ok(found),
+        Err(_) => Err(failed_folder(alloc, folder, state)),
+    }
+}
+
+/// The checkpoint that these bytes are. `None` if they are none any more.
+fn checkpoint_of(alloc: Global, bytes: &[u8]) -> Result<Option<Checkpoint>, AllocError> {
+    match decode_checkpoint(alloc, bytes) {
+        Ok(checkpoint) => Ok(Some(checkpoint)),
+        Err(Refused::Memory) => Err(AllocError),
+        Err(_) => Ok(None),
+    }
 }
 
 /// The checkpoint with which the report of a cycle was closed. `None` where it was not kept, and
 /// `Some(None)` where what was kept is no checkpoint any more.
-pub(crate) fn read_kept<R>(
+pub(crate) fn read_kept<F: Folder>(
     alloc: Global,
-    folder: &mut StateDir<'_, R>,
+    folder: &mut F,
     state: &str,
     cycle: u64,
-) -> Result<Option<Option<Checkpoint>>, Failure>
-where
-    R: Files<File = File> + AllocGlobal,
-{
-    let bytes = match folder.kept_checkpoint(cycle) {
-        Ok(Some(bytes)) => bytes,
-        Ok(None) => return Ok(None),
-        Err(_) => return Err(folder_failure(alloc, state, folder.reason())?),
-    };
-    match decode_checkpoint(alloc, &bytes) {
-        Ok(checkpoint) => Ok(Some(Some(checkpoint))),
-        Err(Refused::Memory) => Err(Failure::from(AllocError)),
-        Err(_) => Ok(Some(None)),
+) -> Result<Option<Option<Checkpoint>>, Failure> {
+    match folder.kept_checkpoint(cycle) {
+        Ok(Some(bytes)) => Ok(Some(checkpoint_of(alloc, &bytes)?)),
+        Ok(None) => Ok(None),
+        Err(_) => Err(failed_folder(alloc, folder, state)),
+    }
+}
+
+/// How many names the storage root had when a cycle began, if that was kept.
+pub(crate) fn find_names<F: Folder>(
+    alloc: Global,
+    folder: &mut F,
+    state: &str,
+    cycle: u64,
+) -> Result<Option<u64>, Failure> {
+    match read_kept(alloc, folder, state, cycle)? {
+        Some(Some(checkpoint)) => Ok(Some(checkpoint.names.count)),
+        _ => Ok(None),
+    }
+}
+
+/// The bytes of the checkpoint in a state folder, if one is there.
+pub(crate) fn read_checkpoint<F: Folder>(
+    alloc: Global,
+    folder: &mut F,
+    state: &str,
+) -> Result<Option<Vec<u8>>, Failure> {
+    match folder.checkpoint() {
+        Ok(bytes) => Ok(bytes),
+        Err(_) => Err(failed_folder(alloc, folder, state)),
     }
 }
 
@@ -65,43 +109,59 @@ pub(crate) fn report_path(
     }
 }
 
-/// Whether a report has this mark.
-fn has_mark(
+/// The path of the list of what is gone at the end of a cycle.
+pub(crate) fn list_path(alloc: Global, state: &str, cycle: u64) -> Result<String, AllocError> {
+    format!(in alloc; "{state}/{}/gone-{cycle:06}", StateFile::Reports)
+}
+
+/// The path of that list while it is written.
+pub(crate) fn new_list_path(alloc: Global, state: &str, cycle: u64) -> Result<String, AllocError> {
+    format!(in alloc; "{state}/{}/gone-{cycle:06}.new", StateFile::Reports)
+}
+
+/// Whether the nights over a folder have said what a closed cycle found: the list of what is gone
+/// is put once that was said.
+pub(crate) fn is_told<R: Room>(rt: &R, state: &str, cycle: u64) -> Result<bool, AllocError> {
+    let list = list_path(rt.global(), state, cycle)?;
+    Ok(rt.has(list.as_str()))
+}
+
+/// That the closed report of a cycle could not be read.
+fn failed_report(alloc: Global, state: &str, cycle: u64, whole: bool, error: io::Error) -> Failure {
+    match report_path(alloc, state, cycle, whole) {
+        Ok(path) => failed_file(alloc, path.as_str(), &error),
+        Err(error) => Failure::from(error),
+    }
+}
+
+/// Whether the closed report of a cycle has this mark. One that is not there counts so.
+fn has_mark<F: Folder>(
     alloc: Global,
+    folder: &mut F,
     state: &str,
     cycle: u64,
-    mut report: OpenReport,
     mark: &ReportMark,
 ) -> Result<bool, Failure> {
-    match digests_of(&mut report.file) {
-        Ok(digests) => Ok(digests.summary() == *mark),
-        Err(error) => {
-            let path = report_path(alloc, state, cycle, report.whole)?;
-            Err(file_failure(alloc, path.as_str(), &error)?)
-        }
+    let Some(mut report) = open_report(alloc, folder, state, cycle)? else {
+        return Ok(true);
+    };
+    match mark_of(&mut report.file) {
+        Ok(found) => Ok(found == *mark),
+        Err(error) => Err(failed_report(alloc, state, cycle, report.whole, error)),
     }
 }
 
 /// Whether the closed report of a cycle has the length, the lines and the digests of the checkpoint
 /// with which it was closed. One that is not there counts so, and one without a kept checkpoint.
-pub fn is_as_closed<R>(
+pub fn is_as_closed<F: Folder>(
     alloc: Global,
-    folder: &mut StateDir<'_, R>,
+    folder: &mut F,
     state: &str,
     cycle: u64,
-) -> Result<bool, Failure>
-where
-    R: Files<File = File> + AllocGlobal,
-{
-    let Some(kept) = read_kept(alloc, folder, state, cycle)? else {
-        return Ok(true);
-    };
-    let Some(kept) = kept else {
-        return Ok(false);
-    };
-    match folder.open_closed(cycle) {
-        Ok(Some(report)) => has_mark(alloc, state, cycle, report, &kept.report),
-        Ok(None) => Ok(true),
-        Err(_) => Err(folder_failure(alloc, state, folder.reason())?),
+) -> Result<bool, Failure> {
+    match read_kept(alloc, folder, state, cycle)? {
+        Some(Some(kept)) => has_mark(alloc, folder, state, cycle, &kept.report),
+        Some(None) => Ok(false),
+        None => Ok(true),
     }
 }

@@ -1,9 +1,11 @@
 //! What is said of closed reports, and joining them.
 #![tactic(auto)]
 
+mod account;
 mod back;
 mod closed;
 pub mod closing;
+mod comparing;
 pub mod failing;
 pub mod files;
 pub mod finding;
@@ -15,6 +17,7 @@ pub mod making;
 mod part_facts;
 pub mod reading;
 pub mod reasons;
+mod room;
 pub mod rows;
 pub mod saying;
 pub mod sound;

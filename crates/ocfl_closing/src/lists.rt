@@ -1,8 +1,8 @@
 //! The lists that a night is given: of known findings, and of the objects that must be there.
 
 use crate::failing::Failure;
-use crate::heard::Heard;
-use crate::saying::STOPPED;
+use crate::heard::HeardReader;
+use crate::room::Room;
 use ocfl_compare::{ListStop, read_list};
 use ocfl_report::{InputStop, read_next_line};
 use ocfl_telling::{Known, KnownStop, Shown, read_known};
@@ -10,11 +10,20 @@ use ocfl_tree::Place;
 use std::alloc::{AllocError, Global};
 use std::fmt::Display;
 use std::fs::File;
-use std::io::{self, BufRead, BufReader};
+use std::io::{self, BufRead, Read};
 use std::rt::Files;
 
 /// How many lines a list of objects may have.
 const MOST_LINES: u64 = 10_000_000;
+
+/// The known findings that an opened file lists.
+fn known_in<F: Read>(alloc: Global, file: &str, opened: &mut F) -> Result<Known, Failure> {
+    match read_known(alloc, opened) {
+        Ok(known) => Ok(known),
+        Err(KnownStop::Memory) => Err(Failure::from(AllocError)),
+        Err(stop) => Err(unread(alloc, file, &stop)),
+    }
+}
 
 /// The known findings that a file lists, and none without a file.
 pub fn find_known<R>(rt: &R, file: Option<&str>) -> Result<Known, Failure>
@@ -25,24 +34,27 @@ where
     let Some(file) = file else {
         return Ok(Known::new(alloc));
     };
-    let mut opened = match File::open(rt, file) {
-        Ok(opened) => opened,
-        Err(error) => return Err(unread(alloc, file, &error)?),
-    };
-    match read_known(alloc, &mut opened) {
-        Ok(known) => Ok(known),
-        Err(KnownStop::Memory) => Err(Failure::from(AllocError)),
-        Err(stop) => Err(unread(alloc, file, &stop)?),
+    match File::open(rt, file) {
+        Ok(mut opened) => known_in(alloc, file, &mut opened),
+        Err(error) => Err(unread(alloc, file, &error)),
     }
 }
 
 /// Why a list was not read.
-fn unread<D: Display>(alloc: Global, file: &str, stop: &D) -> Result<Failure, AllocError> {
-    Ok(Failure::usage(format!(in alloc; "{}: {stop}\n", Shown(file))?))
+fn unread<D: Display>(alloc: Global, file: &str, stop: &D) -> Failure {
+    refused(format!(in alloc; "{}: {stop}\n", Shown(file)))
+}
+
+/// A list that cannot be used, or that there was no memory to say so.
+fn refused(text: Result<String, AllocError>) -> Failure {
+    match text {
+        Ok(text) => Failure::usage(text),
+        Err(error) => Failure::from(error),
+    }
 }
 
 /// The objects that must be there.
-#[derive(Debug, Drop)]
+#[derive(Drop)]
 pub(crate) struct Listed {
     pub(crate) places: Vec<Place>,
     /// The SHA-256 of the list's bytes, in hexadecimal digits.
@@ -82,20 +94,41 @@ fn why_unlisted(
     }
 }
 
-/// A reader of a list. Fails with what is to be said.
-fn open_list<R>(rt: &R, file: &str) -> Result<BufReader<Heard<R::File>>, String>
+/// A reader of a list that was opened. Fails with what is to be said, or with no memory for it.
+fn reader_of<F>(
+    alloc: Global,
+    file: &str,
+    opened: io::Result<F>,
+) -> Result<HeardReader<F>, Result<String, AllocError>>
 where
-    R: Files + AllocGlobal,
+    F: Read + Drop,
 {
-    let alloc = rt.alloc();
-    let why = match File::open(rt, file) {
-        Ok(opened) => match BufReader::new(alloc, Heard::new(opened)) {
-            Ok(reader) => return Ok(reader),
-            Err(_) => return Err(String::new(alloc)),
+    match opened {
+        Ok(opened) => match HeardReader::new(alloc, opened) {
+            Ok(reader) => Ok(reader),
+            Err(error) => Err(Err(error)),
         },
-        Err(error) => why_unlisted(alloc, file, ListStop::Failed, Some(error)),
-    };
-    Err(why.unwrap_or(String::new(alloc)))
+        Err(error) => Err(why_unlisted(alloc, file, ListStop::Failed, Some(error))),
+    }
+}
+
+/// Takes the next line of a list. Gives false at its end.
+fn take_line<B: BufRead>(list: &mut B, text: &mut Vec<u8>) -> Result<bool, ListStop> {
+    match read_next_line(list, text) {
+        Ok(is_line) => Ok(is_line),
+        Err(InputStop::Memory) => Err(ListStop::Memory),
+        Err(InputStop::Failed) => Err(ListStop::Failed),
+    }
+}
+
+/// How many paths are in the line of a list with a number.
+fn count_in(alloc: Global, text: &[u8], number: u64) -> Result<usize, ListStop> {
+    let mut text = text;
+    match read_list(alloc, &mut text) {
+        Ok(places) => Ok(places.len()),
+        Err(ListStop::Line(_)) => Err(ListStop::Line(number)),
+        Err(stop) => Err(stop),
+    }
 }
 
 /// How many paths a list has, of which it holds one line at a time.
@@ -103,17 +136,10 @@ fn count_paths<B: BufRead>(alloc: Global, list: &mut B) -> Result<usize, ListSto
     let mut text = Vec::new(alloc);
     let mut count: usize = 0;
     for number in 1..MOST_LINES + 2 {
-        match read_next_line(list, &mut text) {
-            Ok(true) => {}
-            Ok(false) => return Ok(count),
-            Err(InputStop::Memory) => return Err(ListStop::Memory),
-            Err(InputStop::Failed) => return Err(ListStop::Failed),
+        if !take_line(list, &mut text)? {
+            return Ok(count);
         }
-        match read_list(alloc, &mut text.as_slice()) {
-            Ok(places) => count = count.saturating_add(places.len()),
-            Err(ListStop::Line(_)) => return Err(ListStop::Line(number)),
-            Err(stop) => return Err(stop),
-        }
+        count = count.saturating_add(count_in(alloc, text.as_slice(), number)?);
     }
     Err(ListStop::Long)
 }
@@ -124,65 +150,71 @@ pub fn refuse_unfit<R>(rt: &R, file: Option<&str>) -> Result<(), Failure>
 where
     R: Files + AllocGlobal,
 {
-    let alloc = rt.alloc();
-    let Some(file) = file else {
-        return Ok(());
-    };
-    let mut reader = match open_list(rt, file) {
-        Ok(reader) => reader,
-        Err(why) => return Err(unfit(alloc, why)?),
-    };
-    match count_paths(alloc, &mut reader) {
-        Ok(0) => Err(unfit(
-            alloc,
-            format!(in alloc; "{}: it names no object", Shown(file))?,
-        )?),
-        Ok(_) => Ok(()),
-        Err(stop) => {
-            let error = reader.get_ref().error();
-            Err(unfit(alloc, why_unlisted(alloc, file, stop, error)?)?)
-        }
+    match file {
+        Some(file) => refuse_opened(rt.alloc(), file, File::open(rt, file)),
+        None => Ok(()),
     }
 }
 
-/// That a list is refused. Without words memory was refused.
-fn unfit(alloc: Global, why: String) -> Result<Failure, AllocError> {
-    if why.is_empty() {
-        return Err(AllocError);
+/// Refuses a list that was opened and cannot be read, or that names no object.
+fn refuse_opened<F>(alloc: Global, file: &str, opened: io::Result<F>) -> Result<(), Failure>
+where
+    F: Read + Drop,
+{
+    let why = match reader_of(alloc, file, opened) {
+        Ok(mut list) => find_unfit(alloc, file, &mut list),
+        Err(why) => Some(why),
+    };
+    match why {
+        Some(Ok(why)) => Err(refused(format!(in alloc; "{why}\n"))),
+        Some(Err(error)) => Err(Failure::from(error)),
+        None => Ok(()),
     }
-    Ok(Failure::usage(format!(in alloc; "{why}\n")?))
+}
+
+/// Why a list cannot be read, or that it names no object. `None` if it can be used.
+fn find_unfit<F>(
+    alloc: Global,
+    file: &str,
+    list: &mut HeardReader<F>,
+) -> Option<Result<String, AllocError>>
+where
+    F: Read + Drop,
+{
+    match count_paths(alloc, &mut list.reader) {
+        Ok(0) => Some(format!(in alloc; "{}: it names no object", Shown(file))),
+        Ok(_) => None,
+        Err(stop) => Some(why_unlisted(alloc, file, stop, list.error())),
+    }
 }
 
 /// The objects that a file lists.
-pub(crate) fn read_expected<R>(rt: &R, file: &str) -> Result<Listed, Failure>
-where
-    R: Files + AllocGlobal,
-{
-    let alloc = rt.alloc();
-    let mut reader = match open_list(rt, file) {
-        Ok(reader) => reader,
-        Err(why) => return Err(unlisted(alloc, why)?),
-    };
-    match read_list(alloc, &mut reader) {
-        Ok(places) => Ok(Listed {
-            places,
-            digits: reader.into_inner().into_digits(alloc)?,
-        }),
-        Err(stop) => {
-            let error = reader.get_ref().error();
-            Err(unlisted(alloc, why_unlisted(alloc, file, stop, error)?)?)
-        }
+pub(crate) fn read_expected<R: Room>(rt: &R, file: &str) -> Result<Listed, Failure> {
+    let alloc = rt.global();
+    match reader_of(alloc, file, rt.open_file(file)) {
+        Ok(list) => listed_in(alloc, file, list),
+        Err(why) => Err(unlisted(alloc, why)),
     }
 }
 
-/// Why the objects that must be there are not known. Without words memory was refused.
-fn unlisted(alloc: Global, why: String) -> Result<Failure, AllocError> {
-    if why.is_empty() {
-        return Err(AllocError);
+/// The objects that an opened file lists.
+fn listed_in(alloc: Global, file: &str, list: HeardReader<File>) -> Result<Listed, Failure> {
+    let mut list = list;
+    match read_list(alloc, &mut list.reader) {
+        Ok(places) => Ok(Listed {
+            places,
+            digits: list.into_digits(alloc)?,
+        }),
+        Err(stop) => Err(unlisted(alloc, why_unlisted(alloc, file, stop, list.error()))),
     }
-    let text = format!(in alloc; "{why}: which of its objects are missing is not known\n")?;
-    Ok(Failure {
-        status: STOPPED,
-        text: Some(text),
-    })
+}
+
+/// Why the objects that must be there are not known, or that there was no memory to say why.
+fn unlisted(alloc: Global, why: Result<String, AllocError>) -> Failure {
+    match why {
+        Ok(why) => Failure::saying(format!(in alloc;
+            "{why}: which of its objects are missing is not known\n"
+        )),
+        Err(error) => Failure::from(error),
+    }
 }

@@ -1,10 +1,10 @@
 //! Making files and folders beside those of a state folder.
 
 use crate::failing::Failure;
-use crate::files::folder_of;
+use crate::files::sync_name;
 use ocfl_telling::Shown;
 use std::alloc::{AllocError, Global};
-use std::fs::{self, DirBuilder, File, OpenFile, OpenOptions};
+use std::fs::{self, DirBuilder, OpenFile, OpenOptions};
 use std::io;
 use std::os::unix::fs::{DirBuilderExt, OpenOptionsExt};
 use std::rt::Files;
@@ -21,6 +21,11 @@ pub fn file_failure(alloc: Global, path: &str, error: &io::Error) -> Result<Fail
         return Err(AllocError);
     }
     Ok(Failure::stopped(format!(in alloc; "{}: {error}\n", Shown(path))?))
+}
+
+/// The same, or that there was no memory for it.
+pub(crate) fn failed_file(alloc: Global, path: &str, error: &io::Error) -> Failure {
+    Failure::made(file_failure(alloc, path, error))
 }
 
 /// Whether something is at a path.
@@ -46,7 +51,7 @@ where
 {
     match make(rt, path) {
         Ok(file) => Ok(file),
-        Err(error) => Err(file_failure(rt.alloc(), path, &error)?),
+        Err(error) => Err(failed_file(rt.alloc(), path, &error)),
     }
 }
 
@@ -55,7 +60,7 @@ fn own_folder(alloc: Global, path: &str, is_dir: bool) -> Result<(), Failure> {
     if is_dir {
         return Ok(());
     }
-    Err(Failure::stopped(format!(in alloc; "{}: is no folder\n", Shown(path))?))
+    Err(Failure::saying(format!(in alloc; "{}: is no folder\n", Shown(path))))
 }
 
 /// Makes a folder for its owner and group, unless it is there.
@@ -67,18 +72,15 @@ pub fn make_folder<R: Files + AllocGlobal>(rt: &R, path: &str) -> Result<(), Fai
     builder.mode(FOLDER_MODE);
     match builder.create(rt, path) {
         Ok(()) => Ok(()),
-        Err(error) => Err(file_failure(rt.alloc(), path, &error)?),
+        Err(error) => Err(failed_file(rt.alloc(), path, &error)),
     }
 }
 
 /// Gives a file that was made its name, and brings that to the disk.
 pub fn put_made<R: Files + AllocGlobal>(rt: &R, made: &str, path: &str) -> Result<(), Failure> {
     if let Err(error) = fs::rename(rt, made, path) {
-        return Err(file_failure(rt.alloc(), path, &error)?);
+        return Err(failed_file(rt.alloc(), path, &error));
     }
-    // Not every system can sync a folder; the file is whole without it.
-    if let Ok(folder) = File::open(rt, folder_of(path)) {
-        let _ = folder.sync_all();
-    }
+    sync_name(rt, path);
     Ok(())
 }

@@ -1,20 +1,15 @@
 //! What the state folders of parts say of their nights.
 
 use crate::failing::Failure;
-use crate::kept::read_kept;
-use crate::making::is_there;
+use crate::room::Room;
 use crate::stand::Standing;
-use crate::state::{folder_failure, open_state};
 use ocfl_cursor::{PartEnds, Refused};
 use ocfl_state::{Checkpoint, RootIdentity, decode_checkpoint};
 use ocfl_telling::Shown;
 use ocfl_tree::Place;
 use std::alloc::{AllocError, Global};
-use std::fs::File;
-use std::rt::Files;
 
 /// What the checkpoint of a part says.
-#[derive(Debug)]
 pub(crate) struct Facts {
     /// Which storage root it is of.
     pub(crate) root: Vec<u8>,
@@ -60,31 +55,27 @@ pub(crate) fn place_of(end: &Option<Place>) -> Result<Option<Place>, AllocError>
     }
 }
 
-/// The ends of a part; none of a whole root.
-fn ends_of(part: &Option<PartEnds>) -> Result<PartEnds, AllocError> {
-    match part {
-        Some(ends) => Ok(PartEnds {
-            from: place_of(&ends.from)?,
-            below: place_of(&ends.below)?,
-        }),
-        None => Ok(PartEnds {
-            from: None,
-            below: None,
-        }),
-    }
-}
-
-/// What a checkpoint says of its part.
+/// What a checkpoint says of its part. A whole root has no ends.
 fn facts_of(alloc: Global, checkpoint: &Checkpoint) -> Result<Facts, AllocError> {
     let standing = Standing::of(checkpoint);
-    let ends = ends_of(&checkpoint.part)?;
-    Ok(Facts {
+    let mut facts = Facts {
         root: root_text(alloc, &checkpoint.root)?,
-        from: ends.from,
-        below: ends.below,
+        from: None,
+        below: None,
         last: standing.last_closed(),
         has_lines: standing.is_closed && standing.spent > 0,
-    })
+    };
+    if let Some(ends) = &checkpoint.part {
+        put_ends(ends, &mut facts)?;
+    }
+    Ok(facts)
+}
+
+/// Notes the ends of a part.
+fn put_ends(ends: &PartEnds, facts: &mut Facts) -> Result<(), AllocError> {
+    facts.from = place_of(&ends.from)?;
+    facts.below = place_of(&ends.below)?;
+    Ok(())
 }
 
 /// What is said of a file that is no checkpoint.
@@ -95,36 +86,25 @@ fn refused(alloc: Global, path: &str, why: Refused) -> Result<Failure, AllocErro
     Ok(Failure::stopped(format!(in alloc; "{}/checkpoint: {why}\n", Shown(path))?))
 }
 
-/// The bytes of the checkpoint in the state folder of a part, if one is there.
-fn read_bytes<R>(rt: &R, path: &str) -> Result<Option<Vec<u8>>, Failure>
-where
-    R: Files<File = File> + AllocGlobal,
-{
-    let mut folder = open_state(rt, path, path, false)?;
-    match folder.checkpoint() {
-        Ok(bytes) => Ok(bytes),
-        Err(_) => Err(folder_failure(rt.alloc(), path, folder.reason())?),
-    }
-}
-
 /// What the bytes of a checkpoint say of its part.
 fn facts_in(alloc: Global, path: &str, bytes: &[u8]) -> Result<Facts, Failure> {
     match decode_checkpoint(alloc, bytes) {
         Ok(checkpoint) => Ok(facts_of(alloc, &checkpoint)?),
-        Err(why) => Err(refused(alloc, path, why)?),
+        Err(why) => Err(Failure::made(refused(alloc, path, why))),
     }
 }
 
-/// What the state folder of a part says. `None` if there is no such folder yet.
-fn read_facts<R>(rt: &R, path: &str) -> Result<Option<Facts>, Failure>
+/// What the state folder of the part with a number says. `None` if there is no such folder yet.
+fn read_facts<R>(rt: &R, state: &str, number: usize) -> Result<Option<Facts>, Failure>
 where
-    R: Files<File = File> + AllocGlobal,
+    R: Room,
 {
-    if !is_there(rt, path) {
+    let path = part_path(rt.global(), state, number)?;
+    if !rt.has(path.as_str()) {
         return Ok(None);
     }
-    match read_bytes(rt, path)? {
-        Some(bytes) => Ok(Some(facts_in(rt.alloc(), path, &bytes)?)),
+    match rt.checkpoint_in(path.as_str())? {
+        Some(bytes) => Ok(Some(facts_in(rt.global(), path.as_str(), &bytes)?)),
         None => Ok(None),
     }
 }
@@ -132,30 +112,25 @@ where
 /// What the checkpoints of all parts say.
 pub(crate) fn read_all<R>(rt: &R, state: &str, count: usize) -> Result<Vec<Option<Facts>>, Failure>
 where
-    R: Files<File = File> + AllocGlobal,
+    R: Room,
 {
-    let alloc = rt.alloc();
-    let mut all = Vec::new(alloc);
+    let mut all = Vec::new(rt.global());
     for number in 1..=count {
-        let path = part_path(alloc, state, number)?;
-        all.push(read_facts(rt, path.as_str())?)?;
+        all.push(read_facts(rt, state, number)?)?;
     }
     Ok(all)
 }
 
-/// How many names the storage root had when a part began a cycle, if that was kept.
-fn read_names<R>(rt: &R, path: &str, cycle: u64) -> Result<Option<u64>, Failure>
+/// How many names the storage root had when the part with a number began a cycle, if that was kept.
+fn read_names<R>(rt: &R, state: &str, number: usize, cycle: u64) -> Result<Option<u64>, Failure>
 where
-    R: Files<File = File> + AllocGlobal,
+    R: Room,
 {
-    let mut folder = open_state(rt, path, path, false)?;
-    match read_kept(rt.alloc(), &mut folder, path, cycle)? {
-        Some(Some(checkpoint)) => Ok(Some(checkpoint.names.count)),
-        Some(None) | None => Ok(None),
-    }
+    let path = part_path(rt.global(), state, number)?;
+    rt.names_in(path.as_str(), cycle)
 }
 
-/// The same of all parts.
+/// How many names the storage root had when each part began a cycle, if that was kept.
 pub(crate) fn read_all_names<R>(
     rt: &R,
     state: &str,
@@ -163,13 +138,11 @@ pub(crate) fn read_all_names<R>(
     cycle: u64,
 ) -> Result<Vec<Option<u64>>, Failure>
 where
-    R: Files<File = File> + AllocGlobal,
+    R: Room,
 {
-    let alloc = rt.alloc();
-    let mut all = Vec::new(alloc);
+    let mut all = Vec::new(rt.global());
     for number in 1..=count {
-        let path = part_path(alloc, state, number)?;
-        all.push(read_names(rt, path.as_str(), cycle)?)?;
+        all.push(read_names(rt, state, number, cycle)?)?;
     }
     Ok(all)
 }

@@ -10,14 +10,14 @@ use std::{io, mem};
 const MOST: usize = 1_000;
 
 /// A place, and why it could not be read.
-#[derive(Debug, Drop)]
+#[derive(Drop)]
 pub struct Reason {
     pub place: Place,
     pub words: String,
 }
 
 /// Why the places could not be read that were met last: those of up to 1,000 places.
-#[derive(Debug, Drop)]
+#[derive(Drop)]
 pub struct Reasons {
     kept: Vec<Reason>,
     /// That of the last call that failed.
@@ -32,6 +32,15 @@ fn copy_of(alloc: Global, words: &Option<String>) -> Option<String> {
     }
 }
 
+/// Why a place could not be read. `None` if there are no words, or no memory for them.
+fn reason_of(alloc: Global, place: &Place, words: &Option<String>) -> Option<Reason> {
+    let words = copy_of(alloc, words)?;
+    match place.try_clone() {
+        Ok(place) => Some(Reason { place, words }),
+        Err(_) => None,
+    }
+}
+
 impl Reasons {
     /// None.
     pub fn new(alloc: Global) -> Reasons {
@@ -43,14 +52,12 @@ impl Reasons {
 
     /// Keeps why a place could not be read. What there is no memory for is not kept.
     fn keep(&mut self, alloc: Global, place: &Place, words: Option<String>) {
-        let copy = copy_of(alloc, &words);
+        if self.kept.len() < MOST && self.find(place).is_none() {
+            if let Some(reason) = reason_of(alloc, place, &words) {
+                let _ = self.kept.push(reason);
+            }
+        }
         self.last = words;
-        if self.kept.len() >= MOST || self.find(place).is_some() {
-            return;
-        }
-        if let (Some(words), Ok(place)) = (copy, place.try_clone()) {
-            let _ = self.kept.push(Reason { place, words });
-        }
     }
 
     /// Why a place could not be read, if that is kept.

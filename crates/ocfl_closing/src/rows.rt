@@ -4,6 +4,7 @@ use ocfl_report::{Code, Line, put_place, read_line, read_place, split_once};
 use ocfl_telling::{Gone, GoneKind, Known, SHOWN};
 use ocfl_tree::Place;
 use std::alloc::{AllocError, Global};
+use std::fs::File;
 use std::io::{self, ErrorKind, Write};
 use std::mem;
 
@@ -11,11 +12,20 @@ use std::mem;
 /// whole line.
 const MOST_NAMED: usize = 10_000;
 
+/// The word of a row of an object that is gone.
+pub(crate) const OBJECT: &[u8] = b"object";
+
+/// The word of a row of a file that is gone.
+const FILE: &[u8] = b"file";
+
+/// The word of a row of an object of a list that has no line.
+const EXPECTED: &[u8] = b"expected";
+
 /// How a row of a repaired finding begins.
 const REPAIRED: &[u8] = b"repaired ";
 
 /// The first of what is gone, and how much there is.
-#[derive(Debug, Drop)]
+#[derive(Drop)]
 pub(crate) struct Missing {
     pub(crate) first: Vec<Gone>,
     pub(crate) count: u64,
@@ -40,18 +50,13 @@ impl Missing {
     }
 
     /// Takes those of another one too.
-    fn join(&mut self, other: Missing) -> Result<(), AllocError> {
-        let Missing { first, count } = other;
-        self.count = self.count.saturating_add(count);
-        for gone in first {
-            self.first.push(gone)?;
-        }
-        Ok(())
+    fn join(&mut self, other: &mut Missing) -> Result<(), AllocError> {
+        self.count = self.count.saturating_add(other.count);
+        self.first.append(&mut other.first)
     }
 }
 
 /// What changed. Of each list there are the first, and how many there are.
-#[derive(Debug)]
 pub(crate) struct Changes {
     /// Findings that are new, by their codes and places alone, up to 10,000.
     pub(crate) appeared: Vec<Line>,
@@ -123,27 +128,21 @@ impl Changes {
     }
 
     /// Takes those of another comparison of the same report, of other places, too.
-    pub(crate) fn join(&mut self, alloc: Global, other: Changes) -> Result<(), AllocError> {
-        let mut other = other;
+    pub(crate) fn join(&mut self, other: &mut Changes) -> Result<(), AllocError> {
         self.appeared_count = self.appeared_count.saturating_add(other.appeared_count);
         self.repaired_count = self.repaired_count.saturating_add(other.repaired_count);
         self.unlooked = self.unlooked.saturating_add(other.unlooked);
-        for line in other.appeared.drain(..) {
-            self.appeared.push(line)?;
-        }
+        self.appeared.append(&mut other.appeared)?;
         self.appeared
             .sort_by(|line: &Line, next: &Line| line.place.cmp(&next.place))?;
-        self.objects
-            .join(mem::replace(&mut other.objects, Missing::new(alloc)))?;
-        self.files
-            .join(mem::replace(&mut other.files, Missing::new(alloc)))?;
-        self.expected
-            .join(mem::replace(&mut other.expected, Missing::new(alloc)))
+        self.objects.join(&mut other.objects)?;
+        self.files.join(&mut other.files)?;
+        self.expected.join(&mut other.expected)
     }
 }
 
 /// An object whose files are not looked at now.
-#[derive(Debug, Drop)]
+#[derive(Drop)]
 struct Shut {
     place: Place,
     /// Whether it has no line of an object any more. If not, its head stops.
@@ -154,20 +153,20 @@ struct Shut {
 
 /// An output that takes the rows of a comparison, each place's rows in one piece, and writes those
 /// of what is gone into a list.
-pub(crate) struct Rows<'a, W: Drop> {
+pub(crate) struct Rows<'k, 'p> {
     alloc: Global,
     /// New findings that are known do not count.
-    known: &'a Known,
+    known: &'k Known,
     /// If it is there, the rows of these places and of what is below them count alone.
-    within: Option<&'a [Place]>,
+    within: Option<&'p [Place]>,
     changes: Changes,
     /// The object that the last rows were at or below, if its files are not looked at.
     shut: Option<Shut>,
-    list: W,
+    list: File,
 }
 
 /// Written by hand, so that to let it go is one call wherever that happens.
-impl<W: Drop> Drop for Rows<'_, W> {
+impl Drop for Rows<'_, '_> {
     fn drop(self) {
         let Rows {
             alloc: _alloc,
@@ -220,9 +219,9 @@ pub(crate) fn row_of(text: &[u8]) -> io::Result<Row<'_>> {
     }
 }
 
-impl<'a, W: Write + Drop> Rows<'a, W> {
+impl<'k, 'p> Rows<'k, 'p> {
     /// With no row yet.
-    pub(crate) fn new(alloc: Global, known: &'a Known, list: W) -> Rows<'a, W> {
+    pub(crate) fn new(alloc: Global, known: &'k Known, list: File) -> Rows<'k, 'p> {
         Rows {
             alloc,
             known,
@@ -235,7 +234,7 @@ impl<'a, W: Write + Drop> Rows<'a, W> {
 
     /// From now on the rows of these places and of what is below them count alone; all rows if
     /// there are none.
-    pub(crate) fn keep_to(&mut self, within: Option<&'a [Place]>) {
+    pub(crate) fn keep_to(&mut self, within: Option<&'p [Place]>) {
         self.within = within;
     }
 
@@ -246,7 +245,7 @@ impl<'a, W: Write + Drop> Rows<'a, W> {
     }
 
     /// The list.
-    pub(crate) fn list(&self) -> &W {
+    pub(crate) fn list(&self) -> &File {
         &self.list
     }
 
@@ -366,19 +365,33 @@ impl<'a, W: Write + Drop> Rows<'a, W> {
         Ok(())
     }
 
+    /// Takes a row of a finding.
+    fn take_finding(&mut self, row: Row<'_>) -> io::Result<()> {
+        match row.word.strip_prefix(REPAIRED) {
+            Some(code) => self.take_repaired(bare_line(self.alloc, code, row.path)?),
+            None => self.take_new(bare_line(self.alloc, row.word, row.path)?),
+        }
+    }
+
     /// Takes a row of a place.
     fn take_at(&mut self, row: Row<'_>, place: Place) -> io::Result<()> {
-        if !self.is_shut(&place) {
-            self.leave_shut()?;
+        if row.word == OBJECT {
+            self.take_object(place)
+        } else if row.word == FILE {
+            self.take_file(place)
+        } else if row.word == EXPECTED {
+            self.take_expected(place)
+        } else {
+            self.take_finding(row)
         }
-        match row.word {
-            b"object" => self.take_object(place),
-            b"file" => self.take_file(place),
-            b"expected" => self.take_expected(place),
-            word => match word.strip_prefix(REPAIRED) {
-                Some(code) => self.take_repaired(bare_line(self.alloc, code, row.path)?),
-                None => self.take_new(bare_line(self.alloc, word, row.path)?),
-            },
+    }
+
+    /// Takes the object whose rows are over once there are rows of this place.
+    fn leave_for(&mut self, place: &Place) -> io::Result<()> {
+        if self.is_shut(place) {
+            Ok(())
+        } else {
+            self.leave_shut()
         }
     }
 
@@ -386,10 +399,11 @@ impl<'a, W: Write + Drop> Rows<'a, W> {
     fn take_row(&mut self, text: &[u8]) -> io::Result<()> {
         let row = row_of(text)?;
         let place = place_of(self.alloc, row.path)?;
-        if self.counts(&place) {
-            self.take_at(row, place)?;
+        if !self.counts(&place) {
+            return Ok(());
         }
-        Ok(())
+        self.leave_for(&place)?;
+        self.take_at(row, place)
     }
 }
 
@@ -405,7 +419,7 @@ fn bare_line(alloc: Global, code: &[u8], path: &[u8]) -> io::Result<Line> {
     }
 }
 
-impl<W: Write + Drop> Write for Rows<'_, W> {
+impl Write for Rows<'_, '_> {
     fn write(&mut self, buffer: &[u8]) -> io::Result<usize> {
         for row in buffer.split_inclusive(|&byte| byte == b'\n') {
             self.take_row(row)?;

@@ -4,7 +4,7 @@ use ocfl_cursor::State;
 use ocfl_state::{Checkpoint, Phase};
 
 /// Where the nights over a folder stand.
-#[derive(Clone, Copy, Debug)]
+#[derive(Clone, Copy)]
 pub struct Standing {
     /// The number of the cycle.
     pub cycle: u64,

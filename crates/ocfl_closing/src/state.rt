@@ -3,9 +3,9 @@
 use crate::closed::places_of;
 use crate::failing::Failure;
 use crate::files::{folder_of, lies_inside, path_of};
-use crate::making::{FILE_MODE, file_failure, is_there};
+use crate::making::{FILE_MODE, failed_file, is_there};
 use crate::stand::Standing;
-use crate::state_dir::StateDir;
+use crate::state_dir::{Folder, StateDir};
 use ocfl_state::{Checkpoint, FolderTrouble, Reason, StateFile, StateStop, decode_checkpoint};
 use ocfl_telling::{RefusalMessage, Shown, refusal_text};
 use ocfl_tree::Place;
@@ -54,9 +54,9 @@ fn refuse_parts<R: Files + AllocGlobal>(rt: &R, state: &str) -> Result<(), Failu
         return Ok(());
     }
     let state = Shown(state);
-    Err(Failure::stopped(format!(in alloc;
+    Err(Failure::saying(format!(in alloc;
         "{state} has the folders of parts. Begin in another folder. Nothing was run.\n"
-    )?))
+    )))
 }
 
 /// Opens the state folder, and holds its lock.
@@ -74,7 +74,7 @@ where
     }
     match StateDir::open(rt, state, create) {
         Ok(folder) => Ok(folder),
-        Err(stop) => Err(unopened(rt.alloc(), state, root, stop)?),
+        Err(stop) => Err(Failure::made(unopened(rt.alloc(), state, root, stop))),
     }
 }
 
@@ -101,14 +101,25 @@ where
 {
     let alloc = rt.alloc();
     let path = format!(in alloc; "{state}/{}", StateFile::Lock)?;
-    let lock = match open_lock(rt, path.as_str()) {
-        Ok(lock) => lock,
-        Err(error) => return Err(file_failure(alloc, path.as_str(), &error)?),
-    };
+    match open_lock(rt, path.as_str()) {
+        Ok(lock) => hold(alloc, state, path.as_str(), lock),
+        Err(error) => Err(failed_file(alloc, path.as_str(), &error)),
+    }
+}
+
+/// Holds a lock while the result lives.
+fn hold(alloc: Global, state: &str, path: &str, lock: File) -> Result<File, Failure> {
     match lock.try_lock() {
         Ok(()) => Ok(lock),
-        Err(TryLockError::WouldBlock) => Err(joined_now(alloc, state)?),
-        Err(TryLockError::Error(error)) => Err(file_failure(alloc, path.as_str(), &error)?),
+        Err(error) => Err(unheld(alloc, state, path, error)),
+    }
+}
+
+/// Why the lock of a folder of parts is not held.
+fn unheld(alloc: Global, state: &str, path: &str, error: TryLockError) -> Failure {
+    match error {
+        TryLockError::WouldBlock => Failure::made(joined_now(alloc, state)),
+        TryLockError::Error(error) => failed_file(alloc, path, &error),
     }
 }
 
@@ -181,6 +192,11 @@ pub fn folder_failure(
     Ok(Failure::stopped(format!(in alloc; "{why}\n")?))
 }
 
+/// That the last call on the folder failed, or that there was no memory to say so.
+pub(crate) fn failed_folder<F: Folder>(alloc: Global, folder: &F, state: &str) -> Failure {
+    Failure::made(folder_failure(alloc, state, folder.last_reason()))
+}
+
 /// The system's words on the last call on the folder that failed, with the file.
 pub fn words_of(alloc: Global, reason: Option<Reason>) -> Result<Option<String>, AllocError> {
     match reason {
@@ -191,7 +207,7 @@ pub fn words_of(alloc: Global, reason: Option<Reason>) -> Result<Option<String>,
 
 /// Where nights begin: where those before stand, and which places they left out of the cycle that is
 /// open.
-#[derive(Debug, Drop)]
+#[derive(Drop)]
 pub struct Begun {
     pub standing: Standing,
     pub left: Vec<Place>,
@@ -217,10 +233,7 @@ impl Begun {
 
 /// Where the nights over a folder stand. Of a checkpoint that cannot be read the night itself says
 /// why.
-pub fn read_begun<R>(alloc: Global, folder: &mut StateDir<'_, R>) -> Begun
-where
-    R: Files<File = File> + AllocGlobal,
-{
+pub fn read_begun<F: Folder>(alloc: Global, folder: &mut F) -> Begun {
     match folder.checkpoint() {
         Ok(Some(bytes)) => match decode_checkpoint(alloc, &bytes) {
             Ok(checkpoint) => Begun::of(alloc, &checkpoint),
@@ -231,10 +244,7 @@ where
 }
 
 /// The path of the storage root that the nights of a folder read, by its checkpoint.
-fn own_root<R>(alloc: Global, folder: &mut StateDir<'_, R>) -> Option<Place>
-where
-    R: Files<File = File> + AllocGlobal,
-{
+fn own_root<F: Folder>(alloc: Global, folder: &mut F) -> Option<Place> {
     let bytes = folder.checkpoint().ok()??;
     Some(decode_checkpoint(alloc, &bytes).ok()?.into_path())
 }
@@ -251,12 +261,17 @@ fn would_be<R: Files + AllocGlobal>(rt: &R, path: &str, root: &Place) -> bool {
     let Some((_, name)) = path.rsplit_once('/') else {
         return false;
     };
-    match (path_of(rt, folder_of(path)), root.split_last()) {
-        (Ok(Some(above)), Some((folder, last))) => {
-            let above = above.as_path().as_str().strip_prefix('/');
-            name == last && above == Some(folder)
-        }
+    match path_of(rt, folder_of(path)) {
+        Ok(Some(above)) => is_last_of(above.as_path().as_str(), name, root),
         _ => is_path(path, root),
+    }
+}
+
+/// Whether a name in a folder, by its path from `/` on, is the last one of the storage root's path.
+fn is_last_of(folder: &str, name: &str, root: &Place) -> bool {
+    match root.split_last() {
+        Some((above, last)) => name == last && folder.strip_prefix('/') == Some(above),
+        None => false,
     }
 }
 
@@ -266,12 +281,17 @@ pub fn is_of_root<R>(rt: &R, folder: &mut StateDir<'_, R>, path: &str) -> bool
 where
     R: Files<File = File> + AllocGlobal,
 {
-    let Some(root) = own_root(rt.alloc(), folder) else {
-        return false;
-    };
+    match own_root(rt.alloc(), folder) {
+        Some(root) => leads_to(rt, path, &root),
+        None => false,
+    }
+}
+
+/// Whether a path leads to the storage root, or may do so.
+fn leads_to<R: Files + AllocGlobal>(rt: &R, path: &str, root: &Place) -> bool {
     match path_of(rt, path) {
-        Ok(Some(resolved)) => is_path(resolved.as_path().as_str(), &root),
-        Ok(None) => is_there(rt, path) || would_be(rt, path, &root),
+        Ok(Some(resolved)) => is_path(resolved.as_path().as_str(), root),
+        Ok(None) => is_there(rt, path) || would_be(rt, path, root),
         Err(_) => false,
     }
 }

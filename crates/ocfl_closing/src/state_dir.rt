@@ -4,6 +4,24 @@ use ocfl_state::{FolderTrouble, FsState, OpenReport, Reason, StateFolder, StateS
 use std::fs::File;
 use std::rt::Files;
 
+/// A state folder whose closed reports are read.
+pub trait Folder {
+    /// Why the last call failed that did.
+    fn last_reason(&self) -> Option<Reason>;
+
+    /// The bytes of its checkpoint.
+    fn checkpoint(&mut self) -> Result<Option<Vec<u8>>, FolderTrouble>;
+
+    /// The bytes of the checkpoint with which the report of a cycle was closed.
+    fn kept_checkpoint(&mut self, cycle: u64) -> Result<Option<Vec<u8>>, FolderTrouble>;
+
+    /// Opens the closed report of a cycle.
+    fn open_closed(&mut self, cycle: u64) -> Result<Option<OpenReport>, FolderTrouble>;
+
+    /// Appends a line to the log.
+    fn add_to_log(&mut self, line: &[u8]) -> Result<(), FolderTrouble>;
+}
+
 /// A state folder, which is held while this lives.
 pub struct StateDir<'a, R: Files<File = File> + AllocGlobal> {
     pub folder: FsState<&'a R>,
@@ -29,23 +47,30 @@ impl<'a, R: Files<File = File> + AllocGlobal> StateDir<'a, R> {
         self.folder.reason()
     }
 
-    /// The bytes of its checkpoint.
-    pub fn checkpoint(&mut self) -> Result<Option<Vec<u8>>, FolderTrouble> {
+    /// Appends a line to the log.
+    pub fn append_log(&mut self, line: &[u8]) -> Result<(), FolderTrouble> {
+        self.folder.append_log(line)
+    }
+}
+
+impl<R: Files<File = File> + AllocGlobal> Folder for StateDir<'_, R> {
+    fn last_reason(&self) -> Option<Reason> {
+        self.folder.reason()
+    }
+
+    fn checkpoint(&mut self) -> Result<Option<Vec<u8>>, FolderTrouble> {
         self.folder.checkpoint()
     }
 
-    /// The bytes of the checkpoint with which the report of a cycle was closed.
-    pub fn kept_checkpoint(&mut self, cycle: u64) -> Result<Option<Vec<u8>>, FolderTrouble> {
+    fn kept_checkpoint(&mut self, cycle: u64) -> Result<Option<Vec<u8>>, FolderTrouble> {
         self.folder.kept_checkpoint(cycle)
     }
 
-    /// Opens the closed report of a cycle.
-    pub fn open_closed(&mut self, cycle: u64) -> Result<Option<OpenReport>, FolderTrouble> {
+    fn open_closed(&mut self, cycle: u64) -> Result<Option<OpenReport>, FolderTrouble> {
         self.folder.open_closed(cycle)
     }
 
-    /// Appends a line to the log.
-    pub fn append_log(&mut self, line: &[u8]) -> Result<(), FolderTrouble> {
+    fn add_to_log(&mut self, line: &[u8]) -> Result<(), FolderTrouble> {
         self.folder.append_log(line)
     }
 }

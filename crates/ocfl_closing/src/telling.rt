@@ -127,13 +127,10 @@ impl<'n, W: Write + Drop> Teller<'n, W> {
     }
 
     /// Keeps the lines that a message has. Those for which there is no memory are not kept.
-    fn keep_said(&mut self, gravest: Gravest) -> Result<(), AllocError> {
+    fn keep_said(&mut self, gravest: &mut Gravest) -> Result<(), AllocError> {
         let mut lines = lines_of(self.alloc, gravest)?;
         lines.truncate(SHOWN);
-        for line in lines {
-            self.said.push(line)?;
-        }
-        Ok(())
+        self.said.append(&mut lines)
     }
 
     /// Takes a line that is a report's, with its line feed.
@@ -148,10 +145,10 @@ impl<'n, W: Write + Drop> Teller<'n, W> {
     /// Takes a line, with its line feed.
     fn end_line(&mut self) -> Result<(), TextStop> {
         if !self.rest.starts_with(CLEAN) {
-            match read_line(self.alloc, self.rest.as_slice()) {
-                Ok(_) => self.keep_line()?,
-                Err(TextStop::Bad) => self.broken = self.broken.saturating_add(1),
-                Err(TextStop::Memory) => return Err(TextStop::Memory),
+            if is_line(self.alloc, self.rest.as_slice())? {
+                self.keep_line()?;
+            } else {
+                self.broken = self.broken.saturating_add(1);
             }
         }
         self.rest.clear();
@@ -170,31 +167,38 @@ impl<'n, W: Write + Drop> Teller<'n, W> {
     }
 
     /// Takes what was found, which is said then.
-    fn take_found(&mut self) -> Result<Found, TextStop> {
+    fn take_found(&mut self) -> Result<Gravest, TextStop> {
         if !self.rest.is_empty() {
             self.broken = self.broken.saturating_add(1);
             self.rest.clear();
         }
         match self.found.take() {
-            Some(found) => Ok(found),
+            Some(found) => found.end(),
             None => Err(TextStop::Bad),
         }
     }
 
-    /// Says what was found.
-    fn say(&mut self) -> io::Result<()> {
-        let gravest = self
-            .take_found()
-            .and_then(|found| found.end())
-            .map_err(error_of)?;
-        let now = self.now.get();
-        let mut text = message(self.alloc, self.names, self.said_to, now, &gravest)?;
+    /// The text about what was found.
+    fn text_of(&self, now: Standing, gravest: &Gravest) -> Result<Vec<u8>, AllocError> {
+        let mut text = message(self.alloc, self.names, self.said_to, now, gravest)?;
         let reasons = take_reasons(self.alloc, &self.reasons);
-        put_reasons(self.alloc, &gravest, &reasons, &mut text)?;
+        put_reasons(self.alloc, gravest, &reasons, &mut text)?;
+        Ok(text)
+    }
+
+    /// Says what was found, all of it.
+    fn say(&mut self, now: Standing, gravest: &Gravest) -> io::Result<()> {
+        let text = self.text_of(now, gravest)?;
         if write_all_of(&mut self.out, &text).is_err() {
             return Err(io::Error::from(ErrorKind::WriteZero));
         }
-        self.out.flush()?;
+        self.out.flush()
+    }
+
+    /// Says what was found, and notes that it was said.
+    fn tell(&mut self, gravest: &mut Gravest) -> io::Result<()> {
+        let now = self.now.get();
+        self.say(now, gravest)?;
         let count = u64::try_from(gravest.count()).unwrap_or(u64::MAX);
         self.findings = self.findings.saturating_add(count);
         self.said_to = now;
@@ -216,7 +220,19 @@ impl<W: Write + Drop> Write for Teller<'_, W> {
     }
 
     fn flush(&mut self) -> io::Result<()> {
-        self.say()
+        match self.take_found() {
+            Ok(mut gravest) => self.tell(&mut gravest),
+            Err(stop) => Err(error_of(stop)),
+        }
+    }
+}
+
+/// Whether a text is a line of a report, with its line feed.
+fn is_line(alloc: Global, text: &[u8]) -> Result<bool, TextStop> {
+    match read_line(alloc, text) {
+        Ok(_) => Ok(true),
+        Err(TextStop::Bad) => Ok(false),
+        Err(TextStop::Memory) => Err(TextStop::Memory),
     }
 }
 

@@ -1,0 +1,472 @@
+//! Comparing the closed reports of a state folder.
+
+use crate::account::{Account, Pair, whole_missing_text, why_not};
+use crate::back::{Places, without};
+use crate::closed::{ClosedCycle, Earlier, both, find_earlier, outside};
+use crate::failing::Failure;
+use crate::finding::{Findings, find_lines};
+use crate::heard::HeardReader;
+use crate::kept::{is_as_closed, open_report};
+use crate::lists::Listed;
+use crate::making::failed_file;
+use crate::rows::{Changes, Rows};
+use crate::state_dir::Folder;
+use ocfl_compare::{CompareStop, compare, find_expected};
+use ocfl_report::Line;
+use ocfl_telling::{Known, Shown};
+use ocfl_tree::Place;
+use std::alloc::{AllocError, Global};
+use std::fs::File;
+use std::io::{self, Write};
+
+/// Why a comparison stopped, with the words of the reader that failed.
+fn words_of(
+    alloc: Global,
+    stop: CompareStop,
+    error: Option<io::Error>,
+) -> Result<String, AllocError> {
+    match (stop, error) {
+        (CompareStop::Memory, _) => Err(AllocError),
+        (CompareStop::BeforeFailed | CompareStop::NowFailed, Some(error)) => {
+            format!(in alloc; "{stop}: {error}")
+        }
+        _ => format!(in alloc; "{stop}"),
+    }
+}
+
+/// Why two reports were not compared.
+fn uncompared(
+    alloc: Global,
+    cycle: u64,
+    before: u64,
+    stop: CompareStop,
+    error: Option<io::Error>,
+) -> Failure {
+    match words_of(alloc, stop, error) {
+        Ok(words) => Failure::saying(format!(in alloc;
+            "the report of cycle {cycle} was not compared with that of cycle {before}: {words}\n"
+        )),
+        Err(error) => Failure::from(error),
+    }
+}
+
+/// Ends the list of what is gone, and adds what was written last to what changed.
+fn end_list(
+    alloc: Global,
+    path: &str,
+    rows: &mut Rows<'_, '_>,
+    changes: &mut Changes,
+) -> Result<(), Failure> {
+    match rows.take_changes() {
+        Ok(mut expected) => changes.join(&mut expected)?,
+        Err(error) => return Err(failed_file(alloc, path, &error)),
+    }
+    match rows.list().sync_all() {
+        Ok(()) => Ok(()),
+        Err(error) => Err(failed_file(alloc, path, &error)),
+    }
+}
+
+/// A reader of the closed report of a cycle.
+fn reader_of<F: Folder>(
+    alloc: Global,
+    folder: &mut F,
+    state: &str,
+    cycle: u64,
+) -> Result<HeardReader<File>, Failure> {
+    match open_report(alloc, folder, state, cycle)? {
+        Some(report) => Ok(HeardReader::new(alloc, report.file)?),
+        None => Err(Failure::saying(format!(in alloc;
+            "the report of cycle {cycle} is gone from {}\n",
+            Shown(state)
+        ))),
+    }
+}
+
+/// Refuses the report of a cycle, one of a pair, that is not as it was closed.
+fn refuse_changed<F: Folder>(
+    alloc: Global,
+    folder: &mut F,
+    state: &str,
+    cycle: u64,
+    before: u64,
+    changed: u64,
+) -> Result<(), Failure> {
+    if is_as_closed(alloc, folder, state, changed)? {
+        return Ok(());
+    }
+    Err(Failure::saying(format!(in alloc;
+        "the report of cycle {cycle} was not compared with that of cycle {before}: that of \
+         cycle {changed} was changed since it was closed\n"
+    )))
+}
+
+/// Writes the changes since a report before, outside of these places.
+fn write_changes<F: Folder>(
+    alloc: Global,
+    folder: &mut F,
+    state: &str,
+    cycle: u64,
+    before: u64,
+    left: &[Place],
+    rows: &mut Rows<'_, '_>,
+) -> Result<(), Failure> {
+    let mut earlier = reader_of(alloc, folder, state, before)?;
+    let mut now = reader_of(alloc, folder, state, cycle)?;
+    let stop = match compare(alloc, &mut earlier.reader, &mut now.reader, left, rows) {
+        Ok(()) => return Ok(()),
+        Err(stop) => stop,
+    };
+    let error = match stop {
+        CompareStop::BeforeFailed => earlier.error(),
+        _ => now.error(),
+    };
+    Err(uncompared(alloc, cycle, before, stop, error))
+}
+
+/// Writes the changes since a report before, outside of these places, and gives them.
+fn compare_with<F: Folder>(
+    alloc: Global,
+    folder: &mut F,
+    state: &str,
+    cycle: u64,
+    before: u64,
+    left: &[Place],
+    rows: &mut Rows<'_, '_>,
+) -> Result<Changes, Failure> {
+    write_changes(alloc, folder, state, cycle, before, left, rows)?;
+    match rows.take_changes() {
+        Ok(changes) => Ok(changes),
+        Err(_) => Err(uncompared(alloc, cycle, before, CompareStop::Output, None)),
+    }
+}
+
+/// Refuses a pair of which one report is not as it was closed.
+fn refuse_changed_pair<F: Folder>(
+    alloc: Global,
+    folder: &mut F,
+    state: &str,
+    pair: &Pair,
+) -> Result<(), Failure> {
+    let (cycle, before) = (pair.now.cycle, pair.compared());
+    refuse_changed(alloc, folder, state, cycle, before, before)?;
+    refuse_changed(alloc, folder, state, cycle, before, cycle)?;
+    match &pair.whole {
+        Some(whole) => refuse_changed(alloc, folder, state, cycle, whole.cycle, whole.cycle),
+        None => Ok(()),
+    }
+}
+
+/// Finds what changed since the report before, outside of what one of the two left out.
+fn compare_before<F: Folder>(
+    alloc: Global,
+    folder: &mut F,
+    state: &str,
+    pair: &Pair,
+    rows: &mut Rows<'_, '_>,
+) -> Result<Changes, Failure> {
+    let Some(before) = &pair.before else {
+        return Ok(Changes::new(alloc));
+    };
+    refuse_changed_pair(alloc, folder, state, pair)?;
+    let left = both(alloc, &pair.now.left, &before.left)?;
+    compare_with(
+        alloc,
+        folder,
+        state,
+        pair.now.cycle,
+        before.cycle,
+        &left,
+        rows,
+    )
+}
+
+/// Finds what changed since the last whole report, where the one before alone left something
+/// out.
+fn compare_whole<'p, F: Folder>(
+    alloc: Global,
+    folder: &mut F,
+    state: &str,
+    pair: &'p Pair,
+    rows: &mut Rows<'_, 'p>,
+) -> Result<Changes, Failure> {
+    let Some(whole) = &pair.whole else {
+        return Ok(Changes::new(alloc));
+    };
+    rows.keep_to(Some(&pair.again));
+    let again = compare_with(
+        alloc,
+        folder,
+        state,
+        pair.now.cycle,
+        whole.cycle,
+        &pair.now.left,
+        rows,
+    );
+    rows.keep_to(None);
+    again
+}
+
+/// Writes which of these objects have no line of an object in the report of a cycle, outside of
+/// these places. `before` is the cycle that this one is compared with.
+fn search<F: Folder, W: Write>(
+    alloc: Global,
+    folder: &mut F,
+    state: &str,
+    cycle: u64,
+    before: u64,
+    objects: &mut Vec<Place>,
+    left: &[Place],
+    out: &mut W,
+) -> Result<(), Failure> {
+    let mut report = reader_of(alloc, folder, state, cycle)?;
+    match find_expected(alloc, objects, &mut report.reader, left, out) {
+        Ok(()) => Ok(()),
+        Err(stop) => Err(uncompared(alloc, cycle, before, stop, report.error())),
+    }
+}
+
+/// The findings of the report of a cycle, with the whole lines of these, but for those that
+/// were said.
+fn find_in<F: Folder>(
+    alloc: Global,
+    folder: &mut F,
+    state: &str,
+    cycle: u64,
+    named: &[Line],
+    known: &Known,
+    said: &[Line],
+) -> Result<Findings, Failure> {
+    let mut report = reader_of(alloc, folder, state, cycle)?;
+    match find_lines(alloc, &mut report.reader, named, known, said) {
+        Ok(found) => Ok(found),
+        Err(error) => Err(Failure::saying(format!(in alloc;
+            "the report of cycle {cycle} in {}: {error}\n",
+            Shown(state)
+        ))),
+    }
+}
+
+/// The whole lines of what is repaired since a cycle, as its report has them.
+fn find_repaired<F: Folder>(
+    alloc: Global,
+    folder: &mut F,
+    state: &str,
+    cycle: u64,
+    changes: &Changes,
+) -> Result<Vec<Line>, Failure> {
+    if changes.repaired.is_empty() {
+        return Ok(Vec::new(alloc));
+    }
+    let none = Known::new(alloc);
+    let found = find_in(alloc, folder, state, cycle, &changes.repaired, &none, &[])?;
+    Ok(found.into_lines(alloc)?)
+}
+
+/// The whole lines of what is repaired, as the reports before have them.
+fn find_all_repaired<F: Folder>(
+    alloc: Global,
+    folder: &mut F,
+    state: &str,
+    pair: &Pair,
+    changes: &Changes,
+    again: &Changes,
+) -> Result<Vec<Line>, Failure> {
+    let mut repaired = find_repaired(alloc, folder, state, pair.compared(), changes)?;
+    if let Some(whole) = &pair.whole {
+        let mut others = find_repaired(alloc, folder, state, whole.cycle, again)?;
+        repaired.append(&mut others)?;
+    }
+    Ok(repaired)
+}
+
+/// Which of these objects have no line of an object in the report of a cycle, outside of these
+/// places.
+fn find_lacking<F: Folder>(
+    alloc: Global,
+    folder: &mut F,
+    state: &str,
+    cycle: u64,
+    objects: &mut Vec<Place>,
+    left: &[Place],
+) -> Result<Vec<Place>, Failure> {
+    let mut lacking = Places::new(alloc);
+    search(
+        alloc,
+        folder,
+        state,
+        cycle,
+        cycle,
+        objects,
+        left,
+        &mut lacking,
+    )?;
+    Ok(lacking.places)
+}
+
+/// Those of these objects that the report of a cycle before has no line of, and this one has.
+fn find_between<F: Folder>(
+    alloc: Global,
+    folder: &mut F,
+    state: &str,
+    before: &ClosedCycle,
+    now: &ClosedCycle,
+    gone: &mut Vec<Place>,
+) -> Result<Vec<Place>, Failure> {
+    let left = both(alloc, &now.left, &before.left)?;
+    let mut lacking = find_lacking(alloc, folder, state, before.cycle, gone, &left)?;
+    if lacking.is_empty() {
+        return Ok(lacking);
+    }
+    let still = find_lacking(alloc, folder, state, now.cycle, &mut lacking, &left)?;
+    Ok(without(alloc, lacking, &still)?)
+}
+
+/// Those of these objects, which earlier closings call gone, that are back: the report has a line
+/// of an object again, which the report before has not.
+pub(crate) fn find_returned<F: Folder>(
+    alloc: Global,
+    folder: &mut F,
+    state: &str,
+    pair: &Pair,
+    gone: &mut Vec<Place>,
+) -> Result<Vec<Place>, Failure> {
+    match &pair.before {
+        Some(before) if !gone.is_empty() => {
+            find_between(alloc, folder, state, before, &pair.now, gone)
+        }
+        _ => Ok(Vec::new(alloc)),
+    }
+}
+
+/// Notes what changed since the report before, and gives what changed since the last whole one.
+pub(crate) fn find_changes<'p, F: Folder>(
+    alloc: Global,
+    folder: &mut F,
+    state: &str,
+    pair: &'p Pair,
+    rows: &mut Rows<'_, 'p>,
+    account: &mut Account,
+) -> Result<Changes, Failure> {
+    account.changes = compare_before(alloc, folder, state, pair, rows)?;
+    compare_whole(alloc, folder, state, pair, rows)
+}
+
+/// Writes which objects of a list have no line in the report, and notes how many it lists and the
+/// digest of its bytes.
+pub(crate) fn find_unlisted<F: Folder>(
+    alloc: Global,
+    folder: &mut F,
+    state: &str,
+    pair: &Pair,
+    listed: Listed,
+    rows: &mut Rows<'_, '_>,
+    account: &mut Account,
+) -> Result<(), Failure> {
+    let mut listed = listed;
+    let (cycle, before) = (pair.now.cycle, pair.compared());
+    let left = &pair.now.left;
+    search(
+        alloc,
+        folder,
+        state,
+        cycle,
+        before,
+        &mut listed.places,
+        left,
+        rows,
+    )?;
+    account.listed = listed.count();
+    account.list = listed.digits;
+    Ok(())
+}
+
+/// Ends the list of what is gone, and notes what is repaired, and what changed since the last whole
+/// report.
+pub(crate) fn end_changes<F: Folder>(
+    alloc: Global,
+    folder: &mut F,
+    state: &str,
+    pair: &Pair,
+    path: &str,
+    rows: &mut Rows<'_, '_>,
+    again: &mut Changes,
+    account: &mut Account,
+) -> Result<(), Failure> {
+    end_list(alloc, path, rows, &mut account.changes)?;
+    account.repaired = find_all_repaired(alloc, folder, state, pair, &account.changes, again)?;
+    account.changes.join(again)?;
+    Ok(())
+}
+
+/// Notes the findings of the report, and what is gone.
+pub(crate) fn find_new<F: Folder>(
+    alloc: Global,
+    folder: &mut F,
+    state: &str,
+    cycle: u64,
+    known: &Known,
+    said: &[Line],
+    account: &mut Account,
+) -> Result<(), Failure> {
+    let appeared = &account.changes.appeared;
+    account.findings = find_in(alloc, folder, state, cycle, appeared, known, said)?;
+    account.gone = account.changes.gone(alloc)?;
+    Ok(())
+}
+
+/// What a closed cycle is compared with.
+pub(crate) fn find_pair<F: Folder>(
+    alloc: Global,
+    folder: &mut F,
+    state: &str,
+    now: ClosedCycle,
+) -> Result<Pair, Failure> {
+    let mut pair = Pair::new(alloc, now);
+    add_before(alloc, folder, state, &mut pair)?;
+    add_whole(alloc, folder, state, &mut pair)?;
+    Ok(pair)
+}
+
+/// Adds the last cycle before, unless lines of this report were lost.
+fn add_before<F: Folder>(
+    alloc: Global,
+    folder: &mut F,
+    state: &str,
+    pair: &mut Pair,
+) -> Result<(), Failure> {
+    let mut last = 0;
+    if !pair.now.lost {
+        let Earlier { found, missing } = find_earlier(alloc, folder, state, pair.now.cycle, false)?;
+        pair.lacks = missing > 0;
+        pair.waits = found.is_none() && missing > 0;
+        pair.before = found;
+        last = missing;
+    }
+    pair.why = why_not(alloc, state, pair, last)?;
+    Ok(())
+}
+
+/// Adds the last whole cycle, if the one before left out what this one did not.
+fn add_whole<F: Folder>(
+    alloc: Global,
+    folder: &mut F,
+    state: &str,
+    pair: &mut Pair,
+) -> Result<(), Failure> {
+    let Some(before) = &pair.before else {
+        return Ok(());
+    };
+    let cycle = before.cycle;
+    pair.again = outside(alloc, &before.left, &pair.now.left)?;
+    if pair.again.is_empty() {
+        return Ok(());
+    }
+    let Earlier { found, missing } = find_earlier(alloc, folder, state, cycle, true)?;
+    pair.whole = found;
+    pair.lacks = pair.lacks || missing > 0;
+    if missing > 0 && pair.why.is_empty() {
+        pair.why = whole_missing_text(alloc, state, cycle, missing)?;
+    }
+    Ok(())
+}

@@ -1,0 +1,112 @@
+//! What the program's system is asked for: the functions over it need no more of it than this.
+
+use crate::failing::Failure;
+use crate::files::open_if_there;
+use crate::kept::{find_names, is_as_closed, open_report, read_checkpoint};
+use crate::making::{is_there, make_file, make_folder, put_made};
+use crate::state::{hold_folder, open_state};
+use ocfl_state::OpenReport;
+use std::alloc::Global;
+use std::fs::{self, File};
+use std::io;
+use std::rt::Files;
+
+/// A system with files, and with state folders of parts by their paths.
+pub(crate) trait Room {
+    /// Where memory comes from.
+    fn global(&self) -> Global;
+
+    /// Whether something is at a path.
+    fn has(&self, path: &str) -> bool;
+
+    /// Opens a file, and gives `None` if there is no such file.
+    fn find_file(&self, path: &str) -> io::Result<Option<File>>;
+
+    /// Opens a file.
+    fn open_file(&self, path: &str) -> io::Result<File>;
+
+    /// Makes a file, in place of what is there.
+    fn make_file(&self, path: &str) -> Result<File, Failure>;
+
+    /// Makes a folder, unless it is there.
+    fn make_folder(&self, path: &str) -> Result<(), Failure>;
+
+    /// Gives a file that was made its name.
+    fn put_made(&self, made: &str, path: &str) -> Result<(), Failure>;
+
+    /// Removes a file, if it can.
+    fn remove_file(&self, path: &str);
+
+    /// Holds the lock of a folder of parts while the result lives.
+    fn hold_folder(&self, path: &str) -> Result<File, Failure>;
+
+    /// The bytes of the checkpoint in a state folder, if one is there.
+    fn checkpoint_in(&self, path: &str) -> Result<Option<Vec<u8>>, Failure>;
+
+    /// How many names the storage root had when a cycle began, if a state folder kept that.
+    fn names_in(&self, path: &str, cycle: u64) -> Result<Option<u64>, Failure>;
+
+    /// Opens the closed report of a cycle in a state folder.
+    fn report_in(&self, path: &str, cycle: u64) -> Result<Option<OpenReport>, Failure>;
+
+    /// Whether the report of a cycle in a state folder is as it was closed.
+    fn is_as_closed_in(&self, path: &str, cycle: u64) -> Result<bool, Failure>;
+}
+
+impl<R: Files<File = File> + AllocGlobal> Room for R {
+    fn global(&self) -> Global {
+        self.alloc()
+    }
+
+    fn has(&self, path: &str) -> bool {
+        is_there(self, path)
+    }
+
+    fn find_file(&self, path: &str) -> io::Result<Option<File>> {
+        open_if_there(self, path)
+    }
+
+    fn open_file(&self, path: &str) -> io::Result<File> {
+        File::open(self, path)
+    }
+
+    fn make_file(&self, path: &str) -> Result<File, Failure> {
+        make_file(self, path)
+    }
+
+    fn make_folder(&self, path: &str) -> Result<(), Failure> {
+        make_folder(self, path)
+    }
+
+    fn put_made(&self, made: &str, path: &str) -> Result<(), Failure> {
+        put_made(self, made, path)
+    }
+
+    fn remove_file(&self, path: &str) {
+        let _ = fs::remove_file(self, path);
+    }
+
+    fn hold_folder(&self, path: &str) -> Result<File, Failure> {
+        hold_folder(self, path)
+    }
+
+    fn checkpoint_in(&self, path: &str) -> Result<Option<Vec<u8>>, Failure> {
+        let mut folder = open_state(self, path, path, false)?;
+        read_checkpoint(self.alloc(), &mut folder, path)
+    }
+
+    fn names_in(&self, path: &str, cycle: u64) -> Result<Option<u64>, Failure> {
+        let mut folder = open_state(self, path, path, false)?;
+        find_names(self.alloc(), &mut folder, path, cycle)
+    }
+
+    fn report_in(&self, path: &str, cycle: u64) -> Result<Option<OpenReport>, Failure> {
+        let mut folder = open_state(self, path, path, false)?;
+        open_report(self.alloc(), &mut folder, path, cycle)
+    }
+
+    fn is_as_closed_in(&self, path: &str, cycle: u64) -> Result<bool, Failure> {
+        let mut folder = open_state(self, path, path, false)?;
+        is_as_closed(self.alloc(), &mut folder, path, cycle)
+    }
+}

@@ -1,6 +1,7 @@
 //! Showing a file: the checkpoint of a state folder, or a cursor.
 
-use crate::saying::{NotDone, say_note, say_out_of_memory, say_stop};
+use crate::saying::say_note;
+use ocfl_closing::saying::{STOPPED, say, say_out_of_memory};
 use ocfl_cursor::{Refused, TextKind};
 use ocfl_deed::Deed;
 use ocfl_digest::Block;
@@ -12,52 +13,72 @@ use std::fs::File;
 use std::io::{self, Read};
 use std::rt::Files;
 
+/// The exit status of bytes that are refused as a checkpoint.
+const REFUSED: u8 = 4;
+
 /// How many bytes show whether a file begins as a checkpoint.
 const FRONT_LEN: u64 = 64;
 
-/// What is said of a file that could not be read.
-fn file_stop(error: &io::Error) -> NotDone {
-    match error.kind() {
-        io::ErrorKind::OutOfMemory => NotDone::Stopped(Note::OutOfMemory),
-        _ => NotDone::Stopped(Note::CursorFileFailed),
+/// Says that a file could not be read, and gives the status.
+fn say_unread<R: Eprint>(rt: &R, error: &io::Error) -> u8 {
+    if error.kind() == io::ErrorKind::OutOfMemory {
+        return say_out_of_memory(rt);
     }
+    say_note(rt, &Note::CursorFileFailed);
+    STOPPED
 }
 
-/// Opens a file, and reads the first of its bytes.
-fn open_file<R>(rt: &R, file: &str) -> Result<(Vec<u8>, R::File), NotDone>
+/// Opens a file, and reads the first of its bytes. Otherwise says why not, and fails with the
+/// status.
+fn open_file<R>(rt: &R, file: &str) -> Result<(Vec<u8>, R::File), u8>
 where
-    R: Files + AllocGlobal,
+    R: Files + AllocGlobal + Eprint,
 {
-    let mut opened = File::open(rt, file).map_err(|error| file_stop(&error))?;
+    let mut opened = File::open(rt, file).map_err(|error| say_unread(rt, &error))?;
     let mut front = Vec::new(rt.alloc());
     match Read::take(&mut opened, FRONT_LEN).read_to_end(&mut front) {
         Ok(_) => Ok((front, opened)),
-        Err(error) => Err(file_stop(&error)),
+        Err(error) => Err(say_unread(rt, &error)),
     }
 }
 
-/// Why the checkpoint of a file is not shown.
-fn unshown(why: NotShown) -> NotDone {
+/// Says that bytes are refused as a checkpoint, and gives the status.
+fn say_refused<R: Eprint>(rt: &R, why: &Refused) -> u8 {
+    let _ = eprintln!(rt; "ocfl-scrub: checkpoint refused: {why}");
+    REFUSED
+}
+
+/// Says why the checkpoint of a file is not shown, and gives the status.
+fn say_unshown<R: Eprint>(rt: &R, why: &NotShown) -> u8 {
     match why {
-        NotShown::Memory | NotShown::Checkpoint(Refused::Memory) => {
-            NotDone::Stopped(Note::OutOfMemory)
+        NotShown::Memory | NotShown::Checkpoint(Refused::Memory) => say_out_of_memory(rt),
+        NotShown::Checkpoint(why) => say_refused(rt, why),
+        NotShown::Long => say_refused(rt, &Refused::NotA(TextKind::Checkpoint)),
+        NotShown::Read | NotShown::Cursor(_) => {
+            say(rt, "checkpoint file failed");
+            STOPPED
         }
-        NotShown::Checkpoint(why) => NotDone::Checkpoint(why),
-        NotShown::Long => NotDone::Checkpoint(Refused::NotA(TextKind::Checkpoint)),
-        NotShown::Read | NotShown::Cursor(_) => NotDone::CheckpointFile,
     }
 }
 
-/// Writes the lines of the checkpoint that a reader gives to standard output.
-fn write_checkpoint<R, F>(rt: &R, reader: &mut F) -> Result<(), NotDone>
+/// Writes lines to standard output, and gives the exit status.
+fn write_lines<R: Print + Eprint>(rt: &R, lines: &[u8]) -> u8 {
+    if write_all_of(&mut io::writer(rt), lines).is_err() {
+        say_note(rt, &Note::OutputFailed);
+        return STOPPED;
+    }
+    0
+}
+
+/// Shows the checkpoint that a reader gives, and gives the exit status.
+fn show_checkpoint<R, F>(rt: &R, reader: &mut F) -> u8
 where
-    R: AllocGlobal + Print,
+    R: AllocGlobal + Print + Eprint,
     F: Read,
 {
-    let lines = read_stored(rt.alloc(), reader).map_err(unshown)?;
-    match write_all_of(&mut io::writer(rt), &lines) {
-        Ok(()) => Ok(()),
-        Err(_) => Err(NotDone::Stopped(Note::OutputFailed)),
+    match read_stored(rt.alloc(), reader) {
+        Ok(lines) => write_lines(rt, &lines),
+        Err(why) => say_unshown(rt, &why),
     }
 }
 
@@ -94,14 +115,11 @@ where
 {
     let (front, opened) = match open_file(rt, file) {
         Ok(begun) => begun,
-        Err(stop) => return say_stop(rt, &stop),
+        Err(status) => return status,
     };
     let mut whole = front.as_slice().chain(opened);
-    if let Err(Refused::NotA(TextKind::Checkpoint)) = decode_checkpoint(rt.alloc(), &front) {
-        return show_cursor(rt, &mut whole);
-    }
-    match write_checkpoint(rt, &mut whole) {
-        Ok(()) => 0,
-        Err(stop) => say_stop(rt, &stop),
+    match decode_checkpoint(rt.alloc(), &front) {
+        Err(Refused::NotA(TextKind::Checkpoint)) => show_cursor(rt, &mut whole),
+        _ => show_checkpoint(rt, &mut whole),
     }
 }

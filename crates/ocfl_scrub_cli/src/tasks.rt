@@ -1,26 +1,27 @@
 //! Doing a deed over a folder: its store, its cursor's file, its progress.
 
-use crate::paths::why_no_place;
-use crate::progress::{Clearing, Reasoned, Terminals, Watched, clear};
-use crate::saying::{
-    NotDone, STOPPED, USAGE, say, say_note, say_out_of_memory, say_reason, say_stop,
-};
-use crate::scope::read_scope;
+use crate::saying::say_note;
 use crate::showing::show_file;
-use ocfl_closing::files::{lies_inside, open_if_there, put_in_place};
+use ocfl_closing::files::put_in_place;
 use ocfl_closing::reasons::{Reasons, words_on};
-use ocfl_cursor::{State, read_cursor, read_part_cursor};
+use ocfl_closing::saying::{STOPPED, say};
 use ocfl_deed::Deed;
 use ocfl_digest::Block;
 use ocfl_folder::FsTree;
-use ocfl_line::{Chosen, Task};
-use ocfl_scope::{Scope, ScopeStop};
+use ocfl_line::Task;
+use ocfl_report::DisplayPlace;
+use ocfl_scope::Scope;
 use ocfl_scrub::{Note, Performed, perform_part};
+use ocfl_terminal::cursors::{last_cost, open_cursor, refuse_cursor_inside};
+use ocfl_terminal::paths::why_no_place;
+use ocfl_terminal::progress::{Clearing, Reasoned, Terminals, Watched, clear};
+use ocfl_terminal::scope::{read_scope, say_no_scope};
 use ocfl_tree::Tree;
+use std::alloc::Global;
 use std::cell::Cell;
+use std::io::{self, Read};
 use std::rt::{Env, Files};
 use std::time::Clock;
-use std::{fs, io};
 
 /// What is said of a cursor's file that could not be read or put in place.
 fn file_note(error: &io::Error) -> Note {
@@ -46,84 +47,80 @@ fn root_of(task: &Task) -> &str {
     }
 }
 
-/// Opens the cursor's file that the command line names. `None` if it names no file, or there is
-/// no such file yet.
-fn open_cursor<R: Files>(rt: &R, task: &Task) -> Result<Option<R::File>, Note> {
-    match &task.file {
-        Some(file) => open_if_there(rt, file.as_str()).map_err(|error| file_note(&error)),
-        None => Ok(None),
-    }
-}
-
-/// What the last cycle cost, if a run begins the next one: its stored cursor holds that, and
-/// that of a cycle that goes on does not. Whatever is wrong with the cursor, the run says it.
-fn last_cost<R>(rt: &R, task: &Task, scope: &Scope) -> Option<u128>
-where
-    R: Files + AllocGlobal,
-{
-    // A pipe cannot be read again by the run.
-    if !fs::metadata(rt, task.file.as_ref()?.as_str())
-        .ok()?
-        .is_file()
-    {
-        return None;
-    }
-    let mut reader = open_cursor(rt, task).ok()??;
-    let cursor = match scope {
-        Scope::Part(ends) => read_part_cursor(rt.alloc(), &mut reader, ends).ok()?,
-        Scope::Whole | Scope::Branch(_) => read_cursor(rt.alloc(), &mut reader).ok()?,
-    };
-    match cursor.state() {
-        State::Ended => Some(cursor.spent()),
-        State::Start | State::After(_) => None,
-    }
-}
-
-/// What a deed ended with, and why the last call over its folder failed that did.
-#[derive(Drop)]
+/// What a deed ended with.
 struct Done {
-    performed: Performed,
+    status: u8,
+    note: Note,
+    /// The text of the cursor that is to be stored.
+    cursor: Option<Vec<u8>>,
+    /// Why the last call over the folder failed that did.
     reason: Option<String>,
 }
 
-/// Does the deed over its folder. Fails with what is to be said if it cannot begin.
-fn perform_over_folder<R>(
-    rt: &R,
-    task: &Task,
-    scope: &Scope,
-    shown_on: Terminals,
-    block: &mut Block,
-) -> Result<Done, Note>
-where
-    R: Files + Env + AllocGlobal + Clock + Print + Eprint,
-{
-    let Ok(mut folder) = FsTree::entering(rt, root_of(task)) else {
-        return Err(Note::OutOfMemory);
-    };
-    let reasons = Cell::new(Reasons::new(rt.alloc()));
-    let performed = perform_over(rt, task, scope, shown_on, &mut folder, &reasons, block)?;
-    let reason = match folder.reason() {
-        Some(error) => words_on(rt.alloc(), &reasons, error).ok(),
-        None => None,
-    };
-    Ok(Done { performed, reason })
+/// Written by hand, so that to let it go is one call wherever that happens.
+impl Drop for Done {
+    fn drop(self) {
+        let Done {
+            status: _status,
+            note: _note,
+            cursor: _cursor,
+            reason: _reason,
+        } = self;
+    }
 }
 
-/// Does the deed over a store, and shows progress. Fails with what is to be said if it cannot begin.
-fn perform_over<R, T>(
+impl Done {
+    /// That it could not begin.
+    fn stopped(note: Note) -> Done {
+        Done {
+            status: STOPPED,
+            note,
+            cursor: None,
+            reason: None,
+        }
+    }
+
+    /// That it was performed so.
+    fn performed(performed: Performed, reason: Option<String>) -> Done {
+        let Performed {
+            status,
+            note,
+            cursor,
+        } = performed;
+        Done {
+            status,
+            note,
+            cursor,
+            reason,
+        }
+    }
+}
+
+/// The words on the last call over a folder that failed. `None` if none did, or if there is no
+/// memory for them.
+fn reason_of(alloc: Global, reasons: &Cell<Reasons>, error: Option<io::Error>) -> Option<String> {
+    match error {
+        Some(error) => words_on(alloc, reasons, error).ok(),
+        None => None,
+    }
+}
+
+/// Does the deed over a store, and shows progress.
+fn perform_over<R, T, F>(
     rt: &R,
     task: &Task,
     scope: &Scope,
     shown_on: Terminals,
     store: &mut T,
     reasons: &Cell<Reasons>,
+    reader: Option<&mut F>,
     block: &mut Block,
-) -> Result<Performed, Note>
+) -> Performed
 where
     R: Files + AllocGlobal + Clock + Print + Eprint,
     T: Tree + Reasoned,
+    F: Read,
 {
-    let mut reader = open_cursor(rt, task)?;
     let last_cost = if shown_on.error {
         last_cost(rt, task, scope)
     } else {
@@ -135,61 +132,84 @@ where
         is_shared: shown_on.output,
         out: io::writer(rt),
     };
-    Ok(perform_part(
+    perform_part(
         rt.alloc(),
         &mut store,
         &task.deed,
         scope,
-        reader.as_mut(),
+        reader,
         block,
         &mut out,
-    ))
+    )
 }
 
-/// Puts the cursor in the place of its file, and gives the status with what is to be said.
-fn store_cursor<R>(rt: &R, task: &Task, performed: Performed) -> (u8, Note)
+/// Does the deed over its folder.
+fn perform_over_folder<R, F>(
+    rt: &R,
+    task: &Task,
+    scope: &Scope,
+    shown_on: Terminals,
+    reader: Option<&mut F>,
+    block: &mut Block,
+) -> Done
 where
-    R: Files + AllocGlobal,
+    R: Files + Env + AllocGlobal + Clock + Print + Eprint,
+    F: Read,
 {
-    if let (Some(file), Some(text)) = (&task.file, &performed.cursor) {
-        if let Err(error) = put_in_place(rt, file.as_str(), text) {
-            return (STOPPED, file_note(&error));
-        }
-    }
-    (performed.status, performed.note)
+    let Ok(mut folder) = FsTree::entering(rt, root_of(task)) else {
+        return Done::stopped(Note::OutOfMemory);
+    };
+    let reasons = Cell::new(Reasons::new(rt.alloc()));
+    let performed = perform_over(
+        rt,
+        task,
+        scope,
+        shown_on,
+        &mut folder,
+        &reasons,
+        reader,
+        block,
+    );
+    let reason = reason_of(rt.alloc(), &reasons, folder.reason());
+    Done::performed(performed, reason)
 }
 
-/// What is said of a deed, and its status.
-#[derive(Drop)]
-struct Ended {
-    status: u8,
-    note: Note,
-    reason: Option<String>,
-}
-
-/// Does the deed, stores its cursor, and gives the status with what is to be said.
-fn perform_and_store<R>(rt: &R, task: &Task, scope: &Scope, shown_on: Terminals) -> Ended
+/// Does the deed with the cursor's file.
+fn perform<R>(rt: &R, task: &Task, scope: &Scope, shown_on: Terminals) -> Done
 where
     R: Files + Env + AllocGlobal + Clock + Print + Eprint,
 {
-    let done = match Block::new(rt.alloc()) {
-        Ok(mut block) => perform_over_folder(rt, task, scope, shown_on, &mut block),
-        Err(_) => Err(Note::OutOfMemory),
+    let Ok(mut block) = Block::new(rt.alloc()) else {
+        return Done::stopped(Note::OutOfMemory);
     };
-    match done {
-        Ok(Done { performed, reason }) => {
-            let (status, note) = store_cursor(rt, task, performed);
-            Ended {
-                status,
-                note,
-                reason,
-            }
+    match open_cursor(rt, task) {
+        Ok(mut reader) => {
+            perform_over_folder(rt, task, scope, shown_on, reader.as_mut(), &mut block)
         }
-        Err(note) => Ended {
-            status: STOPPED,
-            note,
-            reason: None,
-        },
+        Err(error) => Done::stopped(file_note(&error)),
+    }
+}
+
+/// Puts the cursor in the place of its file, or gives what is said of why not.
+fn store_cursor<R>(rt: &R, task: &Task, done: &Done) -> Result<(), Note>
+where
+    R: Files + AllocGlobal,
+{
+    let (Some(file), Some(text)) = (&task.file, &done.cursor) else {
+        return Ok(());
+    };
+    put_in_place(rt, file.as_str(), text).map_err(|error| file_note(&error))
+}
+
+/// Does the deed and stores its cursor.
+fn perform_and_store<R>(rt: &R, task: &Task, scope: &Scope, shown_on: Terminals) -> Done
+where
+    R: Files + Env + AllocGlobal + Clock + Print + Eprint,
+{
+    let done = perform(rt, task, scope, shown_on);
+    match store_cursor(rt, task, &done) {
+        Ok(()) => done,
+        Err(note) => Done::stopped(note),
     }
 }
 
@@ -198,47 +218,36 @@ fn perform_and_report<R>(rt: &R, task: &Task, scope: &Scope, shown_on: Terminals
 where
     R: Files + Env + AllocGlobal + Clock + Print + Eprint,
 {
-    let ended = perform_and_store(rt, task, scope, shown_on);
+    let done = perform_and_store(rt, task, scope, shown_on);
     if shown_on.error {
         clear(rt);
     }
-    say_end(rt, &task.deed, &ended);
-    ended.status
+    say_end(rt, &task.deed, &done);
+    done.status
 }
 
 /// Says what a deed ended with. Of a check of one path it names the path, and says why it names
 /// no place.
-fn say_end<R: Eprint>(rt: &R, deed: &Deed, ended: &Ended) {
-    match (&ended.note, deed) {
+fn say_end<R: Eprint>(rt: &R, deed: &Deed, done: &Done) {
+    match (&done.note, deed) {
         (Note::NoItem, Deed::Check(path)) => {
             let _ = eprintln!(rt; "ocfl-scrub: no item at {path}");
         }
         (Note::BadPath, Deed::Check(path)) => {
-            say_note(rt, &ended.note);
+            say_note(rt, &done.note);
             say(rt, why_no_place(path.as_str()));
         }
         _ => {
-            say_note(rt, &ended.note);
-            say_reason(rt, &ended.note, &ended.reason);
+            say_note(rt, &done.note);
+            say_reason(rt, done);
         }
     }
 }
 
-/// Refuses a cursor's file in the storage root: says so and gives the status.
-fn refuse_cursor_inside<R: Files + AllocGlobal + Eprint>(rt: &R, task: &Task) -> Option<u8> {
-    let (Some(file), Some(root)) = (&task.file, &task.root) else {
-        return None;
-    };
-    match lies_inside(rt, file.as_str(), root.as_str()) {
-        Ok(false) => None,
-        Ok(true) => {
-            say(
-                rt,
-                "the cursor's file lies in the storage root, which is never written into",
-            );
-            Some(USAGE)
-        }
-        Err(_) => Some(say_out_of_memory(rt)),
+/// Says why the store did not answer at a place, if that is what a deed stopped for.
+fn say_reason<R: Eprint>(rt: &R, done: &Done) {
+    if let (Note::StoppedAt(place), Some(why)) = (&done.note, &done.reason) {
+        let _ = eprintln!(rt; "ocfl-scrub: {}: {why}", DisplayPlace(place));
     }
 }
 
@@ -255,15 +264,6 @@ where
     }
     match read_scope(rt, &task.chosen) {
         Ok(scope) => perform_and_report(rt, task, &scope, shown_on(task, terminals)),
-        Err(stop) => {
-            let status = say_stop(rt, &stop);
-            if let (NotDone::Scope(ScopeStop::BadPath), Chosen::Branch(path)) = (
-                &stop,
-                &task.chosen,
-            ) {
-                say(rt, why_no_place(path.as_str()));
-            }
-            status
-        }
+        Err(stop) => say_no_scope(rt, &task.chosen, &stop),
     }
 }

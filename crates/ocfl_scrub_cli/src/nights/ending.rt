@@ -1,19 +1,114 @@
 //! What is said of how a night ends.
 
-use ocfl_closing::reasons::Reason;
+use ocfl_closing::state::words_of;
 use ocfl_closing::telling::Names;
 use ocfl_cursor::Refused;
 use ocfl_item::Fault;
-use ocfl_night::{Halt, Refusal, Stop};
-use ocfl_report::DisplayPlace;
-use ocfl_state::FolderTrouble;
-use ocfl_telling::{RefusalMessage, Shown, StopMessage, refusal_text, stop_text};
-use ocfl_tree::Place;
+use ocfl_journal::ending::Ended;
+use ocfl_journal::noting::Told;
+use ocfl_night::{Halt, NightEnd, Refusal, Stop, status_found, status_of};
+use ocfl_state::{FolderTrouble, Reason};
+use ocfl_telling::{RefusalMessage, StopMessage, refusal_text, stop_text};
 use std::alloc::{AllocError, Global};
+
+/// What the runs of a night came to.
+pub(crate) struct Runs {
+    pub(crate) end: NightEnd,
+    /// Why the last call over the storage root failed that did.
+    pub(crate) why: Option<String>,
+    pub(crate) told: Told,
+}
+
+/// Written by hand, so that to let it go is one call wherever that happens.
+impl Drop for Runs {
+    fn drop(self) {
+        let Runs {
+            end: _end,
+            why: _why,
+            told: _told,
+        } = self;
+    }
+}
+
+/// The text, if there is one.
+fn text_of(text: &Option<String>) -> Option<&str> {
+    match text {
+        Some(text) => Some(text.as_str()),
+        None => None,
+    }
+}
+
+/// What is said of how a night ended. `reason` is why the last call on its state folder failed.
+pub(crate) fn said_of(
+    alloc: Global,
+    names: Names<'_>,
+    runs: &Runs,
+    reason: Option<Reason>,
+) -> Result<Option<String>, AllocError> {
+    let words = words_of(alloc, reason)?;
+    ending_text(
+        alloc,
+        &runs.end.end,
+        text_of(&words),
+        text_of(&runs.why),
+        names,
+    )
+}
+
+/// The cycle that a night closed, 0 for none. `None` if the night was refused.
+fn closed_by(halt: &Halt) -> Option<u64> {
+    match halt {
+        Halt::Refused(_) => None,
+        Halt::CycleEnded(cycle) => Some(*cycle),
+        _ => Some(0),
+    }
+}
+
+/// Whether a night that ended so is logged in its folder.
+fn is_logged(halt: &Halt) -> bool {
+    match halt {
+        Halt::Refused(refusal) => is_own(refusal),
+        _ => true,
+    }
+}
+
+impl Runs {
+    /// How the night ended. `said` is what is said of that.
+    pub(crate) fn ended(self, said: Option<String>) -> Ended {
+        let Runs {
+            end,
+            why: _why,
+            told,
+        } = self;
+        ended_by(end, told, said)
+    }
+}
+
+/// How a night ended.
+fn ended_by(end: NightEnd, told: Told, said: Option<String>) -> Ended {
+    let NightEnd {
+        runs,
+        lost,
+        left,
+        end,
+    } = end;
+    let is_lost = lost || told.broken > 0;
+    let found = status_found(is_lost || !left.is_empty(), told.findings);
+    Ended {
+        status: status_of(&end).max(found),
+        closed: closed_by(&end),
+        is_logged: is_logged(&end),
+        runs,
+        is_lost,
+        left,
+        told,
+        said,
+    }
+}
 
 /// Whether a folder that was refused is one of these nights: one of another root, part or program
 /// is left as it is, its log too.
-pub(crate) fn is_own(refusal: &Refusal) -> bool {
+fn is_own(refusal: &Refusal) -> bool {
     match refusal {
         Refusal::NoRoot | Refusal::OtherDeclaration | Refusal::NamesGone { .. } => true,
         Refusal::Older(_) => true,
@@ -24,7 +119,7 @@ pub(crate) fn is_own(refusal: &Refusal) -> bool {
 
 /// What is said of a night that ended so; nothing if it ended well. `words` are the system's on
 /// the last call on the state folder that failed, and `why` on the last over the storage root.
-pub(crate) fn ending_text(
+fn ending_text(
     alloc: Global,
     halt: &Halt,
     words: Option<&str>,
@@ -45,39 +140,41 @@ pub(crate) fn ending_text(
     }
 }
 
-/// What is said of a branch that was left out, and why it was, if that is known.
-pub(crate) fn left_text(
-    alloc: Global,
-    branch: &Place,
-    left: &[Reason],
-) -> Result<String, AllocError> {
-    for reason in left {
-        if reason.place == *branch {
-            let why = reason.words.as_str();
-            return format!(in alloc; "left out: {}: {why}\n", DisplayPlace(branch));
-        }
+/// The path of the storage root that a folder is bound to, if that is another one. Else empty.
+fn bound_to(alloc: Global, refusal: &Refusal) -> Result<String, AllocError> {
+    match refusal {
+        Refusal::OtherRoot(place) => format!(in alloc; "/{}", place.path()),
+        _ => Ok(String::new(alloc)),
     }
-    format!(in alloc; "left out: {}\n", DisplayPlace(branch))
 }
 
-/// What is said of a branch that an earlier night left out of the cycle that is open.
-pub(crate) fn left_earlier_text(alloc: Global, branch: &Place) -> Result<String, AllocError> {
-    format!(in alloc; "left out earlier: {}\n", DisplayPlace(branch))
+/// Why a checkpoint is refused. `None` if memory was.
+fn message_on(refused: &Refused) -> Option<RefusalMessage<'static>> {
+    match refused {
+        Refused::NotA(_) => Some(RefusalMessage::NotCheckpoint),
+        Refused::Version => Some(RefusalMessage::Version),
+        Refused::Damaged => Some(RefusalMessage::Damaged),
+        Refused::Malformed => Some(RefusalMessage::Malformed),
+        Refused::Memory => None,
+    }
 }
 
-/// What is said of a report of which some was lost, or cannot be read.
-pub(crate) fn lost_text(alloc: Global, state: &str, broken: u64) -> Result<String, AllocError> {
-    let state = Shown(state);
-    if broken > 0 {
-        return format!(in alloc;
-            "{broken} line(s) of the report in {state} cannot be read: what they found is not \
-             known.\n"
-        );
+/// Why a night is refused, of a folder that is bound to that root. `None` if memory was.
+fn message_of<'a>(refusal: &Refusal, bound: &'a str) -> Option<RefusalMessage<'a>> {
+    match refusal {
+        Refusal::NoCheckpoint => Some(RefusalMessage::NoCheckpoint),
+        Refusal::HasReports => Some(RefusalMessage::HasReports),
+        Refusal::Unread(refused) => message_on(refused),
+        Refusal::NoRoot => Some(RefusalMessage::NoRoot),
+        Refusal::OtherRoot(_) => Some(RefusalMessage::OtherRoot(bound)),
+        Refusal::OtherPart => Some(RefusalMessage::OtherPart),
+        Refusal::Older(cycle) => Some(RefusalMessage::Older { cycle: *cycle }),
+        Refusal::OtherDeclaration => Some(RefusalMessage::OtherDeclaration),
+        Refusal::NamesGone { gone, before } => Some(RefusalMessage::NamesGone {
+            gone: *gone,
+            before: *before,
+        }),
     }
-    format!(in alloc;
-        "The report in {state} does not have what the checkpoint says. It is not whole any more, \
-         and will be closed as an incomplete one.\n"
-    )
 }
 
 /// The line on a refusal.
@@ -86,29 +183,11 @@ fn text_of_refusal(
     refusal: &Refusal,
     names: Names<'_>,
 ) -> Result<String, AllocError> {
-    let bound = match refusal {
-        Refusal::OtherRoot(place) => format!(in alloc; "/{}", place.path())?,
-        _ => String::new(alloc),
-    };
-    let why = match refusal {
-        Refusal::NoCheckpoint => RefusalMessage::NoCheckpoint,
-        Refusal::HasReports => RefusalMessage::HasReports,
-        Refusal::Unread(Refused::NotA(_)) => RefusalMessage::NotCheckpoint,
-        Refusal::Unread(Refused::Version) => RefusalMessage::Version,
-        Refusal::Unread(Refused::Damaged) => RefusalMessage::Damaged,
-        Refusal::Unread(Refused::Malformed) => RefusalMessage::Malformed,
-        Refusal::Unread(Refused::Memory) => return Err(AllocError),
-        Refusal::NoRoot => RefusalMessage::NoRoot,
-        Refusal::OtherRoot(_) => RefusalMessage::OtherRoot(bound.as_str()),
-        Refusal::OtherPart => RefusalMessage::OtherPart,
-        Refusal::Older(cycle) => RefusalMessage::Older { cycle: *cycle },
-        Refusal::OtherDeclaration => RefusalMessage::OtherDeclaration,
-        Refusal::NamesGone { gone, before } => RefusalMessage::NamesGone {
-            gone: *gone,
-            before: *before,
-        },
-    };
-    refusal_text(alloc, why, names.root, names.state)
+    let bound = bound_to(alloc, refusal)?;
+    match message_of(refusal, bound.as_str()) {
+        Some(why) => refusal_text(alloc, why, names.root, names.state),
+        None => Err(AllocError),
+    }
 }
 
 /// What stopped a run.

@@ -12,16 +12,16 @@ use std::rt::Files;
 use std::{fs, io};
 
 /// A storage root by its path, as the system resolves it.
-#[derive(Debug, Drop)]
-pub(crate) struct Root {
+#[derive(Drop)]
+pub struct Root {
     /// The path, from `/` on.
-    pub(crate) path: String,
+    pub path: String,
     /// The names in it.
-    pub(crate) place: Place,
+    pub place: Place,
 }
 
 /// The storage root with a path. `state` is the path of the state folder.
-pub(crate) fn find_root<R>(rt: &R, root: &str, state: &str) -> Result<Root, Failure>
+pub fn find_root<R>(rt: &R, root: &str, state: &str) -> Result<Root, Failure>
 where
     R: Files + AllocGlobal,
 {
@@ -57,7 +57,7 @@ fn unresolved(
 }
 
 /// The ends of the part that is chosen. `None` if all of the root is.
-pub(crate) fn find_ends<R>(rt: &R, chosen: &Chosen) -> Result<Option<PartEnds>, Failure>
+pub fn find_ends<R>(rt: &R, chosen: &Chosen) -> Result<Option<PartEnds>, Failure>
 where
     R: Files + AllocGlobal,
 {
@@ -72,7 +72,7 @@ where
 }
 
 /// The number of the part that is chosen. `None` if all of the root is.
-pub(crate) fn part_number(chosen: &Chosen) -> Option<u64> {
+pub fn part_number(chosen: &Chosen) -> Option<u64> {
     match chosen {
         Chosen::Part { number, .. } => Some(*number as u64),
         Chosen::All | Chosen::Branch(_) => None,

@@ -27,13 +27,13 @@ const TAIL: usize = 40;
 
 /// Which outputs go to a terminal.
 #[derive(Clone, Copy)]
-pub(crate) struct Terminals {
-    pub(crate) output: bool,
-    pub(crate) error: bool,
+pub struct Terminals {
+    pub output: bool,
+    pub error: bool,
 }
 
 /// Asks the system which outputs go to a terminal.
-pub(crate) fn find_terminals(rt: &HostRuntime) -> Terminals {
+pub fn find_terminals(rt: &HostRuntime) -> Terminals {
     Terminals {
         output: rt.stdout().is_terminal(),
         error: rt.stderr().is_terminal(),
@@ -41,7 +41,7 @@ pub(crate) fn find_terminals(rt: &HostRuntime) -> Terminals {
 }
 
 /// Removes what is shown.
-pub(crate) fn clear<R: Eprint>(rt: &R) {
+pub fn clear<R: Eprint>(rt: &R) {
     let _ = eprint!(rt; "\r{:79}\r", "");
 }
 
@@ -67,7 +67,7 @@ fn percent(part: u128, whole: Option<u128>) -> Option<u128> {
 }
 
 /// A store that knows why its last call failed that did.
-pub(crate) trait Reasoned {
+pub trait Reasoned {
     fn reason_of_last(&self) -> Option<io::Error>;
 }
 
@@ -78,7 +78,7 @@ impl<S: System + Drop> Reasoned for FsTree<S> {
 }
 
 /// A store that shows how much of its content was read, and keeps why a place could not be read.
-pub(crate) struct Watched<'a, R, T> {
+pub struct Watched<'a, R, T> {
     store: &'a mut T,
     rt: &'a R,
     is_shown: bool,
@@ -120,7 +120,7 @@ impl<R, T> Drop for Watched<'_, R, T> {
 }
 
 impl<'a, R: Files + AllocGlobal + Clock + Eprint, T: Reasoned> Watched<'a, R, T> {
-    pub(crate) fn over(
+    pub fn over(
         rt: &'a R,
         store: &'a mut T,
         is_shown: bool,
@@ -310,10 +310,10 @@ impl<R: Files + AllocGlobal + Clock + Eprint, T: Tree + Reasoned> Tree for Watch
 
 /// An output that goes to the terminal that shows progress, which it removes before each write.
 #[derive(Drop)]
-pub(crate) struct Clearing<'a, R, W: Drop> {
-    pub(crate) rt: &'a R,
-    pub(crate) is_shared: bool,
-    pub(crate) out: W,
+pub struct Clearing<'a, R, W: Drop> {
+    pub rt: &'a R,
+    pub is_shared: bool,
+    pub out: W,
 }
 
 impl<R: Eprint, W: Write + Drop> Write for Clearing<'_, R, W> {

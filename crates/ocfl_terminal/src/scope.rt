@@ -1,6 +1,7 @@
 //! Which items of the storage root a command takes, by what its command line chooses.
 
-use crate::saying::NotDone;
+use crate::paths::why_no_place;
+use ocfl_closing::saying::say;
 use ocfl_line::Chosen;
 use ocfl_parts::PartsStop;
 use ocfl_scope::{Scope, ScopeStop, find_branch, find_part};
@@ -9,19 +10,15 @@ use std::io;
 use std::rt::Files;
 
 /// The items that are chosen. Reads the file of the separators if a part is.
-pub(crate) fn read_scope<R: Files + AllocGlobal>(
-    rt: &R,
-    chosen: &Chosen,
-) -> Result<Scope, NotDone> {
-    let found = match chosen {
+pub fn read_scope<R: Files + AllocGlobal>(rt: &R, chosen: &Chosen) -> Result<Scope, ScopeStop> {
+    match chosen {
         Chosen::All => Ok(Scope::Whole),
         Chosen::Branch(path) => find_branch(rt.alloc(), path.as_str()),
         Chosen::Part { parts, number } => match File::open(rt, parts.as_str()) {
             Ok(mut opened) => find_part(rt.alloc(), &mut opened, *number),
             Err(error) => Err(ScopeStop::Parts(unopened(&error))),
         },
-    };
-    found.map_err(NotDone::Scope)
+    }
 }
 
 /// Why the separators' file was not opened.
@@ -30,4 +27,13 @@ fn unopened(error: &io::Error) -> PartsStop {
         io::ErrorKind::OutOfMemory => PartsStop::Memory,
         _ => PartsStop::Read,
     }
+}
+
+/// Says why no scope is found, and of a branch why its path names no place. Gives the status.
+pub fn say_no_scope<R: Eprint>(rt: &R, chosen: &Chosen, stop: &ScopeStop) -> u8 {
+    let _ = eprintln!(rt; "ocfl-scrub: {stop}");
+    if let (ScopeStop::BadPath, Chosen::Branch(path)) = (stop, chosen) {
+        say(rt, why_no_place(path.as_str()));
+    }
+    stop.status()
 }

@@ -1,12 +1,10 @@
 //! The lines that a night appends to the log of its folder.
 
-use crate::saying::STOPPED;
 use ocfl_closing::failing::{Failure, say_failure};
 use ocfl_closing::state::folder_failure;
 use ocfl_closing::state_dir::StateDir;
 use ocfl_closing::timing::seconds_now;
 use ocfl_cursor::State;
-use ocfl_night::{Made, SliceEnd};
 use ocfl_state::{Checkpoint, FsLog, Left, Reason};
 use ocfl_telling::{LeftRow, LogRow, NightRow, RefusalRow, SliceRow, Stands, log_line};
 use std::alloc::{AllocError, Global};
@@ -19,7 +17,6 @@ use std::time::Clock;
 
 /// The lines that are appended while a night is under way: one for each run, and one for each place
 /// that is left out.
-#[derive(Drop)]
 pub(crate) struct Journal<'a, R: Files<File = File> + AllocGlobal> {
     rt: &'a R,
     log: FsLog<&'a R>,
@@ -29,13 +26,27 @@ pub(crate) struct Journal<'a, R: Files<File = File> + AllocGlobal> {
     lost: Rc<Cell<Option<Reason>>>,
 }
 
-/// The status of a run: 3 if it stopped, 1 if it found something, else 0.
-fn status_of(made: &Made) -> u8 {
-    match made.end {
-        SliceEnd::Stopped(_) => STOPPED,
-        _ if made.found => 1,
-        _ => 0,
+/// Written by hand, so that to let it go is one call wherever that happens.
+impl<R: Files<File = File> + AllocGlobal> Drop for Journal<'_, R> {
+    fn drop(self) {
+        let Journal {
+            rt: _rt,
+            log: _log,
+            night: _night,
+            lost: _lost,
+        } = self;
     }
+}
+
+/// A run that is kept.
+#[derive(Clone, Copy)]
+pub struct RunMade<'a> {
+    /// The checkpoint after it.
+    pub checkpoint: &'a Checkpoint,
+    /// What its items cost.
+    pub cost: u64,
+    /// Its status: 3 if it stopped, 1 if it found something, else 0.
+    pub status: u8,
 }
 
 /// Where a cursor stands.
@@ -48,21 +59,22 @@ fn stands_at(state: &State) -> Stands<'_> {
 }
 
 /// The line of a run that began then, and whose checkpoint is put.
-fn slice_text(
+fn run_text(
     alloc: Global,
-    made: &Made,
+    made: RunMade<'_>,
     night: u64,
     began: u64,
     now: u64,
 ) -> Result<String, AllocError> {
-    let Checkpoint { report, cursor, .. } = &made.checkpoint;
+    let checkpoint = made.checkpoint;
+    let Checkpoint { report, cursor, .. } = checkpoint;
     let row = SliceRow {
         time: began,
         night,
         cycle: cursor.cycle(),
         run: cursor.runs(),
-        status: status_of(made),
-        cost: made.spent,
+        status: made.status,
+        cost: made.cost,
         spent: u64::try_from(cursor.spent()).unwrap_or(u64::MAX),
         files: u64::try_from(cursor.files()).unwrap_or(u64::MAX),
         lines: report.lines,
@@ -98,12 +110,10 @@ impl<'a, R: Files<File = File> + AllocGlobal + Clock> Journal<'a, R> {
         }
     }
 
-    /// Appends the line of a run that began then, unless nothing of it is kept.
-    pub(crate) fn slice(&self, made: &Made, began: u64) {
-        if !matches!(made.end, SliceEnd::RootChanged | SliceEnd::Unread(_)) {
-            let now = seconds_now(self.rt);
-            self.append(slice_text(self.rt.alloc(), made, self.night, began, now));
-        }
+    /// Appends the line of a run that began then.
+    pub(crate) fn run(&self, made: RunMade<'_>, began: u64) {
+        let now = seconds_now(self.rt);
+        self.append(run_text(self.rt.alloc(), made, self.night, began, now));
     }
 
     /// Appends the line of a place that a checkpoint names as left out, and why it was; that is

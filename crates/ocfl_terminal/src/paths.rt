@@ -18,7 +18,7 @@ pub(crate) fn report_text(alloc: Global, word: String) -> Result<String, AllocEr
 }
 
 /// Why a path names no place.
-pub(crate) fn why_no_place(path: &str) -> &'static str {
+pub fn why_no_place(path: &str) -> &'static str {
     if path.is_empty() {
         return "the path is empty: the storage root itself is '.'";
     }

@@ -44,7 +44,7 @@ fn hash_reader<T: Read>(alloc: Global, reader: &mut T) -> io::Result<String> {
 }
 
 /// The SHA-256 of the running file, in hexadecimal digits.
-pub(crate) fn running_digest<R: Files + AllocGlobal>(rt: &R) -> io::Result<String> {
+pub fn running_digest<R: Files + AllocGlobal>(rt: &R) -> io::Result<String> {
     let mut file = File::open(rt, RUNNING_FILE)?;
     hash_reader(rt.alloc(), &mut file)
 }

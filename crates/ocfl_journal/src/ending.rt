@@ -1,0 +1,276 @@
+//! The end of a night: what is said of it, the closings that are told, and its lines in the log.
+
+use crate::given::{Given, text_of};
+use crate::logging::{Account, log_night};
+use crate::noting::{Noting, Told};
+use ocfl_closing::closing::Closings;
+use ocfl_closing::failing::{Failure, say_failure, say_text};
+use ocfl_closing::reasons::Reason as Why;
+use ocfl_closing::saying::STOPPED;
+use ocfl_closing::state::is_of_root;
+use ocfl_closing::state_dir::StateDir;
+use ocfl_closing::timing::seconds_now;
+use ocfl_line::NightAsked;
+use ocfl_report::DisplayPlace;
+use ocfl_state::Reason;
+use ocfl_telling::{NightRow, Shown};
+use ocfl_terminal::version::running_digest;
+use ocfl_tree::Place;
+use std::alloc::{AllocError, Global};
+use std::fs::File;
+use std::io;
+use std::rt::Files;
+use std::time::Clock;
+
+/// How a night ended.
+pub struct Ended {
+    /// Its status, without what closings say.
+    pub status: u8,
+    /// The cycle whose report it closed, 0 for none. `None` if it was refused.
+    pub closed: Option<u64>,
+    /// Whether its folder's log has it: the log of other nights is left as it is.
+    pub is_logged: bool,
+    /// How many runs it began.
+    pub runs: u64,
+    /// Whether some of the report was lost, or cannot be read.
+    pub is_lost: bool,
+    /// The branches that were left out in it.
+    pub left: Vec<Place>,
+    pub told: Told,
+    /// What is said of its end, with its line feed. `None` if it ended well.
+    pub said: Option<String>,
+}
+
+/// Written by hand, so that to let it go is one call wherever that happens.
+impl Drop for Ended {
+    fn drop(self) {
+        let Ended {
+            status: _status,
+            closed: _closed,
+            is_logged: _is_logged,
+            runs: _runs,
+            is_lost: _is_lost,
+            left: _left,
+            told: _told,
+            said: _said,
+        } = self;
+    }
+}
+
+/// What is said of a branch that was left out, and why it was, if that is known.
+fn left_text(alloc: Global, branch: &Place, left: &[Why]) -> Result<String, AllocError> {
+    for reason in left {
+        if reason.place == *branch {
+            let why = reason.words.as_str();
+            return format!(in alloc; "left out: {}: {why}\n", DisplayPlace(branch));
+        }
+    }
+    format!(in alloc; "left out: {}\n", DisplayPlace(branch))
+}
+
+/// What is said of a branch that an earlier night left out of the cycle that is open.
+fn left_earlier_text(alloc: Global, branch: &Place) -> Result<String, AllocError> {
+    format!(in alloc; "left out earlier: {}\n", DisplayPlace(branch))
+}
+
+/// What is said of a report of which some was lost, or cannot be read.
+fn lost_text(alloc: Global, state: &str, broken: u64) -> Result<String, AllocError> {
+    let state = Shown(state);
+    if broken > 0 {
+        return format!(in alloc;
+            "{broken} line(s) of the report in {state} cannot be read: what they found is not \
+             known.\n"
+        );
+    }
+    format!(in alloc;
+        "The report in {state} does not have what the checkpoint says. It is not whole any more, \
+         and will be closed as an incomplete one.\n"
+    )
+}
+
+/// Says which branches an earlier night left out.
+fn say_left_earlier<R>(rt: &R, earlier: &[Place]) -> Result<(), AllocError>
+where
+    R: AllocGlobal + Eprint,
+{
+    for branch in earlier {
+        say_text(rt, left_earlier_text(rt.alloc(), branch)?.as_str());
+    }
+    Ok(())
+}
+
+/// Says which branches were left out, and why.
+fn say_left<R>(rt: &R, branches: &[Place], left: &[Why]) -> Result<(), AllocError>
+where
+    R: AllocGlobal + Eprint,
+{
+    for branch in branches {
+        say_text(rt, left_text(rt.alloc(), branch, left)?.as_str());
+    }
+    Ok(())
+}
+
+/// Says how a night ended.
+fn say_ending<R>(
+    rt: &R,
+    state: &str,
+    ended: &Ended,
+    earlier: &[Place],
+    left: &[Why],
+) -> Result<(), AllocError>
+where
+    R: AllocGlobal + Eprint,
+{
+    if let Some(said) = &ended.said {
+        say_text(rt, said.as_str());
+    }
+    if ended.closed.is_some() {
+        say_left_earlier(rt, earlier)?;
+    }
+    say_left(rt, &ended.left, left)?;
+    if ended.is_lost {
+        say_text(
+            rt,
+            lost_text(rt.alloc(), state, ended.told.broken)?.as_str(),
+        );
+    }
+    Ok(())
+}
+
+/// Says why a night failed, if it did, and gives its status.
+pub fn status_told<R: Eprint>(rt: &R, told: Result<u8, Failure>) -> u8 {
+    match told {
+        Ok(status) => status,
+        Err(failure) => say_failure(rt, &failure),
+    }
+}
+
+/// Says what the cycles found whose closing was not said: the last one before the night, and the
+/// one that it closed. Gives the status.
+fn tell_closings<R>(closings: &mut Closings<'_, '_, R>, before: u64, closed: u64) -> u8
+where
+    R: Files<File = File> + AllocGlobal + Clock + Print + Eprint,
+{
+    let rt = closings.rt;
+    let mut out = io::writer(rt);
+    let mut earlier = 0;
+    for cycle in closings.first_untold(before)..=before {
+        let told = closings.tell(cycle, false, &mut out);
+        earlier = earlier.max(status_told(rt, told));
+    }
+    let now = closings.tell(closed, true, &mut out);
+    earlier.max(status_told(rt, now))
+}
+
+/// Says how a night ended and what the cycles found that were closed, logs it, and gives its
+/// status.
+pub fn end_night<'a, R>(
+    rt: &'a R,
+    given: &Given<'_>,
+    noting: Noting<'a, R>,
+    ended: &Ended,
+) -> Result<u8, Failure>
+where
+    R: Files<File = File> + AllocGlobal + Clock + Print + Eprint,
+{
+    let names = given.names();
+    say_ending(rt, names.state, ended, &noting.begun.left, &noting.left)?;
+    let before = noting.begun.standing.last_closed();
+    let lost = noting.lost();
+    let mut closings = Closings {
+        rt,
+        folder: noting.into_folder(),
+        names,
+        known: &given.known,
+        expected: text_of(&given.asked.expected),
+        night: given.began,
+        said: &ended.told.said,
+    };
+    let told = match ended.closed {
+        Some(closed) => tell_closings(&mut closings, before, closed),
+        None => 0,
+    };
+    let status = ended.status.max(told);
+    Ok(log_ended(rt, &mut closings.folder, given, ended, status, lost))
+}
+
+/// Appends to the log how a night ended, and gives its status. `lost` is why a line of a run was
+/// not written.
+fn log_ended<'a, R>(
+    rt: &'a R,
+    folder: &mut StateDir<'a, R>,
+    given: &Given<'_>,
+    ended: &Ended,
+    status: u8,
+    lost: Option<Reason>,
+) -> u8
+where
+    R: Files<File = File> + AllocGlobal + Clock + Eprint,
+{
+    if !ended.is_logged {
+        return status;
+    }
+    let program = running_digest(rt).ok();
+    let time = seconds_now(rt);
+    let row = NightRow {
+        time,
+        night: given.began,
+        status,
+        runs: ended.runs,
+        cost: ended.told.cost,
+        seconds: time.saturating_sub(given.began),
+        findings: ended.told.findings,
+        left: u64::try_from(ended.left.len()).unwrap_or(u64::MAX),
+        program: text_of(&program).unwrap_or(""),
+    };
+    let said = text_of(&ended.said);
+    log_night(
+        rt,
+        folder,
+        given.asked.state.as_str(),
+        Account { row, said },
+        lost,
+    )
+}
+
+/// Appends to the log a night that failed before its folder was opened.
+fn log_failed<R>(rt: &R, folder: &mut StateDir<'_, R>, state: &str, began: u64, said: &str)
+where
+    R: Files<File = File> + AllocGlobal + Clock + Eprint,
+{
+    let program = running_digest(rt).ok();
+    let time = seconds_now(rt);
+    let row = NightRow {
+        time,
+        night: began,
+        status: STOPPED,
+        runs: 0,
+        cost: 0,
+        seconds: time.saturating_sub(began),
+        findings: 0,
+        left: 0,
+        program: text_of(&program).unwrap_or(""),
+    };
+    let said = Some(said);
+    log_night(rt, folder, state, Account { row, said }, None);
+}
+
+/// Logs a night that failed before its folder was opened, if nights over this root were made in
+/// that folder. What cannot be logged is left out: the failure itself is said.
+pub fn log_unbegun<R>(rt: &R, asked: &NightAsked, began: u64, failure: &Failure)
+where
+    R: Files<File = File> + AllocGlobal + Clock + Eprint,
+{
+    let Some(said) = &failure.text else {
+        return;
+    };
+    if failure.status != STOPPED {
+        return;
+    }
+    let state = asked.state.as_str();
+    if let Ok(mut folder) = StateDir::open(rt, state, false) {
+        if is_of_root(rt, &mut folder, asked.root.as_str()) {
+            log_failed(rt, &mut folder, state, began, said.as_str());
+        }
+    }
+}

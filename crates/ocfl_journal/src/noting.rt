@@ -1,0 +1,302 @@
+//! A state folder whose checkpoints are noted as they are put.
+
+use crate::clock::NightClock;
+use crate::given::Given;
+use crate::logging::Journal;
+use ocfl_closing::failing::Failure;
+use ocfl_closing::reasons::{Reason, Reasons, last_reason};
+use ocfl_closing::stand::Standing;
+use ocfl_closing::state::{Begun, open_state, read_begun};
+use ocfl_closing::state_dir::StateDir;
+use ocfl_closing::telling::Teller;
+use ocfl_report::Line;
+use ocfl_state::{
+    Checkpoint, FolderTrouble, Reason as StateReason, StateFile, StateFolder, decode_checkpoint,
+};
+use std::alloc::{AllocError, Global};
+use std::cell::Cell;
+use std::fs::File;
+use std::io::Write;
+use std::rc::Rc;
+use std::rt::Files;
+use std::time::Clock;
+
+/// A state folder, and where the nights stand by the checkpoint that was put last. What is said of
+/// a night, and its clock, go by that. Each place that is left out is logged.
+pub struct Noting<'a, R: Files<File = File> + AllocGlobal> {
+    rt: &'a R,
+    pub(crate) folder: StateDir<'a, R>,
+    /// Where the night began.
+    pub(crate) begun: Begun,
+    now: Rc<Cell<Standing>>,
+    journal: Journal<'a, R>,
+    /// Why the last line of the log that was not written was not.
+    lost: Rc<Cell<Option<StateReason>>>,
+    /// Why places of the storage root could not be read.
+    reasons: Rc<Cell<Reasons>>,
+    /// The places that were left out since the night began, and why.
+    pub(crate) left: Vec<Reason>,
+}
+
+/// Written by hand, so that to let it go is one call wherever that happens.
+impl<R: Files<File = File> + AllocGlobal> Drop for Noting<'_, R> {
+    fn drop(self) {
+        let Noting {
+            rt: _rt,
+            folder: _folder,
+            begun: _begun,
+            now: _now,
+            journal: _journal,
+            lost: _lost,
+            reasons: _reasons,
+            left: _left,
+        } = self;
+    }
+}
+
+/// What stands beside the state folder in a night.
+#[derive(Drop)]
+pub struct Beside<'a, 'n, R: Files<File = File> + AllocGlobal, W: Drop> {
+    pub clock: NightClock<'a, R>,
+    /// The output of the report.
+    pub teller: Teller<'n, W>,
+    /// Why places of the storage root could not be read.
+    pub reasons: Rc<Cell<Reasons>>,
+}
+
+/// What a night spent, and what it said of its runs.
+pub struct Told {
+    /// What the items of its runs cost, at most 2^64 - 1.
+    pub cost: u64,
+    /// How many findings were said, and how many lines of the report were none.
+    pub findings: u64,
+    pub broken: u64,
+    /// The lines of the report that were said.
+    pub said: Vec<Line>,
+}
+
+/// Written by hand, so that to let it go is one call wherever that happens.
+impl Drop for Told {
+    fn drop(self) {
+        let Told {
+            cost: _cost,
+            findings: _findings,
+            broken: _broken,
+            said: _said,
+        } = self;
+    }
+}
+
+/// What logs the runs of a night. It keeps in `lost` why a line was not written.
+fn journal_of<'a, R>(
+    rt: &'a R,
+    given: &Given<'_>,
+    lost: &Rc<Cell<Option<StateReason>>>,
+) -> Result<Journal<'a, R>, Failure>
+where
+    R: Files<File = File> + AllocGlobal + Clock,
+{
+    match Journal::at(rt, given.asked.state.as_str(), given.began, lost.clone()?) {
+        Ok(journal) => Ok(journal),
+        Err(_) => Err(Failure::from(AllocError)),
+    }
+}
+
+/// Notes on a folder that is open.
+fn noting_over<'a, R>(
+    rt: &'a R,
+    given: &Given<'_>,
+    folder: StateDir<'a, R>,
+    begun: Begun,
+) -> Result<Noting<'a, R>, Failure>
+where
+    R: Files<File = File> + AllocGlobal + Clock,
+{
+    let lost = Rc::new(rt.alloc(), Cell::new(None))?;
+    let journal = journal_of(rt, given, &lost)?;
+    let now = Rc::new(rt.alloc(), Cell::new(begun.standing))?;
+    let reasons = Rc::new(rt.alloc(), Cell::new(Reasons::new(rt.alloc())))?;
+    Ok(Noting {
+        rt,
+        folder,
+        begun,
+        now,
+        journal,
+        lost,
+        reasons,
+        left: Vec::new(rt.alloc()),
+    })
+}
+
+/// Opens the state folder of a night, and holds its lock.
+pub fn open_noting<'a, R>(rt: &'a R, given: &Given<'_>) -> Result<Noting<'a, R>, Failure>
+where
+    R: Files<File = File> + AllocGlobal + Clock,
+{
+    let names = given.names();
+    let mut folder = open_state(rt, names.state, names.root, given.asked.create)?;
+    let begun = read_begun(rt.alloc(), &mut folder);
+    noting_over(rt, given, folder, begun)
+}
+
+impl<'a, R: Files<File = File> + AllocGlobal + Clock> Noting<'a, R> {
+    /// Where the night began.
+    pub fn began(&self) -> Standing {
+        self.begun.standing
+    }
+
+    /// Why the last call on the folder failed that did.
+    pub fn reason(&self) -> Option<StateReason> {
+        self.folder.reason()
+    }
+
+    /// Why the last line of the log that was not written was not.
+    pub(crate) fn lost(&self) -> Option<StateReason> {
+        self.lost.get()
+    }
+
+    /// The clock of the night.
+    fn clock(&self, given: &Given<'_>) -> Result<NightClock<'a, R>, Failure> {
+        let rt = self.rt;
+        let journal = journal_of(rt, given, &self.lost)?;
+        let stop = format!(in rt.alloc(); "{}/{}", given.asked.state, StateFile::Stop)?;
+        Ok(NightClock {
+            rt,
+            stop,
+            began: self.begun.standing,
+            now: self.now.clone()?,
+            budget: given.asked.bounds.budget,
+            journal,
+            asked: given.began,
+        })
+    }
+
+    /// What says what is found. It says that on an output.
+    fn teller<'n, W>(&self, given: &'n Given<'_>, out: W) -> Result<Teller<'n, W>, Failure>
+    where
+        W: Write + Drop,
+    {
+        let alloc = self.rt.alloc();
+        let reasons = self.reasons.clone()?;
+        let now = self.now.clone()?;
+        Ok(Teller::new(alloc, given.names(), &given.known, reasons, now, out))
+    }
+
+    /// What stands beside the folder in the night.
+    pub fn beside<'n, W>(
+        &self,
+        given: &'n Given<'_>,
+        out: W,
+    ) -> Result<Beside<'a, 'n, R, W>, Failure>
+    where
+        W: Write + Drop,
+    {
+        let teller = self.teller(given, out)?;
+        let clock = self.clock(given)?;
+        Ok(Beside {
+            clock,
+            teller,
+            reasons: self.reasons.clone()?,
+        })
+    }
+
+    /// What the night spent, and what was said of its runs.
+    pub fn told_by<W: Write + Drop>(&self, teller: Teller<'_, W>) -> Told {
+        Told {
+            cost: self.begun.standing.spent_until(self.now.get()),
+            findings: teller.findings(),
+            broken: teller.broken(),
+            said: teller.into_said(),
+        }
+    }
+
+    /// The folder.
+    pub(crate) fn into_folder(self) -> StateDir<'a, R> {
+        let Noting {
+            rt: _rt,
+            folder,
+            begun: _begun,
+            now: _now,
+            journal: _journal,
+            lost: _lost,
+            reasons: _reasons,
+            left: _left,
+        } = self;
+        folder
+    }
+
+    /// Notes a checkpoint. One for which there is no memory is not noted.
+    fn note(&mut self, bytes: &[u8]) {
+        if let Ok(checkpoint) = decode_checkpoint(self.rt.alloc(), bytes) {
+            let before = self.now.get();
+            let now = Standing::of(&checkpoint).noted_after(before);
+            if now.leaves_more_than(before) {
+                self.log_left(&checkpoint);
+            }
+            self.now.set(now);
+        }
+    }
+
+    /// Logs the place that was left out last: after the call that failed last.
+    fn log_left(&mut self, checkpoint: &Checkpoint) {
+        let Some(left) = checkpoint.left.last() else {
+            return;
+        };
+        let cycle = checkpoint.cursor.cycle();
+        let Some(words) = last_reason(self.rt.alloc(), &self.reasons) else {
+            self.journal.left(cycle, left, "");
+            return;
+        };
+        self.journal.left(cycle, left, words.as_str());
+        if let Ok(place) = left.place.try_clone() {
+            let _ = self.left.push(Reason { place, words });
+        }
+    }
+}
+
+/// Does what the folder does.
+impl<R: Files<File = File> + AllocGlobal + Clock> StateFolder for Noting<'_, R> {
+    ghost stays = { λ told folder. tt };
+
+    ghost counts_now = { λ told folder t c le now. tt };
+
+    ghost only_now = { λ told folder c left. tt };
+
+    fn checkpoint(&mut self) -> Result<Option<Vec<u8>>, FolderTrouble> {
+        self.folder.folder.checkpoint()
+    }
+
+    fn put_checkpoint(&mut self, bytes: &[u8]) -> Result<(), FolderTrouble> {
+        self.folder.folder.put_checkpoint(bytes)?;
+        self.note(bytes);
+        Ok(())
+    }
+
+    fn length(&mut self) -> Result<u64, FolderTrouble> {
+        self.folder.folder.length()
+    }
+
+    fn read(&mut self, start: u64, buffer: &mut [u8]) -> Result<usize, FolderTrouble> {
+        self.folder.folder.read(start, buffer)
+    }
+
+    fn append(&mut self, bytes: &[u8]) -> Result<(), FolderTrouble> {
+        self.folder.folder.append(bytes)
+    }
+
+    fn cut(&mut self, most: u64) -> Result<(), FolderTrouble> {
+        self.folder.folder.cut(most)
+    }
+
+    fn sync(&mut self) -> Result<(), FolderTrouble> {
+        self.folder.folder.sync()
+    }
+
+    fn has_closed(&mut self, cycle: u64) -> Result<bool, FolderTrouble> {
+        self.folder.folder.has_closed(cycle)
+    }
+
+    fn close(&mut self, cycle: u64, whole: bool) -> Result<(), FolderTrouble> {
+        self.folder.folder.close(cycle, whole)
+    }
+}

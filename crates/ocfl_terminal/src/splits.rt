@@ -1,0 +1,147 @@
+//! Splitting a storage root: the text of the separators goes to standard output.
+
+use ocfl_closing::heard::Heard;
+use ocfl_closing::saying::{STOPPED, USAGE, say};
+use ocfl_folder::FsTree;
+use ocfl_item::Fault;
+use ocfl_line::Split;
+use ocfl_parts::{MAX_BYTES, Separators, SplitStop, put_parts, split_by};
+use ocfl_report::{DisplayPlace, write_all_of};
+use ocfl_split::split;
+use ocfl_tree::Place;
+use std::fs::File;
+use std::io::{self, BufReader};
+use std::rt::{Env, Files};
+
+/// Why no separators are made.
+#[derive(Drop)]
+enum NotSplit {
+    /// The store did not answer at this place, and why if that is known.
+    Store(Place, Option<io::Error>),
+    /// The report was not split.
+    Report(SplitStop),
+    /// The report could not be read.
+    Unread(io::Error),
+    /// The separators' text would be longer than is read again.
+    TooLong,
+    Output,
+    Memory,
+}
+
+/// Says that a report was not split, and gives the status.
+fn say_bad_report<R: Eprint>(rt: &R, stop: &SplitStop) -> u8 {
+    let _ = eprintln!(rt; "ocfl-scrub: {stop}");
+    match stop {
+        SplitStop::Line(_) | SplitStop::Many => USAGE,
+        SplitStop::Read | SplitStop::Memory => STOPPED,
+    }
+}
+
+/// Says where a store did not answer, and why if that is known.
+fn say_stopped_at<R: Eprint>(rt: &R, place: &Place, why: &Option<io::Error>) {
+    let place = DisplayPlace(place);
+    let _ = eprintln!(rt; "ocfl-scrub: stopped at {place}");
+    if let Some(why) = why {
+        let _ = eprintln!(rt; "ocfl-scrub: {place}: {why}");
+    }
+}
+
+/// Says why no separators are made, and gives the status.
+fn say_unsplit<R: Eprint>(rt: &R, why: &NotSplit) -> u8 {
+    match why {
+        NotSplit::Store(place, why) => say_stopped_at(rt, place, why),
+        NotSplit::Report(stop) => return say_bad_report(rt, stop),
+        NotSplit::Unread(error) => {
+            let _ = eprintln!(rt; "ocfl-scrub: report failed: {error}");
+        }
+        NotSplit::TooLong => {
+            say(rt, "too many parts");
+            return USAGE;
+        }
+        NotSplit::Output => say(rt, "output failed"),
+        NotSplit::Memory => say(rt, "out of memory"),
+    }
+    STOPPED
+}
+
+/// Makes the separators that are asked for.
+fn make_separators<R>(rt: &R, asked: &Split) -> Result<Separators, NotSplit>
+where
+    R: Files + Env + AllocGlobal,
+{
+    match asked {
+        Split::Listing { count, root } => split_by_listing(rt, *count, root.as_str()),
+        Split::Report { budget, report } => { split_by_report(rt, *budget, report.as_str()) }
+    }
+}
+
+/// The separators by what is listed of a folder.
+fn split_by_listing<R>(rt: &R, count: usize, root: &str) -> Result<Separators, NotSplit>
+where
+    R: Files + Env + AllocGlobal,
+{
+    let Ok(mut store) = FsTree::entering(rt, root) else {
+        return Err(NotSplit::Memory);
+    };
+    match split(rt.alloc(), &mut store, count) {
+        Ok(separators) => Ok(separators),
+        Err(Fault::Store(place)) => Err(NotSplit::Store(place, store.reason())),
+        Err(Fault::Memory) => Err(NotSplit::Memory),
+    }
+}
+
+/// The separators by the costs in a file of a report.
+fn split_by_report<R>(rt: &R, budget: u64, file: &str) -> Result<Separators, NotSplit>
+where
+    R: Files + AllocGlobal,
+{
+    let opened = File::open(rt, file).map_err(|error| unread(SplitStop::Read, Some(error)))?;
+    let Ok(mut report) = BufReader::new(rt.alloc(), Heard::new(opened)) else {
+        return Err(NotSplit::Report(SplitStop::Memory));
+    };
+    match split_by(rt.alloc(), &mut report, budget) {
+        Ok(separators) => Ok(separators),
+        Err(stop) => Err(unread(stop, report.get_ref().error())),
+    }
+}
+
+/// Why a report was not split, with the system's words if it could not be read.
+fn unread(stop: SplitStop, error: Option<io::Error>) -> NotSplit {
+    match (stop, error) {
+        (SplitStop::Read, Some(error)) if error.kind() == io::ErrorKind::OutOfMemory => {
+            NotSplit::Report(SplitStop::Memory)
+        }
+        (SplitStop::Read, Some(error)) => NotSplit::Unread(error),
+        (stop, _) => NotSplit::Report(stop),
+    }
+}
+
+/// Writes the text of separators to standard output. Refuses a text that could not be read again.
+fn write_separators<R: AllocGlobal + Print>(
+    rt: &R,
+    separators: &Separators,
+) -> Result<(), NotSplit> {
+    let mut text = Vec::new(rt.alloc());
+    if put_parts(separators, &mut text).is_err() {
+        return Err(NotSplit::Memory);
+    }
+    if text.len() > MAX_BYTES {
+        return Err(NotSplit::TooLong);
+    }
+    match write_all_of(&mut io::writer(rt), &text) {
+        Ok(()) => Ok(()),
+        Err(_) => Err(NotSplit::Output),
+    }
+}
+
+/// Splits a storage root, and gives the exit status.
+pub fn split_root<R>(rt: &R, asked: &Split) -> u8
+where
+    R: Files + Env + AllocGlobal + Print + Eprint,
+{
+    let made = make_separators(rt, asked);
+    match made.and_then(|separators| write_separators(rt, &separators)) {
+        Ok(()) => 0,
+        Err(stop) => say_unsplit(rt, &stop),
+    }
+}

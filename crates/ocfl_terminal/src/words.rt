@@ -1,0 +1,92 @@
+//! The words of the command line, and what they ask for.
+
+use crate::version::print_build;
+use crate::whole::whole_asked;
+use clap::error::ErrorKind;
+use ocfl_closing::saying::{STOPPED, USAGE, say, say_out_of_memory};
+use ocfl_line::{Asked, CommandStop, asked};
+use std::alloc::{AllocError, Global};
+use std::rt::{Env, Files};
+use std::{env, io};
+
+/// Reads the words of the command line. Fails with the status if they cannot be read.
+fn read_words<R: Env + AllocGlobal + Eprint>(rt: &R) -> Result<Vec<String>, u8> {
+    let read = match env::args(rt) {
+        Ok(words) => words.collect(rt.alloc()).ok(),
+        Err(error) if error.kind() == io::ErrorKind::InvalidData => {
+            say(rt, "an argument is not UTF-8");
+            return Err(USAGE);
+        }
+        Err(_) => None,
+    };
+    match read {
+        Some(words) => Ok(words),
+        None => Err(say_out_of_memory(rt)),
+    }
+}
+
+/// Puts the program's name in the place of the first word: usage texts name the program by it,
+/// whatever its file is called.
+fn name_program(alloc: Global, words: &mut Vec<String>) -> Result<(), AllocError> {
+    if let Some(first) = words.first_mut() {
+        *first = String::from_str(alloc, "ocfl-scrub")?;
+    }
+    Ok(())
+}
+
+/// Prints the help or the version that was asked for, or says what is wrong with a command line.
+fn print_usage<R>(rt: &R, error: &clap::Error) -> u8
+where
+    R: Files + AllocGlobal + Print + Eprint,
+{
+    let mut printed = error.print(rt);
+    if error.use_stderr() {
+        return USAGE;
+    }
+    if printed.is_ok() && error.kind() == ErrorKind::DisplayVersion {
+        printed = print_build(rt);
+    }
+    if printed.is_err() {
+        say(rt, "output failed");
+        return STOPPED;
+    }
+    0
+}
+
+/// Says that paths are not known because the folder in which the program was started has none, and
+/// gives the status.
+fn say_no_path<R: Eprint>(rt: &R, error: &io::Error) -> u8 {
+    if error.kind() == io::ErrorKind::OutOfMemory {
+        return say_out_of_memory(rt);
+    }
+    let _ = eprintln!(rt;
+        "ocfl-scrub: the current folder has no path ({error}): give paths from / on"
+    );
+    STOPPED
+}
+
+/// What words ask for, with paths from `/` on. Otherwise says or prints why nothing is to be done,
+/// and fails with the status.
+fn asked_by<R>(rt: &R, words: &[String]) -> Result<Asked, u8>
+where
+    R: Files + Env + AllocGlobal + Print + Eprint,
+{
+    match asked(rt.alloc(), words) {
+        Ok(asked) => whole_asked(rt, asked).map_err(|error| say_no_path(rt, &error)),
+        Err(CommandStop::Usage(error)) => Err(print_usage(rt, &error)),
+        Err(CommandStop::Memory) => Err(say_out_of_memory(rt)),
+    }
+}
+
+/// What the command line asks for, with paths from `/` on. Otherwise says or prints why nothing is
+/// to be done, as the help that was asked for, and fails with the status.
+pub fn read_asked<R>(rt: &R) -> Result<Asked, u8>
+where
+    R: Files + Env + AllocGlobal + Print + Eprint,
+{
+    let mut words = read_words(rt)?;
+    if name_program(rt.alloc(), &mut words).is_err() {
+        return Err(say_out_of_memory(rt));
+    }
+    asked_by(rt, words.as_slice())
+}

@@ -35,7 +35,7 @@ pub struct NightBounds {
 }
 
 /// A night, and what it is made with.
-#[derive(Debug, PartialEq, Eq)]
+#[derive(Debug, Drop, PartialEq, Eq)]
 pub struct NightAsked {
     /// The state folder.
     pub state: String,
@@ -55,22 +55,6 @@ pub struct NightAsked {
     pub force_root: bool,
     /// Whether it ends at a place that cannot be read, and leaves no branch out.
     pub stop_at_faults: bool,
-}
-
-impl Drop for NightAsked {
-    fn drop(self) {
-        let NightAsked {
-            state: _state,
-            root: _root,
-            bounds: _bounds,
-            chosen: _chosen,
-            known: _known,
-            expected: _expected,
-            create: _create,
-            force_root: _force_root,
-            stop_at_faults: _stop_at_faults,
-        } = self;
-    }
 }
 
 /// The joining of the closed reports of all parts.

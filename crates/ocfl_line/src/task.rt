@@ -20,7 +20,7 @@ pub enum Chosen {
 }
 
 /// A deed, and what it is done with.
-#[derive(Debug, PartialEq, Eq)]
+#[derive(Debug, Drop, PartialEq, Eq)]
 pub struct Task {
     /// What is to be done.
     pub deed: Deed,
@@ -32,18 +32,6 @@ pub struct Task {
     pub file: Option<String>,
     /// Whether no progress is to be shown.
     pub quiet: bool,
-}
-
-impl Drop for Task {
-    fn drop(self) {
-        let Task {
-            deed: _deed,
-            chosen: _chosen,
-            root: _root,
-            file: _file,
-            quiet: _quiet,
-        } = self;
-    }
 }
 
 /// How a storage root is to be split into parts.

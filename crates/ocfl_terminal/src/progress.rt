@@ -316,7 +316,10 @@ pub struct Clearing<'a, R, W: Drop> {
     pub out: W,
 }
 
+/// It has taken what the writer below it has.
 impl<R: Eprint, W: Write + Drop> Write for Clearing<'_, R, W> {
+    ghost contents = { λ c. W.contents c.out };
+
     fn write(&mut self, buffer: &[u8]) -> io::Result<usize> {
         if self.is_shared {
             clear(self.rt);

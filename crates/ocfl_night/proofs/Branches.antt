@@ -1,11 +1,14 @@
 -- The last name of a place, and whether a branch has an end.
-use Rattle.std.proofs.Common.{◌≡◌, ◌<◌, ◌≤◌, ◌++◌, ◌∷◌, ◌∙◌, [], ⊎_elim, Bool, true, false, Option, Some, None, ap, refl, sym, subst, length, length-append, arith}
-use Rattle.std.proofs.{lemmas.Bool.{cases_lt}, lemmas.Bool.Decides.{nat_tests}}
-use Rattle.std.specs.Prelude.{nat_lt, if◌then◌else◌}
+use Rattle.std.proofs.Common.{◌≡◌, ◌≢◌, ◌<◌, ◌≤◌, ◌++◌, ◌∷◌, ◌∙◌, [], ⊎_elim, Bool, true, false, Option, Some, None, ap, refl, sym, subst, length, length-append, arith}
+use Rattle.std.proofs.{lemmas.Bool.{cases_lt}, lemmas.Bool.Decides.{nat_tests}, lemmas.List.Elements.{All-append, All-cons, All-nil}}
+use Rattle.std.specs.Prelude.{◌&&◌, All, IsTrue, List, nat_lt, if◌then◌else◌}
 use Rattle.ocfl_tree.specs.{Name.{IsName}, Place.{Text, Place}}
+use Rattle.ocfl_inventory.specs.Declaration.{is_declaration}
+use Rattle.ocfl_inventory.specs.declared.declaration.Level.TheVariants.{Root}
+use Rattle.ocfl_audit.specs.Trail.{is_root_meta}
 use Rattle.ocfl_audit.proofs.BranchLaws.{end_is_name}
 use Rattle.ocfl_night.specs.Chain.{past}
-use Rattle.ocfl_night.specs.Leaving.{end_of, has_end, last_name, remedy_by, tried_by}
+use Rattle.ocfl_night.specs.Leaving.{MayLeave, branch_at, branch_for, end_of, has_end, last_name, remedy_by, tried_by}
 
 last_is : (d : Place) (n : Text) → last_name (d ++ n ∷ []) ≡ n
 last_is [] n = refl
@@ -37,7 +40,36 @@ pub is_long : (n t : Text) → t ≡ n ++ 1 ∷ [] → (IsName t → ⊥) → Is
 is_long n t is unnamed name =
     ⊎_elim (λ less. absurd (unnamed (subst IsName (sym is) (end_is_name n name less)))) (λ long. long) (cases_lt (length n) 255)
 
+-- ---- declarations of the storage root
+
+pub declares : (p : Place) → length p ≡ 1 → is_declaration Root (last_name p) ≡ is_root_meta p
+declares [] one = absurd (omega (arith, one))
+declares (n ∷ []) one = refl
+declares (n ∷ m ∷ p) one = absurd (omega (arith, one))
+
+pub declares_not : (p : Place) → length p ≢ 1 → false ≡ is_root_meta p
+declares_not [] other = refl
+declares_not (n ∷ []) other = absurd (other refl)
+declares_not (n ∷ m ∷ p) other = refl
+
 -- ---- what is left out
+
+-- a branch that can be left out for a place can be one more
+pub may_leave_more : (left more : List Place) (p b : Place) → Some b ≡ branch_for left p → more ≡ left ++ b ∷ [] → MayLeave false left → MayLeave false more
+may_leave_more left more p b is grown may = by (nat_lt (length left) 16) (has_end (branch_at p)) refl refl is
+  where
+    by : (few ends : Bool) → nat_lt (length left) 16 ≡ few → has_end (branch_at p) ≡ ends → Some b ≡ (if few && ends then Some (branch_at p) else None) → MayLeave false more
+    by false ends f e i = absurd cc
+    by true false f e i = absurd cc
+    by true true f e i =
+        let same : branch_at p ≡ b = cc in
+        let less : length left < 16 = grind (arith, nat_tests) in
+        record {
+          few = omega (arith, less, ap length grown, length-append left (b ∷ []));
+          none = λ strict. absurd cc;
+          ends = subst (All (λ x. IsTrue (has_end x))) (sym grown)
+              (All-append (λ x. IsTrue (has_end x)) left (b ∷ []) may.ends (All-cons (λ x. IsTrue (has_end x)) b [] (ap has_end (sym same) ∙ e) (All-nil (λ x. IsTrue (has_end x)))));
+        }
 
 -- without a try nothing is tried once more
 pub untried : (p : Place) (found : Option Place) → tried_by p (remedy_by found) ≡ None

@@ -4,7 +4,7 @@ use Rattle.std.specs.List.{starts_with}
 use Rattle.ocfl_tree.specs.Place.{Text, Place, text_eq, place_eq}
 use Rattle.ocfl_inventory.specs.Declaration.{is_declaration}
 use Rattle.ocfl_inventory.specs.declared.declaration.Level.TheVariants.{Object}
-use Rattle.ocfl_audit.specs.Zone.{inventory_name}
+use Rattle.ocfl_audit.specs.{Trail.{is_root_meta}, Zone.{inventory_name}}
 use Rattle.ocfl_item.specs.declared.fault.Fault.TheVariants as fault
 use Rattle.ocfl_state.specs.{Checkpoint.{Checkpoint}, declared.checkpoint_parts.Left.{Left}}
 use Rattle.ocfl_night.specs.{Chain.{past}, Done.{Done, counted}, Steps.{with_left}, declared.plan.Pause.{Pause}}
@@ -29,9 +29,10 @@ is_of_inventory n = text_eq n inventory_name || starts_with nat_eq n (inventory_
 abbrev pub speaks_for_object : Text → Bool
 speaks_for_object n = is_of_inventory n || is_declaration Object n
 
--- the branch that is left out for a place: that of the object which it speaks for, or its own
+-- the branch that is left out for a place: that of the object or of the storage root which it speaks
+-- for, or its own
 abbrev pub branch_at : Place → Place
-branch_at p = if speaks_for_object (last_name p) then take (length p - 1) p else p
+branch_at p = if is_root_meta p || speaks_for_object (last_name p) then take (length p - 1) p else p
 
 -- whether a place comes after all that a branch has: not for the storage root, and not where the
 -- last name has 255 bytes

@@ -1,6 +1,7 @@
 //! Leaving out a branch that cannot be read.
 ghost use Rattle.std.specs.Prelude.{◌≡◌, ◌-◌, ◌<◌, ◌≤◌, ◌++◌, ◌∷◌, [], IfErr, IfOk, IfSome, IsNone, IsSome, IsTrue, OnOk, length, take};
 ghost use Rattle.ocfl_tree.specs.Name.{IsName};
+ghost use Rattle.ocfl_audit.specs.Trail.{is_root_meta};
 ghost use Rattle.ocfl_cursor.specs.State.{state_of};
 ghost use Rattle.ocfl_scrub.specs.{Running.{place_in}, Starting.{part_of}};
 ghost use Rattle.ocfl_state.specs.declared.checkpoint_parts.Phase.TheVariants.{Open};
@@ -115,12 +116,24 @@ fn last_name(place: &Place) -> &str
     }
 }
 
+/// Whether a place is that of a declaration of the storage root.
+#[tactic(auto, using(crate::proofs::Branches::declares, crate::proofs::Branches::declares_not))]
+fn declares_root(place: &Place) -> bool
+    ensures { result ≡ is_root_meta place.now }
+{
+    if place.depth() != 1 {
+        return false;
+    }
+    is_declaration_name(Level::Root, last_name(place))
+}
+
 /// The branch to leave out after a call at this place failed: that of the object if the place is
-/// one of its declarations, inventories or sidecars, else that of the place itself.
+/// one of its declarations, inventories or sidecars, that of the storage root if it is a declaration
+/// of that, else that of the place itself.
 pub(crate) fn branch_at(place: &Place) -> Result<Place, AllocError>
     ensures { IfOk result (λ branch. branch ≡ branch_at place.now) }
 {
-    if speaks_for_object(last_name(place)) {
+    if declares_root(place) || speaks_for_object(last_name(place)) {
         place.first(place.depth().saturating_sub(1))
     } else {
         place.try_clone()

@@ -134,3 +134,41 @@ impl Tree for Unmounted {
         self.tree.close();
     }
 }
+
+/// A root of which each second opening of one file fails.
+#[derive(Drop)]
+pub struct Faltering {
+    pub tree: MemTree,
+    pub file: Place,
+    /// Whether the next one does.
+    pub fails: bool,
+}
+
+impl Tree for Faltering {
+    ghost told = { false };
+
+    ghost state = { λ _. empty_store };
+
+    fn list(&mut self, place: &Place) -> Result<Vec<Entry>, Trouble> {
+        self.tree.list(place)
+    }
+
+    fn open(&mut self, place: &Place) -> Result<(), Trouble> {
+        if *place == self.file {
+            self.fails = !self.fails;
+            if !self.fails {
+                self.close();
+                return Err(Trouble::Device);
+            }
+        }
+        self.tree.open(place)
+    }
+
+    fn read(&mut self, buffer: &mut [u8]) -> Result<usize, Trouble> {
+        self.tree.read(buffer)
+    }
+
+    fn close(&mut self) {
+        self.tree.close();
+    }
+}

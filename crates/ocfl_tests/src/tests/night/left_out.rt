@@ -1,8 +1,9 @@
 //! Nights over places that cannot be read.
 
-use super::{ending, night_over, plan, site};
+use super::{Nights, ending, night_over, plan, site};
 use crate::tests::common::Runtime;
 use crate::tests::common::digests::lines_of;
+use crate::tests::common::odd_store::Faltering;
 use crate::tests::common::roots::right_objects;
 use crate::tests::common::store::{place_of, put_dir};
 use ocfl_memory::{MemTree, Point};
@@ -255,6 +256,25 @@ fn a_branch_whose_name_cannot_be_longer_stops_the_night(rt: HostRuntime) -> Resu
         assert_eq!(rt; ending(&made.end), want, "{length}");
     }
     Ok(())
+}
+
+// Each look at the root can read the declaration, and no run can. Seen to fail if that file is left
+// out alone.
+#[test]
+fn a_root_whose_declaration_fails_is_not_left_out_in_part(rt: HostRuntime) -> Result<(), Fail> {
+    let alloc = rt.alloc();
+    let mut tree = Faltering {
+        tree: failing(alloc, &[])?,
+        file: place_of(alloc, "0=ocfl_1.1")?,
+        fails: false,
+    };
+    let mut nights = Nights::new(alloc);
+    let made = nights.make_in(&mut tree, &plan(None, None, true)?)?;
+    assert_eq!(rt; (ending(&made.end), made.runs), ("stopped", 2));
+    assert_eq!(rt; made.left.len(), 0);
+    let made = nights.make_in(&mut tree.tree, &plan(None, None, false)?)?;
+    assert_eq!(rt; ending(&made.end), "cycle 1 ended");
+    expect_closed(&rt, "the declaration", &nights.folder, (AUDIT, true))
 }
 
 #[test]

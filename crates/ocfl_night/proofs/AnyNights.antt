@@ -10,8 +10,8 @@ use Rattle.ocfl_audit.specs.{Audit.{Unread, audit}, Parts.{Part, within}, Trail.
 use Rattle.ocfl_cursor.specs.Cursor.{Cursor, ended}
 use Rattle.ocfl_scrub.specs.{Running.{begun, place_in}, Joining.{PartRun, Ran, AreOneCycle, cursor_after, is_taken, reports_of, unread_by, unread_together}}
 use Rattle.ocfl_state.specs.{Checkpoint.{Checkpoint}, Content.{Content, Closed, empty}}
-use Rattle.ocfl_state.specs.{Crash.{Begins, Outcomes}, Pieces.{summary_of}}
-use Rattle.ocfl_night.specs.Chain.{RootRun, around, look_of, AreLooked, joined, EndAt, IsClosedAs, IsPartialReport, IsWholeReport, AreClosed, AreLeft, HasClosed}
+use Rattle.ocfl_state.specs.{Crash.{Begins, Outcomes}, Pieces.{summary_of}, declared.checkpoint_parts.Left.{Left}}
+use Rattle.ocfl_night.specs.Chain.{AreNext, AreNextIn, NoneBefore, past_branch, RootRun, around, look_of, AreLooked, joined, EndAt, IsClosedAs, IsPartialReport, IsWholeReport, AreClosed, AreLeft, HasClosed}
 use Rattle.ocfl_night.specs.Looks.{Counts, IsOneOf, IsWithin, Known, Look, MayBeGone, Rounds, look_between, of_any, opened_since}
 use Rattle.ocfl_night.specs.Sound.{closed_text, Stands, IsNew, IsMarked, IsSoundAt, IsSound, AreSound, IsAt, IsKept}
 use Rattle.ocfl_night.specs.Nights.{Night, AreNights, AreOver, AtAnyMoment, AreWhole, HaveReadAll, IsAround, IsAuditBut, IsTaken, IsTidied, AllTaken, known_of, rounds_of}
@@ -195,6 +195,13 @@ module _ (root : StorageRoot) (known : Known) where
   over_one one [] looked = tt
   over_one one (r ∷ runs) looked = (looked.0.1.1.root ∙ one looked.0.0 looked.0.1.0, over_one one runs looked.1)
 
+  -- and branches were left out over it
+  pub next_over : ((l : Look) → IsAmong known.looks l → l.root ≡ root) → (part : Part) (left : List Left) → AreNextIn (Some known) part left → AreNext root part left
+  next_over one part [] all = tt
+  next_over one part (l ∷ left) all =
+      let same : all.0.0 ≡ root = sym all.0.1.0.1.1 ∙ one all.0.1.0.0 all.0.1.0.1.0 in
+      (subst (λ (x : StorageRoot). NoneBefore x part l.after l.place) same all.0.1.1, next_over one (past_branch part l) left all.1)
+
   abbrev CouldNot : Place × ℕ → Type 0
   CouldNot e = (l : Look) × (IsAmong known.looks l × IsAmong l.unread e)
 
@@ -256,6 +263,7 @@ module _ {F : Type 0} (root : StorageRoot) (nights : List (Night F)) (over : Are
     is_around read d w = record {
       left = w.left;
       some = w.some;
+      next = next_over root known looks_over part w.left w.next;
       is =
           w.report
           ∙ wrote_around root part w.first w.last w.runs w.left w.chain (over_one root known looks_over w.runs w.looked) (read_runs w.runs (over_one root known looks_over w.runs w.looked) w.looked)

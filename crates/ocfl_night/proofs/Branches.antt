@@ -1,14 +1,16 @@
 -- The last name of a place, and whether a branch has an end.
 use Rattle.std.proofs.Common.{◌≡◌, ◌≢◌, ◌<◌, ◌≤◌, ◌++◌, ◌∷◌, ◌∙◌, [], ⊎_elim, Bool, true, false, Option, Some, None, ap, refl, sym, subst, length, length-append, arith}
 use Rattle.std.proofs.{lemmas.Bool.{cases_lt}, lemmas.Bool.Decides.{nat_tests}, lemmas.List.Elements.{All-append, All-cons, All-nil}}
-use Rattle.std.specs.Prelude.{◌&&◌, All, IsTrue, List, nat_lt, if◌then◌else◌}
+use Rattle.std.specs.Prelude.{◌&&◌, ◌||◌, All, IsTrue, List, nat_le, nat_lt, if◌then◌else◌}
 use Rattle.ocfl_tree.specs.{Name.{IsName}, Place.{Text, Place}}
 use Rattle.ocfl_inventory.specs.Declaration.{is_declaration}
 use Rattle.ocfl_inventory.specs.declared.declaration.Level.TheVariants.{Root}
 use Rattle.ocfl_audit.specs.Trail.{is_root_meta}
 use Rattle.ocfl_audit.proofs.BranchLaws.{end_is_name}
 use Rattle.ocfl_night.specs.Chain.{past}
-use Rattle.ocfl_night.specs.Leaving.{MayLeave, branch_at, branch_for, end_of, has_end, last_name, remedy_by, tried_by}
+use Rattle.ocfl_night.specs.Done.{Done}
+use Rattle.ocfl_night.specs.Leaving.{MayLeave, branch_at, branch_for, end_of, has_end, is_at, last_name, remedy_at, remedy_by, tried_by}
+use Rattle.ocfl_night.specs.declared.tally.Remedy.TheVariants.{TryAgain, LeaveOut, Halt}
 
 last_is : (d : Place) (n : Text) → last_name (d ++ n ∷ []) ≡ n
 last_is [] n = refl
@@ -70,6 +72,16 @@ may_leave_more left more p b is grown may = by (nat_lt (length left) 16) (has_en
           ends = subst (All (λ x. IsTrue (has_end x))) (sym grown)
               (All-append (λ x. IsTrue (has_end x)) left (b ∷ []) may.ends (All-cons (λ x. IsTrue (has_end x)) b [] (ap has_end (sym same) ∙ e) (All-nil (λ x. IsTrue (has_end x)))));
         }
+
+-- a branch that is left out for a place is that place's
+pub left_branch : (strict : Bool) (d : Done) (p b : Place) → remedy_at strict d p ≡ LeaveOut b → branch_at p ≡ b
+left_branch strict d p b is = by (strict || nat_le 64 d.stops) (is_at d.tried p) (nat_lt (length d.left) 16 && has_end (branch_at p)) is
+  where
+    by : (x y z : Bool) → (if x then Halt else (if y then remedy_by (if z then Some (branch_at p) else None) else TryAgain)) ≡ LeaveOut b → branch_at p ≡ b
+    by true y z e = absurd cc
+    by false false z e = absurd cc
+    by false true false e = absurd cc
+    by false true true e = cc
 
 -- without a try nothing is tried once more
 pub untried : (p : Place) (found : Option Place) → tried_by p (remedy_by found) ≡ None

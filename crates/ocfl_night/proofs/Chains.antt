@@ -11,8 +11,8 @@ use Rattle.ocfl_scrub.specs.Joining.{PartRun, Ran}
 use Rattle.ocfl_scrub.specs.declared.running.RunStatus.{RunStatus}
 use Rattle.ocfl_scrub.specs.declared.running.RunStatus.TheVariants as status
 use Rattle.ocfl_state.specs.{Content.{Closed, is_closed}, declared.checkpoint_parts.Left.{Left}}
-use Rattle.ocfl_night.specs.Chain.{RootRun, look_of, AreLooked, joined, LeadTo, EndAt, past, past_branch, part_after, from_after, LedBy, Led, LedToEnd, IsClosedAs, AreClosed, AreLeft, HasClosed}
-use Rattle.ocfl_night.specs.{Looks.{Known, MayBeGone, Rounds, IsOneOf}, Sound.{closed_text}}
+use Rattle.ocfl_night.specs.Chain.{AreNextIn, NoneBefore, RootRun, look_of, AreLooked, joined, LeadTo, EndAt, past, past_branch, part_after, from_after, LedBy, Led, LedToEnd, IsClosedAs, AreClosed, AreLeft, HasClosed}
+use Rattle.ocfl_night.specs.{Looks.{IsRootOf, Known, MayBeGone, Rounds, IsOneOf}, Sound.{closed_text}}
 
 -- a beginning of nothing
 abbrev pub nothing : Text
@@ -52,6 +52,12 @@ led_to_end part c d runs left r led made ends = longer EndAt part c d r.run.ran.
 pub leave_on : (part : Part) (c d : Cursor) (runs : List RootRun) (left : List Left) (l : Left) → Led part c runs left d → place_in d.state ≡ l.after → Led part c runs (left ++ l ∷ []) d
 leave_on part c d runs [] l led stood = (runs, ([], (d, (sym (append-nil runs), (led, (stood, refl))))))
 leave_on part c d runs (x ∷ left) l (first, (rest, (e, (are, (leads, (there, led)))))) stood = (first, (rest, (e, (are, (leads, (there, leave_on (past_branch part x) e d rest left l led stood))))))
+
+-- and it is next, as those before were
+pub next_on : (known : Option Known) (part : Part) (left : List Left) (l : Left) → AreNextIn known part left
+    → (root : StorageRoot) × (IsRootOf known root × NoneBefore root (part_after part left) l.after l.place) → AreNextIn known part (left ++ l ∷ [])
+next_on known part [] l all next = (next, tt)
+next_on known part (x ∷ left) l all next = (all.0, next_on known (past_branch part x) left l all.1 next)
 
 -- it was one of these looks, as those before
 pub looked_on : (known : Option Known) (runs : List RootRun) (r : RootRun) → AreLooked known runs → IsOneOf known (look_of r) → AreLooked known (runs ++ r ∷ [])

@@ -15,6 +15,8 @@ pub mod Compared
 pub mod Lost
 pub mod Around
 pub mod Branches
+pub mod Stopped
+pub mod Missing
 pub mod Newest
 pub mod Whole
 pub mod Beginnings

@@ -11,7 +11,7 @@ use Rattle.ocfl_item.specs.Judging.{HasShortFiles}
 use Rattle.ocfl_identity.specs.Identity.{IsUnread, OpensFirst, in_listing, in_opening, too_long}
 use Rattle.ocfl_scrub.specs.declared.running.RunStatus.{RunStatus}
 use Rattle.ocfl_scrub.specs.declared.running.RunStatus.TheVariants as status
-use Rattle.ocfl_night.specs.Looks.{Counts, IfGiven, IsOneOf, IsWithin, Known, Look, look_between, opened_since}
+use Rattle.ocfl_night.specs.Looks.{IsRootOf, Counts, IfGiven, IsOneOf, IsWithin, Known, Look, look_between, opened_since}
 use Rattle.ocfl_identity.specs.declared.identity.NoIdentity.{NoIdentity}
 use Rattle.ocfl_identity.specs.declared.identity.NoIdentity.TheVariants as none
 
@@ -83,6 +83,11 @@ given_on (Some known) more p = more p
 pub given_so : {P : Type 0} (known : Option Known) → P → IfGiven known P
 given_so None p = tt
 given_so (Some known) p = p
+
+-- its root is one of theirs
+pub root_of : (known : Option Known) (l : Look) → IsOneOf known l → IsRootOf known l.root
+root_of None l one = tt
+root_of (Some known) l one = (one.0, (one.1.0, sym one.1.1.root))
 
 -- the first steps, and the last
 module _ {r s t : Store} (root : StorageRoot) (known : Option Known) (p : Counts r s) (q : Counts s t) (is : IsOneOf known (look_between root r t)) where

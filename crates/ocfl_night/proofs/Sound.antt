@@ -17,15 +17,16 @@ use Rattle.ocfl_state.specs.declared.checkpoint_parts.ReportMark.{ReportMark}
 use Rattle.ocfl_state.specs.declared.checkpoint_parts.RootIdentity.{RootIdentity}
 use Rattle.ocfl_state.specs.declared.checkpoint_parts.TopNames.{TopNames}
 use Rattle.ocfl_state.proofs.CheckpointTexts.{text_determines}
-use Rattle.ocfl_night.specs.Chain.{RootRun, joined, look_of, part_after, Led, LedToEnd, IsPartialReport, IsWholeReport, HasClosed}
+use Rattle.ocfl_night.specs.Chain.{AreNextIn, RootRun, joined, look_of, part_after, Led, LedToEnd, IsPartialReport, IsWholeReport, HasClosed}
 use Rattle.ocfl_night.specs.Looks.{IfGiven, IsOneOf, IsWithin, Look, Rounds}
 use Rattle.ocfl_night.specs.Sound.{closed_text, HasRuns, IsOpen, IsClosing, IsMoved, Stands, IsNew, IsMarked, IsSoundAt, IsAt, IsSettled, IsReady, IsOneMore, IsShut}
 use Rattle.ocfl_night.specs.{Site.{first_checkpoint}, declared.site.Site.{Site}}
 use Rattle.ocfl_identity.specs.declared.identity.Identity.{Identity}
+use Rattle.ocfl_night.specs.Promises.{IsBranchNext}
 use Rattle.ocfl_night.specs.Steps.{begun_anew, closes_whole, left_at, with_left, KeepsFront, MayCheckpoint, IsCheckpointPut, IsMoveDone, MayMoveAt, IsRun, IsNext, unsaid, with_all_told}
 use Rattle.ocfl_night.proofs.Looks.{given_on, given_so, one_of_on}
 use Rattle.ocfl_night.proofs.Moments.{OnlyNow, leaves, left_after, joined_moments, only_same}
-use Rattle.ocfl_night.proofs.Chains.{led_on, led_to_end, leave_on, looked_on, joined_on, same_cycle, ended_cursor, next_cycle_begun, has_at, has_in, has_none, has_on, not_there, last_closed, closed_text_on, take_nothing}
+use Rattle.ocfl_night.proofs.Chains.{next_on, led_on, led_to_end, leave_on, looked_on, joined_on, same_cycle, ended_cursor, next_cycle_begun, has_at, has_in, has_none, has_on, not_there, last_closed, closed_text_on, take_nothing}
 
 -- how long a report is of which a checkpoint has the summary
 pub long : (text : Text) (m : ReportMark) → m ≡ summary_of text → m.bytes ≡ length text
@@ -163,6 +164,7 @@ module _ {rounds : Rounds} {t : Text} {k next : Checkpoint} {look : Look} {ran :
     runs = o.led.runs ++ r ∷ [];
     starts = o.led.starts;
     chain = subst (Leads rounds.part o.led.first (o.led.runs ++ r ∷ []) next.left) is (subst (λ (left : List Left). Leads rounds.part o.led.first (o.led.runs ++ r ∷ []) left last) (sym (ap (λ (x : Checkpoint). x.left) n.rest_is)) chain);
+    next = subst (AreNextIn rounds.known rounds.part) (sym (ap (λ (x : Checkpoint). x.left) n.rest_is)) o.led.next;
     looked = looked_on rounds.known o.led.runs r o.led.looked (one_of_on rounds.known within one);
   }
     where
@@ -303,7 +305,7 @@ cut_open {k = k} {d} {c} is h cut =
 fresh_stands : {rounds : Rounds} {t : Text} {c : Content} (k : Checkpoint) → place_in k.cursor.state ≡ None → (earlier : HasClosed rounds (begun k.cursor).cycle c.closed) → t ≡ closed_text earlier.all → Stands rounds t (begun_anew k) c
 fresh_stands {rounds} {c = c} k starts earlier told_is = inl (record {
   phase = refl;
-  led = record { first = k.cursor; runs = []; starts = starts; chain = refl; looked = tt };
+  led = record { first = k.cursor; runs = []; starts = starts; chain = refl; next = tt; looked = tt };
   text = [];
   report = refl;
   begins = (c.report, refl);
@@ -358,6 +360,7 @@ module _ {rounds : Rounds} {t : Text} {k : Checkpoint} {d : Content} where
     starts = w.led.starts;
     some = λ none. both_ways (sym (ap (λ (b : Bool). b && is_empty k.left) sure ∙ ap (λ (l : List Left). true && is_empty l) none) ∙ incomplete);
     chain = w.led.chain;
+    next = w.led.next;
     looked = w.led.looked;
     cycle = refl;
     report = w.is_whole sure;
@@ -403,12 +406,13 @@ next_stands {rounds} {t} {k} {next} {c} is w =
 -- ---- leaving a branch out
 
 -- the checkpoint that names it
-pub left_stands : {rounds : Rounds} {t : Text} {k next : Checkpoint} {c : Content} (branch : Place) → next ≡ with_left branch k → k.phase ≡ Open → Stands rounds t k c → Stands rounds t next c
-left_stands {rounds} {t} {k} {c = c} branch same is stands =
+pub left_stands : {rounds : Rounds} {t : Text} {k next : Checkpoint} {c : Content} (branch : Place) → next ≡ with_left branch k → k.phase ≡ Open → IsBranchNext rounds k branch → Stands rounds t k c
+    → Stands rounds t next c
+left_stands {rounds} {t} {k} {c = c} branch same is none stands =
     let o = open_of is stands in
     let chain = leave_on rounds.part o.led.first k.cursor o.led.runs k.left (left_at branch k) o.led.chain refl in
     subst (λ (x : Checkpoint). Stands rounds t x c) (sym same)
-    (inl (record { phase = o.phase; led = record { first = o.led.first; runs = o.led.runs; starts = o.led.starts; chain = chain; looked = o.led.looked }; text = o.text; report = o.report; begins = o.begins; is_whole = o.is_whole; lossless = o.lossless; told = o.told; told_is = o.told_is; earlier = o.earlier }))
+    (inl (record { phase = o.phase; led = record { first = o.led.first; runs = o.led.runs; starts = o.led.starts; chain = chain; next = next_on rounds.known rounds.part k.left (left_at branch k) o.led.next none; looked = o.led.looked }; text = o.text; report = o.report; begins = o.begins; is_whole = o.is_whole; lossless = o.lossless; told = o.told; told_is = o.told_is; earlier = o.earlier }))
 
 -- ---- saying
 

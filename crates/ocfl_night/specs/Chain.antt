@@ -1,15 +1,15 @@
 -- Chains of runs: what nights write of one cycle, each run from the cursor that the one before it
 -- answered, also around branches that are left out; and what a closed report is.
-use Rattle.std.specs.Prelude.{◌≡◌, ◌≢◌, ◌⊎◌, ℕ, ◌+◌, List, [], ◌∷◌, ◌++◌, true, false, not, Option, Some, None, filter, flat_map}
+use Rattle.std.specs.Prelude.{◌≡◌, ◌≢◌, ◌⊎◌, ℕ, ◌+◌, List, [], ◌∷◌, ◌++◌, true, false, not, Option, Some, None, filter, flat_map, ⊤}
 use Rattle.std.specs.{List.{AllByRecursion}, Ordering.{is_lt}}
-use Rattle.ocfl_tree.specs.{Place.{Text, Place, place_cmp}, StorageRoot.{StorageRoot}}
+use Rattle.ocfl_tree.specs.{Place.{Text, Place, begins, place_cmp}, Ascending.{IsAmong}, StorageRoot.{StorageRoot}}
 use Rattle.ocfl_report.specs.Line.{Item}
 use Rattle.ocfl_audit.specs.{Audit.{after}, Parts.{Part, within}, Trail.{unread_of}}
 use Rattle.ocfl_cursor.specs.Cursor.{Cursor}
-use Rattle.ocfl_scrub.specs.{Running.{place_in}, Joining.{PartRun, Ran}}
+use Rattle.ocfl_scrub.specs.{Running.{place_in}, Joining.{PartRun, Ran}, Starting.{due_within}}
 use Rattle.ocfl_scrub.specs.declared.running.RunStatus.TheVariants as status
 use Rattle.ocfl_state.specs.{Content.{Closed}, declared.checkpoint_parts.Left.{Left}}
-use Rattle.ocfl_night.specs.Looks.{Known, Look, IfGiven, IsOneOf, MayBeGone, Rounds}
+use Rattle.ocfl_night.specs.Looks.{IsRootOf, Known, Look, IfGiven, IsOneOf, MayBeGone, Rounds}
 
 -- a run, and the storage root as it was then
 pub record RootRun : Type 0 where
@@ -76,6 +76,26 @@ Led part c runs left d = LedBy LeadTo part c runs left d
 abbrev pub LedToEnd : Part → Cursor → List RootRun → List Left → Cursor → Type 0
 LedToEnd part c runs left d = LedBy EndAt part c runs left d
 
+-- no item of a part that is above a place is before a branch
+abbrev pub NoneBefore : StorageRoot → Part → Option Place → Place → Type 0
+NoneBefore root part from branch = (p : Place) → IsAmong (due_within root part from) p → is_lt (place_cmp p branch) ≡ false
+
+-- So between where each of some branches was left out and that branch there was no item: what was
+-- lost with it is its own.
+abbrev pub AreNext : StorageRoot → Part → List Left → Type 0
+AreNext root part [] = ⊤
+AreNext root part (l ∷ left) = NoneBefore root part l.after l.place × AreNext root (past_branch part l) left
+
+-- the same, each over the storage root of one of these looks
+abbrev pub AreNextIn : Option Known → Part → List Left → Type 0
+AreNextIn known part [] = ⊤
+AreNextIn known part (l ∷ left) = ((root : StorageRoot) × (IsRootOf known root × NoneBefore root part l.after l.place)) × AreNextIn known (past_branch part l) left
+
+-- a place is in one of some branches
+abbrev pub IsInBranch : List Left → Place → Type 0
+IsInBranch [] p = ⊥
+IsInBranch (l ∷ left) p = (begins l.place p ≡ true) ⊎ IsInBranch left p
+
 -- items that are not above a place
 abbrev pub up_to : Option Place → List Item → List Item
 up_to None items = []
@@ -109,6 +129,7 @@ pub record IsPartialReport (rounds : Rounds) (d : Closed) : Type 0 where
   pub starts : place_in first.state ≡ None
   pub some : left ≢ []
   pub chain : LedToEnd rounds.part first runs left last
+  pub next : AreNextIn rounds.known rounds.part left
   pub looked : AreLooked rounds.known runs
   pub cycle : d.cycle ≡ last.cycle
   pub report : d.report ≡ joined runs

@@ -48,6 +48,11 @@ abbrev pub IsOneOf : Option Known → Look → Type 0
 IsOneOf None l = ⊤
 IsOneOf (Some known) l = (large : Look) × (IsAmong known.looks large × IsWithin l large)
 
+-- the storage root of one of these looks, if any are known
+abbrev pub IsRootOf : Option Known → StorageRoot → Type 0
+IsRootOf None root = ⊤
+IsRootOf (Some known) root = (l : Look) × (IsAmong known.looks l × (l.root ≡ root))
+
 -- the closed report of a cycle may have been taken away
 abbrev pub MayBeGone : Option Known → ℕ → Type 0
 MayBeGone None cycle = ⊤

@@ -7,7 +7,7 @@ use Rattle.ocfl_audit.specs.{Audit.{Unread, audit}, Parts.{Part, within}}
 use Rattle.ocfl_state.specs.{Content.{Content, Closed, is_closed}, Crash.{Outcomes, Follows, LeavesOnly}}
 use Rattle.ocfl_state.specs.Checkpoint.{Checkpoint}
 use Rattle.ocfl_state.specs.declared.checkpoint_parts.{Left.{Left}, Phase.TheVariants.{Closing}}
-use Rattle.ocfl_night.specs.{Chain.{AreLeft, HasClosed, around}, Looks.{Known, Look, Rounds, WithLook}, Output.{HasTaken, Said}, Sound.{IsAt, IsSoundAt, IsKept, IsHeardSince}}
+use Rattle.ocfl_night.specs.{Chain.{AreNext, AreLeft, HasClosed, around}, Looks.{Known, Look, Rounds, WithLook}, Output.{HasTaken, Said}, Sound.{IsAt, IsSoundAt, IsKept, IsHeardSince}}
 
 -- What a night promises: if each crash before it leaves a sound content, so does each since then, and
 -- more than was told is told only if the output has committed it. That holds whatever looks the runs are
@@ -74,11 +74,12 @@ AreOver root nights = AllByRecursion (λ n. n.look.root ≡ root) nights
 abbrev pub HaveReadAll : {F : Type 0} → List (Night F) → Type 0
 HaveReadAll nights = AllByRecursion (λ n. n.look.unread ≡ []) nights
 
--- a text is the audit of a part but for branches that were left out, at least one: up to where each
--- was, and then what comes after it
+-- A text is the audit of a part but for branches that were left out, at least one: up to where each
+-- was, and then what comes after it. Between the two no item is lost but the branch's
 pub record IsAround (root : StorageRoot) (part : Part) (report : Text) : Type 0 where
   pub left : List Left
   pub some : left ≢ []
+  pub next : AreNext root part left
   pub is : report ≡ text (around part None left (audit root []))
 
 -- of each other one this holds

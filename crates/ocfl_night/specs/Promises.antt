@@ -1,11 +1,13 @@
 -- What the steps of a night promise of a state folder, and when.
-use Rattle.std.specs.Prelude.{◌≡◌, ℕ, [], ◌∷◌, ◌++◌, Bool, IsTrue, false}
-use Rattle.ocfl_tree.specs.{Place.{Text}, StorageRoot.{StorageRoot}, Store.{Store, IfTold}}
+use Rattle.std.specs.Prelude.{◌≡◌, ℕ, [], ◌∷◌, ◌++◌, Bool, IsTrue, Ok, false}
+use Rattle.ocfl_tree.specs.{Place.{Place, Text}, StorageRoot.{StorageRoot}, Store.{Store, IfTold}}
 use Rattle.ocfl_audit.specs.Parts.{Part}
 use Rattle.ocfl_item.specs.Judging.{HasShortFiles}
-use Rattle.ocfl_scrub.specs.declared.kept.KeptWalk.{KeptWalk}
+use Rattle.ocfl_scrub.specs.{Running.{place_in}, declared.kept.KeptWalk.{KeptWalk}}
 use Rattle.ocfl_state.specs.{Checkpoint.{Checkpoint}, Content.{Closed, Content}, Crash.{Outcomes, LeavesOnly}}
-use Rattle.ocfl_night.specs.{Looks.{Rounds}, Sound.{IsAt, IsSoundAt, IsReady}, Steps.{IsLost, IsWalkAt, closes_whole}, declared.plan.NightEnd.{NightEnd}}
+use Rattle.ocfl_night.specs.{Chain.{NoneBefore, part_after}, Ending.{place_or_pause}, Leaving.{branch_at}, Looks.{IsRootOf, Rounds}}
+use Rattle.ocfl_night.specs.{Sound.{IsAt, IsSoundAt, IsReady}, Steps.{IsLost, IsWalkAt, closes_whole}, declared.plan.NightEnd.{NightEnd}}
+use Rattle.ocfl_night.specs.declared.slicing.Made.{Made}
 
 -- ---- when
 
@@ -28,6 +30,17 @@ IfReadyIn seen may_leave rounds k folder Holds = (t : Text) → IsReady seen may
 -- the same of any rounds
 abbrev pub IfReady : {F : Type 0} → (F → Content) → (F → Outcomes) → Checkpoint → F → (Rounds → Text → Type 0) → Type 0
 IfReady seen may_leave k folder Holds = (rounds : Rounds) → IfReadyIn seen may_leave rounds k folder (Holds rounds)
+
+-- over a storage root of the looks, no item that is left at a checkpoint is before a branch
+abbrev pub IsBranchNext : Rounds → Checkpoint → Place → Type 0
+IsBranchNext rounds k branch = (root : StorageRoot) × (IsRootOf rounds.known root × NoneBefore root (part_after rounds.part k.left) (place_in k.cursor.state) branch)
+
+-- so it is of the place at which a slice stopped, if it did
+abbrev pub StopsNext : Rounds → Made → Type 0
+StopsNext rounds made = (p : Place) → place_or_pause made.end ≡ Ok p → IsBranchNext rounds made.checkpoint (branch_at p)
+
+abbrev pub StopsNextOver : StorageRoot → Part → Made → Type 0
+StopsNextOver root part made = (p : Place) → place_or_pause made.end ≡ Ok p → NoneBefore root (part_after part made.checkpoint.left) (place_in made.checkpoint.cursor.state) (branch_at p)
 
 -- if this checkpoint is there
 abbrev pub IfThere : Content → (Checkpoint → Type 0) → Type 0

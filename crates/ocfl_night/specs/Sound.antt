@@ -8,7 +8,7 @@ use Rattle.ocfl_scrub.specs.Running.{place_in, begun}
 use Rattle.ocfl_state.specs.{Checkpoint.{Checkpoint, IsCheckpointText}, Content.{Content, Closed, is_closed}}
 use Rattle.ocfl_state.specs.{Crash.{Outcomes, Begins, Only}, Pieces.{summary_of}}
 use Rattle.ocfl_state.specs.declared.checkpoint_parts.{Left.{Left}, Phase.TheVariants.{Open, Closing}}
-use Rattle.ocfl_night.specs.{Looks.{IfGiven, Rounds}, Output.{HasTaken, Said}, Chain.{RootRun, joined, AreLooked, Led, LedToEnd, HasClosed}}
+use Rattle.ocfl_night.specs.{Looks.{IfGiven, Rounds}, Output.{HasTaken, Said}, Chain.{AreNextIn, RootRun, joined, AreLooked, Led, LedToEnd, HasClosed}}
 
 -- the closed reports, joined
 abbrev pub closed_text : List Closed → Text
@@ -20,6 +20,7 @@ pub record HasRuns (Leads : Part → Cursor → List RootRun → List Left → C
   pub runs : List RootRun
   pub starts : place_in first.state ≡ None
   pub chain : Leads rounds.part first runs left last
+  pub next : AreNextIn rounds.known rounds.part left
   pub looked : AreLooked rounds.known runs
 
 -- The cycle goes on: its runs lead to the checkpoint's cursor. The report begins with the text of

@@ -1,13 +1,14 @@
 //! The laws of nights.
-ghost use Rattle.std.specs.{Prelude.{◌≡◌, [], Bool, IsTrue, List, Some, map, true}, List.{AllByRecursion}};
+ghost use Rattle.std.specs.{Prelude.{◌≡◌, ◌⊎◌, [], Bool, Option, IsTrue, List, Some, map, true}, List.{AllByRecursion}};
+ghost use Rattle.ocfl_tree.specs.{Ascending.{IsAmong}, Name.{IsPlace}, Place.{Place}};
 ghost use Rattle.ocfl_tree.specs.{StorageRoot.{StorageRoot}, Store.{Store}};
 ghost use Rattle.ocfl_item.specs.Judging.{HasShortFiles};
-ghost use Rattle.ocfl_report.specs.Text.{text};
-ghost use Rattle.ocfl_audit.specs.{Audit.{audit}, Parts.{Part, within}, Trail.{unread_of}};
+ghost use Rattle.ocfl_report.specs.{Line.{Item}, Text.{text}};
+ghost use Rattle.ocfl_audit.specs.{Audit.{after, audit}, Parts.{Part, within}, Trail.{unread_of}};
 ghost use Rattle.ocfl_cursor.specs.Cursor.{Cursor};
 ghost use Rattle.ocfl_scrub.specs.{Joining.{unread_together}, Running.{place_in}};
 ghost use Rattle.ocfl_state.specs.{Content.{Closed, Content, empty}, declared.checkpoint_parts.Left.{Left}};
-ghost use Rattle.ocfl_night.specs.Chain.{IsWholeReport, LedToEnd, RootRun, around, joined};
+ghost use Rattle.ocfl_night.specs.Chain.{AreNext, IsInBranch, IsWholeReport, LedToEnd, RootRun, around, joined};
 ghost use Rattle.ocfl_night.specs.{Clock.{BeginsInTime, Event}, Runs.{IsNight}};
 ghost use Rattle.ocfl_night.specs.declared.plan.{NightEnd.{NightEnd as ModelEnd}, Plan.{Plan as ModelPlan}};
 ghost use Rattle.ocfl_night.specs.{Looks.{Counts, Rounds, look_between, of_any}};
@@ -138,11 +139,16 @@ pub fn two_nights<S: StateFolder, T: Tree, C: Clock, O: Output>(
 
 /// The report of a cycle that left branches out is exactly the audit of the part up to where the
 /// first was left out, then what comes after that branch up to where the next was, and so on. All
-/// runs were over one storage root, and could read each content file that they opened.
+/// runs were over one storage root, and could read each content file that they opened. Each item of
+/// the part is in that, or in a branch that was left out.
 pub fn what_is_left_out_is_missing_alone()
-    ensures { (root : StorageRoot) (part : Part) (first last : Cursor) (runs : List RootRun)
+    ensures wrote { (root : StorageRoot) (part : Part) (first last : Cursor) (runs : List RootRun)
         (left : List Left) → LedToEnd part first runs left last
         → AllByRecursion (λ r. r.root ≡ root) runs
         → AllByRecursion (λ r. unread_of root r.run.opened ≡ []) runs
         → joined runs ≡ text (around part (place_in first.state) left (audit root [])) }
+    ensures missing { (root : StorageRoot) (part : Part) (from : Option Place) (left : List Left)
+        → AreNext root part left → (i : Item) → IsPlace i.place
+        → IsAmong (after (within part (audit root [])) from) i
+        → IsAmong (around part from left (audit root [])) i ⊎ IsInBranch left i.place }
 {}

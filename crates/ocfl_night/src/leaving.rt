@@ -7,7 +7,8 @@ ghost use Rattle.ocfl_scrub.specs.{Running.{place_in}, Starting.{part_of}};
 ghost use Rattle.ocfl_state.specs.declared.checkpoint_parts.Phase.TheVariants.{Open};
 ghost use Rattle.ocfl_night.specs.Chain.{from_after, part_after};
 ghost use Rattle.ocfl_night.specs.Leaving.{branch_at, end_of, is_of_inventory, last_name, speaks_for_object};
-ghost use Rattle.ocfl_night.specs.{Promises.{IfReady, IsSafe, SameClosed}, Sound.{IsReady}, Steps.{with_left}};
+ghost use Rattle.ocfl_night.specs.Promises.{IfReadyIn, IsBranchNext, IsSafeIn, SameClosed};
+ghost use Rattle.ocfl_night.specs.{Looks.{Rounds}, Sound.{IsReady}, Steps.{with_left}};
 ghost use Rattle.ocfl_night.specs.Stopping.{IsPastStop, IsPutStop};
 
 use crate::checkpoint::put_checkpoint;
@@ -162,7 +163,8 @@ fn with_left(mut checkpoint: Checkpoint, branch: Place) -> Result<Checkpoint, Al
     Ok(checkpoint)
 }
 
-/// Leaves out a branch where the cursor is, and puts the checkpoint that names it.
+/// Leaves out a branch where the cursor is, and puts the checkpoint that names it. No item that is
+/// left may be before the branch, or it would be lost with it unnamed.
 pub fn leave_out<S: StateFolder>(
     alloc: Global,
     folder: &mut S,
@@ -171,10 +173,12 @@ pub fn leave_out<S: StateFolder>(
 ) -> Result<Checkpoint, Stop>
     requires { checkpoint.phase ≡ Open }
     ensures named { IfOk result (λ next. next ≡ with_left branch checkpoint) }
-    ensures any_moment { IsTrue S.told → IsSafe S.seen S.may_leave S.moment S.left_since
-        checkpoint folder.old folder.new }
-    ensures ready { IsTrue S.told → IfReady S.seen S.may_leave checkpoint folder.old
-        (λ rounds t. IfOk result (λ next. IsReady S.seen S.may_leave rounds t next folder.new)) }
+    ensures any_moment { IsTrue S.told → (rounds : Rounds) → IsBranchNext rounds checkpoint branch
+        → IsSafeIn S.seen S.may_leave S.moment S.left_since rounds checkpoint
+        folder.old folder.new }
+    ensures ready { IsTrue S.told → (rounds : Rounds) → IsBranchNext rounds checkpoint branch
+        → IfReadyIn S.seen S.may_leave rounds checkpoint folder.old
+        (λ t. IfOk result (λ next. IsReady S.seen S.may_leave rounds t next folder.new)) }
     ensures closed { IsTrue S.told → OnOk result (SameClosed S.seen folder.old folder.new) }
     ensures stop { IfErr result (IsPutStop checkpoint) }
 {

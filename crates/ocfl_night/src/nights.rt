@@ -5,9 +5,9 @@ ghost use Rattle.ocfl_tree.specs.StorageRoot.{StorageRoot};
 ghost use Rattle.ocfl_scrub.specs.Starting.{part_of};
 ghost use Rattle.ocfl_state.specs.{Content.{Closed}, Crash.{LeavesOnly}};
 ghost use Rattle.ocfl_state.specs.declared.checkpoint_parts.Phase.TheVariants.{Open};
-ghost use Rattle.ocfl_night.specs.Leaving.{LeadsOn, MayHaveLeftAt, StillMayLeave, done_by, has_end, remedy_at, with_remedy};
+ghost use Rattle.ocfl_night.specs.Leaving.{LeadsOn, MayHaveLeftAt, StillMayLeave, branch_at, done_by, has_end, remedy_at, with_remedy};
 ghost use Rattle.ocfl_night.specs.{Looks.{Counts, Rounds, WithLook, look_between, of_any}, Output.{Grows}};
-ghost use Rattle.ocfl_night.specs.Promises.{HasCome, HasLost, IfLost, IfReady, IfReadyIn, IsSafe, IsSafeIn, IsAllThere, IsUncut, OnShort, OverShort, SameClosed};
+ghost use Rattle.ocfl_night.specs.Promises.{HasCome, HasLost, IfLost, IfReadyIn, IsBranchNext, IsSafeIn, IsAllThere, IsUncut, OnShort, OverShort, SameClosed, StopsNext};
 ghost use Rattle.ocfl_night.specs.Older.{IfOlder};
 ghost use Rattle.ocfl_night.specs.declared.refusal.Refusal.TheVariants.{Older};
 ghost use Rattle.ocfl_night.specs.Refusing.{IfForeign, IfRefused, IsBarred, IsFolderRefused, IsRefused, IsTurnedAway, OnRefused};
@@ -149,10 +149,14 @@ fn pass_by<S: StateFolder>(
     plan: &Plan,
     tally: &mut Tally,
 ) -> Result<(Checkpoint, Option<Pause>), Stop>
-    ensures any_moment { IsTrue S.told → IsSafe S.seen S.may_leave S.moment S.left_since
-        checkpoint folder.old folder.new }
-    ensures ready { IsTrue S.told → IfReady S.seen S.may_leave checkpoint folder.old
-        (λ rounds t. IfOk result (λ next. IsReady S.seen S.may_leave rounds t next.0 folder.new)) }
+    ensures any_moment { IsTrue S.told → (rounds : Rounds)
+        → IsBranchNext rounds checkpoint (branch_at place)
+        → IsSafeIn S.seen S.may_leave S.moment S.left_since rounds checkpoint
+        folder.old folder.new }
+    ensures ready { IsTrue S.told → (rounds : Rounds)
+        → IsBranchNext rounds checkpoint (branch_at place)
+        → IfReadyIn S.seen S.may_leave rounds checkpoint folder.old
+        (λ t. IfOk result (λ next. IsReady S.seen S.may_leave rounds t next.0 folder.new)) }
     ensures closed { IsTrue S.told → OnOk result (SameClosed S.seen folder.old folder.new) }
     ensures runs { tally.new.runs ≡ tally.old.runs }
 
@@ -189,10 +193,12 @@ fn go_on_after<S: StateFolder>(
     plan: &Plan,
     tally: &mut Tally,
 ) -> Result<(Checkpoint, Option<Pause>), Stop>
-    ensures any_moment { IsTrue S.told → IsSafe S.seen S.may_leave S.moment S.left_since
-        made.checkpoint folder.old folder.new }
-    ensures ready { IsTrue S.told → IfReady S.seen S.may_leave made.checkpoint folder.old
-        (λ rounds t. IfOk result (λ next. IsReady S.seen S.may_leave rounds t next.0 folder.new)) }
+    ensures any_moment { IsTrue S.told → (rounds : Rounds) → StopsNext rounds made
+        → IsSafeIn S.seen S.may_leave S.moment S.left_since rounds made.checkpoint
+        folder.old folder.new }
+    ensures ready { IsTrue S.told → (rounds : Rounds) → StopsNext rounds made
+        → IfReadyIn S.seen S.may_leave rounds made.checkpoint folder.old
+        (λ t. IfOk result (λ next. IsReady S.seen S.may_leave rounds t next.0 folder.new)) }
     ensures closed { IsTrue S.told → OnOk result (SameClosed S.seen folder.old folder.new) }
     ensures runs { tally.new.runs ≡ tally.old.runs }
     ensures walk { (part : ModelPart) (root : StorageRoot)

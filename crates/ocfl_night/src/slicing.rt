@@ -13,7 +13,7 @@ ghost use Rattle.ocfl_state.specs.declared.checkpoint_parts.Phase.TheVariants.{C
 ghost use Rattle.ocfl_night.specs.Chain.{part_after};
 ghost use Rattle.ocfl_night.specs.Looks.{Counts, IsOneOf, Look, Rounds, WithLook, look_between};
 ghost use Rattle.ocfl_night.specs.Ending.{IsAway, IsMadeBy, IsSlice, IsUnkept, KeepsTo, lost_by, slice_end};
-ghost use Rattle.ocfl_night.specs.Promises.{IfReadyIn, IfWalkAt, IsSafeIn, SameClosed};
+ghost use Rattle.ocfl_night.specs.Promises.{IfReadyIn, IfWalkAt, IsSafeIn, SameClosed, StopsNextOver};
 ghost use Rattle.ocfl_night.specs.{Site.{IsStill}, Sound.{IsReady, IsSoundAt}};
 ghost use Rattle.ocfl_night.specs.Steps.{IsNext, IsRun, IsWalkAt};
 ghost use Rattle.ocfl_night.specs.Stopping.{IsFolderStop, IsRunStop, IsSliceStop};
@@ -278,6 +278,10 @@ pub fn slice<S: StateFolder, T: Tree>(
     // The next slice may go on with the walk that is kept.
     ensures walk { IfWalkAt T.told (T.state tree.old) (part_of part.now) checkpoint kept.old
         (λ root. IfOk result (λ made. IsWalkAt root (part_of part.now) made.checkpoint kept.new)) }
+
+    // If it stopped at a place, no item that is left is before the branch of that place.
+    ensures stops { IfWalkAt T.told (T.state tree.old) (part_of part.now) checkpoint kept.old
+        (λ root. IfOk result (StopsNextOver root (part_of part.now))) }
 
     // What it counts is what a run within the limits did, or nothing is kept of it.
     ensures slice { IfOk result (IsSlice checkpoint limits) }

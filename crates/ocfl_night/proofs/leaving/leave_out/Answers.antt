@@ -5,20 +5,20 @@ use Rattle.ocfl_night.proofs.Sound.{left_stands, put_moments, put_on, ready_soun
 use Rattle.ocfl_night.proofs.leaving.leave_out.Goals as goal
 
 pub returns-in_err-next-clause-any_moment : goal.returns-in_err-next-clause-any_moment
-returns-in_err-next-clause-any_moment g c = λ told rounds t r. unmoved (g.met.S.StateFolder.only_now told) (ready_sound r)
+returns-in_err-next-clause-any_moment g c = λ told rounds none t r. unmoved (g.met.S.StateFolder.only_now told) (ready_sound r)
 
 pub returns-in_err-put_checkpoint-clause-any_moment : goal.returns-in_err-put_checkpoint-clause-any_moment
-returns-in_err-put_checkpoint-clause-any_moment g c = λ told rounds t r.
-    put_moments (g.met.S.StateFolder.only_now told) r (left_stands _ c.in_ok-next.ensures c.requires r.stands) (c.put_checkpoint.ensures.crash told)
+returns-in_err-put_checkpoint-clause-any_moment g c = λ told rounds none t r.
+    put_moments (g.met.S.StateFolder.only_now told) r (left_stands _ c.in_ok-next.ensures c.requires none r.stands) (c.put_checkpoint.ensures.crash told)
 
 pub returns-clause-any_moment : goal.returns-clause-any_moment
-returns-clause-any_moment g c = λ told rounds t r.
-    put_moments (g.met.S.StateFolder.only_now told) r (left_stands _ c.in_ok-next.ensures c.requires r.stands) (c.put_checkpoint.ensures.crash told)
+returns-clause-any_moment g c = λ told rounds none t r.
+    put_moments (g.met.S.StateFolder.only_now told) r (left_stands _ c.in_ok-next.ensures c.requires none r.stands) (c.put_checkpoint.ensures.crash told)
 
 pub returns-clause-ready : goal.returns-clause-ready
-returns-clause-ready g c = λ told rounds t r.
+returns-clause-ready g c = λ told rounds none t r.
     let is = c.in_ok-next.ensures in
-    put_on r (left_stands _ is c.requires r.stands) (c.in_ok-put_checkpoint.ensures.put told) (ap (λ (x : Checkpoint). x.report.bytes) is) (ap (λ (x : Checkpoint). x.phase) is) (c.in_ok-put_checkpoint.ensures.durable told r.only)
+    put_on r (left_stands _ is c.requires none r.stands) (c.in_ok-put_checkpoint.ensures.put told) (ap (λ (x : Checkpoint). x.report.bytes) is) (ap (λ (x : Checkpoint). x.phase) is) (c.in_ok-put_checkpoint.ensures.durable told r.only)
 
 pub returns-clause-closed : goal.returns-clause-closed
 returns-clause-closed g c = λ told. ap (λ (x : Content). x.closed) (c.in_ok-put_checkpoint.ensures.put told).put

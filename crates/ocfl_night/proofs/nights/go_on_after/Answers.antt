@@ -4,9 +4,15 @@ use Rattle.ocfl_night.proofs.{Moments.{unmoved}, Runs.{left_by_place}, Sound.{re
 use Rattle.ocfl_night.proofs.nights.go_on_after.Goals as goal
 
 pub returns-in-Err-clause-any_moment : goal.returns-in-Err-clause-any_moment
-returns-in-Err-clause-any_moment g c = λ told rounds t r. unmoved (g.met.S.StateFolder.only_now told) (ready_sound r)
+returns-in-Err-clause-any_moment g c = λ told rounds next t r. unmoved (g.met.S.StateFolder.only_now told) (ready_sound r)
 
 pub returns-in-Ok-clause-broken : goal.returns-in-Ok-clause-broken
 returns-in-Ok-clause-broken g c =
     let d = done_of c.args.tally.now in
     on_err_weaker c.pass_by.result (left_by_place c.args.plan.now.stop_at_faults d (done_of c.pass_by.new.tally) c.args.made (sym c.place_or_pause.ensures ∙ c.in-Ok.is)) c.pass_by.ensures.broken
+
+pub returns-in-Ok-clause-any_moment : goal.returns-in-Ok-clause-any_moment
+returns-in-Ok-clause-any_moment g c = λ told rounds next t r. c.pass_by.ensures.any_moment told rounds (next c.in-Ok.place (sym c.place_or_pause.ensures ∙ c.in-Ok.is)) t r
+
+pub returns-in-Ok-clause-ready : goal.returns-in-Ok-clause-ready
+returns-in-Ok-clause-ready g c = λ told rounds next t r. c.pass_by.ensures.ready told rounds (next c.in-Ok.place (sym c.place_or_pause.ensures ∙ c.in-Ok.is)) t r

@@ -1,22 +1,22 @@
-use Rattle.std.proofs.Common.{◌∙◌, ◌++◌, ap, inl, inr, sym}
-use Rattle.ocfl_night.specs.{Done.{Done, done_of}, Leaving.{done_by, left_by}, declared.tally.Remedy.{Remedy}}
-use Rattle.ocfl_night.proofs.{Heard.{on_err}, Moments.{unmoved}, Sound.{ready_sound}}
+use Rattle.std.proofs.Common.{◌∙◌, ◌++◌, ap, inl, inr, subst, sym}
+use Rattle.ocfl_night.specs.{Done.{Done, done_of}, Leaving.{done_by, left_by}, Promises.{IsBranchNext}, declared.tally.Remedy.{Remedy}}
+use Rattle.ocfl_night.proofs.{Branches.{left_branch}, Heard.{on_err}, Moments.{unmoved}, Sound.{ready_sound}}
 use Rattle.ocfl_night.proofs.nights.pass_by.Goals as goal
 
 pub returns-then-ne-clause-any_moment : goal.returns-then-ne-clause-any_moment
-returns-then-ne-clause-any_moment g c = λ told rounds t r. unmoved (g.met.S.StateFolder.only_now told) (ready_sound r)
+returns-then-ne-clause-any_moment g c = λ told rounds next t r. unmoved (g.met.S.StateFolder.only_now told) (ready_sound r)
 
 pub returns-in_err-remedy-clause-any_moment : goal.returns-in_err-remedy-clause-any_moment
-returns-in_err-remedy-clause-any_moment g c = λ told rounds t r. unmoved (g.met.S.StateFolder.only_now told) (ready_sound r)
+returns-in_err-remedy-clause-any_moment g c = λ told rounds next t r. unmoved (g.met.S.StateFolder.only_now told) (ready_sound r)
 
 pub returns-in-TryAgain-clause-any_moment : goal.returns-in-TryAgain-clause-any_moment
-returns-in-TryAgain-clause-any_moment g c = λ told rounds t r. unmoved (g.met.S.StateFolder.only_now told) (ready_sound r)
+returns-in-TryAgain-clause-any_moment g c = λ told rounds next t r. unmoved (g.met.S.StateFolder.only_now told) (ready_sound r)
 
 pub returns-in-TryAgain-clause-done : goal.returns-in-TryAgain-clause-done
 returns-in-TryAgain-clause-done g c = λ there. ap (done_by c.args.checkpoint c.args.place) (sym c.in-TryAgain.is ∙ c.in_ok-remedy.ensures.is)
 
 pub returns-in-Halt-clause-any_moment : goal.returns-in-Halt-clause-any_moment
-returns-in-Halt-clause-any_moment g c = λ told rounds t r. unmoved (g.met.S.StateFolder.only_now told) (ready_sound r)
+returns-in-Halt-clause-any_moment g c = λ told rounds next t r. unmoved (g.met.S.StateFolder.only_now told) (ready_sound r)
 
 pub returns-in-Halt-clause-done : goal.returns-in-Halt-clause-done
 returns-in-Halt-clause-done g c = λ there. ap (done_by c.args.checkpoint c.args.place) (sym c.in-Halt.is ∙ c.in_ok-remedy.ensures.is)
@@ -27,3 +27,18 @@ returns-in_err-remedy-clause-broken g c = on_err c.from_residual.result (inl c.i
 pub returns-in_err-next-in-LeaveOut-clause-broken : goal.returns-in_err-next-in-LeaveOut-clause-broken
 returns-in_err-next-in-LeaveOut-clause-broken g c =
     on_err c.from_residual-in_err-next-in-LeaveOut.result (inr (ap (λ (d : Done). d.left) c.in_ok-remedy.ensures.done ∙ ap (λ (r : Remedy). (done_of c.args.tally.now).left ++ left_by r) c.in_ok-remedy.ensures.is))
+
+pub returns-in_err-next-in-LeaveOut-clause-any_moment : goal.returns-in_err-next-in-LeaveOut-clause-any_moment
+returns-in_err-next-in-LeaveOut-clause-any_moment g c = λ told rounds next t r.
+    let here = left_branch c.args.plan.now.stop_at_faults (done_of c.args.tally.now) c.args.place c.in-LeaveOut.branch (sym c.in_ok-remedy.ensures.is ∙ c.in-LeaveOut.is) in
+    c.leave_out.ensures.any_moment told rounds (subst (IsBranchNext rounds c.args.checkpoint) here next) t r
+
+pub returns-in_ok-next-in-LeaveOut-clause-any_moment : goal.returns-in_ok-next-in-LeaveOut-clause-any_moment
+returns-in_ok-next-in-LeaveOut-clause-any_moment g c = λ told rounds next t r.
+    let here = left_branch c.args.plan.now.stop_at_faults (done_of c.args.tally.now) c.args.place c.in-LeaveOut.branch (sym c.in_ok-remedy.ensures.is ∙ c.in-LeaveOut.is) in
+    c.leave_out.ensures.any_moment told rounds (subst (IsBranchNext rounds c.args.checkpoint) here next) t r
+
+pub returns-in_ok-next-in-LeaveOut-clause-ready : goal.returns-in_ok-next-in-LeaveOut-clause-ready
+returns-in_ok-next-in-LeaveOut-clause-ready g c = λ told rounds next t r.
+    let here = left_branch c.args.plan.now.stop_at_faults (done_of c.args.tally.now) c.args.place c.in-LeaveOut.branch (sym c.in_ok-remedy.ensures.is ∙ c.in-LeaveOut.is) in
+    c.in_ok-next-in-LeaveOut.ensures.ready told rounds (subst (IsBranchNext rounds c.args.checkpoint) here next) t r

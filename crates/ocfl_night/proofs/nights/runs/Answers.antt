@@ -9,9 +9,9 @@ use Rattle.ocfl_state.specs.declared.checkpoint_parts.Phase.TheVariants.{Open}
 use Rattle.ocfl_night.specs.Runs.{Run, IsRunOf, MayBeginAt, MayHaveLeft, StopsOpen, after_it, after_made, events_of, in_it, turn_of}
 use Rattle.ocfl_night.specs.declared.plan.Pause.{Pause}
 use Rattle.ocfl_night.specs.Looks.{Counts, IsOneOf, Known, look_between}
-use Rattle.ocfl_night.specs.{Promises.{IsSafeIn}, Sound.{IsReady}}
+use Rattle.ocfl_night.specs.{Promises.{IsSafeIn, StopsNext}, Sound.{IsReady}}
 use Rattle.ocfl_night.proofs.{Beginnings.{next_in}, KeptWalks.{walk_none}, Runs.{and_then, failed_so, led_by, none_yet, paused, paused_before, run_more}}
-use Rattle.ocfl_night.proofs.Looks.{counts_none, counts_on, first_of, last_of}
+use Rattle.ocfl_night.proofs.Looks.{counts_none, counts_on, first_of, last_of, root_of}
 use Rattle.ocfl_night.proofs.{Moments.{joined_moments, unmoved}, Sound.{ready_sound}}
 use Rattle.ocfl_state.specs.Checkpoint.{Checkpoint}
 use Rattle.ocfl_night.proofs.Whole.{grown_on, none_grown, run_grown}
@@ -41,13 +41,18 @@ module _ (g : given.Over) (c : After-go_on_after g) (tells : IsTrue g.T.Tree.tol
         let inv = c.loop-run.invariant in
         c.in_ok-made.ensures.ready told tells root (inv.root tells root over short) short (inv.walk tells root over short) known one_in t (inv.ready told tells root over short known one_before t r)
 
+    stops_next : StopsNext (record { part = part_of c.args.part.now; known = known }) c.in_ok-made.made
+    stops_next p is =
+        let inv = c.loop-run.invariant in
+        (root, (root_of known _ one_in, c.in_ok-made.ensures.stops tells root (inv.root tells root over short) short (inv.walk tells root over short) p is))
+
     -- after it, and what is done after it
     moments : IsTrue g.S.StateFolder.told → IsSafeIn g.S.StateFolder.seen g.S.StateFolder.may_leave g.S.StateFolder.moment g.S.StateFolder.left_since (record { part = part_of c.args.part.now; known = known }) c.args.start c.args.folder.now c.go_on_after.new.folder
     moments told t r =
         let inv = c.loop-run.invariant in
         joined_moments
         (joined_moments (inv.any_moment told tells root over short known one_before t r) (c.slice.ensures.any_moment told tells root (inv.root tells root over short) short (inv.walk tells root over short) known one_in t (inv.ready told tells root over short known one_before t r)))
-        (c.go_on_after.ensures.any_moment told (record { part = part_of c.args.part.now; known = known }) t (made_ready told t r))
+        (c.go_on_after.ensures.any_moment told (record { part = part_of c.args.part.now; known = known }) stops_next t (made_ready told t r))
 
 -- a run that was made, and what the clock heard of it
 module _ (g : given.Over) (c : After-go_on_after g) (told : IsTrue g.C.Clock.told) where
@@ -138,7 +143,8 @@ returns-in-Some-clause-root g c = λ tells root over short.
 
 pub returns-in-Some-clause-ready : goal.returns-in-Some-clause-ready
 returns-in-Some-clause-ready g c = λ told tells root over short known one t r.
-    c.in_ok-next.ensures.ready told (record { part = part_of c.args.part.now; known = known }) t (made_ready g (goal.at.returns-in-Some-clause-ready g c).After-go_on_after tells root over short known one told t r)
+    let at = (goal.at.returns-in-Some-clause-ready g c).After-go_on_after in
+    c.in_ok-next.ensures.ready told (record { part = part_of c.args.part.now; known = known }) (stops_next g at tells root over short known one) t (made_ready g at tells root over short known one told t r)
 
 pub returns-in-Some-clause-closed : goal.returns-in-Some-clause-closed
 returns-in-Some-clause-closed g c = λ told. c.in_ok-next.ensures.closed told ∙ c.in_ok-made.ensures.closed told ∙ c.loop-run.invariant.closed told
@@ -153,7 +159,7 @@ loop-run-preserved g c =
     let at = (goal.at.loop-run-preserved g c).After-go_on_after in
     record {
       any_moment = λ told tells root over short known one. moments g at tells root over short known one told;
-      ready = λ told tells root over short known one t r. c.in_ok-next.ensures.ready told (record { part = part_of c.args.part.now; known = known }) t (made_ready g at tells root over short known one told t r);
+      ready = λ told tells root over short known one t r. c.in_ok-next.ensures.ready told (record { part = part_of c.args.part.now; known = known }) (stops_next g at tells root over short known one) t (made_ready g at tells root over short known one told t r);
       counts = counts_then g at;
       closed = λ told. c.in_ok-next.ensures.closed told ∙ c.in_ok-made.ensures.closed told ∙ inv.closed told;
       leads = grown_on inv.leads (turned g at (search rules) c.in_ok-next.ensures.turn);

@@ -1,10 +1,10 @@
-use Rattle.std.proofs.Common.{◌≡◌, ◌∙◌, ap, sym}
+use Rattle.std.proofs.Common.{◌≡◌, ◌∙◌, ap, refl, sym}
 use Rattle.ocfl_tree.specs.StorageRoot.{StorageRoot}
 use Rattle.ocfl_scrub.specs.{Keeping.{IsReady}, Running.{place_in}, Starting.{part_of}}
 use Rattle.ocfl_state.specs.Checkpoint.{Checkpoint}
-use Rattle.ocfl_night.specs.{Chain.{part_after}, Steps.{IsWalkAt}}
+use Rattle.ocfl_night.specs.{Chain.{part_after}, Looks.{look_between}, Steps.{IsWalkAt}}
 use Rattle.ocfl_night.proofs.{Extending.{run_at}, KeptWalks.{walk_from, walk_made}}
-use Rattle.ocfl_night.proofs.{Moments.{unmoved}, Sound.{ready_sound}}
+use Rattle.ocfl_night.proofs.{Moments.{unmoved}, Sound.{ready_sound}, Stopped.{made_stops, unkept_stops}}
 use Rattle.ocfl_night.proofs.slicing.slice.Given as given
 use Rattle.ocfl_night.proofs.slicing.slice.Goals.{In_ok-rest}
 use Rattle.ocfl_night.proofs.slicing.slice.Goals as goal
@@ -53,3 +53,12 @@ pub returns-clause-walk : goal.returns-clause-walk
 returns-clause-walk g c = λ tells root over short walk.
     let at = (goal.at.returns-clause-walk g c).In_ok-rest in
     walk_made root (part_of c.args.part.now) c.args.checkpoint c.in-Ok.made.0 c.keep.result c.keep.ensures.next c.make_run.new.kept (part_of c.in_ok-rest.rest) (rest_is g at) (c.in-Ok.ensures.walk tells root over short (goes_on g at root walk))
+
+pub returns-in-Err-clause-stops : goal.returns-in-Err-clause-stops
+returns-in-Err-clause-stops g c = λ tells root over short walk. unkept_stops root (part_of c.args.part.now) c.args.checkpoint c.unkept.result c.unkept.ensures.unkept
+
+pub returns-clause-stops : goal.returns-clause-stops
+returns-clause-stops g c = λ tells root over short walk.
+    let at = (goal.at.returns-clause-stops g c).In_ok-rest in
+    let made = c.in-Ok.ensures.run tells root over short (goes_on g at root walk) in
+    made_stops root (part_of c.args.part.now) c.args.checkpoint (look_between root (g.T.Tree.state c.args.tree.now) (g.T.Tree.state c.make_run.new.tree)) c.in-Ok.made.0 _ refl (run_at (rest_is g at) c.in_ok-cursor.ensures refl made) c.keep.result c.keep.ensures.next c.keep.ensures.made

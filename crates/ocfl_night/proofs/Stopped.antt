@@ -1,0 +1,192 @@
+-- Where a run stopped: no item that is left is before the branch of that place.
+use Rattle.std.proofs.Common.{◌≡◌, ◌++◌, ◌∷◌, ◌∙◌, ◌-◌, [], List, Option, Some, None, Bool, true, false, inl, ap, refl, subst, sym, arith, append-nil, take, drop, length, length-append}
+use Rattle.std.proofs.lemmas.{Bool.{or_right}, List.{take_all, take-append-drop, take-append-le}}
+use Rattle.std.specs.{Prelude.{◌||◌, IfOk, Result, Err, Ok, not, if◌then◌else◌}, Ordering.{is_lt}}
+use Rattle.ocfl_tree.specs.{Place.{Place, Text, place_cmp, text_eq}, Ascending.{IsAmong}}
+use Rattle.ocfl_tree.specs.{StorageRoot.{StorageRoot}, Store.{Store}}
+use Rattle.ocfl_tree.specs.{Calls.{opening}, declared.store.Opening.{Opening}}
+use Rattle.ocfl_tree.proofs.Orders.{among_filter, among_from_filter, among_map, among_right, true_not_false}
+use Rattle.ocfl_digest.specs.declared.algorithm.Algorithm.TheVariants.{Sha256, Sha512}
+use Rattle.ocfl_inventory.specs.Declaration.{is_declaration}
+use Rattle.ocfl_inventory.specs.declared.declaration.Level.TheVariants.{Object}
+use Rattle.ocfl_audit.specs.{Due.{hashed_among}, Head.{sidecar_name}, Parts.{Part}}
+use Rattle.ocfl_audit.specs.Lines.{is_hashed, is_inventory_or_sidecar}
+use Rattle.ocfl_audit.specs.Trail.{content_openings, is_meta, is_meta_zone, is_object_meta, is_root_meta}
+use Rattle.ocfl_audit.specs.Zone.{Zone, skipped, hierarchy, inside, inventory_name, zone}
+use Rattle.ocfl_audit.proofs.{AuditExists.{zone_is}, BelowLaws.{cmp_behind, text_from_test}, BranchLaws.{nothing_above}}
+use Rattle.ocfl_item.specs.{Auditing.{Fails, FailedAt, in_listing, in_opening}}
+use Rattle.ocfl_item.specs.declared.fault.Fault.TheVariants as fault
+use Rattle.ocfl_cursor.specs.Cursor.{Cursor}
+use Rattle.ocfl_scrub.specs.Joining.{PartRun, Ran}
+use Rattle.ocfl_scrub.specs.Running.{RunEndsWithin, RunStopsWithin, place_in, state_after}
+use Rattle.ocfl_scrub.specs.{Call.{known_call}, Starting.{due_within}, declared.stop.ReportStop.{ReportStop}}
+use Rattle.ocfl_scrub.specs.declared.running.RunStatus.{RunStatus}
+use Rattle.ocfl_scrub.specs.declared.running.RunStatus.TheVariants as status
+use Rattle.ocfl_scrub.specs.declared.stop.ReportStop.TheVariants as report
+use Rattle.ocfl_scrub.proofs.PassLaws.{not_less_or}
+use Rattle.ocfl_scrub.specs.declared.running.RunEnd.{RunEnd}
+use Rattle.ocfl_state.specs.{Checkpoint.{Checkpoint}, declared.checkpoint_parts.Left.{Left}}
+use Rattle.ocfl_state.specs.declared.checkpoint_parts.ReportMark.{ReportMark}
+use Rattle.ocfl_night.specs.{Chain.{NoneBefore, part_after}, Ending.{IsAway, IsMadeBy, IsUnkept, place_or_pause, slice_end}}
+use Rattle.ocfl_night.specs.{Looks.{Look}, Promises.{StopsNextOver}, Steps.{IsNext, IsRun}}
+use Rattle.ocfl_night.specs.{declared.slicing.Made.{Made}, declared.slicing.SliceEnd.{SliceEnd}, declared.stop.Stop.{Stop}}
+use Rattle.ocfl_night.specs.declared.slicing.SliceEnd.TheVariants as slice
+use Rattle.ocfl_night.specs.Leaving.{branch_at, is_of_inventory, last_name, speaks_for_object}
+use Rattle.ocfl_night.proofs.Branches.{last_of}
+
+-- ---- the branch of a place
+
+begins_not_less : (u r : Place) → is_lt (place_cmp (u ++ r) u) ≡ false
+begins_not_less u r = ap is_lt (ap (place_cmp (u ++ r)) (sym (append-nil u)) ∙ cmp_behind u r []) ∙ nothing_above r
+
+-- the place begins with it
+branch_begins : (q : Place) → (r : Place) × (q ≡ branch_at q ++ r)
+branch_begins q = by (is_root_meta q || speaks_for_object (last_name q))
+  where
+    by : (b : Bool) → (r : Place) × (q ≡ (if b then take (length q - 1) q else q) ++ r)
+    by true = (drop (length q - 1) q, sym (take-append-drop (length q - 1) q))
+    by false = ([], sym (append-nil q))
+
+-- what is not before a place is not before its branch
+before_branch : (q y : Place) → is_lt (place_cmp y q) ≡ false → is_lt (place_cmp y (branch_at q)) ≡ false
+before_branch q y h =
+    let k = branch_begins q in
+    not_less_or y q (branch_at q) h (subst (λ z. is_lt (place_cmp z (branch_at q)) ≡ false) (sym k.1) (begins_not_less (branch_at q) k.0))
+
+-- ---- that of metadata is its directory
+
+or_left : (a b : Bool) → a ≡ true → (a || b) ≡ true
+or_left a b is = ap (λ (x : Bool). x || b) is
+
+inventory_file : (n : Text) → is_inventory_or_sidecar n ≡ true → is_of_inventory n ≡ true
+inventory_file n h = by (text_eq n inventory_name) (text_eq n (sidecar_name Sha256)) (text_eq n (sidecar_name Sha512)) refl refl refl h
+  where
+    by : (a b c : Bool) → text_eq n inventory_name ≡ a → text_eq n (sidecar_name Sha256) ≡ b → text_eq n (sidecar_name Sha512) ≡ c → (a || b || c) ≡ true → is_of_inventory n ≡ true
+    by true b c e f g k = ap is_of_inventory (text_from_test n inventory_name e)
+    by false true c e f g k = ap is_of_inventory (text_from_test n (sidecar_name Sha256) f)
+    by false false true e f g k = ap is_of_inventory (text_from_test n (sidecar_name Sha512) g)
+    by false false false e f g k = absurd (true_not_false (sym k))
+
+object_file : (n : Text) → (is_declaration Object n || is_inventory_or_sidecar n) ≡ true → speaks_for_object n ≡ true
+object_file n h = by (is_declaration Object n) refl h
+  where
+    by : (b : Bool) → is_declaration Object n ≡ b → (b || is_inventory_or_sidecar n) ≡ true → speaks_for_object n ≡ true
+    by true e k = or_right (is_of_inventory n) (is_declaration Object n) e
+    by false e k = or_left (is_of_inventory n) (is_declaration Object n) (inventory_file n k)
+
+module _ (root : StorageRoot) (q : Place) where
+  in_object : (o s : Place) → zone root q ≡ inside o s → is_object_meta s ≡ true → speaks_for_object (last_name q) ≡ true
+  in_object o [] e h = absurd (true_not_false (sym h))
+  in_object o (k ∷ []) e h = ap speaks_for_object (last_of q o k (zone_is root q o (k ∷ []) e).whole) ∙ object_file k h
+  in_object o (k ∷ m ∷ s) e h = absurd (true_not_false (sym h))
+
+  in_zone : (z : Zone) → zone root q ≡ z → is_meta_zone z ≡ true → speaks_for_object (last_name q) ≡ true
+  in_zone skipped e h = absurd (true_not_false (sym h))
+  in_zone hierarchy e h = absurd (true_not_false (sym h))
+  in_zone (inside o s) e h = in_object o s e h
+
+  speaks : is_meta root q ≡ true → (is_root_meta q || speaks_for_object (last_name q)) ≡ true
+  speaks h = by (is_root_meta q) refl h
+    where
+      by : (b : Bool) → is_root_meta q ≡ b → (b || is_meta_zone (zone root q)) ≡ true → (is_root_meta q || speaks_for_object (last_name q)) ≡ true
+      by true e k = or_left (is_root_meta q) (speaks_for_object (last_name q)) e
+      by false e k = or_right (is_root_meta q) (speaks_for_object (last_name q)) (in_zone (zone root q) refl k)
+
+  meta_branch : (d : Place) (n : Text) → q ≡ d ++ n ∷ [] → is_meta root q ≡ true → branch_at q ≡ d
+  meta_branch d n is h =
+      let long : length q - 1 ≡ length d = omega (arith, ap length is, length-append d (n ∷ [])) in
+      ap (λ (b : Bool). if b then take (length q - 1) q else q) (speaks h)
+      ∙ ap (λ m. take m q) long ∙ ap (take (length d)) is ∙ take-append-le (length d) d (n ∷ []) (omega arith) ∙ take_all (length d) d (omega arith)
+
+-- ---- the place at which a call failed
+
+hashed_there : (root : StorageRoot) (ps : List Place) (p : Place) → IsAmong (hashed_among root ps) p → is_hashed root p ≡ true
+unfolding hashed_among
+hashed_there root ps p i = (among_from_filter (is_hashed root) ps p i).1
+
+-- of a directory that was listed its branch is that or is on the way to it, and of a file that was
+-- opened it is one of these directories
+record IsListed (dirs : List Place) (q : Place) : Type 0 where
+  pub dir : Place
+  pub among : IsAmong dirs dir
+  pub ahead : (y : Place) → is_lt (place_cmp y dir) ≡ false → is_lt (place_cmp y (branch_at q)) ≡ false
+
+failed_listed : (root : StorageRoot) (s t : Store) (begun listed heads : List Place) (trail : List Opening) (q : Place) → Fails root s t begun listed heads trail (Some q) → IsListed listed q
+failed_listed root s t begun listed heads trail q h = by (h.store q refl).1
+  where
+    by : FailedAt root s t listed trail q → IsListed listed q
+    by (in_listing before is failed read) = record {
+      dir = q;
+      among = subst (λ ds. IsAmong ds q) (sym is) (among_right before (q ∷ []) q (inl refl));
+      ahead = before_branch q;
+    }
+    by (in_opening before given is none) = of (is_meta root q) refl
+      where
+        there : IsAmong trail (opening q given true)
+        there = subst (λ os. IsAmong os (opening q given true)) (sym is) (among_right before (opening q given true ∷ []) (opening q given true) (inl refl))
+
+        of : (b : Bool) → is_meta root q ≡ b → IsListed listed q
+        of true e =
+            let k = h.near (opening q given true) there e in
+            record {
+              dir = k.0;
+              among = k.1.1.0;
+              ahead = λ y low. subst (λ b. is_lt (place_cmp y b) ≡ false) (sym (meta_branch root q k.0 k.1.0 k.1.1.1 e)) low;
+            }
+        of false e =
+            let content : IsAmong (content_openings root trail) (opening q given true) = among_filter (λ x. not (is_meta root x.place)) trail (opening q given true) there (ap not e) in
+            let hashed = hashed_there root begun q (subst (λ l. IsAmong l q) h.opened (among_map (λ x. x.place) (content_openings root trail) (opening q given true) content)) in
+            absurd (true_not_false (sym hashed ∙ (h.store q refl).0))
+
+-- ---- a run that stopped there
+
+place_left : (why : ReportStop) (last : Option Place) → place_in (state_after (status.Stopped why) last) ≡ last
+place_left why None = refl
+place_left why (Some p) = refl
+
+pub none_before : (root : StorageRoot) (part : Part) (c : Cursor) (r : PartRun) (q : Place) → Ran root part c r → r.ran.end ≡ status.Stopped (report.Fault (fault.Store q))
+    → NoneBefore root part (place_in r.ran.cursor.state) (branch_at q)
+none_before root part c r q m is y i =
+    let h = m.runs in
+    let why : ReportStop = report.Fault (fault.Store q) in
+    let call = known_call root m.before m.behind m.old (m.old ++ (r.report ++ m.cut)) in
+    let w : RunStopsWithin call part (place_in c.state) h.last r.limits r.ran.spent r.ran.files r.ran.found why =
+    subst (λ (e : RunStatus). RunEndsWithin call part (place_in c.state) h.last r.limits r.ran.spent r.ran.files r.ran.found e) is h.run in
+    let stood : place_in r.ran.cursor.state ≡ h.last =
+    ap (λ (x : Cursor). place_in x.state) h.cursor_is ∙ ap (λ (e : RunStatus). place_in (state_after e h.last)) is ∙ place_left why h.last in
+    let at = failed_listed root m.before m.behind _ _ _ w.trail q w.looks.fails in
+    at.ahead y (w.ahead at.dir y at.among (subst (λ o. IsAmong (due_within root part o) y) stood i))
+
+-- ---- the same of a slice
+
+-- a slice stopped where its run did
+stop_of : (e : RunStatus) (p : Place) → place_or_pause (slice_end e) ≡ Ok p → e ≡ status.Stopped (report.Fault (fault.Store p))
+stop_of status.Ended p is = absurd cc
+stop_of status.Spent p is = absurd cc
+stop_of status.Worn p is = absurd cc
+stop_of (status.Stopped report.Output) p is = absurd cc
+stop_of (status.Stopped (report.Fault fault.Memory)) p is = absurd cc
+stop_of (status.Stopped (report.Fault (fault.Store q))) p is = let same : q ≡ p = cc in ap (λ x. status.Stopped (report.Fault (fault.Store x))) same
+
+away : (e : SliceEnd) (p : Place) → IsAway e → place_or_pause e ≡ Ok p → ⊥
+away slice.Ended p gone is = gone
+away slice.Spent p gone is = gone
+away (slice.Stopped why) p gone is = gone
+away slice.RootChanged p gone is = cc
+away (slice.Unread q) p gone is = cc
+
+pub unkept_stops : (root : StorageRoot) (part : Part) (k : Checkpoint) (r : Result Made Stop) → IfOk r (IsUnkept k) → IfOk r (StopsNextOver root part)
+unkept_stops root part k (Err e) h = tt
+unkept_stops root part k (Ok m) h = λ p is. absurd (away m.end p h.away is)
+
+pub made_stops : (root : StorageRoot) (part : Part) (k : Checkpoint) (look : Look) (ran : RunEnd) (lines : Text) → look.root ≡ root → IsRun (part_after part k.left) k.cursor look lines ran
+    → (r : Result Made Stop) → IfOk r (λ m. (mark : ReportMark) × IsNext k ran mark m.checkpoint) → IfOk r (IsMadeBy ran) → IfOk r (StopsNextOver root part)
+made_stops root part k look ran lines over run (Err e) next made = tt
+made_stops root part k look ran lines over run (Ok m) next made = λ p is.
+    let stopped : ran.end ≡ status.Stopped (report.Fault (fault.Store p)) = stop_of ran.end p (ap place_or_pause (sym made.end) ∙ is) in
+    let none = none_before look.root (part_after part k.left) k.cursor run.run p run.made (ap (λ (x : RunEnd). x.end) run.ran_is ∙ stopped) in
+    let cursor : run.run.ran.cursor ≡ m.checkpoint.cursor = ap (λ (x : RunEnd). x.cursor) run.ran_is ∙ sym next.1.cursor_is in
+    let left : k.left ≡ m.checkpoint.left = sym (ap (λ (x : Checkpoint). x.left) next.1.rest_is) in
+    subst (λ (x : StorageRoot). NoneBefore x (part_after part m.checkpoint.left) (place_in m.checkpoint.cursor.state) (branch_at p)) over
+    (subst (λ (l : List Left). NoneBefore look.root (part_after part l) (place_in m.checkpoint.cursor.state) (branch_at p)) left
+    (subst (λ (x : Cursor). NoneBefore look.root (part_after part k.left) (place_in x.state) (branch_at p)) cursor none))

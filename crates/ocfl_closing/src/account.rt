@@ -4,7 +4,7 @@ use crate::closed::ClosedCycle;
 use crate::finding::Findings;
 use crate::kept::{list_path, new_list_path, report_path};
 use crate::rows::Changes;
-use crate::saying::STOPPED;
+use ocfl_files::saying::STOPPED;
 use ocfl_report::Line;
 use ocfl_telling::{Closing, Gone, Shown, closing_text};
 use ocfl_tree::Place;

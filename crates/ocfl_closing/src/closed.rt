@@ -1,8 +1,8 @@
 //! What is known of closed cycles, and which of them a cycle is compared with.
 
-use crate::failing::Failure;
 use crate::kept::{is_as_closed, open_report, read_kept};
 use crate::state_dir::Folder;
+use ocfl_files::failing::Failure;
 use ocfl_state::{Checkpoint, Left};
 use ocfl_tree::Place;
 use std::alloc::{AllocError, Global};

@@ -9,7 +9,6 @@ use crate::closed::{MOST_BACK, find_closed};
 use crate::comparing::{
     end_changes, find_changes, find_new, find_pair, find_returned, find_unlisted,
 };
-use crate::failing::Failure;
 use crate::kept::is_told;
 use crate::lists::read_expected;
 use crate::room::Room;
@@ -17,7 +16,8 @@ use crate::rows::Rows;
 use crate::state::failed_folder;
 use crate::state_dir::{Folder, StateDir};
 use crate::telling::Names;
-use crate::timing::seconds_now;
+use ocfl_files::failing::Failure;
+use ocfl_files::timing::seconds_now;
 use ocfl_report::{Line, write_all_of};
 use ocfl_telling::{ClosingRow, Known, LogRow, log_line};
 use ocfl_tree::Place;

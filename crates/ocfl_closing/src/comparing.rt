@@ -3,15 +3,15 @@
 use crate::account::{Account, Pair, whole_missing_text, why_not};
 use crate::back::{Places, without};
 use crate::closed::{ClosedCycle, Earlier, both, find_earlier, outside};
-use crate::failing::Failure;
 use crate::finding::{Findings, find_lines};
-use crate::heard::HeardReader;
 use crate::kept::{is_as_closed, open_report};
 use crate::lists::Listed;
-use crate::making::failed_file;
 use crate::rows::{Changes, Rows};
 use crate::state_dir::Folder;
 use ocfl_compare::{CompareStop, compare, find_expected};
+use ocfl_files::failing::Failure;
+use ocfl_files::heard::HeardReader;
+use ocfl_files::making::failed_file;
 use ocfl_report::Line;
 use ocfl_telling::{Known, Shown};
 use ocfl_tree::Place;

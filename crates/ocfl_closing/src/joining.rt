@@ -1,16 +1,16 @@
 //! Joining the closed reports of all parts of a storage root, of one cycle.
 
 use crate::closed::MOST_BACK;
-use crate::failing::{Failure, say_failure};
 use crate::kept::is_told;
-use crate::making::failed_file;
 use crate::part_facts::{
     Facts, is_few, last_of_all, most_of, part_path, place_of, read_all, read_all_names,
 };
 use crate::room::Room;
-use crate::saying::STOPPED;
 use crate::sound::is_sound;
 use ocfl_compare::{ClosedPart, MissingPart, PartFault, find_missing, join_part};
+use ocfl_files::failing::{Failure, say_failure};
+use ocfl_files::making::failed_file;
+use ocfl_files::saying::STOPPED;
 use ocfl_line::JoinAsked;
 use ocfl_parts::{PartsStop, Separators, read_parts};
 use ocfl_scope::ScopeStop;

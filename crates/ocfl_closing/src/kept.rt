@@ -1,11 +1,11 @@
 //! Whether a closed report is as it was when it was closed.
 
-use crate::failing::Failure;
-use crate::making::failed_file;
 use crate::room::Room;
 use crate::state::failed_folder;
 use crate::state_dir::Folder;
 use ocfl_cursor::Refused;
+use ocfl_files::failing::Failure;
+use ocfl_files::making::failed_file;
 use ocfl_state::{Checkpoint, OpenReport, ReportDigests, ReportMark, StateFile, decode_checkpoint};
 use std::alloc::{AllocError, Global};
 use std::io::{self, Read};

@@ -1,9 +1,9 @@
 //! The lists that a night is given: of known findings, and of the objects that must be there.
 
-use crate::failing::Failure;
-use crate::heard::HeardReader;
 use crate::room::Room;
 use ocfl_compare::{ListStop, read_list};
+use ocfl_files::failing::Failure;
+use ocfl_files::heard::HeardReader;
 use ocfl_report::{InputStop, read_next_line};
 use ocfl_telling::{Known, KnownStop, Shown, read_known};
 use ocfl_tree::Place;

@@ -1,9 +1,9 @@
 //! What the state folders of parts say of their nights.
 
-use crate::failing::Failure;
 use crate::room::Room;
 use crate::stand::Standing;
 use ocfl_cursor::{PartEnds, Refused};
+use ocfl_files::failing::Failure;
 use ocfl_state::{Checkpoint, RootIdentity, decode_checkpoint};
 use ocfl_telling::Shown;
 use ocfl_tree::Place;

@@ -1,10 +1,10 @@
 //! What the program's system is asked for: the functions over it need no more of it than this.
 
-use crate::failing::Failure;
-use crate::files::open_if_there;
 use crate::kept::{find_names, is_as_closed, open_report, read_checkpoint};
-use crate::making::{is_there, make_file, make_folder, put_made};
 use crate::state::{hold_folder, open_state};
+use ocfl_files::failing::Failure;
+use ocfl_files::files::open_if_there;
+use ocfl_files::making::{is_there, make_file, make_folder, put_made};
 use ocfl_state::OpenReport;
 use std::alloc::Global;
 use std::fs::{self, File};

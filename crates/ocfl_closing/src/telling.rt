@@ -1,8 +1,8 @@
 //! The output of a night: the bytes of its report come in, and what was found goes out.
 
 use crate::finding::lines_of;
-use crate::reasons::{Reasons, reason_line, take_reasons};
 use crate::stand::Standing;
+use ocfl_files::reasons::{Reasons, reason_line, take_reasons};
 use ocfl_report::{Code, Line, TextStop, read_line, write_all_of};
 use ocfl_state::StateFile;
 use ocfl_telling::{Found, Gravest, Known, Night, SHOWN, night_text};

@@ -2,8 +2,8 @@
 
 use crate::logging::{Journal, RunMade};
 use ocfl_closing::stand::Standing;
-use ocfl_closing::timing::seconds_now;
 use ocfl_cursor::{Budget, FileLimit, Limits, Meter};
+use ocfl_files::timing::seconds_now;
 use std::cell::Cell;
 use std::fs::{self, File};
 use std::rc::Rc;

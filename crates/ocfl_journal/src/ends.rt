@@ -3,7 +3,7 @@
 use jiff::Error;
 use jiff::tz::{SystemTimeZone, TimeZone, TimeZoneDatabase};
 use ocfl_clock::next_time;
-use ocfl_closing::failing::Failure;
+use ocfl_files::failing::Failure;
 use ocfl_line::Until;
 use std::alloc::AllocError;
 use std::env::{self, VarError};

@@ -2,11 +2,11 @@
 
 use crate::clock::is_spent_by;
 use crate::ends::end_of;
-use ocfl_closing::failing::Failure;
 use ocfl_closing::lists::{find_known, refuse_unfit};
 use ocfl_closing::state::refuse_overlap;
 use ocfl_closing::telling::Names;
 use ocfl_cursor::{Budget, PartEnds};
+use ocfl_files::failing::Failure;
 use ocfl_line::NightAsked;
 use ocfl_telling::Known;
 use ocfl_terminal::roots::{Root, find_ends, find_root, part_number};

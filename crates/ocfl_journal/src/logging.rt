@@ -1,10 +1,10 @@
 //! The lines that a night appends to the log of its folder.
 
-use ocfl_closing::failing::{Failure, say_failure};
 use ocfl_closing::state::folder_failure;
 use ocfl_closing::state_dir::StateDir;
-use ocfl_closing::timing::seconds_now;
 use ocfl_cursor::State;
+use ocfl_files::failing::{Failure, say_failure};
+use ocfl_files::timing::seconds_now;
 use ocfl_state::{Checkpoint, FsLog, Left, Reason};
 use ocfl_telling::{LeftRow, LogRow, NightRow, RefusalRow, SliceRow, Stands, log_line};
 use std::alloc::{AllocError, Global};

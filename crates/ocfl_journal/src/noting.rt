@@ -3,12 +3,12 @@
 use crate::clock::NightClock;
 use crate::given::Given;
 use crate::logging::Journal;
-use ocfl_closing::failing::Failure;
-use ocfl_closing::reasons::{Reason, Reasons, last_reason};
 use ocfl_closing::stand::Standing;
 use ocfl_closing::state::{Begun, open_state, read_begun};
 use ocfl_closing::state_dir::StateDir;
 use ocfl_closing::telling::Teller;
+use ocfl_files::failing::Failure;
+use ocfl_files::reasons::{Reason, Reasons, last_reason};
 use ocfl_report::Line;
 use ocfl_state::{
     Checkpoint, FolderTrouble, Reason as StateReason, StateFile, StateFolder, decode_checkpoint,

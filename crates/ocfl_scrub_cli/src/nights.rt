@@ -4,12 +4,12 @@ ghost use Rattle.std.specs.Prelude.{[], false};
 mod ending;
 
 use crate::nights::ending::{Runs, said_of};
-use ocfl_closing::failing::Failure;
-use ocfl_closing::reasons::{Reasons, words_on};
-use ocfl_closing::saying::STOPPED;
 use ocfl_closing::stand::Standing;
-use ocfl_closing::timing::seconds_now;
 use ocfl_digest::Block;
+use ocfl_files::failing::Failure;
+use ocfl_files::reasons::{Reasons, words_on};
+use ocfl_files::saying::STOPPED;
+use ocfl_files::timing::seconds_now;
 use ocfl_folder::FsTree;
 use ocfl_journal::RunMade;
 use ocfl_journal::clock::NightClock;

@@ -1,10 +1,10 @@
 //! Showing a file: the checkpoint of a state folder, or a cursor.
 
 use crate::saying::say_note;
-use ocfl_closing::saying::{STOPPED, say, say_out_of_memory};
 use ocfl_cursor::{Refused, TextKind};
 use ocfl_deed::Deed;
 use ocfl_digest::Block;
+use ocfl_files::saying::{STOPPED, say, say_out_of_memory};
 use ocfl_folder::FsTree;
 use ocfl_report::write_all_of;
 use ocfl_scrub::{Note, perform};

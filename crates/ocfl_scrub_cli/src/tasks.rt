@@ -2,11 +2,11 @@
 
 use crate::saying::say_note;
 use crate::showing::show_file;
-use ocfl_closing::files::put_in_place;
-use ocfl_closing::reasons::{Reasons, words_on};
-use ocfl_closing::saying::{STOPPED, say};
 use ocfl_deed::Deed;
 use ocfl_digest::Block;
+use ocfl_files::files::put_in_place;
+use ocfl_files::reasons::{Reasons, words_on};
+use ocfl_files::saying::{STOPPED, say};
 use ocfl_folder::FsTree;
 use ocfl_line::Task;
 use ocfl_report::DisplayPlace;

@@ -2,7 +2,7 @@
 ghost use Rattle.std.specs.Prelude.{◌≡◌};
 
 use crate::naming::why_failed;
-use ocfl_closing::reasons::{Reasons, keep_reason};
+use ocfl_files::reasons::{Reasons, keep_reason};
 use ocfl_folder::{FsTree, System};
 use ocfl_inventory::{Level, is_declaration_name};
 use ocfl_report::DisplayPlace;

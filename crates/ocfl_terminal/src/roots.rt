@@ -1,8 +1,8 @@
 //! Which storage root a night reads, and which part of it.
 
 use crate::scope::read_scope;
-use ocfl_closing::failing::Failure;
 use ocfl_cursor::PartEnds;
+use ocfl_files::failing::Failure;
 use ocfl_line::Chosen;
 use ocfl_scope::Scope;
 use ocfl_telling::{RefusalMessage, Shown, refusal_text};

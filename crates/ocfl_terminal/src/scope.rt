@@ -1,7 +1,7 @@
 //! Which items of the storage root a command takes, by what its command line chooses.
 
 use crate::paths::why_no_place;
-use ocfl_closing::saying::say;
+use ocfl_files::saying::say;
 use ocfl_line::Chosen;
 use ocfl_parts::PartsStop;
 use ocfl_scope::{Scope, ScopeStop, find_branch, find_part};

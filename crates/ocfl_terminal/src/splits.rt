@@ -1,7 +1,7 @@
 //! Splitting a storage root: the text of the separators goes to standard output.
 
-use ocfl_closing::heard::Heard;
-use ocfl_closing::saying::{STOPPED, USAGE, say};
+use ocfl_files::heard::Heard;
+use ocfl_files::saying::{STOPPED, USAGE, say};
 use ocfl_folder::FsTree;
 use ocfl_item::Fault;
 use ocfl_line::Split;

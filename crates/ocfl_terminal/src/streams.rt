@@ -1,7 +1,7 @@
 //! The standard streams.
 
-use ocfl_closing::failing::Failure;
-use ocfl_closing::making::file_failure;
+use ocfl_files::failing::Failure;
+use ocfl_files::making::file_failure;
 use std::fs::File;
 use std::rt::Files;
 

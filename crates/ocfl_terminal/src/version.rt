@@ -1,6 +1,6 @@
 //! What `--version` prints below the version: what `install` noted, and the running file's digest.
 
-use ocfl_closing::files::folder_of;
+use ocfl_files::files::folder_of;
 use sha2::{Digest, Sha256};
 use std::alloc::Global;
 use std::env;

@@ -3,7 +3,7 @@
 use crate::version::print_build;
 use crate::whole::whole_asked;
 use clap::error::ErrorKind;
-use ocfl_closing::saying::{STOPPED, USAGE, say, say_out_of_memory};
+use ocfl_files::saying::{STOPPED, USAGE, say, say_out_of_memory};
 use ocfl_line::{Asked, CommandStop, asked};
 use std::alloc::{AllocError, Global};
 use std::rt::{Env, Files};

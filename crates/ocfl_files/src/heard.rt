@@ -38,7 +38,7 @@ impl<F: Drop> Heard<F> {
     }
 
     /// The SHA-256 of all that was read, in hexadecimal digits.
-    pub(crate) fn into_digits(self, alloc: Global) -> Result<String, AllocError> {
+    pub fn into_digits(self, alloc: Global) -> Result<String, AllocError> {
         let Heard {
             file: _file,
             hasher,
@@ -64,8 +64,8 @@ impl<F: Read + Drop> Read for Heard<F> {
 }
 
 /// A buffered reader of such a file.
-pub(crate) struct HeardReader<F: Drop> {
-    pub(crate) reader: BufReader<Heard<F>>,
+pub struct HeardReader<F: Drop> {
+    pub reader: BufReader<Heard<F>>,
 }
 
 /// Written by hand, so that to let it go is one call wherever that happens.
@@ -77,7 +77,7 @@ impl<F: Drop> Drop for HeardReader<F> {
 
 impl<F: Read + Drop> HeardReader<F> {
     /// Before the first read.
-    pub(crate) fn new(alloc: Global, file: F) -> Result<HeardReader<F>, AllocError> {
+    pub fn new(alloc: Global, file: F) -> Result<HeardReader<F>, AllocError> {
         match BufReader::new(alloc, Heard::new(file)) {
             Ok(reader) => Ok(HeardReader { reader }),
             Err(_) => Err(AllocError),
@@ -85,12 +85,12 @@ impl<F: Read + Drop> HeardReader<F> {
     }
 
     /// Why the last read failed that did.
-    pub(crate) fn error(&self) -> Option<io::Error> {
+    pub fn error(&self) -> Option<io::Error> {
         self.reader.get_ref().error()
     }
 
     /// The SHA-256 of all that was read, in hexadecimal digits.
-    pub(crate) fn into_digits(self, alloc: Global) -> Result<String, AllocError> {
+    pub fn into_digits(self, alloc: Global) -> Result<String, AllocError> {
         let HeardReader { reader } = self;
         reader.into_inner().into_digits(alloc)
     }

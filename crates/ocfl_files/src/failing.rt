@@ -29,7 +29,7 @@ impl Failure {
     }
 
     /// The same, or that there was no memory for the text.
-    pub(crate) fn saying(text: Result<String, AllocError>) -> Failure {
+    pub fn saying(text: Result<String, AllocError>) -> Failure {
         match text {
             Ok(text) => Failure::stopped(text),
             Err(error) => Failure::from(error),
@@ -37,7 +37,7 @@ impl Failure {
     }
 
     /// This one, or that there was no memory for it.
-    pub(crate) fn made(failure: Result<Failure, AllocError>) -> Failure {
+    pub fn made(failure: Result<Failure, AllocError>) -> Failure {
         match failure {
             Ok(failure) => failure,
             Err(error) => Failure::from(error),

@@ -61,7 +61,7 @@ fn write_synced<R: Files>(rt: &R, file: &str, text: &[u8]) -> io::Result<()> {
 }
 
 /// Brings the name of a file to the disk.
-pub(crate) fn sync_name<R: Files>(rt: &R, file: &str) {
+pub fn sync_name<R: Files>(rt: &R, file: &str) {
     // Not every system can sync a folder; the file is whole without it.
     if let Ok(folder) = File::open(rt, folder_of(file)) {
         let _ = folder.sync_all();

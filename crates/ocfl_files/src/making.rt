@@ -10,7 +10,7 @@ use std::os::unix::fs::{DirBuilderExt, OpenOptionsExt};
 use std::rt::Files;
 
 /// Who may read and write a file that is made: its owner, and its group may read.
-pub(crate) const FILE_MODE: u32 = 0o640;
+pub const FILE_MODE: u32 = 0o640;
 
 /// The same of a folder.
 const FOLDER_MODE: u32 = 0o750;
@@ -24,7 +24,7 @@ pub fn file_failure(alloc: Global, path: &str, error: &io::Error) -> Result<Fail
 }
 
 /// The same, or that there was no memory for it.
-pub(crate) fn failed_file(alloc: Global, path: &str, error: &io::Error) -> Failure {
+pub fn failed_file(alloc: Global, path: &str, error: &io::Error) -> Failure {
     Failure::made(file_failure(alloc, path, error))
 }
 

@@ -5,6 +5,8 @@ import shutil
 TOP = os.path.dirname(os.path.dirname(os.path.realpath(__file__)))
 # The crate of the tests.
 TESTS = "ocfl_tests"
+# Files among those that a check keeps, into which each check writes.
+WRITTEN = ("offered.json", "rattle-last-used")
 
 
 def crates():
@@ -28,7 +30,7 @@ def folder_of(crate, top=TOP):
 
 def copy_to(folder, chosen, kept=False):
     """Copies some crates without their edits, and with or without what earlier checks of them
-    kept, which is linked: a check replaces the files that it keeps and writes into none."""
+    kept, which is linked: a check replaces the files that it keeps, and writes into few."""
     left = shutil.ignore_patterns("edits", *([] if kept else ["out"]))
     for crate in chosen:
         shutil.copytree(folder_of(crate), folder_of(crate, folder), ignore=left,
@@ -39,10 +41,13 @@ def copy_to(folder, chosen, kept=False):
 
 
 def copy_or_link(of, to):
-    """Links a file of an `out` folder where that can be done, and copies any other."""
-    if (os.sep + "out" + os.sep) in of:
+    """Links a file of an `out` folder where that can be done, and copies any other. What is linked
+    already stays."""
+    if (os.sep + "out" + os.sep) in of and os.path.basename(of) not in WRITTEN:
         try:
             return os.link(of, to)
+        except FileExistsError:
+            return to
         except OSError:
             pass
     return shutil.copy2(of, to)

@@ -9,7 +9,7 @@ import tempfile
 import types
 import unittest
 
-from gate import commands, proving, rounds, step, toolchain, trying
+from gate import commands, proving, repository, rounds, step, toolchain, trying
 from gate.collection import listed as every_listed
 from gate.repository import below, crates
 
@@ -156,6 +156,25 @@ class Bases(Rooms):
             self.assertTrue(kept.compare(key, {}, 1).told[0][0])
             self.write(trying.KEPT + "/a.oantt", b"other")
             self.assertFalse(kept.compare(key, {}, 1).told[0][0])
+
+    def test_what_a_check_writes_is_copied(self):
+        """A check over links leaves what was kept as it is, also the files into which it writes, and
+        what is linked from elsewhere already."""
+        for name in ("a.oantt", *repository.WRITTEN):
+            self.write(trying.KEPT + "/in/" + name, b"one")
+        kept = trying.Kept(self.crate())
+        kept.files = trying.listing(kept.place)
+        with step.over(self.rt, self.crate()) as links:
+            for name in repository.WRITTEN:
+                with open(os.path.join(links, "in", name), "wb") as file:
+                    file.write(b"other")
+            linked, other = os.path.join(links, "in/a.oantt"), self.room.name + "/out/a.oantt"
+            os.makedirs(os.path.dirname(other))
+            with open(other, "wb") as file:
+                file.write(b"of another crate")
+            repository.copy_or_link(other, linked)
+            self.assertEqual(os.stat(linked).st_nlink, 2)
+        self.assertEqual(trying.listing(kept.place), kept.files)
 
     def test_library_is_laid_out(self):
         """The modules that a library carries become the files that a check would have kept, and

@@ -85,7 +85,7 @@ impl Pair {
     }
 }
 
-/// The path of the report of the cycle that one is compared with. Empty if there is none.
+/// The path of the earlier report that one is compared with. Empty without such a report.
 fn earlier_path(alloc: Global, state: &str, pair: &Pair) -> Result<String, AllocError> {
     match &pair.before {
         Some(before) => report_path(alloc, state, before.cycle, before.whole),

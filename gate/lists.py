@@ -4,7 +4,7 @@ import glob
 import os
 import re
 
-from gate import definitions
+from gate import crate_table, definitions
 from gate.commands import fail
 from gate.repository import TESTS, TOP, crates, folder_of
 
@@ -46,10 +46,11 @@ def of_crates():
     stands_on = {word for line in lines for word in line.split(":")[1].split()}
     trials = {os.path.basename(it) for it in glob.glob(os.path.join(TOP, "trials", "*.py"))}
     named = re.findall(r"`(\w+\.py)`", " ".join(row[1] for row in rows("docs/TRIED.md", "Trials")))
-    trust = text_of("README.md").split("**Trusted**")[1].split(":")[1].split(".")[0]
-    return (differing("crate", "README.md", first_names("README.md", "Crate by crate"), crates())
+    page = "docs/ASSURANCE.md"
+    trust = text_of(page).split("**Trusted**")[1].split(":")[1].split(".")[0]
+    return (crate_table.faults()
             + differing("trial", "docs/TRIED.md", named, trials - {"common.py"})
-            + differing("library", "README.md", NAMED.findall(trust), stands_on - set(crates())))
+            + differing("library", page, NAMED.findall(trust), stands_on - set(crates())))
 
 
 def of_definitions():
@@ -137,10 +138,6 @@ def rows(page, title):
         if line.startswith("|") and not set(line) <= set("|- "):
             found.append([cell.strip() for cell in line.strip("|").split("|")])
     return found[1:]
-
-
-def first_names(page, title):
-    return [name for row in rows(page, title) for name in NAMED.findall(row[0])]
 
 
 def specs_of(crate, file):

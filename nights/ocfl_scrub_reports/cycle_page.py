@@ -330,7 +330,7 @@ class Page:
         return [it for it in standing.losses(self.state, self.cycle - 1)
                 if it.partition(b"\t")[2] not in still] if self.cycle > 1 else []
 
-    def about_mended(self) -> str:
+    def about_repaired(self) -> str:
         """What is back and what is repaired."""
         back, objects = self.back(), self.number("Objects back")
         count = cycle_of(self.state, self.cycle).closing.repaired if self.earlier else None
@@ -423,7 +423,7 @@ class Page:
             "<h1>Cycle %d of %s</h1>\n" % (self.cycle, name),
             markup.level(self.level(), [it + "." for it in self.reasons()]),
             self.about_reading(), self.about_whole(), self.about_findings(), self.about_losses(),
-            self.about_mended(), self.about_unlooked(), self.about_statement()])
+            self.about_repaired(), self.about_unlooked(), self.about_statement()])
         markup.write("Cycle %d of %s" % (self.cycle, self.said.get("Storage root", "")), body)
 
 

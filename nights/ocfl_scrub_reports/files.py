@@ -26,7 +26,7 @@ def print_error(text: str) -> None:
 # Owners and links
 
 def drop_to_owner_of(path: str) -> None:
-    """Where root asks about what another user owns, goes on with the rights of that user, who can
+    """Where root asks about what another user owns, continues with the rights of that user, who can
     put a link or anything else there. A link is of the user who made it, or of the user of what it
     leads to."""
     if os.geteuid() != 0:

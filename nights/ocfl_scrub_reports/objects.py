@@ -19,7 +19,7 @@ DECLARATION = re.compile("0=ocfl_[0-9]")
 
 
 def names_of(place: bytes) -> list[bytes]:
-    """The names of a place from the storage root down. Fails if one of them is none."""
+    """The names of a place from the storage root down. Fails if one of them is not a name."""
     names = [] if place == b"." else [unquote_to_bytes(name) for name in place.split(b"/")]
     if any(name in (b"", b".", b"..") or b"/" in name or b"\0" in name for name in names):
         raise OSError("no place has the name of a folder above: " + place.decode())
@@ -32,7 +32,8 @@ def in_one_form(place: bytes) -> str:
 
 
 def open_folder(root: str, names: Iterable[bytes]) -> int:
-    """Opens a folder below another one, name by name. Fails if it is none, or behind a link."""
+    """Opens a folder below another one, name by name. Fails if it is not a folder, or behind a
+    link."""
     folder = os.open(root, os.O_RDONLY | os.O_DIRECTORY)
     for name in names:
         try:
@@ -44,7 +45,7 @@ def open_folder(root: str, names: Iterable[bytes]) -> int:
 
 
 def open_file(root: str, place: bytes) -> IO[bytes]:
-    """Opens a file below a folder. Fails if it is none, or behind a link."""
+    """Opens a file below a folder. Fails if it is not a file, or behind a link."""
     *above, last = names_of(place) or [b"."]
     folder = open_folder(root, above)
     try:

@@ -34,7 +34,7 @@ WRITTEN = {ord("&"): "&amp;", ord("<"): "&lt;", ord(">"): "&gt;", ord('"'): "&qu
 @dataclass
 class Event:
     """An event under way: the line at which it begins, the object that it is about (or `.`), and
-    what came of it, each with a note."""
+    its outcomes, each with a note."""
     identifier: str
     detail: str
     first: int

@@ -21,7 +21,7 @@ PARTS = 128
 def show_findings(reports: list[str], older: str | None = None, known: str | None = None,
                   weights: Weights | None = None) -> None:
     """Writes the findings of reports: those that OLDER lacks, and that are not known; with weights
-    the gravest first."""
+    the most serious first."""
     leave_out = Known(known)
     found = files.spool()
     for path in reports:
@@ -74,7 +74,7 @@ def count_lacking(found: IO[bytes], others: IO[bytes]) -> int:
 
 
 def by_weight(found: IO[bytes], weights: Weights) -> IO[bytes]:
-    """The same lines, the gravest first, and those of one weight in their order."""
+    """These lines, the most serious first, and those of one weight in their order."""
     return gravest_first((weights.weight(line), line) for line in lines_of(found))
 
 

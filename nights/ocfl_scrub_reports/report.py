@@ -119,7 +119,7 @@ class Reading:
             count = self.count_lines(block)
             if count is None:
                 count = max(1, block.count(b"\n") - 1)
-                block = self.mended(block)
+                block = self.emptied(block)
                 self.others = OTHER.findall(block)
             yield block
             self.lines += count
@@ -138,7 +138,8 @@ class Reading:
         is_whole = right + len(self.others) == count and all(map(KNOWN_CODE.match, self.others))
         return count if is_whole else None
 
-    def mended(self, block: bytes) -> bytes:
+    def emptied(self, block: bytes) -> bytes:
+        """A block in which an empty line is in place of each that is no line of a report."""
         kept = [b""]
         for number, line in enumerate(block[1:].split(b"\n")[:-1], self.lines + 1):
             kept.append(line if LINE.fullmatch(line) else self.note_odd(number))

@@ -14,7 +14,7 @@ PLACES = {
     "crates/ocfl_tests/src/tests/line.rt": r'"ocfl-scrub ',
     "nights/man/ocfl-scrub.1": r"ocfl\\-scrub ",
     "nights/man/ocfl-scrub-reports.1": r"ocfl\\-scrub ",
-    "nights/README.md": r"Program: ocfl-scrub ",
+    "nights/STATEMENTS.md": r"Program: ocfl-scrub ",
     "README.md": r"ocfl-scrub_",
 }
 

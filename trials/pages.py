@@ -1,6 +1,6 @@
 #!/usr/bin/env python3
-"""Runs the commands that README.md, nights/README.md and the manual page show, in their order, and
-compares what they print with what the page shows.
+"""Runs the commands that README.md, the pages of nights and the manual page show, in their order,
+and compares what they print with what the page shows.
 
 usage: pages.py
 
@@ -15,9 +15,9 @@ import re
 import subprocess
 
 import common
-from common import TOP, check
+from common import PROGRAM, TOP, check
 from shared.clones import make_clone
-from shared.nights import NIGHTS, read, tried
+from shared.nights import NIGHTS, ran, read, tried
 from shared.pages import blocks_of_manual, blocks_of_markdown, commands_of
 from shared.states import tools
 
@@ -38,12 +38,14 @@ NO_COMMANDS = {
     "[Service]": "lines of a unit",
     "[Unit]": "lines of a unit",
     "ocfl-scrub-reports statement --seal ": "needs keys, which trials/statements.py makes",
-    "E092\t": "a line of a report",
+    "Subject: ": "a message, which docs/message makes",
+    "Fixity of ": "a page, which docs/message makes",
 }
 # Statuses of commands that may end otherwise than with 0: the sample has a damaged file.
 ENDS = [(r"# still E092", {1}), (r"# ok$|# the rest of its object", {0}),
         (r"xargs .*\n.*ocfl-scrub audit ", {0, 123}),
         (r"ocfl-scrub (--unproved )?(audit|run|night|check) |/nightly |zdiff ", {0, 1}),
+        (r"ocfl-scrub-reports recheck ", {0, 1}), (r"\| grep -naxv ", {1}),
         (r"ocfl-scrub-reports status ", {2})]
 # What else a user has done before the further commands of a page, which need two whole cycles.
 THEN = {
@@ -73,6 +75,8 @@ OTHER = re.compile(r"(?<![\w.~/])/(?!dev/null)(?=(?:bin|boot|dev|home|lib|media|
                    r"sbin|sys|usr|var)\b)")
 # What pages set for their further commands.
 VARIABLES = ["root", "line", "object", "file"]
+# The pages of nights whose commands are run here; those of CLUSTERS need several machines.
+OF_NIGHTS = ["README.md", "STATEMENTS.md", "REPORTS.md", "REPAIR.md", "FAQ.md"]
 used = set()
 
 
@@ -161,6 +165,15 @@ def readme(folder):
     follow(session, "README.md", blocks_of_markdown(read(TOP + "/README.md")))
 
 
+def written(folder):
+    """README's blocks that the programs write are those that they write now, but for times."""
+    shown = re.findall(r"(?s)<!-- (?:message|page) -->\n\n(.*?)\n<!-- end ",
+                       read(TOP + "/README.md"))
+    status, got, said = ran([TOP + "/docs/message"], OCFL_SCRUB=PROGRAM, TMPDIR=folder)
+    check("docs/message", (status, said), (0, ""))
+    check("README has what docs/message prints", masked("\n".join(shown)), masked(got))
+
+
 def installed(folder):
     """A session in which the program is installed below /usr/local."""
     session = Session(folder, "/home")
@@ -170,11 +183,14 @@ def installed(folder):
 
 
 def nightly(folder):
-    text = read(NIGHTS + "/README.md")
+    """The pages of nights are one session, since the first one makes the nights."""
     session = installed(folder)
     session.call("./install", session.clone)
     session.at = session.folder + "/home"
-    follow(session, "nights/README.md", blocks_of_markdown(text))
+    for page in OF_NIGHTS:
+        follow(session, "nights/" + page, blocks_of_markdown(read(NIGHTS + "/" + page)))
+    check("all pages of nights", sorted([*OF_NIGHTS, "CLUSTERS.md"]),
+          sorted(name for name in os.listdir(NIGHTS) if name.endswith(".md")))
 
 
 def manual(folder):
@@ -184,7 +200,7 @@ def manual(folder):
 
 def check_all(folder):
     tools(PACKAGES)
-    for part in [readme, nightly, manual]:
+    for part in [written, readme, nightly, manual]:
         os.mkdir(os.path.join(folder, part.__name__))
         tried(part, os.path.join(folder, part.__name__))
     check("what is not run, and no page has", sorted({*NOT_RUN, *NO_COMMANDS} - used), [])

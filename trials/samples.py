@@ -1,10 +1,10 @@
 #!/usr/bin/env python3
 """Checks that each object of the samples is a valid OCFL 1.1 object, but for the fault that it
-shows, and follows what README says of a damaged file.
+shows, and follows what nights/REPAIR.md says of a damaged file.
 
 usage: samples.py
 
-README's steps repair a file whose name has a quote, a space, a letter that is not ASCII, a `%`, a
+Its steps repair a file whose name has a quote, a space, a letter that is not ASCII, a `%`, a
 line feed, or what a shell takes for a command, and an inventory whose copy is in a version. Seen to
 fail on steps that have the name as reports write it, or without quotes.
 """
@@ -54,16 +54,16 @@ def gallery(folder):
         check("faults of " + name, faults(os.path.join(root, name)), shown)
 
 
-# README, "A file is damaged"
+# nights/REPAIR.md
 
 NAMES = ["Brief an Müller.pdf", "Mu\u0308ller.txt", "d'or.txt", "a  b.txt", "$(touch ran).txt",
          "a;b`touch ran`.txt", "100% fertig.txt", "%41", "-r", "n\nl", 'q"q\\n', "*"]
 
 
-def steps_of_readme():
-    """The two blocks of the section: of a file, and of an inventory."""
-    text = read(TOP + "/README.md").split("\n## A file is damaged: now what\n")[1]
-    return [block for block in blocks_of_markdown(text.split("\n## ")[0]) if "$" in block]
+def steps_of_page():
+    """Two blocks of the page: of a file, and of an inventory."""
+    blocks = blocks_of_markdown(read(TOP + "/nights/REPAIR.md"))
+    return [block for block in blocks if "$root" in block]
 
 
 def followed(folder, block, root, line, place):
@@ -93,7 +93,7 @@ def steps(folder):
         damaged = next((line for line in before if line.startswith("E092")), "\t\t")
         line = damaged.split("\t")[1]
         shown = line.split("/")[0]
-        status, out, said = followed(where, steps_of_readme()[0], where + "/root", line, shown)
+        status, out, said = followed(where, steps_of_page()[0], where + "/root", line, shown)
         right = common.line("ok", line, 3)
         expected = [damaged, digest(b"abc", "sha512") + "  -\n", right, common.line("ok", shown),
                     right]
@@ -108,7 +108,7 @@ def steps_of_inventory(folder):
     whole = common.read(root + "/letters/inventory.json")
     common.write(root + "/letters/inventory.json", whole.replace(b"letters", b"lettres"))
     values = "root=%s\nobject=letters\n" % shlex.quote(root)
-    status, out, said = followed(folder, values + steps_of_readme()[1], root, "", "letters")
+    status, out, said = followed(folder, values + steps_of_page()[1], root, "", "letters")
     sums = [row.split()[0] for row in out.splitlines()]
     check("who has the digest", (status, said, len(sums), sums[0] == digest(whole, "sha512"),
                                  [it == sums[0] for it in sums[1:]]),

@@ -340,6 +340,9 @@ openssl ts -reply -config {home}/tsa.cnf -queryfile "$query" -out "$answer" 2> /
 """
 
 
+PAGE = TOP + "/nights/STATEMENTS.md"
+
+
 def make_keys(home):
     """What each command of the page signs with."""
     os.makedirs(home + "/.gnupg", 0o700)
@@ -347,8 +350,7 @@ def make_keys(home):
     write(home + "/bin/curl", ASKING.format(home=home), 0o755)
     write(home + "/serial", "01\n")
     for words in [["gpg", "--batch", "--passphrase", "", "--quick-gen-key", "a@example.org"],
-                  re.search("`(minisign -G [^`]*)`", read(TOP + "/nights/README.md"))[1].replace(
-                      "~", home).split(),
+                  re.search("`(minisign -G [^`]*)`", read(PAGE))[1].replace("~", home).split(),
                   ["openssl", "req", "-x509", "-newkey", "rsa:2048", "-nodes", "-subj", "/CN=ours",
                    "-addext", "extendedKeyUsage=critical,timeStamping", "-keyout",
                    home + "/tsa.key", "-out", home + "/tsa.pem"]]:
@@ -357,9 +359,9 @@ def make_keys(home):
 
 
 def documented_seals(folder):
-    """The seals of nights/README.md, and what checks them; those whose tool is not here are not
+    """The seals of nights/STATEMENTS.md, and what checks them; those whose tool is not here are not
     tried."""
-    page = read(TOP + "/nights/README.md")
+    page = read(PAGE)
     command = "ocfl-scrub-reports statement --seal '(.*)' ~/audit 1"
     told = re.findall(r"^    %s\n    (.*)\n" % command, page, re.M)
     check("seals told", [seal.split()[0] for seal, _ in told], ["gpg", "minisign", "openssl"])

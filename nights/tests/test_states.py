@@ -9,7 +9,7 @@ from gate.repository import TOP
 
 sys.path.insert(0, os.path.join(TOP, "nights"))
 
-from gate.tests.test_reports import Folder
+from nights.tests.test_reports import Folder
 from ocfl_scrub_reports import database, log, standing, state, statement, status
 
 NIGHT = "2026-03-0%dT22:00:00Z"

@@ -14,8 +14,8 @@ from gate.repository import TOP
 
 sys.path.insert(0, os.path.join(TOP, "nights"))
 
-from gate.tests.test_night_states import GONE, NOW, ONE, TWO, Asked, Program, at, night_of
-from gate.tests.test_reports import Folder
+from nights.tests.test_night_states import GONE, NOW, ONE, TWO, Asked, Program, at, night_of
+from nights.tests.test_reports import Folder
 from ocfl_scrub_reports import report, state
 
 WHY = "the report of cycle 1 is gone"

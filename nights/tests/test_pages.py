@@ -6,7 +6,7 @@ import os
 import re
 from html.parser import HTMLParser
 
-from gate.tests.test_night_states import NOW, Asked, Program, at, night_of
+from nights.tests.test_night_states import NOW, Asked, Program, at, night_of
 from ocfl_scrub_reports import markup, page
 from ocfl_scrub_reports.statement import ADDED, FORM
 

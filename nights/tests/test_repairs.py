@@ -7,7 +7,7 @@ import shutil
 import subprocess
 from unittest import mock
 
-from gate.tests.test_night_states import Asked, Program
+from nights.tests.test_night_states import Asked, Program
 from ocfl_scrub_reports import files, objects, repair, report
 
 # Words, and how bash takes them.

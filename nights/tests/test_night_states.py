@@ -17,7 +17,7 @@ from gate.repository import TOP
 
 sys.path.insert(0, os.path.join(TOP, "nights"))
 
-from gate.tests.test_reports import Folder
+from nights.tests.test_reports import Folder
 from ocfl_scrub_reports import command, standing, state, statement, status
 
 ZEROS = "0" * 64

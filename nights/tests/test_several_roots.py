@@ -3,8 +3,8 @@ import os
 import subprocess
 from unittest import mock
 
-from gate.tests.test_night_states import NOW, Asked, Program, nights_of
-from gate.tests.test_pages import Read
+from nights.tests.test_night_states import NOW, Asked, Program, nights_of
+from nights.tests.test_pages import Read
 from ocfl_scrub_reports import tell
 
 GOOD = b"ok\t.\t-\nok\to\t-\nok\to/a\t3\n"

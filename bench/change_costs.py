@@ -13,7 +13,7 @@ import sys
 sys.dont_write_bytecode = True
 sys.path.insert(0, os.path.join(os.path.dirname(os.path.realpath(__file__)), ".."))
 
-from gate import costs
+from gate.pages import costs
 
 
 def main(words: list[str]) -> int:

@@ -4,7 +4,7 @@ import tempfile
 import types
 import unittest
 
-from gate import above, functions
+from gate.edits import above, functions
 from gate.repository import crates
 
 

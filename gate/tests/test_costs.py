@@ -1,7 +1,7 @@
 """Tests what a change of a crate is said to cost."""
 import unittest
 
-from gate import costs
+from gate.pages import costs
 
 LINES = {"low": "low:\n", "beside": "beside: low sha2\n", "high": "high: beside\n",
          "alone": "alone: hex\n", "new": "new: high\n"}

@@ -1,7 +1,7 @@
 """Tests the table of crates of ASSURANCE."""
 import unittest
 
-from gate import crate_table
+from gate.pages import crate_table
 from gate.repository import crates
 
 

@@ -5,8 +5,9 @@ import os
 import tempfile
 import unittest
 
-from gate import definitions, lists, tried
-from gate.edit_files import Change, Edit
+from gate.edits import tried
+from gate.edits.edit_files import Change, Edit
+from gate.pages import definitions, lists
 
 USES = """\
 ghost use Rattle.ocfl_tree.specs.Place.{Place, Text};

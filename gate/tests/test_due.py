@@ -4,7 +4,8 @@ import tempfile
 import unittest
 from unittest import mock
 
-from gate import due, repository
+from gate import repository
+from gate.edits import due
 
 LINES = {"low": "low:\n", "high": "high: low\n", "other": "other:\n"}
 

@@ -3,8 +3,8 @@ edit changes."""
 import unittest
 from unittest import mock
 
-from gate import collection, edit_files, tried
-from gate.edit_files import Change, Edit
+from gate.edits import collection, edit_files, tried
+from gate.edits.edit_files import Change, Edit
 
 TEXT = """# A comment.
 [names_in_descending_order] gate for Name::cmp, Place::cmp

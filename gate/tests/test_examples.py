@@ -1,7 +1,7 @@
 """Tests how examples are read."""
 import unittest
 
-from gate import examples
+from gate.pages import examples
 
 TEST = "//! Of one thing.\nuse a::b;\n\n#[test]\nfn c() {}\n"
 SOURCE = ("//! A crate.\n//!\n//! ```\n//! use a::b;\n//!\n//! fn c() {}\n//! ```\n"

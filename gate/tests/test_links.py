@@ -3,7 +3,7 @@ import os
 import unittest
 from unittest import mock
 
-from gate import links
+from gate.pages import links
 
 PAGES = {
     "README.md": "# The head\n\n[a](docs/A.md) [b](docs/A.md#more-words) [c](#the-head) "

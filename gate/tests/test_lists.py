@@ -1,7 +1,7 @@
 """Tests what is read as a name in pages."""
 import unittest
 
-from gate import lists
+from gate.pages import lists
 
 
 class Lists(unittest.TestCase):

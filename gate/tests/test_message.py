@@ -3,7 +3,7 @@ import contextlib
 import io
 import unittest
 
-from gate import message
+from gate.pages import message
 
 HTML = """<!DOCTYPE html><html><head><meta charset="utf-8"><style>p { color: red }</style>
 <title>Fixity</title></head><body><h1>Fixity of <bdi>/srv/ocfl</bdi></h1>

@@ -3,8 +3,8 @@ import contextlib
 import io
 import unittest
 
-from gate import registers
-from gate.registers import Entry, Function
+from gate.pages import registers
+from gate.pages.registers import Entry, Function
 
 SOURCE = """\
 //! Budgets.

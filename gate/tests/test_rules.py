@@ -1,7 +1,7 @@
 """Tests what is read as cited by the rules of nights."""
 import unittest
 
-from gate import rules
+from gate.pages import rules
 
 PAGE = """\
 # Rules

@@ -9,8 +9,9 @@ import tempfile
 import types
 import unittest
 
-from gate import commands, proving, repository, rounds, step, toolchain, trying
-from gate.collection import listed as every_listed
+from gate import commands, repository, toolchain
+from gate.edits import proving, rounds, step, trying
+from gate.edits.collection import listed as every_listed
 from gate.repository import below, crates
 
 

@@ -6,7 +6,7 @@ from __future__ import annotations
 import os
 import re
 
-from gate import registers
+from gate.pages import registers
 from gate.repository import TESTS, TOP, crates
 
 PAGE = os.path.join(TOP, "docs", "ASSURANCE.md")

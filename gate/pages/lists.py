@@ -4,8 +4,8 @@ import glob
 import os
 import re
 
-from gate import crate_table, definitions
 from gate.commands import fail
+from gate.pages import crate_table, definitions
 from gate.repository import TESTS, TOP, crates, folder_of
 
 # The names in a cell of a table, without the modules before them.

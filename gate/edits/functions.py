@@ -9,8 +9,8 @@ import dataclasses
 import os
 import re
 
-from gate import collection
 from gate.commands import fail
+from gate.edits import collection
 from gate.repository import TESTS, TOP, crates, folder_of
 
 EXCEPTIONS = os.path.join(TOP, "gate", "exceptions.txt")

@@ -12,9 +12,10 @@ import os
 import re
 from typing import Iterable
 
-from gate import above, minutes
+from gate import minutes
 from gate.commands import print_line
-from gate.edit_files import Edit
+from gate.edits import above
+from gate.edits.edit_files import Edit
 from gate.repository import TOP, below, crates, folder_of
 
 FILE = os.path.join(TOP, "gate", "refused.tsv")

@@ -21,9 +21,10 @@ import re
 import signal
 import sys
 
-from gate import collection, lists
 from gate.commands import fail
-from gate.edit_files import Edit
+from gate.edits import collection
+from gate.edits.edit_files import Edit
+from gate.pages import lists
 from gate.repository import crates, folder_of
 
 # What the page says of them: how many no edit changes, and how many there are.

@@ -7,7 +7,7 @@ import shutil
 import subprocess
 import tempfile
 
-from gate import functions
+from gate.edits import functions
 from gate.repository import crates
 
 # The crates of such laws, by the crate whose definitions they pin.

@@ -6,9 +6,10 @@ import os
 import re
 import sys
 
-from gate import edit_files, toolchain
+from gate import toolchain
 from gate.commands import fail
-from gate.edit_files import Edit
+from gate.edits import edit_files
+from gate.edits.edit_files import Edit
 from gate.repository import crates, folder_of
 
 # A use that an edit puts in: of the `specs` of which crate, and what of its modules.

@@ -5,9 +5,9 @@ from __future__ import annotations
 import re
 from typing import Iterator
 
-from gate import definitions
 from gate.commands import fail
-from gate.lists import text_of
+from gate.pages import definitions
+from gate.pages.lists import text_of
 
 PAGE, TITLE, CRATE, FUNCTION = "docs/RULES.md", "Nights", "ocfl_night", "night"
 # A file of definitions with names of them: `Steps`: `IsLost`, `IsChanged`.

@@ -15,9 +15,10 @@ import tempfile
 import threading
 import time
 
-from gate import above, rounds, toolchain
-from gate.step import KEPT, NAMES_ALONE
+from gate import toolchain
 from gate.commands import fail, print_line
+from gate.edits import above, rounds
+from gate.edits.step import KEPT, NAMES_ALONE
 from gate.repository import TOP, below, copy_to, crates
 
 # How long the proof of a crate may take, and the check of each edit, in seconds.
@@ -153,7 +154,8 @@ def step(folder, key, waits, given, jobs):
     if not all(went_well(it, given[it]) for it in waits):
         return report_step(key, not_tried(key, "not tried, since a step before it failed"))
     names = [edit.name for edit in edits]
-    command = [sys.executable, "-B", "-m", "gate.step", folder, crate, kind, str(jobs), *names]
+    command = [sys.executable, "-B", "-m", "gate.edits.step", folder, crate, kind, str(jobs),
+               *names]
     limit = EDIT_LIMIT * len(edits) + (0 if kind == "edits" else PROOF_LIMIT)
     how = {"cwd": TOP, "stdin": subprocess.DEVNULL, "stdout": subprocess.PIPE, "text": True}
     how["env"] = {**os.environ, "TMPDIR": folder}

@@ -10,7 +10,7 @@ import textwrap
 from dataclasses import dataclass
 from typing import Callable, Iterator
 
-from gate.functions import seen_outside
+from gate.edits.functions import seen_outside
 from gate.repository import TESTS, TOP, crates, folder_of
 
 # The modules that have laws, beside those whose name says so.

@@ -9,7 +9,7 @@ import dataclasses
 import os
 import re
 
-from gate import functions
+from gate.edits import functions
 from gate.repository import folder_of
 
 # The most edits of one round, so that rounds can be shared among processors.

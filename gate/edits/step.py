@@ -13,7 +13,8 @@ import shutil
 import sys
 import tempfile
 
-from gate import above, collection, functions, rounds, toolchain
+from gate import toolchain
+from gate.edits import above, collection, functions, rounds
 from gate.repository import copy_or_link
 
 KEPT = "out/incremental"

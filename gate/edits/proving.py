@@ -6,13 +6,14 @@ a library reads its statements alone: so the edits of such a crate are tried ove
 just made, and need none of their own. And the edits stand in the same queue, so that they fill what
 proofs leave idle.
 
-Only edits that are due are tried, as `gate/due.py` says.
+Only edits that are due are tried, as `gate/edits/due.py` says.
 
 A line `edits: N passed, M failed` says how those went; the last line is that of `rt ci`."""
 import os
 import sys
 
-from gate import collection, due, toolchain, trying
+from gate import toolchain
+from gate.edits import collection, due, trying
 
 # On how many crates at most a library stands that is built with its proofs: each of their checks
 # reads those, which takes it seconds.

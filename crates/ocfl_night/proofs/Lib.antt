@@ -21,3 +21,4 @@ pub mod Newest
 pub mod Whole
 pub mod Beginnings
 pub mod Flushed
+pub mod Refusals

@@ -65,6 +65,7 @@ mod owning;
 mod pace;
 mod plan;
 mod refusal;
+mod refusal_laws;
 mod reports;
 mod saying;
 mod site;
@@ -86,6 +87,9 @@ pub use opening::{Opened, open};
 pub use output::{Flushing, Output, OutputFailed};
 pub use plan::{Clock, Halt, NightEnd, Plan};
 pub use refusal::{NotOpened, Refusal};
+pub use refusal_laws::{
+    each_refusal_of_a_folder_is_for_its_reason, each_refusal_of_a_root_is_for_its_reason,
+};
 pub use saying::speak;
 pub use site::Site;
 pub use slicing::{Made, SliceEnd, slice};

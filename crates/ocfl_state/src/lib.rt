@@ -24,6 +24,7 @@ mod held;
 pub mod laws;
 mod lock;
 mod memory;
+mod observed;
 mod pieces;
 mod state_file;
 
@@ -45,5 +46,6 @@ pub use fs_state::{FsState, OpenReport};
 pub use held::ClosedReport;
 pub use lock::StateStop;
 pub use memory::MemState;
+pub use observed::{Observed, Observer};
 pub use pieces::{PIECE_LEN, ReportDigests};
 pub use state_file::{Reason, StateFile};

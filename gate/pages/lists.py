@@ -19,7 +19,7 @@ CYCLE = [("ocfl_scrub", "cycling", "cycle")]
 NIGHTS = [("ocfl_night", "nights", "night"), ("ocfl_night", "laws", None)]
 # Crates of which no contract is named.
 WITHOUT_CONTRACTS = (TESTS, "ocfl_scrub_cli", "ocfl_files", "ocfl_closing", "ocfl_terminal",
-                     "ocfl_journal")
+                     "ocfl_journal", "ocfl_tasks")
 # A name of several words, as functions, types and definitions have.
 CITED = re.compile(r"`(?:\w+::)*([A-Za-z]\w*(?:[a-z][A-Z]|_)\w+)`")
 

@@ -1,15 +1,13 @@
-//! The program `ocfl-scrub`: its deeds over folders, showing what a file says, nights over a state
-//! folder, and the exit status.
+//! The program `ocfl-scrub`: which of its tasks is done, nights over a state folder, and the exit
+//! status.
 #![tactic(auto)]
 
 mod nights;
-mod saying;
-mod showing;
-mod tasks;
 
 use nights::make_night;
 use ocfl_closing::joining::join_parts;
 use ocfl_line::Asked;
+use ocfl_tasks::do_task;
 use ocfl_terminal::progress::{Terminals, find_terminals};
 use ocfl_terminal::splits::split_root;
 use ocfl_terminal::words::read_asked;
@@ -17,7 +15,6 @@ use std::fs::File;
 use std::process::ExitCode;
 use std::rt::{Env, Files};
 use std::time::Clock;
-use tasks::do_task;
 
 /// Does what is asked for, and gives the exit status.
 fn do_asked<R>(rt: &R, asked: &Asked, terminals: Terminals) -> u8

@@ -252,7 +252,7 @@ fn say_reason<R: Eprint>(rt: &R, done: &Done) {
 }
 
 /// Does what a task asks for, and gives the exit status.
-pub(crate) fn do_task<R>(rt: &R, task: &Task, terminals: Terminals) -> u8
+pub fn do_task<R>(rt: &R, task: &Task, terminals: Terminals) -> u8
 where
     R: Files + Env + AllocGlobal + Clock + Print + Eprint,
 {

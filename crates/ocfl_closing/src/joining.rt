@@ -8,13 +8,13 @@ use crate::part_facts::{
 use crate::room::Room;
 use crate::sound::is_sound;
 use ocfl_compare::{ClosedPart, MissingPart, PartFault, find_missing, join_part};
+use ocfl_disk::{OpenReport, StateFile};
 use ocfl_files::failing::{Failure, say_failure};
 use ocfl_files::making::failed_file;
 use ocfl_files::saying::STOPPED;
 use ocfl_line::JoinAsked;
 use ocfl_parts::{PartsStop, Separators, read_parts};
 use ocfl_scope::ScopeStop;
-use ocfl_state::{OpenReport, StateFile};
 use ocfl_telling::Shown;
 use std::alloc::{AllocError, Global};
 use std::fs::File;

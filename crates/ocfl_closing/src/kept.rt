@@ -4,9 +4,10 @@ use crate::room::Room;
 use crate::state::failed_folder;
 use crate::state_dir::Folder;
 use ocfl_cursor::Refused;
+use ocfl_disk::{OpenReport, StateFile};
 use ocfl_files::failing::Failure;
 use ocfl_files::making::failed_file;
-use ocfl_state::{Checkpoint, OpenReport, ReportDigests, ReportMark, StateFile, decode_checkpoint};
+use ocfl_state::{Checkpoint, ReportDigests, ReportMark, decode_checkpoint};
 use std::alloc::{AllocError, Global};
 use std::io::{self, Read};
 

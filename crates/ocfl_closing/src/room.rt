@@ -2,10 +2,10 @@
 
 use crate::kept::{find_names, is_as_closed, open_report, read_checkpoint};
 use crate::state::{hold_folder, open_state};
+use ocfl_disk::OpenReport;
 use ocfl_files::failing::Failure;
 use ocfl_files::files::open_if_there;
 use ocfl_files::making::{is_there, make_file, make_folder, put_made};
-use ocfl_state::OpenReport;
 use std::alloc::Global;
 use std::fs::{self, File};
 use std::io;

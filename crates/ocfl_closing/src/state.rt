@@ -3,10 +3,11 @@
 use crate::closed::places_of;
 use crate::stand::Standing;
 use crate::state_dir::{Folder, StateDir};
+use ocfl_disk::{Reason, StateFile, StateStop};
 use ocfl_files::failing::Failure;
 use ocfl_files::files::{folder_of, lies_inside, path_of};
 use ocfl_files::making::{FILE_MODE, failed_file, is_there};
-use ocfl_state::{Checkpoint, FolderTrouble, Reason, StateFile, StateStop, decode_checkpoint};
+use ocfl_state::{Checkpoint, FolderTrouble, decode_checkpoint};
 use ocfl_telling::{RefusalMessage, Shown, refusal_text};
 use ocfl_tree::Place;
 use std::alloc::{AllocError, Global};

@@ -1,6 +1,7 @@
 //! A state folder, as nights open it.
 
-use ocfl_state::{FolderTrouble, FsState, OpenReport, Reason, StateFolder, StateStop};
+use ocfl_disk::{FsState, OpenReport, Reason, StateStop};
+use ocfl_state::{FolderTrouble, StateFolder};
 use std::fs::File;
 use std::rt::Files;
 

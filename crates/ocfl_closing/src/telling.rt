@@ -2,9 +2,9 @@
 
 use crate::finding::lines_of;
 use crate::stand::Standing;
+use ocfl_disk::StateFile;
 use ocfl_files::reasons::{Reasons, reason_line, take_reasons};
 use ocfl_report::{Code, Line, TextStop, read_line, write_all_of};
-use ocfl_state::StateFile;
 use ocfl_telling::{Found, Gravest, Known, Night, SHOWN, night_text};
 use std::alloc::{AllocError, Global};
 use std::cell::Cell;

@@ -3,9 +3,10 @@
 use ocfl_closing::state::folder_failure;
 use ocfl_closing::state_dir::StateDir;
 use ocfl_cursor::State;
+use ocfl_disk::{FsLog, Reason};
 use ocfl_files::failing::{Failure, say_failure};
 use ocfl_files::timing::seconds_now;
-use ocfl_state::{Checkpoint, FsLog, Left, Reason};
+use ocfl_state::{Checkpoint, Left};
 use ocfl_telling::{LeftRow, LogRow, NightRow, RefusalRow, SliceRow, Stands, log_line};
 use std::alloc::{AllocError, Global};
 use std::cell::Cell;

@@ -7,12 +7,11 @@ use ocfl_closing::stand::Standing;
 use ocfl_closing::state::{Begun, open_state, read_begun};
 use ocfl_closing::state_dir::StateDir;
 use ocfl_closing::telling::Teller;
+use ocfl_disk::{Reason as StateReason, StateFile};
 use ocfl_files::failing::Failure;
 use ocfl_files::reasons::{Reason, Reasons, last_reason};
 use ocfl_report::Line;
-use ocfl_state::{
-    Checkpoint, FolderTrouble, Reason as StateReason, StateFile, StateFolder, decode_checkpoint,
-};
+use ocfl_state::{Checkpoint, FolderTrouble, StateFolder, decode_checkpoint};
 use std::alloc::{AllocError, Global};
 use std::cell::Cell;
 use std::fs::File;

@@ -8,4 +8,3 @@ pub mod CheckpointLines
 pub mod CheckpointShown
 pub mod Pieces
 pub mod Finding
-pub mod Reasons

@@ -1,6 +1,6 @@
 //! The state folder of a fixity auditor: a checkpoint with its text, the open cycle's report, the
 //! reports of earlier cycles, and what a crash may leave of them. One is in memory, and loses what
-//! a power cut takes; one is in the file system. The digests of a report by pieces.
+//! a power cut takes. The digests of a report by pieces.
 #![tactic(auto)]
 
 mod checkpoint;
@@ -14,19 +14,14 @@ mod checkpoint_left;
 mod checkpoint_parts;
 mod checkpoint_showing;
 mod comparing;
-mod disk;
 mod extending;
 mod finding;
 mod folder;
-mod fs_log;
-mod fs_state;
 mod held;
 pub mod laws;
-mod lock;
 mod memory;
 mod observed;
 mod pieces;
-mod state_file;
 
 pub use checkpoint::Checkpoint;
 pub use checkpoint_decoding::decode_checkpoint;
@@ -41,11 +36,7 @@ pub use comparing::{digests_of_front, digests_of_report, is_report_of, resume_di
 pub use extending::append_marked;
 pub use finding::{FoundReport, find_report, may_close_whole};
 pub use folder::{FolderTrouble, MOST_CHECKPOINT, StateFolder};
-pub use fs_log::FsLog;
-pub use fs_state::{FsState, OpenReport};
 pub use held::ClosedReport;
-pub use lock::StateStop;
 pub use memory::MemState;
 pub use observed::{Observed, Observer};
 pub use pieces::{PIECE_LEN, ReportDigests};
-pub use state_file::{Reason, StateFile};

@@ -3,11 +3,12 @@
 use ocfl_closing::state::words_of;
 use ocfl_closing::telling::Names;
 use ocfl_cursor::Refused;
+use ocfl_disk::Reason;
 use ocfl_item::Fault;
 use ocfl_journal::ending::Ended;
 use ocfl_journal::noting::Told;
 use ocfl_night::{Halt, NightEnd, Refusal, Stop, status_found, status_of};
-use ocfl_state::{FolderTrouble, Reason};
+use ocfl_state::FolderTrouble;
 use ocfl_telling::{RefusalMessage, StopMessage, refusal_text, stop_text};
 use std::alloc::{AllocError, Global};
 

@@ -1,6 +1,7 @@
 //! The state folder of the file system.
 use crate::tests::common::Runtime;
-use ocfl_state::{FolderTrouble, FsLog, FsState, StateFile, StateFolder, StateStop};
+use ocfl_disk::{FsLog, FsState, StateFile, StateStop};
+use ocfl_state::{FolderTrouble, StateFolder};
 use std::io::Read;
 use std::rt::Files;
 use std::test::Fail;

@@ -24,7 +24,7 @@ pub enum StateStop {
 
 impl From<Reason> for StateStop {
     ghost use Rattle.std.specs.Prelude.{◌≡◌};
-    ghost use Rattle.ocfl_state.specs.declared.lock.StateStop.TheVariants.{Failed};
+    ghost use Rattle.ocfl_disk.specs.declared.lock.StateStop.TheVariants.{Failed};
 
     ghost from_gives = { λ reason stop. stop ≡ Failed reason };
 

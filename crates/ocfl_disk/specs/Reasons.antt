@@ -3,7 +3,7 @@ use Rattle.std.specs.{Prelude.{◌≡◌, ◌≢◌, ◌⊎◌, ◌↔◌, Optio
 use Rattle.std.specs.declared.io.ErrorKind.TheVariants.{StorageFull, QuotaExceeded, OutOfMemory}
 use Rattle.ocfl_state.specs.declared.folder.FolderTrouble.{FolderTrouble}
 use Rattle.ocfl_state.specs.declared.folder.FolderTrouble.TheVariants.{Full, Memory, Taken}
-use Rattle.ocfl_state.specs.declared.state_file.Reason.{Reason}
+use Rattle.ocfl_disk.specs.declared.state_file.Reason.{Reason}
 
 -- a full device or quota is told apart, and memory that ran out
 pub record IsTroubleOf (reason : Reason) (trouble : FolderTrouble) : Type 0 where

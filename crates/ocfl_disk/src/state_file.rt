@@ -1,7 +1,7 @@
 //! What is in a state folder, and why a call of the system on it failed.
-ghost use Rattle.ocfl_state.specs.Reasons.{IsTroubleOf};
+ghost use Rattle.ocfl_disk.specs.Reasons.{IsTroubleOf};
 
-use crate::folder::FolderTrouble;
+use ocfl_state::FolderTrouble;
 use std::io::ErrorKind;
 use std::{fmt, io};
 

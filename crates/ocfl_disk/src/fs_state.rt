@@ -1,12 +1,13 @@
 //! A state folder of the file system.
 ghost use Rattle.std.specs.Prelude.{◌≡◌, ◌≤◌, ◌⊎◌, IfOk, IfSome, OnOk, IfErr, None, Ok, length};
-ghost use Rattle.ocfl_state.specs.{Calls.{most_checkpoint}, Reasons.{IsKept}};
+ghost use Rattle.ocfl_state.specs.Calls.{most_checkpoint};
+ghost use Rattle.ocfl_disk.specs.Reasons.{IsKept};
 
 use crate::disk::{Disk, for_appending, for_reading, length_of, of_file, wrong};
-use crate::folder::{FolderTrouble, MOST_CHECKPOINT, StateFolder};
 use crate::fs_log::append_line;
 use crate::lock::{StateStop, hold};
 use crate::state_file::{Reason, StateFile, closed_file};
+use ocfl_state::{FolderTrouble, MOST_CHECKPOINT, StateFolder};
 use std::alloc::Global;
 use std::fs::File;
 use std::io::{self, ErrorKind, Read, Write};
@@ -56,7 +57,7 @@ impl<R: Files<File = File> + AllocGlobal + Clone + Drop> Drop for FsState<R> {
 /// Its value in clauses: why the last call failed that did.
 impl<R: Files<File = File> + AllocGlobal + Clone + Drop> Model for FsState<R> {
     ghost use Rattle.std.specs.Prelude.{Option};
-    ghost use Rattle.ocfl_state.specs.declared.state_file.Reason.{Reason as KeptReason};
+    ghost use Rattle.ocfl_disk.specs.declared.state_file.Reason.{Reason as KeptReason};
 
     ghost Value = { Option KeptReason };
 

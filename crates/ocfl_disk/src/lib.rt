@@ -1,0 +1,14 @@
+//! The state folder of a fixity auditor in the file system, which is held for one process alone,
+//! and its log.
+#![tactic(auto)]
+
+mod disk;
+mod fs_log;
+mod fs_state;
+mod lock;
+mod state_file;
+
+pub use fs_log::FsLog;
+pub use fs_state::{FsState, OpenReport};
+pub use lock::StateStop;
+pub use state_file::{Reason, StateFile};

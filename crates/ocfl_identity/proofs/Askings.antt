@@ -1,15 +1,15 @@
 -- What a store is asked while declarations are read.
-use Rattle.std.proofs.Common.{◌≡◌, ◌⊎◌, inl, inr, ◌∙◌, ℕ, true, false, List, [], ◌∷◌, ◌++◌, drop, length, refl, sym, ap, subst, Option, Some, None, Result, Ok, Err, append_assoc, append-nil}
+use Rattle.std.proofs.Common.{◌≡◌, ◌⊎◌, inl, inr, ◌∙◌, ℕ, suc, zero, true, false, List, [], ◌∷◌, ◌++◌, drop, length, refl, sym, ap, subst, Option, Some, None, Result, Ok, Err, append_assoc, append-nil}
 use Rattle.std.specs.{Prelude.{IfErr, String, string_bytes}, Option.{option_map}}
 use Rattle.std.specs.declared.alloc.Global.{Global}
-use Rattle.ocfl_tree.specs.{Place.{Text, Place}, StorageRoot.{StorageRoot, file_at}}
+use Rattle.ocfl_tree.specs.{Place.{Text, Place}, Ascending.{IsAmong}, StorageRoot.{StorageRoot, file_at}}
 use Rattle.ocfl_tree.specs.{Store.{Store, Did}, Calls.{ListFails, opening}, declared.store.Opening.{Opening}}
 use Rattle.ocfl_tree.specs.declared.store.Trouble.{Trouble}
 use Rattle.ocfl_tree.specs.declared.store.Trouble.TheVariants as trouble
-use Rattle.ocfl_tree.proofs.Stores.{did_nothing, did_then}
+use Rattle.ocfl_tree.proofs.{Orders.{among_left, among_right}, Stores.{among_either, did_nothing, did_then}}
 use Rattle.ocfl_digest.specs.{Hashing.{StopsHashing}, declared.stop.Cause.{Cause}}
 use Rattle.ocfl_digest.specs.declared.stop.Cause.TheVariants.{Device, Absent, Memory, TooLong}
-use Rattle.ocfl_identity.specs.Identity.{IsUnread, in_listing, in_opening, too_long, OpensFirst, digits_of, opened_then, openings_of}
+use Rattle.ocfl_identity.specs.Identity.{AreNamed, IsUnread, in_listing, in_opening, too_long, OpensFirst, digits_of, opened_then, openings_of}
 
 -- the openings of the names before an index were made
 pub record AreOpened (root : StorageRoot) (s t : Store) (names : List Text) (start : ℕ) : Type 0 where
@@ -49,6 +49,48 @@ opened_some root s t u names rest n i h first gone did =
     (ap (λ os. h.done ++ os) (sym (opens_none root n rest gone) ∙ ap (openings_of root) (sym first)) ∙ h.is)
     (did_then s t u h.done [] [] [] 0 h.did nothing)
 
+-- ---- which files are opened
+
+one_named : (n : Text) (o : Opening) → o.place ≡ n ∷ [] → AreNamed (n ∷ []) (o ∷ [])
+one_named n o at x (inl is) = (n, (inl refl, ap (λ (y : Opening). y.place) is ∙ at))
+one_named n o at x (inr none) = absurd none
+
+both_named : (names : List Text) (xs ys : List Opening) → AreNamed names xs → AreNamed names ys → AreNamed names (xs ++ ys)
+both_named names xs ys first then o is = by (among_either xs ys o is)
+  where
+    by : IsAmong xs o ⊎ IsAmong ys o → (n : Text) × (IsAmong names n × (o.place ≡ n ∷ []))
+    by (inl i) = first o i
+    by (inr i) = then o i
+
+pub opens_named : (root : StorageRoot) (names : List Text) → AreNamed names (openings_of root names)
+opens_named root [] o is = absurd is
+opens_named root (n ∷ names) o is = by (opens_named root names o) (file_at root (n ∷ [])) is
+  where
+    by : (IsAmong (openings_of root names) o → (m : Text) × (IsAmong names m × (o.place ≡ m ∷ []))) → (file : Option Text) → IsAmong (opened_then n file (openings_of root names)) o → (m : Text) × (IsAmong (n ∷ names) m × (o.place ≡ m ∷ []))
+    by later None none = absurd none
+    by later (Some bytes) (inl it) = (n, (inl refl, ap (λ (y : Opening). y.place) it))
+    by later (Some bytes) (inr more) = let k = later more in (k.0, (inr k.1.0, k.1.1))
+
+-- the name at an index is one of them
+name_at : (names : List Text) (n : Text) (rest : List Text) (i : ℕ) → drop i names ≡ n ∷ rest → IsAmong names n
+name_at [] n rest zero is = absurd (cc is)
+name_at [] n rest (suc i) is = absurd (cc is)
+name_at (m ∷ names) n rest zero is = inl (cc is)
+name_at (m ∷ names) n rest (suc i) is = inr (name_at names n rest i is)
+
+-- what is opened of one of them
+among_named : (names : List Text) (n : Text) (os : List Opening) → IsAmong names n → AreNamed (n ∷ []) os → AreNamed names os
+among_named names n os there one o is = by (one o is)
+  where
+    by : (m : Text) × (IsAmong (n ∷ []) m × (o.place ≡ m ∷ [])) → (m : Text) × (IsAmong names m × (o.place ≡ m ∷ []))
+    by (m, (inl same, at)) = (n, (there, at ∙ ap (λ (x : Text). x ∷ []) same))
+    by (m, (inr none, at)) = absurd none
+
+-- those of the first of them
+first_named : (root : StorageRoot) (s t : Store) (names : List Text) (i : ℕ) (h : AreOpened root s t names i) → AreNamed names h.done
+first_named root s t names i h o is =
+    opens_named root names o (subst (λ os. IsAmong os o) h.is (among_left h.done (openings_of root (drop i names)) o is))
+
 -- ---- one file
 
 pub file_hashed : (root : StorageRoot) (s t : Store) (n : Text) (p : Place) (given : ℕ) (bytes : Text) → p ≡ n ∷ [] → file_at root p ≡ Some bytes → given ≡ length bytes
@@ -65,12 +107,12 @@ file_absent root s t n p given cause at is h =
     let gone : file_at root (n ∷ []) ≡ None = ap (file_at root) (sym at) ∙ stops.fits.0 in
     subst (λ os. Did s t os [] 0) (sym (opens_none root n [] gone)) stops.did
 
-pub file_unread : (root : StorageRoot) (s t : Store) (p q : Place) (given : ℕ) (cause : Cause) → (cause ≡ Device) ⊎ (cause ≡ TooLong) → p ≡ q → StopsHashing root s t p given cause
-    → IsUnread root s t [] q
-file_unread root s t p q given cause (inl is) e h =
+pub file_unread : (root : StorageRoot) (s t : Store) (n : Text) (p q : Place) (given : ℕ) (cause : Cause) → p ≡ n ∷ [] → (cause ≡ Device) ⊎ (cause ≡ TooLong) → p ≡ q → StopsHashing root s t p given cause
+    → IsUnread root s t (n ∷ []) [] q
+file_unread root s t n p q given cause at (inl is) e h =
     let stops : StopsHashing root s t p given Device = subst (StopsHashing root s t p given) is h in
-    in_opening [] given (subst (λ x. Did s t (opening x given true ∷ []) [] 1) e stops.did)
-file_unread root s t p q given cause (inr is) e h =
+    in_opening [] given (one_named n (opening q given true) (sym e ∙ at)) (subst (λ x. Did s t (opening x given true ∷ []) [] 1) e stops.did)
+file_unread root s t n p q given cause at (inr is) e h =
     let stops : StopsHashing root s t p given TooLong = subst (StopsHashing root s t p given) is h in
     too_long stops.fits.0 (ap (file_at root) (sym e) ∙ stops.fits.1) stops.fits.2
 
@@ -85,22 +127,29 @@ file_there found digits (Some bytes) some e = (bytes, refl)
 
 -- ---- a place that could not be read
 
-pub unread_behind : (root : StorageRoot) (s t u : Store) (done : List Opening) (first listed : List Place) (p : Place) → Did s t done first 0 → IsUnread root t u [] p
-    → first ≡ listed → IsUnread root s u listed p
-unread_behind root s t u done first listed p h (in_listing top is did) e = let two : [] ≡ p ∷ [] = is in cc
-unread_behind root s t u done first listed p h (in_opening before given did) e =
+pub unread_behind : (root : StorageRoot) (s t u : Store) (names few : List Text) (done : List Opening) (first listed : List Place) (p : Place) → AreNamed names done → ((os : List Opening) → AreNamed few os → AreNamed names os) → Did s t done first 0 → IsUnread root t u few [] p
+    → first ≡ listed → IsUnread root s u names listed p
+unread_behind root s t u names few done first listed p named more h (in_listing top is did) e = let two : [] ≡ p ∷ [] = is in cc
+unread_behind root s t u names few done first listed p named more h (in_opening before given are did) e =
     in_opening (done ++ before) given
+    (subst (AreNamed names) (sym (append_assoc done before (opening p given true ∷ []))) (both_named names done (before ++ opening p given true ∷ []) named (more (before ++ opening p given true ∷ []) are)))
     (subst (λ ls. Did s u ((done ++ before) ++ opening p given true ∷ []) ls 1) (append-nil first ∙ e)
     (subst (λ os. Did s u os (first ++ []) 1) (sym (append_assoc done before (opening p given true ∷ [])))
     (did_then s t u done (before ++ opening p given true ∷ []) first [] 1 h did)))
-unread_behind root s t u done first listed p h (too_long bytes is long) e = too_long bytes is long
+unread_behind root s t u names few done first listed p named more h (too_long bytes is long) e = too_long bytes is long
+
+-- the next of them could not be
+pub unread_next : (root : StorageRoot) (s t u : Store) (names rest : List Text) (n : Text) (i : ℕ) (p : Place) (h : AreOpened root s t names i) → drop i names ≡ n ∷ rest → IsUnread root t u (n ∷ []) [] p → IsUnread root s u names [] p
+unread_next root s t u names rest n i p h first unread =
+    unread_behind root s t u names (n ∷ []) h.done [] [] p (first_named root s t names i h) (λ os one. among_named names n os (name_at names n rest i first) one) h.did unread refl
 
 -- after the listing of the top folder
 pub opened_listed : (s t u : Store) (p : Place) (os : List Opening) → p ≡ [] → Did s t [] (p ∷ []) 0 → Did t u os [] 0 → Did s u os ([] ∷ []) 0
 opened_listed s t u p os top h did = did_then s t u [] os ([] ∷ []) [] 0 (subst (λ q. Did s t [] (q ∷ []) 0) top h) did
 
-pub unread_listed : (root : StorageRoot) (s t u : Store) (p q : Place) → p ≡ [] → Did s t [] (p ∷ []) 0 → IsUnread root t u [] q → IsUnread root s u ([] ∷ []) q
-unread_listed root s t u p q top h unread = unread_behind root s t u [] ([] ∷ []) ([] ∷ []) q (subst (λ x. Did s t [] (x ∷ []) 0) top h) unread refl
+pub unread_listed : (root : StorageRoot) (s t u : Store) (names few : List Text) (p q : Place) → p ≡ [] → few ≡ names → Did s t [] (p ∷ []) 0 → IsUnread root t u few [] q → IsUnread root s u names ([] ∷ []) q
+unread_listed root s t u names few p q top same h unread =
+    unread_behind root s t u names few [] ([] ∷ []) ([] ∷ []) q (λ o none. absurd none) (λ os are. subst (λ ns. AreNamed ns os) same are) (subst (λ x. Did s t [] (x ∷ []) 0) top h) unread refl
 
 -- with nothing after it
 pub listed_alone : (s t u : Store) (p : Place) → p ≡ [] → Did s t [] (p ∷ []) 0 → u ≡ t → Did s u [] ([] ∷ []) 0

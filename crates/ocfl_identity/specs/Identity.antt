@@ -4,7 +4,7 @@ use Rattle.std.specs.Prelude.{◌≡◌, ◌≤◌, ◌^◌, ℕ, true, false, L
 use Rattle.std.specs.Option.{option_map}
 use Rattle.sha2.specs.Sha256.{sha256}
 use Rattle.hex.specs.Hex.{encode_lower}
-use Rattle.ocfl_tree.specs.{Place.{Text, Place}, StorageRoot.{StorageRoot, file_at}}
+use Rattle.ocfl_tree.specs.{Place.{Text, Place}, Ascending.{IsAmong}, StorageRoot.{StorageRoot, file_at}}
 use Rattle.ocfl_tree.specs.{Listing.{entries_in}, Store.{Store, Did}, Calls.{opening}}
 use Rattle.ocfl_tree.specs.{declared.store.Entry.{Entry}, declared.store.Opening.{Opening}}
 use Rattle.ocfl_inventory.specs.Entries.{is_counted}
@@ -70,10 +70,14 @@ pub record OpensFirst (s t : Store) (openings : List Opening) (listed : List Pla
   pub are : made ++ rest ≡ openings
   pub did : Did s t made listed 0
 
--- A place could not be read, if these directories are listed: the device failed in the listing
--- of the top folder, or in the opening of a file, which was the last call; or the file has 2^62
--- bytes or more.
-pub data IsUnread (root : StorageRoot) (s t : Store) (listed : List Place) (p : Place) : Type 0 where
-  in_listing : p ≡ [] → listed ≡ p ∷ [] → Did s t [] listed 1 → IsUnread root s t listed p
-  in_opening : (before : List Opening) (given : ℕ) → Did s t (before ++ opening p given true ∷ []) listed 1 → IsUnread root s t listed p
-  too_long : (bytes : Text) → file_at root p ≡ Some bytes → 2 ^ 62 ≤ length bytes → IsUnread root s t listed p
+-- each of these openings is of a file with one of these names in the top folder
+abbrev pub AreNamed : List Text → List Opening → Type 0
+AreNamed names openings = (o : Opening) → IsAmong openings o → (n : Text) × (IsAmong names n × (o.place ≡ n ∷ []))
+
+-- A place could not be read, if these directories are listed, and of files only those with these names
+-- in the top folder are opened: the device failed in the listing of the top folder, or in the opening
+-- of a file, which was the last call; or the file has 2^62 bytes or more.
+pub data IsUnread (root : StorageRoot) (s t : Store) (names : List Text) (listed : List Place) (p : Place) : Type 0 where
+  in_listing : p ≡ [] → listed ≡ p ∷ [] → Did s t [] listed 1 → IsUnread root s t names listed p
+  in_opening : (before : List Opening) (given : ℕ) → AreNamed names (before ++ opening p given true ∷ []) → Did s t (before ++ opening p given true ∷ []) listed 1 → IsUnread root s t names listed p
+  too_long : (bytes : Text) → file_at root p ≡ Some bytes → 2 ^ 62 ≤ length bytes → IsUnread root s t names listed p

@@ -46,7 +46,8 @@ fn sum_of_file<T: Tree>(
         Did (T.state store.old) (T.state store.new) (openings_of root (name.now ∷ [])) [] 0)) }
     ensures unread { IfTold T.told (T.state store.old) (λ root. IfErr result (λ why.
         (p : ModelPlace) → why ≡ NoIdentity.Unread p
-        → IsUnread root (T.state store.old) (T.state store.new) [] p)) }
+        → IsUnread root (T.state store.old) (T.state store.new)
+        (name.now ∷ []) [] p)) }
     ensures refused { IfTold T.told (T.state store.old) (λ root. IfErr result (λ why.
         why ≡ NoIdentity.Memory → OpensFirst (T.state store.old) (T.state store.new)
         (openings_of root (name.now ∷ [])) [])) }
@@ -92,7 +93,7 @@ pub(crate) fn hash_declarations<T: Tree>(
         Did (T.state store.old) (T.state store.new) (openings_of root names.now) [] 0)) }
     ensures unread { IfTold T.told (T.state store.old) (λ root. IfErr result (λ why.
         (p : ModelPlace) → why ≡ NoIdentity.Unread p
-        → IsUnread root (T.state store.old) (T.state store.new) [] p)) }
+        → IsUnread root (T.state store.old) (T.state store.new) names.now [] p)) }
     ensures refused { IfTold T.told (T.state store.old) (λ root. IfErr result (λ why.
         why ≡ NoIdentity.Memory → OpensFirst (T.state store.old) (T.state store.new)
         (openings_of root names.now) [])) }

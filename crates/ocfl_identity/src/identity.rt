@@ -67,7 +67,8 @@ pub fn look_at_root<T: Tree>(
         (openings_of root identity.declarations.items) ([] ∷ []) 0)) }
     ensures unread { IfTold T.told (T.state store.old) (λ root. IfErr result (λ why.
         (p : ModelPlace) → why ≡ NoIdentity.Unread p
-        → IsUnread root (T.state store.old) (T.state store.new) ([] ∷ []) p)) }
+        → IsUnread root (T.state store.old) (T.state store.new)
+        (declarations_among (entries_in root [])) ([] ∷ []) p)) }
     // Where memory was refused, nothing was asked, or the top folder was listed and the first of
     // its declarations were opened, each once.
     ensures refused { IfTold T.told (T.state store.old) (λ root. IfErr result (λ why.
@@ -104,7 +105,8 @@ fn identify<T: Tree>(
         (openings_of root identity.declarations.items) [] 0)) }
     ensures unread { IfTold T.told (T.state store.old) (λ root. entries.now ≡ entries_in root []
         → IfErr result (λ why. (p : ModelPlace) → why ≡ NoIdentity.Unread p
-        → IsUnread root (T.state store.old) (T.state store.new) [] p)) }
+        → IsUnread root (T.state store.old) (T.state store.new)
+        (declarations_among entries.now) [] p)) }
     ensures refused { IfTold T.told (T.state store.old) (λ root. IfErr result (λ why.
         why ≡ NoIdentity.Memory → OpensFirst (T.state store.old) (T.state store.new)
         (openings_of root (declarations_among entries.now)) [])) }
@@ -143,7 +145,8 @@ pub fn is_still_declared<T: Tree>(
         (openings_of root identity.now.declarations.items) [] 0)) }
     ensures unread { IfTold T.told (T.state store.old) (λ root. IfErr result (λ why.
         (p : ModelPlace) → why ≡ NoIdentity.Unread p
-        → IsUnread root (T.state store.old) (T.state store.new) [] p)) }
+        → IsUnread root (T.state store.old) (T.state store.new)
+        identity.now.declarations.items [] p)) }
     // Where memory was refused, the first of them were opened, each once.
     ensures refused { IfTold T.told (T.state store.old) (λ root. IfErr result (λ why.
         why ≡ NoIdentity.Memory → OpensFirst (T.state store.old) (T.state store.new)

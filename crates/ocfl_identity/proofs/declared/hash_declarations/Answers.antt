@@ -2,16 +2,19 @@ use Rattle.std.proofs.Common.{◌∙◌, ◌+◌, ◌++◌, ◌∷◌, [], Some,
 use Rattle.std.proofs.{lemmas.List.{drop_all, drop_more}, lemmas.Result.{err_from_is_err_and}}
 use Rattle.std.specs.{Prelude.{string_bytes}, Option.{option_map}}
 use Rattle.ocfl_tree.specs.StorageRoot.{file_at}
-use Rattle.ocfl_identity.proofs.Askings.{file_there, first_names, gone_file, opened_all, opened_next, opened_some, unread_behind}
+use Rattle.ocfl_identity.proofs.Askings.{file_there, first_names, gone_file, opened_all, opened_next, opened_some, unread_next}
 use Rattle.ocfl_identity.proofs.Sums.{before_next}
 use Rattle.ocfl_identity.specs.Identity.{digits_of, sum_line}
 use Rattle.ocfl_identity.proofs.declared.hash_declarations.Goals as goal
 
 pub returns-in_err-digits-clause-unread : goal.returns-in_err-digits-clause-unread
 returns-in_err-digits-clause-unread g c = λ told root is.
-    let a = c.loop-name.invariant.opened told root is in
+    let names = c.args.names.now in
+    let i = c.loop-name.name-index in
+    let n = c.name-item.result in
+    let first = drop_more names i n c.loop-name-test.true ∙ ap (λ y. y ∷ drop (i + 1) names) (sym c.name-item.is) in
     let p = err_from_is_err_and c.from_residual.result c.from_residual.ensures.1 in
-    rw (p.1, p.2) (λ q e. unread_behind root _ _ _ a.done [] [] q a.did (c.in_err-digits.ensures.unread told root (c.loop-name.invariant.keeps told ∙ is) q e) refl)
+    rw (p.1, p.2) (λ q e. unread_next root _ _ _ names (drop (i + 1) names) n i q (c.loop-name.invariant.opened told root is) first (c.in_err-digits.ensures.unread told root (c.loop-name.invariant.keeps told ∙ is) q e))
 
 pub returns-in_default-clause-opened : goal.returns-in_default-clause-opened
 returns-in_default-clause-opened g c = λ told root is.

@@ -40,7 +40,7 @@ returns-in-Absent-clause-opened g c = λ told root is.
 
 pub returns-in-Device-clause-unread : goal.returns-in-Device-clause-unread
 returns-in-Device-clause-unread g c = λ told root is q e.
-    file_unread root _ _ c.in_ok-place.place q _ c.in-Err.stop.cause c.in-Device.is (cc e) (c.in-Err.ensures.hashes told root is)
+    file_unread root _ _ c.args.name.now c.in_ok-place.place q _ c.in-Err.stop.cause (c.in_ok-place.ensures ∙ ap (λ d. d ++ c.args.name.now ∷ []) c.root.ensures) c.in-Device.is (cc e) (c.in-Err.ensures.hashes told root is)
 
 pub returns-in_err-place-clause-refused : goal.returns-in_err-place-clause-refused
 returns-in_err-place-clause-refused g c = λ told root is. err_always c.from_residual.result (λ why memory. first_none _ _)

@@ -1,6 +1,6 @@
 use Rattle.std.proofs.{Common.{◌∙◌, [], ap, sym, subst}, lemmas.Result.{err_from_is_err_and}}
 use Rattle.ocfl_tree.specs.Store.{Did}
-use Rattle.ocfl_identity.specs.Identity.{OpensFirst, declarations_among, declared_by, openings_of}
+use Rattle.ocfl_identity.specs.Identity.{IsUnread, OpensFirst, declarations_among, declared_by, openings_of}
 use Rattle.ocfl_identity.proofs.{Askings.{err_always, first_none}, Ordered.{declared_there}}
 use Rattle.ocfl_identity.proofs.identity.identify.Goals as goal
 
@@ -19,3 +19,8 @@ pub returns-in_err-declared-clause-refused : goal.returns-in_err-declared-clause
 returns-in_err-declared-clause-refused g c = λ told root is.
     let p = err_from_is_err_and c.from_residual-in_err-declared.result c.from_residual-in_err-declared.ensures.1 in
     rw (p.1, p.2) (λ memory. subst (λ ns. OpensFirst (g.T.Tree.state c.args.store.now) (g.T.Tree.state c.hash_declarations.new.store) (openings_of root ns) []) (c.deref.ensures.value ∙ c.in_ok-declarations.ensures) (c.in_err-declared.ensures.refused told root is memory))
+
+pub returns-in_err-declared-clause-unread : goal.returns-in_err-declared-clause-unread
+returns-in_err-declared-clause-unread g c = λ told root is listed.
+    let p = err_from_is_err_and c.from_residual-in_err-declared.result c.from_residual-in_err-declared.ensures.1 in
+    rw (p.1, p.2) (λ q e. subst (λ ns. IsUnread root (g.T.Tree.state c.args.store.now) (g.T.Tree.state c.hash_declarations.new.store) ns [] q) (c.deref.ensures.value ∙ c.in_ok-declarations.ensures) (c.in_err-declared.ensures.unread told root is q e))

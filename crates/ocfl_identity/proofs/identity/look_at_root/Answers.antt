@@ -35,9 +35,9 @@ returns-clause-unread g c = λ told root is.
     let l = c.in-Ok.ensures.lists told in
     let listing : IsListing root [] c.in-Ok.entries.items =
     subst (λ r. IsListing r [] c.in-Ok.entries.items) is (subst (λ p. IsListing (g.T.Tree.state c.args.store.now).tree p c.in-Ok.entries.items) c.root-top.ensures l.entries) in
-    IfErr-weaker c.identify.result _ _ (λ why h p e. unread_listed root _ _ _ _ p c.root-top.ensures l.did (h p e))
-    (c.identify.ensures.unread told root (l.did.tree ∙ is)
-    (c.deref.ensures.value ∙ sorted_listing root [] c.in-Ok.entries.items c.sort.new.entries.items c.in-Ok.ensures.ordinary listing c.sort.ensures.permutation c.sort.ensures.sorted))
+    let entries = c.deref.ensures.value ∙ sorted_listing root [] c.in-Ok.entries.items c.sort.new.entries.items c.in-Ok.ensures.ordinary listing c.sort.ensures.permutation c.sort.ensures.sorted in
+    IfErr-weaker c.identify.result _ _ (λ why h p e. unread_listed root _ _ _ _ _ _ p c.root-top.ensures (ap declarations_among entries) l.did (h p e))
+    (c.identify.ensures.unread told root (l.did.tree ∙ is) entries)
 
 pub returns-in-Err-Memory-clause-refused : goal.returns-in-Err-Memory-clause-refused
 returns-in-Err-Memory-clause-refused g c = λ told root is memory. inl (list_refused _ _ _ _ c.in-Err-Memory.field-0-is (c.in-Err-Memory.ensures.lists told))

@@ -48,6 +48,7 @@ share/doc/ocfl-scrub/docs/TOOLCHAIN.md 644
 share/doc/ocfl-scrub/docs/TRIED.md 644
 share/doc/ocfl-scrub/nights/CLUSTERS.md 644
 share/doc/ocfl-scrub/nights/FAQ.md 644
+share/doc/ocfl-scrub/nights/LOG.md 644
 share/doc/ocfl-scrub/nights/README.md 644
 share/doc/ocfl-scrub/nights/REPAIR.md 644
 share/doc/ocfl-scrub/nights/REPORTS.md 644
@@ -58,6 +59,7 @@ share/ocfl-scrub/BUILD 644
 share/ocfl-scrub/CLUSTERS.md 644
 share/ocfl-scrub/FAQ.md 644
 share/ocfl-scrub/INSTALLED 644
+share/ocfl-scrub/LOG.md 644
 share/ocfl-scrub/README.md 644
 share/ocfl-scrub/REPAIR.md 644
 share/ocfl-scrub/REPORTS.md 644

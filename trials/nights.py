@@ -56,7 +56,7 @@ def plain_nights(folder):
           ["checkpoint-000001", "cycle-000001", "gone-000001", "statement-000001",
            "statement-000001.json"])
     check("the log", [row["row"] for row in nights.rows()],
-          ["slice", "night", "slice", "closing", "night"])
+          ["began", "slice", "night", "began", "slice", "closing", "night"])
     write(nights.root + "/o/v1/content/b", "b")
     status, out, said = nights.night()
     check("a finding", (status, WRONG_B in out, said), (1, True, ""))

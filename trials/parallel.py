@@ -371,11 +371,16 @@ def closed_output(folder):
     check("then it is said", lines_in_message(nights.end()[1]), findings(audit(nights.root)))
 
 
+def rows_of_parts(nights):
+    """What the rows in the log of each part are of."""
+    return [[row["row"] for row in nights.rows(number)] for number in range(1, 5)]
+
+
 def ends(folder):
     """An end by the clock is one for all parts, and a part after it counts as run."""
     nights = Together(folder + "/state", small_root(folder))
     check("over before it begins", nights.night("--end", "5"), (0, "", ""))
-    check("each part has its row", [len(nights.rows(number)) for number in range(1, 5)], [1] * 4)
+    check("each part has its rows", rows_of_parts(nights), [["began", "night"]] * 4)
     check("by hours", nights.night("--hours", "0.0001", "--budget", "1")[0], 0)
     for zone, until in [("UTC", "23:59"), ("Europe/Berlin", "02:30")]:
         check("until " + until, nights.night("--until", until, TZ=zone)[0], 0)
@@ -428,7 +433,7 @@ def two_at_once(folder):
     nights.night("--end", "5")
     status, out, said = ran(["flock", nights.path("lock.nightly"), *nights.words()])
     check("75", (status, out, "another night still runs" in said), (75, "", True))
-    check("no part made a night", [len(nights.rows(number)) for number in range(1, 5)], [1] * 4)
+    check("no part made a night", rows_of_parts(nights), [["began", "night"]] * 4)
 
 
 def room(folder):

@@ -83,6 +83,14 @@ impl Pair {
             None => 0,
         }
     }
+
+    /// The number of the last whole cycle, if it is compared with that too; else 0.
+    pub(crate) fn compared_whole(&self) -> u64 {
+        match &self.whole {
+            Some(whole) => whole.cycle,
+            None => 0,
+        }
+    }
 }
 
 /// The path of the earlier report that one is compared with. Empty without such a report.
@@ -154,6 +162,11 @@ impl Account {
         self.changes
             .appeared_count
             .saturating_sub(self.findings.known)
+    }
+
+    /// How many findings are new of those that are known.
+    pub(crate) fn known(&self) -> u64 {
+        self.changes.known_count.saturating_add(self.findings.known)
     }
 
     /// How many objects are back.

@@ -10,6 +10,41 @@ use std::alloc::{AllocError, Global};
 /// How many cycles back a report is looked for at most.
 pub(crate) const MOST_BACK: u64 = 1_000;
 
+/// What the runs of a closed cycle made.
+#[derive(Clone, Copy)]
+pub(crate) struct CycleMade {
+    /// How many lines its report had when it was closed.
+    pub(crate) lines: u64,
+    pub(crate) runs: u64,
+    /// How many bytes of files they read, and how many files.
+    pub(crate) bytes: u64,
+    pub(crate) files: u64,
+}
+
+impl CycleMade {
+    /// Of a cycle of which it is not known.
+    fn unknown() -> CycleMade {
+        CycleMade {
+            lines: 0,
+            runs: 0,
+            bytes: 0,
+            files: 0,
+        }
+    }
+
+    /// By the checkpoint that closed the cycle.
+    fn by(checkpoint: &Checkpoint) -> CycleMade {
+        let cursor = &checkpoint.cursor;
+        let (spent, files) = (cursor.spent(), cursor.files());
+        CycleMade {
+            lines: checkpoint.report.lines,
+            runs: cursor.runs(),
+            bytes: u64::try_from(spent.saturating_sub(files)).unwrap_or(u64::MAX),
+            files: u64::try_from(files).unwrap_or(u64::MAX),
+        }
+    }
+}
+
 /// A closed cycle whose report is there.
 pub(crate) struct ClosedCycle {
     /// Its number.
@@ -20,6 +55,8 @@ pub(crate) struct ClosedCycle {
     pub(crate) lost: bool,
     /// The places that were left out of it.
     pub(crate) left: Vec<Place>,
+    /// What its runs made. All of it is 0 if the checkpoint that closed it is not there.
+    pub(crate) made: CycleMade,
 }
 
 /// Written by hand, so that to let it go is one call wherever that happens.
@@ -30,6 +67,7 @@ impl Drop for ClosedCycle {
             whole: _whole,
             lost: _lost,
             left: _left,
+            made: _made,
         } = self;
     }
 }
@@ -88,15 +126,20 @@ fn closed_by(
     whole: bool,
     kept: &Option<Option<Checkpoint>>,
 ) -> Result<ClosedCycle, AllocError> {
-    let (left, is_known) = match kept {
-        Some(Some(checkpoint)) => (places_of(alloc, &checkpoint.left)?, checkpoint.whole),
-        _ => (Vec::new(alloc), false),
+    let (left, is_known, made) = match kept {
+        Some(Some(checkpoint)) => (
+            places_of(alloc, &checkpoint.left)?,
+            checkpoint.whole,
+            CycleMade::by(checkpoint),
+        ),
+        _ => (Vec::new(alloc), false, CycleMade::unknown()),
     };
     Ok(ClosedCycle {
         cycle,
         whole,
         lost: !whole && !(is_known && !left.is_empty()),
         left,
+        made,
     })
 }
 

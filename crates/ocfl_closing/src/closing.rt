@@ -60,7 +60,7 @@ fn closing_line(
     account: &Account,
 ) -> Result<String, AllocError> {
     let changes = &account.changes;
-    let compared = pair.compared();
+    let (compared, made) = (pair.compared(), pair.now.made);
     let row = ClosingRow {
         time,
         night,
@@ -68,9 +68,15 @@ fn closing_line(
         report: paths.report.as_str(),
         whole: pair.now.whole,
         findings: account.findings.count,
+        lines: made.lines,
+        runs: made.runs,
+        read_bytes: made.bytes,
+        read_files: made.files,
         compared,
+        compared_whole: pair.compared_whole(),
         why: if compared == 0 { pair.why.as_str() } else { "" },
         appeared: account.appeared(),
+        known: account.known(),
         repaired: changes.repaired_count,
         back: account.back_count(),
         gone: changes.gone_count(),

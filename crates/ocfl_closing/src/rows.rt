@@ -61,6 +61,8 @@ pub(crate) struct Changes {
     /// Findings that are new, by their codes and places alone, up to 10,000.
     pub(crate) appeared: Vec<Line>,
     pub(crate) appeared_count: u64,
+    /// How many others are new, and known by their codes and places.
+    pub(crate) known_count: u64,
     /// Findings that are repaired, by their codes and places alone, as many as are shown.
     pub(crate) repaired: Vec<Line>,
     pub(crate) repaired_count: u64,
@@ -80,6 +82,7 @@ impl Drop for Changes {
         let Changes {
             appeared: _appeared,
             appeared_count: _appeared_count,
+            known_count: _known_count,
             repaired: _repaired,
             repaired_count: _repaired_count,
             objects: _objects,
@@ -96,6 +99,7 @@ impl Changes {
         Changes {
             appeared: Vec::new(alloc),
             appeared_count: 0,
+            known_count: 0,
             repaired: Vec::new(alloc),
             repaired_count: 0,
             objects: Missing::new(alloc),
@@ -130,6 +134,7 @@ impl Changes {
     /// Takes those of another comparison of the same report, of other places, too.
     pub(crate) fn join(&mut self, other: &mut Changes) -> Result<(), AllocError> {
         self.appeared_count = self.appeared_count.saturating_add(other.appeared_count);
+        self.known_count = self.known_count.saturating_add(other.known_count);
         self.repaired_count = self.repaired_count.saturating_add(other.repaired_count);
         self.unlooked = self.unlooked.saturating_add(other.unlooked);
         self.appeared.append(&mut other.appeared)?;
@@ -356,6 +361,7 @@ impl<'k, 'p> Rows<'k, 'p> {
         self.note_lines(&line.place);
         self.note_stop(&line)?;
         if self.known.names(&line) {
+            self.changes.known_count = self.changes.known_count.saturating_add(1);
             return Ok(());
         }
         self.changes.appeared_count = self.changes.appeared_count.saturating_add(1);

@@ -81,6 +81,11 @@ impl Standing {
         }
     }
 
+    /// The number of the cycle that a night goes on with: the next one once the report is closed.
+    pub fn next_cycle(&self) -> u64 {
+        self.last_closed().saturating_add(1)
+    }
+
     /// How many runs of the cycle `now` there were when the nights stood here.
     pub fn runs_before(&self, now: Standing) -> u64 {
         if now.cycle == self.cycle {

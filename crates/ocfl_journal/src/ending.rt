@@ -1,6 +1,6 @@
 //! The end of a night: what is said of it, the closings that are told, and its lines in the log.
 
-use crate::given::{Given, text_of};
+use crate::given::{Given, program_digest, text_of};
 use crate::logging::{Account, log_night};
 use crate::noting::{Noting, Told};
 use ocfl_closing::closing::Closings;
@@ -14,7 +14,6 @@ use ocfl_files::timing::seconds_now;
 use ocfl_line::NightAsked;
 use ocfl_report::DisplayPlace;
 use ocfl_telling::{NightRow, Shown};
-use ocfl_terminal::version::running_digest;
 use ocfl_tree::Place;
 use std::alloc::{AllocError, Global};
 use std::fs::File;
@@ -210,7 +209,6 @@ where
     if !ended.is_logged {
         return status;
     }
-    let program = running_digest(rt).ok();
     let time = seconds_now(rt);
     let row = NightRow {
         time,
@@ -221,7 +219,7 @@ where
         seconds: time.saturating_sub(given.began),
         findings: ended.told.findings,
         left: u64::try_from(ended.left.len()).unwrap_or(u64::MAX),
-        program: text_of(&program).unwrap_or(""),
+        program: given.program.as_str(),
     };
     let said = text_of(&ended.said);
     log_night(
@@ -238,7 +236,7 @@ fn log_failed<R>(rt: &R, folder: &mut StateDir<'_, R>, state: &str, began: u64, 
 where
     R: Files<File = File> + AllocGlobal + Clock + Eprint,
 {
-    let program = running_digest(rt).ok();
+    let program = program_digest(rt);
     let time = seconds_now(rt);
     let row = NightRow {
         time,
@@ -249,7 +247,7 @@ where
         seconds: time.saturating_sub(began),
         findings: 0,
         left: 0,
-        program: text_of(&program).unwrap_or(""),
+        program: program.as_str(),
     };
     let said = Some(said);
     log_night(rt, folder, state, Account { row, said }, None);

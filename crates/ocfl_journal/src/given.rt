@@ -10,6 +10,7 @@ use ocfl_files::failing::Failure;
 use ocfl_line::NightAsked;
 use ocfl_telling::Known;
 use ocfl_terminal::roots::{Root, find_ends, find_root, part_number};
+use ocfl_terminal::version::running_digest;
 use ocfl_tree::Place;
 use std::alloc::AllocError;
 use std::rt::{Env, Files};
@@ -29,6 +30,9 @@ pub struct Given<'a> {
     pub end: Option<u64>,
     /// How much each run spends.
     pub slice: Budget,
+    /// The SHA-256 of the program that makes the night, in hexadecimal digits; empty if it is not
+    /// known.
+    pub program: String,
 }
 
 /// Written by hand, so that to let it go is one call wherever that happens.
@@ -41,6 +45,7 @@ impl Drop for Given<'_> {
             known: _known,
             end: _end,
             slice: _slice,
+            program: _program,
         } = self;
     }
 }
@@ -72,6 +77,11 @@ impl Given<'_> {
             state: self.asked.state.as_str(),
         }
     }
+}
+
+/// The SHA-256 of the running program, in hexadecimal digits; empty if it is not known.
+pub(crate) fn program_digest<R: Files + AllocGlobal>(rt: &R) -> String {
+    running_digest(rt).unwrap_or(String::new(rt.alloc()))
 }
 
 /// How much each run spends: no more than the night may.
@@ -132,6 +142,7 @@ where
             known,
             end,
             slice,
+            program: program_digest(rt),
         },
         place,
         ends,

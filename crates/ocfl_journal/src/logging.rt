@@ -1,5 +1,6 @@
 //! The lines that a night appends to the log of its folder.
 
+use ocfl_closing::stand::Standing;
 use ocfl_closing::state::folder_failure;
 use ocfl_closing::state_dir::StateDir;
 use ocfl_cursor::State;
@@ -7,7 +8,7 @@ use ocfl_disk::{FsLog, Reason};
 use ocfl_files::failing::{Failure, say_failure};
 use ocfl_files::timing::seconds_now;
 use ocfl_state::{Checkpoint, Left};
-use ocfl_telling::{LeftRow, LogRow, NightRow, RefusalRow, SliceRow, Stands, log_line};
+use ocfl_telling::{BeganRow, LeftRow, LogRow, NightRow, RefusalRow, SliceRow, Stands, log_line};
 use std::alloc::{AllocError, Global};
 use std::cell::Cell;
 use std::fs::File;
@@ -16,8 +17,8 @@ use std::rc::Rc;
 use std::rt::Files;
 use std::time::Clock;
 
-/// The lines that are appended while a night is under way: one for each run, and one for each place
-/// that is left out.
+/// The lines that are appended while a night is under way: one once it has begun, one for each run,
+/// and one for each place that is left out.
 pub(crate) struct Journal<'a, R: Files<File = File> + AllocGlobal> {
     rt: &'a R,
     log: FsLog<&'a R>,
@@ -39,6 +40,17 @@ impl<R: Files<File = File> + AllocGlobal> Drop for Journal<'_, R> {
     }
 }
 
+/// What a night reads, and by which program.
+#[derive(Drop)]
+pub(crate) struct Reading {
+    /// The path of the storage root.
+    pub(crate) root: String,
+    /// The number of the part; 0 for the whole root.
+    pub(crate) part: u64,
+    /// The SHA-256 of the program; empty if it is not known.
+    pub(crate) program: String,
+}
+
 /// A run that is kept.
 #[derive(Clone, Copy)]
 pub struct RunMade<'a> {
@@ -57,6 +69,37 @@ fn stands_at(state: &State) -> Stands<'_> {
         State::After(place) => Stands::After(place),
         State::Ended => Stands::Ended,
     }
+}
+
+/// Where the cycle stands that a night goes on with.
+fn stands_next(checkpoint: &Checkpoint) -> Stands<'_> {
+    if Standing::of(checkpoint).is_closed {
+        Stands::Start
+    } else {
+        stands_at(checkpoint.cursor.state())
+    }
+}
+
+/// The line of a night that has taken up this checkpoint.
+fn began_text(
+    alloc: Global,
+    time: u64,
+    night: u64,
+    checkpoint: &Checkpoint,
+    reading: &Reading,
+) -> Result<String, AllocError> {
+    let row = BeganRow {
+        time,
+        night,
+        cycle: Standing::of(checkpoint).next_cycle(),
+        stands: stands_next(checkpoint),
+        lines: checkpoint.report.lines,
+        bytes: checkpoint.report.bytes,
+        root: reading.root.as_str(),
+        part: reading.part,
+        program: reading.program.as_str(),
+    };
+    log_line(alloc, &LogRow::Began(row))
 }
 
 /// The line of a run that began then, and whose checkpoint is put.
@@ -109,6 +152,12 @@ impl<'a, R: Files<File = File> + AllocGlobal + Clock> Journal<'a, R> {
                 self.lost.set(Some(reason));
             }
         }
+    }
+
+    /// Appends the line of a night that has taken up this checkpoint.
+    pub(crate) fn began(&self, checkpoint: &Checkpoint, reading: &Reading) {
+        let time = seconds_now(self.rt);
+        self.append(began_text(self.rt.alloc(), time, self.night, checkpoint, reading));
     }
 
     /// Appends the line of a run that began then.

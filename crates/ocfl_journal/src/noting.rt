@@ -2,7 +2,7 @@
 
 use crate::clock::NightClock;
 use crate::given::Given;
-use crate::logging::Journal;
+use crate::logging::{Journal, Reading};
 use ocfl_closing::stand::Standing;
 use ocfl_closing::state::{Begun, open_state, read_begun};
 use ocfl_closing::state_dir::StateDir;
@@ -21,7 +21,8 @@ use std::rt::Files;
 use std::time::Clock;
 
 /// A state folder, and where the nights stand by the checkpoint that was put last. What is said of
-/// a night, and its clock, go by that. Each place that is left out is logged.
+/// a night, and its clock, go by that. That the night has begun is logged, and each place that is
+/// left out.
 pub struct Noting<'a, R: Files<File = File> + AllocGlobal> {
     rt: &'a R,
     pub(crate) folder: StateDir<'a, R>,
@@ -29,6 +30,8 @@ pub struct Noting<'a, R: Files<File = File> + AllocGlobal> {
     pub(crate) begun: Begun,
     now: Rc<Cell<Standing>>,
     journal: Journal<'a, R>,
+    /// What the night reads. `None` once it has begun.
+    reading: Option<Reading>,
     /// Why the last line of the log that was not written was not.
     lost: Rc<Cell<Option<StateReason>>>,
     /// Why places of the storage root could not be read.
@@ -46,6 +49,7 @@ impl<R: Files<File = File> + AllocGlobal> Drop for Noting<'_, R> {
             begun: _begun,
             now: _now,
             journal: _journal,
+            reading: _reading,
             lost: _lost,
             reasons: _reasons,
             left: _left,
@@ -101,6 +105,16 @@ where
     }
 }
 
+/// What a night reads, and by which program.
+fn reading_of(alloc: Global, given: &Given<'_>) -> Result<Reading, AllocError> {
+    let names = given.names();
+    Ok(Reading {
+        root: String::from_str(alloc, names.root)?,
+        part: names.part.unwrap_or(0),
+        program: String::from_str(alloc, given.program.as_str())?,
+    })
+}
+
 /// Notes on a folder that is open.
 fn noting_over<'a, R>(
     rt: &'a R,
@@ -121,6 +135,7 @@ where
         begun,
         now,
         journal,
+        reading: Some(reading_of(rt.alloc(), given)?),
         lost,
         reasons,
         left: Vec::new(rt.alloc()),
@@ -217,6 +232,7 @@ impl<'a, R: Files<File = File> + AllocGlobal + Clock> Noting<'a, R> {
             begun: _begun,
             now: _now,
             journal: _journal,
+            reading: _reading,
             lost: _lost,
             reasons: _reasons,
             left: _left,
@@ -224,9 +240,17 @@ impl<'a, R: Files<File = File> + AllocGlobal + Clock> Noting<'a, R> {
         folder
     }
 
+    /// Logs that the night has begun. The first checkpoint that it puts is the one that it took up.
+    fn log_began(&mut self, checkpoint: &Checkpoint) {
+        if let Some(reading) = self.reading.take() {
+            self.journal.began(checkpoint, &reading);
+        }
+    }
+
     /// Notes a checkpoint. One for which there is no memory is not noted.
     fn note(&mut self, bytes: &[u8]) {
         if let Ok(checkpoint) = decode_checkpoint(self.rt.alloc(), bytes) {
+            self.log_began(&checkpoint);
             let before = self.now.get();
             let now = Standing::of(&checkpoint).noted_after(before);
             if now.leaves_more_than(before) {

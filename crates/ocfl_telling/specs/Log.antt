@@ -6,12 +6,13 @@ use Rattle.ocfl_tree.specs.Place.{Text}
 use Rattle.ocfl_report.specs.Text.{escape, place_text}
 use Rattle.ocfl_telling.specs.declared.log.Stands.{Stands}
 use Rattle.ocfl_telling.specs.declared.log.Stands.TheVariants.{Start, After, Ended}
+use Rattle.ocfl_telling.specs.declared.log.BeganRow.{BeganRow}
 use Rattle.ocfl_telling.specs.{declared.log.SliceRow.{SliceRow}, declared.log.LeftRow.{LeftRow}}
 use Rattle.ocfl_telling.specs.declared.log.ClosingRow.{ClosingRow}
 use Rattle.ocfl_telling.specs.declared.log.RefusalRow.{RefusalRow}
 use Rattle.ocfl_telling.specs.declared.log.NightRow.{NightRow}
 use Rattle.ocfl_telling.specs.declared.log.LogRow.{LogRow}
-use Rattle.ocfl_telling.specs.declared.log.LogRow.TheVariants.{Slice, Left, Closing, Refusal, Night}
+use Rattle.ocfl_telling.specs.declared.log.LogRow.TheVariants.{Began, Slice, Left, Closing, Refusal, Night}
 
 -- the bytes are one line: a JSON text without line feeds that reads as this value
 pub record IsJsonLine (b : Text) (d : Data) : Type 0 where
@@ -32,6 +33,13 @@ counts key n rest = member key (number (unsigned n)) rest
 abbrev pub says : Text → Text → Members → Members
 says key text rest = member key (string text) rest
 
+-- a night that begins, with the texts of where its cursor stands and of the path of its root
+abbrev pub began_with : BeganRow → Text → Text → Data
+began_with r stands root = object (counts (codes "bytes") r.bytes (counts (codes "cycle") r.cycle
+    (counts (codes "lines") r.lines (counts (codes "night") r.night (counts (codes "part") r.part
+    (says (codes "program") r.program.now (says (codes "root") root (says (codes "row") (codes "began")
+    (says (codes "stands") stands (counts (codes "time") r.time no_members))))))))))
+
 -- a slice, with the text of where its cursor stands
 abbrev pub slice_with : SliceRow → Text → Data
 slice_with r stands = object (counts (codes "bytes") r.bytes (counts (codes "cost") r.cost (counts (codes "cycle") r.cycle
@@ -49,16 +57,20 @@ left_with r place why = object (counts (codes "cycle") r.cycle (counts (codes "n
 -- a closing, with the path of its report, and why nothing was compared
 abbrev pub closing_counts : ClosingRow → Members → Members
 closing_counts r rest = counts (codes "back") r.back (counts (codes "compared") r.compared
-    (counts (codes "cycle") r.cycle (counts (codes "expected") r.expected (counts (codes "files") r.files
-    (counts (codes "findings") r.findings (counts (codes "gone") r.gone (counts (codes "left") r.left
-    (says (codes "list") r.list.now (counts (codes "listed") r.listed rest)))))))))
+    (counts (codes "compared_whole") r.compared_whole (counts (codes "cycle") r.cycle
+    (counts (codes "expected") r.expected (counts (codes "files") r.files
+    (counts (codes "findings") r.findings (counts (codes "gone") r.gone (counts (codes "known") r.known
+    (counts (codes "left") r.left (counts (codes "lines") r.lines (says (codes "list") r.list.now
+    (counts (codes "listed") r.listed rest))))))))))))
 
 abbrev pub closing_changed : ClosingRow → Members → Members
 closing_changed r rest = counts (codes "new") r.appeared (counts (codes "night") r.night
-    (counts (codes "objects") r.objects (counts (codes "repaired") r.repaired rest)))
+    (counts (codes "objects") r.objects (counts (codes "read_bytes") r.read_bytes
+    (counts (codes "read_files") r.read_files (counts (codes "repaired") r.repaired rest)))))
 
 abbrev pub closing_named : ClosingRow → Text → Members → Members
-closing_named r report rest = says (codes "report") report (says (codes "row") (codes "closing") (counts (codes "time") r.time rest))
+closing_named r report rest = says (codes "report") report (says (codes "row") (codes "closing")
+    (counts (codes "runs") r.runs (counts (codes "time") r.time rest)))
 
 abbrev pub closing_last : ClosingRow → Text → Members
 closing_last r why = counts (codes "unlooked") r.unlooked (member (codes "whole") (boolean r.whole) (says (codes "why") why no_members))
@@ -82,26 +94,29 @@ night_with r program = object (counts (codes "cost") r.cost (counts (codes "find
 -- the text that a row has: where its cursor stands, its place, its path or what is said, escaped
 -- as in reports, or the digest of its program as it is
 abbrev pub row_text : LogRow → Text
+row_text (Began r) = stands_text r.stands
 row_text (Slice r) = stands_text r.stands
 row_text (Left r) = place_text r.place.now
 row_text (Closing r) = escape r.report.now
 row_text (Refusal r) = escape r.said.now
 row_text (Night r) = r.program.now
 
--- the reason that a row gives, escaped as in reports
-abbrev pub why_text : LogRow → Text
-why_text (Slice r) = []
-why_text (Left r) = escape r.why.now
-why_text (Closing r) = escape r.why.now
-why_text (Refusal r) = []
-why_text (Night r) = []
+-- the other text that a row has, escaped as in reports: the path of the storage root, or why
+abbrev pub other_text : LogRow → Text
+other_text (Began r) = escape r.root.now
+other_text (Slice r) = []
+other_text (Left r) = escape r.why.now
+other_text (Closing r) = escape r.why.now
+other_text (Refusal r) = []
+other_text (Night r) = []
 
 abbrev pub row_with : LogRow → Text → Text → Data
-row_with (Slice r) text why = slice_with r text
-row_with (Left r) text why = left_with r text why
-row_with (Closing r) text why = closing_with r text why
-row_with (Refusal r) text why = refusal_with r text
-row_with (Night r) text why = night_with r text
+row_with (Began r) text other = began_with r text other
+row_with (Slice r) text other = slice_with r text
+row_with (Left r) text other = left_with r text other
+row_with (Closing r) text other = closing_with r text other
+row_with (Refusal r) text other = refusal_with r text
+row_with (Night r) text other = night_with r text
 
 abbrev pub row_data : LogRow → Data
-row_data row = row_with row (row_text row) (why_text row)
+row_data row = row_with row (row_text row) (other_text row)

@@ -25,7 +25,9 @@ pub use found::Found;
 pub use gravest::{Gravest, Kept, SHOWN};
 pub use known::{Known, KnownEntry, Reach};
 pub use list::{KnownStop, read_known};
-pub use log::{ClosingRow, LeftRow, LogRow, NightRow, RefusalRow, SliceRow, Stands, log_line};
+pub use log::{
+    BeganRow, ClosingRow, LeftRow, LogRow, NightRow, RefusalRow, SliceRow, Stands, log_line,
+};
 pub use night::{Night, night_text};
 pub use quoted::Quoted;
 pub use refusal::{RefusalMessage, refusal_text};

@@ -6,7 +6,7 @@
 ghost use Rattle.std.specs.Prelude.{◌≡◌, ◌≤◌, false, IfOk, OnOk, string_bytes};
 ghost use Rattle.serde_json.specs.Data.{Data, depth, no_members, object};
 ghost use Rattle.serde_json.specs.{View.{members_view, view}, Written.{has_float}};
-ghost use Rattle.ocfl_telling.specs.Log.{IsJsonLine, stands_text, row_text, row_data, row_with, why_text, slice_with, left_with, closing_with, refusal_with, night_with};
+ghost use Rattle.ocfl_telling.specs.Log.{IsJsonLine, stands_text, row_text, row_data, row_with, other_text, began_with, slice_with, left_with, closing_with, refusal_with, night_with};
 ghost use Rattle.ocfl_telling.specs.Internal.Members.{with_member, with_members};
 
 use crate::log::Member::{Count, Flag, Words};
@@ -25,6 +25,29 @@ pub enum Stands<'a> {
     After(&'a Place),
     /// At the end of its cycle.
     Ended,
+}
+
+/// The beginning of a night: it has taken up what the last one left.
+#[derive(Clone, Copy)]
+pub struct BeganRow<'a> {
+    /// When it had taken that up.
+    pub time: u64,
+    /// When it began.
+    pub night: u64,
+    /// The number of the cycle that it goes on with.
+    pub cycle: u64,
+    /// Where the cursor stands in that cycle.
+    pub stands: Stands<'a>,
+    /// How many lines the cycle's report has.
+    pub lines: u64,
+    /// How many bytes it has.
+    pub bytes: u64,
+    /// The path of the storage root.
+    pub root: &'a str,
+    /// The number of the part that is read; 0 if the whole root is.
+    pub part: u64,
+    /// The SHA-256 of the program that makes it, in hexadecimal digits. Empty if it is not known.
+    pub program: &'a str,
 }
 
 /// A slice: one run of a night.
@@ -86,12 +109,26 @@ pub struct ClosingRow<'a> {
     pub whole: bool,
     /// How many findings it has.
     pub findings: u64,
+    /// How many lines it has. 0, as the three numbers that follow, if the checkpoint that closed the
+    /// cycle is not there.
+    pub lines: u64,
+    /// How many runs the cycle had.
+    pub runs: u64,
+    /// How many bytes of files they read.
+    pub read_bytes: u64,
+    /// How many files they read.
+    pub read_files: u64,
     /// The number of the cycle whose report it was compared with; 0 if it was compared with none.
     pub compared: u64,
+    /// The number of the last whole cycle, with whose report it was compared where that one alone
+    /// had left places out; 0 if it was not.
+    pub compared_whole: u64,
     /// Why it was not compared. Empty if it was compared, and for the first cycle.
     pub why: &'a str,
-    /// How many of its findings the report before did not have.
+    /// How many of its findings the report before did not have, without those that are known.
     pub appeared: u64,
+    /// How many of its findings the report before did not have, of those that are known.
+    pub known: u64,
     /// How many findings of that report are right now.
     pub repaired: u64,
     /// How many objects have a line again that an earlier list called gone or undeclared.
@@ -155,6 +192,8 @@ pub struct NightRow<'a> {
 /// A row of the log.
 #[derive(Clone, Copy)]
 pub enum LogRow<'a> {
+    /// The beginning of a night.
+    Began(BeganRow<'a>),
     /// A run of a night.
     Slice(SliceRow<'a>),
     /// A place that is left out.
@@ -183,6 +222,7 @@ fn row_words(alloc: Global, row: &LogRow<'_>) -> Result<String, AllocError>
     ensures { IfOk result (λ text. string_bytes text ≡ row_text row.now) }
 {
     match row {
+        LogRow::Began(began) => stands_words(alloc, began.stands),
         LogRow::Slice(slice) => stands_words(alloc, slice.stands),
         LogRow::Left(left) => format!(in alloc; "{}", DisplayPlace(left.place)),
         LogRow::Closing(closing) => format!(in alloc; "{}", Shown(closing.report)),
@@ -191,11 +231,13 @@ fn row_words(alloc: Global, row: &LogRow<'_>) -> Result<String, AllocError>
     }
 }
 
-/// The reason that a row gives, escaped as in reports.
-fn row_reason(alloc: Global, row: &LogRow<'_>) -> Result<String, AllocError>
-    ensures { IfOk result (λ text. string_bytes text ≡ why_text row.now) }
+/// The other text of a row: the path of the storage root, or the reason that it gives, escaped as
+/// in reports.
+fn row_other(alloc: Global, row: &LogRow<'_>) -> Result<String, AllocError>
+    ensures { IfOk result (λ text. string_bytes text ≡ other_text row.now) }
 {
     match row {
+        LogRow::Began(began) => format!(in alloc; "{}", Shown(began.root)),
         LogRow::Left(left) => format!(in alloc; "{}", Shown(left.why)),
         LogRow::Closing(closing) => format!(in alloc; "{}", Shown(closing.why)),
         LogRow::Slice(_) | LogRow::Refusal(_) | LogRow::Night(_) => Ok(String::new(alloc)),
@@ -238,6 +280,32 @@ fn object_of(alloc: Global, members: &[Member<'_>]) -> Result<Value, AllocError>
         put_member(alloc, member, &mut map)?;
     }
     Ok(Value::Object(map))
+}
+
+/// What the line of a night that begins says.
+fn began_value<'a>(
+    alloc: Global,
+    row: &BeganRow<'a>,
+    stands: &'a str,
+    root: &'a str,
+) -> Result<Value, AllocError>
+    ensures { IfOk result (λ v. view v ≡ began_with row.now stands.now root.now) }
+{
+    object_of(
+        alloc,
+        &[
+            Count("bytes", row.bytes),
+            Count("cycle", row.cycle),
+            Count("lines", row.lines),
+            Count("night", row.night),
+            Count("part", row.part),
+            Words("program", row.program),
+            Words("root", root),
+            Words("row", "began"),
+            Words("stands", stands),
+            Count("time", row.time),
+        ],
+    )
 }
 
 /// What the line of a slice says.
@@ -300,20 +368,26 @@ fn closing_value<'a>(
         &[
             Count("back", row.back),
             Count("compared", row.compared),
+            Count("compared_whole", row.compared_whole),
             Count("cycle", row.cycle),
             Count("expected", row.expected),
             Count("files", row.files),
             Count("findings", row.findings),
             Count("gone", row.gone),
+            Count("known", row.known),
             Count("left", row.left),
+            Count("lines", row.lines),
             Words("list", row.list),
             Count("listed", row.listed),
             Count("new", row.appeared),
             Count("night", row.night),
             Count("objects", row.objects),
+            Count("read_bytes", row.read_bytes),
+            Count("read_files", row.read_files),
             Count("repaired", row.repaired),
             Words("report", report),
             Words("row", "closing"),
+            Count("runs", row.runs),
             Count("time", row.time),
             Count("unlooked", row.unlooked),
             Flag("whole", row.whole),
@@ -359,14 +433,15 @@ fn night_value(alloc: Global, row: &NightRow<'_>, program: &str) -> Result<Value
     )
 }
 
-/// What the line of a row says, with its text and its reason.
-fn row_value(alloc: Global, row: &LogRow<'_>, words: &str, why: &str) -> Result<Value, AllocError>
-    ensures { IfOk result (λ v. view v ≡ row_with row.now words.now why.now) }
+/// What the line of a row says, with its two texts.
+fn row_value(alloc: Global, row: &LogRow<'_>, words: &str, other: &str) -> Result<Value, AllocError>
+    ensures { IfOk result (λ v. view v ≡ row_with row.now words.now other.now) }
 {
     match row {
+        LogRow::Began(began) => began_value(alloc, began, words, other),
         LogRow::Slice(slice) => slice_value(alloc, slice, words),
-        LogRow::Left(left) => left_value(alloc, left, words, why),
-        LogRow::Closing(closing) => closing_value(alloc, closing, words, why),
+        LogRow::Left(left) => left_value(alloc, left, words, other),
+        LogRow::Closing(closing) => closing_value(alloc, closing, words, other),
         LogRow::Refusal(refusal) => refusal_value(alloc, refusal, words),
         LogRow::Night(night) => night_value(alloc, night, words),
     }
@@ -387,7 +462,7 @@ pub fn log_line(alloc: Global, row: &LogRow<'_>) -> Result<String, AllocError>
     ensures { IfOk result (λ line. IsJsonLine (string_bytes line) (row_data row.now)) }
 {
     let words = row_words(alloc, row)?;
-    let why = row_reason(alloc, row)?;
-    let value = row_value(alloc, row, words.as_str(), why.as_str())?;
+    let other = row_other(alloc, row)?;
+    let value = row_value(alloc, row, words.as_str(), other.as_str())?;
     line_of(alloc, &value)
 }

@@ -3,8 +3,8 @@ use crate::tests::common::Runtime;
 use crate::tests::common::store::place_of;
 use ocfl_report::{Line, TextStop, read_line};
 use ocfl_telling::{
-    Closing, ClosingRow, Found, Gone, GoneKind, Gravest, Known, KnownEntry, KnownStop, LeftRow,
-    LogRow, Night, NightRow, Quoted, Reach, RefusalMessage, RefusalRow, SliceRow, Stands,
+    BeganRow, Closing, ClosingRow, Found, Gone, GoneKind, Gravest, Known, KnownEntry, KnownStop,
+    LeftRow, LogRow, Night, NightRow, Quoted, Reach, RefusalMessage, RefusalRow, SliceRow, Stands,
     StopMessage, Weight, closing_text, log_line, night_text, read_known, refusal_text, stop_text,
     weigh,
 };
@@ -546,6 +546,21 @@ fn closings_say_why_nothing_was_compared(rt: HostRuntime) -> Result<(), Fail> {
     Ok(())
 }
 
+/// A night that goes on after this place.
+fn began_row(place: &Place) -> LogRow<'_> {
+    LogRow::Began(BeganRow {
+        time: 2,
+        night: 1,
+        cycle: 3,
+        stands: Stands::After(place),
+        lines: 4,
+        bytes: 5,
+        root: "/s/\u{9b}",
+        part: 6,
+        program: "0f",
+    })
+}
+
 /// A run after which the cursor stands after this place.
 fn slice_row(place: &Place) -> LogRow<'_> {
     LogRow::Slice(SliceRow {
@@ -582,9 +597,15 @@ const CLOSING_ROW: ClosingRow<'static> = ClosingRow {
     report: "/s/\u{9b}",
     whole: true,
     findings: 4,
+    lines: 17,
+    runs: 18,
+    read_bytes: 19,
+    read_files: 20,
     compared: 2,
+    compared_whole: 1,
     why: "\u{9b}",
     appeared: 5,
+    known: 16,
     repaired: 6,
     back: 15,
     gone: 33,
@@ -623,6 +644,7 @@ fn rows_are_json(rt: HostRuntime) -> Result<(), Fail> {
     let odd = place_of(alloc, "a\"\\/\n")?;
     let lower = place_of(alloc, "a/b\n")?;
     for (row, line) in [
+        (began_row(&odd), BEGAN),
         (slice_row(&odd), SLICE),
         (left_row(&lower), LEFT),
         (LogRow::Closing(CLOSING_ROW), CLOSING),
@@ -634,6 +656,10 @@ fn rows_are_json(rt: HostRuntime) -> Result<(), Fail> {
     Ok(())
 }
 
+const BEGAN: &str = "{\"bytes\":5,\"cycle\":3,\"lines\":4,\"night\":1,\"part\":6,\
+\"program\":\"0f\",\"root\":\"/s/%C2%9B\",\"row\":\"began\",\
+\"stands\":\"after a\\\"\\\\/%0A\",\"time\":2}\n";
+
 const SLICE: &str =
     "{\"bytes\":8,\"cost\":4,\"cycle\":1,\"files\":6,\"lines\":7,\"night\":1700000000,\
 \"row\":\"slice\",\"run\":2,\"seconds\":9,\"spent\":5,\"stands\":\"after a\\\"\\\\/%0A\",\
@@ -643,10 +669,11 @@ const LEFT: &str = "{\"cycle\":3,\"night\":2,\"place\":\"a/b%0A\",\"row\":\"left
 \"why\":\"Permission%09denied\"}\n";
 
 const CLOSING: &str =
-    "{\"back\":15,\"compared\":2,\"cycle\":3,\"expected\":12,\"files\":11,\"findings\":4,\
-\"gone\":33,\"left\":8,\"list\":\"0a\",\"listed\":13,\"new\":5,\"night\":2,\"objects\":10,\
-\"repaired\":6,\"report\":\"/s/%C2%9B\",\"row\":\"closing\",\"time\":1,\"unlooked\":14,\
-\"whole\":true,\"why\":\"%C2%9B\"}\n";
+    "{\"back\":15,\"compared\":2,\"compared_whole\":1,\"cycle\":3,\"expected\":12,\"files\":11,\
+\"findings\":4,\"gone\":33,\"known\":16,\"left\":8,\"lines\":17,\"list\":\"0a\",\
+\"listed\":13,\"new\":5,\"night\":2,\"objects\":10,\"read_bytes\":19,\"read_files\":20,\
+\"repaired\":6,\"report\":\"/s/%C2%9B\",\"row\":\"closing\",\"runs\":18,\"time\":1,\
+\"unlooked\":14,\"whole\":true,\"why\":\"%C2%9B\"}\n";
 
 const REFUSAL: &str =
     "{\"night\":2,\"row\":\"refusal\",\"said\":\"no%09one\",\"status\":75,\"time\":1}\n";

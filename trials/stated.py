@@ -31,6 +31,7 @@ Tried, and what comes of it. Each row was seen to fail on scripts that lacked it
 import os
 import re
 import shutil
+import time
 
 import common
 from common import PROGRAM, digest, check
@@ -74,16 +75,25 @@ def programs(folder):
 def oldest(folder):
     """No verification of a cycle is older than its statement says, also where the log lacks a
     night that was killed."""
-    nights = Nights(folder + "/state", make_root(folder + "/root"))
-    nights.night()
-    nights.part()
-    rows = nights.has("log").splitlines(True)
-    write(nights.path("log"), "".join(rows[:-1]))
-    nights.night()
-    closed, oldest = lines_of(nights, 1).get("Closed"), lines_of(nights, 2).get(
-        "Oldest verification")
-    check("the cycle may have begun when the one before was closed", oldest, closed)
-    check("it is what was made", verified(file_of(nights, 2))[0], 0)
+    for name, lost in (("all of it", ("began", "slice", "night")), ("its end", ("night",))):
+        nights = Nights("%s/%s" % (folder, name), make_root(folder + "/" + name + " root"))
+        nights.night()
+        nights.part()
+        rows = nights.rows()
+        last = rows[-1]["night"]
+        write(nights.path("log"), "".join(
+            line for line, row in zip(nights.has("log").splitlines(True), rows)
+            if row["night"] != last or row["row"] not in lost))
+        nights.night()
+        lines = lines_of(nights, 2)
+        check("the log lacks " + name, lines.get("Oldest verification"), time_text(last)
+              if "began" not in lost else lines_of(nights, 1).get("Closed"))
+        check("that night was cut, without " + name, lines.get("Nights cut"), "1")
+        check("it is what was made", verified(file_of(nights, 2))[0], 0)
+
+
+def time_text(seconds):
+    return time.strftime("%Y-%m-%dT%H:%M:%SZ", time.gmtime(seconds))
 
 
 def cut(folder):

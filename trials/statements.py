@@ -115,6 +115,8 @@ Closed: 2026-02-03T23:00:00Z
 Nights: 2
 Nights cut: 0
 Runs: 2
+Files read: 2
+Bytes read: 6
 Lost lines: none
 Report: cycle-000002
 Whole: yes
@@ -138,6 +140,7 @@ Algorithms not computed: x 2
 Compared with cycle: 1
 Report compared with, SHA-256: {earlier}
 New findings: 4
+New findings that are known: 0
 Changed findings: 0
 Former findings: 0
 Findings no longer looked at: 0
@@ -211,11 +214,12 @@ def statement(folder):
 def as_json(text):
     """What a statement says, as its JSON form should."""
     rows = [row.split(": ", 1) for row in text.splitlines()[2:]]
-    numbers = {"Cycle", "Nights", "Nights cut", "Runs", "Places left out", "Report lines",
+    numbers = {"Cycle", "Nights", "Nights cut", "Runs", "Files read", "Bytes read",
+               "Places left out", "Report lines",
                "Broken lines", "Objects", "Objects without findings", "Content files",
                "Files found right",
                "Files not found right", "Bytes found right", "Findings", "Compared with cycle",
-               "New findings", "Changed findings", "Former findings",
+               "New findings", "New findings that are known", "Changed findings", "Former findings",
                "Findings no longer looked at", "Objects gone", "Objects no longer declared",
                "Files gone", "Files no longer looked at", "Objects back",
                "Expected objects listed", "Expected objects missing",
@@ -589,6 +593,7 @@ def takes_little(folder):
             code = "E072" if number % 4 == 0 else "ok"
             file.write("%s\tobject-%06d/v1/content/a-file\t%s\n" % (code, number, number))
     shutil.copy(report, state.path + "/report")
+    write(state.path + "/log", state.has("log").replace('"new":4', '"new":250000'))
     calls = folder + "/calls"
     for words in [["statement", state.path, "2"], ["status", state.path],
                   ["verify", state.path + "/reports/statement-000002"],

@@ -5,7 +5,7 @@ import hashlib
 import re
 from collections import Counter
 from itertools import groupby, islice
-from typing import IO, Dict, Iterable, Iterator, List, Tuple
+from typing import IO, Dict, Iterable, Iterator, List, NamedTuple, Sequence, Tuple
 
 from . import files, questions, standing
 from .report import APART, RIGHT, Comparing, Mark, Reading, is_within
@@ -22,6 +22,8 @@ MOST_ALGORITHMS = 20
 # The lines of a statement on two reports.
 CHANGES = ("New findings", "Changed findings", "Former findings", "Findings no longer looked at")
 COMPARED = "Report compared with, SHA-256"
+ALSO_COMPARED, NEW_AND_KNOWN = "Report also compared with, SHA-256", "New findings that are known"
+CHANGED = "changed since it was closed"
 # A code and a place, and the details of their findings.
 Found = Tuple[bytes, List[bytes]]
 
@@ -142,21 +144,48 @@ def beside(found: IO[bytes], others: IO[bytes]) -> Iterator[tuple[bytes, bool, b
             yield key, key in known, known.get(key, details) != details
 
 
-def of_changes(found: IO[bytes], report: str, earlier: str | None,
-               marks: list[Mark] | None = None, left: Iterable[bytes] = ()) -> dict[str, str]:
+class Before(NamedTuple):
+    """An earlier report, the marks with which it was closed, and the places that it left out."""
+    report: str
+    marks: list[Mark] | None = None
+    left: Sequence[bytes] = ()
+
+
+def of_changes(found: IO[bytes], report: str, earlier: Before | None,
+               whole: Before | None = None) -> dict[str, str]:
     """How the findings of a report differ from those of an earlier one, by code and place. Nothing
-    is known if there is none, or if it has not the marks with which it was closed. What the earlier
-    one left out is not new."""
-    unknown = dict.fromkeys(CHANGES, NOT_KNOWN)
+    is known if there is none, or if it has not the marks with which it was closed. What that one
+    left out is compared with the last whole report, and is not new if there is none."""
+    unknown = dict.fromkeys([*CHANGES, NEW_AND_KNOWN], NOT_KNOWN)
     if earlier is None:
         return {COMPARED: "no report", **unknown}
-    digests, new = Digests(marks), 0
-    before = questions.findings_in(earlier, digests.take)
+    digests, new, again = Digests(earlier.marks), 0, files.spool()
+    before = questions.findings_in(earlier.report, digests.take)
     if not digests.is_as_closed():
-        return {COMPARED: "changed since it was closed", **unknown}
+        return {COMPARED: CHANGED, **unknown}
     for key, is_known, _ in beside(found, before):
-        new += not is_known and not is_within_any(key.split(b"\t")[1], left)
-    return {COMPARED: digests.text(), "New findings": str(new), **of_former(found, report, before)}
+        if is_within_any(key.split(b"\t")[1], earlier.left):
+            again.write(key + b"\t-\n")
+        else:
+            new += not is_known
+    also = of_whole(again, whole)
+    count = also.pop("New findings", None)
+    return {COMPARED: digests.text(), **also, NEW_AND_KNOWN: NOT_KNOWN,
+            "New findings": NOT_KNOWN if count == NOT_KNOWN else str(new + int(count or 0)),
+            **of_former(found, report, before)}
+
+
+def of_whole(again: IO[bytes], whole: Before | None) -> dict[str, str]:
+    """How many of these findings a whole report does not have, and its digest; nothing if there is
+    none."""
+    if whole is None:
+        return {}
+    digests = Digests(whole.marks)
+    before = questions.findings_in(whole.report, digests.take)
+    if not digests.is_as_closed():
+        return {ALSO_COMPARED: CHANGED, "New findings": NOT_KNOWN}
+    return {ALSO_COMPARED: digests.text(),
+            "New findings": str(sum(not is_known for _, is_known, _ in beside(again, before)))}
 
 
 def of_former(found: IO[bytes], report: str, before: IO[bytes]) -> dict[str, str]:

@@ -24,6 +24,10 @@ RUN, STANDS = b'"row":"slice"', ("cycle", "spent", "files", "stands")
 # The members of a row that an entry has by the same names.
 NUMBERS = ("cycle", "run", "lines", "cost", "spent", "files", "seconds", "bytes")
 WORDS = ("said", "stands", "program", "why")
+# What the row of a closing has of new findings, and of what the cycle's runs made.
+NUMBERS_NEW, NUMBERS_MADE = ("new", "known"), ("runs", "read_bytes", "read_files")
+# What a closing of all parts has as the sum of theirs, if each of them says it.
+SUMS = ("unlooked", "back", "repaired", *NUMBERS_NEW, *NUMBERS_MADE)
 
 
 @dataclass(frozen=True)
@@ -38,6 +42,9 @@ class Closing:
     compared: tuple[int, ...] | None = None
     # Why it was compared with none, as far as the row says it.
     why: str = ""
+    # The last whole cycle, with which it was compared where those had left places out; 0 if it was
+    # not, or was with several.
+    compared_whole: int = 0
     # How much is gone, of objects, files and expected objects together.
     gone: int = 0
     # How many objects the list of those that were expected has, and its SHA-256: empty if none was
@@ -51,6 +58,14 @@ class Closing:
     unlooked: int | None = None
     back: int | None = None
     repaired: int | None = None
+    # How many findings were new, without those that are known, and how many of these. None if the
+    # log does not say both.
+    new: int | None = None
+    known: int | None = None
+    # How many runs the cycle had, and what they read. None if the log does not say it.
+    runs: int | None = None
+    read_bytes: int | None = None
+    read_files: int | None = None
 
     def why_not_compared(self, cycle: int) -> str:
         """Why nobody knows what this cycle lost; empty if it was compared."""
@@ -66,9 +81,10 @@ class Closing:
 @dataclass(frozen=True)
 class Entry:
     """What the log says at one moment. A run has its status as kind, or `cut`; of a night that was
-    refused the cycle is 0. Of other kinds are `left`, a place that is left out of its cycle, as
-    `said`, `told` and `ended`, and last `stands`, where the cycle now stands, and `lost`, if its
-    report lost lines."""
+    refused the cycle is 0. Of other kinds are `began`, a night with the cycle that it goes on with
+    and where that stands, `left`, a place that is left out of its cycle, as `said`, `told` and
+    `ended`, and last `stands`, where the cycle now stands, and `lost`, if its report lost
+    lines."""
     kind: str
     began: str = ""
     night: str = ""
@@ -178,13 +194,15 @@ def entry_of(row: dict[str, Any], kind: str) -> Entry:
 
 class Telling:
     """The entries of one log, as its rows come. What a kill kept out of the log is put in: that a
-    night was cut, and that a cycle was closed whose report lies there. Of a night without rows of
-    slices its own row counts as a run, which may have written any line."""
+    night was cut, and that a cycle was closed whose report lies there. Of a night that has ended
+    the runs may be left out: then its own row counts as one, which may have written any line."""
 
     def __init__(self, state: State) -> None:
         self.state = state
         self.night = ""
         self.has_begun = self.has_ended = self.has_slices = False
+        # With what the night began; None if no row says it, as in logs of earlier versions.
+        self.began: Entry | None = None
         # The last run, and the last cycle known to be closed.
         self.last: Entry | None = None
         self.closed = 0
@@ -196,17 +214,21 @@ class Telling:
         """What comes with the next row."""
         night, kind = time_of(row, "night"), words(row, "row")
         if night != self.night:
-            yield from self.end()
+            yield from self.end(row)
             self.night, self.has_begun, self.has_ended, self.has_slices = night, False, False, False
-        self.has_begun = self.has_begun or kind in ("slice", "left", "closing")
+            self.began = None
+        self.has_begun = self.has_begun or kind in ("began", "slice", "left", "closing")
         self.has_ended = self.has_ended or kind in ("refusal", "night")
-        if kind == "slice":
+        if kind == "began":
+            self.began = entry_of(row, kind)
+            yield self.began
+        elif kind == "slice":
             self.has_slices = True
             yield from self.run(entry_of(row, str(number(row, "status"))))
         elif kind == "left":
             yield replace(entry_of(row, kind), said=words(row, "place"))
         elif kind == "closing":
-            self.closings.append(replace(entry_of(row, "ended"), closing=closing_of(row)))
+            self.closings.append(ended(row))
         elif kind == "refusal":
             yield entry_of(row, str(number(row, "status")))
         elif kind == "night":
@@ -223,7 +245,8 @@ class Telling:
     def run_of(self, row: dict[str, Any], status: str) -> Entry:
         """The runs of a night as one."""
         closed = [it.cycle for it in self.closings]
-        cycle = number(row, "cycle") or max(closed, default=self.closed + 1)
+        cycle = self.began.cycle if self.began else (
+            number(row, "cycle") or max(closed, default=self.closed + 1))
         before = self.last.spent if self.last and self.last.cycle == cycle else 0
         return replace(
             entry_of(row, status), began=self.night, cycle=cycle, lines=ALL_LINES,
@@ -238,21 +261,34 @@ class Telling:
 
     def closings_so_far(self) -> Iterator[Entry]:
         for entry in self.closings:
-            if self.last and self.last.cycle == entry.cycle:
+            if not entry.spent and self.last and self.last.cycle == entry.cycle:
                 entry = replace(entry, spent=self.last.spent, files=self.last.files)
             self.closed = max(self.closed, entry.cycle)
             yield entry
         self.closings = []
 
-    def end(self) -> Iterator[Entry]:
-        """What is known once a night has no more rows. It was cut if none says its end."""
-        last = self.last if self.has_slices else next(
-            (Entry("cut", began=self.night, cycle=it.cycle, lines=ALL_LINES, stands="ended")
-             for it in self.closings), None)
+    def end(self, then: dict[str, Any] | None = None) -> Iterator[Entry]:
+        """What is known once a night has no more rows. It was cut if none says its end. `then` is
+        the row that comes after it: where the next night begins, with how many lines, the cut one
+        has ended."""
+        last = self.last_of_night()
         yield from self.closings_so_far()
         if last and self.has_begun and not self.has_ended:
             self.has_ended = True
+            if then and words(then, "row") == "began" and number(then, "cycle") == last.cycle:
+                last = replace(last, lines=max(last.lines, number(then, "lines")))
             yield replace(last, kind="cut", cost=0, seconds=0, night=self.night, runs=0)
+
+    def last_of_night(self) -> Entry | None:
+        """Where the night stood when its rows end: after its last run, or where it began."""
+        if self.has_slices:
+            return self.last
+        closed = next((Entry("cut", began=self.night, cycle=it.cycle, lines=ALL_LINES,
+                             stands="ended") for it in self.closings), None)
+        if closed or not self.began:
+            return closed
+        last = self.last if self.last and self.last.cycle == self.began.cycle else Entry("cut")
+        return replace(self.began, began=self.night, spent=last.spent, files=last.files)
 
     def end_unless_held(self) -> Iterator[Entry]:
         """What is known of the last night of the log, which may be under way."""
@@ -272,14 +308,26 @@ class Telling:
                 closing=Closing(os.path.basename(it.path).partition(".")[0], it.is_whole))
 
 
+def ended(row: dict[str, Any]) -> Entry:
+    """The entry of the row of a closing."""
+    closing = closing_of(row)
+    files_read = closing.read_files or 0
+    return replace(entry_of(row, "ended"), closing=closing, files=files_read,
+                   spent=(closing.read_bytes or 0) + files_read)
+
+
 def closing_of(row: dict[str, Any]) -> Closing:
     """What the row of a closing says."""
     compared = None if "compared" not in row else tuple(filter(None, [number(row, "compared")]))
+    # A closed cycle has had a run: the row says 0 if it is not known.
+    made = NUMBERS_MADE if number(row, "runs") else ()
+    both = NUMBERS_NEW if all(number_if_any(row, name) is not None for name in NUMBERS_NEW) else ()
+    counts: dict[str, Any] = {name: number_if_any(row, name) for name in (
+        "unlooked", "back", "repaired", *both, *made)}
     return Closing(
         os.path.basename(words(row, "report")), row.get("whole") is True, True, compared,
-        words(row, "why"), number(row, "gone"), number(row, "listed"), words(row, "list"),
-        number(row, "left"), number_if_any(row, "unlooked"), number_if_any(row, "back"),
-        number_if_any(row, "repaired"))
+        words(row, "why"), number(row, "compared_whole"), number(row, "gone"),
+        number(row, "listed"), words(row, "list"), number(row, "left"), **counts)
 
 
 class Comparisons:
@@ -348,7 +396,7 @@ class Joining:
             yield from self.run(number_of_part, entry)
         else:
             self.status = worst(self.status, entry.status)
-            yield replace(entry, status=self.status, night=self.night)
+            yield replace(entry, status=self.status, night=self.night, of_part=entry.night)
 
     def run(self, number_of_part: int, entry: Entry) -> Iterator[Entry]:
         """A run of a part, with what its cycle has read in all parts."""
@@ -384,9 +432,7 @@ class Joining:
         return replace(entry, began=max(it.began for it in found.values()), closing=replace(
             entry.closing, is_logged=True, left=sum(it.left for it in closings.values()),
             gone=sum(it.gone for it in closings.values()),
-            unlooked=sum_if_all(it.unlooked for it in closings.values()),
-            back=sum_if_all(it.back for it in closings.values()),
-            repaired=sum_if_all(it.repaired for it in closings.values()),
+            **{name: sum_if_all(getattr(it, name) for it in closings.values()) for name in SUMS},
             **of_all_parts(closings, entry.cycle)))
 
 
@@ -414,8 +460,10 @@ def of_all_parts(closings: dict[int, Closing], cycle: int) -> dict[str, Any]:
     """What all parts were compared with, or why not all of them were."""
     bad = next((at for at, it in closings.items() if not it.compared), None)
     if bad is None:
+        wholes = {it.compared_whole for it in closings.values()}
         return {"compared": tuple(sorted({one for it in closings.values()
-                                          for one in it.compared or ()}))}
+                                          for one in it.compared or ()})),
+                "compared_whole": wholes.pop() if len(wholes) == 1 else 0}
     if closings[bad].compared is None:
         return {"compared": None}
     of_first = cycle == 1 and not any(it.why for it in closings.values())

@@ -7,7 +7,7 @@ from dataclasses import dataclass
 from typing import Iterable, Sequence
 
 from . import files, markup, questions
-from .counts import CHANGES, of_changes
+from .counts import CHANGES, Before, of_changes
 from .log import Closing, Entry
 from .markup import (SIZES, SPANS, Markup, Units, detail, measured, place, section, shown, size,
                      span, table, text, unit_of)
@@ -170,7 +170,7 @@ def about_changes(state: State) -> str:
     closed = [it.path for it in state.closed()][-2:]
     if len(closed) < 2:
         return ""
-    facts = of_changes(questions.findings_in(closed[1]), closed[1], closed[0])
+    facts = of_changes(questions.findings_in(closed[1]), closed[1], Before(closed[0]))
     return section("Since the cycle before", table(
         "Findings of the last two closed reports", [it.partition(" findings")[0] or it
                                                     for it in CHANGES],

@@ -125,8 +125,8 @@ class State:
         """The runs of a cycle in the order of its report, each with the program of its night."""
         found, programs = [], {}
         for it in self.entries(is_brief):
-            if it.kind == "told":
-                programs[it.night] = it.program
+            if it.kind in ("began", "told"):
+                programs[it.night] = it.program or programs.get(it.night, "")
             elif it.cycle == cycle and it.is_run():
                 found.append(it)
         return (replace(it, program=it.program or programs.get(it.night, "")) for it in found)
@@ -134,8 +134,8 @@ class State:
     # The checkpoint
 
     def checkpoint(self) -> dict[str, list[str]]:
-        """The lines of the checkpoint by their first words. Whether it is sound, the next night
-        says."""
+        """The lines of the checkpoint by their first words, and as `stands` where its cursor does.
+        Whether it is sound, the next night says."""
         path = self.at("checkpoint")
         if not os.path.isfile(path):
             return {}
@@ -143,9 +143,13 @@ class State:
         if next(rows, b"") != CHECKPOINT:
             raise Failed(path + " is not a checkpoint of this version")
         made: dict[str, list[str]] = {}
+        last = ""
         for row in rows:
             name, _, value = files.text_of(row).partition(" ")
             made.setdefault(name, []).append(value)
+            if name == "sha256":
+                made["stands"] = [last]
+            last = files.text_of(row)
         return made
 
     def standing(self) -> list[Entry]:
@@ -156,8 +160,8 @@ class State:
             return []
         stands = Entry("stands", cycle=numbers["cycle"], spent=numbers.get("spent", 0),
                        files=numbers.get("files", 0), runs=numbers.get("runs", 0),
-                       stands="ended" if "ended" in now else "")
-        has_lost = now.get("whole") == ["no"] and not stands.stands
+                       stands=now.get("stands", [""])[0])
+        has_lost = now.get("whole") == ["no"] and stands.stands != "ended"
         # The first of these lines is how many there are.
         left = [Entry("left", cycle=stands.cycle, said=it) for it in now.get("left", [])[1:]]
         return [stands, *[replace(stands, kind="lost")] * has_lost, *left]
@@ -289,7 +293,7 @@ class JoinedState(State):
         found = [it for part in self.folders() for it in part.standing()]
         cycle = max((it.cycle for it in found), default=0)
         of_cycle = [it for it in found if it.cycle == cycle and it.kind == "stands"]
-        has_ended = cycle <= self.last_closed() or all(it.stands for it in of_cycle) and len(
+        has_ended = cycle <= self.last_closed() or all(it.stands == "ended" for it in of_cycle) and len(
             of_cycle) == len(self.folders())
         stands = [replace(it, stands="ended" if has_ended else "",
                           spent=sum(one.spent for one in of_cycle),

@@ -10,7 +10,7 @@ from collections import Counter
 from dataclasses import dataclass, field
 
 from . import files, standing
-from .counts import Count, of_changes
+from .counts import Before, Count, of_changes
 from .log import Closing, Comparisons, Entry
 from .seal import is_sealed, put_seal
 from .shared import Failed, find_program, put, refuse_links
@@ -24,17 +24,21 @@ ADDED = {"ocfl-scrub statement 1": set(),
          FORM: {"Why left out *", "Not compared", "Changed findings",
                 "Findings no longer looked at", "Objects no longer declared",
                 "Files no longer looked at", "Objects back", "Expected objects listed",
-                "List of expected objects, SHA-256", "Objects no longer declared, and not back"}}
+                "List of expected objects, SHA-256", "Objects no longer declared, and not back",
+                "Files read", "Bytes read", "Also compared with cycle",
+                "Report also compared with, SHA-256", "New findings that are known"}}
 # The lines in their order. `*` stands for each code, and for the number of a place.
 NAMES = [
     "Storage root", "Declaration sums SHA-256", "State folder", "Part from", "Part below", "Host",
     "Cycle", "First night", "Last night", "Oldest verification", "Closed", "Nights", "Nights cut",
-    "Runs", "Lost lines", "Report", "Whole", "Places left out", "Place left out *",
-    "Why left out *", "Report lines", "Broken lines", "Report SHA-256", "Objects",
+    "Runs", "Files read", "Bytes read", "Lost lines", "Report", "Whole", "Places left out",
+    "Place left out *", "Why left out *", "Report lines", "Broken lines", "Report SHA-256", "Objects",
     "Objects without findings", "Content files", "Files found right", "Files not found right",
     "Bytes found right", "Findings", "Findings *", "Algorithms of wrong digests",
     "Algorithms not computed", "Compared with cycle", "Not compared",
-    "Report compared with, SHA-256", "New findings", "Changed findings", "Former findings",
+    "Report compared with, SHA-256", "Also compared with cycle",
+    "Report also compared with, SHA-256", "New findings", "New findings that are known",
+    "Changed findings", "Former findings",
     "Findings no longer looked at", "Objects gone", "Objects no longer declared", "Files gone",
     "Files no longer looked at", "Objects back", "List of what is gone, SHA-256",
     "Expected objects listed", "Expected objects missing", "List of expected objects, SHA-256",
@@ -44,12 +48,14 @@ NAMES = [
     "Program file dated", "Programs of its runs, SHA-256", "Statement before, SHA-256",
     "Not looked at", "Not said"]
 # Lines that only some statements have.
-OPTIONAL = {"Part from", "Part below", "Not compared", "Files no longer looked at", "Objects back",
+OPTIONAL = {"Part from", "Part below", "Not compared", "Also compared with cycle",
+            "Report also compared with, SHA-256", "Files no longer looked at", "Objects back",
             "Known losses", "List of known losses, SHA-256"}
-NUMBERS = {"Cycle", "Nights", "Nights cut", "Runs", "Places left out", "Report lines",
+NUMBERS = {"Cycle", "Nights", "Nights cut", "Runs", "Files read", "Bytes read", "Places left out", "Report lines",
            "Broken lines", "Objects", "Objects without findings", "Content files",
            "Files found right", "Files not found right", "Bytes found right", "Findings",
-           "Compared with cycle", "New findings", "Changed findings", "Former findings",
+           "Compared with cycle", "Also compared with cycle", "New findings",
+           "New findings that are known", "Changed findings", "Former findings",
            "Findings no longer looked at", "Objects gone", "Objects no longer declared",
            "Files gone", "Files no longer looked at", "Objects back", "Expected objects listed",
            "Expected objects missing", "Objects gone and not back",
@@ -161,6 +167,8 @@ class Cycle:
     number: int
     # When its nights began: of nights of parts that count as one, when the first of them did.
     nights: dict[str, str] = field(default_factory=dict)
+    # When the night began that read first for it, if a row says so.
+    began: str = ""
     cut: set[str] = field(default_factory=set)
     runs: int = 0
     # The places that were left out, each with its reason.
@@ -178,6 +186,11 @@ class Cycle:
             self.begun_after = self.begun_after or closed_at(entry)
         elif entry.cycle != self.number:
             return
+        elif entry.kind == "began":
+            # Of several that began where nothing had been read the last one did read. Of parts
+            # the first one counts.
+            if entry.stands == "start" and not (entry.of_part and self.began):
+                self.began = entry.of_part or entry.night
         elif entry.kind == "left":
             self.left[entry.said] = entry.why or self.left.get(entry.said, "")
         elif entry.is_run():
@@ -187,7 +200,7 @@ class Cycle:
         elif entry.kind == "ended":
             self.closing = self.comparisons.closings[self.number]
             self.closed = self.closed or closed_at(entry)
-        elif entry.kind == "stands" and entry.runs > self.runs and not self.cut:
+        elif entry.kind == "stands" and entry.runs > self.runs and not self.cut and not self.began:
             # No row tells of the night that made these runs.
             self.cut.add("")
 
@@ -210,10 +223,13 @@ def closed_at(entry: Entry) -> str:
 def of_log(cycle: Cycle) -> dict[str, str]:
     closing, nights = cycle.closing, list(cycle.nights.values())
     left = str(max(closing.left, len(cycle.left)))
-    counts = {"Nights": len(nights), "Nights cut": len(cycle.cut), "Runs": cycle.runs}
+    runs = cycle.runs if closing.runs is None else closing.runs
+    counts = {"Nights": len(nights), "Nights cut": len(cycle.cut), "Runs": runs}
+    read = {"Files read": closing.read_files, "Bytes read": closing.read_bytes}
     return {"First night": nights[0] if nights else "", "Last night": nights[-1] if nights else "",
             "Closed": cycle.closed,
             **{name: str(count) if nights else "" for name, count in counts.items()},
+            **{name: NOT_KNOWN if count is None else str(count) for name, count in read.items()},
             "Lost lines": "none" if closing.is_whole or left != "0" else NOT_KNOWN,
             "Report": closing.report, "Whole": "yes" if closing.is_whole else "no",
             "Places left out": left if closing.is_whole or closing.is_logged else NOT_KNOWN,
@@ -263,13 +279,14 @@ def of_gone(cycle: Cycle, listed: str | None) -> dict[str, str]:
 
 
 def of_runs(state: State, cycle: Cycle) -> dict[str, str]:
-    """A time that is older than no verification of the cycle, and the programs of the nights that
-    ended. A night that was killed may have no row: the cycle may have begun as soon as the one
-    before was closed."""
+    """A time that no verification of the cycle is older than, and the programs of its nights. If no
+    row says that the cycle began, a night that was killed may have none: the cycle may have begun
+    as soon as the one before was closed."""
     runs = list(state.runs(cycle.number, True))
     cut = {it.night for it in runs if it.kind == "cut"}
-    programs = dict.fromkeys(it.program for it in runs if it.night not in cut)
-    oldest = min(filter(None, [cycle.begun_after, *(it.began for it in runs)]), default="")
+    programs = dict.fromkeys(it.program for it in runs if it.program or it.night not in cut)
+    oldest = cycle.began or min(filter(None, [cycle.begun_after, *(it.began for it in runs)]),
+                                default="")
     return {"Oldest verification": oldest,
             "Programs of its runs, SHA-256": " ".join(programs) if all(programs) else ""}
 
@@ -342,15 +359,27 @@ def facts_of(state: State, cycle: Cycle) -> Statement:
 
 
 def changes_of(state: State, cycle: Cycle, count: Count, report: str) -> dict[str, str]:
-    """How the findings differ from those of the report that it was compared with."""
-    compared = cycle.closing.compared or ()
-    earlier = state.find_report(compared[0]) if len(compared) == 1 else None
-    if earlier is None:
-        return of_changes(count.found, report, None)
-    is_whole = os.path.basename(earlier).startswith("cycle-")
-    left = () if is_whole else map(files.bytes_of, cycle_of(state, compared[0]).left)
-    return of_changes(count.found, report, earlier,
-                      state.marks(compared[0]) if is_whole else None, list(left))
+    """How the findings differ from those of the report that it was compared with. How many are new,
+    and how many of these are known, the log says."""
+    closing, compared = cycle.closing, cycle.closing.compared or ()
+    made = of_changes(count.found, report, before_of(state, compared[0])
+                      if len(compared) == 1 else None, before_of(state, closing.compared_whole))
+    if closing.compared_whole:
+        made["Also compared with cycle"] = str(closing.compared_whole)
+    if compared and closing.new is not None:
+        made["New findings"] = str(closing.new)
+        made["New findings that are known"] = str(closing.known)
+    return made
+
+
+def before_of(state: State, cycle: int) -> Before | None:
+    """The report of an earlier cycle; None if it is not there."""
+    path = state.find_report(cycle) if cycle else None
+    if path is None:
+        return None
+    if os.path.basename(path).startswith("cycle-"):
+        return Before(path, state.marks(cycle))
+    return Before(path, None, list(map(files.bytes_of, cycle_of(state, cycle).left)))
 
 
 def of_folder(state: State) -> dict[str, str]:

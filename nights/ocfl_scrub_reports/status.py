@@ -51,6 +51,8 @@ class Log:
     is_open: bool = False
     spent: int = 0
     files: int = 0
+    # The cycles of which each night has a row that says it began: none was cut without a trace.
+    told_from_start: set[int] = field(default_factory=set)
     # How many runs of the cycle no row tells of, and the places that each cycle leaves out, with
     # their reasons.
     unlogged: int = 0
@@ -74,15 +76,27 @@ class Log:
             self.take_closing(entry)
         elif entry.kind == "lost":
             self.lost_in = entry.cycle
+        elif entry.kind == "began":
+            self.take_beginning(entry)
         elif entry.kind == "left":
             left = self.left_out.setdefault(entry.cycle, {})
             left[entry.said] = entry.why or left.get(entry.said, "")
         elif entry.kind == "stands" and self.night:
             self.move_to(entry)
-            self.unlogged = entry.runs - self.runs[entry.cycle]
+            self.unlogged = 0 if entry.cycle in self.told_from_start else (
+                entry.runs - self.runs[entry.cycle])
         elif entry.kind == "told":
             self.start_night(entry.night)
             self.status, self.is_under_way = entry.status or self.status, False
+
+    def take_beginning(self, entry: Entry) -> None:
+        """Notes that a night began, which may not have ended a run yet."""
+        self.start_night(entry.night)
+        self.is_under_way = True
+        if entry.stands == "start" and not self.runs[entry.cycle]:
+            self.told_from_start.add(entry.cycle)
+        if entry.cycle > (self.cycle or 0):
+            self.move_to(entry)
 
     def take_run(self, entry: Entry) -> None:
         self.start_night(entry.night)

@@ -4,7 +4,8 @@ from __future__ import annotations
 import os
 
 from . import files
-from .counts import CHANGES, COMPARED, Count, of_changes, of_lines
+from .counts import (ALSO_COMPARED, CHANGED, CHANGES, COMPARED, NEW_AND_KNOWN, Before, Count,
+                     of_changes, of_lines)
 from .log import kinds_in
 from .shared import Failed, refuse_links
 from .standing import kinds_gone
@@ -19,7 +20,7 @@ LIST_OF_GONE = "List of what is gone, SHA-256"
 LIST_OF_KNOWN = "List of known losses, SHA-256"
 BEFORE = "Statement before, SHA-256"
 # What a line says of a digest if there was no file, or if it was another one.
-NONE = ("", "no list", "no statement", "no report", "changed since it was closed")
+NONE = ("", "no list", "no statement", "no report", CHANGED)
 # What a line says that says nothing.
 EMPTY = (*NONE, NOT_KNOWN, "not asked")
 
@@ -81,11 +82,32 @@ class Check:
             self.facts.update(of_lines(count.found, earlier))
             return
         left = self.left_before(cycle) if kind == "incomplete" else []
-        found = of_changes(count.found, self.report, earlier, left=left or ())
+        found = of_changes(count.found, self.report, Before(earlier, None, left or ()),
+                           self.whole_before())
         if left is None:
             self.lacking["New findings"] = cycle_name("statement", cycle)
+        if "New findings" in self.lacking or found["New findings"] == NOT_KNOWN:
             del found["New findings"]
+        else:
+            found["New findings"] = self.without_known(int(found["New findings"]))
+        del found[NEW_AND_KNOWN]
         self.facts.update(found)
+
+    def without_known(self, new: int) -> str:
+        """How many findings are new, without those that the statement calls known."""
+        known = self.said.get(NEW_AND_KNOWN, "")
+        return str(new - int(known)) if known.isdecimal() else str(new)
+
+    def whole_before(self) -> Before | None:
+        """The last whole report, if that was compared too."""
+        cycle = self.said.get("Also compared with cycle", "")
+        if not cycle.isdecimal():
+            return None
+        if self.said.get(ALSO_COMPARED) in NONE:
+            self.lacking["New findings"] = cycle_name("cycle", int(cycle))
+            return None
+        path = self.beside("cycle", int(cycle), ALSO_COMPARED, "New findings")
+        return Before(path) if path else None
 
     def left_before(self, cycle: int) -> list[bytes] | None:
         """The places that an earlier cycle left out, by its statement."""

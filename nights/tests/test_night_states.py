@@ -66,6 +66,11 @@ class Program:
         self.put("log", b"".join(json.dumps(it, sort_keys=True, separators=(",", ":")).encode()
                                  + b"\n" for it in self.rows))
 
+    def begin(self, day, cycle, stands="start", lines=0, program="a" * 64):
+        """A night begins, as the log has said since it has such rows."""
+        self.log(row="began", time=at(night_of(day)) + 1, night=at(night_of(day)), cycle=cycle,
+                 stands=stands, lines=lines, bytes=9, root="/srv/ocfl", part=0, program=program)
+
     def slice(self, day, cycle, run, lines, spent, code=0, stands="after o", cost=9):
         self.costs.append(cost)
         if not self.has_slices:
@@ -99,9 +104,9 @@ class Program:
             self.put("reports/gone-%06d" % cycle, gone)
         said = {"compared": compared, "why": "", "objects": gone.count(b"object\t"),
                 "files": gone.count(b"file\t"), "expected": 0, "listed": 0, "list": "", **more}
-        repaired = said.pop("repaired", 0)
+        repaired, new = said.pop("repaired", 0), said.pop("new", 0)
         self.log(row="closing", time=at(night_of(day)) + 1800, night=at(night_of(day)), cycle=cycle,
-                 report=os.path.join(self.path, name), whole=whole, findings=2, new=0,
+                 report=os.path.join(self.path, name), whole=whole, findings=2, new=new,
                  repaired=repaired, gone=gone.count(b"\n"), left=left,
                  **({} if compared is None else said))
 

@@ -124,16 +124,17 @@ class State:
 
     def close(self, began, cycle, lines=None, gone="", whole=True, packed=False, at=None, **said):
         """Closes a cycle. `said` is what else its row says: with which cycle it was compared, which
-        is the one before without it."""
+        is the one before without it. Without more the row is one of an earlier version: it does not
+        say what the cycle read."""
         name = "reports/%s-%06d" % ("cycle" if whole else "incomplete", cycle)
         data = "".join(lines or []).encode()
         write(self.path + "/" + name + (".gz" if packed else ""),
               gzip.compress(data) if packed else data)
         write(self.path + "/reports/gone-%06d" % cycle, gone)
         self.row(row="closing", time=seconds(at or began), night=seconds(began), cycle=cycle,
-                 report=self.path + "/" + name, whole=whole, findings=0, new=0, repaired=0,
+                 report=self.path + "/" + name, whole=whole, findings=0, repaired=0,
                  gone=gone.count("\n"), left=0, **{
-                     "compared": cycle - 1 if whole else 0, "why": "", "list": "", "listed": 0,
+                     "new": 0, "compared": cycle - 1 if whole else 0, "why": "", "list": "", "listed": 0,
                      "objects": gone.count("object\t"), "files": gone.count("file\t"),
                      "expected": gone.count("expected\t"), "unlooked": 0, "back": 0, **said})
 
@@ -155,7 +156,8 @@ LINES = [line("ok", "."), line("E072", "a b"), line("ok", "o"), line("ok", "o/v1
          line("S08", "o3-4/v1/content/a"), line("ok", "o3-4/v1/content/b", "0")]
 GONE = "object\tp\nfile\to/v1/content/a\nfile\to/v1/content/b\nexpected\tz\n"
 EXPECTED = {"listed": 160, "list": "e" * 64}
-COUNTED = {"unlooked": 3, "back": 1}
+COUNTED = {"unlooked": 3, "back": 1, "new": 4, "known": 0, "runs": 2, "read_bytes": 6,
+           "read_files": 2}
 
 
 def audited(folder):

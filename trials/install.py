@@ -91,6 +91,7 @@ share/ocfl-scrub/ocfl_scrub_reports/state.py 644
 share/ocfl-scrub/ocfl_scrub_reports/statement.py 644
 share/ocfl-scrub/ocfl_scrub_reports/status.py 644
 share/ocfl-scrub/ocfl_scrub_reports/tell.py 644
+share/ocfl-scrub/ocfl_scrub_reports/units.py 644
 share/ocfl-scrub/ocfl_scrub_reports/verify.py 644
 share/ocfl-scrub/ocfl_scrub_reports/weights.py 644
 share/ocfl-scrub/parallel/begin 755

@@ -9,7 +9,7 @@ from gate.repository import TOP
 
 sys.path.insert(0, os.path.join(TOP, "nights"))
 
-from gate.tests.test_night_states import ONE, TWO, Program, at, night_of
+from gate.tests.test_night_states import NOW, ONE, TWO, Program, at, night_of
 from gate.tests.test_what_is_known import Told
 from ocfl_scrub_reports import state
 
@@ -32,7 +32,7 @@ class Began(Told):
         self.made.begin(1, 3)
         with self.made.under_way():
             self.assertEqual(self.kinds(), [("began", 3, 0)])
-            self.assertIn(": last night %s, status 0, under way; cycle 3 is open;" % night_of(1),
+            self.assertIn(": last night %s, status 0, under way; cycle 3 is open, " % night_of(1),
                           self.now(1))
         self.assertEqual(self.kinds(), [("began", 3, 0), ("cut", 3, 0)])
         self.assertIn("a night was cut;", self.now(1))
@@ -69,6 +69,56 @@ class Began(Told):
             self.made.begin(1, 3, stands)
             self.made.log_night(1)
             self.assertEqual("a night was cut" in self.now(1), is_cut)
+
+
+class Progress(Told):
+    """How far the open cycle is."""
+
+    def stands(self, line="after a%7Cb/v1|x", left=b""):
+        """The checkpoint stands so, after branches that were left out."""
+        with open(self.made.path + "/checkpoint", "rb") as file:
+            text = file.read().replace(b"files 1\nafter o\n", b"files 1\n%s\n" % line.encode())
+        self.made.put("checkpoint", text.replace(b"left 0\n", left or b"left 0\n"))
+
+    def page(self):
+        return self.ask("page", *NOW, self.made.path)[1]
+
+    def test_of_the_first_cycle(self):
+        self.made = Program(self.at("first"), cycle=1)
+        self.made.night(1, 1, 1, 3, 6)
+        self.stands()
+        self.assertIn("; cycle 1 is open, 1 file with 5 bytes read in 1 night up to a%7Cb/v1?x, "
+                      "how much is left is not known; ", self.status()[1])
+        page = self.page()
+        for text in ("<th scope=\"row\">nights so far</th><td>1</td>", "a|b", ">v1|x<",
+                     "not known: no cycle has ended yet, so nothing says what one reads"):
+            self.assertIn(text, page)
+
+    def test_before_its_first_file(self):
+        self.made = Program(self.at("first"), cycle=1)
+        self.made.night(1, 1, 1, 3, 6)
+        self.stands("start", b"left 1\nleft b\nafter a\n")
+        self.assertIn(", 1 file with 5 bytes read in 1 night, how much is left is not known; ",
+                      self.status()[1])
+
+    def test_of_a_later_one(self):
+        """What the last cycle read says how much is left."""
+        self.made = Program(self.at("later"), cycle=2)
+        self.cycle(1, ONE, runs=3, read_bytes=2000, read_files=7)
+        self.made.night(2, 2, 1, 3, 6)
+        self.assertIn("; cycle 2 is open, 0 of 100 done, ", self.status()[1])
+        self.assertIn("<th scope=\"row\">how much is left</th><td>100 %, about 2 kB</td>",
+                      self.page())
+
+    def test_after_a_cycle_whose_cost_is_not_known(self):
+        """Nor is it known when that ended, and all else is said."""
+        self.made = Program(self.at("later"), cycle=2)
+        self.made.put("reports/cycle-000001", ONE)
+        self.made.night(2, 2, 1, 3, 6)
+        self.assertIn("how much is left is not known; last whole cycle 1 on a day that is not "
+                      "known; ", self.status()[1])
+        self.assertNotIn("whole_cycle_timestamp_seconds", self.figures())
+        self.assertIn("not known: the log does not say what the last cycle read", self.page())
 
 
 class Closings(Told):

@@ -9,13 +9,14 @@ from typing import Iterable, Iterator, NamedTuple
 
 from . import files, markup, questions, standing
 from .counts import Digests, beside, former
-from .markup import Markup, detail, paragraph, place, section, shown, size, table, text
+from .markup import Markup, detail, paragraph, place, section, shown, table, text
 from .objects import id_of, in_one_form, is_root
 from .report import Line, Reading, is_within, lines_at
 from .shared import Failed, many, many_are, many_were, refuse_links
 from .state import NOT_KNOWN, State, cycle_name
 from .statement import FORM, Statement, cycle_of, plain
 from .verify import GUESSED, LIST_OF_GONE, Check
+from .units import size
 from .weights import Weights
 
 # So many rows of one kind are shown.

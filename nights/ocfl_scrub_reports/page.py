@@ -9,13 +9,13 @@ from typing import Iterable, Sequence
 from . import files, markup, questions
 from .counts import CHANGES, Before, of_changes
 from .log import Closing, Entry
-from .markup import (SIZES, SPANS, Markup, Units, detail, measured, place, section, shown, size,
-                     span, table, text, unit_of)
+from .markup import Markup, detail, place, section, shown, table, text
 from .shared import many, many_are
 from .standing import kinds_gone
 from .state import NOT_KNOWN, State, cycle_name
 from .statement import Statement, plain
-from .status import Root, Standing, with_reason, worst_of
+from .status import Log, Root, Standing, with_reason, worst_of
+from .units import SIZES, SPANS, Units, measured, size, span, unit_of
 from .weights import Weights
 
 SHOWN = 200
@@ -108,13 +108,12 @@ def about_cycle(state: State, standing: Standing) -> str:
     facts: list[tuple[str, str]] = [("cycle", "none" if log.cycle is None else str(log.cycle)),
              ("files read", "{:,}".format(log.files)),
              ("bytes read", size(log.spent - log.files)),
+             ("nights so far" if log.is_open else "nights", str(log.count_nights())),
              ("the last night began", log.night or "never"),
              ("status of the last night", log.status + RESULTS.get(log.status, "")
               + (", under way" if log.is_under_way else ""))]
-    if standing.done is not None:
-        facts.append(("progress, by the cost of the cycle before", "%d %%" % standing.done))
-    if standing.left is not None:
-        facts.append(("nights left", str(standing.left)))
+    if log.is_open:
+        facts += about_progress(standing)
     if log.cycle in log.left_out:
         facts.append(("left out", shown(files.bytes_of("; ".join(
             with_reason(*it) for it in log.left_out[log.cycle].items())))))
@@ -122,6 +121,21 @@ def about_cycle(state: State, standing: Standing) -> str:
              for part in state.folders()]
     return section("The open cycle" if log.is_open else "The last cycle",
                    table("Progress", ("what", "value"), facts), strip(parts))
+
+
+def about_progress(standing: Standing) -> list[tuple[str, str]]:
+    """How far the open cycle is, and how much is left of it, as far as that is known."""
+    log, facts = standing.log, []  # type: Log, list[tuple[str, str]]
+    if log.place:
+        facts.append(("it has come to, in the order of names", place(files.bytes_of(log.place))))
+    if standing.done is None:
+        return facts + [("how much is left", standing.why_not_reckoned())]
+    facts.append(("progress, by the cost of the cycle before", "%d %%" % standing.done))
+    read = log.closing.read_bytes
+    facts.append(("how much is left", "%d %%%s" % (100 - standing.done, "" if read is None else (
+        ", about %s" % size(max(0, read - (log.spent - log.files)))))))
+    facts.append(("nights left", NOT_KNOWN if standing.left is None else str(standing.left)))
+    return facts
 
 
 def about_nights(nights: list[tuple[str, Night]], is_under_way: bool) -> str:

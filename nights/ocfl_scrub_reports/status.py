@@ -16,6 +16,7 @@ from .log import Closing, Comparisons, Entry, kinds_in, rank, worst
 from .questions import gravest_first
 from .shared import Failed, many
 from .state import State
+from .units import size
 from .weights import Known, Weights
 
 # What would end the line for a monitor, or begin its figures.
@@ -49,6 +50,9 @@ class Log:
     seconds: int = 0
     cycle: int | None = None
     is_open: bool = False
+    # After which place the cycle stands, as reports write it; empty if it stands after none, or in
+    # each part after another.
+    place: str = ""
     spent: int = 0
     files: int = 0
     # The cycles of which each night has a row that says it began: none was cut without a trace.
@@ -126,6 +130,11 @@ class Log:
     def move_to(self, entry: Entry) -> None:
         self.cycle, self.spent, self.files = entry.cycle, entry.spent, entry.files
         self.is_open = entry.stands != "ended"
+        self.place = entry.stands[6:] if entry.stands.startswith("after ") else ""
+
+    def count_nights(self) -> int:
+        """How many nights have read for the cycle."""
+        return len(self.nights.get(self.cycle or 0, ()))
 
     def start_night(self, night: str) -> None:
         if night != self.night:
@@ -192,7 +201,7 @@ class Standing:
         if not log.night or not log.is_open or not whole or log.cycle is None:
             return None, None
         done = min(99, 100 * log.spent // whole)
-        rate = log.cost[log.cycle] / max(1, len(log.nights.get(log.cycle, ())))
+        rate = log.cost[log.cycle] / max(1, log.count_nights())
         if rate <= 0:
             return done, None
         return done, max(1, math.ceil((whole - log.spent) / rate))
@@ -243,7 +252,7 @@ class Standing:
             self.add(1, "cycle %d will not be whole%s" % (log.cycle, self.left_text(log.cycle)))
         if log.lost_in is not None and (not log.closed or log.lost_in != log.closed.cycle):
             self.add(1, "the report of cycle %d lost lines" % log.lost_in)
-        if log.whole:
+        if log.whole and log.whole.began:
             self.judge_time("the end of cycle %d" % log.whole.cycle, log.whole.began)
             self.compare("cycle_age", (self.now - seconds_of(log.whole.began)) / 86400,
                          "the last whole cycle ended on " + log.whole.began[:10])
@@ -322,15 +331,31 @@ class Standing:
         night = "last night %s, status %s" % (log.night, log.status)
         cycle = "no run has been made" if log.cycle is None else "cycle %d %s" % (
             log.cycle, "is open" if log.is_open else "has ended")
-        if log.is_open and self.done is not None:
-            cycle += ", %d of 100 done" % self.done
+        if log.is_open and log.cycle is not None:
+            cycle += self.progress()
         if self.left is not None:
             cycle += ", %s left" % many(self.left, "night")
-        whole = "%d on %s" % (log.whole.cycle, log.whole.began[:10]) if log.whole else "none"
+        whole = "%d on %s" % (log.whole.cycle, log.whole.began[:10] or "a day that is not known"
+                              ) if log.whole else "none"
         is_early = self.unknown and not self.is_unknown
         return [night + (", under way" if log.is_under_way else ""), cycle,
                 "last whole cycle " + whole, *([] if self.are_said else [self.findings_text()]),
                 *(["what is gone is not known yet"] if is_early else [])]
+
+    def progress(self) -> str:
+        """How far the open cycle is: by the cost of the last one, or else what it has read."""
+        log = self.log
+        if self.done is not None:
+            return ", %d of 100 done" % self.done
+        place = " up to " + BREAKING.sub("?", log.place) if log.place else ""
+        return ", %s with %s read in %s%s, how much is left is not known" % (
+            many(log.files, "file"), size(log.spent - log.files),
+            many(log.count_nights(), "night"), place)
+
+    def why_not_reckoned(self) -> str:
+        """Why nobody knows how much of the open cycle is left."""
+        return "not known: " + ("the log does not say what the last cycle read" if self.log.closed
+                                else "no cycle has ended yet, so nothing says what one reads")
 
     def figures(self) -> str:
         if not self.log.night:
@@ -449,7 +474,7 @@ FIGURES: list[tuple[str, str, Callable[[Standing], float | None]]] = [
      lambda it: None if it.done is None else it.done / 100),
     ("nights_left", "Nights that the cycle still needs.", lambda it: it.left),
     ("whole_cycle_timestamp_seconds", "When the last whole cycle ended.",
-     lambda it: seconds_of(it.log.whole.began) if it.log.whole else None),
+     lambda it: seconds_of(it.log.whole.began) if it.log.whole and it.log.whole.began else None),
     ("gone_known", "1 where each closed cycle was compared with one before it.",
      lambda it: not it.unknown),
     ("gone_objects", "Objects that were gone and are not back.", of_lost("object")),

@@ -696,7 +696,8 @@ class Joined(Asked):
         folder = state.open_state(self.at("state"))
         self.assertEqual(type(folder), state.JoinedState)
         given, out, _ = self.ask("status", "--now", "2026-03-02T05:00:00Z", self.at("state"))
-        self.assertIn("last night 2026-03-01T22:00:00Z, status 3; cycle 1 is open;", out)
+        self.assertIn("last night 2026-03-01T22:00:00Z, status 3; cycle 1 is open, 2 files with "
+                      "10 bytes read in 1 night, how much is left is not known;", out)
         self.assertEqual(given, 2)
 
     def test_a_part_that_waits(self):

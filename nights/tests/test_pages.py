@@ -77,10 +77,10 @@ class Texts(Asked):
         for count, shown in [(0, "0 bytes"), (1, "1 byte"), (999, "999 bytes"), (1000, "1 kB"),
                              (1200, "1.2 kB"), (999999, "1 MB"), (50_300_000, "50.3 MB"),
                              (10 ** 12, "1 TB"), (2 * 10 ** 18, "2,000 PB")]:
-            self.assertEqual(markup.size(count), shown)
+            self.assertEqual(units.size(count), shown)
         for seconds, shown in [(0, "0 s"), (59, "59 s"), (90, "1.5 min"), (3600, "1 h"),
                                (360000, "100 h")]:
-            self.assertEqual(markup.span(seconds), shown)
+            self.assertEqual(units.span(seconds), shown)
 
     def test_scales(self):
         for most, steps in [(1, [0, 0.5, 1]), (1.9, [0, 0.5, 1, 1.5, 2]), (3, [0, 1, 2, 3]),

@@ -73,6 +73,7 @@ share/ocfl-scrub/ocfl_scrub_reports/command.py 644
 share/ocfl-scrub/ocfl_scrub_reports/counts.py 644
 share/ocfl-scrub/ocfl_scrub_reports/cycle_page.py 644
 share/ocfl-scrub/ocfl_scrub_reports/database.py 644
+share/ocfl-scrub/ocfl_scrub_reports/expected.py 644
 share/ocfl-scrub/ocfl_scrub_reports/files.py 644
 share/ocfl-scrub/ocfl_scrub_reports/finish.py 644
 share/ocfl-scrub/ocfl_scrub_reports/log.py 644

@@ -204,6 +204,18 @@ def do_repair(given: Given) -> int:
     return repair.show(state_of(given), given.copy, given.known)
 
 
+def do_expected(given: Given) -> int:
+    from . import expected
+    named(given.ids)
+    return expected.show(state_of(given), given.ids)
+
+
+def do_missing(given: Given) -> int:
+    from . import expected
+    named(given.list, given.report)
+    return expected.show_missing(given.list, given.report)
+
+
 def do_tell(given: Given) -> int:
     from . import tell
     return tell.send(tell.Night(given.name, folders_of(given), os.environ))
@@ -324,6 +336,20 @@ COMMANDS: list[tuple[str, Does, str, str, Iterable[Callable[[Parser], object]], 
       WITHOUT_KNOWN, STATE],
      "For each damaged file the digest and the size that were expected, which files have them, and "
      "the command that copies one, for bash. Ends with 1 if of some no right file was found."),
+    ("expected", do_expected, "writes the list that `ocfl-scrub night --expected` takes",
+     "--ids ids ~/audit > expected",
+     [argument("--ids", metavar="FILE", required=True, help="the OCFL ids, one on each line"),
+      STATE],
+     "It has the paths of the objects in whose inventories these ids are. Each inventory of the "
+     "storage root is read. An id that no object has, or several have, and an object whose id "
+     "cannot be read, are named on standard error, with status 1."),
+    ("missing", do_missing, "shows which objects of a list have no line in a report",
+     "expected ~/audit-parts/reports/cycle-000001",
+     [argument("list", metavar="LIST", help="as `ocfl-scrub night --expected` takes it"),
+      argument("report", metavar="REPORT", type=report_at,
+               help="the closed report of a whole storage root, as that of all parts")],
+     "It does for the nights of parts what `--expected` does for one night. Ends with 1 if one is "
+     "missing."),
     ("tell", do_tell, "sends what a night said", "archive ~/audit",
      [argument("name", metavar="NAME"), *STATES],
      "It goes by mail to $MAIL or else to standard error; to both with JOURNAL=yes. systemd calls "

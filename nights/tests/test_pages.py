@@ -7,7 +7,7 @@ import re
 from html.parser import HTMLParser
 
 from nights.tests.test_night_states import NOW, Asked, Program, at, night_of
-from ocfl_scrub_reports import markup, page
+from ocfl_scrub_reports import markup, page, units
 from ocfl_scrub_reports.statement import ADDED, FORM
 
 # Names as reports write them, and as a page shows them: what is not seen, or changes the order of

@@ -9,8 +9,8 @@ from gate.repository import TOP
 
 sys.path.insert(0, os.path.join(TOP, "nights"))
 
-from gate.tests.test_night_states import NOW, ONE, TWO, Program, at, night_of
-from gate.tests.test_what_is_known import Told
+from nights.tests.test_night_states import NOW, ONE, TWO, Program, at, night_of
+from nights.tests.test_what_is_known import Told
 from ocfl_scrub_reports import state
 
 # What a closing says of what its cycle read, and of what is new.

@@ -9,7 +9,7 @@ from gate.repository import TOP
 
 sys.path.insert(0, os.path.join(TOP, "nights"))
 
-from gate.tests.test_night_states import Asked, Program
+from nights.tests.test_night_states import Asked, Program
 
 
 class Expected(Asked):

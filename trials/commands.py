@@ -13,6 +13,7 @@ Tried, and what comes of it:
   file is inside it.
 - A checkpoint to be shown: whole, from a pipe, cut, changed, of another version, with other
   lines, and longer than any: its lines, or status 4 with the reason; it stays as it is.
+- The table of codes: what the nights' scripts read, and the same as JSON.
 - Names of ROOT and of the cursor file that end in a blank, a tab, a line feed or a no-break
   space: as others; the name without its end is neither read nor made.
 
@@ -23,6 +24,7 @@ Seen to fail on these faults, each planted alone:
   folder whose name begins as the root's does is taken for one inside it; white space at the end
   of ROOT is dropped, or the slash that is all of it.
 """
+import json
 import os
 import subprocess
 from urllib.parse import unquote
@@ -330,7 +332,7 @@ def usages(root):
 def helps():
     status, out, said = ran(["--help"])
     check("help", (status, "Usage: ocfl-scrub" in out, said), (0, True, ""))
-    for command in ["audit", "run", "cycle", "night", "check", "split", "join", "show"]:
+    for command in ["audit", "run", "cycle", "night", "check", "split", "join", "show", "codes"]:
         check("help names " + command, "\n  " + command in out, True)
         status, told, said = ran([command, "--help"])
         whole = "Usage: ocfl-scrub %s" % command in told
@@ -339,6 +341,18 @@ def helps():
     check("version", (status, out.startswith("ocfl-scrub "), said), (0, True, ""))
     own = "\nthis file has sha256 %s\n" % digest(read(common.PROGRAM))
     check("version: the digest of the program", out.endswith(own), True)
+
+
+def table_of_codes():
+    """The table of codes is what the nights' scripts read, and as JSON it says the same."""
+    written = read(common.TOP + "/nights/ocfl_scrub_reports/codes").decode()
+    check("the table of codes", ran(["codes"]), (0, written, ""))
+    status, out, said = ran(["codes", "--json"])
+    check("the table as JSON", (status, out.count("\n"), said), (0, 1, ""))
+    rows = [row.split("\t") for row in written.splitlines() if not row.startswith("#")]
+    check("the rows of JSON", json.loads(out), [
+        {"code": row[0], "finding": row[1] != "-", "first": row[4], "kind": row[2],
+         "means": row[3], "weight": None if row[1] == "-" else int(row[1])} for row in rows])
 
 
 def findings(root):
@@ -392,6 +406,7 @@ def check_all(folder):
     splits_by_report(os.path.join(folder, "parts"))
     usages(root)
     helps()
+    table_of_codes()
     check("nothing was written below the root", common.snapshot(root), before)
     findings(root)
     samples(os.path.join(folder, "samples"))

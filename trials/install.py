@@ -329,7 +329,7 @@ def manual(prefix):
     told = set(re.findall(r"^\.B (ok|[ES]\d+)$", text, re.MULTILINE))
     check("each code is in the page", sorted(codes_of_rules() - told), [])
     check("each code of the page is a rule's", sorted(told - codes_of_rules()), [])
-    for command in ["audit", "run", "cycle", "night", "check", "split", "join", "show"]:
+    for command in ["audit", "run", "cycle", "night", "check", "split", "join", "show", "codes"]:
         check("the page tells of " + command, "\n.BI %s\\~ " % command in text, True)
     shown = "".join(ran([PROGRAM, command, "--help"])[1]
                     for command in ["audit", "run", "cycle", "night", "split", "join"])

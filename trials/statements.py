@@ -85,18 +85,20 @@ def many_findings(folder):
 
 
 def table_of_codes():
-    """The table has the codes of docs/RULES.md, and says which are said of an object itself."""
+    """The table has the codes of docs/RULES.md, and says which are said of an object itself, and
+    which of content files."""
     rules = read(TOP + "/docs/RULES.md").split("\n## Codes\n")[1].split("\n## ")[0]
-    codes = set(re.findall(r"\b[ES]\d+\b", "".join(row.split("|")[1] for row in rules.splitlines()
+    codes = set(re.findall(r"\bok\b|\b[ES]\d+\b", "".join(row.split("|")[1] for row in rules.splitlines()
                                                    if row.startswith("|"))))
     table = read(NIGHTS + "/ocfl_scrub_reports/codes")
     rows = [row.split("\t") for row in table.splitlines() if row[0] != "#"]
     check("codes of the table", sorted(row[0] for row in rows), sorted(codes))
     check("their weights", sorted({row[1] for row in rows}), ["-", "1", "2", "3", "4"])
-    check("their words", [row[0] for row in rows if len(row) != 4 or not row[3]], [])
-    apart = {"E001", "E015", "E023", "E024", "E069", "E072", "E073", "E076", "E080", "E092", "E093",
-             "S04", "S05", "S08"}
-    check("codes of no object's head", {row[0] for row in rows if row[2] == "place"}, apart)
+    check("their words", [row[0] for row in rows if len(row) != 5 or not row[3] or not row[4]], [])
+    check("codes of places", {row[0] for row in rows if row[2] == "place"},
+          {"E001", "E015", "E024", "E069", "E072", "E073", "E076", "E080", "S04", "S05"})
+    check("codes of files", {row[0] for row in rows if row[2] == "file"},
+          {"E023", "E092", "E093", "S08"})
 
 
 # Statements

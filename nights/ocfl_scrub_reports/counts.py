@@ -12,8 +12,8 @@ from .report import APART, RIGHT, Comparing, Mark, Reading, is_within
 from .state import NOT_KNOWN
 from .weights import Weights
 
-# Codes of lines that are said of content files.
-OF_FILES = {b"E023", b"E092", b"E093", b"S08"}
+# Codes of lines that are said of content files, besides `ok`.
+OF_FILES = Weights().of_files
 # Codes of lines whose detail begins with the algorithm of a digest that is not the expected one.
 OF_DIGESTS = {b"E060", b"E092", b"E093"}
 # What is written like an algorithm. Inventories can name anything.

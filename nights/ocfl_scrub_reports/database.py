@@ -13,6 +13,7 @@ from .log import Entry
 from .report import Reading
 from .shared import Failed
 from .state import JoinedState, State
+from .weights import Weights
 
 TABLES = """
 create table run (began text, status, cycle integer, run integer, lines integer, cost integer,
@@ -33,7 +34,7 @@ UNVERIFIED = """
 with
 content as (
   select distinct path from line
-  where (code = 'ok' and detail <> '-') or code in ('E023', 'E092', 'E093', 'S08')
+  where (code = 'ok' and detail <> '-') or code in (OF_FILES)
 ),
 verified as (
   select path, max(began) as began from dated
@@ -50,7 +51,7 @@ join last on last.path = content.path
 left join verified on verified.path = content.path
 where coalesce(verified.began, '') < :date
 order by content.path;
-"""
+""".replace("OF_FILES", ", ".join(sorted("'%s'" % it.decode() for it in Weights().of_files)))
 COLUMNS = ("began", "kind", "cycle", "run", "lines", "cost", "said", "spent", "files", "seconds",
            "bytes", "stands", "night")
 MOST = (1 << 63) - 1

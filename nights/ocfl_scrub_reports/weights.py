@@ -1,4 +1,4 @@
-"""How grave findings are, and which of them are known."""
+"""How serious findings are, and which of them are known."""
 from __future__ import annotations
 
 import os
@@ -11,20 +11,24 @@ TABLE = os.path.join(os.path.dirname(os.path.abspath(__file__)), "codes")
 
 
 class Weights:
-    """The table of codes: how grave each is, whether it is said of an object itself, and what it
-    means. A table may lack the meanings."""
+    """The table of codes, as `ocfl-scrub codes` prints it: how serious each is, whether it is said
+    of an object itself or of a content file, what it means and what to do first. A table may lack
+    the last two: those of this one are used then."""
 
     def __init__(self, path: str = TABLE) -> None:
         self.of_code: dict[bytes, bytes] = {}
         self.of_objects: set[bytes] = set()
+        self.of_files: set[bytes] = set()
         self.words: dict[bytes, str] = {}
         for line in files.lines(path):
             columns = line.split(b"\t")
-            if len(columns) in (3, 4) and not line.startswith(b"#"):
+            if len(columns) in (3, 4, 5) and not line.startswith(b"#"):
                 self.of_code[columns[0]] = columns[1]
                 if columns[2] == b"object":
                     self.of_objects.add(columns[0])
-                self.words.update((columns[0], it.decode()) for it in columns[3:])
+                if columns[2] == b"file":
+                    self.of_files.add(columns[0])
+                self.words.update((columns[0], it.decode()) for it in columns[3:4])
 
     def weight(self, line: bytes) -> bytes:
         """The weight of a finding. A code that the table lacks is grave until it has one."""

@@ -6,7 +6,7 @@ use Rattle.ocfl_tree.specs.{Ascending.{IsAmong}, Place.{Place}}
 use Rattle.ocfl_tree.proofs.{Orders.{among_left, among_right}, Places.{text_eq-same}}
 use Rattle.ocfl_tree.proofs.Stores.{among_either}
 use Rattle.ocfl_report.specs.{Line.{Line}, Text.{code_text}, declared.code.Code.{Code}}
-use Rattle.ocfl_compare.specs.Kinds.{is_empty, tells_object, tells_file, hides}
+use Rattle.ocfl_codes.specs.Kinds.{is_empty, tells_object, tells_file, hides}
 use Rattle.ocfl_compare.specs.Changes.{has_code, is_code, finding_codes, new_codes, Change, object_gone, file_gone, found, repaired, repaired_codes, when, changes_at, changes_text, lines_at, is_left, said_at, places_of, comparison_text}
 use Rattle.ocfl_compare.specs.declared.question.Question.TheVariants.{Changed}
 

@@ -17,7 +17,7 @@ use Rattle.ocfl_report.specs.Text.{code_text, place_text, escape, line_text, lin
 use Rattle.ocfl_report.proofs.{Bytes.{utf8_bytes}, LineTexts.{first_lines, lines_text_determines}}
 use Rattle.ocfl_parts.specs.Splits.{HasText, AreInOrder, AreLines, IsBadReportLine}
 use Rattle.ocfl_compare.proofs.Reports.{not_greater}
-use Rattle.ocfl_compare.specs.Kinds.{is_empty, tells_object}
+use Rattle.ocfl_codes.specs.Kinds.{is_empty, tells_object}
 use Rattle.ocfl_compare.specs.Changes.{lines_at, places_of, is_left, missing, when, row_text, changes_text, said_at, answers_text}
 use Rattle.ocfl_compare.specs.{Compared.{IsAnswered}, CompareStop.{StopsRightly, ReportStops}}
 use Rattle.ocfl_compare.specs.Expected.{is_missing, missing_objects, IsSearched}

@@ -9,7 +9,7 @@ use Rattle.ocfl_tree.specs.Place.{Text, Place, place_cmp}
 use Rattle.ocfl_tree.proofs.Orders.{place_cmp_exact, place_cmp_total, not_below_itself, below_from_greater}
 use Rattle.ocfl_report.specs.{Line.{Line, line_of}, Text.{code_text}, declared.code.Code.{Code}}
 use Rattle.ocfl_report.specs.declared.line.Line.{Line as MadeLine}
-use Rattle.ocfl_compare.specs.Kinds.{is_empty, tells_object, tells_file, hides}
+use Rattle.ocfl_codes.specs.Kinds.{is_empty, tells_object, tells_file, hides}
 use Rattle.ocfl_compare.specs.Changes.{has_code, with_code, codes_from, new_codes, Change, found, repaired, when, row_text, change_word, changes_text}
 use Rattle.ocfl_compare.specs.Internal.Reading.{listed, HasRead, IsNotAbove, IsBelow, IsAt, GoesOn}
 use Rattle.ocfl_compare.specs.Internal.Telling.{IsTold, new_text, repaired_text}

@@ -7,7 +7,7 @@ use Rattle.ocfl_report.specs.{Line.{Line, is_finding_code}, Text.{code_text, pla
 use Rattle.ocfl_report.specs.declared.code.Code.{Code}
 use Rattle.ocfl_compare.specs.declared.question.Question.{Question}
 use Rattle.ocfl_compare.specs.declared.question.Question.TheVariants.{Changed, Expected}
-use Rattle.ocfl_compare.specs.Kinds.{is_empty, tells_object, tells_file, hides}
+use Rattle.ocfl_codes.specs.Kinds.{is_empty, tells_object, tells_file, hides}
 
 -- ---- the codes of findings
 

@@ -3,7 +3,7 @@ use Rattle.std.specs.Prelude.{◌&&◌, List, Bool, not, Option, filter, flat_ma
 use Rattle.std.specs.{List.{list_any}, Io.KnownBytes.{Appends}}
 use Rattle.ocfl_tree.specs.{Place.{Text, Place, place_cmp}, Ascending.{ascending}}
 use Rattle.ocfl_report.specs.Line.{Line}
-use Rattle.ocfl_compare.specs.Kinds.{is_empty, tells_object}
+use Rattle.ocfl_codes.specs.Kinds.{is_empty, tells_object}
 use Rattle.ocfl_compare.specs.{Changes.{lines_at, is_left, row_text}, Compared.{IsReport}}
 
 -- no line of an object is at the place, which was not left out; the storage root is no object

@@ -1,4 +1,3 @@
-pub mod Kinds
 pub mod Changes
 pub mod Compared
 pub mod CompareStop

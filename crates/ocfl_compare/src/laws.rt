@@ -6,7 +6,7 @@ ghost use Rattle.ocfl_parts.specs.Separators.{end_of_part, start_of_part};
 ghost use Rattle.ocfl_compare.specs.{Joined.{fault_of}, declared.joining.ClosedPart.{ClosedPart}};
 ghost use Rattle.ocfl_compare.specs.Changes.{changes_at, comparison_text, file_gone, finding_codes};
 ghost use Rattle.ocfl_compare.specs.Changes.{found, has_code, object_gone, repaired};
-ghost use Rattle.ocfl_compare.specs.Kinds.{hides, tells_file, tells_object};
+ghost use Rattle.ocfl_codes.specs.Kinds.{hides, tells_file, tells_object};
 ghost use Rattle.ocfl_report.specs.{Line.{Line}, declared.code.Code.{Code}};
 
 /// Between a report and itself nothing changed.

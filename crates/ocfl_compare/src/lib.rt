@@ -20,7 +20,6 @@
 mod comparing;
 mod expecting;
 mod joining;
-mod kinds;
 pub mod laws;
 mod listing;
 mod question;

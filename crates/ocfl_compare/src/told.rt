@@ -4,7 +4,7 @@ ghost use Rattle.ocfl_report.specs.Line.{Line as ModelLine, line_of};
 ghost use Rattle.ocfl_compare.specs.Changes.{has_code as has_that_code, with_code};
 ghost use Rattle.ocfl_compare.specs.Internal.Telling.{IsTold};
 
-use crate::kinds::{is_hiding, is_of_file, is_of_object};
+use ocfl_codes::{is_hiding, is_of_file, is_of_object};
 use ocfl_report::{Code, Line};
 use ocfl_tree::is_text;
 use std::alloc::{AllocError, Global};

@@ -145,6 +145,7 @@ IsAsked name rows (asked.Task t) = IsTask name rows t
 IsAsked name rows (asked.Split s) = (name ≡ codes "split") × IsSplit rows s
 IsAsked name rows (asked.Night n) = (name ≡ codes "night") × IsNight rows n
 IsAsked name rows (asked.Join j) = (name ≡ codes "join") × IsJoin rows j
+IsAsked name rows (asked.Codes json) = (name ≡ codes "codes") × (IsTrue json ↔ IsGiven (codes "json") rows)
 
 -- the same of the subcommand that `clap` finds
 abbrev pub Asks : Option (Text × List Row) → Asked → Type 0

@@ -152,6 +152,9 @@ split_app = app_with (codes "split") (count_rule ∷ named_rule (codes "budget")
 abbrev pub join_app : App
 join_app = app_with (codes "join") (wanted_rule (codes "parts") ∷ wanted_rule (codes "state") ∷ [])
 
+abbrev pub codes_app : App
+codes_app = app_with (codes "codes") (flag_rule (codes "json") ∷ [])
+
 -- ---- the program
 
 -- the program before its subcommands: it has a version, and one subcommand is required
@@ -159,9 +162,9 @@ abbrev pub bare_app : App
 bare_app = on_top (λ s. record s { has_version = true; subcommand_required = true }) (new_app (codes "ocfl-scrub"))
 
 abbrev pub line_app : App
-line_app = with_subcommand (with_subcommand (with_subcommand (with_subcommand (with_subcommand (with_subcommand
+line_app = with_subcommand (with_subcommand (with_subcommand (with_subcommand (with_subcommand (with_subcommand (with_subcommand
     (with_subcommand (with_subcommand bare_app audit_app.top) run_app.top) cycle_app.top) night_app.top)
-    check_app.top) split_app.top) join_app.top) show_app.top
+    check_app.top) split_app.top) join_app.top) show_app.top) codes_app.top
 
 -- the command is the one that `clap` reads as this
 abbrev pub IsCommand : App → Command → Type 0

@@ -126,6 +126,8 @@ are gone; a root at another path needs a new state folder";
 const STOP_AT_FAULTS: &str = "Ends the night at the first place that cannot be read; without it, a \
 place that fails twice is left out of the cycle, with all below it";
 
+const JSON: &str = "As JSON, for programs: an array with an object for each code";
+
 const PART_STATES: &str = "The folder that has the state folders of the parts: part-000001 and so \
 on";
 
@@ -371,6 +373,16 @@ Example:
     arguments: SHOW_ARGUMENTS,
 };
 
+const CODES: Subcommand<'static> = Subcommand {
+    name: "codes",
+    about: "Writes what the codes of report lines mean, and what to do first about each",
+    usage: None,
+    example: "\
+Example:
+  ocfl-scrub codes | grep E092",
+    arguments: CODES_ARGUMENTS,
+};
+
 // The arguments of the subcommands.
 const AUDIT_ARGUMENTS: &[Argument<'static>] = &[
     Named("under", "PLACE", UNDER),
@@ -418,6 +430,8 @@ const JOIN_ARGUMENTS: &[Argument<'static>] = &[
 
 const SHOW_ARGUMENTS: &[Argument<'static>] = &[Needed("file", "FILE", FILE)];
 
+const CODES_ARGUMENTS: &[Argument<'static>] = &[Flag("json", JSON)];
+
 // The program's own texts, without its subcommands.
 fn bare_command<'a>(alloc: Global) -> Command<'a>
     ensures { IsCommand bare_app result }
@@ -430,7 +444,9 @@ fn bare_command<'a>(alloc: Global) -> Command<'a>
 }
 
 // All of them, as help shows them.
-const SUBCOMMANDS: &[Subcommand<'static>] = &[AUDIT, RUN, CYCLE, NIGHT, CHECK, SPLIT, JOIN, SHOW];
+const SUBCOMMANDS: &[Subcommand<'static>] = &[
+    AUDIT, RUN, CYCLE, NIGHT, CHECK, SPLIT, JOIN, SHOW, CODES,
+];
 
 /// All subcommands.
 fn all_subcommands() -> &'static [Subcommand<'static>]

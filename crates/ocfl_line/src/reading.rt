@@ -108,6 +108,15 @@ fn task_with(
     })
 }
 
+/// The table of codes, in the form that is asked for.
+fn codes_by(inner: &ArgMatches<'_>) -> Asked
+    ensures { IsAsked (codes "codes") (rows_of (found_of inner.now)) result }
+{
+    Asked::Codes {
+        json: is_given(inner, "json"),
+    }
+}
+
 /// What the subcommand with this name and these matches asks for, or `None` if it is nothing.
 fn asked_of(alloc: Global, name: &str, inner: &ArgMatches<'_>) -> Result<Option<Asked>, AllocError>
     ensures { IfOk result (IsRead (IsAsked name.now (rows_of (found_of inner.now)))) }
@@ -116,6 +125,7 @@ fn asked_of(alloc: Global, name: &str, inner: &ArgMatches<'_>) -> Result<Option<
         "split" => Ok(split_by(alloc, inner)?.map(Asked::Split)),
         "night" => Ok(night_by(alloc, inner)?.map(Asked::Night)),
         "join" => Ok(join_by(alloc, inner)?.map(Asked::Join)),
+        "codes" => Ok(Some(codes_by(inner))),
         _ => Ok(task_of(alloc, name, inner)?.map(Asked::Task)),
     }
 }

@@ -64,4 +64,9 @@ pub enum Asked {
     Night(NightAsked),
     /// The closed reports of all parts are to be joined.
     Join(JoinAsked),
+    /// The table of codes is to be written: as JSON, or as text.
+    Codes {
+        /// Whether as JSON.
+        json: bool,
+    },
 }

@@ -7,7 +7,7 @@ mod nights;
 use nights::make_night;
 use ocfl_closing::joining::join_parts;
 use ocfl_line::Asked;
-use ocfl_tasks::do_task;
+use ocfl_tasks::{do_task, show_codes};
 use ocfl_terminal::progress::{Terminals, find_terminals};
 use ocfl_terminal::splits::split_root;
 use ocfl_terminal::words::read_asked;
@@ -26,6 +26,7 @@ where
         Asked::Split(split) => split_root(rt, split),
         Asked::Night(night) => make_night(rt, night, terminals),
         Asked::Join(join) => join_parts(rt, join),
+        Asked::Codes { json } => show_codes(rt, *json),
     }
 }
 

@@ -1,6 +1,7 @@
-//! Showing a file: the checkpoint of a state folder, or a cursor.
+//! Showing a file, the checkpoint of a state folder or a cursor, and the table of codes.
 
 use crate::saying::say_note;
+use ocfl_codes::{codes_json, codes_text};
 use ocfl_cursor::{Refused, TextKind};
 use ocfl_deed::Deed;
 use ocfl_digest::Block;
@@ -68,6 +69,19 @@ fn write_lines<R: Print + Eprint>(rt: &R, lines: &[u8]) -> u8 {
         return STOPPED;
     }
     0
+}
+
+/// Writes the table of codes, and gives the exit status.
+pub fn show_codes<R: AllocGlobal + Print + Eprint>(rt: &R, json: bool) -> u8 {
+    let made = if json {
+        codes_json(rt.alloc()).map(String::into_bytes)
+    } else {
+        codes_text(rt.alloc())
+    };
+    match made {
+        Ok(text) => write_lines(rt, &text),
+        Err(_) => say_out_of_memory(rt),
+    }
 }
 
 /// Shows the checkpoint that a reader gives, and gives the exit status.

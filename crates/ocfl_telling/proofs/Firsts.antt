@@ -5,7 +5,7 @@ use Rattle.ocfl_report.specs.Line.{Line, line_of}
 use Rattle.ocfl_telling.specs.Gravest.{IsOf, by_weight, gravest, most_shown, of_weight}
 use Rattle.ocfl_telling.specs.Night.{first_place, or_place}
 use Rattle.ocfl_telling.specs.declared.gravest.Gravest.{Gravest}
-use Rattle.ocfl_telling.specs.declared.weight.Weight.TheVariants.{Bytes, Object, Record, Position}
+use Rattle.ocfl_codes.specs.declared.weight.Weight.TheVariants.{Bytes, Object, Record, Position}
 
 -- of some lines the first of all is among those that are shown
 first_taken : (ls : List Line) → first_place (take most_shown ls) ≡ first_place ls

@@ -3,10 +3,10 @@ use Rattle.std.proofs.Common.{◌≡◌, ◌+◌, ◌^◌, ◌<◌, List, [], �
 use Rattle.std.proofs.{lemmas.List.{append-nil}, lemmas.List.Elements.{filter-append}}
 use Rattle.std.specs.{Prelude.{Some}, List.{filter}}
 use Rattle.ocfl_report.specs.Line.{Line}
-use Rattle.ocfl_telling.specs.Weight.{weight_of, has_weight, is_weight}
+use Rattle.ocfl_codes.specs.Weight.{weight_of, has_weight, is_weight}
 use Rattle.ocfl_telling.specs.Gravest.{IsFirst, IsOf, by_weight, of_weight}
-use Rattle.ocfl_telling.specs.declared.weight.Weight.{Weight}
-use Rattle.ocfl_telling.specs.declared.weight.Weight.TheVariants.{Bytes, Object, Record, Position}
+use Rattle.ocfl_codes.specs.declared.weight.Weight.{Weight}
+use Rattle.ocfl_codes.specs.declared.weight.Weight.TheVariants.{Bytes, Object, Record, Position}
 use Rattle.ocfl_telling.specs.{declared.gravest.Kept.{Kept}, declared.gravest.Gravest.{Gravest}}
 use Rattle.ocfl_telling.proofs.Weights.{length_by_weight}
 

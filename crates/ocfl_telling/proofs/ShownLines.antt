@@ -6,7 +6,7 @@ use Rattle.ocfl_report.specs.{Line.{Line, line_of}, Text.{lines_text}}
 use Rattle.ocfl_telling.specs.Gravest.{IsOf, by_weight, gravest, most_shown, of_weight}
 use Rattle.ocfl_telling.specs.Night.{findings_text, first_place, head_text, look_text, more_text, night_text}
 use Rattle.ocfl_telling.specs.declared.night.Night.{Night}
-use Rattle.ocfl_telling.specs.declared.weight.Weight.TheVariants.{Bytes, Object, Record, Position}
+use Rattle.ocfl_codes.specs.declared.weight.Weight.TheVariants.{Bytes, Object, Record, Position}
 use Rattle.ocfl_telling.specs.declared.gravest.Gravest.{Gravest}
 use Rattle.ocfl_telling.proofs.Taking.{gravest_parts}
 

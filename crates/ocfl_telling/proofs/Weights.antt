@@ -1,62 +1,13 @@
 -- Findings and their weights.
-use Rattle.std.proofs.Common.{◌≡◌, ℕ, ◌+◌, List, [], ◌∷◌, length, Bool, true, false, cond, refl, ◌∙◌, length-append, arith}
-use Rattle.std.specs.{Prelude.{is_some}, List.{filter}}
-use Rattle.ocfl_report.specs.{Line.{Line, is_finding_code}, declared.code.Code.{Code}}
-use Rattle.ocfl_report.specs.declared.code.Code.TheVariants.{Clean, E001, E003, E007, E015, E017, E018, E023, E024, E025, E033, E036, E041, E058, E060, E061, E063, E069, E072, E073, E076, E080, E092, E093, E096, E097, E099, E100, E101, S01, S02, S03, S04, S05, S06, S07, S08}
-use Rattle.ocfl_telling.specs.Weight.{weight_of, has_weight, is_weight}
+use Rattle.std.proofs.Common.{◌≡◌, ◌+◌, List, [], ◌∷◌, length, Bool, true, false, cond, refl, ◌∙◌, length-append, arith}
+use Rattle.std.specs.List.{filter}
+use Rattle.ocfl_report.specs.Line.{Line, is_finding_code}
+use Rattle.ocfl_codes.specs.{Weight.{has_weight}, declared.weight.Weight.TheVariants.{Bytes, Object, Record, Position}}
+use Rattle.ocfl_codes.proofs.Weights.{one, weights}
 use Rattle.ocfl_telling.specs.Gravest.{findings, by_weight, of_weight}
-use Rattle.ocfl_telling.specs.declared.weight.Weight.TheVariants.{Bytes, Object, Record, Position}
-
--- how many of one line are taken by a test
-abbrev one : Bool → ℕ
-one true = 1
-one false = 0
 
 length_more : (p : Line → Bool) (l : Line) (ls : List Line) → length (filter p (l ∷ ls)) ≡ one (p l) + length (filter p ls)
 length_more p l ls = elim (p l) as (λ b. length (cond b (l ∷ filter p ls) (filter p ls)) ≡ one b + length (filter p ls)) [ true ↦ omega arith | false ↦ omega arith ]
-
--- just the findings have a weight, and each of them has one
-weights : (c : Code) → (is_some (weight_of c) ≡ is_finding_code c) × (one (is_weight Bytes (weight_of c)) + one (is_weight Object (weight_of c)) + one (is_weight Record (weight_of c)) + one (is_weight Position (weight_of c)) ≡ one (is_finding_code c))
-weights Clean = (refl, refl)
-weights E001 = (refl, refl)
-weights E003 = (refl, refl)
-weights E007 = (refl, refl)
-weights E015 = (refl, refl)
-weights E017 = (refl, refl)
-weights E018 = (refl, refl)
-weights E023 = (refl, refl)
-weights E024 = (refl, refl)
-weights E025 = (refl, refl)
-weights E033 = (refl, refl)
-weights E036 = (refl, refl)
-weights E041 = (refl, refl)
-weights E058 = (refl, refl)
-weights E060 = (refl, refl)
-weights E061 = (refl, refl)
-weights E063 = (refl, refl)
-weights E069 = (refl, refl)
-weights E072 = (refl, refl)
-weights E073 = (refl, refl)
-weights E076 = (refl, refl)
-weights E080 = (refl, refl)
-weights E092 = (refl, refl)
-weights E093 = (refl, refl)
-weights E096 = (refl, refl)
-weights E097 = (refl, refl)
-weights E099 = (refl, refl)
-weights E100 = (refl, refl)
-weights E101 = (refl, refl)
-weights S01 = (refl, refl)
-weights S02 = (refl, refl)
-weights S03 = (refl, refl)
-weights S04 = (refl, refl)
-weights S05 = (refl, refl)
-weights S06 = (refl, refl)
-weights S07 = (refl, refl)
-weights S08 = (refl, refl)
-
-pub weighed : (c : Code) → is_some (weight_of c) ≡ is_finding_code c
-weighed c = (weights c).0
 
 pub length_by_weight : (ls : List Line) → length (by_weight ls) ≡ length (of_weight Bytes ls) + length (of_weight Object ls) + length (of_weight Record ls) + length (of_weight Position ls)
 length_by_weight ls = simp length-append

@@ -1,8 +1,8 @@
 -- The gravest findings among the lines of a report.
 use Rattle.std.specs.{Prelude.{◌≡◌, ℕ, ◌^◌, ◌<◌, List, ◌++◌, length, take, map}, List.{filter}}
 use Rattle.ocfl_report.specs.Line.{Line, line_of, is_finding_code}
-use Rattle.ocfl_telling.specs.{Weight.{has_weight}, declared.weight.Weight.{Weight}}
-use Rattle.ocfl_telling.specs.declared.weight.Weight.TheVariants.{Bytes, Object, Record, Position}
+use Rattle.ocfl_codes.specs.{Weight.{has_weight}, declared.weight.Weight.{Weight}}
+use Rattle.ocfl_codes.specs.declared.weight.Weight.TheVariants.{Bytes, Object, Record, Position}
 use Rattle.ocfl_telling.specs.{declared.gravest.Kept.{Kept}, declared.gravest.Gravest.{Gravest}}
 
 -- the most findings that are shown

@@ -1,4 +1,3 @@
-pub mod Weight
 pub mod Gravest
 pub mod Known
 pub mod List

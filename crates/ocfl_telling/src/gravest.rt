@@ -3,7 +3,7 @@ ghost use Rattle.std.specs.Prelude.{◌≡◌, ◌^◌, ◌<◌, List, [], ◌�
 ghost use Rattle.ocfl_report.specs.Line.{Line as ModelLine, line_of};
 ghost use Rattle.ocfl_telling.specs.Gravest.{most_shown};
 
-use crate::weight::{Weight, weigh};
+use ocfl_codes::{Weight, weigh};
 use ocfl_report::Line;
 use std::alloc::{AllocError, Global};
 

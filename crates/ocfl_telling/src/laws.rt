@@ -1,16 +1,9 @@
-//! The laws of weights, and of lists of known findings.
-ghost use Rattle.std.specs.Prelude.{◌≡◌, List, length, is_some};
-ghost use Rattle.ocfl_report.specs.Line.{Line as ModelLine, is_finding_code};
-ghost use Rattle.ocfl_report.specs.declared.code.Code.{Code as ModelCode};
+//! The laws of findings by weight, and of lists of known findings.
+ghost use Rattle.std.specs.Prelude.{◌≡◌, List, length};
+ghost use Rattle.ocfl_report.specs.Line.{Line as ModelLine};
 ghost use Rattle.std.specs.List.Sorted.{IsPermutation};
-ghost use Rattle.ocfl_telling.specs.{Known.{is_known}, Weight.{weight_of}, Gravest.{findings, by_weight}};
+ghost use Rattle.ocfl_telling.specs.{Known.{is_known}, Gravest.{findings, by_weight}};
 ghost use Rattle.ocfl_telling.specs.declared.known.KnownEntry.{KnownEntry as ModelEntry};
-
-/// Just the findings have a weight.
-#[tactic(auto, using(crate::proofs::Weights::weighed))]
-pub fn findings_have_weights()
-    ensures { (c : ModelCode) → is_some (weight_of c) ≡ is_finding_code c }
-{}
 
 /// No finding is lost when they are ordered by weight.
 #[tactic(auto, using(crate::proofs::Weights::all_weighed))]

@@ -18,7 +18,6 @@ mod quoted;
 mod refusal;
 mod shown;
 mod stop;
-mod weight;
 
 pub use closing::{Closing, Gone, GoneKind, closing_text};
 pub use found::Found;
@@ -33,4 +32,3 @@ pub use quoted::Quoted;
 pub use refusal::{RefusalMessage, refusal_text};
 pub use shown::Shown;
 pub use stop::{StopMessage, stop_text};
-pub use weight::{Weight, weigh};

@@ -101,5 +101,6 @@ pub(crate) fn whole_asked<R: Env + AllocGlobal>(rt: &R, asked: Asked) -> io::Res
         Asked::Split(split) => Ok(Asked::Split(whole_split(rt, split)?)),
         Asked::Night(night) => Ok(Asked::Night(whole_night(rt, night)?)),
         Asked::Join(join) => Ok(Asked::Join(join)),
+        Asked::Codes { json } => Ok(Asked::Codes { json }),
     }
 }

@@ -2,6 +2,7 @@
 //! assertion on a row carries that name.
 mod checkpoint;
 mod clock;
+mod codes;
 mod common;
 mod compare;
 mod cursor;

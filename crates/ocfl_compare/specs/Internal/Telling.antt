@@ -4,7 +4,7 @@ use Rattle.std.specs.List.{list_any}
 use Rattle.ocfl_tree.specs.Place.{Text, Place}
 use Rattle.ocfl_report.specs.{Line.{Line}, Text.{code_text}, declared.code.Code.{Code}}
 use Rattle.ocfl_report.specs.declared.line.Line.{Line as MadeLine}
-use Rattle.ocfl_compare.specs.Kinds.{is_empty, tells_object, tells_file, hides}
+use Rattle.ocfl_codes.specs.Kinds.{is_empty, tells_object, tells_file, hides}
 use Rattle.ocfl_compare.specs.Changes.{finding_codes, new_codes, has_code, row_text, change_word, Change, object_gone, file_gone, found, repaired, missing, when}
 use Rattle.ocfl_compare.specs.Internal.Reading.{IsAt, listed}
 use Rattle.ocfl_compare.specs.declared.question.Question.{Question}

@@ -1,4 +1,5 @@
 //! The laws without a body: each is proved, and a call of it does nothing.
+use ocfl_codes::laws::{each_code_has_one_row, findings_have_weights};
 use ocfl_cursor::{
     no_part_is_refused, no_stored_part_is_refused, parts_and_whole_are_apart,
     text_determines_the_cursor, text_determines_the_part, text_determines_what_is_shown,
@@ -6,7 +7,7 @@ use ocfl_cursor::{
 use ocfl_parts::laws::text_determines_the_separators;
 use ocfl_scope::laws::ends_are_of_the_numbered_part;
 use ocfl_state::{no_checkpoint_is_refused, text_determines_the_checkpoint};
-use ocfl_telling::laws::{all_findings_are_ordered, findings_have_weights};
+use ocfl_telling::laws::all_findings_are_ordered;
 
 #[test]
 fn laws_can_be_called(_rt: HostRuntime) {
@@ -21,5 +22,6 @@ fn laws_can_be_called(_rt: HostRuntime) {
     text_determines_the_checkpoint();
     no_checkpoint_is_refused();
     findings_have_weights();
+    each_code_has_one_row();
     all_findings_are_ordered();
 }

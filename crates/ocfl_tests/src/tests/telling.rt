@@ -5,33 +5,11 @@ use ocfl_report::{Line, TextStop, read_line};
 use ocfl_telling::{
     BeganRow, Closing, ClosingRow, Found, Gone, GoneKind, Gravest, Known, KnownEntry, KnownStop,
     LeftRow, LogRow, Night, NightRow, Quoted, Reach, RefusalMessage, RefusalRow, SliceRow, Stands,
-    StopMessage, Weight, closing_text, log_line, night_text, read_known, refusal_text, stop_text,
-    weigh,
+    StopMessage, closing_text, log_line, night_text, read_known, refusal_text, stop_text,
 };
 use ocfl_tree::Place;
 use std::alloc::Global;
 use std::test::Fail;
-
-/// The weights of the table `nights/ocfl_scrub_reports/codes`, by code.
-const WEIGHTS: [(&str, Option<Weight>); 8] = [
-    ("ok\ta\t-\n", None),
-    ("S07\ta\t-\n", None),
-    ("E092\ta\t-\n", Some(Weight::Bytes)),
-    ("S08\ta\t-\n", Some(Weight::Bytes)),
-    ("E060\ta\t-\n", Some(Weight::Object)),
-    ("S05\ta\t-\n", Some(Weight::Object)),
-    ("E023\ta\t-\n", Some(Weight::Record)),
-    ("E072\ta\t-\n", Some(Weight::Position)),
-];
-
-#[test]
-fn codes_have_weights(rt: HostRuntime) -> Result<(), Fail> {
-    for (text, wanted) in WEIGHTS {
-        let line = read_line(rt.alloc(), text.as_bytes())?;
-        assert_eq!(rt; weigh(line.code), wanted, "{text}");
-    }
-    Ok(())
-}
 
 /// What is found in a report that comes in pieces of `piece` bytes.
 fn found_in(alloc: Global, known: &Known, report: &str, piece: usize) -> Result<Gravest, TextStop> {

@@ -264,7 +264,7 @@ fn shows_help_of_parts(rt: HostRuntime) -> Result<(), Fail> {
         ],
     )?;
     for name in [
-        "audit", "run", "cycle", "night", "check", "split", "join", "show",
+        "audit", "run", "cycle", "night", "check", "split", "join", "show", "codes",
     ] {
         let line = format!(in alloc; "{name} --help")?;
         let example = format!(in alloc; "\n\nExample:\n  ocfl-scrub {name} ")?;

@@ -1,8 +1,9 @@
 use Rattle.std.proofs.{Common.{◌≡◌}, lemmas.Result.{on_ok_weaker}}
 use Rattle.std.specs.Prelude.{Some}
 use Rattle.ocfl_report.specs.Line.{line_of}
-use Rattle.ocfl_telling.specs.{Weight.{weight_of}, Gravest.{of_weight}}
-use Rattle.ocfl_telling.specs.declared.weight.Weight.TheVariants.{Bytes, Object, Record, Position}
+use Rattle.ocfl_codes.specs.Weight.{weight_of}
+use Rattle.ocfl_telling.specs.Gravest.{of_weight}
+use Rattle.ocfl_codes.specs.declared.weight.Weight.TheVariants.{Bytes, Object, Record, Position}
 use Rattle.ocfl_telling.proofs.Heaps.{bytes_more, objects_more, positions_more, records_more}
 use Rattle.ocfl_telling.proofs.gravest.Gravest.add.Goals as goal
 

@@ -1,10 +1,10 @@
-//! How grave a finding is.
+//! How serious a finding is.
 ghost use Rattle.std.specs.Prelude.{◌≡◌};
-ghost use Rattle.ocfl_telling.specs.Weight.{weight_of};
+ghost use Rattle.ocfl_codes.specs.Weight.{weight_of};
 
 use ocfl_report::Code;
 
-/// How grave a finding is, the gravest first.
+/// How serious a finding is, the most serious first.
 #[derive(Clone, Copy, Debug, PartialEq, Eq)]
 pub enum Weight {
     /// Bytes are not those that were taken in, or nobody can say whether they are.
@@ -18,7 +18,7 @@ pub enum Weight {
     Position,
 }
 
-/// How grave a line of this code is. `None` if it is no finding.
+/// How serious a line of this code is. `None` if it is no finding.
 pub fn weigh(code: Code) -> Option<Weight>
     ensures { result ≡ weight_of code }
 {

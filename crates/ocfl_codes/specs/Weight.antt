@@ -1,9 +1,9 @@
--- How grave a finding is, as the table `nights/ocfl_scrub_reports/codes` has it.
+-- How serious a finding is.
 use Rattle.std.specs.Prelude.{Bool, true, false, Option, Some, None}
 use Rattle.ocfl_report.specs.{Line.{Line}, declared.code.Code.{Code}}
 use Rattle.ocfl_report.specs.declared.code.Code.TheVariants.{Clean, E001, E003, E007, E015, E017, E018, E023, E024, E025, E033, E036, E041, E058, E060, E061, E063, E069, E072, E073, E076, E080, E092, E093, E096, E097, E099, E100, E101, S01, S02, S03, S04, S05, S06, S07, S08}
-use Rattle.ocfl_telling.specs.declared.weight.Weight.{Weight}
-use Rattle.ocfl_telling.specs.declared.weight.Weight.TheVariants.{Bytes, Object, Record, Position}
+use Rattle.ocfl_codes.specs.declared.weight.Weight.{Weight}
+use Rattle.ocfl_codes.specs.declared.weight.Weight.TheVariants.{Bytes, Object, Record, Position}
 
 -- what is right has none, and neither has the note on an unsupported algorithm
 abbrev pub weight_of : Code → Option Weight

@@ -1,68 +1,78 @@
 //! Objects that earlier closings call gone, of which some may be back.
+ghost use Rattle.std.specs.Prelude.{⊤};
 
 use crate::closed::MOST_BACK;
 use crate::kept::list_path;
 use crate::reading::{TakeLine, take_lines};
 use crate::room::Room;
-use crate::rows::{OBJECT, Row, place_of, row_of};
+use ocfl_compare::{Change, TakeChange, TakeStop};
+use ocfl_report::{TextStop, read_place, split_once};
 use ocfl_tree::Place;
 use std::alloc::{AllocError, Global};
-use std::io::{self, BufReader, Write};
-
-/// The word of a row of an object that is no longer declared.
-const UNDECLARED: &[u8] = b"undeclared";
+use std::io::{self, BufReader, ErrorKind};
 
 /// How many objects are looked for at most.
 const MOST: usize = 1_000_000;
 
-/// An output that takes the rows of a search, and keeps their places.
+/// Takes changes, and keeps the places of objects that are missing; or the lines of a list of what is
+/// gone, and keeps the places of objects.
 #[derive(Drop)]
 pub(crate) struct Places {
-    alloc: Global,
     pub(crate) places: Vec<Place>,
 }
 
 impl Places {
-    /// With no row yet.
+    /// With no place yet.
     pub(crate) fn new(alloc: Global) -> Places {
         Places {
-            alloc,
             places: Vec::new(alloc),
         }
     }
 
-    /// Takes the place of a row.
-    fn take_row(&mut self, row: Row<'_>) -> io::Result<()> {
-        self.places.push(place_of(self.alloc, row.path)?)?;
-        Ok(())
-    }
-
-    /// Takes a row of a list of what is gone, if it is of an object.
-    fn take_object(&mut self, row: Row<'_>) -> io::Result<()> {
-        if row.word == OBJECT || row.word == UNDECLARED {
-            return self.take_row(row);
-        }
+    /// Keeps a place.
+    fn keep(&mut self, place: &Place) -> Result<(), AllocError> {
+        self.places.push(place.try_clone()?)?;
         Ok(())
     }
 }
 
-impl Write for Places {
-    fn write(&mut self, buffer: &[u8]) -> io::Result<usize> {
-        for row in buffer.split_inclusive(|&byte| byte == b'\n') {
-            self.take_row(row_of(row)?)?;
-        }
-        Ok(buffer.len())
-    }
+impl TakeChange for Places {
+    ghost takes = { λ _ _ _. ⊤ };
 
-    fn flush(&mut self) -> io::Result<()> {
+    fn take(&mut self, place: &Place, change: Change) -> Result<(), TakeStop> {
+        if change == Change::Missing {
+            self.keep(place)?;
+        }
         Ok(())
     }
+
+    ghost nothing = { λ _. tt };
+
+    ghost joined = { λ _ _ _ _ _ _ _. tt };
+}
+
+/// The place of a row of a list of what is gone, if it is of an object. The row has its line feed.
+fn object_of(alloc: Global, text: &[u8]) -> Result<Option<Place>, TextStop> {
+    let Some((word, rest)) = split_once(text, b'\t') else {
+        return Err(TextStop::Bad);
+    };
+    let Some(path) = rest.strip_suffix(b"\n") else {
+        return Err(TextStop::Bad);
+    };
+    if word == b"object".as_slice() || word == b"undeclared".as_slice() {
+        return Ok(Some(read_place(alloc, path)?));
+    }
+    Ok(None)
 }
 
 /// Takes the lines of a list of what is gone. It wants no more after one that cannot be read.
 impl TakeLine for Places {
-    fn take_line(&mut self, _alloc: Global, text: &[u8]) -> io::Result<bool> {
-        self.take_object(row_of(text)?)?;
+    fn take_line(&mut self, alloc: Global, text: &[u8]) -> io::Result<bool> {
+        match object_of(alloc, text) {
+            Ok(Some(place)) => self.places.push(place)?,
+            Ok(None) => (),
+            Err(_) => return Err(io::Error::from(ErrorKind::InvalidData)),
+        }
         Ok(self.places.len() < MOST)
     }
 }

@@ -8,7 +8,7 @@ use crate::kept::{is_as_closed, open_report};
 use crate::lists::Listed;
 use crate::rows::{Changes, Rows};
 use crate::state_dir::Folder;
-use ocfl_compare::{CompareStop, compare, find_expected};
+use ocfl_compare::{CompareStop, TakeChange, compare, find_expected};
 use ocfl_files::failing::Failure;
 use ocfl_files::heard::HeardReader;
 use ocfl_files::making::failed_file;
@@ -17,7 +17,7 @@ use ocfl_telling::{Known, Shown};
 use ocfl_tree::Place;
 use std::alloc::{AllocError, Global};
 use std::fs::File;
-use std::io::{self, Write};
+use std::io;
 
 /// Why a comparison stopped, with the words of the reader that failed.
 fn words_of(
@@ -57,10 +57,7 @@ fn end_list(
     rows: &mut Rows<'_, '_>,
     changes: &mut Changes,
 ) -> Result<(), Failure> {
-    match rows.take_changes() {
-        Ok(mut expected) => changes.join(&mut expected)?,
-        Err(error) => return Err(failed_file(alloc, path, &error)),
-    }
+    changes.join(&mut rows.take_changes())?;
     match rows.list().sync_all() {
         Ok(()) => Ok(()),
         Err(error) => Err(failed_file(alloc, path, &error)),
@@ -101,8 +98,8 @@ fn refuse_changed<F: Folder>(
     )))
 }
 
-/// Writes the changes since a report before, outside of these places.
-fn write_changes<F: Folder>(
+/// Takes the changes since a report before, outside of these places.
+fn take_all_changes<F: Folder>(
     alloc: Global,
     folder: &mut F,
     state: &str,
@@ -124,7 +121,7 @@ fn write_changes<F: Folder>(
     Err(uncompared(alloc, cycle, before, stop, error))
 }
 
-/// Writes the changes since a report before, outside of these places, and gives them.
+/// Finds the changes since a report before, outside of these places.
 fn compare_with<F: Folder>(
     alloc: Global,
     folder: &mut F,
@@ -134,11 +131,8 @@ fn compare_with<F: Folder>(
     left: &[Place],
     rows: &mut Rows<'_, '_>,
 ) -> Result<Changes, Failure> {
-    write_changes(alloc, folder, state, cycle, before, left, rows)?;
-    match rows.take_changes() {
-        Ok(changes) => Ok(changes),
-        Err(_) => Err(uncompared(alloc, cycle, before, CompareStop::Output, None)),
-    }
+    take_all_changes(alloc, folder, state, cycle, before, left, rows)?;
+    Ok(rows.take_changes())
 }
 
 /// Refuses a pair of which one report is not as it was closed.
@@ -207,9 +201,9 @@ fn compare_whole<'p, F: Folder>(
     again
 }
 
-/// Writes which of these objects have no line of an object in the report of a cycle, outside of
+/// Takes which of these objects have no line of an object in the report of a cycle, outside of
 /// these places. `before` is the cycle that this one is compared with.
-fn search<F: Folder, W: Write>(
+fn search<F: Folder, T: TakeChange>(
     alloc: Global,
     folder: &mut F,
     state: &str,
@@ -217,10 +211,10 @@ fn search<F: Folder, W: Write>(
     before: u64,
     objects: &mut Vec<Place>,
     left: &[Place],
-    out: &mut W,
+    taker: &mut T,
 ) -> Result<(), Failure> {
     let mut report = reader_of(alloc, folder, state, cycle)?;
-    match find_expected(alloc, objects, &mut report.reader, left, out) {
+    match find_expected(alloc, objects, &mut report.reader, left, taker) {
         Ok(()) => Ok(()),
         Err(stop) => Err(uncompared(alloc, cycle, before, stop, report.error())),
     }

@@ -1,28 +1,17 @@
-//! What changed from one report to the next, as its rows come.
+//! What changed from one report to the next, as the changes come.
+ghost use Rattle.std.specs.Prelude.{⊤};
 
-use ocfl_report::{Code, Line, put_place, read_line, read_place, split_once};
+use ocfl_compare::{Change, GoneList, TakeChange, TakeStop};
+use ocfl_report::{Code, Line};
 use ocfl_telling::{Gone, GoneKind, Known, SHOWN};
 use ocfl_tree::Place;
 use std::alloc::{AllocError, Global};
 use std::fs::File;
-use std::io::{self, ErrorKind, Write};
 use std::mem;
 
 /// How many findings that are new are named at most: whether one of them is known is told by its
 /// whole line.
 const MOST_NAMED: usize = 10_000;
-
-/// The word of a row of an object that is gone.
-pub(crate) const OBJECT: &[u8] = b"object";
-
-/// The word of a row of a file that is gone.
-const FILE: &[u8] = b"file";
-
-/// The word of a row of an object of a list that has no line.
-const EXPECTED: &[u8] = b"expected";
-
-/// How a row of a repaired finding begins.
-const REPAIRED: &[u8] = b"repaired ";
 
 /// The first of what is gone, and how much there is.
 #[derive(Drop)]
@@ -41,9 +30,10 @@ impl Missing {
     }
 
     /// Takes one more.
-    fn add(&mut self, kind: GoneKind, place: Place) -> Result<(), AllocError> {
+    fn add(&mut self, kind: GoneKind, place: &Place) -> Result<(), AllocError> {
         self.count = self.count.saturating_add(1);
         if self.first.len() < SHOWN {
+            let place = place.try_clone()?;
             self.first.push(Gone { kind, place })?;
         }
         Ok(())
@@ -146,28 +136,15 @@ impl Changes {
     }
 }
 
-/// An object whose files are not looked at now.
-#[derive(Drop)]
-struct Shut {
-    place: Place,
-    /// Whether it has no line of an object any more. If not, its head stops.
-    is_gone: bool,
-    /// Whether this report has lines below it.
-    has_lines: bool,
-}
-
-/// An output that takes the rows of a comparison, each place's rows in one piece, and writes those
-/// of what is gone into a list.
+/// Takes the changes of a comparison, and writes those that make something gone into a list.
 pub(crate) struct Rows<'k, 'p> {
     alloc: Global,
     /// New findings that are known do not count.
     known: &'k Known,
-    /// If it is there, the rows of these places and of what is below them count alone.
+    /// If it is there, the changes of these places and of what is below them count alone.
     within: Option<&'p [Place]>,
     changes: Changes,
-    /// The object that the last rows were at or below, if its files are not looked at.
-    shut: Option<Shut>,
-    list: File,
+    list: GoneList<File>,
 }
 
 /// Written by hand, so that to let it go is one call wherever that happens.
@@ -178,83 +155,40 @@ impl Drop for Rows<'_, '_> {
             known: _known,
             within: _within,
             changes: _changes,
-            shut: _shut,
             list: _list,
         } = self;
     }
 }
 
-/// The error of a row that cannot be read.
-fn broken() -> io::Error {
-    io::Error::from(ErrorKind::InvalidData)
-}
-
-/// The place with a path as reports write it.
-pub(crate) fn place_of(alloc: Global, path: &[u8]) -> io::Result<Place> {
-    match read_place(alloc, path) {
-        Ok(place) => Ok(place),
-        Err(_) => Err(broken()),
-    }
-}
-
-/// Whether nothing below an object is looked at if its head has a finding of this code.
-fn is_stop(code: Code) -> bool {
-    match code {
-        Code::E003 | Code::E017 | Code::E018 | Code::E025 | Code::E033 | Code::E036 => true,
-        Code::E041 | Code::E063 | Code::S01 | Code::S02 | Code::S03 => true,
-        _ => false,
-    }
-}
-
-/// A row: its word, and its place with the text of it.
-#[derive(Clone, Copy)]
-pub(crate) struct Row<'a> {
-    pub(crate) word: &'a [u8],
-    pub(crate) path: &'a [u8],
-}
-
-/// The parts of a row, with its line feed.
-pub(crate) fn row_of(text: &[u8]) -> io::Result<Row<'_>> {
-    let Some((word, rest)) = split_once(text, b'\t') else {
-        return Err(broken());
-    };
-    match rest.strip_suffix(b"\n") {
-        Some(path) => Ok(Row { word, path }),
-        None => Err(broken()),
-    }
-}
-
 impl<'k, 'p> Rows<'k, 'p> {
-    /// With no row yet.
+    /// With no change yet.
     pub(crate) fn new(alloc: Global, known: &'k Known, list: File) -> Rows<'k, 'p> {
         Rows {
             alloc,
             known,
             within: None,
             changes: Changes::new(alloc),
-            shut: None,
-            list,
+            list: GoneList::new(alloc, list),
         }
     }
 
-    /// From now on the rows of these places and of what is below them count alone; all rows if
+    /// From now on the changes of these places and of what is below them count alone; all changes if
     /// there are none.
     pub(crate) fn keep_to(&mut self, within: Option<&'p [Place]>) {
         self.within = within;
     }
 
     /// Ends a comparison, and gives what changed by it.
-    pub(crate) fn take_changes(&mut self) -> io::Result<Changes> {
-        self.leave_shut()?;
-        Ok(mem::replace(&mut self.changes, Changes::new(self.alloc)))
+    pub(crate) fn take_changes(&mut self) -> Changes {
+        mem::replace(&mut self.changes, Changes::new(self.alloc))
     }
 
     /// The list.
     pub(crate) fn list(&self) -> &File {
-        &self.list
+        &self.list.out
     }
 
-    /// Whether the rows of a place count.
+    /// Whether the changes of a place count.
     fn counts(&self, place: &Place) -> bool {
         match self.within {
             Some(within) => within.iter().any(|branch| place.starts_with(branch)),
@@ -262,81 +196,8 @@ impl<'k, 'p> Rows<'k, 'p> {
         }
     }
 
-    /// Whether the place is that of the object whose files are not looked at, or below it.
-    fn is_shut(&self, place: &Place) -> bool {
-        match &self.shut {
-            Some(shut) => place.starts_with(&shut.place),
-            None => false,
-        }
-    }
-
-    /// Writes a row of the list.
-    fn put_row(&mut self, word: &str, place: &Place) -> io::Result<()> {
-        let mut row = Vec::from_slice(self.alloc, word.as_bytes())?;
-        row.push(b'\t')?;
-        put_place(place, &mut row)?;
-        row.push(b'\n')?;
-        self.list.write_all(&row)
-    }
-
-    /// Takes the object whose rows are over, if it is gone. If this report has lines below it, it
-    /// is no longer declared.
-    fn leave_shut(&mut self) -> io::Result<()> {
-        let Some(shut) = self.shut.take() else {
-            return Ok(());
-        };
-        if !shut.is_gone {
-            return Ok(());
-        }
-        let (kind, word) = if shut.has_lines {
-            (GoneKind::Undeclared, "undeclared")
-        } else {
-            (GoneKind::Object, "object")
-        };
-        self.put_row(word, &shut.place)?;
-        self.changes.objects.add(kind, shut.place)?;
-        Ok(())
-    }
-
-    /// Takes an object that has no line of an object any more.
-    fn take_object(&mut self, place: Place) -> io::Result<()> {
-        self.leave_shut()?;
-        self.shut = Some(Shut {
-            place,
-            is_gone: true,
-            has_lines: false,
-        });
-        Ok(())
-    }
-
-    /// Takes a file that has no line any more.
-    fn take_file(&mut self, place: Place) -> io::Result<()> {
-        if self.is_shut(&place) {
-            self.changes.unlooked = self.changes.unlooked.saturating_add(1);
-            return Ok(());
-        }
-        self.put_row("file", &place)?;
-        self.changes.files.add(GoneKind::File, place)?;
-        Ok(())
-    }
-
-    /// Takes an object of a list that has no line.
-    fn take_expected(&mut self, place: Place) -> io::Result<()> {
-        self.put_row("expected", &place)?;
-        self.changes.expected.add(GoneKind::Expected, place)?;
-        Ok(())
-    }
-
-    /// Notes that this report has lines at a place.
-    fn note_lines(&mut self, place: &Place) {
-        if let Some(shut) = &mut self.shut {
-            shut.has_lines = shut.has_lines || place.depth() > shut.place.depth();
-        }
-    }
-
-    /// Takes a finding that is repaired.
-    fn take_repaired(&mut self, line: Line) -> io::Result<()> {
-        self.note_lines(&line.place);
+    /// Notes a finding that is repaired.
+    fn note_repaired(&mut self, line: Line) -> Result<(), AllocError> {
         self.changes.repaired_count = self.changes.repaired_count.saturating_add(1);
         if self.changes.repaired.len() < SHOWN {
             self.changes.repaired.push(line)?;
@@ -344,22 +205,8 @@ impl<'k, 'p> Rows<'k, 'p> {
         Ok(())
     }
 
-    /// Notes that the files of an object are not looked at now, if its head stops by this finding.
-    fn note_stop(&mut self, line: &Line) -> io::Result<()> {
-        if line.place.depth() > 0 && is_stop(line.code) && !self.is_shut(&line.place) {
-            self.shut = Some(Shut {
-                place: line.place.try_clone()?,
-                is_gone: false,
-                has_lines: false,
-            });
-        }
-        Ok(())
-    }
-
-    /// Takes a finding that is new.
-    fn take_new(&mut self, line: Line) -> io::Result<()> {
-        self.note_lines(&line.place);
-        self.note_stop(&line)?;
+    /// Notes a finding that is new.
+    fn note_new(&mut self, line: Line) -> Result<(), AllocError> {
         if self.known.names(&line) {
             self.changes.known_count = self.changes.known_count.saturating_add(1);
             return Ok(());
@@ -371,69 +218,46 @@ impl<'k, 'p> Rows<'k, 'p> {
         Ok(())
     }
 
-    /// Takes a row of a finding.
-    fn take_finding(&mut self, row: Row<'_>) -> io::Result<()> {
-        match row.word.strip_prefix(REPAIRED) {
-            Some(code) => self.take_repaired(bare_line(self.alloc, code, row.path)?),
-            None => self.take_new(bare_line(self.alloc, row.word, row.path)?),
+    /// Notes a change.
+    fn note(&mut self, place: &Place, change: Change) -> Result<(), AllocError> {
+        let changes = &mut self.changes;
+        match change {
+            Change::Gone => changes.objects.add(GoneKind::Object, place),
+            Change::Undeclared => changes.objects.add(GoneKind::Undeclared, place),
+            Change::FileGone => changes.files.add(GoneKind::File, place),
+            Change::Missing => changes.expected.add(GoneKind::Expected, place),
+            Change::Unlooked => {
+                changes.unlooked = changes.unlooked.saturating_add(1);
+                Ok(())
+            }
+            Change::Found(code) => self.note_new(bare_line(self.alloc, code, place)?),
+            Change::Repaired(code) => self.note_repaired(bare_line(self.alloc, code, place)?),
         }
     }
+}
 
-    /// Takes a row of a place.
-    fn take_at(&mut self, row: Row<'_>, place: Place) -> io::Result<()> {
-        if row.word == OBJECT {
-            self.take_object(place)
-        } else if row.word == FILE {
-            self.take_file(place)
-        } else if row.word == EXPECTED {
-            self.take_expected(place)
-        } else {
-            self.take_finding(row)
-        }
-    }
+impl TakeChange for Rows<'_, '_> {
+    ghost takes = { λ _ _ _. ⊤ };
 
-    /// Takes the object whose rows are over once there are rows of this place.
-    fn leave_for(&mut self, place: &Place) -> io::Result<()> {
-        if self.is_shut(place) {
-            Ok(())
-        } else {
-            self.leave_shut()
-        }
-    }
-
-    /// Takes a row, with its line feed.
-    fn take_row(&mut self, text: &[u8]) -> io::Result<()> {
-        let row = row_of(text)?;
-        let place = place_of(self.alloc, row.path)?;
-        if !self.counts(&place) {
+    fn take(&mut self, place: &Place, change: Change) -> Result<(), TakeStop> {
+        if !self.counts(place) {
             return Ok(());
         }
-        self.leave_for(&place)?;
-        self.take_at(row, place)
+        self.list.take(place, change)?;
+        self.note(place, change)?;
+        Ok(())
     }
+
+    ghost nothing = { λ _. tt };
+
+    ghost joined = { λ _ _ _ _ _ _ _. tt };
 }
 
 /// The line of a code at a place, without its detail.
-fn bare_line(alloc: Global, code: &[u8], path: &[u8]) -> io::Result<Line> {
-    let mut text = Vec::from_slice(alloc, code)?;
-    text.push(b'\t')?;
-    text.extend_from_slice(path)?;
-    text.extend_from_slice(b"\t-\n")?;
-    match read_line(alloc, text.as_slice()) {
-        Ok(line) => Ok(line),
-        Err(_) => Err(broken()),
-    }
-}
-
-impl Write for Rows<'_, '_> {
-    fn write(&mut self, buffer: &[u8]) -> io::Result<usize> {
-        for row in buffer.split_inclusive(|&byte| byte == b'\n') {
-            self.take_row(row)?;
-        }
-        Ok(buffer.len())
-    }
-
-    fn flush(&mut self) -> io::Result<()> {
-        self.list.flush()
-    }
+fn bare_line(alloc: Global, code: Code, place: &Place) -> Result<Line, AllocError> {
+    Ok(Line {
+        code,
+        place: place.try_clone()?,
+        detail: String::from_str(alloc, "-")?,
+    })
 }

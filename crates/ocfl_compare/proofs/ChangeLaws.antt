@@ -7,7 +7,9 @@ use Rattle.ocfl_tree.proofs.{Orders.{among_left, among_right}, Places.{text_eq-s
 use Rattle.ocfl_tree.proofs.Stores.{among_either}
 use Rattle.ocfl_report.specs.{Line.{Line}, Text.{code_text}, declared.code.Code.{Code}}
 use Rattle.ocfl_codes.specs.Kinds.{is_empty, tells_object, tells_file, hides}
-use Rattle.ocfl_compare.specs.Changes.{has_code, is_code, finding_codes, new_codes, Change, object_gone, file_gone, found, repaired, repaired_codes, when, changes_at, changes_text, lines_at, is_left, said_at, places_of, comparison_text}
+use Rattle.ocfl_compare.specs.Changes.{has_code, is_code, finding_codes, new_codes, repaired_codes, when, gone_object, gone_file, changes_at, has_below, is_in_shut, lines_at, is_left, said_at, placed, places_of, comparison}
+use Rattle.ocfl_compare.specs.declared.change.Change.{Change}
+use Rattle.ocfl_compare.specs.declared.change.Change.TheVariants.{Gone, Undeclared, FileGone, Unlooked, Found, Repaired}
 use Rattle.ocfl_compare.specs.declared.question.Question.TheVariants.{Changed}
 
 -- a code is among codes with it
@@ -25,28 +27,28 @@ none_gone : (b : Bool) (z : Change) → when (not b && b) z ≡ []
 none_gone true z = refl
 none_gone false z = refl
 
-none_repaired : (hidden : Bool) (ls : List Line) → map repaired (cond hidden [] (new_codes (finding_codes ls) (finding_codes ls))) ≡ []
+none_repaired : (hidden : Bool) (ls : List Line) → map Repaired (cond hidden [] (new_codes (finding_codes ls) (finding_codes ls))) ≡ []
 none_repaired true ls = refl
-none_repaired false ls = ap (map repaired) (none_new [] (finding_codes ls))
+none_repaired false ls = ap (map Repaired) (none_new [] (finding_codes ls))
 
-same_lines : (ls : List Line) → changes_at ls ls ≡ []
-same_lines [] = refl
-same_lines (l ∷ ls) =
-    (λ i. none_gone (list_any tells_object (l ∷ ls)) object_gone i ++ (map found (none_new [] (finding_codes (l ∷ ls)) i) ++ none_repaired (list_any hides (l ∷ ls)) (l ∷ ls) i))
+same_lines : (shut has_lines : Bool) (ls : List Line) → changes_at shut has_lines ls ls ≡ []
+same_lines shut has_lines [] = refl
+same_lines shut has_lines (l ∷ ls) =
+    (λ i. none_gone (list_any tells_object (l ∷ ls)) (gone_object has_lines) i ++ (map Found (none_new [] (finding_codes (l ∷ ls)) i) ++ none_repaired (list_any hides (l ∷ ls)) (l ∷ ls) i))
 
 module _ (left : List Place) (ls : List Line) where
-  none_at : (p : Place) → changes_text p (said_at Changed left ls ls p) ≡ []
+  none_at : (p : Place) → placed p (said_at Changed left ls ls p) ≡ []
   none_at p = by (is_left left p)
     where
-      by : (b : Bool) → changes_text p (cond b [] (changes_at (lines_at p ls) (lines_at p ls))) ≡ []
+      by : (b : Bool) → placed p (cond b [] (changes_at (is_in_shut ls ls p) (has_below p ls) (lines_at p ls) (lines_at p ls))) ≡ []
       by true = refl
-      by false = ap (changes_text p) (same_lines (lines_at p ls))
+      by false = ap (placed p) (same_lines (is_in_shut ls ls p) (has_below p ls) (lines_at p ls))
 
-  none_of : (ps : List Place) → flat_map (λ p. changes_text p (said_at Changed left ls ls p)) ps ≡ []
+  none_of : (ps : List Place) → flat_map (λ p. placed p (said_at Changed left ls ls p)) ps ≡ []
   none_of [] = refl
   none_of (p ∷ ps) = λ i. none_at p i ++ none_of ps i
 
-pub nothing_changed : (left : List Place) (ls : List Line) → comparison_text left ls ls ≡ []
+pub nothing_changed : (left : List Place) (ls : List Line) → comparison left ls ls ≡ []
 nothing_changed left ls = none_of left ls (places_of ls ls)
 
 -- ---- what is gone
@@ -94,14 +96,45 @@ new_among others (d ∷ cs) c (inr i) e = by (has_code others d) (new_among othe
     by true j = j
     by false j = inr j
 
-object_is_no_file : object_gone ≡ file_gone → ⊥
-object_is_no_file e = cc
+repair_is_no_object : (h : Bool) (c : Code) → Repaired c ≡ gone_object h → ⊥
+repair_is_no_object true c e = cc
+repair_is_no_object false c e = cc
 
-repair_is_no_object : (c : Code) → repaired c ≡ object_gone → ⊥
-repair_is_no_object c e = cc
+repair_is_no_file : (s : Bool) (c : Code) → Repaired c ≡ gone_file s → ⊥
+repair_is_no_file true c e = cc
+repair_is_no_file false c e = cc
 
-repair_is_no_file : (c : Code) → repaired c ≡ file_gone → ⊥
-repair_is_no_file c e = cc
+gone_is_no_file : (s : Bool) → Gone ≡ gone_file s → ⊥
+gone_is_no_file true e = cc
+gone_is_no_file false e = cc
+
+undeclared_is_no_file : (s : Bool) → Undeclared ≡ gone_file s → ⊥
+undeclared_is_no_file true e = cc
+undeclared_is_no_file false e = cc
+
+file_is_no_object : (h : Bool) → FileGone ≡ gone_object h → ⊥
+file_is_no_object true e = cc
+file_is_no_object false e = cc
+
+unlooked_is_no_object : (h : Bool) → Unlooked ≡ gone_object h → ⊥
+unlooked_is_no_object true e = cc
+unlooked_is_no_object false e = cc
+
+is_gone : (h : Bool) → Gone ≡ gone_object h → h ≡ false
+is_gone true e = cc
+is_gone false e = refl
+
+is_undeclared : (h : Bool) → Undeclared ≡ gone_object h → h ≡ true
+is_undeclared true e = refl
+is_undeclared false e = cc
+
+is_file_gone : (s : Bool) → FileGone ≡ gone_file s → s ≡ false
+is_file_gone true e = cc
+is_file_gone false e = refl
+
+is_unlooked : (s : Bool) → Unlooked ≡ gone_file s → s ≡ true
+is_unlooked true e = refl
+is_unlooked false e = cc
 
 left_of : {P Q : Type 0} → P ⊎ Q → (Q → ⊥) → P
 left_of (inl p) none = p
@@ -119,74 +152,77 @@ not_and : (a b : Bool) → not a && b ≡ true → (a ≡ false) × (b ≡ true)
 not_and true b e = cc
 not_and false b e = (refl, e)
 
-module _ (before now : List Line) where
+module _ (shut has_lines : Bool) (before now : List Line) where
   abbrev first : List Change
-  first = when (not (list_any tells_object now) && list_any tells_object before) object_gone
+  first = when (not (list_any tells_object now) && list_any tells_object before) (gone_object has_lines)
 
   abbrev second : List Change
-  second = when (is_empty now && list_any tells_file before) file_gone
+  second = when (is_empty now && list_any tells_file before) (gone_file shut)
 
   abbrev third : List Change
-  third = map found (new_codes (finding_codes before) (finding_codes now))
+  third = map Found (new_codes (finding_codes before) (finding_codes now))
 
   abbrev fourth : List Change
-  fourth = map repaired (repaired_codes before now)
+  fourth = map Repaired (repaired_codes before now)
 
   -- what is neither a code nor a repair comes before them
-  none_later : (z : Change) → ((c : Code) → z ≡ found c → ⊥) → ((c : Code) → z ≡ repaired c → ⊥) → IsAmong (third ++ fourth) z → ⊥
+  none_later : (z : Change) → ((c : Code) → z ≡ Found c → ⊥) → ((c : Code) → z ≡ Repaired c → ⊥) → IsAmong (third ++ fourth) z → ⊥
   none_later z no_code no_repair i =
-      none_among found z no_code (new_codes (finding_codes before) (finding_codes now))
-      (left_of (among_either third fourth z i) (none_among repaired z no_repair (repaired_codes before now)))
+      none_among Found z no_code (new_codes (finding_codes before) (finding_codes now))
+      (left_of (among_either third fourth z i) (none_among Repaired z no_repair (repaired_codes before now)))
 
-  pub object_gone_is : IsAmong (changes_at before now) object_gone ↔ (list_any tells_object now ≡ false) × (list_any tells_object before ≡ true)
-  object_gone_is = (
-    λ i. not_and (list_any tells_object now) (list_any tells_object before)
-        (among_when (not (list_any tells_object now) && list_any tells_object before) object_gone object_gone (left_of (among_either first (second ++ (third ++ fourth)) object_gone i) not_later)).0,
-    λ k. among_left first (second ++ (third ++ fourth)) object_gone (subst (λ b. IsAmong (when b object_gone) object_gone) (sym (λ i. not (k.0 i) && k.1 i)) (inl refl)),
-  )
+  in_first : (z : Change) → (z ≡ gone_file shut → ⊥) → ((c : Code) → z ≡ Found c → ⊥) → ((c : Code) → z ≡ Repaired c → ⊥) → IsAmong (changes_at shut has_lines before now) z
+      → ((list_any tells_object now ≡ false) × (list_any tells_object before ≡ true)) × (z ≡ gone_object has_lines)
+  in_first z no_file no_code no_repair i =
+      let k = among_when (not (list_any tells_object now) && list_any tells_object before) (gone_object has_lines) z (left_of (among_either first (second ++ (third ++ fourth)) z i) not_later) in
+      (not_and (list_any tells_object now) (list_any tells_object before) k.0, k.1)
     where
-      not_second : IsAmong second object_gone → ⊥
-      not_second i = object_is_no_file (among_when (is_empty now && list_any tells_file before) file_gone object_gone i).1
+      not_second : IsAmong second z → ⊥
+      not_second j = no_file (among_when (is_empty now && list_any tells_file before) (gone_file shut) z j).1
 
-      not_later : IsAmong (second ++ (third ++ fourth)) object_gone → ⊥
-      not_later i = none_later object_gone (λ c e. cc) (λ c e. cc) (right_of (among_either second (third ++ fourth) object_gone i) not_second)
+      not_later : IsAmong (second ++ (third ++ fourth)) z → ⊥
+      not_later j = none_later z no_code no_repair (right_of (among_either second (third ++ fourth) z j) not_second)
 
-  pub file_gone_is : IsAmong (changes_at before now) file_gone ↔ (now ≡ []) × (list_any tells_file before ≡ true)
-  file_gone_is = (
-    λ i. none_left now (list_any tells_file before)
-        (among_when (is_empty now && list_any tells_file before) file_gone file_gone (in_second (right_of (among_either first (second ++ (third ++ fourth)) file_gone i) not_first))).0,
-    λ k. among_right first (second ++ (third ++ fourth)) file_gone
-        (among_left second (third ++ fourth) file_gone (subst (λ b. IsAmong (when b file_gone) file_gone) (sym (λ i. is_empty (k.0 i) && k.1 i)) (inl refl))),
-  )
+  first_in : (list_any tells_object now ≡ false) × (list_any tells_object before ≡ true) → IsAmong (changes_at shut has_lines before now) (gone_object has_lines)
+  first_in k = among_left first (second ++ (third ++ fourth)) (gone_object has_lines) (subst (λ b. IsAmong (when b (gone_object has_lines)) (gone_object has_lines)) (sym (λ i. not (k.0 i) && k.1 i)) (inl refl))
+
+  in_second : (z : Change) → (z ≡ gone_object has_lines → ⊥) → ((c : Code) → z ≡ Found c → ⊥) → ((c : Code) → z ≡ Repaired c → ⊥) → IsAmong (changes_at shut has_lines before now) z
+      → ((now ≡ []) × (list_any tells_file before ≡ true)) × (z ≡ gone_file shut)
+  in_second z no_object no_code no_repair i =
+      let k = among_when (is_empty now && list_any tells_file before) (gone_file shut) z
+      (left_of (among_either second (third ++ fourth) z (right_of (among_either first (second ++ (third ++ fourth)) z i) not_first)) (none_later z no_code no_repair)) in
+      (none_left now (list_any tells_file before) k.0, k.1)
     where
-      not_first : IsAmong first file_gone → ⊥
-      not_first i = object_is_no_file (sym (among_when (not (list_any tells_object now) && list_any tells_object before) object_gone file_gone i).1)
+      not_first : IsAmong first z → ⊥
+      not_first j = no_object (among_when (not (list_any tells_object now) && list_any tells_object before) (gone_object has_lines) z j).1
 
-      in_second : IsAmong (second ++ (third ++ fourth)) file_gone → IsAmong second file_gone
-      in_second i = left_of (among_either second (third ++ fourth) file_gone i) (none_later file_gone (λ c e. cc) (λ c e. cc))
+  second_in : (now ≡ []) × (list_any tells_file before ≡ true) → IsAmong (changes_at shut has_lines before now) (gone_file shut)
+  second_in k =
+      among_right first (second ++ (third ++ fourth)) (gone_file shut)
+      (among_left second (third ++ fourth) (gone_file shut) (subst (λ b. IsAmong (when b (gone_file shut)) (gone_file shut)) (sym (λ i. is_empty (k.0 i) && k.1 i)) (inl refl)))
 
   -- ---- what is repaired
 
-  repaired_last : (c : Code) → IsAmong (changes_at before now) (repaired c) ↔ IsAmong fourth (repaired c)
+  repaired_last : (c : Code) → IsAmong (changes_at shut has_lines before now) (Repaired c) ↔ IsAmong fourth (Repaired c)
   repaired_last c = (
-    λ i. right_of (among_either third fourth (repaired c) (right_of (among_either second (third ++ fourth) (repaired c) (right_of (among_either first (second ++ (third ++ fourth)) (repaired c) i) not_first)) not_second)) not_third,
-    λ i. among_right first (second ++ (third ++ fourth)) (repaired c) (among_right second (third ++ fourth) (repaired c) (among_right third fourth (repaired c) i)),
+    λ i. right_of (among_either third fourth (Repaired c) (right_of (among_either second (third ++ fourth) (Repaired c) (right_of (among_either first (second ++ (third ++ fourth)) (Repaired c) i) not_first)) not_second)) not_third,
+    λ i. among_right first (second ++ (third ++ fourth)) (Repaired c) (among_right second (third ++ fourth) (Repaired c) (among_right third fourth (Repaired c) i)),
   )
     where
-      not_first : IsAmong first (repaired c) → ⊥
-      not_first i = repair_is_no_object c (among_when (not (list_any tells_object now) && list_any tells_object before) object_gone (repaired c) i).1
+      not_first : IsAmong first (Repaired c) → ⊥
+      not_first i = repair_is_no_object has_lines c (among_when (not (list_any tells_object now) && list_any tells_object before) (gone_object has_lines) (Repaired c) i).1
 
-      not_second : IsAmong second (repaired c) → ⊥
-      not_second i = repair_is_no_file c (among_when (is_empty now && list_any tells_file before) file_gone (repaired c) i).1
+      not_second : IsAmong second (Repaired c) → ⊥
+      not_second i = repair_is_no_file shut c (among_when (is_empty now && list_any tells_file before) (gone_file shut) (Repaired c) i).1
 
-      not_third : IsAmong third (repaired c) → ⊥
-      not_third i = none_among found (repaired c) (λ d e. cc) (new_codes (finding_codes before) (finding_codes now)) i
+      not_third : IsAmong third (Repaired c) → ⊥
+      not_third i = none_among Found (Repaired c) (λ d e. cc) (new_codes (finding_codes before) (finding_codes now)) i
 
-  pub repaired_is : (c : Code) → IsAmong (changes_at before now) (repaired c)
+  pub repaired_is : (c : Code) → IsAmong (changes_at shut has_lines before now) (Repaired c)
       ↔ ((now ≢ []) × (list_any hides now ≡ false)) × (IsAmong (finding_codes before) c × (has_code (finding_codes now) c ≡ false))
   repaired_is c = (
-    λ i. looked (is_empty now) (list_any hides now) refl refl (among_map repaired same_repaired (repaired_codes before now) c ((repaired_last c).0 i)),
-    λ k. (repaired_last c).1 (map_among repaired (repaired_codes before now) c (said k)),
+    λ i. looked (is_empty now) (list_any hides now) refl refl (among_map Repaired same_repaired (repaired_codes before now) c ((repaired_last c).0 i)),
+    λ k. (repaired_last c).1 (map_among Repaired (repaired_codes before now) c (said k)),
   )
     where
       some_lines : (ls : List Line) → is_empty ls ≡ false → ls ≢ []
@@ -197,7 +233,7 @@ module _ (before now : List Line) where
       none_empty [] h = absurd (h refl)
       none_empty (l ∷ ls) h = refl
 
-      same_repaired : (d e : Code) → repaired d ≡ repaired e → d ≡ e
+      same_repaired : (d e : Code) → Repaired d ≡ Repaired e → d ≡ e
       same_repaired d e f = cc
 
       looked : (e h : Bool) → is_empty now ≡ e → list_any hides now ≡ h → IsAmong (cond (e || h) [] (new_codes (finding_codes now) (finding_codes before))) c
@@ -210,21 +246,53 @@ module _ (before now : List Line) where
       said k = subst (λ b. IsAmong (cond b [] (new_codes (finding_codes now) (finding_codes before))) c) (sym (λ i. none_empty now k.0.0 i || k.0.1 i))
           (new_among (finding_codes now) (finding_codes before) c k.1.0 k.1.1)
 
+-- ---- the laws of what is gone
+
+abbrev IsObjectAway : List Line → List Line → Type 0
+IsObjectAway before now = (list_any tells_object now ≡ false) × (list_any tells_object before ≡ true)
+
+abbrev IsFileAway : List Line → List Line → Type 0
+IsFileAway before now = (now ≡ []) × (list_any tells_file before ≡ true)
+
+pub gone_is : (shut has_lines : Bool) (before now : List Line) → IsAmong (changes_at shut has_lines before now) Gone ↔ (has_lines ≡ false) × IsObjectAway before now
+gone_is shut has_lines before now = (
+  λ i. let k = in_first shut has_lines before now Gone (gone_is_no_file shut) (λ c e. cc) (λ c e. cc) i in (is_gone has_lines k.1, k.0),
+  λ k. subst (λ h. IsAmong (changes_at shut h before now) Gone) (sym k.0) (first_in shut false before now k.1),
+)
+
+pub undeclared_is : (shut has_lines : Bool) (before now : List Line) → IsAmong (changes_at shut has_lines before now) Undeclared ↔ (has_lines ≡ true) × IsObjectAway before now
+undeclared_is shut has_lines before now = (
+  λ i. let k = in_first shut has_lines before now Undeclared (undeclared_is_no_file shut) (λ c e. cc) (λ c e. cc) i in (is_undeclared has_lines k.1, k.0),
+  λ k. subst (λ h. IsAmong (changes_at shut h before now) Undeclared) (sym k.0) (first_in shut true before now k.1),
+)
+
+pub file_gone_is : (shut has_lines : Bool) (before now : List Line) → IsAmong (changes_at shut has_lines before now) FileGone ↔ (shut ≡ false) × IsFileAway before now
+file_gone_is shut has_lines before now = (
+  λ i. let k = in_second shut has_lines before now FileGone (file_is_no_object has_lines) (λ c e. cc) (λ c e. cc) i in (is_file_gone shut k.1, k.0),
+  λ k. subst (λ s. IsAmong (changes_at s has_lines before now) FileGone) (sym k.0) (second_in false has_lines before now k.1),
+)
+
+pub unlooked_is : (shut has_lines : Bool) (before now : List Line) → IsAmong (changes_at shut has_lines before now) Unlooked ↔ (shut ≡ true) × IsFileAway before now
+unlooked_is shut has_lines before now = (
+  λ i. let k = in_second shut has_lines before now Unlooked (unlooked_is_no_object has_lines) (λ c e. cc) (λ c e. cc) i in (is_unlooked shut k.1, k.0),
+  λ k. subst (λ s. IsAmong (changes_at s has_lines before now) Unlooked) (sym k.0) (second_in true has_lines before now k.1),
+)
+
 -- ---- from nothing
 
 all_new : (cs : List Code) → new_codes [] cs ≡ cs
 all_new [] = refl
 all_new (c ∷ cs) = ap (λ ds. c ∷ ds) (all_new cs)
 
-pub from_nothing : (now : List Line) → changes_at [] now ≡ map found (finding_codes now)
-from_nothing [] = refl
-from_nothing (l ∷ ls) =
-    (λ i. none_object (list_any tells_object (l ∷ ls)) i ++ (map found (all_new (finding_codes (l ∷ ls)) i) ++ none_before (list_any hides (l ∷ ls)) i)) ∙ append-nil (map found (finding_codes (l ∷ ls)))
+pub from_nothing : (shut has_lines : Bool) (now : List Line) → changes_at shut has_lines [] now ≡ map Found (finding_codes now)
+from_nothing shut has_lines [] = refl
+from_nothing shut has_lines (l ∷ ls) =
+    (λ i. none_object (list_any tells_object (l ∷ ls)) i ++ (map Found (all_new (finding_codes (l ∷ ls)) i) ++ none_before (list_any hides (l ∷ ls)) i)) ∙ append-nil (map Found (finding_codes (l ∷ ls)))
   where
-    none_object : (b : Bool) → when (not b && false) object_gone ≡ []
+    none_object : (b : Bool) → when (not b && false) (gone_object has_lines) ≡ []
     none_object true = refl
     none_object false = refl
 
-    none_before : (b : Bool) → map repaired (cond b [] []) ≡ []
+    none_before : (b : Bool) → map Repaired (cond b [] []) ≡ []
     none_before true = refl
     none_before false = refl

@@ -9,19 +9,18 @@ use Rattle.ocfl_tree.specs.Ascending.{IsBeforeAll, IsAscending, IsAmong}
 use Rattle.ocfl_tree.proofs.Orders.{place_cmp_total, place_cmp_exact, not_below_itself, before_each, ascending_unique, ascends_ascending, among_ascending, among_left, among_right, among_map}
 use Rattle.ocfl_tree.proofs.{Places.{place_eq-same}, Stores.{among_either}}
 use Rattle.ocfl_report.specs.Line.{Line}
-use Rattle.ocfl_compare.specs.Changes.{lines_at, places_of, said_at, changes_text, answer_at, is_left, answers_text}
-use Rattle.ocfl_compare.specs.declared.question.Question.{Question}
-use Rattle.ocfl_compare.specs.Internal.Turns.{Group, IsGroup, group_text}
+use Rattle.ocfl_compare.specs.Changes.{lines_at, places_of}
+use Rattle.ocfl_compare.specs.Internal.Turns.{Group, IsGroup}
 
-abbrev places : List Group → List Place
+abbrev pub places : List Group → List Place
 places gs = map (λ g. g.place) gs
 
 -- ---- the lines of a place
 
-other_place : (p q : Place) → place_cmp p q ≡ Less → place_eq p q ≡ false
+pub other_place : (p q : Place) → place_cmp p q ≡ Less → place_eq p q ≡ false
 other_place p q e = ap is_eq e
 
-later_place : (p q : Place) → place_cmp q p ≡ Less → place_eq p q ≡ false
+pub later_place : (p q : Place) → place_cmp q p ≡ Less → place_eq p q ≡ false
 later_place p q e = by (place_cmp p q) refl
   where
     by : (r : Ordering) → place_cmp p q ≡ r → is_eq r ≡ false
@@ -56,7 +55,7 @@ module _ (lines : Group → List Line) (own : (g : Group) → IsGroup g → All 
       ∙ (λ i. none_here p g.place (lines g) (other_place p g.place k.0) (own g (All-head IsGroup g gs h)) i ++ none_behind p gs (All-tail IsGroup g gs h) k.1 i)
 
   -- the lines of a group are those of its place
-  lines_of : (gs : List Group) → All IsGroup gs → IsAscending place_cmp (places gs) → (g : Group) → IsAmong gs g → lines_at g.place (flat_map lines gs) ≡ lines g
+  pub lines_of : (gs : List Group) → All IsGroup gs → IsAscending place_cmp (places gs) → (g : Group) → IsAmong gs g → lines_at g.place (flat_map lines gs) ≡ lines g
   lines_of [] h k g i = absurd i
   lines_of (f ∷ gs) h k g (inl e) =
       ap (λ x. lines_at x.place (flat_map lines (f ∷ gs))) e
@@ -110,10 +109,10 @@ from_places [] z i = absurd i
 from_places (g ∷ gs) z (inl e) = (g, (inl refl, e))
 from_places (g ∷ gs) z (inr i) = let k = from_places gs z i in (k.0, (inr k.1.0, k.1.1))
 
-before_own : (g : Group) → IsGroup g → All (λ l. g.place ≡ l.place) g.before
+pub before_own : (g : Group) → IsGroup g → All (λ l. g.place ≡ l.place) g.before
 before_own g h = h.before
 
-now_own : (g : Group) → IsGroup g → All (λ l. g.place ≡ l.place) g.now
+pub now_own : (g : Group) → IsGroup g → All (λ l. g.place ≡ l.place) g.now
 now_own g h = h.now
 
 module _ (gs : List Group) (h : All IsGroup gs) (k : IsAscending place_cmp (places gs)) where
@@ -139,20 +138,7 @@ module _ (gs : List Group) (h : All IsGroup gs) (k : IsAscending place_cmp (plac
       by g j (inl s) = among_left (map (λ l. l.place) was) (map (λ l. l.place) is) g.place (to_lines (λ x. x.before) before_own gs h g j s)
       by g j (inr s) = among_right (map (λ l. l.place) was) (map (λ l. l.place) is) g.place (to_lines (λ x. x.now) now_own gs h g j s)
 
-  same_places : places_of was is ≡ places gs
+  pub same_places : places_of was is ≡ places gs
   same_places =
       ascending_unique place_cmp_total place_cmp_exact (places_of was is) (places gs) (ascends_ascending place_cmp_total (map (λ l. l.place) (was ++ is))) k
       (λ z. (λ i. to_places z ((among_ascending place_cmp_exact (map (λ l. l.place) (was ++ is)) z).1 i), λ i. (among_ascending place_cmp_exact (map (λ l. l.place) (was ++ is)) z).0 (of_places z i)))
-
-  module _ (asked : Question) (left : List Place) where
-    at_each : (fs : List Group) → ((g : Group) → IsAmong fs g → IsAmong gs g) → flat_map (λ p. changes_text p (said_at asked left was is p)) (places fs) ≡ flat_map (group_text asked left) fs
-    at_each [] among = refl
-    at_each (g ∷ fs) among =
-        let i : IsAmong gs g = among g (inl refl) in
-        let b = lines_of (λ x. x.before) before_own gs h k g i in
-        let n = lines_of (λ x. x.now) now_own gs h k g i in
-        λ j. changes_text g.place (cond (is_left left g.place) [] (answer_at asked (b j) (n j))) ++ at_each fs (λ f m. among f (inr m)) j
-
-    -- what is said of the groups is what is said of the reports
-    pub groups_said : flat_map (group_text asked left) gs ≡ answers_text asked left was is
-    groups_said = sym (ap (λ ps. flat_map (λ p. changes_text p (said_at asked left was is p)) ps) same_places ∙ at_each gs (λ g i. i))

@@ -1,5 +1,6 @@
 pub mod Reports
 pub mod Tellings
+pub mod Around
 pub mod Groups
 pub mod SoFar
 pub mod Listings

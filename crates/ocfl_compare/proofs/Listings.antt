@@ -5,7 +5,7 @@ use Rattle.std.proofs.lemmas.List.Elements.{All-cons, All-nil, All-head, All-tai
 use Rattle.std.proofs.lemmas.List.Concat.{flat_map-append}
 use Rattle.std.proofs.lemmas.List.Sorted.{list_any-IsPermutation}
 use Rattle.std.specs.{Prelude.{cond, ◌&&◌, ◌||◌, not, flat_map, codes}, List.{list_any}}
-use Rattle.std.specs.{List.Sorted.{IsPermutation, IsSorted}, Io.KnownBytes.{Appends}}
+use Rattle.std.specs.List.Sorted.{IsPermutation, IsSorted}
 use Rattle.std.specs.{Ordering.{is_lt}, Str.{IsUtf8}}
 use Rattle.ocfl_tree.specs.{Place.{Text, Place, place_cmp, place_eq}, Name.{IsPlace}}
 use Rattle.ocfl_tree.specs.Ascending.{ascending, IsAmong}
@@ -18,9 +18,11 @@ use Rattle.ocfl_report.proofs.{Bytes.{utf8_bytes}, LineTexts.{first_lines, lines
 use Rattle.ocfl_parts.specs.Splits.{HasText, AreInOrder, AreLines, IsBadReportLine}
 use Rattle.ocfl_compare.proofs.Reports.{not_greater}
 use Rattle.ocfl_codes.specs.Kinds.{is_empty, tells_object}
-use Rattle.ocfl_compare.specs.Changes.{lines_at, places_of, is_left, missing, when, row_text, changes_text, said_at, answers_text}
+use Rattle.ocfl_compare.specs.Changes.{lines_at, places_of, is_left, when, placed, said_at, answers}
+use Rattle.ocfl_compare.specs.declared.change.Change.TheVariants.{Missing}
+use Rattle.ocfl_compare.specs.declared.change.ChangeAt.{ChangeAt}
 use Rattle.ocfl_compare.specs.{Compared.{IsAnswered}, CompareStop.{StopsRightly, ReportStops}}
-use Rattle.ocfl_compare.specs.Expected.{is_missing, missing_objects, IsSearched}
+use Rattle.ocfl_compare.specs.Expected.{is_missing, missing_objects, missing, IsSearched}
 use Rattle.ocfl_compare.specs.Internal.Listing.{as_object}
 use Rattle.ocfl_compare.specs.declared.question.Question.TheVariants.{Expected}
 use Rattle.ocfl_compare.specs.declared.stop.CompareStop.{CompareStop}
@@ -70,32 +72,32 @@ object_at p (q ∷ qs) = by (place_eq p q) refl (object_at p qs)
         ∙ or_both (not (is_empty p)) (has qs p)
     by false e k = k
 
--- ---- rows
+-- ---- changes
 
 module _ (left qs : List Place) (ls : List Line) where
   abbrev wanted : Place → Bool
   wanted p = has qs p && is_missing left ls p
 
-  said_row : (p : Place) → changes_text p (said_at Expected left (map as_object qs) ls p) ≡ cond (wanted p) (row_text (codes "expected") p) []
-  said_row p =
-      ap (λ b. changes_text p (cond (is_left left p) [] (when (not (list_any tells_object (lines_at p ls)) && b) missing))) (object_at p qs)
+  said_one : (p : Place) → placed p (said_at Expected left (map as_object qs) ls p) ≡ cond (wanted p) (missing p ∷ []) []
+  said_one p =
+      ap (λ b. placed p (cond (is_left left p) [] (when (not (list_any tells_object (lines_at p ls)) && b) Missing))) (object_at p qs)
       ∙ by (is_left left p) (list_any tells_object (lines_at p ls)) (has qs p) (not (is_empty p))
     where
-      by : (l o h e : Bool) → changes_text p (cond l [] (when (not o && (h && e)) missing)) ≡ cond (h && (not l && (e && not o))) (row_text (codes "expected") p) []
+      by : (l o h e : Bool) → placed p (cond l [] (when (not o && (h && e)) Missing)) ≡ cond (h && (not l && (e && not o))) (missing p ∷ []) []
       by true o true e = refl
       by true o false e = refl
       by false true true true = refl
       by false true true false = refl
       by false true false e = refl
-      by false false true true = append-nil (row_text (codes "expected") p)
+      by false false true true = refl
       by false false true false = refl
       by false false false e = refl
 
-  rows_of : (ps : List Place) → flat_map (λ p. changes_text p (said_at Expected left (map as_object qs) ls p)) ps ≡ flat_map (row_text (codes "expected")) (filter wanted ps)
-  rows_of [] = refl
-  rows_of (p ∷ ps) = (λ i. said_row p i ++ rows_of ps i) ∙ by (wanted p)
+  said_of : (ps : List Place) → flat_map (λ p. placed p (said_at Expected left (map as_object qs) ls p)) ps ≡ map missing (filter wanted ps)
+  said_of [] = refl
+  said_of (p ∷ ps) = (λ i. said_one p i ++ said_of ps i) ∙ by (wanted p)
     where
-      by : (b : Bool) → cond b (row_text (codes "expected") p) [] ++ flat_map (row_text (codes "expected")) (filter wanted ps) ≡ flat_map (row_text (codes "expected")) (cond b (p ∷ filter wanted ps) (filter wanted ps))
+      by : (b : Bool) → cond b (missing p ∷ []) [] ++ map missing (filter wanted ps) ≡ map missing (cond b (p ∷ filter wanted ps) (filter wanted ps))
       by true = refl
       by false = refl
 
@@ -130,8 +132,8 @@ module _ (left ps qs : List Place) (ls : List Line) (perm : IsPermutation ps qs)
       (ascends_filter place_cmp (wanted left qs ls) (ascending place_cmp all_places) (ascends_ascending place_cmp_total all_places))
       (ascends_filter place_cmp (is_missing left ls) (ascending place_cmp ps) (ascends_ascending place_cmp_total ps)) (λ p. (to p, from p))
 
-  answer_rows : answers_text Expected left (map as_object qs) ls ≡ flat_map (row_text (codes "expected")) (missing_objects left ps ls)
-  answer_rows = rows_of left qs ls (places_of (map as_object qs) ls) ∙ ap (flat_map (row_text (codes "expected"))) same
+  answers_are : answers Expected left (map as_object qs) ls ≡ map missing (missing_objects left ps ls)
+  answers_are = said_of left qs ls (places_of (map as_object qs) ls) ∙ ap (map missing) same
 
 -- ---- the list as a report
 
@@ -166,14 +168,14 @@ objects_report ps h k = record { texts = objects_have ps h; order = objects_orde
 same_lines : (ls ms : List Line) → AreLines ls → AreLines ms → lines_text ls ≡ lines_text ms → ls ≡ ms
 same_lines ls ms h k e = lines_text_determines ls ms (All-weaker HasText IsLine line_of_text ls h.texts) (All-weaker HasText IsLine line_of_text ms k.texts) e
 
-pub searched : (left ps qs : List Place) (b n : Text) (old new : Option Text) → IsPermutation ps qs → IsSorted place_cmp qs → All IsPlace qs → b ≡ lines_text (map as_object qs)
-    → IsAnswered Expected left b n old new → IsSearched left ps n old new
-searched left ps qs b n old new perm sorted names e h =
+pub searched : (left ps qs : List Place) (b n : Text) (Taken : List ChangeAt → Type 0) → IsPermutation ps qs → IsSorted place_cmp qs → All IsPlace qs → b ≡ lines_text (map as_object qs)
+    → IsAnswered Expected left b n Taken → IsSearched left ps n Taken
+searched left ps qs b n Taken perm sorted names e h =
     let same_list : h.before ≡ map as_object qs = same_lines h.before (map as_object qs) h.is_before.are (objects_report qs names sorted) (sym h.is_before.is ∙ e) in
     record {
       lines = h.now;
       report = h.is_now;
-      written = subst (Appends old new) (ap (λ ls. answers_text Expected left ls h.now) same_list ∙ answer_rows left ps qs h.now perm) h.written;
+      taken = subst Taken (ap (λ ls. answers Expected left ls h.now) same_list ∙ answers_are left ps qs h.now perm) h.taken;
     }
 
 -- ---- no line of the list is bad
@@ -226,10 +228,10 @@ list_stops b n ls Memory are e h = tt
 
 -- ---- as the code has it
 
-pub known_searched : (left ps qs : List Place) (b : Text) (n old new : Option Text) → IsPermutation ps qs → IsSorted place_cmp qs → All IsPlace qs → b ≡ lines_text (map as_object qs)
-    → IfSome n (λ t. IsAnswered Expected left b t old new) → IfSome n (λ t. IsSearched left ps t old new)
-known_searched left ps qs b None old new perm sorted names e h = tt
-known_searched left ps qs b (Some t) old new perm sorted names e h = searched left ps qs b t old new perm sorted names e h
+pub known_searched : (left ps qs : List Place) (b : Text) (n : Option Text) (Taken : List ChangeAt → Type 0) → IsPermutation ps qs → IsSorted place_cmp qs → All IsPlace qs → b ≡ lines_text (map as_object qs)
+    → IfSome n (λ t. IsAnswered Expected left b t Taken) → IfSome n (λ t. IsSearched left ps t Taken)
+known_searched left ps qs b None Taken perm sorted names e h = tt
+known_searched left ps qs b (Some t) Taken perm sorted names e h = searched left ps qs b t Taken perm sorted names e h
 
 pub known_stops : (qs : List Place) (b : Text) (n : Option Text) (s : CompareStop) → IsSorted place_cmp qs → All IsPlace qs → b ≡ lines_text (map as_object qs)
     → IfSome n (λ t. StopsRightly b t s) → IfSome n (λ t. ReportStops t s)

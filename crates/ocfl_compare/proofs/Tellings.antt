@@ -1,18 +1,21 @@
 -- What the lines of one place say together, and its text.
-use Rattle.std.proofs.Common.{◌≡◌, ◌≢◌, inl, List, [], ◌∷◌, ◌++◌, ℕ, Bool, true, false, Option, Some, None, All, map, refl, sym, ap, subst, ◌∙◌, append_assoc, append-nil}
-use Rattle.std.proofs.{Math.Bool.{or-false}, lemmas.List.Concat.{flat_map-append}, lemmas.List.Folds.{list_any-append}}
+use Rattle.std.proofs.Common.{◌≡◌, ◌≢◌, ◌⊎◌, inl, inr, List, [], ◌∷◌, ◌++◌, ℕ, Bool, true, false, Option, Some, None, All, map, refl, sym, ap, subst, ◌∙◌, append_assoc, append-nil}
+use Rattle.std.proofs.{Math.Bool.{or-false}, lemmas.List.{map-append}, lemmas.List.Folds.{list_any-append}}
 use Rattle.std.proofs.lemmas.List.Elements.{All-append, All-cons, All-nil}
 use Rattle.std.specs.{Prelude.{cond, ◌||◌, not, flat_map}, List.{list_any}}
 use Rattle.std.specs.declared.cmp.Ordering.{Ordering}
 use Rattle.std.specs.declared.cmp.Ordering.TheVariants.{Less, Equal, Greater}
 use Rattle.ocfl_tree.specs.Place.{Text, Place, place_cmp}
 use Rattle.ocfl_tree.proofs.Orders.{place_cmp_exact, place_cmp_total, not_below_itself, below_from_greater}
-use Rattle.ocfl_report.specs.{Line.{Line, line_of}, Text.{code_text}, declared.code.Code.{Code}}
+use Rattle.ocfl_report.specs.{Line.{Line, line_of}, declared.code.Code.{Code}}
 use Rattle.ocfl_report.specs.declared.line.Line.{Line as MadeLine}
 use Rattle.ocfl_codes.specs.Kinds.{is_empty, tells_object, tells_file, hides}
-use Rattle.ocfl_compare.specs.Changes.{has_code, with_code, codes_from, new_codes, Change, found, repaired, when, row_text, change_word, changes_text}
+use Rattle.ocfl_compare.specs.Changes.{has_code, with_code, codes_from, new_codes, stops, when, change_at, placed}
+use Rattle.ocfl_compare.specs.declared.change.Change.{Change}
+use Rattle.ocfl_compare.specs.declared.change.Change.TheVariants.{Found, Repaired}
+use Rattle.ocfl_compare.specs.declared.change.ChangeAt.{ChangeAt}
 use Rattle.ocfl_compare.specs.Internal.Reading.{listed, HasRead, IsNotAbove, IsBelow, IsAt, GoesOn}
-use Rattle.ocfl_compare.specs.Internal.Telling.{IsTold, new_text, repaired_text}
+use Rattle.ocfl_compare.specs.Internal.Telling.{IsTold, new_at, repaired_at}
 use Rattle.ocfl_compare.specs.Internal.Turns.{AreTaken}
 use Rattle.ocfl_compare.specs.declared.told.Told.{Told}
 
@@ -29,64 +32,45 @@ not_empty : (ls : List Line) (l : Line) → false ≡ is_empty (ls ++ l ∷ [])
 not_empty [] l = refl
 not_empty (m ∷ ls) l = refl
 
-pub told_more : (told after : Told) (own : List Line) (l : Line) → IsTold told own → after.absent ≡ false → after.object ≡ told.object || tells_object l → after.file ≡ told.file || tells_file l
+pub told_more : (told after : Told) (own : List Line) (l : Line) → IsTold told own → after.absent ≡ false → after.object ≡ told.object || tells_object l → after.stopped ≡ told.stopped || stops l → after.file ≡ told.file || tells_file l
     → after.hidden ≡ told.hidden || hides l → after.findings.items ≡ with_code told.findings.items l.code → IsTold after (own ++ l ∷ [])
-told_more told after own l h absent object file hidden findings = record {
+told_more told after own l h absent object stopped file hidden findings = record {
   absent = absent ∙ not_empty own l;
   object = object ∙ ap (λ b. b || tells_object l) h.object ∙ sym (any_more tells_object own l);
+  stopped = stopped ∙ ap (λ b. b || stops l) h.stopped ∙ sym (any_more stops own l);
   file = file ∙ ap (λ b. b || tells_file l) h.file ∙ sym (any_more tells_file own l);
   hidden = hidden ∙ ap (λ b. b || hides l) h.hidden ∙ sym (any_more hides own l);
   findings = findings ∙ ap (λ cs. with_code cs l.code) h.findings ∙ sym (codes_more [] own l);
 }
 
--- ---- the text of changes
+-- ---- changes, one by one
 
-when_text : (p : Place) (b : Bool) (c : Change) → changes_text p (when b c) ≡ cond b (row_text (change_word c) p) []
-when_text p true c = append-nil (row_text (change_word c) p)
-when_text p false c = refl
-
--- the row of a change, if it is one
-pub one_row : (p : Place) (is known : Bool) (c : Change) (start one : Text) → is ≡ known → one ≡ start ++ cond is (row_text (change_word c) p) [] → one ≡ start ++ changes_text p (when known c)
-one_row p is known c start one e f = f ∙ ap (λ t. start ++ t) (sym (when_text p is c)) ∙ ap (λ b. start ++ changes_text p (when b c)) e
-
-new_texts : (p : Place) (before now : List Code) → changes_text p (map found (new_codes before now)) ≡ flat_map (new_text p before) now
-new_texts p before [] = refl
-new_texts p before (c ∷ now) = by (not (has_code before c)) (new_texts p before now)
+pub new_changes : (p : Place) (before now : List Code) → placed p (map Found (new_codes before now)) ≡ flat_map (new_at p before) now
+new_changes p before [] = refl
+new_changes p before (c ∷ now) = by (not (has_code before c)) (new_changes p before now)
   where
-    by : (b : Bool) → changes_text p (map found (new_codes before now)) ≡ flat_map (new_text p before) now
-        → changes_text p (map found (cond b (c ∷ new_codes before now) (new_codes before now))) ≡ cond b (row_text (code_text c) p) [] ++ flat_map (new_text p before) now
-    by true e = ap (λ t. row_text (code_text c) p ++ t) e
+    by : (b : Bool) → placed p (map Found (new_codes before now)) ≡ flat_map (new_at p before) now
+        → placed p (map Found (cond b (c ∷ new_codes before now) (new_codes before now))) ≡ placed p (when b (Found c)) ++ flat_map (new_at p before) now
+    by true e = ap (λ cs. change_at p (Found c) ∷ cs) e
     by false e = e
 
-pub new_rows : (p : Place) (start two : Text) (before now a b : List Code) → two ≡ start ++ flat_map (new_text p a) b → a ≡ before → b ≡ now → two ≡ start ++ changes_text p (map found (new_codes before now))
-new_rows p start two before now a b e f g = e ∙ (λ i. start ++ flat_map (new_text p (f i)) (g i)) ∙ ap (λ t. start ++ t) (sym (new_texts p before now))
-
-repaired_texts : (p : Place) (now before : List Code) → changes_text p (map repaired (new_codes now before)) ≡ flat_map (repaired_text p now) before
-repaired_texts p now [] = refl
-repaired_texts p now (c ∷ before) = by (not (has_code now c)) (repaired_texts p now before)
+pub repaired_changes : (p : Place) (now before : List Code) → placed p (map Repaired (new_codes now before)) ≡ flat_map (repaired_at p now) before
+repaired_changes p now [] = refl
+repaired_changes p now (c ∷ before) = by (not (has_code now c)) (repaired_changes p now before)
   where
-    by : (b : Bool) → changes_text p (map repaired (new_codes now before)) ≡ flat_map (repaired_text p now) before
-        → changes_text p (map repaired (cond b (c ∷ new_codes now before) (new_codes now before))) ≡ cond b (row_text (change_word (repaired c)) p) [] ++ flat_map (repaired_text p now) before
-    by true e = ap (λ t. row_text (change_word (repaired c)) p ++ t) e
+    by : (b : Bool) → placed p (map Repaired (new_codes now before)) ≡ flat_map (repaired_at p now) before
+        → placed p (map Repaired (cond b (c ∷ new_codes now before) (new_codes now before))) ≡ placed p (when b (Repaired c)) ++ flat_map (repaired_at p now) before
+    by true e = ap (λ cs. change_at p (Repaired c) ∷ cs) e
     by false e = e
 
-pub repaired_rows : (p : Place) (start one : Text) (now before a b : List Code) → one ≡ start ++ flat_map (repaired_text p a) b → a ≡ now → b ≡ before → one ≡ start ++ changes_text p (map repaired (new_codes now before))
-repaired_rows p start one now before a b e f g = e ∙ (λ i. start ++ flat_map (repaired_text p (f i)) (g i)) ∙ ap (λ t. start ++ t) (sym (repaired_texts p now before))
-
--- the rows of four changes in turn
-pub all_rows : (p : Place) (a b c d : List Change) (start one two three four : Text) → one ≡ start ++ changes_text p a → two ≡ one ++ changes_text p b → three ≡ two ++ changes_text p c
-    → four ≡ three ++ changes_text p d → four ≡ start ++ changes_text p (a ++ (b ++ (c ++ d)))
-all_rows p a b c d start one two three four e f g h =
-    h ∙ ap (λ t. t ++ changes_text p d) (g ∙ ap (λ t. t ++ changes_text p c) (f ∙ ap (λ t. t ++ changes_text p b) e))
-    ∙ append_assoc ((start ++ changes_text p a) ++ changes_text p b) (changes_text p c) (changes_text p d)
-    ∙ ap (λ t. ((start ++ changes_text p a) ++ changes_text p b) ++ t) (sym (two_parts c d))
-    ∙ append_assoc (start ++ changes_text p a) (changes_text p b) (changes_text p (c ++ d))
-    ∙ ap (λ t. (start ++ changes_text p a) ++ t) (sym (two_parts b (c ++ d)))
-    ∙ append_assoc start (changes_text p a) (changes_text p (b ++ (c ++ d)))
-    ∙ ap (λ t. start ++ t) (sym (two_parts a (b ++ (c ++ d))))
-  where
-    two_parts : (xs ys : List Change) → changes_text p (xs ++ ys) ≡ changes_text p xs ++ changes_text p ys
-    two_parts xs ys = flat_map-append (λ x. row_text (change_word x) p) xs ys
+-- four kinds of changes, taken in turn
+pub all_taken : {T : Type 0} (Takes : T → List ChangeAt → T → Type 0) (joined : (t u v : T) (first then : List ChangeAt) → Takes t first u → Takes u then v → Takes t (first ++ then) v)
+    (p : Place) (a b c d : List Change) (start one two three four : T) → Takes start (placed p a) one → Takes one (placed p b) two → Takes two (placed p c) three → Takes three (placed p d) four
+    → Takes start (placed p (a ++ (b ++ (c ++ d)))) four
+all_taken Takes joined p a b c d start one two three four e f g h =
+    subst (λ cs. Takes start cs four) (sym (map-append (change_at p) a (b ++ (c ++ d)) ∙ ap (λ cs. placed p a ++ cs) (map-append (change_at p) b (c ++ d) ∙ ap (λ cs. placed p b ++ cs) (map-append (change_at p) c d))))
+    (joined start one four (placed p a) (placed p b ++ (placed p c ++ placed p d)) e
+    (joined one two four (placed p b) (placed p c ++ placed p d) f (joined two three four (placed p c) (placed p d) g h)))
 
 -- ---- lines of a place, one by one
 
@@ -106,11 +90,15 @@ at_more p None own h e = h
 at_more p (Some l) [] h e = cc
 at_more p (Some l) (m ∷ own) h e = cc
 
+at_first : (p : Place) (first next : Option MadeLine) (own : List Line) → IsAt p next → ((own ≢ []) × IsAt p first) ⊎ ((own ≡ []) × (next ≡ first)) → IsAt p first
+at_first p first next own h (inl s) = s.1
+at_first p first next own h (inr e) = subst (IsAt p) e.1 h
+
 pub taken_more : (p : Place) (all left after : Option Text) (done own : List Line) (first next later : Option MadeLine) (count k : ℕ) → IsAt p next → AreTaken p all left done own first next count
     → HasRead all after ((done ++ own) ++ listed next) later k → AreTaken p all after done (own ++ listed next) first later k
 taken_more p all left after done own first next later count k h t r = record {
   here = All-append (λ l. p ≡ l.place) own (listed next) t.here (at_listed p next h);
-  some = inl (at_more p next own h);
+  some = inl (at_more p next own h, at_first p first next own h t.some);
   reading = subst (λ ls. HasRead all after ls later k) (append_assoc done own (listed next)) r;
 }
 

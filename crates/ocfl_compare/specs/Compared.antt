@@ -1,26 +1,26 @@
 -- What comparing two reports does.
-use Rattle.std.specs.{Prelude.{◌≡◌, List, Option}, Io.KnownBytes.{Appends}}
+use Rattle.std.specs.Prelude.{◌≡◌, List}
 use Rattle.ocfl_tree.specs.Place.{Text, Place}
 use Rattle.ocfl_report.specs.{Line.{Line}, Text.{lines_text}}
 use Rattle.ocfl_parts.specs.Splits.{AreLines}
+use Rattle.ocfl_compare.specs.declared.change.ChangeAt.{ChangeAt}
 use Rattle.ocfl_compare.specs.declared.question.Question.{Question}
 use Rattle.ocfl_compare.specs.declared.question.Question.TheVariants.{Changed}
-use Rattle.ocfl_compare.specs.Changes.{answers_text}
+use Rattle.ocfl_compare.specs.Changes.{answers}
 
 -- the bytes are those of a report with these lines
 pub record IsReport (b : Text) (ls : List Line) : Type 0 where
   pub are : AreLines ls
   pub is : b ≡ lines_text ls
 
--- the bytes before and these are those of two reports, and what was asked of them was appended to
--- what a writer has
-pub record IsAnswered (asked : Question) (left : List Place) (b n : Text) (old new : Option Text) : Type 0 where
+-- the bytes before and these are those of two reports, and just what was asked of them was taken
+pub record IsAnswered (asked : Question) (left : List Place) (b n : Text) (Taken : List ChangeAt → Type 0) : Type 0 where
   pub before : List Line
   pub now : List Line
   pub is_before : IsReport b before
   pub is_now : IsReport n now
-  pub written : Appends old new (answers_text asked left before now)
+  pub taken : Taken (answers asked left before now)
 
--- what changed was appended
-abbrev pub IsCompared : List Place → Text → Text → Option Text → Option Text → Type 0
+-- just what changed was taken
+abbrev pub IsCompared : List Place → Text → Text → (List ChangeAt → Type 0) → Type 0
 IsCompared = IsAnswered Changed

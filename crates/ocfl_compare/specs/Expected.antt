@@ -1,10 +1,12 @@
 -- Which objects of a list have no line in a report.
-use Rattle.std.specs.Prelude.{◌&&◌, List, Bool, not, Option, filter, flat_map, codes}
-use Rattle.std.specs.{List.{list_any}, Io.KnownBytes.{Appends}}
+use Rattle.std.specs.Prelude.{◌&&◌, List, Bool, not, filter, map}
+use Rattle.std.specs.List.{list_any}
 use Rattle.ocfl_tree.specs.{Place.{Text, Place, place_cmp}, Ascending.{ascending}}
 use Rattle.ocfl_report.specs.Line.{Line}
+use Rattle.ocfl_compare.specs.declared.change.Change.TheVariants.{Missing}
+use Rattle.ocfl_compare.specs.declared.change.ChangeAt.{ChangeAt}
 use Rattle.ocfl_codes.specs.Kinds.{is_empty, tells_object}
-use Rattle.ocfl_compare.specs.{Changes.{lines_at, is_left, row_text}, Compared.{IsReport}}
+use Rattle.ocfl_compare.specs.{Changes.{lines_at, is_left, change_at}, Compared.{IsReport}}
 
 -- no line of an object is at the place, which was not left out; the storage root is no object
 abbrev pub is_missing : List Place → List Line → Place → Bool
@@ -14,8 +16,11 @@ is_missing left ls p = not (is_left left p) && (not (is_empty p) && not (list_an
 abbrev pub missing_objects : List Place → List Place → List Line → List Place
 missing_objects left listed ls = filter (is_missing left ls) (ascending place_cmp listed)
 
--- the bytes are those of a report, and what is missing in it was appended to what a writer has
-pub record IsSearched (left listed : List Place) (b : Text) (old new : Option Text) : Type 0 where
+abbrev pub missing : Place → ChangeAt
+missing p = change_at p Missing
+
+-- the bytes are those of a report, and just what is missing in it was taken
+pub record IsSearched (left listed : List Place) (b : Text) (Taken : List ChangeAt → Type 0) : Type 0 where
   pub lines : List Line
   pub report : IsReport b lines
-  pub written : Appends old new (flat_map (row_text (codes "expected")) (missing_objects left listed lines))
+  pub taken : Taken (map missing (missing_objects left listed lines))

@@ -2,3 +2,4 @@ pub mod Reading
 pub mod Telling
 pub mod Turns
 pub mod Listing
+pub mod Gones

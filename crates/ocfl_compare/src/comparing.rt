@@ -1,78 +1,73 @@
 //! Comparing two reports.
-ghost use Rattle.std.specs.Prelude.{◌≡◌, ◌⊎◌, ℕ, List, Option, Some, IfOk, IfErr, IfSome, OnOk};
-ghost use Rattle.std.specs.Io.KnownBytes.{Appends};
-ghost use Rattle.ocfl_tree.specs.Place.{Place as ModelPlace};
+ghost use Rattle.std.specs.Prelude.{◌≡◌, ◌⊎◌, ℕ, List, Option, Some, None, IfOk, IfErr, IfSome, OnOk, []};
 ghost use Rattle.ocfl_report.specs.Line.{Line as ModelLine};
+ghost use Rattle.ocfl_compare.specs.Changes.{placed};
 ghost use Rattle.ocfl_compare.specs.Compared.{IsAnswered, IsCompared};
-ghost use Rattle.ocfl_compare.specs.declared.question.Question.{Question as ModelQuestion};
-ghost use Rattle.ocfl_compare.specs.{CompareStop.{StopsRightly}, Internal.Reading.{IsNextPlace}};
+ghost use Rattle.ocfl_compare.specs.{CompareStop.{StopsRightly}, Internal.Reading.{HasRead, IsNextPlace}};
+ghost use Rattle.ocfl_compare.specs.Internal.Reading.{last_place};
 ghost use Rattle.ocfl_compare.specs.Internal.Telling.{IsTold};
-ghost use Rattle.ocfl_compare.specs.Internal.Turns.{IfBothSome, IsSoFar, before_stop, now_stop};
-ghost use Rattle.ocfl_compare.specs.Internal.Turns.{said_text};
+ghost use Rattle.ocfl_compare.specs.Internal.Turns.{IfBothSome, IsSoFar, before_stop, leads_from};
+ghost use Rattle.ocfl_compare.specs.Internal.Turns.{leads_to, now_stop, said_changes, shut_after};
 
 use crate::question::Question;
 use crate::reading::{ReadStop, Reading, Taken, next_place, read_next, take_place, unread};
-use crate::rows::{Sides, put_said};
+use crate::saying::{Sides, give_said, is_shut};
 use crate::stop::CompareStop;
-use ocfl_report::write_all_of;
+use crate::taking::{TakeChange, TakeStop};
+use ocfl_report::Line;
 use ocfl_tree::Place;
-use std::alloc::Global;
-use std::io::{BufRead, Write};
+use std::alloc::{AllocError, Global};
+use std::io::BufRead;
 
 /// How far both reports are read.
 #[derive(Drop)]
 struct Both {
     before: Reading,
     now: Reading,
+    /// The outermost object whose files are not looked at now, and that may have more of them.
+    shut: Option<Place>,
 }
 
-/// Compares two reports of a storage root, and writes what changed, in the order of places. A
-/// row has a word, a tab, the place as reports write it, and a line feed:
-///
-/// - `object`, if the report before has a line of an object at the place, and this one has none of
-///   an object there;
-/// - `file`, if the report before has a line of a content file at the place, and this one has no
-///   line there;
-/// - the code of a finding that is at the place in this report, and was not in the one before, each
-///   code once;
-/// - `repaired`, a space and the code of a finding that was at the place in the report before, and
-///   is not in this one, each code once. It is said only of a place that was looked at: it has lines
-///   in this report, and none behind which a finding may not be looked for, as where an object's
-///   head stops, or where a file could not be read or is no longer named.
+/// Compares two reports of a storage root, and gives what changed, place by place in their order.
+/// [`Change`](crate::Change) says what that may be. Of a place the object or the file comes first,
+/// then the codes that were found there and were not before, and then those that are repaired, each
+/// code once. A finding is repaired only at a place that was looked at: it has lines in this report,
+/// and none behind which a finding may not be looked for, as where an object's head stops, or where a
+/// file could not be read or is no longer named.
 ///
 /// Nothing is said of the places in `left` and of what is below them. All bytes of both readers
 /// are read as reports, and one line of each is in memory at a time.
-pub fn compare<R: BufRead, S: BufRead, W: Write>(
+pub fn compare<R: BufRead, S: BufRead, T: TakeChange>(
     alloc: Global,
     before: &mut R,
     now: &mut S,
     left: &[Place],
-    out: &mut W,
+    taker: &mut T,
 ) -> Result<(), CompareStop>
     ensures compared { OnOk result
         (IfSome (R.remaining before.old) (λ before_bytes.
         IfSome (S.remaining now.old) (λ now_bytes.
         IsCompared left.now before_bytes now_bytes
-        (W.contents out.old) (W.contents out.new)))) }
+        (λ changes. T.takes taker.old changes taker.new)))) }
     ensures refused { IfErr result (λ stop.
         IfSome (R.remaining before.old) (λ before_bytes.
         IfSome (S.remaining now.old) (λ now_bytes.
         StopsRightly before_bytes now_bytes stop))) }
 {
-    answer(alloc, Question::Changed, before, now, left, out)
+    answer(alloc, Question::Changed, before, now, left, taker)
 }
 
-/// Writes the answers of all places, in their order.
-pub(crate) fn answer<R: BufRead, S: BufRead, W: Write>(
+/// Gives the answers of all places, in their order.
+pub(crate) fn answer<R: BufRead, S: BufRead, T: TakeChange>(
     alloc: Global,
     asked: Question,
     before: &mut R,
     now: &mut S,
     left: &[Place],
-    out: &mut W,
+    taker: &mut T,
 ) -> Result<(), CompareStop>
     ensures answered { OnOk result (IfBothSome (R.remaining before.old) (S.remaining now.old)
-        (λ b n. IsAnswered asked left.now b n (W.contents out.old) (W.contents out.new))) }
+        (λ b n. IsAnswered asked left.now b n (λ changes. T.takes taker.old changes taker.new))) }
     ensures refused { IfErr result (λ stop.
         IfBothSome (R.remaining before.old) (S.remaining now.old) (λ b n. StopsRightly b n stop)) }
 {
@@ -85,7 +80,7 @@ pub(crate) fn answer<R: BufRead, S: BufRead, W: Write>(
             Err(_) => return Err(CompareStop::Memory),
         };
         both = turn(
-            alloc, asked, left, &place, before, now, out, &mut text, both,
+            alloc, asked, left, &place, before, now, taker, &mut text, both,
         )?;
     }
     Err(CompareStop::NowFailed)
@@ -98,10 +93,11 @@ fn begin<R: BufRead, S: BufRead>(
     now: &mut S,
     text: &mut Vec<u8>,
 ) -> Result<Both, CompareStop>
-    ensures ok { IfOk result (λ both.
-        (asked : ModelQuestion) (left : List ModelPlace) (w : Option (List ℕ)) → IsSoFar asked left
-        (R.remaining before.old) (R.remaining before.new) both.before.next both.before.count
-        (S.remaining now.old) (S.remaining now.new) both.now.next both.now.count w w) }
+    ensures before { IfOk result (λ both. HasRead (R.remaining before.old)
+        (R.remaining before.new) [] both.before.next both.before.count) }
+    ensures now { IfOk result (λ both. HasRead (S.remaining now.old)
+        (S.remaining now.new) [] both.now.next both.now.count) }
+    ensures open { IfOk result (λ both. both.shut ≡ None) }
     ensures refused { IfErr result (λ stop.
         IfBothSome (R.remaining before.old) (S.remaining now.old) (λ b n. StopsRightly b n stop)) }
 {
@@ -116,30 +112,34 @@ fn begin<R: BufRead, S: BufRead>(
     Ok(Both {
         before: first,
         now: second,
+        shut: None,
     })
 }
 
-/// Takes the lines of a place from both, and writes what changed there.
-fn turn<R: BufRead, S: BufRead, W: Write>(
+/// Takes the lines of a place from both, and gives what changed there.
+fn turn<R: BufRead, S: BufRead, T: TakeChange>(
     alloc: Global,
     asked: Question,
     left: &[Place],
     place: &Place,
     before: &mut R,
     now: &mut S,
-    out: &mut W,
+    taker: &mut T,
     text: &mut Vec<u8>,
     both: Both,
 ) -> Result<Both, CompareStop>
     requires next { IsNextPlace (Some place.now) both.before.next both.now.next }
-    ensures ok { IfOk result (λ after. (b n w : Option (List ℕ))
+    ensures ok { IfOk result (λ after. (b n : Option (List ℕ)) (start : T)
         → IsSoFar asked left.now b (R.remaining before.old) both.before.next both.before.count
-        n (S.remaining now.old) both.now.next both.now.count w (W.contents out.old)
+        n (S.remaining now.old) both.now.next both.now.count both.shut
+        (λ changes. T.takes start changes taker.old)
         → IsSoFar asked left.now b (R.remaining before.new) after.before.next after.before.count
-        n (S.remaining now.new) after.now.next after.now.count w (W.contents out.new)) }
-    ensures refused { IfErr result (λ stop. (b n w : Option (List ℕ))
+        n (S.remaining now.new) after.now.next after.now.count after.shut
+        (λ changes. T.takes start changes taker.new)) }
+    ensures refused { IfErr result (λ stop. (b n : Option (List ℕ)) (start : T)
         → IsSoFar asked left.now b (R.remaining before.old) both.before.next both.before.count
-        n (S.remaining now.old) both.now.next both.now.count w (W.contents out.old)
+        n (S.remaining now.old) both.now.next both.now.count both.shut
+        (λ changes. T.takes start changes taker.old)
         → IfBothSome b n (λ before_bytes now_bytes. StopsRightly before_bytes now_bytes stop)) }
 {
     let was = match take_place(alloc, place, before, text, both.before) {
@@ -154,36 +154,72 @@ fn turn<R: BufRead, S: BufRead, W: Write>(
         place,
         before: &was.told,
         now: &is.told,
+        in_shut: is_led_from(&both.shut, place),
+        has_lines: is_leading(place, &is.reading.next),
     };
-    say(asked, left, sides, text, out)?;
+    say(asked, left, sides, taker)?;
+    let shut = match shut_by(both.shut, place, is_shut(&was.told, &is.told)) {
+        Ok(shut) => shut,
+        Err(_) => return Err(CompareStop::Memory),
+    };
     Ok(Both {
         before: was.reading,
         now: is.reading,
+        shut,
     })
 }
 
-/// Writes what changed at a place, all of it or with an error.
-fn say<W: Write>(
+/// Whether the place is that of the object that is shut, or below it.
+fn is_led_from(shut: &Option<Place>, place: &Place) -> bool
+    ensures { result ≡ leads_from shut.now place.now }
+{
+    match shut {
+        Some(object) => place.starts_with(object),
+        None => false,
+    }
+}
+
+/// Whether the next line is below the place, if it has another one.
+fn is_leading(place: &Place, next: &Option<Line>) -> bool
+    ensures { result ≡ leads_to place.now (last_place next.now) }
+{
+    match next {
+        Some(line) => line.place.starts_with(place),
+        None => false,
+    }
+}
+
+/// The object that is shut after the lines of a place.
+fn shut_by(shut: Option<Place>, place: &Place, is: bool) -> Result<Option<Place>, AllocError>
+    ensures { IfOk result (λ after. after ≡ shut_after shut place.now is) }
+{
+    if is_led_from(&shut, place) {
+        return Ok(shut);
+    }
+    if is {
+        return Ok(Some(place.try_clone()?));
+    }
+    Ok(None)
+}
+
+/// Gives what changed at a place, all of it or with an error.
+fn say<T: TakeChange>(
     asked: Question,
     left: &[Place],
     sides: Sides<'_>,
-    rows: &mut Vec<u8>,
-    out: &mut W,
+    taker: &mut T,
 ) -> Result<(), CompareStop>
     ensures ok { OnOk result ((was : List ModelLine) (is : List ModelLine)
         → IsTold sides.entry.before.now was → IsTold sides.entry.now.now is
-        → Appends (W.contents out.old) (W.contents out.new)
-        (said_text asked left.now sides.entry.place.now was is)) }
+        → T.takes taker.old (placed sides.entry.place.now (said_changes asked left.now
+        sides.entry.place.now sides.entry.in_shut sides.entry.has_lines was is)) taker.new) }
     ensures stop { IfErr result (λ stop.
         (stop ≡ CompareStop.Output) ⊎ (stop ≡ CompareStop.Memory)) }
 {
-    rows.clear();
-    if put_said(asked, left, sides, rows).is_err() {
-        return Err(CompareStop::Memory);
-    }
-    match write_all_of(out, rows.as_slice()) {
+    match give_said(asked, left, sides, taker) {
         Ok(()) => Ok(()),
-        Err(_) => Err(CompareStop::Output),
+        Err(TakeStop::Failed) => Err(CompareStop::Output),
+        Err(TakeStop::Memory) => Err(CompareStop::Memory),
     }
 }
 

@@ -9,28 +9,29 @@ ghost use Rattle.ocfl_compare.specs.Internal.Listing.{as_object};
 use crate::comparing::answer;
 use crate::question::Question;
 use crate::stop::CompareStop;
+use crate::taking::TakeChange;
 use ocfl_report::put_place;
 use ocfl_tree::Place;
 use ocfl_tree::laws::every_place_has_names;
 use std::alloc::{AllocError, Global};
-use std::io::{BufRead, Write};
+use std::io::BufRead;
 
-/// Writes which objects of a list have no line of an object in a report, in the order of places,
-/// each once, and sorts the list. A row has the word `expected`, a tab, the place as reports write
-/// it, and a line feed. Nothing is said of the places in `left` and of what is below them, nor of
-/// the storage root, which is no object.
+/// Gives which objects of a list have no line of an object in a report, in the order of places,
+/// each once and as [`Change::Missing`](crate::Change::Missing), and sorts the list. Nothing is said
+/// of the places in `left` and of what is below them, nor of the storage root, which is no object.
 ///
 /// All bytes of the reader are read as a report. One line of it is in memory at a time, and the
 /// list twice. `CompareStop::Now` names a bad line of the report, and `Before` is never answered.
-pub fn find_expected<R: BufRead, W: Write>(
+pub fn find_expected<R: BufRead, T: TakeChange>(
     alloc: Global,
     listed: &mut Vec<Place>,
     report: &mut R,
     left: &[Place],
-    out: &mut W,
+    taker: &mut T,
 ) -> Result<(), CompareStop>
     ensures searched { OnOk result (IfSome (R.remaining report.old) (λ bytes.
-        IsSearched left.now listed.old.items bytes (W.contents out.old) (W.contents out.new))) }
+        IsSearched left.now listed.old.items bytes
+        (λ changes. T.takes taker.old changes taker.new))) }
     ensures refused { IfErr result (λ stop. IfSome (R.remaining report.old) (λ bytes.
         ReportStops bytes stop)) }
     ensures permutation { IsPermutation listed.old.items listed.new.items }
@@ -41,7 +42,7 @@ pub fn find_expected<R: BufRead, W: Write>(
     match put_objects(listed.as_slice(), &mut text) {
         Ok(()) => {
             let mut before = text.as_slice();
-            answer(alloc, Question::Expected, &mut before, report, left, out)
+            answer(alloc, Question::Expected, &mut before, report, left, taker)
         }
         Err(_) => Err(CompareStop::Memory),
     }

@@ -17,21 +17,27 @@
 //!   was closed. That its bytes are those that were closed is for its caller to see.
 #![tactic(auto)]
 
+mod change;
 mod comparing;
 mod expecting;
+mod gone;
 mod joining;
 pub mod laws;
 mod listing;
 mod question;
 mod reading;
-mod rows;
+mod saying;
 mod stop;
+mod taking;
 mod told;
 
+pub use change::{Change, ChangeAt};
 pub use comparing::compare;
 pub use expecting::find_expected;
+pub use gone::GoneList;
 pub use joining::{
     ClosedPart, JoinStop, MissingPart, PartFault, find_fault, find_missing, join_part,
 };
 pub use listing::{ListStop, read_list};
 pub use stop::CompareStop;
+pub use taking::{TakeChange, TakeStop};

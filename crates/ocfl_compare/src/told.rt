@@ -1,7 +1,7 @@
 //! What the lines of one place say together.
 ghost use Rattle.std.specs.Prelude.{◌≡◌, ◌||◌, List, [], ◌∷◌, ◌++◌, IfOk, OnOk};
 ghost use Rattle.ocfl_report.specs.Line.{Line as ModelLine, line_of};
-ghost use Rattle.ocfl_compare.specs.Changes.{has_code as has_that_code, with_code};
+ghost use Rattle.ocfl_compare.specs.Changes.{has_code as has_that_code, stops, with_code};
 ghost use Rattle.ocfl_compare.specs.Internal.Telling.{IsTold};
 
 use ocfl_codes::{is_hiding, is_of_file, is_of_object};
@@ -16,6 +16,8 @@ pub(crate) struct Told {
     pub(crate) absent: bool,
     /// There is a line of an object.
     pub(crate) object: bool,
+    /// There is a line of an object at which its head stops.
+    pub(crate) stopped: bool,
     /// There is a line of a content file.
     pub(crate) file: bool,
     /// There is a line behind which other findings may not be looked for.
@@ -31,6 +33,7 @@ pub(crate) fn nothing(alloc: Global) -> Told
     Told {
         absent: true,
         object: false,
+        stopped: false,
         file: false,
         hidden: false,
         findings: Vec::new(alloc),
@@ -45,6 +48,7 @@ pub(crate) fn tell(told: Told, line: &Line) -> Result<Told, AllocError>
     let Told {
         absent: _,
         object,
+        stopped,
         file,
         hidden,
         mut findings,
@@ -53,10 +57,18 @@ pub(crate) fn tell(told: Told, line: &Line) -> Result<Told, AllocError>
     Ok(Told {
         absent: false,
         object: either(object, is_of_object(line)),
+        stopped: either(stopped, is_stop(line)),
         file: either(file, is_of_file(line)),
         hidden: either(hidden, is_hiding(line.code)),
         findings,
     })
+}
+
+/// Whether the head of an object stops at this line.
+fn is_stop(line: &Line) -> bool
+    ensures { result ≡ stops (line_of line.now) }
+{
+    is_of_object(line) && is_hiding(line.code)
 }
 
 fn either(one: bool, other: bool) -> bool

@@ -1,11 +1,14 @@
 -- What the lines of one place say together.
-use Rattle.std.specs.Prelude.{◌≡◌, ◌&&◌, ◌||◌, List, [], ◌++◌, not, map, if◌then◌else◌, Option}
+use Rattle.std.specs.Prelude.{◌≡◌, ◌&&◌, ◌||◌, List, [], ◌++◌, Bool, not, map, if◌then◌else◌, Option}
 use Rattle.std.specs.List.{list_any}
-use Rattle.ocfl_tree.specs.Place.{Text, Place}
-use Rattle.ocfl_report.specs.{Line.{Line}, Text.{code_text}, declared.code.Code.{Code}}
+use Rattle.ocfl_tree.specs.Place.{Place}
+use Rattle.ocfl_report.specs.{Line.{Line}, declared.code.Code.{Code}}
 use Rattle.ocfl_report.specs.declared.line.Line.{Line as MadeLine}
 use Rattle.ocfl_codes.specs.Kinds.{is_empty, tells_object, tells_file, hides}
-use Rattle.ocfl_compare.specs.Changes.{finding_codes, new_codes, has_code, row_text, change_word, Change, object_gone, file_gone, found, repaired, missing, when}
+use Rattle.ocfl_compare.specs.Changes.{finding_codes, new_codes, has_code, stops, gone_object, gone_file, placed, when}
+use Rattle.ocfl_compare.specs.declared.change.Change.{Change}
+use Rattle.ocfl_compare.specs.declared.change.Change.TheVariants.{Found, Repaired, Missing}
+use Rattle.ocfl_compare.specs.declared.change.ChangeAt.{ChangeAt}
 use Rattle.ocfl_compare.specs.Internal.Reading.{IsAt, listed}
 use Rattle.ocfl_compare.specs.declared.question.Question.{Question}
 use Rattle.ocfl_compare.specs.declared.question.Question.TheVariants.{Changed, Expected}
@@ -15,6 +18,7 @@ use Rattle.ocfl_compare.specs.declared.reading.Telling.TheVariants.{More, Whole}
 pub record IsTold (told : Told) (ls : List Line) : Type 0 where
   pub absent : told.absent ≡ is_empty ls
   pub object : told.object ≡ list_any tells_object ls
+  pub stopped : told.stopped ≡ list_any stops ls
   pub file : told.file ≡ list_any tells_file ls
   pub hidden : told.hidden ≡ list_any hides ls
   pub findings : told.findings.items ≡ finding_codes ls
@@ -23,28 +27,28 @@ pub record IsTold (told : Told) (ls : List Line) : Type 0 where
 abbrev pub told_repaired : Told → Told → List Code
 told_repaired before now = if now.absent || now.hidden then [] else new_codes now.findings.items before.findings.items
 
--- the row of a code, if it was not there before
-abbrev pub new_text : Place → List Code → Code → Text
-new_text p before c = if not (has_code before c) then row_text (code_text c) p else []
+-- the change of a code, if it was not there before
+abbrev pub new_at : Place → List Code → Code → List ChangeAt
+new_at p before c = placed p (when (not (has_code before c)) (Found c))
 
--- the row of a code that is repaired, if it is not there now
-abbrev pub repaired_text : Place → List Code → Code → Text
-repaired_text p now c = if not (has_code now c) then row_text (change_word (repaired c)) p else []
+-- the change of a code that is repaired, if it is not there now
+abbrev pub repaired_at : Place → List Code → Code → List ChangeAt
+repaired_at p now c = placed p (when (not (has_code now c)) (Repaired c))
 
 -- the changes of a place of which this was told before, and this now
-abbrev pub told_changes : Told → Told → List Change
-told_changes before now =
-    when (not now.object && before.object) object_gone
-    ++ (when (now.absent && before.file) file_gone
-    ++ (map found (new_codes before.findings.items now.findings.items)
-    ++ map repaired (told_repaired before now)))
+abbrev pub told_changes : Bool → Bool → Told → Told → List Change
+told_changes shut has_lines before now =
+    when (not now.object && before.object) (gone_object has_lines)
+    ++ (when (now.absent && before.file) (gone_file shut)
+    ++ (map Found (new_codes before.findings.items now.findings.items)
+    ++ map Repaired (told_repaired before now)))
 
 abbrev pub told_missing : Told → Told → List Change
-told_missing listed now = when (not now.object && listed.object) missing
+told_missing listed now = when (not now.object && listed.object) Missing
 
-abbrev pub told_answer : Question → Told → Told → List Change
-told_answer Changed before now = told_changes before now
-told_answer Expected before now = told_missing before now
+abbrev pub told_answer : Question → Bool → Bool → Told → Told → List Change
+told_answer Changed shut has_lines before now = told_changes shut has_lines before now
+told_answer Expected shut has_lines before now = told_missing before now
 
 -- the next line was taken, since it has the place; or it was not, since it has another
 abbrev pub Tells : Place → Told → Option MadeLine → Telling → Type 0

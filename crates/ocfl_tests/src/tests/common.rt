@@ -3,6 +3,7 @@ use std::fmt::Display;
 use std::process::Abort;
 use std::test::Fail;
 
+pub mod changes;
 pub mod cursors;
 pub mod digests;
 mod fixtures;

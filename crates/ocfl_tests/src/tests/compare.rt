@@ -1,8 +1,10 @@
 //! What reports say of one another, and the reports of all parts.
+use crate::tests::common::changes::changes_text;
 use crate::tests::common::input::expect_failures;
 use crate::tests::common::output::Narrow;
 use crate::tests::common::store::place_of;
-use ocfl_compare::{CompareStop, compare};
+use ocfl_compare::{Change, CompareStop, GoneList, TakeChange, TakeStop, compare};
+use ocfl_report::Code;
 use ocfl_tree::Place;
 use std::alloc::Global;
 use std::io::{BufRead, BufReader};
@@ -104,10 +106,10 @@ const LEFT_OUT: [(&[&str], &str); 6] = [
         &["p"],
         "E092\to/v1/content/a\nrepaired E092\to/v1/content/b\n",
     ),
-    (&["o"], "object\tp\nfile\tp/v1/content/c\n"),
+    (&["o"], "object\tp\nunlooked\tp/v1/content/c\n"),
     (
         &["o/v1/content/a"],
-        "repaired E092\to/v1/content/b\nobject\tp\nfile\tp/v1/content/c\n",
+        "repaired E092\to/v1/content/b\nobject\tp\nunlooked\tp/v1/content/c\n",
     ),
     (
         &["p/v1"],
@@ -196,9 +198,9 @@ const KINDS: [(&str, &[&str]); 3] = [
 fn changes(alloc: Global, before: &str, now: &str, left: &[Place]) -> Result<String, Fail> {
     let mut first = before.as_bytes();
     let mut second = now.as_bytes();
-    let mut out = Vec::new(alloc);
-    compare(alloc, &mut first, &mut second, left, &mut out)?;
-    Ok(String::from_utf8(out)?)
+    let mut taken = Vec::new(alloc);
+    compare(alloc, &mut first, &mut second, left, &mut taken)?;
+    changes_text(alloc, taken.as_slice())
 }
 
 /// Why a comparison of what two readers give stops.
@@ -215,7 +217,7 @@ fn changes_stand_in_the_order_of_places(rt: HostRuntime) -> Result<(), Fail> {
     let alloc = rt.alloc();
     let text = changes(alloc, BEFORE, NOW, &[])?;
     let wanted = "E092\to/v1/content/a\nrepaired E092\to/v1/content/b\nobject\tp\n\
-file\tp/v1/content/c\n";
+unlooked\tp/v1/content/c\n";
     assert_eq!(rt; text.as_str(), wanted);
     let text = changes(alloc, NOW, BEFORE, &[])?;
     assert_eq!(rt;
@@ -225,7 +227,7 @@ file\tp/v1/content/c\n";
     let text = changes(alloc, "", NOW, &[])?;
     assert_eq!(rt; text.as_str(), "E092\to/v1/content/a\n");
     let text = changes(alloc, NOW, "", &[])?;
-    let wanted = "object\to\nfile\to/v1/content/a\nfile\to/v1/content/b\n";
+    let wanted = "object\to\nunlooked\to/v1/content/a\nunlooked\to/v1/content/b\n";
     assert_eq!(rt; text.as_str(), wanted);
     Ok(())
 }
@@ -341,9 +343,80 @@ fn readers_and_writers_that_fail_are_told(rt: HostRuntime) -> Result<(), Fail> {
     })?;
     let mut first = BEFORE.as_bytes();
     let mut second = NOW.as_bytes();
-    let mut narrow = Narrow::new(alloc, 7);
-    let stop = compare(alloc, &mut first, &mut second, &[], &mut narrow).err();
+    let mut list = GoneList::new(alloc, Narrow::new(alloc, 7));
+    let stop = compare(alloc, &mut first, &mut second, &[], &mut list).err();
     assert_eq!(rt; stop, Some(CompareStop::Output));
-    assert_eq!(rt; narrow.kept.as_slice(), b"E092\to/".as_slice());
+    assert_eq!(rt; list.out.kept.as_slice(), b"object\t".as_slice());
+    Ok(())
+}
+
+/// Two reports, and what is gone between them, with what nobody looked for.
+const AROUND: [(&str, &str, &str); 7] = [
+    // An object is gone, or it is no longer declared.
+    (
+        "ok\to\t-\nok\to/v1/content/a\t3\n",
+        "ok\to-b\t-\n",
+        "object\to\nunlooked\to/v1/content/a\n",
+    ),
+    (
+        "ok\to\t-\nok\to/v1/content/a\t3\n",
+        "E072\to/inventory.json\t-\n",
+        "undeclared\to\nE072\to/inventory.json\nunlooked\to/v1/content/a\n",
+    ),
+    (
+        "ok\to\t-\n",
+        "ok\to/p\t-\nok\to/p/v1/content/a\t1\n",
+        "undeclared\to\n",
+    ),
+    ("ok\to\t-\n", "E073\to\t-\n", "object\to\nE073\to\n"),
+    // Its head stops, or it does not.
+    (
+        "ok\to\t-\nok\to/v1/content/a\t3\nok\tp\t-\nok\tp/a\t1\n",
+        "E033\to\t-\nok\tp\t-\n",
+        "E033\to\nunlooked\to/v1/content/a\nfile\tp/a\n",
+    ),
+    (
+        "ok\to\t-\nok\to/v1/content/a\t3\n",
+        "E060\to\tsha512 aa bb\n",
+        "E060\to\nfile\to/v1/content/a\n",
+    ),
+    // The outer one of two counts, also behind the inner one.
+    (
+        "ok\to\t-\nok\to/a\t-\nok\to/b/c\t1\n",
+        "",
+        "object\to\nobject\to/a\nunlooked\to/b/c\n",
+    ),
+];
+
+#[test]
+fn what_is_gone_depends_on_what_is_around(rt: HostRuntime) -> Result<(), Fail> {
+    let alloc = rt.alloc();
+    for (before, now, wanted) in AROUND {
+        let text = changes(alloc, before, now, &[])?;
+        assert_eq!(rt; text.as_str(), wanted, "{before}{now}");
+    }
+    Ok(())
+}
+
+#[test]
+fn a_list_of_what_is_gone_has_a_row_for_each(rt: HostRuntime) -> Result<(), Fail> {
+    let alloc = rt.alloc();
+    let mut list = GoneList::new(alloc, Vec::new(alloc));
+    let place = place_of(alloc, "a%b")?;
+    for change in [
+        Change::Gone,
+        Change::Undeclared,
+        Change::FileGone,
+        Change::Unlooked,
+        Change::Found(Code::E092),
+        Change::Repaired(Code::E092),
+        Change::Missing,
+    ] {
+        assert_eq!(rt; list.take(&place, change), Ok(()), "{change:?}");
+    }
+    let wanted = b"object\ta%25b\nundeclared\ta%25b\nfile\ta%25b\nexpected\ta%25b\n";
+    assert_eq!(rt; list.out.as_slice(), wanted.as_slice());
+    let mut full = GoneList::new(alloc, Narrow::new(alloc, 3));
+    assert_eq!(rt; full.take(&place, Change::Gone), Err(TakeStop::Failed));
     Ok(())
 }

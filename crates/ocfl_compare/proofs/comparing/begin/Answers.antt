@@ -1,6 +1,6 @@
 use Rattle.std.proofs.Common.{[], None, refl, sym, subst}
 use Rattle.ocfl_compare.specs.{CompareStop.{StopsRightly}, Internal.Turns.{IfBothSome}}
-use Rattle.ocfl_compare.proofs.SoFar.{before_stops, now_stops, nothing_read, begun}
+use Rattle.ocfl_compare.proofs.SoFar.{before_stops, now_stops, nothing_read}
 use Rattle.ocfl_compare.proofs.comparing.begin.Goals as goal
 
 pub returns-in-Err-clause-refused : goal.returns-in-Err-clause-refused
@@ -17,10 +17,12 @@ returns-in-Err-read_next-clause-refused g c =
     subst (λ s. IfBothSome b n (λ k l. StopsRightly k l s)) (sym c.of_now.ensures)
     (now_stops b n c.in-Err-read_next.stop (c.in-Err-read_next.ensures.refused n [] (λ e. refl) (nothing_read n _ _ c.unread-2.ensures.next c.unread-2.ensures.count)))
 
-pub returns-clause-ok : goal.returns-clause-ok
-returns-clause-ok g c = λ asked left w.
+pub returns-clause-before : goal.returns-clause-before
+returns-clause-before g c =
     let b = g.R.Read.remaining c.args.before.now in
+    rw c.unread.ensures.next at c.in-Ok.ensures.ok b [] (λ e. refl) (nothing_read b None _ refl c.unread.ensures.count)
+
+pub returns-clause-now : goal.returns-clause-now
+returns-clause-now g c =
     let n = g.S.Read.remaining c.args.now.now in
-    let first = rw c.unread.ensures.next at c.in-Ok.ensures.ok b [] (λ e. refl) (nothing_read b None _ refl c.unread.ensures.count) in
-    let second = rw c.unread-2.ensures.next at c.in-Ok-read_next.ensures.ok n [] (λ e. refl) (nothing_read n None _ refl c.unread-2.ensures.count) in
-    begun asked left b (g.R.Read.remaining c.read_next.new.report) n (g.S.Read.remaining c.read_next-2.new.report) w _ _ _ _ first second
+    rw c.unread-2.ensures.next at c.in-Ok-read_next.ensures.ok n [] (λ e. refl) (nothing_read n None _ refl c.unread-2.ensures.count)

@@ -1,8 +1,9 @@
 //! Lists of objects, and those of them that a report lacks.
+use crate::tests::common::changes::changes_text;
 use crate::tests::common::input::{Slow, Then, failures};
 use crate::tests::common::output::Narrow;
 use crate::tests::common::store::place_of;
-use ocfl_compare::{CompareStop, ListStop, find_expected, read_list};
+use ocfl_compare::{CompareStop, GoneList, ListStop, find_expected, read_list};
 use ocfl_tree::Place;
 use std::alloc::Global;
 use std::io::BufReader;
@@ -41,9 +42,9 @@ fn stop_of(alloc: Global, text: &str) -> Option<ListStop> {
 fn missing(alloc: Global, list: &str, report: &str, left: &[Place]) -> Result<String, Fail> {
     let mut places = listed(alloc, list)?;
     let mut reader = report.as_bytes();
-    let mut out = Vec::new(alloc);
-    find_expected(alloc, &mut places, &mut reader, left, &mut out)?;
-    Ok(String::from_utf8(out)?)
+    let mut taken = Vec::new(alloc);
+    find_expected(alloc, &mut places, &mut reader, left, &mut taken)?;
+    changes_text(alloc, taken.as_slice())
 }
 
 #[test]
@@ -105,18 +106,18 @@ fn a_report_that_is_searched_is_read_whole(rt: HostRuntime) -> Result<(), Fail> 
     let alloc = rt.alloc();
     let mut places = listed(alloc, "a\n")?;
     let mut report = b"ok\ta\t-\nok\tb\t-".as_slice();
-    let mut out = Vec::new(alloc);
-    let stop = find_expected(alloc, &mut places, &mut report, &[], &mut out).err();
+    let mut taken = Vec::new(alloc);
+    let stop = find_expected(alloc, &mut places, &mut report, &[], &mut taken).err();
     assert_eq!(rt; stop, Some(CompareStop::Now(2)));
     let mut report = b"".as_slice();
-    let mut narrow = Narrow::new(alloc, 3);
-    let stop = find_expected(alloc, &mut places, &mut report, &[], &mut narrow).err();
+    let mut list = GoneList::new(alloc, Narrow::new(alloc, 3));
+    let stop = find_expected(alloc, &mut places, &mut report, &[], &mut list).err();
     assert_eq!(rt; stop, Some(CompareStop::Output));
     // The root is no object, and never missing.
     let mut places = Vec::new(alloc);
     places.push(Place::root(alloc))?;
     let mut report = b"".as_slice();
-    find_expected(alloc, &mut places, &mut report, &[], &mut out)?;
-    assert_eq!(rt; out.len(), 0);
+    find_expected(alloc, &mut places, &mut report, &[], &mut taken)?;
+    assert_eq!(rt; taken.len(), 0);
     Ok(())
 }

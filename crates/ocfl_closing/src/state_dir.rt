@@ -43,6 +43,12 @@ impl<'a, R: Files<File = File> + AllocGlobal> StateDir<'a, R> {
         })
     }
 
+    /// The folder, as a night uses it.
+    pub fn into_state(self) -> FsState<&'a R> {
+        let StateDir { folder } = self;
+        folder
+    }
+
     /// Why the last call failed that did.
     pub fn reason(&self) -> Option<Reason> {
         self.folder.reason()

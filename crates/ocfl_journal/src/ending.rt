@@ -173,7 +173,7 @@ where
     R: Files<File = File> + AllocGlobal + Clock + Print + Eprint,
 {
     let names = given.names();
-    say_ending(rt, names.state, ended, &noting.begun.left, &noting.left)?;
+    say_ending(rt, names.state, ended, &noting.begun.left, noting.left())?;
     let before = noting.begun.standing.last_closed();
     let lost = noting.lost();
     let mut closings = Closings {

@@ -7,11 +7,11 @@ use ocfl_closing::stand::Standing;
 use ocfl_closing::state::{Begun, open_state, read_begun};
 use ocfl_closing::state_dir::StateDir;
 use ocfl_closing::telling::Teller;
-use ocfl_disk::{Reason as StateReason, StateFile};
+use ocfl_disk::{FsState, Reason as StateReason, StateFile};
 use ocfl_files::failing::Failure;
 use ocfl_files::reasons::{Reason, Reasons, last_reason};
 use ocfl_report::Line;
-use ocfl_state::{Checkpoint, FolderTrouble, StateFolder, decode_checkpoint};
+use ocfl_state::{Checkpoint, Observed, Observer, decode_checkpoint};
 use std::alloc::{AllocError, Global};
 use std::cell::Cell;
 use std::fs::File;
@@ -20,41 +20,43 @@ use std::rc::Rc;
 use std::rt::Files;
 use std::time::Clock;
 
-/// A state folder, and where the nights stand by the checkpoint that was put last. What is said of
-/// a night, and its clock, go by that. That the night has begun is logged, and each place that is
-/// left out.
-pub struct Noting<'a, R: Files<File = File> + AllocGlobal> {
+/// Where the nights stand by the checkpoint that was put last. What is said of a night, and its
+/// clock, go by that. That the night has begun is logged, and each place that is left out.
+pub struct Notes<'a, R: Files<File = File> + AllocGlobal> {
     rt: &'a R,
-    pub(crate) folder: StateDir<'a, R>,
-    /// Where the night began.
-    pub(crate) begun: Begun,
     now: Rc<Cell<Standing>>,
     journal: Journal<'a, R>,
     /// What the night reads. `None` once it has begun.
     reading: Option<Reading>,
-    /// Why the last line of the log that was not written was not.
-    lost: Rc<Cell<Option<StateReason>>>,
     /// Why places of the storage root could not be read.
     reasons: Rc<Cell<Reasons>>,
     /// The places that were left out since the night began, and why.
-    pub(crate) left: Vec<Reason>,
+    left: Vec<Reason>,
 }
 
 /// Written by hand, so that to let it go is one call wherever that happens.
-impl<R: Files<File = File> + AllocGlobal> Drop for Noting<'_, R> {
+impl<R: Files<File = File> + AllocGlobal> Drop for Notes<'_, R> {
     fn drop(self) {
-        let Noting {
+        let Notes {
             rt: _rt,
-            folder: _folder,
-            begun: _begun,
             now: _now,
             journal: _journal,
             reading: _reading,
-            lost: _lost,
             reasons: _reasons,
             left: _left,
         } = self;
     }
+}
+
+/// A state folder, and what is noted of its checkpoints.
+#[derive(Drop)]
+pub struct Noting<'a, R: Files<File = File> + AllocGlobal> {
+    /// The folder. A night over it notes each checkpoint that it puts.
+    pub folder: Observed<FsState<&'a R>, Notes<'a, R>>,
+    /// Where the night began.
+    pub(crate) begun: Begun,
+    /// Why the last line of the log that was not written was not.
+    lost: Rc<Cell<Option<StateReason>>>,
 }
 
 /// What stands beside the state folder in a night.
@@ -119,26 +121,25 @@ fn reading_of(alloc: Global, given: &Given<'_>) -> Result<Reading, AllocError> {
 fn noting_over<'a, R>(
     rt: &'a R,
     given: &Given<'_>,
-    folder: StateDir<'a, R>,
+    folder: FsState<&'a R>,
     begun: Begun,
 ) -> Result<Noting<'a, R>, Failure>
 where
     R: Files<File = File> + AllocGlobal + Clock,
 {
     let lost = Rc::new(rt.alloc(), Cell::new(None))?;
-    let journal = journal_of(rt, given, &lost)?;
-    let now = Rc::new(rt.alloc(), Cell::new(begun.standing))?;
-    let reasons = Rc::new(rt.alloc(), Cell::new(Reasons::new(rt.alloc())))?;
-    Ok(Noting {
+    let observer = Notes {
         rt,
-        folder,
-        begun,
-        now,
-        journal,
+        now: Rc::new(rt.alloc(), Cell::new(begun.standing))?,
+        journal: journal_of(rt, given, &lost)?,
         reading: Some(reading_of(rt.alloc(), given)?),
-        lost,
-        reasons,
+        reasons: Rc::new(rt.alloc(), Cell::new(Reasons::new(rt.alloc())))?,
         left: Vec::new(rt.alloc()),
+    };
+    Ok(Noting {
+        folder: Observed { folder, observer },
+        begun,
+        lost,
     })
 }
 
@@ -150,7 +151,7 @@ where
     let names = given.names();
     let mut folder = open_state(rt, names.state, names.root, given.asked.create)?;
     let begun = read_begun(rt.alloc(), &mut folder);
-    noting_over(rt, given, folder, begun)
+    noting_over(rt, given, folder.into_state(), begun)
 }
 
 impl<'a, R: Files<File = File> + AllocGlobal + Clock> Noting<'a, R> {
@@ -161,7 +162,12 @@ impl<'a, R: Files<File = File> + AllocGlobal + Clock> Noting<'a, R> {
 
     /// Why the last call on the folder failed that did.
     pub fn reason(&self) -> Option<StateReason> {
-        self.folder.reason()
+        self.folder.folder.reason()
+    }
+
+    /// The places that were left out since the night began, and why.
+    pub(crate) fn left(&self) -> &[Reason] {
+        &self.folder.observer.left
     }
 
     /// Why the last line of the log that was not written was not.
@@ -171,14 +177,15 @@ impl<'a, R: Files<File = File> + AllocGlobal + Clock> Noting<'a, R> {
 
     /// The clock of the night.
     fn clock(&self, given: &Given<'_>) -> Result<NightClock<'a, R>, Failure> {
-        let rt = self.rt;
+        let notes = &self.folder.observer;
+        let rt = notes.rt;
         let journal = journal_of(rt, given, &self.lost)?;
         let stop = format!(in rt.alloc(); "{}/{}", given.asked.state, StateFile::Stop)?;
         Ok(NightClock {
             rt,
             stop,
             began: self.begun.standing,
-            now: self.now.clone()?,
+            now: notes.now.clone()?,
             budget: given.asked.bounds.budget,
             journal,
             asked: given.began,
@@ -190,9 +197,10 @@ impl<'a, R: Files<File = File> + AllocGlobal + Clock> Noting<'a, R> {
     where
         W: Write + Drop,
     {
-        let alloc = self.rt.alloc();
-        let reasons = self.reasons.clone()?;
-        let now = self.now.clone()?;
+        let notes = &self.folder.observer;
+        let alloc = notes.rt.alloc();
+        let reasons = notes.reasons.clone()?;
+        let now = notes.now.clone()?;
         Ok(Teller::new(alloc, given.names(), &given.known, reasons, now, out))
     }
 
@@ -210,14 +218,17 @@ impl<'a, R: Files<File = File> + AllocGlobal + Clock> Noting<'a, R> {
         Ok(Beside {
             clock,
             teller,
-            reasons: self.reasons.clone()?,
+            reasons: self.folder.observer.reasons.clone()?,
         })
     }
 
     /// What the night spent, and what was said of its runs.
     pub fn told_by<W: Write + Drop>(&self, teller: Teller<'_, W>) -> Told {
         Told {
-            cost: self.begun.standing.spent_until(self.now.get()),
+            cost: self
+                .begun
+                .standing
+                .spent_until(self.folder.observer.now.get()),
             findings: teller.findings(),
             broken: teller.broken(),
             said: teller.into_said(),
@@ -227,36 +238,23 @@ impl<'a, R: Files<File = File> + AllocGlobal + Clock> Noting<'a, R> {
     /// The folder.
     pub(crate) fn into_folder(self) -> StateDir<'a, R> {
         let Noting {
-            rt: _rt,
             folder,
             begun: _begun,
-            now: _now,
-            journal: _journal,
-            reading: _reading,
             lost: _lost,
-            reasons: _reasons,
-            left: _left,
         } = self;
-        folder
+        let Observed {
+            folder,
+            observer: _observer,
+        } = folder;
+        StateDir { folder }
     }
+}
 
+impl<R: Files<File = File> + AllocGlobal + Clock> Notes<'_, R> {
     /// Logs that the night has begun. The first checkpoint that it puts is the one that it took up.
     fn log_began(&mut self, checkpoint: &Checkpoint) {
         if let Some(reading) = self.reading.take() {
             self.journal.began(checkpoint, &reading);
-        }
-    }
-
-    /// Notes a checkpoint. One for which there is no memory is not noted.
-    fn note(&mut self, bytes: &[u8]) {
-        if let Ok(checkpoint) = decode_checkpoint(self.rt.alloc(), bytes) {
-            self.log_began(&checkpoint);
-            let before = self.now.get();
-            let now = Standing::of(&checkpoint).noted_after(before);
-            if now.leaves_more_than(before) {
-                self.log_left(&checkpoint);
-            }
-            self.now.set(now);
         }
     }
 
@@ -277,49 +275,17 @@ impl<'a, R: Files<File = File> + AllocGlobal + Clock> Noting<'a, R> {
     }
 }
 
-/// Does what the folder does.
-impl<R: Files<File = File> + AllocGlobal + Clock> StateFolder for Noting<'_, R> {
-    ghost stays = { λ told folder. tt };
-
-    ghost counts_now = { λ told folder t c le now. tt };
-
-    ghost only_now = { λ told folder c left. tt };
-
-    fn checkpoint(&mut self) -> Result<Option<Vec<u8>>, FolderTrouble> {
-        self.folder.folder.checkpoint()
-    }
-
-    fn put_checkpoint(&mut self, bytes: &[u8]) -> Result<(), FolderTrouble> {
-        self.folder.folder.put_checkpoint(bytes)?;
-        self.note(bytes);
-        Ok(())
-    }
-
-    fn length(&mut self) -> Result<u64, FolderTrouble> {
-        self.folder.folder.length()
-    }
-
-    fn read(&mut self, start: u64, buffer: &mut [u8]) -> Result<usize, FolderTrouble> {
-        self.folder.folder.read(start, buffer)
-    }
-
-    fn append(&mut self, bytes: &[u8]) -> Result<(), FolderTrouble> {
-        self.folder.folder.append(bytes)
-    }
-
-    fn cut(&mut self, most: u64) -> Result<(), FolderTrouble> {
-        self.folder.folder.cut(most)
-    }
-
-    fn sync(&mut self) -> Result<(), FolderTrouble> {
-        self.folder.folder.sync()
-    }
-
-    fn has_closed(&mut self, cycle: u64) -> Result<bool, FolderTrouble> {
-        self.folder.folder.has_closed(cycle)
-    }
-
-    fn close(&mut self, cycle: u64, whole: bool) -> Result<(), FolderTrouble> {
-        self.folder.folder.close(cycle, whole)
+impl<R: Files<File = File> + AllocGlobal + Clock> Observer for Notes<'_, R> {
+    /// Notes a checkpoint. One for which there is no memory is not noted.
+    fn note(&mut self, bytes: &[u8]) {
+        if let Ok(checkpoint) = decode_checkpoint(self.rt.alloc(), bytes) {
+            self.log_began(&checkpoint);
+            let before = self.now.get();
+            let now = Standing::of(&checkpoint).noted_after(before);
+            if now.leaves_more_than(before) {
+                self.log_left(&checkpoint);
+            }
+            self.now.set(now);
+        }
     }
 }

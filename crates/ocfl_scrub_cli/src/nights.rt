@@ -219,7 +219,15 @@ where
     } = noting.beside(&planned.given, output_on(rt, shown_on))?;
     let mut clock = Hearing { clock };
     let mut out = Flushing::over(&mut teller);
-    let (end, why) = night_in(rt, planned, noting, &mut clock, &mut out, &reasons, shown)?;
+    let (end, why) = night_in(
+        rt,
+        planned,
+        &mut noting.folder,
+        &mut clock,
+        &mut out,
+        &reasons,
+        shown,
+    )?;
     Ok(Runs {
         end,
         why,

@@ -1,6 +1,6 @@
 //! A state folder, as nights open it.
 
-use ocfl_disk::{FsState, OpenReport, Reason, StateStop};
+use ocfl_disk::{FsState, OpenReport, Reason, StateStop, SystemDisk};
 use ocfl_state::{FolderTrouble, StateFolder};
 use std::fs::File;
 use std::rt::Files;
@@ -25,7 +25,7 @@ pub trait Folder {
 
 /// A state folder, which is held while this lives.
 pub struct StateDir<'a, R: Files<File = File> + AllocGlobal> {
-    pub folder: FsState<&'a R>,
+    pub folder: FsState<SystemDisk<&'a R>>,
 }
 
 /// Written by hand, so that to let it go is one call wherever that happens.

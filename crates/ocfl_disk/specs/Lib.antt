@@ -1,1 +1,6 @@
 pub mod Reasons
+pub mod Names
+pub mod PowerCut
+pub mod Disk
+pub mod Leaving
+pub mod Internal

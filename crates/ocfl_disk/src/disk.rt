@@ -1,230 +1,187 @@
-//! The folder of the file system that a state is in, and the calls of the system on it.
-//!
-//! No link in the folder is followed: what is at a name is looked at first, and what is opened
-//! must be the file of that look.
-ghost use Rattle.std.specs.Prelude.{◌≡◌, IfOk, Ok};
+//! The calls of the system that a state folder makes.
+ghost use Rattle.std.specs.Prelude.{◌≡◌, ◌⊎◌, ◌≤◌, ◌++◌, Bool, false, IsTrue, IfOk, IfErr, OnOk};
+ghost use Rattle.std.specs.Prelude.{MatchResult, Some, [], ℕ, length, take};
+ghost use Rattle.std.specs.Option.{option_map};
+ghost use Rattle.ocfl_state.specs.Calls.{IsReadOf};
+ghost use Rattle.ocfl_disk.specs.Names.{Stored};
+ghost use Rattle.ocfl_disk.specs.PowerCut.{DiskState, IsDisk, untold};
+ghost use Rattle.ocfl_disk.specs.Disk.{HasFault, Calm, Writes, Makes, Drops, PutsOver, ClosesOver};
+ghost use Rattle.ocfl_disk.specs.Disk.{IsFound, has_name};
 
 use crate::state_file::{Reason, StateFile};
-use std::alloc::Global;
-use std::fs::{self, DirBuilder, File, Metadata, OpenOptions};
-use std::io::{self, ErrorKind};
-use std::os::unix::fs::{DirBuilderExt, MetadataExt, OpenOptionsExt};
-use std::rt::Files;
 
-/// Who may read and write a file that is made: its owner, and its group may read.
-const FILE_MODE: u32 = 0o640;
+/// What a state folder asks of the system: each call is about a file, or a folder, by its name in
+/// the state folder. No link is followed, and what is no file is refused.
+///
+/// One that states nothing of what is on the disk does not tell it.
+pub trait Disk {
+    type File: Drop;
 
-/// The same of a folder.
-const FOLDER_MODE: u32 = 0o750;
+    /// Whether the clauses say what is on the disk. Of one that does not tell, they say little.
+    ghost told: { Bool } = { false };
 
-/// A folder by its path, which may be a link itself.
-#[derive(Drop)]
-pub(crate) struct Disk<R: Files<File = File> + AllocGlobal + Clone + Drop> {
-    rt: R,
-    path: String,
-}
+    /// What is on the disk, and what a power cut may leave of it.
+    ghost state: { Self → DiskState } = { λ _. untold };
 
-/// What is wrong with a file that no call of the system refused.
-pub(crate) fn wrong(file: StateFile, what: &str) -> Reason {
-    Reason {
-        file,
-        error: io::Error::new(ErrorKind::InvalidInput, what),
-    }
-}
+    /// The number of an open file.
+    ghost number: { Self.File → ℕ } = { λ _. 0 };
 
-/// Whether two looks saw the same file.
-fn is_same(look: &Metadata, opened: &Metadata) -> bool {
-    opened.is_file() && look.dev() == opened.dev() && look.ino() == opened.ino()
-}
+    /// Whether the folder of the closed reports is there.
+    fn has_reports(&mut self) -> Result<bool, Reason>
+        ensures calm { IsTrue told → Calm (state self.old) (state self.new) }
+        ensures none { IsTrue told → IfOk result (λ answer. answer ≡ false
+            → (state self.old).seen.names.closed ≡ []) }
+        ensures names { IsTrue told → IfOk result (λ answer. answer ≡ false
+            → IsTrue ((state self.new).has_names StateFile.Reports)) }
+        ensures cause { IsTrue told → IfErr result (HasFault (state self.old) (state self.new)) };
 
-/// The result of a call on a file, with that file as the reason of a failure.
-pub(crate) fn of_file<T>(file: StateFile, outcome: io::Result<T>) -> Result<T, Reason>
-    ensures { IfOk result (λ value. outcome ≡ Ok value) }
-{
-    match outcome {
-        Ok(value) => Ok(value),
-        Err(error) => Err(Reason { file, error }),
-    }
-}
-
-/// How many bytes a file has.
-pub(crate) fn length_of(file: StateFile, opened: &File) -> Result<u64, Reason> {
-    Ok(of_file(file, opened.metadata())?.len())
-}
-
-/// Refuses a file that is not the one that a look saw.
-fn same_as(look: &Metadata, file: StateFile, opened: File) -> Result<File, Reason> {
-    if is_same(look, &of_file(file, opened.metadata())?) {
-        Ok(opened)
-    } else {
-        Err(wrong(file, "exchanged while it was opened"))
-    }
-}
-
-/// Options for reading a file.
-pub(crate) fn for_reading() -> OpenOptions {
-    let mut options = OpenOptions::new();
-    options.read(true);
-    options
-}
-
-/// Options for reading a file and appending to it.
-pub(crate) fn for_appending() -> OpenOptions {
-    let mut options = OpenOptions::new();
-    options.read(true);
-    options.append(true);
-    options
-}
-
-impl<R: Files<File = File> + AllocGlobal + Clone + Drop> Disk<R> {
-    pub(crate) fn at(rt: R, path: &str) -> io::Result<Disk<R>> {
-        let path = String::from_str(rt.alloc(), path)?;
-        Ok(Disk { rt, path })
-    }
-
-    pub(crate) fn alloc(&self) -> Global {
-        self.rt.alloc()
-    }
-
-    fn joined(&self, file: StateFile) -> io::Result<String> {
-        let path = self.path.as_str();
-        Ok(format!(in self.rt.alloc(); "{path}/{file}")?)
-    }
-
-    /// The path of a file.
-    fn path_of(&self, file: StateFile) -> Result<String, Reason> {
-        of_file(file, self.joined(file))
-    }
-
-    /// What is at a name, which may be a link. `None` if nothing is.
-    pub(crate) fn look(&self, file: StateFile) -> Result<Option<Metadata>, Reason> {
-        let path = self.path_of(file)?;
-        match fs::symlink_metadata(&self.rt, path.as_str()) {
-            Ok(metadata) => Ok(Some(metadata)),
-            Err(error) if error.kind() == ErrorKind::NotFound => Ok(None),
-            Err(error) => Err(Reason { file, error }),
-        }
-    }
-
-    /// Whether anything is at a name.
-    pub(crate) fn has(&self, file: StateFile) -> Result<bool, Reason> {
-        Ok(self.look(file)?.is_some())
-    }
-
-    /// What the look at a file saw, if it is there: only a file that is no link, folder or pipe.
-    pub(crate) fn look_for_file(&self, file: StateFile) -> Result<Option<Metadata>, Reason> {
-        match self.look(file)? {
-            Some(metadata) if !metadata.is_file() => Err(wrong(file, "not a regular file")),
-            found => Ok(found),
-        }
-    }
-
-    /// Whether a folder is there. Anything else at that name is refused.
-    pub(crate) fn has_folder(&self, folder: StateFile) -> Result<bool, Reason> {
-        match self.look(folder)? {
-            Some(metadata) if !metadata.is_dir() => Err(wrong(folder, "not a folder")),
-            found => Ok(found.is_some()),
-        }
-    }
-
-    /// Whether the state folder is there, where a link leads to it too.
-    pub(crate) fn is_there(&self) -> Result<bool, Reason> {
-        match fs::metadata(&self.rt, self.path.as_str()) {
-            Ok(metadata) if metadata.is_dir() => Ok(true),
-            Ok(_) => Err(wrong(StateFile::Folder, "not a folder")),
-            Err(error) if error.kind() == ErrorKind::NotFound => Ok(false),
-            Err(error) => Err(Reason {
-                file: StateFile::Folder,
-                error,
-            }),
-        }
-    }
+    /// Whether a closed report of a cycle is there, whole or not.
+    fn has_closed(&mut self, cycle: u64, whole: bool) -> Result<bool, Reason>
+        ensures calm { IsTrue told → Calm (state self.old) (state self.new) }
+        ensures value { IsTrue told → IfOk result (λ answer.
+            answer ≡ has_name cycle whole (state self.old).seen.names.closed) }
+        ensures cause { IsTrue told → IfErr result (HasFault (state self.old) (state self.new)) };
 
     /// Opens a file that is there. `None` if it is not.
-    pub(crate) fn open(
-        &self,
-        file: StateFile,
-        options: &OpenOptions,
-    ) -> Result<Option<File>, Reason> {
-        match self.look_for_file(file)? {
-            Some(look) => Ok(Some(same_as(&look, file, self.open_at(file, options)?)?)),
-            None => Ok(None),
-        }
-    }
+    fn open(&mut self, name: StateFile) -> Result<Option<Self::File>, Reason>
+        ensures calm { IsTrue told → Calm (state self.old) (state self.new) }
+        ensures found { IsTrue told → IfOk result (λ found.
+            IsFound name (state self.old).seen.names (option_map number found)) }
+        ensures cause { IsTrue told → IfErr result (HasFault (state self.old) (state self.new)) };
 
-    /// Opens what is at a name.
-    fn open_at(&self, file: StateFile, options: &OpenOptions) -> Result<File, Reason> {
-        let path = self.path_of(file)?;
-        of_file(file, options.open(&self.rt, path.as_str()))
-    }
+    /// How many names the open report has.
+    fn count_names(&mut self, report: &Self::File) -> Result<u64, Reason>
+        ensures calm { IsTrue told → Calm (state self.old) (state self.new) }
+        ensures one { IsTrue told → IfOk result (λ count. count ≤ 1) }
+        ensures cause { IsTrue told → IfErr result (HasFault (state self.old) (state self.new)) };
 
-    /// Makes a file, and opens it for reading and appending. What is there already is refused.
-    pub(crate) fn create(&self, file: StateFile) -> Result<File, Reason> {
-        let mut options = for_appending();
-        options.create_new(true);
-        options.mode(FILE_MODE);
-        self.open_at(file, &options)
-    }
+    /// Makes a file, which is empty, and opens it. What is there already is refused.
+    fn create(&mut self, name: StateFile) -> Result<Self::File, Reason>
+        ensures made { IsTrue told → MatchResult result
+            (λ file. Makes name (number file) (state self.old) (state self.new))
+            (λ _. Calm (state self.old) (state self.new)) }
+        ensures cause { IsTrue told → IfErr result (HasFault (state self.old) (state self.new)) };
 
-    /// Opens a file for reading and appending, which is made if it is not there.
-    pub(crate) fn open_or_create(&self, file: StateFile) -> Result<File, Reason> {
-        match self.open(file, &for_appending())? {
-            Some(opened) => Ok(opened),
-            None => self.create(file),
-        }
-    }
+    /// How many bytes an open file has.
+    fn length(&mut self, name: StateFile, file: &Self::File) -> Result<u64, Reason>
+        ensures calm { IsTrue told → Calm (state self.old) (state self.new) }
+        ensures value { IsTrue told → IfOk result (λ n.
+            n ≡ length ((state self.old).seen.bytes (number file.now))) }
+        ensures cause { IsTrue told → IfErr result (HasFault (state self.old) (state self.new)) };
+
+    /// The bytes of an open file from its start, at most `most`.
+    fn read_front(
+        &mut self,
+        name: StateFile,
+        file: Self::File,
+        most: u64,
+    ) -> Result<Vec<u8>, Reason>
+        ensures calm { IsTrue told → Calm (state self.old) (state self.new) }
+        ensures value { IsTrue told → IfOk result (λ bytes. bytes.items
+            ≡ take most ((state self.old).seen.bytes (number file))) }
+        ensures cause { IsTrue told → IfErr result (HasFault (state self.old) (state self.new)) };
+
+    /// Reads bytes of an open file from an offset on into the front of the buffer, and gives how
+    /// many. For a buffer that is not empty, 0 is the end of the file.
+    fn read_at(
+        &mut self,
+        name: StateFile,
+        file: &Self::File,
+        start: u64,
+        buffer: &mut [u8],
+    ) -> Result<usize, Reason>
+        ensures bound { IfOk result (λ count. count ≤ length buffer.new) }
+        ensures calm { IsTrue told → Calm (state self.old) (state self.new) }
+        ensures value { IsTrue told → IfOk result (λ count. IsReadOf
+            ((state self.old).seen.bytes (number file.now)) start
+            (take count buffer.new) (length buffer.new)) }
+        ensures cause { IsTrue told → IfErr result (HasFault (state self.old) (state self.new)) };
+
+    /// Appends bytes to an open file, which is the report or the next checkpoint.
+    fn append(&mut self, name: StateFile, file: &mut Self::File, bytes: &[u8]) -> Result<(), Reason>
+        requires { IsTrue told → ((state self.old).seen.names.report ≡ Some (number file.old))
+            ⊎ ((state self.old).seen.names.beside ≡ Some (number file.old)) }
+        ensures same { IsTrue told → number file.new ≡ number file.old }
+        ensures writes { IsTrue told → Writes (number file.old)
+            (length ((state self.old).seen.bytes (number file.old)))
+            (length ((state self.old).seen.bytes (number file.old) ++ bytes.now))
+            (state self.old) (state self.new) }
+        ensures appended { IsTrue told → OnOk result
+            ((state self.new).seen.bytes (number file.old)
+            ≡ (state self.old).seen.bytes (number file.old) ++ bytes.now) }
+        ensures cause { IsTrue told → IfErr result (HasFault (state self.old) (state self.new)) };
+
+    /// Cuts the open report to a length that it has at least.
+    fn cut(&mut self, report: &Self::File, most: u64) -> Result<(), Reason>
+        requires report { IsTrue told
+            → (state self.old).seen.names.report ≡ Some (number report.now) }
+        requires long { IsTrue told
+            → most ≤ length ((state self.old).seen.bytes (number report.now)) }
+        ensures writes { IsTrue told → Writes (number report.now) most 0
+            (state self.old) (state self.new) }
+        ensures cut { IsTrue told → OnOk result
+            ((state self.new).seen.bytes (number report.now)
+            ≡ take most ((state self.old).seen.bytes (number report.now))) }
+        ensures cause { IsTrue told → IfErr result (HasFault (state self.old) (state self.new)) };
+
+    /// Brings the bytes of an open file to the disk.
+    fn sync(&mut self, name: StateFile, file: &Self::File) -> Result<(), Reason>
+        ensures calm { IsTrue told → Calm (state self.old) (state self.new) }
+        ensures synced { IsTrue told → OnOk result
+            (IsTrue ((state self.new).is_synced (number file.now))) }
+        ensures cause { IsTrue told → IfErr result (HasFault (state self.old) (state self.new)) };
 
     /// Makes the folder of the closed reports.
-    pub(crate) fn create_reports(&self) -> Result<(), Reason> {
-        let path = self.path_of(StateFile::Reports)?;
-        of_file(StateFile::Reports, self.create_at(path.as_str()))
-    }
+    fn create_reports(&mut self) -> Result<(), Reason>
+        ensures calm { IsTrue told → Calm (state self.old) (state self.new) }
+        ensures cause { IsTrue told → IfErr result (HasFault (state self.old) (state self.new)) };
 
-    fn create_at(&self, path: &str) -> io::Result<()> {
-        let mut builder = DirBuilder::new();
-        builder.mode(FOLDER_MODE);
-        builder.create(&self.rt, path)
-    }
+    /// Removes the next checkpoint. It need not be there.
+    fn remove_new(&mut self) -> Result<(), Reason>
+        ensures drops { IsTrue told → Drops (state self.old) (state self.new) }
+        ensures cause { IsTrue told → IfErr result (HasFault (state self.old) (state self.new)) };
 
-    /// Makes the state folder, and brings its name to the disk.
-    pub(crate) fn create_itself(&self) -> Result<(), Reason> {
-        of_file(StateFile::Folder, self.create_at(self.path.as_str()))?;
-        self.sync_folder(StateFile::Above)
-    }
+    /// Gives the next checkpoint the name of the checkpoint, in place of the one before.
+    fn rename_new(&mut self) -> Result<(), Reason>
+        requires { IsTrue told → (file : ℕ) → (state self.old).seen.names.beside ≡ Some file
+            → IsTrue ((state self.old).is_synced file) }
+        ensures puts { IsTrue told → MatchResult result
+            (λ _. PutsOver (state self.old) (state self.new))
+            (λ _. Calm (state self.old) (state self.new)
+            ⊎ PutsOver (state self.old) (state self.new)) }
+        ensures cause { IsTrue told → IfErr result (HasFault (state self.old) (state self.new)) };
 
-    /// Removes a file. It need not be there.
-    pub(crate) fn remove(&self, file: StateFile) -> Result<(), Reason> {
-        let path = self.path_of(file)?;
-        match fs::remove_file(&self.rt, path.as_str()) {
-            Err(error) if error.kind() != ErrorKind::NotFound => Err(Reason { file, error }),
-            _ => Ok(()),
-        }
-    }
+    /// Gives the next checkpoint the name of the one with which the report of a cycle is closed.
+    fn rename_kept(&mut self, cycle: u64) -> Result<(), Reason>
+        ensures drops { IsTrue told → Drops (state self.old) (state self.new) }
+        ensures cause { IsTrue told → IfErr result (HasFault (state self.old) (state self.new)) };
 
-    /// Gives a file another name, in place of what has that name.
-    pub(crate) fn rename(&self, from: StateFile, to: StateFile) -> Result<(), Reason> {
-        let old = self.path_of(from)?;
-        let new = self.path_of(to)?;
-        of_file(to, fs::rename(&self.rt, old.as_str(), new.as_str()))
-    }
+    /// Gives the report the name of the closed one of a cycle, which is not there.
+    fn rename_report(&mut self, cycle: u64, whole: bool) -> Result<(), Reason>
+        requires new { IsTrue told
+            → has_name cycle whole (state self.old).seen.names.closed ≡ false }
+        requires synced { IsTrue told → (file : ℕ)
+            → (state self.old).seen.names.report ≡ Some file
+            → IsTrue ((state self.old).is_synced file) }
+        ensures closes { IsTrue told → MatchResult result
+            (λ _. ClosesOver cycle whole (state self.old) (state self.new))
+            (λ _. Calm (state self.old) (state self.new)
+            ⊎ ClosesOver cycle whole (state self.old) (state self.new)) }
+        ensures cause { IsTrue told → IfErr result (HasFault (state self.old) (state self.new)) };
 
     /// Brings the names of a folder to the disk.
-    pub(crate) fn sync_folder(&self, folder: StateFile) -> Result<(), Reason> {
-        let path = self.path_of(folder)?;
-        let opened = of_file(folder, File::open(&self.rt, path.as_str()))?;
-        of_file(folder, opened.sync_all())
-    }
+    fn sync_folder(&mut self, folder: StateFile) -> Result<(), Reason>
+        ensures calm { IsTrue told → Calm (state self.old) (state self.new) }
+        ensures others { IsTrue told → (other : StateFile)
+            → IsTrue ((state self.old).has_names other)
+            → IsTrue ((state self.new).has_names other) }
+        ensures names { IsTrue told → OnOk result
+            (IsTrue ((state self.new).has_names folder)) }
+        ensures checkpoint { IsTrue told → folder ≡ StateFile.Folder
+            → OnOk result ((c : Stored) → (state self.new).may_leave c
+            → c.names.checkpoint ≡ (state self.old).seen.names.checkpoint) }
+        ensures cause { IsTrue told → IfErr result (HasFault (state self.old) (state self.new)) };
 
-    /// Whether a folder has no entry.
-    pub(crate) fn is_empty(&self, folder: StateFile) -> Result<bool, Reason> {
-        let path = self.path_of(folder)?;
-        let mut entries = of_file(folder, fs::read_dir(&self.rt, path.as_str()))?;
-        match entries.next() {
-            Some(entry) => {
-                of_file(folder, entry)?;
-                Ok(false)
-            }
-            None => Ok(true),
-        }
-    }
+    /// The laws of what is on a disk.
+    ghost is_disk: { IsTrue told → (disk : Self) → IsDisk (state disk) };
 }

@@ -1,12 +1,12 @@
 //! The log of a state folder of the file system.
-use crate::disk::{Disk, length_of, of_file};
 use crate::state_file::{Reason, StateFile};
+use crate::system_disk::{SystemDisk, length_of, of_file};
 use std::fs::File;
 use std::io::{self, Write};
 use std::rt::Files;
 
 /// Appends a line to the log of a folder, whole or not at all. It is not brought to the disk.
-pub(crate) fn append_line<R>(disk: &Disk<R>, line: &[u8]) -> Result<(), Reason>
+pub(crate) fn append_line<R>(disk: &SystemDisk<R>, line: &[u8]) -> Result<(), Reason>
 where
     R: Files<File = File> + AllocGlobal + Clone + Drop,
 {
@@ -23,14 +23,14 @@ where
 /// The log of a state folder, for lines that are appended while the folder itself is in use.
 #[derive(Drop)]
 pub struct FsLog<R: Files<File = File> + AllocGlobal + Clone + Drop> {
-    disk: Disk<R>,
+    disk: SystemDisk<R>,
 }
 
 impl<R: Files<File = File> + AllocGlobal + Clone + Drop> FsLog<R> {
     /// The log of the folder at a path, which may be a link to it. Nothing is opened yet.
     pub fn at(rt: R, path: &str) -> io::Result<FsLog<R>> {
         Ok(FsLog {
-            disk: Disk::at(rt, path)?,
+            disk: SystemDisk::at(rt, path)?,
         })
     }
 

@@ -2,13 +2,17 @@
 //! and its log.
 #![tactic(auto)]
 
+mod beside;
 mod disk;
 mod fs_log;
 mod fs_state;
 mod lock;
 mod state_file;
+mod system_disk;
 
+pub use disk::Disk;
 pub use fs_log::FsLog;
 pub use fs_state::{FsState, OpenReport};
 pub use lock::StateStop;
 pub use state_file::{Reason, StateFile};
+pub use system_disk::SystemDisk;

@@ -1,7 +1,7 @@
 //! Opening a state folder for one process alone.
 
-use crate::disk::{Disk, for_appending};
 use crate::state_file::{Reason, StateFile};
+use crate::system_disk::{SystemDisk, for_appending};
 use std::fs::{File, TryLockError};
 use std::rt::Files;
 
@@ -34,7 +34,7 @@ impl From<Reason> for StateStop {
 }
 
 /// Refuses a folder of the nightly scripts.
-fn refuse_scripts<R>(disk: &Disk<R>) -> Result<(), StateStop>
+fn refuse_scripts<R>(disk: &SystemDisk<R>) -> Result<(), StateStop>
 where
     R: Files<File = File> + AllocGlobal + Clone + Drop,
 {
@@ -47,7 +47,7 @@ where
 }
 
 /// Refuses a folder in which a name is no file, or no folder, of its own.
-fn refuse_others<R>(disk: &Disk<R>) -> Result<(), StateStop>
+fn refuse_others<R>(disk: &SystemDisk<R>) -> Result<(), StateStop>
 where
     R: Files<File = File> + AllocGlobal + Clone + Drop,
 {
@@ -65,7 +65,7 @@ where
 }
 
 /// Refuses a folder for a first night, if nights have been before.
-fn refuse_used<R>(disk: &Disk<R>) -> Result<(), StateStop>
+fn refuse_used<R>(disk: &SystemDisk<R>) -> Result<(), StateStop>
 where
     R: Files<File = File> + AllocGlobal + Clone + Drop,
 {
@@ -82,15 +82,15 @@ where
 }
 
 /// Opens the file of the lock. It is made if nights have been before, or are to begin.
-fn open_lock<R>(disk: &Disk<R>, create: bool) -> Result<File, StateStop>
+fn open_lock<R>(disk: &SystemDisk<R>, create: bool) -> Result<File, StateStop>
 where
     R: Files<File = File> + AllocGlobal + Clone + Drop,
 {
-    if let Some(file) = disk.open(StateFile::Lock, &for_appending())? {
+    if let Some(file) = disk.open_file(StateFile::Lock, &for_appending())? {
         return Ok(file);
     }
     if create || disk.has(StateFile::Checkpoint)? {
-        Ok(disk.create(StateFile::Lock)?)
+        Ok(disk.create_file(StateFile::Lock)?)
     } else {
         Err(StateStop::NoCheckpoint)
     }
@@ -110,7 +110,7 @@ fn take_lock(file: &File) -> Result<(), StateStop> {
 
 /// Looks whether this is the folder of nights, or may become one, and takes its lock. The lock is
 /// held while the file is open. `create` makes a folder that is not there.
-pub(crate) fn hold<R>(disk: &Disk<R>, create: bool) -> Result<File, StateStop>
+pub(crate) fn hold<R>(disk: &SystemDisk<R>, create: bool) -> Result<File, StateStop>
 where
     R: Files<File = File> + AllocGlobal + Clone + Drop,
 {

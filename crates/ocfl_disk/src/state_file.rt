@@ -1,4 +1,5 @@
 //! What is in a state folder, and why a call of the system on it failed.
+ghost use Rattle.std.specs.{Prelude.{◌≡◌}, IoError.{error_kind}};
 ghost use Rattle.ocfl_disk.specs.Reasons.{IsTroubleOf};
 
 use ocfl_state::FolderTrouble;
@@ -93,5 +94,15 @@ impl Reason {
             ErrorKind::OutOfMemory => FolderTrouble::Memory,
             _ => FolderTrouble::Failed,
         }
+    }
+}
+
+/// What is wrong with a file that no call of the system refused.
+pub(crate) fn wrong(file: StateFile, what: &str) -> Reason
+    ensures { error_kind result.error ≡ ErrorKind.InvalidInput }
+{
+    Reason {
+        file,
+        error: io::Error::new(ErrorKind::InvalidInput, what),
     }
 }

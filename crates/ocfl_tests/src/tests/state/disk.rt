@@ -1,13 +1,13 @@
 //! The state folder of the file system.
 use crate::tests::common::Runtime;
-use ocfl_disk::{FsLog, FsState, StateFile, StateStop};
+use ocfl_disk::{FsLog, FsState, StateFile, StateStop, SystemDisk};
 use ocfl_state::{FolderTrouble, StateFolder};
 use std::io::Read;
 use std::rt::Files;
 use std::test::Fail;
 use std::{fs, os};
 
-type Folder = FsState<HostRuntime>;
+type Folder = FsState<SystemDisk<HostRuntime>>;
 
 /// Opens the state folder at a path.
 fn open(rt: &HostRuntime, path: &str, create: bool) -> Result<Folder, Fail> {

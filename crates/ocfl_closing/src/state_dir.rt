@@ -44,7 +44,7 @@ impl<'a, R: Files<File = File> + AllocGlobal> StateDir<'a, R> {
     }
 
     /// The folder, as a night uses it.
-    pub fn into_state(self) -> FsState<&'a R> {
+    pub fn into_state(self) -> FsState<SystemDisk<&'a R>> {
         let StateDir { folder } = self;
         folder
     }

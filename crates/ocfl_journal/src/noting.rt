@@ -7,7 +7,7 @@ use ocfl_closing::stand::Standing;
 use ocfl_closing::state::{Begun, open_state, read_begun};
 use ocfl_closing::state_dir::StateDir;
 use ocfl_closing::telling::Teller;
-use ocfl_disk::{FsState, Reason as StateReason, StateFile};
+use ocfl_disk::{FsState, Reason as StateReason, StateFile, SystemDisk};
 use ocfl_files::failing::Failure;
 use ocfl_files::reasons::{Reason, Reasons, last_reason};
 use ocfl_report::Line;
@@ -52,7 +52,7 @@ impl<R: Files<File = File> + AllocGlobal> Drop for Notes<'_, R> {
 #[derive(Drop)]
 pub struct Noting<'a, R: Files<File = File> + AllocGlobal> {
     /// The folder. A night over it notes each checkpoint that it puts.
-    pub folder: Observed<FsState<&'a R>, Notes<'a, R>>,
+    pub folder: Observed<FsState<SystemDisk<&'a R>>, Notes<'a, R>>,
     /// Where the night began.
     pub(crate) begun: Begun,
     /// Why the last line of the log that was not written was not.
@@ -121,7 +121,7 @@ fn reading_of(alloc: Global, given: &Given<'_>) -> Result<Reading, AllocError> {
 fn noting_over<'a, R>(
     rt: &'a R,
     given: &Given<'_>,
-    folder: FsState<&'a R>,
+    folder: FsState<SystemDisk<&'a R>>,
     begun: Begun,
 ) -> Result<Noting<'a, R>, Failure>
 where

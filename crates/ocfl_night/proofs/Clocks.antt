@@ -1,13 +1,13 @@
 -- How many runs are begun by what a clock answers.
-use Rattle.std.proofs.Common.{◌≡◌, ◌⊎◌, ℕ, ◌+◌, ◌≤◌, List, [], ◌∷◌, ◌++◌, Option, Some, None, Result, Ok, Err, refl, inl, inr, sym, ◌∙◌, ap, subst, arith, append_assoc, Bool, true, false}
+use Rattle.std.proofs.Common.{◌≡◌, ℕ, ◌+◌, ◌≤◌, List, [], ◌∷◌, ◌++◌, Option, Some, None, Result, Ok, Err, refl, inl, inr, sym, ◌∙◌, ap, subst, arith, Bool, true, false}
 use Rattle.std.proofs.lemmas.List.{append-nil}
 use Rattle.std.specs.Prelude.{flat_map, if◌then◌else◌, nat_lt}
 use Rattle.ocfl_tree.specs.Place.{Place}
 use Rattle.ocfl_state.specs.{Checkpoint.{Checkpoint}, Content.{Content}}
 use Rattle.ocfl_night.specs.Clock.{Event, Asked, Read, Heard, is_before, times, times_before, MayBegin, BeginsInTime}
 use Rattle.ocfl_night.specs.Done.{Done, counted, nothing_done}
-use Rattle.ocfl_night.specs.Runs.{Run, Turn, AreRunsOf, EndsBy, IsBegunNight, IsFailed, IsNight, IsPaused, IsRunOf, after_end, after_it, events_of, in_it, turn, turn_of}
-use Rattle.ocfl_night.specs.declared.{plan.Halt.{Halt}, plan.NightEnd.{NightEnd}, plan.Pause.{Pause}, plan.Plan.{Plan}, slicing.Made.{Made}}
+use Rattle.ocfl_night.specs.Runs.{Run, Turn, AreRunsOf, EndsBy, IsFailed, IsNight, IsPaused, IsRunOf, after_end, after_it, events_of, in_it, turn, turn_of}
+use Rattle.ocfl_night.specs.declared.{plan.Halt.{Halt}, plan.NightEnd.{NightEnd}, plan.Pause.{Pause}, plan.Plan.{Plan}}
 use Rattle.ocfl_night.specs.declared.plan.Halt.TheVariants as halt
 use Rattle.ocfl_night.specs.declared.plan.Pause.TheVariants as pause
 

@@ -1,5 +1,5 @@
 -- What an output heard.
-use Rattle.std.proofs.Common.{◌≡◌, inr, inl, ◌≢◌, refl, ℕ, [], ◌∷◌, ◌++◌, ◌-◌, Option, Some, None, ap, take, drop, sym, ◌∙◌, subst, append_assoc, Result, Ok, Err}
+use Rattle.std.proofs.Common.{◌≡◌, inr, inl, ◌≢◌, refl, ℕ, [], ◌∷◌, ◌++◌, ◌-◌, Option, Some, None, ap, take, drop, sym, ◌∙◌, subst, append_assoc, Result, Ok, Err, ◌≤◌, arith}
 use Rattle.std.proofs.{KnownBytes.{Appends-kept, Appends-nil, Appends-trans}, lemmas.List.{append-nil}}
 use Rattle.std.specs.{Result.{IsErr, IsErrAnd, IsOk, OnErr, OnOk}, Io.KnownBytes.{Appends, Keeps}}
 use Rattle.ocfl_tree.specs.Place.{Text}
@@ -18,12 +18,13 @@ pub grew_on : (s0 s1 s2 : Option Text) → Grew s0 s1 → Grew s1 s2 → Grew s0
 grew_on s0 s1 s2 a b = (a.0 ++ b.0, Appends-trans s0 s1 s2 a.0 b.0 a.1 b.1)
 
 pub grows_none : (s : Said) → Grows s s
-grows_none s = record { given = grew_none s.given; committed = grew_none s.committed }
+grows_none s = record { given = grew_none s.given; committed = grew_none s.committed; failures = omega arith }
 
 pub grows_on : (s0 s1 s2 : Said) → Grows s0 s1 → Grows s1 s2 → Grows s0 s2
 grows_on s0 s1 s2 a b = record {
   given = grew_on s0.given s1.given s2.given a.given b.given;
   committed = grew_on s0.committed s1.committed s2.committed a.committed b.committed;
+  failures = omega (arith, a.failures, b.failures);
 }
 
 kept_grew : (a b : Option Text) → Keeps a b → Grew a b
@@ -31,11 +32,11 @@ kept_grew None b kept = ([], tt)
 kept_grew (Some x) None kept = absurd kept
 kept_grew (Some x) (Some y) kept = ([], kept ∙ sym (append-nil x))
 
-pub gave_grows : (s0 s1 : Said) → Grew s0.given s1.given → Keeps s0.committed s1.committed → Grows s0 s1
-gave_grows s0 s1 grew kept = record { given = grew; committed = kept_grew s0.committed s1.committed kept }
+pub gave_grows : (s0 s1 : Said) → Grew s0.given s1.given → Keeps s0.committed s1.committed → s0.failures ≤ s1.failures → Grows s0 s1
+gave_grows s0 s1 grew kept later = record { given = grew; committed = kept_grew s0.committed s1.committed kept; failures = later }
 
-pub committed_grows : (s0 s1 : Said) → Keeps s0.given s1.given → Grew s0.committed s1.committed → Grows s0 s1
-committed_grows s0 s1 kept grew = record { given = kept_grew s0.given s1.given kept; committed = grew }
+pub committed_grows : (s0 s1 : Said) → Keeps s0.given s1.given → Grew s0.committed s1.committed → s0.failures ≤ s1.failures → Grows s0 s1
+committed_grows s0 s1 kept grew later = record { given = kept_grew s0.given s1.given kept; committed = grew; failures = later }
 
 -- what was not said, by a checkpoint's own values
 pub unsaid_as : (k : Checkpoint) (c : Content) (told bytes : ℕ) → told ≡ k.told → bytes ≡ k.report.bytes → take (bytes - told) (drop told c.report) ≡ unsaid k c

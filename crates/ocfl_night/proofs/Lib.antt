@@ -22,3 +22,4 @@ pub mod Whole
 pub mod Beginnings
 pub mod Flushed
 pub mod Refusals
+pub mod Reasons

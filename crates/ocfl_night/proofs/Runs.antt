@@ -1,13 +1,13 @@
 -- How the runs of a night follow each other.
-use Rattle.std.proofs.Common.{◌≡◌, ◌≢◌, ◌⊎◌, ◌∙◌, ◌++◌, ◌∷◌, [], inl, inr, ap, refl, sym, subst, append_assoc, Bool, List, Option, Some, None, Result, Ok, Err, true, false, ℕ}
+use Rattle.std.proofs.Common.{◌≡◌, ◌≢◌, ◌∙◌, ◌++◌, ◌∷◌, [], inl, inr, ap, refl, sym, subst, append_assoc, Bool, List, Option, Some, None, Result, Ok, Err, true, false, ℕ}
 use Rattle.std.proofs.lemmas.List.{append-nil, flat_map_more}
 use Rattle.std.specs.Prelude.{flat_map, ⊤}
 use Rattle.ocfl_tree.specs.Place.{Place}
 use Rattle.ocfl_item.specs.declared.fault.Fault.TheVariants as fault
 use Rattle.ocfl_cursor.specs.declared.limits.Limits.{Limits}
 use Rattle.ocfl_state.specs.{Checkpoint.{Checkpoint}, declared.checkpoint_parts.Phase.{Phase}}
-use Rattle.ocfl_state.specs.declared.checkpoint_parts.Phase.TheVariants.{Open, Closing}
-use Rattle.ocfl_night.specs.{Clock.{Event, Asked, Read, Heard}, Done.{Done, with_begun, with_made}, Leaving.{MayHaveLeftAt, done_by, remedy_at}, Steps.{with_all_told}}
+use Rattle.ocfl_state.specs.declared.checkpoint_parts.Phase.TheVariants.{Open}
+use Rattle.ocfl_night.specs.{Clock.{Event, Asked, Read}, Done.{Done, with_begun, with_made}, Leaving.{MayHaveLeftAt, done_by, remedy_at}, Steps.{with_all_told}}
 use Rattle.ocfl_night.specs.Ending.{IsSlice, cycle_ended, ended_by, halt_after, halt_of, place_or_pause, slice_end}
 use Rattle.ocfl_night.specs.Runs.{Run, Turn, AreMade, AreRunsOf, EndsBy, IsAllowed, IsEndedBy, IsFailed, IsHalted, IsPaused, IsRunOf, MayHaveLeft, StopsOpen, after_end, after_made, events_of, turn, turn_of}
 use Rattle.ocfl_night.specs.declared.{plan.Halt.{Halt}, plan.Pause.{Pause}, plan.Plan.{Plan}, stop.Stop.{Stop}, tally.Remedy.{Remedy}}

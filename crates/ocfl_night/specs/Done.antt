@@ -1,5 +1,5 @@
 -- What a night has done so far.
-use Rattle.std.specs.Prelude.{◌≡◌, ℕ, ◌+◌, ◌^◌, ◌-◌, List, [], Option, Some, None, min, unwrap_or}
+use Rattle.std.specs.Prelude.{ℕ, ◌+◌, ◌^◌, ◌-◌, List, [], Option, Some, None, min, unwrap_or}
 use Rattle.ocfl_tree.specs.Place.{Place}
 use Rattle.ocfl_night.specs.declared.{slicing.Made.{Made}, tally.Tally.{Tally}}
 

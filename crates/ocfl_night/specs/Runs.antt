@@ -1,12 +1,12 @@
 -- A night as the list of its runs, by what its clock answered and heard.
-use Rattle.std.specs.Prelude.{◌≡◌, ◌≢◌, ◌⊎◌, ℕ, List, [], ◌∷◌, ◌++◌, Bool, IsTrue, true, false, Option, Some, None, Result, Ok, Err, flat_map, ⊤}
+use Rattle.std.specs.Prelude.{◌≡◌, ◌⊎◌, ℕ, List, [], ◌∷◌, ◌++◌, Bool, IsTrue, true, false, Option, Some, None, Result, Ok, Err, flat_map}
 use Rattle.ocfl_tree.specs.Place.{Place}
 use Rattle.ocfl_cursor.specs.Limits.{IsLimit}
 use Rattle.ocfl_cursor.specs.declared.limits.Limits.{Limits}
 use Rattle.ocfl_state.specs.{Checkpoint.{Checkpoint}, Content.{Content}}
 use Rattle.ocfl_state.specs.declared.checkpoint_parts.Phase.TheVariants.{Open, Closing}
 use Rattle.ocfl_night.specs.{Beginning.{BeginsAt}, Clock.{Event, Asked, Read, Heard, is_before}, Done.{Done, nothing_done, with_begun, with_made, with_none_tried}}
-use Rattle.ocfl_night.specs.{Ending.{IsSlice, halt_after, cycle_ended, place_or_pause}, Leaving.{done_by, remedy_at, with_remedy}}
+use Rattle.ocfl_night.specs.{Ending.{IsSlice, place_or_pause}, Leaving.{done_by, remedy_at, with_remedy}}
 use Rattle.ocfl_night.specs.{Pace.{budget_at, files_at}, Steps.{IsNotBegun}}
 use Rattle.ocfl_night.specs.declared.{plan.Halt.{Halt}, plan.NightEnd.{NightEnd}, plan.Pause.{Pause}, plan.Plan.{Plan}}
 use Rattle.ocfl_night.specs.declared.{slicing.Made.{Made}, stop.Stop.{Stop}, tally.Remedy.{Remedy}}

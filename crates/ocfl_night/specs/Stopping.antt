@@ -1,50 +1,199 @@
--- Why the steps of a night stop.
-use Rattle.std.specs.Prelude.{◌≢◌, ◌<◌, ⊤}
-use Rattle.ocfl_state.specs.Checkpoint.{Checkpoint}
-use Rattle.ocfl_night.specs.{declared.looking.NotKept.{NotKept}, declared.stop.Stop.{Stop}}
-use Rattle.ocfl_night.specs.declared.looking.NotKept.TheVariants.{Troubled}
-use Rattle.ocfl_night.specs.declared.stop.Stop.TheVariants.{Folder, Worn, Endless, Unsaid, Overtold, Short, Output}
+-- Why the steps of a night stop: for each stop its reason.
+use Rattle.std.specs.Prelude.{◌≡◌, ◌≢◌, ◌⊎◌, ℕ, ◌+◌, ◌^◌, ◌<◌, ◌≤◌, List, [], ◌∷◌, Bool, IsTrue, false, Result, Ok, Err, length, ⊤}
+use Rattle.ocfl_tree.specs.{Place.{Place, Text}, Store.{Store, IfTold}}
+use Rattle.ocfl_item.specs.Judging.{HasShortFiles}
+use Rattle.ocfl_identity.specs.Identity.{IsUnread}
+use Rattle.ocfl_scrub.specs.Running.{IsWorn}
+use Rattle.ocfl_state.specs.{Calls.{HasLong, IsLong}, Checkpoint.{Checkpoint, IsCheckpointText}, Content.{Content}}
+use Rattle.ocfl_state.specs.{Crash.{Outcomes}, Pieces.{summary_of}, declared.checkpoint_parts.Left.{Left}}
+use Rattle.ocfl_state.specs.declared.checkpoint_parts.ReportMark.{ReportMark}
+use Rattle.ocfl_state.specs.declared.folder.FolderTrouble.TheVariants.{Failed, Full, Taken, Memory}
+use Rattle.ocfl_night.specs.{Beginning.{BeginsAt}, Ending.{cycle_of}, Leaving.{has_end}, Looks.{Rounds}, Output.{HasFailed, Said}, Sound.{IsKept}}
+use Rattle.ocfl_night.specs.declared.{looking.NotKept.{NotKept}, refusal.NotOpened.{NotOpened}, stop.Stop.{Stop}}
+use Rattle.ocfl_night.specs.declared.looking.NotKept.TheVariants as unkept
+use Rattle.ocfl_night.specs.declared.refusal.NotOpened.TheVariants as unopened
+use Rattle.ocfl_night.specs.declared.stop.Stop.TheVariants.{Folder, TooLong, Unread, Worn, Endless, Unsaid, Overtold, Short, Output}
 
--- the folder failed, or memory was refused
-abbrev pub IsFolderStop : Stop → Type 0
-IsFolderStop (Folder why) = ⊤
-IsFolderStop _ = ⊥
+-- ---- of any step
 
--- a checkpoint is not put: that, or it tells more than its report has
-abbrev pub IsPutStop : Checkpoint → Stop → Type 0
-IsPutStop k Overtold = k.report.bytes < k.told
-IsPutStop k why = IsFolderStop why
+-- the text of a checkpoint is longer than a folder takes
+pub record IsTooLong (text : Text) : Type 0 where
+  pub checkpoint : Checkpoint
+  pub is : IsCheckpointText text checkpoint
+  pub long : IsLong text
 
--- a report is not closed: the folder or memory, or not all of it was said
-abbrev pub IsCloseStop : Checkpoint → Stop → Type 0
-IsCloseStop k Unsaid = k.told ≢ k.report.bytes
-IsCloseStop k why = IsFolderStop why
+-- of the text that was too long, if one was
+abbrev pub IfTooLong : (Text → Type 0) → Stop → Type 0
+IfTooLong Holds (TooLong text) = Holds text.items
+IfTooLong Holds why = ⊤
 
--- bytes of a report are not said: the folder or memory, the report ends before them, or the output
--- does not take them
-abbrev pub IsSayStop : Stop → Type 0
-IsSayStop Short = ⊤
-IsSayStop Output = ⊤
-IsSayStop why = IsFolderStop why
+-- The reason of a stop, in a step before which the folder had failed so often, and so often after it.
+-- It says that the folder failed only if it did, or in one more case; that it is full, only if it
+-- failed; and never that a report is closed already. That is so where the folder is as `Told`. That
+-- memory was refused has no reason that could be told. For what else it stops, `Other` says.
+abbrev pub IsReason : Type 0 → (Type 0 → Stop → Type 0) → ℕ → ℕ → Stop → Type 0
+IsReason Told Other old new (Folder Failed) = Told → (old < new) ⊎ Other Told (Folder Failed)
+IsReason Told Other old new (Folder Full) = Told → old < new
+IsReason Told Other old new (Folder Taken) = Told → ⊥
+IsReason Told Other old new (Folder Memory) = ⊤
+IsReason Told Other old new (TooLong text) = IsTooLong text.items
+IsReason Told Other old new why = Other Told why
 
--- the rest of a report is not said: that, or the checkpoint tells more than the report has
-abbrev pub IsSpeakStop : Checkpoint → Stop → Type 0
-IsSpeakStop k Overtold = k.report.bytes < k.told
-IsSpeakStop k why = IsSayStop why
+-- a step stops for its reason; if it does not, the folder has not failed less often
+abbrev pub StopsFor : {T : Type 0} → Type 0 → (Type 0 → Stop → Type 0) → ℕ → ℕ → Result T Stop → Type 0
+StopsFor Told Other old new (Ok x) = Told → old ≤ new
+StopsFor Told Other old new (Err why) = IsReason Told Other old new why
 
--- no run is made after a branch that was left out: the branch has no end, or memory was refused
-abbrev pub IsPastStop : Stop → Type 0
-IsPastStop Endless = ⊤
-IsPastStop why = IsFolderStop why
+-- the same of a step that may be refused
+abbrev pub OpensFor : {T : Type 0} → Type 0 → (Type 0 → Stop → Type 0) → ℕ → ℕ → Result T NotOpened → Type 0
+OpensFor Told Other old new (Ok x) = Told → old ≤ new
+OpensFor Told Other old new (Err (unopened.Refused why)) = ⊤
+OpensFor Told Other old new (Err (unopened.Troubled why)) = IsReason Told Other old new why
 
--- nothing of a run is kept for a stop: no further run can be counted, or memory was refused
-abbrev pub IsRunStop : NotKept → Type 0
-IsRunStop (Troubled Worn) = ⊤
-IsRunStop (Troubled why) = IsFolderStop why
-IsRunStop _ = ⊤
+-- ---- of each step
 
--- a slice is not made: one of these, or its checkpoint is not put
-abbrev pub IsSliceStop : Stop → Type 0
-IsSliceStop Worn = ⊤
-IsSliceStop Overtold = ⊤
-IsSliceStop why = IsPastStop why
+-- for nothing else
+abbrev pub ForNoOther : Type 0 → Stop → Type 0
+ForNoOther Told why = ⊥
+
+-- bytes are not read as a checkpoint: if that is no refusal, memory was refused
+abbrev pub IsReadStop : NotOpened → Type 0
+IsReadStop (unopened.Refused why) = ⊤
+IsReadStop (unopened.Troubled (Folder Memory)) = ⊤
+IsReadStop (unopened.Troubled why) = ⊥
+
+-- a checkpoint has no text: it tells more than its report has, or memory was refused
+abbrev pub IsTextStop : Checkpoint → Stop → Type 0
+IsTextStop k Overtold = k.report.bytes < k.told
+IsTextStop k (Folder Memory) = ⊤
+IsTextStop k why = ⊥
+
+-- a checkpoint is not put: it tells more than its report has
+abbrev pub ForPut : Checkpoint → Type 0 → Stop → Type 0
+ForPut k Told Overtold = k.report.bytes < k.told
+ForPut k Told why = ⊥
+
+-- a checkpoint is not read: what is there is too long
+abbrev pub ForLook : Content → Type 0 → Stop → Type 0
+ForLook c Told (Folder why) = HasLong c.checkpoint
+ForLook c Told why = ⊥
+
+-- a night is not opened
+abbrev pub ForOpen : Content → Type 0 → Stop → Type 0
+ForOpen c Told Overtold = Told → ⊥
+ForOpen c Told why = ForLook c Told why
+
+-- a report is not closed: not all of it was said
+abbrev pub ForClose : Checkpoint → Type 0 → Stop → Type 0
+ForClose k Told Unsaid = k.told ≢ k.report.bytes
+ForClose k Told why = ⊥
+
+-- the bytes of a report up to an offset are not said: it ends before that, or the output has failed
+abbrev pub ForSay : Content → ℕ → Said → Said → Type 0 → Stop → Type 0
+ForSay c end old new Told Short = Told → length c.report < end
+ForSay c end old new Told Output = HasFailed old.failures new.failures
+ForSay c end old new Told why = ⊥
+
+-- what a checkpoint did not say is not said
+abbrev pub ForSpeak : Checkpoint → Content → Said → Said → Type 0 → Stop → Type 0
+ForSpeak k c old new Told Overtold = k.report.bytes < k.told
+ForSpeak k c old new Told Short = Told → (k.told < k.report.bytes) × (length c.report < k.report.bytes)
+ForSpeak k c old new Told Output = HasFailed old.failures new.failures
+ForSpeak k c old new Told why = ⊥
+
+-- no place comes after all that the last of some branches has
+abbrev pub IsEndless : List Left → Type 0
+IsEndless [] = ⊥
+IsEndless (l ∷ []) = has_end l.place ≡ false
+IsEndless (l ∷ m ∷ left) = IsEndless (m ∷ left)
+
+-- no run is made past branches that were left out: the last has no end, or memory was refused
+abbrev pub IsPastStop : List Left → Stop → Type 0
+IsPastStop left Endless = IsEndless left
+IsPastStop left (Folder Memory) = ⊤
+IsPastStop left why = ⊥
+
+-- nothing of a run is kept: it could not be counted, if that may be, or memory was refused; or the root
+-- is not as it was
+abbrev pub IsRunStop : Type 0 → NotKept → Type 0
+IsRunStop Uncounted (unkept.Troubled Worn) = Uncounted
+IsRunStop Uncounted (unkept.Troubled (Folder Memory)) = ⊤
+IsRunStop Uncounted (unkept.Troubled why) = ⊥
+IsRunStop Uncounted why = ⊤
+
+-- lines are not appended to a report: it is not as its mark says
+abbrev pub ForExtend : ReportMark → Content → Type 0 → Stop → Type 0
+ForExtend mark c Told (Folder why) = mark ≢ summary_of c.report
+ForExtend mark c Told why = ⊥
+
+-- the lines of a run are not kept: the report is not as the checkpoint says, or that tells more than
+-- its report has
+abbrev pub ForKeep : Checkpoint → Content → Type 0 → Stop → Type 0
+ForKeep k c Told (Folder why) = k.report ≢ summary_of c.report
+ForKeep k c Told Overtold = Told → k.report ≡ summary_of c.report → k.report.bytes < k.told
+ForKeep k c Told why = ⊥
+
+-- a slice is not made: for one of these, or the run cannot be counted, or be made past what was left out
+abbrev pub ForSlice : Checkpoint → Content → Type 0 → Stop → Type 0
+ForSlice k c Told Worn = IsWorn k.cursor
+ForSlice k c Told Endless = IsEndless k.left
+ForSlice k c Told why = ForKeep k c Told why
+
+-- ---- of a night
+
+-- a folder tells, this is so of it, and a store tells, of a root with no file of 2^62 bytes or more
+pub record IsGiven (tells told : Bool) (s : Store) (Holds : Type 0) : Type 0 where
+  pub folder : IsTrue tells
+  pub store : IsTrue told
+  pub short : HasShortFiles s.tree
+  pub holds : Holds
+
+-- a folder tells, and a crash now leaves what is sound
+abbrev pub TellsKept : {F : Type 0} → Bool → (F → Outcomes) → F → Type 0
+TellsKept tells may_leave folder = IsTrue tells × ((rounds : Rounds) × IsKept may_leave rounds folder)
+
+-- a run cannot be counted that is made by a night from this checkpoint, after so many runs: its cycle
+-- has no number, or the runs of its cycle have none
+abbrev pub IsWornAfter : Checkpoint → ℕ → Type 0
+IsWornAfter start runs = (cycle_of start ≡ 2 ^ 64) ⊎ (2 ^ 64 ≤ start.cursor.runs + runs + 1)
+
+-- no run is made any more by a night from this checkpoint that has begun so many runs, or what runs
+-- wrote is not said: the output has failed, if that may be
+abbrev pub ForRuns : Type 0 → Checkpoint → ℕ → Type 0 → Stop → Type 0
+ForRuns Silenced start runs Told Worn = IsWornAfter start runs
+ForRuns Silenced start runs Told Endless = IsEndless start.left
+ForRuns Silenced start runs Told Overtold = Told → ⊥
+ForRuns Silenced start runs Told Short = Told → ⊥
+ForRuns Silenced start runs Told Output = Silenced
+ForRuns Silenced start runs Told why = ⊥
+
+-- what a night began with, how many runs it began, and its output before it and now
+pub record Course : Type 0 where
+  pub create : Bool
+  pub content : Content
+  pub runs : ℕ
+  pub old : Said
+  pub new : Said
+
+abbrev pub course : Bool → Content → ℕ → Said → Said → Course
+course create c runs old new = record { create = create; content = c; runs = runs; old = old; new = new }
+
+-- this holds of where it began
+abbrev pub FromStart : Course → (Checkpoint → Type 0) → Type 0
+FromStart n Holds = (start : Checkpoint) × (BeginsAt n.create n.content start × Holds start)
+
+-- if a store tells, its root could not be looked at: the top folder, or a file that declares it
+abbrev pub IsUnlooked : Bool → Store → Store → Place → Type 0
+IsUnlooked told s t p = IfTold told s (λ root. IsUnread root s t ([] ∷ []) p)
+
+-- A night is troubled: what is there as a checkpoint is too long, the root could not be looked at, a
+-- run could not be counted or made, or the output has failed.
+abbrev pub ForNight : (Place → Type 0) → Course → Type 0 → Stop → Type 0
+ForNight IsUnreadAt n Told (Folder why) = HasLong n.content.checkpoint
+ForNight IsUnreadAt n Told (Unread p) = IsUnreadAt p
+ForNight IsUnreadAt n Told Worn = Told → FromStart n (λ start. IsWornAfter start n.runs)
+ForNight IsUnreadAt n Told Endless = Told → FromStart n (λ start. IsEndless start.left)
+ForNight IsUnreadAt n Told Overtold = Told → ⊥
+ForNight IsUnreadAt n Told Short = Told → ⊥
+ForNight IsUnreadAt n Told Output = HasFailed n.old.failures n.new.failures
+ForNight IsUnreadAt n Told why = ⊥

@@ -4,7 +4,8 @@ ghost use Rattle.ocfl_tree.specs.Place.{Text};
 ghost use Rattle.ocfl_state.specs.CheckpointRefusal.{RefusedRightly};
 ghost use Rattle.ocfl_state.specs.{Checkpoint.{IsCheckpointText}, Crash.{Same, Only, Passes}};
 ghost use Rattle.ocfl_night.specs.Older.{IsNumber, open_cycle};
-ghost use Rattle.ocfl_night.specs.{Refusing.{HasUnread, IfRefused, IsUnread}, Site.{no_report}, Sound.{IsAt}, Stopping.{IsPutStop}};
+ghost use Rattle.ocfl_night.specs.{Refusing.{HasUnread, IfRefused, IsUnread}, Site.{no_report}, Sound.{IsAt}};
+ghost use Rattle.ocfl_night.specs.Stopping.{ForLook, ForPut, IfTooLong, IsReadStop, IsTextStop, OpensFor, StopsFor};
 ghost use Rattle.ocfl_night.specs.declared.refusal.Refusal.{Refusal as ModelRefusal};
 ghost use Rattle.ocfl_night.specs.Steps.{IsCheckpointPut, MayCheckpoint, begun_anew, closes_whole, with_all_told};
 
@@ -12,8 +13,8 @@ use crate::refusal::{NotOpened, Refusal};
 use crate::stop::Stop;
 use ocfl_cursor::{Cursor, Refused, State};
 use ocfl_state::{
-    Checkpoint, FolderTrouble, Phase, ReportDigests, ReportMark, StateFolder, decode_checkpoint,
-    encode_checkpoint, every_checkpoint_fits,
+    Checkpoint, FolderTrouble, MOST_CHECKPOINT, Phase, ReportDigests, ReportMark, StateFolder,
+    decode_checkpoint, encode_checkpoint, every_checkpoint_fits,
 };
 use std::alloc::{AllocError, Global};
 
@@ -154,7 +155,7 @@ pub(crate) fn begun_anew(alloc: Global, mut checkpoint: Checkpoint) -> Checkpoin
 /// its report has.
 fn text_of(alloc: Global, checkpoint: &Checkpoint) -> Result<Vec<u8>, Stop>
     ensures text { IfOk result (λ text. IsCheckpointText text.items checkpoint.now) }
-    ensures stop { IfErr result (IsPutStop checkpoint.now) }
+    ensures stop { IfErr result (IsTextStop checkpoint.now) }
 {
     if !tells_within(checkpoint) {
         return Err(Stop::Overtold);
@@ -166,6 +167,7 @@ fn text_of(alloc: Global, checkpoint: &Checkpoint) -> Result<Vec<u8>, Stop>
 /// Puts a checkpoint. After `Ok` it is on the disk.
 ///
 /// `Overtold` for a checkpoint that tells more than its report has: it would not be read again.
+/// `TooLong` for one whose text is longer than 1 MiB, with that text.
 pub fn put_checkpoint<S: StateFolder>(
     alloc: Global,
     folder: &mut S,
@@ -178,17 +180,23 @@ pub fn put_checkpoint<S: StateFolder>(
         → Only (S.seen folder.new) (S.may_leave folder.new)) }
     ensures crash { IsTrue S.told → Passes S.may_leave S.moment S.left_since
         (MayCheckpoint checkpoint.now) folder.old folder.new }
-    ensures stop { IfErr result (IsPutStop checkpoint.now) }
+    ensures stop { StopsFor (IsTrue S.told) (ForPut checkpoint.now)
+        (S.faults folder.old) (S.faults folder.new) result }
+    ensures long { IfErr result (IfTooLong (λ text. IsCheckpointText text checkpoint.now)) }
 {
     let text = text_of(alloc, checkpoint)?;
+    if text.len() > MOST_CHECKPOINT {
+        return Err(Stop::TooLong(text));
+    }
     folder.put_checkpoint(&text)?;
     Ok(())
 }
 
 /// Why bytes are not taken for a checkpoint.
 fn not_read(why: Refused) -> NotOpened
-    ensures { (bytes : Text) (refusal : ModelRefusal) → RefusedRightly bytes why
+    ensures rightly { (bytes : Text) (refusal : ModelRefusal) → RefusedRightly bytes why
         → result ≡ NotOpened.Refused refusal → IsUnread bytes refusal }
+    ensures stop { IsReadStop result }
 {
     match why {
         Refused::Memory => NotOpened::Troubled(Stop::Folder(FolderTrouble::Memory)),
@@ -202,6 +210,7 @@ fn not_read(why: Refused) -> NotOpened
 fn read_text(alloc: Global, text: &[u8]) -> Result<Checkpoint, NotOpened>
     ensures checkpoint { IfOk result (λ checkpoint. IsCheckpointText text.now checkpoint) }
     ensures rightly { IfRefused result (IsUnread text.now) }
+    ensures stop { IfErr result IsReadStop }
 {
     match decode_checkpoint(alloc, text) {
         Ok(checkpoint) => Ok(checkpoint),
@@ -222,6 +231,8 @@ pub fn look<S: StateFolder>(alloc: Global, folder: &mut S) -> Result<Option<Chec
     ensures crash { IsTrue S.told
         → Passes S.may_leave S.moment S.left_since Same folder.old folder.new }
     ensures rightly { IsTrue S.told → IfRefused result (HasUnread (S.seen folder.old)) }
+    ensures stop { OpensFor (IsTrue S.told) (ForLook (S.seen folder.old))
+        (S.faults folder.old) (S.faults folder.new) result }
 {
     folder.sync()?;
     match folder.checkpoint()? {

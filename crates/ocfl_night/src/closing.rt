@@ -1,12 +1,12 @@
 //! Closing the report of a cycle that has ended.
-ghost use Rattle.std.specs.Prelude.{◌≡◌, ◌≢◌, ◌⊎◌, false, IfErr, IfOk, IfSome, IsTrue, None, OnOk};
+ghost use Rattle.std.specs.Prelude.{◌≡◌, ◌≢◌, ◌⊎◌, false, IfOk, IfSome, IsTrue, None, OnOk};
 ghost use Rattle.ocfl_state.specs.{Content.{is_closed}, Crash.{Only, Passes}};
 ghost use Rattle.ocfl_state.specs.Pieces.{summary_of};
 ghost use Rattle.ocfl_state.specs.declared.checkpoint_parts.Phase.TheVariants.{Closing};
 ghost use Rattle.ocfl_night.specs.Ending.{cycle_ended};
 ghost use Rattle.ocfl_night.specs.{Promises.{IfReady, IsSafe, SameClosed}, Sound.{IsAllSaid, IsOneMore, IsReady}};
 ghost use Rattle.ocfl_night.specs.Steps.{IsClosedExactly, IsFinished, IsMoveDone, MayMoveAt, closes_whole};
-ghost use Rattle.ocfl_night.specs.Stopping.{IsCloseStop, IsFolderStop};
+ghost use Rattle.ocfl_night.specs.Stopping.{ForClose, ForNoOther, StopsFor};
 
 use crate::checkpoint::{
     begun_anew, cycle_of, is_all_told, phase_of, put_checkpoint, report_of, whole_of,
@@ -24,7 +24,8 @@ fn move_report<S: StateFolder>(folder: &mut S, cycle: u64, whole: bool) -> Resul
         → Only (S.seen folder.new) (S.may_leave folder.new)) }
     ensures crash { IsTrue S.told → Passes S.may_leave S.moment S.left_since
         (MayMoveAt cycle whole (S.seen folder.old)) folder.old folder.new }
-    ensures stop { IfErr result IsFolderStop }
+    ensures stop { StopsFor (IsTrue S.told) ForNoOther
+        (S.faults folder.old) (S.faults folder.new) result }
 {
     if !folder.has_closed(cycle)? {
         folder.close(cycle, whole)?;
@@ -54,7 +55,8 @@ fn move_as<S: StateFolder>(folder: &mut S, checkpoint: &Checkpoint) -> Result<()
         → Passes S.may_leave S.moment S.left_since
         (MayMoveAt checkpoint.now.cursor.cycle (closes_whole checkpoint.now) (S.seen folder.old))
         folder.old folder.new }
-    ensures stop { IfErr result IsFolderStop }
+    ensures stop { StopsFor (IsTrue S.told) ForNoOther
+        (S.faults folder.old) (S.faults folder.new) result }
 {
     let whole = may_close_whole(folder, &report_of(checkpoint), whole_of(checkpoint))?;
     move_report(folder, cycle_of(checkpoint), whole)
@@ -78,7 +80,8 @@ fn close<S: StateFolder>(
     ensures finished { IsTrue S.told → OnOk result
         (IsFinished checkpoint (S.seen folder.old) (S.seen folder.new)) }
     ensures all { IfOk result (λ next. next.told ≡ next.report.bytes) }
-    ensures stop { IfErr result (IsCloseStop checkpoint) }
+    ensures stop { StopsFor (IsTrue S.told) (ForClose checkpoint)
+        (S.faults folder.old) (S.faults folder.new) result }
 {
     if !is_all_told(&checkpoint) {
         return Err(Stop::Unsaid);
@@ -111,7 +114,8 @@ pub fn finish<S: StateFolder>(
         (IsFinished checkpoint (S.seen folder.old) (S.seen folder.new)) }
     ensures ended { IfOk result (λ ended. ended
         ≡ cycle_ended checkpoint.phase checkpoint.cursor.cycle) }
-    ensures stop { IfErr result (IsCloseStop checkpoint) }
+    ensures stop { StopsFor (IsTrue S.told) (ForClose checkpoint)
+        (S.faults folder.old) (S.faults folder.new) result }
 {
     match phase_of(&checkpoint) {
         Phase::Open => Ok(None),

@@ -9,7 +9,7 @@ ghost use Rattle.ocfl_night.specs.Chain.{from_after, part_after};
 ghost use Rattle.ocfl_night.specs.Leaving.{branch_at, end_of, is_of_inventory, last_name, speaks_for_object};
 ghost use Rattle.ocfl_night.specs.Promises.{IfReadyIn, IsBranchNext, IsSafeIn, SameClosed};
 ghost use Rattle.ocfl_night.specs.{Looks.{Rounds}, Sound.{IsReady}, Steps.{with_left}};
-ghost use Rattle.ocfl_night.specs.Stopping.{IsPastStop, IsPutStop};
+ghost use Rattle.ocfl_night.specs.Stopping.{ForPut, IsPastStop, StopsFor};
 
 use crate::checkpoint::put_checkpoint;
 use crate::site::end_again;
@@ -63,10 +63,10 @@ pub(crate) fn end_of(alloc: Global, branch: &Place) -> Result<Option<Place>, All
 
 /// Where what comes after the last branch that was left out begins, and the place itself where none
 /// was. `Endless` where that branch has no end.
-#[tactic(auto, using(crate::proofs::Chains::from_last, crate::proofs::Chains::from_none))]
+#[tactic(auto, using(crate::proofs::Chains::from_last, crate::proofs::Chains::from_none, crate::proofs::Reasons::endless_last))]
 fn from_past(alloc: Global, from: &Option<Place>, left: &[Left]) -> Result<Option<Place>, Stop>
     ensures next { IfOk result (λ next. next ≡ from_after from.now left.now) }
-    ensures stop { IfErr result IsPastStop }
+    ensures stop { IfErr result (IsPastStop left.now) }
 {
     let Some(last) = left.last() else {
         return Ok(end_again(from)?);
@@ -81,7 +81,7 @@ fn from_past(alloc: Global, from: &Option<Place>, left: &[Left]) -> Result<Optio
 /// `Endless` where that branch has no end.
 pub(crate) fn part_past(alloc: Global, part: &Part, left: &[Left]) -> Result<Part, Stop>
     ensures next { IfOk result (λ next. part_of next ≡ part_after (part_of part.now) left.now) }
-    ensures stop { IfErr result IsPastStop }
+    ensures stop { IfErr result (IsPastStop left.now) }
 {
     let from = from_past(alloc, &part.from, left)?;
     let under = part.end.under.try_clone()?;
@@ -180,7 +180,8 @@ pub fn leave_out<S: StateFolder>(
         → IfReadyIn S.seen S.may_leave rounds checkpoint folder.old
         (λ t. IfOk result (λ next. IsReady S.seen S.may_leave rounds t next folder.new)) }
     ensures closed { IsTrue S.told → OnOk result (SameClosed S.seen folder.old folder.new) }
-    ensures stop { IfErr result (IsPutStop checkpoint) }
+    ensures stop { StopsFor (IsTrue S.told) (ForPut checkpoint)
+        (S.faults folder.old) (S.faults folder.new) result }
 {
     let next = with_left(checkpoint, branch)?;
     put_checkpoint(alloc, folder, &next)?;

@@ -47,6 +47,11 @@
 //!   plan gives for that time and for what was done: no more than runs spend in a minute, or until
 //!   the end, at the rate of those before. By this list the night ends for the reason that it
 //!   gives, unless it is troubled, and it answers how many runs it began and what it left out.
+//! - A night that is troubled says why. It says that the folder failed or is full only if the folder
+//!   counted a failure in it, or if what is there as a checkpoint is too long; that the output
+//!   failed only if that counted a failure; and never that the folder holds a closed report already
+//!   or, in one that nights left, that checkpoint and report do not fit each other. What memory
+//!   refuses no count shows.
 //! - All but the last holds of a state folder and a store that are as they tell, over a root with
 //!   no file of 2^62 bytes or more; what is said of another root or part needs no store that tells.
 //!   The last holds of a clock that tells what it answered and heard.

@@ -46,7 +46,7 @@ pub(crate) fn look_again<T: Tree>(
         OnOk result (IsStill identity.now root)) }
     ensures counts { OverShort T.told (T.state tree.old) (λ root.
         Counts (T.state tree.old) (T.state tree.new)) }
-    ensures stop { IfErr result IsRunStop }
+    ensures stop { IfErr result (IsRunStop ⊥) }
 {
     match is_still_declared(alloc, tree, identity, block) {
         Ok(true) => Ok(()),

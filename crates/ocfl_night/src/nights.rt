@@ -1,12 +1,12 @@
 //! A night.
 ghost use Rattle.std.specs.Prelude.{◌≡◌, ◌≢◌, ◌⊎◌, ◌↔◌, ◌≤◌, [], IfOk, IfSome, IsErr, All, IsOk, IsSome, IsTrue, List, Err, Ok, OnErr, OnOk, Some, false, true, length, ℕ};
 ghost use Rattle.ocfl_audit.specs.Parts.{Part as ModelPart};
-ghost use Rattle.ocfl_tree.specs.StorageRoot.{StorageRoot};
+ghost use Rattle.ocfl_tree.specs.{Place.{Text}, StorageRoot.{StorageRoot}};
 ghost use Rattle.ocfl_scrub.specs.Starting.{part_of};
 ghost use Rattle.ocfl_state.specs.{Content.{Closed}, Crash.{LeavesOnly}};
 ghost use Rattle.ocfl_state.specs.declared.checkpoint_parts.Phase.TheVariants.{Open};
-ghost use Rattle.ocfl_night.specs.Leaving.{LeadsOn, MayHaveLeftAt, StillMayLeave, branch_at, done_by, has_end, remedy_at, with_remedy};
-ghost use Rattle.ocfl_night.specs.{Looks.{Counts, Rounds, WithLook, look_between, of_any}, Output.{Grows}};
+ghost use Rattle.ocfl_night.specs.Leaving.{LeadsOn, MayHaveLeftAt, MayLeave, StillMayLeave, branch_at, done_by, has_end, remedy_at, with_remedy};
+ghost use Rattle.ocfl_night.specs.{Looks.{Counts, Rounds, WithLook, look_between, of_any}, Output.{Grows, HasFailed}};
 ghost use Rattle.ocfl_night.specs.Promises.{HasCome, HasLost, IfLost, IfReadyIn, IsBranchNext, IsSafeIn, IsAllThere, IsUncut, OnShort, OverShort, SameClosed, StopsNext};
 ghost use Rattle.ocfl_night.specs.Older.{IfOlder};
 ghost use Rattle.ocfl_night.specs.declared.refusal.Refusal.TheVariants.{Older};
@@ -17,6 +17,7 @@ ghost use Rattle.ocfl_night.specs.{Beginning.{BeginsAt}, Clock.{is_before}, Done
 ghost use Rattle.ocfl_night.specs.Runs.{AreMade, EndsBy, IsAllowed, IsEndedBy, IsNight, MayHaveLeft, StopsOpen, after_made, turn_of};
 ghost use Rattle.ocfl_night.specs.Ending.{cycle_of, ended_by, halt_after, halt_of, place_or_pause, unbegun_by};
 ghost use Rattle.ocfl_night.specs.{Pace.{budget_at, files_at}, Nights.{IsSafeNight}};
+ghost use Rattle.ocfl_night.specs.Stopping.{ForNight, ForPut, ForRuns, IsGiven, IsReason, IsUnlooked, OpensFor, StopsFor, TellsKept, course};
 ghost use Rattle.ocfl_night.specs.declared.stop.Stop.{Stop as ModelStop};
 ghost use Rattle.ocfl_night.specs.declared.refusal.NotOpened.TheVariants.{Refused};
 ghost use Rattle.ocfl_night.specs.declared.refusal.Refusal.{Refusal as ModelRefusal};
@@ -116,6 +117,7 @@ fn place_or_pause(end: SliceEnd) -> Result<Place, Option<Pause>>
 fn halt_of(pause: Pause) -> Halt
     ensures not_ended { (cycle : ℕ) → result ≢ halt.CycleEnded cycle }
     ensures unrefused { (why : ModelRefusal) → result ≢ halt.Refused why }
+    ensures untroubled { (why : ModelStop) → result ≢ halt.Troubled why }
     ensures is { result ≡ halt_of pause }
 {
     match pause {
@@ -131,6 +133,7 @@ fn halt_of(pause: Pause) -> Halt
 fn halt_after(ended: Option<u64>, pause: Pause) -> Halt
     ensures ended { (cycle : ℕ) → result ≡ halt.CycleEnded cycle → ended ≡ Some cycle }
     ensures unrefused { (why : ModelRefusal) → result ≢ halt.Refused why }
+    ensures untroubled { (why : ModelStop) → result ≢ halt.Troubled why }
     ensures is { result ≡ halt_after ended pause }
 {
     match ended {
@@ -169,6 +172,8 @@ fn pass_by<S: StateFolder>(
     ensures broken { OnErr result (MayHaveLeftAt plan.now.stop_at_faults (done_of tally.old) place
         (done_of tally.new)) }
     ensures left { StillMayLeave plan.now.stop_at_faults tally.old tally.new }
+    ensures stop { StopsFor (IsTrue S.told) (ForPut checkpoint)
+        (S.faults folder.old) (S.faults folder.new) result }
 {
     if phase_of(&checkpoint) != Phase::Open {
         return Ok((checkpoint, Some(Pause::Closing)));
@@ -209,6 +214,8 @@ fn go_on_after<S: StateFolder>(
         ≡ after_made plan.now.stop_at_faults (done_of tally.old) made) }
     ensures broken { OnErr result (MayHaveLeft plan.now.stop_at_faults (done_of tally.old) made
         (done_of tally.new)) }
+    ensures stop { StopsFor (IsTrue S.told) (ForPut made.checkpoint)
+        (S.faults folder.old) (S.faults folder.new) result }
 {
     let Made {
         checkpoint,
@@ -261,6 +268,10 @@ fn runs<S: StateFolder, T: Tree, C: Clock>(
         next.0 tally.new.left.items) }
     ensures cycle { IfOk result (λ next. cycle_of next.0 ≡ cycle_of start) }
     ensures left { StillMayLeave plan.now.stop_at_faults tally.old tally.new }
+    ensures stop { MayLeave plan.now.stop_at_faults tally.old.left.items → StopsFor
+        (IsGiven S.told T.told (T.state tree.old)
+        ((t : Text) × IsReady S.seen S.may_leave (of_any (part_of part.now)) t start folder.old))
+        (ForRuns ⊥ start tally.new.runs) (S.faults folder.old) (S.faults folder.new) result }
 {
     let mut kept = KeptWalk::none();
     let mut checkpoint = start;
@@ -322,6 +333,10 @@ fn catch_up<S: StateFolder, O: Output>(
     ensures all { IfOk result (λ k. k.told ≡ k.report.bytes) }
     ensures begins { IsTrue S.told
         → IfOk result (BeginsAt plan.now.create (S.seen folder.old)) }
+    ensures stop { OpensFor (TellsKept S.told S.may_leave folder.old)
+        (ForNight (λ _. ⊥)
+        (course plan.now.create (S.seen folder.old) 0 (O.said out.old) (O.said out.new)))
+        (S.faults folder.old) (S.faults folder.new) result }
 {
     let opened = open(alloc, folder, site, identity, plan)?;
     *lost = opened.lost;
@@ -374,6 +389,13 @@ fn make_runs<S: StateFolder, T: Tree, C: Clock, O: Output>(
         ↔ (IsTrue (closes_whole checkpoint)
         × (tally.new.left.items ≡ tally.old.left.items))))) }
     ensures unrefused { (why : ModelRefusal) → result ≢ Ok (halt.Refused why) }
+    ensures stop { MayLeave plan.now.stop_at_faults tally.old.left.items → StopsFor
+        (IsGiven S.told T.told (T.state tree.old)
+        ((t : Text) × IsReady S.seen S.may_leave (of_any (part_of part.now)) t
+        checkpoint folder.old))
+        (ForRuns (HasFailed (O.said out.old).failures (O.said out.new).failures)
+        checkpoint tally.new.runs) (S.faults folder.old) (S.faults folder.new) result }
+    ensures untroubled { (why : ModelStop) → result ≢ Ok (halt.Troubled why) }
 {
     let (last, pause) = runs(
         alloc, folder, tree, part, identity, checkpoint, plan, clock, tally, block,
@@ -429,6 +451,10 @@ fn set_out<S: StateFolder, T: Tree, O: Output>(
         → IsTurnedAway result S.seen S.may_leave S.moment S.left_since folder.old folder.new }
     ensures begins { IsTrue S.told → IfOk result (λ begun.
         BeginsAt plan.now.create (S.seen folder.old) begun.checkpoint) }
+    ensures stop { OpensFor (TellsKept S.told S.may_leave folder.old)
+        (ForNight (IsUnlooked T.told (T.state tree.old) (T.state tree.new))
+        (course plan.now.create (S.seen folder.old) 0 (O.said out.old) (O.said out.new)))
+        (S.faults folder.old) (S.faults folder.new) result }
 {
     let part = part_at(alloc, &site.ends)?;
     let identity = look_at_root(alloc, tree, block)?;
@@ -532,6 +558,17 @@ pub fn night<S: StateFolder, T: Tree, C: Clock, O: Output>(
         → (cycle : ℕ) → result.end ≡ halt.CycleEnded cycle → (d : Closed)
         → HasCome d (S.seen folder.old) (S.seen folder.new)
         → (IsTrue d.whole ↔ IsAllThere (S.seen folder.old) result)) }
+
+    // If something is troubled, that is for a reason. It says that the folder failed only if it did,
+    // or if what is there as a checkpoint is too long; that the output failed, only if it did; and
+    // never that a report was closed already, that not all of one was said, or that checkpoint and
+    // report do not fit each other.
+    ensures troubled { (why : ModelStop) → result.end ≡ halt.Troubled why → IsReason
+        (IsGiven S.told T.told (T.state tree.old)
+        (IsKept S.may_leave (of_any (part_at site.now.ends)) folder.old))
+        (ForNight (IsUnlooked T.told (T.state tree.old) (T.state tree.new))
+        (course plan.now.create (S.seen folder.old) result.runs (O.said out.old) (O.said out.new)))
+        (S.faults folder.old) (S.faults folder.new) why }
 
     // At most 16 branches are left out, none if the night is to stop at faults, and neither the
     // storage root nor one after which no place comes.

@@ -3,7 +3,7 @@ ghost use Rattle.std.specs.Prelude.{◌≡◌, ◌+◌, ◌<◌, ◌^◌, ℕ, [
 ghost use Rattle.ocfl_state.specs.{Content.{is_closed}, Crash.{Passes, Same}};
 ghost use Rattle.ocfl_state.specs.declared.checkpoint_parts.Phase.TheVariants.{Closing};
 ghost use Rattle.ocfl_night.specs.Older.{IsBesides, IsNumber, IsOlder, IsToCome};
-ghost use Rattle.ocfl_night.specs.Refusing.{IfRefused, IsOutdated};
+ghost use Rattle.ocfl_night.specs.{Refusing.{IfRefused, IsOutdated}, Stopping.{ForNoOther, OpensFor, StopsFor}};
 
 use crate::checkpoint::{cycle_of, open_cycle_of, phase_of};
 use crate::refusal::{NotOpened, Refusal};
@@ -30,6 +30,8 @@ fn closed_at<S: StateFolder>(folder: &mut S, cycle: Option<u64>) -> Result<Optio
     ensures seen { IsTrue S.told → S.seen folder.new ≡ S.seen folder.old }
     ensures crash { IsTrue S.told
         → Passes S.may_leave S.moment S.left_since Same folder.old folder.new }
+    ensures stop { StopsFor (IsTrue S.told) ForNoOther
+        (S.faults folder.old) (S.faults folder.new) result }
 {
     let Some(number) = cycle else {
         return Ok(None);
@@ -52,6 +54,8 @@ fn closed_to_come<S: StateFolder>(
     ensures seen { IsTrue S.told → S.seen folder.new ≡ S.seen folder.old }
     ensures crash { IsTrue S.told
         → Passes S.may_leave S.moment S.left_since Same folder.old folder.new }
+    ensures stop { StopsFor (IsTrue S.told) ForNoOther
+        (S.faults folder.old) (S.faults folder.new) result }
 {
     let open = open_cycle_of(checkpoint);
     match closed_at(folder, open)? {
@@ -73,6 +77,8 @@ fn closed_besides<S: StateFolder>(
     ensures seen { IsTrue S.told → S.seen folder.new ≡ S.seen folder.old }
     ensures crash { IsTrue S.told
         → Passes S.may_leave S.moment S.left_since Same folder.old folder.new }
+    ensures stop { StopsFor (IsTrue S.told) ForNoOther
+        (S.faults folder.old) (S.faults folder.new) result }
 {
     match phase_of(checkpoint) {
         Phase::Open => Ok(None),
@@ -97,6 +103,8 @@ pub(crate) fn refuse_older<S: StateFolder>(
     ensures seen { IsTrue S.told → S.seen folder.new ≡ S.seen folder.old }
     ensures crash { IsTrue S.told
         → Passes S.may_leave S.moment S.left_since Same folder.old folder.new }
+    ensures stop { OpensFor (IsTrue S.told) ForNoOther
+        (S.faults folder.old) (S.faults folder.new) result }
 {
     if let Some(cycle) = closed_to_come(folder, checkpoint)? {
         return Err(NotOpened::Refused(Refusal::Older(cycle)));

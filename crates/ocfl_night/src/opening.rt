@@ -10,6 +10,7 @@ ghost use Rattle.ocfl_night.specs.Older.{IfOlder, IsOlder};
 ghost use Rattle.ocfl_night.specs.Refusing.{HasReport, IfForeign, IfRefused, IsFolderRefused, IsOutdated, IsTurnedAway, IsUnbegun, OnRefused};
 ghost use Rattle.ocfl_night.specs.Sound.{IsFound, IsFoundReady, IsKept, IsNew, IsReady, IsSettled, IsSoundAt};
 ghost use Rattle.ocfl_night.specs.Steps.{IsLost, IsOpened, KeepsFront, closes_whole, first_opened, fitted, settled, shortened, what_is_left};
+ghost use Rattle.ocfl_night.specs.Stopping.{ForNoOther, ForOpen, ForPut, OpensFor, StopsFor};
 
 use crate::checkpoint::{bytes_of, cycle_of, look, phase_of, put_checkpoint, report_of};
 use crate::older::refuse_older;
@@ -39,6 +40,8 @@ fn trim<S: StateFolder>(folder: &mut S, most: u64) -> Result<(), Stop>
         (Only (S.seen folder.new) (S.may_leave folder.new)) }
     ensures crash { IsTrue S.told → Passes S.may_leave S.moment S.left_since
         (KeepsFront most) folder.old folder.new }
+    ensures stop { StopsFor (IsTrue S.told) ForNoOther
+        (S.faults folder.old) (S.faults folder.new) result }
 {
     cut_report(folder, most)?;
     folder.sync()?;
@@ -59,6 +62,8 @@ fn is_new<S: StateFolder>(folder: &mut S) -> Result<bool, Stop>
         → Only (S.seen folder.new) (S.may_leave folder.new) }
     ensures crash { IsTrue S.told
         → Passes S.may_leave S.moment S.left_since Same folder.old folder.new }
+    ensures stop { StopsFor (IsTrue S.told) ForNoOther
+        (S.faults folder.old) (S.faults folder.new) result }
 {
     if folder.length()? > 0 {
         return Ok(false);
@@ -89,6 +94,8 @@ fn begin<S: StateFolder>(
     ensures first { IfOk result (λ opened. opened ≡ first_opened site.now identity.now) }
     ensures refused { IsTrue S.told → OnRefused result (S.seen folder.new ≡ S.seen folder.old) }
     ensures rightly { IsTrue S.told → IfRefused result (IsUnbegun true (S.seen folder.old)) }
+    ensures stop { OpensFor (IsTrue S.told) ForNoOther
+        (S.faults folder.old) (S.faults folder.new) result }
 {
     if !is_new(folder)? {
         return Err(NotOpened::Refused(Refusal::HasReports));
@@ -112,6 +119,8 @@ fn is_to_close<S: StateFolder>(folder: &mut S, checkpoint: &Checkpoint) -> Resul
     ensures value { IsTrue S.told → IfOk result (λ there. IsTrue there
         ↔ (is_closed (S.seen folder.old).closed checkpoint.now.cursor.cycle ≡ false)) }
     ensures seen { IsTrue S.told → S.seen folder.new ≡ S.seen folder.old }
+    ensures stop { StopsFor (IsTrue S.told) ForNoOther
+        (S.faults folder.old) (S.faults folder.new) result }
 {
     Ok(!folder.has_closed(cycle_of(checkpoint))?)
 }
@@ -130,6 +139,8 @@ fn settle<S: StateFolder>(folder: &mut S, checkpoint: &Checkpoint) -> Result<boo
         → is_closed (S.seen folder.old).closed checkpoint.now.cursor.cycle ≡ false)) }
     ensures settled { IsTrue S.told → OnOk result
         (S.seen folder.new ≡ settled checkpoint.now (S.seen folder.old)) }
+    ensures stop { StopsFor (IsTrue S.told) ForNoOther
+        (S.faults folder.old) (S.faults folder.new) result }
 {
     match phase_of(checkpoint) {
         Phase::Open => {
@@ -158,6 +169,8 @@ fn take_up<S: StateFolder>(
     ensures left { IsTrue S.told → IfOk result (λ lost. IfSome lost (λ there. there
         ≡ what_is_left checkpoint.now (S.seen folder.old))) }
     ensures closed { IsTrue S.told → OnOk result (SameClosed S.seen folder.old folder.new) }
+    ensures stop { StopsFor (IsTrue S.told) ForNoOther
+        (S.faults folder.old) (S.faults folder.new) result }
 {
     if !settle(folder, checkpoint)? {
         return Ok(None);
@@ -211,6 +224,8 @@ fn resume<S: StateFolder>(
     ensures opened { IsTrue S.told
         → IfOk result (IsOpened identity.now checkpoint (S.seen folder.old)) }
     ensures stays { IfOk result (λ opened. position opened.checkpoint ≡ position checkpoint) }
+    ensures stop { StopsFor (IsTrue S.told) (ForPut checkpoint)
+        (S.faults folder.old) (S.faults folder.new) result }
 {
     let there = take_up(folder, &checkpoint)?;
     let opened = fitted(checkpoint, there);
@@ -247,6 +262,8 @@ fn go_on<S: StateFolder>(
         → IsOlder checkpoint (S.seen folder.old) cycle
         → IsTurnedAway result S.seen S.may_leave S.moment S.left_since folder.old folder.new }
     ensures stays { IfOk result (λ opened. position opened.checkpoint ≡ position checkpoint) }
+    ensures stop { OpensFor (IsTrue S.told) (ForPut checkpoint)
+        (S.faults folder.old) (S.faults folder.new) result }
 {
     refuse_older(folder, &checkpoint)?;
     Ok(resume(alloc, folder, checkpoint, identity)?)
@@ -301,6 +318,9 @@ pub fn open<S: StateFolder>(
     // Nor is one whose reports show that its checkpoint is an older one.
     ensures older { IsTrue S.told → IfOlder (S.seen folder.old)
         (IsTurnedAway result S.seen S.may_leave S.moment S.left_since folder.old folder.new) }
+    // If something is troubled, the folder failed, or what is there as a checkpoint is too long.
+    ensures stop { OpensFor (IsTrue S.told) (ForOpen (S.seen folder.old))
+        (S.faults folder.old) (S.faults folder.new) result }
 {
     let Some(found) = look(alloc, folder)? else {
         if !plan.create {

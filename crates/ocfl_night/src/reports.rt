@@ -1,6 +1,6 @@
 //! The report: what a checkpoint keeps of it, and changes, as far as a crash keeps its front.
 ghost use Rattle.std.specs.Prelude.{◌≡◌, ◌↔◌, IfOk, IfSome, IsSome, IsTrue, None, OnOk, take};
-ghost use Rattle.ocfl_state.specs.{Content.{with_report}, Crash.{Passes, Same}};
+ghost use Rattle.ocfl_state.specs.{Calls.{HasCause}, Content.{with_report}, Crash.{Passes, Same}};
 ghost use Rattle.ocfl_state.specs.Pieces.{HasTail, summary_of};
 ghost use Rattle.ocfl_night.specs.Steps.{BeginsAs, KeepsFront};
 
@@ -23,6 +23,8 @@ pub(crate) fn find_lost<S: StateFolder>(
     ensures seen { IsTrue S.told → S.seen folder.new ≡ S.seen folder.old }
     ensures crash { IsTrue S.told
         → Passes S.may_leave S.moment S.left_since Same folder.old folder.new }
+    ensures cause { IsTrue S.told
+        → HasCause (S.faults folder.old) (S.faults folder.new) result }
 {
     match find_report(folder, mark)? {
         FoundReport::Whole(_) => Ok(None),
@@ -37,6 +39,8 @@ pub(crate) fn cut_report<S: StateFolder>(folder: &mut S, most: u64) -> Result<()
         ≡ with_report (take most (S.seen folder.old).report) (S.seen folder.old)) }
     ensures crash { IsTrue S.told → Passes S.may_leave S.moment S.left_since
         (KeepsFront most) folder.old folder.new }
+    ensures cause { IsTrue S.told
+        → HasCause (S.faults folder.old) (S.faults folder.new) result }
 {
     folder.cut(most)
 }

@@ -1,10 +1,10 @@
 //! Saying what was not said.
-ghost use Rattle.std.specs.Prelude.{◌≡◌, ◌-◌, ◌≤◌, IfErr, IfOk, IsTrue, OnOk, take, drop};
+ghost use Rattle.std.specs.Prelude.{◌≡◌, ◌+◌, ◌-◌, ◌≤◌, IfOk, IsTrue, OnOk, take, drop};
 ghost use Rattle.std.specs.Io.KnownBytes.{Appends};
 ghost use Rattle.ocfl_state.specs.Crash.{LeavesOnly, Passes, Same};
 ghost use Rattle.ocfl_night.specs.{Output.{Grows, HasCommitted}, Promises.{IfReady, SameClosed}, Sound.{IsHeard, IsHeardReady}};
 ghost use Rattle.ocfl_night.specs.Steps.{unsaid, with_all_told};
-ghost use Rattle.ocfl_night.specs.Stopping.{IsSayStop, IsSpeakStop};
+ghost use Rattle.ocfl_night.specs.Stopping.{ForSay, ForSpeak, StopsFor};
 
 use crate::checkpoint::{
     bytes_of, is_all_told, put_checkpoint, tells_within, told_of, with_all_told,
@@ -33,7 +33,8 @@ fn say_piece<S: StateFolder, O: Output>(
     ensures seen { IsTrue S.told → S.seen folder.new ≡ S.seen folder.old }
     ensures crash { IsTrue S.told
         → Passes S.may_leave S.moment S.left_since Same folder.old folder.new }
-    ensures stop { IfErr result IsSayStop }
+    ensures stop { StopsFor (IsTrue S.told) (ForSay (S.seen folder.old) (start + most)
+        (O.said out.old) (O.said out.new)) (S.faults folder.old) (S.faults folder.new) result }
 {
     let mut piece = [0; PIECE];
     let count = folder.read(start, &mut piece)?;
@@ -60,7 +61,8 @@ fn say_between<S: StateFolder, O: Output>(
     ensures seen { IsTrue S.told → S.seen folder.new ≡ S.seen folder.old }
     ensures crash { IsTrue S.told
         → Passes S.may_leave S.moment S.left_since Same folder.old folder.new }
-    ensures stop { IfErr result IsSayStop }
+    ensures stop { StopsFor (IsTrue S.told) (ForSay (S.seen folder.old) end
+        (O.said out.old) (O.said out.new)) (S.faults folder.old) (S.faults folder.new) result }
 {
     let mut at = start;
     while at < end {
@@ -82,7 +84,9 @@ fn say_rest<S: StateFolder, O: Output>(
     ensures seen { IsTrue S.told → S.seen folder.new ≡ S.seen folder.old }
     ensures crash { IsTrue S.told
         → Passes S.may_leave S.moment S.left_since Same folder.old folder.new }
-    ensures stop { IfErr result IsSayStop }
+    ensures stop { StopsFor (IsTrue S.told) (ForSay (S.seen folder.old)
+        checkpoint.now.report.bytes (O.said out.old) (O.said out.new))
+        (S.faults folder.old) (S.faults folder.new) result }
 {
     say_between(folder, out, told_of(checkpoint), bytes_of(checkpoint))?;
     out.commit()?;
@@ -105,7 +109,8 @@ pub fn speak<S: StateFolder, O: Output>(
     ensures all { IfOk result (λ next. next ≡ with_all_told checkpoint) }
     ensures grew { Grows (O.said out.old) (O.said out.new) }
     ensures closed { IsTrue S.told → OnOk result (SameClosed S.seen folder.old folder.new) }
-    ensures stop { IfErr result (IsSpeakStop checkpoint) }
+    ensures stop { StopsFor (IsTrue S.told) (ForSpeak checkpoint (S.seen folder.old)
+        (O.said out.old) (O.said out.new)) (S.faults folder.old) (S.faults folder.new) result }
 {
     if is_all_told(&checkpoint) {
         return Ok(checkpoint);

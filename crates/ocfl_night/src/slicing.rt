@@ -2,7 +2,7 @@
 ghost use Rattle.std.specs.Prelude.{◌≡◌, ◌≢◌, ◌⊎◌, ◌++◌, IfErr, IfNone, IfOk, IsTrue, OnOk, length, true};
 ghost use Rattle.ocfl_tree.specs.{Place.{Text}, StorageRoot.{StorageRoot}, Store.{IfTold}};
 ghost use Rattle.ocfl_item.specs.Judging.{HasShortFiles};
-ghost use Rattle.ocfl_scrub.specs.{Keeping.{IsReady as IsWalkReady}, Running.{place_in}};
+ghost use Rattle.ocfl_scrub.specs.{Keeping.{IsReady as IsWalkReady}, Running.{IsWorn, place_in}};
 ghost use Rattle.ocfl_scrub.specs.Starting.{part_of};
 ghost use Rattle.ocfl_scrub.specs.declared.running.RunStatus.TheVariants as run;
 ghost use Rattle.ocfl_scrub.specs.declared.stop.ReportStop.TheVariants.{Output};
@@ -16,7 +16,8 @@ ghost use Rattle.ocfl_night.specs.Ending.{IsAway, IsMadeBy, IsSlice, IsUnkept, K
 ghost use Rattle.ocfl_night.specs.Promises.{IfReadyIn, IfWalkAt, IsSafeIn, SameClosed, StopsNextOver};
 ghost use Rattle.ocfl_night.specs.{Site.{IsStill}, Sound.{IsReady, IsSoundAt}};
 ghost use Rattle.ocfl_night.specs.Steps.{IsNext, IsRun, IsWalkAt};
-ghost use Rattle.ocfl_night.specs.Stopping.{IsFolderStop, IsRunStop, IsSliceStop};
+ghost use Rattle.ocfl_night.specs.declared.looking.NotKept.TheVariants.{Troubled};
+ghost use Rattle.ocfl_night.specs.Stopping.{ForExtend, ForKeep, ForSlice, IsRunStop, StopsFor};
 
 use crate::checkpoint::{cursor_of, put_checkpoint, report_of};
 use crate::leaving::part_past;
@@ -72,7 +73,7 @@ fn make_run<T: Tree>(
         → (T.state tree.new).tree ≡ root) }
     ensures still { IsTrue T.told → OnOk result (IsStill identity.now (T.state tree.new).tree) }
     ensures keeps { IfOk result (λ r. KeepsTo cursor limits r.0) }
-    ensures stop { IfErr result IsRunStop }
+    ensures stop { IfErr result (IsRunStop (IsWorn cursor)) }
 {
     let mut lines: Vec<u8> = Vec::new(alloc);
     let ran = run_on(alloc, tree, part, kept, cursor, limits, block, &mut lines);
@@ -99,7 +100,9 @@ fn extend<S: StateFolder>(
     ensures crash { IsTrue S.told → Passes S.may_leave S.moment S.left_since
         (MayTear (length (S.seen folder.old).report)
         (length ((S.seen folder.old).report ++ lines.now))) folder.old folder.new }
-    ensures stop { IfErr result IsFolderStop }
+    ensures stop { StopsFor (IsTrue S.told)
+        (ForExtend mark.now (S.seen folder.old))
+        (S.faults folder.old) (S.faults folder.new) result }
 {
     let next = append_marked(folder, mark, lines)?;
     folder.sync()?;
@@ -186,7 +189,7 @@ fn after_run(mut checkpoint: Checkpoint, ran: RunEnd, report: ReportMark) -> Mad
 /// A slice of whose run nothing is kept, and why: `Err` if something is troubled.
 fn unkept(checkpoint: Checkpoint, why: NotKept) -> Result<Made, Stop>
     ensures unkept { IfOk result (IsUnkept checkpoint) }
-    ensures stop { IsRunStop why → IfErr result IsSliceStop }
+    ensures stop { IfErr result (λ stop. why ≡ Troubled stop) }
 {
     match why {
         NotKept::Troubled(why) => Err(why),
@@ -232,7 +235,8 @@ fn keep<S: StateFolder>(
     ensures next { IfOk result (λ made. (report : ModelMark)
         × IsNext checkpoint ran report made.checkpoint) }
     ensures made { IfOk result (IsMadeBy ran) }
-    ensures stop { IfErr result IsSliceStop }
+    ensures stop { StopsFor (IsTrue S.told) (ForKeep checkpoint (S.seen folder.old))
+        (S.faults folder.old) (S.faults folder.new) result }
 {
     let mark = report_of(&checkpoint);
     let report = extend(folder, &mark, lines)?;
@@ -289,7 +293,8 @@ pub fn slice<S: StateFolder, T: Tree>(
     // Nothing is kept of a run after which the root is not the one of before.
     ensures still { IsTrue S.told → IsTrue T.told → (S.seen folder.new ≡ S.seen folder.old)
         ⊎ IsStill identity.now (T.state tree.new).tree }
-    ensures stop { IfErr result IsSliceStop }
+    ensures stop { StopsFor (IsTrue S.told) (ForSlice checkpoint (S.seen folder.old))
+        (S.faults folder.old) (S.faults folder.new) result }
 {
     let cursor = cursor_of(&checkpoint)?;
     let rest = part_past(alloc, part, checkpoint.left.as_slice())?;

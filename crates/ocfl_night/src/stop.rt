@@ -13,6 +13,8 @@ use std::alloc::AllocError;
 pub enum Stop {
     /// A call of the state folder failed, or memory was refused.
     Folder(FolderTrouble),
+    /// This is the text of a checkpoint that was to be put, and is longer than 1 MiB.
+    TooLong(Vec<u8>),
     /// The root's top folder, or a declaration in it, could not be read: the place that failed.
     Unread(Place),
     /// No further run can be counted.

@@ -12,6 +12,9 @@ use ocfl_state::FolderTrouble;
 use ocfl_telling::{RefusalMessage, StopMessage, refusal_text, stop_text};
 use std::alloc::{AllocError, Global};
 
+/// The words on a checkpoint that a state folder does not take.
+const TOO_LONG: &str = "checkpoint.new: more than 1 MiB";
+
 /// What the runs of a night came to.
 pub(crate) struct Runs {
     pub(crate) end: NightEnd,
@@ -238,6 +241,7 @@ fn text_of_trouble(
         Stop::Folder(FolderTrouble::Memory) => {
             text_of_stop(alloc, StopMessage::Memory, None, names)
         }
+        Stop::TooLong(_) => text_of_stop(alloc, StopMessage::State, Some(TOO_LONG), names),
         Stop::Folder(_) | Stop::Endless | Stop::Unsaid | Stop::Overtold | Stop::Short => {
             text_of_stop(alloc, StopMessage::State, words, names)
         }

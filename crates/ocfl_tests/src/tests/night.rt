@@ -23,6 +23,7 @@ use std::test::Fail;
 mod lost;
 mod older;
 mod slices;
+mod troubled;
 
 /// The audit of the root of three files, whose costs are 4, 1 and 4.
 const AUDIT: &str =
@@ -199,6 +200,7 @@ fn ending(end: &Halt) -> &'static str {
         Halt::Troubled(Stop::Output) => "output",
         Halt::Troubled(Stop::Folder(_)) => "folder",
         Halt::Troubled(Stop::Unread(_)) => "unread",
+        Halt::Troubled(Stop::TooLong(_)) => "too long",
         Halt::Troubled(_) => "troubled",
     }
 }

@@ -1,10 +1,13 @@
 use Rattle.std.proofs.{Common.{◌∙◌, ap, sym}, lemmas.Result.{err_from_is_err_and}}
+use Rattle.std.specs.Prelude.{IsTrue}
 use Rattle.ocfl_state.specs.Checkpoint.{Checkpoint}
 use Rattle.ocfl_night.specs.Beginning.{position}
+use Rattle.ocfl_night.specs.Stopping.{ForNight, TellsKept, course}
 use Rattle.ocfl_night.proofs.Beginnings.{begins_so}
 use Rattle.ocfl_night.proofs.Moments.{joined_moments, leaves_weaker}
 use Rattle.ocfl_night.proofs.Heard.{found_heard, grows_none, is_err, since_found}
 use Rattle.ocfl_night.proofs.Whole.{told_whole}
+use Rattle.ocfl_night.proofs.Reasons.{caught_reason, opens_at}
 use Rattle.ocfl_night.proofs.nights.catch_up.Goals as goal
 
 pub returns-in_err-opened-clause-heard : goal.returns-in_err-opened-clause-heard
@@ -70,3 +73,14 @@ returns-clause-begins g c = λ told. begins_so (ap position c.in_ok-speak.ensure
 
 pub returns-in_err-opened-clause-grew : goal.returns-in_err-opened-clause-grew
 returns-in_err-opened-clause-grew g c = grows_none _
+
+pub returns-in_err-speak-clause-stop : goal.returns-in_err-speak-clause-stop
+returns-in_err-speak-clause-stop g c =
+    let r = c.from_residual-in_err-speak.result in
+    let p = err_from_is_err_and r c.from_residual-in_err-speak.ensures.1 in
+    let why = c.in_err-speak.field-0.0 in
+    let now = course c.args.plan.now.create (g.S.StateFolder.seen c.args.folder.now) 0 (g.O.Output.said c.args.out.now) (g.O.Output.said c.speak.new.out) in
+    let kept = TellsKept g.S.StateFolder.told g.S.StateFolder.may_leave c.args.folder.now in
+    opens_at kept (ForNight (λ _. ⊥) now) _ _ r why (cc (p.1, p.2))
+    (caught_reason (IsTrue g.S.StateFolder.told) kept (λ _. ⊥) now c.in_ok-opened.opened.checkpoint (g.S.StateFolder.seen c.open.new.folder) (g.O.Output.said c.args.out.now) (g.O.Output.said c.speak.new.out) _ (g.S.StateFolder.faults c.open.new.folder) _ why
+    (λ given. given.0) (λ given. c.in_ok-opened.ensures.stop given.0) (λ given. (given.1.0, (_, (c.in_ok-opened.ensures.ready given.0 given.1.0 given.1.1).ready.stands))) (λ failed. failed) c.in_err-speak.ensures.stop)

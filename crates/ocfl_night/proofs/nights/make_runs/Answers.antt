@@ -1,14 +1,16 @@
-use Rattle.std.proofs.Common.{◌∙◌, ◌++◌, ◌∷◌, [], ℕ, List, Option, None, ap, sym, subst}
-use Rattle.std.proofs.lemmas.Result.{err_from_is_err_and}
+use Rattle.std.proofs.Common.{◌∙◌, ◌++◌, ◌∷◌, [], ℕ, List, Option, None, ap, refl, sym, subst}
 use Rattle.std.specs.Prelude.{◌≡◌, IfSome, IsTrue}
+use Rattle.std.proofs.lemmas.Result.{err_from_is_err_and}
 use Rattle.ocfl_scrub.specs.Starting.{part_of}
 use Rattle.ocfl_state.specs.{Checkpoint.{Checkpoint}, Content.{Closed, is_closed}}
 use Rattle.ocfl_night.specs.Looks.{Rounds, of_any}
-use Rattle.ocfl_night.specs.{Done.{done_of}, Ending.{cycle_of}, Sound.{IsOneMore}}
+use Rattle.ocfl_tree.specs.Place.{Text}
+use Rattle.ocfl_night.specs.{Done.{done_of}, Ending.{cycle_of}, Output.{HasFailed}, Sound.{IsOneMore, IsReady}, Stopping.{ForRuns, IsGiven}}
 use Rattle.ocfl_night.proofs.Beginnings.{ended_in, none_ended, one_more_since, shut_before}
 use Rattle.ocfl_night.proofs.Runs.{halted_so, made_so, troubled_after, troubled_in}
 use Rattle.ocfl_night.proofs.{Moments.{joined_moments}, Heard.{grows_none, said_on, silent}}
 use Rattle.ocfl_night.proofs.Whole.{closing_by, come_whole, grown_whole, told_whole}
+use Rattle.ocfl_night.proofs.Reasons.{speak_reason, stops_at}
 use Rattle.ocfl_night.proofs.nights.make_runs.Goals as goal
 
 pub returns-in_err-last-clause-heard : goal.returns-in_err-last-clause-heard
@@ -101,3 +103,17 @@ returns-clause-whole g c = λ told tells root over short t r cycle is d come.
 
 pub returns-in_err-last-clause-grew : goal.returns-in_err-last-clause-grew
 returns-in_err-last-clause-grew g c = grows_none _
+
+pub returns-in_err-said-clause-stop : goal.returns-in_err-said-clause-stop
+returns-in_err-said-clause-stop g c = λ may.
+    let r = c.from_residual-in_err-said.result in
+    let p = err_from_is_err_and r c.from_residual-in_err-said.ensures.1 in
+    let why = c.in_err-said.field-0.0 in
+    let there = (t : Text) × IsReady g.S.StateFolder.seen g.S.StateFolder.may_leave (of_any (part_of c.args.part.now)) t c.args.checkpoint c.args.folder.now in
+    let given = IsGiven g.S.StateFolder.told g.T.Tree.told (g.T.Tree.state c.args.tree.now) there in
+    let silenced = HasFailed (g.O.Output.said c.args.out.now).failures (g.O.Output.said c.speak.new.out).failures in
+    stops_at given (ForRuns silenced c.args.checkpoint c.runs.new.tally.runs) _ _ r why (cc (p.1, p.2))
+    (speak_reason (IsTrue g.S.StateFolder.told) given silenced c.args.checkpoint c.in_ok-last.last (g.S.StateFolder.seen c.runs.new.folder) (g.O.Output.said c.args.out.now) (g.O.Output.said c.speak.new.out) c.runs.new.tally.runs _ (g.S.StateFolder.faults c.runs.new.folder) _ why
+    (λ at. at.folder) (λ at. c.in_ok-last.ensures.stop may at)
+    (λ at. (of_any (part_of c.args.part.now), (at.holds.0, (c.in_ok-last.ensures.ready at.folder at.store _ refl at.short None tt at.holds.0 at.holds.1).stands)))
+    (λ failed. failed) c.in_err-said.ensures.stop)

@@ -1,17 +1,21 @@
 use Rattle.std.proofs.Common.{◌≡◌, ◌≤◌, ◌++◌, ◌∷◌, ◌∙◌, [], All, Bool, Err, Global, List, Option, Vec, ap, inl, inr, length, refl, subst, sym}
 use Rattle.std.specs.Prelude.{IsTrue}
-use Rattle.ocfl_tree.specs.{Place.{Place}, StorageRoot.{StorageRoot}}
+use Rattle.ocfl_tree.specs.{Place.{Place, Text}, StorageRoot.{StorageRoot}}
 use Rattle.ocfl_item.specs.Judging.{HasShortFiles}
 use Rattle.ocfl_audit.specs.Parts.{Part}
 use Rattle.ocfl_state.specs.Content.{Closed, Content}
 use Rattle.ocfl_night.specs.{Done.{Done, done_of}, Leaving.{has_end}, Nights.{IsSafeNight}, Site.{part_at}}
 use Rattle.ocfl_night.specs.Looks.{Counts, Known, Rounds, look_between, of_any}
-use Rattle.ocfl_night.specs.{Sound.{IsOneMore}, Steps.{IsNotBegun}}
+use Rattle.ocfl_scrub.specs.Starting.{part_of}
+use Rattle.ocfl_night.specs.{Output.{HasFailed}, Sound.{IsKept, IsOneMore, IsReady}, Steps.{IsNotBegun}}
+use Rattle.ocfl_night.specs.declared.nights.Begun.{Begun}
+use Rattle.ocfl_night.specs.Stopping.{ForNight, ForRuns, IsGiven, IsUnlooked, TellsKept, course}
 use Rattle.ocfl_night.proofs.Beginnings.{one_more_since, refused_still, shut_since, still_on}
 use Rattle.ocfl_night.proofs.{Moments.{leaves_weaker}, Runs.{made_from}}
 use Rattle.ocfl_night.proofs.Looks.{counts_on, last_of}
 use Rattle.ocfl_night.proofs.Heard.{heard_through, on_ok, ready_since, since_sound, told_since}
 use Rattle.ocfl_night.proofs.Newest.{newest}
+use Rattle.ocfl_night.proofs.Reasons.{ended_troubled, failed_since, night_reason, opened_reason, stopped_reason, unbegun_reason, unbegun_troubled}
 use Rattle.ocfl_night.proofs.nights.night.Given as given
 use Rattle.ocfl_night.proofs.nights.night.Goals.{After-make_runs-through}
 use Rattle.ocfl_night.proofs.nights.night.Goals as goal
@@ -80,6 +84,24 @@ returns g c =
             (λ it. let all = fits.0 it in let both = begun.0 all.0 in record { before = both.1; lost = c.account-2.ensures.lost ∙ both.0; left = now ∙ all.1 ∙ none }),
             (λ all. fits.1 (begun.1 (sym c.account-2.ensures.lost ∙ all.lost, all.before), sym now ∙ all.left ∙ sym none)),
           );
+      troubled = λ why is.
+          let err = ended_troubled runs.result why (sym (c.account-2.ensures.end ∙ c.ended.ensures.is) ∙ is) runs.ensures.untroubled in
+          let may = c.none-tally.ensures.left c.args.plan.now.stop_at_faults in
+          let there = (t : Text) × IsReady s g.S.StateFolder.may_leave (of_any (part_of c.in-Ok.begun.part)) t c.in-Ok.begun.checkpoint c.set_out.new.folder in
+          let ready = IsGiven g.S.StateFolder.told g.T.Tree.told (g.T.Tree.state c.set_out.new.tree) there in
+          let kept = IsGiven g.S.StateFolder.told g.T.Tree.told (g.T.Tree.state c.args.tree.now) (IsKept g.S.StateFolder.may_leave part c.args.folder.now) in
+          let silenced = HasFailed (g.O.Output.said c.set_out.new.out).failures (g.O.Output.said runs.new.out).failures in
+          night_reason ready kept silenced (IsUnlooked g.T.Tree.told (g.T.Tree.state c.args.tree.now) (g.T.Tree.state runs.new.tree)) (course c.args.plan.now.create (s c.args.folder.now) c.account-2.result.runs (g.O.Output.said c.args.out.now) (g.O.Output.said runs.new.out)) c.in-Ok.begun.checkpoint runs.new.tally.runs _ (g.S.StateFolder.faults c.set_out.new.folder) _ why
+          (λ at. record {
+            folder = at.folder;
+            store = at.store;
+            short = subst (λ (x : StorageRoot). HasShortFiles x) (sym (c.set_out.ensures.root at.store)) at.short;
+            holds = (_, ready_since same (c.in-Ok.ensures.ready at.folder part at.holds));
+          })
+          (λ at. c.in-Ok.ensures.stop (at.folder, (part, at.holds)))
+          (λ at. c.in-Ok.ensures.begins at.folder)
+          (failed_since c.set_out.ensures.grew.failures) (sym c.account-2.ensures.runs)
+          (stopped_reason ready (ForRuns silenced c.in-Ok.begun.checkpoint runs.new.tally.runs) _ _ runs.result why err (runs.ensures.stop may));
       few = subst (λ (v : Vec Place Global). length v.items ≤ 16) (sym c.account-2.ensures.left) left.few;
       none_left = λ strict. subst (λ (v : Vec Place Global). v.items ≡ []) (sym c.account-2.ensures.left) (left.none strict);
       ends = subst (λ (v : Vec Place Global). All (λ b. IsTrue (has_end b)) v.items) (sym c.account-2.ensures.left) left.ends;
@@ -117,6 +139,16 @@ returns-in-Err g c =
       whole = λ told tells root over short kept cycle is d come. absurd (subst IsNotBegun (sym c.account.ensures.end ∙ is) c.unbegun.ensures.not_begun);
       goes_on = λ told well other.
           refused_still c.in-Err.why (c.account.ensures.end ∙ c.unbegun.ensures.is) well (λ why is. ap (λ (x : Content). x.closed) (c.in-Err.ensures.refused told why (ap Err is)));
+      troubled = λ why is.
+          let troubled = unbegun_troubled c.in-Err.why why (sym (c.account.ensures.end ∙ c.unbegun.ensures.is) ∙ is) in
+          let none = c.account.ensures.runs ∙ ap (λ (d : Done). d.runs) c.none-tally.ensures.nothing in
+          let unlooked = IsUnlooked g.T.Tree.told (g.T.Tree.state c.args.tree.now) (g.T.Tree.state c.set_out.new.tree) in
+          let given = IsGiven g.S.StateFolder.told g.T.Tree.told (g.T.Tree.state c.args.tree.now) (IsKept g.S.StateFolder.may_leave (of_any part) c.args.folder.now) in
+          let kept = TellsKept g.S.StateFolder.told g.S.StateFolder.may_leave c.args.folder.now in
+          let now = course c.args.plan.now.create (g.S.StateFolder.seen c.args.folder.now) 0 (g.O.Output.said c.args.out.now) (g.O.Output.said c.set_out.new.out) in
+          unbegun_reason kept given unlooked c.args.plan.now.create (g.S.StateFolder.seen c.args.folder.now) 0 c.account.result.runs (g.O.Output.said c.args.out.now) (g.O.Output.said c.set_out.new.out) _ _ why
+          (λ at. (at.folder, (of_any part, at.holds))) (sym none)
+          (opened_reason kept (ForNight unlooked now) _ _ Begun c.in-Err.why why troubled c.in-Err.ensures.stop);
       few = subst (λ (v : Vec Place Global). length v.items ≤ 16) (sym c.account.ensures.left) left.few;
       none_left = λ strict. subst (λ (v : Vec Place Global). v.items ≡ []) (sym c.account.ensures.left) (left.none strict);
       ends = subst (λ (v : Vec Place Global). All (λ b. IsTrue (has_end b)) v.items) (sym c.account.ensures.left) left.ends;

@@ -1,22 +1,24 @@
-use Rattle.std.proofs.Common.{◌≡◌, ◌∙◌, ◌++◌, ◌∷◌, [], append_assoc, inl, inr, rules, List, Option, ap, false, refl, subst, sym}
+use Rattle.std.proofs.Common.{◌≡◌, ◌∙◌, ◌++◌, ◌∷◌, [], append_assoc, inl, inr, rules, List, Option, None, arith, ap, false, refl, subst, sym}
 use Rattle.std.proofs.lemmas.{List.{append-nil}, Result.{err_from_is_err_and}}
 use Rattle.std.specs.Prelude.{IsTrue}
 use Rattle.ocfl_tree.specs.{Place.{Text}, StorageRoot.{StorageRoot}}
 use Rattle.ocfl_item.specs.Judging.{HasShortFiles}
 use Rattle.ocfl_scrub.specs.Starting.{part_of}
-use Rattle.ocfl_night.specs.{Clock.{Event, Asked, Read, Heard}, Done.{Done, done_of, with_made}, Leaving.{LeadsOn, MayLeave}}
+use Rattle.ocfl_night.specs.{Clock.{Event, Asked, Read, Heard}, Done.{Done, counted, done_of, with_made}, Leaving.{LeadsOn, MayLeave}}
 use Rattle.ocfl_state.specs.declared.checkpoint_parts.Phase.TheVariants.{Open}
 use Rattle.ocfl_night.specs.Runs.{Run, IsRunOf, MayBeginAt, MayHaveLeft, StopsOpen, after_it, after_made, events_of, in_it, turn_of}
 use Rattle.ocfl_night.specs.declared.plan.Pause.{Pause}
-use Rattle.ocfl_night.specs.Looks.{Counts, IsOneOf, Known, look_between}
+use Rattle.ocfl_night.specs.Looks.{Counts, IsOneOf, Known, look_between, of_any}
+use Rattle.ocfl_night.specs.Stopping.{ForRuns, IsGiven}
 use Rattle.ocfl_night.specs.{Promises.{IsSafeIn, StopsNext}, Sound.{IsReady}}
 use Rattle.ocfl_night.proofs.{Beginnings.{next_in}, KeptWalks.{walk_none}, Runs.{and_then, failed_so, led_by, none_yet, paused, paused_before, run_more}}
 use Rattle.ocfl_night.proofs.Looks.{counts_none, counts_on, first_of, last_of, root_of}
-use Rattle.ocfl_night.proofs.{Moments.{joined_moments, unmoved}, Sound.{ready_sound}}
+use Rattle.ocfl_night.proofs.{Moments.{joined_moments, unmoved}, Sound.{ready_mark, ready_sound}}
 use Rattle.ocfl_state.specs.Checkpoint.{Checkpoint}
 use Rattle.ocfl_night.proofs.Whole.{grown_on, none_grown, run_grown}
 use Rattle.ocfl_night.proofs.nights.runs.Given as given
 use Rattle.ocfl_night.proofs.nights.runs.Goals.{After-go_on_after}
+use Rattle.ocfl_night.proofs.Reasons.{counted_on, endless_before, none_counted, put_reason, slice_reason, stops_at, told_within, worn_after, worn_out}
 use Rattle.ocfl_night.proofs.nights.runs.Goals as goal
 
 -- what was looked at before a slice that was made, and in it
@@ -74,6 +76,10 @@ turned : (g : given.Over) (c : After-go_on_after g) {next : Checkpoint × Option
 turned g c going led =
     run_grown c.args.plan.now (done_of c.loop-run.tally) (record { now = c.in-Ok.allowed.1; made = c.in_ok-made.made }) c.in_ok-made.ensures.slice (led_by c.args.plan.now (done_of c.loop-run.tally) c.in-Ok.allowed.1 going c.in_ok-made.ensures.slice c.begin.ensures.done c.count.ensures.done led)
 
+-- one run more is counted
+one_run : (g : given.Over) (c : After-go_on_after g) → c.go_on_after.new.tally.runs ≡ counted c.loop-run.tally.runs 1
+one_run g c = c.go_on_after.ensures.runs ∙ ap (λ (d : Done). d.runs) c.count.ensures.done ∙ ap (λ (d : Done). d.runs) c.begin.ensures.done
+
 pub loop-run-init : goal.loop-run-init
 loop-run-init g c = record {
   any_moment = λ told tells root over short known one t r. unmoved (g.met.S.StateFolder.only_now told) (ready_sound r);
@@ -82,6 +88,9 @@ loop-run-init g c = record {
   closed = λ told. refl;
   cycle = refl;
   told = λ told. none_yet;
+  faults = λ told. omega arith;
+  counted = none_counted c.args.start c.args.tally.now.runs;
+  passed = omega arith;
   leads = none_grown;
   left = λ may. may;
   root = λ tells root over short. over;
@@ -162,6 +171,9 @@ loop-run-preserved g c =
       ready = λ told tells root over short known one t r. c.in_ok-next.ensures.ready told (record { part = part_of c.args.part.now; known = known }) (stops_next g at tells root over short known one) t (made_ready g at tells root over short known one told t r);
       counts = counts_then g at;
       closed = λ told. c.in_ok-next.ensures.closed told ∙ c.in_ok-made.ensures.closed told ∙ inv.closed told;
+      faults = λ told. let a = inv.faults told in let b = c.in_ok-made.ensures.stop told in let d = c.in_ok-next.ensures.stop told in omega arith;
+      counted = counted_on c.args.plan.now.stop_at_faults (done_of c.count.new.self) (done_of c.go_on_after.new.tally) c.args.start (c.in_ok-next.next, c.in_ok-next.pause) (search rules) c.in_ok-made.ensures.slice c.in_ok-next.ensures.turn inv.counted (one_run g at);
+      passed = let one = one_run g at in omega (arith, inv.passed, c.loop-run-test.true);
       leads = grown_on inv.leads (turned g at (search rules) c.in_ok-next.ensures.turn);
       cycle = next_in c.args.plan.now.stop_at_faults (done_of c.count.new.self) (done_of c.go_on_after.new.tally) (c.in_ok-next.next, c.in_ok-next.pause) (search rules) c.in_ok-made.ensures.slice c.in_ok-next.ensures.turn ∙ inv.cycle;
       told = λ told. run_more (run g at told) (inv.told told) (heard g at told) (is_run g at told) (led_by c.args.plan.now (done_of c.loop-run.tally) c.in-Ok.allowed.1 (may g at told).goes_on c.in_ok-made.ensures.slice c.begin.ensures.done c.count.ensures.done c.in_ok-next.ensures.turn ∙ ap (λ (o : Option Pause). turn_of (done_of c.go_on_after.new.tally) (c.in_ok-next.next, o)) c.in_default.is);
@@ -200,3 +212,52 @@ returns-in-Some-clause-told g c = λ told.
 
 pub returns-in-Some-clause-leads : goal.returns-in-Some-clause-leads
 returns-in-Some-clause-leads g c = grown_on c.loop-run.invariant.leads (turned g (goal.at.returns-in-Some-clause-leads g c).After-go_on_after (search rules) c.in_ok-next.ensures.turn)
+
+pub returns-then-ne-clause-stop : goal.returns-then-ne-clause-stop
+returns-then-ne-clause-stop g c = λ may given. c.loop-run.invariant.faults given.folder
+
+pub returns-in-Err-clause-stop : goal.returns-in-Err-clause-stop
+returns-in-Err-clause-stop g c = λ may given. c.loop-run.invariant.faults given.folder
+
+pub returns-in-Some-clause-stop : goal.returns-in-Some-clause-stop
+returns-in-Some-clause-stop g c = λ may given.
+    let a = c.loop-run.invariant.faults given.folder in
+    let b = c.in_ok-made.ensures.stop given.folder in
+    let d = c.in_ok-next.ensures.stop given.folder in
+    omega arith
+
+pub returns-in_err-made-clause-stop : goal.returns-in_err-made-clause-stop
+returns-in_err-made-clause-stop g c = λ may.
+    let p = err_from_is_err_and c.from_residual.result c.from_residual.ensures.1 in
+    let why = c.in_err-made.field-0.0 in
+    let inv = c.loop-run.invariant in
+    let going : c.loop-run.checkpoint.phase ≡ Open = search rules in
+    let begun : c.begin.new.self.runs ≡ counted c.loop-run.tally.runs 1 = ap (λ (d : Done). d.runs) c.begin.ensures.done in
+    let there = (t : Text) × IsReady g.S.StateFolder.seen g.S.StateFolder.may_leave (of_any (part_of c.args.part.now)) t c.args.start c.args.folder.now in
+    let given = IsGiven g.S.StateFolder.told g.T.Tree.told (g.T.Tree.state c.args.tree.now) there in
+    stops_at given (ForRuns ⊥ c.args.start c.begin.new.self.runs) _ _ c.from_residual.result why (cc (p.1, p.2))
+    (slice_reason (IsTrue g.S.StateFolder.told) given ⊥ c.args.start c.loop-run.checkpoint (g.S.StateFolder.seen c.loop-run.folder) c.begin.new.self.runs _ (g.S.StateFolder.faults c.loop-run.folder) _ why
+    (λ at. at.folder) (λ at. inv.faults at.folder)
+    (λ at. ready_mark going (inv.ready at.folder at.store _ refl at.short None tt at.holds.0 at.holds.1))
+    (λ at. told_within (inv.ready at.folder at.store _ refl at.short None tt at.holds.0 at.holds.1).stands)
+    (worn_after c.args.start c.loop-run.checkpoint going inv.cycle inv.counted (omega (arith, begun)))
+    (endless_before inv.leads (inv.left may).ends)
+    c.in_err-made.ensures.stop)
+
+pub returns-in_err-next-clause-stop : goal.returns-in_err-next-clause-stop
+returns-in_err-next-clause-stop g c = λ may.
+    let r = c.from_residual-in_err-next.result in
+    let p = err_from_is_err_and r c.from_residual-in_err-next.ensures.1 in
+    let why = c.in_err-next.field-0.0 in
+    let at = (goal.at.returns-in_err-next-clause-stop g c).After-go_on_after in
+    let there = (t : Text) × IsReady g.S.StateFolder.seen g.S.StateFolder.may_leave (of_any (part_of c.args.part.now)) t c.args.start c.args.folder.now in
+    let given = IsGiven g.S.StateFolder.told g.T.Tree.told (g.T.Tree.state c.args.tree.now) there in
+    stops_at given (ForRuns ⊥ c.args.start c.go_on_after.new.tally.runs) _ _ r why (cc (p.1, p.2))
+    (put_reason (IsTrue g.S.StateFolder.told) given ⊥ c.args.start c.in_ok-made.made.checkpoint c.go_on_after.new.tally.runs _ (g.S.StateFolder.faults c.slice.new.folder) _ why
+    (λ x. x.folder)
+    (λ x. let a = c.loop-run.invariant.faults x.folder in let b = c.in_ok-made.ensures.stop x.folder in omega arith)
+    (λ x. told_within (made_ready g at x.store _ refl x.short None tt x.folder x.holds.0 x.holds.1).stands)
+    c.in_err-next.ensures.stop)
+
+pub returns-clause-stop : goal.returns-clause-stop
+returns-clause-stop g c = λ may. worn_out c.args.start c.loop-run.tally.runs (omega (arith, c.loop-run.invariant.passed, c.loop-run-test.false))

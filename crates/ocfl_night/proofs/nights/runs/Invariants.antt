@@ -1,4 +1,4 @@
-use Rattle.std.proofs.Common.{◌≡◌}
+use Rattle.std.proofs.Common.{◌≡◌, ◌≤◌}
 use Rattle.ocfl_tree.specs.{Place.{Text}, Store.{IfTold}}
 use Rattle.ocfl_item.specs.Judging.{HasShortFiles}
 use Rattle.std.specs.Prelude.{IsTrue}
@@ -6,7 +6,7 @@ use Rattle.ocfl_scrub.specs.Starting.{part_of}
 use Rattle.ocfl_state.specs.Crash.{LeavesOnly}
 use Rattle.ocfl_night.specs.{Done.{done_of}, Ending.{cycle_of}, Leaving.{LeadsOn, MayLeave}, Looks.{Counts, WithLook, look_between}}
 use Rattle.ocfl_night.specs.{Sound.{IsReady, IsSoundAt}, Steps.{IsWalkAt}}
-use Rattle.ocfl_night.proofs.Runs.{SoFar}
+use Rattle.ocfl_night.proofs.{Reasons.{IsCounted}, Runs.{SoFar}}
 use Rattle.ocfl_night.proofs.nights.runs.Given as goal
 
 abbrev pub invariant-loop-run : goal.invariant-loop-run
@@ -23,6 +23,9 @@ invariant-loop-run g l =
       closed : IsTrue g.S.StateFolder.told → (seen l.folder).closed ≡ (seen l.fn.folder).closed;
       cycle : cycle_of l.checkpoint ≡ cycle_of l.fn.start;
       told : IsTrue g.C.Clock.told → SoFar l.fn.plan (g.C.Clock.events l.fn.clock) (g.C.Clock.events l.clock) (done_of l.fn.tally) l.fn.start (done_of l.tally) l.checkpoint;
+      faults : IsTrue g.S.StateFolder.told → g.S.StateFolder.faults l.fn.folder ≤ g.S.StateFolder.faults l.folder;
+      counted : IsCounted l.fn.start l.checkpoint l.tally.runs;
+      passed : l._run ≤ l.tally.runs;
       leads : LeadsOn l.fn.start l.fn.tally.left.items l.checkpoint l.tally.left.items;
       left : MayLeave l.fn.plan.stop_at_faults l.fn.tally.left.items → MayLeave l.fn.plan.stop_at_faults l.tally.left.items;
       root : IfTold g.T.Tree.told (g.T.Tree.state l.fn.tree) (λ root. HasShortFiles root → (g.T.Tree.state l.tree).tree ≡ root);

@@ -9,6 +9,7 @@ invariant-loop-at g l = record {
   from : l.start ≤ l.at;
   up_to : l.at ≤ l.end;
   said : IsTrue g.S.StateFolder.told → Appends (g.O.Output.said l.fn.out).given (g.O.Output.said l.out).given (take (l.at - l.start) (drop l.start (g.S.StateFolder.seen l.fn.folder).report));
+  later : IsTrue g.S.StateFolder.told → g.S.StateFolder.faults l.fn.folder ≤ g.S.StateFolder.faults l.folder;
   grew : Grows (g.O.Output.said l.fn.out) (g.O.Output.said l.out);
   seen : IsTrue g.S.StateFolder.told → g.S.StateFolder.seen l.folder ≡ g.S.StateFolder.seen l.fn.folder;
   crash : IsTrue g.S.StateFolder.told → Passes g.S.StateFolder.may_leave g.S.StateFolder.moment g.S.StateFolder.left_since Same l.fn.folder l.folder;

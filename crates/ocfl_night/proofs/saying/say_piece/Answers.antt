@@ -10,10 +10,10 @@ pub returns-then-count-eq0-clause-grew : goal.returns-then-count-eq0-clause-grew
 returns-then-count-eq0-clause-grew g c = grows_none _
 
 pub returns-in_err-give-clause-grew : goal.returns-in_err-give-clause-grew
-returns-in_err-give-clause-grew g c = gave_grows _ _ c.give.ensures.grew c.give.ensures.kept
+returns-in_err-give-clause-grew g c = gave_grows _ _ c.give.ensures.grew c.give.ensures.kept c.in_err-give.ensures.failed.later
 
 pub returns-clause-grew : goal.returns-clause-grew
-returns-clause-grew g c = gave_grows _ _ c.give.ensures.grew c.give.ensures.kept
+returns-clause-grew g c = gave_grows _ _ c.give.ensures.grew c.give.ensures.kept (omega (arith, c.in_ok-give.ensures.failed))
 
 pub returns-clause-said : goal.returns-clause-said
 returns-clause-said g c = λ told.

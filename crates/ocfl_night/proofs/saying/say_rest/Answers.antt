@@ -1,14 +1,14 @@
-use Rattle.std.proofs.Common.{subst}
+use Rattle.std.proofs.Common.{subst, arith}
 use Rattle.ocfl_tree.specs.Place.{Text}
 use Rattle.ocfl_night.specs.Output.{HasCommitted}
 use Rattle.ocfl_night.proofs.Heard.{committed_grows, grows_on, has_committed, unsaid_as}
 use Rattle.ocfl_night.proofs.saying.say_rest.Goals as goal
 
 pub returns-in_err-commit-clause-grew : goal.returns-in_err-commit-clause-grew
-returns-in_err-commit-clause-grew g c = grows_on _ _ _ c.say_between.ensures.grew (committed_grows _ _ c.commit.ensures.given c.commit.ensures.grew)
+returns-in_err-commit-clause-grew g c = grows_on _ _ _ c.say_between.ensures.grew (committed_grows _ _ c.commit.ensures.given c.commit.ensures.grew c.in_err-commit.ensures.failed.later)
 
 pub returns-clause-grew : goal.returns-clause-grew
-returns-clause-grew g c = grows_on _ _ _ c.say_between.ensures.grew (committed_grows _ _ c.commit.ensures.given c.commit.ensures.grew)
+returns-clause-grew g c = grows_on _ _ _ c.say_between.ensures.grew (committed_grows _ _ c.commit.ensures.given c.commit.ensures.grew (omega (arith, c.in_ok-commit.ensures.failed)))
 
 pub returns-clause-said : goal.returns-clause-said
 returns-clause-said g c = λ told.

@@ -1,7 +1,11 @@
 use Rattle.std.proofs.Common.{◌∙◌, ap}
+use Rattle.std.proofs.lemmas.Result.{err_from_is_err_and}
+use Rattle.std.specs.Prelude.{IsTrue}
 use Rattle.ocfl_state.specs.Content.{Content}
+use Rattle.ocfl_night.specs.Stopping.{ForKeep}
 use Rattle.ocfl_night.proofs.Moments.{leaves, torn_less}
 use Rattle.ocfl_night.proofs.Sound.{mark_after, ready_sound, run_sound, after_extended, put_ready}
+use Rattle.ocfl_night.proofs.Reasons.{keep_over, keep_reason, stops_at}
 use Rattle.ocfl_night.proofs.slicing.keep.Goals as goal
 
 pub returns-in_err-report-clause-any_moment : goal.returns-in_err-report-clause-any_moment
@@ -25,3 +29,12 @@ returns-clause-ready g c = λ told rounds look one run t r.
 pub returns-clause-closed : goal.returns-clause-closed
 returns-clause-closed g c = λ told.
     ap (λ (x : Content). x.closed) (c.in_ok-put_checkpoint.ensures.put told).put ∙ ap (λ (x : Content). x.closed) (c.in_ok-report.ensures.grown told)
+
+pub returns-in_err-put_checkpoint-clause-stop : goal.returns-in_err-put_checkpoint-clause-stop
+returns-in_err-put_checkpoint-clause-stop g c =
+    let r = c.from_residual-in_err-put_checkpoint.result in
+    let p = err_from_is_err_and r c.from_residual-in_err-put_checkpoint.ensures.1 in
+    let why = c.in_err-put_checkpoint.field-0.0 in
+    let over = λ (told : IsTrue g.S.StateFolder.told). keep_over c.args.checkpoint c.after_run-made.result.checkpoint c.args.ran c.report_of-mark.result c.in_ok-report.report (g.S.StateFolder.seen c.args.folder.now) (g.S.StateFolder.seen c.extend.new.folder) c.args.lines.now c.after_run-made.ensures.next c.report_of-mark.ensures (c.in_ok-report.ensures.grown told) (c.in_ok-report.ensures.mark told) in
+    stops_at (IsTrue g.S.StateFolder.told) (ForKeep c.args.checkpoint (g.S.StateFolder.seen c.args.folder.now)) _ _ r why (cc (p.1, p.2))
+    (keep_reason (IsTrue g.S.StateFolder.told) c.args.checkpoint c.after_run-made.result.checkpoint (g.S.StateFolder.seen c.args.folder.now) _ (g.S.StateFolder.faults c.extend.new.folder) _ why c.in_ok-report.ensures.stop over c.in_err-put_checkpoint.ensures.stop)

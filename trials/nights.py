@@ -32,8 +32,8 @@ import time
 
 import common
 from common import PROGRAM, check
-from shared.nights import (ITEMS, NIGHTS, REPORTS, WRONG_B, Nights, ask, make_root, ran, read,
-                           tried_apart, write)
+from shared.nights import (ITEMS, NIGHTS, REPORTS, WRONG_B, Nights, ask, in_an_hour, make_root, ran,
+                           read, tried_apart, write)
 
 # What seals a statement in these trials.
 SEAL = ["--seal", 'rev "$1" > "$1.rev"']
@@ -209,11 +209,11 @@ def words(folder):
     check("help", (status, out.startswith("usage: nightly "), "\nexample:\n  nightly " in out,
                    said), (0, True, True, ""))
     status, out, _ = ran([nightly, "--create", "--for-tell", "--keep", "", "--seal", "", "--state",
-                          nights.state, "--until", "23:59", nights.root])
+                          nights.state, "--until", in_an_hour(), nights.root])
     check("empty values", (status, out, nights.whole(1)), (0, "", "".join(ITEMS)))
     time.sleep(1.1)
-    check("words with their values", (ran([nightly, "--state=" + nights.state, "--until=23:59",
-                                           nights.root])[0], nights.lines(2)["Whole"]), (0, "yes"))
+    check("words with their values", (ran([nightly, "--state=" + nights.state,
+                                           "--until=" + in_an_hour(), nights.root])[0], nights.lines(2)["Whole"]), (0, "yes"))
     odd = folder + "/--seal"
     make_root(odd)
     at = ["--create", "--state", "state-2", "--", "--seal"]

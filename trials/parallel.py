@@ -41,7 +41,7 @@ import time
 
 import common
 from common import PROGRAM, check
-from shared.nights import NIGHTS, REPORTS, ran, read, tried_apart, write
+from shared.nights import NIGHTS, REPORTS, in_an_hour, ran, read, tried_apart, write
 from shared.parallel import (Place, Together, audit, begun, findings, check_statement, make_root,
                              small_root, lines_in_message)
 
@@ -382,8 +382,8 @@ def ends(folder):
     check("over before it begins", nights.night("--end", "5"), (0, "", ""))
     check("each part has its rows", rows_of_parts(nights), [["began", "night"]] * 4)
     check("by hours", nights.night("--hours", "0.0001", "--budget", "1")[0], 0)
-    for zone, until in [("UTC", "23:59"), ("Europe/Berlin", "02:30")]:
-        check("until " + until, nights.night("--until", until, TZ=zone)[0], 0)
+    for zone, until in [("UTC", in_an_hour(time.gmtime)), ("Europe/Berlin", "02:30")]:
+        check("until, in " + zone, nights.night("--until", until, TZ=zone)[0], 0)
     nights.is_audit("a cycle")
 
 
@@ -468,7 +468,7 @@ def by_a_service(folder):
     nights.night("--end", "1")
     line = re.search(r"ExecStart=(/\S+/parallel/nightly(?:.*\\\n)*.*)", read(
         NIGHTS + "/CLUSTERS.md"))[1].replace("\\\n", "")
-    given = {"${UNTIL}": ["23:59"], "${KEEP}": [""], "${SEAL}": [""], "$OPTIONS": [],
+    given = {"${UNTIL}": [in_an_hour()], "${KEEP}": [""], "${SEAL}": [""], "$OPTIONS": [],
              "${ROOT}": [nights.root], "%S/ocfl-scrub/%i": [nights.state]}
     words = [word for it in line.split() for word in given.get(it, [it])]
     words[0] = NIGHTS + "/parallel/nightly"

@@ -32,8 +32,8 @@ import subprocess
 
 import common
 from common import PROGRAM, check
-from shared.nights import (NIGHTS, REPORTS, WRONG_B, Nights, make_root, ran, read, tried_apart,
-                           write)
+from shared.nights import (NIGHTS, REPORTS, WRONG_B, Nights, in_an_hour, make_root, ran, read,
+                           tried_apart, write)
 
 
 def words_of_tell(nights):
@@ -53,7 +53,7 @@ def in_service(nights, number, program=PROGRAM, **environment):
     the mail have."""
     unit = read(NIGHTS + "/systemd/ocfl-scrub@.service")
     line = re.sub(r"\\\n", "", re.search(r"^ExecStart=((?:.*\\\n)*.*)$", unit, re.MULTILINE)[1])
-    given = {"UNTIL": "23:59", "KEEP": "", "SEAL": "", "ROOT": nights.root,
+    given = {"UNTIL": in_an_hour(), "KEEP": "", "SEAL": "", "ROOT": nights.root,
              "OPTIONS": "" if os.path.exists(nights.path("checkpoint")) else "--create"}
     words = [re.sub(r"\$\{(\w+)\}", lambda found: given[found[1]], word)
              .replace("%S/ocfl-scrub/%i", nights.state)

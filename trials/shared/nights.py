@@ -59,6 +59,11 @@ def is_found(line):
     return line[0] not in ("ok", "S07")
 
 
+def in_an_hour(seconds_of=time.localtime):
+    """A time of day that is not near: one that has just come would end a night at once."""
+    return time.strftime("%H:%M", seconds_of(time.time() + 3600))
+
+
 def ask(name, *words, **environment):
     return ran([REPORTS, name, *words], **environment)
 

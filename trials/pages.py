@@ -75,8 +75,8 @@ OTHER = re.compile(r"(?<![\w.~/])/(?!dev/null)(?=(?:bin|boot|dev|home|lib|media|
                    r"sbin|sys|usr|var)\b)")
 # What pages set for their further commands.
 VARIABLES = ["root", "line", "object", "file"]
-# The pages of nights whose commands are run here; those of CLUSTERS need several machines.
-OF_NIGHTS = ["README.md", "STATEMENTS.md", "REPORTS.md", "REPAIR.md", "FAQ.md"]
+# The pages of nights that come first, in this order, and those that need several machines.
+FIRST, NOT_FOLLOWED = ["README.md", "STATEMENTS.md", "REPORTS.md", "REPAIR.md"], ["CLUSTERS.md"]
 used = set()
 
 
@@ -187,10 +187,9 @@ def nightly(folder):
     session = installed(folder)
     session.call("./install", session.clone)
     session.at = session.folder + "/home"
-    for page in OF_NIGHTS:
+    others = {name for name in os.listdir(NIGHTS) if name.endswith(".md")} - set(NOT_FOLLOWED)
+    for page in [*FIRST, *sorted(others - set(FIRST))]:
         follow(session, "nights/" + page, blocks_of_markdown(read(NIGHTS + "/" + page)))
-    check("all pages of nights", sorted([*OF_NIGHTS, "CLUSTERS.md"]),
-          sorted(name for name in os.listdir(NIGHTS) if name.endswith(".md")))
 
 
 def manual(folder):

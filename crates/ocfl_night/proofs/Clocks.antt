@@ -1,11 +1,12 @@
 -- How many runs are begun by what a clock answers.
 use Rattle.std.proofs.Common.{◌≡◌, ℕ, ◌+◌, ◌≤◌, List, [], ◌∷◌, ◌++◌, Option, Some, None, Result, Ok, Err, refl, inl, inr, sym, ◌∙◌, ap, subst, arith, Bool, true, false}
 use Rattle.std.proofs.lemmas.List.{append-nil}
-use Rattle.std.specs.Prelude.{flat_map, if◌then◌else◌, nat_lt}
+use Rattle.std.specs.Prelude.{IsTrue, flat_map, if◌then◌else◌, nat_lt}
 use Rattle.ocfl_tree.specs.Place.{Place}
 use Rattle.ocfl_state.specs.{Checkpoint.{Checkpoint}, Content.{Content}}
 use Rattle.ocfl_night.specs.Clock.{Event, Asked, Read, Heard, is_before, times, times_before, MayBegin, BeginsInTime}
 use Rattle.ocfl_night.specs.Done.{Done, counted, nothing_done}
+use Rattle.ocfl_night.specs.Beginning.{Position, StandsAt}
 use Rattle.ocfl_night.specs.Runs.{Run, Turn, AreRunsOf, EndsBy, IsFailed, IsNight, IsPaused, IsRunOf, after_end, after_it, events_of, in_it, turn, turn_of}
 use Rattle.ocfl_night.specs.declared.{plan.Halt.{Halt}, plan.NightEnd.{NightEnd}, plan.Pause.{Pause}, plan.Plan.{Plan}}
 use Rattle.ocfl_night.specs.declared.plan.Halt.TheVariants as halt
@@ -86,16 +87,16 @@ few_failed plan end d e k last is (inr p) = few_same end e d last p.1
 few_failed plan end d e k last is (inl (in_it now may events same)) = few_one end e d now last [] (ap (λ (x : Done). x.runs) same) (before plan.end now is may.in_time) events
 few_failed plan end d e k last is (inl (after_it r run events runs left)) = few_one end e d r.now last (Heard r.made ∷ []) runs (before plan.end r.now is run.may.in_time) events
 
-few_ended : (plan : Plan) (end : ℕ) (d e : Done) (k : Checkpoint) (last : List Event) (h : Halt) → plan.end ≡ Some end → EndsBy plan h e d k last → e.runs ≤ d.runs + begun_by end last
-few_ended plan end d e k last (halt.CycleEnded n) is p = few_same end e d last p.3
-few_ended plan end d e k last halt.TimeUp is p = few_paused plan end d e k p.0 last pause.TimeUp is p.1
-few_ended plan end d e k last halt.Spent is p = few_paused plan end d e k p.0 last pause.Spent is p.1
-few_ended plan end d e k last halt.Asked is p = few_paused plan end d e k p.0 last pause.Asked is p.1
-few_ended plan end d e k last (halt.Stopped why) is p = few_paused plan end d e k p.0 last (pause.Stopped why) is p.1
-few_ended plan end d e k last halt.RootChanged is p = few_paused plan end d e k p.0 last pause.RootChanged is p.1
-few_ended plan end d e k last (halt.Refused why) is p = absurd p
-few_ended plan end d e k last (halt.Troubled why) is (inl failed) = few_failed plan end d e k last is failed
-few_ended plan end d e k last (halt.Troubled why) is (inr p) = few_paused plan end d e k p.1.0 last p.0 is p.1.1
+few_ended : (Left : Position → Type 0) (plan : Plan) (end : ℕ) (d e : Done) (k : Checkpoint) (last : List Event) (h : Halt) → plan.end ≡ Some end → EndsBy Left plan h e d k last → e.runs ≤ d.runs + begun_by end last
+few_ended Left plan end d e k last (halt.CycleEnded n) is p = few_same end e d last p.3
+few_ended Left plan end d e k last halt.TimeUp is p = few_paused plan end d e k p.0 last pause.TimeUp is p.1.0
+few_ended Left plan end d e k last halt.Spent is p = few_paused plan end d e k p.0 last pause.Spent is p.1.0
+few_ended Left plan end d e k last halt.Asked is p = few_paused plan end d e k p.0 last pause.Asked is p.1.0
+few_ended Left plan end d e k last (halt.Stopped why) is p = few_paused plan end d e k p.0 last (pause.Stopped why) is p.1.0
+few_ended Left plan end d e k last halt.RootChanged is p = few_paused plan end d e k p.0 last pause.RootChanged is p.1.0
+few_ended Left plan end d e k last (halt.Refused why) is p = absurd p
+few_ended Left plan end d e k last (halt.Troubled why) is (inl failed) = few_failed plan end d e k last is failed
+few_ended Left plan end d e k last (halt.Troubled why) is (inr p) = few_paused plan end d e k p.1.0 last p.0 is p.1.1
 
 -- ---- a night
 
@@ -106,8 +107,8 @@ may_begin (Some e) events few = few e refl
 both_few : (x y z a b c : ℕ) → x ≤ y + b → y ≤ z + a → z ≡ 0 → c ≡ a + b → x ≤ c
 both_few x y z a b c p q none is = omega (arith, p, q, none, is)
 
-pub begins_in_time : (plan : Plan) (tells : Bool) (c : Content) (old new : List Event) (end : NightEnd) → IsNight plan tells c old new end → BeginsInTime plan.end old new end.runs
-begins_in_time plan tells c old new end (inl n) =
+pub begins_in_time : (plan : Plan) (tells : Bool) (c d : Content) (old new : List Event) (end : NightEnd) → IsNight plan tells c d old new end → BeginsInTime plan.end old new end.runs
+begins_in_time plan tells c d old new end (inl n) =
     let r = n.runs in
     let events = flat_map events_of r.runs ++ r.last in
     record {
@@ -115,9 +116,9 @@ begins_in_time plan tells c old new end (inl n) =
       are = r.events;
       few = subst (MayBegin plan.end (times events)) (sym n.begun) (may_begin plan.end events (λ e is.
           both_few n.done.runs r.done.runs nothing_done.runs (begun_by e (flat_map events_of r.runs)) (begun_by e r.last) (begun_by e events)
-          (few_ended plan e r.done n.done r.checkpoint r.last end.end is r.ends) (begun plan e nothing_done n.start r.runs r.done r.checkpoint is r.made) refl (by_both e (flat_map events_of r.runs) r.last)));
+          (few_ended (λ (p : Position). IsTrue tells → StandsAt d p) plan e r.done n.done r.checkpoint r.last end.end is r.ends) (begun plan e nothing_done n.start r.runs r.done r.checkpoint is r.made) refl (by_both e (flat_map events_of r.runs) r.last)));
     }
-begins_in_time plan tells c old new end (inr n) = record {
+begins_in_time plan tells c d old new end (inr n) = record {
   events = [];
   are = n.same ∙ sym (append-nil old);
   few = subst (MayBegin plan.end []) (sym n.runs) (may_begin plan.end [] (λ e is. omega arith));

@@ -23,3 +23,4 @@ pub mod Beginnings
 pub mod Flushed
 pub mod Refusals
 pub mod Reasons
+pub mod Lasting

@@ -6,12 +6,13 @@ use Rattle.ocfl_tree.specs.Place.{Place}
 use Rattle.ocfl_item.specs.declared.fault.Fault.TheVariants as fault
 use Rattle.ocfl_cursor.specs.declared.limits.Limits.{Limits}
 use Rattle.ocfl_state.specs.{Checkpoint.{Checkpoint}, declared.checkpoint_parts.Phase.{Phase}}
-use Rattle.ocfl_state.specs.declared.checkpoint_parts.Phase.TheVariants.{Open}
-use Rattle.ocfl_night.specs.{Clock.{Event, Asked, Read}, Done.{Done, with_begun, with_made}, Leaving.{MayHaveLeftAt, done_by, remedy_at}, Steps.{with_all_told}}
+use Rattle.ocfl_state.specs.declared.checkpoint_parts.Phase.TheVariants.{Open, Closing}
+use Rattle.ocfl_night.specs.{Beginning.{Position, goes_on_at, goes_on_in, position}, Clock.{Event, Asked, Read}, Done.{Done, with_begun, with_made}, Leaving.{MayHaveLeftAt, done_by, remedy_at}, Steps.{begun_anew, with_all_told}}
 use Rattle.ocfl_night.specs.Ending.{IsSlice, cycle_ended, ended_by, halt_after, halt_of, place_or_pause, slice_end}
 use Rattle.ocfl_night.specs.Runs.{Run, Turn, AreMade, AreRunsOf, EndsBy, IsAllowed, IsEndedBy, IsFailed, IsHalted, IsPaused, IsRunOf, MayHaveLeft, StopsOpen, after_end, after_made, events_of, turn, turn_of}
 use Rattle.ocfl_night.specs.declared.{plan.Halt.{Halt}, plan.Pause.{Pause}, plan.Plan.{Plan}, stop.Stop.{Stop}, tally.Remedy.{Remedy}}
 use Rattle.ocfl_night.specs.declared.slicing.{Made.{Made}, SliceEnd.{SliceEnd}}
+use Rattle.ocfl_night.specs.declared.plan.Halt.TheVariants as halt
 use Rattle.ocfl_night.specs.declared.plan.Pause.TheVariants as pause
 use Rattle.ocfl_night.specs.declared.slicing.SliceEnd.TheVariants as slice
 use Rattle.ocfl_night.specs.declared.tally.Remedy.TheVariants as remedy
@@ -136,18 +137,23 @@ halted_open {plan} {d} {e} {k} {l} {last} {why} h =
 same_phase : {k l : Checkpoint} {phase : Phase} → k.phase ≡ phase → l ≡ k → l.phase ≡ phase
 same_phase is same = ap (λ (x : Checkpoint). x.phase) same ∙ is
 
-goes_on_so : (plan : Plan) (d e : Done) (k l : Checkpoint) (last : List Event) (cycle : ℕ) (why : Pause) → l.phase ≡ Open → EndsBy plan (halt_of why) e d k last → EndsBy plan (halt_after (cycle_ended l.phase cycle) why) e d k last
-goes_on_so plan d e k l last cycle why going is = subst (λ (x : Phase). EndsBy plan (halt_after (cycle_ended x cycle) why) e d k last) (sym going) is
+goes_on_so : (Left : Position → Type 0) (plan : Plan) (d e : Done) (k l : Checkpoint) (last : List Event) (cycle : ℕ) (why : Pause) → l.phase ≡ Open → EndsBy Left plan (halt_of why) e d k last → EndsBy Left plan (halt_after (cycle_ended l.phase cycle) why) e d k last
+goes_on_so Left plan d e k l last cycle why going is = subst (λ (x : Phase). EndsBy Left plan (halt_after (cycle_ended x cycle) why) e d k last) (sym going) is
+
+-- where a cycle that goes on is left
+still_at : (Left : Position → Type 0) (l : Checkpoint) → l.phase ≡ Open → Left (goes_on_at l) → Left (position l)
+still_at Left l going left = subst (λ (x : Phase). Left (goes_on_in x l)) going left
 
 -- a night that made no further run answers so, once its report is closed if the cycle has ended
-pub ended_so : (plan : Plan) (d e : Done) (k l : Checkpoint) (last : List Event) (why : Pause) → IsPaused plan d k last why e l → EndsBy plan (halt_after (cycle_ended l.phase l.cursor.cycle) why) e d k last
-ended_so plan d e k l last pause.Closing p =
-    subst (λ (x : Phase). EndsBy plan (halt_after (cycle_ended x l.cursor.cycle) pause.Closing) e d k last) (sym (same_phase p.0 p.3)) (p.0, p.1, ap (λ (x : Checkpoint). x.cursor.cycle) p.3, p.2)
-ended_so plan d e k l last pause.Asked p = goes_on_so plan d e k l last l.cursor.cycle pause.Asked (same_phase p.0 p.3) (l, p)
-ended_so plan d e k l last pause.TimeUp p = goes_on_so plan d e k l last l.cursor.cycle pause.TimeUp (same_phase p.0 p.3) (l, p)
-ended_so plan d e k l last pause.Spent p = goes_on_so plan d e k l last l.cursor.cycle pause.Spent (same_phase p.0 p.4) (l, p)
-ended_so plan d e k l last (pause.Stopped why) p = goes_on_so plan d e k l last l.cursor.cycle (pause.Stopped why) (halted_open p) (l, p)
-ended_so plan d e k l last pause.RootChanged p = goes_on_so plan d e k l last l.cursor.cycle pause.RootChanged (halted_open p) (l, p)
+pub ended_so : (Left : Position → Type 0) (plan : Plan) (d e : Done) (k l : Checkpoint) (last : List Event) (why : Pause) → Left (goes_on_at l) → IsPaused plan d k last why e l → EndsBy Left plan (halt_after (cycle_ended l.phase l.cursor.cycle) why) e d k last
+ended_so Left plan d e k l last pause.Closing left p =
+    let anew : Left (position (begun_anew k)) = subst (λ (x : Checkpoint). Left (position (begun_anew x))) p.3 (subst (λ (x : Phase). Left (goes_on_in x l)) (same_phase p.0 p.3) left) in
+    subst (λ (x : Phase). EndsBy Left plan (halt_after (cycle_ended x l.cursor.cycle) pause.Closing) e d k last) (sym (same_phase p.0 p.3)) (p.0, p.1, ap (λ (x : Checkpoint). x.cursor.cycle) p.3, p.2, anew)
+ended_so Left plan d e k l last pause.Asked left p = let going = same_phase p.0 p.3 in goes_on_so Left plan d e k l last l.cursor.cycle pause.Asked going (l, (p, still_at Left l going left))
+ended_so Left plan d e k l last pause.TimeUp left p = let going = same_phase p.0 p.3 in goes_on_so Left plan d e k l last l.cursor.cycle pause.TimeUp going (l, (p, still_at Left l going left))
+ended_so Left plan d e k l last pause.Spent left p = let going = same_phase p.0 p.4 in goes_on_so Left plan d e k l last l.cursor.cycle pause.Spent going (l, (p, still_at Left l going left))
+ended_so Left plan d e k l last (pause.Stopped why) left p = let going = halted_open p in goes_on_so Left plan d e k l last l.cursor.cycle (pause.Stopped why) going (l, (p, still_at Left l going left))
+ended_so Left plan d e k l last pause.RootChanged left p = let going = halted_open p in goes_on_so Left plan d e k l last l.cursor.cycle pause.RootChanged going (l, (p, still_at Left l going left))
 
 -- ---- what a step of a night shows of it
 
@@ -170,18 +176,35 @@ pub made_so : {plan : Plan} {old new : List Event} {d : Done} {k : Checkpoint} {
 made_so more m = record { runs = m.runs; done = m.done; checkpoint = m.checkpoint; last = m.last; made = m.made; ends = more m.done m.checkpoint m.last m.ends; events = m.events }
 
 -- a night that was troubled in a run, or when no further one was made
-pub troubled_in : (plan : Plan) (e : Done) {r : Result Halt Stop} {why : Stop} → r ≡ Err why → (d : Done) (k : Checkpoint) (last : List Event) → IsFailed plan d k last e → EndsBy plan (ended_by r) e d k last
-troubled_in plan e is d k last failed = subst (λ (x : Result Halt Stop). EndsBy plan (ended_by x) e d k last) (sym is) (inl failed)
+pub troubled_in : (Left : Position → Type 0) (plan : Plan) (e : Done) {r : Result Halt Stop} {why : Stop} → r ≡ Err why → (d : Done) (k : Checkpoint) (last : List Event) → IsFailed plan d k last e → EndsBy Left plan (ended_by r) e d k last
+troubled_in Left plan e is d k last failed = subst (λ (x : Result Halt Stop). EndsBy Left plan (ended_by x) e d k last) (sym is) (inl failed)
 
-pub troubled_after : (plan : Plan) (e : Done) (l : Checkpoint) (pause : Pause) {r : Result Halt Stop} {why : Stop} → r ≡ Err why → (d : Done) (k : Checkpoint) (last : List Event) → IsPaused plan d k last pause e l → EndsBy plan (ended_by r) e d k last
-troubled_after plan e l pause is d k last paused = subst (λ (x : Result Halt Stop). EndsBy plan (ended_by x) e d k last) (sym is) (inr (pause, (l, paused)))
+pub troubled_after : (Left : Position → Type 0) (plan : Plan) (e : Done) (l : Checkpoint) (pause : Pause) {r : Result Halt Stop} {why : Stop} → r ≡ Err why → (d : Done) (k : Checkpoint) (last : List Event) → IsPaused plan d k last pause e l → EndsBy Left plan (ended_by r) e d k last
+troubled_after Left plan e l pause is d k last paused = subst (λ (x : Result Halt Stop). EndsBy Left plan (ended_by x) e d k last) (sym is) (inr (pause, (l, paused)))
 
-pub halted_so : (plan : Plan) (e : Done) (l said : Checkpoint) (pause : Pause) (ended : Option ℕ) {h : Halt} → said ≡ with_all_told l → ended ≡ cycle_ended said.phase said.cursor.cycle → h ≡ halt_after ended pause → (d : Done) (k : Checkpoint) (last : List Event) → IsPaused plan d k last pause e l → EndsBy plan h e d k last
-halted_so plan e l said pause ended all is so d k last paused =
+-- what counts as said is no part of it
+told_at : (Left : Position → Type 0) (l : Checkpoint) (p : Phase) → l.phase ≡ p → Left (goes_on_at (with_all_told l)) → Left (goes_on_at l)
+told_at Left l Open is left = subst (λ (x : Phase). Left (goes_on_in x l)) (sym is) (subst (λ (x : Phase). Left (goes_on_in x (with_all_told l))) is left)
+told_at Left l Closing is left = subst (λ (x : Phase). Left (goes_on_in x l)) (sym is) (subst (λ (x : Phase). Left (goes_on_in x (with_all_told l))) is left)
+
+pub halted_so : (Left : Position → Type 0) (plan : Plan) (e : Done) (l said : Checkpoint) (pause : Pause) (ended : Option ℕ) {h : Halt} → said ≡ with_all_told l → ended ≡ cycle_ended said.phase said.cursor.cycle → h ≡ halt_after ended pause → Left (goes_on_at said) → (d : Done) (k : Checkpoint) (last : List Event) → IsPaused plan d k last pause e l → EndsBy Left plan h e d k last
+halted_so Left plan e l said pause ended all is so left d k last paused =
     let same = so ∙ ap (λ (o : Option ℕ). halt_after o pause) (is ∙ ap (λ (x : Checkpoint). cycle_ended x.phase x.cursor.cycle) all) in
-    subst (λ (x : Halt). EndsBy plan x e d k last) (sym same) (ended_so plan d e k l last pause paused)
+    let there : Left (goes_on_at l) = told_at Left l l.phase refl (subst (λ (x : Checkpoint). Left (goes_on_at x)) all left) in
+    subst (λ (x : Halt). EndsBy Left plan x e d k last) (sym same) (ended_so Left plan d e k l last pause there paused)
 
 -- a night from when nothing was done, and how it ends
-pub made_from : (plan : Plan) (old new : List Event) {d nothing : Done} (e : Done) (k : Checkpoint) {h end : Halt} → d ≡ nothing → end ≡ h → AreMade plan old new d k (EndsBy plan h e) → AreMade plan old new nothing k (EndsBy plan end e)
-made_from plan old new {nothing = nothing} e k {h = h} {end = end} same is m =
-    subst (λ (x : Halt). AreMade plan old new nothing k (EndsBy plan x e)) (sym is) (subst (λ (x : Done). AreMade plan old new x k (EndsBy plan h e)) same m)
+pub made_from : (Left : Position → Type 0) (plan : Plan) (old new : List Event) {d nothing : Done} (e : Done) (k : Checkpoint) {h end : Halt} → d ≡ nothing → end ≡ h → AreMade plan old new d k (EndsBy Left plan h e) → AreMade plan old new nothing k (EndsBy Left plan end e)
+made_from Left plan old new {nothing = nothing} e k {h = h} {end = end} same is m =
+    subst (λ (x : Halt). AreMade plan old new nothing k (EndsBy Left plan x e)) (sym is) (subst (λ (x : Done). AreMade plan old new x k (EndsBy Left plan h e)) same m)
+
+-- of where a night led, this follows
+pub left_so : (One Two : Position → Type 0) (plan : Plan) (h : Halt) (e d : Done) (k : Checkpoint) (last : List Event) → ((p : Position) → One p → Two p) → EndsBy One plan h e d k last → EndsBy Two plan h e d k last
+left_so One Two plan (halt.CycleEnded cycle) e d k last more is = (is.0, is.1, is.2, is.3, more _ is.4)
+left_so One Two plan halt.TimeUp e d k last more is = (is.0, (is.1.0, more _ is.1.1))
+left_so One Two plan halt.Spent e d k last more is = (is.0, (is.1.0, more _ is.1.1))
+left_so One Two plan halt.Asked e d k last more is = (is.0, (is.1.0, more _ is.1.1))
+left_so One Two plan (halt.Stopped why) e d k last more is = (is.0, (is.1.0, more _ is.1.1))
+left_so One Two plan halt.RootChanged e d k last more is = (is.0, (is.1.0, more _ is.1.1))
+left_so One Two plan (halt.Refused why) e d k last more is = is
+left_so One Two plan (halt.Troubled why) e d k last more is = is

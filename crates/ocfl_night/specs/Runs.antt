@@ -5,9 +5,9 @@ use Rattle.ocfl_cursor.specs.Limits.{IsLimit}
 use Rattle.ocfl_cursor.specs.declared.limits.Limits.{Limits}
 use Rattle.ocfl_state.specs.{Checkpoint.{Checkpoint}, Content.{Content}}
 use Rattle.ocfl_state.specs.declared.checkpoint_parts.Phase.TheVariants.{Open, Closing}
-use Rattle.ocfl_night.specs.{Beginning.{BeginsAt}, Clock.{Event, Asked, Read, Heard, is_before}, Done.{Done, nothing_done, with_begun, with_made, with_none_tried}}
+use Rattle.ocfl_night.specs.{Beginning.{BeginsAt, Position, StandsAt, position}, Clock.{Event, Asked, Read, Heard, is_before}, Done.{Done, nothing_done, with_begun, with_made, with_none_tried}}
 use Rattle.ocfl_night.specs.{Ending.{IsSlice, place_or_pause}, Leaving.{done_by, remedy_at, with_remedy}}
-use Rattle.ocfl_night.specs.{Pace.{budget_at, files_at}, Steps.{IsNotBegun}}
+use Rattle.ocfl_night.specs.{Pace.{budget_at, files_at}, Steps.{IsNotBegun, begun_anew}}
 use Rattle.ocfl_night.specs.declared.{plan.Halt.{Halt}, plan.NightEnd.{NightEnd}, plan.Pause.{Pause}, plan.Plan.{Plan}}
 use Rattle.ocfl_night.specs.declared.{slicing.Made.{Made}, stop.Stop.{Stop}, tally.Remedy.{Remedy}}
 use Rattle.ocfl_night.specs.declared.plan.Halt.TheVariants as halt
@@ -136,24 +136,25 @@ pub record AreMade (plan : Plan) (old new : List Event) (d : Done) (k : Checkpoi
 
 -- ---- a night
 
--- what ends it, and what it has done then
-abbrev pub EndsBy : Plan → Halt → Done → Done → Checkpoint → List Event → Type 0
-EndsBy plan (halt.CycleEnded cycle) e d k last = (k.phase ≡ Closing) × (last ≡ []) × (cycle ≡ k.cursor.cycle) × (e ≡ d)
-EndsBy plan halt.TimeUp e d k last = (l : Checkpoint) × IsPaused plan d k last pause.TimeUp e l
-EndsBy plan halt.Spent e d k last = (l : Checkpoint) × IsPaused plan d k last pause.Spent e l
-EndsBy plan halt.Asked e d k last = (l : Checkpoint) × IsPaused plan d k last pause.Asked e l
-EndsBy plan (halt.Stopped why) e d k last = (l : Checkpoint) × IsPaused plan d k last (pause.Stopped why) e l
-EndsBy plan halt.RootChanged e d k last = (l : Checkpoint) × IsPaused plan d k last pause.RootChanged e l
-EndsBy plan (halt.Refused why) e d k last = ⊥
-EndsBy plan (halt.Troubled why) e d k last = IsFailed plan d k last e ⊎ ((pause : Pause) × ((l : Checkpoint) × IsPaused plan d k last pause e l))
+-- What ends it, what it has done then, and where it stops. If it is not troubled, this holds of where
+-- the last run led, or if the cycle has ended, of where the next one begins.
+abbrev pub EndsBy : (Position → Type 0) → Plan → Halt → Done → Done → Checkpoint → List Event → Type 0
+EndsBy Left plan (halt.CycleEnded cycle) e d k last = (k.phase ≡ Closing) × (last ≡ []) × (cycle ≡ k.cursor.cycle) × (e ≡ d) × Left (position (begun_anew k))
+EndsBy Left plan halt.TimeUp e d k last = (l : Checkpoint) × (IsPaused plan d k last pause.TimeUp e l × Left (position l))
+EndsBy Left plan halt.Spent e d k last = (l : Checkpoint) × (IsPaused plan d k last pause.Spent e l × Left (position l))
+EndsBy Left plan halt.Asked e d k last = (l : Checkpoint) × (IsPaused plan d k last pause.Asked e l × Left (position l))
+EndsBy Left plan (halt.Stopped why) e d k last = (l : Checkpoint) × (IsPaused plan d k last (pause.Stopped why) e l × Left (position l))
+EndsBy Left plan halt.RootChanged e d k last = (l : Checkpoint) × (IsPaused plan d k last pause.RootChanged e l × Left (position l))
+EndsBy Left plan (halt.Refused why) e d k last = ⊥
+EndsBy Left plan (halt.Troubled why) e d k last = IsFailed plan d k last e ⊎ ((pause : Pause) × ((l : Checkpoint) × IsPaused plan d k last pause e l))
 
--- a night that was begun, in a folder that tells this content: its runs, from the checkpoint at which
--- it begins, and its figures
-pub record IsBegunNight (plan : Plan) (tells : Bool) (c : Content) (old new : List Event) (end : NightEnd) : Type 0 where
+-- a night that was begun, in a folder that tells this content and then that: its runs, from the
+-- checkpoint at which it begins, and its figures; the folder's checkpoint then stands where they led
+pub record IsBegunNight (plan : Plan) (tells : Bool) (c d : Content) (old new : List Event) (end : NightEnd) : Type 0 where
   pub start : Checkpoint
   pub begins : IsTrue tells → BeginsAt plan.create c start
   pub done : Done
-  pub runs : AreMade plan old new nothing_done start (EndsBy plan end.end done)
+  pub runs : AreMade plan old new nothing_done start (EndsBy (λ p. IsTrue tells → StandsAt d p) plan end.end done)
   pub begun : end.runs ≡ done.runs
   pub left : end.left.items ≡ done.left
 
@@ -164,5 +165,5 @@ pub record IsNoNight (old new : List Event) (end : NightEnd) : Type 0 where
   pub runs : end.runs ≡ 0
   pub left : end.left.items ≡ []
 
-abbrev pub IsNight : Plan → Bool → Content → List Event → List Event → NightEnd → Type 0
-IsNight plan tells c old new end = IsBegunNight plan tells c old new end ⊎ IsNoNight old new end
+abbrev pub IsNight : Plan → Bool → Content → Content → List Event → List Event → NightEnd → Type 0
+IsNight plan tells c d old new end = IsBegunNight plan tells c d old new end ⊎ IsNoNight old new end

@@ -168,6 +168,7 @@ fn text_of(alloc: Global, checkpoint: &Checkpoint) -> Result<Vec<u8>, Stop>
 ///
 /// `Overtold` for a checkpoint that tells more than its report has: it would not be read again.
 /// `TooLong` for one whose text is longer than 1 MiB, with that text.
+#[tactic(auto, using(crate::proofs::Lasting::put_at))]
 pub fn put_checkpoint<S: StateFolder>(
     alloc: Global,
     folder: &mut S,
@@ -182,6 +183,7 @@ pub fn put_checkpoint<S: StateFolder>(
         (MayCheckpoint checkpoint.now) folder.old folder.new }
     ensures stop { StopsFor (IsTrue S.told) (ForPut checkpoint.now)
         (S.faults folder.old) (S.faults folder.new) result }
+    ensures at { IsTrue S.told → OnOk result (IsAt checkpoint.now (S.seen folder.new)) }
     ensures long { IfErr result (IfTooLong (λ text. IsCheckpointText text checkpoint.now)) }
 {
     let text = text_of(alloc, checkpoint)?;

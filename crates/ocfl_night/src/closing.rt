@@ -3,8 +3,8 @@ ghost use Rattle.std.specs.Prelude.{◌≡◌, ◌≢◌, ◌⊎◌, false, IfOk
 ghost use Rattle.ocfl_state.specs.{Content.{is_closed}, Crash.{Only, Passes}};
 ghost use Rattle.ocfl_state.specs.Pieces.{summary_of};
 ghost use Rattle.ocfl_state.specs.declared.checkpoint_parts.Phase.TheVariants.{Closing};
-ghost use Rattle.ocfl_night.specs.Ending.{cycle_ended};
-ghost use Rattle.ocfl_night.specs.{Promises.{IfReady, IsSafe, SameClosed}, Sound.{IsAllSaid, IsOneMore, IsReady}};
+ghost use Rattle.ocfl_night.specs.{Beginning.{StandsAt, goes_on_at}, Ending.{cycle_ended}};
+ghost use Rattle.ocfl_night.specs.{Promises.{IfReady, IsSafe, SameClosed}, Sound.{IsAllSaid, IsAt, IsOneMore, IsReady}};
 ghost use Rattle.ocfl_night.specs.Steps.{IsClosedExactly, IsFinished, IsMoveDone, MayMoveAt, closes_whole};
 ghost use Rattle.ocfl_night.specs.Stopping.{ForClose, ForNoOther, StopsFor};
 
@@ -105,6 +105,9 @@ pub fn finish<S: StateFolder>(
         (S.seen folder.old) (S.seen folder.new)))) }
     ensures goes_on { IsTrue S.told → IfOk result (λ ended. ended ≡ None
         → SameClosed S.seen folder.old folder.new) }
+    // The checkpoint is left where it stands, or at the beginning of the next cycle.
+    ensures stands { IsTrue S.told → IsAt checkpoint (S.seen folder.old)
+        → OnOk result (StandsAt (S.seen folder.new) (goes_on_at checkpoint)) }
     ensures said { IsTrue S.told → IfReady S.seen S.may_leave checkpoint folder.old
         (λ _ _. checkpoint.told ≡ checkpoint.report.bytes
         → OnOk result (IsAllSaid (S.seen folder.new))) }

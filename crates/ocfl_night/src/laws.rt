@@ -9,7 +9,8 @@ ghost use Rattle.ocfl_cursor.specs.Cursor.{Cursor};
 ghost use Rattle.ocfl_scrub.specs.{Joining.{unread_together}, Running.{place_in}};
 ghost use Rattle.ocfl_state.specs.{Content.{Closed, Content, empty}, declared.checkpoint_parts.Left.{Left}};
 ghost use Rattle.ocfl_night.specs.Chain.{AreNext, IsInBranch, IsWholeReport, LedToEnd, RootRun, around, joined};
-ghost use Rattle.ocfl_night.specs.{Clock.{BeginsInTime, Event}, Runs.{IsNight}};
+ghost use Rattle.ocfl_night.specs.Runs.{AreMade, EndsBy, IsBegunNight, IsNight};
+ghost use Rattle.ocfl_night.specs.{Beginning.{position}, Clock.{BeginsInTime, Event}, Done.{nothing_done}};
 ghost use Rattle.ocfl_night.specs.declared.plan.{NightEnd.{NightEnd as ModelEnd}, Plan.{Plan as ModelPlan}};
 ghost use Rattle.ocfl_night.specs.{Looks.{Counts, Rounds, look_between, of_any}};
 ghost use Rattle.ocfl_night.specs.{Site.{part_at}, Sound.{IsSound}};
@@ -97,9 +98,19 @@ pub fn each_other_report_is_the_audit_around_what_was_left_out<S: StateFolder>()
 
 /// No run of a night is begun but where the clock has answered that the end has not come.
 pub fn runs_begin_before_the_end()
-    ensures { (plan : ModelPlan) (tells : Bool) (c : Content) (old new : List Event)
-        (end : ModelEnd) → IsNight plan tells c old new end
+    ensures { (plan : ModelPlan) (tells : Bool) (c d : Content) (old new : List Event)
+        (end : ModelEnd) → IsNight plan tells c d old new end
         → BeginsInTime plan.end old new end.runs }
+{}
+
+/// A night begins just where the last run of the one before it led, or if that one ended its cycle,
+/// at the beginning of the next. Nothing is said of what comes after a night that was troubled.
+pub fn the_next_night_goes_on()
+    ensures { (plan next : ModelPlan) (c d e f : Content) (old new later last : List Event)
+        (one two : ModelEnd) (first : IsBegunNight plan true c d old new one)
+        (second : IsBegunNight next true e f later last two) → e.checkpoint ≡ d.checkpoint
+        → AreMade plan old new nothing_done first.start
+        (EndsBy (λ p. position second.start ≡ p) plan one.end first.done) }
 {}
 
 /// If no failure of a store was counted, each content file that was opened meanwhile was read.

@@ -8,7 +8,7 @@ ghost use Rattle.ocfl_state.specs.declared.checkpoint_parts.Phase.TheVariants.{O
 ghost use Rattle.ocfl_night.specs.Chain.{from_after, part_after};
 ghost use Rattle.ocfl_night.specs.Leaving.{branch_at, end_of, is_of_inventory, last_name, speaks_for_object};
 ghost use Rattle.ocfl_night.specs.Promises.{IfReadyIn, IsBranchNext, IsSafeIn, SameClosed};
-ghost use Rattle.ocfl_night.specs.{Looks.{Rounds}, Sound.{IsReady}, Steps.{with_left}};
+ghost use Rattle.ocfl_night.specs.{Looks.{Rounds}, Sound.{IsAt, IsReady}, Steps.{with_left}};
 ghost use Rattle.ocfl_night.specs.Stopping.{ForPut, IsPastStop, StopsFor};
 
 use crate::checkpoint::put_checkpoint;
@@ -180,6 +180,7 @@ pub fn leave_out<S: StateFolder>(
         → IfReadyIn S.seen S.may_leave rounds checkpoint folder.old
         (λ t. IfOk result (λ next. IsReady S.seen S.may_leave rounds t next folder.new)) }
     ensures closed { IsTrue S.told → OnOk result (SameClosed S.seen folder.old folder.new) }
+    ensures at { IsTrue S.told → IfOk result (λ next. IsAt next (S.seen folder.new)) }
     ensures stop { StopsFor (IsTrue S.told) (ForPut checkpoint)
         (S.faults folder.old) (S.faults folder.new) result }
 {

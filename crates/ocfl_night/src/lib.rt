@@ -47,6 +47,8 @@
 //!   plan gives for that time and for what was done: no more than runs spend in a minute, or until
 //!   the end, at the rate of those before. By this list the night ends for the reason that it
 //!   gives, unless it is troubled, and it answers how many runs it began and what it left out.
+//!   Unless it is troubled, the folder's checkpoint then stands where the last run led, or at the
+//!   beginning of the next cycle if that one has ended, and there the next night begins.
 //! - A night that is troubled says why. It says that the folder failed or is full only if the folder
 //!   counted a failure in it, or if what is there as a checkpoint is too long; that the output
 //!   failed only if that counted a failure; and never that the folder holds a closed report already
@@ -83,8 +85,9 @@ pub use checkpoint::{look, put_checkpoint};
 pub use closing::finish;
 pub use laws::{
     a_whole_report_is_the_audit, each_other_report_is_the_audit_around_what_was_left_out,
-    each_whole_report_is_the_audit, nights_are_sound, two_nights,
-    what_is_left_out_is_missing_alone, what_was_told_was_taken, where_nothing_failed_all_was_read,
+    each_whole_report_is_the_audit, nights_are_sound, runs_begin_before_the_end,
+    the_next_night_goes_on, two_nights, what_is_left_out_is_missing_alone, what_was_told_was_taken,
+    where_nothing_failed_all_was_read,
 };
 pub use leaving::leave_out;
 pub use nights::night;

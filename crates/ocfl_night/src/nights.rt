@@ -12,8 +12,8 @@ ghost use Rattle.ocfl_night.specs.Older.{IfOlder};
 ghost use Rattle.ocfl_night.specs.declared.refusal.Refusal.TheVariants.{Older};
 ghost use Rattle.ocfl_night.specs.Refusing.{IfForeign, IfRefused, IsBarred, IsFolderRefused, IsRefused, IsTurnedAway, OnRefused};
 ghost use Rattle.ocfl_night.specs.{Site.{part_at}, Steps.{IsNotBegun, IsUntouched, IsWalkAt, closes_whole}};
-ghost use Rattle.ocfl_night.specs.Sound.{IsAllSaid, IsHeard, IsHeardSince, IsKept, IsOneMore, IsReady, IsReadySince, IsSound};
-ghost use Rattle.ocfl_night.specs.{Beginning.{BeginsAt}, Clock.{is_before}, Done.{done_of}};
+ghost use Rattle.ocfl_night.specs.Sound.{IsAllSaid, IsAt, IsHeard, IsHeardSince, IsKept, IsOneMore, IsReady, IsReadySince, IsSound};
+ghost use Rattle.ocfl_night.specs.{Beginning.{BeginsAt, StandsAt}, Clock.{is_before}, Done.{done_of}};
 ghost use Rattle.ocfl_night.specs.Runs.{AreMade, EndsBy, IsAllowed, IsEndedBy, IsNight, MayHaveLeft, StopsOpen, after_made, turn_of};
 ghost use Rattle.ocfl_night.specs.Ending.{cycle_of, ended_by, halt_after, halt_of, place_or_pause, unbegun_by};
 ghost use Rattle.ocfl_night.specs.{Pace.{budget_at, files_at}, Nights.{IsSafeNight}};
@@ -172,6 +172,8 @@ fn pass_by<S: StateFolder>(
     ensures broken { OnErr result (MayHaveLeftAt plan.now.stop_at_faults (done_of tally.old) place
         (done_of tally.new)) }
     ensures left { StillMayLeave plan.now.stop_at_faults tally.old tally.new }
+    ensures at { IsTrue S.told → IsAt checkpoint (S.seen folder.old)
+        → IfOk result (λ next. IsAt next.0 (S.seen folder.new)) }
     ensures stop { StopsFor (IsTrue S.told) (ForPut checkpoint)
         (S.faults folder.old) (S.faults folder.new) result }
 {
@@ -214,6 +216,8 @@ fn go_on_after<S: StateFolder>(
         ≡ after_made plan.now.stop_at_faults (done_of tally.old) made) }
     ensures broken { OnErr result (MayHaveLeft plan.now.stop_at_faults (done_of tally.old) made
         (done_of tally.new)) }
+    ensures at { IsTrue S.told → IsAt made.checkpoint (S.seen folder.old)
+        → IfOk result (λ next. IsAt next.0 (S.seen folder.new)) }
     ensures stop { StopsFor (IsTrue S.told) (ForPut made.checkpoint)
         (S.faults folder.old) (S.faults folder.new) result }
 {
@@ -268,6 +272,8 @@ fn runs<S: StateFolder, T: Tree, C: Clock>(
         next.0 tally.new.left.items) }
     ensures cycle { IfOk result (λ next. cycle_of next.0 ≡ cycle_of start) }
     ensures left { StillMayLeave plan.now.stop_at_faults tally.old tally.new }
+    ensures at { IsTrue S.told → IsAt start (S.seen folder.old)
+        → IfOk result (λ next. IsAt next.0 (S.seen folder.new)) }
     ensures stop { MayLeave plan.now.stop_at_faults tally.old.left.items → StopsFor
         (IsGiven S.told T.told (T.state tree.old)
         ((t : Text) × IsReady S.seen S.may_leave (of_any (part_of part.now)) t start folder.old))
@@ -333,6 +339,7 @@ fn catch_up<S: StateFolder, O: Output>(
     ensures all { IfOk result (λ k. k.told ≡ k.report.bytes) }
     ensures begins { IsTrue S.told
         → IfOk result (BeginsAt plan.now.create (S.seen folder.old)) }
+    ensures at { IsTrue S.told → IfOk result (λ k. IsAt k (S.seen folder.new)) }
     ensures stop { OpensFor (TellsKept S.told S.may_leave folder.old)
         (ForNight (λ _. ⊥)
         (course plan.now.create (S.seen folder.old) 0 (O.said out.old) (O.said out.new)))
@@ -377,7 +384,8 @@ fn make_runs<S: StateFolder, T: Tree, C: Clock, O: Output>(
         ((cycle : ℕ) → end ≢ halt.CycleEnded cycle) → SameClosed S.seen folder.old folder.new) }
     ensures told { IsTrue C.told → AreMade plan.now (C.events clock.old) (C.events clock.new)
         (done_of tally.old) checkpoint
-        (EndsBy plan.now (ended_by result) (done_of tally.new)) }
+        (EndsBy (λ p. IsTrue S.told → IsAt checkpoint (S.seen folder.old)
+        → StandsAt (S.seen folder.new) p) plan.now (ended_by result) (done_of tally.new)) }
     ensures left { StillMayLeave plan.now.stop_at_faults tally.old tally.new }
     ensures said { IsTrue S.told → OnShort T.told (T.state tree.old)
         (IfReadyIn S.seen S.may_leave (of_any (part_of part.now)) checkpoint folder.old
@@ -451,6 +459,8 @@ fn set_out<S: StateFolder, T: Tree, O: Output>(
         → IsTurnedAway result S.seen S.may_leave S.moment S.left_since folder.old folder.new }
     ensures begins { IsTrue S.told → IfOk result (λ begun.
         BeginsAt plan.now.create (S.seen folder.old) begun.checkpoint) }
+    ensures at { IsTrue S.told
+        → IfOk result (λ begun. IsAt begun.checkpoint (S.seen folder.new)) }
     ensures stop { OpensFor (TellsKept S.told S.may_leave folder.old)
         (ForNight (IsUnlooked T.told (T.state tree.old) (T.state tree.new))
         (course plan.now.create (S.seen folder.old) 0 (O.said out.old) (O.said out.new)))
@@ -579,9 +589,10 @@ pub fn night<S: StateFolder, T: Tree, C: Clock, O: Output>(
     // It is the list of its runs. The first was begun where the folder's checkpoint stood, and each
     // other one where the one before it led, after the clock answered that the night is not asked to
     // stop and that the end has not come, within the limits of the plan. By these it ended as it
-    // says, unless troubled, and its figures are theirs.
+    // says, unless troubled, and its figures are theirs. Where the last one led, the folder's
+    // checkpoint stands then, or at the beginning of the next cycle if that one has ended.
     ensures told { IsTrue C.told → IsNight plan.now S.told (S.seen folder.old)
-        (C.events clock.old) (C.events clock.new) result }
+        (S.seen folder.new) (C.events clock.old) (C.events clock.new) result }
 {
     let mut tally = Tally::none(alloc);
     let mut lost = false;

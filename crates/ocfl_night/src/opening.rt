@@ -8,7 +8,7 @@ ghost use Rattle.ocfl_night.specs.Beginning.{BeginsAt, first_position, position}
 ghost use Rattle.ocfl_night.specs.{Looks.{Rounds}, Promises.{HasLost, IfLost, IfThere, IsUncut, SameClosed}};
 ghost use Rattle.ocfl_night.specs.Older.{IfOlder, IsOlder};
 ghost use Rattle.ocfl_night.specs.Refusing.{HasReport, IfForeign, IfRefused, IsFolderRefused, IsOutdated, IsTurnedAway, IsUnbegun, OnRefused};
-ghost use Rattle.ocfl_night.specs.Sound.{IsFound, IsFoundReady, IsKept, IsNew, IsReady, IsSettled, IsSoundAt};
+ghost use Rattle.ocfl_night.specs.Sound.{IsAt, IsFound, IsFoundReady, IsKept, IsNew, IsReady, IsSettled, IsSoundAt};
 ghost use Rattle.ocfl_night.specs.Steps.{IsLost, IsOpened, KeepsFront, closes_whole, first_opened, fitted, settled, shortened, what_is_left};
 ghost use Rattle.ocfl_night.specs.Stopping.{ForNoOther, ForOpen, ForPut, OpensFor, StopsFor};
 
@@ -94,6 +94,8 @@ fn begin<S: StateFolder>(
     ensures first { IfOk result (λ opened. opened ≡ first_opened site.now identity.now) }
     ensures refused { IsTrue S.told → OnRefused result (S.seen folder.new ≡ S.seen folder.old) }
     ensures rightly { IsTrue S.told → IfRefused result (IsUnbegun true (S.seen folder.old)) }
+    ensures at { IsTrue S.told
+        → IfOk result (λ opened. IsAt opened.checkpoint (S.seen folder.new)) }
     ensures stop { OpensFor (IsTrue S.told) ForNoOther
         (S.faults folder.old) (S.faults folder.new) result }
 {
@@ -224,6 +226,8 @@ fn resume<S: StateFolder>(
     ensures opened { IsTrue S.told
         → IfOk result (IsOpened identity.now checkpoint (S.seen folder.old)) }
     ensures stays { IfOk result (λ opened. position opened.checkpoint ≡ position checkpoint) }
+    ensures at { IsTrue S.told
+        → IfOk result (λ opened. IsAt opened.checkpoint (S.seen folder.new)) }
     ensures stop { StopsFor (IsTrue S.told) (ForPut checkpoint)
         (S.faults folder.old) (S.faults folder.new) result }
 {
@@ -262,6 +266,8 @@ fn go_on<S: StateFolder>(
         → IsOlder checkpoint (S.seen folder.old) cycle
         → IsTurnedAway result S.seen S.may_leave S.moment S.left_since folder.old folder.new }
     ensures stays { IfOk result (λ opened. position opened.checkpoint ≡ position checkpoint) }
+    ensures at { IsTrue S.told
+        → IfOk result (λ opened. IsAt opened.checkpoint (S.seen folder.new)) }
     ensures stop { OpensFor (IsTrue S.told) (ForPut checkpoint)
         (S.faults folder.old) (S.faults folder.new) result }
 {
@@ -318,6 +324,8 @@ pub fn open<S: StateFolder>(
     // Nor is one whose reports show that its checkpoint is an older one.
     ensures older { IsTrue S.told → IfOlder (S.seen folder.old)
         (IsTurnedAway result S.seen S.may_leave S.moment S.left_since folder.old folder.new) }
+    ensures at { IsTrue S.told
+        → IfOk result (λ opened. IsAt opened.checkpoint (S.seen folder.new)) }
     // If something is troubled, the folder failed, or what is there as a checkpoint is too long.
     ensures stop { OpensFor (IsTrue S.told) (ForOpen (S.seen folder.old))
         (S.faults folder.old) (S.faults folder.new) result }

@@ -2,7 +2,7 @@
 ghost use Rattle.std.specs.Prelude.{◌≡◌, ◌+◌, ◌-◌, ◌≤◌, IfOk, IsTrue, OnOk, take, drop};
 ghost use Rattle.std.specs.Io.KnownBytes.{Appends};
 ghost use Rattle.ocfl_state.specs.Crash.{LeavesOnly, Passes, Same};
-ghost use Rattle.ocfl_night.specs.{Output.{Grows, HasCommitted}, Promises.{IfReady, SameClosed}, Sound.{IsHeard, IsHeardReady}};
+ghost use Rattle.ocfl_night.specs.{Output.{Grows, HasCommitted}, Promises.{IfReady, SameClosed}, Sound.{IsAt, IsHeard, IsHeardReady}};
 ghost use Rattle.ocfl_night.specs.Steps.{unsaid, with_all_told};
 ghost use Rattle.ocfl_night.specs.Stopping.{ForSay, ForSpeak, StopsFor};
 
@@ -109,6 +109,8 @@ pub fn speak<S: StateFolder, O: Output>(
     ensures all { IfOk result (λ next. next ≡ with_all_told checkpoint) }
     ensures grew { Grows (O.said out.old) (O.said out.new) }
     ensures closed { IsTrue S.told → OnOk result (SameClosed S.seen folder.old folder.new) }
+    ensures at { IsTrue S.told → IsAt checkpoint (S.seen folder.old)
+        → IfOk result (λ next. IsAt next (S.seen folder.new)) }
     ensures stop { StopsFor (IsTrue S.told) (ForSpeak checkpoint (S.seen folder.old)
         (O.said out.old) (O.said out.new)) (S.faults folder.old) (S.faults folder.new) result }
 {

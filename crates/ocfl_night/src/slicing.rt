@@ -14,7 +14,7 @@ ghost use Rattle.ocfl_night.specs.Chain.{part_after};
 ghost use Rattle.ocfl_night.specs.Looks.{Counts, IsOneOf, Look, Rounds, WithLook, look_between};
 ghost use Rattle.ocfl_night.specs.Ending.{IsAway, IsMadeBy, IsSlice, IsUnkept, KeepsTo, lost_by, slice_end};
 ghost use Rattle.ocfl_night.specs.Promises.{IfReadyIn, IfWalkAt, IsSafeIn, SameClosed, StopsNextOver};
-ghost use Rattle.ocfl_night.specs.{Site.{IsStill}, Sound.{IsReady, IsSoundAt}};
+ghost use Rattle.ocfl_night.specs.{Site.{IsStill}, Sound.{IsAt, IsReady, IsSoundAt}};
 ghost use Rattle.ocfl_night.specs.Steps.{IsNext, IsRun, IsWalkAt};
 ghost use Rattle.ocfl_night.specs.declared.looking.NotKept.TheVariants.{Troubled};
 ghost use Rattle.ocfl_night.specs.Stopping.{ForExtend, ForKeep, ForSlice, IsRunStop, StopsFor};
@@ -235,6 +235,7 @@ fn keep<S: StateFolder>(
     ensures next { IfOk result (λ made. (report : ModelMark)
         × IsNext checkpoint ran report made.checkpoint) }
     ensures made { IfOk result (IsMadeBy ran) }
+    ensures at { IsTrue S.told → IfOk result (λ made. IsAt made.checkpoint (S.seen folder.new)) }
     ensures stop { StopsFor (IsTrue S.told) (ForKeep checkpoint (S.seen folder.old))
         (S.faults folder.old) (S.faults folder.new) result }
 {
@@ -293,6 +294,8 @@ pub fn slice<S: StateFolder, T: Tree>(
     // Nothing is kept of a run after which the root is not the one of before.
     ensures still { IsTrue S.told → IsTrue T.told → (S.seen folder.new ≡ S.seen folder.old)
         ⊎ IsStill identity.now (T.state tree.new).tree }
+    ensures at { IsTrue S.told → IsAt checkpoint (S.seen folder.old)
+        → IfOk result (λ made. IsAt made.checkpoint (S.seen folder.new)) }
     ensures stop { StopsFor (IsTrue S.told) (ForSlice checkpoint (S.seen folder.old))
         (S.faults folder.old) (S.faults folder.new) result }
 {

@@ -1,5 +1,6 @@
 use Rattle.std.proofs.Common.{◌∙◌, ℕ, subst, sym}
 use Rattle.ocfl_night.specs.Sound.{IsOneMore}
+use Rattle.ocfl_night.proofs.Lasting.{closed_stands, open_stands}
 use Rattle.ocfl_night.proofs.closing.finish.Goals as goal
 
 pub returns-in_ok-close-in-Closing-clause-closed :
@@ -21,3 +22,10 @@ returns-in-Open-clause-finished g c = λ told ends. let open_still = sym c.phase
 
 pub returns-in_ok-close-in-Closing-clause-finished : goal.returns-in_ok-close-in-Closing-clause-finished
 returns-in_ok-close-in-Closing-clause-finished g c = λ told ends. c.in_ok-close-in-Closing.ensures.finished told
+
+pub returns-in-Open-clause-stands : goal.returns-in-Open-clause-stands
+returns-in-Open-clause-stands g c = λ told at. open_stands c.args.checkpoint (g.S.StateFolder.seen c.args.folder.now) (sym c.phase_of.ensures ∙ c.in-Open.is) at
+
+pub returns-in_ok-close-in-Closing-clause-stands : goal.returns-in_ok-close-in-Closing-clause-stands
+returns-in_ok-close-in-Closing-clause-stands g c = λ told at.
+    closed_stands c.args.checkpoint (g.S.StateFolder.seen c.args.folder.now) (g.S.StateFolder.seen c.close.new.folder) (sym c.phase_of.ensures ∙ c.in-Closing.is) (c.in_ok-close-in-Closing.ensures.finished told)

@@ -3,9 +3,9 @@ use Rattle.std.specs.Prelude.{◌≡◌, IfSome, IsTrue}
 use Rattle.std.proofs.lemmas.Result.{err_from_is_err_and}
 use Rattle.ocfl_scrub.specs.Starting.{part_of}
 use Rattle.ocfl_state.specs.{Checkpoint.{Checkpoint}, Content.{Closed, is_closed}}
-use Rattle.ocfl_night.specs.Looks.{Rounds, of_any}
+use Rattle.ocfl_night.specs.{Beginning.{Position, StandsAt}, Looks.{Rounds, of_any}}
 use Rattle.ocfl_tree.specs.Place.{Text}
-use Rattle.ocfl_night.specs.{Done.{done_of}, Ending.{cycle_of}, Output.{HasFailed}, Sound.{IsOneMore, IsReady}, Stopping.{ForRuns, IsGiven}}
+use Rattle.ocfl_night.specs.{Done.{done_of}, Ending.{cycle_of}, Output.{HasFailed}, Sound.{IsAt, IsOneMore, IsReady}, Stopping.{ForRuns, IsGiven}}
 use Rattle.ocfl_night.proofs.Beginnings.{ended_in, none_ended, one_more_since, shut_before}
 use Rattle.ocfl_night.proofs.Runs.{halted_so, made_so, troubled_after, troubled_in}
 use Rattle.ocfl_night.proofs.{Moments.{joined_moments}, Heard.{grows_none, said_on, silent}}
@@ -75,21 +75,21 @@ returns-clause-said g c = λ told tells root over short t r.
 pub returns-in_err-last-clause-told : goal.returns-in_err-last-clause-told
 returns-in_err-last-clause-told g c = λ told.
     let p = err_from_is_err_and c.from_residual.result c.from_residual.ensures.1 in
-    made_so (troubled_in c.args.plan.now (done_of c.runs.new.tally) p.1) (c.in_err-last.ensures.told told)
+    made_so (troubled_in (λ (p : Position). IsTrue g.S.StateFolder.told → IsAt c.args.checkpoint (g.S.StateFolder.seen c.args.folder.now) → StandsAt (g.S.StateFolder.seen c.runs.new.folder) p) c.args.plan.now (done_of c.runs.new.tally) p.1) (c.in_err-last.ensures.told told)
 
 pub returns-in_err-said-clause-told : goal.returns-in_err-said-clause-told
 returns-in_err-said-clause-told g c = λ told.
     let p = err_from_is_err_and c.from_residual-in_err-said.result c.from_residual-in_err-said.ensures.1 in
-    made_so (troubled_after c.args.plan.now (done_of c.runs.new.tally) c.in_ok-last.last c.in_ok-last.pause p.1) (c.in_ok-last.ensures.told told)
+    made_so (troubled_after (λ (p : Position). IsTrue g.S.StateFolder.told → IsAt c.args.checkpoint (g.S.StateFolder.seen c.args.folder.now) → StandsAt (g.S.StateFolder.seen c.speak.new.folder) p) c.args.plan.now (done_of c.runs.new.tally) c.in_ok-last.last c.in_ok-last.pause p.1) (c.in_ok-last.ensures.told told)
 
 pub returns-in_err-ended-clause-told : goal.returns-in_err-ended-clause-told
 returns-in_err-ended-clause-told g c = λ told.
     let p = err_from_is_err_and c.from_residual-in_err-ended.result c.from_residual-in_err-ended.ensures.1 in
-    made_so (troubled_after c.args.plan.now (done_of c.runs.new.tally) c.in_ok-last.last c.in_ok-last.pause p.1) (c.in_ok-last.ensures.told told)
+    made_so (troubled_after (λ (p : Position). IsTrue g.S.StateFolder.told → IsAt c.args.checkpoint (g.S.StateFolder.seen c.args.folder.now) → StandsAt (g.S.StateFolder.seen c.finish.new.folder) p) c.args.plan.now (done_of c.runs.new.tally) c.in_ok-last.last c.in_ok-last.pause p.1) (c.in_ok-last.ensures.told told)
 
 pub returns-clause-told : goal.returns-clause-told
 returns-clause-told g c = λ told.
-    made_so (halted_so c.args.plan.now (done_of c.runs.new.tally) c.in_ok-last.last c.in_ok-said.said c.in_ok-last.pause c.in_ok-ended.ended c.in_ok-said.ensures.all c.in_ok-ended.ensures.ended c.halt_after.ensures.is) (c.in_ok-last.ensures.told told)
+    made_so (halted_so (λ (p : Position). IsTrue g.S.StateFolder.told → IsAt c.args.checkpoint (g.S.StateFolder.seen c.args.folder.now) → StandsAt (g.S.StateFolder.seen c.finish.new.folder) p) c.args.plan.now (done_of c.runs.new.tally) c.in_ok-last.last c.in_ok-said.said c.in_ok-last.pause c.in_ok-ended.ended c.in_ok-said.ensures.all c.in_ok-ended.ensures.ended c.halt_after.ensures.is (λ tells at. c.in_ok-ended.ensures.stands tells (c.in_ok-said.ensures.at tells (c.in_ok-last.ensures.at tells at)))) (c.in_ok-last.ensures.told told)
 
 pub returns-clause-whole : goal.returns-clause-whole
 returns-clause-whole g c = λ told tells root over short t r cycle is d come.

@@ -7,11 +7,11 @@ use Rattle.ocfl_state.specs.Content.{Closed, Content}
 use Rattle.ocfl_night.specs.{Done.{Done, done_of}, Leaving.{has_end}, Nights.{IsSafeNight}, Site.{part_at}}
 use Rattle.ocfl_night.specs.Looks.{Counts, Known, Rounds, look_between, of_any}
 use Rattle.ocfl_scrub.specs.Starting.{part_of}
-use Rattle.ocfl_night.specs.{Output.{HasFailed}, Sound.{IsKept, IsOneMore, IsReady}, Steps.{IsNotBegun}}
+use Rattle.ocfl_night.specs.{Beginning.{Position, StandsAt}, Output.{HasFailed}, Ending.{ended_by}, Sound.{IsAt, IsKept, IsOneMore, IsReady}, Steps.{IsNotBegun}}
 use Rattle.ocfl_night.specs.declared.nights.Begun.{Begun}
 use Rattle.ocfl_night.specs.Stopping.{ForNight, ForRuns, IsGiven, IsUnlooked, TellsKept, course}
 use Rattle.ocfl_night.proofs.Beginnings.{one_more_since, refused_still, shut_since, still_on}
-use Rattle.ocfl_night.proofs.{Moments.{leaves_weaker}, Runs.{made_from}}
+use Rattle.ocfl_night.proofs.{Moments.{leaves_weaker}, Runs.{left_so, made_from, made_so}}
 use Rattle.ocfl_night.proofs.Looks.{counts_on, last_of}
 use Rattle.ocfl_night.proofs.Heard.{heard_through, on_ok, ready_since, since_sound, told_since}
 use Rattle.ocfl_night.proofs.Newest.{newest}
@@ -109,7 +109,9 @@ returns g c =
         start = c.in-Ok.begun.checkpoint;
         begins = c.in-Ok.ensures.begins;
         done = done_of runs.new.tally;
-        runs = made_from c.args.plan.now (g.C.Clock.events c.args.clock.now) (g.C.Clock.events runs.new.clock) (done_of runs.new.tally) c.in-Ok.begun.checkpoint c.none-tally.ensures.nothing (c.account-2.ensures.end ∙ c.ended.ensures.is) (runs.ensures.told told);
+        runs = made_from (λ (p : Position). IsTrue g.S.StateFolder.told → StandsAt (s runs.new.folder) p) c.args.plan.now (g.C.Clock.events c.args.clock.now) (g.C.Clock.events runs.new.clock) (done_of runs.new.tally) c.in-Ok.begun.checkpoint c.none-tally.ensures.nothing (c.account-2.ensures.end ∙ c.ended.ensures.is)
+            (made_so (λ d k last is. left_so (λ (p : Position). IsTrue g.S.StateFolder.told → IsAt c.in-Ok.begun.checkpoint (s c.set_out.new.folder) → StandsAt (s runs.new.folder) p) (λ (p : Position). IsTrue g.S.StateFolder.told → StandsAt (s runs.new.folder) p)
+            c.args.plan.now (ended_by runs.result) (done_of runs.new.tally) d k last (λ p stands tells. stands tells (c.in-Ok.ensures.at tells)) is) (runs.ensures.told told));
         begun = c.account-2.ensures.runs;
         left = ap (λ (v : Vec Place Global). v.items) c.account-2.ensures.left;
       });

@@ -89,6 +89,7 @@ loop-run-init g c = record {
   cycle = refl;
   told = λ told. none_yet;
   faults = λ told. omega arith;
+  at = λ told at. at;
   counted = none_counted c.args.start c.args.tally.now.runs;
   passed = omega arith;
   leads = none_grown;
@@ -172,6 +173,7 @@ loop-run-preserved g c =
       counts = counts_then g at;
       closed = λ told. c.in_ok-next.ensures.closed told ∙ c.in_ok-made.ensures.closed told ∙ inv.closed told;
       faults = λ told. let a = inv.faults told in let b = c.in_ok-made.ensures.stop told in let d = c.in_ok-next.ensures.stop told in omega arith;
+      at = λ told there. c.in_ok-next.ensures.at told (c.in_ok-made.ensures.at told (inv.at told there));
       counted = counted_on c.args.plan.now.stop_at_faults (done_of c.count.new.self) (done_of c.go_on_after.new.tally) c.args.start (c.in_ok-next.next, c.in_ok-next.pause) (search rules) c.in_ok-made.ensures.slice c.in_ok-next.ensures.turn inv.counted (one_run g at);
       passed = let one = one_run g at in omega (arith, inv.passed, c.loop-run-test.true);
       leads = grown_on inv.leads (turned g at (search rules) c.in_ok-next.ensures.turn);
@@ -261,3 +263,12 @@ returns-in_err-next-clause-stop g c = λ may.
 
 pub returns-clause-stop : goal.returns-clause-stop
 returns-clause-stop g c = λ may. worn_out c.args.start c.loop-run.tally.runs (omega (arith, c.loop-run.invariant.passed, c.loop-run-test.false))
+
+pub returns-in-Some-clause-at : goal.returns-in-Some-clause-at
+returns-in-Some-clause-at g c = λ told there. c.in_ok-next.ensures.at told (c.in_ok-made.ensures.at told (c.loop-run.invariant.at told there))
+
+pub returns-then-ne-clause-at : goal.returns-then-ne-clause-at
+returns-then-ne-clause-at g c = λ told there. c.loop-run.invariant.at told there
+
+pub returns-in-Err-clause-at : goal.returns-in-Err-clause-at
+returns-in-Err-clause-at g c = λ told there. c.loop-run.invariant.at told there

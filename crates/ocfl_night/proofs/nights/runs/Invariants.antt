@@ -5,7 +5,7 @@ use Rattle.std.specs.Prelude.{IsTrue}
 use Rattle.ocfl_scrub.specs.Starting.{part_of}
 use Rattle.ocfl_state.specs.Crash.{LeavesOnly}
 use Rattle.ocfl_night.specs.{Done.{done_of}, Ending.{cycle_of}, Leaving.{LeadsOn, MayLeave}, Looks.{Counts, WithLook, look_between}}
-use Rattle.ocfl_night.specs.{Sound.{IsReady, IsSoundAt}, Steps.{IsWalkAt}}
+use Rattle.ocfl_night.specs.{Sound.{IsAt, IsReady, IsSoundAt}, Steps.{IsWalkAt}}
 use Rattle.ocfl_night.proofs.{Reasons.{IsCounted}, Runs.{SoFar}}
 use Rattle.ocfl_night.proofs.nights.runs.Given as goal
 
@@ -24,6 +24,7 @@ invariant-loop-run g l =
       cycle : cycle_of l.checkpoint ≡ cycle_of l.fn.start;
       told : IsTrue g.C.Clock.told → SoFar l.fn.plan (g.C.Clock.events l.fn.clock) (g.C.Clock.events l.clock) (done_of l.fn.tally) l.fn.start (done_of l.tally) l.checkpoint;
       faults : IsTrue g.S.StateFolder.told → g.S.StateFolder.faults l.fn.folder ≤ g.S.StateFolder.faults l.folder;
+      at : IsTrue g.S.StateFolder.told → IsAt l.fn.start (seen l.fn.folder) → IsAt l.checkpoint (seen l.folder);
       counted : IsCounted l.fn.start l.checkpoint l.tally.runs;
       passed : l._run ≤ l.tally.runs;
       leads : LeadsOn l.fn.start l.fn.tally.left.items l.checkpoint l.tally.left.items;

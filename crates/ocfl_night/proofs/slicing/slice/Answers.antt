@@ -7,6 +7,7 @@ use Rattle.ocfl_night.proofs.{Extending.{run_at}, KeptWalks.{walk_from, walk_mad
 use Rattle.ocfl_night.proofs.{Moments.{unmoved}, Sound.{ready_sound}, Stopped.{made_stops, unkept_stops}}
 use Rattle.ocfl_night.proofs.slicing.slice.Given as given
 use Rattle.ocfl_night.proofs.slicing.slice.Goals.{In_ok-rest}
+use Rattle.ocfl_night.proofs.Lasting.{unkept_at}
 use Rattle.ocfl_night.proofs.slicing.slice.Goals as goal
 
 -- the run is made of what comes after the branches that were left out
@@ -62,3 +63,6 @@ returns-clause-stops g c = λ tells root over short walk.
     let at = (goal.at.returns-clause-stops g c).In_ok-rest in
     let made = c.in-Ok.ensures.run tells root over short (goes_on g at root walk) in
     made_stops root (part_of c.args.part.now) c.args.checkpoint (look_between root (g.T.Tree.state c.args.tree.now) (g.T.Tree.state c.make_run.new.tree)) c.in-Ok.made.0 _ refl (run_at (rest_is g at) c.in_ok-cursor.ensures refl made) c.keep.result c.keep.ensures.next c.keep.ensures.made
+
+pub returns-in-Err-clause-at : goal.returns-in-Err-clause-at
+returns-in-Err-clause-at g c = λ told at. unkept_at c.args.checkpoint (g.S.StateFolder.seen c.args.folder.now) c.unkept.result c.unkept.ensures.unkept at

@@ -1,19 +1,23 @@
 -- What a run brings to the report, and what it looked at.
-use Rattle.std.proofs.{Common.{◌≡◌, ◌≢◌, ◌+◌, ◌≤◌, ℕ, [], ◌++◌, ◌∙◌, Bool, List, length, Option, None, Some, ap, arith, append_assoc, refl, subst, sym}, lemmas.List.{append-nil, append_cancel_left}}
+use Rattle.std.proofs.{Common.{◌≡◌, ◌≢◌, ◌⊎◌, ⊎_elim, inl, inr, ◌+◌, ◌≤◌, ℕ, [], ◌++◌, ◌∙◌, Bool, List, length, Option, None, Some, ap, arith, append_assoc, refl, subst, sym}, lemmas.List.{append-nil, append_cancel_left}}
 use Rattle.ocfl_tree.specs.{Place.{Text, Place}, Ascending.{IsAmong}, StorageRoot.{StorageRoot}}
 use Rattle.ocfl_tree.specs.{Store.{Store, failed_openings}, declared.store.Opening.{Opening}}
 use Rattle.ocfl_report.specs.Text.{text}
-use Rattle.ocfl_audit.specs.{Audit.{Unread}, Parts.{Part}, Runs.{Limits}, Trail.{unread_of}}
+use Rattle.ocfl_audit.specs.{Audit.{Unread}, Parts.{Part}, Runs.{Limits}, Trail.{content_trail, unread_of}}
 use Rattle.ocfl_audit.specs.Due.{hashed_among}
-use Rattle.ocfl_audit.proofs.Trails.{unread_behind}
+use Rattle.ocfl_audit.proofs.Trails.{content_behind, unread_behind}
 use Rattle.ocfl_cursor.specs.Cursor.{Cursor}
 use Rattle.ocfl_scrub.specs.{Call.{Call, known_call}, Keeping.{GoesOnFrom, RunsOn}, Joining.{PartRun, Ran, items_out}}
-use Rattle.ocfl_scrub.specs.Running.{RunEndsWithin, RunsFromWithin, place_in}
+use Rattle.ocfl_item.specs.declared.fault.Fault.TheVariants as fault
+use Rattle.ocfl_scrub.specs.Running.{RunEndsWithin, RunsFromWithin, begun, place_in}
 use Rattle.ocfl_scrub.specs.{declared.running.RunEnd.{RunEnd}, declared.running.RunStatus.{RunStatus}}
 use Rattle.ocfl_scrub.specs.declared.running.RunStatus.TheVariants as status
-use Rattle.ocfl_scrub.specs.declared.stop.ReportStop.TheVariants.{Output}
-use Rattle.ocfl_scrub.proofs.CycleRuns.{report_at}
+use Rattle.ocfl_scrub.specs.declared.stop.ReportStop.TheVariants.{Fault, Output}
+use Rattle.ocfl_scrub.proofs.CycleRuns.{opens_beyond, report_at}
+use Rattle.ocfl_night.specs.Ending.{place_or_pause, slice_end}
+use Rattle.ocfl_night.specs.Reading.{AreBeyond, AreReadOnce, HasRead, IsReadBy, StaysTaken, content_since}
 use Rattle.ocfl_night.specs.{Looks.{Counts, Look, look_between, opened_since}, Steps.{IsRun}}
+use Rattle.ocfl_night.proofs.RunsRead.{run_once, run_stays}
 use Rattle.ocfl_night.proofs.Looks.{counts_by, counts_did, failed_append, first_within, since_is}
 
 -- ---- what a run counts
@@ -23,6 +27,16 @@ counts_ends call part from last l spent files finding status.Ended h = counts_di
 counts_ends call part from last l spent files finding status.Spent h = counts_did h.1.looks.audits.did
 counts_ends call part from last l spent files finding (status.Stopped why) h = counts_did h.looks.fails.did
 counts_ends call part from last l spent files finding status.Worn h = absurd h
+
+-- it stopped at a place: a call of the store failed
+stopped_ends : (call : Call) (part : Part) (from last : Option Place) (l : Limits) (spent files : ℕ) (finding : Bool) (end : RunStatus) → RunEndsWithin call part from last l spent files finding end
+    → (q : Place) → end ≡ status.Stopped (Fault (fault.Store q)) → call.before.failures + 1 ≤ call.after.failures
+stopped_ends call part from last l spent files finding (status.Stopped (Fault (fault.Store p))) h q is = let did = h.looks.fails.did.failures_are in omega (arith, did)
+stopped_ends call part from last l spent files finding (status.Stopped (Fault fault.Memory)) h q is = absurd (cc is)
+stopped_ends call part from last l spent files finding (status.Stopped Output) h q is = absurd (cc is)
+stopped_ends call part from last l spent files finding status.Ended h q is = absurd (cc is)
+stopped_ends call part from last l spent files finding status.Spent h q is = absurd (cc is)
+stopped_ends call part from last l spent files finding status.Worn h q is = absurd h
 
 -- ---- what it wrote and opened
 
@@ -71,7 +85,9 @@ record Looked (root : StorageRoot) (s t : Store) (old new : Text) (part : Part) 
   pub uncut : ran.end ≢ status.Stopped Output → cut ≡ []
   pub made : Ran root part c run
   pub unread : unread_of root (opened_since s t) ≡ unread_of root run.opened
+  pub content : content_since root s t ≡ content_trail root run.opened
   pub counts : Counts s t
+  pub stopped : (q : Place) → ran.end ≡ status.Stopped (Fault (fault.Store q)) → s.failures + 1 ≤ t.failures
 
 module _ (root : StorageRoot) (s t : Store) (old new : Text) (part : Part) (c : Cursor) (l : Limits) (ran : RunEnd) where
   -- it began a walk
@@ -86,6 +102,8 @@ module _ (root : StorageRoot) (s t : Store) (old new : Text) (part : Part) (c : 
         uncut = r.uncut;
         made = r.made;
         unread = ap (unread_of root) (since_is s t r.run.opened r.opened_is);
+        content = ap (content_trail root) (since_is s t r.run.opened r.opened_is);
+        stopped = stopped_ends (known_call root s t old new) part (place_in c.state) h.last l ran.spent ran.files ran.found ran.end h.run;
         counts = counts_ends (known_call root s t old new) part (place_in c.state) h.last l ran.spent ran.files ran.found ran.end h.run;
       }
 
@@ -114,6 +132,10 @@ module _ (root : StorageRoot) (s t : Store) (old new : Text) (part : Part) (c : 
     unfolding hashed_among
     none_down = unread_behind root down (way ++ added) h.down.audits.opened ∙ unread_behind root way added h.way.audits.opened
 
+    meta_down : content_trail root (down ++ (way ++ added)) ≡ content_trail root added
+    unfolding hashed_among
+    meta_down = content_behind root down (way ++ added) h.down.audits.opened ∙ content_behind root way added h.way.audits.opened
+
     no_failure : (trail : List Opening) → unread_of root trail ≡ unread_of root [] → length (unread_of root trail) ≡ 0
     no_failure trail is = ap length is
 
@@ -127,6 +149,14 @@ module _ (root : StorageRoot) (s t : Store) (old new : Text) (part : Part) (c : 
         let two : length (unread_of root way) ≡ 0 = no_failure way (sym (ap (unread_of root) (append-nil way)) ∙ unread_behind root way [] h.way.audits.opened) in
         omega (arith, counts.failures, since, one, two, h.down.audits.did.failures_are, h.way.audits.did.failures_are, ap (λ (x : Store). x.failures) h.alike.there)
 
+    stopped_on : (q : Place) → ran.end ≡ status.Stopped (Fault (fault.Store q)) → s.failures + 1 ≤ t.failures
+    unfolding hashed_among
+    stopped_on q is =
+        let more : h.before.failures + 1 ≤ h.behind.failures = stopped_ends (known_call root h.before h.behind old new) part (place_in c.state) h.runs.last l ran.spent ran.files ran.found ran.end h.runs.run q is in
+        let one : length (unread_of root down) ≡ 0 = no_failure down (sym (ap (unread_of root) (append-nil down)) ∙ unread_behind root down [] h.down.audits.opened) in
+        let two : length (unread_of root way) ≡ 0 = no_failure way (sym (ap (unread_of root) (append-nil way)) ∙ unread_behind root way [] h.way.audits.opened) in
+        omega (arith, more, one, two, h.down.audits.did.failures_are, h.way.audits.did.failures_are, ap (λ (x : Store). x.failures) h.alike.there, ap (λ (x : Store). x.failures) h.alike.here)
+
     looked_on : Looked root s t old new part c ran
     looked_on =
         let r = reported root h.before h.behind old part c l ran new h.runs in
@@ -139,6 +169,8 @@ module _ (root : StorageRoot) (s t : Store) (old new : Text) (part : Part) (c : 
           uncut = r.uncut;
           made = r.made;
           unread = ap (unread_of root) (since_is s t added here) ∙ sym (ap (unread_of root) opened ∙ none_down);
+          content = ap (content_trail root) (since_is s t added here) ∙ sym (ap (content_trail root) opened ∙ meta_down);
+          stopped = stopped_on;
           counts = counts_by s t added here (omega (arith, failed, ap (λ (x : Store). x.failures) h.alike.here));
         }
 
@@ -164,6 +196,34 @@ module _ (root : StorageRoot) (s t : Store) (old new : Text) (part : Part) (c : 
         lines_are = text;
         looked = λ e is. (first_within r.counts after root).unread e (subst (λ (x : Unread). IsAmong x e) (sym r.unread) is);
       }
+
+  -- the content files that it opened come after its cursor
+  pub run_beyond : AreBeyond (begun c).state (content_since root s t)
+  run_beyond =
+      let r = looked_by root s t old new part c l ran met h in
+      record { each = λ p i. opens_beyond root part c r.run r.made p (subst (λ (ps : List Place). IsAmong ps p) r.content i) }
+
+  -- and each is read once, unless it stopped
+  pub run_read : ran.end ≢ status.Worn → ran.end ≢ status.Stopped Output → HasRead s t (begun c).state ran.cursor.state (place_or_pause (slice_end ran.end)) (content_since root s t)
+  run_read works whole =
+      let r = looked_by root s t old new part c l ran met h in
+      let cursor : r.run.ran.cursor ≡ ran.cursor = ap (λ (x : RunEnd). x.cursor) r.ran_is in
+      let once : (ran.end ≡ status.Ended) ⊎ (ran.end ≡ status.Spent) → AreReadOnce ran.cursor.state (content_since root s t) = λ how.
+      subst (AreReadOnce ran.cursor.state) (sym r.content) (subst (λ (x : Cursor). AreReadOnce x.state (content_trail root r.run.opened)) cursor
+      (run_once root part c r.run r.made (⊎_elim (λ e. inl (ap (λ (x : RunEnd). x.end) r.ran_is ∙ e)) (λ e. inr (ap (λ (x : RunEnd). x.end) r.ran_is ∙ e)) how))) in
+      record {
+        stays = subst (λ (x : Cursor). StaysTaken (begun c).state x.state) cursor (run_stays root part c r.run r.made);
+        once = λ same. by (λ q is. let more = r.stopped q is in omega (arith, more, same)) once ran.end refl;
+      }
+    where
+      by : ((q : Place) → ran.end ≡ status.Stopped (Fault (fault.Store q)) → ⊥) → ((ran.end ≡ status.Ended) ⊎ (ran.end ≡ status.Spent) → AreReadOnce ran.cursor.state (content_since root s t))
+          → (end : RunStatus) → ran.end ≡ end → IsReadBy (place_or_pause (slice_end end)) ran.cursor.state (content_since root s t)
+      by stops once status.Ended is = once (inl is)
+      by stops once status.Spent is = once (inr is)
+      by stops once status.Worn is = absurd (works is)
+      by stops once (status.Stopped Output) is = absurd (whole is)
+      by stops once (status.Stopped (Fault (fault.Store q))) is = stops q is
+      by stops once (status.Stopped (Fault fault.Memory)) is = tt
 
 -- of a part, a cursor and lines that are known by two names
 pub run_at : {look : Look} {rest part : Part} {made c : Cursor} {ran : RunEnd} {new lines : Text} → rest ≡ part → made ≡ c → new ≡ lines → IsRun rest made look new ran → IsRun part c look lines ran

@@ -24,3 +24,5 @@ pub mod Flushed
 pub mod Refusals
 pub mod Reasons
 pub mod Lasting
+pub mod RunsRead
+pub mod Reading

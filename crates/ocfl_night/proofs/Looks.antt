@@ -104,16 +104,16 @@ counts_either status.Ended made unmade = made (λ e. cc)
 counts_either status.Spent made unmade = made (λ e. cc)
 counts_either (status.Stopped why) made unmade = made (λ e. cc)
 
-leaf_there : (o : Option Leaf) (bytes : Text) → option_and_then bytes_of o ≡ Some bytes → o ≡ Some (file bytes)
+pub leaf_there : (o : Option Leaf) (bytes : Text) → option_and_then bytes_of o ≡ Some bytes → o ≡ Some (file bytes)
 leaf_there None bytes is = absurd (cc is)
 leaf_there (Some (file found)) bytes is = let same : found ≡ bytes = cc is in ap (λ (b : Text). Some (file b)) same
 leaf_there (Some dir) bytes is = absurd (cc is)
 leaf_there (Some other) bytes is = absurd (cc is)
 
 -- a declaration could not be read
-pub counts_unread : {root : StorageRoot} {s t : Store} {listed : List Place} {p : Place} → HasShortFiles root → IsUnread root s t listed p → Counts s t
+pub counts_unread : {root : StorageRoot} {s t : Store} {names : List Text} {listed : List Place} {p : Place} → HasShortFiles root → IsUnread root s t names listed p → Counts s t
 counts_unread short (in_listing is there did) = counts_did did
-counts_unread short (in_opening before given did) = counts_did did
+counts_unread short (in_opening before given named did) = counts_did did
 counts_unread {root} {p = p} short (too_long bytes is long) = absurd (let few = short p bytes (leaf_there (at root p) bytes is) in omega (arith, few, long))
 
 -- memory was refused
@@ -121,8 +121,8 @@ pub counts_first : {s t : Store} {os : List Opening} {listed : List Place} → O
 counts_first first = counts_did first.did
 
 -- the root has no identity
-pub counts_unidentified : {root : StorageRoot} {s t : Store} {os : List Opening} {listed : List Place} (e : NoIdentity) → HasShortFiles root → (e ≡ none.Undeclared → Did s t [] listed 0)
-    → ((p : Place) → e ≡ none.Unread p → IsUnread root s t listed p) → (e ≡ none.Memory → Did s t [] [] 0 ⊎ OpensFirst s t os listed) → Counts s t
+pub counts_unidentified : {root : StorageRoot} {s t : Store} {os : List Opening} {names : List Text} {listed : List Place} (e : NoIdentity) → HasShortFiles root → (e ≡ none.Undeclared → Did s t [] listed 0)
+    → ((p : Place) → e ≡ none.Unread p → IsUnread root s t names listed p) → (e ≡ none.Memory → Did s t [] [] 0 ⊎ OpensFirst s t os listed) → Counts s t
 counts_unidentified none.Undeclared short bare unread refused = counts_did (bare refl)
 counts_unidentified (none.Unread p) short bare unread refused = counts_unread short (unread p refl)
 counts_unidentified none.Memory short bare unread refused = ⊎_elim counts_did counts_first (refused refl)

@@ -17,3 +17,4 @@ pub mod Runs
 pub mod Older
 pub mod Refusing
 pub mod Stopping
+pub mod Reading

@@ -1,6 +1,6 @@
 //! The laws of nights.
-ghost use Rattle.std.specs.{Prelude.{◌≡◌, ◌⊎◌, [], Bool, Option, IsTrue, List, Some, map, true}, List.{AllByRecursion}};
-ghost use Rattle.ocfl_tree.specs.{Ascending.{IsAmong}, Name.{IsPlace}, Place.{Place}};
+ghost use Rattle.std.specs.{Prelude.{◌≡◌, ◌⊎◌, [], Bool, Option, IsTrue, List, Some, flat_map, map, true}, List.{AllByRecursion}};
+ghost use Rattle.ocfl_tree.specs.{Ascending.{IsAmong, IsAscending}, Name.{IsPlace}, Place.{Place, place_cmp}};
 ghost use Rattle.ocfl_tree.specs.{StorageRoot.{StorageRoot}, Store.{Store}};
 ghost use Rattle.ocfl_item.specs.Judging.{HasShortFiles};
 ghost use Rattle.ocfl_report.specs.{Line.{Item}, Text.{text}};
@@ -13,6 +13,7 @@ ghost use Rattle.ocfl_night.specs.Runs.{AreMade, EndsBy, IsBegunNight, IsNight};
 ghost use Rattle.ocfl_night.specs.{Beginning.{position}, Clock.{BeginsInTime, Event}, Done.{nothing_done}};
 ghost use Rattle.ocfl_night.specs.declared.plan.{NightEnd.{NightEnd as ModelEnd}, Plan.{Plan as ModelPlan}};
 ghost use Rattle.ocfl_night.specs.{Looks.{Counts, Rounds, look_between, of_any}};
+ghost use Rattle.ocfl_night.specs.Reading.{AreOfOneCycle, Reading};
 ghost use Rattle.ocfl_night.specs.{Site.{part_at}, Sound.{IsSound}};
 ghost use Rattle.ocfl_night.specs.Nights.{AllTaken, AreNights, AreOver, AreWhole, AtAnyMoment, EachOther, EachWhole, HaveReadAll, IsAround, IsAuditBut, Night, rounds_of};
 
@@ -117,6 +118,13 @@ pub fn the_next_night_goes_on()
 pub fn where_nothing_failed_all_was_read()
     ensures { (root : StorageRoot) (s t : Store) → Counts s t → t.failures ≡ s.failures
         → (look_between root s t).unread ≡ [] }
+{}
+
+/// Nights of one cycle, one after the other, each of which ended in order and without a failure of
+/// the store: together they open each content file once, in order. So nothing is read twice.
+pub fn nothing_is_read_twice()
+    ensures { (readings : List Reading) → AreOfOneCycle readings
+        → IsAscending place_cmp (flat_map (λ r. r.opened) readings) }
 {}
 
 /// Two nights, the second of which takes up what the first one left. If both stores are of one root

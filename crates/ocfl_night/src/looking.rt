@@ -1,7 +1,8 @@
 //! Looking at the storage root: when a night begins, and after each run.
-ghost use Rattle.std.specs.Prelude.{◌≡◌, IfErr, IsTrue, OnOk, true};
+ghost use Rattle.std.specs.Prelude.{◌≡◌, [], IfErr, IsTrue, OnOk, true};
 ghost use Rattle.ocfl_tree.specs.Store.{IfTold};
 ghost use Rattle.ocfl_night.specs.{Ending.{unopened_by}, Looks.{Counts}};
+ghost use Rattle.ocfl_night.specs.Reading.{AreDeclarations, content_since};
 ghost use Rattle.ocfl_night.specs.{Promises.{OverShort}, Site.{IsStill}, Stopping.{IsRunStop}};
 
 use crate::refusal::{NotOpened, Refusal};
@@ -46,6 +47,8 @@ pub(crate) fn look_again<T: Tree>(
         OnOk result (IsStill identity.now root)) }
     ensures counts { OverShort T.told (T.state tree.old) (λ root.
         Counts (T.state tree.old) (T.state tree.new)) }
+    ensures content { AreDeclarations identity.now → OverShort T.told (T.state tree.old) (λ root.
+        content_since root (T.state tree.old) (T.state tree.new) ≡ []) }
     ensures stop { IfErr result (IsRunStop ⊥) }
 {
     match is_still_declared(alloc, tree, identity, block) {

@@ -1,7 +1,7 @@
 //! A night.
 ghost use Rattle.std.specs.Prelude.{◌≡◌, ◌≢◌, ◌⊎◌, ◌↔◌, ◌≤◌, [], IfOk, IfSome, IsErr, All, IsOk, IsSome, IsTrue, List, Err, Ok, OnErr, OnOk, Some, false, true, length, ℕ};
 ghost use Rattle.ocfl_audit.specs.Parts.{Part as ModelPart};
-ghost use Rattle.ocfl_tree.specs.{Place.{Text}, StorageRoot.{StorageRoot}};
+ghost use Rattle.ocfl_tree.specs.{Place.{Text}, StorageRoot.{StorageRoot}, Store.{IfTold}};
 ghost use Rattle.ocfl_scrub.specs.Starting.{part_of};
 ghost use Rattle.ocfl_state.specs.{Content.{Closed}, Crash.{LeavesOnly}};
 ghost use Rattle.ocfl_state.specs.declared.checkpoint_parts.Phase.TheVariants.{Open};
@@ -14,8 +14,9 @@ ghost use Rattle.ocfl_night.specs.Refusing.{IfForeign, IfRefused, IsBarred, IsFo
 ghost use Rattle.ocfl_night.specs.{Site.{part_at}, Steps.{IsNotBegun, IsUntouched, IsWalkAt, closes_whole}};
 ghost use Rattle.ocfl_night.specs.Sound.{IsAllSaid, IsAt, IsHeard, IsHeardSince, IsKept, IsOneMore, IsReady, IsReadySince, IsSound};
 ghost use Rattle.ocfl_night.specs.{Beginning.{BeginsAt, StandsAt}, Clock.{is_before}, Done.{done_of}};
+ghost use Rattle.ocfl_night.specs.Reading.{AreBeyond, AreDeclarations, EndsInOrder, HaveRead, IsRead, IsReadTo, ReadsBeyond, content_since, reached};
 ghost use Rattle.ocfl_night.specs.Runs.{AreMade, EndsBy, IsAllowed, IsEndedBy, IsNight, MayHaveLeft, StopsOpen, after_made, turn_of};
-ghost use Rattle.ocfl_night.specs.Ending.{cycle_of, ended_by, halt_after, halt_of, place_or_pause, unbegun_by};
+ghost use Rattle.ocfl_night.specs.Ending.{cycle_ended, cycle_of, ended_by, halt_after, halt_of, place_or_pause, unbegun_by};
 ghost use Rattle.ocfl_night.specs.{Pace.{budget_at, files_at}, Nights.{IsSafeNight}};
 ghost use Rattle.ocfl_night.specs.Stopping.{ForNight, ForPut, ForRuns, IsGiven, IsReason, IsUnlooked, OpensFor, StopsFor, TellsKept, course};
 ghost use Rattle.ocfl_night.specs.declared.stop.Stop.{Stop as ModelStop};
@@ -264,6 +265,13 @@ fn runs<S: StateFolder, T: Tree, C: Clock>(
     ensures root { OverShort T.told (T.state tree.old) (λ root. (T.state tree.new).tree ≡ root) }
     ensures counts { OverShort T.told (T.state tree.old) (λ root.
         Counts (T.state tree.old) (T.state tree.new)) }
+    ensures beyond { AreDeclarations identity.now → OverShort T.told (T.state tree.old) (λ root.
+        AreBeyond (reached start) (content_since root (T.state tree.old) (T.state tree.new))) }
+    ensures read { AreDeclarations identity.now → OverShort T.told (T.state tree.old) (λ root.
+        IfOk result (λ next. HaveRead (T.state tree.old) (T.state tree.new)
+        (reached start) (reached next.0)
+        (halt_after (cycle_ended next.0.phase next.0.cursor.cycle) next.1)
+        (content_since root (T.state tree.old) (T.state tree.new)))) }
     ensures closed { IsTrue S.told → OnOk result (SameClosed S.seen folder.old folder.new) }
     ensures told { IsTrue C.told → AreMade plan.now (C.events clock.old) (C.events clock.new)
         (done_of tally.old) start
@@ -373,6 +381,15 @@ fn make_runs<S: StateFolder, T: Tree, C: Clock, O: Output>(
     ensures root { OverShort T.told (T.state tree.old) (λ root. (T.state tree.new).tree ≡ root) }
     ensures counts { OverShort T.told (T.state tree.old) (λ root.
         Counts (T.state tree.old) (T.state tree.new)) }
+    ensures beyond { AreDeclarations identity.now → OverShort T.told (T.state tree.old) (λ root.
+        AreBeyond (reached checkpoint)
+        (content_since root (T.state tree.old) (T.state tree.new))) }
+    ensures read { IsTrue S.told → AreDeclarations identity.now
+        → OverShort T.told (T.state tree.old) (λ root.
+        IfReadyIn S.seen S.may_leave (of_any (part_of part.now)) checkpoint folder.old
+        (λ _. IfOk result (λ end. EndsInOrder end
+        → IsReadTo (T.state tree.old) (T.state tree.new) (reached checkpoint)
+        (S.seen folder.new) (content_since root (T.state tree.old) (T.state tree.new))))) }
     ensures grew { Grows (O.said out.old) (O.said out.new) }
     ensures ended { IsTrue S.told → OverShort T.told (T.state tree.old) (λ root.
         WithLook (part_of part.now)
@@ -436,6 +453,10 @@ fn set_out<S: StateFolder, T: Tree, O: Output>(
     ensures root { IsTrue T.told → (T.state tree.new).tree ≡ (T.state tree.old).tree }
     ensures counts { OverShort T.told (T.state tree.old) (λ root.
         Counts (T.state tree.old) (T.state tree.new)) }
+    ensures content { OverShort T.told (T.state tree.old) (λ root.
+        content_since root (T.state tree.old) (T.state tree.new) ≡ []) }
+    ensures declares { IfTold T.told (T.state tree.old) (λ root.
+        IfOk result (λ begun. AreDeclarations begun.identity)) }
     ensures heard { IsTrue S.told → (rounds : Rounds)
         → (kept : IsKept S.may_leave rounds folder.old)
         → LeavesOnly S.moment S.left_since folder.old folder.new (IsHeardSince rounds
@@ -515,6 +536,17 @@ pub fn night<S: StateFolder, T: Tree, C: Clock, O: Output>(
     ensures root { OverShort T.told (T.state tree.old) (λ root. (T.state tree.new).tree ≡ root) }
     ensures counts { OverShort T.told (T.state tree.old) (λ root.
         Counts (T.state tree.old) (T.state tree.new)) }
+
+    // However it ends, it opens no content file that the checkpoint had taken with which it began.
+    ensures beyond { IsTrue S.told → OverShort T.told (T.state tree.old) (λ root. ReadsBeyond
+        (S.seen folder.old) (content_since root (T.state tree.old) (T.state tree.new))) }
+
+    // If no run of it stops, and no call of the store fails, it opens each content file once, in
+    // order, and the checkpoint to which it led has taken them.
+    ensures read { IsTrue S.told → OverShort T.told (T.state tree.old) (λ root.
+        IsKept S.may_leave (of_any (part_at site.now.ends)) folder.old → EndsInOrder result.end
+        → IsRead (T.state tree.old) (T.state tree.new) (S.seen folder.old) (S.seen folder.new)
+        (content_since root (T.state tree.old) (T.state tree.new))) }
 
     // Unless it is refused or something is troubled, all of the report is said, also what earlier
     // nights left.

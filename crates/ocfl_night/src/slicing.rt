@@ -2,7 +2,7 @@
 ghost use Rattle.std.specs.Prelude.{◌≡◌, ◌≢◌, ◌⊎◌, ◌++◌, IfErr, IfNone, IfOk, IsTrue, OnOk, length, true};
 ghost use Rattle.ocfl_tree.specs.{Place.{Text}, StorageRoot.{StorageRoot}, Store.{IfTold}};
 ghost use Rattle.ocfl_item.specs.Judging.{HasShortFiles};
-ghost use Rattle.ocfl_scrub.specs.{Keeping.{IsReady as IsWalkReady}, Running.{IsWorn, place_in}};
+ghost use Rattle.ocfl_scrub.specs.{Keeping.{IsReady as IsWalkReady}, Running.{IsWorn, begun, place_in}};
 ghost use Rattle.ocfl_scrub.specs.Starting.{part_of};
 ghost use Rattle.ocfl_scrub.specs.declared.running.RunStatus.TheVariants as run;
 ghost use Rattle.ocfl_scrub.specs.declared.stop.ReportStop.TheVariants.{Output};
@@ -12,9 +12,10 @@ ghost use Rattle.ocfl_state.specs.declared.checkpoint_parts.ReportMark.{ReportMa
 ghost use Rattle.ocfl_state.specs.declared.checkpoint_parts.Phase.TheVariants.{Closing, Open};
 ghost use Rattle.ocfl_night.specs.Chain.{part_after};
 ghost use Rattle.ocfl_night.specs.Looks.{Counts, IsOneOf, Look, Rounds, WithLook, look_between};
-ghost use Rattle.ocfl_night.specs.Ending.{IsAway, IsMadeBy, IsSlice, IsUnkept, KeepsTo, lost_by, slice_end};
+ghost use Rattle.ocfl_night.specs.Ending.{IsAway, IsMadeBy, IsSlice, IsUnkept, KeepsTo, lost_by, place_or_pause, slice_end};
 ghost use Rattle.ocfl_night.specs.Promises.{IfReadyIn, IfWalkAt, IsSafeIn, SameClosed, StopsNextOver};
 ghost use Rattle.ocfl_night.specs.{Site.{IsStill}, Sound.{IsAt, IsReady, IsSoundAt}};
+ghost use Rattle.ocfl_night.specs.Reading.{AreBeyond, AreDeclarations, HasRead, content_since, reached};
 ghost use Rattle.ocfl_night.specs.Steps.{IsNext, IsRun, IsWalkAt};
 ghost use Rattle.ocfl_night.specs.declared.looking.NotKept.TheVariants.{Troubled};
 ghost use Rattle.ocfl_night.specs.Stopping.{ForExtend, ForKeep, ForSlice, IsRunStop, StopsFor};
@@ -64,6 +65,15 @@ fn make_run<T: Tree>(
     ensures counts { IfTold T.told (T.state tree.old) (λ root. HasShortFiles root
         → IsWalkReady root (part_of part.now) (place_in cursor.state) kept.old
         → Counts (T.state tree.old) (T.state tree.new)) }
+    ensures beyond { AreDeclarations identity.now → IfTold T.told (T.state tree.old) (λ root.
+        HasShortFiles root → IsWalkReady root (part_of part.now) (place_in cursor.state) kept.old
+        → AreBeyond (begun cursor).state
+        (content_since root (T.state tree.old) (T.state tree.new))) }
+    ensures read { AreDeclarations identity.now → IfTold T.told (T.state tree.old) (λ root.
+        HasShortFiles root → IsWalkReady root (part_of part.now) (place_in cursor.state) kept.old
+        → IfOk result (λ r. HasRead (T.state tree.old) (T.state tree.new)
+        (begun cursor).state r.0.cursor.state (place_or_pause (slice_end r.0.end))
+        (content_since root (T.state tree.old) (T.state tree.new)))) }
     ensures walk { IfTold T.told (T.state tree.old) (λ root. HasShortFiles root
         → IsWalkReady root (part_of part.now) (place_in cursor.state) kept.old
         → IfOk result (λ r. IsWalkReady root (part_of part.now) (place_in r.0.cursor.state)
@@ -279,6 +289,16 @@ pub fn slice<S: StateFolder, T: Tree>(
         (λ root. (T.state tree.new).tree ≡ root) }
     ensures counts { IfWalkAt T.told (T.state tree.old) (part_of part.now) checkpoint kept.old
         (λ root. Counts (T.state tree.old) (T.state tree.new)) }
+
+    // It opens no content file that the checkpoint has taken. If nothing fails, it opens each once,
+    // in order, and the checkpoint after it has taken them.
+    ensures beyond { AreDeclarations identity.now → IfWalkAt T.told (T.state tree.old)
+        (part_of part.now) checkpoint kept.old (λ root. AreBeyond (reached checkpoint)
+        (content_since root (T.state tree.old) (T.state tree.new))) }
+    ensures read { AreDeclarations identity.now → IfWalkAt T.told (T.state tree.old)
+        (part_of part.now) checkpoint kept.old (λ root. IfOk result (λ made. HasRead
+        (T.state tree.old) (T.state tree.new) (reached checkpoint) (reached made.checkpoint)
+        (place_or_pause made.end) (content_since root (T.state tree.old) (T.state tree.new)))) }
 
     // The next slice may go on with the walk that is kept.
     ensures walk { IfWalkAt T.told (T.state tree.old) (part_of part.now) checkpoint kept.old

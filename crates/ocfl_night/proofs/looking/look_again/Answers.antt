@@ -1,4 +1,5 @@
 use Rattle.ocfl_night.proofs.Looks.{counts_did, counts_first}
+use Rattle.ocfl_night.proofs.Reading.{content_did, content_first, content_unread}
 use Rattle.ocfl_night.proofs.looking.look_again.Goals as goal
 
 pub returns-in-Ok-true-clause-counts : goal.returns-in-Ok-true-clause-counts
@@ -9,3 +10,18 @@ returns-in-Ok-false-clause-counts g c = λ tells root over short. counts_did (c.
 
 pub returns-in-Err-Memory-clause-counts : goal.returns-in-Err-Memory-clause-counts
 returns-in-Err-Memory-clause-counts g c = λ tells root over short. counts_first (c.in-Err-Memory.ensures.refused tells root over c.in-Err-Memory.field-0-is)
+
+pub returns-in-Ok-true-clause-content : goal.returns-in-Ok-true-clause-content
+returns-in-Ok-true-clause-content g c = λ declares tells root over short. content_did root _ _ _ declares (c.in-Ok-true.ensures.opened tells root over)
+
+pub returns-in-Ok-false-clause-content : goal.returns-in-Ok-false-clause-content
+returns-in-Ok-false-clause-content g c = λ declares tells root over short. content_did root _ _ _ declares (c.in-Ok-false.ensures.opened tells root over)
+
+pub returns-in-Err-Undeclared-clause-content : goal.returns-in-Err-Undeclared-clause-content
+returns-in-Err-Undeclared-clause-content g c = λ declares tells root over short. absurd (c.in-Err-Undeclared.ensures.only c.in-Err-Undeclared.field-0-is)
+
+pub returns-in-Err-Unread-clause-content : goal.returns-in-Err-Unread-clause-content
+returns-in-Err-Unread-clause-content g c = λ declares tells root over short. content_unread root _ _ _ declares short (c.in-Err-Unread.ensures.unread tells root over _ c.in-Err-Unread.field-0-is)
+
+pub returns-in-Err-Memory-clause-content : goal.returns-in-Err-Memory-clause-content
+returns-in-Err-Memory-clause-content g c = λ declares tells root over short. content_first root _ _ _ declares (c.in-Err-Memory.ensures.refused tells root over c.in-Err-Memory.field-0-is)

@@ -11,6 +11,7 @@ use Rattle.ocfl_night.proofs.Runs.{halted_so, made_so, troubled_after, troubled_
 use Rattle.ocfl_night.proofs.{Moments.{joined_moments}, Heard.{grows_none, said_on, silent}}
 use Rattle.ocfl_night.proofs.Whole.{closing_by, come_whole, grown_whole, told_whole}
 use Rattle.ocfl_night.proofs.Reasons.{speak_reason, stops_at}
+use Rattle.ocfl_night.proofs.Reading.{read_to}
 use Rattle.ocfl_night.proofs.nights.make_runs.Goals as goal
 
 pub returns-in_err-last-clause-heard : goal.returns-in_err-last-clause-heard
@@ -117,3 +118,22 @@ returns-in_err-said-clause-stop g c = λ may.
     (λ at. at.folder) (λ at. c.in_ok-last.ensures.stop may at)
     (λ at. (of_any (part_of c.args.part.now), (at.holds.0, (c.in_ok-last.ensures.ready at.folder at.store _ refl at.short None tt at.holds.0 at.holds.1).stands)))
     (λ failed. failed) c.in_err-said.ensures.stop)
+
+pub returns-in_err-last-clause-beyond : goal.returns-in_err-last-clause-beyond
+returns-in_err-last-clause-beyond g c = λ declares tells root over short. c.runs.ensures.beyond declares tells root over short
+
+pub returns-in_err-said-clause-beyond : goal.returns-in_err-said-clause-beyond
+returns-in_err-said-clause-beyond g c = λ declares tells root over short. c.runs.ensures.beyond declares tells root over short
+
+pub returns-in_err-ended-clause-beyond : goal.returns-in_err-ended-clause-beyond
+returns-in_err-ended-clause-beyond g c = λ declares tells root over short. c.runs.ensures.beyond declares tells root over short
+
+pub returns-clause-beyond : goal.returns-clause-beyond
+returns-clause-beyond g c = λ declares tells root over short. c.runs.ensures.beyond declares tells root over short
+
+pub returns-clause-read : goal.returns-clause-read
+returns-clause-read g c = λ told declares tells root over short t r order.
+    let rounds = of_any (part_of c.args.part.now) in
+    let said = c.in_ok-said.ensures.ready told rounds t (c.in_ok-last.ensures.ready told tells root over short None tt t r) in
+    let has = c.in_ok-ended.ensures.cursor told rounds (t ++ said.more) said.ready in
+    read_to c.in_ok-last.last c.in_ok-said.said c.in_ok-ended.ended c.in_ok-last.pause c.in_ok-said.ensures.all c.in_ok-ended.ensures.ended c.halt_after.ensures.is has (c.in_ok-last.ensures.read declares tells root over short) order

@@ -16,6 +16,7 @@ use Rattle.ocfl_night.proofs.Looks.{counts_on, last_of}
 use Rattle.ocfl_night.proofs.Heard.{heard_through, on_ok, ready_since, since_sound, told_since}
 use Rattle.ocfl_night.proofs.Newest.{newest}
 use Rattle.ocfl_night.proofs.Reasons.{ended_troubled, failed_since, night_reason, opened_reason, stopped_reason, unbegun_reason, unbegun_troubled}
+use Rattle.ocfl_night.proofs.Reading.{in_order, night_beyond, night_read, none_beyond, unbegun_order}
 use Rattle.ocfl_night.proofs.nights.night.Given as given
 use Rattle.ocfl_night.proofs.nights.night.Goals.{After-make_runs-through}
 use Rattle.ocfl_night.proofs.nights.night.Goals as goal
@@ -57,6 +58,13 @@ returns g c =
       heard = λ told tells root over short known one. heard g at tells root over short told known one;
       root = λ tells root over short. runs.ensures.root tells root (c.set_out.ensures.root tells ∙ over) short;
       counts = λ tells root over short. counts_on (set_out_counts g at tells root over short) (runs_count g at tells root over short);
+      beyond = λ told tells root over short.
+          night_beyond root (set_out_counts g at tells root over short) (runs_count g at tells root over short) (c.set_out.ensures.content tells root over short) (c.in-Ok.ensures.begins told)
+          (runs.ensures.beyond (c.in-Ok.ensures.declares tells root over) tells root (c.set_out.ensures.root tells ∙ over) short);
+      read = λ told tells root over short kept order.
+          let all = runs.ensures.read told (c.in-Ok.ensures.declares tells root over) tells root (c.set_out.ensures.root tells ∙ over) short _ (ready_since same (c.in-Ok.ensures.ready told part kept)) in
+          night_read root (set_out_counts g at tells root over short) (runs_count g at tells root over short) (c.set_out.ensures.content tells root over short) (c.in-Ok.ensures.begins told)
+          (in_order runs.result (c.account-2.ensures.end ∙ c.ended.ensures.is) all order);
       said = λ told tells root over short kept well other.
           on_ok runs.result (c.ended.ensures.said (λ why is. well why (c.account-2.ensures.end ∙ is))) (runs.ensures.said told tells root (c.set_out.ensures.root tells ∙ over) short _ (ready_since same (c.in-Ok.ensures.ready told part kept)));
       refused = λ told why is. absurd (runs.ensures.unrefused why (c.ended.ensures.refused why (sym c.account-2.ensures.end ∙ is)));
@@ -130,6 +138,8 @@ returns-in-Err g c =
       heard = λ told tells root over short known one kept. c.set_out.ensures.heard told (rounds_over part known) kept;
       root = λ tells root over short. c.set_out.ensures.root tells ∙ over;
       counts = λ tells root over short. c.set_out.ensures.counts tells root over short;
+      beyond = λ told tells root over short k at. none_beyond (c.set_out.ensures.content tells root over short);
+      read = λ told tells root over short kept order. absurd (unbegun_order _ (subst IsNotBegun (sym c.account.ensures.end) c.unbegun.ensures.not_begun) order);
       said = λ told tells root over short kept well unrefused. absurd (c.unbegun.ensures.said (λ why is. well why (c.account.ensures.end ∙ is)) (λ why is. unrefused why (c.account.ensures.end ∙ is)));
       refused = λ told why is. c.in-Err.ensures.refused told why (ap Err (c.unbegun.ensures.refused why (sym c.account.ensures.end ∙ is)));
       rightly = λ told why is. c.in-Err.ensures.rightly told why (ap Err (c.unbegun.ensures.refused why (sym c.account.ensures.end ∙ is)));

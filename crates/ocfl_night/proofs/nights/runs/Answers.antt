@@ -16,6 +16,8 @@ use Rattle.ocfl_night.proofs.Looks.{counts_none, counts_on, first_of, last_of, r
 use Rattle.ocfl_night.proofs.{Moments.{joined_moments, unmoved}, Sound.{ready_mark, ready_sound}}
 use Rattle.ocfl_state.specs.Checkpoint.{Checkpoint}
 use Rattle.ocfl_night.proofs.Whole.{grown_on, none_grown, run_grown}
+use Rattle.ocfl_night.specs.{Ending.{place_or_pause}, Reading.{AreBeyond, AreDeclarations, HasRead, content_since, reached}}
+use Rattle.ocfl_night.proofs.Reading.{beyond_more, goes_read, halts_read, next_reached, read_all, read_last, read_more, read_none}
 use Rattle.ocfl_night.proofs.nights.runs.Given as given
 use Rattle.ocfl_night.proofs.nights.runs.Goals.{After-go_on_after}
 use Rattle.ocfl_night.proofs.Reasons.{counted_on, endless_before, none_counted, put_reason, slice_reason, stops_at, told_within, worn_after, worn_out}
@@ -28,6 +30,16 @@ module _ (g : given.Over) (c : After-go_on_after g) (tells : IsTrue g.T.Tree.tol
 
   counts_then : Counts (g.T.Tree.state c.args.tree.now) (g.T.Tree.state c.slice.new.tree)
   counts_then = counts_on (c.loop-run.invariant.counts tells root over short) made_counts
+
+  module _ (declares : AreDeclarations c.args.identity.now) where
+    slice_beyond : AreBeyond (reached c.loop-run.checkpoint) (content_since root (g.T.Tree.state c.loop-run.tree) (g.T.Tree.state c.slice.new.tree))
+    slice_beyond = c.slice.ensures.beyond declares tells root (c.loop-run.invariant.root tells root over short) short (c.loop-run.invariant.walk tells root over short)
+
+    made_read : HasRead (g.T.Tree.state c.loop-run.tree) (g.T.Tree.state c.slice.new.tree) (reached c.loop-run.checkpoint) (reached c.in_ok-made.made.checkpoint) (place_or_pause c.in_ok-made.made.end) (content_since root (g.T.Tree.state c.loop-run.tree) (g.T.Tree.state c.slice.new.tree))
+    made_read = c.in_ok-made.ensures.read declares tells root (c.loop-run.invariant.root tells root over short) short (c.loop-run.invariant.walk tells root over short)
+
+    beyond_then : AreBeyond (reached c.args.start) (content_since root (g.T.Tree.state c.args.tree.now) (g.T.Tree.state c.slice.new.tree))
+    beyond_then = beyond_more root (c.loop-run.invariant.counts tells root over short) made_counts (c.loop-run.invariant.read tells root over short declares) slice_beyond
 
   module _ (known : Option Known) (one : IsOneOf known (look_between root (g.T.Tree.state c.args.tree.now) (g.T.Tree.state c.slice.new.tree))) where
     one_before : IsOneOf known (look_between root (g.T.Tree.state c.args.tree.now) (g.T.Tree.state c.loop-run.tree))
@@ -85,6 +97,7 @@ loop-run-init g c = record {
   any_moment = λ told tells root over short known one t r. unmoved (g.met.S.StateFolder.only_now told) (ready_sound r);
   ready = λ told tells root over short known one t r. r;
   counts = λ tells root over short. counts_none (g.T.Tree.state c.args.tree.now);
+  read = λ tells root over short declares. read_none root (g.T.Tree.state c.args.tree.now) (reached c.args.start);
   closed = λ told. refl;
   cycle = refl;
   told = λ told. none_yet;
@@ -171,6 +184,10 @@ loop-run-preserved g c =
       any_moment = λ told tells root over short known one. moments g at tells root over short known one told;
       ready = λ told tells root over short known one t r. c.in_ok-next.ensures.ready told (record { part = part_of c.args.part.now; known = known }) (stops_next g at tells root over short known one) t (made_ready g at tells root over short known one told t r);
       counts = counts_then g at;
+      read = λ tells root over short declares.
+          read_more root (inv.counts tells root over short) (made_counts g at tells root over short) (inv.read tells root over short declares) (slice_beyond g at tells root over short declares)
+          (next_reached c.args.plan.now.stop_at_faults (done_of c.count.new.self) (done_of c.go_on_after.new.tally) (c.in_ok-next.next, c.in_ok-next.pause) (search rules) c.in_ok-made.ensures.slice c.in_ok-next.ensures.turn) (made_read g at tells root over short declares)
+          (goes_read c.args.plan.now.stop_at_faults (done_of c.count.new.self) (done_of c.go_on_after.new.tally) (c.in_ok-next.next, c.in_ok-next.pause) (search rules) c.in_ok-made.ensures.slice c.in_ok-next.ensures.turn c.in_default.is _ _);
       closed = λ told. c.in_ok-next.ensures.closed told ∙ c.in_ok-made.ensures.closed told ∙ inv.closed told;
       faults = λ told. let a = inv.faults told in let b = c.in_ok-made.ensures.stop told in let d = c.in_ok-next.ensures.stop told in omega arith;
       at = λ told there. c.in_ok-next.ensures.at told (c.in_ok-made.ensures.at told (inv.at told there));
@@ -272,3 +289,35 @@ returns-then-ne-clause-at g c = λ told there. c.loop-run.invariant.at told ther
 
 pub returns-in-Err-clause-at : goal.returns-in-Err-clause-at
 returns-in-Err-clause-at g c = λ told there. c.loop-run.invariant.at told there
+
+pub returns-in-Err-clause-beyond : goal.returns-in-Err-clause-beyond
+returns-in-Err-clause-beyond g c = λ declares tells root over short. (c.loop-run.invariant.read tells root over short declares).beyond
+
+pub returns-clause-beyond : goal.returns-clause-beyond
+returns-clause-beyond g c = λ declares tells root over short. (c.loop-run.invariant.read tells root over short declares).beyond
+
+pub returns-in_err-made-clause-beyond : goal.returns-in_err-made-clause-beyond
+returns-in_err-made-clause-beyond g c = λ declares tells root over short.
+    let inv = c.loop-run.invariant in
+    let here = inv.root tells root over short in
+    let walk = inv.walk tells root over short in
+    beyond_more root (inv.counts tells root over short) (c.slice.ensures.counts tells root here short walk) (inv.read tells root over short declares) (c.slice.ensures.beyond declares tells root here short walk)
+
+pub returns-in_err-next-clause-beyond : goal.returns-in_err-next-clause-beyond
+returns-in_err-next-clause-beyond g c = λ declares tells root over short. beyond_then g (goal.at.returns-in_err-next-clause-beyond g c).After-go_on_after tells root over short declares
+
+pub returns-in-Some-clause-beyond : goal.returns-in-Some-clause-beyond
+returns-in-Some-clause-beyond g c = λ declares tells root over short. beyond_then g (goal.at.returns-in-Some-clause-beyond g c).After-go_on_after tells root over short declares
+
+pub returns-in-Err-clause-read : goal.returns-in-Err-clause-read
+returns-in-Err-clause-read g c = λ declares tells root over short. read_all _ (c.loop-run.invariant.read tells root over short declares)
+
+pub returns-in-Some-clause-read : goal.returns-in-Some-clause-read
+returns-in-Some-clause-read g c = λ declares tells root over short.
+    let at = (goal.at.returns-in-Some-clause-read g c).After-go_on_after in
+    read_last root (c.loop-run.invariant.counts tells root over short) (made_counts g at tells root over short) (c.loop-run.invariant.read tells root over short declares) (slice_beyond g at tells root over short declares)
+    (next_reached c.args.plan.now.stop_at_faults (done_of c.count.new.self) (done_of c.go_on_after.new.tally) (c.in_ok-next.next, c.in_ok-next.pause) (search rules) c.in_ok-made.ensures.slice c.in_ok-next.ensures.turn) (made_read g at tells root over short declares)
+    (halts_read c.args.plan.now.stop_at_faults (done_of c.count.new.self) (done_of c.go_on_after.new.tally) (c.in_ok-next.next, c.in_ok-next.pause) (search rules) c.in_ok-made.ensures.slice c.in_ok-next.ensures.turn c.in-Some.is _ _ c.in_ok-next.next.cursor.cycle)
+
+pub returns-then-ne-clause-read : goal.returns-then-ne-clause-read
+returns-then-ne-clause-read g c = λ declares tells root over short. read_all _ (c.loop-run.invariant.read tells root over short declares)

@@ -6,7 +6,8 @@ use Rattle.ocfl_scrub.specs.Starting.{part_of}
 use Rattle.ocfl_state.specs.Crash.{LeavesOnly}
 use Rattle.ocfl_night.specs.{Done.{done_of}, Ending.{cycle_of}, Leaving.{LeadsOn, MayLeave}, Looks.{Counts, WithLook, look_between}}
 use Rattle.ocfl_night.specs.{Sound.{IsAt, IsReady, IsSoundAt}, Steps.{IsWalkAt}}
-use Rattle.ocfl_night.proofs.{Reasons.{IsCounted}, Runs.{SoFar}}
+use Rattle.ocfl_night.specs.Reading.{AreDeclarations, content_since, reached}
+use Rattle.ocfl_night.proofs.{Reading.{SoRead}, Reasons.{IsCounted}, Runs.{SoFar}}
 use Rattle.ocfl_night.proofs.nights.runs.Given as goal
 
 abbrev pub invariant-loop-run : goal.invariant-loop-run
@@ -20,6 +21,7 @@ invariant-loop-run g l =
       any_moment : IsTrue g.S.StateFolder.told → IfTold g.T.Tree.told before (λ root. HasShortFiles root → WithLook part (look_between root before now) (λ rounds. (t : Text) → IsReady seen may_leave rounds t l.fn.start l.fn.folder → LeavesOnly g.S.StateFolder.moment g.S.StateFolder.left_since l.fn.folder l.folder (IsSoundAt rounds t)));
       ready : IsTrue g.S.StateFolder.told → IfTold g.T.Tree.told before (λ root. HasShortFiles root → WithLook part (look_between root before now) (λ rounds. (t : Text) → IsReady seen may_leave rounds t l.fn.start l.fn.folder → IsReady seen may_leave rounds t l.checkpoint l.folder));
       counts : IfTold g.T.Tree.told before (λ root. HasShortFiles root → Counts before now);
+      read : IfTold g.T.Tree.told before (λ root. HasShortFiles root → AreDeclarations l.fn.identity → SoRead before now (reached l.fn.start) (reached l.checkpoint) (content_since root before now));
       closed : IsTrue g.S.StateFolder.told → (seen l.folder).closed ≡ (seen l.fn.folder).closed;
       cycle : cycle_of l.checkpoint ≡ cycle_of l.fn.start;
       told : IsTrue g.C.Clock.told → SoFar l.fn.plan (g.C.Clock.events l.fn.clock) (g.C.Clock.events l.clock) (done_of l.fn.tally) l.fn.start (done_of l.tally) l.checkpoint;

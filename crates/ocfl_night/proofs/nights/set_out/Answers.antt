@@ -1,7 +1,10 @@
-use Rattle.std.proofs.{Common.{◌∙◌, ap, Err}, lemmas.Result.{err_from_is_err_and}}
+use Rattle.std.proofs.{Common.{◌∙◌, [], ap, Err}, lemmas.Result.{err_from_is_err_and}}
 use Rattle.ocfl_night.specs.Refusing.{in_folder}
 use Rattle.ocfl_night.proofs.{Looks.{counts_did, counts_none, counts_unidentified}, Moments.{untouched}, Foreigners.{barred_by, no_root_by}}
 use Rattle.ocfl_night.proofs.Heard.{begun_heard, grows_none, is_err}
+use Rattle.ocfl_tree.specs.Listing.{entries_in}
+use Rattle.ocfl_identity.specs.Identity.{declarations_among}
+use Rattle.ocfl_night.proofs.Reading.{are_declarations, content_did, content_none, content_unidentified, counted_names}
 use Rattle.ocfl_night.proofs.nights.set_out.Goals as goal
 
 pub returns-in_err-part-clause-heard : goal.returns-in_err-part-clause-heard
@@ -62,3 +65,21 @@ returns-in_err-part-clause-lost_only g c = λ told not_yet is. absurd (cc (not_y
 
 pub returns-in_err-identity-clause-lost_only : goal.returns-in_err-identity-clause-lost_only
 returns-in_err-identity-clause-lost_only g c = λ told not_yet is. absurd (cc (not_yet, is))
+
+pub returns-in_err-part-clause-content : goal.returns-in_err-part-clause-content
+returns-in_err-part-clause-content g c = λ tells root over short. content_none root (g.T.Tree.state c.args.tree.now)
+
+pub returns-in_err-identity-clause-content : goal.returns-in_err-identity-clause-content
+returns-in_err-identity-clause-content g c = λ tells root over short.
+    content_unidentified root _ _ (declarations_among (entries_in root [])) (counted_names (entries_in root [])) _ short (λ is. c.look_at_root.ensures.unopened tells (c.in_err-identity.was ∙ ap Err is)) (c.in_err-identity.ensures.unread tells root over) (c.in_err-identity.ensures.refused tells root over)
+
+pub returns-in_err-checkpoint-clause-content : goal.returns-in_err-checkpoint-clause-content
+returns-in_err-checkpoint-clause-content g c = λ tells root over short.
+    content_did root _ _ _ (are_declarations root _ (c.in_ok-identity.ensures.told tells root over)) (c.in_ok-identity.ensures.opened tells root over)
+
+pub returns-clause-content : goal.returns-clause-content
+returns-clause-content g c = λ tells root over short.
+    content_did root _ _ _ (are_declarations root _ (c.in_ok-identity.ensures.told tells root over)) (c.in_ok-identity.ensures.opened tells root over)
+
+pub returns-clause-declares : goal.returns-clause-declares
+returns-clause-declares g c = λ tells root over. are_declarations root _ (c.in_ok-identity.ensures.told tells root over)

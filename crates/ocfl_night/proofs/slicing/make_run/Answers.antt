@@ -2,7 +2,8 @@ use Rattle.std.proofs.Common.{◌∙◌, ap, refl, sym, subst}
 use Rattle.ocfl_tree.specs.StorageRoot.{StorageRoot}
 use Rattle.ocfl_scrub.specs.{Keeping.{met_at}, Starting.{part_of}, Running.{limits_of}}
 use Rattle.ocfl_night.specs.{Site.{IsStill}}
-use Rattle.ocfl_night.proofs.{Extending.{run_counts, run_of}, Looks.{counts_either, counts_on}}
+use Rattle.ocfl_night.proofs.{Extending.{run_beyond, run_counts, run_of, run_read}, Looks.{counts_either, counts_on}}
+use Rattle.ocfl_night.proofs.Reading.{beyond_by, beyond_either, content_first_alone, content_same, read_then}
 use Rattle.ocfl_night.proofs.slicing.make_run.Goals as goal
 
 pub returns-clause-run : goal.returns-clause-run
@@ -50,3 +51,36 @@ returns-in-Some-clause-counts g c = λ tells root over short ready.
     counts_either c.run_on-ran.result.end
     (λ made. run_counts root _ _ c.new-lines.result.items c.run_on-ran.new.out.items (part_of c.args.part.now) c.args.cursor (limits_of c.args.limits) c.run_on-ran.result (met_at c.args.kept.now) (c.run_on-ran.ensures.told tells root over short made ready))
     (λ worn. ap g.T.Tree.state (c.run_on-ran.ensures.any_store.worn_silent worn).0)
+
+pub returns-in-Some-clause-beyond : goal.returns-in-Some-clause-beyond
+returns-in-Some-clause-beyond g c = λ declares tells root over short ready.
+    beyond_either c.run_on-ran.result.end
+    (λ made. run_beyond root _ _ c.new-lines.result.items c.run_on-ran.new.out.items (part_of c.args.part.now) c.args.cursor (limits_of c.args.limits) c.run_on-ran.result (met_at c.args.kept.now) (c.run_on-ran.ensures.told tells root over short made ready))
+    (λ worn. content_same root _ _ (ap g.T.Tree.state (c.run_on-ran.ensures.any_store.worn_silent worn).0))
+
+pub returns-in_err-look_again-clause-beyond : goal.returns-in_err-look_again-clause-beyond
+returns-in_err-look_again-clause-beyond g c = λ declares tells root over short ready.
+    let runs = c.run_on-ran.ensures.told tells root over short c.in_default.ensures.made ready in
+    let there = c.run_on-ran.ensures.root tells root over short ready in
+    let counts = run_counts root _ _ c.new-lines.result.items c.run_on-ran.new.out.items (part_of c.args.part.now) c.args.cursor (limits_of c.args.limits) c.run_on-ran.result (met_at c.args.kept.now) runs in
+    let after = c.look_again.ensures.counts tells root there short in
+    let none = c.look_again.ensures.content declares tells root there short in
+    beyond_by (content_first_alone root counts after none) (run_beyond root _ _ c.new-lines.result.items c.run_on-ran.new.out.items (part_of c.args.part.now) c.args.cursor (limits_of c.args.limits) c.run_on-ran.result (met_at c.args.kept.now) runs)
+
+pub returns-clause-beyond : goal.returns-clause-beyond
+returns-clause-beyond g c = λ declares tells root over short ready.
+    let runs = c.run_on-ran.ensures.told tells root over short c.in_default.ensures.made ready in
+    let there = c.run_on-ran.ensures.root tells root over short ready in
+    let counts = run_counts root _ _ c.new-lines.result.items c.run_on-ran.new.out.items (part_of c.args.part.now) c.args.cursor (limits_of c.args.limits) c.run_on-ran.result (met_at c.args.kept.now) runs in
+    let after = c.look_again.ensures.counts tells root there short in
+    let none = c.look_again.ensures.content declares tells root there short in
+    beyond_by (content_first_alone root counts after none) (run_beyond root _ _ c.new-lines.result.items c.run_on-ran.new.out.items (part_of c.args.part.now) c.args.cursor (limits_of c.args.limits) c.run_on-ran.result (met_at c.args.kept.now) runs)
+
+pub returns-clause-read : goal.returns-clause-read
+returns-clause-read g c = λ declares tells root over short ready.
+    let runs = c.run_on-ran.ensures.told tells root over short c.in_default.ensures.made ready in
+    let there = c.run_on-ran.ensures.root tells root over short ready in
+    let counts = run_counts root _ _ c.new-lines.result.items c.run_on-ran.new.out.items (part_of c.args.part.now) c.args.cursor (limits_of c.args.limits) c.run_on-ran.result (met_at c.args.kept.now) runs in
+    let after = c.look_again.ensures.counts tells root there short in
+    let none = c.look_again.ensures.content declares tells root there short in
+    read_then root counts after none (run_read root _ _ c.new-lines.result.items c.run_on-ran.new.out.items (part_of c.args.part.now) c.args.cursor (limits_of c.args.limits) c.run_on-ran.result (met_at c.args.kept.now) runs c.in_default.ensures.made c.in_default.ensures.whole)

@@ -1,10 +1,11 @@
-use Rattle.std.proofs.Common.{◌≡◌, ◌∙◌, ap, refl, sym}
+use Rattle.std.proofs.Common.{◌≡◌, ◌∙◌, ap, refl, rules, sym}
 use Rattle.ocfl_tree.specs.StorageRoot.{StorageRoot}
 use Rattle.ocfl_scrub.specs.{Keeping.{IsReady}, Running.{place_in}, Starting.{part_of}}
 use Rattle.ocfl_state.specs.Checkpoint.{Checkpoint}
 use Rattle.ocfl_night.specs.{Chain.{part_after}, Looks.{look_between}, Steps.{IsWalkAt}}
 use Rattle.ocfl_night.proofs.{Extending.{run_at}, KeptWalks.{walk_from, walk_made}}
 use Rattle.ocfl_night.proofs.{Moments.{unmoved}, Sound.{ready_sound}, Stopped.{made_stops, unkept_stops}}
+use Rattle.ocfl_night.proofs.Reading.{content_none, kept_read, none_beyond, slice_beyond, unkept_read}
 use Rattle.ocfl_night.proofs.slicing.slice.Given as given
 use Rattle.ocfl_night.proofs.slicing.slice.Goals.{In_ok-rest}
 use Rattle.ocfl_night.proofs.Lasting.{unkept_at}
@@ -66,3 +67,25 @@ returns-clause-stops g c = λ tells root over short walk.
 
 pub returns-in-Err-clause-at : goal.returns-in-Err-clause-at
 returns-in-Err-clause-at g c = λ told at. unkept_at c.args.checkpoint (g.S.StateFolder.seen c.args.folder.now) c.unkept.result c.unkept.ensures.unkept at
+
+pub returns-in_err-cursor-clause-beyond : goal.returns-in_err-cursor-clause-beyond
+returns-in_err-cursor-clause-beyond g c = λ declares tells root over short walk. none_beyond (content_none root (g.T.Tree.state c.args.tree.now))
+
+pub returns-in_err-rest-clause-beyond : goal.returns-in_err-rest-clause-beyond
+returns-in_err-rest-clause-beyond g c = λ declares tells root over short walk. none_beyond (content_none root (g.T.Tree.state c.args.tree.now))
+
+pub returns-in-Err-clause-beyond : goal.returns-in-Err-clause-beyond
+returns-in-Err-clause-beyond g c = λ declares tells root over short walk.
+    slice_beyond c.args.checkpoint c.in_ok-cursor.cursor (search rules) c.in_ok-cursor.ensures (c.make_run.ensures.beyond declares tells root over short (goes_on g (goal.at.returns-in-Err-clause-beyond g c).In_ok-rest root walk))
+
+pub returns-clause-beyond : goal.returns-clause-beyond
+returns-clause-beyond g c = λ declares tells root over short walk.
+    slice_beyond c.args.checkpoint c.in_ok-cursor.cursor (search rules) c.in_ok-cursor.ensures (c.make_run.ensures.beyond declares tells root over short (goes_on g (goal.at.returns-clause-beyond g c).In_ok-rest root walk))
+
+pub returns-in-Err-clause-read : goal.returns-in-Err-clause-read
+returns-in-Err-clause-read g c = λ declares tells root over short walk. unkept_read _ _ _ c.args.checkpoint c.unkept.result c.unkept.ensures.unkept
+
+pub returns-clause-read : goal.returns-clause-read
+returns-clause-read g c = λ declares tells root over short walk.
+    let read = c.in-Ok.ensures.read declares tells root over short (goes_on g (goal.at.returns-clause-read g c).In_ok-rest root walk) in
+    kept_read _ _ _ c.args.checkpoint c.in_ok-cursor.cursor c.in-Ok.made.0 (search rules) c.in_ok-cursor.ensures c.in-Ok.ensures.keeps read c.keep.result c.keep.ensures.next c.keep.ensures.made

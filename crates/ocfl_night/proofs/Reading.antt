@@ -30,7 +30,7 @@ use Rattle.ocfl_state.specs.declared.checkpoint_parts.ReportMark.{ReportMark}
 use Rattle.ocfl_night.specs.Beginning.{BeginsAt, Position, first, further, position}
 use Rattle.ocfl_night.specs.{Done.{Done}, Leaving.{done_by, remedy_at}, Looks.{Counts, opened_since}}
 use Rattle.ocfl_night.specs.Ending.{IsAway, IsMadeBy, IsSlice, IsUnkept, KeepsTo, cycle_ended, ended_by, halt_after, place_or_pause, slice_end}
-use Rattle.ocfl_night.specs.Reading.{AreBeyond, AreDeclarations, AreOfOneCycle, AreReadOnce, AreTaken, EndsInOrder, HasCursor, HasRead, HaveRead, IsRead, IsReadBy, IsReadTo, IsReading, Reading, ReadsBeyond, StaysTaken, content_since, reached, reached_in}
+use Rattle.ocfl_night.specs.Reading.{AreBeyond, AreDeclarations, AreOfOneCycle, AreReadOnce, AreTaken, EndsInOrder, HasCursor, HasRead, HaveRead, IsRead, IsReadBy, IsReadTo, IsReading, Reading, ReadsBeyond, StaysTaken, came_to, content_since, reached, reached_in}
 use Rattle.ocfl_night.specs.{Runs.{StopsOpen, Turn, after_end, after_made, turn_of}, Sound.{IsAt}}
 use Rattle.ocfl_night.specs.{Steps.{IsFinished, IsNext, IsNotBegun, begun_anew, with_all_told}}
 use Rattle.ocfl_night.specs.declared.{plan.Halt.{Halt}, plan.Pause.{Pause}, slicing.Made.{Made}, slicing.SliceEnd.{SliceEnd}, stop.Stop.{Stop}, tally.Remedy.{Remedy}}
@@ -171,9 +171,6 @@ once_both {from} {to} {ps} {qs} stays one after then = record {
 pub once_none : (there : State) {ps : List Place} → ps ≡ [] → AreReadOnce there ps
 once_none there is = record { once = subst (IsAscending place_cmp) (sym is) tt; taken = record { each = λ p i. absurd (subst (λ qs. IsAmong qs p) is i) } }
 
-pub once_later : {from to : State} {ps : List Place} → StaysTaken from to → AreReadOnce from ps → AreReadOnce to ps
-once_later stays h = record { once = h.once; taken = record { each = λ p i. stays.each p (h.taken.each p i) } }
-
 pub once_by : {there : State} {ps qs : List Place} → qs ≡ ps → AreReadOnce there ps → AreReadOnce there qs
 once_by {there} is h = subst (AreReadOnce there) (sym is) h
 
@@ -189,21 +186,6 @@ begun_stays c = record { each = λ p is. by p c.state refl is }
 begun_going : (c : Cursor) (last : Option Place) → c.state ≡ state_at last → (begun c).state ≡ c.state
 begun_going c None e = ap (λ s. (begun_in c s).state) e
 begun_going c (Some q) e = ap (λ s. (begun_in c s).state) e
-
-begun_unended : (c : Cursor) → c.state ≢ ended → (begun c).state ≡ c.state
-begun_unended c goes = by c.state refl
-  where
-    by : (s : State) → c.state ≡ s → (begun_in c s).state ≡ c.state
-    by start e = refl
-    by (behind q) e = refl
-    by ended e = absurd (goes e)
-
-pub reached_stays : (k : Checkpoint) → StaysTaken (reached k) k.cursor.state
-reached_stays k = by k.phase
-  where
-    by : (phase : Phase) → StaysTaken (reached_in phase k.cursor) k.cursor.state
-    by Open = begun_stays k.cursor
-    by Closing = record { each = λ p is. is }
 
 begun_reached : (k : Checkpoint) → StaysTaken (begun k.cursor).state (reached k)
 begun_reached k = by k.phase
@@ -369,17 +351,27 @@ module _ (strict : Bool) (d e : Done) {k : Checkpoint} {limits : Limits} {made :
 pub finished_cursor : {k : Checkpoint} {old new : Content} → IsFinished k old new → HasCursor k.cursor new
 finished_cursor {k} f = record { checkpoint = begun_anew k; at = record { bytes = f.next.bytes; is = ap (λ (x : Content). x.checkpoint) f.next.put; text = f.next.text }; is = refl }
 
+-- where its checkpoint has come
+came_there : (phase : Phase) (c : Cursor) (n : ℕ) (why : Pause) → came_to (halt_after (cycle_ended phase n) why) c ≡ reached_in phase c
+came_there Closing c n why = refl
+came_there Open c n pause.TimeUp = refl
+came_there Open c n pause.Spent = refl
+came_there Open c n pause.Closing = refl
+came_there Open c n pause.Asked = refl
+came_there Open c n (pause.Stopped why) = refl
+came_there Open c n pause.RootChanged = refl
+
 pub read_to : {s t : Store} {from : State} {c : Content} {ps : List Place} (last said : Checkpoint) (cycle : Option ℕ) (why : Pause) {end : Halt} → said ≡ with_all_told last → cycle ≡ cycle_ended said.phase said.cursor.cycle → end ≡ halt_after cycle why → HasCursor said.cursor c
-    → HaveRead s t from (reached last) (halt_after (cycle_ended last.phase last.cursor.cycle) why) ps → EndsInOrder end → IsReadTo s t from c ps
+    → HaveRead s t from (reached last) (halt_after (cycle_ended last.phase last.cursor.cycle) why) ps → EndsInOrder end → IsReadTo s t from end c ps
 read_to {from = from} {ps = ps} last said cycle why {end} all is so has read order =
     let cursor : has.checkpoint.cursor ≡ last.cursor = has.is ∙ ap (λ (x : Checkpoint). x.cursor) all in
     let same : end ≡ halt_after (cycle_ended last.phase last.cursor.cycle) why = so ∙ ap (λ (o : Option ℕ). halt_after o why) (is ∙ ap (λ (x : Checkpoint). cycle_ended x.phase x.cursor.cycle) all) in
-    let ordered = subst EndsInOrder same order in
+    let came : came_to end has.checkpoint.cursor ≡ reached last = ap (λ (h : Halt). came_to h has.checkpoint.cursor) same ∙ ap (came_to (halt_after (cycle_ended last.phase last.cursor.cycle) why)) cursor ∙ came_there last.phase last.cursor last.cursor.cycle why in
     record {
       last = has.checkpoint;
       at = has.at;
-      stays = subst (λ (x : Cursor). StaysTaken from x.state) (sym cursor) (record { each = λ p taken. (reached_stays last).each p (read.stays.each p taken) });
-      once = λ unfailing. subst (λ (x : Cursor). AreReadOnce x.state ps) (sym cursor) (once_later (reached_stays last) (read.once unfailing ordered));
+      stays = subst (StaysTaken from) (sym came) read.stays;
+      once = λ unfailing. subst (λ (s : State). AreReadOnce s ps) (sym came) (read.once unfailing (subst EndsInOrder same order));
     }
 
 -- ---- a night
@@ -396,7 +388,7 @@ module _ {s t u : Store} {create : Bool} {old : Content} {start : Checkpoint} (r
   pub night_beyond : AreBeyond (reached start) (content_since root t u) → ReadsBeyond old (content_since root s u)
   night_beyond all k here = beyond_by (content_last_alone root p q none) (beyond_from (begins_stays begins k here) all)
 
-  pub night_read : {new : Content} → IsReadTo t u (reached start) new (content_since root t u) → IsRead s u old new (content_since root s u)
+  pub night_read : {new : Content} {end : Halt} → IsReadTo t u (reached start) end new (content_since root t u) → IsRead s u end old new (content_since root s u)
   night_read h = record {
     last = h.last;
     at = h.at;
@@ -415,30 +407,53 @@ unbegun_order halt.RootChanged un order = order
 unbegun_order (halt.Refused why) un order = order
 unbegun_order (halt.Troubled why) un order = order
 
-pub in_order : {P : Type 0} (r : Result Halt Stop) {end : Halt} → end ≡ ended_by r → IfOk r (λ h. EndsInOrder h → P) → EndsInOrder end → P
-in_order (Ok h) is then order = then (subst EndsInOrder is order)
-in_order (Err why) is then order = absurd (subst EndsInOrder is order)
+pub in_order : (P : Halt → Type 0) (r : Result Halt Stop) {end : Halt} → end ≡ ended_by r → IfOk r (λ h. EndsInOrder h → P h) → EndsInOrder end → P end
+in_order P (Ok h) is then order = subst P (sym is) (then (subst EndsInOrder is order))
+in_order P (Err why) is then order = absurd (subst EndsInOrder is order)
 
 -- ---- several nights
 
+-- one that does not end the cycle
+came_on : (end : Halt) (c : Cursor) → ((cycle : ℕ) → end ≢ halt.CycleEnded cycle) → came_to end c ≡ (begun c).state
+came_on (halt.CycleEnded cycle) c other = absurd (other cycle refl)
+came_on halt.TimeUp c other = refl
+came_on halt.Spent c other = refl
+came_on halt.Asked c other = refl
+came_on (halt.Stopped why) c other = refl
+came_on halt.RootChanged c other = refl
+came_on (halt.Refused why) c other = refl
+came_on (halt.Troubled why) c other = refl
+
+-- of two such lists of places the second comes after the first
+pub read_on : {there next : State} {ps qs : List Place} → there ≡ next → AreReadOnce there ps → AreBeyond next qs → IsAscending place_cmp qs → IsAscending place_cmp (ps ++ qs)
+read_on {there} {next} {ps} {qs} same one after up =
+    ascends_append place_cmp ps qs one.once up (λ p q i j. taken_below there p q (one.taken.each p i) (subst (λ (s : State). is_taken s q ≡ false) (sym same) (after.each q j)))
+
+abbrev all_opened : List Reading → List Place
+all_opened readings = flat_map (λ (x : Reading). x.opened) readings
+
+module _ (r q : Reading) (are : IsReading r) (next : q.old.checkpoint ≡ r.new.checkpoint) (other : (cycle : ℕ) → r.end ≢ halt.CycleEnded cycle) where
+  -- the next one begins with its checkpoint
+  left_to : IsAt are.read.last q.old
+  left_to = record { bytes = are.read.at.bytes; is = next ∙ are.read.at.is; text = are.read.at.text }
+
+  came : came_to r.end are.read.last.cursor ≡ (begun are.read.last.cursor).state
+  came = came_on r.end are.read.last.cursor other
+
 -- what is opened from a night on comes after the checkpoint with which it begins
-later_beyond : (r : Reading) (readings : List Reading) → AreOfOneCycle (r ∷ readings) → (k : Checkpoint) → IsAt k r.old → AreBeyond (begun k.cursor).state (flat_map (λ (x : Reading). x.opened) (r ∷ readings))
+later_beyond : (r : Reading) (readings : List Reading) → AreOfOneCycle (r ∷ readings) → (k : Checkpoint) → IsAt k r.old → AreBeyond (begun k.cursor).state (all_opened (r ∷ readings))
 later_beyond r [] are k here = beyond_by (append-nil r.opened) (are.beyond k here)
 later_beyond r (q ∷ readings) are k here =
-    let read = are.0.read in
-    let last : IsAt read.last q.old = record { bytes = read.at.bytes; is = are.1 ∙ read.at.is; text = read.at.text } in
-    let rest = later_beyond q readings are.3 read.last last in
-    let same : (begun read.last.cursor).state ≡ read.last.cursor.state = begun_unended read.last.cursor (are.2 read.last read.at) in
-    beyond_both (are.0.beyond k here) (beyond_from (read.stays k here) (subst (λ (s : State). AreBeyond s (flat_map (λ (x : Reading). x.opened) (q ∷ readings))) same rest))
+    let rest = later_beyond q readings are.3 are.0.read.last (left_to r q are.0 are.1 are.2) in
+    beyond_both (are.0.beyond k here) (beyond_from (are.0.read.stays k here) (subst (λ (s : State). AreBeyond s (all_opened (q ∷ readings))) (sym (came r q are.0 are.1 are.2)) rest))
 
 pub read_once : (readings : List Reading) → AreOfOneCycle readings → IsAscending place_cmp (flat_map (λ (x : Reading). x.opened) readings)
 read_once [] are = tt
 read_once (r ∷ []) are = subst (IsAscending place_cmp) (sym (append-nil r.opened)) (are.read.once are.unfailing).once
 read_once (r ∷ q ∷ readings) are =
-    let read = are.0.read in
-    let own = read.once are.0.unfailing in
-    let last : IsAt read.last q.old = record { bytes = read.at.bytes; is = are.1 ∙ read.at.is; text = read.at.text } in
-    let rest = later_beyond q readings are.3 read.last last in
-    let same : (begun read.last.cursor).state ≡ read.last.cursor.state = begun_unended read.last.cursor (are.2 read.last read.at) in
-    ascends_append place_cmp r.opened (flat_map (λ (x : Reading). x.opened) (q ∷ readings)) own.once (read_once (q ∷ readings) are.3)
-    (λ x y i j. taken_below read.last.cursor.state x y (own.taken.each x i) (subst (λ (s : State). is_taken s y ≡ false) same (rest.each y j)))
+    read_on (came r q are.0 are.1 are.2) (are.0.read.once are.0.unfailing) (later_beyond q readings are.3 are.0.read.last (left_to r q are.0 are.1 are.2)) (read_once (q ∷ readings) are.3)
+
+-- two of them
+pub two_read : {s1 t1 s2 t2 : Store} {old mid new : Content} {one two : Halt} {ps qs : List Place} → IsRead s1 t1 one old mid ps → ReadsBeyond mid qs → IsRead s2 t2 two mid new qs → ((cycle : ℕ) → one ≢ halt.CycleEnded cycle) → t1.failures ≡ s1.failures → t2.failures ≡ s2.failures
+    → IsAscending place_cmp (ps ++ qs)
+two_read {one = one} read beyond then other well1 well2 = read_on (came_on one read.last.cursor other) (read.once well1) (beyond read.last read.at) (then.once well2).once

@@ -1,11 +1,11 @@
 -- Which content files the runs of nights open, and what of a cycle has been taken.
-use Rattle.std.specs.Prelude.{◌≡◌, ◌≢◌, List, [], ◌∷◌, true, false, Option, Some, None, Result, Ok, Err, ⊤}
+use Rattle.std.specs.Prelude.{◌≡◌, ◌≢◌, ℕ, List, [], ◌∷◌, true, false, Option, Some, None, Result, Ok, Err, ⊤}
 use Rattle.ocfl_tree.specs.{Place.{Place, place_cmp}, Ascending.{IsAmong, IsAscending}}
 use Rattle.ocfl_tree.specs.{StorageRoot.{StorageRoot}, Store.{Store}}
 use Rattle.ocfl_audit.specs.Trail.{content_trail}
 use Rattle.ocfl_inventory.specs.Declaration.{is_declaration}
 use Rattle.ocfl_inventory.specs.declared.declaration.Level.TheVariants.{Root}
-use Rattle.ocfl_cursor.specs.Cursor.{Cursor, State, ended}
+use Rattle.ocfl_cursor.specs.Cursor.{Cursor, State}
 use Rattle.ocfl_identity.specs.declared.identity.Identity.{Identity}
 use Rattle.ocfl_scrub.specs.{Joining.{is_taken}, Running.{begun}}
 use Rattle.ocfl_state.specs.{Checkpoint.{Checkpoint}, Content.{Content}}
@@ -86,13 +86,19 @@ pub record HaveRead (s t : Store) (from to : State) (end : Halt) (ps : List Plac
   pub stays : StaysTaken from to
   pub once : t.failures ≡ s.failures → EndsInOrder end → AreReadOnce to ps
 
+-- where a checkpoint that a night left has come: where its cursor is if the night ended the cycle, and
+-- else where the next run begins
+abbrev pub came_to : Halt → Cursor → State
+came_to (halt.CycleEnded cycle) c = c.state
+came_to _ c = (begun c).state
+
 -- the same of runs in order, where this is in the folder then: its checkpoint is the one to which they
 -- came
-pub record IsReadTo (s t : Store) (from : State) (c : Content) (ps : List Place) : Type 0 where
+pub record IsReadTo (s t : Store) (from : State) (end : Halt) (c : Content) (ps : List Place) : Type 0 where
   pub last : Checkpoint
   pub at : IsAt last c
-  pub stays : StaysTaken from last.cursor.state
-  pub once : t.failures ≡ s.failures → AreReadOnce last.cursor.state ps
+  pub stays : StaysTaken from (came_to end last.cursor)
+  pub once : t.failures ≡ s.failures → AreReadOnce (came_to end last.cursor) ps
 
 -- ---- what a night reads
 
@@ -100,34 +106,36 @@ pub record IsReadTo (s t : Store) (from : State) (c : Content) (ps : List Place)
 abbrev pub ReadsBeyond : Content → List Place → Type 0
 ReadsBeyond c ps = IfThere c (λ k. AreBeyond (begun k.cursor).state ps)
 
--- If it ended in order, it led to a checkpoint of which what had been taken is still taken. If no
+-- If it ended so, in order, it led to a checkpoint of which what had been taken is still taken. If no
 -- failure was counted either, it opened each content file once, in order, and that checkpoint has taken
 -- all of them.
-pub record IsRead (s t : Store) (old new : Content) (ps : List Place) : Type 0 where
+pub record IsRead (s t : Store) (end : Halt) (old new : Content) (ps : List Place) : Type 0 where
   pub last : Checkpoint
   pub at : IsAt last new
-  pub stays : IfThere old (λ k. StaysTaken (begun k.cursor).state last.cursor.state)
-  pub once : t.failures ≡ s.failures → AreReadOnce last.cursor.state ps
+  pub stays : IfThere old (λ k. StaysTaken (begun k.cursor).state (came_to end last.cursor))
+  pub once : t.failures ≡ s.failures → AreReadOnce (came_to end last.cursor) ps
 
 -- ---- what several nights read
 
--- a night over a folder that showed this before and after it, by the content files that it opened
+-- a night over a folder that showed this before and after it: how it ended, and which content files it
+-- opened
 pub record Reading : Type 0 where
   pub old : Content
   pub new : Content
   pub before : Store
   pub after : Store
+  pub end : Halt
   pub opened : List Place
 
 -- one that ended in order, and in which no failure was counted
 pub record IsReading (r : Reading) : Type 0 where
   pub beyond : ReadsBeyond r.old r.opened
-  pub read : IsRead r.before r.after r.old r.new r.opened
+  pub read : IsRead r.before r.after r.end r.old r.new r.opened
   pub unfailing : r.after.failures ≡ r.before.failures
 
 -- one after the other, in one cycle: each begins with the checkpoint that the one before it left, and
--- none but the last left one whose cycle had ended
+-- none but the last ended the cycle
 abbrev pub AreOfOneCycle : List Reading → Type 0
 AreOfOneCycle [] = ⊤
 AreOfOneCycle (r ∷ []) = IsReading r
-AreOfOneCycle (r ∷ q ∷ readings) = IsReading r × (q.old.checkpoint ≡ r.new.checkpoint) × IfThere r.new (λ k. k.cursor.state ≢ ended) × AreOfOneCycle (q ∷ readings)
+AreOfOneCycle (r ∷ q ∷ readings) = IsReading r × (q.old.checkpoint ≡ r.new.checkpoint) × ((cycle : ℕ) → r.end ≢ halt.CycleEnded cycle) × AreOfOneCycle (q ∷ readings)

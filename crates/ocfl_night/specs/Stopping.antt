@@ -1,8 +1,8 @@
 -- Why the steps of a night stop: for each stop its reason.
 use Rattle.std.specs.Prelude.{◌≡◌, ◌≢◌, ◌⊎◌, ℕ, ◌+◌, ◌^◌, ◌<◌, ◌≤◌, List, [], ◌∷◌, Bool, IsTrue, false, Result, Ok, Err, length, ⊤}
-use Rattle.ocfl_tree.specs.{Place.{Place, Text}, Store.{Store, IfTold}}
+use Rattle.ocfl_tree.specs.{Listing.{entries_in}, Place.{Place, Text}, Store.{Store, IfTold}}
 use Rattle.ocfl_item.specs.Judging.{HasShortFiles}
-use Rattle.ocfl_identity.specs.Identity.{IsUnread}
+use Rattle.ocfl_identity.specs.Identity.{IsUnread, declarations_among}
 use Rattle.ocfl_scrub.specs.Running.{IsWorn}
 use Rattle.ocfl_state.specs.{Calls.{HasLong, IsLong}, Checkpoint.{Checkpoint, IsCheckpointText}, Content.{Content}}
 use Rattle.ocfl_state.specs.{Crash.{Outcomes}, Pieces.{summary_of}, declared.checkpoint_parts.Left.{Left}}
@@ -184,7 +184,7 @@ FromStart n Holds = (start : Checkpoint) × (BeginsAt n.create n.content start �
 
 -- if a store tells, its root could not be looked at: the top folder, or a file that declares it
 abbrev pub IsUnlooked : Bool → Store → Store → Place → Type 0
-IsUnlooked told s t p = IfTold told s (λ root. IsUnread root s t ([] ∷ []) p)
+IsUnlooked told s t p = IfTold told s (λ root. IsUnread root s t (declarations_among (entries_in root [])) ([] ∷ []) p)
 
 -- A night is troubled: what is there as a checkpoint is too long, the root could not be looked at, a
 -- run could not be counted or made, or the output has failed.

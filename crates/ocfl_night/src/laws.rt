@@ -1,5 +1,5 @@
 //! The laws of nights.
-ghost use Rattle.std.specs.{Prelude.{◌≡◌, ◌⊎◌, [], Bool, Option, IsTrue, List, Some, flat_map, map, true}, List.{AllByRecursion}};
+ghost use Rattle.std.specs.{Prelude.{◌≡◌, ◌≢◌, ◌⊎◌, ◌++◌, ℕ, [], Bool, Option, IsTrue, List, Some, flat_map, map, true}, List.{AllByRecursion}};
 ghost use Rattle.ocfl_tree.specs.{Ascending.{IsAmong, IsAscending}, Name.{IsPlace}, Place.{Place, place_cmp}};
 ghost use Rattle.ocfl_tree.specs.{StorageRoot.{StorageRoot}, Store.{Store}};
 ghost use Rattle.ocfl_item.specs.Judging.{HasShortFiles};
@@ -13,7 +13,8 @@ ghost use Rattle.ocfl_night.specs.Runs.{AreMade, EndsBy, IsBegunNight, IsNight};
 ghost use Rattle.ocfl_night.specs.{Beginning.{position}, Clock.{BeginsInTime, Event}, Done.{nothing_done}};
 ghost use Rattle.ocfl_night.specs.declared.plan.{NightEnd.{NightEnd as ModelEnd}, Plan.{Plan as ModelPlan}};
 ghost use Rattle.ocfl_night.specs.{Looks.{Counts, Rounds, look_between, of_any}};
-ghost use Rattle.ocfl_night.specs.Reading.{AreOfOneCycle, Reading};
+ghost use Rattle.ocfl_night.specs.Reading.{AreOfOneCycle, EndsInOrder, Reading, content_since};
+ghost use Rattle.ocfl_night.specs.declared.plan.Halt.TheVariants as halt;
 ghost use Rattle.ocfl_night.specs.{Site.{part_at}, Sound.{IsSound}};
 ghost use Rattle.ocfl_night.specs.Nights.{AllTaken, AreNights, AreOver, AreWhole, AtAnyMoment, EachOther, EachWhole, HaveReadAll, IsAround, IsAuditBut, Night, rounds_of};
 
@@ -141,13 +142,25 @@ pub fn two_nights<S: StateFolder, T: Tree, C: Clock, O: Output>(
     block: &mut Block,
     out: &mut O,
 ) -> (NightEnd, NightEnd)
-    ensures { IsTrue S.told → (root : StorageRoot) → HasShortFiles root
+    ensures whole { IsTrue S.told → (root : StorageRoot) → HasShortFiles root
         → IsTrue T.told → (T.state first.old).tree ≡ root → (T.state second.old).tree ≡ root
         → ((c : Content) → S.may_leave folder.old c → c ≡ empty)
         → (T.state first.new).failures ≡ (T.state first.old).failures
         → (T.state second.new).failures ≡ (T.state second.old).failures
         → (c : Content) → S.may_leave folder.new c → EachWhole (λ report. report
         ≡ text (within (part_at site.now.ends) (audit root []))) c.closed }
+
+    // If both ended in order, and the first one did not end the cycle, they open no content file
+    // twice.
+    ensures read { IsTrue S.told → (root : StorageRoot) → HasShortFiles root
+        → IsTrue T.told → (T.state first.old).tree ≡ root → (T.state second.old).tree ≡ root
+        → ((c : Content) → S.may_leave folder.old c → c ≡ empty)
+        → (T.state first.new).failures ≡ (T.state first.old).failures
+        → (T.state second.new).failures ≡ (T.state second.old).failures
+        → EndsInOrder result.0.end → ((cycle : ℕ) → result.0.end ≢ halt.CycleEnded cycle)
+        → EndsInOrder result.1.end → IsAscending place_cmp
+        (content_since root (T.state first.old) (T.state first.new)
+        ++ content_since root (T.state second.old) (T.state second.new)) }
 {
     each_whole_report_is_the_audit::<S>();
     where_nothing_failed_all_was_read();

@@ -85,9 +85,9 @@ pub use checkpoint::{look, put_checkpoint};
 pub use closing::finish;
 pub use laws::{
     a_whole_report_is_the_audit, each_other_report_is_the_audit_around_what_was_left_out,
-    each_whole_report_is_the_audit, nights_are_sound, runs_begin_before_the_end,
-    the_next_night_goes_on, two_nights, what_is_left_out_is_missing_alone, what_was_told_was_taken,
-    where_nothing_failed_all_was_read,
+    each_whole_report_is_the_audit, nights_are_sound, nothing_is_read_twice,
+    runs_begin_before_the_end, the_next_night_goes_on, two_nights,
+    what_is_left_out_is_missing_alone, what_was_told_was_taken, where_nothing_failed_all_was_read,
 };
 pub use leaving::leave_out;
 pub use nights::night;

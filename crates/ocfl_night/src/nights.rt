@@ -388,7 +388,7 @@ fn make_runs<S: StateFolder, T: Tree, C: Clock, O: Output>(
         → OverShort T.told (T.state tree.old) (λ root.
         IfReadyIn S.seen S.may_leave (of_any (part_of part.now)) checkpoint folder.old
         (λ _. IfOk result (λ end. EndsInOrder end
-        → IsReadTo (T.state tree.old) (T.state tree.new) (reached checkpoint)
+        → IsReadTo (T.state tree.old) (T.state tree.new) (reached checkpoint) end
         (S.seen folder.new) (content_since root (T.state tree.old) (T.state tree.new))))) }
     ensures grew { Grows (O.said out.old) (O.said out.new) }
     ensures ended { IsTrue S.told → OverShort T.told (T.state tree.old) (λ root.
@@ -545,8 +545,8 @@ pub fn night<S: StateFolder, T: Tree, C: Clock, O: Output>(
     // order, and the checkpoint to which it led has taken them.
     ensures read { IsTrue S.told → OverShort T.told (T.state tree.old) (λ root.
         IsKept S.may_leave (of_any (part_at site.now.ends)) folder.old → EndsInOrder result.end
-        → IsRead (T.state tree.old) (T.state tree.new) (S.seen folder.old) (S.seen folder.new)
-        (content_since root (T.state tree.old) (T.state tree.new))) }
+        → IsRead (T.state tree.old) (T.state tree.new) result.end
+        (S.seen folder.old) (S.seen folder.new) (content_since root (T.state tree.old) (T.state tree.new))) }
 
     // Unless it is refused or something is troubled, all of the report is said, also what earlier
     // nights left.

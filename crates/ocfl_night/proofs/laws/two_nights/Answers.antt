@@ -1,11 +1,11 @@
 use Rattle.std.proofs.Common.{[], ◌∷◌, None, refl}
 use Rattle.ocfl_night.specs.Looks.{look_between, of_any}
-use Rattle.ocfl_night.specs.{Nights.{Night}, Site.{part_at}}
-use Rattle.ocfl_night.proofs.{AnyNights.{empty_sound, untidied}, Heard.{since_sound}}
+use Rattle.ocfl_night.specs.{Nights.{Night}, Site.{part_at}, Sound.{IsKept}}
+use Rattle.ocfl_night.proofs.{AnyNights.{empty_sound, untidied}, Heard.{since_sound}, Reading.{two_read}}
 use Rattle.ocfl_night.proofs.laws.two_nights.Goals as goal
 
-pub returns : goal.returns
-returns g c = λ told root short tells over1 over2 fresh well1 well2 d left.
+pub returns-clause-whole : goal.returns-clause-whole
+returns-clause-whole g c = λ told root short tells over1 over2 fresh well1 well2 d left.
     let part = part_at c.args.site.now.ends in
     let f0 = c.args.folder.now in
     let f1 = c.night-one.new.folder in
@@ -27,3 +27,12 @@ returns g c = λ told root short tells over1 over2 fresh well1 well2 d left.
     (refl, (refl, tt)) (read1, (read2, tt)) in
     let later = (safe2 None tt (λ x l. since_sound (first.each x (g.met.S.StateFolder.counts_now told f1 (g.S.StateFolder.moment f0) x first.later l)))).later in
     all.1.0 d (g.met.S.StateFolder.counts_now told f2 (g.S.StateFolder.moment f1) d later left)
+
+pub returns-clause-read : goal.returns-clause-read
+returns-clause-read g c = λ told root short tells over1 over2 fresh well1 well2 order1 other order2.
+    let part = part_at c.args.site.now.ends in
+    let kept : IsKept g.S.StateFolder.may_leave (of_any part) c.args.folder.now = λ x l. ([], empty_sound (of_any part) x (fresh x l)) in
+    let one = c.night-one.ensures in
+    let two = c.night-two.ensures in
+    two_read (one.read told tells root over1 short kept order1) (two.beyond told tells root over2 short)
+    (two.read told tells root over2 short (one.kept told tells root over1 short None tt kept) order2) other well1 well2

@@ -16,6 +16,7 @@ use Rattle.ocfl_night.proofs.Looks.{counts_on, last_of}
 use Rattle.ocfl_night.proofs.Heard.{heard_through, on_ok, ready_since, since_sound, told_since}
 use Rattle.ocfl_night.proofs.Newest.{newest}
 use Rattle.ocfl_night.proofs.Reasons.{ended_troubled, failed_since, night_reason, opened_reason, stopped_reason, unbegun_reason, unbegun_troubled}
+use Rattle.ocfl_night.specs.{Reading.{IsReadTo, content_since, reached}, declared.plan.Halt.{Halt}}
 use Rattle.ocfl_night.proofs.Reading.{in_order, night_beyond, night_read, none_beyond, unbegun_order}
 use Rattle.ocfl_night.proofs.nights.night.Given as given
 use Rattle.ocfl_night.proofs.nights.night.Goals.{After-make_runs-through}
@@ -64,7 +65,8 @@ returns g c =
       read = λ told tells root over short kept order.
           let all = runs.ensures.read told (c.in-Ok.ensures.declares tells root over) tells root (c.set_out.ensures.root tells ∙ over) short _ (ready_since same (c.in-Ok.ensures.ready told part kept)) in
           night_read root (set_out_counts g at tells root over short) (runs_count g at tells root over short) (c.set_out.ensures.content tells root over short) (c.in-Ok.ensures.begins told)
-          (in_order runs.result (c.account-2.ensures.end ∙ c.ended.ensures.is) all order);
+          (in_order (λ (h : Halt). IsReadTo (g.T.Tree.state c.set_out.new.tree) (g.T.Tree.state runs.new.tree) (reached c.in-Ok.begun.checkpoint) h (s runs.new.folder) (content_since root (g.T.Tree.state c.set_out.new.tree) (g.T.Tree.state runs.new.tree)))
+          runs.result (c.account-2.ensures.end ∙ c.ended.ensures.is) all order);
       said = λ told tells root over short kept well other.
           on_ok runs.result (c.ended.ensures.said (λ why is. well why (c.account-2.ensures.end ∙ is))) (runs.ensures.said told tells root (c.set_out.ensures.root tells ∙ over) short _ (ready_since same (c.in-Ok.ensures.ready told part kept)));
       refused = λ told why is. absurd (runs.ensures.unrefused why (c.ended.ensures.refused why (sym c.account-2.ensures.end ∙ is)));

@@ -33,6 +33,9 @@ Tried, and what comes of it:
 - Lists of known findings, and of objects that must be there, that are missing, are folders, no
   lists or empty: status 2, nothing is run; that go away in the night: status 3, nothing is called
   complete that was not compared, and the next night compares it.
+- `--every` right after a cycle, also where its closing was not said: nothing is read, status 0, one
+  line says when the next cycle begins, and what was unsaid is said. So many days later the next
+  one begins; an open one goes on. A time of the file in the future, or no file, holds no cycle.
 - A list of objects at the end of a first cycle: those that are missing are named, and no cycle
   before.
 
@@ -53,6 +56,7 @@ import os
 import resource
 import shutil
 import signal
+import time
 from typing import Any
 
 import common
@@ -677,8 +681,62 @@ def changed_once_closed(folder: str) -> None:
     check("as it was", OF_F in nights.night("--files", "1")[1], True)
 
 
-PARTS = [nothing_is_gone, gone, new_and_repaired, no_line_twice, many_new, many, objects_first,
-         known_findings, many_known, each_finding_once, odd_names_gone, expected, lists_that_fail,
+def checkpoint_of(nights: Nights, cycle: int, seconds: float) -> str:
+    """The checkpoint that closed a cycle, as if it had been written so many seconds ago."""
+    path = nights.path("reports/checkpoint-%06d" % cycle)
+    os.utime(path, (time.time() - seconds, time.time() - seconds))
+    return path
+
+
+def read_by(nights: Nights) -> list[int]:
+    """How many runs the last night made, and what they read."""
+    rows = [json.loads(line) for line in common.read(nights.path("log")).splitlines()]
+    return [rows[-1][name] for name in ("runs", "cost")]
+
+
+def every(folder: str) -> None:
+    """No new cycle begins before so many days have passed; one that is open goes on."""
+    nights = made(folder)
+    day = 86400
+    written = os.stat(nights.path("reports/checkpoint-000001")).st_mtime
+    text = [time.strftime("%Y-%m-%dT%H:%M:%SZ", time.gmtime(int(written) + more))
+            for more in (2 * day, 0)]
+    check("no new cycle", nights.night("--every", "2"), (
+        0, "", "ocfl-scrub: No new cycle is begun before %s: cycle 1 ended at %s, and --every is 2."
+        "\n" % tuple(text)))
+    check("it reads nothing", (read_by(nights), nights.whole(2)), ([0, 0], None))
+    checkpoint_of(nights, 1, 2 * day - 60)
+    check("a minute early", ("No new cycle" in nights.night("--every", "2")[2], read_by(nights)),
+          (True, [0, 0]))
+    checkpoint_of(nights, 1, 2 * day + 60)
+    check("two days later", nights.night("--every", "2", "--files", "1"), (0, "", ""))
+    check("it has begun", (read_by(nights)[0], nights.whole(2)), (1, None))
+    checkpoint_of(nights, 1, 0)
+    check("an open cycle goes on", nights.night("--every", "2"), (0, "", ""))
+    check("to its end", nights.whole(2), audit_of(nights))
+    checkpoint_of(nights, 2, -day)
+    check("a clock that was ahead", nights.night("--every", "2"), (0, "", ""))
+    check("holds no cycle", nights.whole(3), audit_of(nights))
+    path = checkpoint_of(nights, 3, 0)
+    os.remove(path)
+    check("the report's own time", "No new cycle" in nights.night("--every", "3650")[2], True)
+    unsaid_before_a_cycle(folder + "/unsaid")
+
+
+def unsaid_before_a_cycle(folder: str) -> None:
+    """What a killed night left unsaid is said by one that begins no cycle."""
+    nights = made(folder)
+    remove_object(nights)
+    rules = ["-P", nights.path("reports/gone-000002.new"), "-e", "inject=fsync:signal=KILL"]
+    check("killed", traced(rules, nights.words())[0], -signal.SIGKILL)
+    status, out, said = nights.night("--every", "1")
+    check("what was unsaid is said", (status, OF_F in out, "No new cycle" in said, read_by(nights)),
+          (1, True, True, [0, 0]))
+    check("once", nights.night("--every", "1")[:2], (0, ""))
+
+
+PARTS = [nothing_is_gone, every, gone, new_and_repaired, no_line_twice, many_new, many,
+         objects_first, known_findings, many_known, each_finding_once, odd_names_gone, expected, lists_that_fail,
          disturbed_nights, after_an_incomplete_one,
          lost_lines_before, no_report_before, not_compared_for_long, older_report,
          no_report_there, place_left_out, left_out_at_first, killed_once_left_out, why_unread,

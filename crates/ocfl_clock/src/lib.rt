@@ -1,6 +1,8 @@
-//! When a clock next shows a time of day, in a time zone.
+//! When a clock next shows a time of day, in a time zone, and whether the next cycle may begin.
 #![tactic(auto)]
 
+mod every;
 mod next;
 
+pub use every::may_begin;
 pub use next::next_time;

@@ -7,7 +7,7 @@ use jiff::Timestamp;
 use jiff::tz::TimeZone;
 
 /// A day, in seconds.
-const DAY: u64 = 86_400;
+pub(crate) const DAY: u64 = 86_400;
 
 /// The last second that `jiff` knows: in the year 9999.
 const LAST: u64 = 253_402_207_200;

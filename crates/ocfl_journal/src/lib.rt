@@ -10,3 +10,5 @@ mod logging;
 pub mod noting;
 
 pub use logging::RunMade;
+
+pub mod waiting;

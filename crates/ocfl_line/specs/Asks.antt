@@ -5,7 +5,7 @@ use Rattle.std.specs.Str.Parse.{IsNumeral, digits_value, without_leading_plus}
 use Rattle.clap.specs.Words.{Row, Text, first_of, one_of}
 use Rattle.ocfl_cursor.specs.declared.limits.Limits.{Limits}
 use Rattle.ocfl_line.specs.Budget.{IsSizeText}
-use Rattle.ocfl_line.specs.Line.{most_hours, most_parts, most_runs, most_split}
+use Rattle.ocfl_line.specs.Line.{most_days, most_hours, most_parts, most_runs, most_split}
 use Rattle.ocfl_line.specs.{TimeOfDay.{IsTimeText}, declared.task.Chosen.{Chosen}}
 use Rattle.ocfl_line.specs.declared.task.Chosen.TheVariants.{All, Branch, Part}
 use Rattle.ocfl_line.specs.{declared.task.Task.{Task}, declared.task.Split.{Split}}
@@ -111,12 +111,19 @@ abbrev pub MayHaveSize : Text → List Row → Option ℕ → Type 0
 MayHaveSize id rows None = IsLeftOut id rows
 MayHaveSize id rows (Some n) = HasSize id rows n
 
--- what a night may do, and until when
+-- the number of an option that may be left out, from 1 up to this one
+abbrev pub MayHaveCount : Text → ℕ → List Row → Option ℕ → Type 0
+MayHaveCount id most rows None = IsLeftOut id rows
+MayHaveCount id most rows (Some n) = HasCount id most rows n
+
+-- what a night may do, until when, and how many days after the end of the last cycle it may begin
+-- the next one
 pub record HasBounds (rows : List Row) (bounds : NightBounds) : Type 0 where
   pub budget : MayHaveSize (codes "budget") rows bounds.budget
   pub files : MayHaveSize (codes "files") rows bounds.files
   pub slice : MayHaveSize (codes "slice") rows bounds.slice
   pub until : IsUntil rows bounds.until
+  pub every : MayHaveCount (codes "every") most_days rows bounds.every
 
 -- objects are expected of a part
 abbrev pub ExpectsOfPart : List Row → Type 0

@@ -6,7 +6,7 @@ use Rattle.clap.specs.{declared.builder.arg.Arg.{Arg}, declared.builder.command.
 use Rattle.clap.specs.declared.builder.command.Command.TheViews.{out-Command}
 use Rattle.clap.specs.declared.builder.value_parser.ValueParser.TheVariants as vp
 use Rattle.ocfl_line.specs.declared.command.Argument.{Argument}
-use Rattle.ocfl_line.specs.declared.command.Argument.TheVariants.{Needed, Optional, Wanted, Named, Flag, Root, Cursor, Budget, Files, Runs, Quiet, Parts, Part, Count, Hours, End}
+use Rattle.ocfl_line.specs.declared.command.Argument.TheVariants.{Needed, Optional, Wanted, Named, Flag, Root, Cursor, Budget, Files, Runs, Quiet, Parts, Part, Count, Hours, End, Every}
 
 abbrev pub most_runs : ℕ
 most_runs = 100000
@@ -20,6 +20,9 @@ most_split = 100000
 
 abbrev pub most_hours : ℕ
 most_hours = 24
+
+abbrev pub most_days : ℕ
+most_days = 3650
 
 -- ---- the arguments
 
@@ -92,6 +95,10 @@ hours_rule = record (named_rule (codes "hours")) { parser = Some (vp.Unsigned 1 
 abbrev pub end_rule : Rule
 end_rule = record (named_rule (codes "end")) { parser = Some (vp.Unsigned 0 18446744073709551615) }
 
+-- after how many days; `HasBounds` says what it is for
+abbrev pub every_rule : Rule
+every_rule = record (named_rule (codes "every")) { parser = Some (vp.Unsigned 1 most_days) }
+
 -- the rule of each argument of the program
 abbrev pub rule_for : Argument → Rule
 rule_for (Needed id value help) = needed_rule id.now
@@ -110,6 +117,7 @@ rule_for Part = part_rule
 rule_for Count = count_rule
 rule_for Hours = hours_rule
 rule_for End = end_rule
+rule_for Every = every_rule
 
 -- the argument is one that `clap` reads by this rule, for its own subcommand alone
 abbrev pub IsArg : Rule → Arg → Type 0
@@ -135,7 +143,7 @@ cycle_app = app_with (codes "cycle") (budget_rule ∷ files_rule ∷ runs_rule �
 abbrev pub night_app : App
 night_app = app_with (codes "night") (wanted_rule (codes "state") ∷ named_rule (codes "budget")
     ∷ named_rule (codes "files") ∷ named_rule (codes "slice") ∷ hours_rule ∷ named_rule (codes "until") ∷ end_rule
-    ∷ named_rule (codes "parts") ∷ part_rule ∷ named_rule (codes "known") ∷ named_rule (codes "expected")
+    ∷ every_rule ∷ named_rule (codes "parts") ∷ part_rule ∷ named_rule (codes "known") ∷ named_rule (codes "expected")
     ∷ flag_rule (codes "create") ∷ flag_rule (codes "force-root") ∷ flag_rule (codes "stop-at-faults")
     ∷ root_rule ∷ [])
 

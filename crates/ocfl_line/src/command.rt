@@ -5,8 +5,8 @@ ghost use Rattle.ocfl_line.specs.Line.{IsArg, IsCommand, bare_app, line_app, rul
 ghost use Rattle.ocfl_line.specs.Internal.Shapes.{app_for, range_parser, shape_rule, value_rule, with_subcommands};
 
 use crate::command::Argument::{
-    Budget, Count, Cursor, End, Files, Flag, Hours, Named, Needed, Optional, Part, Parts, Quiet,
-    Root, Runs, Wanted,
+    Budget, Count, Cursor, End, Every, Files, Flag, Hours, Named, Needed, Optional, Part, Parts,
+    Quiet, Root, Runs, Wanted,
 };
 use crate::command::Taken::{Nothing, Number, Words, WordsOr};
 use clap::builder::ValueParser;
@@ -59,6 +59,8 @@ enum Argument<'a> {
     Hours,
     /// A time in seconds.
     End,
+    /// How many days.
+    Every,
 }
 
 // What help says of each.
@@ -113,6 +115,9 @@ const UNTIL: &str = "Begins no run after the clock next shows this time: 00:00 t
 
 const END: &str = "Begins no run from this time on, in seconds since 1970-01-01 00:00 UTC";
 
+const EVERY: &str = "Begins no new cycle before the last one ended DAYS days ago: 1 to 3650; one \
+that is open goes on";
+
 const KNOWN: &str = "A file of known findings, which messages leave out: report lines, one a line";
 
 const EXPECTED: &str = "A file of the objects that must be there, one path a line; it cannot be \
@@ -153,6 +158,8 @@ enum Range {
     Count,
     /// Hours of a night.
     Hours,
+    /// Days from one cycle to the next.
+    Days,
     /// All.
     Any,
 }
@@ -213,6 +220,13 @@ fn shape_of<'a>(argument: Argument<'a>) -> Shape<'a>
             false,
             Number("SECONDS", Range::Any),
         ),
+        Every => Shape(
+            "every",
+            EVERY,
+            Some("every"),
+            false,
+            Number("DAYS", Range::Days),
+        ),
     }
 }
 
@@ -224,6 +238,7 @@ fn parser_of<'a>(range: Range) -> ValueParser<'a>
         Range::Part => value_parser!(u64).range(1..=100001),
         Range::Count => value_parser!(u64).range(1..=100000),
         Range::Hours => value_parser!(u64).range(1..=24),
+        Range::Days => value_parser!(u64).range(1..=3650),
         Range::Any => value_parser!(u64),
     }
 }
@@ -404,6 +419,7 @@ const NIGHT_ARGUMENTS: &[Argument<'static>] = &[
     Hours,
     Named("until", "HH:MM", UNTIL),
     End,
+    Every,
     Parts,
     Part,
     Named("known", "FILE", KNOWN),

@@ -32,6 +32,9 @@ pub struct NightBounds {
     pub slice: Option<Budget>,
     /// When it begins no further run.
     pub until: Until,
+    /// How many days after the end of the last cycle it may begin the next one, if that is said:
+    /// 1 to 3650.
+    pub every: Option<u64>,
 }
 
 /// A night, and what it is made with.

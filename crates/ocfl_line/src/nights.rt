@@ -9,10 +9,13 @@ use crate::choosing::chosen_by;
 use crate::ending::until_of;
 use crate::night::{JoinAsked, NightAsked, NightBounds};
 use crate::task::Chosen;
-use crate::values::{copied, each_of, is_given, is_left_out, text_of};
+use crate::values::{copied, count_if_any, each_of, is_given, is_left_out, text_of};
 use clap::ArgMatches;
 use ocfl_cursor::Budget;
 use std::alloc::{AllocError, Global};
+
+/// The most days from the end of a cycle until the next one may begin.
+const MAX_DAYS: u64 = 3650;
 
 /// The size of an option, `Some(None)` if it is left out, and `None` if its text is no size.
 fn size_of(inner: &ArgMatches<'_>, id: &str) -> Option<Option<u64>>
@@ -39,11 +42,13 @@ fn bounds_of(inner: &ArgMatches<'_>) -> Option<NightBounds>
     let files = size_of(inner, "files")?;
     let slice = budget_of(inner, "slice")?;
     let until = until_of(inner)?;
+    let every = count_if_any(inner, "every", MAX_DAYS)?;
     Some(NightBounds {
         budget,
         files,
         slice,
         until,
+        every,
     })
 }
 

@@ -1,7 +1,7 @@
 //! The texts and numbers of the arguments that `clap` found.
 ghost use Rattle.std.specs.Prelude.{◌≡◌, ◌↔◌, ℕ, ◌<◌, ◌^◌, IfOk, IfSome, IsNone, IsTrue, option_map, string_bytes};
 ghost use Rattle.clap.specs.Words.{found_of, first_of, rows_of};
-ghost use Rattle.ocfl_line.specs.Asks.{HasCount, HasNumber, IsGiven, IsLeftOut, IsRead};
+ghost use Rattle.ocfl_line.specs.Asks.{HasCount, HasNumber, IsGiven, IsLeftOut, IsRead, MayHaveCount};
 
 use clap::ArgMatches;
 use std::alloc::{AllocError, Global};
@@ -81,4 +81,15 @@ pub(crate) fn count_of(inner: &ArgMatches<'_>, id: &str, most: u64) -> Option<us
     } else {
         None
     }
+}
+
+/// The same of an option that may be left out: `Some(None)` if it is, and `None` if its text is no
+/// such number.
+pub(crate) fn count_if_any(inner: &ArgMatches<'_>, id: &str, most: u64) -> Option<Option<u64>>
+    ensures { IsRead (MayHaveCount id.now most (rows_of (found_of inner.now))) result }
+{
+    if is_left_out(inner, id) {
+        return Some(None);
+    }
+    Some(Some(count_of(inner, id, most)? as u64))
 }

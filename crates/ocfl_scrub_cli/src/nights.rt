@@ -16,6 +16,7 @@ use ocfl_journal::clock::NightClock;
 use ocfl_journal::ending::{Ended, end_night, log_unbegun, status_told};
 use ocfl_journal::given::{Found, Given, find_given};
 use ocfl_journal::noting::{Beside, Noting, open_noting};
+use ocfl_journal::waiting::{find_wait, say_wait};
 use ocfl_line::NightAsked;
 use ocfl_night::{Flushing, Made, NightEnd, Output, Plan, Site, SliceEnd, night};
 use ocfl_state::StateFolder;
@@ -265,13 +266,27 @@ where
     Ok(runs.ended(said))
 }
 
+/// Keeps a night that stands there from a new cycle that may not begin yet: it makes no run.
+fn refuse_early<R>(rt: &R, planned: &mut Planned<'_>, began: Standing) -> Result<(), AllocError>
+where
+    R: Files + AllocGlobal + Eprint,
+{
+    if let Some(wait) = find_wait(rt, &planned.given, began) {
+        say_wait(rt, wait)?;
+        planned.plan.end = Some(0);
+    }
+    Ok(())
+}
+
 /// Makes a night, and gives its status.
-fn make_planned<R>(rt: &R, planned: &Planned<'_>, shown_on: Terminals) -> Result<u8, Failure>
+fn make_planned<R>(rt: &R, planned: Planned<'_>, shown_on: Terminals) -> Result<u8, Failure>
 where
     R: Files<File = File> + Env + AllocGlobal + Clock + Print + Eprint,
 {
+    let mut planned = planned;
     let mut noting = open_noting(rt, &planned.given)?;
-    let ended = run_night(rt, planned, &mut noting, shown_on)?;
+    refuse_early(rt, &mut planned, noting.began())?;
+    let ended = run_night(rt, &planned, &mut noting, shown_on)?;
     end_night(rt, &planned.given, noting, &ended)
 }
 
@@ -283,7 +298,7 @@ where
     let _streams = take_streams(rt)?;
     let began = seconds_now(rt);
     match find_given(rt, asked, began) {
-        Ok(found) => make_planned(rt, &planned_by(found), shown_on),
+        Ok(found) => make_planned(rt, planned_by(found), shown_on),
         Err(failure) => {
             log_unbegun(rt, asked, began, &failure);
             Err(failure)

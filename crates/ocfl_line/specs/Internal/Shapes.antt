@@ -4,9 +4,9 @@ use Rattle.clap.specs.Words.{App, Rule, new_rule, with_subcommand}
 use Rattle.clap.specs.declared.builder.action.ArgAction.TheVariants.{SetTrue}
 use Rattle.clap.specs.declared.builder.value_parser.ValueParser.{ValueParser}
 use Rattle.clap.specs.declared.builder.value_parser.ValueParser.TheVariants as vp
-use Rattle.ocfl_line.specs.Line.{app_with, most_hours, most_parts, most_split, rule_for}
+use Rattle.ocfl_line.specs.Line.{app_with, most_days, most_hours, most_parts, most_split, rule_for}
 use Rattle.ocfl_line.specs.{declared.command.Range.{Range}, declared.command.Taken.{Taken}}
-use Rattle.ocfl_line.specs.declared.command.Range.TheVariants.{Part, Count, Hours, Any}
+use Rattle.ocfl_line.specs.declared.command.Range.TheVariants.{Part, Count, Hours, Days, Any}
 use Rattle.ocfl_line.specs.declared.command.Taken.TheVariants.{Nothing, Words, WordsOr, Number}
 use Rattle.ocfl_line.specs.{declared.command.Shape.{Shape}, declared.command.Subcommand.{Subcommand}}
 
@@ -15,6 +15,7 @@ abbrev pub range_parser : Range → ValueParser
 range_parser Part = vp.Unsigned 1 most_parts
 range_parser Count = vp.Unsigned 1 most_split
 range_parser Hours = vp.Unsigned 1 most_hours
+range_parser Days = vp.Unsigned 1 most_days
 range_parser Any = vp.Unsigned 0 18446744073709551615
 
 -- a rule, with that of its value

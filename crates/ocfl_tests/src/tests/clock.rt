@@ -1,6 +1,7 @@
-//! Times of day in time zones. The ends were computed by Python's `zoneinfo`.
+//! Times of day in time zones, whose ends were computed by Python's `zoneinfo`, and days between
+//! cycles, which `date -d` has added.
 use jiff::tz::TimeZone;
-use ocfl_clock::next_time;
+use ocfl_clock::{may_begin, next_time};
 use std::test::Fail;
 
 const BERLIN: &str = "CET-1CEST,M3.5.0,M10.5.0/3";
@@ -57,5 +58,32 @@ fn clocks_end_in_the_year_9999(rt: HostRuntime) -> Result<(), Fail> {
     assert_eq!(rt; next_time(&zone, u64::MAX, 6, 0), None);
     // 253402120800 is 9999-12-29T22:00:00Z.
     assert_eq!(rt; next_time(&zone, 253402120800, 22, 1), Some(253402120860));
+    Ok(())
+}
+
+/// When the last cycle ended, whether a new one may begin then, and after how many days.
+const WAITS: [(&str, Option<u64>, u64, u64, bool); 8] = [
+    ("none has ended", None, 1768449600, 30, true),
+    // 1768449600 is 2026-01-15T04:00:00Z, and 1771041600 thirty days later.
+    ("a second early", Some(1768449600), 1771041599, 30, false),
+    ("on the second", Some(1768449600), 1771041600, 30, true),
+    ("a day", Some(1768449600), 1768535999, 1, false),
+    ("a day later", Some(1768449600), 1768536000, 1, true),
+    ("as it ended", Some(1768449600), 1768449600, 1, false),
+    (
+        "a second before it ended",
+        Some(1768449600),
+        1768449599,
+        1,
+        true,
+    ),
+    ("no clock", Some(1768449600), u64::MAX, u64::MAX, false),
+];
+
+#[test]
+fn cycles_begin_after_days(rt: HostRuntime) -> Result<(), Fail> {
+    for (row, ended, now, days, may) in WAITS {
+        assert_eq!(rt; may_begin(ended, now, days), may, "{row}");
+    }
     Ok(())
 }

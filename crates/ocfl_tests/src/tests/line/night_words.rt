@@ -26,6 +26,7 @@ fn plain(alloc: Global) -> Result<NightAsked, AllocError> {
             files: None,
             slice: None,
             until: Until::Never,
+            every: None,
         },
         chosen: Chosen::All,
         known: None,
@@ -50,13 +51,14 @@ fn reads_a_night(rt: HostRuntime) -> Result<(), Fail> {
     let night = read_night(alloc, "night --state S R")?;
     assert_eq!(rt; night, plain(alloc)?);
     let line = "night R --files 20k --slice=1G --expected E --budget 500G --state S --known K \
-                --until 06:00 --create --force-root --stop-at-faults";
+                --until 06:00 --every 30 --create --force-root --stop-at-faults";
     let mut wanted = plain(alloc)?;
     wanted.bounds = NightBounds {
         budget: Budget::new(500 << 30),
         files: Some(20 << 10),
         slice: Budget::new(1 << 30),
         until: Until::TimeOfDay { hour: 6, minute: 0 },
+        every: Some(30),
     };
     wanted.known = Some(String::from_str(alloc, "K")?);
     wanted.expected = Some(String::from_str(alloc, "E")?);
@@ -121,6 +123,16 @@ fn reads_the_end_of_a_night(rt: HostRuntime) -> Result<(), Fail> {
         let line = format!(in rt.alloc(); "night --state S {end} R")?;
         let night = read_night(rt.alloc(), line.as_str())?;
         assert_eq!(rt; night.bounds.until, until, "{end}");
+    }
+    Ok(())
+}
+
+#[test]
+fn reads_the_days_between_cycles(rt: HostRuntime) -> Result<(), Fail> {
+    for (days, every) in [("1", 1), ("3650", 3650), ("+7", 7)] {
+        let line = format!(in rt.alloc(); "night --state S --every {days} R")?;
+        let night = read_night(rt.alloc(), line.as_str())?;
+        assert_eq!(rt; night.bounds.every, Some(every), "{days}");
     }
     Ok(())
 }

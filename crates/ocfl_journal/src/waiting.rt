@@ -1,0 +1,109 @@
+//! Whether a night may begin the next cycle.
+
+use crate::given::Given;
+use jiff::Timestamp;
+use ocfl_clock::may_begin;
+use ocfl_closing::stand::Standing;
+use ocfl_disk::StateFile;
+use ocfl_files::failing::say_text;
+use std::alloc::{AllocError, Global};
+use std::fs;
+use std::rt::Files;
+use std::time::SystemTime;
+
+/// A day, in seconds.
+const DAY: u64 = 86_400;
+
+/// A cycle that has ended, after which no new one may begin yet.
+#[derive(Clone, Copy)]
+pub struct Wait {
+    cycle: u64,
+    /// When it ended, in seconds since the epoch.
+    ended: u64,
+    /// How many days after that a new cycle may begin.
+    days: u64,
+}
+
+/// When a file of a state folder was written last, in seconds since the epoch. `None` if that is
+/// not known.
+fn written_at<R>(rt: &R, state: &str, file: StateFile) -> Option<u64>
+where
+    R: Files + AllocGlobal,
+{
+    let path = format!(in rt.alloc(); "{state}/{file}").ok()?;
+    let found = fs::symlink_metadata(rt, path.as_str()).ok()?;
+    let since = found
+        .modified()
+        .ok()?
+        .duration_since(SystemTime::UNIX_EPOCH);
+    Some(since.ok()?.as_secs())
+}
+
+/// When a closed cycle ended: when the checkpoint that closed it was written, or else its report.
+/// `None` if neither is there.
+fn ended_at<R>(rt: &R, state: &str, cycle: u64) -> Option<u64>
+where
+    R: Files + AllocGlobal,
+{
+    let files = [
+        StateFile::Kept(cycle),
+        StateFile::Whole(cycle),
+        StateFile::Incomplete(cycle),
+    ];
+    for file in files {
+        if let Some(ended) = written_at(rt, state, file) {
+            return Some(ended);
+        }
+    }
+    None
+}
+
+/// The cycle after which a night that begins where the nights stood may begin no new one yet.
+/// `None` if it may, or goes on with a cycle.
+pub fn find_wait<R>(rt: &R, given: &Given<'_>, began: Standing) -> Option<Wait>
+where
+    R: Files + AllocGlobal,
+{
+    let days = given.asked.bounds.every?;
+    if !began.is_closed {
+        return None;
+    }
+    let ended = ended_at(rt, given.asked.state.as_str(), began.cycle);
+    if may_begin(ended, given.began, days) {
+        return None;
+    }
+    Some(Wait {
+        cycle: began.cycle,
+        ended: ended?,
+        days,
+    })
+}
+
+/// A time as RFC 3339 has it; in seconds since the epoch if no calendar has it.
+fn time_text(alloc: Global, seconds: u64) -> Result<String, AllocError> {
+    let known = i64::try_from(seconds).ok();
+    match known.and_then(|second| Timestamp::from_second(second).ok()) {
+        Some(time) => format!(in alloc; "{time}"),
+        None => format!(in alloc; "{seconds}"),
+    }
+}
+
+/// What is said of a night that begins no new cycle.
+fn wait_text(alloc: Global, wait: Wait) -> Result<String, AllocError> {
+    let Wait { cycle, ended, days } = wait;
+    let next = ended.saturating_add(DAY.saturating_mul(days));
+    let (ended, next) = (time_text(alloc, ended)?, time_text(alloc, next)?);
+    format!(in alloc;
+        "No new cycle is begun before {next}: cycle {cycle} ended at {ended}, and --every is \
+         {days}.\n"
+    )
+}
+
+/// Says that a night begins no new cycle, and when one may begin.
+pub fn say_wait<R>(rt: &R, wait: Wait) -> Result<(), AllocError>
+where
+    R: AllocGlobal + Eprint,
+{
+    say_text(rt, wait_text(rt.alloc(), wait)?.as_str());
+    Ok(())
+}

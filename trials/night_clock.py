@@ -26,6 +26,7 @@ from zoneinfo import ZoneInfo
 
 import common
 from common import check, ran
+from shared.messages import shown
 from shared.nights import tried_apart
 from shared.own_nights import Got, Nights
 from shared.shims import compiled
@@ -139,7 +140,7 @@ def what_is_unsaid_is_said(folder: str) -> None:
     with open("/dev/full", "wb") as full:
         status = clock.nights.first(stdout=full)[0]
     status, out, _ = clock.night(end, "--end", str(end))
-    check("it is said", (status, out.count("E092\to/v1/content/0001\t")), (1, 1))
+    check("it is said", (status, shown("E092\to/v1/content/0001\t-", out)), (1, 1))
 
 
 def clocks_that_leap(folder: str) -> None:

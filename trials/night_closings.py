@@ -62,23 +62,32 @@ from typing import Any
 import common
 from common import Stopped, check, ran, traced
 from shared import calls
+from shared.messages import findings_in, key, shown
 from shared.nights import tried_apart
-from shared.own_nights import Audited, Got, Nights, make_root
+from shared.own_nights import Audited, Got, Nights, is_finding, make_root
 
 FILES = {"v1/content/1": b"abc", "v1/content/2": b""}
 PLACES = ["(c)", "+b", "-a", "..d", ".e", "f", "g/h", "i"]
 # What the loss of an object leaves in no report, and what is said of its files.
 OF_F = "object\tf\n"
-UNLOOKED = "%d file(s) of objects that are gone, or whose inventory cannot be used, are not looked " \
+UNLOOKED = "%d files of objects that are gone, or whose inventory cannot be used, are not looked " \
     "at any more.\n"
-NEW = "%d finding(s) of cycle %d are new since cycle %d"
 ABOVE = ", %d of them above"
-BACK = "%d object(s) are back in cycle %d:\n"
 # Why a folder with the name 0xFF is left out.
 NOT_UTF_8 = "it holds a name that is not UTF-8: \\xFF"
 FINDINGS, ENTRIES = 20_000, 400_000
 # How long a night with many known findings may take.
 MOST_SECONDS = 120
+
+
+def new_since(count: int, cycle: int, before: int) -> str:
+    words = ("finding", "is") if count == 1 else ("findings", "are")
+    return "%d %s of cycle %d %s new since cycle %d" % (count, words[0], cycle, words[1], before)
+
+
+def back_in(count: int, cycle: int) -> str:
+    return "%d %s back in cycle %d:\n" % (
+        count, "object is" if count == 1 else "objects are", cycle)
 
 
 def made(folder: str) -> Nights:
@@ -112,12 +121,14 @@ def gone(folder: str) -> None:
     remove_object(nights)
     status, out, note = nights.night()
     check("gone", (status, out.endswith(OF_F + UNLOOKED % 2), out.count("\n"), note),
-          (1, True, 3, ""))
+          (1, True, 4, ""))
+    check("the word at the end", out.splitlines()[0], "Cycle 2 ended: 14 of 14 files right, 7 "
+          "objects, 21 bytes; nothing new, 1 object or file gone since cycle 1.")
     check("the list", nights.has("reports/gone-000002"), OF_F)
     check("it is said once", nights.night(), (0, "", ""))
     os.remove(nights.root + "/i/v1/content/2")
     status, out, _ = nights.night()
-    check("a file that an inventory lists is no loss", (status, out.count("E092\ti/v1/content/2\t"),
+    check("a file that an inventory lists is no loss", (status, shown("E092\ti/v1/content/2", out),
                                                         nights.has("reports/gone-000004")),
           (1, 1, ""))
 
@@ -128,22 +139,21 @@ def new_and_repaired(folder: str) -> None:
     common.write(path, b"abd")
     status, out, _ = nights.night()
     finding = [line for line in audit_of(nights).splitlines(True) if line.startswith("E092\t")]
-    check("new", (status, NEW % (1, 2, 1) + ABOVE % 1 + ".\n" in out, out.count(finding[0])),
+    check("new", (status, new_since(1, 2, 1) + ABOVE % 1 + ".\n" in out, shown(finding[0], out)),
           (1, True, 1))
     status, out, _ = nights.night()
-    check("as before", (status, "are new since" in out, out.count(finding[0])),
+    check("as before", (status, " new since" in out, shown(finding[0], out)),
           (1, False, 1))
     common.write(path, b"abc")
     status, out, _ = nights.night()
-    check("repaired", (status, "are repaired in cycle 4" in out, out.count(finding[0])),
+    check("repaired", (status, "is repaired in cycle 4" in out, shown(finding[0], out)),
           (0, True, 1))
     check("and then", nights.night(), (0, "", ""))
 
 
 def lines_in(text: str) -> list[str]:
-    """The lines of findings in a text, each by its code and its place."""
-    return [line.rsplit("\t", 1)[0] for line in text.splitlines()
-            if line[:1] in ("E", "S") and line.count("\t") == 2]
+    """The findings of a text or of a report, each by its code and its place."""
+    return findings_in(text) or [key(line) for line in text.splitlines() if is_finding(line)]
 
 
 def no_line_twice(folder: str) -> None:
@@ -158,12 +168,12 @@ def no_line_twice(folder: str) -> None:
     check("what is found first", (status, lines_in(out), "new since" in out), (1, early, False))
     common.write(nights.root + "/i/v1/content/1", b"abd")
     status, out, _ = nights.night()
-    late, head = "E092\ti/v1/content/1", NEW % (4, 2, 1) + ABOVE % 1 + ":\n"
+    late, head = "E092\ti/v1/content/1", new_since(4, 2, 1) + ABOVE % 1 + ":\n"
     check("the end of the cycle", (status, head in out, lines_in(out)), (1, True, [late, *early]))
     common.write(nights.root + "/~s/stray", b"")
     os.remove(nights.root + "/g/h/v1/content/1")
     status, out, note = nights.night()
-    check("a cycle of one night", (status, NEW % (2, 3, 2) + ABOVE % 2 + ".\n" in out,
+    check("a cycle of one night", (status, new_since(2, 3, 2) + ABOVE % 2 + ".\n" in out,
                                    out.count("new since"), sorted(lines_in(out)), note),
           (1, True, 1, sorted(lines_in(audit_of(nights))), ""))
 
@@ -176,10 +186,12 @@ def many_new(folder: str) -> None:
         common.write("%s/i/v1/content/new%02d" % (nights.root, number), b"")
     common.write(nights.root + "/+s/stray", b"")
     status, out, _ = nights.night()
-    first, head, then = out.partition(NEW % (46, 2, 1) + ABOVE % 20 + ":\n")
-    shown = ["E023\ti/v1/content/new%02d" % number for number in range(40)]
+    first, head, then = out.partition(new_since(46, 2, 1) + ABOVE % 20 + ":\n")
+    named = ["E023\ti/v1/content/new%02d" % number for number in range(40)]
     check("new", (status, lines_in(first), head != "", lines_in(then)),
-          (1, shown[:20], True, shown[20:]))
+          (1, named[:3], True, named[20:23]))
+    check("the rest of the twenty", [text.count("\tand 17 more: not in the inventory (E023)\n")
+                                     for text in (first, then)], [1, 1])
     check("and more", "and 6 more, in %s/reports/cycle-000002\n" % nights.state in then, True)
 
 
@@ -190,7 +202,7 @@ def many(folder: str) -> None:
     for place in objects:
         common.write("%s/%s/v1/content/1" % (nights.root, place), b"abd")
     status, out, _ = nights.first()
-    check("findings", (status, out.count("E092\t"), "and 5 more, in %s/reports/cycle-000001\n"
+    check("findings", (status, len(findings_in(out)), "and 5 more, in %s/reports/cycle-000001\n"
                        % nights.state in out), (1, 20, True))
     for place in objects:
         shutil.rmtree("%s/%s" % (nights.root, place))
@@ -228,7 +240,7 @@ def known_findings(folder: str) -> None:
     check("all known", (status, out), (0, ""))
     common.write(folder + "/known", lines[0].encode())
     status, out, _ = nights.night("--known", folder + "/known")
-    check("one known", (status, lines[0] in out, lines[1] in out), (1, False, True))
+    check("one known", (status, shown(lines[0], out), shown(lines[1], out)), (1, 0, 1))
     for name, path in [("none", folder + "/nothing"), ("a folder", folder),
                        ("no list", nights.root + "/0=ocfl_1.1")]:
         before = nights.kept()
@@ -274,7 +286,7 @@ def each_finding_once(folder: str) -> None:
             said += nights.first("--files", "2", "--slice", "1")[1]
             if nights.whole(cycle) is not None:
                 break
-        check("cycle %d" % cycle, [said.count(line) for line in audited.findings], [1] * 5)
+        check("cycle %d" % cycle, audited.times_said(said), [1] * 5)
         check("nothing else in cycle %d" % cycle, audited.false_lines(said), [])
 
 
@@ -585,9 +597,9 @@ def why_unread(folder: str) -> None:
     nights.again()
     shutil.copytree(folder + "/kept", nights.state)
     status, out, note = traced(call.rule("error=EACCES"), nights.words())
-    check("said", (status, "S08\tf/v1/content/1\t-\n" in out,
+    check("said", (status, shown("S08\tf/v1/content/1", out),
                    "f/v1/content/1: Permission denied (os error 13)\n" in out, note),
-          (1, True, True, ""))
+          (1, 1, True, ""))
 
 
 # What is not an object any more
@@ -611,7 +623,7 @@ def no_object_any_more(folder: str) -> None:
     common.make_object(nights.root + "/.e", FILES)
     status, out, _ = nights.night()
     check("all is back", (status, nights.has("reports/gone-000003")), (0, ""))
-    check("it is said", (BACK % (2, 3) + "object\tf\nobject\ti\n" in out, out.count("object\t")),
+    check("it is said", (back_in(2, 3) + "object\tf\nobject\ti\n" in out, out.count("object\t")),
           (True, 2))
     check("the rows", closings(nights), [
         {"cycle": 1}, {"cycle": 2, "compared": 1, "objects": 2, "unlooked": 4},
@@ -633,15 +645,15 @@ def back_later(folder: str) -> None:
     common.make_object(nights.root + "/f", FILES)
     common.write(nights.root + "/f/v1/content/1", b"abd")
     status, out, _ = nights.night()
-    check("one is back, with damage", (status, BACK % (1, 5) + OF_F in out,
-                                       out.count("E092\tf/v1/content/1\t")), (1, True, 1))
+    check("one is back, with damage", (status, back_in(1, 5) + OF_F in out,
+                                       shown("E092\tf/v1/content/1", out)), (1, True, 1))
     remove_object(nights)
     status, out, _ = nights.night()
     check("and gone again", (status, OF_F in out, "back in" in out), (1, True, False))
     common.make_object(nights.root + "/f", FILES)
     common.make_object(nights.root + "/i", FILES)
     status, out, _ = nights.night()
-    check("both are back", (status, BACK % (2, 7) + OF_F + "object\ti\n" in out), (0, True))
+    check("both are back", (status, back_in(2, 7) + OF_F + "object\ti\n" in out), (0, True))
     check("the rows", [row.get("back", 0) for row in closings(nights)], [0, 0, 0, 0, 1, 0, 2])
 
 
@@ -660,8 +672,8 @@ def each_repair(folder: str) -> None:
     common.write(path, b"abc")
     common.write(fixed + "/v1/content/1", b"abc")
     status, out, _ = nights.night()
-    check("repaired", (status, "3 finding(s) of cycle 3 are repaired in cycle 4" in out,
-                       out.count("E092\t"), out.count("E093\t")), (0, True, 2, 1))
+    check("repaired", (status, "3 findings of cycle 3 are repaired in cycle 4" in out,
+                       out.count("(E092)"), out.count("(E093)")), (0, True, 2, 1))
 
 
 def changed_once_closed(folder: str) -> None:

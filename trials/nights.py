@@ -32,6 +32,7 @@ import time
 
 import common
 from common import PROGRAM, check
+from shared.messages import shown
 from shared.nights import (ITEMS, NIGHTS, REPORTS, WRONG_B, Nights, ask, in_an_hour, make_root, ran,
                            read, tried_apart, write)
 
@@ -44,12 +45,16 @@ def made(folder):
 
 
 def plain_nights(folder):
-    """Nights go on where the one before ended; a good one says nothing."""
+    """Nights go on where the one before ended; a good one says nothing, but for the word at the end
+    of a cycle."""
     nights = made(folder)
     check("first night", nights.part(), (0, "", ""))
     check("its report", nights.has("report"), "".join(ITEMS[:3]))
-    check("second night", nights.night(), (0, "", ""))
+    last = ran(nights.words(), OCFL_SCRUB=PROGRAM)
     check("the cycle's report", nights.whole(1), "".join(ITEMS))
+    check("the word at its end", (last[0], last[2]), (0, ""))
+    check("what it says", last[1], "Cycle 1 ended: 3 of 3 files right, 1 object, 6 bytes; nothing "
+          "to compare with.\n")
     check("what lies there", sorted(os.listdir(nights.state)),
           ["checkpoint", "lock", "log", "reports"])
     check("and beside the report", sorted(os.listdir(nights.path("reports"))),
@@ -59,7 +64,7 @@ def plain_nights(folder):
           ["began", "slice", "night", "began", "slice", "closing", "night"])
     write(nights.root + "/o/v1/content/b", "b")
     status, out, said = nights.night()
-    check("a finding", (status, WRONG_B in out, said), (1, True, ""))
+    check("a finding", (status, shown(WRONG_B, out), said), (1, 1, ""))
     os.rename(nights.root, folder + "/away")
     status, out, said = nights.night()
     check("not mounted", (status, out, nights.root in said), (3, "", True))
@@ -231,7 +236,7 @@ def lists(folder):
     write(folder + "/known", WRONG_B)
     write(folder + "/expected", "o\np\n")
     status, out, _ = nights.night("--known", folder + "/known", "--expected", folder + "/expected")
-    check("known and expected", (status, "E092" in out, out.endswith("expected\tp\n")),
+    check("known and expected", (status, "E092" in out, "\nexpected\tp\n" in out),
           (1, False, True))
     check("in the statement", nights.lines(1).get("Expected objects missing"), "1")
     shutil.copytree(nights.root + "/o", nights.root + "/q")
@@ -257,7 +262,7 @@ def for_tell(folder):
     finally:
         os.umask(before)
     text = nights.has("tonight.one") or ""
-    check("left", (said, text.count(WRONG_B)), ((1, "", ""), 1))
+    check("left", (said, shown(WRONG_B, text)), ((1, "", ""), 1))
     check("who may read it", os.stat(nights.path("tonight.one")).st_mode & 0o7777, 0o640)
     os.rename(nights.root, folder + "/away")
     check("a reason too", (nights.night("--for-tell", INVOCATION_ID="two"), nights.root in (
@@ -288,7 +293,7 @@ def killed_while_it_says(folder):
     check("killed", night.wait(timeout=120), -9)
     given = {"INVOCATION_ID": "one", "MAIL": "", "EXIT_CODE": "killed", "EXIT_STATUS": "KILL"}
     tell = [REPORTS, "tell", "archive", nights.state]
-    check("told", (ran(tell, **given)[2].count(WRONG_B), nights.has("tonight.one")), (1, None))
+    check("told", (shown(WRONG_B, ran(tell, **given)[2]), nights.has("tonight.one")), (1, None))
     check("and stated by the next night", (nights.part()[0], nights.holds(1)), (0, 0))
 
 
@@ -310,7 +315,7 @@ head -c 9M /dev/zero > '%s/filler' 2> /dev/null
     script = script.replace("cat '%s'" % folder, "cat '%s'" % small.state)
     ran(["unshare", "-rm", "sh", "-c", script, "sh", *small.words("--for-tell")])
     check("full", read(folder + "/first"), "3\n")
-    check("then it is left for `tell`", (read(folder + "/left") or "").count(WRONG_B), 1)
+    check("then it is left for `tell`", shown(WRONG_B, read(folder + "/left") or ""), 1)
 
 
 PARTS = [plain_nights, statements, a_seal_that_lingers, statements_that_fail,

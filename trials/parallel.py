@@ -41,6 +41,7 @@ import time
 
 import common
 from common import PROGRAM, check
+from shared.messages import findings_in, key
 from shared.nights import NIGHTS, REPORTS, in_an_hour, ran, read, tried_apart, write
 from shared.parallel import (Place, Together, audit, begun, findings, check_statement, make_root,
                              small_root, lines_in_message)
@@ -108,10 +109,9 @@ def one_message(folder):
     """What all parts say comes in one message, in the order of parts, and once."""
     nights = Together(folder + "/state", small_root(folder, ["o01", "o07"]))
     status, out, said = nights.night(jobs=1)
-    wrong = [line for line in audit(nights.root).splitlines(True) if line in findings(
+    wrong = [key(line) for line in audit(nights.root).splitlines(True) if key(line) in findings(
         audit(nights.root))]
-    lines = [line for line in out.splitlines(True) if line.count("\t") == 2]
-    check("a night", (status, said, lines), (1, "", wrong))
+    check("a night", (status, said, findings_in(out)), (1, "", wrong))
     nights.is_audit("the cycle")
     check("nothing is left to be said", (nights.end(), os.listdir(nights.path("said"))),
           ((0, "", ""), []))

@@ -163,11 +163,11 @@ def counted(folder):
     check("nothing was compared", counts(1), ["not known", "not known"])
     os.rename(nights.root + "/p", folder + "/p")
     out = nights.night()[1]
-    check("an object is gone", ("\n3 file(s) of objects that are gone, or" in out, counts(2)),
+    check("an object is gone", ("\n3 files of objects that are gone, or" in out, counts(2)),
           (True, ["3", "0", "3", "0"]))
     os.rename(folder + "/p", nights.root + "/p")
     check("it is back", (nights.night()[:2], counts(3)), (
-        (0, "1 object(s) are back in cycle 3:\nobject\tp\n"), ["0", "1", "0", "1"]))
+        (0, "1 object is back in cycle 3:\nobject\tp\n"), ["0", "1", "0", "1"]))
     check("all hold", [verified(file_of(nights, cycle))[0] for cycle in (1, 2, 3)], [0, 0, 0])
 
 

@@ -32,6 +32,7 @@ import subprocess
 
 import common
 from common import PROGRAM, check
+from shared.messages import shown
 from shared.nights import (NIGHTS, REPORTS, WRONG_B, Nights, in_an_hour, make_root, ran, read,
                            tried_apart, write)
 
@@ -94,14 +95,14 @@ def once(folder):
     nights = Nights(folder + "/state", make_root(folder + "/root"))
     write(nights.root + "/o/v1/content/b", "b")
     status, said = in_service(nights, 1)
-    check("in the journal once", (status, said.count(WRONG_B)), (1, 1))
+    check("in the journal once", (status, shown(WRONG_B, said)), (1, 1))
     mail = mailing(folder)
     status, said = in_service(nights, 2, **mail)
-    check("by mail", (read(folder + "/mailed") or "").count(WRONG_B), 1)
+    check("by mail", shown(WRONG_B, read(folder + "/mailed") or ""), 1)
     check("and not in the journal", (status, said), (1, ""))
     status, said = in_service(nights, 3, JOURNAL="yes", **mail)
-    check("in both where asked", ((read(folder + "/mailed") or "").count(WRONG_B),
-                                  said.count(WRONG_B)), (1, 1))
+    check("in both where asked", (shown(WRONG_B, read(folder + "/mailed") or ""),
+                                  shown(WRONG_B, said)), (1, 1))
 
 
 def of_this_night(folder):
@@ -135,9 +136,11 @@ def a_word_of_a_good_night(folder):
     in_service(nights, 1)
     write(nights.root + "/o/v1/content/b", "")
     status, said = in_service(nights, 2)
-    check("told", (status, "archive: findings repaired" in said, "are repaired" in said),
+    check("told", (status, "archive: findings repaired" in said, "repaired in cycle 2" in said),
           (0, True, True))
-    check("silent again", in_service(nights, 3), (0, ""))
+    status, said = in_service(nights, 3)
+    check("then the word at the end of a cycle", (status, "archive: a cycle ended" in said,
+                                                  len(said.splitlines())), (0, True, 2))
 
 
 def under_way(folder):
@@ -223,17 +226,17 @@ def not_sent(folder):
             given = run_tell(nights, 1, 1, **given_up(there, body))
             check(name + ": not sent", given[0] != 0, True)
         if name == "failed":
-            check("the journal has what no mail had", given[1].count(WRONG_B), 1)
+            check("the journal has what no mail had", shown(WRONG_B, given[1]), 1)
         write(nights.root + "/o/v1/content/b", "")
         status = night_alone(nights, 2)
         mail = mailing(there)
         told = run_tell(nights, 2, status, **mail)[0]
         mailed = read(there + "/mailed") or ""
-        check(name + ": sent", (told, mailed.count(WRONG_B)), (0, 2))
+        check(name + ": sent", (told, shown(WRONG_B, mailed)), (0, 2))
         os.remove(there + "/mailed")
         status = night_alone(nights, 3)
         run_tell(nights, 3, status, **mail)
-        check(name + ": once", (status, read(there + "/mailed")), (0, None))
+        check(name + ": once", (status, shown(WRONG_B, read(there + "/mailed") or "")), (0, 0))
 
 
 def sent(folder):
@@ -242,13 +245,13 @@ def sent(folder):
     write(nights.root + "/o/v1/content/b", "b")
     mail = mailing(folder)
     check("sent", run_tell(nights, 1, night_alone(nights, 1), **mail)[0], 0)
-    check("by mail", (read(folder + "/mailed") or "").count(WRONG_B), 1)
+    check("by mail", shown(WRONG_B, read(folder + "/mailed") or ""), 1)
     os.remove(folder + "/mailed")
     os.makedirs(nights.root + "/extensions")
     nights.part()
     check("not by the next night", (run_tell(nights, 2, 0, **mail), read(folder + "/mailed")),
           ((0, ""), None))
-    check("the last text is still there", (nights.has("tonight") or "").count(WRONG_B), 1)
+    check("the last text is still there", shown(WRONG_B, nights.has("tonight") or ""), 1)
 
 
 def no_text(folder):
@@ -323,7 +326,7 @@ def one_session(folder):
     write(nights.root + "/o/v1/content/b", "")
     check("the second", nights.night("--for-tell", INVOCATION_ID="night1"), (0, "", ""))
     said = run_tell(nights, 1, 0)
-    check("both are sent", (said[0], said[1].count(WRONG_B) > 0, " repaired" in said[1]),
+    check("both are sent", (said[0], shown(WRONG_B, said[1]) > 0, " repaired" in said[1]),
           (0, True, True))
     check("once", run_tell(nights, 1, 0), (0, ""))
 

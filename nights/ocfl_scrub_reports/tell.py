@@ -21,7 +21,8 @@ NO_TEXT = ("It left no text in its folder, or the text was sent already. If it c
 NO_ROOM = "What it said could not be written into %s: is there room for it?\nElse %s.\n"
 # What a night says that found nothing bad, and its words.
 GOOD = [(re.compile(b" repaired"), "{}: findings repaired"),
-        (re.compile(rb"(?m)^[0-9]+ object\S* \S+ back in cycle "), "{}: objects are back")]
+        (re.compile(rb"(?m)^[0-9]+ object\S* \S+ back in cycle "), "{}: objects are back"),
+        (re.compile(rb"(?m)^Cycle [0-9]+ ended: "), "{}: a cycle ended")]
 # How many seconds a mail may take. What hangs must not keep the messages of later nights.
 PATIENCE = 300
 

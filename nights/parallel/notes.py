@@ -12,7 +12,7 @@ NOTE = re.compile("([0-9]{6,})-[0-9]+[.][0-9]+")
 FINDING = re.compile(rb"[ES][0-9]+\t.*\t.*\n")
 # The words by which a night names its part, and those after which a place of the root is named.
 OF_PART = re.compile(rb"^([0-9]+ finding\S* tonight in )part [0-9]+ of ")
-OF_PLACE = re.compile(rb"\t|left out: |stopped at ")
+OF_PLACE = re.compile(rb"\t|^Object |left out: |stopped at ")
 # Stands for the folder of a part: no text has this byte.
 OWN = b"\0"
 

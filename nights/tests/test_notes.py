@@ -83,9 +83,9 @@ class Said(State):
 
     def test_a_finding_is_there_once_in_the_text_of_a_part(self):
         other = FINDING.replace("o01", "o02")
-        text = ("2 finding(s) tonight in part 1 of /srv/ocfl, cycle 2, run 1:\n" + FINDING + other
-                + "2 finding(s) of cycle 2 are new since cycle 1:\n" + FINDING + other
-                + "1 finding(s) of cycle 1 are repaired:\n" + FINDING.replace("o01", "o03"))
+        text = ("2 findings tonight in part 1 of /srv/ocfl, cycle 2, run 1:\n" + FINDING + other
+                + "2 findings of cycle 2 are new since cycle 1:\n" + FINDING + other
+                + "1 finding of cycle 1 is repaired:\n" + FINDING.replace("o01", "o03"))
         self.assertEqual(self.said(text), "In part 1:\n" + text.replace(
             "in part 1 of ", "in ").replace(
                 "cycle 1:\n" + FINDING + other, "cycle 1:\n2 of these are shown above.\n"))
@@ -266,10 +266,13 @@ class Told(State):
         self.assertTrue(os.path.exists(self.state + "/tonight.x"))
 
     def test_subjects(self):
-        for text, status, subject in [("1 finding(s) of cycle 1 are repaired:\n", "0",
+        for text, status, subject in [("1 finding of cycle 1 is repaired in cycle 2:\n", "0",
                                        "archive: findings repaired"),
-                                      ("2 object(s) are back in cycle 3:\nobject\to1\n", "0",
+                                      ("2 objects are back in cycle 3:\nobject\to1\n", "0",
                                        "archive: objects are back"),
+                                      ("Cycle 3 ended: 9 of 9 files right, 1 object, 9 bytes; "
+                                       "nothing new, nothing gone since cycle 2.\n", "0",
+                                       "archive: a cycle ended"),
                                       ("object\to are back in cycle 3\n", "0",
                                        "archive: a message about the nights"),
                                       ("x\n", "0", "archive: a message about the nights"),

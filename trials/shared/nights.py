@@ -13,6 +13,7 @@ import traceback
 
 import common
 from common import PROGRAM, TOP, digest
+from shared.messages import without_end
 
 NIGHTS = os.path.abspath(os.environ.get("OCFL_SCRUB_NIGHTS") or os.path.join(TOP, "nights"))
 REPORTS = NIGHTS + "/ocfl-scrub-reports"
@@ -89,11 +90,12 @@ class Nights:
         return [NIGHTS + "/nightly", "--state", self.state, *create, *more, "--", self.root]
 
     def night(self, *more, program=PROGRAM, **environment):
-        """A night; without words that end it, of a whole cycle. Two nights in one second would be
+        """A night, and what it says, without the word at the end of a cycle in which nothing is new
+        or gone; without words that end it, of a whole cycle. Two nights in one second would be
         taken for one."""
-        done = ran(self.words(*more), OCFL_SCRUB=program, **environment)
+        status, out, said = ran(self.words(*more), OCFL_SCRUB=program, **environment)
         time.sleep(1.1)
-        return done
+        return status, without_end(out), said
 
     def part(self, files="1", **how):
         """A night that reads no more than so many files."""

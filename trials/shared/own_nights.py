@@ -10,6 +10,7 @@ import common
 from common import Stopped, check, ran
 from shared import calls
 from shared.calls import Call
+from shared.messages import findings_in, key, without_end
 from shared.spaces import folder_at, mount, unmount
 
 # Each file costs its bytes and one; an object is a place and its files.
@@ -50,7 +51,10 @@ class Nights:
         return ["night", "--state", self.state, *self.part, *more, self.root]
 
     def night(self, *more: str, **how: Any) -> Got:
-        return ran(self.words(*more), **how)
+        """A night, and what it says, without the word at the end of a cycle in which nothing is
+        new or gone."""
+        status, out, note = ran(self.words(*more), **how)
+        return status, without_end(out), note
 
     def first(self, *more: str, **how: Any) -> Got:
         """A night that may be the first one in its folder."""
@@ -113,13 +117,18 @@ class Audited:
 
     def not_said(self, said: str) -> list[str]:
         """The findings that no night said."""
-        lines = said.splitlines(True)
-        return [line for line in self.findings if line not in lines]
+        shown = findings_in(said)
+        return [line for line in self.findings if key(line) not in shown]
 
     def false_lines(self, said: str) -> list[str]:
-        """The lines that were said and are no findings."""
-        return [line for line in said.splitlines(True)
-                if "\t" in line and line not in self.findings]
+        """What was said and is no finding."""
+        keys = [key(line) for line in self.findings]
+        return [it for it in findings_in(said) if it not in keys]
+
+    def times_said(self, said: str) -> list[int]:
+        """How often each finding was said."""
+        shown = findings_in(said)
+        return [shown.count(key(line)) for line in self.findings]
 
     def faults_of(self, nights: Nights) -> Iterator[str]:
         """What of the closed reports is not the audit, what is called gone, and what else lies

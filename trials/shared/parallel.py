@@ -13,6 +13,7 @@ import subprocess
 
 import common
 from common import PROGRAM, TOP, check
+from shared.messages import findings_in, key
 from shared.nights import NIGHTS, REPORTS, ran, read, write
 
 # A name that is not UTF-8 keeps a directory from being listed, for root too.
@@ -80,12 +81,13 @@ def audit(root):
 
 
 def findings(report):
-    return {line for line in report.splitlines(True) if line.split("\t")[0] not in ("ok", "S07")}
+    """The findings of a report, each by its code and its place."""
+    return {key(line) for line in report.splitlines() if line.split("\t")[0] not in ("ok", "S07")}
 
 
 def lines_in_message(said):
-    """The report lines that a message has."""
-    return {line for line in said.splitlines(True) if line.count("\t") == 2}
+    """The findings that a message shows, in the same way."""
+    return set(findings_in(said))
 
 
 class Together:

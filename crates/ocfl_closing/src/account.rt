@@ -4,9 +4,10 @@ use crate::closed::ClosedCycle;
 use crate::finding::Findings;
 use crate::kept::{list_path, new_list_path, report_path};
 use crate::rows::Changes;
+use crate::telling::Names;
 use ocfl_files::saying::STOPPED;
 use ocfl_report::Line;
-use ocfl_telling::{Closing, Gone, Shown, closing_text};
+use ocfl_telling::{Closing, Counts, Gone, Shown, closing_text};
 use ocfl_tree::Place;
 use std::alloc::{AllocError, Global};
 
@@ -169,6 +170,14 @@ impl Account {
         self.changes.known_count.saturating_add(self.findings.known)
     }
 
+    /// What the report counts. That of a part is not said, and that of lost lines is not known.
+    fn counts(&self, pair: &Pair, part: Option<u64>) -> Option<Counts> {
+        if pair.now.lost || part.is_some() {
+            return None;
+        }
+        Some(self.findings.tally.counts())
+    }
+
     /// How many objects are back.
     pub(crate) fn back_count(&self) -> u64 {
         u64::try_from(self.back.len()).unwrap_or(u64::MAX)
@@ -178,6 +187,7 @@ impl Account {
 /// What is said of a closed cycle.
 pub(crate) fn text_of(
     alloc: Global,
+    names: Names<'_>,
     pair: &Pair,
     paths: &Paths,
     account: &Account,
@@ -186,8 +196,10 @@ pub(crate) fn text_of(
     closing_text(
         alloc,
         &Closing {
+            root: names.root,
             cycle: pair.now.cycle,
             before: pair.compared(),
+            counts: account.counts(pair, names.part),
             whole: pair.now.whole,
             report: paths.report.as_str(),
             earlier: paths.earlier.as_str(),

@@ -94,6 +94,7 @@ fn closing_line(
 /// What the closings of a state folder are told with.
 #[derive(Clone, Copy)]
 struct Told<'n> {
+    names: Names<'n>,
     /// The path of the state folder.
     state: &'n str,
     known: &'n Known,
@@ -216,7 +217,7 @@ impl Told<'_> {
         say(
             rt.global(),
             out,
-            &text_of(rt.global(), pair, paths, account)?,
+            &text_of(rt.global(), self.names, pair, paths, account)?,
         )?;
         put_list(rt, pair, paths)?;
         if is_new || !pair.waits {
@@ -299,6 +300,7 @@ impl<R: Files<File = File> + AllocGlobal + Clock> Closings<'_, '_, R> {
             return Ok(0);
         }
         let told = Told {
+            names: self.names,
             state: self.names.state,
             known: self.known,
             expected: self.expected,

@@ -2,8 +2,8 @@
 
 use crate::reading::{TakeLine, take_lines};
 use crate::telling::{CLEAN, error_of};
-use ocfl_report::{Code, Line, read_line};
-use ocfl_telling::{Gravest, Known};
+use ocfl_report::{Code, Line, TextStop, read_line};
+use ocfl_telling::{Finding, Gravest, Heads, Known, Tally};
 use std::alloc::{AllocError, Global};
 use std::io::{self, BufRead};
 
@@ -17,8 +17,10 @@ pub struct Findings {
     pub known: u64,
     /// How many of the others were said already.
     pub said: u64,
-    /// The gravest of the rest.
+    /// The most serious of the rest.
     pub gravest: Gravest,
+    /// What all lines count.
+    pub tally: Tally,
 }
 
 /// Written by hand, so that to let it go is one call wherever that happens.
@@ -30,6 +32,7 @@ impl Drop for Findings {
             known: _known,
             said: _said,
             gravest: _gravest,
+            tally: _tally,
         } = self;
     }
 }
@@ -43,31 +46,38 @@ impl Findings {
             known: 0,
             said: 0,
             gravest: Gravest::new(alloc),
+            tally: Tally::new(),
         }
     }
 
     /// The lines of those that are kept, in the order of places.
     pub(crate) fn into_lines(self, alloc: Global) -> Result<Vec<Line>, AllocError> {
-        let mut found = self;
-        let mut lines = lines_of(alloc, &mut found.gravest)?;
+        let mut lines = lines_of(alloc, &self.gravest)?;
         lines.sort_by(|line: &Line, next: &Line| line.place.cmp(&next.place))?;
         Ok(lines)
     }
 }
 
-/// Takes the lines that are kept of some findings, the gravest first.
-pub(crate) fn lines_of(alloc: Global, gravest: &mut Gravest) -> Result<Vec<Line>, AllocError> {
+/// The lines that are kept of some findings, the most serious first.
+pub(crate) fn lines_of(alloc: Global, gravest: &Gravest) -> Result<Vec<Line>, AllocError> {
     let mut lines = Vec::new(alloc);
-    move_lines(gravest, &mut lines)?;
+    put_lines(&gravest.bytes.first, &mut lines)?;
+    put_lines(&gravest.objects.first, &mut lines)?;
+    put_lines(&gravest.records.first, &mut lines)?;
+    put_lines(&gravest.positions.first, &mut lines)?;
     Ok(lines)
 }
 
-/// Moves the lines that are kept behind others.
-fn move_lines(gravest: &mut Gravest, lines: &mut Vec<Line>) -> Result<(), AllocError> {
-    lines.append(&mut gravest.bytes.lines)?;
-    lines.append(&mut gravest.objects.lines)?;
-    lines.append(&mut gravest.records.lines)?;
-    lines.append(&mut gravest.positions.lines)
+/// Appends the lines of findings.
+fn put_lines(findings: &[Finding], lines: &mut Vec<Line>) -> Result<(), AllocError> {
+    for finding in findings {
+        let Finding {
+            line,
+            object: _object,
+        } = finding.try_clone()?;
+        lines.push(line)?;
+    }
+    Ok(())
 }
 
 /// Whether a line is the one that is named: of that place, and of that code if one is named.
@@ -76,18 +86,11 @@ fn is_named(named: &Line, line: &Line) -> bool {
     is_code && named.place == line.place
 }
 
-/// A line that is a finding.
-fn finding_in(line: Line) -> Option<Line> {
-    if line.is_finding() { Some(line) } else { None }
-}
-
-/// The finding of a line of a report, if it is one.
-fn finding_of(alloc: Global, text: &[u8]) -> io::Result<Option<Line>> {
-    if text.starts_with(CLEAN) {
-        return Ok(None);
-    }
+/// A line of a report. `None` for what begins as one that finds nothing, and is none.
+fn line_of(alloc: Global, text: &[u8]) -> io::Result<Option<Line>> {
     match read_line(alloc, text) {
-        Ok(line) => Ok(finding_in(line)),
+        Ok(line) => Ok(Some(line)),
+        Err(TextStop::Bad) if text.starts_with(CLEAN) => Ok(None),
         Err(stop) => Err(error_of(stop)),
     }
 }
@@ -102,6 +105,7 @@ struct Search<'a> {
     named: &'a [Line],
     known: &'a Known,
     said: &'a [Line],
+    heads: Heads,
     found: Findings,
 }
 
@@ -112,6 +116,7 @@ impl Drop for Search<'_> {
             named: _named,
             known: _known,
             said: _said,
+            heads: _heads,
             found: _found,
         } = self;
     }
@@ -124,36 +129,46 @@ impl Search<'_> {
             named: _named,
             known: _known,
             said: _said,
+            heads: _heads,
             found,
         } = self;
         found
     }
 
     /// Takes one that is named.
-    fn take_named(&mut self, line: Line) -> Result<(), AllocError> {
+    fn take_named(&mut self, finding: Finding) -> Result<(), AllocError> {
         let found = &mut self.found;
         found.matched = found.matched.saturating_add(1);
-        if self.known.names(&line) {
+        if self.known.names(&finding.line) {
             found.known = found.known.saturating_add(1);
             return Ok(());
         }
-        if self.said.iter().any(|said| is_same(said, &line)) {
+        if self.said.iter().any(|said| is_same(said, &finding.line)) {
             found.said = found.said.saturating_add(1);
             return Ok(());
         }
-        found.gravest.add(line)
+        found.gravest.add(finding)
+    }
+
+    /// Takes a finding.
+    fn take_finding(&mut self, finding: Finding) -> Result<(), AllocError> {
+        self.found.count = self.found.count.saturating_add(1);
+        match self.named.get(self.found.matched) {
+            Some(next) if is_named(next, &finding.line) => self.take_named(finding),
+            _ => Ok(()),
+        }
     }
 }
 
 impl TakeLine for Search<'_> {
     fn take_line(&mut self, alloc: Global, text: &[u8]) -> io::Result<bool> {
-        let Some(line) = finding_of(alloc, text)? else {
+        let Some(line) = line_of(alloc, text)? else {
             return Ok(true);
         };
-        self.found.count = self.found.count.saturating_add(1);
-        match self.named.get(self.found.matched) {
-            Some(next) if is_named(next, &line) => self.take_named(line)?,
-            _ => (),
+        self.found.tally.add(&line)?;
+        let finding = self.heads.take(line)?;
+        if finding.line.is_finding() {
+            self.take_finding(finding)?;
         }
         Ok(true)
     }
@@ -172,6 +187,7 @@ pub fn find_lines<'a, B: BufRead>(
         named,
         known,
         said,
+        heads: Heads::new(),
         found: Findings::new(alloc),
     };
     take_lines(alloc, report, &mut search)?;

@@ -5,7 +5,7 @@ use crate::stand::Standing;
 use ocfl_disk::StateFile;
 use ocfl_files::reasons::{Reasons, reason_line, take_reasons};
 use ocfl_report::{Code, Line, TextStop, read_line, write_all_of};
-use ocfl_telling::{Found, Gravest, Known, Night, SHOWN, night_text};
+use ocfl_telling::{Finding, Found, Gravest, Known, Night, SHOWN, night_text};
 use std::alloc::{AllocError, Global};
 use std::cell::Cell;
 use std::io::{self, ErrorKind, Write};
@@ -24,6 +24,9 @@ pub struct Names<'a> {
 
 /// How the lines of a report begin that find nothing.
 pub const CLEAN: &[u8] = b"ok\t";
+
+/// How such a line ends that is of an object, or of the storage root.
+const HEAD: &[u8] = b"\t-\n";
 
 /// An output that takes the bytes of a report, and says at each flush what was found in them since
 /// the one before, without what is known.
@@ -107,7 +110,7 @@ impl<'n, W: Write + Drop> Teller<'n, W> {
         self.broken
     }
 
-    /// The lines that were said: of each message the gravest, as many as are shown.
+    /// The lines that were said: of each message the most serious, as many as are shown.
     pub fn into_said(self) -> Vec<Line> {
         let Teller {
             alloc: _alloc,
@@ -127,7 +130,7 @@ impl<'n, W: Write + Drop> Teller<'n, W> {
     }
 
     /// Keeps the lines that a message has. Those for which there is no memory are not kept.
-    fn keep_said(&mut self, gravest: &mut Gravest) -> Result<(), AllocError> {
+    fn keep_said(&mut self, gravest: &Gravest) -> Result<(), AllocError> {
         let mut lines = lines_of(self.alloc, gravest)?;
         lines.truncate(SHOWN);
         self.said.append(&mut lines)
@@ -144,7 +147,7 @@ impl<'n, W: Write + Drop> Teller<'n, W> {
 
     /// Takes a line, with its line feed.
     fn end_line(&mut self) -> Result<(), TextStop> {
-        if !self.rest.starts_with(CLEAN) {
+        if is_told(self.rest.as_slice()) {
             if is_line(self.alloc, self.rest.as_slice())? {
                 self.keep_line()?;
             } else {
@@ -196,7 +199,7 @@ impl<'n, W: Write + Drop> Teller<'n, W> {
     }
 
     /// Says what was found, and notes that it was said.
-    fn tell(&mut self, gravest: &mut Gravest) -> io::Result<()> {
+    fn tell(&mut self, gravest: &Gravest) -> io::Result<()> {
         let now = self.now.get();
         self.say(now, gravest)?;
         let count = u64::try_from(gravest.count()).unwrap_or(u64::MAX);
@@ -221,10 +224,15 @@ impl<W: Write + Drop> Write for Teller<'_, W> {
 
     fn flush(&mut self) -> io::Result<()> {
         match self.take_found() {
-            Ok(mut gravest) => self.tell(&mut gravest),
+            Ok(gravest) => self.tell(&gravest),
             Err(stop) => Err(error_of(stop)),
         }
     }
+}
+
+/// Whether a message needs a line: what finds nothing only says which object comes.
+fn is_told(text: &[u8]) -> bool {
+    !text.starts_with(CLEAN) || text.ends_with(HEAD)
 }
 
 /// Whether a text is a line of a report, with its line feed.
@@ -272,19 +280,20 @@ fn report_of(now: Standing) -> StateFile {
 /// many more there may be.
 fn put_reasons_of(
     alloc: Global,
-    lines: &[Line],
+    findings: &[Finding],
     reasons: &Reasons,
     room: usize,
     text: &mut Vec<u8>,
 ) -> Result<usize, AllocError> {
-    for line in &lines[..lines.len().min(room)] {
+    for finding in &findings[..findings.len().min(room)] {
+        let line = &finding.line;
         if line.code == Code::S08 {
             if let Some(words) = reasons.find(&line.place) {
                 text.extend_from_slice(reason_line(alloc, &line.place, words)?.as_bytes())?;
             }
         }
     }
-    Ok(room.saturating_sub(lines.len()))
+    Ok(room.saturating_sub(findings.len()))
 }
 
 /// Appends why those files could not be read that a message shows.
@@ -301,7 +310,7 @@ fn put_reasons(
         &found.records,
         &found.positions,
     ] {
-        room = put_reasons_of(alloc, &kept.lines, reasons, room, text)?;
+        room = put_reasons_of(alloc, &kept.first, reasons, room, text)?;
     }
     Ok(())
 }

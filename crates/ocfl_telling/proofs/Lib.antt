@@ -8,5 +8,9 @@ pub mod Closings
 pub mod Lists
 pub mod Knowns
 pub mod LogRows
-pub mod Firsts
+pub mod Placing
+pub mod Spaces
+pub mod Groups
+pub mod Tallies
+pub mod Sizes
 pub mod Quotes

@@ -1,8 +1,9 @@
 -- The findings among the bytes of a report that come piece by piece.
-use Rattle.std.specs.Prelude.{◌≡◌, ◌≢◌, List, [], ◌∷◌, ◌++◌, All}
+use Rattle.std.specs.Prelude.{◌≡◌, ◌≢◌, List, [], ◌∷◌, ◌++◌, All, None}
 use Rattle.ocfl_tree.specs.Place.{Text}
 use Rattle.ocfl_report.specs.{Line.{Line}, Text.{IsLine, IsLineText, lines_text}}
-use Rattle.ocfl_telling.specs.{Gravest.{IsOf}, Known.{unknown}, declared.gravest.Gravest.{Gravest}}
+use Rattle.ocfl_telling.specs.{Finding.{head_after, placed}, Gravest.{IsOf}, Known.{unknown}}
+use Rattle.ocfl_telling.specs.declared.gravest.Gravest.{Gravest}
 use Rattle.ocfl_telling.specs.{declared.found.Found.{Found}, declared.known.KnownEntry.{KnownEntry}}
 
 -- after these bytes: their whole lines are taken but for those that are known, and what follows the
@@ -12,14 +13,15 @@ pub record IsAfter (known : List KnownEntry) (f : Found) (b : Text) : Type 0 whe
   pub are : All IsLine lines
   pub is : b ≡ lines_text lines ++ f.rest.items
   pub unended : All (λ c. c ≢ 10) f.rest.items
-  pub gravest : IsOf f.gravest (unknown known lines)
+  pub heads : f.heads.last ≡ head_after None lines
+  pub gravest : IsOf f.gravest (unknown known (placed lines))
 
 -- the bytes are the text of these lines, and the findings are kept of them that are not known
 pub record AreAll (known : List KnownEntry) (g : Gravest) (b : Text) : Type 0 where
   pub lines : List Line
   pub are : All IsLine lines
   pub is : b ≡ lines_text lines
-  pub gravest : IsOf g (unknown known lines)
+  pub gravest : IsOf g (unknown known (placed lines))
 
 -- after some lines of a report, the bytes go on with a line that is none of a report
 pub record HasBadLine (b : Text) : Type 0 where

@@ -1,35 +1,39 @@
--- The gravest findings among the lines of a report.
-use Rattle.std.specs.{Prelude.{◌≡◌, ℕ, ◌^◌, ◌<◌, List, ◌++◌, length, take, map}, List.{filter}}
-use Rattle.ocfl_report.specs.Line.{Line, line_of, is_finding_code}
+-- The most serious findings among those of a report.
+use Rattle.std.specs.{Prelude.{◌≡◌, ℕ, ◌^◌, ◌<◌, List, ◌++◌, Bool, length, take, map}, List.{filter}}
+use Rattle.ocfl_report.specs.Line.{is_finding_code}
 use Rattle.ocfl_codes.specs.{Weight.{has_weight}, declared.weight.Weight.{Weight}}
 use Rattle.ocfl_codes.specs.declared.weight.Weight.TheVariants.{Bytes, Object, Record, Position}
+use Rattle.ocfl_telling.specs.Finding.{Finding, finding_of}
 use Rattle.ocfl_telling.specs.{declared.gravest.Kept.{Kept}, declared.gravest.Gravest.{Gravest}}
 
 -- the most findings that are shown
 abbrev pub most_shown : ℕ
 most_shown = 20
 
-abbrev pub findings : List Line → List Line
-findings ls = filter (λ l. is_finding_code l.code) ls
+abbrev pub findings : List Finding → List Finding
+findings fs = filter (λ f. is_finding_code f.line.code) fs
 
-abbrev pub of_weight : Weight → List Line → List Line
-of_weight w ls = filter (has_weight w) ls
+abbrev pub is_of_weight : Weight → Finding → Bool
+is_of_weight w f = has_weight w f.line
 
--- all findings, the gravest first, and those of one weight in the order of the lines
-abbrev pub by_weight : List Line → List Line
-by_weight ls = of_weight Bytes ls ++ of_weight Object ls ++ of_weight Record ls ++ of_weight Position ls
+abbrev pub of_weight : Weight → List Finding → List Finding
+of_weight w fs = filter (is_of_weight w) fs
 
-abbrev pub gravest : List Line → List Line
-gravest ls = take most_shown (by_weight ls)
+-- all findings, the most serious first, and those of one weight in the order of the lines
+abbrev pub by_weight : List Finding → List Finding
+by_weight fs = of_weight Bytes fs ++ of_weight Object fs ++ of_weight Record fs ++ of_weight Position fs
 
--- the first of these lines, and how many there are; of 2^64 or more the number is not kept
-pub record IsFirst (k : Kept) (ls : List Line) : Type 0 where
-  pub lines : map line_of k.lines.items ≡ take most_shown ls
-  pub count : length ls < 2 ^ 64 → k.count ≡ length ls
+abbrev pub gravest : List Finding → List Finding
+gravest fs = take most_shown (by_weight fs)
+
+-- the first of these findings, and how many there are; of 2^64 or more the number is not kept
+pub record IsFirst (k : Kept) (fs : List Finding) : Type 0 where
+  pub first : map finding_of k.first.items ≡ take most_shown fs
+  pub count : length fs < 2 ^ 64 → k.count ≡ length fs
 
 -- the same of each weight, of the findings among these lines
-pub record IsOf (g : Gravest) (ls : List Line) : Type 0 where
-  pub bytes : IsFirst g.bytes (of_weight Bytes ls)
-  pub objects : IsFirst g.objects (of_weight Object ls)
-  pub records : IsFirst g.records (of_weight Record ls)
-  pub positions : IsFirst g.positions (of_weight Position ls)
+pub record IsOf (g : Gravest) (fs : List Finding) : Type 0 where
+  pub bytes : IsFirst g.bytes (of_weight Bytes fs)
+  pub objects : IsFirst g.objects (of_weight Object fs)
+  pub records : IsFirst g.records (of_weight Record fs)
+  pub positions : IsFirst g.positions (of_weight Position fs)

@@ -3,7 +3,7 @@ use Rattle.std.specs.{Prelude.{List, Bool, ◌&&◌, not}, List.{filter, list_an
 use Rattle.std.specs.declared.cmp.Ordering.{Ordering}
 use Rattle.ocfl_tree.specs.Place.{Place as Spot, place_cmp, text_eq, place_eq, begins}
 use Rattle.ocfl_report.specs.{Line.{Line, line_of}, Text.{code_text}, declared.code.Code.{Code}}
-use Rattle.ocfl_telling.specs.declared.known.Reach.{Reach}
+use Rattle.ocfl_telling.specs.{Finding.{Finding}, declared.known.Reach.{Reach}}
 use Rattle.ocfl_telling.specs.declared.known.Reach.TheVariants.{One, Place, Branch}
 use Rattle.ocfl_telling.specs.declared.known.KnownEntry.{KnownEntry}
 
@@ -32,6 +32,6 @@ entry_cmp e f = place_cmp e.line.place f.line.place
 abbrev pub names_at : Spot → Line → KnownEntry → Bool
 names_at p l e = place_eq e.line.place p && names l e
 
--- the lines that a list leaves
-abbrev pub unknown : List KnownEntry → List Line → List Line
-unknown es ls = filter (λ l. not (is_known es l)) ls
+-- the findings that a list leaves
+abbrev pub unknown : List KnownEntry → List Finding → List Finding
+unknown es fs = filter (λ f. not (is_known es f.line)) fs

@@ -1,8 +1,14 @@
+pub mod Finding
 pub mod Gravest
 pub mod Known
 pub mod List
 pub mod Found
 pub mod Quoted
+pub mod Command
+pub mod Wording
+pub mod Grouped
+pub mod Many
+pub mod Tally
 pub mod Night
 pub mod Log
 pub mod Refusal

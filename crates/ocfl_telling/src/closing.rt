@@ -1,14 +1,19 @@
-//! What is said of a cycle that was closed: what is new, repaired, back and gone since the last
-//! whole report, and what was left out.
-ghost use Rattle.std.specs.Prelude.{◌≡◌, ◌++◌, ◌^◌, ◌<◌, List, [], length, map, take, IfOk, OnOk, string_bytes};
-ghost use Rattle.ocfl_report.specs.{Line.{Line as ModelLine, line_of}, Text.{lines_text}};
-ghost use Rattle.ocfl_telling.specs.Gravest.{IsOf, by_weight, most_shown};
-ghost use Rattle.ocfl_telling.specs.Closing.{closing_text as text_of_closing, above_text, back_head, back_line, back_lines, back_text, ended_text, gone_lines, gone_line, section_text, not_shown, new_head, repaired_head, gone_head, gone_text, kind_text, new_text, repaired_text, not_known_text, not_whole_text, some_above_text, some_unlooked_text, uncompared_text, unlooked_text, unsaid_text};
+//! What is said of a cycle that was closed: how much of it is right, what is gone, new, repaired and
+//! back since the last whole report, and what was left out.
+ghost use Rattle.std.specs.Prelude.{◌≡◌, ◌++◌, ◌^◌, ◌<◌, List, [], Some, codes, decimal, length, map, take, IfOk, OnOk, string_bytes};
+ghost use Rattle.ocfl_report.specs.Line.{line_of};
+ghost use Rattle.ocfl_telling.specs.{Finding.{Finding as ModelFinding}, Gravest.{IsOf, by_weight, most_shown}};
+ghost use Rattle.ocfl_telling.specs.Closing.{closing_text as text_of_closing, above_text, alone_text, back_head, back_line, back_lines, back_text, changed_text, counted_text, counts_text, ended_text, gone_lines, gone_line, section_text, not_shown, lead_text, new_head, repaired_head, gone_head, gone_text, kind_text, new_text, repaired_line, repaired_lines, repaired_text, not_known_text, not_whole_text, since_text, some_above_text, some_gone_text, some_new_text, some_unlooked_text, summary_text, uncompared_text, unlooked_text, unsaid_text};
 ghost use Rattle.ocfl_telling.specs.Night.{more_text};
 
+use crate::appending::put_made;
+use crate::command::path_of;
 use crate::gravest::{Gravest, SHOWN};
-use crate::night::{more, put_first, put_gravest, put_made};
+use crate::many::{are, many, size};
+use crate::night::{more, put_gravest};
 use crate::shown::Shown;
+use crate::tally::Counts;
+use crate::wording::put_said;
 use ocfl_report::{Line, put_place};
 use ocfl_tree::Place;
 use std::alloc::{AllocError, Global};
@@ -40,12 +45,16 @@ pub struct Gone {
 /// gone, objects come before files: its caller puts them so.
 #[derive(Clone, Copy)]
 pub struct Closing<'a> {
+    /// The path of the storage root.
+    pub root: &'a str,
     /// The number of the cycle.
     pub cycle: u64,
     /// The number of the cycle that it was compared with; 0 if it was not compared.
     pub before: u64,
     /// Why nothing was compared. Empty if it was, or if there is no cycle before it.
     pub uncompared: &'a str,
+    /// What the report counts, if that is to be said.
+    pub counts: Option<Counts>,
     /// Whether the cycle's report is whole.
     pub whole: bool,
     /// The path of the cycle's report.
@@ -78,22 +87,127 @@ pub struct Closing<'a> {
     pub unlooked: u64,
 }
 
-/// That a cycle has ended with a report that is not whole.
-fn ended(alloc: Global, closing: &Closing<'_>) -> Result<String, AllocError>
-    ensures { IfOk result (λ text. string_bytes text
-        ≡ ended_text closing.now.whole closing.now.cycle closing.now.report.now) }
-{
-    if closing.whole {
-        return Ok(String::new(alloc));
-    }
-    not_whole(alloc, closing.cycle, closing.report)
-}
-
 fn not_whole(alloc: Global, cycle: u64, report: &str) -> Result<String, AllocError>
     ensures { IfOk result (λ text. string_bytes text ≡ not_whole_text cycle report.now) }
 {
     let report = Shown(report);
     format!(in alloc; "Cycle {cycle} ended, but its report is incomplete: {report}\n")
+}
+
+/// What a report counts.
+fn counted(alloc: Global, counts: Counts) -> Result<String, AllocError>
+    ensures { IfOk result (λ text. string_bytes text ≡ counts_text counts) }
+{
+    let files = many(alloc, counts.files, "file", "files")?;
+    let objects = many(alloc, counts.objects, "object", "objects")?;
+    let bytes = size(alloc, counts.bytes)?;
+    let right = counts.right;
+    format!(in alloc; "{right} of {files} right, {objects}, {bytes}")
+}
+
+/// How much is new.
+fn some_new(alloc: Global, count: u64) -> Result<String, AllocError>
+    ensures { IfOk result (λ text. string_bytes text ≡ some_new_text count) }
+{
+    if count == 0 {
+        return String::from_str(alloc, "nothing new");
+    }
+    many(alloc, count, "new finding", "new findings")
+}
+
+/// How much is gone.
+fn some_gone(alloc: Global, count: u64) -> Result<String, AllocError>
+    ensures { IfOk result (λ text. string_bytes text ≡ some_gone_text count) }
+{
+    if count == 0 {
+        return String::from_str(alloc, "nothing gone");
+    }
+    many(
+        alloc,
+        count,
+        "object or file gone",
+        "objects and files gone",
+    )
+}
+
+/// What is new and gone since a cycle before.
+fn since(alloc: Global, appeared: u64, gone: u64, before: u64) -> Result<String, AllocError>
+    ensures { IfOk result (λ text. string_bytes text ≡ since_text appeared gone before) }
+{
+    let appeared = some_new(alloc, appeared)?;
+    let gone = some_gone(alloc, gone)?;
+    format!(in alloc; "{appeared}, {gone} since cycle {before}")
+}
+
+/// What is said of a cycle that was compared with none.
+fn alone(why: &str) -> &'static str
+    ensures { result.now ≡ alone_text why.now }
+{
+    if why.is_empty() {
+        return "nothing to compare with";
+    }
+    "not compared"
+}
+
+/// How much changed since the cycle that it was compared with.
+fn changed(alloc: Global, closing: &Closing<'_>) -> Result<String, AllocError>
+    ensures { IfOk result (λ text. string_bytes text ≡ changed_text closing.now) }
+{
+    if closing.before == 0 {
+        return String::from_str(alloc, alone(closing.uncompared));
+    }
+    since(
+        alloc,
+        closing.appeared_count,
+        closing.gone_count,
+        closing.before,
+    )
+}
+
+/// What a cycle counts, and how much changed.
+fn summary(alloc: Global, closing: &Closing<'_>, counts: Counts) -> Result<String, AllocError>
+    ensures { IfOk result (λ text. string_bytes text ≡ summary_text closing.now counts) }
+{
+    let counted = counted(alloc, counts)?;
+    let changed = changed(alloc, closing)?;
+    format!(in alloc; "{counted}; {changed}.\n")
+}
+
+/// The line that it is in.
+fn lead(alloc: Global, closing: &Closing<'_>) -> Result<String, AllocError>
+    ensures { IfOk result (λ text. string_bytes text ≡ lead_text closing.now) }
+{
+    if closing.whole {
+        return whole_lead(alloc, closing.cycle);
+    }
+    let said = not_whole(alloc, closing.cycle, closing.report)?;
+    format!(in alloc; "{said}In it: ")
+}
+
+fn whole_lead(alloc: Global, cycle: u64) -> Result<String, AllocError>
+    ensures { IfOk result
+        (λ text. string_bytes text ≡ codes "Cycle " ++ decimal cycle ++ codes " ended: ") }
+{
+    format!(in alloc; "Cycle {cycle} ended: ")
+}
+
+/// The word at the end of a cycle.
+fn ended(alloc: Global, closing: &Closing<'_>, counts: Option<Counts>) -> Result<String, AllocError>
+    ensures { IfOk result (λ text. string_bytes text ≡ counted_text closing.now counts) }
+{
+    match counts {
+        Some(counts) => ended_with(alloc, closing, counts),
+        None if closing.whole => Ok(String::new(alloc)),
+        None => not_whole(alloc, closing.cycle, closing.report),
+    }
+}
+
+fn ended_with(alloc: Global, closing: &Closing<'_>, counts: Counts) -> Result<String, AllocError>
+    ensures { IfOk result (λ text. string_bytes text ≡ counted_text closing.now (Some counts)) }
+{
+    let lead = lead(alloc, closing)?;
+    let summary = summary(alloc, closing, counts)?;
+    format!(in alloc; "{lead}{summary}")
 }
 
 /// That nothing was compared, and why.
@@ -123,7 +237,7 @@ fn put_findings(
 ) -> Result<(), AllocError>
     ensures { OnOk result (text.new.items ≡ text.old.items
         ++ section_text findings.entry.1 head.now
-        (lines_text (map line_of (take most_shown findings.entry.0.now)))
+        (repaired_lines (map line_of (take most_shown findings.entry.0.now)))
         (not_shown findings.entry.1 (length findings.entry.0.now)) file.now) }
 {
     let (lines, count) = findings;
@@ -131,8 +245,27 @@ fn put_findings(
         return Ok(());
     }
     text.extend_from_slice(head.as_bytes())?;
-    put_first(lines, SHOWN, text)?;
+    put_repaired_lines(alloc, &lines[..lines.len().min(SHOWN)], text)?;
     put_more(alloc, file, count, lines.len(), text)
+}
+
+/// Appends a finding that is repaired.
+fn put_repaired_line(alloc: Global, line: &Line, text: &mut Vec<u8>) -> Result<(), AllocError>
+    ensures { OnOk result (text.new.items ≡ text.old.items ++ repaired_line (line_of line.now)) }
+{
+    let path = path_of(alloc, &line.place)?;
+    put_said(alloc, path.as_str(), line, text)
+}
+
+/// Appends these findings.
+fn put_repaired_lines(alloc: Global, lines: &[Line], text: &mut Vec<u8>) -> Result<(), AllocError>
+    ensures { OnOk result (text.new.items
+        ≡ text.old.items ++ repaired_lines (map line_of lines.now)) }
+{
+    for line in lines {
+        put_repaired_line(alloc, line, text)?;
+    }
+    Ok(())
 }
 
 /// Appends how many of `count` are not shown, of which `listed` are in the list.
@@ -267,7 +400,9 @@ fn put_all_back(alloc: Global, closing: &Closing<'_>, text: &mut Vec<u8>) -> Res
 fn back_head_of(alloc: Global, count: u64, cycle: u64) -> Result<String, AllocError>
     ensures { IfOk result (λ text. string_bytes text ≡ back_head count cycle) }
 {
-    format!(in alloc; "{count} object(s) are back in cycle {cycle}:\n")
+    let objects = many(alloc, count, "object", "objects")?;
+    let are = are(count);
+    format!(in alloc; "{objects}{are} back in cycle {cycle}:\n")
 }
 
 /// How many of the new findings the message of this night has already; nothing of none.
@@ -291,43 +426,47 @@ fn new_head_of(alloc: Global, closing: &Closing<'_>) -> Result<String, AllocErro
     ensures { IfOk result (λ text. string_bytes text ≡ new_head closing.now) }
 {
     let above = above(alloc, closing.said)?;
-    let (count, cycle, before) = (closing.appeared_count, closing.cycle, closing.before);
-    format!(in alloc; "{count} finding(s) of cycle {cycle} are new since cycle {before}{above}")
+    let (cycle, before) = (closing.cycle, closing.before);
+    let findings = many(alloc, closing.appeared_count, "finding", "findings")?;
+    let are = are(closing.appeared_count);
+    format!(in alloc; "{findings} of cycle {cycle}{are} new since cycle {before}{above}")
 }
 
 /// Appends what is new.
 fn put_new(alloc: Global, closing: &Closing<'_>, text: &mut Vec<u8>) -> Result<(), AllocError>
-    ensures { OnOk result ((ls : List ModelLine) → IsOf closing.now.appeared.now ls
-        → length (by_weight ls) < 2 ^ 64
-        → text.new.items ≡ text.old.items ++ new_text closing.now ls) }
+    ensures { OnOk result ((fs : List ModelFinding) → IsOf closing.now.appeared.now fs
+        → length (by_weight fs) < 2 ^ 64
+        → text.new.items ≡ text.old.items ++ new_text closing.now fs) }
 {
     if closing.appeared_count == 0 {
         return Ok(());
     }
     text.extend_from_slice(new_head_of(alloc, closing)?.as_bytes())?;
     let unsaid = closing.appeared_count.saturating_sub(closing.said);
-    put_unsaid(alloc, unsaid, closing.appeared, closing.report, text)
+    let (root, report) = (closing.root, closing.report);
+    put_unsaid(alloc, unsaid, closing.appeared, root, report, text)
 }
 
-/// Appends the end of that line and the gravest of the findings that were not said, and how many
+/// Appends the end of that line and the most serious of the findings that were not said, and how many
 /// more there are.
 fn put_unsaid(
     alloc: Global,
     count: u64,
     found: &Gravest,
+    root: &str,
     report: &str,
     text: &mut Vec<u8>,
 ) -> Result<(), AllocError>
-    ensures { OnOk result ((ls : List ModelLine) → IsOf found.now ls
-        → length (by_weight ls) < 2 ^ 64
-        → text.new.items ≡ text.old.items ++ unsaid_text count ls report.now) }
+    ensures { OnOk result ((fs : List ModelFinding) → IsOf found.now fs
+        → length (by_weight fs) < 2 ^ 64
+        → text.new.items ≡ text.old.items ++ unsaid_text count fs root.now report.now) }
 {
     if count == 0 {
         text.extend_from_slice(b".\n")?;
         return Ok(());
     }
     text.extend_from_slice(b":\n")?;
-    put_gravest(found, text)?;
+    put_gravest(alloc, root, found, text)?;
     let left = u128::from(count).saturating_sub(found.count().min(SHOWN as u128));
     text.extend_from_slice(more(alloc, report, left)?.as_bytes())?;
     Ok(())
@@ -342,14 +481,18 @@ fn repaired_head_of(
 ) -> Result<String, AllocError>
     ensures { IfOk result (λ text. string_bytes text ≡ repaired_head count cycle before) }
 {
-    format!(in alloc; "{count} finding(s) of cycle {before} are repaired in cycle {cycle}:\n")
+    let findings = many(alloc, count, "finding", "findings")?;
+    let are = are(count);
+    format!(in alloc; "{findings} of cycle {before}{are} repaired in cycle {cycle}:\n")
 }
 
 /// The line before what is gone.
 fn gone_head_of(alloc: Global, count: u64, cycle: u64) -> Result<String, AllocError>
     ensures { IfOk result (λ text. string_bytes text ≡ gone_head count cycle) }
 {
-    format!(in alloc; "{count} object(s) and file(s) are gone or missing in cycle {cycle}:\n")
+    let lost = many(alloc, count, "object or file", "objects and files")?;
+    let are = are(count);
+    format!(in alloc; "{lost}{are} gone or missing in cycle {cycle}:\n")
 }
 
 /// Appends what is repaired.
@@ -380,32 +523,36 @@ fn unlooked(alloc: Global, count: u64) -> Result<String, AllocError>
 fn some_unlooked(alloc: Global, count: u64) -> Result<String, AllocError>
     ensures { IfOk result (λ text. string_bytes text ≡ some_unlooked_text count) }
 {
+    let files = many(alloc, count, "file", "files")?;
+    let are = are(count);
     format!(in alloc;
-        "{count} file(s) of objects that are gone, or whose inventory cannot be used, are not \
-         looked at any more.\n"
+        "{files} of objects that are gone, or whose inventory cannot be used,{are} not looked at \
+         any more.\n"
     )
 }
 
 /// Appends what changed: what is new, repaired and back.
 fn put_changes(alloc: Global, closing: &Closing<'_>, text: &mut Vec<u8>) -> Result<(), AllocError>
-    ensures { OnOk result ((ls : List ModelLine) → IsOf closing.now.appeared.now ls
-        → length (by_weight ls) < 2 ^ 64 → text.new.items ≡ text.old.items
-        ++ new_text closing.now ls ++ repaired_text closing.now ++ back_text closing.now) }
+    ensures { OnOk result ((fs : List ModelFinding) → IsOf closing.now.appeared.now fs
+        → length (by_weight fs) < 2 ^ 64 → text.new.items ≡ text.old.items
+        ++ new_text closing.now fs ++ repaired_text closing.now ++ back_text closing.now) }
 {
     put_new(alloc, closing, text)?;
     put_repaired(alloc, closing, text)?;
     put_all_back(alloc, closing, text)
 }
 
-/// What is said of a closed cycle: that its report is incomplete, if so; that nothing was compared,
-/// if so, and why; then what is new, repaired, back and gone, the first 20 of each by name, and how
-/// many more; and how many files are not looked at any more. Of what is new the gravest findings
-/// come first, and those that the message of this night has already are only counted. Nothing if
-/// there is nothing to say.
+/// What is said of a closed cycle. First the word at its end, if what the report counts is known:
+/// how many files are right of how many, how many objects and bytes, and how much is new and gone
+/// since the cycle that it was compared with; or that its report is incomplete. Then that nothing
+/// was compared, if so, and why; then what is gone, how many files are not looked at any more, and
+/// what is new, repaired and back, the first 20 of each by name, and how many more. Of what is new
+/// the most serious findings come first, by object as in [`night_text`](crate::night_text), and
+/// those that the message of this night has already are only counted.
 pub fn closing_text(alloc: Global, closing: &Closing<'_>) -> Result<Vec<u8>, AllocError>
-    // Whichever lines were taken: of fewer than 2^64 findings.
-    ensures { IfOk result (λ text. (ls : List ModelLine) → IsOf closing.now.appeared.now ls
-        → length (by_weight ls) < 2 ^ 64 → text.items ≡ text_of_closing closing.now ls) }
+    // Whichever findings were taken, of fewer than 2^64.
+    ensures { IfOk result (λ text. (fs : List ModelFinding) → IsOf closing.now.appeared.now fs
+        → length (by_weight fs) < 2 ^ 64 → text.items ≡ text_of_closing closing.now fs) }
 {
     let mut text = Vec::new(alloc);
     put_closing(alloc, closing, &mut text)?;
@@ -415,14 +562,14 @@ pub fn closing_text(alloc: Global, closing: &Closing<'_>) -> Result<Vec<u8>, All
 /// The same, in an empty text.
 fn put_closing(alloc: Global, closing: &Closing<'_>, text: &mut Vec<u8>) -> Result<(), AllocError>
     requires { text.now.items ≡ [] }
-    ensures { OnOk result ((ls : List ModelLine) → IsOf closing.now.appeared.now ls
-        → length (by_weight ls) < 2 ^ 64 → text.new.items ≡ text_of_closing closing.now ls) }
+    ensures { OnOk result ((fs : List ModelFinding) → IsOf closing.now.appeared.now fs
+        → length (by_weight fs) < 2 ^ 64 → text.new.items ≡ text_of_closing closing.now fs) }
 {
-    put_made(ended(alloc, closing), text)?;
+    put_made(ended(alloc, closing, closing.counts), text)?;
     put_made(uncompared(alloc, closing.uncompared), text)?;
-    put_changes(alloc, closing, text)?;
     put_gone_section(alloc, closing, text)?;
-    put_made(unlooked(alloc, closing.unlooked), text)
+    put_made(unlooked(alloc, closing.unlooked), text)?;
+    put_changes(alloc, closing, text)
 }
 
 /// Appends what is gone.

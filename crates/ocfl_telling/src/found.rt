@@ -1,12 +1,13 @@
 //! The findings among the bytes of a report, which come piece by piece.
 
 ghost use Rattle.std.specs.Prelude.{◌≡◌, List, ◌∷◌, ◌++◌, [], OnOk};
-ghost use Rattle.ocfl_report.specs.Line.{Line as ModelLine, line_of};
+ghost use Rattle.ocfl_telling.specs.Finding.{Finding as ModelFinding, finding_of};
 ghost use Rattle.ocfl_telling.specs.{Gravest.{IsOf}, Known.{unknown}};
 
+use crate::finding::{Finding, Heads};
 use crate::gravest::Gravest;
 use crate::known::Known;
-use ocfl_report::{Line, TextStop, read_line, split_once};
+use ocfl_report::{TextStop, read_line, split_once};
 use std::alloc::{AllocError, Global};
 
 /// What was found in the bytes of a report so far.
@@ -14,6 +15,8 @@ use std::alloc::{AllocError, Global};
 pub struct Found {
     /// The findings among the lines.
     pub gravest: Gravest,
+    /// The object whose head came last.
+    pub heads: Heads,
     /// What comes after the last line feed.
     pub rest: Vec<u8>,
 }
@@ -30,6 +33,7 @@ impl Found {
     {
         Found {
             gravest: Gravest::new(alloc),
+            heads: Heads::new(),
             rest: Vec::new(alloc),
         }
     }
@@ -66,7 +70,8 @@ impl Found {
     {
         put_end(part, &mut self.rest)?;
         let line = read_line(alloc, self.rest.as_slice())?;
-        add_unknown(&mut self.gravest, known, line)?;
+        let finding = self.heads.take(line)?;
+        add_unknown(&mut self.gravest, known, finding)?;
         self.rest.clear();
         Ok(())
     }
@@ -85,16 +90,16 @@ impl Found {
     }
 }
 
-/// Takes a line, unless it is known.
-fn add_unknown(gravest: &mut Gravest, known: &Known, line: Line) -> Result<(), AllocError>
-    ensures { OnOk result ((ls : List ModelLine)
-        → IsOf gravest.old (unknown known.now ls)
-        → IsOf gravest.new (unknown known.now (ls ++ line_of line ∷ []))) }
+/// Takes a finding, unless it is known.
+fn add_unknown(gravest: &mut Gravest, known: &Known, finding: Finding) -> Result<(), AllocError>
+    ensures { OnOk result ((fs : List ModelFinding)
+        → IsOf gravest.old (unknown known.now fs)
+        → IsOf gravest.new (unknown known.now (fs ++ finding_of finding ∷ []))) }
 {
-    if known.names(&line) {
+    if known.names(&finding.line) {
         return Ok(());
     }
-    gravest.add(line)
+    gravest.add(finding)
 }
 
 /// Appends the end of a line, and its line feed.

@@ -1,20 +1,20 @@
-//! The gravest findings among lines that are taken one after the other.
-ghost use Rattle.std.specs.Prelude.{◌≡◌, ◌^◌, ◌<◌, List, [], ◌∷◌, ◌++◌, length, map, take, OnOk, OnErr};
-ghost use Rattle.ocfl_report.specs.Line.{Line as ModelLine, line_of};
+//! The most serious findings among those that are taken one after the other.
+ghost use Rattle.std.specs.Prelude.{◌≡◌, ◌-◌, ◌^◌, ◌<◌, List, [], ◌∷◌, ◌++◌, length, map, take, IfOk, OnOk, OnErr};
+ghost use Rattle.ocfl_telling.specs.Finding.{Finding as ModelFinding, finding_of};
 ghost use Rattle.ocfl_telling.specs.Gravest.{most_shown};
 
+use crate::finding::Finding;
 use ocfl_codes::{Weight, weigh};
-use ocfl_report::Line;
 use std::alloc::{AllocError, Global};
 
-/// How many lines are shown at most.
+/// How many findings are shown at most.
 pub const SHOWN: usize = 20;
 
-/// The first 20 of some lines, and how many there were.
+/// The first 20 of some findings, and how many there were.
 #[derive(Debug, Drop)]
 pub struct Kept {
     /// The first of them, in their order.
-    pub lines: Vec<Line>,
+    pub first: Vec<Finding>,
     /// How many there were: all, not only those that are kept.
     pub count: u64,
 }
@@ -22,40 +22,40 @@ pub struct Kept {
 impl Kept {
     ghost use Rattle.ocfl_telling.specs.Gravest.{IsFirst};
 
-    /// No lines.
+    /// None.
     pub fn new(alloc: Global) -> Kept
         ensures { IsFirst result [] }
     {
         Kept {
-            lines: Vec::new(alloc),
+            first: Vec::new(alloc),
             count: 0,
         }
     }
 
-    /// Takes one more line. If memory runs out, it has those that it had.
-    pub fn add(&mut self, line: Line) -> Result<(), AllocError>
-        ensures ok { OnOk result ((ls : List ModelLine)
-            → IsFirst self.old ls → IsFirst self.new (ls ++ line_of line ∷ [])) }
-        ensures err { OnErr result ((ls : List ModelLine)
-            → IsFirst self.old ls → IsFirst self.new ls) }
+    /// Takes one more. If memory runs out, it has those that it had.
+    pub fn add(&mut self, finding: Finding) -> Result<(), AllocError>
+        ensures ok { OnOk result ((fs : List ModelFinding)
+            → IsFirst self.old fs → IsFirst self.new (fs ++ finding_of finding ∷ [])) }
+        ensures err { OnErr result ((fs : List ModelFinding)
+            → IsFirst self.old fs → IsFirst self.new fs) }
     {
-        keep(&mut self.lines, line)?;
+        keep(&mut self.first, finding)?;
         self.count = self.count.saturating_add(1);
         Ok(())
     }
 }
 
-/// Appends a line to the first of some lines, unless there are 20 already.
-fn keep(kept: &mut Vec<Line>, line: Line) -> Result<(), AllocError>
-    ensures ok { OnOk result ((ls : List ModelLine)
-        → map line_of kept.old.items ≡ take most_shown ls
-        → map line_of kept.new.items ≡ take most_shown (ls ++ line_of line ∷ [])) }
+/// Appends a finding to the first of some, unless there are 20 already.
+fn keep(kept: &mut Vec<Finding>, finding: Finding) -> Result<(), AllocError>
+    ensures ok { OnOk result ((fs : List ModelFinding)
+        → map finding_of kept.old.items ≡ take most_shown fs
+        → map finding_of kept.new.items ≡ take most_shown (fs ++ finding_of finding ∷ [])) }
     ensures err { OnErr result (kept.new.items ≡ kept.old.items) }
 {
     if kept.len() >= SHOWN {
         return Ok(());
     }
-    kept.push(line)?;
+    kept.push(finding)?;
     Ok(())
 }
 
@@ -84,7 +84,7 @@ impl Drop for Gravest {
 }
 
 impl Gravest {
-    ghost use Rattle.ocfl_telling.specs.Gravest.{IsOf, by_weight};
+    ghost use Rattle.ocfl_telling.specs.Gravest.{IsOf, by_weight, gravest};
 
     /// No findings.
     pub fn new(alloc: Global) -> Gravest
@@ -100,31 +100,70 @@ impl Gravest {
 
     /// Takes one more line of a report, and keeps it if it is a finding that may be shown. If
     /// memory runs out, it has those that it had.
-    pub fn add(&mut self, line: Line) -> Result<(), AllocError>
-        ensures ok { OnOk result ((ls : List ModelLine)
-            → IsOf self.old ls → IsOf self.new (ls ++ line_of line ∷ [])) }
-        ensures err { OnErr result ((ls : List ModelLine)
-            → IsOf self.old ls → IsOf self.new ls) }
+    pub fn add(&mut self, finding: Finding) -> Result<(), AllocError>
+        ensures ok { OnOk result ((fs : List ModelFinding)
+            → IsOf self.old fs → IsOf self.new (fs ++ finding_of finding ∷ [])) }
+        ensures err { OnErr result ((fs : List ModelFinding)
+            → IsOf self.old fs → IsOf self.new fs) }
     {
-        match weigh(line.code) {
+        match weigh(finding.line.code) {
             None => Ok(()),
-            Some(Weight::Bytes) => self.bytes.add(line),
-            Some(Weight::Object) => self.objects.add(line),
-            Some(Weight::Record) => self.records.add(line),
-            Some(Weight::Position) => self.positions.add(line),
+            Some(Weight::Bytes) => self.bytes.add(finding),
+            Some(Weight::Object) => self.objects.add(finding),
+            Some(Weight::Record) => self.records.add(finding),
+            Some(Weight::Position) => self.positions.add(finding),
         }
+    }
+
+    /// The most serious of them, up to 20.
+    pub(crate) fn shown(&self, alloc: Global) -> Result<Vec<Finding>, AllocError>
+        ensures { IfOk result (λ all. (fs : List ModelFinding) → IsOf self.now fs
+            → map finding_of all.items ≡ gravest fs) }
+    {
+        let mut all = Vec::new(alloc);
+        let room = put_first(&self.bytes.first, SHOWN, &mut all)?;
+        let room = put_first(&self.objects.first, room, &mut all)?;
+        let room = put_first(&self.records.first, room, &mut all)?;
+        put_first(&self.positions.first, room, &mut all)?;
+        Ok(all)
     }
 
     /// How many findings there were.
     pub fn count(&self) -> u128
-        ensures { (ls : List ModelLine) → IsOf self.now ls → length (by_weight ls) < 2 ^ 64
-            → result ≡ length (by_weight ls) }
+        ensures { (fs : List ModelFinding) → IsOf self.now fs → length (by_weight fs) < 2 ^ 64
+            → result ≡ length (by_weight fs) }
     {
         wide(self.bytes.count)
             + wide(self.objects.count)
             + wide(self.records.count)
             + wide(self.positions.count)
     }
+}
+
+/// Appends the first of these findings, up to `room`. Gives how many more there may be.
+pub(crate) fn put_first(
+    kept: &[Finding],
+    room: usize,
+    all: &mut Vec<Finding>,
+) -> Result<usize, AllocError>
+    ensures all { OnOk result (map finding_of all.new.items
+        ≡ map finding_of all.old.items ++ map finding_of (take room kept.now)) }
+    ensures room { IfOk result (λ left. left ≡ room - length kept.now) }
+{
+    let count = kept.len().min(room);
+    put_copies(&kept[..count], all)?;
+    Ok(room - count)
+}
+
+/// Appends these findings.
+fn put_copies(kept: &[Finding], all: &mut Vec<Finding>) -> Result<(), AllocError>
+    ensures { OnOk result (map finding_of all.new.items
+        ≡ map finding_of all.old.items ++ map finding_of kept.now) }
+{
+    for finding in kept {
+        all.push(finding.try_clone()?)?;
+    }
+    Ok(())
 }
 
 /// The number as one that takes the sum of a few.

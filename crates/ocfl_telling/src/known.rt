@@ -159,13 +159,13 @@ fn is_named(entry: &KnownEntry, line: &Line) -> bool
     is_code(entry.line.code, line.code) && is_reached(entry.reach, &entry.line, line)
 }
 
-fn is_code(code: Code, other: Code) -> bool
+pub(crate) fn is_code(code: Code, other: Code) -> bool
     ensures { result ≡ code_eq code other }
 {
     is_bytes(code.text().as_bytes(), other.text().as_bytes())
 }
 
-fn is_place(place: &Place, other: &Place) -> bool
+pub(crate) fn is_place(place: &Place, other: &Place) -> bool
     ensures { result ≡ place_eq place.now other.now }
 {
     place.cmp(other).is_eq()

@@ -2,13 +2,14 @@
 ghost use Rattle.std.specs.Prelude.{◌≡◌, List, length};
 ghost use Rattle.ocfl_report.specs.Line.{Line as ModelLine};
 ghost use Rattle.std.specs.List.Sorted.{IsPermutation};
-ghost use Rattle.ocfl_telling.specs.{Known.{is_known}, Gravest.{findings, by_weight}};
+ghost use Rattle.ocfl_telling.specs.{Finding.{Finding as ModelFinding}, Known.{is_known}};
+ghost use Rattle.ocfl_telling.specs.Gravest.{findings, by_weight};
 ghost use Rattle.ocfl_telling.specs.declared.known.KnownEntry.{KnownEntry as ModelEntry};
 
 /// No finding is lost when they are ordered by weight.
 #[tactic(auto, using(crate::proofs::Weights::all_weighed))]
 pub fn all_findings_are_ordered()
-    ensures { (ls : List ModelLine) → length (by_weight ls) ≡ length (findings ls) }
+    ensures { (fs : List ModelFinding) → length (by_weight fs) ≡ length (findings fs) }
 {}
 
 /// Which findings a list names does not depend on the order of its entries.

@@ -1,4 +1,4 @@
-//! What a night says and logs: the gravest of the findings that were not said before, why a night
+//! What a night says and logs: the most serious of the findings that were not said before, by object, why a night
 //! was refused or stopped, what a closed cycle found, and a line of the log for each.
 //!
 //! Texts are made in memory, since each has at most a few dozen lines, and
@@ -6,20 +6,28 @@
 //! in a command that can be pasted they are quoted for a shell.
 #![tactic(auto)]
 
+mod appending;
 mod closing;
+mod command;
+mod finding;
 mod found;
 mod gravest;
+mod grouped;
 mod known;
 pub mod laws;
 mod list;
 mod log;
+mod many;
 mod night;
 mod quoted;
 mod refusal;
 mod shown;
 mod stop;
+mod tally;
+mod wording;
 
 pub use closing::{Closing, Gone, GoneKind, closing_text};
+pub use finding::{Finding, Heads};
 pub use found::Found;
 pub use gravest::{Gravest, Kept, SHOWN};
 pub use known::{Known, KnownEntry, Reach};
@@ -32,3 +40,4 @@ pub use quoted::Quoted;
 pub use refusal::{RefusalMessage, refusal_text};
 pub use shown::Shown;
 pub use stop::{StopMessage, stop_text};
+pub use tally::{Counts, Tally};

@@ -1,15 +1,14 @@
 //! The message after a night: the findings that were not said before.
-ghost use Rattle.std.specs.Prelude.{◌≡◌, ◌++◌, ◌-◌, ◌^◌, ◌<◌, ◌==◌, List, [], Some, length, map, take, option_map, OnOk, IfOk, IsOkAnd, string_bytes};
-ghost use Rattle.std.specs.List.{list_any};
-ghost use Rattle.ocfl_report.specs.{Line.{Line as ModelLine, line_of}, Text.{lines_text}};
-ghost use Rattle.ocfl_telling.specs.Gravest.{IsOf, by_weight, gravest, most_shown};
-ghost use Rattle.ocfl_telling.specs.Night.{whose_text, runs_text, head_text, more_text, look_text, look_at_text, dashes_text, path_text, is_plain as is_plain_text, first_place, or_place, between_text, some_more_text, part_text, findings_text, night_text as text_of_night};
+ghost use Rattle.std.specs.Prelude.{◌≡◌, ◌++◌, ◌^◌, ◌<◌, List, [], length, OnOk, IfOk, string_bytes};
+ghost use Rattle.ocfl_telling.specs.{Finding.{Finding as ModelFinding}, Gravest.{IsOf, by_weight, gravest}};
+ghost use Rattle.ocfl_telling.specs.Grouped.{groups_text};
+ghost use Rattle.ocfl_telling.specs.Night.{whose_text, runs_text, head_text, more_text, between_text, some_more_text, part_text, findings_text, night_text as text_of_night};
 
+use crate::appending::put_made;
 use crate::gravest::{Gravest, SHOWN};
-use crate::quoted::{Quoted, has_control};
+use crate::grouped::put_groups;
+use crate::many::many_wide;
 use crate::shown::Shown;
-use ocfl_report::{DisplayPlace, Line};
-use ocfl_tree::Place;
 use std::alloc::{AllocError, Global};
 
 /// What a message says of its night.
@@ -69,8 +68,9 @@ fn head(alloc: Global, night: &Night<'_>, count: u128) -> Result<String, AllocEr
 {
     let whose = whose(alloc, night.part, night.root)?;
     let runs = runs(alloc, night.first, night.last)?;
+    let found = many_wide(alloc, count, "finding", "findings")?;
     let cycle = night.cycle;
-    format!(in alloc; "{count} finding(s) tonight in {whose}, cycle {cycle}, {runs}:\n")
+    format!(in alloc; "{found} tonight in {whose}, cycle {cycle}, {runs}:\n")
 }
 
 /// How many findings are not shown, and where they are.
@@ -90,142 +90,30 @@ fn some_more(alloc: Global, report: &str, left: u128) -> Result<String, AllocErr
     format!(in alloc; "and {left} more, in {}\n", Shown(report))
 }
 
-/// How to look at a finding again: a command for the first place, if there is one and the command
-/// can be pasted.
-fn look(alloc: Global, root: &str, first: Option<&Place>) -> Result<String, AllocError>
-    ensures { IfOk result
-        (λ text. string_bytes text ≡ look_text root.now (option_map (λ p. p.now) first.entry)) }
-{
-    match first {
-        Some(place) => look_at_place(alloc, root, place),
-        None => Ok(String::new(alloc)),
-    }
-}
-
-fn look_at_place(alloc: Global, root: &str, place: &Place) -> Result<String, AllocError>
-    ensures { IfOk result (λ text. string_bytes text ≡ look_text root.now (Some place.now)) }
-{
-    if has_control(root) {
-        return Ok(String::new(alloc));
-    }
-    let path = path_of(alloc, place)?;
-    look_at(alloc, root, path.as_str())
-}
-
-/// How to look at this path of a storage root again.
-fn look_at(alloc: Global, root: &str, path: &str) -> Result<String, AllocError>
-    ensures { IfOk result (λ text. string_bytes text ≡ look_at_text root.now path.now) }
-{
-    let dashes = dashes(path);
-    let (root, path) = (Quoted(root), Quoted(path));
-    format!(in alloc;
-        "To check one of them again, for example the first: ocfl-scrub check {dashes}{root} {path}\n"
-    )
-}
-
-/// What keeps a path from being read as an option.
-fn dashes(path: &str) -> &'static str
-    ensures { result.now ≡ dashes_text path.now }
-{
-    match path.as_bytes().first() {
-        Some(b'-') => "-- ",
-        _ => "",
-    }
-}
-
-/// The path of a place as `ocfl-scrub check` takes it: as it is if that is plain, else as reports
-/// write it.
-fn path_of(alloc: Global, place: &Place) -> Result<String, AllocError>
-    ensures { IfOk result (λ text. string_bytes text ≡ path_text place.now) }
-{
-    let path = place.path();
-    if is_plain(path) {
-        return String::from_str(alloc, path);
-    }
-    format!(in alloc; "{}", DisplayPlace(place))
-}
-
-/// Whether a terminal shows a path as it is, and it is no path of a report of another place.
-fn is_plain(path: &str) -> bool
-    ensures { result ≡ is_plain_text path.now }
-{
-    !path.is_empty() && !has_control(path) && !has_percent(path)
-}
-
-fn has_percent(path: &str) -> bool
-    ensures { result ≡ list_any (λ c. c == 37) path.now }
-{
-    path.as_bytes().iter().any(|byte| *byte == b'%')
-}
-
-/// The place of the first of these lines, or the other one without any.
-fn first_of<'a>(lines: &'a [Line], other: Option<&'a Place>) -> Option<&'a Place>
-    ensures { option_map (λ p. p.now) result
-        ≡ or_place (first_place (map line_of lines.now)) (option_map (λ p. p.now) other.entry) }
-{
-    match lines.first() {
-        Some(line) => Some(&line.place),
-        None => other,
-    }
-}
-
-/// The place of the gravest finding.
-#[tactic(auto, using(crate::proofs::Firsts::first_shown))]
-fn first_found(found: &Gravest) -> Option<&Place>
-    ensures { (ls : List ModelLine) → IsOf found.now ls
-        → option_map (λ p. p.now) result ≡ first_place (gravest ls) }
-{
-    let first = first_of(&found.positions.lines, None);
-    let first = first_of(&found.records.lines, first);
-    let first = first_of(&found.objects.lines, first);
-    first_of(&found.bytes.lines, first)
-}
-
-/// Appends the text of the first of these lines, up to `room`. Gives how many more there may be.
-pub(crate) fn put_first(
-    lines: &[Line],
-    room: usize,
+/// Appends the most serious findings, by object.
+pub(crate) fn put_gravest(
+    alloc: Global,
+    root: &str,
+    found: &Gravest,
     text: &mut Vec<u8>,
-) -> Result<usize, AllocError>
-    ensures text { OnOk result (text.new.items
-        ≡ text.old.items ++ lines_text (map line_of (take room lines.now))) }
-    ensures room { IfOk result (λ left. left ≡ room - length lines.now) }
+) -> Result<(), AllocError>
+    ensures { OnOk result ((fs : List ModelFinding) → IsOf found.now fs
+        → text.new.items ≡ text.old.items ++ groups_text root.now (gravest fs)) }
 {
-    let count = lines.len().min(room);
-    put_all(&lines[..count], text)?;
-    Ok(room - count)
+    let shown = found.shown(alloc)?;
+    put_groups(alloc, root, shown.as_slice(), text)
 }
 
-/// Appends the text of these lines.
-fn put_all(lines: &[Line], text: &mut Vec<u8>) -> Result<(), AllocError>
-    ensures { OnOk result
-        (text.new.items ≡ text.old.items ++ lines_text (map line_of lines.now)) }
-{
-    for line in lines {
-        line.put(text)?;
-    }
-    Ok(())
-}
-
-/// Appends the gravest findings.
-pub(crate) fn put_gravest(found: &Gravest, text: &mut Vec<u8>) -> Result<(), AllocError>
-    ensures { OnOk result ((ls : List ModelLine) → IsOf found.now ls
-        → text.new.items ≡ text.old.items ++ lines_text (gravest ls)) }
-{
-    let room = put_first(&found.bytes.lines, SHOWN, text)?;
-    let room = put_first(&found.objects.lines, room, text)?;
-    let room = put_first(&found.records.lines, room, text)?;
-    put_first(&found.positions.lines, room, text)?;
-    Ok(())
-}
-
-/// The message of a night: how many findings there are, the 20 gravest of them as the report has
-/// them, how many more, and a command to paste that looks at the first again. Nothing if there is no
-/// finding. The command is left out if the path of the storage root has a control character.
+/// The message of a night: how many findings there are, the 20 most serious of them, and how many
+/// more. Those of an object come together: after its path each of them in words, with its code and
+/// its path below the object, at most three of a code and the number of the rest; then what to do
+/// first about the first of them, and a command to paste that looks at it again. What is in no
+/// object that is known comes together by its code. Nothing if there is no finding. The commands
+/// are left out if the path of the storage root has a control character.
 pub fn night_text(alloc: Global, night: &Night<'_>, found: &Gravest) -> Result<Vec<u8>, AllocError>
-    // Whichever lines were taken: of fewer than 2^64 findings.
-    ensures { IfOk result (λ text. (ls : List ModelLine) → IsOf found.now ls
-        → length (by_weight ls) < 2 ^ 64 → text.items ≡ text_of_night night.now ls) }
+    // Whichever findings were taken, of fewer than 2^64.
+    ensures { IfOk result (λ text. (fs : List ModelFinding) → IsOf found.now fs
+        → length (by_weight fs) < 2 ^ 64 → text.items ≡ text_of_night night.now fs) }
 {
     let count = found.count();
     let mut text = Vec::new(alloc);
@@ -245,23 +133,11 @@ fn put_findings(
     text: &mut Vec<u8>,
 ) -> Result<(), AllocError>
     requires { text.now.items ≡ [] }
-    ensures { OnOk result ((ls : List ModelLine) → IsOf found.now ls
-        → text.new.items ≡ findings_text night.now count (gravest ls)) }
+    ensures { OnOk result ((fs : List ModelFinding) → IsOf found.now fs
+        → text.new.items ≡ findings_text night.now count (gravest fs)) }
 {
     put_made(head(alloc, night, count), text)?;
-    put_gravest(found, text)?;
+    put_gravest(alloc, night.root, found, text)?;
     let left = count.saturating_sub(SHOWN as u128);
-    put_made(more(alloc, night.report, left), text)?;
-    put_made(look(alloc, night.root, first_found(found)), text)
-}
-
-/// Appends a text, once it is made.
-pub(crate) fn put_made(
-    made: Result<String, AllocError>,
-    text: &mut Vec<u8>,
-) -> Result<(), AllocError>
-    ensures { OnOk result
-        (IsOkAnd made (λ s. text.new.items ≡ text.old.items ++ string_bytes s)) }
-{
-    text.extend_from_slice(made?.as_bytes())
+    put_made(more(alloc, night.report, left), text)
 }

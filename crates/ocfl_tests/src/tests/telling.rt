@@ -1,11 +1,13 @@
 //! What a night says and logs.
+mod closing;
+
 use crate::tests::common::Runtime;
 use crate::tests::common::store::place_of;
 use ocfl_report::{Line, TextStop, read_line};
 use ocfl_telling::{
-    BeganRow, Closing, ClosingRow, Found, Gone, GoneKind, Gravest, Known, KnownEntry, KnownStop,
-    LeftRow, LogRow, Night, NightRow, Quoted, Reach, RefusalMessage, RefusalRow, SliceRow, Stands,
-    StopMessage, closing_text, log_line, night_text, read_known, refusal_text, stop_text,
+    BeganRow, Closing, ClosingRow, Found, Gravest, Known, KnownEntry, KnownStop, LeftRow, LogRow,
+    Night, NightRow, Quoted, Reach, RefusalMessage, RefusalRow, SliceRow, Stands, StopMessage,
+    log_line, night_text, read_known, refusal_text, stop_text,
 };
 use ocfl_tree::Place;
 use std::alloc::Global;
@@ -35,11 +37,17 @@ const NIGHT: Night<'static> = Night {
 const REPORT: &str = "ok\t.\t-\nE072\ta\t-\nE092\tb/v1/content/f\tsha512 00 11\nS07\tb\tx\n\
 E060\tc\tsha512\nE092\td\tmd5 missing\n";
 
-const MESSAGE: &str = "4 finding(s) tonight in /srv/%C3%A9%0A, cycle 2, runs 3 to 4:
-E092\tb/v1/content/f\tsha512 00 11
-E092\td\tmd5 missing
-E060\tc\tsha512
-E072\ta\t-
+const MESSAGE: &str = "4 findings tonight in /srv/%C3%A9%0A, cycle 2, runs 3 to 4:
+Elsewhere, E092:
+\tb/v1/content/f: bytes have changed (E092), expected sha512 00, found 11
+\td: missing (E092)
+\tTo do: restore the file from a copy with the expected digest
+Object c:
+\tits inventory and the sidecar differ (E060)
+\tTo do: look for the expected digest among the inventories of its version folders
+Elsewhere, E072:
+\ta: a file outside of any object (E072)
+\tTo do: see whether the files are those of an object, and restore its declaration
 ";
 
 #[test]
@@ -51,6 +59,48 @@ fn nights_say_what_is_gravest_first(rt: HostRuntime) -> Result<(), Fail> {
         assert_eq!(rt; found.count(), 4, "{piece}");
         let text = String::from_utf8(night_text(alloc, &NIGHT, &found)?)?;
         assert_eq!(rt; text.as_str(), MESSAGE, "{piece}");
+    }
+    Ok(())
+}
+
+const OBJECTS: &str = "ok\t.\t-\nok\to\t-\nE023\to/v1/content/a\t-\n\
+E092\to/v1/content/b%25\tsha256 0123456789abcdef 0123456789ab\nok\to-\t-\n\
+E092\to-/v1/content/a\tsha512 missing\nE023\to-/v1/content/b\t-\nE023\to-/v1/content/c\t-\n\
+E023\to-/v1/content/d\t-\nE023\to-/v1/content/e\t-\nE023\to-/v1/content/f\t-\n\
+E101\tp\ta%0Ab\nok\tp/v1/content/a\t5\n";
+
+const BY_OBJECT: &str = "9 findings tonight in /srv, cycle 2, run 4:
+Object o:
+\tv1/content/b%25: bytes have changed (E092), expected sha256 0123456789ab.., found 0123456789ab
+\tv1/content/a: not in the inventory (E023)
+\tTo do: restore the file from a copy with the expected digest, then: \
+ocfl-scrub check '/srv' 'o/v1/content/b%25'
+Object o-:
+\tv1/content/a: missing (E092)
+\tv1/content/b: not in the inventory (E023)
+\tv1/content/c: not in the inventory (E023)
+\tv1/content/d: not in the inventory (E023)
+\tand 2 more: not in the inventory (E023)
+\tTo do: restore the file from a copy with the expected digest, then: \
+ocfl-scrub check '/srv' 'o-/v1/content/a'
+Object p:
+\tits manifest has a path twice, or one below a file (E101): a%0Ab
+\tTo do: validate the object, and tell whoever wrote its inventory, then: \
+ocfl-scrub check '/srv' 'p'
+";
+
+#[test]
+fn findings_of_an_object_come_together(rt: HostRuntime) -> Result<(), Fail> {
+    let alloc = rt.alloc();
+    let night = Night {
+        root: "/srv",
+        first: 4,
+        ..NIGHT
+    };
+    for piece in [1, 7, 1000] {
+        let found = found_in(alloc, &Known::new(alloc), OBJECTS, piece)?;
+        let text = String::from_utf8(night_text(alloc, &night, &found)?)?;
+        assert_eq!(rt; text.as_str(), BY_OBJECT, "{piece}");
     }
     Ok(())
 }
@@ -91,7 +141,8 @@ fn nights_show_a_command_to_paste(rt: HostRuntime) -> Result<(), Fail> {
         let night = Night { root, ..NIGHT };
         let text = String::from_utf8(night_text(alloc, &night, &found)?)?;
         let wanted = format!(in alloc;
-            "\nTo check one of them again, for example the first: ocfl-scrub check {words}\n"
+            "\n\tTo do: see whether the files are those of an object, and restore its declaration, \
+             then: ocfl-scrub check {words}\n"
         )?;
         assert!(rt; text.as_str().ends_with(wanted.as_str()), "{path}");
     }
@@ -126,6 +177,14 @@ fn many(alloc: Global, code: &str, count: usize) -> Result<String, Fail> {
     Ok(text)
 }
 
+const TWENTY: &str = "Elsewhere, E072:
+\tp000: a file outside of any object (E072)
+\tp001: a file outside of any object (E072)
+\tp002: a file outside of any object (E072)
+\tand 17 more: a file outside of any object (E072)
+\tTo do: see whether the files are those of an object, and restore its declaration
+";
+
 #[test]
 fn nights_show_twenty(rt: HostRuntime) -> Result<(), Fail> {
     let alloc = rt.alloc();
@@ -139,36 +198,43 @@ fn nights_show_twenty(rt: HostRuntime) -> Result<(), Fail> {
         let report = many(alloc, "E072", count)?;
         let found = found_in(alloc, &known, report.as_str(), 1000)?;
         let text = String::from_utf8(night_text(alloc, &part, &found)?)?;
-        let shown = many(alloc, "E072", 20)?;
         let wanted = format!(in alloc;
-            "{count} finding(s) tonight in part 7 of /srv/%C3%A9%0A, cycle 2, run 4:\n{shown}{more}"
+            "{count} findings tonight in part 7 of /srv/%C3%A9%0A, cycle 2, run 4:\n{TWENTY}{more}"
         )?;
         assert_eq!(rt; text.as_str(), wanted.as_str(), "{count}");
     }
     Ok(())
 }
 
+/// What is shown of 18 files in the wrong place, 15 without an entry, and one that cannot be read.
+const GRAVER: &str = "34 findings tonight in /srv/%C3%A9%0A, cycle 2, runs 3 to 4:
+Elsewhere, S08:
+\tp000: could not be read (S08)
+\tTo do: look at its permissions and at the kernel's log, then check it again
+Elsewhere, E023:
+\tp000: not in the inventory (E023)
+\tp001: not in the inventory (E023)
+\tp002: not in the inventory (E023)
+\tand 12 more: not in the inventory (E023)
+\tTo do: see whether a version is being written; if not, find out whose it is and move it away
+Elsewhere, E072:
+\tp000: a file outside of any object (E072)
+\tp001: a file outside of any object (E072)
+\tp002: a file outside of any object (E072)
+\tand 1 more: a file outside of any object (E072)
+\tTo do: see whether the files are those of an object, and restore its declaration
+and 14 more, in /state/report
+";
+
 #[test]
 fn graver_findings_take_the_room(rt: HostRuntime) -> Result<(), Fail> {
     let alloc = rt.alloc();
-    let mut report = many(alloc, "E072", 15)?;
+    let mut report = many(alloc, "E072", 18)?;
     report.push_str(many(alloc, "E023", 15)?.as_str())?;
-    report.push_str(many(alloc, "E060", 3)?.as_str())?;
     report.push_str(many(alloc, "S08", 1)?.as_str())?;
     let found = found_in(alloc, &Known::new(alloc), report.as_str(), 1000)?;
     let text = String::from_utf8(night_text(alloc, &NIGHT, &found)?)?;
-    let mut codes = String::new(alloc);
-    for line in text.as_str().lines() {
-        if let Some((code, _)) = line.split_once('\t') {
-            codes.push_str(code)?;
-            codes.push(' ')?;
-        }
-    }
-    let wanted =
-        "S08 E060 E060 E060 E023 E023 E023 E023 E023 E023 E023 E023 E023 E023 E023 E023 E023 \
-                  E023 E023 E072 ";
-    assert_eq!(rt; codes.as_str(), wanted);
-    assert!(rt; text.as_str().contains("and 14 more, in /state/report\n"));
+    assert_eq!(rt; text.as_str(), GRAVER);
     Ok(())
 }
 
@@ -388,143 +454,6 @@ fn stops_say_why(rt: HostRuntime) -> Result<(), Fail> {
     Ok(())
 }
 
-/// A closing of which there is nothing to say, with these findings that were not said.
-fn quiet<'a>(appeared: &'a Gravest) -> Closing<'a> {
-    Closing {
-        cycle: 3,
-        before: 2,
-        uncompared: "",
-        whole: true,
-        report: "reports/cycle-000003",
-        earlier: "reports/cycle-000002",
-        list: "reports/gone-000003",
-        appeared,
-        appeared_count: 0,
-        said: 0,
-        repaired: &[],
-        repaired_count: 0,
-        back: &[],
-        back_count: 0,
-        gone: &[],
-        gone_count: 0,
-        unlooked: 0,
-    }
-}
-
-const CLOSED: &str = "Cycle 3 ended, but its report is incomplete: reports/cycle-000003
-25 finding(s) of cycle 3 are new since cycle 2, 3 of them above:
-E092\tb\tx
-E072\ta\t-
-and 20 more, in reports/cycle-000003
-22 finding(s) of cycle 2 are repaired in cycle 3:
-E072\tb\t-
-and 21 more, in reports/cycle-000002
-2 object(s) are back in cycle 3:
-object\ts
-and 1 more, in reports/cycle-000003
-4 object(s) and file(s) are gone or missing in cycle 3:
-object\to
-undeclared\tp
-file\tq/v1/content/f
-expected\tr
-5 file(s) of objects that are gone, or whose inventory cannot be used, are not looked at any more.
-";
-
-#[test]
-fn closings_say_what_changed(rt: HostRuntime) -> Result<(), Fail> {
-    let alloc = rt.alloc();
-    let mut new = Gravest::new(alloc);
-    assert!(rt; closing_text(alloc, &quiet(&new))?.is_empty());
-    new.add(line_of(alloc, "E072\ta\t-\n")?)?;
-    new.add(line_of(alloc, "E092\tb\tx\n")?)?;
-    let mut back = Vec::new(alloc);
-    back.push(place_of(alloc, "s")?)?;
-    let mut repaired = Vec::new(alloc);
-    repaired.push(line_of(alloc, "E072\tb\t-\n")?)?;
-    let mut gone = Vec::new(alloc);
-    for (kind, path) in [
-        (GoneKind::Object, "o"),
-        (GoneKind::Undeclared, "p"),
-        (GoneKind::File, "q/v1/content/f"),
-        (GoneKind::Expected, "r"),
-    ] {
-        let place = place_of(alloc, path)?;
-        gone.push(Gone { kind, place })?;
-    }
-    let closing = Closing {
-        whole: false,
-        appeared_count: 25,
-        said: 3,
-        repaired: repaired.as_slice(),
-        repaired_count: 22,
-        back: back.as_slice(),
-        back_count: 2,
-        gone: gone.as_slice(),
-        gone_count: 4,
-        unlooked: 5,
-        ..quiet(&new)
-    };
-    let text = String::from_utf8(closing_text(alloc, &closing)?)?;
-    assert_eq!(rt; text.as_str(), CLOSED);
-    Ok(())
-}
-
-/// How many findings are new, how many of them the night said, and what is said of them then.
-const ABOVE: [(u64, u64, &str); 4] = [
-    (0, 0, ""),
-    (
-        1,
-        0,
-        "1 finding(s) of cycle 3 are new since cycle 2:\nE092\ta\tx\n",
-    ),
-    (
-        2,
-        1,
-        "2 finding(s) of cycle 3 are new since cycle 2, 1 of them above:\nE092\ta\tx\n",
-    ),
-    (
-        2,
-        2,
-        "2 finding(s) of cycle 3 are new since cycle 2, 2 of them above.\n",
-    ),
-];
-
-#[test]
-fn closings_say_no_line_twice(rt: HostRuntime) -> Result<(), Fail> {
-    let alloc = rt.alloc();
-    let mut new = Gravest::new(alloc);
-    new.add(line_of(alloc, "E092\ta\tx\n")?)?;
-    for (appeared_count, said, wanted) in ABOVE {
-        let closing = Closing {
-            appeared_count,
-            said,
-            ..quiet(&new)
-        };
-        let text = String::from_utf8(closing_text(alloc, &closing)?)?;
-        assert_eq!(rt; text.as_str(), wanted);
-    }
-    Ok(())
-}
-
-#[test]
-fn closings_say_why_nothing_was_compared(rt: HostRuntime) -> Result<(), Fail> {
-    let alloc = rt.alloc();
-    let none = Gravest::new(alloc);
-    let closing = Closing {
-        whole: false,
-        uncompared: "/s/reports/cycle-000002\nis gone",
-        ..quiet(&none)
-    };
-    let text = String::from_utf8(closing_text(alloc, &closing)?)?;
-    assert_eq!(rt;
-        text.as_str(),
-        "Cycle 3 ended, but its report is incomplete: reports/cycle-000003\nWhat is new or gone \
-         since the last report is not known: /s/reports/cycle-000002%0Ais gone\n"
-    );
-    Ok(())
-}
-
-/// A night that goes on after this place.
 fn began_row(place: &Place) -> LogRow<'_> {
     LogRow::Began(BeganRow {
         time: 2,

@@ -29,4 +29,4 @@ returns-clause-ok c = λ b h.
     let inv = c.loop-part.invariant in
     subst (IsAfter c.args.known.now _) (rest_joined b inv.done c.args.bytes.now c.loop-part.left.now inv.cut)
     (rest_kept c.args.known.now c.loop-part.found _ (b ++ inv.done) c.loop-part.left.now (inv.after b h) (c.in_default.ensures.missing refl)
-    c.in_ok-extend_from_slice.ensures.items refl)
+    c.in_ok-extend_from_slice.ensures.items refl refl)

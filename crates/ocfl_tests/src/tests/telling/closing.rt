@@ -1,0 +1,257 @@
+//! What is said of a closed cycle.
+use crate::tests::common::store::place_of;
+use crate::tests::telling::line_of;
+use ocfl_telling::{Closing, Counts, Finding, Gone, GoneKind, Gravest, Tally, closing_text};
+use std::alloc::Global;
+use std::test::Fail;
+
+/// A finding in no object that is known.
+fn finding_of(alloc: Global, text: &str) -> Result<Finding, Fail> {
+    let line = line_of(alloc, text)?;
+    Ok(Finding { line, object: None })
+}
+
+/// A closing of which there is nothing to say, with these findings that were not said.
+fn quiet<'a>(appeared: &'a Gravest) -> Closing<'a> {
+    Closing {
+        root: "/srv",
+        counts: None,
+        cycle: 3,
+        before: 2,
+        uncompared: "",
+        whole: true,
+        report: "reports/cycle-000003",
+        earlier: "reports/cycle-000002",
+        list: "reports/gone-000003",
+        appeared,
+        appeared_count: 0,
+        said: 0,
+        repaired: &[],
+        repaired_count: 0,
+        back: &[],
+        back_count: 0,
+        gone: &[],
+        gone_count: 0,
+        unlooked: 0,
+    }
+}
+
+const CLOSED: &str = "Cycle 3 ended, but its report is incomplete: reports/cycle-000003
+In it: 926 of 930 files right, 160 objects, 51.2 MB; 25 new findings, 4 objects and files gone \
+since cycle 2.
+4 objects and files are gone or missing in cycle 3:
+object\to
+undeclared\tp
+file\tq/v1/content/f
+expected\tr
+5 files of objects that are gone, or whose inventory cannot be used, are not looked at any more.
+25 findings of cycle 3 are new since cycle 2, 3 of them above:
+Elsewhere, E092:
+\tb: bytes have changed (E092)
+\tTo do: restore the file from a copy with the expected digest, then: ocfl-scrub check '/srv' 'b'
+Elsewhere, E072:
+\ta: a file outside of any object (E072)
+\tTo do: see whether the files are those of an object, and restore its declaration, then: \
+ocfl-scrub check '/srv' 'a'
+and 20 more, in reports/cycle-000003
+22 findings of cycle 2 are repaired in cycle 3:
+\tb: a file outside of any object (E072)
+and 21 more, in reports/cycle-000002
+2 objects are back in cycle 3:
+object\ts
+and 1 more, in reports/cycle-000003
+";
+
+#[test]
+fn closings_say_what_changed(rt: HostRuntime) -> Result<(), Fail> {
+    let alloc = rt.alloc();
+    let mut new = Gravest::new(alloc);
+    assert!(rt; closing_text(alloc, &quiet(&new))?.is_empty());
+    new.add(finding_of(alloc, "E072\ta\t-\n")?)?;
+    new.add(finding_of(alloc, "E092\tb\tx\n")?)?;
+    let mut back = Vec::new(alloc);
+    back.push(place_of(alloc, "s")?)?;
+    let mut repaired = Vec::new(alloc);
+    repaired.push(line_of(alloc, "E072\tb\t-\n")?)?;
+    let mut gone = Vec::new(alloc);
+    for (kind, path) in [
+        (GoneKind::Object, "o"),
+        (GoneKind::Undeclared, "p"),
+        (GoneKind::File, "q/v1/content/f"),
+        (GoneKind::Expected, "r"),
+    ] {
+        let place = place_of(alloc, path)?;
+        gone.push(Gone { kind, place })?;
+    }
+    let closing = Closing {
+        whole: false,
+        counts: Some(COUNTS),
+        appeared_count: 25,
+        said: 3,
+        repaired: repaired.as_slice(),
+        repaired_count: 22,
+        back: back.as_slice(),
+        back_count: 2,
+        gone: gone.as_slice(),
+        gone_count: 4,
+        unlooked: 5,
+        ..quiet(&new)
+    };
+    let text = String::from_utf8(closing_text(alloc, &closing)?)?;
+    assert_eq!(rt; text.as_str(), CLOSED);
+    Ok(())
+}
+
+const COUNTS: Counts = Counts {
+    right: 926,
+    files: 930,
+    objects: 160,
+    bytes: 51_299_999,
+};
+
+/// The cycle before, why nothing was compared, and what is said at the end of the cycle.
+const ENDED: [(u64, &str, &str); 3] = [
+    (2, "", "nothing new, nothing gone since cycle 2"),
+    (0, "", "nothing to compare with"),
+    (0, "lines were lost", "not compared"),
+];
+
+#[test]
+fn closings_say_that_all_is_well(rt: HostRuntime) -> Result<(), Fail> {
+    let alloc = rt.alloc();
+    let none = Gravest::new(alloc);
+    for (before, uncompared, wanted) in ENDED {
+        let closing = Closing {
+            counts: Some(COUNTS),
+            before,
+            uncompared,
+            ..quiet(&none)
+        };
+        let text = String::from_utf8(closing_text(alloc, &closing)?)?;
+        let wanted = format!(in alloc;
+            "Cycle 3 ended: 926 of 930 files right, 160 objects, 51.2 MB; {wanted}.\n"
+        )?;
+        assert!(rt; text.as_str().starts_with(wanted.as_str()), "{uncompared}");
+    }
+    Ok(())
+}
+
+/// Numbers of bytes, and as they are said.
+const SIZES: [(u64, &str); 6] = [
+    (0, "0 bytes"),
+    (1, "1 byte"),
+    (999, "999 bytes"),
+    (1_000, "1.0 kB"),
+    (1_999_999_999, "1.9 GB"),
+    (12_345_000_000_000, "12.3 TB"),
+];
+
+#[test]
+fn sizes_are_said_in_units(rt: HostRuntime) -> Result<(), Fail> {
+    let alloc = rt.alloc();
+    let none = Gravest::new(alloc);
+    for (bytes, wanted) in SIZES {
+        let closing = Closing {
+            counts: Some(Counts {
+                right: 1,
+                files: 1,
+                objects: 1,
+                bytes,
+            }),
+            ..quiet(&none)
+        };
+        let text = String::from_utf8(closing_text(alloc, &closing)?)?;
+        let wanted = format!(in alloc;
+            "Cycle 3 ended: 1 of 1 file right, 1 object, {wanted}; nothing new"
+        )?;
+        assert!(rt; text.as_str().starts_with(wanted.as_str()), "{bytes}");
+    }
+    Ok(())
+}
+
+#[test]
+fn lines_are_counted(rt: HostRuntime) -> Result<(), Fail> {
+    let alloc = rt.alloc();
+    let mut tally = Tally::new();
+    for text in [
+        "ok\t.\t-\n",
+        "E072\ta\t-\n",
+        "ok\to\t-\n",
+        "S07\to\tx\n",
+        "ok\to/v1/content/a\t7\n",
+        "E092\to/v1/content/b\tsha512 00 11\n",
+        "E093\to/v1/content/b\tmd5 00 11\n",
+        "E023\to/v1/content/c\t-\n",
+        "E060\tp\tsha512\n",
+        "ok\tp/v1/content/a\t0\n",
+    ] {
+        tally.add(&line_of(alloc, text)?)?;
+    }
+    let counts = Counts {
+        right: 2,
+        files: 4,
+        objects: 2,
+        bytes: 7,
+    };
+    assert_eq!(rt; tally.counts(), counts);
+    Ok(())
+}
+
+/// How many findings are new, how many of them the night said, and what is said of them then.
+const ABOVE: [(u64, u64, &str); 4] = [
+    (0, 0, ""),
+    (
+        1,
+        0,
+        "1 finding of cycle 3 is new since cycle 2:\nElsewhere, E092:\n\ta: bytes have changed \
+         (E092)\n\tTo do: restore the file from a copy with the expected digest, then: ocfl-scrub \
+         check '/srv' 'a'\n",
+    ),
+    (
+        2,
+        1,
+        "2 findings of cycle 3 are new since cycle 2, 1 of them above:\nElsewhere, E092:\n\ta: \
+         bytes have changed (E092)\n\tTo do: restore the file from a copy with the expected \
+         digest, then: ocfl-scrub check '/srv' 'a'\n",
+    ),
+    (
+        2,
+        2,
+        "2 findings of cycle 3 are new since cycle 2, 2 of them above.\n",
+    ),
+];
+
+#[test]
+fn closings_say_no_line_twice(rt: HostRuntime) -> Result<(), Fail> {
+    let alloc = rt.alloc();
+    let mut new = Gravest::new(alloc);
+    new.add(finding_of(alloc, "E092\ta\tx\n")?)?;
+    for (appeared_count, said, wanted) in ABOVE {
+        let closing = Closing {
+            appeared_count,
+            said,
+            ..quiet(&new)
+        };
+        let text = String::from_utf8(closing_text(alloc, &closing)?)?;
+        assert_eq!(rt; text.as_str(), wanted);
+    }
+    Ok(())
+}
+
+#[test]
+fn closings_say_why_nothing_was_compared(rt: HostRuntime) -> Result<(), Fail> {
+    let alloc = rt.alloc();
+    let none = Gravest::new(alloc);
+    let closing = Closing {
+        whole: false,
+        uncompared: "/s/reports/cycle-000002\nis gone",
+        ..quiet(&none)
+    };
+    let text = String::from_utf8(closing_text(alloc, &closing)?)?;
+    assert_eq!(rt;
+        text.as_str(),
+        "Cycle 3 ended, but its report is incomplete: reports/cycle-000003\nWhat is new or gone \
+         since the last report is not known: /s/reports/cycle-000002%0Ais gone\n"
+    );
+    Ok(())
+}

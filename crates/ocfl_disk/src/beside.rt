@@ -1,5 +1,6 @@
 //! The checkpoints of a state folder: reading one, and writing the next one beside it.
-ghost use Rattle.std.specs.Prelude.{◌≡◌, ◌⊎◌, ◌≤◌, ◌+◌, IsTrue, IfOk, IfErr, IfSome, OnOk, length, take};
+ghost use Rattle.std.specs.Prelude.{◌≡◌, ◌⊎◌, ◌≤◌, ◌+◌, IsTrue, IfOk, IfErr, IfSome, OnOk};
+ghost use Rattle.std.specs.Prelude.{length, take};
 ghost use Rattle.std.specs.Option.{option_map};
 ghost use Rattle.ocfl_state.specs.Calls.{most_checkpoint, bytes_of, IsLong, HasLong};
 ghost use Rattle.ocfl_state.specs.{Content.{with_checkpoint}, Crash.{IsPut}};

@@ -6,12 +6,12 @@ ghost use Rattle.ocfl_state.specs.Calls.{HasCause, HasCauseOr, ClosesRightly, Is
 ghost use Rattle.ocfl_state.specs.Calls.{HasLong, IsLong, most_checkpoint};
 ghost use Rattle.ocfl_state.specs.Content.{with_checkpoint, with_report, moved, is_closed};
 ghost use Rattle.ocfl_state.specs.Crash.{Same, IsPut, MayPut, IsMoved, MayMove, MayTear, Only};
-ghost use Rattle.ocfl_state.specs.Crash.{Follows, Passes};
+ghost use Rattle.ocfl_state.specs.Crash.{Follows};
 ghost use Rattle.ocfl_disk.specs.Reasons.{IsKept, IsTroubleOf};
 ghost use Rattle.ocfl_disk.specs.Names.{Stored, content_of};
 ghost use Rattle.ocfl_disk.specs.PowerCut.{Passes as DiskPasses};
 ghost use Rattle.ocfl_disk.specs.Disk.{HasFault, Calm, has_name};
-ghost use Rattle.ocfl_disk.specs.Leaving.{Leaves, stays, counts_now, only_now};
+ghost use Rattle.ocfl_disk.specs.Leaving.{Leaves, PassesBy, stays, counts_now, only_now};
 ghost use Rattle.ocfl_disk.specs.Internal.Contents.{OfContent, Still, FollowsContent};
 
 use crate::beside::{keep_checkpoint, read_checkpoint, replace_checkpoint};
@@ -431,10 +431,13 @@ impl<D: Disk + Drop> StateFolder for FsState<D> {
             length bytes.items ≤ most_checkpoint)) }
         ensures value { IsTrue D.told → IfOk result (λ found.
             option_map bytes_of found ≡ (content_of (D.state self.old.disk).seen).checkpoint) }
-        ensures seen { IsTrue D.told → content_of (D.state self.new.disk).seen ≡ content_of (D.state self.old.disk).seen }
-        ensures crash { IsTrue D.told → Passes ⟦<FsState<D> as StateFolder>⟧.may_leave ⟦<FsState<D> as StateFolder>⟧.moment ⟦<FsState<D> as StateFolder>⟧.left_since Same self.old self.new }
-        ensures cause { IsTrue D.told → HasCauseOr (HasLong (content_of (D.state self.old.disk).seen).checkpoint)
-            (D.state self.old.disk).faults (D.state self.new.disk).faults result }
+        ensures seen { IsTrue D.told → content_of (D.state self.new.disk).seen
+            ≡ content_of (D.state self.old.disk).seen }
+        ensures crash { IsTrue D.told → PassesBy self.old self.new (λ folder. D.state folder.disk)
+            Same }
+        ensures cause { IsTrue D.told → HasCauseOr (HasLong
+            (content_of (D.state self.old.disk).seen).checkpoint) (D.state self.old.disk).faults
+            (D.state self.new.disk).faults result }
         ensures kept { IfErr result (λ trouble. IsKept self.new.reason trouble) }
         ensures same { OnOk result (self.new.reason ≡ self.old.reason) }
     {
@@ -444,15 +447,16 @@ impl<D: Disk + Drop> StateFolder for FsState<D> {
 
     fn put_checkpoint(&mut self, bytes: &[u8]) -> Result<(), FolderTrouble>
         ensures fits { OnOk result (length bytes.now ≤ most_checkpoint) }
-        ensures put { IsTrue D.told → OnOk result
-            (content_of (D.state self.new.disk).seen ≡ with_checkpoint bytes.now (content_of (D.state self.old.disk).seen)) }
-        ensures durable { IsTrue D.told → OnOk result
-            (Follows (IsPut bytes.now) (Leaves (D.state self.old.disk).may_leave) (Leaves (D.state self.new.disk).may_leave)) }
+        ensures put { IsTrue D.told → OnOk result (content_of (D.state self.new.disk).seen
+            ≡ with_checkpoint bytes.now (content_of (D.state self.old.disk).seen)) }
+        ensures durable { IsTrue D.told → OnOk result (Follows (IsPut bytes.now) (Leaves
+            (D.state self.old.disk).may_leave) (Leaves (D.state self.new.disk).may_leave)) }
         ensures crash { IsTrue D.told
-            → Passes ⟦<FsState<D> as StateFolder>⟧.may_leave ⟦<FsState<D> as StateFolder>⟧.moment ⟦<FsState<D> as StateFolder>⟧.left_since (MayPut bytes.now) self.old self.new }
-        ensures long { IsTrue D.told → IsLong bytes.now → content_of (D.state self.new.disk).seen ≡ content_of (D.state self.old.disk).seen }
+            → PassesBy self.old self.new (λ folder. D.state folder.disk) (MayPut bytes.now) }
+        ensures long { IsTrue D.told → IsLong bytes.now → content_of (D.state self.new.disk).seen
+            ≡ content_of (D.state self.old.disk).seen }
         ensures long_crash { IsTrue D.told → IsLong bytes.now
-            → Passes ⟦<FsState<D> as StateFolder>⟧.may_leave ⟦<FsState<D> as StateFolder>⟧.moment ⟦<FsState<D> as StateFolder>⟧.left_since Same self.old self.new }
+            → PassesBy self.old self.new (λ folder. D.state folder.disk) Same }
         ensures cause { IsTrue D.told → HasCauseOr (IsLong bytes.now)
             (D.state self.old.disk).faults (D.state self.new.disk).faults result }
         ensures kept { IfErr result (λ trouble. IsKept self.new.reason trouble) }
@@ -463,10 +467,14 @@ impl<D: Disk + Drop> StateFolder for FsState<D> {
     }
 
     fn length(&mut self) -> Result<u64, FolderTrouble>
-        ensures value { IsTrue D.told → IfOk result (λ n. n ≡ length (content_of (D.state self.old.disk).seen).report) }
-        ensures seen { IsTrue D.told → content_of (D.state self.new.disk).seen ≡ content_of (D.state self.old.disk).seen }
-        ensures crash { IsTrue D.told → Passes ⟦<FsState<D> as StateFolder>⟧.may_leave ⟦<FsState<D> as StateFolder>⟧.moment ⟦<FsState<D> as StateFolder>⟧.left_since Same self.old self.new }
-        ensures cause { IsTrue D.told → HasCause (D.state self.old.disk).faults (D.state self.new.disk).faults result }
+        ensures value { IsTrue D.told → IfOk result (λ n. n ≡ length
+            (content_of (D.state self.old.disk).seen).report) }
+        ensures seen { IsTrue D.told → content_of (D.state self.new.disk).seen
+            ≡ content_of (D.state self.old.disk).seen }
+        ensures crash { IsTrue D.told → PassesBy self.old self.new (λ folder. D.state folder.disk)
+            Same }
+        ensures cause { IsTrue D.told → HasCause (D.state self.old.disk).faults
+            (D.state self.new.disk).faults result }
         ensures kept { IfErr result (λ trouble. IsKept self.new.reason trouble) }
         ensures same { OnOk result (self.new.reason ≡ self.old.reason) }
     {
@@ -476,11 +484,15 @@ impl<D: Disk + Drop> StateFolder for FsState<D> {
 
     fn read(&mut self, start: u64, buffer: &mut [u8]) -> Result<usize, FolderTrouble>
         ensures bound { IfOk result (λ count. count ≤ length buffer.new) }
-        ensures value { IsTrue D.told → IfOk result (λ count.
-            IsReadOf (content_of (D.state self.old.disk).seen).report start (take count buffer.new) (length buffer.new)) }
-        ensures seen { IsTrue D.told → content_of (D.state self.new.disk).seen ≡ content_of (D.state self.old.disk).seen }
-        ensures crash { IsTrue D.told → Passes ⟦<FsState<D> as StateFolder>⟧.may_leave ⟦<FsState<D> as StateFolder>⟧.moment ⟦<FsState<D> as StateFolder>⟧.left_since Same self.old self.new }
-        ensures cause { IsTrue D.told → HasCause (D.state self.old.disk).faults (D.state self.new.disk).faults result }
+        ensures value { IsTrue D.told → IfOk result (λ count. IsReadOf
+            (content_of (D.state self.old.disk).seen).report start (take count buffer.new) (length
+            buffer.new)) }
+        ensures seen { IsTrue D.told → content_of (D.state self.new.disk).seen
+            ≡ content_of (D.state self.old.disk).seen }
+        ensures crash { IsTrue D.told → PassesBy self.old self.new (λ folder. D.state folder.disk)
+            Same }
+        ensures cause { IsTrue D.told → HasCause (D.state self.old.disk).faults
+            (D.state self.new.disk).faults result }
         ensures kept { IfErr result (λ trouble. IsKept self.new.reason trouble) }
         ensures same { OnOk result (self.new.reason ≡ self.old.reason) }
     {
@@ -490,11 +502,13 @@ impl<D: Disk + Drop> StateFolder for FsState<D> {
 
     fn append(&mut self, bytes: &[u8]) -> Result<(), FolderTrouble>
         ensures appended { IsTrue D.told → OnOk result (content_of (D.state self.new.disk).seen
-            ≡ with_report ((content_of (D.state self.old.disk).seen).report ++ bytes.now) (content_of (D.state self.old.disk).seen)) }
-        ensures crash { IsTrue D.told → Passes ⟦<FsState<D> as StateFolder>⟧.may_leave ⟦<FsState<D> as StateFolder>⟧.moment ⟦<FsState<D> as StateFolder>⟧.left_since
-            (MayTear (length (content_of (D.state self.old.disk).seen).report)
-            (length ((content_of (D.state self.old.disk).seen).report ++ bytes.now))) self.old self.new }
-        ensures cause { IsTrue D.told → HasCause (D.state self.old.disk).faults (D.state self.new.disk).faults result }
+            ≡ with_report ((content_of (D.state self.old.disk).seen).report ++ bytes.now)
+            (content_of (D.state self.old.disk).seen)) }
+        ensures crash { IsTrue D.told → PassesBy self.old self.new (λ folder. D.state folder.disk)
+            (MayTear (length (content_of (D.state self.old.disk).seen).report) (length
+            ((content_of (D.state self.old.disk).seen).report ++ bytes.now))) }
+        ensures cause { IsTrue D.told → HasCause (D.state self.old.disk).faults
+            (D.state self.new.disk).faults result }
         ensures kept { IfErr result (λ trouble. IsKept self.new.reason trouble) }
         ensures same { OnOk result (self.new.reason ≡ self.old.reason) }
     {
@@ -504,10 +518,12 @@ impl<D: Disk + Drop> StateFolder for FsState<D> {
 
     fn cut(&mut self, most: u64) -> Result<(), FolderTrouble>
         ensures cut { IsTrue D.told → OnOk result (content_of (D.state self.new.disk).seen
-            ≡ with_report (take most (content_of (D.state self.old.disk).seen).report) (content_of (D.state self.old.disk).seen)) }
+            ≡ with_report (take most (content_of (D.state self.old.disk).seen).report)
+            (content_of (D.state self.old.disk).seen)) }
         ensures crash { IsTrue D.told
-            → Passes ⟦<FsState<D> as StateFolder>⟧.may_leave ⟦<FsState<D> as StateFolder>⟧.moment ⟦<FsState<D> as StateFolder>⟧.left_since (MayTear most 0) self.old self.new }
-        ensures cause { IsTrue D.told → HasCause (D.state self.old.disk).faults (D.state self.new.disk).faults result }
+            → PassesBy self.old self.new (λ folder. D.state folder.disk) (MayTear most 0) }
+        ensures cause { IsTrue D.told → HasCause (D.state self.old.disk).faults
+            (D.state self.new.disk).faults result }
         ensures kept { IfErr result (λ trouble. IsKept self.new.reason trouble) }
         ensures same { OnOk result (self.new.reason ≡ self.old.reason) }
     {
@@ -516,11 +532,14 @@ impl<D: Disk + Drop> StateFolder for FsState<D> {
     }
 
     fn sync(&mut self) -> Result<(), FolderTrouble>
-        ensures durable { IsTrue D.told → OnOk result
-            (Only (content_of (D.state self.old.disk).seen) (Leaves (D.state self.new.disk).may_leave)) }
-        ensures seen { IsTrue D.told → content_of (D.state self.new.disk).seen ≡ content_of (D.state self.old.disk).seen }
-        ensures crash { IsTrue D.told → Passes ⟦<FsState<D> as StateFolder>⟧.may_leave ⟦<FsState<D> as StateFolder>⟧.moment ⟦<FsState<D> as StateFolder>⟧.left_since Same self.old self.new }
-        ensures cause { IsTrue D.told → HasCause (D.state self.old.disk).faults (D.state self.new.disk).faults result }
+        ensures durable { IsTrue D.told → OnOk result (Only
+            (content_of (D.state self.old.disk).seen) (Leaves (D.state self.new.disk).may_leave)) }
+        ensures seen { IsTrue D.told → content_of (D.state self.new.disk).seen
+            ≡ content_of (D.state self.old.disk).seen }
+        ensures crash { IsTrue D.told → PassesBy self.old self.new (λ folder. D.state folder.disk)
+            Same }
+        ensures cause { IsTrue D.told → HasCause (D.state self.old.disk).faults
+            (D.state self.new.disk).faults result }
         ensures kept { IfErr result (λ trouble. IsKept self.new.reason trouble) }
         ensures same { OnOk result (self.new.reason ≡ self.old.reason) }
     {
@@ -531,9 +550,12 @@ impl<D: Disk + Drop> StateFolder for FsState<D> {
     fn has_closed(&mut self, cycle: u64) -> Result<bool, FolderTrouble>
         ensures value { IsTrue D.told → IfOk result (λ answer.
             answer ≡ is_closed (content_of (D.state self.old.disk).seen).closed cycle) }
-        ensures seen { IsTrue D.told → content_of (D.state self.new.disk).seen ≡ content_of (D.state self.old.disk).seen }
-        ensures crash { IsTrue D.told → Passes ⟦<FsState<D> as StateFolder>⟧.may_leave ⟦<FsState<D> as StateFolder>⟧.moment ⟦<FsState<D> as StateFolder>⟧.left_since Same self.old self.new }
-        ensures cause { IsTrue D.told → HasCause (D.state self.old.disk).faults (D.state self.new.disk).faults result }
+        ensures seen { IsTrue D.told → content_of (D.state self.new.disk).seen
+            ≡ content_of (D.state self.old.disk).seen }
+        ensures crash { IsTrue D.told → PassesBy self.old self.new (λ folder. D.state folder.disk)
+            Same }
+        ensures cause { IsTrue D.told → HasCause (D.state self.old.disk).faults
+            (D.state self.new.disk).faults result }
         ensures kept { IfErr result (λ trouble. IsKept self.new.reason trouble) }
         ensures same { OnOk result (self.new.reason ≡ self.old.reason) }
     {
@@ -542,17 +564,18 @@ impl<D: Disk + Drop> StateFolder for FsState<D> {
     }
 
     fn close(&mut self, cycle: u64, whole: bool) -> Result<(), FolderTrouble>
-        ensures closed { IsTrue D.told → OnOk result
-            (content_of (D.state self.new.disk).seen ≡ moved cycle whole (content_of (D.state self.old.disk).seen)) }
-        ensures durable { IsTrue D.told → OnOk result
-            (Follows (IsMoved cycle whole) (Leaves (D.state self.old.disk).may_leave) (Leaves (D.state self.new.disk).may_leave)) }
+        ensures closed { IsTrue D.told → OnOk result (content_of (D.state self.new.disk).seen
+            ≡ moved cycle whole (content_of (D.state self.old.disk).seen)) }
+        ensures durable { IsTrue D.told → OnOk result (Follows (IsMoved cycle whole) (Leaves
+            (D.state self.old.disk).may_leave) (Leaves (D.state self.new.disk).may_leave)) }
         ensures crash { IsTrue D.told
-            → Passes ⟦<FsState<D> as StateFolder>⟧.may_leave ⟦<FsState<D> as StateFolder>⟧.moment ⟦<FsState<D> as StateFolder>⟧.left_since (MayMove cycle whole) self.old self.new }
+            → PassesBy self.old self.new (λ folder. D.state folder.disk) (MayMove cycle whole) }
         ensures taken { IsTrue D.told → result ≡ Err FolderTrouble.Taken
             → content_of (D.state self.new.disk).seen ≡ content_of (D.state self.old.disk).seen }
-        ensures cause { IsTrue D.told → ClosesRightly (content_of (D.state self.old.disk).seen) cycle
-            (D.state self.old.disk).faults (D.state self.new.disk).faults result }
-        ensures kept { IfErr result (λ trouble. (trouble ≡ FolderTrouble.Taken) ⊎ IsKept self.new.reason trouble) }
+        ensures cause { IsTrue D.told → ClosesRightly (content_of (D.state self.old.disk).seen)
+            cycle (D.state self.old.disk).faults (D.state self.new.disk).faults result }
+        ensures kept { IfErr result (λ trouble. (trouble ≡ FolderTrouble.Taken) ⊎ IsKept
+            self.new.reason trouble) }
         ensures same { OnOk result (self.new.reason ≡ self.old.reason) }
     {
         if self.has_closed(cycle)? {

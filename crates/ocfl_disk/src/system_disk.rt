@@ -28,8 +28,8 @@ const NO_OFFSET: u64 = 1 << 63;
 /// A folder of the file system by its path, which may be a link itself. It does not tell what is on
 /// the disk.
 ///
-/// Nothing in the folder that is a link, a pipe or a folder in place of a file is opened. Files that
-/// are made have the mode 640, and folders 750, less the process's mask.
+/// Nothing in the folder that is a link, a pipe or a folder in place of a file is opened. Files
+/// that are made have the mode 640, and folders 750, less the process's mask.
 #[derive(Drop)]
 pub struct SystemDisk<R: Files<File = File> + AllocGlobal + Clone + Drop> {
     rt: R,

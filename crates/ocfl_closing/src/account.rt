@@ -1,11 +1,11 @@
-//! A closed cycle, what it is compared with, and what is said of it.
+//! What is said of a closed cycle.
 
-use crate::closed::ClosedCycle;
+use crate::closed::CycleMade;
 use crate::finding::Findings;
 use crate::kept::{list_path, new_list_path, report_path};
 use crate::rows::Changes;
 use crate::telling::Names;
-use ocfl_files::saying::STOPPED;
+use ocfl_accounts::Pair;
 use ocfl_report::Line;
 use ocfl_telling::{Closing, Counts, Gone, Shown, closing_text};
 use ocfl_tree::Place;
@@ -32,81 +32,35 @@ impl Drop for Paths {
     }
 }
 
-/// A closed cycle, and what it is compared with.
-pub(crate) struct Pair {
-    pub(crate) now: ClosedCycle,
-    pub(crate) before: Option<ClosedCycle>,
-    /// The last whole one before that, for the places that were left out of that one alone, and
-    /// these places.
-    pub(crate) whole: Option<ClosedCycle>,
-    pub(crate) again: Vec<Place>,
-    /// Why what is new or gone is not known, or not all of it. Empty if it is known.
-    pub(crate) why: String,
-    /// Whether a report is not there with which it is to be compared.
-    pub(crate) lacks: bool,
-    /// Whether it can still be compared, once that report is back.
-    pub(crate) waits: bool,
-}
-
-/// Written by hand, so that to let it go is one call wherever that happens.
-impl Drop for Pair {
-    fn drop(self) {
-        let Pair {
-            now: _now,
-            before: _before,
-            whole: _whole,
-            again: _again,
-            why: _why,
-            lacks: _lacks,
-            waits: _waits,
-        } = self;
+/// The number of the cycle that one is compared with; 0 if it is compared with none.
+pub(crate) fn compared(pair: &Pair) -> u64 {
+    match &pair.before {
+        Some(before) => before.cycle(),
+        None => 0,
     }
 }
 
-impl Pair {
-    /// A cycle that is compared with none.
-    pub(crate) fn new(alloc: Global, now: ClosedCycle) -> Pair {
-        Pair {
-            now,
-            before: None,
-            whole: None,
-            again: Vec::new(alloc),
-            why: String::new(alloc),
-            lacks: false,
-            waits: false,
-        }
-    }
-
-    /// The number of the cycle that it is compared with; 0 if it is compared with none.
-    pub(crate) fn compared(&self) -> u64 {
-        match &self.before {
-            Some(before) => before.cycle,
-            None => 0,
-        }
-    }
-
-    /// The number of the last whole cycle, if it is compared with that too; else 0.
-    pub(crate) fn compared_whole(&self) -> u64 {
-        match &self.whole {
-            Some(whole) => whole.cycle,
-            None => 0,
-        }
+/// The number of the last whole cycle, if one is compared with that too; else 0.
+pub(crate) fn compared_whole(pair: &Pair) -> u64 {
+    match &pair.whole {
+        Some(whole) => whole.cycle(),
+        None => 0,
     }
 }
 
 /// The path of the earlier report that one is compared with. Empty without such a report.
 fn earlier_path(alloc: Global, state: &str, pair: &Pair) -> Result<String, AllocError> {
     match &pair.before {
-        Some(before) => report_path(alloc, state, before.cycle, before.whole),
+        Some(before) => report_path(alloc, state, before.cycle(), before.is_whole()),
         None => Ok(String::new(alloc)),
     }
 }
 
 /// The paths of a cycle's files.
 pub(crate) fn paths_of(alloc: Global, state: &str, pair: &Pair) -> Result<Paths, AllocError> {
-    let cycle = pair.now.cycle;
+    let cycle = pair.closed.cycle();
     Ok(Paths {
-        report: report_path(alloc, state, cycle, pair.now.whole)?,
+        report: report_path(alloc, state, cycle, pair.closed.is_whole())?,
         earlier: earlier_path(alloc, state, pair)?,
         list: list_path(alloc, state, cycle)?,
         new_list: new_list_path(alloc, state, cycle)?,
@@ -115,6 +69,10 @@ pub(crate) fn paths_of(alloc: Global, state: &str, pair: &Pair) -> Result<Paths,
 
 /// What a closed cycle found, in its parts.
 pub(crate) struct Account {
+    /// Why what is new or gone is not known, or not all of it. Empty if it is known.
+    pub(crate) why: String,
+    /// What the runs of the cycle made.
+    pub(crate) made: CycleMade,
     pub(crate) changes: Changes,
     /// The first of what is gone.
     pub(crate) gone: Vec<Gone>,
@@ -133,6 +91,8 @@ pub(crate) struct Account {
 impl Drop for Account {
     fn drop(self) {
         let Account {
+            why: _why,
+            made: _made,
             changes: _changes,
             gone: _gone,
             findings: _findings,
@@ -145,9 +105,11 @@ impl Drop for Account {
 }
 
 impl Account {
-    /// Of a cycle that found nothing.
-    pub(crate) fn new(alloc: Global) -> Account {
+    /// Of a cycle that made so much and found nothing, and why that is not known.
+    pub(crate) fn new(alloc: Global, why: String, made: CycleMade) -> Account {
         Account {
+            why,
+            made,
             changes: Changes::new(alloc),
             gone: Vec::new(alloc),
             findings: Findings::new(alloc),
@@ -172,10 +134,15 @@ impl Account {
 
     /// What the report counts. That of a part is not said, and that of lost lines is not known.
     fn counts(&self, pair: &Pair, part: Option<u64>) -> Option<Counts> {
-        if pair.now.lost || part.is_some() {
+        if pair.closed.is_lost() || part.is_some() {
             return None;
         }
         Some(self.findings.tally.counts())
+    }
+
+    /// Whether something is new or gone.
+    pub(crate) fn is_grave(&self) -> bool {
+        self.changes.gone_count() > 0 || self.appeared() > 0
     }
 
     /// How many objects are back.
@@ -197,14 +164,14 @@ pub(crate) fn text_of(
         alloc,
         &Closing {
             root: names.root,
-            cycle: pair.now.cycle,
-            before: pair.compared(),
+            cycle: pair.closed.cycle(),
+            before: compared(pair),
             counts: account.counts(pair, names.part),
-            whole: pair.now.whole,
+            whole: pair.closed.is_whole(),
             report: paths.report.as_str(),
             earlier: paths.earlier.as_str(),
             list: paths.list.as_str(),
-            uncompared: pair.why.as_str(),
+            uncompared: account.why.as_str(),
             appeared: &account.findings.gravest,
             appeared_count: account.appeared(),
             said: account.findings.said,
@@ -217,19 +184,6 @@ pub(crate) fn text_of(
             unlooked: changes.unlooked,
         },
     )
-}
-
-/// The status of a night that closed a cycle: 3 if its report is not whole, or a report is not there
-/// with which it is to be compared; 1 if something is new or gone; else 0.
-pub(crate) fn status_of(pair: &Pair, account: &Account) -> u8 {
-    if !pair.now.whole || pair.lacks {
-        return STOPPED;
-    }
-    if account.changes.gone_count() > 0 || account.appeared() > 0 {
-        1
-    } else {
-        0
-    }
 }
 
 /// Why a cycle was not compared with a report that is not there.
@@ -252,29 +206,26 @@ fn missing_text(
     )
 }
 
-/// Why what is new or gone in a cycle is not known, or not all of it. Empty if it is. `missing` is
-/// the last cycle before it whose report is not there; 0 if all are.
-pub(crate) fn why_not(
-    alloc: Global,
-    state: &str,
-    pair: &Pair,
-    missing: u64,
-) -> Result<String, AllocError> {
-    if pair.now.lost {
+/// Why what is new or gone in a cycle is not known, or not all of it. Empty if it is.
+pub(crate) fn why_not(alloc: Global, state: &str, pair: &Pair) -> Result<String, AllocError> {
+    let before = compared(pair);
+    if pair.closed.is_lost() {
         return String::from_str(alloc, "lines of this report were lost");
     }
-    let before = pair.compared();
-    if missing > 0 {
+    if let Some(missing) = pair.missing {
         return missing_text(alloc, state, missing, before);
     }
-    if before == 0 && pair.now.cycle > 1 {
+    if before == 0 && pair.closed.cycle() > 1 {
         return String::from_str(alloc, "lines of each report before it were lost");
+    }
+    if let Some(missing) = pair.whole_missing {
+        return whole_missing_text(alloc, state, before, missing);
     }
     Ok(String::new(alloc))
 }
 
 /// Why a cycle was not compared with a whole report that is not there.
-pub(crate) fn whole_missing_text(
+fn whole_missing_text(
     alloc: Global,
     state: &str,
     cycle: u64,

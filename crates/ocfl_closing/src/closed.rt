@@ -1,7 +1,8 @@
-//! What is known of closed cycles, and which of them a cycle is compared with.
+//! What is known of closed cycles.
 
 use crate::kept::{is_as_closed, open_report, read_kept};
 use crate::state_dir::Folder;
+use ocfl_accounts::{ClosedCycle, Look};
 use ocfl_files::failing::Failure;
 use ocfl_state::{Checkpoint, Left};
 use ocfl_tree::Place;
@@ -45,40 +46,18 @@ impl CycleMade {
     }
 }
 
-/// A closed cycle whose report is there.
-pub(crate) struct ClosedCycle {
-    /// Its number.
-    pub(crate) cycle: u64,
-    /// Whether its report is whole.
-    pub(crate) whole: bool,
-    /// Whether lines of its report were lost, or may have been: then it is not compared.
-    pub(crate) lost: bool,
-    /// The places that were left out of it.
-    pub(crate) left: Vec<Place>,
-    /// What its runs made. All of it is 0 if the checkpoint that closed it is not there.
-    pub(crate) made: CycleMade,
-}
-
-/// Written by hand, so that to let it go is one call wherever that happens.
-impl Drop for ClosedCycle {
-    fn drop(self) {
-        let ClosedCycle {
-            cycle: _cycle,
-            whole: _whole,
-            lost: _lost,
-            left: _left,
-            made: _made,
-        } = self;
+/// What the runs of a closed cycle made. All of it is 0 if the checkpoint that closed it is not
+/// there.
+pub(crate) fn find_made<F: Folder>(
+    alloc: Global,
+    folder: &mut F,
+    state: &str,
+    cycle: u64,
+) -> Result<CycleMade, Failure> {
+    match read_kept(alloc, folder, state, cycle)? {
+        Some(Some(checkpoint)) => Ok(CycleMade::by(&checkpoint)),
+        _ => Ok(CycleMade::unknown()),
     }
-}
-
-/// What a cycle is compared with.
-#[derive(Drop)]
-pub(crate) struct Earlier {
-    /// The last cycle before it whose report is there and lost nothing.
-    pub(crate) found: Option<ClosedCycle>,
-    /// The last cycle after that one, and before this one, whose report is not there; 0 if all are.
-    pub(crate) missing: u64,
 }
 
 /// The places of branches that were left out.
@@ -103,79 +82,43 @@ pub(crate) fn both(
     Ok(places)
 }
 
-/// Those of the places that are none of the others, and not below one of these.
-pub(crate) fn outside(
+/// Whether lines of a report that is not whole were lost, or may have been: only the checkpoint with
+/// which it was closed may say that nothing is missing but what was left out.
+fn is_lost<F: Folder>(
     alloc: Global,
-    places: &[Place],
-    others: &[Place],
-) -> Result<Vec<Place>, AllocError> {
-    let mut rest = Vec::new(alloc);
-    for place in places {
-        if !others.iter().any(|branch| place.starts_with(branch)) {
-            rest.push(place.try_clone()?)?;
+    folder: &mut F,
+    state: &str,
+    cycle: u64,
+    kept: &Option<Option<Checkpoint>>,
+) -> Result<bool, Failure> {
+    match kept {
+        Some(Some(checkpoint)) if checkpoint.whole && !checkpoint.left.is_empty() => {
+            Ok(!is_as_closed(alloc, folder, state, cycle)?)
         }
+        _ => Ok(true),
     }
-    Ok(rest)
 }
 
-/// What is known of a closed cycle without a look at the bytes of its report: only the checkpoint
-/// with which it was closed may say that nothing is missing but what was left out.
-fn closed_by(
+/// The places that were left out of a closed cycle.
+fn left_by(alloc: Global, kept: &Option<Option<Checkpoint>>) -> Result<Vec<Place>, AllocError> {
+    match kept {
+        Some(Some(checkpoint)) => places_of(alloc, &checkpoint.left),
+        _ => Ok(Vec::new(alloc)),
+    }
+}
+
+/// What is known of a closed cycle whose report is there.
+fn closed_by<F: Folder>(
     alloc: Global,
+    folder: &mut F,
+    state: &str,
     cycle: u64,
     whole: bool,
-    kept: &Option<Option<Checkpoint>>,
-) -> Result<ClosedCycle, AllocError> {
-    let (left, is_known, made) = match kept {
-        Some(Some(checkpoint)) => (
-            places_of(alloc, &checkpoint.left)?,
-            checkpoint.whole,
-            CycleMade::by(checkpoint),
-        ),
-        _ => (Vec::new(alloc), false, CycleMade::unknown()),
-    };
-    Ok(ClosedCycle {
-        cycle,
-        whole,
-        lost: !whole && !(is_known && !left.is_empty()),
-        left,
-        made,
-    })
-}
-
-/// Whether the closed report of a cycle is called whole. `None` if it is not there.
-fn find_whole<F: Folder>(
-    alloc: Global,
-    folder: &mut F,
-    state: &str,
-    cycle: u64,
-) -> Result<Option<bool>, Failure> {
-    match open_report(alloc, folder, state, cycle)? {
-        Some(report) => Ok(Some(report.whole)),
-        None => Ok(None),
-    }
-}
-
-/// What is known of a closed cycle. `None` if its report is not there.
-pub(crate) fn find_closed<F: Folder>(
-    alloc: Global,
-    folder: &mut F,
-    state: &str,
-    cycle: u64,
-) -> Result<Option<ClosedCycle>, Failure> {
-    let Some(whole) = find_whole(alloc, folder, state, cycle)? else {
-        return Ok(None);
-    };
-    let mut found = closed_by(
-        alloc,
-        cycle,
-        whole,
-        &read_kept(alloc, folder, state, cycle)?,
-    )?;
-    if !whole && !found.lost {
-        found.lost = !is_as_closed(alloc, folder, state, cycle)?;
-    }
-    Ok(Some(found))
+) -> Result<ClosedCycle, Failure> {
+    let kept = read_kept(alloc, folder, state, cycle)?;
+    let left = left_by(alloc, &kept)?;
+    let lost = !whole && is_lost(alloc, folder, state, cycle, &kept)?;
+    Ok(ClosedCycle::new(cycle, whole, lost, left))
 }
 
 /// Whether the checkpoint with which a cycle was closed says that lines of its report were lost.
@@ -191,45 +134,17 @@ fn is_known_lost<F: Folder>(
     }
 }
 
-/// Whether a cycle can be compared with this one: its report lost nothing, and with `is_whole` it
-/// left nothing out either.
-fn is_fit(found: &ClosedCycle, is_whole: bool) -> bool {
-    !found.lost && (found.whole || !is_whole)
-}
-
-/// Looks for the last cycle before this one whose report is there and lost nothing; with
-/// `is_whole` for the last one that left nothing out either.
-pub(crate) fn find_earlier<F: Folder>(
+/// What is there of a closed cycle.
+pub(crate) fn look_at<F: Folder>(
     alloc: Global,
     folder: &mut F,
     state: &str,
     cycle: u64,
-    is_whole: bool,
-) -> Result<Earlier, Failure> {
-    let mut missing = 0;
-    for back in 1..MOST_BACK {
-        let before = cycle.saturating_sub(back);
-        if before == 0 {
-            break;
-        }
-        match find_closed(alloc, folder, state, before)? {
-            Some(found) => {
-                if is_fit(&found, is_whole) {
-                    return Ok(Earlier {
-                        found: Some(found),
-                        missing,
-                    });
-                }
-            }
-            None => {
-                if missing == 0 && !is_known_lost(alloc, folder, state, before)? {
-                    missing = before;
-                }
-            }
-        }
+) -> Result<Look, Failure> {
+    match open_report(alloc, folder, state, cycle)? {
+        Some(report) => Ok(Look::There(closed_by(alloc, folder, state, cycle, report.whole)?)),
+        None => Ok(Look::Away {
+            lost: is_known_lost(alloc, folder, state, cycle)?,
+        }),
     }
-    Ok(Earlier {
-        found: None,
-        missing,
-    })
 }

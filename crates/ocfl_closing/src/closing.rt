@@ -3,12 +3,10 @@
 //! The list of what is gone is put in its place once all was said. While it is not there, the next
 //! night compares again.
 
-use crate::account::{Account, Pair, Paths, paths_of, status_of, text_of};
+use crate::account::{Account, Paths, compared, compared_whole, paths_of, text_of, why_not};
 use crate::back::gone_before;
-use crate::closed::{MOST_BACK, find_closed};
-use crate::comparing::{
-    end_changes, find_changes, find_new, find_pair, find_returned, find_unlisted,
-};
+use crate::closed::{MOST_BACK, find_made, look_at};
+use crate::comparing::{end_changes, find_changes, find_new, find_returned, find_unlisted};
 use crate::kept::is_told;
 use crate::lists::read_expected;
 use crate::room::Room;
@@ -16,7 +14,8 @@ use crate::rows::Rows;
 use crate::state::failed_folder;
 use crate::state_dir::{Folder, StateDir};
 use crate::telling::Names;
-use ocfl_files::failing::Failure;
+use ocfl_accounts::{ClosingStop, Found, Look, NotSaid, Pair, Say, say_cycles};
+use ocfl_files::failing::{Failure, say_failure};
 use ocfl_files::timing::seconds_now;
 use ocfl_report::{Line, write_all_of};
 use ocfl_telling::{ClosingRow, Known, LogRow, log_line};
@@ -42,12 +41,19 @@ pub struct Closings<'a, 'n, R: Files<File = File> + AllocGlobal> {
     pub said: &'n [Line],
 }
 
-/// Says a text on the output, all of it.
-fn say<W: Write>(alloc: Global, out: &mut W, text: &[u8]) -> Result<(), Failure> {
-    if write_all_of(out, text).is_ok() && out.flush().is_ok() {
-        return Ok(());
+/// An output over a writer, which commits by flushing it.
+#[derive(Drop)]
+struct Speaking<'w, W: Write> {
+    out: &'w mut W,
+}
+
+impl<W: Write> Say for Speaking<'_, W> {
+    fn say(&mut self, text: &[u8]) -> Result<(), NotSaid> {
+        if write_all_of(self.out, text).is_ok() && self.out.flush().is_ok() {
+            return Ok(());
+        }
+        Err(NotSaid)
     }
-    Err(Failure::saying(String::from_str(alloc, "output failed\n")))
 }
 
 /// The line of the log on the closing of a cycle in a night.
@@ -60,21 +66,25 @@ fn closing_line(
     account: &Account,
 ) -> Result<String, AllocError> {
     let changes = &account.changes;
-    let (compared, made) = (pair.compared(), pair.now.made);
+    let (compared, made) = (compared(pair), account.made);
     let row = ClosingRow {
         time,
         night,
-        cycle: pair.now.cycle,
+        cycle: pair.closed.cycle(),
         report: paths.report.as_str(),
-        whole: pair.now.whole,
+        whole: pair.closed.is_whole(),
         findings: account.findings.count,
         lines: made.lines,
         runs: made.runs,
         read_bytes: made.bytes,
         read_files: made.files,
         compared,
-        compared_whole: pair.compared_whole(),
-        why: if compared == 0 { pair.why.as_str() } else { "" },
+        compared_whole: compared_whole(pair),
+        why: if compared == 0 {
+            account.why.as_str()
+        } else {
+            ""
+        },
         appeared: account.appeared(),
         known: account.known(),
         repaired: changes.repaired_count,
@@ -86,7 +96,7 @@ fn closing_line(
         expected: changes.expected.count,
         listed: account.listed,
         list: account.list.as_str(),
-        left: u64::try_from(pair.now.left.len()).unwrap_or(u64::MAX),
+        left: u64::try_from(pair.closed.left().len()).unwrap_or(u64::MAX),
     };
     log_line(alloc, &LogRow::Closing(row))
 }
@@ -146,7 +156,7 @@ impl Told<'_> {
         if pair.before.is_none() {
             return Ok(Vec::new(rt.global()));
         }
-        let mut gone = gone_before(rt, self.state, pair.now.cycle)?;
+        let mut gone = gone_before(rt, self.state, pair.closed.cycle())?;
         find_returned(rt.global(), folder, self.state, pair, &mut gone)
     }
 
@@ -160,7 +170,7 @@ impl Told<'_> {
         list: File,
         account: &mut Account,
     ) -> Result<(), Failure> {
-        let (alloc, state, cycle) = (rt.global(), self.state, pair.now.cycle);
+        let (alloc, state, cycle) = (rt.global(), self.state, pair.closed.cycle());
         let mut rows = Rows::new(alloc, self.known, list);
         self.write_list(rt, folder, pair, path, &mut rows, account)?;
         find_new(alloc, folder, state, cycle, self.known, self.said, account)?;
@@ -178,8 +188,11 @@ impl Told<'_> {
         path: &str,
     ) -> Result<Account, Failure> {
         let list = rt.make_file(path)?;
-        let mut account = Account::new(rt.global());
-        if !pair.now.lost {
+        let alloc = rt.global();
+        let why = why_not(alloc, self.state, pair)?;
+        let made = find_made(alloc, folder, self.state, pair.closed.cycle())?;
+        let mut account = Account::new(alloc, why, made);
+        if !pair.closed.is_lost() {
             self.fill_account(rt, folder, pair, path, list, &mut account)?;
         }
         Ok(account)
@@ -201,74 +214,135 @@ impl Told<'_> {
             Err(_) => Err(failed_folder(alloc, folder, self.state)),
         }
     }
+}
 
-    /// Says what a closed cycle found, and then puts its list in place and logs it. `is_new` says
-    /// whether this night closed it.
-    fn tell_account<R: Room + Clock, F: Folder, W: Write>(
-        &self,
-        rt: &R,
-        folder: &mut F,
-        pair: &Pair,
-        paths: &Paths,
-        account: &Account,
-        is_new: bool,
-        out: &mut W,
-    ) -> Result<(), Failure> {
-        say(
-            rt.global(),
-            out,
-            &text_of(rt.global(), self.names, pair, paths, account)?,
-        )?;
-        put_list(rt, pair, paths)?;
-        if is_new || !pair.waits {
-            self.log_closing(rt, folder, pair, paths, account)?;
-        }
-        Ok(())
-    }
+/// What was found of a cycle, and is not put yet.
+#[derive(Drop)]
+struct Pending {
+    paths: Paths,
+    account: Account,
+}
 
-    /// Finds and says what a closed cycle found, and gives the status.
-    fn tell_pair<R: Room + Clock, F: Folder, W: Write>(
-        &self,
-        rt: &R,
-        folder: &mut F,
-        pair: &Pair,
-        is_new: bool,
-        out: &mut W,
-    ) -> Result<u8, Failure> {
-        let paths = paths_of(rt.global(), self.state, pair)?;
-        let account = self.find_account(rt, folder, pair, paths.new_list.as_str())?;
-        self.tell_account(rt, folder, pair, &paths, &account, is_new, out)?;
-        Ok(status_of(pair, &account))
-    }
+/// The closed reports of a state folder, and what its closings are told with.
+struct Telling<'t, 'n, R, F> {
+    rt: &'t R,
+    folder: &'t mut F,
+    told: Told<'n>,
+    /// The cycle that this night closed; 0 if it closed none.
+    closed: u64,
+    /// What was found last.
+    pending: Option<Pending>,
+    /// Why the last call failed that did.
+    failure: Option<Failure>,
+}
 
-    /// Says what a closed cycle found, unless that was said, and gives the status.
-    fn tell_cycle<R: Room + Clock, F: Folder, W: Write>(
-        &self,
-        rt: &R,
-        folder: &mut F,
-        cycle: u64,
-        is_new: bool,
-        out: &mut W,
-    ) -> Result<u8, Failure> {
-        if is_told(rt, self.state, cycle)? {
-            return Ok(0);
-        }
-        // A report that was taken away cannot be compared.
-        let Some(now) = find_closed(rt.global(), folder, self.state, cycle)? else {
-            return Ok(0);
-        };
-        let pair = find_pair(rt.global(), folder, self.state, now)?;
-        self.tell_pair(rt, folder, &pair, is_new, out)
+/// Written by hand, so that to let it go is one call wherever that happens.
+impl<R, F> Drop for Telling<'_, '_, R, F> {
+    fn drop(self) {
+        let Telling {
+            rt: _rt,
+            folder: _folder,
+            told: _told,
+            closed: _closed,
+            pending: _pending,
+            failure: _failure,
+        } = self;
     }
 }
 
-/// Puts the list of a closed cycle in place, unless it can be compared once a report is back.
-fn put_list<R: Room>(rt: &R, pair: &Pair, paths: &Paths) -> Result<(), Failure> {
-    if !pair.waits {
-        return rt.put_made(paths.new_list.as_str(), paths.list.as_str());
+impl<R: Room + Clock, F: Folder> Telling<'_, '_, R, F> {
+    /// Keeps why a call failed.
+    fn keep<T>(&mut self, answer: Result<T, Failure>) -> Result<T, ClosingStop> {
+        match answer {
+            Ok(value) => Ok(value),
+            Err(failure) => {
+                self.failure = Some(failure);
+                Err(ClosingStop::Failed)
+            }
+        }
     }
-    rt.remove_file(paths.new_list.as_str());
-    Ok(())
+
+    /// Finds what is said of a closed cycle, with the list of what is gone beside its place.
+    fn find_pending(&mut self, pair: &Pair) -> Result<Found, Failure> {
+        let alloc = self.rt.global();
+        let paths = paths_of(alloc, self.told.state, pair)?;
+        let path = paths.new_list.as_str();
+        let account = self.told.find_account(self.rt, self.folder, pair, path)?;
+        let found = Found {
+            text: text_of(alloc, self.told.names, pair, &paths, &account)?,
+            is_grave: account.is_grave(),
+        };
+        self.pending = Some(Pending { paths, account });
+        Ok(found)
+    }
+
+    /// Puts the list of what was found last in place, and logs it.
+    fn put_pending(&mut self, pair: &Pair) -> Result<(), Failure> {
+        let Some(Pending { paths, account }) = self.pending.take() else {
+            return Ok(());
+        };
+        self.rt
+            .put_made(paths.new_list.as_str(), paths.list.as_str())?;
+        self.told
+            .log_closing(self.rt, self.folder, pair, &paths, &account)
+    }
+
+    /// Removes the list of what was found last, and logs it if this night closed the cycle.
+    fn drop_pending(&mut self, pair: &Pair) -> Result<(), Failure> {
+        let Some(Pending { paths, account }) = self.pending.take() else {
+            return Ok(());
+        };
+        self.rt.remove_file(paths.new_list.as_str());
+        if pair.closed.cycle() != self.closed {
+            return Ok(());
+        }
+        self.told
+            .log_closing(self.rt, self.folder, pair, &paths, &account)
+    }
+
+    /// Why a closing was not said.
+    fn failure_of(&mut self, stop: ClosingStop) -> Failure {
+        let alloc = self.rt.global();
+        match (stop, self.failure.take()) {
+            (ClosingStop::Failed, Some(failure)) => failure,
+            (ClosingStop::Memory, _) => Failure::from(AllocError),
+            _ => Failure::saying(String::from_str(alloc, "output failed\n")),
+        }
+    }
+}
+
+impl<R: Room + Clock + Eprint, F: Folder> ocfl_accounts::Closings for Telling<'_, '_, R, F> {
+    fn has_account(&mut self, cycle: u64) -> Result<bool, ClosingStop> {
+        match is_told(self.rt, self.told.state, cycle) {
+            Ok(is) => Ok(is),
+            Err(_) => Err(ClosingStop::Memory),
+        }
+    }
+
+    fn look(&mut self, cycle: u64) -> Result<Look, ClosingStop> {
+        let look = look_at(self.rt.global(), self.folder, self.told.state, cycle);
+        self.keep(look)
+    }
+
+    fn find(&mut self, pair: &Pair) -> Result<Found, ClosingStop> {
+        let found = self.find_pending(pair);
+        self.keep(found)
+    }
+
+    fn put(&mut self, pair: &Pair) -> Result<(), ClosingStop> {
+        let put = self.put_pending(pair);
+        self.keep(put)
+    }
+
+    fn drop_found(&mut self, pair: &Pair) -> Result<(), ClosingStop> {
+        let dropped = self.drop_pending(pair);
+        self.keep(dropped)
+    }
+
+    fn fail(&mut self, stop: ClosingStop) {
+        let failure = self.failure_of(stop);
+        let _ = say_failure(self.rt, &failure);
+    }
 }
 
 /// Whether the closed report of a cycle is there, and its list is not.
@@ -277,9 +351,9 @@ fn is_untold<R: Room, F: Folder>(rt: &R, folder: &mut F, state: &str, cycle: u64
         && matches!(is_told(rt, state, cycle), Ok(false))
 }
 
-impl<R: Files<File = File> + AllocGlobal + Clock> Closings<'_, '_, R> {
+impl<R: Files<File = File> + AllocGlobal + Clock + Eprint> Closings<'_, '_, R> {
     /// The first of the cycles up to this one whose closings were not said, one after the other.
-    pub fn first_untold(&mut self, cycle: u64) -> u64 {
+    fn first_untold(&mut self, cycle: u64) -> u64 {
         let mut first = cycle;
         for _ in 0..MOST_BACK {
             if first < 2 || !is_untold(self.rt, &mut self.folder, self.names.state, first - 1) {
@@ -290,15 +364,11 @@ impl<R: Files<File = File> + AllocGlobal + Clock> Closings<'_, '_, R> {
         first
     }
 
-    /// Says what a closed cycle found, unless that was said, and gives the status. `cycle` is 0 if
-    /// no cycle was closed, and `is_new` says whether this night closed it.
-    pub fn tell<W>(&mut self, cycle: u64, is_new: bool, out: &mut W) -> Result<u8, Failure>
-    where
-        W: Write,
-    {
-        if cycle == 0 {
-            return Ok(0);
-        }
+    /// Says what the cycles found whose closings were not said: the last one before the night, and
+    /// those before it, one after the other, and the one that the night closed. Says why a closing
+    /// was not said. Gives the greatest status. Each number is 0 if there is no such cycle.
+    pub fn tell<W: Write>(&mut self, before: u64, closed: u64, out: &mut W) -> u8 {
+        let first = self.first_untold(before).max(1);
         let told = Told {
             names: self.names,
             state: self.names.state,
@@ -307,6 +377,16 @@ impl<R: Files<File = File> + AllocGlobal + Clock> Closings<'_, '_, R> {
             night: self.night,
             said: self.said,
         };
-        told.tell_cycle(self.rt, &mut self.folder, cycle, is_new, out)
+        let mut telling = Telling {
+            rt: self.rt,
+            folder: &mut self.folder,
+            told,
+            closed,
+            pending: None,
+            failure: None,
+        };
+        let end = before.max(closed).saturating_add(1);
+        let alloc = self.rt.alloc();
+        say_cycles(alloc, &mut telling, first, end, &mut Speaking { out })
     }
 }

@@ -1,13 +1,14 @@
 //! Comparing the closed reports of a state folder.
 
-use crate::account::{Account, Pair, whole_missing_text, why_not};
+use crate::account::{Account, compared};
 use crate::back::{Places, without};
-use crate::closed::{ClosedCycle, Earlier, both, find_earlier, outside};
+use crate::closed::both;
 use crate::finding::{Findings, find_lines};
 use crate::kept::{is_as_closed, open_report};
 use crate::lists::Listed;
 use crate::rows::{Changes, Rows};
 use crate::state_dir::Folder;
+use ocfl_accounts::{ClosedCycle, Pair};
 use ocfl_compare::{CompareStop, TakeChange, compare, find_expected};
 use ocfl_files::failing::Failure;
 use ocfl_files::heard::HeardReader;
@@ -142,11 +143,11 @@ fn refuse_changed_pair<F: Folder>(
     state: &str,
     pair: &Pair,
 ) -> Result<(), Failure> {
-    let (cycle, before) = (pair.now.cycle, pair.compared());
+    let (cycle, before) = (pair.closed.cycle(), compared(pair));
     refuse_changed(alloc, folder, state, cycle, before, before)?;
     refuse_changed(alloc, folder, state, cycle, before, cycle)?;
     match &pair.whole {
-        Some(whole) => refuse_changed(alloc, folder, state, cycle, whole.cycle, whole.cycle),
+        Some(whole) => refuse_changed(alloc, folder, state, cycle, whole.cycle(), whole.cycle()),
         None => Ok(()),
     }
 }
@@ -163,13 +164,13 @@ fn compare_before<F: Folder>(
         return Ok(Changes::new(alloc));
     };
     refuse_changed_pair(alloc, folder, state, pair)?;
-    let left = both(alloc, &pair.now.left, &before.left)?;
+    let left = both(alloc, pair.closed.left(), before.left())?;
     compare_with(
         alloc,
         folder,
         state,
-        pair.now.cycle,
-        before.cycle,
+        pair.closed.cycle(),
+        before.cycle(),
         &left,
         rows,
     )
@@ -192,9 +193,9 @@ fn compare_whole<'p, F: Folder>(
         alloc,
         folder,
         state,
-        pair.now.cycle,
-        whole.cycle,
-        &pair.now.left,
+        pair.closed.cycle(),
+        whole.cycle(),
+        pair.closed.left(),
         rows,
     );
     rows.keep_to(None);
@@ -266,9 +267,9 @@ fn find_all_repaired<F: Folder>(
     changes: &Changes,
     again: &Changes,
 ) -> Result<Vec<Line>, Failure> {
-    let mut repaired = find_repaired(alloc, folder, state, pair.compared(), changes)?;
+    let mut repaired = find_repaired(alloc, folder, state, compared(pair), changes)?;
     if let Some(whole) = &pair.whole {
-        let mut others = find_repaired(alloc, folder, state, whole.cycle, again)?;
+        let mut others = find_repaired(alloc, folder, state, whole.cycle(), again)?;
         repaired.append(&mut others)?;
     }
     Ok(repaired)
@@ -307,12 +308,12 @@ fn find_between<F: Folder>(
     now: &ClosedCycle,
     gone: &mut Vec<Place>,
 ) -> Result<Vec<Place>, Failure> {
-    let left = both(alloc, &now.left, &before.left)?;
-    let mut lacking = find_lacking(alloc, folder, state, before.cycle, gone, &left)?;
+    let left = both(alloc, now.left(), before.left())?;
+    let mut lacking = find_lacking(alloc, folder, state, before.cycle(), gone, &left)?;
     if lacking.is_empty() {
         return Ok(lacking);
     }
-    let still = find_lacking(alloc, folder, state, now.cycle, &mut lacking, &left)?;
+    let still = find_lacking(alloc, folder, state, now.cycle(), &mut lacking, &left)?;
     Ok(without(alloc, lacking, &still)?)
 }
 
@@ -327,7 +328,7 @@ pub(crate) fn find_returned<F: Folder>(
 ) -> Result<Vec<Place>, Failure> {
     match &pair.before {
         Some(before) if !gone.is_empty() => {
-            find_between(alloc, folder, state, before, &pair.now, gone)
+            find_between(alloc, folder, state, before, &pair.closed, gone)
         }
         _ => Ok(Vec::new(alloc)),
     }
@@ -358,8 +359,8 @@ pub(crate) fn find_unlisted<F: Folder>(
     account: &mut Account,
 ) -> Result<(), Failure> {
     let mut listed = listed;
-    let (cycle, before) = (pair.now.cycle, pair.compared());
-    let left = &pair.now.left;
+    let (cycle, before) = (pair.closed.cycle(), compared(pair));
+    let left = pair.closed.left();
     search(
         alloc,
         folder,
@@ -406,61 +407,5 @@ pub(crate) fn find_new<F: Folder>(
     let appeared = &account.changes.appeared;
     account.findings = find_in(alloc, folder, state, cycle, appeared, known, said)?;
     account.gone = account.changes.gone(alloc)?;
-    Ok(())
-}
-
-/// What a closed cycle is compared with.
-pub(crate) fn find_pair<F: Folder>(
-    alloc: Global,
-    folder: &mut F,
-    state: &str,
-    now: ClosedCycle,
-) -> Result<Pair, Failure> {
-    let mut pair = Pair::new(alloc, now);
-    add_before(alloc, folder, state, &mut pair)?;
-    add_whole(alloc, folder, state, &mut pair)?;
-    Ok(pair)
-}
-
-/// Adds the last cycle before, unless lines of this report were lost.
-fn add_before<F: Folder>(
-    alloc: Global,
-    folder: &mut F,
-    state: &str,
-    pair: &mut Pair,
-) -> Result<(), Failure> {
-    let mut last = 0;
-    if !pair.now.lost {
-        let Earlier { found, missing } = find_earlier(alloc, folder, state, pair.now.cycle, false)?;
-        pair.lacks = missing > 0;
-        pair.waits = found.is_none() && missing > 0;
-        pair.before = found;
-        last = missing;
-    }
-    pair.why = why_not(alloc, state, pair, last)?;
-    Ok(())
-}
-
-/// Adds the last whole cycle, if the one before left out what this one did not.
-fn add_whole<F: Folder>(
-    alloc: Global,
-    folder: &mut F,
-    state: &str,
-    pair: &mut Pair,
-) -> Result<(), Failure> {
-    let Some(before) = &pair.before else {
-        return Ok(());
-    };
-    let cycle = before.cycle;
-    pair.again = outside(alloc, &before.left, &pair.now.left)?;
-    if pair.again.is_empty() {
-        return Ok(());
-    }
-    let Earlier { found, missing } = find_earlier(alloc, folder, state, cycle, true)?;
-    pair.whole = found;
-    pair.lacks = pair.lacks || missing > 0;
-    if missing > 0 && pair.why.is_empty() {
-        pair.why = whole_missing_text(alloc, state, cycle, missing)?;
-    }
     Ok(())
 }

@@ -144,23 +144,6 @@ pub fn status_told<R: Eprint>(rt: &R, told: Result<u8, Failure>) -> u8 {
     }
 }
 
-/// Says what the cycles found whose closing was not said: the last one before the night, and the
-/// one that it closed. Gives the status.
-fn tell_closings<R>(closings: &mut Closings<'_, '_, R>, before: u64, closed: u64) -> u8
-where
-    R: Files<File = File> + AllocGlobal + Clock + Print + Eprint,
-{
-    let rt = closings.rt;
-    let mut out = io::writer(rt);
-    let mut earlier = 0;
-    for cycle in closings.first_untold(before)..=before {
-        let told = closings.tell(cycle, false, &mut out);
-        earlier = earlier.max(status_told(rt, told));
-    }
-    let now = closings.tell(closed, true, &mut out);
-    earlier.max(status_told(rt, now))
-}
-
 /// Says how a night ended and what the cycles found that were closed, logs it, and gives its
 /// status.
 pub fn end_night<'a, R>(
@@ -186,7 +169,7 @@ where
         said: &ended.told.said,
     };
     let told = match ended.closed {
-        Some(closed) => tell_closings(&mut closings, before, closed),
+        Some(closed) => closings.tell(before, closed, &mut io::writer(rt)),
         None => 0,
     };
     let status = ended.status.max(told);

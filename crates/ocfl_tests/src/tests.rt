@@ -1,5 +1,6 @@
 //! The tests, in a module for each crate. The first column of a table names its rows, and each
 //! assertion on a row carries that name.
+mod accounts;
 mod checkpoint;
 mod clock;
 mod codes;

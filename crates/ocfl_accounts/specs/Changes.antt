@@ -1,0 +1,35 @@
+-- The changes of a closed cycle.
+use Rattle.std.specs.Prelude.{◌≡◌, List, [], ◌++◌, true, false, filter, Option, Some, None}
+use Rattle.ocfl_tree.specs.Place.{Place}
+use Rattle.ocfl_compare.specs.{Changes.{is_left}, Compared.{IsCompared}, Expected.{IsSearched}}
+use Rattle.ocfl_compare.specs.declared.change.ChangeAt.{ChangeAt}
+use Rattle.ocfl_accounts.specs.{Cycle.{Cycle}, Kept.{Kept}, declared.pair.Pair.{Pair}}
+
+-- since the report before, outside of what either left out
+abbrev pub IsSince : Kept → Cycle → Option Cycle → List ChangeAt → Type 0
+IsSince k now None changes = changes ≡ []
+IsSince k now (Some before) changes = IsCompared (now.left ++ before.left) (k.reports before.cycle) (k.reports now.cycle) (λ cs. changes ≡ cs)
+
+-- since the last whole report, in the places that the report before alone left out
+abbrev pub IsSinceWhole : Kept → Cycle → List Place → Option Cycle → List ChangeAt → Type 0
+IsSinceWhole k now again None changes = changes ≡ []
+IsSinceWhole k now again (Some whole) changes =
+    IsCompared now.left (k.reports whole.cycle) (k.reports now.cycle) (λ cs. changes ≡ filter (λ c. is_left again c.place) cs)
+
+-- the listed objects that are missing
+abbrev pub IsMissing : Kept → Cycle → Option (List Place) → List ChangeAt → Type 0
+IsMissing k now None changes = changes ≡ []
+IsMissing k now (Some listed) changes = IsSearched now.left listed (k.reports now.cycle) (λ cs. changes ≡ cs)
+
+pub record AreFound (k : Kept) (pair : Pair) (changes : List ChangeAt) : Type 0 where
+  pub since : List ChangeAt
+  pub since_whole : List ChangeAt
+  pub missing : List ChangeAt
+  pub is : changes ≡ since ++ (since_whole ++ missing)
+  pub compared : IsSince k pair.closed pair.before since
+  pub again : IsSinceWhole k pair.closed pair.again.items pair.whole since_whole
+  pub listed : IsMissing k pair.closed k.listed missing
+
+-- of a cycle whose report lost lines nothing is said
+abbrev pub AreChanges : Kept → Pair → List ChangeAt → Type 0
+AreChanges k pair changes = (pair.closed.lost ≡ true → changes ≡ []) × (pair.closed.lost ≡ false → AreFound k pair changes)

@@ -1,0 +1,11 @@
+-- One look of a search for an earlier cycle.
+use Rattle.std.specs.Prelude.{ℕ, Bool, if◌then◌else◌, Option, Some, None}
+use Rattle.ocfl_accounts.specs.Cycle.{Cycle, Sight, there, away, is_fit_cycle, is_missing}
+
+abbrev pub fit_of : Bool → Sight → Option Cycle
+fit_of whole (there c) = if is_fit_cycle whole c then Some c else None
+fit_of whole (away lost) = None
+
+abbrev pub missing_with : Option ℕ → ℕ → Sight → Option ℕ
+missing_with (Some c) cycle sight = Some c
+missing_with None cycle sight = if is_missing sight then Some cycle else None

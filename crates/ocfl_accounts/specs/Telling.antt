@@ -1,0 +1,84 @@
+-- What it is to say what a closed cycle found.
+use Rattle.std.specs.Prelude.{◌≡◌, ◌⊎◌, ℕ, ◌+◌, ◌-◌, max, List, [], ◌∷◌, length, Bool, true, false, if◌then◌else◌}
+use Rattle.std.specs.List.{list_any}
+use Rattle.ocfl_tree.specs.Place.{Text}
+use Rattle.ocfl_compare.specs.declared.change.ChangeAt.{ChangeAt}
+use Rattle.ocfl_accounts.specs.Cycle.{Cycle, Sight, there, away}
+use Rattle.ocfl_accounts.specs.Kept.{Kept, Account, has_account, with_account}
+use Rattle.ocfl_accounts.specs.{Crash.{Step}, Said.{Said, HasSaid}, Pairs.{IsPair, waits, status_of}, Changes.{AreChanges}}
+use Rattle.ocfl_accounts.specs.declared.pair.Pair.{Pair}
+
+-- there is nothing to say of a cycle: its account is there, or its report is not
+abbrev pub IsSettled : Kept → ℕ → Type 0
+IsSettled k cycle = (has_account k cycle ≡ true) ⊎ ((lost : Bool) × (k.sights cycle ≡ away lost))
+
+-- the account of the cycle is that of the comparison with the right reports, and its text was said
+pub record IsAccountSaid (k : Kept) (cycle : ℕ) (text : Pair → List ChangeAt → Text) (old new : Said) (pair : Pair) (changes : List ChangeAt) : Type 0 where
+  pub is : k.sights cycle ≡ there pair.closed
+  pub unsaid : has_account k cycle ≡ false
+  pub pair_is : IsPair k.sights pair
+  pub changes_are : AreChanges k pair changes
+  pub said : HasSaid (text pair changes) old new
+
+abbrev pub account_of : ℕ → List ChangeAt → Account
+account_of cycle changes = record { cycle = cycle; changes = changes }
+
+-- it is kept then, unless the cycle can still be compared
+abbrev pub kept_then : Pair → Account → Kept → Kept
+kept_then pair account k = if waits pair then k else with_account account k
+
+-- it was said and kept, and this is the status
+pub record IsToldRightly (k : Kept) (cycle : ℕ) (text : Pair → List ChangeAt → Text) (news : ChangeAt → Bool) (after : Kept) (old new : Said) (status : ℕ) : Type 0 where
+  pub pair : Pair
+  pub changes : List ChangeAt
+  pub said : IsAccountSaid k cycle text old new pair changes
+  pub kept : after ≡ kept_then pair (account_of cycle changes) k
+  pub status_is : status ≡ status_of pair (list_any news changes)
+
+-- nothing was said, and all is as it was
+pub record IsLeftAlone (k : Kept) (cycle : ℕ) (after : Kept) (old new : Said) (status : ℕ) : Type 0 where
+  pub settled : IsSettled k cycle
+  pub same : after ≡ k
+  pub silent : new ≡ old
+  pub status_is : status ≡ 0
+
+-- a crash leaves what it might have left before; or that with the account, once its text was said
+abbrev pub MayAccount : Kept → ℕ → (Pair → List ChangeAt → Text) → Said → Said → Step
+MayAccount k cycle text old new before after =
+    (after ≡ before) ⊎ ((pair : Pair) × ((changes : List ChangeAt) × (IsAccountSaid k cycle text old new pair changes × (after ≡ with_account (account_of cycle changes) before))))
+
+-- ---- cycles one after the other
+
+-- how it stands after one cycle: what is kept, what was said, the status, and whether the cycle is
+-- done with
+pub record Outcome : Type 0 where
+  pub kept : Kept
+  pub said : Said
+  pub status : ℕ
+  pub is_done : Bool
+
+-- a cycle that is done with was said or left alone; of one that is not, the account may be kept if
+-- its text was said, and the status is 3
+abbrev pub IsOutcome : Kept → Said → ℕ → (Pair → List ChangeAt → Text) → (ChangeAt → Bool) → Outcome → Type 0
+IsOutcome k old cycle text news o = by o.is_done
+  where
+    by : Bool → Type 0
+    by true = IsLeftAlone k cycle o.kept old o.said o.status ⊎ IsToldRightly k cycle text news o.kept old o.said o.status
+    by false = MayAccount k cycle text old o.said k o.kept × (o.status ≡ 3)
+
+-- one cycle after the other, from a number on
+abbrev pub AreOutcomes : Kept → Said → ℕ → (Pair → List ChangeAt → Text) → (ChangeAt → Bool) → List Outcome → Kept → Said → Type 0
+AreOutcomes k old cycle text news [] after new = (after ≡ k) × (new ≡ old)
+AreOutcomes k old cycle text news (o ∷ os) after new = IsOutcome k old cycle text news o × AreOutcomes o.kept o.said (cycle + 1) text news os after new
+
+-- the greatest status, if it is greater than this one
+abbrev pub greatest_from : ℕ → List Outcome → ℕ
+greatest_from status [] = status
+greatest_from status (o ∷ os) = greatest_from (max status o.status) os
+
+-- all cycles from the first number on and below the second, in order, and the greatest status
+pub record AreSaid (k : Kept) (old : Said) (first end : ℕ) (text : Pair → List ChangeAt → Text) (news : ChangeAt → Bool) (after : Kept) (new : Said) (status : ℕ) : Type 0 where
+  pub outcomes : List Outcome
+  pub are : AreOutcomes k old first text news outcomes after new
+  pub all : length outcomes ≡ end - first
+  pub greatest : status ≡ greatest_from 0 outcomes

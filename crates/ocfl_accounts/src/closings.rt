@@ -1,0 +1,104 @@
+//! Closed reports, what is found in them, and the accounts of that.
+ghost use Rattle.std.specs.Prelude.{◌≡◌, ℕ, Bool, false, IsTrue, IfOk, OnOk, List, [], ⊤};
+ghost use Rattle.std.specs.List.{list_any};
+ghost use Rattle.ocfl_tree.specs.Place.{Text};
+ghost use Rattle.ocfl_compare.specs.declared.change.ChangeAt.{ChangeAt};
+ghost use Rattle.ocfl_accounts.specs.{Crash.{Outcomes, Passes, MayPut, Same}, Changes.{AreChanges}};
+ghost use Rattle.ocfl_accounts.specs.{Kept.{Kept, has_account, nothing_kept, with_account}, Telling.{account_of}};
+ghost use Rattle.ocfl_accounts.specs.{Sights.{IsSight}, declared.pair.Pair.{Pair as ModelPair}};
+
+use crate::closed::Look;
+use crate::pair::Pair;
+
+/// Why a closing was not said: a report, a list or an account cannot be read or written, the output
+/// failed, or memory was refused.
+#[derive(Clone, Copy, Debug, PartialEq, Eq)]
+pub enum ClosingStop {
+    Failed,
+    Output,
+    Memory,
+}
+
+/// What was found of a closed cycle.
+#[derive(Debug, Drop)]
+pub struct Found {
+    /// What is said of it.
+    pub text: Vec<u8>,
+    /// Whether something is new or gone.
+    pub is_grave: bool,
+}
+
+/// The closed reports of a state folder, and the accounts of what they have new and gone.
+///
+/// A crash may come at any moment, in a call or between two. An account is put as a whole.
+pub trait Closings {
+    /// Whether the folder is as the clauses say. Of one that is not told, they say nothing. One that
+    /// states none of these is not told.
+    ghost told: { Bool } = { false };
+
+    /// What calls show.
+    ghost seen: { Self → Kept } = { λ _. nothing_kept };
+
+    /// What was found last.
+    ghost found: { Self → List ChangeAt } = { λ _. [] };
+
+    /// What a crash at this moment may leave.
+    ghost may_leave: { Self → Outcomes } = { λ _ _. ⊤ };
+
+    /// The moment, as a number that does not fall.
+    ghost moment: { Self → ℕ } = { λ _. 0 };
+
+    /// What a crash at some moment from that one on might have left, in a call or between two.
+    ghost left_since: { Self → ℕ → Outcomes } = { λ _ _ _. ⊤ };
+
+    /// What is said of the changes of a cycle.
+    ghost text: { ModelPair → List ChangeAt → Text } = { λ _ _. [] };
+
+    /// Whether a change is new or gone, and not known.
+    ghost news: { ChangeAt → Bool } = { λ _. false };
+
+    /// Whether the account of a cycle is there.
+    fn has_account(&mut self, cycle: u64) -> Result<bool, ClosingStop>
+        ensures value { IsTrue told → IfOk result (λ is. is ≡ has_account (seen self.old) cycle) }
+        ensures seen { IsTrue told → seen self.new ≡ seen self.old }
+        ensures crash { IsTrue told → Passes may_leave moment left_since Same self.old self.new };
+
+    /// What is there of a closed cycle.
+    fn look(&mut self, cycle: u64) -> Result<Look, ClosingStop>
+        ensures value { IsTrue told → IfOk result (λ look.
+            IsSight cycle ((seen self.old).sights cycle) look) }
+        ensures seen { IsTrue told → seen self.new ≡ seen self.old }
+        ensures crash { IsTrue told → Passes may_leave moment left_since Same self.old self.new };
+
+    /// Finds the changes of a closed cycle, whose account is put by the next `put`. Of a cycle whose
+    /// report lost lines it finds none.
+    fn find(&mut self, pair: &Pair) -> Result<Found, ClosingStop>
+        ensures changes { IsTrue told → OnOk result
+            (AreChanges (seen self.old) pair.now (found self.new)) }
+        ensures text { IsTrue told → IfOk result (λ it.
+            it.text.items ≡ text pair.now (found self.new)) }
+        ensures grave { IsTrue told → IfOk result (λ it.
+            it.is_grave ≡ list_any news (found self.new)) }
+        ensures seen { IsTrue told → seen self.new ≡ seen self.old }
+        ensures crash { IsTrue told → Passes may_leave moment left_since Same self.old self.new };
+
+    /// Puts the account of the changes that were found last, which are those of this cycle. After
+    /// `Ok` it is on the disk.
+    fn put(&mut self, pair: &Pair) -> Result<(), ClosingStop>
+        ensures put { IsTrue told → OnOk result (seen self.new
+            ≡ with_account (account_of pair.now.closed.cycle (found self.old)) (seen self.old)) }
+        ensures may { IsTrue told → MayPut
+            (account_of pair.now.closed.cycle (found self.old)) (seen self.old) (seen self.new) }
+        ensures crash { IsTrue told → Passes may_leave moment left_since
+            (MayPut (account_of pair.now.closed.cycle (found self.old))) self.old self.new };
+
+    /// Ends what was found and is not put, since the cycle can be compared once a report is back.
+    fn drop_found(&mut self, pair: &Pair) -> Result<(), ClosingStop>
+        ensures seen { IsTrue told → seen self.new ≡ seen self.old }
+        ensures crash { IsTrue told → Passes may_leave moment left_since Same self.old self.new };
+
+    /// Notes why a closing was not said.
+    fn fail(&mut self, stop: ClosingStop)
+        ensures seen { IsTrue told → seen self.new ≡ seen self.old }
+        ensures crash { IsTrue told → Passes may_leave moment left_since Same self.old self.new };
+}

@@ -1,0 +1,86 @@
+//! What a closed cycle can be compared with.
+ghost use Rattle.std.specs.Prelude.{◌≡◌, IsTrue, IfOk, if◌then◌else◌, Some, None};
+ghost use Rattle.ocfl_accounts.specs.{Crash.{Passes, Same}, Cycle.{IsEarlier, is_missing, lowest}};
+ghost use Rattle.ocfl_accounts.specs.{Sights.{sight_of}, Search.{fit_of, missing_with}};
+
+use crate::closed::{ClosedCycle, Look};
+use crate::closings::{ClosingStop, Closings};
+
+/// How many cycles back a report is looked for at most, and one more.
+const MOST_BACK: u64 = 1_000;
+
+/// What a cycle is compared with.
+#[derive(Debug, Drop)]
+pub struct Earlier {
+    /// The last cycle before it whose report is there and lost nothing.
+    pub found: Option<ClosedCycle>,
+    /// The last cycle between that one and this one whose report is not there.
+    pub missing: Option<u64>,
+}
+
+/// Looks for the last cycle before this one, of 999, whose report is there and lost nothing; with
+/// `is_whole` for the last one that left nothing out either.
+#[tactic(auto, using(crate::proofs::Passing::nothing_passes, crate::proofs::Passing::two_same, crate::proofs::Search::looked_none))]
+pub fn find_earlier<C: Closings>(
+    closings: &mut C,
+    cycle: u64,
+    is_whole: bool,
+) -> Result<Earlier, ClosingStop>
+    ensures value { IsTrue C.told → IfOk result (λ it.
+        IsEarlier (C.seen closings.old).sights is_whole cycle it.found it.missing) }
+    ensures seen { IsTrue C.told → C.seen closings.new ≡ C.seen closings.old }
+    ensures crash { IsTrue C.told
+        → Passes C.may_leave C.moment C.left_since Same closings.old closings.new }
+{
+    let low = lowest_of(cycle);
+    let mut missing = None;
+    let mut next = cycle;
+    while next > low {
+        next -= 1;
+        let look = closings.look(next)?;
+        missing = with_missing(missing, next, &look);
+        if let Some(found) = take_fit(look, is_whole) {
+            return Ok(Earlier {
+                found: Some(found),
+                missing,
+            });
+        }
+    }
+    Ok(Earlier {
+        found: None,
+        missing,
+    })
+}
+
+/// The first cycle in which a report is looked for.
+fn lowest_of(cycle: u64) -> u64
+    ensures { result ≡ lowest cycle }
+{
+    cycle.saturating_sub(MOST_BACK - 1).max(1)
+}
+
+/// The last cycle whose report is missing, if this one comes before those that were looked at.
+fn with_missing(missing: Option<u64>, cycle: u64, look: &Look) -> Option<u64>
+    ensures { result ≡ missing_with missing cycle (sight_of look.now) }
+{
+    match look {
+        Look::Away { lost: false } => missing.or(Some(cycle)),
+        _ => missing,
+    }
+}
+
+/// The cycle, if it is fit to be compared with.
+fn take_fit(look: Look, is_whole: bool) -> Option<ClosedCycle>
+    ensures { result ≡ fit_of is_whole (sight_of look) }
+{
+    match look {
+        Look::There(found) => {
+            if found.is_fit(is_whole) {
+                Some(found)
+            } else {
+                None
+            }
+        }
+        Look::Away { lost: _ } => None,
+    }
+}

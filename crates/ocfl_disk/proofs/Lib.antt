@@ -5,3 +5,4 @@ pub mod Fronts
 pub mod Reporting
 pub mod Syncing
 pub mod Folders
+pub mod Losing

@@ -6,6 +6,7 @@ mod beside;
 mod disk;
 mod fs_log;
 mod fs_state;
+pub mod laws;
 mod lock;
 mod state_file;
 mod system_disk;

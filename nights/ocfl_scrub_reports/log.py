@@ -213,7 +213,7 @@ class Telling:
     def take(self, row: dict[str, Any]) -> Iterator[Entry]:
         """What comes with the next row."""
         night, kind = time_of(row, "night"), words(row, "row")
-        if night != self.night:
+        if night != self.night or kind == "began":
             yield from self.end(row)
             self.night, self.has_begun, self.has_ended, self.has_slices = night, False, False, False
             self.began = None

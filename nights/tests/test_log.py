@@ -40,6 +40,14 @@ class Began(Told):
         self.made.night(2, 3, 1, 3, 9)
         self.assertEqual(self.kinds()[2:], [("began", 3, 0), ("0", 3, 3), ("told", 0, 0)])
 
+    def test_two_nights_in_one_second(self):
+        """The first one was cut."""
+        self.made.begin(1, 3)
+        self.made.begin(1, 3)
+        self.made.night(1, 3, 1, 3, 9)
+        self.assertEqual(self.kinds(), [("began", 3, 0), ("cut", 3, 0), ("began", 3, 0),
+                                        ("0", 3, 3), ("told", 0, 0)])
+
     def test_a_night_of_no_run(self):
         self.made.begin(1, 3)
         self.made.log_night(1)

@@ -1,0 +1,62 @@
+#!/usr/bin/env python3
+"""Tries what a night says of a storage root of 160 objects in which damages were planted.
+
+The root is as tools of the field write it (`shared/library.py`). After a night over it as it was
+made, 21 objects are damaged, each in another way, and the next night's message has to name each of
+them by its place and by what is wrong, in at most 40 lines, none over 100 characters but for paths.
+Three more damages are of kinds that a night does not look at: it says nothing of them.
+
+usage: damages.py
+"""
+import os
+import re
+import time
+
+import common
+from common import check
+from shared.library import DAMAGES, NAMES, UNSEEN, make_library
+from shared.nights import Nights, ran
+
+
+def longest(text, places):
+    """The longest line, without the paths in it."""
+    for place in places:
+        text = text.replace(place, "")
+    for name in NAMES:
+        text = text.replace(name, "")
+    return max(len(re.sub(r"'[^']*'", "", line)) for line in text.split("\n"))
+
+
+def objects_for(objects):
+    """Objects of two versions or more, one for each damage, the umlaut's first."""
+    rest = [it for it in objects if len(it.versions) > 1]
+    umlaut = next(it for it in rest if any("ü" in path for path in it.paths()))
+    rest.remove(umlaut)
+    return [umlaut if damage.name == "a name in two code points" else rest.pop(0)
+            for damage in [*DAMAGES, *UNSEEN]]
+
+
+def check_all(folder):
+    root = os.path.join(folder, "root")
+    objects = make_library(root)
+    nights = Nights(os.path.join(folder, "state"), root)
+    _, first, _ = ran(nights.words())
+    files = sum(len(it.paths()) for it in objects)
+    check("a root as it was made", re.findall(r"(\d+) of (\d+) files right, (\d+) objects", first),
+          [(str(files), str(files), str(len(objects)))])
+    planted = list(zip([*DAMAGES, *UNSEEN], objects_for(objects)))
+    for damage, it in planted:
+        damage.do(it)
+    time.sleep(1.1)
+    _, message, _ = ran(nights.words())
+    for damage, it in planted[:len(DAMAGES)]:
+        check("%s is named" % damage.name, it.place in message, True)
+    for damage, it in planted[len(DAMAGES):]:
+        check("%s is not seen" % damage.name, it.place in message, False)
+    check("lines of the message", len(message.splitlines()) <= 40, True)
+    check("its longest line", longest(message, [it.folder for it in objects]
+                                      + [it.place for it in objects]) <= 100, True)
+
+
+if __name__ == "__main__":
+    common.run_trial(check_all)

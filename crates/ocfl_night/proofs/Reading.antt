@@ -27,12 +27,12 @@ use Rattle.ocfl_scrub.specs.declared.running.RunStatus.TheVariants as status
 use Rattle.ocfl_state.specs.{Checkpoint.{Checkpoint}, Content.{Content}}
 use Rattle.ocfl_state.specs.declared.checkpoint_parts.{Phase.{Phase}, Phase.TheVariants.{Open, Closing}}
 use Rattle.ocfl_state.specs.declared.checkpoint_parts.ReportMark.{ReportMark}
-use Rattle.ocfl_night.specs.Beginning.{BeginsAt, Position, first, further, position}
+use Rattle.ocfl_night.specs.Beginning.{BeginsAt, Position, StandsAt, first, further, goes_on_at, goes_on_in, position}
 use Rattle.ocfl_night.specs.{Done.{Done}, Leaving.{done_by, remedy_at}, Looks.{Counts, opened_since}}
 use Rattle.ocfl_night.specs.Ending.{IsAway, IsMadeBy, IsSlice, IsUnkept, KeepsTo, cycle_ended, ended_by, halt_after, place_or_pause, slice_end}
-use Rattle.ocfl_night.specs.Reading.{AreBeyond, AreDeclarations, AreOfOneCycle, AreReadOnce, AreTaken, EndsInOrder, HasCursor, HasRead, HaveRead, IsRead, IsReadBy, IsReadTo, IsReading, Reading, ReadsBeyond, StaysTaken, came_to, content_since, reached, reached_in}
+use Rattle.ocfl_night.specs.Reading.{AreBeyond, AreDeclarations, AreOfOneCycle, AreReadOnce, AreTaken, EndsInOrder, HasRead, HaveRead, IsRead, IsReadBy, IsReadTo, IsReading, Reading, ReadsBeyond, StaysTaken, came_to, content_since, reached, reached_in}
 use Rattle.ocfl_night.specs.{Runs.{StopsOpen, Turn, after_end, after_made, turn_of}, Sound.{IsAt}}
-use Rattle.ocfl_night.specs.{Steps.{IsFinished, IsNext, IsNotBegun, begun_anew, with_all_told}}
+use Rattle.ocfl_night.specs.Steps.{IsNext, IsNotBegun, with_all_told}
 use Rattle.ocfl_night.specs.declared.{plan.Halt.{Halt}, plan.Pause.{Pause}, slicing.Made.{Made}, slicing.SliceEnd.{SliceEnd}, stop.Stop.{Stop}, tally.Remedy.{Remedy}}
 use Rattle.ocfl_night.specs.declared.plan.Halt.TheVariants as halt
 use Rattle.ocfl_night.specs.declared.plan.Pause.TheVariants as pause
@@ -348,8 +348,10 @@ module _ (strict : Bool) (d e : Done) {k : Checkpoint} {limits : Limits} {made :
 
 -- ---- the end of a night's runs
 
-pub finished_cursor : {k : Checkpoint} {old new : Content} → IsFinished k old new → HasCursor k.cursor new
-finished_cursor {k} f = record { checkpoint = begun_anew k; at = record { bytes = f.next.bytes; is = ap (λ (x : Content). x.checkpoint) f.next.put; text = f.next.text }; is = refl }
+-- it stands at the cursor of the last run
+goes_on_cursor : (phase : Phase) (k : Checkpoint) → (goes_on_in phase k).cursor ≡ k.cursor
+goes_on_cursor Open k = refl
+goes_on_cursor Closing k = refl
 
 -- where its checkpoint has come
 came_there : (phase : Phase) (c : Cursor) (n : ℕ) (why : Pause) → came_to (halt_after (cycle_ended phase n) why) c ≡ reached_in phase c
@@ -361,15 +363,15 @@ came_there Open c n pause.Asked = refl
 came_there Open c n (pause.Stopped why) = refl
 came_there Open c n pause.RootChanged = refl
 
-pub read_to : {s t : Store} {from : State} {c : Content} {ps : List Place} (last said : Checkpoint) (cycle : Option ℕ) (why : Pause) {end : Halt} → said ≡ with_all_told last → cycle ≡ cycle_ended said.phase said.cursor.cycle → end ≡ halt_after cycle why → HasCursor said.cursor c
+pub read_to : {s t : Store} {from : State} {c : Content} {ps : List Place} (last said : Checkpoint) (cycle : Option ℕ) (why : Pause) {end : Halt} → said ≡ with_all_told last → cycle ≡ cycle_ended said.phase said.cursor.cycle → end ≡ halt_after cycle why → StandsAt c (goes_on_at said)
     → HaveRead s t from (reached last) (halt_after (cycle_ended last.phase last.cursor.cycle) why) ps → EndsInOrder end → IsReadTo s t from end c ps
-read_to {from = from} {ps = ps} last said cycle why {end} all is so has read order =
-    let cursor : has.checkpoint.cursor ≡ last.cursor = has.is ∙ ap (λ (x : Checkpoint). x.cursor) all in
+read_to {from = from} {ps = ps} last said cycle why {end} all is so stands read order =
+    let cursor : stands.0.cursor ≡ last.cursor = ap (λ (x : Position). x.cursor) stands.1.1 ∙ goes_on_cursor said.phase said ∙ ap (λ (x : Checkpoint). x.cursor) all in
     let same : end ≡ halt_after (cycle_ended last.phase last.cursor.cycle) why = so ∙ ap (λ (o : Option ℕ). halt_after o why) (is ∙ ap (λ (x : Checkpoint). cycle_ended x.phase x.cursor.cycle) all) in
-    let came : came_to end has.checkpoint.cursor ≡ reached last = ap (λ (h : Halt). came_to h has.checkpoint.cursor) same ∙ ap (came_to (halt_after (cycle_ended last.phase last.cursor.cycle) why)) cursor ∙ came_there last.phase last.cursor last.cursor.cycle why in
+    let came : came_to end stands.0.cursor ≡ reached last = ap (λ (h : Halt). came_to h stands.0.cursor) same ∙ ap (came_to (halt_after (cycle_ended last.phase last.cursor.cycle) why)) cursor ∙ came_there last.phase last.cursor last.cursor.cycle why in
     record {
-      last = has.checkpoint;
-      at = has.at;
+      last = stands.0;
+      at = stands.1.0;
       stays = subst (StaysTaken from) (sym came) read.stays;
       once = λ unfailing. subst (λ (s : State). AreReadOnce s ps) (sym came) (read.once unfailing (subst EndsInOrder same order));
     }

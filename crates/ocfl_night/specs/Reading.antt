@@ -51,12 +51,6 @@ reached_in Closing c = c.state
 abbrev pub reached : Checkpoint → State
 reached k = reached_in k.phase k.cursor
 
--- the checkpoint that is there has this cursor
-pub record HasCursor (c : Cursor) (content : Content) : Type 0 where
-  pub checkpoint : Checkpoint
-  pub at : IsAt checkpoint content
-  pub is : checkpoint.cursor ≡ c
-
 -- ---- what runs read
 
 -- By where a run stopped, or what it halts: if the night goes on, the run read each file once. It

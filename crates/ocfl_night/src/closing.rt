@@ -5,7 +5,6 @@ ghost use Rattle.ocfl_state.specs.Pieces.{summary_of};
 ghost use Rattle.ocfl_state.specs.declared.checkpoint_parts.Phase.TheVariants.{Closing};
 ghost use Rattle.ocfl_night.specs.{Beginning.{StandsAt, goes_on_at}, Ending.{cycle_ended}};
 ghost use Rattle.ocfl_night.specs.{Promises.{IfReady, IsSafe, SameClosed}, Sound.{IsAllSaid, IsAt, IsOneMore, IsReady}};
-ghost use Rattle.ocfl_night.specs.Reading.{HasCursor};
 ghost use Rattle.ocfl_night.specs.Steps.{IsClosedExactly, IsFinished, IsMoveDone, MayMoveAt, closes_whole};
 ghost use Rattle.ocfl_night.specs.Stopping.{ForClose, ForNoOther, StopsFor};
 
@@ -112,9 +111,6 @@ pub fn finish<S: StateFolder>(
     ensures said { IsTrue S.told → IfReady S.seen S.may_leave checkpoint folder.old
         (λ _ _. checkpoint.told ≡ checkpoint.report.bytes
         → OnOk result (IsAllSaid (S.seen folder.new))) }
-    // The checkpoint that is there then has the cursor of this one.
-    ensures cursor { IsTrue S.told → IfReady S.seen S.may_leave checkpoint folder.old
-        (λ _ _. OnOk result (HasCursor checkpoint.cursor (S.seen folder.new))) }
     // It is closed as whole exactly if nothing of it was lost, no branch was left out, and it is as
     // the checkpoint says. The next cycle begins as one of which nothing is lost or left out.
     ensures finished { IsTrue S.told → checkpoint.phase ≡ Closing → OnOk result

@@ -1,7 +1,6 @@
-use Rattle.std.proofs.Common.{◌∙◌, ℕ, refl, subst, sym}
+use Rattle.std.proofs.Common.{◌∙◌, ℕ, subst, sym}
 use Rattle.ocfl_night.specs.Sound.{IsOneMore}
 use Rattle.ocfl_night.proofs.Lasting.{closed_stands, open_stands}
-use Rattle.ocfl_night.proofs.Reading.{finished_cursor}
 use Rattle.ocfl_night.proofs.closing.finish.Goals as goal
 
 pub returns-in_ok-close-in-Closing-clause-closed :
@@ -30,9 +29,3 @@ returns-in-Open-clause-stands g c = λ told at. open_stands c.args.checkpoint (g
 pub returns-in_ok-close-in-Closing-clause-stands : goal.returns-in_ok-close-in-Closing-clause-stands
 returns-in_ok-close-in-Closing-clause-stands g c = λ told at.
     closed_stands c.args.checkpoint (g.S.StateFolder.seen c.args.folder.now) (g.S.StateFolder.seen c.close.new.folder) (sym c.phase_of.ensures ∙ c.in-Closing.is) (c.in_ok-close-in-Closing.ensures.finished told)
-
-pub returns-in-Open-clause-cursor : goal.returns-in-Open-clause-cursor
-returns-in-Open-clause-cursor g c = λ told rounds t r. record { checkpoint = c.args.checkpoint; at = r.at; is = refl }
-
-pub returns-in_ok-close-in-Closing-clause-cursor : goal.returns-in_ok-close-in-Closing-clause-cursor
-returns-in_ok-close-in-Closing-clause-cursor g c = λ told rounds t r. finished_cursor (c.in_ok-close-in-Closing.ensures.finished told)

@@ -135,5 +135,5 @@ pub returns-clause-read : goal.returns-clause-read
 returns-clause-read g c = λ told declares tells root over short t r order.
     let rounds = of_any (part_of c.args.part.now) in
     let said = c.in_ok-said.ensures.ready told rounds t (c.in_ok-last.ensures.ready told tells root over short None tt t r) in
-    let has = c.in_ok-ended.ensures.cursor told rounds (t ++ said.more) said.ready in
-    read_to c.in_ok-last.last c.in_ok-said.said c.in_ok-ended.ended c.in_ok-last.pause c.in_ok-said.ensures.all c.in_ok-ended.ensures.ended c.halt_after.ensures.is has (c.in_ok-last.ensures.read declares tells root over short) order
+    let stands = c.in_ok-ended.ensures.stands told said.ready.at in
+    read_to c.in_ok-last.last c.in_ok-said.said c.in_ok-ended.ended c.in_ok-last.pause c.in_ok-said.ensures.all c.in_ok-ended.ensures.ended c.halt_after.ensures.is stands (c.in_ok-last.ensures.read declares tells root over short) order

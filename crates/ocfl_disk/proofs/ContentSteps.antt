@@ -1,10 +1,10 @@
 -- What each change of names and bytes does to the content.
-use Rattle.std.proofs.Common.{◌≡◌, ◌≢◌, ◌⊎◌, inl, inr, ⊎_elim, ℕ, ◌≤◌, Bool, true, false, cond, eqb, List, [], ◌∷◌, ◌++◌, length, max, Option, Some, None, refl, sym, ◌∙◌, subst, ap, arith}
+use Rattle.std.proofs.Common.{◌≡◌, ◌≢◌, ◌⊎◌, inl, inr, ℕ, ◌≤◌, Bool, true, false, eqb, List, [], ◌∷◌, ◌++◌, length, max, Option, Some, None, refl, sym, ◌∙◌, subst, ap, arith}
 use Rattle.std.proofs.lemmas.Bool.Decides.{eqb_tells}
 use Rattle.std.specs.Option.{option_map}
 use Rattle.ocfl_state.specs.Content.{Bytes, Closed, Content, with_checkpoint, with_report, moved}
 use Rattle.ocfl_state.specs.Crash.{Begins, MayPut, MayMove, MayTear as MayTearContent}
-use Rattle.ocfl_disk.specs.Names.{ClosedName, Names, Stored, report_of, closed_of, content_of, IsNoClosed, IsApart, IsNameless, without_beside, put_over, close_over, closed_names}
+use Rattle.ocfl_disk.specs.Names.{ClosedName, Names, Stored, report_of, closed_of, content_of, IsNoClosed, IsApart, put_over, close_over, closed_names}
 use Rattle.ocfl_disk.specs.PowerCut.{MayTear, MayMake, MayDrop, MayPutOver, MayCloseOver}
 use Rattle.ocfl_disk.specs.declared.state_file.StateFile.TheVariants.{NewCheckpoint, Report}
 

@@ -1,13 +1,13 @@
 -- A state folder's clauses, by those of its disk.
-use Rattle.std.proofs.Common.{◌≡◌, ◌≢◌, ◌⊎◌, inl, inr, ⊎_elim, ℕ, ◌≤◌, ◌<◌, refl, sym, ◌∙◌, subst, ap, arith}
-use Rattle.std.specs.Prelude.{Result, Ok, Err, IfErr, IsErrOf}
+use Rattle.std.proofs.Common.{◌≡◌, ◌⊎◌, inl, inr, ⊎_elim, ℕ, ◌≤◌, ◌<◌, refl, sym, subst, ap, arith}
+use Rattle.std.specs.Prelude.{Result, Ok, Err, IfErr}
 use Rattle.std.specs.IoError.{error_kind}
 use Rattle.std.specs.declared.io.ErrorKind.{ErrorKind}
-use Rattle.std.specs.declared.io.ErrorKind.TheVariants.{OutOfMemory, InvalidInput, StorageFull, QuotaExceeded}
+use Rattle.std.specs.declared.io.ErrorKind.TheVariants.{InvalidInput, StorageFull, QuotaExceeded}
 use Rattle.ocfl_state.specs.{Content.{Content}, Calls.{HasCauseOr}}
 use Rattle.ocfl_state.specs.Crash.{Step, Outcomes, Same, After, Follows, Passes}
 use Rattle.ocfl_state.specs.declared.folder.FolderTrouble.{FolderTrouble}
-use Rattle.ocfl_state.specs.declared.folder.FolderTrouble.TheVariants.{Failed, Full, Memory, Taken}
+use Rattle.ocfl_state.specs.declared.folder.FolderTrouble.TheVariants.{Failed, Full, Memory}
 use Rattle.ocfl_disk.specs.{Reasons.{IsTroubleOf}, Leaving.{Leaves}, Disk.{HasFault, IsWrong}}
 use Rattle.ocfl_disk.specs.Names.{Stored, content_of}
 use Rattle.ocfl_disk.specs.PowerCut.{DiskState, Passes as DiskPasses, After as DiskAfter}

@@ -1,8 +1,8 @@
 -- The front of a checkpoint's file.
-use Rattle.std.proofs.Common.{◌≡◌, ◌≢◌, inl, inr, ℕ, suc, ◌+◌, ◌≤◌, ◌<◌, min, List, length, take, Option, Some, None, Vec, Global, refl, sym, ◌∙◌, subst, ap, arith, take_all, length-take}
+use Rattle.std.proofs.Common.{◌≡◌, ℕ, ◌+◌, ◌≤◌, length, take, Option, Some, None, Vec, Global, refl, sym, ◌∙◌, subst, ap, arith, take_all, length-take}
 use Rattle.std.specs.Prelude.{IfSome}
 use Rattle.std.specs.Option.{option_map}
-use Rattle.ocfl_state.specs.{Content.{Bytes}, Calls.{bytes_of, HasLong, IsLong, most_checkpoint}}
+use Rattle.ocfl_state.specs.{Content.{Bytes}, Calls.{bytes_of, HasLong, most_checkpoint}}
 use Rattle.ocfl_disk.specs.{Names.{Names}, Disk.{IsFound}}
 use Rattle.ocfl_disk.specs.declared.state_file.StateFile.{StateFile}
 use Rattle.ocfl_disk.specs.declared.state_file.StateFile.TheVariants.{Checkpoint}

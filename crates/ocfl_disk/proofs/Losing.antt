@@ -3,12 +3,12 @@ use Rattle.std.proofs.Common.{◌≡◌, ◌≢◌, ◌⊎◌, inl, inr, ⊎_eli
 use Rattle.std.specs.Prelude.{IsTrue, if◌then◌else◌}
 use Rattle.std.proofs.lemmas.Bool.Decides.{eqb_tells}
 use Rattle.ocfl_state.specs.Content.{Bytes}
-use Rattle.ocfl_disk.specs.Names.{ClosedName, Names, Stored, named, with_named, IsNoClosed, IsApart, IsNameless, without_beside, put_over, close_over, closed_names}
+use Rattle.ocfl_disk.specs.Names.{ClosedName, Names, Stored, IsNoClosed, IsApart, IsNameless, close_over, closed_names}
 use Rattle.ocfl_disk.specs.PowerCut.{DiskState, Change, Same, After, Passes, MayTear, MayMake, MayDrop, MayPutOver, MayCloseOver, AreSynced, IsDisk}
 use Rattle.ocfl_disk.specs.Disk.{Calm, Writes, Makes, Drops, PutsOver, ClosesOver}
-use Rattle.ocfl_disk.specs.Losing.{next, with_bytes, unsynced, no_names, after_write, after_make, after_drop, after_put, after_close, after_sync, after_sync_folder, is_that_folder, with_folder, IsCertain, begun, IsOwn, Loses, DiskCall, write, make_new, make_report, remove, put, close, sync, sync_folder, IsAllowed, after_call, after_calls, AreAllowed}
+use Rattle.ocfl_disk.specs.Losing.{next, with_bytes, unsynced, after_write, after_make, after_drop, after_put, after_close, after_sync, after_sync_folder, IsCertain, begun, IsOwn, Loses, DiskCall, write, make_new, make_report, remove, put, close, sync, sync_folder, IsAllowed, after_call, after_calls, AreAllowed}
 use Rattle.ocfl_disk.specs.declared.state_file.StateFile.{StateFile}
-use Rattle.ocfl_disk.specs.declared.state_file.StateFile.TheVariants.{Folder, Reports, NewCheckpoint, Report}
+use Rattle.ocfl_disk.specs.declared.state_file.StateFile.TheVariants.{NewCheckpoint, Report}
 
 passes_next : (change : Change) (seen : Stored) (may : Stored → Type 0) (synced : ℕ → Bool) (has : StateFile → Bool) (d : DiskState)
     → ((c : Stored) → may c → After change d.may_leave c) → Passes change d (next seen may synced has d)

@@ -1,5 +1,5 @@
 -- How one call passes after another.
-use Rattle.std.proofs.Common.{◌≡◌, ◌⊎◌, inl, inr, ⊎_elim, ℕ, ◌≤◌, refl, sym, subst, arith}
+use Rattle.std.proofs.Common.{◌⊎◌, inl, inr, ⊎_elim, ℕ, sym, subst, arith}
 use Rattle.ocfl_disk.specs.Names.{Stored}
 use Rattle.ocfl_disk.specs.PowerCut.{DiskState, Change, After, Passes, Same}
 

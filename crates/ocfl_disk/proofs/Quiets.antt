@@ -1,6 +1,5 @@
 -- Calls that change no content.
-use Rattle.std.proofs.Common.{◌≡◌, ◌≢◌, ◌⊎◌, inl, inr, ⊎_elim, ℕ, ◌≤◌, true, List, [], ◌∷◌, Option, Some, None, refl, sym, ◌∙◌, subst, ap, arith}
-use Rattle.std.specs.Prelude.{IsTrue}
+use Rattle.std.proofs.Common.{◌≡◌, ◌≢◌, ◌⊎◌, inl, inr, ℕ, Some, refl, ◌∙◌, subst, ap}
 use Rattle.ocfl_state.specs.{Content.{Bytes, Content}, Crash.{Step, Same, MayPut}}
 use Rattle.ocfl_disk.specs.Names.{Names, Stored, content_of, IsApart}
 use Rattle.ocfl_disk.specs.PowerCut.{DiskState, Passes, Same as SameStored, MayTear, MayMake, MayDrop, MayPutOver, IsDisk}

@@ -1,14 +1,14 @@
 -- Appending to the report, cutting it, and closing it.
-use Rattle.std.proofs.Common.{◌≡◌, ◌≢◌, ◌⊎◌, inl, inr, ⊎_elim, ℕ, zero, suc, ◌≤◌, Bool, true, false, ◌||◌, ◌&&◌, ◌==◌, not, List, [], ◌∷◌, ◌++◌, length, take, Option, Some, None, refl, sym, ◌∙◌, subst, ap, arith}
-use Rattle.std.specs.Prelude.{IsTrue, IsSome, IfOk, OnOk, Result, Ok, Err, if◌then◌else◌}
-use Rattle.ocfl_state.specs.Content.{Bytes, Closed, Content, with_report, moved, is_closed}
-use Rattle.ocfl_state.specs.Crash.{Step, Same, IsMoved, MayMove, MayTear as MayTearContent}
+use Rattle.std.proofs.Common.{◌≡◌, ◌⊎◌, inl, inr, ℕ, zero, suc, Bool, true, false, ◌||◌, ◌&&◌, ◌==◌, not, List, [], ◌∷◌, ◌++◌, take, Option, Some, None, refl, sym, ◌∙◌, subst, ap}
+use Rattle.std.specs.Prelude.{IsSome, IfOk, OnOk, Result, Ok, Err, if◌then◌else◌}
+use Rattle.ocfl_state.specs.Content.{Bytes, Content, with_report, moved, is_closed}
+use Rattle.ocfl_state.specs.Crash.{Same, IsMoved, MayMove, MayTear as MayTearContent}
 use Rattle.ocfl_state.proofs.Images.{not_torn}
-use Rattle.ocfl_disk.specs.Names.{ClosedName, Names, Stored, report_of, closed_of, closed_names, close_over, content_of, IsApart, IsNoClosed}
+use Rattle.ocfl_disk.specs.Names.{ClosedName, Names, Stored, report_of, closed_of, closed_names, close_over, content_of, IsNoClosed}
 use Rattle.ocfl_disk.specs.PowerCut.{DiskState, Passes, MayTear, MayCloseOver, IsDisk}
 use Rattle.ocfl_disk.specs.Disk.{Calm, Writes, ClosesOver, has_name}
 use Rattle.ocfl_disk.specs.Internal.Contents.{OfContent, Still, FollowsContent}
-use Rattle.ocfl_disk.proofs.Passing.{passes_then, passes_as, then_calm}
+use Rattle.ocfl_disk.proofs.Passing.{passes_then, passes_as}
 use Rattle.ocfl_disk.proofs.ContentSteps.{tear_report, written_report, close_is, may_close_over}
 use Rattle.ocfl_disk.proofs.Quiets.{still_then, still_of_calm}
 

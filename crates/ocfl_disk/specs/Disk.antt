@@ -2,7 +2,7 @@
 use Rattle.std.specs.Prelude.{◌≡◌, ◌≢◌, ◌⊎◌, ℕ, ◌<◌, Bool, false, ◌==◌, ◌&&◌, ◌||◌, not, if◌then◌else◌, IsTrue, List, [], ◌∷◌, Option, None, ⊤}
 use Rattle.std.specs.IoError.{error_kind}
 use Rattle.std.specs.declared.io.ErrorKind.TheVariants.{OutOfMemory, InvalidInput}
-use Rattle.ocfl_disk.specs.Names.{ClosedName, Names, Stored, named, with_named, IsNameless, put_over, close_over}
+use Rattle.ocfl_disk.specs.Names.{ClosedName, Names, named, with_named, IsNameless, put_over, close_over}
 use Rattle.ocfl_disk.specs.PowerCut.{DiskState, Passes, Same, MayTear, MayMake, MayDrop, MayPutOver, MayCloseOver}
 use Rattle.ocfl_disk.specs.declared.state_file.{Reason.{Reason}, StateFile.{StateFile}}
 use Rattle.ocfl_disk.specs.declared.state_file.StateFile.TheVariants.{Checkpoint, Report}

@@ -1,6 +1,6 @@
 -- The disk that loses the most that the calls allow: after each call a cut may leave all that was
 -- possible before, changed by the call or not, and a sync takes away only what it has to.
-use Rattle.std.specs.Prelude.{◌≡◌, ◌≢◌, ◌⊎◌, ℕ, ◌+◌, ◌≤◌, Bool, true, false, ◌==◌, ◌&&◌, ◌||◌, not, if◌then◌else◌, IsTrue, List, [], ◌∷◌, Some, None, ⊤}
+use Rattle.std.specs.Prelude.{◌≡◌, ◌⊎◌, ℕ, ◌+◌, ◌≤◌, Bool, true, false, ◌==◌, ◌&&◌, ◌||◌, not, if◌then◌else◌, IsTrue, List, [], ◌∷◌, Some, None, ⊤}
 use Rattle.ocfl_state.specs.Content.{Bytes}
 use Rattle.ocfl_disk.specs.Names.{Stored, with_named, IsNameless, without_beside, put_over, close_over}
 use Rattle.ocfl_disk.specs.PowerCut.{DiskState, After, MayTear, MayMake, MayDrop, MayPutOver, MayCloseOver, IsDisk}

@@ -1,5 +1,5 @@
 -- What is in a state folder on a disk: which file has which name, and the bytes of each file.
-use Rattle.std.specs.Prelude.{◌≡◌, ◌≢◌, ℕ, Bool, true, false, List, [], ◌∷◌, ◌++◌, Option, Some, None, ⊤}
+use Rattle.std.specs.Prelude.{◌≢◌, ℕ, Bool, List, [], ◌∷◌, ◌++◌, Option, Some, None, ⊤}
 use Rattle.std.specs.Option.{option_map}
 use Rattle.ocfl_state.specs.Content.{Bytes, Closed, Content}
 use Rattle.ocfl_disk.specs.declared.state_file.StateFile.{StateFile}

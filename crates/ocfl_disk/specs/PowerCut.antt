@@ -4,7 +4,7 @@
 -- written since, all may be there, nothing or a part, and in its place any bytes. A change of names
 -- is there as a whole or not at all, and only where those before it of the same names are. A
 -- process that is killed loses nothing.
-use Rattle.std.specs.Prelude.{◌≡◌, ◌≢◌, ◌⊎◌, ℕ, ◌≤◌, Bool, true, IsTrue, List, [], ◌∷◌, Option, Some, None, length, max, ⊤}
+use Rattle.std.specs.Prelude.{◌≡◌, ◌≢◌, ◌⊎◌, ℕ, ◌≤◌, Bool, true, IsTrue, List, [], ◌∷◌, Some, None, length, max, ⊤}
 use Rattle.ocfl_state.specs.{Content.{Bytes}, Crash.{Begins}}
 use Rattle.ocfl_disk.specs.Names.{ClosedName, Names, Stored, named, with_named, IsApart, IsNameless, without_beside, put_over, close_over}
 use Rattle.ocfl_disk.specs.declared.state_file.StateFile.{StateFile}

@@ -1,7 +1,7 @@
 -- What the calls of a disk do to the content of a state folder.
-use Rattle.std.specs.Prelude.{◌≡◌, ℕ, ◌≤◌, IsTrue, Some, length, ◌++◌}
-use Rattle.ocfl_state.specs.Content.{Bytes, with_checkpoint}
-use Rattle.ocfl_state.specs.Crash.{Step, Same, MayPut, MayMove}
+use Rattle.std.specs.Prelude.{◌≡◌, ℕ, IsTrue, Some}
+use Rattle.ocfl_state.specs.Content.{Bytes}
+use Rattle.ocfl_state.specs.Crash.{Step, Same, MayPut}
 use Rattle.ocfl_disk.specs.Names.{Stored, content_of}
 use Rattle.ocfl_disk.specs.PowerCut.{DiskState, Change, Passes}
 

@@ -7,6 +7,7 @@ use std::test::Fail;
 mod disk;
 mod finding;
 mod observed;
+mod order;
 mod pieces;
 
 /// A checkpoint, a closed report of cycle 1 and an open report, all on the disk.

@@ -1,6 +1,4 @@
-use Rattle.std.proofs.Common.{◌≡◌, ◌∙◌, sym, ap, ◌||◌, true, false, Bool}
-use Rattle.std.specs.Prelude.{IfOk}
-use Rattle.ocfl_disk.specs.{Names.{ClosedName, Stored}, Disk.{has_name}}
+use Rattle.std.proofs.Common.{◌∙◌, sym}
 use Rattle.ocfl_disk.proofs.Reporting.{closed_if_whole, closed_if_either}
 use Rattle.ocfl_disk.proofs.fs_state.is_closed.Goals as goal
 

@@ -1,4 +1,4 @@
-use Rattle.std.proofs.Common.{◌++◌, ◌∙◌, ap, subst, length, ℕ, List}
+use Rattle.std.proofs.Common.{◌++◌, ◌∙◌, ap, subst, length}
 use Rattle.ocfl_state.specs.{Content.{Bytes}, Crash.{MayTear}}
 use Rattle.ocfl_disk.specs.{PowerCut.{Passes}, Internal.Contents.{OfContent}}
 use Rattle.ocfl_disk.proofs.Reporting.{on_ok, report_was, report_is, tear_passes}

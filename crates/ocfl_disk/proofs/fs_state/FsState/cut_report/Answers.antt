@@ -1,6 +1,4 @@
-use Rattle.std.proofs.Common.{◌∙◌, ap, sym, take, ℕ}
-use Rattle.ocfl_state.specs.Content.{Bytes, with_report}
-use Rattle.ocfl_disk.specs.Names.{Stored, content_of}
+use Rattle.std.proofs.Common.{◌∙◌, ap, take}
 use Rattle.ocfl_disk.proofs.Quiets.{still_of_calm}
 use Rattle.ocfl_disk.proofs.Reporting.{on_ok, report_was, report_is, tear_passes, cut_nothing}
 use Rattle.ocfl_disk.proofs.fs_state.FsState.cut_report.Goals as goal

@@ -1,6 +1,6 @@
 use Rattle.std.proofs.Common.{◌∙◌, ap, inr}
-use Rattle.ocfl_state.specs.{Content.{Closed, is_closed}, Crash.{MayMove}}
-use Rattle.ocfl_disk.specs.Names.{Stored, content_of}
+use Rattle.ocfl_state.specs.{Crash.{MayMove}}
+use Rattle.ocfl_disk.specs.Names.{content_of}
 use Rattle.ocfl_disk.proofs.Quiets.{then_calm_content}
 use Rattle.ocfl_disk.proofs.Reporting.{on_ok, on_both, no_name_after, close_passes, close_seen, close_durable}
 use Rattle.ocfl_disk.proofs.fs_state.FsState.move_report.Goals as goal

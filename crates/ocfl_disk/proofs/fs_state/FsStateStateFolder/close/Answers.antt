@@ -1,7 +1,7 @@
 use Rattle.std.specs.Prelude.{OnOk}
-use Rattle.std.proofs.Common.{subst, sym, ap, inl, refl}
-use Rattle.ocfl_state.specs.Crash.{IsMoved, MayMove, Follows, Passes}
-use Rattle.ocfl_disk.specs.{Names.{content_of}, Leaving.{Leaves}, PowerCut.{Passes as DiskPasses}, Internal.Contents.{OfContent}}
+use Rattle.std.proofs.Common.{subst, sym, inl, refl}
+use Rattle.ocfl_state.specs.Crash.{IsMoved, MayMove, Follows}
+use Rattle.ocfl_disk.specs.{Leaving.{Leaves}, PowerCut.{Passes as DiskPasses}, Internal.Contents.{OfContent}}
 use Rattle.ocfl_disk.proofs.{Folders.{lifted, durable, after_same, weaker, follows_same}, Reporting.{ok_after}}
 use Rattle.ocfl_disk.proofs.fs_state.FsStateStateFolder.close.Goals as goal
 

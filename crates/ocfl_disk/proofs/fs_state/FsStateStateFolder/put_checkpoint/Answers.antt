@@ -1,7 +1,7 @@
 use Rattle.std.specs.Prelude.{OnOk}
-use Rattle.std.proofs.Common.{subst, sym, ap}
-use Rattle.ocfl_state.specs.{Calls.{IsLong, HasCauseOr}, Crash.{IsPut, MayPut, Follows, Passes}}
-use Rattle.ocfl_disk.specs.{Names.{content_of}, Leaving.{Leaves}, PowerCut.{Passes as DiskPasses}, Internal.Contents.{OfContent}}
+use Rattle.std.proofs.Common.{subst, sym}
+use Rattle.ocfl_state.specs.{Calls.{IsLong, HasCauseOr}, Crash.{IsPut, MayPut, Follows}}
+use Rattle.ocfl_disk.specs.{Leaving.{Leaves}, PowerCut.{Passes as DiskPasses}, Internal.Contents.{OfContent}}
 use Rattle.ocfl_disk.proofs.{Folders.{cause_or, lifted, durable}, Reporting.{ok_after}}
 use Rattle.ocfl_disk.proofs.fs_state.FsStateStateFolder.put_checkpoint.Goals as goal
 

@@ -1,5 +1,5 @@
 -- One more cycle that was said.
-use Rattle.std.proofs.Common.{◌≡◌, ℕ, ◌+◌, List, [], ◌∷◌, ◌++◌, length, Bool, refl, sym, ap, subst, ◌∙◌, arith}
+use Rattle.std.proofs.Common.{◌≡◌, ℕ, ◌+◌, List, [], ◌∷◌, ◌++◌, length, Bool, refl, subst, arith}
 use Rattle.std.specs.Prelude.{max}
 use Rattle.ocfl_tree.specs.Place.{Text}
 use Rattle.ocfl_compare.specs.declared.change.ChangeAt.{ChangeAt}

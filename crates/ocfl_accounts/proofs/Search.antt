@@ -1,8 +1,8 @@
 -- One more look of a search for an earlier cycle.
-use Rattle.std.proofs.Common.{◌≡◌, ◌⊎◌, inl, inr, ℕ, ◌+◌, ◌-◌, ◌<◌, ◌≤◌, Bool, true, false, Option, Some, None, refl, sym, ap, subst, ◌∙◌, arith}
+use Rattle.std.proofs.Common.{◌≡◌, ◌⊎◌, inl, inr, ℕ, ◌+◌, ◌<◌, ◌≤◌, Bool, true, false, Option, Some, None, refl, sym, ap, subst, ◌∙◌, arith}
 use Rattle.std.proofs.Math.Nat.{eq-or-lt_of_le}
 use Rattle.std.specs.Prelude.{cond}
-use Rattle.ocfl_accounts.specs.Cycle.{Cycle, Sight, there, away, is_fit, is_fit_cycle, is_missing, lowest, IsLastOf, number_of, number_or, IsThere, IsEarlier}
+use Rattle.ocfl_accounts.specs.Cycle.{Cycle, Sight, there, away, is_fit, is_fit_cycle, is_missing, lowest, IsLastOf, IsEarlier}
 use Rattle.ocfl_accounts.specs.Search.{fit_of, missing_with}
 
 -- those from the first number on, and below the second, that were looked at: none was fit, and this is

@@ -1,6 +1,6 @@
 -- What is seen of a closed cycle.
-use Rattle.std.specs.Prelude.{◌≡◌, ℕ, Bool, ⊤}
-use Rattle.ocfl_accounts.specs.Cycle.{Cycle, Sight, there, away}
+use Rattle.std.specs.Prelude.{◌≡◌, ℕ, ⊤}
+use Rattle.ocfl_accounts.specs.Cycle.{Sight, there, away}
 use Rattle.ocfl_accounts.specs.declared.closed.Look.{Look}
 use Rattle.ocfl_accounts.specs.declared.closed.Look.TheVariants.{There, Away}
 

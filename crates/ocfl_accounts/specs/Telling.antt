@@ -3,7 +3,7 @@ use Rattle.std.specs.Prelude.{◌≡◌, ◌⊎◌, ℕ, ◌+◌, ◌-◌, max, 
 use Rattle.std.specs.List.{list_any}
 use Rattle.ocfl_tree.specs.Place.{Text}
 use Rattle.ocfl_compare.specs.declared.change.ChangeAt.{ChangeAt}
-use Rattle.ocfl_accounts.specs.Cycle.{Cycle, Sight, there, away}
+use Rattle.ocfl_accounts.specs.Cycle.{there, away}
 use Rattle.ocfl_accounts.specs.Kept.{Kept, Account, has_account, with_account}
 use Rattle.ocfl_accounts.specs.{Crash.{Step}, Said.{Said, HasSaid}, Pairs.{IsPair, waits, status_of}, Changes.{AreChanges}}
 use Rattle.ocfl_accounts.specs.declared.pair.Pair.{Pair}

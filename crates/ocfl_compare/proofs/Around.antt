@@ -1,8 +1,8 @@
 -- What is around a place: whether it is below an object that is shut, and whether lines are below it.
-use Rattle.std.proofs.Common.{◌≡◌, ◌≢◌, ◌⊎◌, inl, inr, List, [], ◌∷◌, ◌++◌, Bool, true, false, Option, Some, None, IfSome, All, map, refl, sym, ap, subst, ◌∙◌}
+use Rattle.std.proofs.Common.{◌≡◌, ◌≢◌, ◌⊎◌, inl, inr, List, [], ◌∷◌, ◌++◌, Bool, true, false, Option, Some, None, IfSome, All, refl, sym, ap, subst, ◌∙◌}
 use Rattle.std.proofs.{Math.Bool.{and-false, or-false}, lemmas.List.Folds.{list_any-append}}
 use Rattle.std.proofs.lemmas.List.{map-append}
-use Rattle.std.proofs.lemmas.List.Elements.{All-append, All-cons, All-nil, All-head, All-tail, All-weaker}
+use Rattle.std.proofs.lemmas.List.Elements.{All-append, All-cons, All-nil, All-head, All-tail}
 use Rattle.std.specs.{Prelude.{cond, ◌&&◌, ◌||◌, not, flat_map}, List.{list_any}, Ordering.{is_eq, ordering_then}}
 use Rattle.std.specs.declared.cmp.Ordering.{Ordering}
 use Rattle.std.specs.declared.cmp.Ordering.TheVariants.{Less, Equal, Greater}
@@ -11,11 +11,11 @@ use Rattle.ocfl_tree.specs.Ascending.{IsBeforeAll, IsAscending, IsAmong}
 use Rattle.ocfl_tree.proofs.Orders.{place_cmp_total, not_below_itself, before_each, among_left, among_right, among_map}
 use Rattle.ocfl_tree.proofs.Bools.{and_first, and_second, and_both}
 use Rattle.ocfl_tree.proofs.Places.{text_cmp_exact, text_eq-same, place_eq-same}
-use Rattle.ocfl_report.specs.{Line.{Line}, declared.line.Line.{Line as MadeLine}}
+use Rattle.ocfl_report.specs.{Line.{Line}}
 use Rattle.ocfl_compare.specs.Changes.{is_below, has_below, is_shut, lines_at, is_in_shut, is_left, answer_at, said_at, placed, answers}
 use Rattle.ocfl_compare.specs.declared.question.Question.{Question}
 use Rattle.ocfl_compare.specs.Internal.Turns.{Group, IsGroup, group_changes, place_or, first_place, leads_to, AreFollowed, shuts, below_shut, leads_from, IsShutBy, shut_after}
-use Rattle.ocfl_compare.proofs.Groups.{places, other_place, later_place, lines_of, before_own, now_own, same_places}
+use Rattle.ocfl_compare.proofs.Groups.{places, other_place, lines_of, before_own, now_own, same_places}
 
 -- ---- places
 

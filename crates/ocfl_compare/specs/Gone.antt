@@ -1,7 +1,7 @@
 -- The text of a list of what is gone.
 use Rattle.std.specs.Prelude.{List, [], ◌∷◌, ◌++◌, flat_map, codes}
 use Rattle.ocfl_tree.specs.Place.{Text, Place}
-use Rattle.ocfl_report.specs.{Text.{place_text}, declared.code.Code.{Code}}
+use Rattle.ocfl_report.specs.{Text.{place_text}}
 use Rattle.ocfl_compare.specs.declared.change.Change.{Change}
 use Rattle.ocfl_compare.specs.declared.change.Change.TheVariants.{Gone, Undeclared, FileGone, Unlooked, Found, Repaired, Missing}
 use Rattle.ocfl_compare.specs.declared.change.ChangeAt.{ChangeAt}

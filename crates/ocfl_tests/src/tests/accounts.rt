@@ -4,7 +4,7 @@ use ocfl_accounts::{
     ClosedCycle, ClosingStop, Closings, Found, Look, NotSaid, Pair, Say, find_earlier, find_pair,
     say_cycle, say_cycles, status_of,
 };
-use ocfl_tree::Place;
+use ocfl_report::read_place;
 use std::alloc::{AllocError, Global};
 use std::test::Fail;
 
@@ -44,11 +44,10 @@ impl Cycles {
     fn closed(&self, cycle: u64, kept: Kept) -> Result<ClosedCycle, AllocError> {
         let mut left = Vec::new(self.alloc);
         if let Kept::Left(path) = kept {
-            let place = Place::root(self.alloc);
-            left.push(match place_of(self.alloc, path) {
-                Ok(place) => place,
-                Err(_) => place,
-            })?;
+            match read_place(self.alloc, path.as_bytes()) {
+                Ok(place) => left.push(place)?,
+                Err(_) => return Err(AllocError),
+            }
         }
         let is_whole = kept == Kept::Whole;
         Ok(ClosedCycle::new(cycle, is_whole, kept == Kept::Lost, left))

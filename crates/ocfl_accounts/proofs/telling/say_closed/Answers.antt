@@ -1,4 +1,4 @@
-use Rattle.std.proofs.Common.{◌≡◌, ◌∙◌, ap, sym, subst}
+use Rattle.std.proofs.Common.{◌∙◌, ap, sym, subst}
 use Rattle.ocfl_accounts.specs.{Cycle.{there}, Changes.{AreChanges}, Said.{HasSaid}, Pairs.{status_of}}
 use Rattle.ocfl_accounts.specs.Telling.{account_of, kept_then}
 use Rattle.ocfl_accounts.specs.Crash.{MayPut}

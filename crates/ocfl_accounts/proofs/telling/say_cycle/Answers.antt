@@ -1,5 +1,5 @@
-use Rattle.std.proofs.Common.{◌≡◌, ◌∙◌, inl, refl, sym, subst, false}
-use Rattle.ocfl_accounts.specs.{Crash.{Passes}, Cycle.{there}, Kept.{has_account}, Telling.{MayAccount}}
+use Rattle.std.proofs.Common.{◌∙◌, inl, refl, sym, subst}
+use Rattle.ocfl_accounts.specs.{Crash.{Passes}, Kept.{has_account}, Telling.{MayAccount}}
 use Rattle.ocfl_accounts.proofs.Passing.{same_then, two_same}
 use Rattle.ocfl_accounts.proofs.telling.say_cycle.Goals as goal
 

@@ -1,4 +1,4 @@
-use Rattle.std.proofs.Common.{rules, ◌≡◌, ◌∙◌, ◌+◌, inl, [], ◌∷◌, ◌++◌, length, length-append, ap, sym, arith}
+use Rattle.std.proofs.Common.{rules, ◌≡◌, ◌∙◌, inl, [], ◌∷◌, ◌++◌, length-append, ap, sym, arith}
 use Rattle.std.specs.Prelude.{max}
 use Rattle.ocfl_accounts.specs.Telling.{Outcome}
 use Rattle.ocfl_accounts.proofs.Outcomes.{outcomes_more, greatest_more}

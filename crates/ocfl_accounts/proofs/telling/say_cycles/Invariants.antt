@@ -1,4 +1,4 @@
-use Rattle.std.proofs.Common.{◌≡◌, ◌⊎◌, ℕ, ◌+◌, ◌≤◌, List, length, IsTrue}
+use Rattle.std.proofs.Common.{◌≡◌, ◌⊎◌, ◌+◌, ◌≤◌, List, length, IsTrue}
 use Rattle.ocfl_accounts.specs.Telling.{Outcome, AreOutcomes, greatest_from}
 use Rattle.ocfl_accounts.proofs.telling.say_cycles.Given as goal
 

@@ -1,4 +1,4 @@
-use Rattle.std.proofs.Common.{◌≡◌, ◌∙◌, true, false, refl, subst, sym}
+use Rattle.std.proofs.Common.{true, false, refl, subst, sym}
 use Rattle.ocfl_accounts.specs.Telling.{MayAccount}
 use Rattle.ocfl_accounts.proofs.telling.say_or_fail.Goals as goal
 

@@ -1,6 +1,5 @@
-use Rattle.std.proofs.Common.{◌≡◌, ◌∙◌, List, map, ap}
+use Rattle.std.proofs.Common.{◌∙◌, ap}
 use Rattle.std.specs.Prelude.{◌&&◌, ◌||◌, not, flat_map}
-use Rattle.ocfl_compare.specs.Changes.{is_shut}
 use Rattle.ocfl_compare.specs.Internal.Turns.{shut_after}
 use Rattle.ocfl_compare.proofs.SoFar.{place_more}
 use Rattle.ocfl_compare.proofs.comparing.turn.Goals as goal

@@ -1,4 +1,4 @@
-use Rattle.std.proofs.Common.{◌≡◌, ◌∷◌, List, [], Bool, sym, subst, map, ◌∙◌}
+use Rattle.std.proofs.Common.{sym, subst, map, ◌∙◌}
 use Rattle.std.specs.Prelude.{◌&&◌, not, flat_map}
 use Rattle.std.proofs.lemmas.Result.{on_ok_weaker}
 use Rattle.ocfl_compare.specs.Changes.{when, gone_object, gone_file, new_codes, placed}

@@ -32,9 +32,12 @@ fn checkpoints_are_noted_once_they_are_put(rt: HostRuntime) -> Result<(), Fail> 
     );
     observed.put_checkpoint(b"three ")?;
     observed.close(1, true)?;
-    assert_eq!(rt; observed.observer.all.as_slice(), b"one three ");
+    assert_eq!(rt; observed.observer.all.as_slice(), b"one three ".as_slice());
     assert!(rt; observed.checkpoint()?.is_some() && observed.has_closed(1)?);
-    assert_eq!(rt; observed.folder.closed()[0].report.as_slice(), b"abcd");
+    assert_eq!(rt;
+        observed.folder.closed()[0].report.as_slice(),
+        b"abcd".as_slice()
+    );
     let mut piece = [0; 4];
     assert_eq!(rt; (observed.length()?, observed.read(0, &mut piece)?), (0, 0));
     Ok(())

@@ -378,7 +378,8 @@ class Joining:
             self.first, self.night, self.status = number(row, "night"), time_of(row, "night"), "0"
         telling = self.of_parts.get(number_of_part, self.of_all)
         for entry in telling.take(row):
-            yield from self.of_part(number_of_part, entry) if number_of_part else [entry]
+            yield from (self.of_part(number_of_part, entry) if number_of_part
+                        else [replace(entry, night=self.night)])
 
     def end(self) -> Iterator[Entry]:
         """What is known once the logs have no more rows."""

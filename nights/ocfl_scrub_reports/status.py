@@ -44,6 +44,8 @@ class Log:
     night: str = ""
     status: str = "0"
     status_before: str = "0"
+    # Whether a part was cut in a night that failed as a whole, whose status says more.
+    part_was_cut: bool = False
     # Why the last night stopped, or did nothing.
     said: str = ""
     is_under_way: bool = False
@@ -104,7 +106,10 @@ class Log:
 
     def take_run(self, entry: Entry) -> None:
         self.start_night(entry.night)
-        self.status = worst(self.status, entry.kind)
+        if entry.kind == "cut" and entry.of_part and rank(self.status) > 1:
+            self.part_was_cut = True
+        else:
+            self.status = worst(self.status, entry.kind)
         self.said = entry.said or self.said
         # A night that was refused, or stopped, says nothing of any cycle.
         self.is_under_way = entry.cycle > 0 and entry.kind != "cut"
@@ -138,7 +143,7 @@ class Log:
 
     def start_night(self, night: str) -> None:
         if night != self.night:
-            self.status_before = self.status
+            self.status_before, self.part_was_cut = self.status, False
             self.night, self.status, self.seconds, self.is_under_way = night, "0", 0, False
             self.said = ""
 
@@ -218,7 +223,8 @@ class Standing:
         # Until a night is over, that of the night before it counts as well.
         if log.is_under_way and rank(log.status_before) > rank(log.status):
             log.status = log.status_before
-        if "cut" in (log.status, log.status_before) or log.unlogged > 0:
+        if ("cut" in (log.status, log.status_before) or log.part_was_cut
+                or log.unlogged > 0):
             self.add(1, "a night was cut")
         if rank(log.status) > 1 and log.status != "cut":
             said = BREAKING.sub(" ", log.said.strip())[:MOST_SAID]

@@ -1,5 +1,6 @@
 """Tests what `nights/ocfl_scrub_reports` takes from the rows of the log that say when a night began,
 and what a closed cycle read and found."""
+import json
 import os
 import sqlite3
 import sys
@@ -77,6 +78,29 @@ class Began(Told):
             self.made.begin(1, 3, stands)
             self.made.log_night(1)
             self.assertEqual("a night was cut" in self.now(1), is_cut)
+
+
+class CutParts(Told):
+    def test_a_part_that_was_killed(self):
+        """The night of all parts says it with its own status, which is no less for that."""
+        parts = [Program(self.at("joined/part-%06d" % number), cycle=1) for number in (1, 2)]
+        own = self.at("joined")
+        os.mkdir(own + "/reports")
+        self.made.path, rows = own, []
+        for night in (0, 60):
+            time = at(night_of(1)) + night
+            rows += [{"row": "given", "time": time, "night": time, "parts": 2},
+                     {"row": "night", "time": time + 9, "night": time, "status": 3, "runs": 0,
+                      "said": "No night has come to its end"}]
+            for part in parts:
+                part.log(row="began", time=time + 1, night=time, cycle=1, stands="start", lines=0,
+                         bytes=0, root="/srv/ocfl", part=1, program="")
+            parts[0].log(row="night", time=time + 2, night=time, status=0, runs=0, cost=0)
+            with open(own + "/log", "w") as log:
+                log.writelines(json.dumps(it) + "\n" for it in rows)
+            given, out, _ = self.ask("status", "--now", "2026-03-01T23:00:00Z", own)
+            self.assertEqual((given, "a night was cut; the last night ended with status 3" in out),
+                             (2, True), out)
 
 
 class Progress(Told):

@@ -15,6 +15,7 @@ use crate::state::failed_folder;
 use crate::state_dir::{Folder, StateDir};
 use crate::telling::Names;
 use ocfl_accounts::{ClosingStop, Found, Look, NotSaid, Pair, Say, say_cycles};
+use ocfl_disk::{Disk, SystemDisk};
 use ocfl_files::failing::{Failure, say_failure};
 use ocfl_files::timing::seconds_now;
 use ocfl_report::{Line, write_all_of};
@@ -28,9 +29,9 @@ use std::time::Clock;
 
 /// With what closings are told.
 #[derive(Drop)]
-pub struct Closings<'a, 'n, R: Files<File = File> + AllocGlobal> {
+pub struct Closings<'a, 'n, R: Files<File = File> + AllocGlobal, D: Disk + Drop> {
     pub rt: &'a R,
-    pub folder: StateDir<'a, R>,
+    pub folder: StateDir<D>,
     pub names: Names<'n>,
     pub known: &'n Known,
     /// The file of the objects that must be there.
@@ -351,7 +352,10 @@ fn is_untold<R: Room, F: Folder>(rt: &R, folder: &mut F, state: &str, cycle: u64
         && matches!(is_told(rt, state, cycle), Ok(false))
 }
 
-impl<R: Files<File = File> + AllocGlobal + Clock + Eprint> Closings<'_, '_, R> {
+impl<'a, R> Closings<'a, '_, R, SystemDisk<&'a R>>
+where
+    R: Files<File = File> + AllocGlobal + Clock + Eprint,
+{
     /// The first of the cycles up to this one whose closings were not said, one after the other.
     fn first_untold(&mut self, cycle: u64) -> u64 {
         let mut first = cycle;

@@ -3,7 +3,7 @@
 use crate::closed::places_of;
 use crate::stand::Standing;
 use crate::state_dir::{Folder, StateDir};
-use ocfl_disk::{Reason, StateFile, StateStop};
+use ocfl_disk::{Reason, StateFile, StateStop, SystemDisk};
 use ocfl_files::failing::Failure;
 use ocfl_files::files::{folder_of, lies_inside, path_of};
 use ocfl_files::making::{FILE_MODE, failed_file, is_there};
@@ -66,7 +66,7 @@ pub fn open_state<'a, R>(
     state: &str,
     root: &str,
     create: bool,
-) -> Result<StateDir<'a, R>, Failure>
+) -> Result<StateDir<SystemDisk<&'a R>>, Failure>
 where
     R: Files<File = File> + AllocGlobal,
 {
@@ -278,7 +278,7 @@ fn is_last_of(folder: &str, name: &str, root: &Place) -> bool {
 
 /// Whether the nights of a folder read the storage root with this path, as far as can be told: a
 /// link that leads nowhere may lead to it.
-pub fn is_of_root<R>(rt: &R, folder: &mut StateDir<'_, R>, path: &str) -> bool
+pub fn is_of_root<'a, R>(rt: &R, folder: &mut StateDir<SystemDisk<&'a R>>, path: &str) -> bool
 where
     R: Files<File = File> + AllocGlobal,
 {

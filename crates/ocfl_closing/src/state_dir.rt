@@ -1,6 +1,6 @@
 //! A state folder, as nights open it.
 
-use ocfl_disk::{FsState, OpenReport, Reason, StateStop, SystemDisk};
+use ocfl_disk::{Disk, FsState, OpenReport, Reason, StateStop, SystemDisk};
 use ocfl_state::{FolderTrouble, StateFolder};
 use std::fs::File;
 use std::rt::Files;
@@ -23,35 +23,28 @@ pub trait Folder {
     fn add_to_log(&mut self, line: &[u8]) -> Result<(), FolderTrouble>;
 }
 
-/// A state folder, which is held while this lives.
-pub struct StateDir<'a, R: Files<File = File> + AllocGlobal> {
-    pub folder: FsState<SystemDisk<&'a R>>,
+/// A state folder on a disk, which is held while this lives.
+pub struct StateDir<D: Disk + Drop> {
+    pub folder: FsState<D>,
 }
 
 /// Written by hand, so that to let it go is one call wherever that happens.
-impl<R: Files<File = File> + AllocGlobal> Drop for StateDir<'_, R> {
+impl<D: Disk + Drop> Drop for StateDir<D> {
     fn drop(self) {
         let StateDir { folder: _folder } = self;
     }
 }
 
-impl<'a, R: Files<File = File> + AllocGlobal> StateDir<'a, R> {
+impl<'a, R: Files<File = File> + AllocGlobal> StateDir<SystemDisk<&'a R>> {
     /// Opens the folder at a path.
-    pub fn open(rt: &'a R, path: &str, create: bool) -> Result<StateDir<'a, R>, StateStop> {
+    pub fn open(
+        rt: &'a R,
+        path: &str,
+        create: bool,
+    ) -> Result<StateDir<SystemDisk<&'a R>>, StateStop> {
         Ok(StateDir {
             folder: FsState::open(rt, path, create)?,
         })
-    }
-
-    /// The folder, as a night uses it.
-    pub fn into_state(self) -> FsState<SystemDisk<&'a R>> {
-        let StateDir { folder } = self;
-        folder
-    }
-
-    /// Why the last call failed that did.
-    pub fn reason(&self) -> Option<Reason> {
-        self.folder.reason()
     }
 
     /// Appends a line to the log.
@@ -60,7 +53,20 @@ impl<'a, R: Files<File = File> + AllocGlobal> StateDir<'a, R> {
     }
 }
 
-impl<R: Files<File = File> + AllocGlobal> Folder for StateDir<'_, R> {
+impl<D: Disk + Drop> StateDir<D> {
+    /// The folder, as a night uses it.
+    pub fn into_state(self) -> FsState<D> {
+        let StateDir { folder } = self;
+        folder
+    }
+
+    /// Why the last call failed that did.
+    pub fn reason(&self) -> Option<Reason> {
+        self.folder.reason()
+    }
+}
+
+impl<'a, R: Files<File = File> + AllocGlobal> Folder for StateDir<SystemDisk<&'a R>> {
     fn last_reason(&self) -> Option<Reason> {
         self.folder.reason()
     }

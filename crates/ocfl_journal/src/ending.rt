@@ -2,11 +2,11 @@
 
 use crate::given::{Given, program_digest, text_of};
 use crate::logging::{Account, log_night};
-use crate::noting::{Noting, Told};
+use crate::noting::{OnDisk, Told};
 use ocfl_closing::closing::Closings;
 use ocfl_closing::state::is_of_root;
 use ocfl_closing::state_dir::StateDir;
-use ocfl_disk::Reason;
+use ocfl_disk::{Reason, SystemDisk};
 use ocfl_files::failing::{Failure, say_failure, say_text};
 use ocfl_files::reasons::Reason as Why;
 use ocfl_files::saying::STOPPED;
@@ -149,7 +149,7 @@ pub fn status_told<R: Eprint>(rt: &R, told: Result<u8, Failure>) -> u8 {
 pub fn end_night<'a, R>(
     rt: &'a R,
     given: &Given<'_>,
-    noting: Noting<'a, R>,
+    noting: OnDisk<'a, R>,
     ended: &Ended,
 ) -> Result<u8, Failure>
 where
@@ -180,7 +180,7 @@ where
 /// not written.
 fn log_ended<'a, R>(
     rt: &'a R,
-    folder: &mut StateDir<'a, R>,
+    folder: &mut StateDir<SystemDisk<&'a R>>,
     given: &Given<'_>,
     ended: &Ended,
     status: u8,
@@ -215,7 +215,13 @@ where
 }
 
 /// Appends to the log a night that failed before its folder was opened.
-fn log_failed<R>(rt: &R, folder: &mut StateDir<'_, R>, state: &str, began: u64, said: &str)
+fn log_failed<'a, R>(
+    rt: &R,
+    folder: &mut StateDir<SystemDisk<&'a R>>,
+    state: &str,
+    began: u64,
+    said: &str,
+)
 where
     R: Files<File = File> + AllocGlobal + Clock + Eprint,
 {

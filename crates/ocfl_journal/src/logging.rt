@@ -4,7 +4,7 @@ use ocfl_closing::stand::Standing;
 use ocfl_closing::state::folder_failure;
 use ocfl_closing::state_dir::StateDir;
 use ocfl_cursor::State;
-use ocfl_disk::{FsLog, Reason};
+use ocfl_disk::{FsLog, Reason, SystemDisk};
 use ocfl_files::failing::{Failure, say_failure};
 use ocfl_files::timing::seconds_now;
 use ocfl_state::{Checkpoint, Left};
@@ -219,9 +219,9 @@ fn lines_of(alloc: Global, account: Account<'_>) -> Result<String, AllocError> {
 }
 
 /// Appends them to the log.
-fn append<R>(
+fn append<'a, R>(
     alloc: Global,
-    folder: &mut StateDir<'_, R>,
+    folder: &mut StateDir<SystemDisk<&'a R>>,
     state: &str,
     account: Account<'_>,
 ) -> Result<(), Failure>
@@ -236,9 +236,9 @@ where
 }
 
 /// Appends the lines on a night to the log. `lost` is why a line before them was not written.
-fn append_all<R>(
+fn append_all<'a, R>(
     alloc: Global,
-    folder: &mut StateDir<'_, R>,
+    folder: &mut StateDir<SystemDisk<&'a R>>,
     state: &str,
     account: Account<'_>,
     lost: Option<Reason>,
@@ -255,9 +255,9 @@ where
 
 /// Appends the lines on a night to the log, and gives its status. A log that cannot be written, or
 /// could not be while the night was under way, is said, and makes the status 3 at least.
-pub(crate) fn log_night<R, F>(
+pub(crate) fn log_night<'a, R, F>(
     rt: &R,
-    folder: &mut StateDir<'_, F>,
+    folder: &mut StateDir<SystemDisk<&'a F>>,
     state: &str,
     account: Account<'_>,
     lost: Option<Reason>,

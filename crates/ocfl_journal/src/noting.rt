@@ -7,7 +7,7 @@ use ocfl_closing::stand::Standing;
 use ocfl_closing::state::{Begun, open_state, read_begun};
 use ocfl_closing::state_dir::StateDir;
 use ocfl_closing::telling::Teller;
-use ocfl_disk::{FsState, Reason as StateReason, StateFile, SystemDisk};
+use ocfl_disk::{Disk, FsState, Reason as StateReason, StateFile, SystemDisk};
 use ocfl_files::failing::Failure;
 use ocfl_files::reasons::{Reason, Reasons, last_reason};
 use ocfl_report::Line;
@@ -50,14 +50,17 @@ impl<R: Files<File = File> + AllocGlobal> Drop for Notes<'_, R> {
 
 /// A state folder, and what is noted of its checkpoints.
 #[derive(Drop)]
-pub struct Noting<'a, R: Files<File = File> + AllocGlobal> {
+pub struct Noting<'a, R: Files<File = File> + AllocGlobal, D: Disk + Drop> {
     /// The folder. A night over it notes each checkpoint that it puts.
-    pub folder: Observed<FsState<SystemDisk<&'a R>>, Notes<'a, R>>,
+    pub folder: Observed<FsState<D>, Notes<'a, R>>,
     /// Where the night began.
     pub(crate) begun: Begun,
     /// Why the last line of the log that was not written was not.
     lost: Rc<Cell<Option<StateReason>>>,
 }
+
+/// One over the state folder of the file system.
+pub type OnDisk<'a, R> = Noting<'a, R, SystemDisk<&'a R>>;
 
 /// What stands beside the state folder in a night.
 #[derive(Drop)]
@@ -123,7 +126,7 @@ fn noting_over<'a, R>(
     given: &Given<'_>,
     folder: FsState<SystemDisk<&'a R>>,
     begun: Begun,
-) -> Result<Noting<'a, R>, Failure>
+) -> Result<OnDisk<'a, R>, Failure>
 where
     R: Files<File = File> + AllocGlobal + Clock,
 {
@@ -144,7 +147,7 @@ where
 }
 
 /// Opens the state folder of a night, and holds its lock.
-pub fn open_noting<'a, R>(rt: &'a R, given: &Given<'_>) -> Result<Noting<'a, R>, Failure>
+pub fn open_noting<'a, R>(rt: &'a R, given: &Given<'_>) -> Result<OnDisk<'a, R>, Failure>
 where
     R: Files<File = File> + AllocGlobal + Clock,
 {
@@ -154,7 +157,7 @@ where
     noting_over(rt, given, folder.into_state(), begun)
 }
 
-impl<'a, R: Files<File = File> + AllocGlobal + Clock> Noting<'a, R> {
+impl<'a, R: Files<File = File> + AllocGlobal + Clock> Noting<'a, R, SystemDisk<&'a R>> {
     /// Where the night began.
     pub fn began(&self) -> Standing {
         self.begun.standing
@@ -236,7 +239,7 @@ impl<'a, R: Files<File = File> + AllocGlobal + Clock> Noting<'a, R> {
     }
 
     /// The folder.
-    pub(crate) fn into_folder(self) -> StateDir<'a, R> {
+    pub(crate) fn into_folder(self) -> StateDir<SystemDisk<&'a R>> {
         let Noting {
             folder,
             begun: _begun,

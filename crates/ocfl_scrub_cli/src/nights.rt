@@ -15,7 +15,7 @@ use ocfl_journal::RunMade;
 use ocfl_journal::clock::NightClock;
 use ocfl_journal::ending::{Ended, end_night, log_unbegun, status_told};
 use ocfl_journal::given::{Found, Given, find_given};
-use ocfl_journal::noting::{Beside, Noting, open_noting};
+use ocfl_journal::noting::{Beside, OnDisk, open_noting};
 use ocfl_journal::waiting::{find_wait, say_wait};
 use ocfl_line::NightAsked;
 use ocfl_night::{Flushing, Made, NightEnd, Output, Plan, Site, SliceEnd, night};
@@ -203,7 +203,7 @@ fn why_of(alloc: Global, reasons: &Cell<Reasons>, error: Option<io::Error>) -> O
 fn make_runs<'a, R>(
     rt: &'a R,
     planned: &Planned<'_>,
-    noting: &mut Noting<'a, R>,
+    noting: &mut OnDisk<'a, R>,
     shown_on: Terminals,
 ) -> Result<Runs, Failure>
 where
@@ -252,7 +252,7 @@ where
 fn run_night<'a, R>(
     rt: &'a R,
     planned: &Planned<'_>,
-    noting: &mut Noting<'a, R>,
+    noting: &mut OnDisk<'a, R>,
     shown_on: Terminals,
 ) -> Result<Ended, Failure>
 where

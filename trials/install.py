@@ -421,12 +421,14 @@ def cron(folder, prefix):
         else:
             command = line.split(None, 6)
     check("when, and who", command[:6], ["0", "22", "*", "*", "*", "ocfl-scrub"])
-    settings.update(STATE=folder + "/state", ROOT=folder + "/root")
+    settings.update(STATE=folder + "/state", ROOT=folder + "/root", MAIL="")
     check("it ends by the clock too", settings.get("UNTIL"), "06:00")
     first = [prefix + "/share/ocfl-scrub/nightly", "--create", "--files", "1", "--state",
              folder + "/state", folder + "/root"]
     check("the first night", ran(first), (0, "", ""))
-    check("the line for cron", ran(["sh", "-c", command[6]], **settings), (0, "", ""))
+    status, out, said = ran(["sh", "-c", command[6]], **settings)
+    check("the line for cron", (status, out, "Cycle 1 ended: 3 of 3 files right" in said),
+          (0, "", True))
     check("its report", read(folder + "/state/reports/cycle-000001"), "".join(ITEMS))
 
 

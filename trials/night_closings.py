@@ -684,7 +684,8 @@ def changed_once_closed(folder: str) -> None:
     remove_object(nights)
     rules = ["-P", nights.path("reports/gone-000002.new"), "-e", "inject=fsync:signal=KILL"]
     status, said, _ = traced(rules, nights.words())
-    check("killed", (status, said.count("E092\ti/v1/content/1\t")), (-signal.SIGKILL, 1))
+    check("killed", (status, said.count("v1/content/1: bytes have changed (E092)")),
+          (-signal.SIGKILL, 1))
     path = nights.path("reports/cycle-000002")
     kept = common.read(path)
     common.write(path, kept[:-5])

@@ -115,7 +115,7 @@ def no_storage_root(folder: str) -> None:
 def another_root(folder: str) -> None:
     """A folder that belongs to another root, by its path or by its declaration."""
     audited, nights = made(folder)
-    nights.night(*PLAN, "--files", "3")
+    said = nights.night(*PLAN, "--files", "3")[1]
     kept = nights.kept()
     other = Nights(nights.state, make_root(folder + "/other"))
     is_refused("another path", other.night(), 3, audited.root, nights, kept)
@@ -135,7 +135,7 @@ def another_root(folder: str) -> None:
     os.remove(audited.root + "/0=ocfl_1.0")
     is_refused("no declaration", nights.night(), 3, MOUNTED, nights, kept)
     common.write(declaration, b"ocfl_1.1\n")
-    check("as before", audited.faults_after(nights, audited.report), [])
+    check("as before", audited.faults_after(nights, said), [])
 
 
 def names_that_are_gone(folder: str) -> None:
@@ -530,11 +530,11 @@ def copies_beside(folder: str) -> None:
     audited, nights = made(folder)
     said = nights.night(*PLAN)[1]
     for copy in ["reports/cycle-000001.bak", "report.bak", "checkpoint.old"]:
-        common.write(nights.path(copy), b"E092\tcopy\t-\n")
+        common.write(nights.path(copy), b"E092\tan/aside\t-\n")
     os.makedirs(nights.path("parts-000001.bak"))
     for _ in range(2):
         status, out, note = nights.night()
-        check("a night", (status, "copy" in out + note), (1, False))
+        check("a night", (status, "aside" in out + note), (1, False))
     check("the copies", [name for name in ["reports/cycle-000001.bak", "report.bak",
                                            "checkpoint.old", "parts-000001.bak"]
                          if not os.path.exists(nights.path(name))], [])
@@ -596,22 +596,22 @@ def names_that_are_left_out(folder: str) -> None:
     for number, name in enumerate(["b\\cx", "b\\nx", "b\\tx", "-", "n\nl",
                                    "z\\033[2J\\nAll is well: 0 findings.\\c"]):
         where = "%s/%d" % (folder, number)
-        root = common.make_root(where + "/root", {place: {"v1/content/a": b"abc"}
-                                                  for place in ["!first", name, "~last"]})
+        root = common.make_root(where + "/root", {it: {"v1/content/a": b"abc"}
+                                                  for it in ["!first", name, "~last"]})
         common.write(root + "/!first/v1/content/a", b"abd")
         bad = os.fsencode("%s/%s/" % (root, name)) + b"\xff"
         common.write(os.fsdecode(bad), b"")
         nights = Nights(where + "/state", root)
-        shown = name.replace("\n", "%0A")
+        place = name.replace("\n", "%0A")
         status, out, note = nights.night(*PLAN)
         check("a night, " + name, (
-            status, "left out: %s: it holds a name that is not UTF-8: \\xFF\n" % shown in note,
+            status, "left out: %s: it holds a name that is not UTF-8: \\xFF\n" % place in note,
             controls(out + note), "\nAll is well" in out + note), (3, True, [], False))
         check("what was found is said", shown("E092\t!first/v1/content/a\t-", out), 1)
         os.remove(bad)
         audited = Audited(root)
         rest = [line for line in audited.report.splitlines(True)
-                if line.split("\t")[1].split("/")[0] != shown]
+                if line.split("\t")[1].split("/")[0] != place]
         check("its report", nights.has("reports/incomplete-000001"), "".join(rest))
         nights.night(*PLAN)
         check("then", nights.whole(2), audited.report)

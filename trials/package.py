@@ -327,7 +327,8 @@ def using(service):
                           re.findall("(?m)^Program commit: (.*)$", text)], [True, False])
     status, out, _ = service.calls(asks, "status", service.STATE)
     check("status", (status, out[:13]), (0, "OCFL-SCRUB OK"))
-    check("tell", service.calls("/" + SHARE + asks, "tell", "archive", service.STATE), (0, "", ""))
+    status, out, said = service.calls("/" + SHARE + asks, "tell", "archive", service.STATE)
+    check("tell", (status, out, "\nCycle 1 ended: 3 of 3 files right, " in said), (0, "", True))
     check("it has no right to write elsewhere", service.calls("touch", "/" + SHARE + "x")[0], 1)
 
 

@@ -26,6 +26,7 @@ import time
 
 import common
 from common import PROGRAM, check
+from shared.messages import findings_in
 from shared.nights import NIGHTS, ran, read, tried, write
 from shared.parallel import Together, audit, findings, check_statement
 from shared.slurm import Slurm
@@ -185,8 +186,7 @@ def requeued_message(site):
     site.finish()
     site.nights.is_audit("the next cycle", 2)
     mailed = read(site.folder + "/mailed") or ""
-    check("the mail", [line for line in mailed.splitlines(True) if line.count("\t") == 2],
-          sorted(findings(audit(site.root))))
+    check("the mail", findings_in(mailed), sorted(findings(audit(site.root))))
 
 
 # In the place of Slurm: takes jobs as one with arrays of so many tasks does, and notes them.

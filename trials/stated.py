@@ -104,13 +104,17 @@ def cut(folder):
     for when in range(1, 40):
         common.traced(["-e", "inject=fsync:signal=KILL:when=%d" % when],
                       ["night", "--state", nights.state, "--slice", "1", nights.root])
+        # (the log tells nights apart by the second)
+        time.sleep(1.1)
         if runs_of(nights) > before:
             break
     line = ask("status", nights.state)[1]
     check("status", ("a night was cut;" in line, "under way" in line), (True, False))
     nights.night()
+    # (a kill that came early cut a night that had made no run)
+    began, ended = ({row["night"] for row in nights.rows(kind)} for kind in ("began", "night"))
     check("the statement", (lines_of(nights, 1).get("Nights cut"), lines_of(nights, 1)["Whole"]),
-          ("1", "yes"))
+          (str(len(began - ended)), "yes"))
     check("it holds", verified(file_of(nights, 1))[0], 0)
     nights.night()
     check("the next cycle", lines_of(nights, 2).get("Nights cut"), "0")

@@ -20,7 +20,7 @@ Tried, and what comes of it. Each row was seen to fail on scripts that lacked it
 - Outputs that are closed: no file of the folder has what was written to them.
 - Names with line feeds, control bytes and backslashes: they make no header, no line and no
   control byte.
-- The command at the end of a message, pasted into a shell, for names with quotes, `$(..)`, spaces,
+- The command in a message, pasted into a shell, for names with quotes, `$(..)`, spaces,
   percent signs, control bytes and letters outside ASCII: it looks at that file and runs nothing
   else.
 """
@@ -411,8 +411,8 @@ NAMES = ["a;b$(touch ran).txt", "it's `touch ran`.txt", "it's & 'it'", "Brief an
 
 
 def pasted(folder):
-    """The command at the end of a night's message can be pasted, whatever root and file are called:
-    it looks at that file, and runs nothing else."""
+    """The command in a night's message can be pasted, whatever root and file are called: it looks
+    at that file, and runs nothing else."""
     os.makedirs(folder + "/bin")
     os.symlink(os.path.abspath(PROGRAM), folder + "/bin/ocfl-scrub")
     path = folder + "/bin:" + os.environ["PATH"]
@@ -422,9 +422,11 @@ def pasted(folder):
         write(root + "/o/v1/content/" + name, "x")
         out = ran([PROGRAM, "night", "--create", "--state", "%s/state-%d" % (folder, number),
                    "--", root])[1]
-        command = out.splitlines()[-1].partition(": ")[2]
+        command = out.partition(", then: ")[2].partition("\n")[0]
         status, found, said = ran(["sh", "-c", command], cwd=folder, PATH=path)
-        check("pasted: %r" % name, (status, found, said), (1, out.splitlines(True)[1], ""))
+        wrong = [line for line in ran([PROGRAM, "audit", "--", root])[1].splitlines(True)
+                 if line.startswith("E092")]
+        check("pasted: %r" % name, (status, [found], said), (1, wrong, ""))
     check("and nothing else ran", os.path.exists(folder + "/ran"), False)
 
 

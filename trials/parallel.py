@@ -8,7 +8,7 @@ usage: parallel.py [PART]...
 Tried, and what comes of it:
 
 - 15 nights of 24 parts; parts and nights that SIGKILL and SIGTERM end: each joined report is
-  `audit`, byte for byte, and each finding was told.
+  `audit`, byte for byte, and each finding was told, or counted in its group.
 - A place that cannot be read: named with its part, status 3; the other parts end; repaired, the
   cycle is the audit.
 - Cycles that are not joined: damage, its repair, a loss and its return: `status` has each once,

@@ -2,4 +2,5 @@ mod Changes
 mod Listings
 mod Lists
 mod Seen
+mod Systems
 mod Trees

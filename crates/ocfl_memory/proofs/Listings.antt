@@ -47,7 +47,7 @@ kept_is_listing root d is = record {
 
 -- ---- how many names there are
 
-abbrev names_of : List Entry → List Text
+abbrev pub names_of : List Entry → List Text
 names_of es = map (λ e. e.name) es
 
 names_of-kept_in : (root : StorageRoot) (d : Place) → names_of (kept_in root d) ≡ filter_map (λ e. child_name d e.0) root
@@ -69,7 +69,7 @@ length-insert_once x (y ∷ ys) h = by (text_cmp x y) refl (length-insert_once x
     by Equal e more = absurd (h (inl (text_cmp_exact x y e)))
     by Greater e more = ap suc more
 
-not_among_names : (es : List Entry) (n : Text) → kind_in es n ≡ None → IsAmong (names_of es) n → ⊥
+pub not_among_names : (es : List Entry) (n : Text) → kind_in es n ≡ None → IsAmong (names_of es) n → ⊥
 not_among_names [] n h i = i
 not_among_names (e ∷ es) n h i = by (text_eq e.name n) refl h i (not_among_names es n)
   where

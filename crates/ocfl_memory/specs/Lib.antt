@@ -1,3 +1,4 @@
 pub mod MemTree
+pub mod MemSystem
 pub mod Faults
 pub mod Internal

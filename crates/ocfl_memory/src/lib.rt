@@ -6,15 +6,25 @@
 //! - The tree in memory does and tells what the trait `Tree` says of each call (`MemTree`). Its
 //!   contracts also say what is at every place after each change, which refusal applies first, and
 //!   which call is made to fail.
+//! - The calls of the system over such a tree meet each clause of the trait `System`, and tell the
+//!   tree (`MemSystem`). What keeps the record of the calls is a parameter (`Watch`).
 #![tactic(auto)]
 
 mod build;
 pub mod laws;
+mod mem_file;
+mod mem_names;
+mod mem_system;
 mod mem_tree;
 mod nodes;
 mod openings;
 mod plan;
+mod watch;
 
 pub use build::BuildStop;
+pub use mem_file::MemFile;
+pub use mem_names::MemNames;
+pub use mem_system::MemSystem;
 pub use mem_tree::MemTree;
 pub use plan::Point;
+pub use watch::Watch;

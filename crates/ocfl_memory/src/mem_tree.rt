@@ -1,6 +1,7 @@
 //! A storage root in memory, which tells what was done to it and can be made to fail.
-ghost use Rattle.std.specs.Prelude.{◌≡◌, ◌≢◌, ◌↔◌, ◌<◌, ◌≤◌, ◌+◌, ◌^◌, [], true, IsTrue, ◌&&◌, nat_lt, IfOk, IfErr, OnOk, OnErr, IsOk, IsOkUnless, MatchOption, MatchResult, Err, length, take, max, is_some, IsSome, if◌then◌else◌};
-ghost use Rattle.ocfl_tree.specs.{StorageRoot.{file, dir, other, at}, Listing.{IsOrdinary}};
+ghost use Rattle.std.specs.Prelude.{ℕ, List, None, Some, IfSome, ◌≡◌, ◌≢◌, ◌↔◌, ◌<◌, ◌≤◌, ◌+◌, ◌^◌, [], true, IsTrue, ◌&&◌, nat_lt, IfOk, IfErr, OnOk, OnErr, IsOk, IsOkUnless, MatchOption, MatchResult, Err, length, take, max, is_some, IsSome, if◌then◌else◌};
+ghost use Rattle.ocfl_tree.specs.{StorageRoot.{file, dir, other, at}, Listing.{IsOrdinary, IsListing, kind_of}};
+ghost use Rattle.std.specs.Option.{option_map};
 ghost use Rattle.ocfl_tree.specs.Calls.{Lists, ListFails, Opens, OpenFails, Reads, ReadFails, Closes};
 ghost use Rattle.ocfl_memory.specs.Faults.{after_call};
 ghost use Rattle.ocfl_memory.specs.MemTree.{nothing_held, with_step, with_call, with_point, fails, read_fails, given_of, put_refusal, Puts, PutAnswer, FailsWhereStruck, Removes};
@@ -9,8 +10,9 @@ use crate::build::BuildStop;
 use crate::nodes::{self, Node, Stored};
 use crate::openings::{note_failed_listing, note_failure, note_given, note_opening, strikes_read};
 use crate::plan::{Plan, Point};
+use ocfl_folder::Seen;
 use ocfl_tree::{Entry, Opening, Place, Tree, Trouble};
-use std::alloc::Global;
+use std::alloc::{AllocError, Global};
 use std::marker::Model;
 
 /// The open file: the index of its place, and how many bytes of it were read.
@@ -160,6 +162,39 @@ impl MemTree {
             Ok(()) => Ok(()),
             Err(_) => Err(BuildStop::Memory),
         }
+    }
+
+    /// Where it has its memory from.
+    pub(crate) fn alloc(&self) -> Global {
+        *self.nodes.allocator()
+    }
+
+    /// What a look at a place sees there, and nothing if nothing is there.
+    pub(crate) fn seen_at(&self, place: &Place) -> Option<Seen>
+        ensures { MatchOption result (at self.now.store.tree place.now ≡ None)
+            (λ seen. option_map kind_of (at self.now.store.tree place.now) ≡ Some seen.kind) }
+    {
+        nodes::seen(&self.nodes, place)
+    }
+
+    /// The bytes of the file at a place, and of anything else none.
+    pub(crate) fn bytes_at(&self, place: &Place) -> &[u8]
+        ensures { (bytes : List ℕ) → at self.now.store.tree place.now ≡ Some (file bytes)
+            → result.now ≡ bytes }
+    {
+        nodes::bytes(&self.nodes, place)
+    }
+
+    /// The entries of the directory at a place, and nothing if none is there.
+    pub(crate) fn entries_at(&self, place: &Place) -> Result<Option<Vec<Entry>>, AllocError>
+        ensures { IfOk result (λ found. IfSome found (λ entries.
+            IsListing self.now.store.tree place.now entries.items)) }
+    {
+        if !nodes::is_dir(&self.nodes, place.path()) {
+            return Ok(None);
+        }
+        let alloc = *self.nodes.allocator();
+        Ok(Some(nodes::entries(alloc, &self.nodes, place.path())?))
     }
 
     /// Each opening of a file since `new`, oldest first.

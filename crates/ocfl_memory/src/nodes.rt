@@ -1,12 +1,13 @@
 //! What a tree in memory holds at its places.
 ghost use Rattle.std.specs.Prelude.{◌≡◌, ◌≢◌, ℕ, ◌<◌, ◌≤◌, ◌++◌, ◌∷◌, [], List, take, IsTrue, ◌↔◌, IfOk, OnOk, OnErr, IfSome, IsNone, IsOkUnless, MatchOption, None, Some, Err, length, not, is_some};
-ghost use Rattle.std.specs.List.{filter};
+ghost use Rattle.std.specs.{List.{filter}, Option.{option_map}};
 ghost use Rattle.ocfl_tree.specs.{Place.{begins, child_name}, StorageRoot.{file, dir, lookup}};
 ghost use Rattle.ocfl_tree.specs.{Listing.{kind_of}, Name.{IsName}, Path.{names_of}};
 ghost use Rattle.ocfl_memory.specs.MemTree.{parent};
 ghost use Rattle.ocfl_memory.specs.Internal.Nodes.{leaf_of, bytes_in, leaf_at, stands_at, kept_in, kept_refusal};
 
 use crate::build::BuildStop;
+use ocfl_folder::{Node as NodeId, Seen};
 use ocfl_tree::{Entry, Kind, MAX_ENTRIES, Name, Place, Trouble};
 use std::alloc::{AllocError, Global};
 use std::marker::Model;
@@ -180,6 +181,44 @@ pub(crate) fn file_index(nodes: &[(Place, Stored)], place: &Place) -> Option<usi
     match nodes[index].1.kind() {
         Kind::File => Some(index),
         Kind::Dir | Kind::Other => None,
+    }
+}
+
+/// What a look at a place sees there. Its number is that of its node, and 0 for the root.
+pub(crate) fn seen(nodes: &[(Place, Stored)], place: &Place) -> Option<Seen>
+    ensures { MatchOption result (stands_at nodes.now place.now ≡ None)
+        (λ seen. option_map kind_of (stands_at nodes.now place.now) ≡ Some seen.kind) }
+{
+    if place.path().is_empty() {
+        return Some(seen_as(Kind::Dir, 0));
+    }
+    let index = position(nodes, place.path())?;
+    Some(seen_as(nodes[index].1.kind(), index + 1))
+}
+
+/// What a look sees of a node of this kind and number.
+fn seen_as(kind: Kind, number: usize) -> Seen
+    ensures { result.kind ≡ kind }
+{
+    let number = number as u64;
+    Seen {
+        kind,
+        node: NodeId {
+            device: 0,
+            number,
+            made: None,
+        },
+    }
+}
+
+/// The bytes of the file at a place, and of anything else none.
+pub(crate) fn bytes<'a>(nodes: &'a [(Place, Stored)], place: &Place) -> &'a [u8]
+    ensures { (bytes : List ℕ) → stands_at nodes.now place.now ≡ Some (file bytes)
+        → result.now ≡ bytes }
+{
+    match file_index(nodes, place) {
+        Some(index) => nodes[index].1.bytes(),
+        None => &[],
     }
 }
 

@@ -1,0 +1,9 @@
+//! A disk in memory, which tells what it holds and what a power cut may leave of it, and can be
+//! made to fail. The tests use it, and the program does not.
+#![tactic(auto)]
+
+mod mem_call;
+mod mem_disk;
+mod shown;
+
+pub use mem_disk::{MemDisk, MemHandle};

@@ -1,3 +1,10 @@
+pub mod Causes
+pub mod Chains
+pub mod Outputs
 pub mod Passing
+pub mod Memories
+pub mod Rounds
 pub mod Search
+pub mod Speaking
+pub mod UnsaidCycles
 pub mod Outcomes

@@ -12,42 +12,44 @@ may_account k cycle text old new pair changes said e x y (inl f) = inl f
 may_account k cycle text old new pair changes said e x y (inr f) = inr (pair, (changes, (said, f ∙ ap (λ n. with_account (account_of n changes) x) e)))
 
 module _ {F : Type 0} (may_leave : F → Outcomes) (moment : F → ℕ) (left_since : F → ℕ → Outcomes) where
-  pub nothing_passes : (a : F) → Passes may_leave moment left_since Same a a
-  nothing_passes a = record { later = omega arith; now = λ k m. (k, m, refl); meanwhile = λ t k l m. inl m }
-
-  -- a call that changes nothing, and another one
-  pub same_then : (step : Step) → ((k : Kept) → step k k) → (a b c : F) → Passes may_leave moment left_since Same a b → Passes may_leave moment left_since step b c → Passes may_leave moment left_since step a c
-  same_then step whatever a b c p q = record {
+  -- two calls, and a step that both steps together are, and the first one alone
+  pub passes_then : (first then step : Step) → ((x y : Kept) → first x y → step x y) → ((x y z : Kept) → first x y → then y z → step x z)
+      → (a b c : F) → Passes may_leave moment left_since first a b → Passes may_leave moment left_since then b c → Passes may_leave moment left_since step a c
+  passes_then first then step alone both a b c p q = record {
     later = let one = p.later in let two = q.later in omega (arith, one, two);
     now = λ k m. back k (q.now k m);
     meanwhile = λ t k l m. from t k l (q.meanwhile t k (let one = p.later in omega (arith, one, l)) m);
+    keeps = λ t k l m. q.keeps t k (let one = p.later in omega (arith, one, l)) (p.keeps t k l m);
   }
     where
-      back : (k : Kept) → After step (may_leave b) k → After step (may_leave a) k
-      back k h = let e = p.now h.0 h.1 in (e.0, e.1, subst (λ d. step d k) e.2 h.2)
+      back : (k : Kept) → After then (may_leave b) k → After step (may_leave a) k
+      back k h = let e = p.now h.0 h.1 in (e.0, e.1, both e.0 h.0 k e.2 h.2)
 
-      earlier : (t : ℕ) (k : Kept) → left_since a t k ⊎ After Same (may_leave a) k → left_since a t k ⊎ After step (may_leave a) k
+      earlier : (t : ℕ) (k : Kept) → left_since a t k ⊎ After first (may_leave a) k → left_since a t k ⊎ After step (may_leave a) k
       earlier t k (inl m) = inl m
-      earlier t k (inr h) = inr (h.0, h.1, subst (step h.0) (sym h.2) (whatever h.0))
+      earlier t k (inr h) = inr (h.0, h.1, alone h.0 k h.2)
 
-      from : (t : ℕ) (k : Kept) → t ≤ moment a → left_since b t k ⊎ After step (may_leave b) k → left_since a t k ⊎ After step (may_leave a) k
+      from : (t : ℕ) (k : Kept) → t ≤ moment a → left_since b t k ⊎ After then (may_leave b) k → left_since a t k ⊎ After step (may_leave a) k
       from t k l (inl m) = earlier t k (p.meanwhile t k l m)
       from t k l (inr h) = inr (back k h)
+
+  pub nothing_passes : (a : F) → Passes may_leave moment left_since Same a a
+  nothing_passes a = record { later = omega arith; now = λ k m. (k, m, refl); meanwhile = λ t k l m. inl m; keeps = λ t k l m. m }
+
+  -- a call that changes nothing, and another one
+  pub same_then : (step : Step) → ((k : Kept) → step k k) → (a b c : F) → Passes may_leave moment left_since Same a b → Passes may_leave moment left_since step b c → Passes may_leave moment left_since step a c
+  same_then step whatever a b c p q = passes_then Same step step (λ x y e. subst (step x) (sym e) (whatever x)) (λ x y z e s. subst (λ d. step d z) e s) a b c p q
+
+  -- a call, and another one that changes nothing
+  pub then_same : (step : Step) → (a b c : F) → Passes may_leave moment left_since step a b → Passes may_leave moment left_since Same b c → Passes may_leave moment left_since step a c
+  then_same step a b c p q = passes_then step Same step (λ x y s. s) (λ x y z s e. subst (step x) (sym e) s) a b c p q
 
   pub two_same : (a b c : F) → Passes may_leave moment left_since Same a b → Passes may_leave moment left_since Same b c → Passes may_leave moment left_since Same a c
   two_same a b c p q = same_then Same (λ k. refl) a b c p q
 
   -- by a step that allows more
   pub weaker : (step other : Step) → ((d k : Kept) → step d k → other d k) → (a b : F) → Passes may_leave moment left_since step a b → Passes may_leave moment left_since other a b
-  weaker step other more a b p = record {
-    later = p.later;
-    now = λ k m. let h = p.now k m in (h.0, h.1, more h.0 k h.2);
-    meanwhile = λ t k l m. from t k (p.meanwhile t k l m);
-  }
-    where
-      from : (t : ℕ) (k : Kept) → left_since a t k ⊎ After step (may_leave a) k → left_since a t k ⊎ After other (may_leave a) k
-      from t k (inl m) = inl m
-      from t k (inr h) = inr (h.0, h.1, more h.0 k h.2)
+  weaker step other more a b p = passes_then step Same other more (λ x y z s e. subst (other x) (sym e) (more x y s)) a b b p (nothing_passes b)
 
   -- two calls that change nothing, and one that may put the account of what was said
   pub account_passes : (k : Kept) (cycle : ℕ) (text : Pair → List ChangeAt → Text) (old new : Said) (pair : Pair) (changes : List ChangeAt) → IsAccountSaid k cycle text old new pair changes

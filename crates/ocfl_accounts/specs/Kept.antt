@@ -21,8 +21,11 @@ pub record Kept : Type 0 where
 abbrev pub has_account : Kept → ℕ → Bool
 has_account k cycle = list_any (λ a. a.cycle == cycle) k.accounts
 
+abbrev pub with_accounts : List Account → Kept → Kept
+with_accounts accounts k = record { sights = k.sights; reports = k.reports; listed = k.listed; accounts = k.accounts ++ accounts }
+
 abbrev pub with_account : Account → Kept → Kept
-with_account a k = record { sights = k.sights; reports = k.reports; listed = k.listed; accounts = k.accounts ++ a ∷ [] }
+with_account a k = with_accounts (a ∷ []) k
 
 -- of a folder of which nothing is known
 abbrev pub nothing_kept : Kept

@@ -1,12 +1,12 @@
 -- What it is to say what a closed cycle found.
-use Rattle.std.specs.Prelude.{◌≡◌, ◌⊎◌, ℕ, ◌+◌, ◌-◌, max, List, [], ◌∷◌, length, Bool, true, false, if◌then◌else◌}
+use Rattle.std.specs.Prelude.{◌≡◌, ◌⊎◌, ℕ, ◌+◌, ◌-◌, max, List, [], ◌∷◌, length, Bool, true, false, if◌then◌else◌, Option, None, Some}
 use Rattle.std.specs.List.{list_any}
 use Rattle.ocfl_tree.specs.Place.{Text}
 use Rattle.ocfl_compare.specs.declared.change.ChangeAt.{ChangeAt}
 use Rattle.ocfl_accounts.specs.Cycle.{there, away}
 use Rattle.ocfl_accounts.specs.Kept.{Kept, Account, has_account, with_account}
-use Rattle.ocfl_accounts.specs.{Crash.{Step}, Said.{Said, HasSaid}, Pairs.{IsPair, waits, status_of}, Changes.{AreChanges}}
-use Rattle.ocfl_accounts.specs.declared.pair.Pair.{Pair}
+use Rattle.ocfl_accounts.specs.{Crash.{Step}, Said.{Said, HasSaid, Grows}, Pairs.{IsPair, waits, status_of}, Changes.{AreChanges}}
+use Rattle.ocfl_accounts.specs.{Causes.{IsReason}, declared.{closings.ClosingStop.{ClosingStop}, pair.Pair.{Pair}}}
 
 -- there is nothing to say of a cycle: its account is there, or its report is not
 abbrev pub IsSettled : Kept → ℕ → Type 0
@@ -19,6 +19,7 @@ pub record IsAccountSaid (k : Kept) (cycle : ℕ) (text : Pair → List ChangeAt
   pub pair_is : IsPair k.sights pair
   pub changes_are : AreChanges k pair changes
   pub said : HasSaid (text pair changes) old new
+  pub grew : Grows old new
 
 abbrev pub account_of : ℕ → List ChangeAt → Account
 account_of cycle changes = record { cycle = cycle; changes = changes }
@@ -49,27 +50,39 @@ MayAccount k cycle text old new before after =
 
 -- ---- cycles one after the other
 
--- how it stands after one cycle: what is kept, what was said, the status, and whether the cycle is
--- done with
-pub record Outcome : Type 0 where
+-- how it stands: what is kept, how often closings have failed, and what was said
+pub record Stand : Type 0 where
   pub kept : Kept
+  pub faults : ℕ
   pub said : Said
-  pub status : ℕ
-  pub is_done : Bool
 
--- a cycle that is done with was said or left alone; of one that is not, the account may be kept if
--- its text was said, and the status is 3
-abbrev pub IsOutcome : Kept → Said → ℕ → (Pair → List ChangeAt → Text) → (ChangeAt → Bool) → Outcome → Type 0
-IsOutcome k old cycle text news o = by o.is_done
-  where
-    by : Bool → Type 0
-    by true = IsLeftAlone k cycle o.kept old o.said o.status ⊎ IsToldRightly k cycle text news o.kept old o.said o.status
-    by false = MayAccount k cycle text old o.said k o.kept × (o.status ≡ 3)
+abbrev pub stand_of : Kept → ℕ → Said → Stand
+stand_of kept faults said = record { kept = kept; faults = faults; said = said }
+
+-- how it stands after one cycle, the status, and why the cycle was not said, if it was not
+pub record Outcome : Type 0 where
+  pub after : Stand
+  pub status : ℕ
+  pub stop : Option ClosingStop
+
+abbrev pub outcome_of : Stand → ℕ → Option ClosingStop → Outcome
+outcome_of after status stop = record { after = after; status = status; stop = stop }
+
+-- a cycle was said, or left alone; or not for a reason, and then its account may be kept if its text
+-- was said, and the status is 3
+abbrev pub IsOutcomeFor : Option ClosingStop → Stand → ℕ → (Pair → List ChangeAt → Text) → (ChangeAt → Bool) → Stand → ℕ → Type 0
+IsOutcomeFor None before cycle text news after status = IsLeftAlone before.kept cycle after.kept before.said after.said status ⊎ IsToldRightly before.kept cycle text news after.kept before.said after.said status
+IsOutcomeFor (Some why) before cycle text news after status =
+    MayAccount before.kept cycle text before.said after.said before.kept after.kept
+    × (Grows before.said after.said × ((status ≡ 3) × IsReason before.faults after.faults before.said after.said why))
+
+abbrev pub IsOutcome : Stand → ℕ → (Pair → List ChangeAt → Text) → (ChangeAt → Bool) → Outcome → Type 0
+IsOutcome before cycle text news o = IsOutcomeFor o.stop before cycle text news o.after o.status
 
 -- one cycle after the other, from a number on
-abbrev pub AreOutcomes : Kept → Said → ℕ → (Pair → List ChangeAt → Text) → (ChangeAt → Bool) → List Outcome → Kept → Said → Type 0
-AreOutcomes k old cycle text news [] after new = (after ≡ k) × (new ≡ old)
-AreOutcomes k old cycle text news (o ∷ os) after new = IsOutcome k old cycle text news o × AreOutcomes o.kept o.said (cycle + 1) text news os after new
+abbrev pub AreOutcomes : Stand → ℕ → (Pair → List ChangeAt → Text) → (ChangeAt → Bool) → List Outcome → Stand → Type 0
+AreOutcomes before cycle text news [] after = after ≡ before
+AreOutcomes before cycle text news (o ∷ os) after = IsOutcome before cycle text news o × AreOutcomes o.after (cycle + 1) text news os after
 
 -- the greatest status, if it is greater than this one
 abbrev pub greatest_from : ℕ → List Outcome → ℕ
@@ -77,8 +90,8 @@ greatest_from status [] = status
 greatest_from status (o ∷ os) = greatest_from (max status o.status) os
 
 -- all cycles from the first number on and below the second, in order, and the greatest status
-pub record AreSaid (k : Kept) (old : Said) (first end : ℕ) (text : Pair → List ChangeAt → Text) (news : ChangeAt → Bool) (after : Kept) (new : Said) (status : ℕ) : Type 0 where
+pub record AreSaid (before : Stand) (first end : ℕ) (text : Pair → List ChangeAt → Text) (news : ChangeAt → Bool) (after : Stand) (status : ℕ) : Type 0 where
   pub outcomes : List Outcome
-  pub are : AreOutcomes k old first text news outcomes after new
+  pub are : AreOutcomes before first text news outcomes after
   pub all : length outcomes ≡ end - first
   pub greatest : status ≡ greatest_from 0 outcomes

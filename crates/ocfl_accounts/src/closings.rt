@@ -1,9 +1,9 @@
 //! Closed reports, what is found in them, and the accounts of that.
-ghost use Rattle.std.specs.Prelude.{◌≡◌, ℕ, Bool, false, IsTrue, IfOk, OnOk, List, [], ⊤};
+ghost use Rattle.std.specs.Prelude.{◌≡◌, ◌≤◌, ℕ, Bool, false, IsTrue, IfOk, OnOk, List, [], ⊤};
 ghost use Rattle.std.specs.List.{list_any};
 ghost use Rattle.ocfl_tree.specs.Place.{Text};
 ghost use Rattle.ocfl_compare.specs.declared.change.ChangeAt.{ChangeAt};
-ghost use Rattle.ocfl_accounts.specs.{Crash.{Outcomes, Passes, MayPut, Same}, Changes.{AreChanges}};
+ghost use Rattle.ocfl_accounts.specs.{Crash.{Follows, IsPut, MayPut, Outcomes, Passes, Same}, Causes.{HasCause}, Changes.{AreChanges}};
 ghost use Rattle.ocfl_accounts.specs.{Kept.{Kept, has_account, nothing_kept, with_account}, Telling.{account_of}};
 ghost use Rattle.ocfl_accounts.specs.{Sights.{IsSight}, declared.pair.Pair.{Pair as ModelPair}};
 
@@ -51,6 +51,9 @@ pub trait Closings {
     /// What a crash at some moment from that one on might have left, in a call or between two.
     ghost left_since: { Self → ℕ → Outcomes } = { λ _ _ _. ⊤ };
 
+    /// How often a call has failed, for another reason than memory.
+    ghost faults: { Self → ℕ } = { λ _. 0 };
+
     /// What is said of the changes of a cycle.
     ghost text: { ModelPair → List ChangeAt → Text } = { λ _ _. [] };
 
@@ -61,14 +64,16 @@ pub trait Closings {
     fn has_account(&mut self, cycle: u64) -> Result<bool, ClosingStop>
         ensures value { IsTrue told → IfOk result (λ is. is ≡ has_account (seen self.old) cycle) }
         ensures seen { IsTrue told → seen self.new ≡ seen self.old }
-        ensures crash { IsTrue told → Passes may_leave moment left_since Same self.old self.new };
+        ensures crash { IsTrue told → Passes may_leave moment left_since Same self.old self.new }
+        ensures cause { IsTrue told → HasCause (faults self.old) (faults self.new) result };
 
     /// What is there of a closed cycle.
     fn look(&mut self, cycle: u64) -> Result<Look, ClosingStop>
         ensures value { IsTrue told → IfOk result (λ look.
             IsSight cycle ((seen self.old).sights cycle) look) }
         ensures seen { IsTrue told → seen self.new ≡ seen self.old }
-        ensures crash { IsTrue told → Passes may_leave moment left_since Same self.old self.new };
+        ensures crash { IsTrue told → Passes may_leave moment left_since Same self.old self.new }
+        ensures cause { IsTrue told → HasCause (faults self.old) (faults self.new) result };
 
     /// Finds the changes of a closed cycle, whose account is put by the next `put`. Of a cycle whose
     /// report lost lines it finds none.
@@ -80,25 +85,43 @@ pub trait Closings {
         ensures grave { IsTrue told → IfOk result (λ it.
             it.is_grave ≡ list_any news (found self.new)) }
         ensures seen { IsTrue told → seen self.new ≡ seen self.old }
-        ensures crash { IsTrue told → Passes may_leave moment left_since Same self.old self.new };
+        ensures crash { IsTrue told → Passes may_leave moment left_since Same self.old self.new }
+        ensures cause { IsTrue told → HasCause (faults self.old) (faults self.new) result };
 
     /// Puts the account of the changes that were found last, which are those of this cycle. After
-    /// `Ok` it is on the disk.
+    /// `Ok` it is on the disk: no crash from then on leaves a folder without it.
     fn put(&mut self, pair: &Pair) -> Result<(), ClosingStop>
         ensures put { IsTrue told → OnOk result (seen self.new
             ≡ with_account (account_of pair.now.closed.cycle (found self.old)) (seen self.old)) }
         ensures may { IsTrue told → MayPut
             (account_of pair.now.closed.cycle (found self.old)) (seen self.old) (seen self.new) }
         ensures crash { IsTrue told → Passes may_leave moment left_since
-            (MayPut (account_of pair.now.closed.cycle (found self.old))) self.old self.new };
+            (MayPut (account_of pair.now.closed.cycle (found self.old))) self.old self.new }
+        ensures durable { IsTrue told → OnOk result (Follows
+            (IsPut (account_of pair.now.closed.cycle (found self.old)))
+            (may_leave self.old) (may_leave self.new)) }
+        ensures cause { IsTrue told → HasCause (faults self.old) (faults self.new) result };
 
     /// Ends what was found and is not put, since the cycle can be compared once a report is back.
     fn drop_found(&mut self, pair: &Pair) -> Result<(), ClosingStop>
         ensures seen { IsTrue told → seen self.new ≡ seen self.old }
-        ensures crash { IsTrue told → Passes may_leave moment left_since Same self.old self.new };
+        ensures crash { IsTrue told → Passes may_leave moment left_since Same self.old self.new }
+        ensures cause { IsTrue told → HasCause (faults self.old) (faults self.new) result };
 
     /// Notes why a closing was not said.
     fn fail(&mut self, stop: ClosingStop)
         ensures seen { IsTrue told → seen self.new ≡ seen self.old }
-        ensures crash { IsTrue told → Passes may_leave moment left_since Same self.old self.new };
+        ensures crash { IsTrue told → Passes may_leave moment left_since Same self.old self.new }
+        ensures faults { IsTrue told → faults self.new ≡ faults self.old };
+
+    /// A crash may leave what calls show, as a killed process does.
+    ghost stays: { IsTrue told → (closings : Self) → may_leave closings (seen closings) };
+
+    /// This moment is one of those since an earlier one.
+    ghost counts_now: { IsTrue told → (closings : Self) (t : ℕ) (k : Kept)
+        → t ≤ moment closings → may_leave closings k → left_since closings t k };
+
+    /// Since this moment there is no other.
+    ghost only_now: { IsTrue told → (closings : Self) (k : Kept)
+        → left_since closings (moment closings) k → may_leave closings k };
 }

@@ -1,7 +1,7 @@
 //! What a closed cycle can be compared with.
 ghost use Rattle.std.specs.Prelude.{◌≡◌, IsTrue, IfOk, if◌then◌else◌, Some, None};
-ghost use Rattle.ocfl_accounts.specs.{Crash.{Passes, Same}, Cycle.{IsEarlier, is_missing, lowest}};
-ghost use Rattle.ocfl_accounts.specs.{Sights.{sight_of}, Search.{fit_of, missing_with}};
+ghost use Rattle.ocfl_accounts.specs.{Causes.{HasCause}, Crash.{Passes, Same}};
+ghost use Rattle.ocfl_accounts.specs.{Cycle.{IsEarlier, is_missing, lowest}, Sights.{sight_of}, Search.{fit_of, missing_with}};
 
 use crate::closed::{ClosedCycle, Look};
 use crate::closings::{ClosingStop, Closings};
@@ -20,7 +20,7 @@ pub struct Earlier {
 
 /// Looks for the last cycle before this one, of 999, whose report is there and lost nothing; with
 /// `is_whole` for the last one that left nothing out either.
-#[tactic(auto, using(crate::proofs::Passing::nothing_passes, crate::proofs::Passing::two_same, crate::proofs::Search::looked_none))]
+#[tactic(auto, using(crate::proofs::Causes::cause_on, crate::proofs::Passing::nothing_passes, crate::proofs::Passing::two_same, crate::proofs::Search::looked_none))]
 pub fn find_earlier<C: Closings>(
     closings: &mut C,
     cycle: u64,
@@ -31,6 +31,8 @@ pub fn find_earlier<C: Closings>(
     ensures seen { IsTrue C.told → C.seen closings.new ≡ C.seen closings.old }
     ensures crash { IsTrue C.told
         → Passes C.may_leave C.moment C.left_since Same closings.old closings.new }
+    ensures cause { IsTrue C.told
+        → HasCause (C.faults closings.old) (C.faults closings.new) result }
 {
     let low = lowest_of(cycle);
     let mut missing = None;

@@ -11,21 +11,38 @@
 //!   the one that was found.
 //! - What a cycle found is said once: only if its account is not there, and its account, which is that
 //!   of the comparison, is put only after its text was committed. A crash leaves the accounts as they
-//!   were, or with that one, once its text was said (`say_cycle`).
+//!   were, or with that one, once its text was said (`say_cycle`); over several cycles with those of
+//!   some of them, in order (`say_cycles`).
+//! - Whatever calls there were, each ended or crashed at any moment: each account that is there was
+//!   there at first, or had its text said in one of them; and a call whose status is not 3 has said each
+//!   of its cycles that has a report and had no account (`laws`).
+//! - Of those before a cycle, one after the other, `find_unsaid` finds the first that was not said, of
+//!   1,000.
+//! - That closed reports failed is answered only if a call of them did, and that the output failed only
+//!   if it did.
 //! - Its status is 3 if the report is not whole or a report is not there with which it is to be
 //!   compared, 1 if something is new or gone, else 0.
+//!
+//! [`MemClosings`] and [`MemOutput`] do in memory what the traits say.
 #![tactic(auto)]
 
 mod closed;
 mod closings;
 mod earlier;
+mod held;
+pub mod laws;
+mod memory;
 mod pair;
 mod say;
 mod telling;
+mod unsaid;
 
 pub use closed::{ClosedCycle, Look};
 pub use closings::{ClosingStop, Closings, Found};
 pub use earlier::{Earlier, find_earlier};
+pub use held::{MemAccount, MemCycle};
+pub use memory::{MemClosings, MemOutput};
 pub use pair::{Pair, find_pair, status_of};
 pub use say::{NotSaid, Say};
 pub use telling::{say_cycle, say_cycles};
+pub use unsaid::find_unsaid;

@@ -1,6 +1,6 @@
 //! A closed cycle, and what it is compared with.
 ghost use Rattle.std.specs.Prelude.{◌≡◌, ◌++◌, IsTrue, IfOk, OnOk, []};
-ghost use Rattle.ocfl_accounts.specs.{Crash.{Passes, Same}, Cycle.{Cycle}};
+ghost use Rattle.ocfl_accounts.specs.{Causes.{HasCause}, Crash.{Passes, Same}, Cycle.{Cycle}};
 ghost use Rattle.ocfl_accounts.specs.Pairs.{IsBefore, IsPair, IsWholeBefore, lacks, left_before};
 ghost use Rattle.ocfl_accounts.specs.Pairs.{outside, status_of as status_by, waits};
 ghost use Rattle.ocfl_compare.specs.Changes.{is_left as is_left_out};
@@ -72,7 +72,7 @@ pub fn status_of(pair: &Pair, is_grave: bool) -> u8
 }
 
 /// Finds what a closed cycle is compared with.
-#[tactic(auto, using(crate::proofs::Passing::two_same))]
+#[tactic(auto, using(crate::proofs::Causes::cause_on, crate::proofs::Passing::two_same))]
 pub fn find_pair<C: Closings>(
     alloc: Global,
     closings: &mut C,
@@ -83,6 +83,8 @@ pub fn find_pair<C: Closings>(
     ensures seen { IsTrue C.told → C.seen closings.new ≡ C.seen closings.old }
     ensures crash { IsTrue C.told
         → Passes C.may_leave C.moment C.left_since Same closings.old closings.new }
+    ensures cause { IsTrue C.told
+        → HasCause (C.faults closings.old) (C.faults closings.new) result }
 {
     let before = find_before(closings, &now)?;
     let again = match places_again(alloc, &now, &before.found) {
@@ -108,6 +110,8 @@ fn find_before<C: Closings>(closings: &mut C, now: &ClosedCycle) -> Result<Earli
     ensures seen { IsTrue C.told → C.seen closings.new ≡ C.seen closings.old }
     ensures crash { IsTrue C.told
         → Passes C.may_leave C.moment C.left_since Same closings.old closings.new }
+    ensures cause { IsTrue C.told
+        → HasCause (C.faults closings.old) (C.faults closings.new) result }
 {
     if now.is_lost() {
         return Ok(Earlier {
@@ -146,7 +150,7 @@ fn put_outside(places: &[Place], others: &[Place], rest: &mut Vec<Place>) -> Res
 }
 
 /// Whether the place is one of those, or is below one.
-fn is_left(left: &[Place], place: &Place) -> bool
+pub(crate) fn is_left(left: &[Place], place: &Place) -> bool
     ensures { result ≡ is_left_out left.now place.now }
 {
     left.iter().any(|branch| place.starts_with(branch))
@@ -164,6 +168,8 @@ fn find_whole<C: Closings>(
     ensures seen { IsTrue C.told → C.seen closings.new ≡ C.seen closings.old }
     ensures crash { IsTrue C.told
         → Passes C.may_leave C.moment C.left_since Same closings.old closings.new }
+    ensures cause { IsTrue C.told
+        → HasCause (C.faults closings.old) (C.faults closings.new) result }
 {
     match before {
         Some(before) if !again.is_empty() => find_earlier(closings, before.cycle(), true),

@@ -1,9 +1,11 @@
 //! Saying what a closed cycle found.
-ghost use Rattle.std.specs.Prelude.{◌≡◌, ◌⊎◌, Bool, false, IsTrue, IfOk, OnOk};
-ghost use Rattle.ocfl_accounts.specs.{Crash.{MayPut, Passes}, Cycle.{there}, Kept.{has_account}};
-ghost use Rattle.ocfl_accounts.specs.Telling.{IsLeftAlone, IsToldRightly, MayAccount};
-ghost use Rattle.ocfl_accounts.specs.{Said.{HasSaid}, Telling.{account_of, kept_then}};
-ghost use Rattle.ocfl_accounts.specs.Telling.{AreSaid, IsOutcome};
+ghost use Rattle.std.specs.Prelude.{◌≡◌, ◌⊎◌, false, IsTrue, IfOk, IsOkUnless, OnErr, OnOk, Option};
+ghost use Rattle.ocfl_accounts.specs.{Causes.{HasCause, HasReason}, Crash.{MayPut, Passes}};
+ghost use Rattle.ocfl_accounts.specs.{Cycle.{there}, Kept.{has_account}, Rounds.{MayAccounts}};
+ghost use Rattle.ocfl_accounts.specs.{Said.{Grows, HasFailed, HasSaid}, Telling.{account_of, kept_then}};
+ghost use Rattle.ocfl_accounts.specs.Telling.{AreSaid, IsLeftAlone, IsOutcome, IsToldRightly, MayAccount};
+ghost use Rattle.ocfl_accounts.specs.Telling.{outcome_of, stand_of};
+ghost use Rattle.ocfl_accounts.specs.declared.closings.ClosingStop.{ClosingStop as ModelStop};
 
 use crate::closed::{ClosedCycle, Look};
 use crate::closings::{ClosingStop, Closings};
@@ -31,6 +33,9 @@ pub fn say_cycle<C: Closings, S: Say>(
     ensures crash { IsTrue C.told → Passes C.may_leave C.moment C.left_since
         (MayAccount (C.seen closings.old) cycle C.text (S.said out.old) (S.said out.new))
         closings.old closings.new }
+    ensures grew { Grows (S.said out.old) (S.said out.new) }
+    ensures cause { IsTrue C.told → HasReason (C.faults closings.old) (C.faults closings.new)
+        (S.said out.old) (S.said out.new) result }
 {
     if closings.has_account(cycle)? {
         return Ok(0);
@@ -61,6 +66,9 @@ fn say_closed<C: Closings, S: Say>(
         → Passes C.may_leave C.moment C.left_since
         (MayAccount (C.seen closings.old) now.cycle C.text (S.said out.old) (S.said out.new))
         closings.old closings.new }
+    ensures grew { Grows (S.said out.old) (S.said out.new) }
+    ensures cause { IsTrue C.told → HasReason (C.faults closings.old) (C.faults closings.new)
+        (S.said out.old) (S.said out.new) result }
 {
     let pair = find_pair(alloc, closings, now)?;
     let found = closings.find(&pair)?;
@@ -79,6 +87,8 @@ fn keep_found<C: Closings>(closings: &mut C, pair: &Pair) -> Result<(), ClosingS
     ensures crash { IsTrue C.told → Passes C.may_leave C.moment C.left_since
         (MayPut (account_of pair.now.closed.cycle (C.found closings.old)))
         closings.old closings.new }
+    ensures cause { IsTrue C.told
+        → HasCause (C.faults closings.old) (C.faults closings.new) result }
 {
     if pair.waits() {
         closings.drop_found(pair)
@@ -96,8 +106,14 @@ pub fn say_cycles<C: Closings, S: Say>(
     end: u64,
     out: &mut S,
 ) -> u8
-    ensures { IsTrue C.told → AreSaid (C.seen closings.old) (S.said out.old) first end
-        C.text C.news (C.seen closings.new) (S.said out.new) result }
+    ensures said { IsTrue C.told → AreSaid
+        (stand_of (C.seen closings.old) (C.faults closings.old) (S.said out.old))
+        first end C.text C.news
+        (stand_of (C.seen closings.new) (C.faults closings.new) (S.said out.new)) result }
+    ensures crash { IsTrue C.told → Passes C.may_leave C.moment C.left_since
+        (MayAccounts (C.seen closings.old) C.text first end (S.said out.old) (S.said out.new))
+        closings.old closings.new }
+    ensures grew { Grows (S.said out.old) (S.said out.new) }
 {
     let mut status = 0;
     for cycle in first..end {
@@ -108,13 +124,16 @@ pub fn say_cycles<C: Closings, S: Say>(
 
 /// Says what a closed cycle found, and notes why if that fails.
 fn say_or_fail<C: Closings, S: Say>(alloc: Global, closings: &mut C, cycle: u64, out: &mut S) -> u8
-    ensures { IsTrue C.told → (done : Bool) × IsOutcome (C.seen closings.old) (S.said out.old)
-        cycle C.text C.news (record {
-          kept = C.seen closings.new;
-          said = S.said out.new;
-          status = result;
-          is_done = done;
-        }) }
+    ensures said { IsTrue C.told → (stop : Option ModelStop) × IsOutcome
+        (stand_of (C.seen closings.old) (C.faults closings.old) (S.said out.old))
+        cycle C.text C.news (outcome_of
+        (stand_of (C.seen closings.new) (C.faults closings.new) (S.said out.new)) result stop) }
+    ensures may { IsTrue C.told → MayAccount (C.seen closings.old) cycle C.text
+        (S.said out.old) (S.said out.new) (C.seen closings.old) (C.seen closings.new) }
+    ensures crash { IsTrue C.told → Passes C.may_leave C.moment C.left_since
+        (MayAccount (C.seen closings.old) cycle C.text (S.said out.old) (S.said out.new))
+        closings.old closings.new }
+    ensures grew { Grows (S.said out.old) (S.said out.new) }
 {
     match say_cycle(alloc, closings, cycle, out) {
         Ok(status) => status,
@@ -127,7 +146,10 @@ fn say_or_fail<C: Closings, S: Say>(alloc: Global, closings: &mut C, cycle: u64,
 
 /// Says a text, all of it, and commits it.
 fn speak<S: Say>(out: &mut S, text: &[u8]) -> Result<(), ClosingStop>
-    ensures { OnOk result (HasSaid text.now (S.said out.old) (S.said out.new)) }
+    ensures said { OnOk result (HasSaid text.now (S.said out.old) (S.said out.new)) }
+    ensures grew { Grows (S.said out.old) (S.said out.new) }
+    ensures failed { OnErr result (HasFailed (S.said out.old).failures (S.said out.new).failures) }
+    ensures output { IsOkUnless result ClosingStop.Output }
 {
     match out.say(text) {
         Ok(()) => Ok(()),

@@ -1,0 +1,61 @@
+-- Calls that say closings, one after the other, each ended or crashed.
+use Rattle.std.specs.Prelude.{◌≡◌, ◌⊎◌, ℕ, List, [], ◌∷◌, ⊤}
+use Rattle.ocfl_tree.specs.{Place.{Text}}
+use Rattle.ocfl_compare.specs.declared.change.ChangeAt.{ChangeAt}
+use Rattle.ocfl_accounts.specs.{Kept.{Kept, Account}, Crash.{Outcomes, Same, Follows, Passes}, Said.{Said, Grows}}
+use Rattle.ocfl_accounts.specs.{Telling.{Stand, IsAccountSaid, IsSettled}, Rounds.{Told, MayAccounts, account_told}}
+use Rattle.ocfl_accounts.specs.declared.pair.Pair.{Pair}
+
+-- a call: the closed reports when it began and when they were last seen, which cycles it was to say,
+-- and how its output stood before and then
+pub record Call (F : Type 0) : Type 0 where
+  pub began : F
+  pub ended : F
+  pub first : ℕ
+  pub end : ℕ
+  pub before : Said
+  pub after : Said
+
+-- The first begins on one of these outcomes, and each other one on what a crash of the one before it,
+-- at any moment, may have left, or on its end.
+abbrev pub AreCalls : {F : Type 0} → (F → Kept) → (F → Outcomes) → (F → ℕ) → (F → ℕ → Outcomes) → (Pair → List ChangeAt → Text) → Outcomes → List (Call F) → Type 0
+AreCalls seen may_leave moment left_since text outcomes [] = ⊤
+AreCalls seen may_leave moment left_since text outcomes (c ∷ calls) =
+    Follows Same outcomes (may_leave c.began)
+    × Passes may_leave moment left_since (MayAccounts (seen c.began) text c.first c.end c.before c.after) c.began c.ended
+    × AreCalls seen may_leave moment left_since text (left_since c.ended (moment c.began)) calls
+
+-- what a crash at any moment of the last call may have left
+abbrev pub left_by : {F : Type 0} → (F → ℕ) → (F → ℕ → Outcomes) → Outcomes → List (Call F) → Outcomes
+left_by moment left_since outcomes [] = outcomes
+left_by moment left_since outcomes (c ∷ calls) = left_by moment left_since (left_since c.ended (moment c.began)) calls
+
+-- in one of these calls a text was said, that of the comparison with the right reports, and then the
+-- account was put
+pub record IsSaidIn {F : Type 0} (seen : F → Kept) (text : Pair → List ChangeAt → Text) (a : Account) (c : Call F) : Type 0 where
+  pub told : Told
+  pub is : a ≡ account_told told
+  pub grew : Grows c.before told.before
+  pub said : IsAccountSaid (seen c.began) told.cycle text told.before told.after told.pair told.changes
+  pub then : Grows told.after c.after
+
+abbrev pub WasSaid : {F : Type 0} → (F → Kept) → (Pair → List ChangeAt → Text) → Account → List (Call F) → Type 0
+WasSaid seen text a [] = ⊥
+WasSaid seen text a (c ∷ calls) = IsSaidIn seen text a c ⊎ WasSaid seen text a calls
+
+-- ---- one call
+
+-- between two stands of an output its text was said
+pub record IsSaidBetween (k : Kept) (cycle : ℕ) (text : Pair → List ChangeAt → Text) (old new : Said) : Type 0 where
+  pub pair : Pair
+  pub changes : List ChangeAt
+  pub before : Said
+  pub after : Said
+  pub grew : Grows old before
+  pub said : IsAccountSaid k cycle text before after pair changes
+  pub then : Grows after new
+
+-- of a cycle nothing was to be said: its account was there, or its report was not; or its text was said
+-- in the call
+abbrev pub IsDoneIn : Stand → (Pair → List ChangeAt → Text) → Stand → ℕ → Type 0
+IsDoneIn before text after cycle = IsSettled before.kept cycle ⊎ IsSaidBetween before.kept cycle text before.said after.said

@@ -1,0 +1,35 @@
+-- What a crash leaves of closings that are said one after the other.
+use Rattle.std.specs.Prelude.{◌≡◌, ℕ, ◌+◌, ◌<◌, ◌≤◌, List, [], ◌∷◌, map}
+use Rattle.ocfl_tree.specs.Place.{Text}
+use Rattle.ocfl_compare.specs.declared.change.ChangeAt.{ChangeAt}
+use Rattle.ocfl_accounts.specs.{Kept.{Kept, Account, with_accounts}, Crash.{Step}, Said.{Said, Grows}}
+use Rattle.ocfl_accounts.specs.{Telling.{IsAccountSaid, account_of}, declared.pair.Pair.{Pair}}
+
+-- a closing that was said: its cycle, what that was compared with, what it found, and how the output
+-- stood before and then
+pub record Told : Type 0 where
+  pub cycle : ℕ
+  pub pair : Pair
+  pub changes : List ChangeAt
+  pub before : Said
+  pub after : Said
+
+abbrev pub account_told : Told → Account
+account_told t = account_of t.cycle t.changes
+
+-- one of the cycles from a number on and below another one was said, since the output stood so
+pub record IsTold (k : Kept) (text : Pair → List ChangeAt → Text) (low high : ℕ) (old : Said) (t : Told) : Type 0 where
+  pub from : low ≤ t.cycle
+  pub below : t.cycle < high
+  pub grew : Grows old t.before
+  pub said : IsAccountSaid k t.cycle text t.before t.after t.pair t.changes
+
+-- these were said, in the order of cycles, while the output came from one stand to the other
+abbrev pub AreTold : Kept → (Pair → List ChangeAt → Text) → ℕ → ℕ → Said → Said → List Told → Type 0
+AreTold k text low high old new [] = Grows old new
+AreTold k text low high old new (t ∷ told) = IsTold k text low high old t × AreTold k text (t.cycle + 1) high t.after new told
+
+-- A crash leaves what it might have left before, with the accounts of some of the cycles, in order:
+-- each of one whose account was not there, and whose text was said before.
+abbrev pub MayAccounts : Kept → (Pair → List ChangeAt → Text) → ℕ → ℕ → Said → Said → Step
+MayAccounts k text low high old new before after = (told : List Told) × (AreTold k text low high old new told × (after ≡ with_accounts (map account_told told) before))

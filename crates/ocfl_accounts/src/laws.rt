@@ -1,0 +1,28 @@
+//! The laws of closings that are said over several calls, of which each may crash.
+ghost use Rattle.std.specs.Prelude.{◌≡◌, ◌⊎◌, ◌<◌, ◌≤◌, ℕ, IsTrue, List};
+ghost use Rattle.ocfl_tree.specs.Ascending.{IsAmong};
+ghost use Rattle.ocfl_accounts.specs.Kept.{Account, Kept};
+ghost use Rattle.ocfl_accounts.specs.Calls.{AreCalls, Call, IsDoneIn, WasSaid, left_by};
+ghost use Rattle.ocfl_accounts.specs.Telling.{AreSaid, Stand};
+
+use crate::closings::Closings;
+
+/// Whatever calls there were, each ended or crashed at any moment: each account that is there then
+/// was there at first, or its text was said in one of them, on an output that committed it, before
+/// the account was put.
+#[tactic(auto, using(crate::proofs::Chains::each_said_from))]
+pub fn each_account_was_said<C: Closings>()
+    ensures { IsTrue C.told → (first : Kept) (calls : List (Call C))
+        → AreCalls C.seen C.may_leave C.moment C.left_since C.text (λ k. k ≡ first) calls
+        → (k : Kept) → left_by C.moment C.left_since (λ d. d ≡ first) calls k
+        → (a : Account) → IsAmong k.accounts a
+        → IsAmong first.accounts a ⊎ WasSaid C.seen C.text a calls }
+{}
+
+/// After a call whose status is not 3 each of its cycles was said in it, or had its account before,
+/// or no report.
+pub fn a_status_below_3_says_that_all_is_said<C: Closings>()
+    ensures { (before after : Stand) (first end status : ℕ)
+        → AreSaid before first end C.text C.news after status → status < 3
+        → (cycle : ℕ) → first ≤ cycle → cycle < end → IsDoneIn before C.text after cycle }
+{}

@@ -5,5 +5,4 @@ pub mod Groups
 pub mod SoFar
 pub mod Listings
 pub mod ChangeLaws
-pub mod Parts
 pub mod Lists

@@ -1,9 +1,7 @@
-//! The laws of what changed between two reports, and of parts that are joined.
-ghost use Rattle.std.specs.Prelude.{◌≡◌, ◌≢◌, ◌↔◌, ℕ, Bool, List, [], Some, None, false, true, map};
+//! The laws of what changed between two reports.
+ghost use Rattle.std.specs.Prelude.{◌≡◌, ◌≢◌, ◌↔◌, Bool, List, [], false, true, map};
 ghost use Rattle.std.specs.List.{list_any};
-ghost use Rattle.ocfl_tree.specs.{Ascending.{IsAmong}, Place.{Place, Text}};
-ghost use Rattle.ocfl_parts.specs.Separators.{end_of_part, start_of_part};
-ghost use Rattle.ocfl_compare.specs.{Joined.{fault_of}, declared.joining.ClosedPart.{ClosedPart}};
+ghost use Rattle.ocfl_tree.specs.{Ascending.{IsAmong}, Place.{Place}};
 ghost use Rattle.ocfl_compare.specs.Changes.{changes_at, comparison, finding_codes, has_code};
 ghost use Rattle.ocfl_compare.specs.declared.change.Change.TheVariants.{FileGone, Found, Gone};
 ghost use Rattle.ocfl_compare.specs.declared.change.Change.TheVariants.{Repaired, Undeclared};
@@ -52,15 +50,4 @@ pub fn what_is_repaired_was_looked_at()
 pub fn nothing_is_gone_from_nothing()
     ensures { (shut has_lines : Bool) (now : List Line)
         → changes_at shut has_lines [] now ≡ map Found (finding_codes now) }
-{}
-
-/// A part that has no fault is of this storage root and of this cycle, has the ends of the part
-/// with this number, and its report is whole.
-#[tactic(auto, using(crate::proofs::Parts::part_right))]
-pub fn a_part_without_fault_is_right()
-    ensures { (separators : List Place) (root : Text) (cycle number : ℕ) (part : ClosedPart)
-        → fault_of separators root cycle number (Some part) ≡ None
-        → (part.root.items ≡ root) × ((part.from ≡ start_of_part separators number)
-        × ((part.below ≡ end_of_part separators number)
-        × ((part.cycle ≡ cycle) × (part.whole ≡ true)))) }
 {}

@@ -1,6 +1,5 @@
 //! What reports say of one another: what is gone since the report before, what is found newly and
-//! what is repaired; which objects of a list have no line; and the closed reports of all parts as
-//! one.
+//! what is repaired; and which objects of a list have no line.
 //!
 //! # What is proved
 //!
@@ -12,16 +11,12 @@
 //! - `find_expected` writes exactly which objects of a list have no line of an object in a report
 //!   (`IsSearched`), in the order of places, each once. `read_list` reads such a list from its
 //!   text, or names the first bad line.
-//! - `find_missing` names each part whose report cannot be joined, and why. `join_part` appends all
-//!   bytes of a part's report, if nothing is wrong with the part and the report has the length that
-//!   was closed. That its bytes are those that were closed is for its caller to see.
 #![tactic(auto)]
 
 mod change;
 mod comparing;
 mod expecting;
 mod gone;
-mod joining;
 pub mod laws;
 mod listing;
 mod question;
@@ -35,9 +30,6 @@ pub use change::{Change, ChangeAt};
 pub use comparing::compare;
 pub use expecting::find_expected;
 pub use gone::GoneList;
-pub use joining::{
-    ClosedPart, JoinStop, MissingPart, PartFault, find_fault, find_missing, join_part,
-};
 pub use listing::{ListStop, read_list};
 pub use stop::CompareStop;
 pub use taking::{TakeChange, TakeStop};

@@ -1,0 +1,55 @@
+-- The joined report of all parts.
+use Rattle.std.specs.Prelude.{◌≡◌, ◌⊎◌, ℕ, ◌+◌, List, [], ◌∷◌, ◌++◌, length, All, Bool, true, false, flat_map, Option, Some, None, ⊤}
+use Rattle.std.specs.Ordering.{is_lt}
+use Rattle.ocfl_tree.specs.Place.{Text, Place, place_cmp}
+use Rattle.ocfl_report.specs.{Line.{Line}, Text.{lines_text}}
+use Rattle.ocfl_parts.specs.{Separators.{start_of_part, end_of_part}, Splits.{AreLines}}
+use Rattle.ocfl_state.specs.Pieces.{summary_of}
+use Rattle.ocfl_joining.specs.{Missing.{numbers}, Reports.{Seen}}
+use Rattle.ocfl_joining.specs.declared.reports.KeptMark.{KeptMark}
+use Rattle.ocfl_joining.specs.declared.reports.KeptMark.TheVariants.{NotKept, Kept, Damaged}
+
+-- a place is not less than where a part begins; the first part has no beginning
+abbrev pub IsFrom : Option Place → Place → Type 0
+IsFrom None p = ⊤
+IsFrom (Some from) p = is_lt (place_cmp p from) ≡ false
+
+-- a place is less than where a part ends; the last part has no end
+abbrev pub IsBelow : Option Place → Place → Type 0
+IsBelow None p = ⊤
+IsBelow (Some below) p = is_lt (place_cmp p below) ≡ true
+
+-- the report has the length, the lines and the digests with which it was closed, if these were kept
+abbrev pub IsAsClosed : KeptMark → Text → Type 0
+IsAsClosed NotKept bytes = ⊤
+IsAsClosed (Kept mark) bytes = mark ≡ summary_of bytes
+IsAsClosed Damaged bytes = ⊥
+
+-- the bytes are the lines of a report, which are all in a part with these ends
+pub record IsReportIn (from below : Option Place) (bytes : Text) : Type 0 where
+  pub lines : List Line
+  pub are : AreLines lines
+  pub is : bytes ≡ lines_text lines
+  pub within : All (λ l. IsFrom from l.place × IsBelow below l.place) lines
+
+-- the report of a part is as it was closed, and has the lines of a report, which are all in the part
+pub record IsRight (separators : List Place) (s : Seen) (number : ℕ) : Type 0 where
+  pub closed : IsAsClosed (s.marks number) (s.bytes number)
+  pub report : IsReportIn (start_of_part separators number) (end_of_part separators number) (s.bytes number)
+
+abbrev pub all_parts : List Place → List ℕ
+all_parts separators = numbers (length separators + 1)
+
+-- the reports of all parts in their order, each once
+abbrev pub joined_text : List Place → Seen → Text
+joined_text separators s = flat_map s.bytes (all_parts separators)
+
+-- the joined report was put, of reports that are right; each was opened once, in order
+pub record IsJoined (separators : List Place) (whole : Bool) (old new : Seen) : Type 0 where
+  pub put : new.put ≡ old.put ++ record { whole = whole; bytes = joined_text separators old } ∷ []
+  pub right : All (IsRight separators old) (all_parts separators)
+  pub once : new.opened ≡ old.opened ++ all_parts separators
+
+-- nothing was put, or the joined report was
+abbrev pub MayJoin : List Place → Bool → Seen → Seen → Type 0
+MayJoin separators whole old new = (new.put ≡ old.put) ⊎ IsJoined separators whole old new

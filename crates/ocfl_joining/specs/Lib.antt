@@ -1,0 +1,7 @@
+pub mod Missing
+pub mod Reports
+pub mod Joined
+pub mod Stops
+pub mod Memory
+-- What private functions say: a reader of the public contracts needs none of it.
+pub mod Internal

@@ -1,0 +1,192 @@
+//! Joining the closed reports of all parts.
+ghost use Rattle.std.specs.Prelude.{◌≡◌, ◌⊎◌, ◌↔◌, ◌+◌, Bool, List, [], false, length, true};
+ghost use Rattle.std.specs.Prelude.{IsTrue};
+ghost use Rattle.std.specs.Prelude.{IfOk, IfErr, OnOk, OnErr};
+ghost use Rattle.ocfl_tree.specs.Place.{Place as ModelPlace};
+ghost use Rattle.ocfl_joining.specs.{Joined.{IsJoined, MayJoin}, Reports.{Seen, begun, with_put}};
+ghost use Rattle.ocfl_joining.specs.Missing.{are_right, hindering_of, left_of, missing_of};
+ghost use Rattle.ocfl_joining.specs.Stops.{IsChangedRightly, IsMissingRightly, is_missing};
+ghost use Rattle.ocfl_joining.specs.Stops.{is_output};
+ghost use Rattle.ocfl_joining.specs.declared.joining.JoinStop.TheVariants.{Memory};
+ghost use Rattle.ocfl_joining.specs.Internal.Copying.{AreAllCopied};
+
+use crate::copying::{PartStop, copy_part};
+use crate::missing::{find_hindering, find_left, find_missing};
+use crate::part::{ClosedPart, MissingPart};
+use crate::reports::{PartReports, ReportTrouble};
+use ocfl_parts::Separators;
+use ocfl_tree::Place;
+use std::alloc::{AllocError, Global};
+
+/// The joined report that was put.
+#[derive(Debug, Drop)]
+pub struct Joined {
+    /// Whether the report of each part is whole.
+    pub whole: bool,
+    /// All places that were left out, part by part.
+    pub left: Vec<Place>,
+}
+
+/// Why the reports were not joined.
+#[derive(Debug, Drop)]
+pub enum JoinStop {
+    /// These parts cannot be joined. No report was opened.
+    Missing(Vec<MissingPart>),
+    /// The report of the part with this number was not read to its end, or is not the one that was
+    /// closed.
+    Part {
+        /// The number of the part, from 1.
+        part: usize,
+        /// Why.
+        why: PartStop,
+    },
+    /// The joined report was not begun, or not put.
+    Output(ReportTrouble),
+    /// Memory was refused.
+    Memory,
+}
+
+impl From<AllocError> for JoinStop {
+    ghost from_gives = { λ _ stop. stop ≡ Memory };
+
+    fn from(_: AllocError) -> JoinStop {
+        JoinStop::Memory
+    }
+}
+
+/// Copies the reports of all parts, one after the other.
+fn copy_all<R: PartReports>(
+    alloc: Global,
+    separators: &Separators,
+    reports: &mut R,
+) -> Result<(), JoinStop>
+    ensures copied { IsTrue R.told → OnOk result
+        (AreAllCopied separators.now (length separators.now + 1)
+        (R.seen reports.old) (R.seen reports.new)) }
+    ensures unput { IsTrue R.told → (R.seen reports.new).put ≡ (R.seen reports.old).put }
+    ensures changed { IsTrue R.told → IfErr result
+        (IsChangedRightly separators.now (R.seen reports.old)) }
+    ensures named { IfErr result (λ stop. is_missing stop ≡ false) }
+    ensures inside { IfErr result (λ stop. is_output stop ≡ false) }
+{
+    let Some(count) = separators.len().checked_add(1) else {
+        return Err(JoinStop::Memory);
+    };
+    for index in 0..count {
+        let part = index + 1;
+        match copy_part(alloc, separators, part, reports) {
+            Ok(()) => {}
+            Err(why) => return Err(JoinStop::Part { part, why }),
+        }
+    }
+    Ok(())
+}
+
+/// Joins the closed reports of all parts that the separators make, in one cycle of this storage
+/// root. `parts` has what is known of each of them, from the first on.
+///
+/// The joined report has the bytes of all of them in their order, each once, and is put once each
+/// was found to be as it was closed, with lines of its part alone. Each is opened once, and read and
+/// checked while it is copied. If the report of a part is not whole, the joined one is put as one
+/// that is not whole, and the places that parts left out are given.
+pub fn join<R: PartReports>(
+    alloc: Global,
+    separators: &Separators,
+    root: &[u8],
+    cycle: u64,
+    parts: &[Option<ClosedPart>],
+    reports: &mut R,
+) -> Result<Joined, JoinStop>
+    // Of any reports.
+    ensures none_hinders { OnOk result
+        (hindering_of separators.now root.now cycle parts.now ≡ []) }
+    ensures whole { IfOk result (λ joined. joined.whole
+        ≡ are_right (missing_of separators.now root.now cycle parts.now)) }
+    ensures left { IfOk result (λ joined. joined.left.items ≡ left_of parts.now) }
+    ensures missing { IfErr result (λ stop. IsMissingRightly
+        (hindering_of separators.now root.now cycle parts.now) stop) }
+    ensures unread { IfErr result (λ stop. is_missing stop ≡ true → reports.new ≡ reports.old) }
+
+    // Of reports that are told.
+    ensures joined { IsTrue R.told → IfOk result (λ joined.
+        IsJoined separators.now joined.whole (R.seen reports.old) (R.seen reports.new)) }
+    ensures changed { IsTrue R.told → IfErr result
+        (IsChangedRightly separators.now (R.seen reports.old)) }
+    ensures unput { IsTrue R.told → IfErr result (λ stop. is_output stop ≡ false
+        → (R.seen reports.new).put ≡ (R.seen reports.old).put) }
+    ensures may { IsTrue R.told → OnErr result (MayJoin separators.now
+        (are_right (missing_of separators.now root.now cycle parts.now))
+        (R.seen reports.old) (R.seen reports.new)) }
+{
+    let missing = find_missing(alloc, separators, root, cycle, parts)?;
+    let hindering = find_hindering(alloc, missing.as_slice())?;
+    if !hindering.is_empty() {
+        return Err(JoinStop::Missing(hindering));
+    }
+    let left = find_left(alloc, parts)?;
+    let whole = is_none(missing.as_slice());
+    make_joined(alloc, separators, whole, reports)?;
+    Ok(Joined { whole, left })
+}
+
+/// Whether nothing is wrong with any part.
+fn is_none(missing: &[MissingPart]) -> bool
+    ensures { result ≡ are_right missing.now }
+{
+    missing.is_empty()
+}
+
+/// Makes the joined report, and puts it.
+fn make_joined<R: PartReports>(
+    alloc: Global,
+    separators: &Separators,
+    whole: bool,
+    reports: &mut R,
+) -> Result<(), JoinStop>
+    ensures joined { IsTrue R.told → OnOk result
+        (IsJoined separators.now whole (R.seen reports.old) (R.seen reports.new)) }
+    ensures changed { IsTrue R.told → IfErr result
+        (IsChangedRightly separators.now (R.seen reports.old)) }
+    ensures unput { IsTrue R.told → IfErr result (λ stop. is_output stop ≡ false
+        → (R.seen reports.new).put ≡ (R.seen reports.old).put) }
+    ensures may { IsTrue R.told → OnErr result
+        (MayJoin separators.now whole (R.seen reports.old) (R.seen reports.new)) }
+    ensures named { IfErr result (λ stop. is_missing stop ≡ false) }
+{
+    if let Err(stop) = begin(reports) {
+        return Err(stop);
+    }
+    copy_all(alloc, separators, reports)?;
+    put(whole, reports)
+}
+
+/// Begins the joined report.
+fn begin<R: PartReports>(reports: &mut R) -> Result<(), JoinStop>
+    ensures begun { IsTrue R.told → OnOk result (R.seen reports.new ≡ begun (R.seen reports.old)) }
+    ensures unput { IsTrue R.told → (R.seen reports.new).put ≡ (R.seen reports.old).put }
+    ensures named { IfErr result (λ stop. is_missing stop ≡ false) }
+    ensures other { (separators : List ModelPlace) (s : Seen)
+        → IfErr result (IsChangedRightly separators s) }
+{
+    match reports.begin() {
+        Ok(()) => Ok(()),
+        Err(why) => Err(JoinStop::Output(why)),
+    }
+}
+
+/// Puts the joined report.
+fn put<R: PartReports>(whole: bool, reports: &mut R) -> Result<(), JoinStop>
+    ensures put { IsTrue R.told → OnOk result
+        (R.seen reports.new ≡ with_put whole (R.seen reports.old)) }
+    ensures may { IsTrue R.told → OnErr result (((R.seen reports.new).put
+        ≡ (R.seen reports.old).put) ⊎ (R.seen reports.new ≡ with_put whole (R.seen reports.old))) }
+    ensures why { IfErr result (λ stop. is_output stop ≡ true) }
+    ensures named { IfErr result (λ stop. is_missing stop ≡ false) }
+    ensures other { (separators : List ModelPlace) (s : Seen)
+        → IfErr result (IsChangedRightly separators s) }
+{
+    match reports.put(whole) {
+        Ok(()) => Ok(()),
+        Err(why) => Err(JoinStop::Output(why)),
+    }
+}

@@ -1,0 +1,38 @@
+//! Joining the closed reports of all parts of a storage root.
+//!
+//! # What is proved
+//!
+//! Of the separators, and of what is known of the report that each part closed in a cycle:
+//!
+//! - `find_missing` names each part with whose report something is wrong, and what: that it is of
+//!   another storage root, of another part or cycle, that it is not there, was not said, is of a part
+//!   that saw far fewer names in the root than another one, or is not whole.
+//! - `join` joins them if nothing but that keeps it from it; else it names each part that does, and
+//!   opens no report.
+//!
+//! And if the reports are as the trait [`PartReports`] says:
+//!
+//! - What `join` puts is the bytes of all of them in their order, each once. Each is as it was closed,
+//!   as far as that was kept, and has the lines of a report, in order, all in its part.
+//! - Each is opened once, and read and checked while it is copied. Nothing is put before all of them
+//!   were, and an error puts nothing but the joined report.
+//! - It is put as one that is whole exactly if each report is, and else what was left out is given.
+//!
+//! If the report of each part is what the audit has there, what is joined is the audit
+//! (`closed_reports_join_to_the_audit`). `MemoryReports` meets the trait.
+#![tactic(auto)]
+
+mod copying;
+mod joining;
+pub mod laws;
+mod memory;
+mod missing;
+mod part;
+mod reports;
+
+pub use copying::PartStop;
+pub use joining::{JoinStop, Joined, join};
+pub use memory::{MemoryJoined, MemoryReport, MemoryReports};
+pub use missing::{find_missing, find_most_names};
+pub use part::{ClosedPart, MissingPart, PartFault};
+pub use reports::{KeptMark, PartReports, ReportTrouble};

@@ -1,0 +1,225 @@
+//! Which parts cannot be joined, and why.
+ghost use Rattle.std.specs.Prelude.{◌≡◌, ◌+◌, ◌++◌, IfOk, OnOk, filter, option_map};
+ghost use Rattle.ocfl_joining.specs.Missing.{closed_fault, fault_of, has_ends, hinders, is_few};
+ghost use Rattle.ocfl_joining.specs.Missing.{left_by, left_of, missing_of, most_names, named};
+ghost use Rattle.ocfl_joining.specs.Missing.{names_of, part_at, same_end};
+
+use crate::part::{ClosedPart, MissingPart, PartFault};
+use ocfl_parts::Separators;
+use ocfl_tree::{Place, is_bytes};
+use std::alloc::{AllocError, Global};
+
+/// What is wrong with the part with this number, from 1, beside the others of this cycle of this
+/// storage root, of which one saw `most` names in it. None if nothing is.
+fn find_fault(
+    separators: &Separators,
+    root: &[u8],
+    cycle: u64,
+    most: u64,
+    number: usize,
+    part: Option<&ClosedPart>,
+) -> Option<PartFault>
+    ensures { result ≡ fault_of separators.now root.now cycle most number
+        (option_map (λ p. p.now) part.entry) }
+{
+    let Some((from, below)) = separators.ends(number) else {
+        return Some(PartFault::NoPart);
+    };
+    match part {
+        Some(part) => find_closed_fault(root, cycle, most, from, below, part),
+        None => Some(PartFault::NotClosed),
+    }
+}
+
+fn find_closed_fault(
+    root: &[u8],
+    cycle: u64,
+    most: u64,
+    from: Option<&Place>,
+    below: Option<&Place>,
+    part: &ClosedPart,
+) -> Option<PartFault>
+    ensures { result ≡ closed_fault root.now cycle most (option_map (λ p. p.now) from.entry)
+        (option_map (λ p. p.now) below.entry) part.now }
+{
+    if !is_bytes(part.root.as_slice(), root) {
+        return Some(PartFault::OtherRoot);
+    }
+    if !is_part_of(part, from, below) {
+        return Some(PartFault::OtherPart);
+    }
+    if part.cycle != cycle {
+        return Some(PartFault::OtherCycle);
+    }
+    if !part.told {
+        return Some(PartFault::Untold);
+    }
+    if saw_few(most, part.names) {
+        return Some(PartFault::FewNames);
+    }
+    if part.whole {
+        None
+    } else {
+        Some(PartFault::Incomplete)
+    }
+}
+
+/// Whether a part has these ends.
+fn is_part_of(part: &ClosedPart, from: Option<&Place>, below: Option<&Place>) -> bool
+    ensures { result ≡ has_ends part.now (option_map (λ p. p.now) from.entry)
+        (option_map (λ p. p.now) below.entry) }
+{
+    is_end(&part.from, from) && is_end(&part.below, below)
+}
+
+fn is_end(place: &Option<Place>, end: Option<&Place>) -> bool
+    ensures { result ≡ same_end place.now (option_map (λ p. p.now) end.entry) }
+{
+    match (place, end) {
+        (Some(place), Some(end)) => place.cmp(end).is_eq(),
+        (None, None) => true,
+        _ => false,
+    }
+}
+
+/// Whether a number of names is less than half of the most.
+fn saw_few(most: u64, names: Option<u64>) -> bool
+    ensures { result ≡ is_few most names }
+{
+    match names {
+        Some(names) => names < most.saturating_sub(names),
+        None => false,
+    }
+}
+
+/// How many names a part saw in the storage root; 0 if that is not known.
+fn known_names(part: &Option<ClosedPart>) -> u64
+    ensures { result ≡ names_of part.now }
+{
+    match part {
+        Some(part) => part.names.unwrap_or(0),
+        None => 0,
+    }
+}
+
+/// The most names that one of the parts saw in the storage root; 0 if no number is known.
+pub fn find_most_names(parts: &[Option<ClosedPart>]) -> u64
+    ensures { result ≡ most_names parts.now }
+{
+    let mut most = 0;
+    for part in parts {
+        most = known_names(part).max(most);
+    }
+    most
+}
+
+/// Names each part of a storage root with whose report something is wrong, in their order, and what.
+/// None is named exactly if all can be joined and are whole. `parts` has what is known of each part.
+///
+/// The only error is running out of memory.
+pub fn find_missing(
+    alloc: Global,
+    separators: &Separators,
+    root: &[u8],
+    cycle: u64,
+    parts: &[Option<ClosedPart>],
+) -> Result<Vec<MissingPart>, AllocError>
+    ensures { IfOk result (λ missing. missing.items
+        ≡ missing_of separators.now root.now cycle parts.now) }
+{
+    let mut missing = Vec::new(alloc);
+    let most = find_most_names(parts);
+    let Some(all) = separators.len().checked_add(1) else {
+        return Err(AllocError);
+    };
+    let count = parts.len().max(all);
+    for index in 0..count {
+        let part = known_part(parts, index);
+        let fault = find_fault(separators, root, cycle, most, index + 1, part);
+        add_missing(index + 1, fault, &mut missing)?;
+    }
+    Ok(missing)
+}
+
+/// Appends a part, if it has a fault.
+fn add_missing(
+    number: usize,
+    fault: Option<PartFault>,
+    missing: &mut Vec<MissingPart>,
+) -> Result<(), AllocError>
+    ensures { OnOk result (missing.new.items ≡ missing.old.items ++ named number fault) }
+{
+    if let Some(fault) = fault {
+        missing.push(MissingPart {
+            part: number,
+            fault,
+        })?;
+    }
+    Ok(())
+}
+
+fn known_part(parts: &[Option<ClosedPart>], index: usize) -> Option<&ClosedPart>
+    ensures { option_map (λ p. p.now) result ≡ part_at parts.now (index + 1) }
+{
+    match parts.get(index) {
+        Some(Some(part)) => Some(part),
+        _ => None,
+    }
+}
+
+/// Whether a fault keeps the parts from being joined: a report that is not whole is joined too.
+fn is_hindering(fault: PartFault) -> bool
+    ensures { result ≡ hinders fault }
+{
+    fault != PartFault::Incomplete
+}
+
+/// Those of the parts that keep all of them from being joined.
+pub(crate) fn find_hindering(
+    alloc: Global,
+    missing: &[MissingPart],
+) -> Result<Vec<MissingPart>, AllocError>
+    ensures { IfOk result (λ found. found.items ≡ filter (λ m. hinders m.fault) missing.now) }
+{
+    let mut found = Vec::new(alloc);
+    for one in missing {
+        if is_hindering(one.fault) {
+            found.push(*one)?;
+        }
+    }
+    Ok(found)
+}
+
+/// All places that were left out, part by part.
+pub(crate) fn find_left(
+    alloc: Global,
+    parts: &[Option<ClosedPart>],
+) -> Result<Vec<Place>, AllocError>
+    ensures { IfOk result (λ left. left.items ≡ left_of parts.now) }
+{
+    let mut left = Vec::new(alloc);
+    for part in parts {
+        add_left(part, &mut left)?;
+    }
+    Ok(left)
+}
+
+/// Appends the places that a part left out.
+fn add_left(part: &Option<ClosedPart>, left: &mut Vec<Place>) -> Result<(), AllocError>
+    ensures { OnOk result (left.new.items ≡ left.old.items ++ left_by part.now) }
+{
+    match part {
+        Some(part) => add_places(part.left.as_slice(), left),
+        None => Ok(()),
+    }
+}
+
+/// Appends places.
+fn add_places(places: &[Place], all: &mut Vec<Place>) -> Result<(), AllocError>
+    ensures { OnOk result (all.new.items ≡ all.old.items ++ places.now) }
+{
+    for place in places {
+        all.push(place.try_clone()?)?;
+    }
+    Ok(())
+}

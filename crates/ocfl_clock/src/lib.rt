@@ -4,5 +4,5 @@
 mod every;
 mod next;
 
-pub use every::may_begin;
+pub use every::{may_begin, must_wait};
 pub use next::next_time;

@@ -6,7 +6,7 @@ use crate::noting::{OnDisk, Told};
 use ocfl_closing::closing::Closings;
 use ocfl_closing::state::is_of_root;
 use ocfl_closing::state_dir::StateDir;
-use ocfl_disk::{Reason, SystemDisk};
+use ocfl_disk::{Disk, Reason, SystemDisk};
 use ocfl_files::failing::{Failure, say_failure, say_text};
 use ocfl_files::reasons::Reason as Why;
 use ocfl_files::saying::STOPPED;
@@ -22,9 +22,8 @@ use std::rt::Files;
 use std::time::Clock;
 
 /// How a night ended.
-pub struct Ended {
-    /// Its status, without what closings say.
-    pub status: u8,
+#[derive(Clone, Copy)]
+pub struct Ended<'e> {
     /// The cycle whose report it closed, 0 for none. `None` if it was refused.
     pub closed: Option<u64>,
     /// Whether its folder's log has it: the log of other nights is left as it is.
@@ -34,26 +33,20 @@ pub struct Ended {
     /// Whether some of the report was lost, or cannot be read.
     pub is_lost: bool,
     /// The branches that were left out in it.
-    pub left: Vec<Place>,
-    pub told: Told,
+    pub left: &'e [Place],
+    pub told: &'e Told,
     /// What is said of its end, with its line feed. `None` if it ended well.
-    pub said: Option<String>,
+    pub said: Option<&'e str>,
 }
 
-/// Written by hand, so that to let it go is one call wherever that happens.
-impl Drop for Ended {
-    fn drop(self) {
-        let Ended {
-            status: _status,
-            closed: _closed,
-            is_logged: _is_logged,
-            runs: _runs,
-            is_lost: _is_lost,
-            left: _left,
-            told: _told,
-            said: _said,
-        } = self;
-    }
+/// The state folder of a night that has ended.
+#[derive(Drop)]
+pub struct Closed<D: Disk + Drop> {
+    folder: StateDir<D>,
+    /// The status of what was told of closed cycles; 0 if nothing was.
+    pub told: u8,
+    /// Why a line of a run was not logged.
+    lost: Option<Reason>,
 }
 
 /// What is said of a branch that was left out, and why it was, if that is known.
@@ -113,20 +106,20 @@ where
 fn say_ending<R>(
     rt: &R,
     state: &str,
-    ended: &Ended,
+    ended: Ended<'_>,
     earlier: &[Place],
     left: &[Why],
 ) -> Result<(), AllocError>
 where
     R: AllocGlobal + Eprint,
 {
-    if let Some(said) = &ended.said {
-        say_text(rt, said.as_str());
+    if let Some(said) = ended.said {
+        say_text(rt, said);
     }
     if ended.closed.is_some() {
         say_left_earlier(rt, earlier)?;
     }
-    say_left(rt, &ended.left, left)?;
+    say_left(rt, ended.left, left)?;
     if ended.is_lost {
         say_text(
             rt,
@@ -144,14 +137,13 @@ pub fn status_told<R: Eprint>(rt: &R, told: Result<u8, Failure>) -> u8 {
     }
 }
 
-/// Says how a night ended and what the cycles found that were closed, logs it, and gives its
-/// status.
+/// Says how a night ended, and what the cycles found that were closed.
 pub fn end_night<'a, R>(
     rt: &'a R,
     given: &Given<'_>,
     noting: OnDisk<'a, R>,
-    ended: &Ended,
-) -> Result<u8, Failure>
+    ended: Ended<'_>,
+) -> Result<Closed<SystemDisk<&'a R>>, AllocError>
 where
     R: Files<File = File> + AllocGlobal + Clock + Print + Eprint,
 {
@@ -172,19 +164,29 @@ where
         Some(closed) => closings.tell(before, closed, &mut io::writer(rt)),
         None => 0,
     };
-    let status = ended.status.max(told);
-    Ok(log_ended(rt, &mut closings.folder, given, ended, status, lost))
+    Ok(Closed {
+        folder: folder_of(closings),
+        told,
+        lost,
+    })
 }
 
-/// Appends to the log how a night ended, and gives its status. `lost` is why a line of a run was
-/// not written.
-fn log_ended<'a, R>(
+/// The folder.
+fn folder_of<'a, R: Files<File = File> + AllocGlobal>(
+    closings: Closings<'a, '_, R, SystemDisk<&'a R>>,
+) -> StateDir<SystemDisk<&'a R>> {
+    let Closings { folder, .. } = closings;
+    folder
+}
+
+/// Appends to the log how a night ended whose status is this, and gives it; 3 at least if the log
+/// could not be written.
+pub fn log_ended<'a, R>(
     rt: &'a R,
-    folder: &mut StateDir<SystemDisk<&'a R>>,
+    closed: Closed<SystemDisk<&'a R>>,
     given: &Given<'_>,
-    ended: &Ended,
+    ended: Ended<'_>,
     status: u8,
-    lost: Option<Reason>,
 ) -> u8
 where
     R: Files<File = File> + AllocGlobal + Clock + Eprint,
@@ -192,6 +194,11 @@ where
     if !ended.is_logged {
         return status;
     }
+    let Closed {
+        mut folder,
+        told: _told,
+        lost,
+    } = closed;
     let time = seconds_now(rt);
     let row = NightRow {
         time,
@@ -204,12 +211,14 @@ where
         left: u64::try_from(ended.left.len()).unwrap_or(u64::MAX),
         program: given.program.as_str(),
     };
-    let said = text_of(&ended.said);
     log_night(
         rt,
-        folder,
+        &mut folder,
         given.asked.state.as_str(),
-        Account { row, said },
+        Account {
+            row,
+            said: ended.said,
+        },
         lost,
     )
 }

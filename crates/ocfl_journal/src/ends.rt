@@ -1,4 +1,4 @@
-//! When a night ends.
+//! When the clock shows the time of day at which a night ends.
 
 use jiff::Error;
 use jiff::tz::{SystemTimeZone, TimeZone, TimeZoneDatabase};
@@ -10,16 +10,15 @@ use std::env::{self, VarError};
 use std::io::ErrorKind;
 use std::rt::{Env, Files};
 
-/// The time at and after which a night that begins now begins no run, in seconds since the epoch.
-pub(crate) fn end_of<R>(rt: &R, until: Until, now: u64) -> Result<Option<u64>, Failure>
+/// When the clock next shows the time of day that is asked for, in seconds since the epoch. `None`
+/// if none is.
+pub(crate) fn find_shown<R>(rt: &R, until: Until, now: u64) -> Result<Option<u64>, Failure>
 where
     R: Files + Env + AllocGlobal,
 {
     match until {
-        Until::Never => Ok(None),
-        Until::Hours(hours) => Ok(Some(now.saturating_add(hours.saturating_mul(3600)))),
-        Until::At(end) => Ok(Some(end)),
         Until::TimeOfDay { hour, minute } => Ok(Some(time_of_day(rt, now, hour, minute)?)),
+        Until::Never | Until::Hours(_) | Until::At(_) => Ok(None),
     }
 }
 

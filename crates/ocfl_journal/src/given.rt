@@ -1,22 +1,17 @@
 //! What a night is made with.
 
-use crate::clock::is_spent_by;
-use crate::ends::end_of;
+use crate::apart::refuse_overlap;
+use crate::ends::find_shown;
 use ocfl_closing::lists::{find_known, refuse_unfit};
-use ocfl_closing::state::refuse_overlap;
 use ocfl_closing::telling::Names;
-use ocfl_cursor::{Budget, PartEnds};
+use ocfl_cursor::PartEnds;
 use ocfl_files::failing::Failure;
 use ocfl_line::NightAsked;
 use ocfl_telling::Known;
 use ocfl_terminal::roots::{Root, find_ends, find_root, part_number};
 use ocfl_terminal::version::running_digest;
 use ocfl_tree::Place;
-use std::alloc::AllocError;
 use std::rt::{Env, Files};
-
-/// How much a run spends, if that is not said: 1 GiB.
-const SLICE: u64 = 1 << 30;
 
 /// What a night is made with.
 pub struct Given<'a> {
@@ -26,10 +21,9 @@ pub struct Given<'a> {
     /// The path of the storage root.
     pub root: String,
     pub known: Known,
-    /// The time at and after which no run begins, in seconds since the epoch.
-    pub end: Option<u64>,
-    /// How much each run spends.
-    pub slice: Budget,
+    /// When the clock next shows the time of day at which the night ends, in seconds since the epoch.
+    /// `None` if no such time is asked for.
+    pub shown: Option<u64>,
     /// The SHA-256 of the program that makes the night, in hexadecimal digits; empty if it is not
     /// known.
     pub program: String,
@@ -43,8 +37,7 @@ impl Drop for Given<'_> {
             began: _began,
             root: _root,
             known: _known,
-            end: _end,
-            slice: _slice,
+            shown: _shown,
             program: _program,
         } = self;
     }
@@ -84,17 +77,6 @@ pub(crate) fn program_digest<R: Files + AllocGlobal>(rt: &R) -> String {
     running_digest(rt).unwrap_or(String::new(rt.alloc()))
 }
 
-/// How much each run spends: no more than the night may.
-fn slice_of(asked: &NightAsked) -> Result<Budget, AllocError> {
-    if let Some(slice) = asked.bounds.slice {
-        return Ok(slice);
-    }
-    match asked.bounds.budget {
-        Some(budget) if is_spent_by(budget, SLICE) => Ok(budget),
-        _ => Budget::new(SLICE).ok_or(AllocError),
-    }
-}
-
 /// The storage root, which does not overlap with the state folder.
 fn find_apart<R>(rt: &R, asked: &NightAsked) -> Result<Root, Failure>
 where
@@ -115,15 +97,6 @@ where
     Ok(known)
 }
 
-/// The time at which the night ends, and how much each run spends.
-fn find_bounds<R>(rt: &R, asked: &NightAsked, began: u64) -> Result<(Option<u64>, Budget), Failure>
-where
-    R: Files + Env + AllocGlobal,
-{
-    let end = end_of(rt, asked.bounds.until, began)?;
-    Ok((end, slice_of(asked)?))
-}
-
 /// Reads all that a night is made with, but for its state folder.
 pub fn find_given<'a, R>(rt: &R, asked: &'a NightAsked, began: u64) -> Result<Found<'a>, Failure>
 where
@@ -132,7 +105,7 @@ where
     let root = find_apart(rt, asked)?;
     let ends = find_ends(rt, &asked.chosen)?;
     let known = find_lists(rt, asked)?;
-    let (end, slice) = find_bounds(rt, asked, began)?;
+    let shown = find_shown(rt, asked.bounds.until, began)?;
     let Root { path, place } = root;
     Ok(Found {
         given: Given {
@@ -140,8 +113,7 @@ where
             began,
             root: path,
             known,
-            end,
-            slice,
+            shown,
             program: program_digest(rt),
         },
         place,

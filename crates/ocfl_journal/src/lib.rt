@@ -2,13 +2,14 @@
 //! under way, and what is said, told and logged at its end.
 #![tactic(auto)]
 
+pub mod apart;
 pub mod clock;
 pub mod ending;
 mod ends;
 pub mod given;
 mod logging;
 pub mod noting;
-
-pub use logging::RunMade;
-
+pub mod speaking;
 pub mod waiting;
+
+pub use logging::{Journal, RunMade};

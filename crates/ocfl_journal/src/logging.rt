@@ -19,7 +19,7 @@ use std::time::Clock;
 
 /// The lines that are appended while a night is under way: one once it has begun, one for each run,
 /// and one for each place that is left out.
-pub(crate) struct Journal<'a, R: Files<File = File> + AllocGlobal> {
+pub struct Journal<'a, R: Files<File = File> + AllocGlobal> {
     rt: &'a R,
     log: FsLog<&'a R>,
     /// When the night began, in seconds since the epoch.
@@ -160,8 +160,8 @@ impl<'a, R: Files<File = File> + AllocGlobal + Clock> Journal<'a, R> {
         self.append(began_text(self.rt.alloc(), time, self.night, checkpoint, reading));
     }
 
-    /// Appends the line of a run that began then.
-    pub(crate) fn run(&self, made: RunMade<'_>, began: u64) {
+    /// Appends the line of a run that is kept and began then, in seconds since the epoch.
+    pub fn run(&self, made: RunMade<'_>, began: u64) {
         let now = seconds_now(self.rt);
         self.append(run_text(self.rt.alloc(), made, self.night, began, now));
     }

@@ -1,8 +1,9 @@
 //! A state folder whose checkpoints are noted as they are put.
 
-use crate::clock::NightClock;
+use crate::clock::StopFile;
 use crate::given::Given;
 use crate::logging::{Journal, Reading};
+use crate::speaking::{Kept, Speaker};
 use ocfl_closing::stand::Standing;
 use ocfl_closing::state::{Begun, open_state, read_begun};
 use ocfl_closing::state_dir::StateDir;
@@ -15,7 +16,6 @@ use ocfl_state::{Checkpoint, Observed, Observer, decode_checkpoint};
 use std::alloc::{AllocError, Global};
 use std::cell::Cell;
 use std::fs::File;
-use std::io::Write;
 use std::rc::Rc;
 use std::rt::Files;
 use std::time::Clock;
@@ -64,10 +64,12 @@ pub type OnDisk<'a, R> = Noting<'a, R, SystemDisk<&'a R>>;
 
 /// What stands beside the state folder in a night.
 #[derive(Drop)]
-pub struct Beside<'a, 'n, R: Files<File = File> + AllocGlobal, W: Drop> {
-    pub clock: NightClock<'a, R>,
-    /// The output of the report.
-    pub teller: Teller<'n, W>,
+pub struct Beside<'a, 'n, R: Files<File = File> + AllocGlobal> {
+    pub stop: StopFile<'a, R>,
+    /// What logs the runs.
+    pub journal: Journal<'a, R>,
+    /// What makes the messages.
+    pub speaker: Speaker<'n>,
     /// Why places of the storage root could not be read.
     pub reasons: Rc<Cell<Reasons>>,
 }
@@ -178,63 +180,48 @@ impl<'a, R: Files<File = File> + AllocGlobal + Clock> Noting<'a, R, SystemDisk<&
         self.lost.get()
     }
 
-    /// The clock of the night.
-    fn clock(&self, given: &Given<'_>) -> Result<NightClock<'a, R>, Failure> {
+    /// The clock of the night, and the file that asks it to stop.
+    fn stop(&self, given: &Given<'_>) -> Result<StopFile<'a, R>, AllocError> {
+        let rt = self.folder.observer.rt;
+        let path = format!(in rt.alloc(); "{}/{}", given.asked.state, StateFile::Stop)?;
+        Ok(StopFile { rt, path })
+    }
+
+    /// What makes the messages of the night.
+    fn speaker<'n>(&self, given: &'n Given<'_>) -> Result<Speaker<'n>, AllocError> {
         let notes = &self.folder.observer;
-        let rt = notes.rt;
-        let journal = journal_of(rt, given, &self.lost)?;
-        let stop = format!(in rt.alloc(); "{}/{}", given.asked.state, StateFile::Stop)?;
-        Ok(NightClock {
-            rt,
-            stop,
-            began: self.begun.standing,
-            now: notes.now.clone()?,
-            budget: given.asked.bounds.budget,
-            journal,
-            asked: given.began,
+        let alloc = notes.rt.alloc();
+        let (kept, reasons) = (Kept::new(alloc)?, notes.reasons.clone()?);
+        let (out, now) = (kept.shared()?, notes.now.clone()?);
+        Ok(Speaker {
+            teller: Teller::new(alloc, given.names(), &given.known, reasons, now, out),
+            kept,
+            findings: 0,
         })
     }
 
-    /// What says what is found. It says that on an output.
-    fn teller<'n, W>(&self, given: &'n Given<'_>, out: W) -> Result<Teller<'n, W>, Failure>
-    where
-        W: Write + Drop,
-    {
-        let notes = &self.folder.observer;
-        let alloc = notes.rt.alloc();
-        let reasons = notes.reasons.clone()?;
-        let now = notes.now.clone()?;
-        Ok(Teller::new(alloc, given.names(), &given.known, reasons, now, out))
-    }
-
     /// What stands beside the folder in the night.
-    pub fn beside<'n, W>(
-        &self,
-        given: &'n Given<'_>,
-        out: W,
-    ) -> Result<Beside<'a, 'n, R, W>, Failure>
-    where
-        W: Write + Drop,
-    {
-        let teller = self.teller(given, out)?;
-        let clock = self.clock(given)?;
+    pub fn beside<'n>(&self, given: &'n Given<'_>) -> Result<Beside<'a, 'n, R>, Failure> {
+        let speaker = self.speaker(given)?;
+        let stop = self.stop(given)?;
         Ok(Beside {
-            clock,
-            teller,
+            stop,
+            journal: journal_of(self.folder.observer.rt, given, &self.lost)?,
+            speaker,
             reasons: self.folder.observer.reasons.clone()?,
         })
     }
 
     /// What the night spent, and what was said of its runs.
-    pub fn told_by<W: Write + Drop>(&self, teller: Teller<'_, W>) -> Told {
+    pub fn told_by(&self, speaker: Speaker<'_>) -> Told {
         Told {
             cost: self
                 .begun
                 .standing
                 .spent_until(self.folder.observer.now.get()),
-            findings: teller.findings(),
-            broken: teller.broken(),
-            said: teller.into_said(),
+            findings: speaker.findings,
+            broken: speaker.teller.broken(),
+            said: speaker.into_said(),
         }
     }
 

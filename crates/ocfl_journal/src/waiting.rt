@@ -2,7 +2,7 @@
 
 use crate::given::Given;
 use jiff::Timestamp;
-use ocfl_clock::may_begin;
+use ocfl_clock::must_wait;
 use ocfl_closing::stand::Standing;
 use ocfl_disk::StateFile;
 use ocfl_files::failing::say_text;
@@ -65,11 +65,8 @@ where
     R: Files + AllocGlobal,
 {
     let days = given.asked.bounds.every?;
-    if !began.is_closed {
-        return None;
-    }
     let ended = ended_at(rt, given.asked.state.as_str(), began.cycle);
-    if may_begin(ended, given.began, days) {
+    if !must_wait(Some(days), !began.is_closed, ended, given.began) {
         return None;
     }
     Some(Wait {

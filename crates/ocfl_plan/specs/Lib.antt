@@ -1,0 +1,4 @@
+pub mod Budgeted
+pub mod Plan
+pub mod Status
+pub mod Telling

@@ -11,10 +11,10 @@ use Rattle.ocfl_state.specs.{Checkpoint.{Checkpoint}, Content.{Content, Closed, 
 use Rattle.ocfl_state.specs.declared.checkpoint_parts.{Phase.{Phase}, Phase.TheVariants.{Open, Closing}, ReportMark.{ReportMark}}
 use Rattle.ocfl_night.specs.Beginning.{BeginsAt, Position, first, first_position, further, position}
 use Rattle.ocfl_night.specs.{Chain.{HasClosed}, Done.{Done}, Leaving.{done_by, remedy_at}, Looks.{Rounds}}
-use Rattle.ocfl_night.specs.Ending.{IsSlice, cycle_ended, cycle_in, cycle_of, ended_by, halt_after, place_or_pause, unbegun_by}
+use Rattle.ocfl_night.specs.Ending.{IsSlice, KeepsTo, cycle_ended, cycle_in, cycle_of, ended_by, halt_after, place_or_pause, unbegun_by}
 use Rattle.ocfl_night.specs.Runs.{StopsOpen, Turn, after_end, after_made, turn_of}
 use Rattle.ocfl_night.specs.Sound.{IsAt, IsOneMore, IsShut, Stands}
-use Rattle.ocfl_night.specs.Steps.{fitted}
+use Rattle.ocfl_night.specs.Steps.{IsNext, fitted}
 use Rattle.ocfl_night.specs.declared.{opening.Opened.{Opened}, refusal.NotOpened.{NotOpened}, refusal.Refusal.{Refusal}, stop.Stop.{Stop}}
 use Rattle.ocfl_night.specs.declared.refusal.NotOpened.TheVariants as unopened
 use Rattle.ocfl_night.specs.declared.{plan.Halt.{Halt}, plan.Pause.{Pause}, slicing.Made.{Made}, tally.Remedy.{Remedy}}
@@ -57,25 +57,26 @@ ended_in k cycle is = by k.phase is
     by Open is = absurd (cc is)
     by Closing is = cc is
 
--- a slice stays in it
-made_in : {k : Checkpoint} {limits : Limits} {made : Made} → k.phase ≡ Open → IsSlice k limits made → cycle_of made.checkpoint ≡ cycle_of k
-made_in going (inl un) = ap cycle_of un.checkpoint
-made_in {k} {made = made} going (inr r) = by ran.end refl
+-- a run stays in it
+pub cycle_next : {k next : Checkpoint} {limits : Limits} {ran : RunEnd} {mark : ReportMark} → k.phase ≡ Open → KeepsTo k.cursor limits ran → IsNext k ran mark next → cycle_of next ≡ cycle_of k
+cycle_next {k} {next} {ran = ran} going keeps is = by ran.end refl
   where
-    ran : RunEnd
-    ran = r.0
+    cursor : next.cursor ≡ after_run (begun k.cursor) ran.spent ran.files (state_after ran.end keeps.last)
+    cursor = is.cursor_is ∙ keeps.cursor
 
-    cursor : made.checkpoint.cursor ≡ after_run (begun k.cursor) ran.spent ran.files (state_after ran.end r.1.0.last)
-    cursor = r.1.2.1.cursor_is ∙ r.1.0.cursor
+    goes : ran.end ≢ status.Ended → cycle_of next ≡ cycle_of k
+    goes on = in_cycle next (is.goes_on on) ∙ cycle_after (begun k.cursor) next.cursor ran.spent ran.files ran.end keeps.last on cursor ∙ sym (in_cycle k going)
 
-    goes : ran.end ≢ status.Ended → cycle_of made.checkpoint ≡ cycle_of k
-    goes on = in_cycle made.checkpoint (r.1.2.1.goes_on on) ∙ cycle_after (begun k.cursor) made.checkpoint.cursor ran.spent ran.files ran.end r.1.0.last on cursor ∙ sym (in_cycle k going)
+    by : (e : RunStatus) → ran.end ≡ e → cycle_of next ≡ cycle_of k
+    by status.Ended e = in_cycle next (is.ended e) ∙ ap (λ (x : Cursor). x.cycle) cursor ∙ sym (in_cycle k going)
+    by status.Spent e = goes (λ x. absurd (cc (e, x)))
+    by (status.Stopped why) e = goes (λ x. absurd (cc (e, x)))
+    by status.Worn e = goes (λ x. absurd (cc (e, x)))
 
-    by : (e : RunStatus) → ran.end ≡ e → cycle_of made.checkpoint ≡ cycle_of k
-    by status.Ended is = in_cycle made.checkpoint (r.1.2.1.ended is) ∙ ap (λ (x : Cursor). x.cycle) cursor ∙ sym (in_cycle k going)
-    by status.Spent is = goes (λ x. absurd (cc (is, x)))
-    by (status.Stopped why) is = goes (λ x. absurd (cc (is, x)))
-    by status.Worn is = goes (λ x. absurd (cc (is, x)))
+-- so does a slice
+pub made_in : {k : Checkpoint} {limits : Limits} {made : Made} → k.phase ≡ Open → IsSlice k limits made → cycle_of made.checkpoint ≡ cycle_of k
+made_in going (inl un) = ap cycle_of un.checkpoint
+made_in going (inr r) = cycle_next going r.1.0 r.1.2.1
 
 -- and so does what is done after it
 done_in : (p : Place) (k : Checkpoint) (done : Remedy) → cycle_of (done_by k p done).0 ≡ cycle_of k

@@ -1,7 +1,9 @@
 -- What a run brings to the report, and what it looked at.
-use Rattle.std.proofs.{Common.{◌≡◌, ◌≢◌, ◌⊎◌, ⊎_elim, inl, inr, ◌+◌, ◌≤◌, ℕ, [], ◌++◌, ◌∙◌, Bool, List, length, Option, None, Some, ap, arith, append_assoc, refl, subst, sym}, lemmas.List.{append-nil, append_cancel_left}}
-use Rattle.ocfl_tree.specs.{Place.{Text, Place}, Ascending.{IsAmong}, StorageRoot.{StorageRoot}}
-use Rattle.ocfl_tree.specs.{Store.{Store, failed_openings}, declared.store.Opening.{Opening}}
+use Rattle.std.proofs.{Common.{◌≡◌, ◌≢◌, ◌⊎◌, ⊎_elim, inl, inr, ◌+◌, ◌≤◌, ℕ, [], ◌∷◌, ◌++◌, ◌∙◌, Bool, List, length, Option, None, Some, ap, arith, append_assoc, refl, subst, sym, true}, lemmas.List.{append-nil, append_cancel_left}}
+use Rattle.ocfl_tree.specs.{Place.{Text, Place, place_cmp}, Ascending.{IsAmong, IsAscending}, StorageRoot.{StorageRoot}}
+use Rattle.ocfl_tree.specs.Calls.{opening}
+use Rattle.ocfl_item.specs.Auditing.{FailedAt, in_listing, in_opening}
+use Rattle.ocfl_tree.specs.{Store.{Did, Store, failed_openings}, declared.store.Opening.{Opening}}
 use Rattle.ocfl_report.specs.Text.{text}
 use Rattle.ocfl_audit.specs.{Audit.{Unread}, Parts.{Part}, Runs.{Limits}, Trail.{content_trail, unread_of}}
 use Rattle.ocfl_audit.specs.Due.{hashed_among}
@@ -16,9 +18,10 @@ use Rattle.ocfl_scrub.specs.declared.stop.ReportStop.TheVariants.{Fault, Output}
 use Rattle.ocfl_scrub.proofs.CycleRuns.{opens_beyond, report_at}
 use Rattle.ocfl_night.specs.Ending.{place_or_pause, slice_end}
 use Rattle.ocfl_night.specs.Reading.{AreBeyond, AreReadOnce, HasRead, IsReadBy, StaysTaken, content_since}
-use Rattle.ocfl_night.specs.{Looks.{Counts, Look, look_between, opened_since}, Steps.{IsRun}}
-use Rattle.ocfl_night.proofs.RunsRead.{run_once, run_stays}
-use Rattle.ocfl_night.proofs.Looks.{counts_by, counts_did, failed_append, first_within, since_is}
+use Rattle.ocfl_night.specs.{Halting.{FailedMore, stopped_at}, Looks.{Counts, Look, failed_at, look_between, opened_since}, Steps.{IsRun}}
+use Rattle.ocfl_night.proofs.RunsRead.{run_once, run_opened, run_stays, run_up}
+use Rattle.ocfl_night.specs.Again.{IsOpened}
+use Rattle.ocfl_night.proofs.Looks.{counts_by, counts_did, failed_append, failed_more, failed_none, first_within, one_listed, one_opened, since_is}
 
 -- ---- what a run counts
 
@@ -37,6 +40,25 @@ stopped_ends call part from last l spent files finding (status.Stopped Output) h
 stopped_ends call part from last l spent files finding status.Ended h q is = absurd (cc is)
 stopped_ends call part from last l spent files finding status.Spent h q is = absurd (cc is)
 stopped_ends call part from last l spent files finding status.Worn h q is = absurd h
+
+-- the last call of it failed
+failed_last : {root : StorageRoot} {s t : Store} {os : List Opening} {listed : List Place} {n : ℕ} {p : Place} → Did s t os listed n → FailedAt root s t listed os p → failed_at p s + 1 ≤ failed_at p t
+failed_last {s = s} {t = t} {os = os} {p = p} did (in_listing before is failed meta) =
+    let more = failed_more p s t os (p ∷ []) did.openings_are failed in let one = one_listed p os [] in omega (arith, more, one)
+failed_last {s = s} {t = t} {p = p} did (in_opening before given is stays) =
+    let more = failed_more p s t (before ++ opening p given true ∷ []) did.failed (did.openings_are ∙ ap (λ (x : List Opening). s.openings ++ x) is) did.failed_are in let one = one_opened p before given did.failed in omega (arith, more, one)
+
+-- and failed there
+failed_ends : (call : Call) (part : Part) (from last : Option Place) (l : Limits) (spent files : ℕ) (finding : Bool) (end : RunStatus) → RunEndsWithin call part from last l spent files finding end
+    → (q : Place) → end ≡ status.Stopped (Fault (fault.Store q)) → failed_at q call.before + 1 ≤ failed_at q call.after
+failed_ends call part from last l spent files finding (status.Stopped (Fault (fault.Store p))) h q is =
+    let same : p ≡ q = cc is in
+    subst (λ (x : Place). failed_at x call.before + 1 ≤ failed_at x call.after) same (failed_last h.looks.fails.did (h.looks.fails.store p refl).1)
+failed_ends call part from last l spent files finding (status.Stopped (Fault fault.Memory)) h q is = absurd (cc is)
+failed_ends call part from last l spent files finding (status.Stopped Output) h q is = absurd (cc is)
+failed_ends call part from last l spent files finding status.Ended h q is = absurd (cc is)
+failed_ends call part from last l spent files finding status.Spent h q is = absurd (cc is)
+failed_ends call part from last l spent files finding status.Worn h q is = absurd h
 
 -- ---- what it wrote and opened
 
@@ -88,6 +110,7 @@ record Looked (root : StorageRoot) (s t : Store) (old new : Text) (part : Part) 
   pub content : content_since root s t ≡ content_trail root run.opened
   pub counts : Counts s t
   pub stopped : (q : Place) → ran.end ≡ status.Stopped (Fault (fault.Store q)) → s.failures + 1 ≤ t.failures
+  pub failed : (q : Place) → ran.end ≡ status.Stopped (Fault (fault.Store q)) → failed_at q s + 1 ≤ failed_at q t
 
 module _ (root : StorageRoot) (s t : Store) (old new : Text) (part : Part) (c : Cursor) (l : Limits) (ran : RunEnd) where
   -- it began a walk
@@ -104,6 +127,7 @@ module _ (root : StorageRoot) (s t : Store) (old new : Text) (part : Part) (c : 
         unread = ap (unread_of root) (since_is s t r.run.opened r.opened_is);
         content = ap (content_trail root) (since_is s t r.run.opened r.opened_is);
         stopped = stopped_ends (known_call root s t old new) part (place_in c.state) h.last l ran.spent ran.files ran.found ran.end h.run;
+        failed = failed_ends (known_call root s t old new) part (place_in c.state) h.last l ran.spent ran.files ran.found ran.end h.run;
         counts = counts_ends (known_call root s t old new) part (place_in c.state) h.last l ran.spent ran.files ran.found ran.end h.run;
       }
 
@@ -157,6 +181,27 @@ module _ (root : StorageRoot) (s t : Store) (old new : Text) (part : Part) (c : 
         let two : length (unread_of root way) ≡ 0 = no_failure way (sym (ap (unread_of root) (append-nil way)) ∙ unread_behind root way [] h.way.audits.opened) in
         omega (arith, more, one, two, h.down.audits.did.failures_are, h.way.audits.did.failures_are, ap (λ (x : Store). x.failures) h.alike.there, ap (λ (x : Store). x.failures) h.alike.here)
 
+    listed : t.failed_listings ≡ s.failed_listings ++ h.alike.added.failed
+    listed = ap (λ (x : Store). x.failed_listings) h.alike.here
+
+    -- nothing failed on the way
+    none_failed_down : (q : Place) → failed_at q h.begun ≤ failed_at q h.before
+    unfolding hashed_among
+    none_failed_down q = failed_none q h.down.audits.did (no_failure down (sym (ap (unread_of root) (append-nil down)) ∙ unread_behind root down [] h.down.audits.opened))
+
+    none_failed_on : (q : Place) → failed_at q h.there ≤ failed_at q h.begun
+    unfolding hashed_among
+    none_failed_on q = failed_none q h.way.audits.did (no_failure way (sym (ap (unread_of root) (append-nil way)) ∙ unread_behind root way [] h.way.audits.opened))
+
+    failed_on : (q : Place) → ran.end ≡ status.Stopped (Fault (fault.Store q)) → failed_at q s + 1 ≤ failed_at q t
+    failed_on q is =
+        let more : failed_at q h.before + 1 ≤ failed_at q h.behind = failed_ends (known_call root h.before h.behind old new) part (place_in c.state) h.runs.last l ran.spent ran.files ran.found ran.end h.runs.run q is in
+        let down_way = none_failed_down q in
+        let on = none_failed_on q in
+        let there_on = failed_more q h.there h.behind added h.alike.added.failed (ap (λ (x : Store). x.openings) h.alike.there) (ap (λ (x : Store). x.failed_listings) h.alike.there) in
+        let now = failed_more q s t added h.alike.added.failed here listed in
+        omega (arith, more, down_way, on, there_on, now)
+
     looked_on : Looked root s t old new part c ran
     looked_on =
         let r = reported root h.before h.behind old part c l ran new h.runs in
@@ -171,7 +216,8 @@ module _ (root : StorageRoot) (s t : Store) (old new : Text) (part : Part) (c : 
           unread = ap (unread_of root) (since_is s t added here) ∙ sym (ap (unread_of root) opened ∙ none_down);
           content = ap (content_trail root) (since_is s t added here) ∙ sym (ap (content_trail root) opened ∙ meta_down);
           stopped = stopped_on;
-          counts = counts_by s t added here (omega (arith, failed, ap (λ (x : Store). x.failures) h.alike.here));
+          failed = failed_on;
+          counts = counts_by s t added h.alike.added.failed here listed (omega (arith, failed, ap (λ (x : Store). x.failures) h.alike.here));
         }
 
   looked_by : (met : Option Place) → RunsOn (known_call root s t old new) part met c l ran → Looked root s t old new part c ran
@@ -224,6 +270,29 @@ module _ (root : StorageRoot) (s t : Store) (old new : Text) (part : Part) (c : 
       by stops once (status.Stopped Output) is = absurd (whole is)
       by stops once (status.Stopped (Fault (fault.Store q))) is = stops q is
       by stops once (status.Stopped (Fault fault.Memory)) is = tt
+
+  -- it stopped where the store failed
+  pub run_failed : FailedMore s t (stopped_at (slice_end ran.end))
+  run_failed = by (looked_by root s t old new part c l ran met h) ran.end refl
+    where
+      by : Looked root s t old new part c ran → (end : RunStatus) → ran.end ≡ end → FailedMore s t (stopped_at (slice_end end))
+      by r status.Ended is = tt
+      by r status.Spent is = tt
+      by r status.Worn is = tt
+      by r (status.Stopped Output) is = tt
+      by r (status.Stopped (Fault fault.Memory)) is = tt
+      by r (status.Stopped (Fault (fault.Store q))) is = r.failed q is
+
+  -- each content file once, in order
+  pub run_ascends : IsAscending place_cmp (content_since root s t)
+  run_ascends = let r = looked_by root s t old new part c l ran met h in subst (IsAscending place_cmp) (sym r.content) (run_up root part c r.run r.made)
+
+  -- of which it took all, but one if it stopped
+  pub run_took : ran.end ≢ status.Stopped Output → IsOpened ran.cursor.state (slice_end ran.end) (content_since root s t)
+  run_took whole =
+      let r = looked_by root s t old new part c l ran met h in
+      subst (IsOpened ran.cursor.state (slice_end ran.end)) (sym r.content)
+      (subst (λ (x : RunEnd). IsOpened x.cursor.state (slice_end x.end) (content_trail root r.run.opened)) r.ran_is (run_opened root part c r.run r.made (λ e. whole (sym (ap (λ (x : RunEnd). x.end) r.ran_is) ∙ e))))
 
 -- of a part, a cursor and lines that are known by two names
 pub run_at : {look : Look} {rest part : Part} {made c : Cursor} {ran : RunEnd} {new lines : Text} → rest ≡ part → made ≡ c → new ≡ lines → IsRun rest made look new ran → IsRun part c look lines ran

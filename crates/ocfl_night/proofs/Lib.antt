@@ -26,3 +26,5 @@ pub mod Reasons
 pub mod Lasting
 pub mod RunsRead
 pub mod Reading
+pub mod Halting
+pub mod Again

@@ -1,17 +1,18 @@
 -- Looks at a storage root, and what a store counts meanwhile.
-use Rattle.std.proofs.Common.{◌≡◌, ◌≢◌, ◌⊎◌, ⊎_elim, ℕ, ◌+◌, ◌≤◌, List, [], ◌++◌, Option, Some, None, refl, sym, ◌∙◌, ap, subst, arith, append_assoc, length, length-append, drop, filter}
+use Rattle.std.proofs.Common.{◌≡◌, ◌≢◌, ◌⊎◌, ⊎_elim, ℕ, ◌+◌, ◌≤◌, List, [], ◌∷◌, ◌++◌, inl, inr, true, false, Bool, Option, Some, None, refl, sym, ◌∙◌, ap, subst, arith, append_assoc, length, length-append, drop, filter}
 use Rattle.std.proofs.{lemmas.List.{append-nil, drop-append-le, drop_all}, lemmas.List.Elements.{filter-append}}
-use Rattle.std.specs.Option.{option_and_then}
-use Rattle.ocfl_tree.specs.{Place.{Text, Place}, Ascending.{IsAmong}, StorageRoot.{Leaf, StorageRoot, at, bytes_of, dir, file, other}}
+use Rattle.std.specs.{Option.{option_and_then}, Prelude.{◌&&◌, cond}}
+use Rattle.ocfl_tree.specs.{Place.{Text, Place, place_eq}, Ascending.{IsAmong}, StorageRoot.{Leaf, StorageRoot, at, bytes_of, dir, file, other}}
 use Rattle.ocfl_tree.specs.{Store.{Store, Did, failed_openings}, declared.store.Opening.{Opening}}
-use Rattle.ocfl_tree.proofs.Orders.{among_left, among_right}
+use Rattle.ocfl_tree.specs.Calls.{opening}
+use Rattle.ocfl_tree.proofs.{Orders.{among_left, among_right}, Places.{place_eq-same}}
 use Rattle.ocfl_audit.specs.{Audit.{Unread}, Trail.{unread_of}}
 use Rattle.ocfl_item.proofs.AuditingLaws.{unread_append}
 use Rattle.ocfl_item.specs.Judging.{HasShortFiles}
 use Rattle.ocfl_identity.specs.Identity.{IsUnread, OpensFirst, in_listing, in_opening, too_long}
 use Rattle.ocfl_scrub.specs.declared.running.RunStatus.{RunStatus}
 use Rattle.ocfl_scrub.specs.declared.running.RunStatus.TheVariants as status
-use Rattle.ocfl_night.specs.Looks.{IsRootOf, Counts, IfGiven, IsOneOf, IsWithin, Known, Look, look_between, opened_since}
+use Rattle.ocfl_night.specs.Looks.{IsRootOf, Counts, failed_at, failed_in, IfGiven, IsOneOf, IsWithin, Known, Look, look_between, opened_since}
 use Rattle.ocfl_identity.specs.declared.identity.NoIdentity.{NoIdentity}
 use Rattle.ocfl_identity.specs.declared.identity.NoIdentity.TheVariants as none
 
@@ -27,17 +28,77 @@ since_is s t os are = ap (drop (length s.openings)) are ∙ behind s.openings os
 pub failed_append : (xs ys : List Opening) → failed_openings (xs ++ ys) ≡ failed_openings xs + failed_openings ys
 failed_append xs ys = ap length (filter-append (λ (o : Opening). o.failed) xs ys) ∙ length-append (filter (λ (o : Opening). o.failed) xs) (filter (λ (o : Opening). o.failed) ys)
 
-pub counts_by : (s t : Store) (os : List Opening) → t.openings ≡ s.openings ++ os → s.failures + failed_openings os ≤ t.failures → Counts s t
-counts_by s t os are few = record {
+-- how often it failed at a place then
+abbrev is_failed : Place → Opening → Bool
+is_failed p o = o.failed && place_eq o.place p
+
+failed_then : (p : Place) (os more : List Opening) (ls then : List Place) → failed_in p (os ++ more) (ls ++ then) ≡ failed_in p os ls + failed_in p more then
+failed_then p os more ls then =
+    let one = ap length (filter-append (is_failed p) os more) ∙ length-append (filter (is_failed p) os) (filter (is_failed p) more) in
+    let two = ap length (filter-append (λ (q : Place). place_eq q p) ls then) ∙ length-append (filter (λ (q : Place). place_eq q p) ls) (filter (λ (q : Place). place_eq q p) then) in
+    omega (arith, one, two)
+
+pub failed_more : (p : Place) (s t : Store) (os : List Opening) (ls : List Place) → t.openings ≡ s.openings ++ os → t.failed_listings ≡ s.failed_listings ++ ls → failed_at p t ≡ failed_at p s + failed_in p os ls
+failed_more p s t os ls opened listed =
+    ap (λ (x : List Opening). failed_in p x t.failed_listings) opened ∙ ap (failed_in p (s.openings ++ os)) listed ∙ failed_then p s.openings os s.failed_listings ls
+
+few_opened : (p : Place) (os : List Opening) → length (filter (is_failed p) os) ≤ failed_openings os
+few_opened p [] = omega arith
+few_opened p (o ∷ os) = by o.failed (place_eq o.place p) (few_opened p os)
+  where
+    by : (a b : Bool) → length (filter (is_failed p) os) ≤ failed_openings os
+        → length (cond (a && b) (o ∷ filter (is_failed p) os) (filter (is_failed p) os)) ≤ length (cond a (o ∷ filter (λ (x : Opening). x.failed) os) (filter (λ (x : Opening). x.failed) os))
+    by true true few = omega (arith, few)
+    by true false few = omega (arith, few)
+    by false b few = few
+
+few_listed : (p : Place) (ls : List Place) → length (filter (λ (q : Place). place_eq q p) ls) ≤ length ls
+few_listed p [] = omega arith
+few_listed p (l ∷ ls) = by (place_eq l p) (few_listed p ls)
+  where
+    by : (b : Bool) → length (filter (λ (q : Place). place_eq q p) ls) ≤ length ls → length (cond b (l ∷ filter (λ (q : Place). place_eq q p) ls) (filter (λ (q : Place). place_eq q p) ls)) ≤ length (l ∷ ls)
+    by true few = omega (arith, few)
+    by false few = omega (arith, few)
+
+-- calls of which none failed
+pub failed_none : (p : Place) {s t : Store} {os : List Opening} {listed : List Place} {n : ℕ} → Did s t os listed n → n ≡ 0 → failed_at p t ≤ failed_at p s
+failed_none p {s} {t} {os} did none =
+    let more = failed_more p s t os did.failed did.openings_are did.failed_are in
+    let one = few_opened p os in
+    let two = few_listed p did.failed in
+    omega (arith, more, one, two, none, did.each_failed)
+
+-- the last of which failed
+pub one_listed : (p : Place) (os : List Opening) (ls : List Place) → 1 ≤ failed_in p os (p ∷ ls)
+one_listed p os ls = by (place_eq p p) (place_eq-same p)
+  where
+    by : (b : Bool) → b ≡ true → 1 ≤ length (filter (is_failed p) os) + length (cond b (p ∷ filter (λ (q : Place). place_eq q p) ls) (filter (λ (q : Place). place_eq q p) ls))
+    by true is = omega arith
+    by false is = absurd (cc is)
+
+pub one_opened : (p : Place) (before : List Opening) (given : ℕ) (ls : List Place) → 1 ≤ failed_in p (before ++ opening p given true ∷ []) ls
+one_opened p before given ls = let both = failed_then p before (opening p given true ∷ []) [] ls in let one = last in omega (arith, both, one)
+  where
+    last : 1 ≤ failed_in p (opening p given true ∷ []) ls
+    last = by (place_eq p p) (place_eq-same p)
+      where
+        by : (b : Bool) → b ≡ true → 1 ≤ length (cond (true && b) (opening p given true ∷ []) []) + length (filter (λ (q : Place). place_eq q p) ls)
+        by true is = omega arith
+        by false is = absurd (cc is)
+
+pub counts_by : (s t : Store) (os : List Opening) (ls : List Place) → t.openings ≡ s.openings ++ os → t.failed_listings ≡ s.failed_listings ++ ls → s.failures + failed_openings os ≤ t.failures → Counts s t
+counts_by s t os ls are listed few = record {
   openings = are ∙ ap (λ (l : List Opening). s.openings ++ l) (sym (since_is s t os are));
   failures = subst (λ (l : List Opening). s.failures + failed_openings l ≤ t.failures) (sym (since_is s t os are)) few;
+  failed = λ p. let more = failed_more p s t os ls are listed in omega (arith, more);
 }
 
 pub counts_did : {s t : Store} {os : List Opening} {listed : List Place} {n : ℕ} → Did s t os listed n → Counts s t
-counts_did {s} {t} {os} did = counts_by s t os did.openings_are (omega (arith, did.failures_are, did.each_failed))
+counts_did {s} {t} {os} did = counts_by s t os did.failed did.openings_are did.failed_are (omega (arith, did.failures_are, did.each_failed))
 
 pub counts_same : (s t : Store) → t ≡ s → Counts s t
-counts_same s t same = counts_by s t [] (ap (λ (x : Store). x.openings) same ∙ sym (append-nil s.openings)) (omega (arith, ap (λ (x : Store). x.failures) same))
+counts_same s t same =
+    counts_by s t [] [] (ap (λ (x : Store). x.openings) same ∙ sym (append-nil s.openings)) (ap (λ (x : Store). x.failed_listings) same ∙ sym (append-nil s.failed_listings)) (omega (arith, ap (λ (x : Store). x.failures) same))
 
 pub counts_none : (s : Store) → Counts s s
 counts_none s = counts_same s s refl
@@ -50,7 +111,11 @@ module _ {r s t : Store} (p : Counts r s) (q : Counts s t) where
   since_both = since_is r t (opened_since r s ++ opened_since s t) both
 
   pub counts_on : Counts r t
-  counts_on = counts_by r t (opened_since r s ++ opened_since s t) both (omega (arith, p.failures, q.failures, failed_append (opened_since r s) (opened_since s t)))
+  counts_on = record {
+    openings = both ∙ ap (λ (l : List Opening). r.openings ++ l) (sym since_both);
+    failures = let since = ap failed_openings since_both ∙ failed_append (opened_since r s) (opened_since s t) in omega (arith, p.failures, q.failures, since);
+    failed = λ x. let one = p.failed x in let two = q.failed x in omega (arith, one, two);
+  }
 
   unread_both : (root : StorageRoot) → unread_of root (opened_since r t) ≡ unread_of root (opened_since r s) ++ unread_of root (opened_since s t)
   unread_both root = ap (unread_of root) since_both ∙ unread_append root (opened_since r s) (opened_since s t)
@@ -126,3 +191,21 @@ pub counts_unidentified : {root : StorageRoot} {s t : Store} {os : List Opening}
 counts_unidentified none.Undeclared short bare unread refused = counts_did (bare refl)
 counts_unidentified (none.Unread p) short bare unread refused = counts_unread short (unread p refl)
 counts_unidentified none.Memory short bare unread refused = ⊎_elim counts_did counts_first (refused refl)
+
+-- it failed there
+pub failed_unread : {root : StorageRoot} {s t : Store} {names : List Text} {listed : List Place} {p : Place} → HasShortFiles root → IsUnread root s t names listed p → failed_at p s + 1 ≤ failed_at p t
+failed_unread {s = s} {t = t} {p = p} short (in_listing is there did) =
+    let more = failed_more p s t [] did.failed did.openings_are did.failed_are in
+    let one = by did.failed did.each_failed (λ q i. alone q (subst (λ qs. IsAmong qs q) there (did.failed_among q i))) in
+    omega (arith, more, one)
+  where
+    alone : (q : Place) → IsAmong (p ∷ []) q → q ≡ p
+    alone q (inl same) = same
+    alone q (inr none) = absurd none
+
+    by : (ls : List Place) → 1 ≡ 0 + length ls → ((q : Place) → IsAmong ls q → q ≡ p) → 1 ≤ failed_in p [] ls
+    by [] one all = absurd (omega (arith, one))
+    by (q ∷ ls) one all = subst (λ (x : Place). 1 ≤ failed_in p [] (x ∷ ls)) (sym (all q (inl refl))) (one_listed p [] ls)
+failed_unread {s = s} {t = t} {p = p} short (in_opening before given named did) =
+    let more = failed_more p s t _ did.failed did.openings_are did.failed_are in let one = one_opened p before given did.failed in omega (arith, more, one)
+failed_unread {root} {p = p} short (too_long bytes is long) = absurd (let few = short p bytes (leaf_there (at root p) bytes is) in omega (arith, few, long))

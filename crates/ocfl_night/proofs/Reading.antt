@@ -1,6 +1,6 @@
 -- What slices, runs and nights read, one after the other.
-use Rattle.std.proofs.Common.{◌≡◌, ◌≢◌, ◌⊎◌, ⊎_elim, inl, inr, ℕ, ◌+◌, ◌≤◌, List, [], ◌∷◌, ◌++◌, refl, sym, ◌∙◌, ap, subst, true, false, Bool, Some, None, Option, Result, Ok, Err, arith, append-nil, filter, map, not}
-use Rattle.std.specs.Prelude.{cond, flat_map, IfOk, ◌&&◌, ◌||◌}
+use Rattle.std.proofs.Common.{◌≡◌, ◌≢◌, ◌⊎◌, ⊎_elim, inl, inr, ℕ, List, [], ◌∷◌, ◌++◌, refl, sym, ◌∙◌, ap, subst, true, false, Bool, Some, None, Option, Result, Ok, Err, arith, append-nil, filter, map, not}
+use Rattle.std.specs.Prelude.{cond, flat_map, IfOk, ◌||◌}
 use Rattle.std.specs.Ordering.{is_lt}
 use Rattle.std.specs.declared.cmp.Ordering.{Ordering}
 use Rattle.std.specs.declared.cmp.Ordering.TheVariants.{Less, Equal, Greater}
@@ -9,7 +9,7 @@ use Rattle.ocfl_tree.specs.{Listing.{entries_in}, Store.{Store, Did}, declared.s
 use Rattle.ocfl_tree.proofs.{Bools.{and_second}, Orders.{among_left, below_from_greater, less_from, place_cmp_exact, place_cmp_total, true_not_false}, Stores.{among_either}}
 use Rattle.ocfl_inventory.specs.{Declaration.{is_declaration}, Entries.{is_counted, is_file}}
 use Rattle.ocfl_inventory.specs.declared.declaration.Level.TheVariants.{Root}
-use Rattle.ocfl_audit.specs.{Parts.{Part}, Trail.{content_trail, is_meta, is_meta_zone}, Zone.{zone}}
+use Rattle.ocfl_audit.specs.{Trail.{content_trail, is_meta, is_meta_zone}, Zone.{zone}}
 use Rattle.ocfl_audit.proofs.BelowLaws.{ascends_append}
 use Rattle.ocfl_item.proofs.AuditingLaws.{trail_append}
 use Rattle.ocfl_item.specs.Judging.{HasShortFiles}
@@ -27,10 +27,10 @@ use Rattle.ocfl_scrub.specs.declared.running.RunStatus.TheVariants as status
 use Rattle.ocfl_state.specs.{Checkpoint.{Checkpoint}, Content.{Content}}
 use Rattle.ocfl_state.specs.declared.checkpoint_parts.{Phase.{Phase}, Phase.TheVariants.{Open, Closing}}
 use Rattle.ocfl_state.specs.declared.checkpoint_parts.ReportMark.{ReportMark}
-use Rattle.ocfl_night.specs.Beginning.{BeginsAt, Position, StandsAt, first, further, goes_on_at, goes_on_in, position}
+use Rattle.ocfl_night.specs.Beginning.{BeginsAt, Position, StandsAt, first, further, goes_on_at, goes_on_in}
 use Rattle.ocfl_night.specs.{Done.{Done}, Leaving.{done_by, remedy_at}, Looks.{Counts, opened_since}}
 use Rattle.ocfl_night.specs.Ending.{IsAway, IsMadeBy, IsSlice, IsUnkept, KeepsTo, cycle_ended, ended_by, halt_after, place_or_pause, slice_end}
-use Rattle.ocfl_night.specs.Reading.{AreBeyond, AreDeclarations, AreOfOneCycle, AreReadOnce, AreTaken, EndsInOrder, HasRead, HaveRead, IsRead, IsReadBy, IsReadTo, IsReading, Reading, ReadsBeyond, StaysTaken, came_to, content_since, reached, reached_in}
+use Rattle.ocfl_night.specs.Reading.{AreBeyond, AreDeclarations, AreOfOneCycle, AreReadOnce, EndsInOrder, HasRead, HaveRead, IsRead, IsReadBy, IsReadTo, IsReading, Reading, ReadsBeyond, StaysTaken, came_to, content_since, reached, reached_in}
 use Rattle.ocfl_night.specs.{Runs.{StopsOpen, Turn, after_end, after_made, turn_of}, Sound.{IsAt}}
 use Rattle.ocfl_night.specs.Steps.{IsNext, IsNotBegun, with_all_told}
 use Rattle.ocfl_night.specs.declared.{plan.Halt.{Halt}, plan.Pause.{Pause}, slicing.Made.{Made}, slicing.SliceEnd.{SliceEnd}, stop.Stop.{Stop}, tally.Remedy.{Remedy}}
@@ -145,7 +145,7 @@ not_not true e = refl
 not_not false e = absurd (true_not_false e)
 
 -- of two places, the one that was taken is the lesser
-taken_below : (there : State) (p q : Place) → is_taken there p ≡ true → is_taken there q ≡ false → place_cmp p q ≡ Less
+pub taken_below : (there : State) (p q : Place) → is_taken there p ≡ true → is_taken there q ≡ false → place_cmp p q ≡ Less
 taken_below start p q is not_yet = absurd (true_not_false (sym is))
 taken_below ended p q is not_yet = absurd (true_not_false not_yet)
 taken_below (behind c) p q is not_yet = by (place_cmp c p) refl is
@@ -209,6 +209,20 @@ reached_at k c going same = ap (λ (phase : Phase). reached_in phase k.cursor) g
 pub slice_beyond : (k : Checkpoint) (c : Cursor) {ps : List Place} → k.phase ≡ Open → c ≡ k.cursor → AreBeyond (begun c).state ps → AreBeyond (reached k) ps
 slice_beyond k c {ps} going same all = subst (λ (s : State). AreBeyond s ps) (sym (reached_at k c going same)) all
 
+-- where the checkpoint after a run has come
+pub reached_next : {k next : Checkpoint} {c : Cursor} {limits : Limits} {ran : RunEnd} {mark : ReportMark} → KeepsTo c limits ran → IsNext k ran mark next → reached next ≡ ran.cursor.state
+reached_next {next = next} {ran = ran} keeps is = there ran.end refl
+  where
+    goes : ran.end ≢ status.Ended → ran.cursor.state ≡ state_at keeps.last → reached next ≡ ran.cursor.state
+    goes other here =
+        ap (λ (phase : Phase). reached_in phase next.cursor) (is.goes_on other) ∙ ap (λ (x : Cursor). (begun x).state) is.cursor_is ∙ begun_going ran.cursor keeps.last here
+
+    there : (end : RunStatus) → ran.end ≡ end → reached next ≡ ran.cursor.state
+    there status.Ended e = ap (λ (phase : Phase). reached_in phase next.cursor) (is.ended e) ∙ ap (λ (x : Cursor). x.state) is.cursor_is
+    there status.Spent e = goes (λ x. absurd (cc (e, x))) (ap (λ (x : Cursor). x.state) keeps.cursor ∙ ap (λ x. state_after x keeps.last) e)
+    there (status.Stopped why) e = goes (λ x. absurd (cc (e, x))) (ap (λ (x : Cursor). x.state) keeps.cursor ∙ ap (λ x. state_after x keeps.last) e)
+    there status.Worn e = goes (λ x. absurd (cc (e, x))) (ap (λ (x : Cursor). x.state) keeps.cursor ∙ ap (λ x. state_after x keeps.last) e)
+
 -- of which nothing is kept
 pub unkept_read : (s t : Store) (ps : List Place) (k : Checkpoint) (r : Result Made Stop) → IfOk r (IsUnkept k) → IfOk r (λ made. HasRead s t (reached k) (reached made.checkpoint) (place_or_pause made.end) ps)
 unkept_read s t ps k (Err e) un = tt
@@ -231,24 +245,8 @@ pub kept_read : (s t : Store) (ps : List Place) (k : Checkpoint) (c : Cursor) (r
 kept_read s t ps k c ran going same keeps read (Err e) next made = tt
 kept_read s t ps k c ran going same keeps read (Ok made) next by_run =
     subst (λ (end : SliceEnd). HasRead s t (reached k) (reached made.checkpoint) (place_or_pause end) ps) (sym by_run.end)
-    (subst (λ (to : State). HasRead s t (reached k) to (place_or_pause (slice_end ran.end)) ps) (sym (there ran.end refl))
+    (subst (λ (to : State). HasRead s t (reached k) to (place_or_pause (slice_end ran.end)) ps) (sym (reached_next keeps next.1))
     (subst (λ (from : State). HasRead s t from ran.cursor.state (place_or_pause (slice_end ran.end)) ps) (sym (reached_at k c going same)) read))
-  where
-    is : IsNext k ran next.0 made.checkpoint
-    is = next.1
-
-    cursor : made.checkpoint.cursor ≡ ran.cursor
-    cursor = is.cursor_is
-
-    goes : ran.end ≢ status.Ended → ran.cursor.state ≡ state_at keeps.last → reached made.checkpoint ≡ ran.cursor.state
-    goes other here =
-        ap (λ (phase : Phase). reached_in phase made.checkpoint.cursor) (is.goes_on other) ∙ ap (λ (x : Cursor). (begun x).state) cursor ∙ begun_going ran.cursor keeps.last here
-
-    there : (end : RunStatus) → ran.end ≡ end → reached made.checkpoint ≡ ran.cursor.state
-    there status.Ended e = ap (λ (phase : Phase). reached_in phase made.checkpoint.cursor) (is.ended e) ∙ ap (λ (x : Cursor). x.state) cursor
-    there status.Spent e = goes (λ x. absurd (cc (e, x))) (ap (λ (x : Cursor). x.state) keeps.cursor ∙ ap (λ x. state_after x keeps.last) e)
-    there (status.Stopped why) e = goes (λ x. absurd (cc (e, x))) (ap (λ (x : Cursor). x.state) keeps.cursor ∙ ap (λ x. state_after x keeps.last) e)
-    there status.Worn e = goes (λ x. absurd (cc (e, x))) (ap (λ (x : Cursor). x.state) keeps.cursor ∙ ap (λ x. state_after x keeps.last) e)
 
 -- and then the root was looked at
 pub read_then : {s t u : Store} {from to : State} {at : Result Place (Option Pause)} (root : StorageRoot) → Counts s t → Counts t u → content_since root t u ≡ []

@@ -1,6 +1,7 @@
 -- What a run opens of content: each file once, in order, all of which it has then taken.
-use Rattle.std.proofs.Common.{◌≡◌, ◌≢◌, ◌⊎◌, inl, inr, ℕ, List, [], ◌∷◌, ◌++◌, refl, sym, ◌∙◌, ap, subst, true, false, Bool, Some, None, Option, append_assoc, not}
-use Rattle.std.proofs.lemmas.List.{append_cancel_left}
+use Rattle.std.proofs.Common.{◌≡◌, ◌≢◌, ◌⊎◌, inl, inr, ℕ, List, [], ◌∷◌, ◌++◌, refl, sym, ◌∙◌, ap, subst, true, false, Bool, Some, None, Option, append_assoc, not, length, filter, ◌≤◌, arith, length-append}
+use Rattle.std.proofs.lemmas.{List.{append-nil, append_cancel_left, length-map, length-take, map-append, take-append-drop}, List.Elements.{filter-append}}
+use Rattle.std.specs.Prelude.{cond, drop, take}
 use Rattle.std.specs.{List.{last_or}, Ordering.{is_lt}}
 use Rattle.std.specs.declared.cmp.Ordering.TheVariants.{Less}
 use Rattle.ocfl_tree.specs.{Place.{Place, place_cmp}, Ascending.{IsAscending, IsAmong}, StorageRoot.{StorageRoot}}
@@ -19,7 +20,28 @@ use Rattle.ocfl_scrub.specs.declared.running.RunStatus.{RunStatus}
 use Rattle.ocfl_scrub.specs.declared.running.RunStatus.TheVariants as status
 use Rattle.ocfl_scrub.proofs.{AuditsJoined.{hashed_are_among}, CutLaws.{cut_and_left}, Lists.{ascends_left}}
 use Rattle.ocfl_scrub.proofs.{PartStarts.{due_within_ascends}, PassLaws.{among_beyond, last_among}, RunPlaces.{due_parts}}
-use Rattle.ocfl_night.specs.Reading.{AreReadOnce, StaysTaken}
+use Rattle.ocfl_item.specs.Looking.{IsFront}
+use Rattle.ocfl_item.specs.declared.fault.Fault.{Fault}
+use Rattle.ocfl_scrub.specs.declared.stop.ReportStop.TheVariants as report
+use Rattle.ocfl_night.specs.{Again.{AreFew, IsOpened}, Ending.{slice_end}, Reading.{AreReadOnce, StaysTaken}}
+use Rattle.ocfl_night.specs.declared.slicing.SliceEnd.TheVariants as slice
+
+-- ---- lists
+
+length_filter_le : {A : Type 0} (p : A → Bool) (xs : List A) → length (filter p xs) ≤ length xs
+length_filter_le p [] = omega arith
+length_filter_le {A} p (x ∷ xs) = by (p x) (length_filter_le p xs)
+  where
+    by : (b : Bool) → length (filter p xs) ≤ length xs → length (cond b (x ∷ filter p xs) (filter p xs)) ≤ length (x ∷ xs)
+    by true few = omega (arith, few)
+    by false few = omega (arith, few)
+
+front_one : (begun : List Place) (others : List Item) → IsFront begun (places (take 1 others)) → length begun ≤ 1
+front_one begun others front =
+    let all = ap (λ (ps : List Place). length ps) front.1 ∙ length-append begun front.0 in
+    let few = length-map (take 1 others) (λ (i : Item). i.place) in
+    let one = length-take 1 others in
+    omega (arith, all, few, one)
 
 -- ---- what a cursor has taken
 
@@ -159,3 +181,77 @@ module _ (root : StorageRoot) (part : Part) (c : Cursor) (r : PartRun) (w : Ran 
   run_once (inr e) =
       let run = subst (RunEndsWithin call part from last r.limits r.ran.spent r.ran.files r.ran.found) e w.runs.run in
       cut_once (Some run.0) status.Spent e run.1 (λ all. all)
+
+  -- a run that stopped: what it took, and what it had begun with
+  module _ (why : ReportStop) (e : r.ran.end ≡ status.Stopped why) (h : RunStopsWithin call part from last r.limits r.ran.spent r.ran.files r.ran.found why) where
+    abbrev whole : List Place
+    whole = places h.stops.whole
+
+    stopped_content : hashed_among root (whole ++ h.stops.begun) ≡ content_trail root r.opened
+    stopped_content = sym h.looks.fails.opened ∙ ap (content_trail root) (sym (append_cancel_left w.before.openings r.opened h.trail (sym w.opened_is ∙ h.looks.fails.did.openings_are)))
+
+    stopped_split : content_trail root r.opened ≡ hashed_among root whole ++ hashed_among root h.stops.begun
+    unfolding hashed_among
+    stopped_split = sym stopped_content ∙ filter-append (is_hashed root) whole h.stops.begun
+
+    one_begun : length (hashed_among root h.stops.begun) ≤ 1
+    unfolding hashed_among
+    one_begun = let few = length_filter_le (is_hashed root) h.stops.begun in let one = front_one h.stops.begun h.stops.others h.stops.one in omega (arith, few, one)
+
+    stopped_taken : Taken r.ran.cursor.state (hashed_among root whole)
+    stopped_taken = subst (λ (s : State). Taken s (hashed_among root whole)) (sym (state_is (status.Stopped why) e)) (hashed_taken (took_whole call part from last r.limits r.ran.spent r.ran.files r.ran.found why h))
+
+    stopped_up : IsAscending place_cmp (content_trail root r.opened)
+    unfolding hashed_among
+    stopped_up = subst (IsAscending place_cmp) stopped_content (ascends_filter place_cmp (is_hashed root) (whole ++ h.stops.begun) all_up)
+      where
+        rest : List Item
+        rest = left (items_in root h.trail part from) r.limits
+
+        split : items_in root h.trail part from ≡ (h.stops.whole ++ take 1 h.stops.others) ++ (drop 1 h.stops.others ++ rest)
+        split =
+            sym (cut_and_left (items_in root h.trail part from) r.limits)
+            ∙ ap (λ is. is ++ rest) (h.stops.items_are ∙ ap (λ is. h.stops.whole ++ is) (sym (take-append-drop 1 h.stops.others)) ∙ sym (append_assoc h.stops.whole (take 1 h.stops.others) (drop 1 h.stops.others)))
+            ∙ append_assoc (h.stops.whole ++ take 1 h.stops.others) (drop 1 h.stops.others) rest
+
+        due_are : due_within root part from ≡ ((whole ++ h.stops.begun) ++ h.stops.one.0) ++ due_within root part (last_or from (places (h.stops.whole ++ take 1 h.stops.others)))
+        due_are =
+            due_parts root part h.trail from (h.stops.whole ++ take 1 h.stops.others) (drop 1 h.stops.others ++ rest) split
+            ∙ ap (λ ps. ps ++ due_within root part (last_or from (places (h.stops.whole ++ take 1 h.stops.others))))
+            (map-append (λ (i : Item). i.place) h.stops.whole (take 1 h.stops.others) ∙ ap (λ ps. whole ++ ps) h.stops.one.1 ∙ sym (append_assoc whole h.stops.begun h.stops.one.0))
+
+        all_up : IsAscending place_cmp (whole ++ h.stops.begun)
+        all_up =
+            ascends_left place_cmp (whole ++ h.stops.begun) h.stops.one.0 (ascends_left place_cmp ((whole ++ h.stops.begun) ++ h.stops.one.0) _ (subst (IsAscending place_cmp) due_are (due_within_ascends root part from)))
+
+  -- each file once, in order, also if it stopped
+  pub run_up : IsAscending place_cmp (content_trail root r.opened)
+  run_up = by r.ran.end refl
+    where
+      by : (end : RunStatus) → r.ran.end ≡ end → IsAscending place_cmp (content_trail root r.opened)
+      by status.Ended e = (run_once (inl e)).once
+      by status.Spent e = (run_once (inr e)).once
+      by (status.Stopped why) e = stopped_up why e (subst (RunEndsWithin call part from last r.limits r.ran.spent r.ran.files r.ran.found) e w.runs.run)
+      by status.Worn e = absurd (subst (RunEndsWithin call part from last r.limits r.ran.spent r.ran.files r.ran.found) e w.runs.run)
+
+  pub run_opened : r.ran.end ≢ status.Stopped report.Output → IsOpened r.ran.cursor.state (slice_end r.ran.end) (content_trail root r.opened)
+  run_opened whole_lines = by r.ran.end refl
+    where
+      all : (end : RunStatus) → AreReadOnce r.ran.cursor.state (content_trail root r.opened) → AreFew (slice_end end) [] → IsOpened r.ran.cursor.state (slice_end end) (content_trail root r.opened)
+      all end once few = record { took = content_trail root r.opened; begun = []; are = sym (append-nil (content_trail root r.opened)); taken = once.taken; few = few }
+
+      stops : (why : Fault) → r.ran.end ≡ status.Stopped (report.Fault why) → RunStopsWithin call part from last r.limits r.ran.spent r.ran.files r.ran.found (report.Fault why) → IsOpened r.ran.cursor.state (slice.Stopped why) (content_trail root r.opened)
+      stops why e h = record {
+        took = hashed_among root (whole (report.Fault why) e h);
+        begun = hashed_among root h.stops.begun;
+        are = stopped_split (report.Fault why) e h;
+        taken = record { each = stopped_taken (report.Fault why) e h };
+        few = one_begun (report.Fault why) e h;
+      }
+
+      by : (end : RunStatus) → r.ran.end ≡ end → IsOpened r.ran.cursor.state (slice_end end) (content_trail root r.opened)
+      by status.Ended e = all status.Ended (run_once (inl e)) refl
+      by status.Spent e = all status.Spent (run_once (inr e)) refl
+      by (status.Stopped report.Output) e = absurd (whole_lines e)
+      by (status.Stopped (report.Fault why)) e = stops why e (subst (RunEndsWithin call part from last r.limits r.ran.spent r.ran.files r.ran.found) e w.runs.run)
+      by status.Worn e = absurd (subst (RunEndsWithin call part from last r.limits r.ran.spent r.ran.files r.ran.found) e w.runs.run)

@@ -18,3 +18,5 @@ pub mod Older
 pub mod Refusing
 pub mod Stopping
 pub mod Reading
+pub mod Halting
+pub mod Again

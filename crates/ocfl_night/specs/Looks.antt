@@ -1,6 +1,6 @@
 -- What calls looked at: which storage root, and which content files they could not read.
-use Rattle.std.specs.Prelude.{◌≡◌, ℕ, ◌+◌, ◌≤◌, List, ◌++◌, Option, Some, None, drop, length, ⊤}
-use Rattle.ocfl_tree.specs.{Place.{Place}, Ascending.{IsAmong}, StorageRoot.{StorageRoot}}
+use Rattle.std.specs.Prelude.{◌≡◌, ◌&&◌, ℕ, ◌+◌, ◌≤◌, List, ◌++◌, Option, Some, None, drop, filter, length, ⊤}
+use Rattle.ocfl_tree.specs.{Place.{Place, place_eq}, Ascending.{IsAmong}, StorageRoot.{StorageRoot}}
 use Rattle.ocfl_tree.specs.{Store.{Store, failed_openings}, declared.store.Opening.{Opening}}
 use Rattle.ocfl_audit.specs.{Audit.{Unread}, Parts.{Part}, Trail.{unread_of}}
 
@@ -10,10 +10,20 @@ use Rattle.ocfl_audit.specs.{Audit.{Unread}, Parts.{Part}, Trail.{unread_of}}
 abbrev pub opened_since : Store → Store → List Opening
 opened_since s t = drop (length s.openings) t.openings
 
--- those are all that it did not count before, and each of them that failed is counted as a failure
+-- how many of these openings and of these listings that failed are of a place
+abbrev pub failed_in : Place → List Opening → List Place → ℕ
+failed_in p openings listings = length (filter (λ o. o.failed && place_eq o.place p) openings) + length (filter (λ q. place_eq q p) listings)
+
+-- how often a store has failed at a place
+abbrev pub failed_at : Place → Store → ℕ
+failed_at p s = failed_in p s.openings s.failed_listings
+
+-- those are all that it did not count before, and each of them that failed is counted as a failure;
+-- what it has counted of a place stays counted
 pub record Counts (s t : Store) : Type 0 where
   pub openings : t.openings ≡ s.openings ++ opened_since s t
   pub failures : s.failures + failed_openings (opened_since s t) ≤ t.failures
+  pub failed : (p : Place) → failed_at p s ≤ failed_at p t
 
 -- ---- looks
 

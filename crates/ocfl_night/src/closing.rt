@@ -3,6 +3,7 @@ ghost use Rattle.std.specs.Prelude.{◌≡◌, ◌≢◌, ◌⊎◌, false, IfOk
 ghost use Rattle.ocfl_state.specs.{Content.{is_closed}, Crash.{Only, Passes}};
 ghost use Rattle.ocfl_state.specs.Pieces.{summary_of};
 ghost use Rattle.ocfl_state.specs.declared.checkpoint_parts.Phase.TheVariants.{Closing};
+ghost use Rattle.ocfl_night.specs.Again.{OnlyGoesOn};
 ghost use Rattle.ocfl_night.specs.{Beginning.{StandsAt, goes_on_at}, Ending.{cycle_ended}};
 ghost use Rattle.ocfl_night.specs.{Promises.{IfReady, IsSafe, SameClosed}, Sound.{IsAllSaid, IsAt, IsOneMore, IsReady}};
 ghost use Rattle.ocfl_night.specs.Steps.{IsClosedExactly, IsFinished, IsMoveDone, MayMoveAt, closes_whole};
@@ -79,6 +80,8 @@ fn close<S: StateFolder>(
         (S.seen folder.old) (S.seen folder.new))) }
     ensures finished { IsTrue S.told → OnOk result
         (IsFinished checkpoint (S.seen folder.old) (S.seen folder.new)) }
+    ensures crash { IsTrue S.told → OnlyGoesOn S.seen S.may_leave S.moment S.left_since checkpoint
+        folder.old folder.new }
     ensures all { IfOk result (λ next. next.told ≡ next.report.bytes) }
     ensures stop { StopsFor (IsTrue S.told) (ForClose checkpoint)
         (S.faults folder.old) (S.faults folder.new) result }
@@ -115,6 +118,8 @@ pub fn finish<S: StateFolder>(
     // the checkpoint says. The next cycle begins as one of which nothing is lost or left out.
     ensures finished { IsTrue S.told → checkpoint.phase ≡ Closing → OnOk result
         (IsFinished checkpoint (S.seen folder.old) (S.seen folder.new)) }
+    ensures crash { IsTrue S.told → OnlyGoesOn S.seen S.may_leave S.moment S.left_since checkpoint
+        folder.old folder.new }
     ensures ended { IfOk result (λ ended. ended
         ≡ cycle_ended checkpoint.phase checkpoint.cursor.cycle) }
     ensures stop { StopsFor (IsTrue S.told) (ForClose checkpoint)

@@ -7,15 +7,18 @@ ghost use Rattle.ocfl_report.specs.{Line.{Item}, Text.{text}};
 ghost use Rattle.ocfl_audit.specs.{Audit.{after, audit}, Parts.{Part, within}, Trail.{unread_of}};
 ghost use Rattle.ocfl_cursor.specs.Cursor.{Cursor};
 ghost use Rattle.ocfl_scrub.specs.{Joining.{unread_together}, Running.{place_in}};
-ghost use Rattle.ocfl_state.specs.{Content.{Closed, Content, empty}, declared.checkpoint_parts.Left.{Left}};
+ghost use Rattle.ocfl_state.specs.{Checkpoint.{Checkpoint}, Content.{Closed, Content, empty}};
+ghost use Rattle.ocfl_state.specs.declared.checkpoint_parts.{Left.{Left}, Phase.TheVariants.{Open}};
 ghost use Rattle.ocfl_night.specs.Chain.{AreNext, IsInBranch, IsWholeReport, LedToEnd, RootRun, around, joined};
 ghost use Rattle.ocfl_night.specs.Runs.{AreMade, EndsBy, IsBegunNight, IsNight};
 ghost use Rattle.ocfl_night.specs.{Beginning.{position}, Clock.{BeginsInTime, Event}, Done.{nothing_done}};
 ghost use Rattle.ocfl_night.specs.declared.plan.{NightEnd.{NightEnd as ModelEnd}, Plan.{Plan as ModelPlan}};
 ghost use Rattle.ocfl_night.specs.{Looks.{Counts, Rounds, look_between, of_any}};
-ghost use Rattle.ocfl_night.specs.Reading.{AreOfOneCycle, EndsInOrder, Reading, content_since};
+ghost use Rattle.ocfl_night.specs.Again.{IsLeg, IsLittleAgain, Leg, took_by};
+ghost use Rattle.ocfl_night.specs.Ending.{cycle_of};
+ghost use Rattle.ocfl_night.specs.Reading.{AreOfOneCycle, EndsInOrder, Reading, ReadsBeyond, content_since};
 ghost use Rattle.ocfl_night.specs.declared.plan.Halt.TheVariants as halt;
-ghost use Rattle.ocfl_night.specs.{Site.{part_at}, Sound.{IsSound}};
+ghost use Rattle.ocfl_night.specs.{Site.{part_at}, Sound.{IsAt, IsSound}};
 ghost use Rattle.ocfl_night.specs.Nights.{AllTaken, AreNights, AreOver, AreWhole, AtAnyMoment, EachOther, EachWhole, HaveReadAll, IsAround, IsAuditBut, Night, rounds_of};
 
 use crate::nights::night;
@@ -126,6 +129,25 @@ pub fn where_nothing_failed_all_was_read()
 pub fn nothing_is_read_twice()
     ensures { (readings : List Reading) → AreOfOneCycle readings
         → IsAscending place_cmp (flat_map (λ r. r.opened) readings) }
+{}
+
+/// A crash comes in one of a night's runs, or in what is done after it, and the next night is in the
+/// same cycle. Of what the runs before it had taken, that night opens nothing. So what it opens
+/// again is what this one run had opened, and those that stopped had begun with.
+pub fn what_is_opened_again_is_one_runs<S: StateFolder>()
+    ensures in_it { (root : StorageRoot) (cycle : ℕ) (taken : List Place) (leg : Leg S)
+        → IsLeg root S.seen S.moment S.left_since cycle taken leg
+        → (c : Content) → S.left_since leg.new (S.moment leg.old) c
+        → (k : Checkpoint) → IsAt k c → k.phase ≡ Open → cycle_of k ≡ cycle
+        → (opened : List Place) → ReadsBeyond c opened
+        → (p : Place) → IsAmong taken p → IsAmong opened p → ⊥ }
+    ensures in_the_last { (root : StorageRoot) (cycle : ℕ) (old new : List Event) (s t : Store)
+        (folder : S)
+        (night : IsLittleAgain root S.seen S.moment S.left_since cycle old new s t folder)
+        → (c : Content) → S.left_since folder (S.moment night.left) c
+        → (k : Checkpoint) → IsAt k c → k.phase ≡ Open → cycle_of k ≡ cycle
+        → (opened : List Place) → ReadsBeyond c opened
+        → (p : Place) → IsAmong (took_by night.legs) p → IsAmong opened p → ⊥ }
 {}
 
 /// Two nights, the second of which takes up what the first one left. If both stores are of one root

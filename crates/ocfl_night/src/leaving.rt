@@ -5,6 +5,7 @@ ghost use Rattle.ocfl_audit.specs.Trail.{is_root_meta};
 ghost use Rattle.ocfl_cursor.specs.State.{state_of};
 ghost use Rattle.ocfl_scrub.specs.{Running.{place_in}, Starting.{part_of}};
 ghost use Rattle.ocfl_state.specs.declared.checkpoint_parts.Phase.TheVariants.{Open};
+ghost use Rattle.ocfl_night.specs.Again.{OnlyGoesOn};
 ghost use Rattle.ocfl_night.specs.Chain.{from_after, part_after};
 ghost use Rattle.ocfl_night.specs.Leaving.{branch_at, end_of, is_of_inventory, last_name, speaks_for_object};
 ghost use Rattle.ocfl_night.specs.Promises.{IfReadyIn, IsBranchNext, IsSafeIn, SameClosed};
@@ -180,6 +181,8 @@ pub fn leave_out<S: StateFolder>(
         → IfReadyIn S.seen S.may_leave rounds checkpoint folder.old
         (λ t. IfOk result (λ next. IsReady S.seen S.may_leave rounds t next folder.new)) }
     ensures closed { IsTrue S.told → OnOk result (SameClosed S.seen folder.old folder.new) }
+    ensures crash { IsTrue S.told → OnlyGoesOn S.seen S.may_leave S.moment S.left_since checkpoint
+        folder.old folder.new }
     ensures at { IsTrue S.told → IfOk result (λ next. IsAt next (S.seen folder.new)) }
     ensures stop { StopsFor (IsTrue S.told) (ForPut checkpoint)
         (S.faults folder.old) (S.faults folder.new) result }

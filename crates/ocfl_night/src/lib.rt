@@ -49,6 +49,13 @@
 //!   gives, unless it is troubled, and it answers how many runs it began and what it left out.
 //!   Unless it is troubled, the folder's checkpoint then stands where the last run led, or at the
 //!   beginning of the next cycle if that one has ended, and there the next night begins.
+//! - Whenever a crash comes in one of its runs, or in what is done after it, the checkpoint that is
+//!   left has taken what the runs before had taken. So what the next night opens again is what one
+//!   run had opened, and of each run that stopped one file at most. Else a night opens each content
+//!   file once, however it ends.
+//! - It says that it stopped at a place only if the store failed there, in its last run or in the look
+//!   at the root after it, and if nothing could be done about that: twice, unless it is to stop at
+//!   faults, 64 runs had stopped before, or the root could not be looked at.
 //! - A night that is troubled says why. It says that the folder failed or is full only if the folder
 //!   counted a failure in it, or if what is there as a checkpoint is too long; that the output
 //!   failed only if that counted a failure; and never that the folder holds a closed report already
@@ -79,6 +86,7 @@ mod site;
 mod slicing;
 mod status;
 mod stop;
+mod stop_laws;
 mod tally;
 
 pub use checkpoint::{look, put_checkpoint};
@@ -87,7 +95,8 @@ pub use laws::{
     a_whole_report_is_the_audit, each_other_report_is_the_audit_around_what_was_left_out,
     each_whole_report_is_the_audit, nights_are_sound, nothing_is_read_twice,
     runs_begin_before_the_end, the_next_night_goes_on, two_nights,
-    what_is_left_out_is_missing_alone, what_was_told_was_taken, where_nothing_failed_all_was_read,
+    what_is_left_out_is_missing_alone, what_is_opened_again_is_one_runs, what_was_told_was_taken,
+    where_nothing_failed_all_was_read,
 };
 pub use leaving::leave_out;
 pub use nights::night;
@@ -103,3 +112,4 @@ pub use site::Site;
 pub use slicing::{Made, SliceEnd, slice};
 pub use status::{status_found, status_of};
 pub use stop::Stop;
+pub use stop_laws::{a_night_stops_where_nothing_helps, a_night_stops_where_the_store_failed};

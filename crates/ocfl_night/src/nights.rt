@@ -15,6 +15,8 @@ ghost use Rattle.ocfl_night.specs.{Site.{part_at}, Steps.{IsNotBegun, IsUntouche
 ghost use Rattle.ocfl_night.specs.Reading.{AreBeyond, AreDeclarations, EndsInOrder, HaveRead, IsRead, IsReadTo, ReadsBeyond, content_since, reached};
 ghost use Rattle.ocfl_night.specs.Sound.{IsAllSaid, IsAt, IsHeard, IsHeardSince, IsKept, IsOneMore, IsReady, IsReadySince, IsSound};
 ghost use Rattle.ocfl_night.specs.{Beginning.{BeginsAt, StandsAt}, Clock.{is_before}, Done.{done_of}};
+ghost use Rattle.ocfl_night.specs.Again.{IsLittleAgain, IsLittleSince, OnlyGoesOn};
+ghost use Rattle.ocfl_night.specs.Halting.{AreFailed};
 ghost use Rattle.ocfl_night.specs.Runs.{AreMade, EndsBy, IsAllowed, IsEndedBy, IsNight, MayHaveLeft, StopsOpen, after_made, turn_of};
 ghost use Rattle.ocfl_night.specs.Ending.{cycle_ended, cycle_of, ended_by, halt_after, halt_of, place_or_pause, unbegun_by};
 ghost use Rattle.ocfl_night.specs.{Pace.{budget_at, files_at}, Nights.{IsSafeNight}};
@@ -163,6 +165,8 @@ fn pass_by<S: StateFolder>(
         (λ t. IfOk result (λ next. IsReady S.seen S.may_leave rounds t next.0 folder.new)) }
     ensures closed { IsTrue S.told → OnOk result (SameClosed S.seen folder.old folder.new) }
     ensures runs { tally.new.runs ≡ tally.old.runs }
+    ensures crash { IsTrue S.told → OnlyGoesOn S.seen S.may_leave S.moment S.left_since checkpoint
+        folder.old folder.new }
 
     // What is done is what the place, the branches left out before and the plan call for.
     ensures done { checkpoint.phase ≡ Open → IfOk result (λ next. next
@@ -209,6 +213,8 @@ fn go_on_after<S: StateFolder>(
         (λ t. IfOk result (λ next. IsReady S.seen S.may_leave rounds t next.0 folder.new)) }
     ensures closed { IsTrue S.told → OnOk result (SameClosed S.seen folder.old folder.new) }
     ensures runs { tally.new.runs ≡ tally.old.runs }
+    ensures crash { IsTrue S.told → OnlyGoesOn S.seen S.may_leave S.moment S.left_since
+        made.checkpoint folder.old folder.new }
     ensures walk { (part : ModelPart) (root : StorageRoot)
         → IsWalkAt root part made.checkpoint kept.old
         → IfOk result (λ next. IsWalkAt root part next.0 kept.new) }
@@ -272,10 +278,19 @@ fn runs<S: StateFolder, T: Tree, C: Clock>(
         (reached start) (reached next.0)
         (halt_after (cycle_ended next.0.phase next.0.cursor.cycle) next.1)
         (content_since root (T.state tree.old) (T.state tree.new)))) }
+    ensures again { IsTrue C.told → IsTrue S.told → AreDeclarations identity.now
+        → OverShort T.told (T.state tree.old) (λ root.
+        IfReadyIn S.seen S.may_leave (of_any (part_of part.now)) start folder.old (λ _.
+        IsLittleAgain root S.seen S.moment S.left_since (cycle_of start)
+        (C.events clock.old) (C.events clock.new)
+        (T.state tree.old) (T.state tree.new) folder.new)) }
     ensures closed { IsTrue S.told → OnOk result (SameClosed S.seen folder.old folder.new) }
     ensures told { IsTrue C.told → AreMade plan.now (C.events clock.old) (C.events clock.new)
         (done_of tally.old) start
         (λ d k last. IsEndedBy plan.now d k last (done_of tally.new) result) }
+    ensures failed { IsTrue C.told → OverShort T.told (T.state tree.old) (λ root.
+        AreFailed (C.events clock.old) (C.events clock.new)
+        (T.state tree.old) (T.state tree.new)) }
     ensures leads { IfOk result (λ next. LeadsOn start tally.old.left.items
         next.0 tally.new.left.items) }
     ensures cycle { IfOk result (λ next. cycle_of next.0 ≡ cycle_of start) }
@@ -390,6 +405,12 @@ fn make_runs<S: StateFolder, T: Tree, C: Clock, O: Output>(
         (λ _. IfOk result (λ end. EndsInOrder end
         → IsReadTo (T.state tree.old) (T.state tree.new) (reached checkpoint) end
         (S.seen folder.new) (content_since root (T.state tree.old) (T.state tree.new))))) }
+    ensures again { IsTrue C.told → IsTrue S.told → AreDeclarations identity.now
+        → OverShort T.told (T.state tree.old) (λ root.
+        IfReadyIn S.seen S.may_leave (of_any (part_of part.now)) checkpoint folder.old (λ _.
+        IsLittleAgain root S.seen S.moment S.left_since (cycle_of checkpoint)
+        (C.events clock.old) (C.events clock.new)
+        (T.state tree.old) (T.state tree.new) folder.new)) }
     ensures grew { Grows (O.said out.old) (O.said out.new) }
     ensures ended { IsTrue S.told → OverShort T.told (T.state tree.old) (λ root.
         WithLook (part_of part.now)
@@ -403,6 +424,9 @@ fn make_runs<S: StateFolder, T: Tree, C: Clock, O: Output>(
         (done_of tally.old) checkpoint
         (EndsBy (λ p. IsTrue S.told → IsAt checkpoint (S.seen folder.old)
         → StandsAt (S.seen folder.new) p) plan.now (ended_by result) (done_of tally.new)) }
+    ensures failed { IsTrue C.told → OverShort T.told (T.state tree.old) (λ root.
+        AreFailed (C.events clock.old) (C.events clock.new)
+        (T.state tree.old) (T.state tree.new)) }
     ensures left { StillMayLeave plan.now.stop_at_faults tally.old tally.new }
     ensures said { IsTrue S.told → OnShort T.told (T.state tree.old)
         (IfReadyIn S.seen S.may_leave (of_any (part_of part.now)) checkpoint folder.old
@@ -548,6 +572,16 @@ pub fn night<S: StateFolder, T: Tree, C: Clock, O: Output>(
         → IsRead (T.state tree.old) (T.state tree.new) result.end
         (S.seen folder.old) (S.seen folder.new) (content_since root (T.state tree.old) (T.state tree.new))) }
 
+    // However it ends, it opens each content file at most once, but for one of each run that stopped.
+    // Whenever a crash comes, the checkpoint that is left has taken what the runs before had taken:
+    // what is opened again after it is what one run had opened, and those that stopped had begun with.
+    ensures again { IsTrue C.told → IsTrue S.told → OverShort T.told (T.state tree.old) (λ root.
+        IsKept S.may_leave (of_any (part_at site.now.ends)) folder.old
+        → (content_since root (T.state tree.old) (T.state tree.new) ≡ [])
+        ⊎ IsLittleSince plan.now.create root S.seen S.moment S.left_since (S.seen folder.old)
+        (C.events clock.old) (C.events clock.new)
+        (T.state tree.old) (T.state tree.new) folder.new) }
+
     // Unless it is refused or something is troubled, all of the report is said, also what earlier
     // nights left.
     ensures said { IsTrue S.told → OnShort T.told (T.state tree.old)
@@ -625,6 +659,11 @@ pub fn night<S: StateFolder, T: Tree, C: Clock, O: Output>(
     // checkpoint stands then, or at the beginning of the next cycle if that one has ended.
     ensures told { IsTrue C.told → IsNight plan.now S.told (S.seen folder.old)
         (S.seen folder.new) (C.events clock.old) (C.events clock.new) result }
+
+    // At each place the store failed at least as often as runs stopped there.
+    ensures failed { IsTrue C.told → OverShort T.told (T.state tree.old) (λ root.
+        AreFailed (C.events clock.old) (C.events clock.new)
+        (T.state tree.old) (T.state tree.new)) }
 {
     let mut tally = Tally::none(alloc);
     let mut lost = false;

@@ -2,6 +2,7 @@
 ghost use Rattle.std.specs.Prelude.{◌≡◌, ◌+◌, ◌-◌, ◌≤◌, IfOk, IsTrue, OnOk, take, drop};
 ghost use Rattle.std.specs.Io.KnownBytes.{Appends};
 ghost use Rattle.ocfl_state.specs.Crash.{LeavesOnly, Passes, Same};
+ghost use Rattle.ocfl_night.specs.Again.{OnlyGoesOn};
 ghost use Rattle.ocfl_night.specs.{Output.{Grows, HasCommitted}, Promises.{IfReady, SameClosed}, Sound.{IsAt, IsHeard, IsHeardReady}};
 ghost use Rattle.ocfl_night.specs.Steps.{unsaid, with_all_told};
 ghost use Rattle.ocfl_night.specs.Stopping.{ForSay, ForSpeak, StopsFor};
@@ -107,6 +108,8 @@ pub fn speak<S: StateFolder, O: Output>(
         (λ rounds t. IfOk result (λ next. IsHeardReady S.seen S.may_leave rounds t
         (O.said out.old) (O.said out.new) next folder.new)) }
     ensures all { IfOk result (λ next. next ≡ with_all_told checkpoint) }
+    ensures crash { IsTrue S.told → OnlyGoesOn S.seen S.may_leave S.moment S.left_since checkpoint
+        folder.old folder.new }
     ensures grew { Grows (O.said out.old) (O.said out.new) }
     ensures closed { IsTrue S.told → OnOk result (SameClosed S.seen folder.old folder.new) }
     ensures at { IsTrue S.told → IsAt checkpoint (S.seen folder.old)

@@ -1,6 +1,6 @@
 //! A slice: one run, whose lines are appended, come to the disk, and then count.
 ghost use Rattle.std.specs.Prelude.{◌≡◌, ◌≢◌, ◌⊎◌, ◌++◌, IfErr, IfNone, IfOk, IsTrue, OnOk, length, true};
-ghost use Rattle.ocfl_tree.specs.{Place.{Text}, StorageRoot.{StorageRoot}, Store.{IfTold}};
+ghost use Rattle.ocfl_tree.specs.{Ascending.{IsAscending}, Place.{Text, place_cmp}, StorageRoot.{StorageRoot}, Store.{IfTold}};
 ghost use Rattle.ocfl_item.specs.Judging.{HasShortFiles};
 ghost use Rattle.ocfl_scrub.specs.{Keeping.{IsReady as IsWalkReady}, Running.{IsWorn, begun, place_in}};
 ghost use Rattle.ocfl_scrub.specs.Starting.{part_of};
@@ -12,8 +12,10 @@ ghost use Rattle.ocfl_state.specs.declared.checkpoint_parts.ReportMark.{ReportMa
 ghost use Rattle.ocfl_state.specs.declared.checkpoint_parts.Phase.TheVariants.{Closing, Open};
 ghost use Rattle.ocfl_night.specs.Chain.{part_after};
 ghost use Rattle.ocfl_night.specs.Looks.{Counts, IsOneOf, Look, Rounds, WithLook, look_between};
-ghost use Rattle.ocfl_night.specs.Ending.{IsAway, IsMadeBy, IsSlice, IsUnkept, KeepsTo, lost_by, place_or_pause, slice_end};
-ghost use Rattle.ocfl_night.specs.Promises.{IfReadyIn, IfWalkAt, IsSafeIn, SameClosed, StopsNextOver};
+ghost use Rattle.ocfl_night.specs.Halting.{FailedMore, stopped_at, unread_at};
+ghost use Rattle.ocfl_night.specs.Again.{IsOpened, OnlyGoesOn};
+ghost use Rattle.ocfl_night.specs.Ending.{IsAway, IsMadeBy, IsNextBy, IsSlice, IsUnkept, KeepsTo, lost_by, place_or_pause, slice_end};
+ghost use Rattle.ocfl_night.specs.Promises.{IfReady, IfReadyIn, IfThere, IfWalkAt, IsSafeIn, SameClosed, StopsNextOver};
 ghost use Rattle.ocfl_night.specs.Reading.{AreBeyond, AreDeclarations, HasRead, content_since, reached};
 ghost use Rattle.ocfl_night.specs.{Site.{IsStill}, Sound.{IsAt, IsReady, IsSoundAt}};
 ghost use Rattle.ocfl_night.specs.Steps.{IsNext, IsRun, IsWalkAt};
@@ -74,6 +76,21 @@ fn make_run<T: Tree>(
         → IfOk result (λ r. HasRead (T.state tree.old) (T.state tree.new)
         (begun cursor).state r.0.cursor.state (place_or_pause (slice_end r.0.end))
         (content_since root (T.state tree.old) (T.state tree.new)))) }
+    ensures took { AreDeclarations identity.now → IfTold T.told (T.state tree.old) (λ root.
+        HasShortFiles root → IsWalkReady root (part_of part.now) (place_in cursor.state) kept.old
+        → IfOk result (λ r. IsOpened r.0.cursor.state (slice_end r.0.end)
+        (content_since root (T.state tree.old) (T.state tree.new)))) }
+    ensures once { AreDeclarations identity.now → IfTold T.told (T.state tree.old) (λ root.
+        HasShortFiles root → IsWalkReady root (part_of part.now) (place_in cursor.state) kept.old
+        → IsAscending place_cmp (content_since root (T.state tree.old) (T.state tree.new))) }
+    ensures failed { IfTold T.told (T.state tree.old) (λ root. HasShortFiles root
+        → IsWalkReady root (part_of part.now) (place_in cursor.state) kept.old
+        → IfOk result (λ r. FailedMore (T.state tree.old) (T.state tree.new)
+        (stopped_at (slice_end r.0.end)))) }
+    ensures unread { IfTold T.told (T.state tree.old) (λ root. HasShortFiles root
+        → IsWalkReady root (part_of part.now) (place_in cursor.state) kept.old
+        → IfErr result (λ why. FailedMore (T.state tree.old) (T.state tree.new)
+        (unread_at why))) }
     ensures walk { IfTold T.told (T.state tree.old) (λ root. HasShortFiles root
         → IsWalkReady root (part_of part.now) (place_in cursor.state) kept.old
         → IfOk result (λ r. IsWalkReady root (part_of part.now) (place_in r.0.cursor.state)
@@ -199,6 +216,7 @@ fn after_run(mut checkpoint: Checkpoint, ran: RunEnd, report: ReportMark) -> Mad
 /// A slice of whose run nothing is kept, and why: `Err` if something is troubled.
 fn unkept(checkpoint: Checkpoint, why: NotKept) -> Result<Made, Stop>
     ensures unkept { IfOk result (IsUnkept checkpoint) }
+    ensures at { IfOk result (λ made. stopped_at made.end ≡ unread_at why) }
     ensures stop { IfErr result (λ stop. why ≡ Troubled stop) }
 {
     match why {
@@ -210,7 +228,8 @@ fn unkept(checkpoint: Checkpoint, why: NotKept) -> Result<Made, Stop>
 
 /// A slice of which nothing is kept, and that ended so.
 fn unmade(checkpoint: Checkpoint, end: SliceEnd) -> Made
-    ensures { IsAway end → IsUnkept checkpoint result }
+    ensures unkept { IsAway end → IsUnkept checkpoint result }
+    ensures end { result.end ≡ end }
 {
     Made {
         checkpoint,
@@ -245,6 +264,9 @@ fn keep<S: StateFolder>(
     ensures next { IfOk result (λ made. (report : ModelMark)
         × IsNext checkpoint ran report made.checkpoint) }
     ensures made { IfOk result (IsMadeBy ran) }
+    ensures crash { IsTrue S.told → IfReady S.seen S.may_leave checkpoint folder.old (λ _ _.
+        LeavesOnly S.moment S.left_since folder.old folder.new (λ c. IfThere c (λ k.
+        (k ≡ checkpoint) ⊎ IsNextBy checkpoint ran k))) }
     ensures at { IsTrue S.told → IfOk result (λ made. IsAt made.checkpoint (S.seen folder.new)) }
     ensures stop { StopsFor (IsTrue S.told) (ForKeep checkpoint (S.seen folder.old))
         (S.faults folder.old) (S.faults folder.new) result }
@@ -300,6 +322,20 @@ pub fn slice<S: StateFolder, T: Tree>(
         (T.state tree.old) (T.state tree.new) (reached checkpoint) (reached made.checkpoint)
         (place_or_pause made.end) (content_since root (T.state tree.old) (T.state tree.new)))) }
 
+    // It opens each content file once, in order, however it ends. Of those it has taken all when it
+    // ends, or all but one if it stopped. Whenever a crash comes, what had been taken still is.
+    ensures once { AreDeclarations identity.now → IfWalkAt T.told (T.state tree.old)
+        (part_of part.now) checkpoint kept.old (λ root.
+        IsAscending place_cmp (content_since root (T.state tree.old) (T.state tree.new))) }
+    ensures took { AreDeclarations identity.now → IfWalkAt T.told (T.state tree.old)
+        (part_of part.now) checkpoint kept.old (λ root. IfOk result (λ made.
+        IsOpened (reached made.checkpoint) made.end
+        (content_since root (T.state tree.old) (T.state tree.new)))) }
+    ensures crash { IsTrue S.told → AreDeclarations identity.now → IfWalkAt T.told
+        (T.state tree.old) (part_of part.now) checkpoint kept.old (λ root.
+        OnlyGoesOn S.seen S.may_leave S.moment S.left_since checkpoint
+        folder.old folder.new) }
+
     // The next slice may go on with the walk that is kept.
     ensures walk { IfWalkAt T.told (T.state tree.old) (part_of part.now) checkpoint kept.old
         (λ root. IfOk result (λ made. IsWalkAt root (part_of part.now) made.checkpoint kept.new)) }
@@ -307,6 +343,11 @@ pub fn slice<S: StateFolder, T: Tree>(
     // If it stopped at a place, no item that is left is before the branch of that place.
     ensures stops { IfWalkAt T.told (T.state tree.old) (part_of part.now) checkpoint kept.old
         (λ root. IfOk result (StopsNextOver root (part_of part.now))) }
+
+    // And the store failed there. So it did if the root could not be looked at after the run.
+    ensures failed { IfWalkAt T.told (T.state tree.old) (part_of part.now) checkpoint kept.old
+        (λ root. IfOk result (λ made. FailedMore (T.state tree.old) (T.state tree.new)
+        (stopped_at made.end))) }
 
     // What it counts is what a run within the limits did, or nothing is kept of it.
     ensures slice { IfOk result (IsSlice checkpoint limits) }

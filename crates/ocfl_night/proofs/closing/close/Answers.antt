@@ -1,9 +1,11 @@
-use Rattle.std.proofs.Common.{◌∙◌, ap, length, subst, sym}
-use Rattle.ocfl_state.specs.Checkpoint.{Checkpoint}
+use Rattle.std.proofs.Common.{⊎_elim, ◌∙◌, ap, length, subst, sym}
+use Rattle.ocfl_state.specs.{Checkpoint.{Checkpoint}, Content.{Content}}
 use Rattle.ocfl_night.specs.Steps.{IsCheckpointPut}
-use Rattle.ocfl_night.proofs.Moments.{leaves}
+use Rattle.ocfl_night.proofs.Moments.{leaves, unmoved}
 use Rattle.ocfl_night.proofs.Sound.{mark_after, next_stands, one_more, put_ready, ready_sound}
 use Rattle.ocfl_night.proofs.Compared.{is_moved, move_sound, ready_to_close}
+use Rattle.ocfl_night.specs.Again.{GoesOn}
+use Rattle.ocfl_night.proofs.Again.{both_there, goes_anew, goes_self, keeps_there, ready_there}
 use Rattle.ocfl_night.proofs.closing.close.Goals as goal
 
 pub returns-in_err-move_as-clause-any_moment : goal.returns-in_err-move_as-clause-any_moment
@@ -42,3 +44,21 @@ returns-clause-finished g c = λ told.
       closed = c.in_ok-move_as.ensures.closed told;
       next = subst (λ (k : Checkpoint). IsCheckpointPut k (s c.move_as.new.folder) (s c.put_checkpoint.new.folder)) c.begun_anew-next.ensures (c.in_ok-put_checkpoint.ensures.put told);
     }
+
+pub returns-then-not-is_all_told-clause-crash : goal.returns-then-not-is_all_told-clause-crash
+returns-then-not-is_all_told-clause-crash g c = λ told rounds t r. unmoved (g.met.S.StateFolder.only_now told) (ready_there (GoesOn c.args.checkpoint) (goes_self c.args.checkpoint) r)
+
+pub returns-in_err-move_as-clause-crash : goal.returns-in_err-move_as-clause-crash
+returns-in_err-move_as-clause-crash g c = λ told rounds t r.
+    let k = c.args.checkpoint in
+    keeps_there (g.met.S.StateFolder.only_now told) (GoesOn k) (ready_there (GoesOn k) (goes_self k) r) (λ d e either. ⊎_elim (λ same. ap (λ (x : Content). x.checkpoint) same) (λ moved. ap (λ (x : Content). x.checkpoint) moved.1) either) (c.move_as.ensures.crash told (ready_to_close c.requires r))
+
+pub returns-in_err-put_checkpoint-clause-crash : goal.returns-in_err-put_checkpoint-clause-crash
+returns-in_err-put_checkpoint-clause-crash g c = λ told rounds t r.
+    let k = c.args.checkpoint in
+    both_there (g.met.S.StateFolder.only_now told) (GoesOn k) (ready_there (GoesOn k) (goes_self k) r) (λ d e either. ⊎_elim (λ same. ap (λ (x : Content). x.checkpoint) same) (λ moved. ap (λ (x : Content). x.checkpoint) moved.1) either) (c.move_as.ensures.crash told (ready_to_close c.requires r)) (goes_anew c.requires r.stands c.begun_anew-next.ensures) (c.put_checkpoint.ensures.crash told)
+
+pub returns-clause-crash : goal.returns-clause-crash
+returns-clause-crash g c = λ told rounds t r.
+    let k = c.args.checkpoint in
+    both_there (g.met.S.StateFolder.only_now told) (GoesOn k) (ready_there (GoesOn k) (goes_self k) r) (λ d e either. ⊎_elim (λ same. ap (λ (x : Content). x.checkpoint) same) (λ moved. ap (λ (x : Content). x.checkpoint) moved.1) either) (c.move_as.ensures.crash told (ready_to_close c.requires r)) (goes_anew c.requires r.stands c.begun_anew-next.ensures) (c.put_checkpoint.ensures.crash told)

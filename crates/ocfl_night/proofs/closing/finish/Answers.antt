@@ -1,6 +1,8 @@
 use Rattle.std.proofs.Common.{◌∙◌, ℕ, subst, sym}
 use Rattle.ocfl_night.specs.Sound.{IsOneMore}
 use Rattle.ocfl_night.proofs.Lasting.{closed_stands, open_stands}
+use Rattle.ocfl_night.specs.Again.{GoesOn}
+use Rattle.ocfl_night.proofs.{Again.{goes_self, ready_there}, Moments.{unmoved}}
 use Rattle.ocfl_night.proofs.closing.finish.Goals as goal
 
 pub returns-in_ok-close-in-Closing-clause-closed :
@@ -29,3 +31,6 @@ returns-in-Open-clause-stands g c = λ told at. open_stands c.args.checkpoint (g
 pub returns-in_ok-close-in-Closing-clause-stands : goal.returns-in_ok-close-in-Closing-clause-stands
 returns-in_ok-close-in-Closing-clause-stands g c = λ told at.
     closed_stands c.args.checkpoint (g.S.StateFolder.seen c.args.folder.now) (g.S.StateFolder.seen c.close.new.folder) (sym c.phase_of.ensures ∙ c.in-Closing.is) (c.in_ok-close-in-Closing.ensures.finished told)
+
+pub returns-in-Open-clause-crash : goal.returns-in-Open-clause-crash
+returns-in-Open-clause-crash g c = λ told rounds t r. unmoved (g.met.S.StateFolder.only_now told) (ready_there (GoesOn c.args.checkpoint) (goes_self c.args.checkpoint) r)

@@ -2,6 +2,8 @@ use Rattle.std.proofs.Common.{ap}
 use Rattle.ocfl_state.specs.{Checkpoint.{Checkpoint}, Content.{Content}}
 use Rattle.ocfl_night.proofs.Moments.{unmoved}
 use Rattle.ocfl_night.proofs.Sound.{left_stands, put_moments, put_on, ready_sound}
+use Rattle.ocfl_night.specs.Again.{GoesOn}
+use Rattle.ocfl_night.proofs.Again.{goes_left, goes_self, puts_there, ready_there}
 use Rattle.ocfl_night.proofs.leaving.leave_out.Goals as goal
 
 pub returns-in_err-next-clause-any_moment : goal.returns-in_err-next-clause-any_moment
@@ -22,3 +24,16 @@ returns-clause-ready g c = λ told rounds none t r.
 
 pub returns-clause-closed : goal.returns-clause-closed
 returns-clause-closed g c = λ told. ap (λ (x : Content). x.closed) (c.in_ok-put_checkpoint.ensures.put told).put
+
+pub returns-in_err-next-clause-crash : goal.returns-in_err-next-clause-crash
+returns-in_err-next-clause-crash g c = λ told rounds t r. unmoved (g.met.S.StateFolder.only_now told) (ready_there (GoesOn c.args.checkpoint) (goes_self c.args.checkpoint) r)
+
+pub returns-in_err-put_checkpoint-clause-crash : goal.returns-in_err-put_checkpoint-clause-crash
+returns-in_err-put_checkpoint-clause-crash g c = λ told rounds t r.
+    let k = c.args.checkpoint in
+    puts_there (g.met.S.StateFolder.only_now told) (GoesOn k) (ready_there (GoesOn k) (goes_self k) r) (goes_left _ k c.in_ok-next.ensures) (c.put_checkpoint.ensures.crash told)
+
+pub returns-clause-crash : goal.returns-clause-crash
+returns-clause-crash g c = λ told rounds t r.
+    let k = c.args.checkpoint in
+    puts_there (g.met.S.StateFolder.only_now told) (GoesOn k) (ready_there (GoesOn k) (goes_self k) r) (goes_left _ k c.in_ok-next.ensures) (c.put_checkpoint.ensures.crash told)

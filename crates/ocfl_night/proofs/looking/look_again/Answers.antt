@@ -1,4 +1,4 @@
-use Rattle.ocfl_night.proofs.Looks.{counts_did, counts_first}
+use Rattle.ocfl_night.proofs.Looks.{counts_did, counts_first, counts_unread, failed_unread}
 use Rattle.ocfl_night.proofs.Reading.{content_did, content_first, content_unread}
 use Rattle.ocfl_night.proofs.looking.look_again.Goals as goal
 
@@ -25,3 +25,9 @@ returns-in-Err-Unread-clause-content g c = λ declares tells root over short. co
 
 pub returns-in-Err-Memory-clause-content : goal.returns-in-Err-Memory-clause-content
 returns-in-Err-Memory-clause-content g c = λ declares tells root over short. content_first root _ _ _ declares (c.in-Err-Memory.ensures.refused tells root over c.in-Err-Memory.field-0-is)
+
+pub returns-in-Err-Unread-clause-unread : goal.returns-in-Err-Unread-clause-unread
+returns-in-Err-Unread-clause-unread g c = λ tells root over short. failed_unread short (c.in-Err-Unread.ensures.unread tells root over _ c.in-Err-Unread.field-0-is)
+
+pub returns-in-Err-Unread-clause-counts : goal.returns-in-Err-Unread-clause-counts
+returns-in-Err-Unread-clause-counts g c = λ tells root over short. counts_unread short (c.in-Err-Unread.ensures.unread tells root over _ c.in-Err-Unread.field-0-is)

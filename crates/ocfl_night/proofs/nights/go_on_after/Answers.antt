@@ -1,6 +1,8 @@
 use Rattle.std.proofs.{Common.{◌∙◌, sym}, lemmas.Result.{on_err_weaker}}
 use Rattle.ocfl_night.specs.Done.{done_of}
 use Rattle.ocfl_night.proofs.{Moments.{unmoved}, Runs.{left_by_place}, Sound.{ready_sound}}
+use Rattle.ocfl_night.specs.Again.{GoesOn}
+use Rattle.ocfl_night.proofs.Again.{goes_self, ready_there}
 use Rattle.ocfl_night.proofs.nights.go_on_after.Goals as goal
 
 pub returns-in-Err-clause-any_moment : goal.returns-in-Err-clause-any_moment
@@ -16,3 +18,6 @@ returns-in-Ok-clause-any_moment g c = λ told rounds next t r. c.pass_by.ensures
 
 pub returns-in-Ok-clause-ready : goal.returns-in-Ok-clause-ready
 returns-in-Ok-clause-ready g c = λ told rounds next t r. c.pass_by.ensures.ready told rounds (next c.in-Ok.place (sym c.place_or_pause.ensures ∙ c.in-Ok.is)) t r
+
+pub returns-in-Err-clause-crash : goal.returns-in-Err-clause-crash
+returns-in-Err-clause-crash g c = λ told rounds t r. unmoved (g.met.S.StateFolder.only_now told) (ready_there (GoesOn c.args.made.checkpoint) (goes_self c.args.made.checkpoint) r)

@@ -14,6 +14,7 @@ use Rattle.ocfl_night.proofs.Beginnings.{one_more_since, refused_still, shut_sin
 use Rattle.ocfl_night.proofs.{Moments.{leaves_weaker}, Runs.{left_so, made_from, made_so}}
 use Rattle.ocfl_night.proofs.Looks.{counts_on, last_of}
 use Rattle.ocfl_night.proofs.Heard.{heard_through, on_ok, ready_since, since_sound, told_since}
+use Rattle.ocfl_night.proofs.{Again.{little_since}, Halting.{counts_failed, failed_first}}
 use Rattle.ocfl_night.proofs.Newest.{newest}
 use Rattle.ocfl_night.proofs.Reasons.{ended_troubled, failed_since, night_reason, opened_reason, stopped_reason, unbegun_reason, unbegun_troubled}
 use Rattle.ocfl_night.specs.{Reading.{IsReadTo, content_since, reached}, declared.plan.Halt.{Halt}}
@@ -115,6 +116,14 @@ returns g c =
       few = subst (λ (v : Vec Place Global). length v.items ≤ 16) (sym c.account-2.ensures.left) left.few;
       none_left = λ strict. subst (λ (v : Vec Place Global). v.items ≡ []) (sym c.account-2.ensures.left) (left.none strict);
       ends = subst (λ (v : Vec Place Global). All (λ b. IsTrue (has_end b)) v.items) (sym c.account-2.ensures.left) left.ends;
+      again = λ told folder_told tells root over short kept.
+          let mine = runs.ensures.again told folder_told (c.in-Ok.ensures.declares tells root over) tells root (c.set_out.ensures.root tells ∙ over) short _ (ready_since same (c.in-Ok.ensures.ready folder_told part kept)) in
+          inr (record {
+            start = c.in-Ok.begun.checkpoint;
+            begins = c.in-Ok.ensures.begins folder_told;
+            little = little_since (set_out_counts g at tells root over short) (c.set_out.ensures.content tells root over short) mine;
+          });
+      failed = λ told tells root over short. failed_first (set_out_counts g at tells root over short) (runs.ensures.failed told tells root (c.set_out.ensures.root tells ∙ over) short);
       told = λ told. inl (record {
         start = c.in-Ok.begun.checkpoint;
         begins = c.in-Ok.ensures.begins;
@@ -166,6 +175,8 @@ returns-in-Err g c =
       few = subst (λ (v : Vec Place Global). length v.items ≤ 16) (sym c.account.ensures.left) left.few;
       none_left = λ strict. subst (λ (v : Vec Place Global). v.items ≡ []) (sym c.account.ensures.left) (left.none strict);
       ends = subst (λ (v : Vec Place Global). All (λ b. IsTrue (has_end b)) v.items) (sym c.account.ensures.left) left.ends;
+      again = λ told folder_told tells root over short kept. inl (c.set_out.ensures.content tells root over short);
+      failed = λ told tells root over short. counts_failed (c.set_out.ensures.counts tells root over short);
       told = λ told. inr (record {
         not_begun = subst IsNotBegun (sym c.account.ensures.end) c.unbegun.ensures.not_begun;
         same = refl;

@@ -1,6 +1,8 @@
 use Rattle.std.proofs.Common.{◌∙◌, ◌++◌, ap, inl, inr, subst, sym}
 use Rattle.ocfl_night.specs.{Done.{Done, done_of}, Leaving.{done_by, left_by}, Promises.{IsBranchNext}, declared.tally.Remedy.{Remedy}}
 use Rattle.ocfl_night.proofs.{Branches.{left_branch}, Heard.{on_err}, Moments.{unmoved}, Sound.{ready_sound}}
+use Rattle.ocfl_night.specs.Again.{GoesOn}
+use Rattle.ocfl_night.proofs.Again.{goes_self, ready_there}
 use Rattle.ocfl_night.proofs.nights.pass_by.Goals as goal
 
 pub returns-then-ne-clause-any_moment : goal.returns-then-ne-clause-any_moment
@@ -42,3 +44,15 @@ pub returns-in_ok-next-in-LeaveOut-clause-ready : goal.returns-in_ok-next-in-Lea
 returns-in_ok-next-in-LeaveOut-clause-ready g c = λ told rounds next t r.
     let here = left_branch c.args.plan.now.stop_at_faults (done_of c.args.tally.now) c.args.place c.in-LeaveOut.branch (sym c.in_ok-remedy.ensures.is ∙ c.in-LeaveOut.is) in
     c.in_ok-next-in-LeaveOut.ensures.ready told rounds (subst (IsBranchNext rounds c.args.checkpoint) here next) t r
+
+pub returns-then-ne-clause-crash : goal.returns-then-ne-clause-crash
+returns-then-ne-clause-crash g c = λ told rounds t r. unmoved (g.met.S.StateFolder.only_now told) (ready_there (GoesOn c.args.checkpoint) (goes_self c.args.checkpoint) r)
+
+pub returns-in_err-remedy-clause-crash : goal.returns-in_err-remedy-clause-crash
+returns-in_err-remedy-clause-crash g c = λ told rounds t r. unmoved (g.met.S.StateFolder.only_now told) (ready_there (GoesOn c.args.checkpoint) (goes_self c.args.checkpoint) r)
+
+pub returns-in-TryAgain-clause-crash : goal.returns-in-TryAgain-clause-crash
+returns-in-TryAgain-clause-crash g c = λ told rounds t r. unmoved (g.met.S.StateFolder.only_now told) (ready_there (GoesOn c.args.checkpoint) (goes_self c.args.checkpoint) r)
+
+pub returns-in-Halt-clause-crash : goal.returns-in-Halt-clause-crash
+returns-in-Halt-clause-crash g c = λ told rounds t r. unmoved (g.met.S.StateFolder.only_now told) (ready_there (GoesOn c.args.checkpoint) (goes_self c.args.checkpoint) r)

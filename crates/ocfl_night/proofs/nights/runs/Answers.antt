@@ -13,11 +13,16 @@ use Rattle.ocfl_night.specs.Stopping.{ForRuns, IsGiven}
 use Rattle.ocfl_night.specs.{Promises.{IsSafeIn, StopsNext}, Sound.{IsReady}}
 use Rattle.ocfl_night.proofs.{Beginnings.{next_in}, KeptWalks.{walk_none}, Runs.{and_then, failed_so, led_by, none_yet, paused, paused_before, run_more}}
 use Rattle.ocfl_night.proofs.Looks.{counts_none, counts_on, first_of, last_of, root_of}
-use Rattle.ocfl_night.proofs.{Moments.{joined_moments, unmoved}, Sound.{ready_mark, ready_sound}}
+use Rattle.ocfl_night.proofs.{Moments.{joined_moments, leaves_weaker, unmoved}, Sound.{ready_mark, ready_sound}}
 use Rattle.ocfl_state.specs.Checkpoint.{Checkpoint}
 use Rattle.ocfl_night.proofs.Whole.{grown_on, none_grown, run_grown}
 use Rattle.ocfl_night.specs.{Ending.{place_or_pause}, Reading.{AreBeyond, AreDeclarations, HasRead, content_since, reached}}
 use Rattle.ocfl_night.proofs.Reading.{beyond_more, goes_read, halts_read, next_reached, read_all, read_last, read_more, read_none}
+use Rattle.ocfl_tree.specs.{Ascending.{IsAscending}, Place.{place_cmp}}
+use Rattle.ocfl_state.specs.Crash.{LeavesOnly}
+use Rattle.ocfl_night.specs.{Again.{GoesOn, IsOpened}, Ending.{cycle_of}, Halting.{AreFailed}, Promises.{IfThere}}
+use Rattle.ocfl_night.proofs.{Again.{goes_more, goes_on_by, little_begun, little_last, little_more, little_none, little_now, same_cursor, unheard_begun, unheard_none, unheard_paused}, Beginnings.{made_in}}
+use Rattle.ocfl_night.proofs.Halting.{begun_failed_so, none_failed, paused_failed_so, run_failed_so}
 use Rattle.ocfl_night.proofs.nights.runs.Given as given
 use Rattle.ocfl_night.proofs.nights.runs.Goals.{After-go_on_after}
 use Rattle.ocfl_night.proofs.Reasons.{counted_on, endless_before, none_counted, put_reason, slice_reason, stops_at, told_within, worn_after, worn_out}
@@ -92,6 +97,33 @@ turned g c going led =
 one_run : (g : given.Over) (c : After-go_on_after g) → c.go_on_after.new.tally.runs ≡ counted c.loop-run.tally.runs 1
 one_run g c = c.go_on_after.ensures.runs ∙ ap (λ (d : Done). d.runs) c.count.ensures.done ∙ ap (λ (d : Done). d.runs) c.begin.ensures.done
 
+-- what a slice opened, and what a crash left meanwhile
+module _ (g : given.Over) (c : After-go_on_after g) (tells : IsTrue g.T.Tree.told) (root : StorageRoot) (over : (g.T.Tree.state c.args.tree.now).tree ≡ root) (short : HasShortFiles root) (declares : AreDeclarations c.args.identity.now) where
+  slice_once : IsAscending place_cmp (content_since root (g.T.Tree.state c.loop-run.tree) (g.T.Tree.state c.slice.new.tree))
+  slice_once = c.slice.ensures.once declares tells root (c.loop-run.invariant.root tells root over short) short (c.loop-run.invariant.walk tells root over short)
+
+  slice_took : IsOpened (reached c.in_ok-made.made.checkpoint) c.in_ok-made.made.end (content_since root (g.T.Tree.state c.loop-run.tree) (g.T.Tree.state c.slice.new.tree))
+  slice_took = c.in_ok-made.ensures.took declares tells root (c.loop-run.invariant.root tells root over short) short (c.loop-run.invariant.walk tells root over short)
+
+  slice_crash : IsTrue g.S.StateFolder.told → (t : Text) → IsReady g.S.StateFolder.seen g.S.StateFolder.may_leave (of_any (part_of c.args.part.now)) t c.args.start c.args.folder.now
+      → LeavesOnly g.S.StateFolder.moment g.S.StateFolder.left_since c.loop-run.folder c.go_on_after.new.folder (λ d. IfThere d (GoesOn c.loop-run.checkpoint))
+  slice_crash told t r =
+      let inv = c.loop-run.invariant in
+      let part = of_any (part_of c.args.part.now) in
+      let going : c.loop-run.checkpoint.phase ≡ Open = search rules in
+      let next : GoesOn c.loop-run.checkpoint c.in_ok-made.made.checkpoint = inr (sym (made_in going c.in_ok-made.ensures.slice), (made_read g c tells root over short declares).stays) in
+      joined_moments
+      (c.slice.ensures.crash told declares tells root (inv.root tells root over short) short (inv.walk tells root over short) part t (inv.ready told tells root over short None tt t r))
+      (leaves_weaker (λ d there l at. goes_more c.loop-run.checkpoint c.in_ok-made.made.checkpoint l next (there l at)) (c.go_on_after.ensures.crash told part t (made_ready g c tells root over short None tt told t r)))
+
+-- the store failed where runs stopped
+
+failed_then : (g : given.Over) (c : After-go_on_after g) (told : IsTrue g.C.Clock.told) (tells : IsTrue g.T.Tree.told) (root : StorageRoot) → (g.T.Tree.state c.args.tree.now).tree ≡ root → HasShortFiles root
+    → AreFailed (g.C.Clock.events c.args.clock.now) (g.C.Clock.events c.hears.new.self) (g.T.Tree.state c.args.tree.now) (g.T.Tree.state c.slice.new.tree)
+failed_then g c told tells root over short =
+    let inv = c.loop-run.invariant in
+    run_failed_so (run g c told) (inv.failed told tells root over short) (heard g c told) (made_counts g c tells root over short) (c.in_ok-made.ensures.failed tells root (inv.root tells root over short) short (inv.walk tells root over short))
+
 pub loop-run-init : goal.loop-run-init
 loop-run-init g c = record {
   any_moment = λ told tells root over short known one t r. unmoved (g.met.S.StateFolder.only_now told) (ready_sound r);
@@ -101,6 +133,8 @@ loop-run-init g c = record {
   closed = λ told. refl;
   cycle = refl;
   told = λ told. none_yet;
+  failed = λ told tells root over short. none_failed;
+  again = λ told tells_folder declares tells root over short t r. little_none root g.S.StateFolder.seen g.S.StateFolder.moment g.S.StateFolder.left_since (cycle_of c.args.start) (g.C.Clock.events c.args.clock.now) (g.T.Tree.state c.args.tree.now) c.args.folder.now c.args.start;
   faults = λ told. omega arith;
   at = λ told at. at;
   counted = none_counted c.args.start c.args.tally.now.runs;
@@ -196,6 +230,15 @@ loop-run-preserved g c =
       leads = grown_on inv.leads (turned g at (search rules) c.in_ok-next.ensures.turn);
       cycle = next_in c.args.plan.now.stop_at_faults (done_of c.count.new.self) (done_of c.go_on_after.new.tally) (c.in_ok-next.next, c.in_ok-next.pause) (search rules) c.in_ok-made.ensures.slice c.in_ok-next.ensures.turn ∙ inv.cycle;
       told = λ told. run_more (run g at told) (inv.told told) (heard g at told) (is_run g at told) (led_by c.args.plan.now (done_of c.loop-run.tally) c.in-Ok.allowed.1 (may g at told).goes_on c.in_ok-made.ensures.slice c.begin.ensures.done c.count.ensures.done c.in_ok-next.ensures.turn ∙ ap (λ (o : Option Pause). turn_of (done_of c.go_on_after.new.tally) (c.in_ok-next.next, o)) c.in_default.is);
+      failed = λ told tells root over short. failed_then g at told tells root over short;
+      again = λ told folder_told declares tells root over short t r.
+          little_more (inv.again told folder_told declares tells root over short t r) inv.cycle (g.T.Tree.state c.slice.new.tree) c.go_on_after.new.folder
+          (slice_beyond g at tells root over short declares) (slice_once g at tells root over short declares) (slice_crash g at tells root over short declares folder_told t r)
+          (run g at told) (heard g at told) (slice_took g at tells root over short declares) (made_read g at tells root over short declares).stays
+          (next_reached c.args.plan.now.stop_at_faults (done_of c.count.new.self) (done_of c.go_on_after.new.tally) (c.in_ok-next.next, c.in_ok-next.pause) (search rules) c.in_ok-made.ensures.slice c.in_ok-next.ensures.turn)
+          (goes_on_by c.args.plan.now.stop_at_faults (done_of c.count.new.self) (done_of c.go_on_after.new.tally) (c.in_ok-next.next, c.in_ok-next.pause) (search rules) c.in_ok-made.ensures.slice c.in_ok-next.ensures.turn c.in_default.is)
+          (c.in_ok-next.ensures.at folder_told (c.in_ok-made.ensures.at folder_told (inv.at folder_told r.at)))
+          (same_cursor c.args.plan.now.stop_at_faults (done_of c.count.new.self) (done_of c.go_on_after.new.tally) (c.in_ok-next.next, c.in_ok-next.pause) (search rules) c.in_ok-made.ensures.slice c.in_ok-next.ensures.turn);
       left = λ may. c.go_on_after.ensures.left (subst (MayLeave c.args.plan.now.stop_at_faults) (sym (ap (λ (x : Done). x.left) c.count.ensures.done ∙ ap (λ (x : Done). x.left) c.begin.ensures.done)) (inv.left may));
       root = λ tells root over short. c.slice.ensures.root tells root (inv.root tells root over short) short (inv.walk tells root over short);
       walk = λ tells root over short. c.in_ok-next.ensures.walk (part_of c.args.part.now) root (c.in_ok-made.ensures.walk tells root (inv.root tells root over short) short (inv.walk tells root over short));
@@ -321,3 +364,60 @@ returns-in-Some-clause-read g c = λ declares tells root over short.
 
 pub returns-then-ne-clause-read : goal.returns-then-ne-clause-read
 returns-then-ne-clause-read g c = λ declares tells root over short. read_all _ (c.loop-run.invariant.read tells root over short declares)
+
+pub returns-in-Err-clause-failed : goal.returns-in-Err-clause-failed
+returns-in-Err-clause-failed g c = λ told tells root over short. paused_failed_so c.args.plan.now (done_of c.loop-run.tally) c.in-Err.pause (c.loop-run.invariant.failed told tells root over short) (c.in-Err.ensures told)
+
+pub returns-clause-failed : goal.returns-clause-failed
+returns-clause-failed g c = λ told tells root over short. c.loop-run.invariant.failed told tells root over short
+
+pub returns-in_err-made-clause-failed : goal.returns-in_err-made-clause-failed
+returns-in_err-made-clause-failed g c = λ told tells root over short.
+    let inv = c.loop-run.invariant in
+    begun_failed_so c.in-Ok.allowed.1 (inv.failed told tells root over short) (c.in-Ok.ensures told).0 (c.slice.ensures.counts tells root (inv.root tells root over short) short (inv.walk tells root over short))
+
+pub returns-in_err-next-clause-failed : goal.returns-in_err-next-clause-failed
+returns-in_err-next-clause-failed g c = λ told tells root over short. failed_then g (goal.at.returns-in_err-next-clause-failed g c).After-go_on_after told tells root over short
+
+pub returns-in-Some-clause-failed : goal.returns-in-Some-clause-failed
+returns-in-Some-clause-failed g c = λ told tells root over short. failed_then g (goal.at.returns-in-Some-clause-failed g c).After-go_on_after told tells root over short
+
+pub returns-then-ne-clause-again : goal.returns-then-ne-clause-again
+returns-then-ne-clause-again g c = λ told folder_told declares tells root over short t r.
+    let inv = c.loop-run.invariant in
+    little_now (inv.again told folder_told declares tells root over short t r) inv.cycle (g.met.S.StateFolder.only_now folder_told) (inv.ready folder_told tells root over short None tt t r) unheard_none
+
+pub returns-in-Err-clause-again : goal.returns-in-Err-clause-again
+returns-in-Err-clause-again g c = λ told folder_told declares tells root over short t r.
+    let inv = c.loop-run.invariant in
+    little_now (inv.again told folder_told declares tells root over short t r) inv.cycle (g.met.S.StateFolder.only_now folder_told) (inv.ready folder_told tells root over short None tt t r)
+    (unheard_paused c.args.plan.now (done_of c.loop-run.tally) c.in-Err.pause (c.in-Err.ensures told))
+
+pub returns-clause-again : goal.returns-clause-again
+returns-clause-again g c = λ told folder_told declares tells root over short t r.
+    let inv = c.loop-run.invariant in
+    little_now (inv.again told folder_told declares tells root over short t r) inv.cycle (g.met.S.StateFolder.only_now folder_told) (inv.ready folder_told tells root over short None tt t r) unheard_none
+
+pub returns-in_err-made-clause-again : goal.returns-in_err-made-clause-again
+returns-in_err-made-clause-again g c = λ told folder_told declares tells root over short t r.
+    let inv = c.loop-run.invariant in
+    let there = inv.root tells root over short in
+    let walk = inv.walk tells root over short in
+    little_begun (inv.again told folder_told declares tells root over short t r) inv.cycle (g.T.Tree.state c.slice.new.tree) c.slice.new.folder
+    (c.slice.ensures.beyond declares tells root there short walk) (c.slice.ensures.once declares tells root there short walk)
+    (c.slice.ensures.crash folder_told declares tells root there short walk (of_any (part_of c.args.part.now)) t (inv.ready folder_told tells root over short None tt t r))
+    (unheard_begun c.in-Ok.allowed.1 (c.in-Ok.ensures told).0)
+
+pub returns-in_err-next-clause-again : goal.returns-in_err-next-clause-again
+returns-in_err-next-clause-again g c = λ told folder_told declares tells root over short t r.
+    let at = (goal.at.returns-in_err-next-clause-again g c).After-go_on_after in
+    let inv = c.loop-run.invariant in
+    little_last (inv.again told folder_told declares tells root over short t r) inv.cycle (g.T.Tree.state c.slice.new.tree) c.go_on_after.new.folder
+    (slice_beyond g at tells root over short declares) (slice_once g at tells root over short declares) (slice_crash g at tells root over short declares folder_told t r) (run g at told) (heard g at told)
+
+pub returns-in-Some-clause-again : goal.returns-in-Some-clause-again
+returns-in-Some-clause-again g c = λ told folder_told declares tells root over short t r.
+    let at = (goal.at.returns-in-Some-clause-again g c).After-go_on_after in
+    let inv = c.loop-run.invariant in
+    little_last (inv.again told folder_told declares tells root over short t r) inv.cycle (g.T.Tree.state c.slice.new.tree) c.go_on_after.new.folder
+    (slice_beyond g at tells root over short declares) (slice_once g at tells root over short declares) (slice_crash g at tells root over short declares folder_told t r) (run g at told) (heard g at told)

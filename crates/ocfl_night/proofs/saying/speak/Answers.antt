@@ -1,7 +1,9 @@
 use Rattle.std.proofs.Common.{◌≡◌, ℕ, ap}
-use Rattle.ocfl_state.specs.Checkpoint.{Checkpoint}
+use Rattle.ocfl_state.specs.{Checkpoint.{Checkpoint}, Content.{Content}}
 use Rattle.ocfl_night.proofs.{Moments.{only_same, unchanged, unmoved}, Sound.{said_by, ready_sound}}
 use Rattle.ocfl_night.proofs.Heard.{grows_none, heard_put, put_heard, same_ready, silent}
+use Rattle.ocfl_night.specs.Again.{GoesOn}
+use Rattle.ocfl_night.proofs.Again.{both_there, goes_self, goes_told, keeps_there, ready_there}
 use Rattle.ocfl_night.proofs.saying.speak.Goals as goal
 
 pub returns-in_err-say_rest-clause-heard : goal.returns-in_err-say_rest-clause-heard
@@ -44,3 +46,24 @@ returns-then-is_all_told-clause-grew g c = grows_none _
 
 pub returns-then-not-tells_within-clause-grew : goal.returns-then-not-tells_within-clause-grew
 returns-then-not-tells_within-clause-grew g c = grows_none _
+
+pub returns-then-is_all_told-clause-crash : goal.returns-then-is_all_told-clause-crash
+returns-then-is_all_told-clause-crash g c = λ told rounds t r. unmoved (g.met.S.StateFolder.only_now told) (ready_there (GoesOn c.args.checkpoint) (goes_self c.args.checkpoint) r)
+
+pub returns-then-not-tells_within-clause-crash : goal.returns-then-not-tells_within-clause-crash
+returns-then-not-tells_within-clause-crash g c = λ told rounds t r. unmoved (g.met.S.StateFolder.only_now told) (ready_there (GoesOn c.args.checkpoint) (goes_self c.args.checkpoint) r)
+
+pub returns-in_err-say_rest-clause-crash : goal.returns-in_err-say_rest-clause-crash
+returns-in_err-say_rest-clause-crash g c = λ told rounds t r.
+    let k = c.args.checkpoint in
+    keeps_there (g.met.S.StateFolder.only_now told) (GoesOn k) (ready_there (GoesOn k) (goes_self k) r) (λ d e same. ap (λ (x : Content). x.checkpoint) same) (c.say_rest.ensures.crash told)
+
+pub returns-in_err-put_checkpoint-clause-crash : goal.returns-in_err-put_checkpoint-clause-crash
+returns-in_err-put_checkpoint-clause-crash g c = λ told rounds t r.
+    let k = c.args.checkpoint in
+    both_there (g.met.S.StateFolder.only_now told) (GoesOn k) (ready_there (GoesOn k) (goes_self k) r) (λ d e same. ap (λ (x : Content). x.checkpoint) same) (c.say_rest.ensures.crash told) (goes_told k c.with_all_told-next.ensures) (c.put_checkpoint.ensures.crash told)
+
+pub returns-clause-crash : goal.returns-clause-crash
+returns-clause-crash g c = λ told rounds t r.
+    let k = c.args.checkpoint in
+    both_there (g.met.S.StateFolder.only_now told) (GoesOn k) (ready_there (GoesOn k) (goes_self k) r) (λ d e same. ap (λ (x : Content). x.checkpoint) same) (c.say_rest.ensures.crash told) (goes_told k c.with_all_told-next.ensures) (c.put_checkpoint.ensures.crash told)

@@ -1,11 +1,13 @@
-use Rattle.std.proofs.Common.{◌∙◌, ap}
+use Rattle.std.proofs.Common.{◌≡◌, ◌⊎◌, ◌∙◌, ap, inl, inr, refl}
 use Rattle.std.proofs.lemmas.Result.{err_from_is_err_and}
 use Rattle.std.specs.Prelude.{IsTrue}
-use Rattle.ocfl_state.specs.Content.{Content}
+use Rattle.ocfl_state.specs.{Checkpoint.{Checkpoint}, Content.{Content}}
 use Rattle.ocfl_night.specs.Stopping.{ForKeep}
 use Rattle.ocfl_night.proofs.Moments.{leaves, torn_less}
 use Rattle.ocfl_night.proofs.Sound.{mark_after, ready_sound, run_sound, after_extended, put_ready}
 use Rattle.ocfl_night.proofs.Reasons.{keep_over, keep_reason, stops_at}
+use Rattle.ocfl_night.specs.Ending.{IsNextBy}
+use Rattle.ocfl_night.proofs.Again.{both_there, keeps_there, ready_there}
 use Rattle.ocfl_night.proofs.slicing.keep.Goals as goal
 
 pub returns-in_err-report-clause-any_moment : goal.returns-in_err-report-clause-any_moment
@@ -38,3 +40,18 @@ returns-in_err-put_checkpoint-clause-stop g c =
     let over = λ (told : IsTrue g.S.StateFolder.told). keep_over c.args.checkpoint c.after_run-made.result.checkpoint c.args.ran c.report_of-mark.result c.in_ok-report.report (g.S.StateFolder.seen c.args.folder.now) (g.S.StateFolder.seen c.extend.new.folder) c.args.lines.now c.after_run-made.ensures.next c.report_of-mark.ensures (c.in_ok-report.ensures.grown told) (c.in_ok-report.ensures.mark told) in
     stops_at (IsTrue g.S.StateFolder.told) (ForKeep c.args.checkpoint (g.S.StateFolder.seen c.args.folder.now)) _ _ r why (cc (p.1, p.2))
     (keep_reason (IsTrue g.S.StateFolder.told) c.args.checkpoint c.after_run-made.result.checkpoint (g.S.StateFolder.seen c.args.folder.now) _ (g.S.StateFolder.faults c.extend.new.folder) _ why c.in_ok-report.ensures.stop over c.in_err-put_checkpoint.ensures.stop)
+
+pub returns-in_err-report-clause-crash : goal.returns-in_err-report-clause-crash
+returns-in_err-report-clause-crash g c = λ told rounds t r.
+    let left = λ (k : Checkpoint). (k ≡ c.args.checkpoint) ⊎ IsNextBy c.args.checkpoint c.args.ran k in
+    keeps_there (g.met.S.StateFolder.only_now told) left (ready_there left (inl refl) r) (λ d e torn. torn.checkpoint) (c.extend.ensures.crash told)
+
+pub returns-in_err-put_checkpoint-clause-crash : goal.returns-in_err-put_checkpoint-clause-crash
+returns-in_err-put_checkpoint-clause-crash g c = λ told rounds t r.
+    let left = λ (k : Checkpoint). (k ≡ c.args.checkpoint) ⊎ IsNextBy c.args.checkpoint c.args.ran k in
+    both_there (g.met.S.StateFolder.only_now told) left (ready_there left (inl refl) r) (λ d e torn. torn.checkpoint) (c.extend.ensures.crash told) (inr (_, c.after_run-made.ensures.next)) (c.put_checkpoint.ensures.crash told)
+
+pub returns-clause-crash : goal.returns-clause-crash
+returns-clause-crash g c = λ told rounds t r.
+    let left = λ (k : Checkpoint). (k ≡ c.args.checkpoint) ⊎ IsNextBy c.args.checkpoint c.args.ran k in
+    both_there (g.met.S.StateFolder.only_now told) left (ready_there left (inl refl) r) (λ d e torn. torn.checkpoint) (c.extend.ensures.crash told) (inr (_, c.after_run-made.ensures.next)) (c.put_checkpoint.ensures.crash told)

@@ -1,9 +1,13 @@
 use Rattle.std.proofs.Common.{◌∙◌, ap, refl, sym, subst}
+use Rattle.std.proofs.lemmas.Result.{err_from_is_err_and}
 use Rattle.ocfl_tree.specs.StorageRoot.{StorageRoot}
 use Rattle.ocfl_scrub.specs.{Keeping.{met_at}, Starting.{part_of}, Running.{limits_of}}
 use Rattle.ocfl_night.specs.{Site.{IsStill}}
-use Rattle.ocfl_night.proofs.{Extending.{run_beyond, run_counts, run_of, run_read}, Looks.{counts_either, counts_on}}
+use Rattle.ocfl_night.proofs.{Extending.{run_ascends, run_beyond, run_counts, run_failed, run_of, run_read, run_took}, Looks.{counts_either, counts_on}}
 use Rattle.ocfl_night.proofs.Reading.{beyond_by, beyond_either, content_first_alone, content_same, read_then}
+use Rattle.ocfl_night.specs.{Ending.{slice_end}, Halting.{stopped_at}}
+use Rattle.ocfl_night.proofs.Halting.{failed_later, unread_sooner}
+use Rattle.ocfl_night.proofs.Again.{opened_then, up_either, up_then}
 use Rattle.ocfl_night.proofs.slicing.make_run.Goals as goal
 
 pub returns-clause-run : goal.returns-clause-run
@@ -84,3 +88,50 @@ returns-clause-read g c = λ declares tells root over short ready.
     let after = c.look_again.ensures.counts tells root there short in
     let none = c.look_again.ensures.content declares tells root there short in
     read_then root counts after none (run_read root _ _ c.new-lines.result.items c.run_on-ran.new.out.items (part_of c.args.part.now) c.args.cursor (limits_of c.args.limits) c.run_on-ran.result (met_at c.args.kept.now) runs c.in_default.ensures.made c.in_default.ensures.whole)
+
+pub returns-clause-failed : goal.returns-clause-failed
+returns-clause-failed g c = λ tells root over short ready.
+    let runs = c.run_on-ran.ensures.told tells root over short c.in_default.ensures.made ready in
+    let after = c.look_again.ensures.counts tells root (c.run_on-ran.ensures.root tells root over short ready) short in
+    failed_later (g.T.Tree.state c.args.tree.now) (g.T.Tree.state c.run_on-ran.new.store) (g.T.Tree.state c.look_again.new.tree) (stopped_at (slice_end c.run_on-ran.result.end)) after (run_failed root _ _ c.new-lines.result.items c.run_on-ran.new.out.items (part_of c.args.part.now) c.args.cursor (limits_of c.args.limits) c.run_on-ran.result (met_at c.args.kept.now) runs)
+
+pub returns-in_err-look_again-clause-unread : goal.returns-in_err-look_again-clause-unread
+returns-in_err-look_again-clause-unread g c = λ tells root over short ready.
+    let runs = c.run_on-ran.ensures.told tells root over short c.in_default.ensures.made ready in
+    let counts = run_counts root _ _ c.new-lines.result.items c.run_on-ran.new.out.items (part_of c.args.part.now) c.args.cursor (limits_of c.args.limits) c.run_on-ran.result (met_at c.args.kept.now) runs in
+    let after = c.in_err-look_again.ensures.unread tells root (c.run_on-ran.ensures.root tells root over short ready) short in
+    let p = err_from_is_err_and c.from_residual.result c.from_residual.ensures.1 in
+    unread_sooner (g.T.Tree.state c.args.tree.now) (g.T.Tree.state c.run_on-ran.new.store) (g.T.Tree.state c.look_again.new.tree) c.from_residual.result c.in_err-look_again.field-0.0 (cc (p.1, p.2)) counts after
+
+pub returns-clause-took : goal.returns-clause-took
+returns-clause-took g c = λ declares tells root over short ready.
+    let runs = c.run_on-ran.ensures.told tells root over short c.in_default.ensures.made ready in
+    let there = c.run_on-ran.ensures.root tells root over short ready in
+    let counts = run_counts root _ _ c.new-lines.result.items c.run_on-ran.new.out.items (part_of c.args.part.now) c.args.cursor (limits_of c.args.limits) c.run_on-ran.result (met_at c.args.kept.now) runs in
+    let after = c.look_again.ensures.counts tells root there short in
+    let none = c.look_again.ensures.content declares tells root there short in
+    opened_then root counts after none (run_took root _ _ c.new-lines.result.items c.run_on-ran.new.out.items (part_of c.args.part.now) c.args.cursor (limits_of c.args.limits) c.run_on-ran.result (met_at c.args.kept.now) runs c.in_default.ensures.whole)
+
+pub returns-in-Some-clause-once : goal.returns-in-Some-clause-once
+returns-in-Some-clause-once g c = λ declares tells root over short ready.
+    up_either c.run_on-ran.result.end
+    (λ made. run_ascends root _ _ c.new-lines.result.items c.run_on-ran.new.out.items (part_of c.args.part.now) c.args.cursor (limits_of c.args.limits) c.run_on-ran.result (met_at c.args.kept.now) (c.run_on-ran.ensures.told tells root over short made ready))
+    (λ worn. content_same root _ _ (ap g.T.Tree.state (c.run_on-ran.ensures.any_store.worn_silent worn).0))
+
+pub returns-in_err-look_again-clause-once : goal.returns-in_err-look_again-clause-once
+returns-in_err-look_again-clause-once g c = λ declares tells root over short ready.
+    let runs = c.run_on-ran.ensures.told tells root over short c.in_default.ensures.made ready in
+    let there = c.run_on-ran.ensures.root tells root over short ready in
+    let counts = run_counts root _ _ c.new-lines.result.items c.run_on-ran.new.out.items (part_of c.args.part.now) c.args.cursor (limits_of c.args.limits) c.run_on-ran.result (met_at c.args.kept.now) runs in
+    let after = c.look_again.ensures.counts tells root there short in
+    let none = c.look_again.ensures.content declares tells root there short in
+    up_then root counts after none (run_ascends root _ _ c.new-lines.result.items c.run_on-ran.new.out.items (part_of c.args.part.now) c.args.cursor (limits_of c.args.limits) c.run_on-ran.result (met_at c.args.kept.now) runs)
+
+pub returns-clause-once : goal.returns-clause-once
+returns-clause-once g c = λ declares tells root over short ready.
+    let runs = c.run_on-ran.ensures.told tells root over short c.in_default.ensures.made ready in
+    let there = c.run_on-ran.ensures.root tells root over short ready in
+    let counts = run_counts root _ _ c.new-lines.result.items c.run_on-ran.new.out.items (part_of c.args.part.now) c.args.cursor (limits_of c.args.limits) c.run_on-ran.result (met_at c.args.kept.now) runs in
+    let after = c.look_again.ensures.counts tells root there short in
+    let none = c.look_again.ensures.content declares tells root there short in
+    up_then root counts after none (run_ascends root _ _ c.new-lines.result.items c.run_on-ran.new.out.items (part_of c.args.part.now) c.args.cursor (limits_of c.args.limits) c.run_on-ran.result (met_at c.args.kept.now) runs)

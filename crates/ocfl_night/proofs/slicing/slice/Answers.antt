@@ -1,14 +1,18 @@
-use Rattle.std.proofs.Common.{◌≡◌, ◌∙◌, ap, refl, rules, sym}
+use Rattle.std.proofs.Common.{◌≡◌, ◌∙◌, ⊎_elim, ap, refl, rules, subst, sym}
 use Rattle.ocfl_tree.specs.StorageRoot.{StorageRoot}
 use Rattle.ocfl_scrub.specs.{Keeping.{IsReady}, Running.{place_in}, Starting.{part_of}}
 use Rattle.ocfl_state.specs.Checkpoint.{Checkpoint}
 use Rattle.ocfl_night.specs.{Chain.{part_after}, Looks.{look_between}, Steps.{IsWalkAt}}
 use Rattle.ocfl_night.proofs.{Extending.{run_at}, KeptWalks.{walk_from, walk_made}}
-use Rattle.ocfl_night.proofs.{Moments.{unmoved}, Sound.{ready_sound}, Stopped.{made_stops, unkept_stops}}
+use Rattle.ocfl_night.proofs.{Moments.{leaves_weaker, unmoved}, Sound.{ready_sound}, Stopped.{made_stops, unkept_stops}}
 use Rattle.ocfl_night.proofs.Reading.{content_none, kept_read, none_beyond, slice_beyond, unkept_read}
 use Rattle.ocfl_night.proofs.slicing.slice.Given as given
 use Rattle.ocfl_night.proofs.slicing.slice.Goals.{In_ok-rest}
 use Rattle.ocfl_night.proofs.Lasting.{unkept_at}
+use Rattle.ocfl_night.specs.Halting.{unread_at}
+use Rattle.ocfl_night.proofs.Halting.{kept_failed, unkept_failed}
+use Rattle.ocfl_night.specs.Again.{GoesOn}
+use Rattle.ocfl_night.proofs.Again.{goes_next, goes_self, kept_opened, ready_there, unkept_opened, up_none}
 use Rattle.ocfl_night.proofs.slicing.slice.Goals as goal
 
 -- the run is made of what comes after the branches that were left out
@@ -89,3 +93,46 @@ pub returns-clause-read : goal.returns-clause-read
 returns-clause-read g c = λ declares tells root over short walk.
     let read = c.in-Ok.ensures.read declares tells root over short (goes_on g (goal.at.returns-clause-read g c).In_ok-rest root walk) in
     kept_read _ _ _ c.args.checkpoint c.in_ok-cursor.cursor c.in-Ok.made.0 (search rules) c.in_ok-cursor.ensures c.in-Ok.ensures.keeps read c.keep.result c.keep.ensures.next c.keep.ensures.made
+
+pub returns-in-Err-clause-failed : goal.returns-in-Err-clause-failed
+returns-in-Err-clause-failed g c = λ tells root over short walk.
+    unkept_failed (g.T.Tree.state c.args.tree.now) (g.T.Tree.state c.make_run.new.tree) (unread_at c.in-Err.why) c.unkept.result (c.in-Err.ensures.unread tells root over short (goes_on g (goal.at.returns-in-Err-clause-failed g c).In_ok-rest root walk)) c.unkept.ensures.at
+
+pub returns-clause-failed : goal.returns-clause-failed
+returns-clause-failed g c = λ tells root over short walk.
+    kept_failed (g.T.Tree.state c.args.tree.now) (g.T.Tree.state c.make_run.new.tree) c.in-Ok.made.0 c.keep.result (c.in-Ok.ensures.failed tells root over short (goes_on g (goal.at.returns-clause-failed g c).In_ok-rest root walk)) c.keep.ensures.made
+
+pub returns-in_err-cursor-clause-once : goal.returns-in_err-cursor-clause-once
+returns-in_err-cursor-clause-once g c = λ declares tells root over short walk. up_none (content_none root (g.T.Tree.state c.args.tree.now))
+
+pub returns-in_err-rest-clause-once : goal.returns-in_err-rest-clause-once
+returns-in_err-rest-clause-once g c = λ declares tells root over short walk. up_none (content_none root (g.T.Tree.state c.args.tree.now))
+
+pub returns-in-Err-clause-once : goal.returns-in-Err-clause-once
+returns-in-Err-clause-once g c = λ declares tells root over short walk. c.make_run.ensures.once declares tells root over short (goes_on g (goal.at.returns-in-Err-clause-once g c).In_ok-rest root walk)
+
+pub returns-clause-once : goal.returns-clause-once
+returns-clause-once g c = λ declares tells root over short walk. c.make_run.ensures.once declares tells root over short (goes_on g (goal.at.returns-clause-once g c).In_ok-rest root walk)
+
+pub returns-in-Err-clause-took : goal.returns-in-Err-clause-took
+returns-in-Err-clause-took g c = λ declares tells root over short walk. unkept_opened c.args.checkpoint _ c.unkept.result c.unkept.ensures.unkept
+
+pub returns-clause-took : goal.returns-clause-took
+returns-clause-took g c = λ declares tells root over short walk.
+    let took = c.in-Ok.ensures.took declares tells root over short (goes_on g (goal.at.returns-clause-took g c).In_ok-rest root walk) in
+    kept_opened c.args.checkpoint c.in-Ok.made.0 c.in-Ok.ensures.keeps took c.keep.result c.keep.ensures.next c.keep.ensures.made
+
+pub returns-in_err-cursor-clause-crash : goal.returns-in_err-cursor-clause-crash
+returns-in_err-cursor-clause-crash g c = λ told declares tells root over short walk rounds t r. unmoved (g.met.S.StateFolder.only_now told) (ready_there (GoesOn c.args.checkpoint) (goes_self c.args.checkpoint) r)
+
+pub returns-in_err-rest-clause-crash : goal.returns-in_err-rest-clause-crash
+returns-in_err-rest-clause-crash g c = λ told declares tells root over short walk rounds t r. unmoved (g.met.S.StateFolder.only_now told) (ready_there (GoesOn c.args.checkpoint) (goes_self c.args.checkpoint) r)
+
+pub returns-in-Err-clause-crash : goal.returns-in-Err-clause-crash
+returns-in-Err-clause-crash g c = λ told declares tells root over short walk rounds t r. unmoved (g.met.S.StateFolder.only_now told) (ready_there (GoesOn c.args.checkpoint) (goes_self c.args.checkpoint) r)
+
+pub returns-clause-crash : goal.returns-clause-crash
+returns-clause-crash g c = λ told declares tells root over short walk rounds t r.
+    let k = c.args.checkpoint in
+    let read = c.in-Ok.ensures.read declares tells root over short (goes_on g (goal.at.returns-clause-crash g c).In_ok-rest root walk) in
+    leaves_weaker (λ d there l at. ⊎_elim (λ same. subst (GoesOn k) (sym same) (goes_self k)) (λ next. goes_next (search rules) c.in_ok-cursor.ensures c.in-Ok.ensures.keeps read.stays next) (there l at)) (c.keep.ensures.crash told rounds t r)

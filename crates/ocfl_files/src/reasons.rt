@@ -1,6 +1,5 @@
 //! Why places of a storage root could not be read, in words.
 
-use ocfl_report::DisplayPlace;
 use ocfl_tree::Place;
 use std::alloc::{AllocError, Global};
 use std::cell::Cell;
@@ -107,9 +106,4 @@ pub fn take_reasons(alloc: Global, cell: &Cell<Reasons>) -> Reasons {
         last: mem::replace(&mut reasons.last, None),
     });
     reasons
-}
-
-/// The line that says why a place could not be read.
-pub fn reason_line(alloc: Global, place: &Place, words: &str) -> Result<String, AllocError> {
-    format!(in alloc; "{}: {words}\n", DisplayPlace(place))
 }

@@ -1,11 +1,12 @@
 -- Lists of findings that are gone through one by one.
-use Rattle.std.proofs.Common.{◌≡◌, ℕ, ◌+◌, ◌<◌, ◌≤◌, List, [], ◌∷◌, ◌++◌, Bool, true, false, cond, length, get_or, map, take, drop, refl, ap, sym, ◌∙◌, append_assoc, length-append, arith}
-use Rattle.std.proofs.lemmas.List.{append-nil, at_drop_all, at_drop_more, drop-map, map_more, take-map}
+use Rattle.std.proofs.Common.{◌≡◌, ℕ, ◌+◌, ◌-◌, ◌<◌, ◌≤◌, List, [], ◌∷◌, ◌++◌, Bool, true, false, cond, length, get_or, map, take, drop, codes, refl, ap, sym, ◌∙◌, append_assoc, length-append, arith}
+use Rattle.std.proofs.lemmas.List.{append-nil, at_drop_all, at_drop_more, drop-map, length-drop, length-map, map_more, take-map}
 use Rattle.std.proofs.lemmas.List.Elements.{filter-append}
 use Rattle.std.specs.{Prelude.{◌||◌}, List.{filter, list_any}}
 use Rattle.ocfl_tree.specs.Place.{Text}
 use Rattle.ocfl_telling.specs.Finding.{Finding, finding_of}
-use Rattle.ocfl_telling.specs.Grouped.{count_like, each_text, group_text, is_like, is_with, lead_text}
+use Rattle.ocfl_codes.specs.Meaning.{first_step_of}
+use Rattle.ocfl_telling.specs.Grouped.{count_like, count_with, each_text, fit_text, is_like, is_same_step, is_with, lead_with, leads_after, leads_of, led_by, line_count, shown_group, step_text}
 use Rattle.ocfl_telling.specs.declared.finding.Finding.{Finding as MadeFinding}
 
 -- one more of a list
@@ -59,9 +60,91 @@ pub any_map : (p : Finding → Bool) (xs : List MadeFinding) → list_any p (map
 any_map p [] = refl
 any_map p (x ∷ xs) = ap (λ b. p (finding_of x) || b) (any_map p xs)
 
--- the group of a finding, if one of it was seen or not
-pub lead_seen : (root : Text) (fs S : List Finding) (f : Finding) → list_any (is_with f) S ≡ true → lead_text root fs S f ≡ []
-lead_seen root fs S f e = rw e refl
+-- how many are of the group of one, with one more
+with_it : (f g : Finding) → length (filter (is_with f) (g ∷ [])) ≡ one_of (is_with f g)
+with_it f g = elim (is_with f g) as (λ b. length (cond b (g ∷ []) []) ≡ one_of b) [ true ↦ refl | false ↦ refl ]
 
-pub lead_new : (root : Text) (fs S : List Finding) (f : Finding) → list_any (is_with f) S ≡ false → lead_text root fs S f ≡ group_text root fs f
-lead_new root fs S f e = rw e refl
+with_on : (f : Finding) (xs : List MadeFinding) (i : ℕ) (x : MadeFinding) → i < length xs → x ≡ get_or xs i x
+    → count_with f (map finding_of (take (i + 1) xs)) ≡ count_with f (map finding_of (take i xs)) + one_of (is_with f (finding_of x))
+with_on f xs i x l is =
+    let S = map finding_of (take i xs) in
+    ap (count_with f) (map_more finding_of xs i x l ∙ ap (λ y. S ++ finding_of y ∷ []) (sym is))
+    ∙ ap length (filter-append (is_with f) S (finding_of x ∷ [])) ∙ length-append (filter (is_with f) S) (filter (is_with f) (finding_of x ∷ []))
+    ∙ ap (λ n. count_with f S + n) (with_it f (finding_of x))
+
+pub with_one : (f : Finding) (xs : List MadeFinding) (i : ℕ) (x : MadeFinding) → i < length xs → x ≡ get_or xs i x → is_with f (finding_of x) ≡ true
+    → count_with f (map finding_of (take (i + 1) xs)) ≡ count_with f (map finding_of (take i xs)) + 1
+with_one f xs i x l is e = with_on f xs i x l is ∙ ap (λ b. count_with f (map finding_of (take i xs)) + one_of b) e
+
+pub with_none : (f : Finding) (xs : List MadeFinding) (i : ℕ) (x : MadeFinding) → i < length xs → x ≡ get_or xs i x → is_with f (finding_of x) ≡ false
+    → count_with f (map finding_of (take (i + 1) xs)) ≡ count_with f (map finding_of (take i xs))
+with_none f xs i x l is e = with_on f xs i x l is ∙ ap (λ b. count_with f (map finding_of (take i xs)) + one_of b) e ∙ omega arith
+
+-- the first findings of groups, with one more of the list
+after_more : (leads xs : List Finding) (f : Finding) → leads_after leads (xs ++ f ∷ []) ≡ lead_with (leads_after leads xs) f
+after_more leads [] f = refl
+after_more leads (x ∷ xs) f = after_more (lead_with leads x) xs f
+
+pub leads_more : (xs : List MadeFinding) (i : ℕ) (x : MadeFinding) (old new : List Finding) → i < length xs → x ≡ get_or xs i x
+    → new ≡ lead_with old (finding_of x) → old ≡ leads_of (map finding_of (take i xs)) → new ≡ leads_of (map finding_of (take (i + 1) xs))
+leads_more xs i x old new l is step h =
+    let S = map finding_of (take i xs) in
+    step ∙ ap (λ fs. lead_with fs (finding_of x)) h
+    ∙ sym (ap leads_of (map_more finding_of xs i x l ∙ ap (λ y. S ++ finding_of y ∷ []) (sym is)) ∙ after_more [] S (finding_of x))
+
+-- the findings of groups, with one more of the list
+pub led_more : (leads : List Finding) (xs : List MadeFinding) (i : ℕ) (x : MadeFinding) (old new : List Finding) → i < length xs → x ≡ get_or xs i x
+    → new ≡ old ++ led_by leads (finding_of x ∷ []) → old ≡ led_by leads (map finding_of (take i xs)) → new ≡ led_by leads (map finding_of (take (i + 1) xs))
+led_more leads xs i x old new l is step h =
+    let S = map finding_of (take i xs) in
+    step ∙ ap (λ fs. fs ++ led_by leads (finding_of x ∷ [])) h
+    ∙ sym (ap (led_by leads) (map_more finding_of xs i x l ∙ ap (λ y. S ++ finding_of y ∷ []) (sym is))
+    ∙ filter-append (λ f. list_any (is_with f) leads) S (finding_of x ∷ []))
+
+pub led_one : (leads : List Finding) (f : Finding) → list_any (is_with f) leads ≡ true → led_by leads (f ∷ []) ≡ f ∷ []
+led_one leads f e = rw e refl
+
+pub led_none : (leads : List Finding) (f : Finding) → list_any (is_with f) leads ≡ false → led_by leads (f ∷ []) ≡ []
+led_none leads f e = rw e refl
+
+-- one more group
+pub fit_on : (root : Text) (fs : List Finding) (xs : List MadeFinding) (i room left : ℕ) (x : MadeFinding) (t0 t1 t : Text) → i < length xs → x ≡ get_or xs i x
+    → t1 ≡ t0 ++ shown_group root fs room (length xs - i - 1) (map finding_of (take i xs)) (finding_of x)
+    → left ≡ room - line_count (shown_group root fs room (length xs - i - 1) (map finding_of (take i xs)) (finding_of x))
+    → t0 ++ fit_text root fs room (take i (map finding_of xs)) (drop i (map finding_of xs)) ≡ t
+    → t1 ++ fit_text root fs left (take (i + 1) (map finding_of xs)) (drop (i + 1) (map finding_of xs)) ≡ t
+fit_on root fs xs i room left x t0 t1 t l is h e all =
+    let S = map finding_of (take i xs) in
+    let B = map finding_of (drop (i + 1) xs) in
+    let rest : drop i (map finding_of xs) ≡ finding_of x ∷ B = drop-map finding_of i xs ∙ at_drop_more (map finding_of) xs i x l ∙ ap (λ y. finding_of y ∷ B) (sym is) in
+    let before : take i (map finding_of xs) ≡ S = take-map finding_of i xs in
+    let more : take (i + 1) (map finding_of xs) ≡ S ++ finding_of x ∷ [] = take-map finding_of (i + 1) xs ∙ map_more finding_of xs i x l ∙ ap (λ y. S ++ finding_of y ∷ []) (sym is) in
+    let behind : drop (i + 1) (map finding_of xs) ≡ B = drop-map finding_of (i + 1) xs in
+    let many : length xs - i - 1 ≡ length B = omega (arith, length-map (drop (i + 1) xs) finding_of, length-drop (i + 1) xs) in
+    let G : ℕ → Text = λ n. shown_group root fs room n S (finding_of x) in
+    (λ j. h j ++ fit_text root fs (e j) (more j) (behind j))
+    ∙ ap (λ n. (t0 ++ G n) ++ fit_text root fs (room - line_count (G n)) (S ++ finding_of x ∷ []) B) many
+    ∙ append_assoc t0 (G (length B)) (fit_text root fs (room - line_count (G (length B))) (S ++ finding_of x ∷ []) B)
+    ∙ (λ j. t0 ++ fit_text root fs room (sym before j) (sym rest j)) ∙ all
+
+-- and all of them
+pub fit_done : (root : Text) (fs : List Finding) (xs : List MadeFinding) (i room : ℕ) (t0 t : Text) → length xs ≤ i
+    → t0 ++ fit_text root fs room (take i (map finding_of xs)) (drop i (map finding_of xs)) ≡ t → t0 ≡ t
+fit_done root fs xs i room t0 t l all =
+    let none : drop i (map finding_of xs) ≡ [] = drop-map finding_of i xs ∙ at_drop_all (map finding_of) xs i l in
+    sym (append-nil t0) ∙ (λ j. t0 ++ fit_text root fs room (take i (map finding_of xs)) (sym none j)) ∙ all
+
+-- what to do first, if one before has said so or not
+pub step_seen : (before : List Finding) (f : Finding) → list_any (is_same_step f) before ≡ true → step_text before f ≡ []
+step_seen before f e = rw e refl
+
+pub step_new : (before : List Finding) (f : Finding) → list_any (is_same_step f) before ≡ false
+    → step_text before f ≡ codes "\tTo do: " ++ first_step_of f.line.code ++ codes "\n"
+step_new before f e = rw e refl
+
+-- the first findings of groups, if one of the group of another finding is there or not
+pub lead_seen : (leads : List Finding) (f : Finding) → list_any (is_with f) leads ≡ true → lead_with leads f ≡ leads
+lead_seen leads f e = rw e refl
+
+pub lead_new : (leads : List Finding) (f : Finding) → list_any (is_with f) leads ≡ false → lead_with leads f ≡ leads ++ f ∷ []
+lead_new leads f e = rw e refl

@@ -14,3 +14,5 @@ pub mod Groups
 pub mod Tallies
 pub mod Sizes
 pub mod Quotes
+pub mod LineCounts
+pub mod ClosingLines

@@ -1,8 +1,8 @@
 -- Places and files that are counted as their lines come.
-use Rattle.std.proofs.Common.{◌≡◌, ℕ, ◌+◌, ◌^◌, ◌<◌, List, [], ◌∷◌, ◌++◌, Bool, true, false, cond, Option, Some, None, map, length, refl, ap, sym, ◌∙◌, length-append, arith}
+use Rattle.std.proofs.Common.{◌≡◌, ℕ, ◌+◌, List, [], ◌∷◌, ◌++◌, Bool, true, false, Option, Some, None, map, length, refl, ap, sym, ◌∙◌, length-append, arith}
 use Rattle.std.proofs.{lemmas.Bool.{false≢true}, lemmas.List.{map-append}}
 use Rattle.std.specs.{Prelude.{if◌then◌else◌}, List.{filter}}
-use Rattle.ocfl_tree.specs.Place.{Place, place_eq}
+use Rattle.ocfl_tree.specs.Place.{Place}
 use Rattle.ocfl_tree.proofs.Places.{place_eq-Decides}
 use Rattle.ocfl_report.specs.Line.{Line}
 use Rattle.ocfl_telling.specs.Tally.{IsCount, IsPlaces, bytes_in, changes_after, is_last, is_right, last_after, places_of, right_in, right_size}

@@ -1,9 +1,10 @@
 -- What is said of a cycle that was closed.
-use Rattle.std.specs.Prelude.{ℕ, ◌-◌, ◌==◌, min, List, [], ◌∷◌, ◌++◌, Bool, Option, Some, None, length, map, take, flat_map, codes, decimal, if◌then◌else◌}
-use Rattle.ocfl_tree.specs.Place.{Text, Place}
-use Rattle.ocfl_report.specs.{Line.{Line, line_of}, Text.{escape, place_text}}
-use Rattle.ocfl_telling.specs.{Command.{path_text}, Finding.{Finding}, Gravest.{by_weight, gravest, most_shown}}
-use Rattle.ocfl_telling.specs.{Grouped.{groups_text}, Many.{are_text, many_text, size_text}, Night.{more_text}, Wording.{said_text}}
+use Rattle.std.specs.Prelude.{ℕ, ◌+◌, ◌-◌, ◌^◌, ◌<◌, ◌≤◌, ◌==◌, nat_lt, min, All, IfSome, List, [], ◌∷◌, ◌++◌, Bool, Option, Some, None, length, map, take, flat_map, codes, decimal, if◌then◌else◌}
+use Rattle.std.specs.Str.{IsUtf8}
+use Rattle.ocfl_tree.specs.{Name.{IsPlace}, Place.{Text, Place}}
+use Rattle.ocfl_report.specs.{Line.{Line, line_of}, Text.{IsLine, escape}}
+use Rattle.ocfl_telling.specs.{Command.{over_text, path_text}, Finding.{Finding}, Gravest.{gravest}}
+use Rattle.ocfl_telling.specs.{Many.{are_text, many_text, size_text}, Night.{more_text, some_text}, Wording.{said_text}}
 use Rattle.ocfl_telling.specs.declared.tally.Counts.{Counts}
 use Rattle.ocfl_telling.specs.declared.closing.GoneKind.{GoneKind}
 use Rattle.ocfl_telling.specs.declared.closing.GoneKind.TheVariants.{Object, Undeclared, File, Expected}
@@ -20,7 +21,7 @@ counts_text k = decimal k.right ++ codes " of " ++ many_text k.files (codes "fil
     ++ many_text k.objects (codes "object") (codes "objects") ++ codes ", " ++ size_text k.bytes
 
 abbrev pub some_new_text : ℕ → Text
-some_new_text n = if n == 0 then codes "nothing new" else many_text n (codes "new finding") (codes "new findings")
+some_new_text n = if n == 0 then codes "Nothing new" else many_text n (codes "new finding") (codes "new findings")
 
 abbrev pub some_gone_text : ℕ → Text
 some_gone_text n = if n == 0 then codes "nothing gone" else many_text n (codes "object or file gone") (codes "objects and files gone")
@@ -30,15 +31,15 @@ since_text appeared gone before = some_new_text appeared ++ codes ", " ++ some_g
 
 -- what was not compared, with or without a reason
 abbrev pub alone_text : Text → Text
-alone_text [] = codes "nothing to compare with"
-alone_text (b ∷ why) = codes "not compared"
+alone_text [] = codes "Nothing to compare with"
+alone_text (b ∷ why) = codes "Not compared"
 
 -- what changed since the cycle that it was compared with; 0 is none
 abbrev pub changed_text : Closing → Text
 changed_text c = if c.before == 0 then alone_text c.uncompared.now else since_text c.appeared_count c.gone_count c.before
 
 abbrev pub summary_text : Closing → Counts → Text
-summary_text c k = counts_text k ++ codes "; " ++ changed_text c ++ codes ".\n"
+summary_text c k = counts_text k ++ codes ".\n" ++ changed_text c ++ codes ".\n"
 
 -- an incomplete report is named, and what it counts is in it
 abbrev pub lead_text : Closing → Text
@@ -62,13 +63,69 @@ abbrev pub uncompared_text : Text → Text
 uncompared_text [] = []
 uncompared_text (b ∷ why) = not_known_text (b ∷ why)
 
--- how many are not shown, of a list of this length
-abbrev pub not_shown : ℕ → ℕ → ℕ
-not_shown count listed = count - min listed most_shown
+-- ---- in how many lines
 
--- a line, what is shown, and how many more there are in a file; nothing of none
-abbrev pub section_text : ℕ → Text → Text → ℕ → Text → Text
-section_text count head shown left file = if count == 0 then [] else head ++ shown ++ more_text file left
+-- how many lines all of it has at most
+abbrev pub most_lines : ℕ
+most_lines = 13
+
+-- how many of them are of sections: those of the word at the end, of why nothing was compared and of
+-- what is not looked at are not
+abbrev pub word_lines : Bool → ℕ
+word_lines whole = if whole then 2 else 3
+
+abbrev pub why_lines : Text → ℕ
+why_lines [] = 0
+why_lines (b ∷ why) = 1
+
+abbrev pub one_unless : Bool → ℕ
+one_unless none = if none then 0 else 1
+
+abbrev pub room_of_sections : Closing → ℕ
+room_of_sections c = most_lines - word_lines c.whole - why_lines c.uncompared.now - one_unless (c.unlooked == 0)
+
+-- a section behind others has two lines at least
+abbrev pub two_unless : Bool → ℕ
+two_unless none = if none then 0 else 2
+
+-- how many lines a section of so many has in so much room
+abbrev pub section_lines : ℕ → ℕ → ℕ
+section_lines room count = if count == 0 then 0 else min (count + 1) room
+
+-- the line before what is new says all if each of that was said
+abbrev pub new_lines : ℕ → ℕ → ℕ → ℕ
+new_lines room count unsaid = if count == 0 then 0 else if unsaid == 0 then 1 else room
+
+abbrev pub gone_room : Closing → ℕ
+gone_room c = room_of_sections c - two_unless (c.appeared_count == 0) - two_unless (c.repaired_count == 0) - two_unless (c.back_count == 0)
+
+abbrev pub behind_gone : Closing → ℕ
+behind_gone c = room_of_sections c - section_lines (gone_room c) c.gone_count
+
+abbrev pub new_room : Closing → ℕ
+new_room c = behind_gone c - two_unless (c.repaired_count == 0) - two_unless (c.back_count == 0)
+
+abbrev pub behind_new : Closing → ℕ
+behind_new c = behind_gone c - new_lines (new_room c) c.appeared_count (c.appeared_count - c.said)
+
+abbrev pub repaired_room : Closing → ℕ
+repaired_room c = behind_new c - two_unless (c.back_count == 0)
+
+abbrev pub back_room : Closing → ℕ
+back_room c = behind_new c - section_lines (repaired_room c) c.repaired_count
+
+-- how many are shown of so many: all if each has a line behind the first one, and else there is a
+-- line for the number of the rest
+abbrev pub most_of : ℕ → ℕ → ℕ
+most_of room count = if nat_lt count room then room - 1 else room - 2
+
+-- how many are not shown of a list of this length
+abbrev pub not_shown : ℕ → ℕ → ℕ → ℕ
+not_shown room count listed = count - min listed (most_of room count)
+
+-- a line, what is shown, how many more there are, and the command that lists them; nothing of none
+abbrev pub section_text : ℕ → Text → Text → Text → Text → ℕ → Text
+section_text count head shown command file left = if count == 0 then [] else head ++ shown ++ more_text command file left
 
 abbrev pub kind_text : GoneKind → Text
 kind_text Object = codes "object"
@@ -77,13 +134,13 @@ kind_text File = codes "file"
 kind_text Expected = codes "expected"
 
 abbrev pub gone_line : Gone → Text
-gone_line g = kind_text g.kind ++ 9 ∷ place_text g.place ++ 10 ∷ []
+gone_line g = kind_text g.kind ++ 9 ∷ path_text g.place ++ 10 ∷ []
 
 abbrev pub gone_lines : List Gone → Text
 gone_lines gs = flat_map gone_line gs
 
 abbrev pub back_line : Place → Text
-back_line p = codes "object\t" ++ place_text p ++ 10 ∷ []
+back_line p = codes "object\t" ++ path_text p ++ 10 ∷ []
 
 abbrev pub back_lines : List Place → Text
 back_lines ps = flat_map back_line ps
@@ -100,11 +157,10 @@ abbrev pub new_head : Closing → Text
 new_head c = many_text c.appeared_count (codes "finding") (codes "findings") ++ codes " of cycle " ++ decimal c.cycle ++ are_text c.appeared_count
     ++ codes " new since cycle " ++ decimal c.before ++ above_text c.said
 
--- the end of that line; of n findings that were not said, with these among them, the most serious,
+-- the end of that line; n findings that were not said, of which these are kept, in so many lines,
 -- and how many more there are in the report
-abbrev pub unsaid_text : ℕ → List Finding → Text → Text → Text
-unsaid_text n fs root report =
-    if n == 0 then codes ".\n" else codes ":\n" ++ groups_text root (gravest fs) ++ more_text report (not_shown n (length (by_weight fs)))
+abbrev pub unsaid_text : ℕ → ℕ → List Finding → Text → Text → Text
+unsaid_text room n fs root report = if n == 0 then codes ".\n" else codes ":\n" ++ some_text root (room - 2) report n fs
 
 abbrev pub repaired_head : ℕ → ℕ → ℕ → Text
 repaired_head count cycle before = many_text count (codes "finding") (codes "findings") ++ codes " of cycle " ++ decimal before ++ are_text count
@@ -132,23 +188,65 @@ some_unlooked_text count =
 abbrev pub unlooked_text : ℕ → Text
 unlooked_text count = if count == 0 then [] else some_unlooked_text count
 
+-- the commands that show what changed between the reports, and what is gone
+abbrev pub changed_command : Closing → Text
+changed_command c = over_text (codes "ocfl-scrub-reports changed") c.earlier.now
+
+abbrev pub list_command : Text
+list_command = codes "cat"
+
 -- of a cycle whose new findings that were not said are these
 abbrev pub new_text : Closing → List Finding → Text
-new_text c fs = if c.appeared_count == 0 then [] else new_head c ++ unsaid_text (c.appeared_count - c.said) fs c.root.now c.report.now
+new_text c fs = if c.appeared_count == 0 then [] else new_head c ++ unsaid_text (new_room c) (c.appeared_count - c.said) (gravest fs) c.root.now c.report.now
 
 abbrev pub repaired_text : Closing → Text
-repaired_text c = section_text c.repaired_count (repaired_head c.repaired_count c.cycle c.before) (repaired_lines (map line_of (take most_shown c.repaired.now)))
-    (not_shown c.repaired_count (length c.repaired.now)) c.earlier.now
+repaired_text c = section_text c.repaired_count (repaired_head c.repaired_count c.cycle c.before)
+    (repaired_lines (map line_of (take (most_of (repaired_room c) c.repaired_count) c.repaired.now)))
+    (changed_command c) c.report.now (not_shown (repaired_room c) c.repaired_count (length c.repaired.now))
 
 abbrev pub back_text : Closing → Text
-back_text c = section_text c.back_count (back_head c.back_count c.cycle) (back_lines (take most_shown c.back.now))
-    (not_shown c.back_count (length c.back.now)) c.report.now
+back_text c = section_text c.back_count (back_head c.back_count c.cycle) (back_lines (take (most_of (back_room c) c.back_count) c.back.now))
+    (changed_command c) c.report.now (not_shown (back_room c) c.back_count (length c.back.now))
 
 abbrev pub gone_text : Closing → Text
-gone_text c = section_text c.gone_count (gone_head c.gone_count c.cycle) (gone_lines (take most_shown c.gone.now))
-    (not_shown c.gone_count (length c.gone.now)) c.list.now
+gone_text c = section_text c.gone_count (gone_head c.gone_count c.cycle) (gone_lines (take (most_of (gone_room c) c.gone_count) c.gone.now))
+    list_command c.list.now (not_shown (gone_room c) c.gone_count (length c.gone.now))
 
 -- lost objects come first
 abbrev pub closing_text : Closing → List Finding → Text
 closing_text c fs = ended_text c ++ uncompared_text c.uncompared.now ++ gone_text c ++ unlooked_text c.unlooked ++ new_text c fs ++ repaired_text c
     ++ back_text c
+
+-- ---- what closings that are made have
+
+abbrev pub IsU64 : ℕ → Type 0
+IsU64 n = n < 2 ^ 64
+
+pub record AreCounts (k : Counts) : Type 0 where
+  pub right : IsU64 k.right
+  pub files : IsU64 k.files
+  pub objects : IsU64 k.objects
+  pub bytes : IsU64 k.bytes
+
+-- its paths are text, its numbers have 64 bits, and its lists are of what a report can have, and of no
+-- more than is counted
+pub record IsMade (c : Closing) : Type 0 where
+  pub report : IsUtf8 c.report.now
+  pub earlier : IsUtf8 c.earlier.now
+  pub list : IsUtf8 c.list.now
+  pub why : IsUtf8 c.uncompared.now
+  pub cycle : IsU64 c.cycle
+  pub before : IsU64 c.before
+  pub counts : IfSome c.counts AreCounts
+  pub appeared : IsU64 c.appeared_count
+  pub said : IsU64 c.said
+  pub unlooked : IsU64 c.unlooked
+  pub gone_count : IsU64 c.gone_count
+  pub gone : All (λ g. IsPlace g.place) c.gone.now
+  pub all_gone : length c.gone.now ≤ c.gone_count
+  pub repaired_count : IsU64 c.repaired_count
+  pub repaired : All (λ l. IsLine (line_of l)) c.repaired.now
+  pub all_repaired : length c.repaired.now ≤ c.repaired_count
+  pub back_count : IsU64 c.back_count
+  pub back : All IsPlace c.back.now
+  pub all_back : length c.back.now ≤ c.back_count

@@ -1,8 +1,8 @@
 -- A command to paste that looks at a place again.
-use Rattle.std.specs.Prelude.{ℕ, ◌==◌, ◌&&◌, [], ◌∷◌, ◌++◌, Bool, false, not, codes, if◌then◌else◌}
+use Rattle.std.specs.Prelude.{◌==◌, ◌&&◌, [], ◌∷◌, ◌++◌, Bool, false, not, codes, if◌then◌else◌}
 use Rattle.std.specs.List.{list_any}
 use Rattle.ocfl_tree.specs.{Place.{Text, Place}, Path.{slashed}}
-use Rattle.ocfl_report.specs.Text.{place_text}
+use Rattle.ocfl_report.specs.Text.{escape, place_text}
 use Rattle.ocfl_telling.specs.Quoted.{has_control, quoted}
 
 -- a terminal shows it as it is, and it is no path of a report of another place
@@ -23,5 +23,9 @@ abbrev pub check_text : Text → Text → Text
 check_text root path = codes "ocfl-scrub check " ++ dashes_text path ++ quoted root ++ codes " " ++ quoted path
 
 -- none can be pasted if the path of the storage root has a control character
-abbrev pub then_text : Text → Place → Text
-then_text root p = if has_control root then [] else codes ", then: " ++ check_text root (path_text p)
+abbrev pub again_text : Text → Place → Text
+again_text root p = if has_control root then [] else codes "\tTo look again: " ++ check_text root (path_text p) ++ codes "\n"
+
+-- a command over a file
+abbrev pub over_text : Text → Text → Text
+over_text command file = if has_control file then escape file else command ++ codes " " ++ quoted file

@@ -1,6 +1,6 @@
 -- Findings, with the objects that they are in.
-use Rattle.std.specs.Prelude.{List, [], ◌∷◌, Option, Some, None, if◌then◌else◌}
-use Rattle.ocfl_tree.specs.Place.{Place, begins}
+use Rattle.std.specs.Prelude.{List, [], ◌∷◌, Option, Some, None, IfSome, if◌then◌else◌}
+use Rattle.ocfl_tree.specs.{Name.{IsPlace}, Place.{Place, begins}}
 use Rattle.ocfl_report.specs.Line.{Line, line_of}
 use Rattle.ocfl_codes.specs.Kinds.{tells_object}
 use Rattle.ocfl_telling.specs.declared.finding.Finding.{Finding as MadeFinding}
@@ -37,3 +37,8 @@ placed_after head (l ∷ ls) = found_in (head_with head l) l ∷ placed_after (h
 -- the lines, each in the object whose head came last
 abbrev pub placed : List Line → List Finding
 placed ls = placed_after None ls
+
+-- of places that a store can have
+pub record IsPlaced (f : Finding) : Type 0 where
+  pub place : IsPlace f.line.place
+  pub object : IfSome f.object IsPlace

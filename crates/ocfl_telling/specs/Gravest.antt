@@ -6,9 +6,9 @@ use Rattle.ocfl_codes.specs.declared.weight.Weight.TheVariants.{Bytes, Object, R
 use Rattle.ocfl_telling.specs.Finding.{Finding, finding_of}
 use Rattle.ocfl_telling.specs.{declared.gravest.Kept.{Kept}, declared.gravest.Gravest.{Gravest}}
 
--- the most findings that are shown
-abbrev pub most_shown : ℕ
-most_shown = 20
+-- how many findings are kept of each weight
+abbrev pub most_kept : ℕ
+most_kept = 200
 
 abbrev pub findings : List Finding → List Finding
 findings fs = filter (λ f. is_finding_code f.line.code) fs
@@ -24,11 +24,11 @@ abbrev pub by_weight : List Finding → List Finding
 by_weight fs = of_weight Bytes fs ++ of_weight Object fs ++ of_weight Record fs ++ of_weight Position fs
 
 abbrev pub gravest : List Finding → List Finding
-gravest fs = take most_shown (by_weight fs)
+gravest fs = take most_kept (by_weight fs)
 
 -- the first of these findings, and how many there are; of 2^64 or more the number is not kept
 pub record IsFirst (k : Kept) (fs : List Finding) : Type 0 where
-  pub first : map finding_of k.first.items ≡ take most_shown fs
+  pub first : map finding_of k.first.items ≡ take most_kept fs
   pub count : length fs < 2 ^ 64 → k.count ≡ length fs
 
 -- the same of each weight, of the findings among these lines

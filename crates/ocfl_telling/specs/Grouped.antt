@@ -1,10 +1,10 @@
 -- Findings by the objects that they are in.
-use Rattle.std.specs.Prelude.{ℕ, ◌-◌, ◌==◌, ◌&&◌, nat_lt, List, [], ◌∷◌, ◌++◌, Bool, false, Option, Some, None, drop, length, codes, decimal, if◌then◌else◌}
+use Rattle.std.specs.Prelude.{ℕ, ◌-◌, ◌==◌, ◌&&◌, nat_lt, nat_le, List, [], ◌∷◌, ◌++◌, Bool, false, Option, Some, None, drop, length, take, codes, decimal, if◌then◌else◌}
 use Rattle.std.specs.List.{filter, list_any}
-use Rattle.ocfl_tree.specs.Place.{Text, Place, place_eq}
+use Rattle.ocfl_tree.specs.Place.{Text, Place, place_eq, text_eq}
 use Rattle.ocfl_report.specs.{Text.{code_text}, declared.code.Code.{Code}}
 use Rattle.ocfl_codes.specs.Meaning.{first_step_of, meaning_of}
-use Rattle.ocfl_telling.specs.{Command.{path_text, then_text}, Finding.{Finding}, Known.{code_eq}, Wording.{said_text}}
+use Rattle.ocfl_telling.specs.{Command.{again_text, path_text}, Finding.{Finding}, Known.{code_eq}, Wording.{coded_text, path_part, said_text}}
 
 -- how many findings of an object are shown that have the same code
 abbrev pub most_alike : ℕ
@@ -61,18 +61,76 @@ abbrev pub head_text : Option Place → Code → Text
 head_text (Some o) c = codes "Object " ++ path_text o ++ codes ":\n"
 head_text None c = codes "Elsewhere, " ++ code_text c ++ codes ":\n"
 
--- what to do first about a finding, and how to look at it again
-abbrev pub step_text : Text → Finding → Text
-step_text root f = codes "\tTo do: " ++ first_step_of f.line.code ++ then_text root f.line.place ++ codes "\n"
+-- ---- groups
 
--- the group of a finding of a list
-abbrev pub group_text : Text → List Finding → Finding → Text
-group_text root fs f = head_text f.object f.line.code ++ each_text (member_text f fs) [] fs ++ step_text root f
+-- the codes say the same of what to do first
+abbrev pub is_same_step : Finding → Finding → Bool
+is_same_step f g = text_eq (first_step_of f.line.code) (first_step_of g.line.code)
 
--- unless one before it has shown it
-abbrev pub lead_text : Text → List Finding → List Finding → Finding → Text
-lead_text root fs seen f = if list_any (is_with f) seen then [] else group_text root fs f
+-- what to do first about a finding, unless one before it has said so
+abbrev pub step_text : List Finding → Finding → Text
+step_text before f = if list_any (is_same_step f) before then [] else codes "\tTo do: " ++ first_step_of f.line.code ++ codes "\n"
+
+-- the group of a finding of a list, behind groups of these: a line, its findings, what to do first,
+-- and how to look at it again
+abbrev pub group_text : Text → List Finding → List Finding → Finding → Text
+group_text root fs before f =
+    head_text f.object f.line.code ++ each_text (member_text f fs) [] fs ++ step_text before f ++ again_text root f.line.place
+
+abbrev pub count_with : Finding → List Finding → ℕ
+count_with f fs = length (filter (is_with f) fs)
+
+abbrev pub others_text : ℕ → Text
+others_text n = if n == 0 then [] else codes ", and " ++ decimal n ++ codes " more"
+
+abbrev pub brief_head : Option Place → Text
+brief_head (Some o) = codes "Object " ++ path_text o ++ codes ": "
+brief_head None = codes "Elsewhere: "
+
+-- the same group in one line: its first finding, and how many more it has
+abbrev pub brief_text : List Finding → Finding → Text
+brief_text fs f = brief_head f.object ++ path_part (below_text f.object f.line.place) ++ coded_text f.line.code f.line.detail
+    ++ others_text (count_with f fs - 1) ++ codes "\n"
+
+-- ---- in so many lines
+
+-- how many lines a text has
+abbrev pub line_count : Text → ℕ
+line_count t = length (filter (λ b. b == 10) t)
+
+-- whole, if that leaves a line for each of the groups behind it, and else in one line
+abbrev pub fitting_text : ℕ → ℕ → Text → Text → Text
+fitting_text room behind whole brief = if nat_le (line_count whole) (room - behind) then whole else brief
+
+abbrev pub shown_group : Text → List Finding → ℕ → ℕ → List Finding → Finding → Text
+shown_group root fs room behind before f = fitting_text room behind (group_text root fs before f) (brief_text fs f)
+
+-- the groups of these in so many lines
+abbrev pub fit_text : Text → List Finding → ℕ → List Finding → List Finding → Text
+fit_text root fs room before [] = []
+fit_text root fs room before (f ∷ rest) = shown_group root fs room (length rest) before f
+    ++ fit_text root fs (room - line_count (shown_group root fs room (length rest) before f)) (before ++ f ∷ []) rest
+
+-- the first findings of groups, with one more
+abbrev pub lead_with : List Finding → Finding → List Finding
+lead_with leads f = if list_any (is_with f) leads then leads else leads ++ f ∷ []
+
+abbrev pub leads_after : List Finding → List Finding → List Finding
+leads_after leads [] = leads
+leads_after leads (f ∷ fs) = leads_after (lead_with leads f) fs
+
+-- the first finding of each group of a list, in their order
+abbrev pub leads_of : List Finding → List Finding
+leads_of fs = leads_after [] fs
+
+-- those of the groups that are shown in so many lines
+abbrev pub shown_leads : ℕ → List Finding → List Finding
+shown_leads room fs = take room (leads_of fs)
+
+-- the findings of these groups
+abbrev pub led_by : List Finding → List Finding → List Finding
+led_by leads fs = filter (λ f. list_any (is_with f) leads) fs
 
 -- the findings of a list, each object once, in the order of their first findings
-abbrev pub groups_text : Text → List Finding → Text
-groups_text root fs = each_text (lead_text root fs) [] fs
+abbrev pub groups_text : Text → ℕ → List Finding → Text
+groups_text root room fs = fit_text root fs room [] (shown_leads room fs)

@@ -1,5 +1,5 @@
 -- A finding in words.
-use Rattle.std.specs.Prelude.{ℕ, ◌==◌, ◌&&◌, nat_le, List, [], ◌∷◌, ◌++◌, Bool, true, false, Option, Some, None, length, take, option_map, codes, if◌then◌else◌}
+use Rattle.std.specs.Prelude.{ℕ, ◌==◌, ◌&&◌, nat_le, [], ◌∷◌, ◌++◌, Bool, true, false, Option, Some, None, length, take, option_map, codes, if◌then◌else◌}
 use Rattle.ocfl_tree.specs.Place.{Text, text_eq}
 use Rattle.ocfl_report.specs.{Line.{Line}, Text.{code_text, escape}, declared.code.Code.{Code}}
 use Rattle.ocfl_report.specs.declared.code.Code.TheVariants.{E060, E092, E093}

@@ -1,22 +1,30 @@
 //! What is said of a cycle that was closed: how much of it is right, what is gone, new, repaired and
 //! back since the last whole report, and what was left out.
-ghost use Rattle.std.specs.Prelude.{◌≡◌, ◌++◌, ◌^◌, ◌<◌, List, [], Some, codes, decimal, length, map, take, IfOk, OnOk, string_bytes};
+ghost use Rattle.std.specs.Prelude.{◌≡◌, ◌≢◌, ◌-◌, ◌++◌, ◌^◌, ◌<◌, List, [], Some, codes, decimal, length, map, take, IfOk, OnOk, string_bytes};
 ghost use Rattle.ocfl_report.specs.Line.{line_of};
-ghost use Rattle.ocfl_telling.specs.{Finding.{Finding as ModelFinding}, Gravest.{IsOf, by_weight, most_shown}};
-ghost use Rattle.ocfl_telling.specs.Closing.{closing_text as text_of_closing, above_text, alone_text, back_head, back_line, back_lines, back_text, changed_text, counted_text, counts_text, ended_text, gone_lines, gone_line, section_text, not_shown, lead_text, new_head, repaired_head, gone_head, gone_text, kind_text, new_text, repaired_line, repaired_lines, repaired_text, not_known_text, not_whole_text, since_text, some_above_text, some_gone_text, some_new_text, some_unlooked_text, summary_text, uncompared_text, unlooked_text, unsaid_text};
+ghost use Rattle.ocfl_telling.specs.{Finding.{Finding as ModelFinding, finding_of}, Gravest.{IsOf, by_weight}};
+ghost use Rattle.ocfl_telling.specs.Closing.{closing_text as text_of_closing, above_text, alone_text, back_head, back_line, back_lines, back_text, changed_text, counted_text, counts_text, ended_text, gone_lines, gone_line, not_shown, lead_text, new_head, repaired_head, gone_head, gone_text, kind_text, new_text, repaired_line, repaired_lines, repaired_text, not_known_text, not_whole_text, since_text, some_above_text, some_gone_text, some_new_text, some_unlooked_text, summary_text, uncompared_text, unlooked_text, unsaid_text};
+ghost use Rattle.ocfl_telling.specs.Closing.{back_room as room_of_back, behind_gone as left_behind_gone, behind_new as left_behind_new, changed_command as command_of_changes, gone_room as room_of_gone, list_command as command_of_list, most_of, new_lines as lines_of_new, new_room as room_of_new, repaired_room as room_of_repaired, room_of_sections as all_room, section_lines as lines_of_section, two_unless as two_lines_unless};
 ghost use Rattle.ocfl_telling.specs.Night.{more_text};
 
 use crate::appending::put_made;
-use crate::command::path_of;
-use crate::gravest::{Gravest, SHOWN};
+use crate::command::{over, path_of};
+use crate::finding::Finding;
+use crate::gravest::Gravest;
 use crate::many::{are, many, size};
-use crate::night::{more, put_gravest};
+use crate::night::{more, put_some};
 use crate::shown::Shown;
 use crate::tally::Counts;
 use crate::wording::put_said;
-use ocfl_report::{Line, put_place};
+use ocfl_report::Line;
 use ocfl_tree::Place;
 use std::alloc::{AllocError, Global};
+
+/// How many of what is gone, repaired or back a closing shows at most, or more.
+pub const SHOWN: usize = 20;
+
+/// How many lines it has at most.
+const MOST_LINES: usize = 13;
 
 /// What is gone.
 #[derive(Clone, Copy, Debug)]
@@ -40,8 +48,8 @@ pub struct Gone {
     pub place: Place,
 }
 
-/// What a closed cycle found. Each slice has the first of what it is of, 20 or more if there are
-/// as many, in the order of places; beside it is how many there are of all. In that of what is
+/// What a closed cycle found. Each slice has the first of what it is of, [`SHOWN`] or more if there
+/// are as many, in the order of places; beside it is how many there are of all. In that of what is
 /// gone, objects come before files: its caller puts them so.
 #[derive(Clone, Copy)]
 pub struct Closing<'a> {
@@ -110,7 +118,7 @@ fn some_new(alloc: Global, count: u64) -> Result<String, AllocError>
     ensures { IfOk result (λ text. string_bytes text ≡ some_new_text count) }
 {
     if count == 0 {
-        return String::from_str(alloc, "nothing new");
+        return String::from_str(alloc, "Nothing new");
     }
     many(alloc, count, "new finding", "new findings")
 }
@@ -144,9 +152,9 @@ fn alone(why: &str) -> &'static str
     ensures { result.now ≡ alone_text why.now }
 {
     if why.is_empty() {
-        return "nothing to compare with";
+        return "Nothing to compare with";
     }
-    "not compared"
+    "Not compared"
 }
 
 /// How much changed since the cycle that it was compared with.
@@ -170,7 +178,7 @@ fn summary(alloc: Global, closing: &Closing<'_>, counts: Counts) -> Result<Strin
 {
     let counted = counted(alloc, counts)?;
     let changed = changed(alloc, closing)?;
-    format!(in alloc; "{counted}; {changed}.\n")
+    format!(in alloc; "{counted}.\n{changed}.\n")
 }
 
 /// The line that it is in.
@@ -227,28 +235,6 @@ fn not_known(alloc: Global, why: &str) -> Result<String, AllocError>
     format!(in alloc; "What is new or gone since the last report is not known: {why}\n")
 }
 
-/// Appends a line, the first of these findings, and how many more there are.
-fn put_findings(
-    alloc: Global,
-    head: &str,
-    findings: (&[Line], u64),
-    file: &str,
-    text: &mut Vec<u8>,
-) -> Result<(), AllocError>
-    ensures { OnOk result (text.new.items ≡ text.old.items
-        ++ section_text findings.entry.1 head.now
-        (repaired_lines (map line_of (take most_shown findings.entry.0.now)))
-        (not_shown findings.entry.1 (length findings.entry.0.now)) file.now) }
-{
-    let (lines, count) = findings;
-    if count == 0 {
-        return Ok(());
-    }
-    text.extend_from_slice(head.as_bytes())?;
-    put_repaired_lines(alloc, &lines[..lines.len().min(SHOWN)], text)?;
-    put_more(alloc, file, count, lines.len(), text)
-}
-
 /// Appends a finding that is repaired.
 fn put_repaired_line(alloc: Global, line: &Line, text: &mut Vec<u8>) -> Result<(), AllocError>
     ensures { OnOk result (text.new.items ≡ text.old.items ++ repaired_line (line_of line.now)) }
@@ -268,19 +254,131 @@ fn put_repaired_lines(alloc: Global, lines: &[Line], text: &mut Vec<u8>) -> Resu
     Ok(())
 }
 
-/// Appends how many of `count` are not shown, of which `listed` are in the list.
+/// Appends how many of `count` are not shown in so much room, of which `listed` are in the list.
 fn put_more(
     alloc: Global,
+    command: &str,
     file: &str,
+    room: usize,
     count: u64,
     listed: usize,
     text: &mut Vec<u8>,
 ) -> Result<(), AllocError>
-    ensures { OnOk result
-        (text.new.items ≡ text.old.items ++ more_text file.now (not_shown count listed)) }
+    ensures { OnOk result (text.new.items ≡ text.old.items
+        ++ more_text command.now file.now (not_shown room count listed)) }
 {
-    let left = count.saturating_sub(listed.min(SHOWN) as u64);
-    text.extend_from_slice(more(alloc, file, u128::from(left))?.as_bytes())
+    let left = count.saturating_sub(listed.min(most(room, count)) as u64);
+    put_made(more(alloc, command, file, u128::from(left)), text)
+}
+
+/// How many are shown of `count`: all if each has a line behind the first one, and else there is a
+/// line for the number of the rest.
+fn most(room: usize, count: u64) -> usize
+    ensures { result ≡ most_of room count }
+{
+    if count < room as u64 {
+        room - 1
+    } else {
+        room.saturating_sub(2)
+    }
+}
+
+fn two_unless(is_none: bool) -> usize
+    ensures { result ≡ two_lines_unless is_none }
+{
+    if is_none { 0 } else { 2 }
+}
+
+/// How many lines a section has of `count`.
+fn section_lines(room: usize, count: u64) -> usize
+    ensures { result ≡ lines_of_section room count }
+{
+    if count == 0 {
+        0
+    } else if count < room as u64 {
+        count as usize + 1
+    } else {
+        room
+    }
+}
+
+/// How many lines there are for sections.
+fn room_of_sections(closing: &Closing<'_>) -> usize
+    ensures { result ≡ all_room closing.now }
+{
+    let word = if closing.whole { 2 } else { 3 };
+    let why = usize::from(!closing.uncompared.is_empty());
+    MOST_LINES - word - why - usize::from(closing.unlooked != 0)
+}
+
+/// How many of the new findings are not said yet.
+fn unsaid(closing: &Closing<'_>) -> u64
+    ensures { result ≡ closing.now.appeared_count - closing.now.said }
+{
+    closing.appeared_count.saturating_sub(closing.said)
+}
+
+/// How many lines there are for what is gone.
+fn gone_room(closing: &Closing<'_>) -> usize
+    ensures { result ≡ room_of_gone closing.now }
+{
+    room_of_sections(closing)
+        .saturating_sub(two_unless(closing.appeared_count == 0))
+        .saturating_sub(two_unless(closing.repaired_count == 0))
+        .saturating_sub(two_unless(closing.back_count == 0))
+}
+
+/// How many are left behind what is gone.
+fn behind_gone(closing: &Closing<'_>) -> usize
+    ensures { result ≡ left_behind_gone closing.now }
+{
+    let gone = section_lines(gone_room(closing), closing.gone_count);
+    room_of_sections(closing).saturating_sub(gone)
+}
+
+/// How many lines there are for what is new.
+fn new_room(closing: &Closing<'_>) -> usize
+    ensures { result ≡ room_of_new closing.now }
+{
+    behind_gone(closing)
+        .saturating_sub(two_unless(closing.repaired_count == 0))
+        .saturating_sub(two_unless(closing.back_count == 0))
+}
+
+/// How many lines what is new has in so much room.
+fn new_lines(room: usize, count: u64, unsaid: u64) -> usize
+    ensures { result ≡ lines_of_new room count unsaid }
+{
+    if count == 0 {
+        0
+    } else if unsaid == 0 {
+        1
+    } else {
+        room
+    }
+}
+
+/// How many are left behind what is new.
+fn behind_new(closing: &Closing<'_>) -> usize
+    ensures { result ≡ left_behind_new closing.now }
+{
+    let new = new_lines(new_room(closing), closing.appeared_count, unsaid(closing));
+    behind_gone(closing).saturating_sub(new)
+}
+
+/// How many lines there are for what is repaired.
+fn repaired_room(closing: &Closing<'_>) -> usize
+    ensures { result ≡ room_of_repaired closing.now }
+{
+    behind_new(closing).saturating_sub(two_unless(closing.back_count == 0))
+}
+
+/// How many lines there are for what is back.
+fn back_room(closing: &Closing<'_>) -> usize
+    ensures { result ≡ room_of_back closing.now }
+{
+    let repaired = section_lines(repaired_room(closing), closing.repaired_count);
+    behind_new(closing).saturating_sub(repaired)
 }
 
 fn kind_of(kind: GoneKind) -> &'static str
@@ -295,105 +393,122 @@ fn kind_of(kind: GoneKind) -> &'static str
 }
 
 /// Appends the line of what is gone.
-fn put_gone(gone: &Gone, text: &mut Vec<u8>) -> Result<(), AllocError>
+fn put_gone(alloc: Global, gone: &Gone, text: &mut Vec<u8>) -> Result<(), AllocError>
     ensures { OnOk result (text.new.items ≡ text.old.items ++ gone_line gone.now) }
 {
+    let path = path_of(alloc, &gone.place)?;
     text.extend_from_slice(kind_of(gone.kind).as_bytes())?;
     text.push(b'\t')?;
-    put_place(&gone.place, text)?;
+    text.extend_from_slice(path.as_bytes())?;
     text.push(b'\n')?;
     Ok(())
 }
 
-/// Appends the lines of the first 20 of what is gone.
-fn put_gone_lines(gone: &[Gone], text: &mut Vec<u8>) -> Result<(), AllocError>
+/// Appends the lines of the first of what is gone, up to so many.
+fn put_gone_lines(
+    alloc: Global,
+    gone: &[Gone],
+    most: usize,
+    text: &mut Vec<u8>,
+) -> Result<(), AllocError>
     ensures { OnOk result
-        (text.new.items ≡ text.old.items ++ gone_lines (take most_shown gone.now)) }
+        (text.new.items ≡ text.old.items ++ gone_lines (take most gone.now)) }
 {
-    put_all_lines(&gone[..gone.len().min(SHOWN)], text)
+    put_all_lines(alloc, &gone[..most.min(gone.len())], text)
 }
 
 /// Appends their lines.
-fn put_all_lines(gone: &[Gone], text: &mut Vec<u8>) -> Result<(), AllocError>
+fn put_all_lines(alloc: Global, gone: &[Gone], text: &mut Vec<u8>) -> Result<(), AllocError>
     ensures { OnOk result (text.new.items ≡ text.old.items ++ gone_lines gone.now) }
 {
     for one in gone {
-        put_gone(one, text)?;
+        put_gone(alloc, one, text)?;
     }
     Ok(())
 }
 
-/// Appends a line, what is gone, and how much more.
-fn put_all_gone(
-    alloc: Global,
-    head: &str,
-    closing: &Closing<'_>,
-    text: &mut Vec<u8>,
-) -> Result<(), AllocError>
-    ensures { OnOk result (text.new.items ≡ text.old.items
-        ++ section_text closing.now.gone_count head.now
-        (gone_lines (take most_shown closing.now.gone.now))
-        (not_shown closing.now.gone_count (length closing.now.gone.now)) closing.now.list.now) }
+/// Appends what is gone, and how much more. There is some.
+fn put_some_gone(alloc: Global, closing: &Closing<'_>, text: &mut Vec<u8>) -> Result<(), AllocError>
+    requires { closing.now.gone_count ≢ 0 }
+    ensures { OnOk result (text.new.items ≡ text.old.items ++ gone_text closing.now) }
 {
-    if closing.gone_count == 0 {
-        return Ok(());
-    }
-    text.extend_from_slice(head.as_bytes())?;
-    put_gone_lines(closing.gone, text)?;
+    let (count, room) = (closing.gone_count, gone_room(closing));
+    put_made(gone_head_of(alloc, count, closing.cycle), text)?;
+    put_gone_lines(alloc, closing.gone, most(room, count), text)?;
+    let listed = closing.gone.len();
     put_more(
         alloc,
+        list_command(),
         closing.list,
-        closing.gone_count,
-        closing.gone.len(),
+        room,
+        count,
+        listed,
         text,
     )
 }
 
 /// Appends the line of an object that is back.
-fn put_back(place: &Place, text: &mut Vec<u8>) -> Result<(), AllocError>
+fn put_back(alloc: Global, place: &Place, text: &mut Vec<u8>) -> Result<(), AllocError>
     ensures { OnOk result (text.new.items ≡ text.old.items ++ back_line place.now) }
 {
+    let path = path_of(alloc, place)?;
     text.extend_from_slice(b"object\t")?;
-    put_place(place, text)?;
+    text.extend_from_slice(path.as_bytes())?;
     text.push(b'\n')?;
     Ok(())
 }
 
-/// Appends the lines of the first 20 of those that are back.
-fn put_back_lines(back: &[Place], text: &mut Vec<u8>) -> Result<(), AllocError>
+/// Appends the lines of the first of those that are back, up to so many.
+fn put_back_lines(
+    alloc: Global,
+    back: &[Place],
+    most: usize,
+    text: &mut Vec<u8>,
+) -> Result<(), AllocError>
     ensures { OnOk result
-        (text.new.items ≡ text.old.items ++ back_lines (take most_shown back.now)) }
+        (text.new.items ≡ text.old.items ++ back_lines (take most back.now)) }
 {
-    put_all_back_lines(&back[..SHOWN.min(back.len())], text)
+    put_all_back_lines(alloc, &back[..most.min(back.len())], text)
 }
 
 /// Appends their lines.
-fn put_all_back_lines(back: &[Place], text: &mut Vec<u8>) -> Result<(), AllocError>
+fn put_all_back_lines(alloc: Global, back: &[Place], text: &mut Vec<u8>) -> Result<(), AllocError>
     ensures { OnOk result (text.new.items ≡ text.old.items ++ back_lines back.now) }
 {
     for place in back {
-        put_back(place, text)?;
+        put_back(alloc, place, text)?;
     }
     Ok(())
 }
 
-/// Appends which objects are back, and how many more.
+/// Appends which objects are back, and how many more. There are some.
+fn put_some_back(alloc: Global, closing: &Closing<'_>, text: &mut Vec<u8>) -> Result<(), AllocError>
+    requires { closing.now.back_count ≢ 0 }
+    ensures { OnOk result (text.new.items ≡ text.old.items ++ back_text closing.now) }
+{
+    let (count, room) = (closing.back_count, back_room(closing));
+    put_made(back_head_of(alloc, count, closing.cycle), text)?;
+    put_back_lines(alloc, closing.back, most(room, count), text)?;
+    let (command, listed) = (changed_command(alloc, closing)?, closing.back.len());
+    put_more(
+        alloc,
+        command.as_str(),
+        closing.report,
+        room,
+        count,
+        listed,
+        text,
+    )
+}
+
+/// Appends which objects are back; nothing of none.
 fn put_all_back(alloc: Global, closing: &Closing<'_>, text: &mut Vec<u8>) -> Result<(), AllocError>
     ensures { OnOk result (text.new.items ≡ text.old.items ++ back_text closing.now) }
 {
     if closing.back_count == 0 {
         return Ok(());
     }
-    let head = back_head_of(alloc, closing.back_count, closing.cycle)?;
-    text.extend_from_slice(head.as_bytes())?;
-    put_back_lines(closing.back, text)?;
-    put_more(
-        alloc,
-        closing.report,
-        closing.back_count,
-        closing.back.len(),
-        text,
-    )
+    put_some_back(alloc, closing, text)
 }
 
 /// The line before the objects that are back.
@@ -441,35 +556,39 @@ fn put_new(alloc: Global, closing: &Closing<'_>, text: &mut Vec<u8>) -> Result<(
     if closing.appeared_count == 0 {
         return Ok(());
     }
-    text.extend_from_slice(new_head_of(alloc, closing)?.as_bytes())?;
-    let unsaid = closing.appeared_count.saturating_sub(closing.said);
-    let (root, report) = (closing.root, closing.report);
-    put_unsaid(alloc, unsaid, closing.appeared, root, report, text)
+    let kept = closing.appeared.shown(alloc)?;
+    put_made(new_head_of(alloc, closing), text)?;
+    put_unsaid(alloc, closing, kept.as_slice(), text)
 }
 
-/// Appends the end of that line and the most serious of the findings that were not said, and how many
-/// more there are.
+/// Appends the end of that line and the most serious of the findings that were not said, of which
+/// these are kept, and how many more there are.
 fn put_unsaid(
     alloc: Global,
-    count: u64,
-    found: &Gravest,
-    root: &str,
-    report: &str,
+    closing: &Closing<'_>,
+    kept: &[Finding],
     text: &mut Vec<u8>,
 ) -> Result<(), AllocError>
-    ensures { OnOk result ((fs : List ModelFinding) → IsOf found.now fs
-        → length (by_weight fs) < 2 ^ 64
-        → text.new.items ≡ text.old.items ++ unsaid_text count fs root.now report.now) }
+    ensures { OnOk result (text.new.items ≡ text.old.items ++ unsaid_text (room_of_new closing.now)
+        (closing.now.appeared_count - closing.now.said) (map finding_of kept.now)
+        closing.now.root.now closing.now.report.now) }
 {
+    let count = unsaid(closing);
     if count == 0 {
         text.extend_from_slice(b".\n")?;
         return Ok(());
     }
     text.extend_from_slice(b":\n")?;
-    put_gravest(alloc, root, found, text)?;
-    let left = u128::from(count).saturating_sub(found.count().min(SHOWN as u128));
-    text.extend_from_slice(more(alloc, report, left)?.as_bytes())?;
-    Ok(())
+    let (root, report, room) = (closing.root, closing.report, new_room(closing));
+    put_some(
+        alloc,
+        root,
+        room.saturating_sub(2),
+        report,
+        u128::from(count),
+        kept,
+        text,
+    )
 }
 
 /// The line before those that are repaired.
@@ -495,19 +614,68 @@ fn gone_head_of(alloc: Global, count: u64, cycle: u64) -> Result<String, AllocEr
     format!(in alloc; "{lost}{are} gone or missing in cycle {cycle}:\n")
 }
 
-/// Appends what is repaired.
+/// Appends the lines of the first of what is repaired, up to so many.
+fn put_most_repaired(
+    alloc: Global,
+    repaired: &[Line],
+    most: usize,
+    text: &mut Vec<u8>,
+) -> Result<(), AllocError>
+    ensures { OnOk result (text.new.items
+        ≡ text.old.items ++ repaired_lines (map line_of (take most repaired.now))) }
+{
+    put_repaired_lines(alloc, &repaired[..most.min(repaired.len())], text)
+}
+
+/// The command that shows what changed between the reports, without the second one.
+fn changed_command(alloc: Global, closing: &Closing<'_>) -> Result<String, AllocError>
+    ensures { IfOk result (λ text. string_bytes text ≡ command_of_changes closing.now) }
+{
+    over(alloc, "ocfl-scrub-reports changed", closing.earlier)
+}
+
+/// The command that shows what is gone.
+fn list_command() -> &'static str
+    ensures { result.now ≡ command_of_list }
+{
+    "cat"
+}
+
+/// Appends what is repaired, and how much more. There is some.
+fn put_some_repaired(
+    alloc: Global,
+    closing: &Closing<'_>,
+    text: &mut Vec<u8>,
+) -> Result<(), AllocError>
+    requires { closing.now.repaired_count ≢ 0 }
+    ensures { OnOk result (text.new.items ≡ text.old.items ++ repaired_text closing.now) }
+{
+    let (count, room) = (closing.repaired_count, repaired_room(closing));
+    put_made(
+        repaired_head_of(alloc, count, closing.cycle, closing.before),
+        text,
+    )?;
+    put_most_repaired(alloc, closing.repaired, most(room, count), text)?;
+    let (command, listed) = (changed_command(alloc, closing)?, closing.repaired.len());
+    put_more(
+        alloc,
+        command.as_str(),
+        closing.report,
+        room,
+        count,
+        listed,
+        text,
+    )
+}
+
+/// Appends what is repaired; nothing of none.
 fn put_repaired(alloc: Global, closing: &Closing<'_>, text: &mut Vec<u8>) -> Result<(), AllocError>
     ensures { OnOk result (text.new.items ≡ text.old.items ++ repaired_text closing.now) }
 {
-    let (count, cycle, before) = (closing.repaired_count, closing.cycle, closing.before);
-    let head = repaired_head_of(alloc, count, cycle, before)?;
-    put_findings(
-        alloc,
-        head.as_str(),
-        (closing.repaired, count),
-        closing.earlier,
-        text,
-    )
+    if closing.repaired_count == 0 {
+        return Ok(());
+    }
+    put_some_repaired(alloc, closing, text)
 }
 
 /// How many files are not looked at any more; nothing of none.
@@ -542,13 +710,15 @@ fn put_changes(alloc: Global, closing: &Closing<'_>, text: &mut Vec<u8>) -> Resu
     put_all_back(alloc, closing, text)
 }
 
-/// What is said of a closed cycle. First the word at its end, if what the report counts is known:
-/// how many files are right of how many, how many objects and bytes, and how much is new and gone
-/// since the cycle that it was compared with; or that its report is incomplete. Then that nothing
-/// was compared, if so, and why; then what is gone, how many files are not looked at any more, and
-/// what is new, repaired and back, the first 20 of each by name, and how many more. Of what is new
-/// the most serious findings come first, by object as in [`night_text`](crate::night_text), and
-/// those that the message of this night has already are only counted.
+/// What is said of a closed cycle, in at most 13 lines. First the word at its end, if what the
+/// report counts is known: how many files are right of how many, how many objects and bytes; then
+/// how much is new and gone since the cycle that it was compared with; or that its report is
+/// incomplete. Then that nothing was compared, if so, and why; then what is gone, how many files are
+/// not looked at any more, and what is new, repaired and back. Of each of these there is a line with
+/// their number, and the first of them while there is room, what comes first in that order before
+/// the rest; then how many more there are, and the command that lists them. Of what is new the most
+/// serious findings come first, by object as in [`night_text`](crate::night_text), and those that
+/// the message of this night has already are only counted.
 pub fn closing_text(alloc: Global, closing: &Closing<'_>) -> Result<Vec<u8>, AllocError>
     // Whichever findings were taken, of fewer than 2^64.
     ensures { IfOk result (λ text. (fs : List ModelFinding) → IsOf closing.now.appeared.now fs
@@ -572,7 +742,7 @@ fn put_closing(alloc: Global, closing: &Closing<'_>, text: &mut Vec<u8>) -> Resu
     put_changes(alloc, closing, text)
 }
 
-/// Appends what is gone.
+/// Appends what is gone; nothing of none.
 fn put_gone_section(
     alloc: Global,
     closing: &Closing<'_>,
@@ -580,6 +750,8 @@ fn put_gone_section(
 ) -> Result<(), AllocError>
     ensures { OnOk result (text.new.items ≡ text.old.items ++ gone_text closing.now) }
 {
-    let head = gone_head_of(alloc, closing.gone_count, closing.cycle)?;
-    put_all_gone(alloc, head.as_str(), closing, text)
+    if closing.gone_count == 0 {
+        return Ok(());
+    }
+    put_some_gone(alloc, closing, text)
 }

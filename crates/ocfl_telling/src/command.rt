@@ -1,23 +1,49 @@
 //! A command to paste that looks at a place again.
-ghost use Rattle.std.specs.Prelude.{◌≡◌, ◌==◌, IfOk, string_bytes};
+ghost use Rattle.std.specs.Prelude.{◌≡◌, ◌++◌, ◌==◌, IfOk, codes, string_bytes};
 ghost use Rattle.std.specs.List.{list_any};
-ghost use Rattle.ocfl_telling.specs.Command.{check_text, dashes_text, is_plain as is_plain_text, path_text, then_text};
+ghost use Rattle.ocfl_telling.specs.{Command.{again_text, check_text, dashes_text, is_plain as is_plain_text, over_text, path_text}, Quoted.{quoted}};
 
 use crate::quoted::{Quoted, has_control};
+use crate::shown::Shown;
 use ocfl_report::DisplayPlace;
 use ocfl_tree::Place;
 use std::alloc::{AllocError, Global};
 
-/// How to look at a place again, behind another thing to do. Empty if no command can be pasted.
-pub(crate) fn then(alloc: Global, root: &str, place: &Place) -> Result<String, AllocError>
-    ensures { IfOk result (λ text. string_bytes text ≡ then_text root.now place.now) }
+/// The line that says how to look at a place again. Empty if no command can be pasted.
+pub(crate) fn again(alloc: Global, root: &str, place: &Place) -> Result<String, AllocError>
+    ensures { IfOk result (λ text. string_bytes text ≡ again_text root.now place.now) }
 {
     if has_control(root) {
         return Ok(String::new(alloc));
     }
     let path = path_of(alloc, place)?;
-    let check = check(alloc, root, path.as_str())?;
-    format!(in alloc; ", then: {check}")
+    again_at(alloc, root, path.as_str())
+}
+
+fn again_at(alloc: Global, root: &str, path: &str) -> Result<String, AllocError>
+    ensures { IfOk result (λ text. string_bytes text
+        ≡ codes "\tTo look again: " ++ check_text root.now path.now ++ codes "\n") }
+{
+    let check = check(alloc, root, path)?;
+    format!(in alloc; "\tTo look again: {check}\n")
+}
+
+/// A command over a file. The path alone, escaped, if it has a control character.
+pub(crate) fn over(alloc: Global, command: &str, file: &str) -> Result<String, AllocError>
+    ensures { IfOk result (λ text. string_bytes text ≡ over_text command.now file.now) }
+{
+    if has_control(file) {
+        return format!(in alloc; "{}", Shown(file));
+    }
+    over_plain(alloc, command, file)
+}
+
+fn over_plain(alloc: Global, command: &str, file: &str) -> Result<String, AllocError>
+    ensures { IfOk result
+        (λ text. string_bytes text ≡ command.now ++ codes " " ++ quoted file.now) }
+{
+    let file = Quoted(file);
+    format!(in alloc; "{command} {file}")
 }
 
 /// The command that looks at this path of a storage root.

@@ -39,7 +39,7 @@ impl Found {
     }
 
     /// Takes the next bytes, which may begin and end within a line, and leaves out what is known.
-    /// It holds one line, and at most 20 findings of each weight. To be called with one list each
+    /// It holds one line, and at most 200 findings of each weight. To be called with one list each
     /// time. [`TextStop::Bad`] if one of their lines is not a line of a report.
     pub fn take(self, alloc: Global, known: &Known, bytes: &[u8]) -> Result<Found, TextStop>
         ensures ok { IfOk result (λ found. (b : ModelText)

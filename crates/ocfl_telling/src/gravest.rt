@@ -1,16 +1,16 @@
 //! The most serious findings among those that are taken one after the other.
 ghost use Rattle.std.specs.Prelude.{◌≡◌, ◌-◌, ◌^◌, ◌<◌, List, [], ◌∷◌, ◌++◌, length, map, take, IfOk, OnOk, OnErr};
 ghost use Rattle.ocfl_telling.specs.Finding.{Finding as ModelFinding, finding_of};
-ghost use Rattle.ocfl_telling.specs.Gravest.{most_shown};
+ghost use Rattle.ocfl_telling.specs.Gravest.{most_kept};
 
 use crate::finding::Finding;
 use ocfl_codes::{Weight, weigh};
 use std::alloc::{AllocError, Global};
 
-/// How many findings are shown at most.
-pub const SHOWN: usize = 20;
+/// How many findings are kept of each weight at most.
+pub const KEPT: usize = 200;
 
-/// The first 20 of some findings, and how many there were.
+/// The first 200 of some findings, and how many there were.
 #[derive(Debug, Drop)]
 pub struct Kept {
     /// The first of them, in their order.
@@ -45,14 +45,14 @@ impl Kept {
     }
 }
 
-/// Appends a finding to the first of some, unless there are 20 already.
+/// Appends a finding to the first of some, unless there are 200 already.
 fn keep(kept: &mut Vec<Finding>, finding: Finding) -> Result<(), AllocError>
     ensures ok { OnOk result ((fs : List ModelFinding)
-        → map finding_of kept.old.items ≡ take most_shown fs
-        → map finding_of kept.new.items ≡ take most_shown (fs ++ finding_of finding ∷ [])) }
+        → map finding_of kept.old.items ≡ take most_kept fs
+        → map finding_of kept.new.items ≡ take most_kept (fs ++ finding_of finding ∷ [])) }
     ensures err { OnErr result (kept.new.items ≡ kept.old.items) }
 {
-    if kept.len() >= SHOWN {
+    if kept.len() >= KEPT {
         return Ok(());
     }
     kept.push(finding)?;
@@ -115,13 +115,13 @@ impl Gravest {
         }
     }
 
-    /// The most serious of them, up to 20.
+    /// The most serious of them, up to 200.
     pub(crate) fn shown(&self, alloc: Global) -> Result<Vec<Finding>, AllocError>
         ensures { IfOk result (λ all. (fs : List ModelFinding) → IsOf self.now fs
             → map finding_of all.items ≡ gravest fs) }
     {
         let mut all = Vec::new(alloc);
-        let room = put_first(&self.bytes.first, SHOWN, &mut all)?;
+        let room = put_first(&self.bytes.first, KEPT, &mut all)?;
         let room = put_first(&self.objects.first, room, &mut all)?;
         let room = put_first(&self.records.first, room, &mut all)?;
         put_first(&self.positions.first, room, &mut all)?;

@@ -1,17 +1,18 @@
 //! Findings by the objects that they are in.
-ghost use Rattle.std.specs.Prelude.{◌≡◌, ◌++◌, [], Some, None, IfOk, OnOk, map, string_bytes};
+ghost use Rattle.std.specs.Prelude.{◌≡◌, ◌-◌, ◌++◌, ◌∷◌, [], Some, None, IfOk, OnOk, codes, decimal, map, string_bytes};
 ghost use Rattle.std.specs.List.{list_any};
+ghost use Rattle.ocfl_codes.specs.Meaning.{first_step_of};
 ghost use Rattle.ocfl_telling.specs.Finding.{finding_of};
-ghost use Rattle.ocfl_telling.specs.Grouped.{below_text, count_like as count_alike, each_text, finding_text, folded_text, group_text, groups_text, head_text, inner_text, is_like as are_alike, is_same as are_same, is_with as are_of_one, lead_text, member_text, shown_text, step_text};
+ghost use Rattle.ocfl_telling.specs.Grouped.{below_text, brief_head, brief_text, count_like as count_alike, count_with as count_of_one, each_text, finding_text, fit_text, folded_text, group_text, head_text, inner_text, is_like as are_alike, is_same as are_same, is_same_step as are_same_step, is_with as are_of_one, lead_with, leads_of as first_ones, led_by, line_count, member_text, others_text, shown_group as text_of_group, shown_leads as ones_shown, shown_text, step_text};
 
 use crate::appending::put_made;
-use crate::command::{path_of, then};
+use crate::command::{again, path_of};
 use crate::finding::Finding;
 use crate::known::{is_code, is_place};
-use crate::wording::put_said;
+use crate::wording::{put_path_part, put_said, put_words};
 use ocfl_codes::{first_step, meaning};
 use ocfl_report::Code;
-use ocfl_tree::Place;
+use ocfl_tree::{Place, is_text};
 use std::alloc::{AllocError, Global};
 
 /// How many findings of an object are shown that have the same code.
@@ -177,70 +178,276 @@ fn other_head(alloc: Global, code: Code) -> Result<String, AllocError>
     format!(in alloc; "Elsewhere, {code}:\n")
 }
 
-/// What to do first about a finding, and how to look at it again.
-fn step(alloc: Global, root: &str, finding: &Finding) -> Result<String, AllocError>
-    ensures { IfOk result
-        (λ text. string_bytes text ≡ step_text root.now (finding_of finding.now)) }
+/// Whether the codes of two findings say the same of what to do first.
+fn is_same_step(one: &Finding, other: &Finding) -> bool
+    ensures { result ≡ are_same_step (finding_of one.now) (finding_of other.now) }
 {
-    let first = first_step(finding.line.code);
-    let then = then(alloc, root, &finding.line.place)?;
-    format!(in alloc; "\tTo do: {first}{then}\n")
+    is_text(first_step(one.line.code), first_step(other.line.code))
 }
 
-/// Appends the group of a finding.
+/// Whether one of some findings has said what to do first about another one.
+fn any_step(one: &Finding, before: &[Finding]) -> bool
+    ensures { result ≡ list_any (λ g. are_same_step (finding_of one.now) (finding_of g)) before.now }
+{
+    before.iter().any(|other| is_same_step(one, other))
+}
+
+/// Appends what to do first about a finding, unless one before it has said so.
+fn put_step(
+    alloc: Global,
+    before: &[Finding],
+    finding: &Finding,
+    text: &mut Vec<u8>,
+) -> Result<(), AllocError>
+    ensures { OnOk result (text.new.items ≡ text.old.items
+        ++ step_text (map finding_of before.now) (finding_of finding.now)) }
+{
+    if any_step(finding, before) {
+        return Ok(());
+    }
+    put_made(step(alloc, finding.line.code), text)
+}
+
+/// What to do first about a finding of this code.
+fn step(alloc: Global, code: Code) -> Result<String, AllocError>
+    ensures { IfOk result (λ text. string_bytes text
+        ≡ codes "\tTo do: " ++ first_step_of code ++ codes "\n") }
+{
+    let first = first_step(code);
+    format!(in alloc; "\tTo do: {first}\n")
+}
+
+/// Appends the group of a finding, behind groups of others.
 fn put_group(
     alloc: Global,
     root: &str,
     all: &[Finding],
+    before: &[Finding],
     finding: &Finding,
     text: &mut Vec<u8>,
 ) -> Result<(), AllocError>
-    ensures { OnOk result (text.new.items ≡ text.old.items
-        ++ group_text root.now (map finding_of all.now) (finding_of finding.now)) }
+    ensures { OnOk result (text.new.items ≡ text.old.items ++ group_text root.now
+        (map finding_of all.now) (map finding_of before.now) (finding_of finding.now)) }
 {
     put_made(head(alloc, &finding.object, finding.line.code), text)?;
     put_members(alloc, finding, all, text)?;
-    put_made(step(alloc, root, finding), text)
+    put_step(alloc, before, finding, text)?;
+    put_made(again(alloc, root, &finding.line.place), text)
 }
 
-/// Whether one of some findings is of the group of another one.
-fn any_with(one: &Finding, seen: &[Finding]) -> bool
-    ensures { result ≡ list_any (λ g. are_of_one (finding_of one.now) (finding_of g)) seen.now }
+/// How many findings are of the group of one.
+fn count_with(one: &Finding, findings: &[Finding]) -> usize
+    ensures { result ≡ count_of_one (finding_of one.now) (map finding_of findings.now) }
 {
-    seen.iter().any(|other| is_with(one, other))
+    let mut count = 0;
+    for finding in findings {
+        if is_with(one, finding) {
+            count += 1;
+        }
+    }
+    count
 }
 
-/// Appends the group of a finding, unless it has one of those before it too.
-fn put_lead(
+/// How many more findings a group has.
+fn others(alloc: Global, count: usize) -> Result<String, AllocError>
+    ensures { IfOk result (λ text. string_bytes text ≡ others_text count) }
+{
+    if count == 0 {
+        return Ok(String::new(alloc));
+    }
+    some_others(alloc, count)
+}
+
+fn some_others(alloc: Global, count: usize) -> Result<String, AllocError>
+    ensures { IfOk result
+        (λ text. string_bytes text ≡ codes ", and " ++ decimal count ++ codes " more") }
+{
+    format!(in alloc; ", and {count} more")
+}
+
+/// How the one line of a group begins.
+fn brief_head_of(alloc: Global, object: &Option<Place>) -> Result<String, AllocError>
+    ensures { IfOk result (λ text. string_bytes text ≡ brief_head object.now) }
+{
+    match object {
+        Some(object) => brief_object(alloc, object),
+        None => String::from_str(alloc, "Elsewhere: "),
+    }
+}
+
+fn brief_object(alloc: Global, object: &Place) -> Result<String, AllocError>
+    ensures { IfOk result (λ text. string_bytes text ≡ brief_head (Some object.now)) }
+{
+    let path = path_of(alloc, object)?;
+    format!(in alloc; "Object {path}: ")
+}
+
+/// Appends the group of a finding in one line.
+fn put_brief(
     alloc: Global,
-    root: &str,
     all: &[Finding],
-    seen: &[Finding],
     finding: &Finding,
     text: &mut Vec<u8>,
 ) -> Result<(), AllocError>
     ensures { OnOk result (text.new.items ≡ text.old.items
-        ++ lead_text root.now (map finding_of all.now) (map finding_of seen.now)
-        (finding_of finding.now)) }
+        ++ brief_text (map finding_of all.now) (finding_of finding.now)) }
 {
-    if any_with(finding, seen) {
-        return Ok(());
-    }
-    put_group(alloc, root, all, finding, text)
+    let path = below(alloc, &finding.object, &finding.line.place)?;
+    let count = count_with(finding, all).saturating_sub(1);
+    put_made(brief_head_of(alloc, &finding.object), text)?;
+    put_path_part(path.as_str(), text)?;
+    put_words(finding.line.code, finding.line.detail.as_str(), text)?;
+    put_made(others(alloc, count), text)?;
+    text.extend_from_slice(b"\n")
 }
 
-/// Appends findings, those of an object together.
+/// How many lines a text has.
+fn count_lines(text: &[u8]) -> usize
+    ensures { result ≡ line_count text.now }
+{
+    let mut count = 0;
+    for byte in text {
+        if *byte == b'\n' {
+            count += 1;
+        }
+    }
+    count
+}
+
+/// The group of a finding, behind groups of others: whole if that leaves a line of so many for each
+/// of the groups behind it, and else in one line.
+fn shown_group(
+    alloc: Global,
+    root: &str,
+    all: &[Finding],
+    room: usize,
+    behind: usize,
+    before: &[Finding],
+    finding: &Finding,
+) -> Result<Vec<u8>, AllocError>
+    ensures { IfOk result (λ text. text.items ≡ text_of_group root.now (map finding_of all.now)
+        room behind (map finding_of before.now) (finding_of finding.now)) }
+{
+    let mut whole = Vec::new(alloc);
+    put_group(alloc, root, all, before, finding, &mut whole)?;
+    if count_lines(whole.as_slice()) <= room.saturating_sub(behind) {
+        return Ok(whole);
+    }
+    let mut brief = Vec::new(alloc);
+    put_brief(alloc, all, finding, &mut brief)?;
+    Ok(brief)
+}
+
+/// Whether one of some findings is of the group of another one.
+fn any_with(one: &Finding, leads: &[Finding]) -> bool
+    ensures { result ≡ list_any (λ g. are_of_one (finding_of one.now) (finding_of g)) leads.now }
+{
+    leads.iter().any(|other| is_with(one, other))
+}
+
+/// Takes a finding as the first of its group, unless there is one.
+fn add_lead(finding: &Finding, leads: &mut Vec<Finding>) -> Result<(), AllocError>
+    ensures { OnOk result (map finding_of leads.new.items
+        ≡ lead_with (map finding_of leads.old.items) (finding_of finding.now)) }
+{
+    if any_with(finding, leads.as_slice()) {
+        return Ok(());
+    }
+    leads.push(finding.try_clone()?)?;
+    Ok(())
+}
+
+/// The first finding of each group.
+pub(crate) fn leads_of(alloc: Global, all: &[Finding]) -> Result<Vec<Finding>, AllocError>
+    ensures { IfOk result
+        (λ leads. map finding_of leads.items ≡ first_ones (map finding_of all.now)) }
+{
+    let mut leads = Vec::new(alloc);
+    for finding in all {
+        add_lead(finding, &mut leads)?;
+    }
+    Ok(leads)
+}
+
+/// The first findings of the groups that are shown in so many lines.
+pub(crate) fn shown_leads(
+    alloc: Global,
+    all: &[Finding],
+    room: usize,
+) -> Result<Vec<Finding>, AllocError>
+    ensures { IfOk result
+        (λ leads. map finding_of leads.items ≡ ones_shown room (map finding_of all.now)) }
+{
+    let mut leads = leads_of(alloc, all)?;
+    leads.truncate(room);
+    Ok(leads)
+}
+
+/// Takes a finding that is of one of some groups.
+fn add_led(leads: &[Finding], finding: &Finding, led: &mut Vec<Finding>) -> Result<(), AllocError>
+    ensures { OnOk result (map finding_of led.new.items ≡ map finding_of led.old.items
+        ++ led_by (map finding_of leads.now) (finding_of finding.now ∷ [])) }
+{
+    if any_with(finding, leads) {
+        led.push(finding.try_clone()?)?;
+    }
+    Ok(())
+}
+
+/// The findings that are of one of some groups.
+pub(crate) fn led(
+    alloc: Global,
+    leads: &[Finding],
+    all: &[Finding],
+) -> Result<Vec<Finding>, AllocError>
+    ensures { IfOk result (λ led. map finding_of led.items
+        ≡ led_by (map finding_of leads.now) (map finding_of all.now)) }
+{
+    let mut led = Vec::new(alloc);
+    for finding in all {
+        add_led(leads, finding, &mut led)?;
+    }
+    Ok(led)
+}
+
+/// Appends a group, and gives how many lines are left.
+fn put_fitting(
+    alloc: Global,
+    root: &str,
+    all: &[Finding],
+    room: usize,
+    behind: usize,
+    before: &[Finding],
+    finding: &Finding,
+    text: &mut Vec<u8>,
+) -> Result<usize, AllocError>
+    ensures text { OnOk result (text.new.items ≡ text.old.items ++ text_of_group root.now
+        (map finding_of all.now) room behind (map finding_of before.now) (finding_of finding.now)) }
+    ensures room { IfOk result (λ left. left ≡ room - line_count (text_of_group root.now
+        (map finding_of all.now) room behind (map finding_of before.now)
+        (finding_of finding.now))) }
+{
+    let group = shown_group(alloc, root, all, room, behind, before, finding)?;
+    text.extend_from_slice(group.as_slice())?;
+    Ok(room.saturating_sub(count_lines(group.as_slice())))
+}
+
+/// Appends the groups of these findings, in so many lines.
 pub(crate) fn put_groups(
     alloc: Global,
     root: &str,
     all: &[Finding],
+    room: usize,
+    leads: &[Finding],
     text: &mut Vec<u8>,
 ) -> Result<(), AllocError>
-    ensures { OnOk result (text.new.items
-        ≡ text.old.items ++ groups_text root.now (map finding_of all.now)) }
+    ensures { OnOk result (text.new.items ≡ text.old.items ++ fit_text root.now
+        (map finding_of all.now) room [] (map finding_of leads.now)) }
 {
-    for index in 0..all.len() {
-        put_lead(alloc, root, all, &all[..index], &all[index], text)?;
+    let mut left = room;
+    for index in 0..leads.len() {
+        let (before, behind) = (&leads[..index], leads.len() - index - 1);
+        left = put_fitting(alloc, root, all, left, behind, before, &leads[index], text)?;
     }
     Ok(())
 }

@@ -1,9 +1,13 @@
-//! The laws of findings by weight, and of lists of known findings.
-ghost use Rattle.std.specs.Prelude.{◌≡◌, List, length};
+//! The laws of findings by weight and in groups, and of lists of known findings.
+ghost use Rattle.std.specs.Prelude.{◌≡◌, ◌^◌, ◌<◌, ◌≤◌, ℕ, All, List, length};
+ghost use Rattle.ocfl_tree.specs.Place.{Text};
 ghost use Rattle.ocfl_report.specs.Line.{Line as ModelLine};
 ghost use Rattle.std.specs.List.Sorted.{IsPermutation};
-ghost use Rattle.ocfl_telling.specs.{Finding.{Finding as ModelFinding}, Known.{is_known}};
-ghost use Rattle.ocfl_telling.specs.Gravest.{findings, by_weight};
+ghost use Rattle.ocfl_telling.specs.{Finding.{Finding as ModelFinding, IsPlaced}, Known.{is_known}};
+ghost use Rattle.ocfl_telling.specs.Grouped.{groups_text, line_count};
+ghost use Rattle.ocfl_telling.specs.{Gravest.{findings, by_weight}, declared.night.Night.{Night}};
+ghost use Rattle.ocfl_telling.specs.{Night.{IsNamed, most_lines, night_text}, declared.closing.Closing.{Closing}};
+ghost use Rattle.ocfl_telling.specs.Closing.{IsMade, closing_text, most_lines as most_lines_of_closings};
 ghost use Rattle.ocfl_telling.specs.declared.known.KnownEntry.{KnownEntry as ModelEntry};
 
 /// No finding is lost when they are ordered by weight.
@@ -17,4 +21,25 @@ pub fn all_findings_are_ordered()
 pub fn order_of_entries_does_not_matter()
     ensures { (es fs : List ModelEntry) (l : ModelLine) → IsPermutation es fs
         → is_known es l ≡ is_known fs l }
+{}
+
+/// Groups of findings have no more lines than there is room for, whatever the names in their places.
+#[tactic(auto, using(crate::proofs::LineCounts::groups_fit))]
+pub fn groups_have_room()
+    ensures { (root : Text) (room : ℕ) (fs : List ModelFinding) → length fs < 2 ^ 64
+        → All IsPlaced fs → line_count (groups_text root room fs) ≤ room }
+{}
+
+/// The message of a night has at most 27 lines.
+#[tactic(auto, using(crate::proofs::LineCounts::night_is_short))]
+pub fn messages_of_nights_are_short()
+    ensures { (n : Night) (fs : List ModelFinding) → IsNamed n → length (by_weight fs) < 2 ^ 64
+        → All IsPlaced fs → line_count (night_text n fs) ≤ most_lines }
+{}
+
+/// What is said of a closed cycle has at most 13 lines, if no list has more than is counted.
+#[tactic(auto, using(crate::proofs::ClosingLines::closing_is_short))]
+pub fn closings_are_short()
+    ensures { (c : Closing) (fs : List ModelFinding) → IsMade c → All IsPlaced fs
+        → line_count (closing_text c fs) ≤ most_lines_of_closings }
 {}

@@ -26,16 +26,16 @@ mod stop;
 mod tally;
 mod wording;
 
-pub use closing::{Closing, Gone, GoneKind, closing_text};
+pub use closing::{Closing, Gone, GoneKind, SHOWN, closing_text};
 pub use finding::{Finding, Heads};
 pub use found::Found;
-pub use gravest::{Gravest, Kept, SHOWN};
+pub use gravest::{Gravest, Kept};
 pub use known::{Known, KnownEntry, Reach};
 pub use list::{KnownStop, read_known};
 pub use log::{
     BeganRow, ClosingRow, LeftRow, LogRow, NightRow, RefusalRow, SliceRow, Stands, log_line,
 };
-pub use night::{Night, night_text};
+pub use night::{Night, find_shown, night_text};
 pub use quoted::Quoted;
 pub use refusal::{RefusalMessage, refusal_text};
 pub use shown::Shown;

@@ -1,15 +1,20 @@
 //! The message after a night: the findings that were not said before.
-ghost use Rattle.std.specs.Prelude.{◌≡◌, ◌++◌, ◌^◌, ◌<◌, List, [], length, OnOk, IfOk, string_bytes};
-ghost use Rattle.ocfl_telling.specs.{Finding.{Finding as ModelFinding}, Gravest.{IsOf, by_weight, gravest}};
-ghost use Rattle.ocfl_telling.specs.Grouped.{groups_text};
-ghost use Rattle.ocfl_telling.specs.Night.{whose_text, runs_text, head_text, more_text, between_text, some_more_text, part_text, findings_text, night_text as text_of_night};
+ghost use Rattle.std.specs.Prelude.{◌≡◌, ◌-◌, ◌++◌, ◌^◌, ◌<◌, List, [], length, map, OnOk, IfOk, string_bytes};
+ghost use Rattle.ocfl_telling.specs.{Finding.{Finding as ModelFinding, finding_of}, Gravest.{IsOf, by_weight}};
+ghost use Rattle.ocfl_telling.specs.Grouped.{led_by};
+ghost use Rattle.ocfl_telling.specs.Night.{whose_text, runs_text, head_text, hint_text, more_text, between_text, some_more_text, some_text, part_text, findings_command as command_of_findings, findings_text, night_text as text_of_night, shown_findings};
 
 use crate::appending::put_made;
-use crate::gravest::{Gravest, SHOWN};
-use crate::grouped::put_groups;
+use crate::command::over;
+use crate::finding::Finding;
+use crate::gravest::Gravest;
+use crate::grouped::{leads_of, led, put_groups, shown_leads};
 use crate::many::many_wide;
 use crate::shown::Shown;
 use std::alloc::{AllocError, Global};
+
+/// How many lines of a message are of groups.
+const ROOM: usize = 24;
 
 /// What a message says of its night.
 #[derive(Clone, Copy)]
@@ -73,43 +78,89 @@ fn head(alloc: Global, night: &Night<'_>, count: u128) -> Result<String, AllocEr
     format!(in alloc; "{found} tonight in {whose}, cycle {cycle}, {runs}:\n")
 }
 
-/// How many findings are not shown, and where they are.
-pub(crate) fn more(alloc: Global, report: &str, left: u128) -> Result<String, AllocError>
-    ensures { IfOk result (λ text. string_bytes text ≡ more_text report.now left) }
+/// How many are not shown, and the command that lists all of them; nothing of none.
+pub(crate) fn more(
+    alloc: Global,
+    command: &str,
+    file: &str,
+    left: u128,
+) -> Result<String, AllocError>
+    ensures { IfOk result (λ text. string_bytes text ≡ more_text command.now file.now left) }
 {
     if left == 0 {
         return Ok(String::new(alloc));
     }
-    some_more(alloc, report, left)
+    some_more(alloc, command, file, left)
 }
 
-/// How many more are in a file.
-fn some_more(alloc: Global, report: &str, left: u128) -> Result<String, AllocError>
-    ensures { IfOk result (λ text. string_bytes text ≡ some_more_text report.now left) }
+fn some_more(alloc: Global, command: &str, file: &str, left: u128) -> Result<String, AllocError>
+    ensures { IfOk result (λ text. string_bytes text ≡ some_more_text command.now file.now left) }
 {
-    format!(in alloc; "and {left} more, in {}\n", Shown(report))
+    let over = over(alloc, command, file)?;
+    format!(in alloc; "{left} not shown here: {over}\n")
 }
 
-/// Appends the most serious findings, by object.
-pub(crate) fn put_gravest(
+/// The command that shows the findings of a report.
+fn findings_command() -> &'static str
+    ensures { result.now ≡ command_of_findings }
+{
+    "ocfl-scrub-reports findings"
+}
+
+/// Appends how many of `count` findings are not among those of these groups.
+fn put_unshown(
     alloc: Global,
-    root: &str,
-    found: &Gravest,
+    report: &str,
+    count: u128,
+    leads: &[Finding],
+    kept: &[Finding],
     text: &mut Vec<u8>,
 ) -> Result<(), AllocError>
-    ensures { OnOk result ((fs : List ModelFinding) → IsOf found.now fs
-        → text.new.items ≡ text.old.items ++ groups_text root.now (gravest fs)) }
+    ensures { OnOk result (text.new.items ≡ text.old.items ++ more_text command_of_findings
+        report.now (count - length (led_by (map finding_of leads.now) (map finding_of kept.now)))) }
 {
-    let shown = found.shown(alloc)?;
-    put_groups(alloc, root, shown.as_slice(), text)
+    let shown = led(alloc, leads, kept)?;
+    let left = count.saturating_sub(shown.len() as u128);
+    put_made(more(alloc, findings_command(), report, left), text)
 }
 
-/// The message of a night: how many findings there are, the 20 most serious of them, and how many
-/// more. Those of an object come together: after its path each of them in words, with its code and
-/// its path below the object, at most three of a code and the number of the rest; then what to do
-/// first about the first of them, and a command to paste that looks at it again. What is in no
-/// object that is known comes together by its code. Nothing if there is no finding. The commands
-/// are left out if the path of the storage root has a control character.
+/// Appends these findings by object, in so many lines, and how many more of `count` a report has.
+pub(crate) fn put_some(
+    alloc: Global,
+    root: &str,
+    room: usize,
+    report: &str,
+    count: u128,
+    kept: &[Finding],
+    text: &mut Vec<u8>,
+) -> Result<(), AllocError>
+    ensures { OnOk result (text.new.items ≡ text.old.items
+        ++ some_text root.now room report.now count (map finding_of kept.now)) }
+{
+    let leads = shown_leads(alloc, kept, room)?;
+    put_groups(alloc, root, kept, room, leads.as_slice(), text)?;
+    put_unshown(alloc, report, count, leads.as_slice(), kept, text)
+}
+
+/// Where it stands what to do about the code of each group, if there are several.
+fn hint(alloc: Global, kept: &[Finding]) -> Result<&'static str, AllocError>
+    ensures { IfOk result (λ text. text.now ≡ hint_text (map finding_of kept.now)) }
+{
+    if leads_of(alloc, kept)?.len() > 1 {
+        return Ok("What to do first about a code: ocfl-scrub codes\n");
+    }
+    Ok("")
+}
+
+/// The message of a night, of at most 27 lines: how many findings there are, the most serious of
+/// them, how many more there are and the command that lists them, and where it stands what to do
+/// about each code. Findings of an object come together. Its group has a line with its path; each
+/// finding in words, with its code and its path below the object, at most three of a code and the
+/// number of the rest; what to do first, unless a group before it says so; and a command to paste
+/// that looks at it again. Where that would leave no line for each of the groups behind it, a group
+/// has one line: its first finding, and how many more it has. What is in no object that is known
+/// comes together by its code. Nothing if there is no finding. The commands are left out if the
+/// path of the storage root has a control character.
 pub fn night_text(alloc: Global, night: &Night<'_>, found: &Gravest) -> Result<Vec<u8>, AllocError>
     // Whichever findings were taken, of fewer than 2^64.
     ensures { IfOk result (λ text. (fs : List ModelFinding) → IsOf found.now fs
@@ -120,7 +171,8 @@ pub fn night_text(alloc: Global, night: &Night<'_>, found: &Gravest) -> Result<V
     if count == 0 {
         return Ok(text);
     }
-    put_findings(alloc, night, count, found, &mut text)?;
+    let kept = found.shown(alloc)?;
+    put_findings(alloc, night, count, kept.as_slice(), &mut text)?;
     Ok(text)
 }
 
@@ -129,15 +181,24 @@ fn put_findings(
     alloc: Global,
     night: &Night<'_>,
     count: u128,
-    found: &Gravest,
+    kept: &[Finding],
     text: &mut Vec<u8>,
 ) -> Result<(), AllocError>
     requires { text.now.items ≡ [] }
-    ensures { OnOk result ((fs : List ModelFinding) → IsOf found.now fs
-        → text.new.items ≡ findings_text night.now count (gravest fs)) }
+    ensures { OnOk result
+        (text.new.items ≡ findings_text night.now count (map finding_of kept.now)) }
 {
     put_made(head(alloc, night, count), text)?;
-    put_gravest(alloc, night.root, found, text)?;
-    let left = count.saturating_sub(SHOWN as u128);
-    put_made(more(alloc, night.report, left), text)
+    put_some(alloc, night.root, ROOM, night.report, count, kept, text)?;
+    text.extend_from_slice(hint(alloc, kept)?.as_bytes())
+}
+
+/// The findings of the groups that the message of a night shows, of those that were kept.
+pub fn find_shown(alloc: Global, found: &Gravest) -> Result<Vec<Finding>, AllocError>
+    ensures { IfOk result (λ shown. (fs : List ModelFinding) → IsOf found.now fs
+        → map finding_of shown.items ≡ shown_findings fs) }
+{
+    let kept = found.shown(alloc)?;
+    let leads = shown_leads(alloc, kept.as_slice(), ROOM)?;
+    led(alloc, leads.as_slice(), kept.as_slice())
 }

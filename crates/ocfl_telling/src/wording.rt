@@ -140,7 +140,7 @@ fn put_detail(alloc: Global, code: Code, detail: &str, text: &mut Vec<u8>) -> Re
 }
 
 /// Appends a path, and what separates it from what is said of it.
-fn put_path_part(path: &str, text: &mut Vec<u8>) -> Result<(), AllocError>
+pub(crate) fn put_path_part(path: &str, text: &mut Vec<u8>) -> Result<(), AllocError>
     ensures { OnOk result (text.new.items ≡ text.old.items ++ path_part path.now) }
 {
     if path.is_empty() {
@@ -151,7 +151,7 @@ fn put_path_part(path: &str, text: &mut Vec<u8>) -> Result<(), AllocError>
 }
 
 /// Appends the words for a finding, and its code.
-fn put_words(code: Code, detail: &str, text: &mut Vec<u8>) -> Result<(), AllocError>
+pub(crate) fn put_words(code: Code, detail: &str, text: &mut Vec<u8>) -> Result<(), AllocError>
     ensures { OnOk result (text.new.items ≡ text.old.items ++ coded_text code detail.now) }
 {
     text.extend_from_slice(words(code, detail).as_bytes())?;

@@ -1,4 +1,4 @@
-use Rattle.std.proofs.{Common.{◌≡◌, ◌∙◌, ap, ◌++◌, append_assoc}, lemmas.Result.{on_ok_weaker}}
+use Rattle.std.proofs.{Common.{◌∙◌, ap, ◌++◌}, lemmas.Result.{on_ok_weaker}}
 use Rattle.ocfl_telling.specs.Closing.{back_text, ended_text, gone_text, new_text, repaired_text, uncompared_text, unlooked_text}
 use Rattle.ocfl_telling.proofs.Made.{made_text}
 use Rattle.ocfl_telling.proofs.closing.put_closing.Goals as goal

@@ -1,10 +1,9 @@
-use Rattle.std.proofs.{Common.{◌≡◌, ◌∙◌, ap, ◌++◌}, lemmas.Result.{on_ok_weaker}}
-use Rattle.ocfl_telling.{specs.Closing.{new_head}, proofs.Closings.{new_whole}}
+use Rattle.std.proofs.{Common.{map}, lemmas.Result.{on_ok_weaker}}
+use Rattle.ocfl_telling.specs.{Finding.{finding_of}}
+use Rattle.ocfl_telling.proofs.{Closings.{new_whole}, Made.{made_text}}
 use Rattle.ocfl_telling.proofs.closing.put_new.Goals as goal
 
 pub returns : goal.returns
-returns c =
-    let closing = c.args.closing.now in
-    let head : c.as_bytes.result.now ≡ new_head closing = c.as_bytes.ensures.value ∙ c.in_ok-new_head_of.ensures in
-    let start : c.extend_from_slice.new.self.items ≡ c.args.text.now.items ++ new_head closing = c.in_ok-extend_from_slice.ensures.items ∙ ap (λ t. c.args.text.now.items ++ t) head in
-    on_ok_weaker c.put_unsaid.result (λ said ls h l. new_whole closing ls _ _ _ _ c.if-closing-eq0.false start c.saturating_sub-unsaid.ensures (said ls h l)) c.put_unsaid.ensures
+returns c = on_ok_weaker c.put_unsaid.result (λ said fs h l.
+    let head = made_text c.new_head_of.result _ _ _ c.new_head_of.ensures c.in_ok-put_made.ensures in
+    new_whole c.args.closing.now fs (map finding_of c.in_ok-kept.kept.items) _ _ _ c.if-closing-eq0.false (c.in_ok-kept.ensures fs h) head (rw c.as_slice.ensures.value at said)) c.put_unsaid.ensures

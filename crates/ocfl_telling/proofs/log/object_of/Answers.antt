@@ -1,6 +1,6 @@
 use Rattle.std.proofs.Common.{◌+◌, ◌∙◌, sym, ap, List, drop}
 use Rattle.std.proofs.lemmas.List.{at_drop_all, at_drop_more}
-use Rattle.serde_json.specs.{Data.{Members, no_members, object}, View.{members_view}}
+use Rattle.serde_json.specs.{Data.{Members, object}, View.{members_view}}
 use Rattle.serde_json.proofs.Views.{view-Object}
 use Rattle.ocfl_telling.specs.{Internal.Members.{with_members}, declared.log.Member.{Member}}
 use Rattle.ocfl_telling.proofs.log.object_of.Goals as goal

@@ -3,9 +3,11 @@
 //! The list of what is gone is put in its place once all was said. While it is not there, the next
 //! night compares again.
 
+ghost use Rattle.std.proofs.lemmas.Bool.{false≢true};
+
 use crate::account::{Account, Paths, compared, compared_whole, paths_of, text_of, why_not};
 use crate::back::gone_before;
-use crate::closed::{MOST_BACK, find_made, look_at};
+use crate::closed::{find_made, look_at};
 use crate::comparing::{end_changes, find_changes, find_new, find_returned, find_unlisted};
 use crate::kept::is_told;
 use crate::lists::read_expected;
@@ -14,7 +16,7 @@ use crate::rows::Rows;
 use crate::state::failed_folder;
 use crate::state_dir::{Folder, StateDir};
 use crate::telling::Names;
-use ocfl_accounts::{ClosingStop, Found, Look, NotSaid, Pair, Say, say_cycles};
+use ocfl_accounts::{ClosingStop, Found, Look, NotSaid, Pair, Say, find_unsaid, say_cycles};
 use ocfl_disk::{Disk, SystemDisk};
 use ocfl_files::failing::{Failure, say_failure};
 use ocfl_files::timing::seconds_now;
@@ -313,6 +315,12 @@ impl<R: Room + Clock, F: Folder> Telling<'_, '_, R, F> {
 }
 
 impl<R: Room + Clock + Eprint, F: Folder> ocfl_accounts::Closings for Telling<'_, '_, R, F> {
+    ghost stays = { λ told closings. absurd (false≢true told) };
+
+    ghost counts_now = { λ told closings t k le now. absurd (false≢true told) };
+
+    ghost only_now = { λ told closings k left. absurd (false≢true told) };
+
     fn has_account(&mut self, cycle: u64) -> Result<bool, ClosingStop> {
         match is_told(self.rt, self.told.state, cycle) {
             Ok(is) => Ok(is),
@@ -346,33 +354,14 @@ impl<R: Room + Clock + Eprint, F: Folder> ocfl_accounts::Closings for Telling<'_
     }
 }
 
-/// Whether the closed report of a cycle is there, and its list is not.
-fn is_untold<R: Room, F: Folder>(rt: &R, folder: &mut F, state: &str, cycle: u64) -> bool {
-    matches!(folder.open_closed(cycle), Ok(Some(_)))
-        && matches!(is_told(rt, state, cycle), Ok(false))
-}
-
 impl<'a, R> Closings<'a, '_, R, SystemDisk<&'a R>>
 where
     R: Files<File = File> + AllocGlobal + Clock + Eprint,
 {
-    /// The first of the cycles up to this one whose closings were not said, one after the other.
-    fn first_untold(&mut self, cycle: u64) -> u64 {
-        let mut first = cycle;
-        for _ in 0..MOST_BACK {
-            if first < 2 || !is_untold(self.rt, &mut self.folder, self.names.state, first - 1) {
-                return first;
-            }
-            first -= 1;
-        }
-        first
-    }
-
     /// Says what the cycles found whose closings were not said: the last one before the night, and
     /// those before it, one after the other, and the one that the night closed. Says why a closing
     /// was not said. Gives the greatest status. Each number is 0 if there is no such cycle.
     pub fn tell<W: Write>(&mut self, before: u64, closed: u64, out: &mut W) -> u8 {
-        let first = self.first_untold(before).max(1);
         let told = Told {
             names: self.names,
             state: self.names.state,
@@ -389,8 +378,16 @@ where
             pending: None,
             failure: None,
         };
+        let mut first = before;
+        let _ = find_unsaid(&mut telling, &mut first);
         let end = before.max(closed).saturating_add(1);
         let alloc = self.rt.alloc();
-        say_cycles(alloc, &mut telling, first, end, &mut Speaking { out })
+        say_cycles(
+            alloc,
+            &mut telling,
+            first.max(1),
+            end,
+            &mut Speaking { out },
+        )
     }
 }

@@ -4,20 +4,19 @@ use crate::account::{Account, compared};
 use crate::back::{Places, without};
 use crate::closed::both;
 use crate::finding::{Findings, find_lines};
-use crate::kept::{is_as_closed, open_report};
+use crate::kept::{is_as_closed, is_marked_as_closed, open_report};
 use crate::lists::Listed;
+use crate::marking::ReportReader;
 use crate::rows::{Changes, Rows};
 use crate::state_dir::Folder;
 use ocfl_accounts::{ClosedCycle, Pair};
 use ocfl_compare::{CompareStop, TakeChange, compare, find_expected};
 use ocfl_files::failing::Failure;
-use ocfl_files::heard::HeardReader;
 use ocfl_files::making::failed_file;
 use ocfl_report::Line;
 use ocfl_telling::{Known, Shown};
 use ocfl_tree::Place;
 use std::alloc::{AllocError, Global};
-use std::fs::File;
 use std::io;
 
 /// Why a comparison stopped, with the words of the reader that failed.
@@ -65,20 +64,49 @@ fn end_list(
     }
 }
 
-/// A reader of the closed report of a cycle.
+/// A reader of the closed report of a cycle, which marks what it reads or does not.
 fn reader_of<F: Folder>(
     alloc: Global,
     folder: &mut F,
     state: &str,
     cycle: u64,
-) -> Result<HeardReader<File>, Failure> {
+    marks: bool,
+) -> Result<ReportReader, Failure> {
     match open_report(alloc, folder, state, cycle)? {
-        Some(report) => Ok(HeardReader::new(alloc, report.file)?),
+        Some(report) => Ok(ReportReader::new(alloc, report.file, marks)?),
         None => Err(Failure::saying(format!(in alloc;
             "the report of cycle {cycle} is gone from {}\n",
             Shown(state)
         ))),
     }
+}
+
+/// That the report of a cycle, one of a pair, was changed since it was closed.
+fn changed_report(alloc: Global, cycle: u64, before: u64, changed: u64) -> Failure {
+    Failure::saying(format!(in alloc;
+        "the report of cycle {cycle} was not compared with that of cycle {before}: that of \
+         cycle {changed} was changed since it was closed\n"
+    ))
+}
+
+/// Refuses the report of a cycle, one of a pair, that was read to its end and is not as it was
+/// closed. One that was not marked counts as it was.
+fn refuse_marked<F: Folder>(
+    alloc: Global,
+    folder: &mut F,
+    state: &str,
+    cycle: u64,
+    before: u64,
+    read: u64,
+    report: &ReportReader,
+) -> Result<(), Failure> {
+    let Some(mark) = report.mark() else {
+        return Ok(());
+    };
+    if is_marked_as_closed(alloc, folder, state, read, &mark)? {
+        return Ok(());
+    }
+    Err(changed_report(alloc, cycle, before, read))
 }
 
 /// Refuses the report of a cycle, one of a pair, that is not as it was closed.
@@ -93,28 +121,39 @@ fn refuse_changed<F: Folder>(
     if is_as_closed(alloc, folder, state, changed)? {
         return Ok(());
     }
-    Err(Failure::saying(format!(in alloc;
-        "the report of cycle {cycle} was not compared with that of cycle {before}: that of \
-         cycle {changed} was changed since it was closed\n"
-    )))
+    Err(changed_report(alloc, cycle, before, changed))
 }
 
-/// Takes the changes since a report before, outside of these places.
+/// Takes the changes since a report before, outside of these places. Both reports are marked while
+/// they are read, or the one before alone if this one was marked in another pass.
 fn take_all_changes<F: Folder>(
     alloc: Global,
     folder: &mut F,
     state: &str,
-    cycle: u64,
+    pair: &Pair,
     before: u64,
     left: &[Place],
     rows: &mut Rows<'_, '_>,
 ) -> Result<(), Failure> {
-    let mut earlier = reader_of(alloc, folder, state, before)?;
-    let mut now = reader_of(alloc, folder, state, cycle)?;
+    let cycle = pair.closed.cycle();
+    let mut earlier = reader_of(alloc, folder, state, before, true)?;
+    let mut now = reader_of(alloc, folder, state, cycle, before == compared(pair))?;
     let stop = match compare(alloc, &mut earlier.reader, &mut now.reader, left, rows) {
-        Ok(()) => return Ok(()),
+        Ok(()) => {
+            refuse_marked(
+                alloc,
+                folder,
+                state,
+                cycle,
+                compared(pair),
+                before,
+                &earlier,
+            )?;
+            return refuse_marked(alloc, folder, state, cycle, before, cycle, &now);
+        }
         Err(stop) => stop,
     };
+    refuse_changed_pair(alloc, folder, state, pair)?;
     let error = match stop {
         CompareStop::BeforeFailed => earlier.error(),
         _ => now.error(),
@@ -127,12 +166,12 @@ fn compare_with<F: Folder>(
     alloc: Global,
     folder: &mut F,
     state: &str,
-    cycle: u64,
+    pair: &Pair,
     before: u64,
     left: &[Place],
     rows: &mut Rows<'_, '_>,
 ) -> Result<Changes, Failure> {
-    take_all_changes(alloc, folder, state, cycle, before, left, rows)?;
+    take_all_changes(alloc, folder, state, pair, before, left, rows)?;
     Ok(rows.take_changes())
 }
 
@@ -163,17 +202,8 @@ fn compare_before<F: Folder>(
     let Some(before) = &pair.before else {
         return Ok(Changes::new(alloc));
     };
-    refuse_changed_pair(alloc, folder, state, pair)?;
     let left = both(alloc, pair.closed.left(), before.left())?;
-    compare_with(
-        alloc,
-        folder,
-        state,
-        pair.closed.cycle(),
-        before.cycle(),
-        &left,
-        rows,
-    )
+    compare_with(alloc, folder, state, pair, before.cycle(), &left, rows)
 }
 
 /// Finds what changed since the last whole report, where the one before alone left something
@@ -193,7 +223,7 @@ fn compare_whole<'p, F: Folder>(
         alloc,
         folder,
         state,
-        pair.closed.cycle(),
+        pair,
         whole.cycle(),
         pair.closed.left(),
         rows,
@@ -214,7 +244,7 @@ fn search<F: Folder, T: TakeChange>(
     left: &[Place],
     taker: &mut T,
 ) -> Result<(), Failure> {
-    let mut report = reader_of(alloc, folder, state, cycle)?;
+    let mut report = reader_of(alloc, folder, state, cycle, false)?;
     match find_expected(alloc, objects, &mut report.reader, left, taker) {
         Ok(()) => Ok(()),
         Err(stop) => Err(uncompared(alloc, cycle, before, stop, report.error())),
@@ -232,7 +262,7 @@ fn find_in<F: Folder>(
     known: &Known,
     said: &[Line],
 ) -> Result<Findings, Failure> {
-    let mut report = reader_of(alloc, folder, state, cycle)?;
+    let mut report = reader_of(alloc, folder, state, cycle, false)?;
     match find_lines(alloc, &mut report.reader, named, known, said) {
         Ok(found) => Ok(found),
         Err(error) => Err(Failure::saying(format!(in alloc;

@@ -69,7 +69,7 @@ pub(crate) fn lines_of(alloc: Global, gravest: &Gravest) -> Result<Vec<Line>, Al
 }
 
 /// Appends the lines of findings.
-fn put_lines(findings: &[Finding], lines: &mut Vec<Line>) -> Result<(), AllocError> {
+pub(crate) fn put_lines(findings: &[Finding], lines: &mut Vec<Line>) -> Result<(), AllocError> {
     for finding in findings {
         let Finding {
             line,
@@ -86,7 +86,7 @@ fn is_named(named: &Line, line: &Line) -> bool {
     is_code && named.place == line.place
 }
 
-/// A line of a report. `None` for what begins as one that finds nothing, and is none.
+/// A line of a report. `None` if it begins as one that finds nothing, and is not one.
 fn line_of(alloc: Global, text: &[u8]) -> io::Result<Option<Line>> {
     match read_line(alloc, text) {
         Ok(line) => Ok(Some(line)),

@@ -71,17 +71,37 @@ pub(crate) fn read_kept<F: Folder>(
     }
 }
 
-/// How many names the storage root had when a cycle began, if that was kept.
-pub(crate) fn find_names<F: Folder>(
+/// A closed report, and what was kept of its closing.
+#[derive(Drop)]
+pub(crate) struct ClosedIn {
+    pub(crate) report: OpenReport,
+    /// How many bytes the report has.
+    pub(crate) bytes: u64,
+    /// The checkpoint with which it was closed. `None` where it was not kept, and `Some(None)` where
+    /// what was kept is no checkpoint any more.
+    pub(crate) kept: Option<Option<Checkpoint>>,
+}
+
+/// Opens the closed report of a cycle, if it is there, with what was kept of its closing.
+pub(crate) fn open_closed<F: Folder>(
     alloc: Global,
     folder: &mut F,
     state: &str,
     cycle: u64,
-) -> Result<Option<u64>, Failure> {
-    match read_kept(alloc, folder, state, cycle)? {
-        Some(Some(checkpoint)) => Ok(Some(checkpoint.names.count)),
-        _ => Ok(None),
-    }
+) -> Result<Option<ClosedIn>, Failure> {
+    let Some(report) = open_report(alloc, folder, state, cycle)? else {
+        return Ok(None);
+    };
+    let bytes = match report.file.metadata() {
+        Ok(metadata) => metadata.len(),
+        Err(error) => return Err(failed_report(alloc, state, cycle, report.whole, error)),
+    };
+    let kept = read_kept(alloc, folder, state, cycle)?;
+    Ok(Some(ClosedIn {
+        report,
+        bytes,
+        kept,
+    }))
 }
 
 /// The bytes of the checkpoint in a state folder, if one is there.
@@ -125,6 +145,22 @@ pub(crate) fn new_list_path(alloc: Global, state: &str, cycle: u64) -> Result<St
 pub(crate) fn is_told<R: Room>(rt: &R, state: &str, cycle: u64) -> Result<bool, AllocError> {
     let list = list_path(rt.global(), state, cycle)?;
     Ok(rt.has(list.as_str()))
+}
+
+/// Whether the closed report of a cycle, read to its end with this mark, is as it was when it was
+/// closed. One without a kept checkpoint counts so.
+pub(crate) fn is_marked_as_closed<F: Folder>(
+    alloc: Global,
+    folder: &mut F,
+    state: &str,
+    cycle: u64,
+    mark: &ReportMark,
+) -> Result<bool, Failure> {
+    match read_kept(alloc, folder, state, cycle)? {
+        Some(Some(kept)) => Ok(kept.report == *mark),
+        Some(None) => Ok(false),
+        None => Ok(true),
+    }
 }
 
 /// That the closed report of a cycle could not be read.

@@ -1,9 +1,12 @@
 //! What the state folders of parts say of their nights.
 
+use crate::closed::places_of;
+use crate::kept::{ClosedIn, is_told};
 use crate::room::Room;
 use crate::stand::Standing;
 use ocfl_cursor::{PartEnds, Refused};
 use ocfl_files::failing::Failure;
+use ocfl_joining::ClosedPart;
 use ocfl_state::{Checkpoint, RootIdentity, decode_checkpoint};
 use ocfl_telling::Shown;
 use ocfl_tree::Place;
@@ -48,7 +51,7 @@ fn root_text(alloc: Global, identity: &RootIdentity) -> Result<Vec<u8>, AllocErr
 }
 
 /// The place of an end, if there is one.
-pub(crate) fn place_of(end: &Option<Place>) -> Result<Option<Place>, AllocError> {
+fn place_of(end: &Option<Place>) -> Result<Option<Place>, AllocError> {
     match end {
         Some(place) => Ok(Some(place.try_clone()?)),
         None => Ok(None),
@@ -121,44 +124,84 @@ where
     Ok(all)
 }
 
-/// How many names the storage root had when the part with a number began a cycle, if that was kept.
-fn read_names<R>(rt: &R, state: &str, number: usize, cycle: u64) -> Result<Option<u64>, Failure>
+/// Whether a report of no bytes had lines when it was closed.
+pub(crate) fn is_emptied(facts: &Facts, cycle: u64, bytes: u64) -> bool {
+    bytes == 0 && facts.has_lines && facts.last == cycle
+}
+
+/// The places that were left out of a closed report, as far as they are known.
+fn left_out(alloc: Global, closed: &ClosedIn) -> Result<Vec<Place>, AllocError> {
+    match &closed.kept {
+        Some(Some(checkpoint)) => places_of(alloc, &checkpoint.left),
+        _ => Ok(Vec::new(alloc)),
+    }
+}
+
+/// How many names the storage root had when the cycle of a closed report began, if that was kept.
+fn names_of(closed: &ClosedIn) -> Option<u64> {
+    match &closed.kept {
+        Some(Some(checkpoint)) => Some(checkpoint.names.count),
+        _ => None,
+    }
+}
+
+/// What is known of the report that a part closed, if that is there.
+fn known_part(
+    alloc: Global,
+    facts: &Facts,
+    cycle: u64,
+    told: bool,
+    closed: &ClosedIn,
+) -> Result<ClosedPart, AllocError> {
+    Ok(ClosedPart {
+        root: facts.root.to_vec(alloc)?,
+        from: place_of(&facts.from)?,
+        below: place_of(&facts.below)?,
+        cycle,
+        whole: closed.report.whole,
+        told,
+        names: names_of(closed),
+        left: left_out(alloc, closed)?,
+    })
+}
+
+/// What is known of the report that the part with a number closed.
+fn find_part<R>(
+    rt: &R,
+    state: &str,
+    number: usize,
+    facts: &Facts,
+    cycle: u64,
+) -> Result<Option<ClosedPart>, Failure>
 where
     R: Room,
 {
     let path = part_path(rt.global(), state, number)?;
-    rt.names_in(path.as_str(), cycle)
+    let Some(closed) = rt.closed_in(path.as_str(), cycle)? else {
+        return Ok(None);
+    };
+    let told = is_told(rt, path.as_str(), cycle)?;
+    Ok(Some(known_part(rt.global(), facts, cycle, told, &closed)?))
 }
 
-/// How many names the storage root had when each part began a cycle, if that was kept.
-pub(crate) fn read_all_names<R>(
+/// What is known of the reports that all parts closed in a cycle.
+pub(crate) fn closed_parts<R>(
     rt: &R,
     state: &str,
-    count: usize,
+    all: &[Option<Facts>],
     cycle: u64,
-) -> Result<Vec<Option<u64>>, Failure>
+) -> Result<Vec<Option<ClosedPart>>, Failure>
 where
     R: Room,
 {
-    let mut all = Vec::new(rt.global());
-    for number in 1..=count {
-        all.push(read_names(rt, state, number, cycle)?)?;
+    let mut parts = Vec::new(rt.global());
+    for (index, one) in all.iter().enumerate() {
+        parts.push(match one {
+            Some(facts) => find_part(rt, state, index.saturating_add(1), facts, cycle)?,
+            None => None,
+        })?;
     }
-    Ok(all)
-}
-
-/// The most of these numbers; 0 if none is known.
-pub(crate) fn most_of(all: &[Option<u64>]) -> u64 {
-    let mut most = 0;
-    for one in all {
-        most = one.unwrap_or(0).max(most);
-    }
-    most
-}
-
-/// Whether a number of names is less than half of the most.
-pub(crate) fn is_few(names: u64, most: u64) -> bool {
-    names < most.saturating_sub(names)
+    Ok(parts)
 }
 
 /// The last cycle that each part has closed. 0 if one has closed none.

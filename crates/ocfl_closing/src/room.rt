@@ -1,8 +1,7 @@
 //! What the program's system is asked for: the functions over it need no more of it than this.
 
-use crate::kept::{find_names, is_as_closed, open_report, read_checkpoint};
+use crate::kept::{ClosedIn, open_closed, read_checkpoint};
 use crate::state::{hold_folder, open_state};
-use ocfl_disk::OpenReport;
 use ocfl_files::failing::Failure;
 use ocfl_files::files::open_if_there;
 use ocfl_files::making::{is_there, make_file, make_folder, put_made};
@@ -43,14 +42,9 @@ pub(crate) trait Room {
     /// The bytes of the checkpoint in a state folder, if one is there.
     fn checkpoint_in(&self, path: &str) -> Result<Option<Vec<u8>>, Failure>;
 
-    /// How many names the storage root had when a cycle began, if a state folder kept that.
-    fn names_in(&self, path: &str, cycle: u64) -> Result<Option<u64>, Failure>;
-
-    /// Opens the closed report of a cycle in a state folder.
-    fn report_in(&self, path: &str, cycle: u64) -> Result<Option<OpenReport>, Failure>;
-
-    /// Whether the report of a cycle in a state folder is as it was closed.
-    fn is_as_closed_in(&self, path: &str, cycle: u64) -> Result<bool, Failure>;
+    /// Opens the closed report of a cycle in a state folder, if it is there, with what was kept of
+    /// its closing.
+    fn closed_in(&self, path: &str, cycle: u64) -> Result<Option<ClosedIn>, Failure>;
 }
 
 impl<R: Files<File = File> + AllocGlobal> Room for R {
@@ -95,18 +89,8 @@ impl<R: Files<File = File> + AllocGlobal> Room for R {
         read_checkpoint(self.alloc(), &mut folder, path)
     }
 
-    fn names_in(&self, path: &str, cycle: u64) -> Result<Option<u64>, Failure> {
+    fn closed_in(&self, path: &str, cycle: u64) -> Result<Option<ClosedIn>, Failure> {
         let mut folder = open_state(self, path, path, false)?;
-        find_names(self.alloc(), &mut folder, path, cycle)
-    }
-
-    fn report_in(&self, path: &str, cycle: u64) -> Result<Option<OpenReport>, Failure> {
-        let mut folder = open_state(self, path, path, false)?;
-        open_report(self.alloc(), &mut folder, path, cycle)
-    }
-
-    fn is_as_closed_in(&self, path: &str, cycle: u64) -> Result<bool, Failure> {
-        let mut folder = open_state(self, path, path, false)?;
-        is_as_closed(self.alloc(), &mut folder, path, cycle)
+        open_closed(self.alloc(), &mut folder, path, cycle)
     }
 }

@@ -5,7 +5,7 @@ use crate::stand::Standing;
 use crate::state_dir::{Folder, StateDir};
 use ocfl_disk::{Reason, StateFile, StateStop, SystemDisk};
 use ocfl_files::failing::Failure;
-use ocfl_files::files::{folder_of, lies_inside, path_of};
+use ocfl_files::files::{folder_of, path_of};
 use ocfl_files::making::{FILE_MODE, failed_file, is_there};
 use ocfl_state::{Checkpoint, FolderTrouble, decode_checkpoint};
 use ocfl_telling::{RefusalMessage, Shown, refusal_text};
@@ -14,38 +14,10 @@ use std::alloc::{AllocError, Global};
 use std::fs::{self, File, OpenOptions, TryLockError};
 use std::io::{self, ErrorKind};
 use std::os::unix::fs::OpenOptionsExt;
-use std::path::Path;
 use std::rt::Files;
 
 /// The exit status if another night holds the folder's lock.
 const HELD: u8 = 75;
-
-/// Refuses a state folder in the storage root, and a storage root in the state folder.
-pub fn refuse_overlap<R>(rt: &R, state: &str, root: &str) -> Result<(), Failure>
-where
-    R: Files + AllocGlobal,
-{
-    match overlap(rt, state, root) {
-        Ok(false) => Ok(()),
-        Ok(true) => Err(Failure::usage(format!(in rt.alloc();
-            "the state folder and the storage root lie one in the other, and nothing is written \
-             into a storage root\n"
-        )?)),
-        Err(_) => Err(Failure::from(AllocError)),
-    }
-}
-
-/// Whether the folder is in the root, or would be, or the root in the folder.
-fn overlap<R: Files + AllocGlobal>(rt: &R, state: &str, root: &str) -> io::Result<bool> {
-    match path_of(rt, state)? {
-        Some(folder) => {
-            let folder = folder.as_path();
-            let root = Path::new(root);
-            Ok(folder.starts_with(root) || root.starts_with(folder))
-        }
-        None => lies_inside(rt, state.trim_end_matches('/'), root),
-    }
-}
 
 /// Refuses to begin nights in a folder that has those of parts.
 fn refuse_parts<R: Files + AllocGlobal>(rt: &R, state: &str) -> Result<(), Failure> {

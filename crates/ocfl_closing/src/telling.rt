@@ -1,11 +1,11 @@
 //! The output of a night: the bytes of its report come in, and what was found goes out.
 
-use crate::finding::lines_of;
+use crate::finding::put_lines;
 use crate::stand::Standing;
 use ocfl_disk::StateFile;
-use ocfl_files::reasons::{Reasons, reason_line, take_reasons};
+use ocfl_files::reasons::{Reasons, take_reasons};
 use ocfl_report::{Code, Line, TextStop, read_line, write_all_of};
-use ocfl_telling::{Finding, Found, Gravest, Known, Night, SHOWN, night_text};
+use ocfl_telling::{Finding, Found, Gravest, Known, Night, find_shown, night_text};
 use std::alloc::{AllocError, Global};
 use std::cell::Cell;
 use std::io::{self, ErrorKind, Write};
@@ -110,7 +110,7 @@ impl<'n, W: Write + Drop> Teller<'n, W> {
         self.broken
     }
 
-    /// The lines that were said: of each message the most serious, as many as are shown.
+    /// The lines that were said: of each message those of the groups that it shows.
     pub fn into_said(self) -> Vec<Line> {
         let Teller {
             alloc: _alloc,
@@ -130,10 +130,8 @@ impl<'n, W: Write + Drop> Teller<'n, W> {
     }
 
     /// Keeps the lines that a message has. Those for which there is no memory are not kept.
-    fn keep_said(&mut self, gravest: &Gravest) -> Result<(), AllocError> {
-        let mut lines = lines_of(self.alloc, gravest)?;
-        lines.truncate(SHOWN);
-        self.said.append(&mut lines)
+    fn keep_said(&mut self, shown: Result<Vec<Finding>, AllocError>) -> Result<(), AllocError> {
+        put_lines(&shown?, &mut self.said)
     }
 
     /// Takes a line that is a report's, with its line feed.
@@ -182,15 +180,14 @@ impl<'n, W: Write + Drop> Teller<'n, W> {
     }
 
     /// The text about what was found.
-    fn text_of(&self, now: Standing, gravest: &Gravest) -> Result<Vec<u8>, AllocError> {
-        let mut text = message(self.alloc, self.names, self.said_to, now, gravest)?;
+    fn text_of(&self, now: Standing, gravest: &mut Gravest) -> Result<Vec<u8>, AllocError> {
         let reasons = take_reasons(self.alloc, &self.reasons);
-        put_reasons(self.alloc, gravest, &reasons, &mut text)?;
-        Ok(text)
+        put_reasons(self.alloc, gravest, &reasons)?;
+        message(self.alloc, self.names, self.said_to, now, gravest)
     }
 
     /// Says what was found, all of it.
-    fn say(&mut self, now: Standing, gravest: &Gravest) -> io::Result<()> {
+    fn say(&mut self, now: Standing, gravest: &mut Gravest) -> io::Result<()> {
         let text = self.text_of(now, gravest)?;
         if write_all_of(&mut self.out, &text).is_err() {
             return Err(io::Error::from(ErrorKind::WriteZero));
@@ -199,14 +196,15 @@ impl<'n, W: Write + Drop> Teller<'n, W> {
     }
 
     /// Says what was found, and notes that it was said.
-    fn tell(&mut self, gravest: &Gravest) -> io::Result<()> {
+    fn tell(&mut self, gravest: &mut Gravest) -> io::Result<()> {
         let now = self.now.get();
+        let shown = find_shown(self.alloc, gravest);
         self.say(now, gravest)?;
         let count = u64::try_from(gravest.count()).unwrap_or(u64::MAX);
         self.findings = self.findings.saturating_add(count);
         self.said_to = now;
         self.found = Some(Found::new(self.alloc));
-        let _ = self.keep_said(gravest);
+        let _ = self.keep_said(shown);
         Ok(())
     }
 }
@@ -224,7 +222,7 @@ impl<W: Write + Drop> Write for Teller<'_, W> {
 
     fn flush(&mut self) -> io::Result<()> {
         match self.take_found() {
-            Ok(gravest) => self.tell(&gravest),
+            Ok(mut gravest) => self.tell(&mut gravest),
             Err(stop) => Err(error_of(stop)),
         }
     }
@@ -276,43 +274,34 @@ fn report_of(now: Standing) -> StateFile {
     }
 }
 
-/// Appends why the first of these could not be read that could not, of at most `room`. Gives how
-/// many more there may be.
-fn put_reasons_of(
-    alloc: Global,
-    findings: &[Finding],
-    reasons: &Reasons,
-    room: usize,
-    text: &mut Vec<u8>,
-) -> Result<usize, AllocError> {
-    for finding in &findings[..findings.len().min(room)] {
-        let line = &finding.line;
-        if line.code == Code::S08 {
-            if let Some(words) = reasons.find(&line.place) {
-                text.extend_from_slice(reason_line(alloc, &line.place, words)?.as_bytes())?;
-            }
+/// Puts why its place could not be read into a line that says no more than that.
+fn put_reason(alloc: Global, line: &mut Line, reasons: &Reasons) -> Result<(), AllocError> {
+    if line.code == Code::S08 {
+        if let Some(words) = reasons.find(&line.place) {
+            line.detail = String::from_str(alloc, words)?;
         }
     }
-    Ok(room.saturating_sub(findings.len()))
+    Ok(())
 }
 
-/// Appends why those files could not be read that a message shows.
-fn put_reasons(
+/// Puts why places could not be read into the findings of one weight.
+fn put_reasons_of(
     alloc: Global,
-    found: &Gravest,
+    findings: &mut Vec<Finding>,
     reasons: &Reasons,
-    text: &mut Vec<u8>,
 ) -> Result<(), AllocError> {
-    let mut room = SHOWN;
-    for kept in [
-        &found.bytes,
-        &found.objects,
-        &found.records,
-        &found.positions,
-    ] {
-        room = put_reasons_of(alloc, &kept.first, reasons, room, text)?;
+    for finding in findings.iter_mut() {
+        put_reason(alloc, &mut finding.line, reasons)?;
     }
     Ok(())
+}
+
+/// Puts why places could not be read into what a message says of them.
+fn put_reasons(alloc: Global, found: &mut Gravest, reasons: &Reasons) -> Result<(), AllocError> {
+    put_reasons_of(alloc, &mut found.bytes.first, reasons)?;
+    put_reasons_of(alloc, &mut found.objects.first, reasons)?;
+    put_reasons_of(alloc, &mut found.records.first, reasons)?;
+    put_reasons_of(alloc, &mut found.positions.first, reasons)
 }
 
 /// The message about what was found.

@@ -1,24 +1,24 @@
 //! A night over a storage root and its state folder.
-ghost use Rattle.std.specs.Prelude.{[], false};
-
+mod clock;
 mod ending;
+mod speaking;
 
+use crate::nights::clock::{RunLog, System};
 use crate::nights::ending::{Runs, said_of};
+use crate::nights::speaking::Words;
 use ocfl_closing::stand::Standing;
 use ocfl_digest::Block;
 use ocfl_files::failing::Failure;
 use ocfl_files::reasons::{Reasons, words_on};
-use ocfl_files::saying::STOPPED;
 use ocfl_files::timing::seconds_now;
 use ocfl_folder::FsTree;
-use ocfl_journal::RunMade;
-use ocfl_journal::clock::NightClock;
-use ocfl_journal::ending::{Ended, end_night, log_unbegun, status_told};
+use ocfl_journal::ending::{end_night, log_ended, log_unbegun, status_told};
 use ocfl_journal::given::{Found, Given, find_given};
 use ocfl_journal::noting::{Beside, OnDisk, open_noting};
 use ocfl_journal::waiting::{find_wait, say_wait};
 use ocfl_line::NightAsked;
-use ocfl_night::{Flushing, Made, NightEnd, Output, Plan, Site, SliceEnd, night};
+use ocfl_night::{NightEnd, Output, Plan, Site, night};
+use ocfl_plan::{Budgeted, Hearing, Telling, plan_of};
 use ocfl_state::StateFolder;
 use ocfl_terminal::progress::{Clearing, Reasoned, Terminals, Watched, clear};
 use ocfl_terminal::streams::take_streams;
@@ -29,9 +29,6 @@ use std::fs::File;
 use std::io::{self, Printer};
 use std::rt::{Env, Files};
 use std::time::Clock;
-
-/// How many files a run starts at most.
-const SLICE_FILES: u64 = 20_000;
 
 /// A night that is to be made.
 struct Planned<'a> {
@@ -51,69 +48,16 @@ impl Drop for Planned<'_> {
     }
 }
 
-/// A night by what it is made with.
-fn planned_by(found: Found<'_>) -> Planned<'_> {
-    let Found { given, place, ends } = found;
-    let plan = plan_of(&given);
-    Planned {
-        given,
-        site: Site { path: place, ends },
-        plan,
+/// What a night may do. One that may not begin a new cycle yet says so.
+fn find_plan<R>(rt: &R, given: &Given<'_>, began: Standing) -> Result<Plan, AllocError>
+where
+    R: Files + AllocGlobal + Eprint,
+{
+    let wait = find_wait(rt, given, began);
+    if let Some(wait) = wait {
+        say_wait(rt, wait)?;
     }
-}
-
-/// What a night may do.
-fn plan_of(given: &Given<'_>) -> Plan {
-    let asked = given.asked;
-    Plan {
-        slice_budget: given.slice,
-        slice_files: SLICE_FILES,
-        end: given.end,
-        files: asked.bounds.files,
-        create: asked.create,
-        force_root: asked.force_root,
-        stop_at_faults: asked.stop_at_faults,
-    }
-}
-
-/// The clock of a night, which hears its runs.
-#[derive(Drop)]
-struct Hearing<'a, R: Files<File = File> + AllocGlobal> {
-    clock: NightClock<'a, R>,
-}
-
-/// The status of a run: 3 if it stopped, 1 if it found something, else 0.
-fn status_of_run(made: &Made) -> u8 {
-    match made.end {
-        SliceEnd::Stopped(_) => STOPPED,
-        _ if made.found => 1,
-        _ => 0,
-    }
-}
-
-/// A run is logged, unless nothing of it is kept.
-impl<R: Files<File = File> + AllocGlobal + Clock> ocfl_night::Clock for Hearing<'_, R> {
-    ghost told = { false };
-
-    ghost events = { λ _. [] };
-
-    fn now(&mut self) -> u64 {
-        self.clock.now()
-    }
-
-    fn is_stopped(&mut self) -> bool {
-        self.clock.is_stopped()
-    }
-
-    fn hears(&mut self, made: &Made) {
-        if !matches!(made.end, SliceEnd::RootChanged | SliceEnd::Unread(_)) {
-            self.clock.log_run(RunMade {
-                checkpoint: &made.checkpoint,
-                cost: made.spent,
-                status: status_of_run(made),
-            });
-        }
-    }
+    Ok(plan_of(given.asked, given.began, given.shown, wait.is_some()))
 }
 
 /// Whether progress is shown, and what the last cycle cost, if that is known.
@@ -214,12 +158,17 @@ where
         last_cost: last_cost(noting.began()),
     };
     let Beside {
-        clock,
-        mut teller,
+        stop,
+        journal,
+        speaker,
         reasons,
-    } = noting.beside(&planned.given, output_on(rt, shown_on))?;
-    let mut clock = Hearing { clock };
-    let mut out = Flushing::over(&mut teller);
+    } = noting.beside(&planned.given)?;
+    let began = planned.given.began;
+    let mut clock = Hearing {
+        clock: Budgeted::of(planned.given.asked, System { stop }),
+        listener: RunLog { journal, began },
+    };
+    let mut out = Telling::over(Words { speaker }, output_on(rt, shown_on));
     let (end, why) = night_in(
         rt,
         planned,
@@ -232,7 +181,7 @@ where
     Ok(Runs {
         end,
         why,
-        told: noting.told_by(teller),
+        told: noting.told_by(out.into_message().speaker),
     })
 }
 
@@ -248,13 +197,13 @@ where
     }
 }
 
-/// Makes the runs of a night over an open folder, and gives how it ended.
+/// Makes the runs of a night over an open folder, and gives what is said of how it ended.
 fn run_night<'a, R>(
     rt: &'a R,
     planned: &Planned<'_>,
     noting: &mut OnDisk<'a, R>,
     shown_on: Terminals,
-) -> Result<Ended, Failure>
+) -> Result<(Runs, Option<String>), Failure>
 where
     R: Files<File = File> + Env + AllocGlobal + Clock + Print + Eprint,
 {
@@ -263,31 +212,27 @@ where
         clear(rt);
     }
     let said = said_of(rt.alloc(), planned.given.names(), &runs, noting.reason())?;
-    Ok(runs.ended(said))
-}
-
-/// Keeps a night that stands there from a new cycle that may not begin yet: it makes no run.
-fn refuse_early<R>(rt: &R, planned: &mut Planned<'_>, began: Standing) -> Result<(), AllocError>
-where
-    R: Files + AllocGlobal + Eprint,
-{
-    if let Some(wait) = find_wait(rt, &planned.given, began) {
-        say_wait(rt, wait)?;
-        planned.plan.end = Some(0);
-    }
-    Ok(())
+    Ok((runs, said))
 }
 
 /// Makes a night, and gives its status.
-fn make_planned<R>(rt: &R, planned: Planned<'_>, shown_on: Terminals) -> Result<u8, Failure>
+fn make_found<R>(rt: &R, found: Found<'_>, shown_on: Terminals) -> Result<u8, Failure>
 where
     R: Files<File = File> + Env + AllocGlobal + Clock + Print + Eprint,
 {
-    let mut planned = planned;
-    let mut noting = open_noting(rt, &planned.given)?;
-    refuse_early(rt, &mut planned, noting.began())?;
-    let ended = run_night(rt, &planned, &mut noting, shown_on)?;
-    end_night(rt, &planned.given, noting, &ended)
+    let Found { given, place, ends } = found;
+    let mut noting = open_noting(rt, &given)?;
+    let plan = find_plan(rt, &given, noting.began())?;
+    let planned = Planned {
+        given,
+        site: Site { path: place, ends },
+        plan,
+    };
+    let (runs, said) = run_night(rt, &planned, &mut noting, shown_on)?;
+    let ended = runs.ended(&said);
+    let closed = end_night(rt, &planned.given, noting, ended)?;
+    let status = runs.status(closed.told);
+    Ok(log_ended(rt, closed, &planned.given, ended, status))
 }
 
 /// The same of a night that is asked for.
@@ -298,7 +243,7 @@ where
     let _streams = take_streams(rt)?;
     let began = seconds_now(rt);
     match find_given(rt, asked, began) {
-        Ok(found) => make_planned(rt, planned_by(found), shown_on),
+        Ok(found) => make_found(rt, found, shown_on),
         Err(failure) => {
             log_unbegun(rt, asked, began, &failure);
             Err(failure)

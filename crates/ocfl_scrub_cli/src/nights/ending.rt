@@ -7,7 +7,8 @@ use ocfl_disk::Reason;
 use ocfl_item::Fault;
 use ocfl_journal::ending::Ended;
 use ocfl_journal::noting::Told;
-use ocfl_night::{Halt, NightEnd, Refusal, Stop, status_found, status_of};
+use ocfl_night::{Halt, NightEnd, Refusal, Stop};
+use ocfl_plan::{closed_by, is_logged, night_status};
 use ocfl_state::FolderTrouble;
 use ocfl_telling::{RefusalMessage, StopMessage, refusal_text, stop_text};
 use std::alloc::{AllocError, Global};
@@ -59,65 +60,23 @@ pub(crate) fn said_of(
     )
 }
 
-/// The cycle that a night closed, 0 for none. `None` if the night was refused.
-fn closed_by(halt: &Halt) -> Option<u64> {
-    match halt {
-        Halt::Refused(_) => None,
-        Halt::CycleEnded(cycle) => Some(*cycle),
-        _ => Some(0),
-    }
-}
-
-/// Whether a night that ended so is logged in its folder.
-fn is_logged(halt: &Halt) -> bool {
-    match halt {
-        Halt::Refused(refusal) => is_own(refusal),
-        _ => true,
-    }
-}
-
 impl Runs {
     /// How the night ended. `said` is what is said of that.
-    pub(crate) fn ended(self, said: Option<String>) -> Ended {
-        let Runs {
-            end,
-            why: _why,
-            told,
-        } = self;
-        ended_by(end, told, said)
+    pub(crate) fn ended<'e>(&'e self, said: &'e Option<String>) -> Ended<'e> {
+        Ended {
+            closed: closed_by(&self.end.end),
+            is_logged: is_logged(&self.end.end),
+            runs: self.end.runs,
+            is_lost: self.end.lost || self.told.broken > 0,
+            left: &self.end.left,
+            told: &self.told,
+            said: text_of(said),
+        }
     }
-}
 
-/// How a night ended.
-fn ended_by(end: NightEnd, told: Told, said: Option<String>) -> Ended {
-    let NightEnd {
-        runs,
-        lost,
-        left,
-        end,
-    } = end;
-    let is_lost = lost || told.broken > 0;
-    let found = status_found(is_lost || !left.is_empty(), told.findings);
-    Ended {
-        status: status_of(&end).max(found),
-        closed: closed_by(&end),
-        is_logged: is_logged(&end),
-        runs,
-        is_lost,
-        left,
-        told,
-        said,
-    }
-}
-
-/// Whether a folder that was refused is one of these nights: one of another root, part or program
-/// is left as it is, its log too.
-fn is_own(refusal: &Refusal) -> bool {
-    match refusal {
-        Refusal::NoRoot | Refusal::OtherDeclaration | Refusal::NamesGone { .. } => true,
-        Refusal::Older(_) => true,
-        Refusal::NoCheckpoint | Refusal::HasReports | Refusal::Unread(_) => false,
-        Refusal::OtherRoot(_) | Refusal::OtherPart => false,
+    /// The status of the night, with this one of what was told of closed cycles.
+    pub(crate) fn status(&self, told: u8) -> u8 {
+        night_status(&self.end, self.told.broken, self.told.findings, told)
     }
 }
 

@@ -1,11 +1,12 @@
 //! Which closed cycles are said, and what each is compared with.
+use crate::tests::common::changes::changes_text;
 use crate::tests::common::store::place_of;
 use ocfl_accounts::{
-    ClosedCycle, ClosingStop, Closings, Found, Look, NotSaid, Pair, Say, find_earlier, find_pair,
-    say_cycle, say_cycles, status_of,
+    ClosedCycle, ClosingStop, Closings, MemClosings, MemCycle, MemOutput, find_earlier, find_pair,
+    find_unsaid, say_cycle, say_cycles, status_of,
 };
-use ocfl_report::read_place;
-use std::alloc::{AllocError, Global};
+use ocfl_tree::Place;
+use std::alloc::Global;
 use std::test::Fail;
 
 /// What is there of a cycle: a whole report, one that lost lines, one that left a place out, none,
@@ -19,103 +20,47 @@ enum Kept {
     AwayLost,
 }
 
-/// Cycles from 1 on, and the numbers of those whose account was put.
-#[derive(Drop)]
-struct Cycles {
-    alloc: Global,
-    kept: &'static [Kept],
-    accounts: Vec<u64>,
-    dropped: u64,
-    failed: u64,
-}
-
-impl Cycles {
-    fn of(alloc: Global, kept: &'static [Kept]) -> Cycles {
-        Cycles {
-            alloc,
-            kept,
-            accounts: Vec::new(alloc),
-            dropped: 0,
-            failed: 0,
-        }
-    }
-
-    /// A cycle whose report is there, with these places left out.
-    fn closed(&self, cycle: u64, kept: Kept) -> Result<ClosedCycle, AllocError> {
-        let mut left = Vec::new(self.alloc);
-        if let Kept::Left(path) = kept {
-            match read_place(self.alloc, path.as_bytes()) {
-                Ok(place) => left.push(place)?,
-                Err(_) => return Err(AllocError),
-            }
-        }
-        let is_whole = kept == Kept::Whole;
-        Ok(ClosedCycle::new(cycle, is_whole, kept == Kept::Lost, left))
+impl Kept {
+    fn is_there(&self) -> bool {
+        !matches!(self, Kept::Away | Kept::AwayLost)
     }
 }
 
-impl Closings for Cycles {
-    fn has_account(&mut self, cycle: u64) -> Result<bool, ClosingStop> {
-        Ok(self.accounts.iter().any(|put| *put == cycle))
+/// A cycle, with a report of these lines if it is there.
+fn cycle_of(alloc: Global, cycle: u64, kept: Kept, lines: &str) -> Result<MemCycle, Fail> {
+    let mut left = Vec::new(alloc);
+    if let Kept::Left(path) = kept {
+        left.push(place_of(alloc, path)?)?;
     }
-
-    fn look(&mut self, cycle: u64) -> Result<Look, ClosingStop> {
-        let index = usize::try_from(cycle).unwrap_or(0).saturating_sub(1);
-        let kept = match self.kept.get(index) {
-            Some(kept) if cycle > 0 => *kept,
-            _ => Kept::Away,
-        };
-        match kept {
-            Kept::Away => Ok(Look::Away { lost: false }),
-            Kept::AwayLost => Ok(Look::Away { lost: true }),
-            kept => match self.closed(cycle, kept) {
-                Ok(closed) => Ok(Look::There(closed)),
-                Err(_) => Err(ClosingStop::Memory),
-            },
-        }
-    }
-
-    fn find(&mut self, pair: &Pair) -> Result<Found, ClosingStop> {
-        match Vec::from_slice(self.alloc, b"said\n") {
-            Ok(text) => Ok(Found {
-                text,
-                is_grave: pair.before.is_some(),
-            }),
-            Err(_) => Err(ClosingStop::Memory),
-        }
-    }
-
-    fn put(&mut self, pair: &Pair) -> Result<(), ClosingStop> {
-        match self.accounts.push(pair.closed.cycle()) {
-            Ok(()) => Ok(()),
-            Err(_) => Err(ClosingStop::Memory),
-        }
-    }
-
-    fn drop_found(&mut self, _pair: &Pair) -> Result<(), ClosingStop> {
-        self.dropped += 1;
-        Ok(())
-    }
-
-    fn fail(&mut self, _stop: ClosingStop) {
-        self.failed += 1;
-    }
+    let is_lost = matches!(kept, Kept::Lost | Kept::AwayLost);
+    Ok(MemCycle {
+        closed: ClosedCycle::new(cycle, kept == Kept::Whole, is_lost, left),
+        report: if kept.is_there() {
+            Some(Vec::from_slice(alloc, lines.as_bytes())?)
+        } else {
+            None
+        },
+    })
 }
 
-/// An output that fails, or keeps what it says.
-#[derive(Drop)]
-struct Out {
-    fails: bool,
-    text: Vec<u8>,
+/// Cycles from 1 on, of which each has an object of its own alone.
+fn cycles_of(alloc: Global, all: &[Kept]) -> Result<MemClosings, Fail> {
+    let mut cycles = Vec::new(alloc);
+    for kept in all {
+        let number = cycles.len() as u64 + 1;
+        let lines = format!(in alloc; "ok\t.\t-\nok\to{number}\t-\n")?;
+        cycles.push(cycle_of(alloc, number, *kept, lines.as_str())?)?;
+    }
+    Ok(MemClosings::new(alloc, cycles, None))
 }
 
-impl Say for Out {
-    fn say(&mut self, text: &[u8]) -> Result<(), NotSaid> {
-        if self.fails || self.text.extend_from_slice(text).is_err() {
-            return Err(NotSaid);
-        }
-        Ok(())
+/// The numbers of the cycles whose account was put.
+fn put_in(alloc: Global, closings: &MemClosings) -> Result<Vec<u64>, Fail> {
+    let mut numbers = Vec::new(alloc);
+    for account in closings.accounts() {
+        numbers.push(account.cycle)?;
     }
+    Ok(numbers)
 }
 
 /// The cycles that one is compared with: the last one that lost nothing, and the last one whole; and
@@ -148,7 +93,7 @@ const EARLIER: [(&[Kept], u64, [Option<u64>; 4]); 7] = [
 fn a_cycle_is_compared_with_the_last_report_that_lost_nothing(rt: HostRuntime) -> Result<(), Fail> {
     let alloc = rt.alloc();
     for (kept, cycle, wanted) in EARLIER {
-        let mut cycles = Cycles::of(alloc, kept);
+        let mut cycles = cycles_of(alloc, kept)?;
         let any = find_earlier(&mut cycles, cycle, false)?;
         let whole = find_earlier(&mut cycles, cycle, true)?;
         let found = [
@@ -168,7 +113,7 @@ fn places_left_out_before_are_compared_with_the_last_whole_report(
 ) -> Result<(), Fail> {
     let alloc = rt.alloc();
     let kept: &[Kept] = &[Kept::Whole, Kept::Left("p/q"), Kept::Left("p")];
-    let mut cycles = Cycles::of(alloc, kept);
+    let mut cycles = cycles_of(alloc, kept)?;
     let now = ClosedCycle::new(4, true, false, Vec::new(alloc));
     assert_eq!(rt;
         (now.is_whole(), now.is_lost(), now.left().len()),
@@ -196,24 +141,22 @@ fn places_left_out_before_are_compared_with_the_last_whole_report(
 #[test]
 fn a_closing_is_said_once(rt: HostRuntime) -> Result<(), Fail> {
     let alloc = rt.alloc();
-    let mut cycles = Cycles::of(alloc, &[Kept::Whole, Kept::Whole, Kept::Away]);
-    let mut out = Out {
-        fails: true,
-        text: Vec::new(alloc),
-    };
+    let mut cycles = cycles_of(alloc, &[Kept::Whole, Kept::Whole, Kept::Away])?;
+    let mut out = MemOutput::new(alloc);
+    out.fail_call(1, 0);
     let failed = say_cycle(alloc, &mut cycles, 2, &mut out);
     assert_eq!(rt; failed, Err(ClosingStop::Output));
-    assert_eq!(rt; cycles.accounts.len(), 0);
-    out.fails = false;
+    assert_eq!(rt; cycles.accounts().len(), 0);
     assert_eq!(rt; say_cycle(alloc, &mut cycles, 2, &mut out), Ok(1));
     assert_eq!(rt; say_cycle(alloc, &mut cycles, 2, &mut out), Ok(0));
     assert_eq!(rt; say_cycle(alloc, &mut cycles, 3, &mut out), Ok(0));
-    assert_eq!(rt; out.text.as_slice(), b"said\n".as_slice());
-    assert_eq!(rt; cycles.accounts.as_slice(), [2].as_slice());
+    assert_eq!(rt; out.text(), [2, 1].as_slice());
+    assert_eq!(rt; put_in(alloc, &cycles)?.as_slice(), [2].as_slice());
     // It can be compared once a report is back.
-    let mut cycles = Cycles::of(alloc, &[Kept::Away, Kept::Whole]);
+    let mut cycles = cycles_of(alloc, &[Kept::Away, Kept::Whole])?;
     assert_eq!(rt; say_cycle(alloc, &mut cycles, 2, &mut out), Ok(3));
-    assert_eq!(rt; (cycles.accounts.len(), cycles.dropped), (0, 1));
+    assert_eq!(rt; cycles.accounts().len(), 0);
+    assert_eq!(rt; out.text(), [2, 1, 2, 0].as_slice());
     Ok(())
 }
 
@@ -221,22 +164,233 @@ fn a_closing_is_said_once(rt: HostRuntime) -> Result<(), Fail> {
 fn closings_are_said_in_order(rt: HostRuntime) -> Result<(), Fail> {
     let alloc = rt.alloc();
     let kept: &[Kept] = &[Kept::Whole, Kept::Away, Kept::Whole, Kept::Whole];
-    let mut cycles = Cycles::of(alloc, kept);
-    let mut out = Out {
-        fails: false,
-        text: Vec::new(alloc),
-    };
+    let mut cycles = cycles_of(alloc, kept)?;
+    let mut out = MemOutput::new(alloc);
     assert_eq!(rt; say_cycles(alloc, &mut cycles, 3, 3, &mut out), 0);
-    assert_eq!(rt; cycles.accounts.len(), 0);
+    assert_eq!(rt; cycles.accounts().len(), 0);
     // The report of cycle 2 is not there, with which cycle 3 is to be compared.
     assert_eq!(rt; say_cycles(alloc, &mut cycles, 1, 5, &mut out), 3);
-    assert_eq!(rt; cycles.accounts.as_slice(), [1, 3, 4].as_slice());
-    assert_eq!(rt; out.text.as_slice(), b"said\nsaid\nsaid\n".as_slice());
+    assert_eq!(rt; put_in(alloc, &cycles)?.as_slice(), [1, 3, 4].as_slice());
+    assert_eq!(rt; out.text(), [1, 0, 3, 1, 4, 1].as_slice());
     assert_eq!(rt; say_cycles(alloc, &mut cycles, 1, 5, &mut out), 0);
-    // Each that fails is noted.
-    let mut cycles = Cycles::of(alloc, kept);
-    out.fails = true;
+    // One that fails does not keep those after it from being said.
+    let mut cycles = cycles_of(alloc, kept)?;
+    out.fail_call(2, 1);
     assert_eq!(rt; say_cycles(alloc, &mut cycles, 1, 5, &mut out), 3);
-    assert_eq!(rt; (cycles.accounts.len(), cycles.failed), (0, 3));
+    assert_eq!(rt; put_in(alloc, &cycles)?.as_slice(), [1, 4].as_slice());
+    assert_eq!(rt; out.text(), [1, 0, 3, 1, 4, 1, 1, 0, 3, 4, 1].as_slice());
+    Ok(())
+}
+
+#[test]
+fn those_before_a_cycle_that_were_not_said_are_found(rt: HostRuntime) -> Result<(), Fail> {
+    let alloc = rt.alloc();
+    let kept: &[Kept] = &[
+        Kept::Whole,
+        Kept::Whole,
+        Kept::Away,
+        Kept::Whole,
+        Kept::Whole,
+    ];
+    let mut cycles = cycles_of(alloc, kept)?;
+    // The report of cycle 3 is not there.
+    for (cycle, wanted) in [
+        (0, 0),
+        (1, 1),
+        (2, 1),
+        (3, 1),
+        (4, 4),
+        (5, 4),
+        (6, 4),
+        (9, 9),
+    ] {
+        let mut first = cycle;
+        assert_eq!(rt; find_unsaid(&mut cycles, &mut first), Ok(()));
+        assert_eq!(rt; first, wanted, "{cycle}");
+    }
+    // That of cycle 1 was said.
+    let mut out = MemOutput::new(alloc);
+    assert_eq!(rt; say_cycle(alloc, &mut cycles, 1, &mut out), Ok(0));
+    let mut first = 3;
+    assert_eq!(rt; find_unsaid(&mut cycles, &mut first), Ok(()));
+    assert_eq!(rt; first, 2);
+    // A failure ends it where it stands.
+    cycles.fail_call(3, false);
+    let mut first = 6;
+    assert_eq!(rt;
+        find_unsaid(&mut cycles, &mut first),
+        Err(ClosingStop::Failed)
+    );
+    assert_eq!(rt; first, 5);
+    Ok(())
+}
+
+/// Two branches, of which the second cycle left one out, and the third none; and a list with an
+/// object that is in no report.
+const BRANCHES: [(Kept, &str); 3] = [
+    (Kept::Whole, "ok\t.\t-\nok\ta/o\t-\nok\tb/o\t-\n"),
+    (Kept::Left("b"), "ok\t.\t-\nok\ta/o\t-\n"),
+    (Kept::Whole, "ok\t.\t-\nE060\ta/o\tsha512 aa bb\n"),
+];
+
+#[test]
+fn an_account_has_all_that_a_cycle_found(rt: HostRuntime) -> Result<(), Fail> {
+    let alloc = rt.alloc();
+    let mut cycles = Vec::new(alloc);
+    for (kept, lines) in BRANCHES {
+        let number = cycles.len() as u64 + 1;
+        cycles.push(cycle_of(alloc, number, kept, lines)?)?;
+    }
+    let mut listed: Vec<Place> = Vec::new(alloc);
+    for path in ["c/o", "a/o"] {
+        listed.push(place_of(alloc, path)?)?;
+    }
+    let mut closings = MemClosings::new(alloc, cycles, Some(listed));
+    let mut out = MemOutput::new(alloc);
+    assert_eq!(rt; say_cycles(alloc, &mut closings, 1, 4, &mut out), 3);
+    let mut all = String::new(alloc);
+    for account in closings.accounts() {
+        all.push_str(format!(in alloc; "{}:\n", account.cycle)?.as_str())?;
+        all.push_str(changes_text(alloc, &account.changes)?.as_str())?;
+    }
+    assert_eq!(rt;
+        all.as_str(),
+        "1:\nexpected\tc/o\n2:\nexpected\tc/o\n\
+3:\nE060\ta/o\nobject\tb/o\nexpected\tc/o\n"
+    );
+    // The last byte of each number, and how much was found.
+    assert_eq!(rt; out.text(), [1, 1, 2, 1, 3, 3].as_slice());
+    Ok(())
+}
+
+/// What three cycles of one object each say.
+const SAID: [[u8; 2]; 3] = [[1, 0], [2, 1], [3, 1]];
+
+/// More calls than three closings make.
+const CALLS: u64 = 30;
+
+/// How often each of the three was said, and whether all that was said is whole texts.
+fn times_said(text: &[u8]) -> ([usize; 3], bool) {
+    let mut times = [0; 3];
+    let mut whole = 0;
+    for (index, said) in SAID.iter().enumerate() {
+        for two in text.chunks_exact(2) {
+            if two == said.as_slice() {
+                times[index] += 1;
+                whole += 2;
+            }
+        }
+    }
+    (times, whole == text.len())
+}
+
+/// Whether those that were said are in the order of cycles.
+fn are_in_order(text: &[u8]) -> bool {
+    let mut last = 0;
+    for two in text.chunks_exact(2) {
+        if two[0] <= last {
+            return false;
+        }
+        last = two[0];
+    }
+    true
+}
+
+#[test]
+fn a_crash_costs_no_closing(rt: HostRuntime) -> Result<(), Fail> {
+    let alloc = rt.alloc();
+    let three: &[Kept] = &[Kept::Whole, Kept::Whole, Kept::Whole];
+    let mut twice = 0;
+    for number in 1..=CALLS {
+        let mut closings = cycles_of(alloc, three)?;
+        let mut out = MemOutput::new(alloc);
+        // The process ends in this call: all calls after it do nothing.
+        closings.fail_call(number, true);
+        let _ = say_cycles(alloc, &mut closings, 1, 4, &mut out);
+        let (said, put) = (out.text().len() / 2, closings.accounts().len());
+        assert!(rt; said == put || said == put + 1, "{number}: {said}, {put}");
+        assert!(rt; are_in_order(out.text()), "{number}");
+        closings.fail_none();
+        let _ = say_cycles(alloc, &mut closings, 1, 4, &mut out);
+        assert!(rt; are_in_order(&out.text()[2 * said..]), "{number}");
+        let (times, is_whole) = times_said(out.text());
+        assert!(rt;
+            is_whole && times.iter().all(|count| *count >= 1),
+            "{number}: {times:?}"
+        );
+        // Only the one whose account was being put is said again.
+        assert_eq!(rt; times.iter().sum::<usize>(), 3 + said - put, "{number}");
+        assert_eq!(rt; put_in(alloc, &closings)?.as_slice(), [1, 2, 3].as_slice());
+        twice += said - put;
+    }
+    assert_eq!(rt; twice, 3);
+    Ok(())
+}
+
+#[test]
+fn a_call_that_fails_costs_no_closing(rt: HostRuntime) -> Result<(), Fail> {
+    let alloc = rt.alloc();
+    let three: &[Kept] = &[Kept::Whole, Kept::Whole, Kept::Whole];
+    let (mut failed, mut twice) = (0, 0);
+    for number in 1..=CALLS {
+        let mut closings = cycles_of(alloc, three)?;
+        let mut out = MemOutput::new(alloc);
+        closings.fail_call(number, false);
+        let status = say_cycles(alloc, &mut closings, 1, 4, &mut out);
+        let put = closings.accounts().len();
+        // One closing fails, if the call is one of those that are made, and the others go on.
+        assert_eq!(rt;
+            (status, put),
+            if put < 3 { (3, 2) } else { (1, 3) },
+            "{number}"
+        );
+        failed += usize::from(put < 3);
+        let _ = say_cycles(alloc, &mut closings, 1, 4, &mut out);
+        let (times, is_whole) = times_said(out.text());
+        assert!(rt;
+            is_whole && times.iter().all(|count| *count >= 1),
+            "{number}: {times:?}"
+        );
+        twice += times.iter().sum::<usize>() - 3;
+        assert_eq!(rt; closings.accounts().len(), 3, "{number}");
+    }
+    // Each call of the three failed once: two, two and two more looks for what each is compared
+    // with, and two to find and to put.
+    assert_eq!(rt; (failed, twice), (14, 3));
+    Ok(())
+}
+
+#[test]
+fn an_output_that_fails_costs_no_closing(rt: HostRuntime) -> Result<(), Fail> {
+    let alloc = rt.alloc();
+    let three: &[Kept] = &[Kept::Whole, Kept::Whole, Kept::Whole];
+    for (number, taken) in [(1, 0), (1, 1), (1, 2), (2, 0), (2, 2), (3, 1), (3, 2)] {
+        let mut closings = cycles_of(alloc, three)?;
+        let mut out = MemOutput::new(alloc);
+        out.fail_call(number, taken);
+        assert_eq!(rt; say_cycles(alloc, &mut closings, 1, 4, &mut out), 3);
+        assert_eq!(rt; closings.accounts().len(), 2, "{number}");
+        let first = out.text().len();
+        assert_eq!(rt; first, 4 + taken, "{number}");
+        // What was not said whole is said once more, and nothing else.
+        let _ = say_cycles(alloc, &mut closings, 1, 4, &mut out);
+        let wanted = SAID[number as usize - 1].as_slice();
+        assert_eq!(rt; &out.text()[first..], wanted, "{number}");
+        assert_eq!(rt; closings.accounts().len(), 3, "{number}");
+    }
+    Ok(())
+}
+
+#[test]
+fn each_call_in_memory_fails_once(rt: HostRuntime) -> Result<(), Fail> {
+    let alloc = rt.alloc();
+    let mut closings = cycles_of(alloc, &[Kept::Whole])?;
+    closings.fail_call(2, false);
+    assert_eq!(rt; closings.has_account(1), Ok(false));
+    assert_eq!(rt; closings.has_account(1), Err(ClosingStop::Failed));
+    assert_eq!(rt; closings.has_account(1), Ok(false));
+    closings.fail_call(1, true);
+    assert_eq!(rt; closings.has_account(1), Err(ClosingStop::Failed));
+    assert_eq!(rt; closings.has_account(1), Err(ClosingStop::Failed));
     Ok(())
 }

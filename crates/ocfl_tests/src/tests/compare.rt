@@ -1,4 +1,4 @@
-//! What reports say of one another, and the reports of all parts.
+//! What reports say of one another.
 use crate::tests::common::changes::changes_text;
 use crate::tests::common::input::expect_failures;
 use crate::tests::common::output::Narrow;
@@ -11,7 +11,6 @@ use std::io::{BufRead, BufReader};
 use std::test::Fail;
 
 mod expecting;
-mod joining;
 
 /// A root with two objects, of which one has a file that is missing.
 const BEFORE: &str = "ok\t.\t-\nok\to\t-\nok\to/v1/content/a\t3\n\

@@ -12,6 +12,7 @@ use std::test::Fail;
 
 mod exchange;
 mod fake;
+mod over_memory;
 mod system;
 mod way;
 

@@ -6,6 +6,7 @@ use std::test::Fail;
 
 mod disk;
 mod finding;
+mod mem_disk;
 mod observed;
 mod order;
 mod pieces;

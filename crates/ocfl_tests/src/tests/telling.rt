@@ -7,7 +7,7 @@ use ocfl_report::{Line, TextStop, read_line};
 use ocfl_telling::{
     BeganRow, Closing, ClosingRow, Found, Gravest, Known, KnownEntry, KnownStop, LeftRow, LogRow,
     Night, NightRow, Quoted, Reach, RefusalMessage, RefusalRow, SliceRow, Stands, StopMessage,
-    log_line, night_text, read_known, refusal_text, stop_text,
+    find_shown, log_line, night_text, read_known, refusal_text, stop_text,
 };
 use ocfl_tree::Place;
 use std::alloc::Global;
@@ -48,6 +48,7 @@ Object c:
 Elsewhere, E072:
 \ta: a file outside of any object (E072)
 \tTo do: see whether the files are those of an object, and restore its declaration
+What to do first about a code: ocfl-scrub codes
 ";
 
 #[test]
@@ -73,20 +74,20 @@ const BY_OBJECT: &str = "9 findings tonight in /srv, cycle 2, run 4:
 Object o:
 \tv1/content/b%25: bytes have changed (E092), expected sha256 0123456789ab.., found 0123456789ab
 \tv1/content/a: not in the inventory (E023)
-\tTo do: restore the file from a copy with the expected digest, then: \
-ocfl-scrub check '/srv' 'o/v1/content/b%25'
+\tTo do: restore the file from a copy with the expected digest
+\tTo look again: ocfl-scrub check '/srv' 'o/v1/content/b%25'
 Object o-:
 \tv1/content/a: missing (E092)
 \tv1/content/b: not in the inventory (E023)
 \tv1/content/c: not in the inventory (E023)
 \tv1/content/d: not in the inventory (E023)
 \tand 2 more: not in the inventory (E023)
-\tTo do: restore the file from a copy with the expected digest, then: \
-ocfl-scrub check '/srv' 'o-/v1/content/a'
+\tTo look again: ocfl-scrub check '/srv' 'o-/v1/content/a'
 Object p:
 \tits manifest has a path twice, or one below a file (E101): a%0Ab
-\tTo do: validate the object, and tell whoever wrote its inventory, then: \
-ocfl-scrub check '/srv' 'p'
+\tTo do: validate the object, and tell whoever wrote its inventory
+\tTo look again: ocfl-scrub check '/srv' 'p'
+What to do first about a code: ocfl-scrub codes
 ";
 
 #[test]
@@ -141,8 +142,8 @@ fn nights_show_a_command_to_paste(rt: HostRuntime) -> Result<(), Fail> {
         let night = Night { root, ..NIGHT };
         let text = String::from_utf8(night_text(alloc, &night, &found)?)?;
         let wanted = format!(in alloc;
-            "\n\tTo do: see whether the files are those of an object, and restore its declaration, \
-             then: ocfl-scrub check {words}\n"
+            "\n\tTo do: see whether the files are those of an object, and restore its declaration\n\
+             \tTo look again: ocfl-scrub check {words}\n"
         )?;
         assert!(rt; text.as_str().ends_with(wanted.as_str()), "{path}");
     }
@@ -177,16 +178,16 @@ fn many(alloc: Global, code: &str, count: usize) -> Result<String, Fail> {
     Ok(text)
 }
 
-const TWENTY: &str = "Elsewhere, E072:
+const MANY: &str = "Elsewhere, E072:
 \tp000: a file outside of any object (E072)
 \tp001: a file outside of any object (E072)
 \tp002: a file outside of any object (E072)
-\tand 17 more: a file outside of any object (E072)
+\tand 197 more: a file outside of any object (E072)
 \tTo do: see whether the files are those of an object, and restore its declaration
 ";
 
 #[test]
-fn nights_show_twenty(rt: HostRuntime) -> Result<(), Fail> {
+fn nights_keep_two_hundred(rt: HostRuntime) -> Result<(), Fail> {
     let alloc = rt.alloc();
     let known = Known::new(alloc);
     let part = Night {
@@ -194,19 +195,96 @@ fn nights_show_twenty(rt: HostRuntime) -> Result<(), Fail> {
         first: 4,
         ..NIGHT
     };
-    for (count, more) in [(20, ""), (21, "and 1 more, in /state/report\n")] {
+    for (count, more) in [
+        (200, ""),
+        (
+            201,
+            "1 not shown here: ocfl-scrub-reports findings '/state/report'\n",
+        ),
+    ] {
         let report = many(alloc, "E072", count)?;
         let found = found_in(alloc, &known, report.as_str(), 1000)?;
         let text = String::from_utf8(night_text(alloc, &part, &found)?)?;
         let wanted = format!(in alloc;
-            "{count} findings tonight in part 7 of /srv/%C3%A9%0A, cycle 2, run 4:\n{TWENTY}{more}"
+            "{count} findings tonight in part 7 of /srv/%C3%A9%0A, cycle 2, run 4:\n{MANY}{more}"
         )?;
         assert_eq!(rt; text.as_str(), wanted.as_str(), "{count}");
     }
     Ok(())
 }
 
-/// What is shown of 18 files in the wrong place, 15 without an entry, and one that cannot be read.
+/// A report of `count` objects, of each of which a file is missing and another one is strange.
+fn damaged(alloc: Global, count: usize) -> Result<String, Fail> {
+    let mut text = String::new(alloc);
+    for number in 0..count {
+        let object = format!(in alloc;
+            "ok\to{number:03}\t-\nE092\to{number:03}/v1/content/a\tsha512 missing\n\
+             E023\to{number:03}/v1/content/b\t-\n"
+        )?;
+        text.push_str(object.as_str())?;
+    }
+    Ok(text)
+}
+
+/// The numbers of damaged objects, those that are shown whole, those with one line, and those with
+/// none. A message has 24 lines for objects: the first one has five if it is whole, each other four.
+const CUT: [(usize, usize, usize, usize); 6] = [
+    (1, 1, 0, 0),
+    (5, 5, 0, 0),
+    (6, 5, 1, 0),
+    (20, 1, 19, 0),
+    (24, 0, 24, 0),
+    (30, 0, 24, 6),
+];
+
+/// What is said of objects from one on, each in a line.
+fn in_lines(alloc: Global, first: usize, end: usize) -> Result<String, Fail> {
+    let mut text = String::new(alloc);
+    for number in first..end {
+        let line = format!(in alloc;
+            "Object o{number:03}: v1/content/a: missing (E092), and 1 more\n"
+        )?;
+        text.push_str(line.as_str())?;
+    }
+    Ok(text)
+}
+
+#[test]
+fn objects_are_cut_to_a_line_before_one_is_left_out(rt: HostRuntime) -> Result<(), Fail> {
+    let alloc = rt.alloc();
+    let night = Night {
+        root: "/srv",
+        ..NIGHT
+    };
+    for (count, whole, cut, none) in CUT {
+        assert_eq!(rt; count, whole + cut + none, "{count}");
+        let found = found_in(
+            alloc,
+            &Known::new(alloc),
+            damaged(alloc, count)?.as_str(),
+            1000,
+        )?;
+        let text = String::from_utf8(night_text(alloc, &night, &found)?)?;
+        let text = text.as_str();
+        assert!(rt; text.split_inclusive('\n').count() <= 27, "{count}");
+        assert_eq!(rt; text.matches("\tTo look again: ").count(), whole, "{count}");
+        let lines = in_lines(alloc, whole, whole + cut)?;
+        assert!(rt; text.contains(lines.as_str()), "{count}");
+        let left = format!(in alloc;
+            "\n{} not shown here: ocfl-scrub-reports findings '/state/report'\n",
+            2 * none
+        )?;
+        assert_eq!(rt; text.contains(left.as_str()), none > 0, "{count}");
+        assert_eq!(rt;
+            find_shown(alloc, &found)?.len(),
+            2 * (whole + cut),
+            "{count}"
+        );
+    }
+    Ok(())
+}
+
+/// What is said of 18 files in the wrong place, 15 without an entry, and one that cannot be read.
 const GRAVER: &str = "34 findings tonight in /srv/%C3%A9%0A, cycle 2, runs 3 to 4:
 Elsewhere, S08:
 \tp000: could not be read (S08)
@@ -221,13 +299,13 @@ Elsewhere, E072:
 \tp000: a file outside of any object (E072)
 \tp001: a file outside of any object (E072)
 \tp002: a file outside of any object (E072)
-\tand 1 more: a file outside of any object (E072)
+\tand 15 more: a file outside of any object (E072)
 \tTo do: see whether the files are those of an object, and restore its declaration
-and 14 more, in /state/report
+What to do first about a code: ocfl-scrub codes
 ";
 
 #[test]
-fn graver_findings_take_the_room(rt: HostRuntime) -> Result<(), Fail> {
+fn graver_findings_come_first(rt: HostRuntime) -> Result<(), Fail> {
     let alloc = rt.alloc();
     let mut report = many(alloc, "E072", 18)?;
     report.push_str(many(alloc, "E023", 15)?.as_str())?;

@@ -1,7 +1,7 @@
 //! What is said of a closed cycle.
 use crate::tests::common::store::place_of;
 use crate::tests::telling::line_of;
-use ocfl_telling::{Closing, Counts, Finding, Gone, GoneKind, Gravest, Tally, closing_text};
+use ocfl_telling::{Closing, Counts, Finding, Gone, GoneKind, Gravest, SHOWN, Tally, closing_text};
 use std::alloc::Global;
 use std::test::Fail;
 
@@ -36,30 +36,34 @@ fn quiet<'a>(appeared: &'a Gravest) -> Closing<'a> {
     }
 }
 
+/// In 13 lines, which is all that there are.
 const CLOSED: &str = "Cycle 3 ended, but its report is incomplete: reports/cycle-000003
-In it: 926 of 930 files right, 160 objects, 51.2 MB; 25 new findings, 4 objects and files gone \
-since cycle 2.
+In it: 926 of 930 files right, 160 objects, 51.2 MB.
+25 new findings, 4 objects and files gone since cycle 2.
+4 objects and files are gone or missing in cycle 3:
+object\to
+3 not shown here: cat 'reports/gone-000003'
+5 files of objects that are gone, or whose inventory cannot be used, are not looked at any more.
+25 findings of cycle 3 are new since cycle 2, 3 of them above:
+22 not shown here: ocfl-scrub-reports findings 'reports/cycle-000003'
+22 findings of cycle 2 are repaired in cycle 3:
+22 not shown here: ocfl-scrub-reports changed 'reports/cycle-000002' 'reports/cycle-000003'
+2 objects are back in cycle 3:
+2 not shown here: ocfl-scrub-reports changed 'reports/cycle-000002' 'reports/cycle-000003'
+";
+
+/// The same of a whole report with fewer findings.
+const WHOLE: &str = "Cycle 3 ended: 926 of 930 files right, 160 objects, 51.2 MB.
+Nothing new, 4 objects and files gone since cycle 2.
 4 objects and files are gone or missing in cycle 3:
 object\to
 undeclared\tp
-file\tq/v1/content/f
-expected\tr
-5 files of objects that are gone, or whose inventory cannot be used, are not looked at any more.
-25 findings of cycle 3 are new since cycle 2, 3 of them above:
-Elsewhere, E092:
-\tb: bytes have changed (E092)
-\tTo do: restore the file from a copy with the expected digest, then: ocfl-scrub check '/srv' 'b'
-Elsewhere, E072:
-\ta: a file outside of any object (E072)
-\tTo do: see whether the files are those of an object, and restore its declaration, then: \
-ocfl-scrub check '/srv' 'a'
-and 20 more, in reports/cycle-000003
-22 findings of cycle 2 are repaired in cycle 3:
+file\tq/v1/content/Brief an M\u{fc}ller.pdf
+expected\tr%25
+1 finding of cycle 2 is repaired in cycle 3:
 \tb: a file outside of any object (E072)
-and 21 more, in reports/cycle-000002
-2 objects are back in cycle 3:
+1 object is back in cycle 3:
 object\ts
-and 1 more, in reports/cycle-000003
 ";
 
 #[test]
@@ -77,8 +81,8 @@ fn closings_say_what_changed(rt: HostRuntime) -> Result<(), Fail> {
     for (kind, path) in [
         (GoneKind::Object, "o"),
         (GoneKind::Undeclared, "p"),
-        (GoneKind::File, "q/v1/content/f"),
-        (GoneKind::Expected, "r"),
+        (GoneKind::File, "q/v1/content/Brief an M\u{fc}ller.pdf"),
+        (GoneKind::Expected, "r%"),
     ] {
         let place = place_of(alloc, path)?;
         gone.push(Gone { kind, place })?;
@@ -99,6 +103,48 @@ fn closings_say_what_changed(rt: HostRuntime) -> Result<(), Fail> {
     };
     let text = String::from_utf8(closing_text(alloc, &closing)?)?;
     assert_eq!(rt; text.as_str(), CLOSED);
+    let closing = Closing {
+        whole: true,
+        appeared_count: 0,
+        said: 0,
+        repaired_count: 1,
+        back_count: 1,
+        unlooked: 0,
+        ..closing
+    };
+    let text = String::from_utf8(closing_text(alloc, &closing)?)?;
+    assert_eq!(rt; text.as_str(), WHOLE);
+    Ok(())
+}
+
+/// How many objects are gone, how many of them are shown, and how many are not. There are eleven
+/// lines for them and the line before them.
+const GONE: [(usize, usize, usize); 4] = [(10, 10, 0), (11, 9, 2), (20, 9, 11), (157, 9, 148)];
+
+#[test]
+fn closings_show_what_is_gone_while_there_is_room(rt: HostRuntime) -> Result<(), Fail> {
+    let alloc = rt.alloc();
+    let none = Gravest::new(alloc);
+    for (count, shown, more) in GONE {
+        let mut gone = Vec::new(alloc);
+        for number in 0..count.min(SHOWN) {
+            let place = place_of(alloc, format!(in alloc; "o{number:03}")?.as_str())?;
+            let kind = GoneKind::Object;
+            gone.push(Gone { kind, place })?;
+        }
+        let closing = Closing {
+            gone: gone.as_slice(),
+            gone_count: count as u64,
+            counts: Some(COUNTS),
+            ..quiet(&none)
+        };
+        let text = String::from_utf8(closing_text(alloc, &closing)?)?;
+        let text = text.as_str();
+        assert_eq!(rt; text.matches("object\to").count(), shown, "{count}");
+        let left = format!(in alloc; "{more} not shown here: cat 'reports/gone-000003'\n")?;
+        assert_eq!(rt; text.ends_with(left.as_str()), more > 0, "{count}");
+        assert!(rt; text.split_inclusive('\n').count() <= 13, "{count}");
+    }
     Ok(())
 }
 
@@ -111,9 +157,9 @@ const COUNTS: Counts = Counts {
 
 /// The cycle before, why nothing was compared, and what is said at the end of the cycle.
 const ENDED: [(u64, &str, &str); 3] = [
-    (2, "", "nothing new, nothing gone since cycle 2"),
-    (0, "", "nothing to compare with"),
-    (0, "lines were lost", "not compared"),
+    (2, "", "Nothing new, nothing gone since cycle 2"),
+    (0, "", "Nothing to compare with"),
+    (0, "lines were lost", "Not compared"),
 ];
 
 #[test]
@@ -129,7 +175,7 @@ fn closings_say_that_all_is_well(rt: HostRuntime) -> Result<(), Fail> {
         };
         let text = String::from_utf8(closing_text(alloc, &closing)?)?;
         let wanted = format!(in alloc;
-            "Cycle 3 ended: 926 of 930 files right, 160 objects, 51.2 MB; {wanted}.\n"
+            "Cycle 3 ended: 926 of 930 files right, 160 objects, 51.2 MB.\n{wanted}.\n"
         )?;
         assert!(rt; text.as_str().starts_with(wanted.as_str()), "{uncompared}");
     }
@@ -162,7 +208,7 @@ fn sizes_are_said_in_units(rt: HostRuntime) -> Result<(), Fail> {
         };
         let text = String::from_utf8(closing_text(alloc, &closing)?)?;
         let wanted = format!(in alloc;
-            "Cycle 3 ended: 1 of 1 file right, 1 object, {wanted}; nothing new"
+            "Cycle 3 ended: 1 of 1 file right, 1 object, {wanted}.\nNothing new"
         )?;
         assert!(rt; text.as_str().starts_with(wanted.as_str()), "{bytes}");
     }
@@ -204,15 +250,15 @@ const ABOVE: [(u64, u64, &str); 4] = [
         1,
         0,
         "1 finding of cycle 3 is new since cycle 2:\nElsewhere, E092:\n\ta: bytes have changed \
-         (E092)\n\tTo do: restore the file from a copy with the expected digest, then: ocfl-scrub \
-         check '/srv' 'a'\n",
+         (E092)\n\tTo do: restore the file from a copy with the expected digest\n\tTo look again: \
+         ocfl-scrub check '/srv' 'a'\n",
     ),
     (
         2,
         1,
         "2 findings of cycle 3 are new since cycle 2, 1 of them above:\nElsewhere, E092:\n\ta: \
          bytes have changed (E092)\n\tTo do: restore the file from a copy with the expected \
-         digest, then: ocfl-scrub check '/srv' 'a'\n",
+         digest\n\tTo look again: ocfl-scrub check '/srv' 'a'\n",
     ),
     (
         2,

@@ -7,9 +7,12 @@ The state folders of the parts are made by hand: a checkpoint by its text, and a
 
 Tried, and what comes of it:
 
-- `ocfl-scrub join` over parts that are gone, open, copies of others, of another root or not
-  whole, that lost their report or have a cut checkpoint; another list of separators: each is
-  named, status 3, and nothing is joined.
+- `ocfl-scrub join` over parts that are gone, open, copies of others or of another root, that lost
+  their report or have a cut checkpoint; another list of separators: each is named, status 3, and
+  nothing is joined.
+- Parts that left places out, or lost lines: the joined report is called incomplete, and has the
+  lines of all of them; the places are named, status 3, also once more, and the next cycle is whole.
+  Before, nothing was joined while one folder could not be read.
 - Cycles that all parts closed and that were not joined when they were the last: each is joined,
   the oldest first.
 - A part that closed its cycle, and was killed before it said what was gone: it is named, status 3,
@@ -41,7 +44,7 @@ report %(report)s
 pieces %(zeros)s
 tail %(tail)s
 told 0
-left 0
+left %(left)s
 from %(from)s
 below %(below)s
 cycle %(cycle)d
@@ -70,12 +73,12 @@ class Parts:
     def checkpoint(self, number: int, name: str, lines: bytes = b"", **said: Any) -> None:
         """A checkpoint of a part, of a report of these lines."""
         text = TEXT % {"declared": digest(b"declared"), "zeros": NOTHING, "tail": digest(lines),
-                       "report": "%d %d" % (len(lines), lines.count(b"\n")), **said}
+                       "report": "%d %d" % (len(lines), lines.count(b"\n")), "left": "0", **said}
         seal = "sha256 %s\n" % digest(text.encode())
         common.write(self.path(number, name), (text + seal).encode())
 
     def put(self, number: int, of: int = 0, root: str = "/srv/ocfl", cycle: int = 1,
-            state: str = "ended", whole: bool = True) -> None:
+            state: str = "ended", whole: bool = True, left: str = "0") -> None:
         """The folder of a part, as a night leaves it that closed a cycle; or one of part `of`."""
         shutil.rmtree(self.path(number), ignore_errors=True)
         ends, lines = ENDS[(of or number) - 1], REPORTS[(of or number) - 1].encode()
@@ -87,7 +90,7 @@ class Parts:
             common.write(self.path(number, name), lines)
             common.write(self.path(number, "reports/gone-%06d" % closed), b"")
             self.checkpoint(number, "reports/checkpoint-%06d" % closed, lines, phase="closing",
-                            cycle=closed, state="ended", **said)
+                            cycle=closed, state="ended", left=left, **said)
 
     def joined(self, cycle: int = 1) -> tuple[Any, Any, str]:
         """The status of a joining, the joined report or None, and what was said."""
@@ -181,12 +184,6 @@ def refused(folder: str) -> None:
     parts.refused("a copy of another part", "part 2: ")
     parts.put(2, root="/srv/other")
     parts.refused("a part of another root", "part 2: ")
-    parts.put(2, whole=False)
-    parts.refused("a report that is not whole", "part 2: its report is not whole\n")
-    parts.refused("what is not known then", "what is new or gone in the whole storage root is not "
-                  "known\n")
-    common.not_yet("a part that is not whole is joined too", parts.joined()[1] is None, False,
-                   "no joined report names yet what a part left out")
     parts.put(2)
     os.remove(parts.path(2, "reports/cycle-000001"))
     parts.refused("a report that is gone", "part 2: ")
@@ -199,6 +196,36 @@ def refused(folder: str) -> None:
         parts.refused("another list: %s" % separators, "part ")
     parts.cut(SEPARATORS)
     check("as it was", parts.joined(), (0, "".join(REPORTS), ""))
+
+
+def incomplete(folder: str) -> None:
+    """Parts that are not whole are joined too, and what they left out is named."""
+    parts = Parts(folder)
+    parts.put(2, whole=False, left="2\nleft c/x\nafter b\nleft c/y%0A\nafter b")
+    parts.put(3, whole=False)
+    for name in ("joined", "once more"):
+        status, report, text = parts.joined()
+        check(name, (status, report, os.listdir(parts.folder + "/reports")),
+              (3, None, ["incomplete-000001"]))
+        check("its lines, " + name, common.read(
+            parts.folder + "/reports/incomplete-000001").decode(), "".join(REPORTS))
+        check("what is named, " + name, text.splitlines(), [
+            "ocfl-scrub: part 2: its report is not whole: left out: c/x",
+            "ocfl-scrub: part 2: its report is not whole: left out: c/y%0A",
+            "ocfl-scrub: part 3: its report is not whole",
+            "ocfl-scrub: the joined report of cycle 1 lacks what these parts left out: "
+            + parts.folder + "/reports/incomplete-000001"])
+    parts.put(1, cycle=2)
+    for number in (2, 3):
+        parts.put(number, cycle=2)
+    check("the next one is whole", parts.joined(2), (0, "".join(REPORTS), ""))
+    check("both are there", sorted(os.listdir(parts.folder + "/reports")),
+          ["cycle-000002", "incomplete-000001"])
+    other = parts.folder + "/reports/cycle-000002"
+    os.rename(other, parts.folder + "/reports/incomplete-000002")
+    status, report, text = parts.joined(2)
+    check("one that is called incomplete and is whole", (status, "is not the joined report" in text),
+          (3, True))
 
 
 def lost_lines(folder: str) -> None:
@@ -216,7 +243,7 @@ def lost_lines(folder: str) -> None:
     check("one that was not kept", parts.joined(), (0, "".join(REPORTS), ""))
 
 
-PARTS = [whole, later_cycles, untold, at_once, refused, lost_lines]
+PARTS = [whole, later_cycles, untold, at_once, refused, incomplete, lost_lines]
 
 
 def check_all(folder: str) -> None:

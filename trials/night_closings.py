@@ -121,9 +121,10 @@ def gone(folder: str) -> None:
     remove_object(nights)
     status, out, note = nights.night()
     check("gone", (status, out.endswith(OF_F + UNLOOKED % 2), out.count("\n"), note),
-          (1, True, 4, ""))
-    check("the word at the end", out.splitlines()[0], "Cycle 2 ended: 14 of 14 files right, 7 "
-          "objects, 21 bytes; nothing new, 1 object or file gone since cycle 1.")
+          (1, True, 5, ""))
+    check("the word at the end", out.splitlines()[:2], [
+        "Cycle 2 ended: 14 of 14 files right, 7 objects, 21 bytes.",
+        "Nothing new, 1 object or file gone since cycle 1."])
     check("the list", nights.has("reports/gone-000002"), OF_F)
     check("it is said once", nights.night(), (0, "", ""))
     os.remove(nights.root + "/i/v1/content/2")
@@ -179,38 +180,39 @@ def no_line_twice(folder: str) -> None:
 
 
 def many_new(folder: str) -> None:
-    """Of more than twenty new findings the message has the gravest twenty, and the closing the next
-    ones: it counts those of the message, and says where the rest is."""
+    """Of 46 new findings of two objects the message has the gravest with their number, and the
+    closing counts those of the message."""
     nights = made(folder)
     for number in range(45):
         common.write("%s/i/v1/content/new%02d" % (nights.root, number), b"")
     common.write(nights.root + "/+s/stray", b"")
     status, out, _ = nights.night()
-    first, head, then = out.partition(new_since(46, 2, 1) + ABOVE % 20 + ":\n")
-    named = ["E023\ti/v1/content/new%02d" % number for number in range(40)]
-    check("new", (status, lines_in(first), head != "", lines_in(then)),
-          (1, named[:3], True, named[20:23]))
-    check("the rest of the twenty", [text.count("\tand 17 more: not in the inventory (E023)\n")
-                                     for text in (first, then)], [1, 1])
-    check("and more", "and 6 more, in %s/reports/cycle-000002\n" % nights.state in then, True)
+    named = ["E023\ti/v1/content/new%02d" % number for number in range(3)]
+    check("new", (status, lines_in(out), out.count("\tand 42 more: not in the inventory (E023)\n")),
+          (1, [*named, "E072\t+s/stray"], 1))
+    check("counted", new_since(46, 2, 1) + ABOVE % 46 + ".\n" in out, True)
 
 
 def many(folder: str) -> None:
-    """Of more than twenty findings the first twenty are shown, and where the others are."""
-    objects = {"o%02d" % number: FILES for number in range(25)}
+    """Of 40 damaged objects 24 are shown, each in a line, and the command that shows the others; of
+    as many that are gone the first, and the command that lists them. Both texts have at most 40
+    lines together, and no line twice."""
+    objects = {"o%02d" % number: FILES for number in range(40)}
     nights = Nights(folder + "/state", common.make_root(folder + "/root", objects))
     for place in objects:
         common.write("%s/%s/v1/content/1" % (nights.root, place), b"abd")
     status, out, _ = nights.first()
-    check("findings", (status, len(findings_in(out)), "and 5 more, in %s/reports/cycle-000001\n"
-                       % nights.state in out), (1, 20, True))
+    check("findings", (status, len(findings_in(out)), "\n16 not shown here: ocfl-scrub-reports "
+                       "findings '%s/reports/cycle-000001'\n" % nights.state in out), (1, 24, True))
+    check("its lines", (len(out.splitlines()) <= 40, len(set(out.splitlines()))),
+          (True, len(out.splitlines())))
     for place in objects:
         shutil.rmtree("%s/%s" % (nights.root, place))
     common.make_object(nights.root + "/o", FILES)
     status, out, _ = nights.night("--force-root")
-    check("gone", (status, out.count("object\t"), out.count("file\t"), "and 5 more, in "
-                   "%s/reports/gone-000002\n" % nights.state in out, UNLOOKED % 50 in out),
-          (1, 20, 0, True, True))
+    check("gone", (status, out.count("object\t"), out.count("file\t"), "\n32 not shown here: cat "
+                   "'%s/reports/gone-000002'\n" % nights.state in out, UNLOOKED % 80 in out),
+          (1, 8, 0, True, True))
 
 
 def objects_first(folder: str) -> None:
@@ -226,7 +228,7 @@ def objects_first(folder: str) -> None:
     status, out, _ = nights.night("--force-root")
     lines = [line for line in out.splitlines() if line[:7] in ("object\t", "file\ta/")]
     check("named", (status, lines[:2], lines[2].startswith("file\ta/"), len(lines)),
-          (1, ["object\ty", "object\tz"], True, 20))
+          (1, ["object\ty", "object\tz"], True, 8))
 
 
 def known_findings(folder: str) -> None:
@@ -598,7 +600,8 @@ def why_unread(folder: str) -> None:
     shutil.copytree(folder + "/kept", nights.state)
     status, out, note = traced(call.rule("error=EACCES"), nights.words())
     check("said", (status, shown("S08\tf/v1/content/1", out),
-                   "f/v1/content/1: Permission denied (os error 13)\n" in out, note),
+                   "v1/content/1: could not be read (S08): Permission denied (os error 13)\n"
+                   in out, note),
           (1, 1, True, ""))
 
 

@@ -17,6 +17,9 @@ Tried, and what comes of it:
 - An object, a folder of a root, an empty one or none as the root; another root, declaration or
   part; a root that lost most of its names, also if some go each night: status 3, and nothing is
   written. Of parts: `night_parts.py`.
+- A state folder in the root, also one that is not there yet or is named by a link, the root itself,
+  and a folder that has the root in it: status 2, and nothing is made or written; a folder whose
+  name only begins as the root's does: its nights are as any others.
 - A folder of the nightly scripts; reports without a checkpoint; a state folder that is not
   mounted; the folder of a whole root's nights for a part, and for `join`: status 3, and nothing
   is written. Of parts: `night_parts.py`.
@@ -96,6 +99,23 @@ NOTHING: dict[str, Any] = {"checkpoint": None, "report": None}
 
 
 # Roots
+
+def overlapping(folder: str) -> None:
+    """No state folder lies in the root, or has it in it."""
+    audited, _ = made(folder)
+    os.symlink(audited.root + "/a", folder + "/link")
+    before = sorted(os.walk(audited.root))
+    for name, state in [("in the root", audited.root + "/state"), ("an object", audited.root + "/a"),
+                        ("the root", audited.root), ("above the root", folder),
+                        ("by a link", folder + "/link"), ("below a link", folder + "/link/new"),
+                        ("by dots", folder + "/root/../root/state/")]:
+        got = Nights(state, audited.root).first("--slice", SLICE)
+        check("a state folder " + name, (got[0], "one in the other" in got[2]), (2, True))
+        check(name + ": nothing is made", sorted(os.walk(audited.root)), before)
+    check("above the root: nothing is made", sorted(os.listdir(folder)), ["link", "root"])
+    beside = Nights(audited.root + "-state", audited.root)
+    check("beside the root", beside.first("--slice", SLICE)[0] in (0, 1), True)
+
 
 def no_storage_root(folder: str) -> None:
     """An object, a folder of the root, an empty folder and no folder are no storage roots."""
@@ -657,11 +677,11 @@ def cut_and_refused(folder: str) -> None:
     check("then", audited.faults_after(nights, said), [])
 
 
-PARTS = [no_storage_root, another_root, names_that_are_gone, names_that_go_night_by_night,
-         link_that_moves, exchanged, folder_of_scripts, no_checkpoint, changed_checkpoint,
-         older_checkpoint, older_folder, shorter_report, changed_report, unsaid_in_a_changed_report,
-         longer_report, links_in_the_folder, rights, copies_beside, odd_folders, odd_names,
-         names_that_are_left_out, stop_file, cut_and_refused]
+PARTS = [overlapping, no_storage_root, another_root, names_that_are_gone,
+         names_that_go_night_by_night, link_that_moves, exchanged, folder_of_scripts, no_checkpoint,
+         changed_checkpoint, older_checkpoint, older_folder, shorter_report, changed_report,
+         unsaid_in_a_changed_report, longer_report, links_in_the_folder, rights, copies_beside,
+         odd_folders, odd_names, names_that_are_left_out, stop_file, cut_and_refused]
 MOUNTING = [unmounted, mounted_anew, not_mounted, unmounted_state]
 OF_ROOT = [files_of_another]
 

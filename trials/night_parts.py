@@ -179,8 +179,8 @@ def wide_root(folder: str) -> None:
 
 
 def a_part_with_a_branch_left_out(folder: str) -> None:
-    """A folder that cannot be listed is left out of its part alone, whose cycle is not joined; the
-    next one is."""
+    """A folder that cannot be listed is left out of its part alone. The joined report is called
+    incomplete, and it is named; the next one is whole."""
     for number, name in enumerate(["b\\cx", "b\\nx", "-", "n\nl"]):
         where = "%s/%d" % (folder, number)
         root = common.make_root(where + "/root", {place: {"v1/content/a": b"abc"}
@@ -193,7 +193,11 @@ def a_part_with_a_branch_left_out(folder: str) -> None:
             status, "left out: %s: " % name.replace("\n", "%0A") in note), (3, True))
         check("the other part, beside " + name, (parts.night(2)[0], parts.state(2).whole(1)),
               (0, "ok\t~z\t-\nok\t~z/v1/content/a\t3\n"))
-        check("it is not joined, " + name, parts.joined()[0], 3)
+        status, out, note = parts.joined()
+        check("it is joined as incomplete, " + name, (
+            status, sorted(os.listdir(parts.folder + "/reports")),
+            "left out: %s\n" % name.replace("\n", "%0A") in out + note),
+            (3, ["incomplete-000001"], True))
         os.remove(bad)
         for number in (1, 2):
             parts.night(number)

@@ -8,11 +8,13 @@ usage: parallel.py [PART]...
 Tried, and what comes of it:
 
 - 15 nights of 24 parts; parts and nights that SIGKILL and SIGTERM end: each joined report is
-  `audit`, byte for byte, and each finding was told, or counted in its group.
-- A place that cannot be read: named with its part, status 3; the other parts end; repaired, the
-  cycle is the audit.
-- Cycles that are not joined: damage, its repair, a loss and its return: `status` has each once,
-  as the last cycle has it; before, damage counted once a cycle and losses were forgotten.
+  `audit`, byte for byte, and of each object, and of each code outside objects, the messages of a
+  cycle show or count as many findings as the audit has.
+- A place that cannot be read: named with its part, status 3; the other parts end; the joined
+  report is called incomplete, and its statement names the place and why; repaired, the next cycle
+  is the audit. Before, nothing was joined, and no cycle had a statement.
+- Cycles whose joined report is incomplete: damage, its repair, a loss and its return: `status` has
+  each once, as the last cycle has it; before, damage counted once a cycle and losses were forgotten.
 - A cycle that no `end` joined: it is joined and stated with the next one, and what was lost in it
   is gone until it is back. Before, it had no report, no statement and no list.
 - A part that is killed between the closing of its cycle and its list of what is gone: nothing is
@@ -41,7 +43,7 @@ import time
 
 import common
 from common import PROGRAM, check
-from shared.messages import findings_in, key
+from shared.messages import findings_in, key, miscounted, nights_in
 from shared.nights import NIGHTS, REPORTS, in_an_hour, ran, read, tried_apart, write
 from shared.parallel import (Place, Together, audit, begun, findings, check_statement, make_root,
                              small_root, lines_in_message)
@@ -81,8 +83,8 @@ def strike(night, kind, number, chance):
 
 
 def cycles(folder):
-    """Three cycles under kills: each joined report is the audit, and each finding was told, or
-    counted after the first ones that are alike."""
+    """Cycles under kills: each joined report is the audit, and each finding of it was told, or
+    counted with those of its object."""
     chance = random.Random(36)
     nights = Together(folder + "/state", make_root(folder))
     whole, said, struck = audit(nights.root), "", 0
@@ -102,10 +104,11 @@ def cycles(folder):
     joined = sorted(glob.glob(nights.path("reports/cycle-*")))
     check("cycles were joined", len(joined) > 1, True)
     check("each is the audit", [path for path in joined if read(path) != whole], [])
-    counted = re.findall(r"(?m)^\tand \d+ more: .*\(([ES]\d+)\)$", said)
-    untold = sorted(findings(whole) - lines_in_message(said))
-    check("each finding was told",
-          [it for it in untold if it.split("\t")[0] not in counted][:3], [])
+    for cycle in (int(re.search(r"cycle-(\d+)", path)[1]) for path in joined):
+        of_cycle = [night for night in nights_in(said) if night.cycle == cycle]
+        check("each finding of cycle %d was told" % cycle,
+              miscounted(of_cycle, findings(whole))[:3], [])
+    check("and nothing else", sorted(lines_in_message(said) - findings(whole))[:3], [])
     check_statement("the first statement", nights, 1)
 
 
@@ -159,8 +162,9 @@ def cost_of_start(nights):
 
 
 def unread(folder):
-    """A place that cannot be read is left out of its part alone, whose cycle is not joined; the
-    next one is, once the place is repaired."""
+    """A place that cannot be read is left out of its part alone. The joined report is called
+    incomplete, and its statement names the place; the next one is the audit, once the place is
+    repaired."""
     nights = Together(folder + "/state", small_root(folder))
     place = Place(nights.root, "o03/v1/content")
     place.spoil()
@@ -168,15 +172,28 @@ def unread(folder):
     check("it is named", (status, "o03/v1/content" in out, nights.level()), (3, True, 2))
     check("the others have ended", [len(glob.glob(nights.part(number, "reports/cycle-*")))
                                     for number in range(1, 5)], [1, 0, 1, 1])
-    check("it is not joined", nights.has("reports/cycle-000001"), None)
+    check("it is not called whole", nights.has("reports/cycle-000001"), None)
+    check("the message says so", [row for row in out.splitlines() if "incomplete" in row
+                                  or row.startswith("Left out: ")][:1], [
+        "The joined report of cycle 1 is incomplete: that of part 2 is not whole."])
+    statement = nights.has("reports/statement-000001") or ""
+    check("its statement", [row for row in statement.splitlines() if re.match(
+        "Whole|Lost|Place|Report:", row)], [
+            "Lost lines: none", "Report: incomplete-000001", "Whole: no", "Places left out: 1",
+            "Place left out 1: o03/v1/content"])
+    check("with why", "\nWhy left out 1: " in statement, True)
+    check("which holds", ran([REPORTS, "verify", nights.path("reports/statement-000001")])[0], 0)
     place.mend()
+    check("it is joined as incomplete", nights.has("reports/incomplete-000001"), "".join(
+        line for line in audit(nights.root).splitlines(True) if "\to03/v1/content" not in line))
     check("repaired", nights.night(), (0, "", ""))
     nights.is_audit("then it is the audit", 2)
 
 
 def unjoined(folder):
-    """Of cycles that are not joined, `status` takes each place as the last one has it, and what was
-    gone in them is gone until it is back. Whether more is gone is not known then."""
+    """Of cycles whose joined report is incomplete, `status` takes each place as the last one has it,
+    and what was gone in them is gone until it is back. Each of them was compared with the one
+    before, so no more is gone."""
     nights = Together(folder + "/state", small_root(folder, ["o01"]))
     place = Place(nights.root, "o03/v1/content")
     nights.night()
@@ -188,7 +205,7 @@ def unjoined(folder):
 
     check("before", counted(), ["1", "1", "U"])
     shutil.rmtree(nights.root + "/o05")
-    check("a cycle that is not joined", (nights.night()[0], counted()), (3, ["1", "1", "1"]))
+    check("an incomplete one", (nights.night()[0], counted()), (3, ["1", "1", "1"]))
     check("a second one", (nights.night()[0], counted()), (3, ["1", "1", "1"]))
     write(nights.root + "/o01/v1/content/a", "abc")
     check("repaired in a third one", (nights.night()[0], counted()), (3, ["0", "0", "1"]))
@@ -197,13 +214,13 @@ def unjoined(folder):
     nights.night()
     nights.is_audit("joined", 5)
     check_statement("its statement", nights, 5)
-    check("gone still", (counted(), "\nObjects gone and not back: at least 1\n" in nights.has(
+    check("gone still", (counted(), "\nObjects gone and not back: 1\n" in nights.has(
         "reports/statement-000005")), (["0", "0", "1"], True))
     check("of a part", sorted(map(os.path.basename, glob.glob(nights.part(1, "reports/cycle-*")))),
           ["cycle-000004", "cycle-000005"])
     shutil.copytree(nights.root + "/o06", nights.root + "/o05")
     nights.night()
-    check("back, of what is known", counted()[2], "U")
+    check("back", counted()[2], "0")
 
 
 def missed_end(folder):

@@ -10,7 +10,8 @@ Tried, and what comes of it. Each row was seen to fail on scripts that lacked it
   and says that those of the runs are not known.
 - A night that has no line in the log, since it was killed: no file of the cycle was read before
   its `Oldest verification`.
-- A night that was killed: the statement counts it, and `status` calls it cut.
+- Nights that were killed, several in one second: the statement counts each, and `status` calls
+  the last one cut.
 - A folder that could not be listed: the statement counts it, and its object does not count as
   without findings. The name that is not UTF-8 there is in the message, the log, the statement and
   `status`.
@@ -97,24 +98,27 @@ def time_text(seconds):
 
 
 def cut(folder):
-    """A night that was killed is counted, by its rows or by the runs of the checkpoint."""
+    """Each night that was killed after it had said that it began is counted, though several began
+    in one second."""
     nights = Nights(folder + "/state", make_root(folder + "/root"))
     nights.part()
-    before = runs_of(nights)
+    before, killed = runs_of(nights), 0
     for when in range(1, 40):
-        common.traced(["-e", "inject=fsync:signal=KILL:when=%d" % when],
-                      ["night", "--state", nights.state, "--slice", "1", nights.root])
-        # (the log tells nights apart by the second)
-        time.sleep(1.1)
+        # (a kill before the row, which is written once the folder is opened, cuts no night)
+        common.traced(["-s", "2000", "-e", "trace=write,fsync", "-e",
+                       "inject=fsync:signal=KILL:when=%d" % when],
+                      ["night", "--state", nights.state, "--slice", "1", nights.root],
+                      folder + "/calls")
+        killed += '\\"row\\":\\"began\\"' in read(folder + "/calls")
         if runs_of(nights) > before:
             break
+    check("several were killed", killed > 1, True)
     line = ask("status", nights.state)[1]
     check("status", ("a night was cut;" in line, "under way" in line), (True, False))
     nights.night()
-    # (a kill that came early cut a night that had made no run)
-    began, ended = ({row["night"] for row in nights.rows(kind)} for kind in ("began", "night"))
-    check("the statement", (lines_of(nights, 1).get("Nights cut"), lines_of(nights, 1)["Whole"]),
-          (str(len(began - ended)), "yes"))
+    lines = lines_of(nights, 1)
+    check("the statement", [lines.get(name) for name in ("Nights", "Nights cut", "Whole")],
+          [str(killed + 2), str(killed), "yes"])
     check("it holds", verified(file_of(nights, 1))[0], 0)
     nights.night()
     check("the next cycle", lines_of(nights, 2).get("Nights cut"), "0")

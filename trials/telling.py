@@ -139,8 +139,8 @@ def a_word_of_a_good_night(folder):
     check("told", (status, "archive: findings repaired" in said, "repaired in cycle 2" in said),
           (0, True, True))
     status, said = in_service(nights, 3)
-    check("then the word at the end of a cycle", (status, "archive: a cycle ended" in said,
-                                                  len(said.splitlines())), (0, True, 2))
+    check("then the word at the end of a cycle", (status, "cycle 3 of archive: all right" in said,
+                                                  len(said.splitlines())), (0, True, 3))
 
 
 def under_way(folder):
@@ -422,7 +422,7 @@ def pasted(folder):
         write(root + "/o/v1/content/" + name, "x")
         out = ran([PROGRAM, "night", "--create", "--state", "%s/state-%d" % (folder, number),
                    "--", root])[1]
-        command = out.partition(", then: ")[2].partition("\n")[0]
+        command = out.partition("\tTo look again: ")[2].partition("\n")[0]
         status, found, said = ran(["sh", "-c", command], cwd=folder, PATH=path)
         wrong = [line for line in ran([PROGRAM, "audit", "--", root])[1].splitlines(True)
                  if line.startswith("E092")]

@@ -22,7 +22,7 @@ if TYPE_CHECKING:
 PROGRAM = "ocfl-scrub-reports"
 LIMITS = [("--age", "26,50", "hours since the last night began"),
           ("--findings", "1,-", "open findings that are not known"),
-          ("--damaged", "1,1", "open findings of weight 1 that are not known"),
+          ("--damaged", "1,1", "those of damaged or unreadable files (weight 1)"),
           ("--lost", "1,1", "objects that are gone and not back"),
           ("--gone", "1,-", "these, files that are gone and not back, objects that are no longer "
                             "declared, and expected objects that are missing"),
@@ -143,7 +143,7 @@ def do_page(given: Given) -> None:
     roots = roots_of(given)
     if len(roots) == 1 and roots[0].error:
         raise Failed(roots[0].error)
-    page.show(roots, Weights(given.codes), files.time_text(present(given)))
+    page.show(roots, files.time_text(present(given)))
 
 
 def present(given: Given) -> int:
@@ -411,18 +411,22 @@ def drop_output() -> None:
         os.dup2(os.open("/dev/null", os.O_WRONLY), 1)
 
 
-def main(words: Sequence[str] | None = None) -> int:
-    """Does what the command line asks, and gives the status."""
+def run() -> int:
+    """Does what the command line asks in this process, which is the command's own."""
     signal.signal(signal.SIGPIPE, signal.SIG_DFL)
-    os.umask(0o027)
     open_streams()
     for end in (signal.SIGHUP, signal.SIGTERM, signal.SIGINT):
         signal.signal(end, lambda *_: sys.exit(3))
     sys.stdout.reconfigure(  # type: ignore[attr-defined]
         encoding=sys.getfilesystemencoding(), errors="surrogateescape")
+    return main(sys.argv[1:])
+
+
+def main(words: Sequence[str]) -> int:
+    """Does what these words ask, and gives the status. What signals do stays as it was."""
+    os.umask(0o027)
     try:
-        given, odd = parser_of_all().parse_known_args(
-            joined(sys.argv[1:] if words is None else words))
+        given, odd = parser_of_all().parse_known_args(joined(words))
         if odd:
             given.parser.error("this is not known here: " + " ".join(odd))
         code = given.does(given) or 0

@@ -187,14 +187,17 @@ class Page:
             yield "What %s is not known: %s" % ("else is gone" if any(
                 count for count, *_ in counts) else "is gone", self.why_not_compared())
         elif not any(count for count, *_ in counts):
-            yield "Nothing is gone since cycle %s%s" % (
-                self.said.get("Compared with cycle", ""),
-                ", outside of what was left out" * bool(self.number("Places left out")))
+            yield self.nothing_gone()
         before = len(list(islice(self.gone_before(), SHOWN)))
         if before:
             yield "What was gone before, and is not back: %s%s" % (
                 "at least " * (before == SHOWN), "1 object or file" if before == 1
                 else "%d objects and files" % before)
+
+    def nothing_gone(self) -> str:
+        return "Nothing is gone since cycle %s%s" % (
+            self.said.get("Compared with cycle", ""),
+            ", outside of what was left out" * bool(self.number("Places left out")))
 
     def why_not_whole(self) -> str:
         left = self.number("Places left out")
@@ -276,7 +279,8 @@ class Page:
             (place_within(it.line.path, path), self.words.meaning(it.line.code, it.line.detail)
              + OTHER_FORM * (it.line.code == b"E023" and in_one_form(it.line.path) in missing),
              it.line.code.decode(), detail(it.line.code, it.line.detail),
-             now.get(it.line.code + b"\t" + it.line.path, NOT_KNOWN)) for it in found])
+             now.get(it.line.code + b"\t" + it.line.path, NOT_KNOWN)) for it in found],
+            "findings")
 
     def compared_with_before(self) -> dict[bytes, str]:
         """Of each shown finding, by its code and place, what the report before had there."""
@@ -312,7 +316,8 @@ class Page:
         return section(
             "What is gone",
             rows_of("Gone since cycle %s" % self.said.get("Compared with cycle", ""), now,
-                    known_ones) or (paragraph("Nothing.") if is_known and self.gone == [] else ""),
+                    known_ones) or (paragraph(self.nothing_gone() + ".")
+                                    if is_known and self.gone == [] else ""),
             paragraph("The list of it is not there any more.") if self.gone is None else "",
             "" if is_known else paragraph("What %s is not known: %s." % (
                 "else is gone" if now else "is gone", why)),
@@ -342,7 +347,8 @@ class Page:
             paragraph("What is repaired is not known: %s." % self.why_no_earlier)
             if self.earlier is None else paragraph("How many findings of the report before are "
                                                    "repaired, the log does not say.")
-            if count is None else paragraph(many_are(count, "finding") + " repaired."),
+            if count is None else paragraph(
+                many_are(count, "finding") + " repaired." if count else "No finding is repaired."),
             self.former_ones())
 
     def former_ones(self) -> str:

@@ -21,10 +21,14 @@ h3 { margin-bottom: 0; } h3 + p { margin-top: 0; }
 th, td { border-bottom: 1px solid var(--line); padding: .2rem .8rem .2rem 0; text-align: left;
   vertical-align: top; overflow-wrap: break-word; }
 caption { white-space: nowrap; } bdi { overflow-wrap: anywhere; }
-th { white-space: nowrap; } tbody th { font-weight: normal; white-space: normal; }
+tbody th { font-weight: normal; }
 td.number { text-align: right; } td.number, td.time { white-space: nowrap; }
 .place, pre { white-space: pre-wrap; } pre { overflow-wrap: anywhere; }
 table .place { display: inline-block; max-width: 32rem; }
+.findings { table-layout: fixed; width: 100%; } .findings .place { max-width: 100%; }
+.findings thead th:nth-child(1) { width: 31%; } .findings thead th:nth-child(2) { width: 17%; }
+.findings thead th:nth-child(3) { width: 3.2rem; }
+.findings thead th:nth-child(5) { width: 5.5rem; }
 .byte { border: 1px solid; border-radius: .2em; padding: 0 .1em; margin: 0 .1em; font-size: .8em;
   font-family: monospace; }
 svg { width: 100%; height: auto; max-width: 45rem; display: block; }
@@ -56,7 +60,8 @@ POLICY = ('<meta http-equiv="Content-Security-Policy" content="default-src \'non
 TIME = re.compile("[0-9]{4}-[0-9]{2}-[0-9]{2}T[0-9:]{8}Z")
 # How many digits of a digest are shown.
 DIGITS = 12
-# Units, the least one first, each with how many of the least it is.
+
+
 class Markup(str):
     """A text that is HTML already."""
 
@@ -71,8 +76,7 @@ def text(value: object) -> str:
         return value
     given = str(value)
     return escape(given) if given.isprintable() else "".join(
-        escape(it) if it.isprintable() else '<span class="byte">%s</span>' % bytes_in(it)
-        for it in given)
+        escape(it) if it.isprintable() else framed(bytes_in(it)) for it in given)
 
 
 def bytes_in(character: str) -> str:
@@ -89,9 +93,15 @@ def shown(escaped: bytes) -> Markup:
 
 
 def place(path: bytes) -> Markup:
-    """A place as reports write it, with its names as they are."""
+    """A place as reports write it, with its names as they are. Spaces at the end of a name are
+    written as bytes, since nobody would see them."""
     return Markup('<span class="place" dir="ltr">%s</span>' % "/<wbr/>".join(
-        map(shown, path.split(b"/"))))
+        "%s%s" % (shown(it.rstrip(b" ")), framed("%20") * (len(it) - len(it.rstrip(b" "))))
+        for it in (name.replace(b"%20", b" ") for name in path.split(b"/"))))
+
+
+def framed(byte: str) -> str:
+    return '<span class="byte">%s</span>' % byte
 
 
 def detail(code: bytes, said: bytes) -> Markup:
@@ -120,11 +130,14 @@ def listed(values: Iterable[object]) -> str:
     return "<ul>%s</ul>\n" % made if made else ""
 
 
-def table(caption: str, heads: Sequence[str], rows: Iterable[Sequence[object]]) -> str:
+def table(caption: str, heads: Sequence[str], rows: Iterable[Sequence[object]],
+          kind: str = "") -> str:
+    """A table. One of findings, as `kind` says, has columns of the same widths as others."""
     head = "".join('<th scope="col">%s</th>' % text(name) for name in heads)
     body = "".join('<tr><th scope="row">%s</th>%s</tr>\n' % (
         text(first), "".join(map(cell, others))) for first, *others in rows)
-    return ("<table>%s\n<thead><tr>%s</tr></thead>\n<tbody>%s</tbody></table>\n" % (
+    return ("<table%s>%s\n<thead><tr>%s</tr></thead>\n<tbody>%s</tbody></table>\n" % (
+        ' class="%s"' % kind if kind else "",
         "<caption>%s</caption>" % text(caption) if caption else "", head, body))
 
 

@@ -38,16 +38,18 @@ class Night:
 
 
 def nights_of(entries: Iterable[Entry]) -> list[tuple[str, Night]]:
-    """The last nights, by when they began."""
-    found: dict[str, Night] = {}
+    """The last nights, by when they began; several may have begun in one second."""
+    found: dict[tuple[str, int], Night] = {}
+    begun = 0
     for entry in entries:
+        begun += entry.kind == "began" and not entry.of_part
         if entry.is_run() or entry.kind == "told":
-            night = found.setdefault(entry.night, Night())
+            night = found.setdefault((entry.night, 0 if entry.of_part else begun), Night())
             night.bytes += entry.cost * entry.is_run()
             night.seconds += entry.seconds * entry.is_run()
             refused = entry.kind if entry.is_run() and entry.cycle == 0 else ""
             night.status = entry.status or refused or night.status
-    return list(found.items())[-NIGHTS:]
+    return [(began, night) for (began, _), night in found.items()][-NIGHTS:]
 
 
 # Plots
@@ -127,10 +129,10 @@ def about_progress(standing: Standing) -> list[tuple[str, str]]:
     """How far the open cycle is, and how much is left of it, as far as that is known."""
     log, facts = standing.log, []  # type: Log, list[tuple[str, str]]
     if log.place:
-        facts.append(("it has come to, in the order of names", place(files.bytes_of(log.place))))
+        facts.append(("place reached, in the order of names", place(files.bytes_of(log.place))))
     if standing.done is None:
         return facts + [("how much is left", standing.why_not_reckoned())]
-    facts.append(("progress, by the cost of the cycle before", "%d %%" % standing.done))
+    facts.append(("done, by the cost of the cycle before", "%d %%" % standing.done))
     read = log.closing.read_bytes
     facts.append(("how much is left", "%d %%%s" % (100 - standing.done, "" if read is None else (
         ", about %s" % size(max(0, read - (log.spent - log.files)))))))
@@ -156,16 +158,16 @@ def about_nights(nights: list[tuple[str, Night]], is_under_way: bool) -> str:
         table("The last nights", ("began", "read", "in", "speed", "status"), rows))
 
 
-def about_findings(standing: Standing, weights: Weights) -> str:
+def about_findings(standing: Standing) -> str:
     found = standing.found
-    of_codes = Weights()
+    words_of = Weights()
     rows: list[list[str]] = []
     gone: list[tuple[str, str]] = []
     for line in questions.lines_of(found.listed):
         words = line.split(b"\t")
         if len(words) == 3 and len(rows) < SHOWN:
-            rows.append([weights.weight(line).decode(), words[0].decode(), place(words[1]),
-                         of_codes.meaning(words[0], words[2]), detail(words[0], words[2])])
+            rows.append([place(words[1]), words_of.meaning(words[0], words[2]), words[0].decode(),
+                         detail(words[0], words[2])])
         elif len(words) == 2 and len(gone) < SHOWN:
             gone.append((LOST.get(words[0], words[0].decode()), place(words[1])))
     left = standing.open + standing.gone - len(rows) - len(gone)
@@ -173,8 +175,10 @@ def about_findings(standing: Standing, weights: Weights) -> str:
     unknown = "<p>What %s is not known: %s</p>\n" % (
         "else is gone" if standing.gone else "is gone", text(standing.unknown))
     return section(
-        "What is open", "<p>%s</p>\n" % text(standing.findings_text()),
-        table("Open findings", ("weight", "code", "place", "what", "detail"), rows) if rows else "",
+        "What is open",
+        "" if standing.are_said else "<p>%s</p>\n" % text(standing.findings_text()),
+        table("Open findings", ("place", "what", "code", "detail"), rows, "findings")
+        if rows else "",
         table("Gone and not back", ("what", "place"), gone) if gone else "",
         unknown if standing.unknown else "", more)
 
@@ -232,14 +236,14 @@ def back_text(closing: Closing) -> str:
     return many(closing.back, "object") if closing.back else "nothing"
 
 
-def about_root(root: Root, weights: Weights) -> str:
+def about_root(root: Root) -> str:
     """All that is said of one storage root."""
     if root.state is None or root.standing is None:
         return markup.level(3, [root.error])
     state, standing = root.state, root.standing
     return "".join([
         markup.level(standing.level, standing.reasons), about_cycle(state, standing),
-        about_findings(standing, weights), about_changes(state),
+        about_findings(standing), about_changes(state),
         about_nights(nights_of(state.entries(True)), standing.log.is_under_way),
         about_cycles(state, standing)])
 
@@ -262,16 +266,16 @@ def in_short(standing: Standing | None) -> tuple[object, ...]:
                 log.cycle, "is open" if log.is_open else "has ended", done))
 
 
-def show(roots: Sequence[Root], weights: Weights, now: str) -> None:
+def show(roots: Sequence[Root], now: str) -> None:
     """Writes a page about one storage root, or several, to standard output."""
     as_of = markup.paragraph("As of %s" % now)
     if len(roots) == 1:
         name = roots[0].root
         markup.write("Fixity of " + plain("", name), "<h1>Fixity of %s</h1>\n%s%s" % (
-            text(name), as_of, about_root(roots[0], weights)))
+            text(name), as_of, about_root(roots[0])))
         return
     name = many(len(roots), "storage root")
     body = "".join('<article id="root-%d">\n<h1>%s</h1>\n%s</article>\n' % (
-        at, text(it.root), about_root(it, weights)) for at, it in enumerate(roots, 1))
+        at, text(it.root), about_root(it)) for at, it in enumerate(roots, 1))
     markup.write("Fixity of " + name, "<h1>Fixity of %s</h1>\n%s%s%s%s" % (
         name, as_of, markup.level(worst_of(roots), []), about_all(roots), body))

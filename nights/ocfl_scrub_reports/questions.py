@@ -1,6 +1,7 @@
 """Questions to reports that need nothing but the reports."""
 from __future__ import annotations
 
+import contextlib
 import json
 import sqlite3
 import sys
@@ -133,9 +134,10 @@ def as_json(code: str, path: str, detail: str) -> str:
     return json.dumps(line, separators=(",", ":"))
 
 
-def divided(path: str) -> list[IO[bytes]]:
+def divided(path: str, opened: contextlib.ExitStack) -> list[IO[bytes]]:
     """The lines of a report in PARTS files, so that a line is in the same part of any report."""
-    parts: list[IO[bytes]] = [tempfile.TemporaryFile() for _ in range(PARTS)]
+    parts: list[IO[bytes]] = [opened.enter_context(tempfile.TemporaryFile())
+                              for _ in range(PARTS)]
     for block in report.Reading(path).whole():
         lists: list[list[bytes]] = [[] for _ in parts]
         for line in block[1:-1].split(b"\n"):
@@ -150,11 +152,12 @@ def show_changed(older: str, newer: str) -> None:
     one, `+` before those of the newer one. No more than a part of both is in memory."""
     database = sqlite3.connect("")
     database.execute("create table line (sign blob, path blob, line blob)")
-    for parts in zip(divided(older), divided(newer)):
-        before, after = (set(lines_of(part)) for part in parts)
-        for sign, lines in ((b"-", before - after), (b"+", after - before)):
-            database.executemany("insert into line values (?, ?, ?)", (
-                (sign, line.split(b"\t")[1], line) for line in lines))
+    with contextlib.ExitStack() as opened:
+        for parts in zip(divided(older, opened), divided(newer, opened)):
+            before, after = (set(lines_of(part)) for part in parts)
+            for sign, lines in ((b"-", before - after), (b"+", after - before)):
+                database.executemany("insert into line values (?, ?, ?)", (
+                    (sign, line.split(b"\t")[1], line) for line in lines))
     sys.stdout.flush()
     for sign, line in database.execute(
             "select sign, line from line order by path, sign desc, line"):

@@ -166,10 +166,12 @@ class Cycle:
     """What the log says of a cycle."""
     number: int
     # When its nights began: of nights of parts that count as one, when the first of them did.
-    nights: dict[str, str] = field(default_factory=dict)
+    nights: dict[tuple[str, int], str] = field(default_factory=dict)
     # When the night began that read first for it, if a row says so.
     began: str = ""
-    cut: set[str] = field(default_factory=set)
+    cut: set[tuple[str, int]] = field(default_factory=set)
+    # How many nights have begun so far, in any cycle: several may begin in one second.
+    begun: int = 0
     runs: int = 0
     # The places that were left out, each with its reason.
     left: dict[str, str] = field(default_factory=dict)
@@ -182,6 +184,7 @@ class Cycle:
     def note(self, entry: Entry) -> None:
         if entry.kind == "ended":
             self.comparisons.take(entry)
+        self.begun += entry.kind == "began"
         if entry.kind == "ended" and entry.cycle == self.number - 1:
             self.begun_after = self.begun_after or closed_at(entry)
         elif entry.cycle != self.number:
@@ -194,15 +197,16 @@ class Cycle:
         elif entry.kind == "left":
             self.left[entry.said] = entry.why or self.left.get(entry.said, "")
         elif entry.is_run():
-            self.nights.setdefault(entry.night, entry.of_part or entry.night)
+            night = entry.night, 0 if entry.of_part else self.begun
+            self.nights.setdefault(night, entry.of_part or entry.night)
             self.runs += entry.runs
-            self.cut.update([entry.night] * (entry.kind == "cut"))
+            self.cut.update([night] * (entry.kind == "cut"))
         elif entry.kind == "ended":
             self.closing = self.comparisons.closings[self.number]
             self.closed = self.closed or closed_at(entry)
         elif entry.kind == "stands" and entry.runs > self.runs and not self.cut and not self.began:
             # No row tells of the night that made these runs.
-            self.cut.add("")
+            self.cut.add(("", 0))
 
 
 def cycle_of(state: State, number: int) -> Cycle:

@@ -65,7 +65,10 @@ class Log:
     left_out: dict[int, dict[str, str]] = field(default_factory=dict)
     cost: Counter[int] = field(default_factory=Counter)
     runs: Counter[int] = field(default_factory=Counter)
-    nights: dict[int, set[str]] = field(default_factory=dict)
+    # How many nights have begun so far, of which several may have begun in one second, and by the
+    # cycle those that read for it.
+    begun: int = 0
+    nights: dict[int, set[tuple[str, int]]] = field(default_factory=dict)
     closed: Entry | None = None
     closing: Closing = field(default_factory=Closing)
     comparisons: Comparisons = field(default_factory=Comparisons)
@@ -97,7 +100,8 @@ class Log:
 
     def take_beginning(self, entry: Entry) -> None:
         """Notes that a night began, which may not have ended a run yet."""
-        self.start_night(entry.night)
+        self.begun += not entry.of_part
+        self.start_night(entry.night, not entry.of_part)
         self.is_under_way = True
         if entry.stands == "start" and not self.runs[entry.cycle]:
             self.told_from_start.add(entry.cycle)
@@ -116,7 +120,7 @@ class Log:
         if entry.cycle > 0:
             self.cost[entry.cycle] += entry.cost
             self.runs[entry.cycle] += entry.runs
-            self.nights.setdefault(entry.cycle, set()).add(entry.night)
+            self.nights.setdefault(entry.cycle, set()).add((entry.night, self.begun))
             self.seconds += entry.seconds
             self.move_to(entry)
 
@@ -141,8 +145,8 @@ class Log:
         """How many nights have read for the cycle."""
         return len(self.nights.get(self.cycle or 0, ()))
 
-    def start_night(self, night: str) -> None:
-        if night != self.night:
+    def start_night(self, night: str, is_another: bool = False) -> None:
+        if is_another or night != self.night:
             self.status_before, self.part_was_cut = self.status, False
             self.night, self.status, self.seconds, self.is_under_way = night, "0", 0, False
             self.said = ""
@@ -271,7 +275,7 @@ class Standing:
         return ": left out " + ", ".join(left[:3] + more) if left else ""
 
     def judge_losses(self) -> None:
-        """Lost objects are graver than lost files."""
+        """Lost objects are more serious than lost files."""
         level = max(self.reached("lost", self.found.lost["object"]),
                     self.reached("gone", self.gone))
         if level:
@@ -308,7 +312,7 @@ class Standing:
         codes = ", ".join("%s %d" % (code, found.count[code]) for code in sorted(found.count))
         return "%s%s%s%s" % (
             many(self.open, "open finding"),
-            ", %d of weight 1" % found.damaged if found.damaged else "",
+            ", %d damaged or unreadable" % found.damaged if found.damaged else "",
             " (%s)" % codes if codes else "", ", %d known" % found.known if found.known else "")
 
     def lost_things(self) -> str:
@@ -489,7 +493,8 @@ FIGURES: list[tuple[str, str, Callable[[Standing], float | None]]] = [
     ("expected_objects_missing", "Expected objects that are missing.",
      lambda it: it.found.lost["expected"] if it.log.searched else None),
     ("known_findings", "Open findings that are known.", lambda it: it.found.known),
-    ("damaged", "Open findings of weight 1 that are not known.", lambda it: it.found.damaged),
+    ("damaged", "Open findings of damaged or unreadable files that are not known.",
+     lambda it: it.found.damaged),
     ("open_findings", "Open findings that are not known.", lambda it: it.open)]
 
 

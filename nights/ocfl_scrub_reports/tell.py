@@ -21,8 +21,9 @@ NO_TEXT = ("It left no text in its folder, or the text was sent already. If it c
 NO_ROOM = "What it said could not be written into %s: is there room for it?\nElse %s.\n"
 # What a night says that found nothing bad, and its words.
 GOOD = [(re.compile(b" repaired"), "{}: findings repaired"),
-        (re.compile(rb"(?m)^[0-9]+ object\S* \S+ back in cycle "), "{}: objects are back"),
-        (re.compile(rb"(?m)^Cycle [0-9]+ ended: "), "{}: a cycle ended")]
+        (re.compile(rb"(?m)^[0-9]+ object\S* \S+ back in cycle "), "{}: objects are back")]
+# The word at the end of a cycle.
+ENDED = re.compile(rb"(?m)^Cycle ([0-9]+) ended: ([0-9]+) of ([0-9]+) files? right, ")
 # How many seconds a mail may take. What hangs must not keep the messages of later nights.
 PATIENCE = 300
 
@@ -88,8 +89,7 @@ class Night:
         stopped = "{}: the night stopped with status " + self.status
         words = WORDS.get(self.status, stopped)
         if self.status == "0" and not self.has_unsent:
-            said = self.said()
-            words = next((it for found, it in GOOD if found.search(said)), words)
+            words = good_words(self.said(), len(self.folders)) or words
         return words.replace("{}", self.shown)
 
     def said(self) -> bytes:
@@ -127,6 +127,22 @@ class Night:
     def forget(self) -> None:
         for it in self.folders:
             it.forget()
+
+
+def good_words(said: bytes, folders: int) -> str:
+    """What came of a night that found nothing bad: of several cycles that ended, that of the last
+    one. Empty if it is not known."""
+    for found, words in GOOD:
+        if found.search(said):
+            return words
+    ended = ENDED.findall(said)
+    if not ended:
+        return ""
+    if folders > 1:
+        return "{}: cycles ended"
+    cycle, right, files = (it.decode() for it in ended[-1])
+    result = "all right" if right == files else "%s of %s files right, nothing new" % (right, files)
+    return "cycle %s of {}: %s" % (cycle, result)
 
 
 def has_text(path: str) -> bool:

@@ -9,13 +9,15 @@ from pathlib import Path
 from folder import part
 from given import closed, count_parts, leave, ranges, run
 from ocfl_scrub_reports.shared import find_program, put
-from ocfl_scrub_reports.state import cycle_name, find, numbered_in
+from ocfl_scrub_reports.state import cycle_name, find, numbered_in, open_state
 
 STATEMENT = re.compile("statement-([0-9]+)")
 # How many names the top folder of the root had when the cycle began.
 NAMES = re.compile(rb"\nnames ([0-9]+) ")
 # The status of a program that found a lock held, and how many seconds that is waited for.
 HELD, PATIENCE = 75, 60
+# So many places that were left out are named at most.
+MOST_LEFT = 20
 
 
 def reports_of(state: str, number: int) -> str:
@@ -49,10 +51,18 @@ class Parts:
         """The parts whose reports of a cycle are not whole."""
         return [number for number, it in self.closed.items() if it.get(cycle) is False]
 
-    def not_whole(self, cycle: int) -> str:
-        lacking = self.lacking(cycle)
-        return ("The reports of cycle %d are not joined: that of %s is not whole."
-                % (cycle, ranges(lacking))) if lacking else ""
+    def is_incomplete(self, cycle: int) -> bool:
+        """Whether the joined report of a cycle is there, and lacks what parts left out."""
+        return bool(find(self.reports, "incomplete", cycle))
+
+    def incomplete(self, cycle: int) -> str:
+        """Says what the joined report of a cycle lacks, with the reasons that the parts logged."""
+        left = {it.said: it.why for it in open_state(self.state).entries(True)
+                if it.kind == "left" and it.cycle == cycle}
+        rows = ["Left out: %s%s" % (place, why and ": " + why) for place, why in left.items()]
+        more = ["%d more places were left out." % (len(rows) - MOST_LEFT)] * (len(rows) > MOST_LEFT)
+        return "\n".join(["The joined report of cycle %d is incomplete: that of %s is not whole."
+                          % (cycle, ranges(self.lacking(cycle))), *rows[:MOST_LEFT], *more])
 
     def skipped(self, last: int) -> list[int]:
         """The cycles before this one that are never joined, since a part has no report of them, or
@@ -84,7 +94,7 @@ class Parts:
         return seen, [number for number in seen if 2 * seen[number] < most]
 
     def can_join(self, cycle: int) -> bool:
-        return not self.lacking(cycle) and not self.few(cycle)[1]
+        return not self.few(cycle)[1]
 
     def other_roots(self, cycle: int) -> str:
         """Says which parts saw another root, by how many names it had. Empty if none did."""
@@ -119,15 +129,17 @@ def join(state: str, cycle: int) -> str:
     parts.leave_skipped(cycles[-1:])
     for it in cycles:
         parts.list_gone(it)
-    whole = [it for it in cycles if parts.can_join(it)]
-    status, text = call_join(state) if whole else (0, "")
-    failed = [it for it in whole if not parts.is_joined(it)]
-    said = [text] if status == 0 or whole == cycles else []
+    alike = [it for it in cycles if parts.can_join(it)]
+    status, text = call_join(state) if alike else (0, "")
+    failed = [it for it in alike if not parts.is_joined(it)]
+    lacking = [it for it in alike if parts.is_incomplete(it)]
+    said = [text] if alike == cycles and not lacking else []
     if failed:
         said = ["The reports of cycle %s are not joined:\n%s" % (
             ", ".join(map(str, failed)), text)]
+    said += [parts.incomplete(it) for it in lacking]
     if cycle in cycles:
-        said += [parts.not_whole(cycle), parts.other_roots(cycle)]
+        said.append(parts.other_roots(cycle))
     return "\n".join(filter(None, said))
 
 

@@ -9,10 +9,10 @@ from folder import part
 from given import ranges
 
 NOTE = re.compile("([0-9]{6,})-[0-9]+[.][0-9]+")
-FINDING = re.compile(rb"[ES][0-9]+\t.*\t.*\n")
-# The words by which a night names its part, and those after which a place of the root is named.
+# The words by which a night names its part, and those of lines that stay as they are: they name a
+# place of the root, or have a command over a file, which is quoted for a shell.
 OF_PART = re.compile(rb"^([0-9]+ finding\S* tonight in )part [0-9]+ of ")
-OF_PLACE = re.compile(rb"\t|^Object |left out: |stopped at ")
+STAYS = re.compile(rb"\t|^Object |^Elsewhere: |left out: |stopped at | not shown here: ")
 # Stands for the folder of a part: no text has this byte.
 OWN = b"\0"
 
@@ -20,24 +20,6 @@ OWN = b"\0"
 def escaped(path: str) -> bytes:
     """A path as the program shows it."""
     return re.sub(rb"[^ -$&-~]", lambda it: b"%%%02X" % ord(it[0]), os.fsencode(path))
-
-
-def once(lines: list[bytes]) -> list[bytes]:
-    """The lines of a text, in which no finding is there twice."""
-    made: list[bytes] = []
-    seen: set[bytes] = set()
-    above = 0
-    for line in [*lines, b""]:
-        is_finding = FINDING.fullmatch(line)
-        if above and not is_finding:
-            made.append(b"%d of these %s shown above.\n" % (above, b"are" if above > 1 else b"is"))
-            above = 0
-        if is_finding and line in seen:
-            above += 1
-        else:
-            made.append(line)
-            seen.add(line)
-    return made
 
 
 class Notes:
@@ -67,14 +49,14 @@ class Notes:
             lines = file.read().splitlines(True)
         self.paths.append(path)
         own = os.fsencode("%s/%s" % (self.state, part(number)))
-        text = b"".join(self.without(own, it) for it in (once(lines) if number else lines))
+        text = b"".join(self.without(own, it) for it in lines)
         if text:
             self.texts.setdefault(text, []).append(number)
 
     def without(self, own: bytes, line: bytes) -> bytes:
-        """A line without the folder of its part, unless it has a place, which may have that name,
-        and without the number of that."""
-        if OF_PLACE.search(line):
+        """A line without the folder of its part, unless it stays as it is, and without the number
+        of that."""
+        if STAYS.search(line):
             return line
         for path in {own, escaped(os.fsdecode(own))}:
             line = re.sub(rb"(?<![^ '])" + re.escape(path) + rb"(?![^/:, '\n])", OWN, line)

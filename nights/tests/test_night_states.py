@@ -8,9 +8,11 @@ import io
 import json
 import os
 import re
+import signal
 import sqlite3
 import stat
 import sys
+import warnings
 from unittest import mock
 
 from gate.repository import TOP
@@ -155,7 +157,10 @@ class Asked(Folder):
         out, err = (io.TextIOWrapper(io.BytesIO(), write_through=True) for _ in range(2))
         kept = os.umask(0o022)
         try:
-            with contextlib.redirect_stdout(out), contextlib.redirect_stderr(err):
+            with contextlib.redirect_stdout(out), contextlib.redirect_stderr(err), \
+                    warnings.catch_warnings():
+                # (a file in memory that is let go is closed)
+                warnings.simplefilter("ignore", ResourceWarning)
                 try:
                     given = command.main([str(word) for word in words])
                 except SystemExit as end:
@@ -200,6 +205,13 @@ class Questions(Asked):
     def test_unverified(self):
         given, out, _ = self.same("unverified", "2026-03-02", [])
         self.assertEqual((given, out), (0, "2026-03-01T22:00:00Z\tp/a\tok\t1\n"))
+
+    def test_signals_stay_as_they_were(self):
+        """What `main` is called in goes on, and a signal means there what it meant before."""
+        ends = (signal.SIGHUP, signal.SIGTERM, signal.SIGINT, signal.SIGPIPE)
+        before = [signal.getsignal(end) for end in ends]
+        self.ask("status", *NOW, self.both[0].path)
+        self.assertEqual([signal.getsignal(end) for end in ends], before)
 
     def test_premis(self):
         for each in ("cycle", "finding", "object"):
@@ -363,6 +375,23 @@ class Log(Asked):
                     "Oldest verification: " + night_of(1)]:
             self.assertIn("\n%s\n" % row, text)
         self.assertEqual(self.ask("premis", "--each", "object", self.made.path, 1)[0], 0)
+
+    def test_nights_of_one_second(self):
+        """Three nights began in one second, of which two were killed, one after a run."""
+        self.made.begin(1, 1)
+        self.made.begin(1, 1)
+        self.made.slice(1, 1, 1, 3, 9)
+        self.made.begin(1, 1, "after o", 3)
+        self.made.slice(1, 1, 2, 7, 18, 1, "ended")
+        self.made.close(1, 1, ONE)
+        self.made.log_night(1, 1)
+        self.assertEqual(self.ask("statement", self.made.path, 1), (0, "", ""))
+        with open(self.made.path + "/reports/statement-000001") as made_text:
+            text = made_text.read()
+        self.assertEqual(re.findall("(?m)^Nights.*", text), ["Nights: 3", "Nights cut: 2"])
+        out = self.ask("page", *NOW, self.made.path)[1]
+        self.assertEqual(re.findall("<td>(cut|[0-9], [^<]*)</td>", out)[-3:],
+                         ["1, findings", "cut", "cut"])
 
     def test_runs_that_no_row_tells_of(self):
         """A night was killed before its row; the checkpoint has its runs."""
@@ -739,7 +768,7 @@ class Joined(Asked):
     def test_joined(self):
         self.nights(1, 1)
         self.parts[0].put("report", ONE)
-        self.assertIn("1 of weight 1", self.ask("status", *NOW, self.at("state"))[1])
+        self.assertIn("1 damaged or unreadable", self.ask("status", *NOW, self.at("state"))[1])
         self.put(ONE, "state/reports/cycle-000001")
         self.assertEqual(self.ask("statement", self.at("state"), 1), (0, "", ""))
         file = self.at("state/reports/statement-000001")

@@ -66,6 +66,13 @@ class Said(State):
         self.assertEqual(self.said(*(text % (shown, number) for number in (1, 2))),
                          "In parts 1-2:\n" + text.replace("part-%06d", "part-*") % shown)
 
+    def test_commands_stay_as_they_are(self):
+        """The path in them is quoted, and no part has the command of another."""
+        self.state += "/b\u00fcro 5%"
+        texts = ["3 not shown here: ocfl-scrub-reports findings '%s/part-%06d/report'\n"
+                 % (self.state, number) for number in (1, 2)]
+        self.assertEqual(self.said(*texts), "In part 1:\n%sIn part 2:\n%s" % tuple(texts))
+
     def test_one_part_says_the_name_of_its_folder(self):
         text = "What is gone: %s/part-000001/reports/gone-000002\n" % self.state
         self.assertEqual(self.said(text), "In part 1:\n" + text)
@@ -76,19 +83,11 @@ class Said(State):
                 ("ocfl-scrub: left out: part-000001\n", "ocfl-scrub: left out: part-000002\n"),
                 ("E092\tpart-000001/a\tsha256 0 1\n", "E092\tpart-000002/a\tsha256 0 1\n"),
                 ("ocfl-scrub: stopped at part-000001\n", "ocfl-scrub: stopped at part-000002\n"),
+                ("Elsewhere: part-000001 (E072)\n", "Elsewhere: part-000002 (E072)\n"),
                 ("object\tpart-*\n", "object\tpart-000001\n")]:
             self.assertEqual(self.said(first, second), "In part 1:\n%sIn part 2:\n%s" % (
                 first, second))
             self.assertEqual(self.said(first, first), "In parts 1-2:\n" + first)
-
-    def test_a_finding_is_there_once_in_the_text_of_a_part(self):
-        other = FINDING.replace("o01", "o02")
-        text = ("2 findings tonight in part 1 of /srv/ocfl, cycle 2, run 1:\n" + FINDING + other
-                + "2 findings of cycle 2 are new since cycle 1:\n" + FINDING + other
-                + "1 finding of cycle 1 is repaired:\n" + FINDING.replace("o01", "o03"))
-        self.assertEqual(self.said(text), "In part 1:\n" + text.replace(
-            "in part 1 of ", "in ").replace(
-                "cycle 1:\n" + FINDING + other, "cycle 1:\n2 of these are shown above.\n"))
 
     def test_two_nights_of_a_part_say_a_finding_twice(self):
         self.put("said/000001-1.1", "first\n" + FINDING)
@@ -122,7 +121,8 @@ class Joined(State):
             self.called += 1
             for it in parts.unjoined() if status == 0 else ():
                 if parts.can_join(it):
-                    self.put("reports/cycle-%06d" % it, "")
+                    kind = "incomplete" if parts.lacking(it) else "cycle"
+                    self.put("reports/%s-%06d" % (kind, it), "")
             return status, "" if status == 0 else "why"
 
         parts = joining.Parts(self.state)
@@ -164,15 +164,17 @@ class Joined(State):
             self.close(number, 4)
         self.assertEqual((self.join(4), self.left().count("never joined")), ("", 1))
 
-    def test_what_is_not_whole_is_said_on_its_night(self):
+    def test_what_is_not_whole_is_joined_too_and_said_once(self):
         self.close(1, 1)
         self.close(2, 1, is_whole=False)
-        text = "The reports of cycle 1 are not joined: that of part 2 is not whole."
-        self.assertEqual([self.join(1), self.join(1), self.join(2)], [text, text, ""])
-        self.assertEqual(self.called, 0)
+        self.put("part-000002/log", '{"night":9,"row":"left","cycle":1,"place":"a","why":"no"}\n')
+        text = ("The joined report of cycle 1 is incomplete: that of part 2 is not whole.\n"
+                "Left out: a: no")
+        self.assertEqual([self.join(1), self.join(1), self.join(2)], [text, "", ""])
+        self.assertEqual(self.called, 1)
         for number in (1, 2):
             self.close(number, 2)
-        self.assertEqual((self.join(2), self.called), ("", 1))
+        self.assertEqual((self.join(2), self.called), ("", 2))
 
     def test_one_that_failed_is_said_with_its_reason(self):
         for number in (1, 2):
@@ -270,9 +272,16 @@ class Told(State):
                                        "archive: findings repaired"),
                                       ("2 objects are back in cycle 3:\nobject\to1\n", "0",
                                        "archive: objects are back"),
-                                      ("Cycle 3 ended: 9 of 9 files right, 1 object, 9 bytes; "
-                                       "nothing new, nothing gone since cycle 2.\n", "0",
-                                       "archive: a cycle ended"),
+                                      ("Cycle 3 ended: 9 of 9 files right, 1 object, 9 bytes.\n"
+                                       "Nothing new, nothing gone since cycle 2.\n", "0",
+                                       "cycle 3 of archive: all right"),
+                                      ("Cycle 3 ended: 8 of 9 files right, 1 object, 9 bytes.\n"
+                                       "Nothing new, nothing gone since cycle 2.\n", "0",
+                                       "cycle 3 of archive: 8 of 9 files right, nothing new"),
+                                      ("Cycle 2 ended: 0 of 0 files right, 1 object, 0 bytes.\n"
+                                       "Nothing to compare with.\nCycle 13 ended: 1 of 1 file "
+                                       "right, 1 object, 9 bytes.\n", "0",
+                                       "cycle 13 of archive: all right"),
                                       ("object\to are back in cycle 3\n", "0",
                                        "archive: a message about the nights"),
                                       ("x\n", "0", "archive: a message about the nights"),

@@ -2,17 +2,30 @@
 place as reports write them, and the word at the end of a cycle."""
 import os
 import re
-from typing import Optional
+from collections import Counter
+from typing import Iterable, NamedTuple, Optional
 
-from common import TOP
-
+TOP = os.path.dirname(os.path.dirname(os.path.dirname(os.path.realpath(__file__))))
 # The words at the end of a cycle in which nothing is new or gone.
 QUIET = re.compile(
-    r"(?m)^Cycle \d+ ended: \d+ of \d+ files? right, \d+ objects?, [0-9.]+ (?:bytes?|[kMGT]B); "
-    r"(?:nothing new, nothing gone since cycle \d+|nothing to compare with)\.\n")
+    r"(?m)^Cycle \d+ ended: \d+ of \d+ files? right, \d+ objects?, [0-9.]+ (?:bytes?|[kMGT]B)\.\n"
+    r"(?:Nothing new, nothing gone since cycle \d+|Nothing to compare with)\.\n")
 OBJECT = re.compile(r"Object (.*):")
 # A finding: its path, unless it is the object's own, its words, its code and its detail.
 FINDING = re.compile(r"\t(?:(.*): )?([^:\t]+) \(([ES]\d+)\)(.*)")
+# An object in one line: its path, its first finding, and how many more it has, of any code. So are
+# findings in none, of one code.
+BRIEF = re.compile(
+    r"(?:Object (.*?)|Elsewhere): (?:(.*): )?([^:\t]+) \(([ES]\d+)\)(?:, and (\d+) more)?")
+# The line before what a night found, the parts that said it, and what is counted and not shown.
+NIGHT = re.compile(r"\d+ findings? tonight in .*, cycle (\d+), runs? (\d+)(?: to (\d+))?:")
+PARTS = re.compile(r"In parts? (.*):")
+FOLDED = re.compile(r"\tand (\d+) more: ([^:\t]+) \(([ES]\d+)\)")
+ELSEWHERE = re.compile(r"Elsewhere, [ES]\d+:")
+LEFT = re.compile(r"(\d+) not shown here: .*")
+# Findings that a message shows or counts together: those of an object, or of none, with one code.
+# An empty one stands for any code of the object.
+Group = tuple[str, str]
 
 
 def meanings() -> dict[str, str]:
@@ -44,9 +57,11 @@ def findings_in(text: str) -> list[str]:
         head = OBJECT.fullmatch(line)
         if not line.startswith("\t"):
             of_object = escaped(head[1]) if head else ""
-        made = FINDING.fullmatch(line)
+        made, brief = FINDING.fullmatch(line), BRIEF.fullmatch(line)
         if made and made[2] in (MEANINGS[made[3]], "missing") and not line.startswith("\tand "):
             found.append("%s\t%s" % (made[3], place_in(of_object, made[1])))
+        elif brief:
+            found.append("%s\t%s" % (brief[4], place_in(escaped(brief[1] or ""), brief[2])))
     return found
 
 
@@ -63,3 +78,94 @@ def shown(line: str, text: str) -> int:
 def without_end(text: str) -> str:
     """A text without the word at the end of a cycle in which nothing is new or gone."""
     return QUIET.sub("", text)
+
+
+class Said(NamedTuple):
+    """What a night, or a night of a part, said of its findings: how many of each group it showed or
+    counted, and how many it left to the report."""
+    parts: str
+    cycle: int
+    first: int
+    last: int
+    groups: Counter[Group]
+    left: list[int]
+
+    def holds(self, other: "Said") -> bool:
+        """The same part said so of all runs of the other and no fewer."""
+        return (self.parts, self.cycle) == (other.parts, other.cycle) and (
+            self.first <= other.first and other.last <= self.last)
+
+
+def nights_in(text: str) -> list[Said]:
+    """What the nights of a text said, without what a later night said once more: one that was
+    killed, or whose words were perhaps not read."""
+    made: list[Said] = []
+    parts, of_object, night = "", "", None
+    for line in text.split("\n"):
+        begun, of_parts, head = NIGHT.fullmatch(line), PARTS.fullmatch(line), OBJECT.fullmatch(line)
+        brief = BRIEF.fullmatch(line)
+        if brief and night:
+            night.groups.update(group_in_brief(brief))
+        elif begun:
+            first = int(begun[2])
+            night = Said(parts, int(begun[1]), first, int(begun[3] or first), Counter(), [])
+            made.append(night)
+        elif not line.startswith("\t") and not head and not ELSEWHERE.fullmatch(line):
+            parts = of_parts[1] if of_parts else parts
+            left = LEFT.fullmatch(line)
+            if night and left:
+                night.left.append(int(left[1]))
+            night = None
+        if not line.startswith("\t"):
+            of_object = escaped(head[1]) if head else ""
+        elif night:
+            night.groups.update(group_in(of_object, line))
+    return [it for at, it in enumerate(made) if not any(later.holds(it) for later in made[at + 1:])]
+
+
+def group_in_brief(brief: "re.Match[str]") -> Counter[Group]:
+    """What a line says that is all of a group: its first finding, and how many more there are."""
+    of_object = escaped(brief[1] or "")
+    said = Counter([(of_object, brief[4])])
+    if brief[5]:
+        said[of_object, "" if of_object else brief[4]] += int(brief[5])
+    return said
+
+
+def group_in(of_object: str, line: str) -> Counter[Group]:
+    """What a line below the head of a group says: one finding, or how many more there are."""
+    folded, shown = FOLDED.fullmatch(line), FINDING.fullmatch(line)
+    if folded and folded[2] == MEANINGS[folded[3]]:
+        return Counter({(of_object, folded[3]): int(folded[1])})
+    is_one = shown and shown[2] in (MEANINGS[shown[3]], "missing")
+    return Counter([(of_object, shown[3])] if shown and is_one else [])
+
+
+def miscounted(nights: Iterable[Said], findings: Iterable[str]) -> list[str]:
+    """The groups of which the nights of one cycle said another number than there are among these
+    findings, each by its code and its place; nothing if the difference is what they left to the
+    report."""
+    said: Counter[Group] = Counter()
+    left = 0
+    for night in nights:
+        said.update(night.groups)
+        left += sum(night.left)
+    there = Counter(group_of(finding, said) for finding in findings)
+    wrong = {group: there[group] - said[group] for group in {*there, *said}
+             if there[group] != said[group]}
+    for of_object in {place for place, code in wrong if not code}:
+        of_codes = {code: more for (place, code), more in wrong.items() if place == of_object}
+        if of_codes.pop("") == -sum(of_codes.values()) and min(of_codes.values(), default=0) >= 0:
+            wrong = {group: more for group, more in wrong.items() if group[0] != of_object}
+    if left and min(wrong.values(), default=0) >= 0 and sum(wrong.values()) == left:
+        return []
+    return ["%s of %s: %d more" % (code, place or "no object", more)
+            for (place, code), more in sorted(wrong.items())] + ["left: %d" % left] * bool(left)
+
+
+def group_of(finding: str, groups: Iterable[Group]) -> Group:
+    """The group of a finding among these: that of the innermost object that has one of its code."""
+    code, place = finding.split("\t")
+    within = [of_object for of_object, of_code in groups if of_code in (code, "") and of_object
+              and (place + "/").startswith(of_object + "/")]
+    return max(within, key=len, default=""), code

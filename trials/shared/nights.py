@@ -91,8 +91,8 @@ class Nights:
 
     def night(self, *more, program=PROGRAM, **environment):
         """A night, and what it says, without the word at the end of a cycle in which nothing is new
-        or gone; without words that end it, of a whole cycle. Two nights in one second would be
-        taken for one."""
+        or gone; without words that end it, of a whole cycle. The next night begins in another
+        second, by which the log names it."""
         status, out, said = ran(self.words(*more), OCFL_SCRUB=program, **environment)
         time.sleep(1.1)
         return status, without_end(out), said

@@ -1,0 +1,104 @@
+"""Tests what trials read back of messages: which findings the nights of a cycle said."""
+import os
+import sys
+import unittest
+
+from gate.repository import TOP
+
+sys.path.insert(0, os.path.join(TOP, "trials"))
+
+from shared import messages
+
+FIRST = """In part 1:
+2 findings tonight in /srv/ocfl, cycle 1, run 1:
+Object o:
+\tv1/content/a: bytes have changed (E092); expected x, found y
+\tTo do: look
+Elsewhere, E073:
+\tp: an empty folder of the storage root (E073)
+"""
+SECOND = """In part 2:
+7 findings tonight in /srv/ocfl, cycle 1, runs 1 to 2:
+Object q/r:
+\tv1/content/a: missing (E092)
+\tv1/content/b: missing (E092)
+\tv1/content/c: missing (E092)
+\tand 2 more: bytes have changed (E092)
+\tTo do: look
+Object q:
+\tx y: not in the inventory (E023)
+\tv2/content/a: missing (E092)
+4 findings of cycle 1 are new since cycle 0, 2 of them above.
+"""
+FOUND = ["E092\to/v1/content/a", "E073\tp", *("E092\tq/r/v1/content/%s" % it for it in "abcde"),
+         "E023\tq/x%20y", "E092\tq/v2/content/a"]
+
+
+class Counted(unittest.TestCase):
+    def told(self, text, cycle=1):
+        return messages.miscounted([night for night in messages.nights_in(text)
+                                    if night.cycle == cycle], FOUND)
+
+    def setUp(self):
+        meanings = {"E092": "bytes have changed", "E023": "not in the inventory",
+                    "E073": "an empty folder of the storage root"}
+        was = messages.MEANINGS
+        self.addCleanup(setattr, messages, "MEANINGS", was)
+        messages.MEANINGS = {**was, **meanings}
+
+    def test_all_were_said(self):
+        self.assertEqual(self.told(FIRST + SECOND), [])
+
+    def test_a_lost_line_is_missed(self):
+        """Also where another object, or another part, has counted findings of that code."""
+        for line in (FIRST + SECOND).splitlines(True):
+            if line.startswith("\t") and "To do" not in line:
+                self.assertNotEqual(self.told((FIRST + SECOND).replace(line, "")), [], line)
+
+    def test_a_group_is_no_more_than_its_number(self):
+        self.assertEqual(self.told(FIRST + SECOND.replace("and 2 more", "and 1 more")),
+                         ["E092 of q/r: 1 more"])
+        self.assertEqual(self.told(FIRST + SECOND.replace("and 2 more", "and 3 more")),
+                         ["E092 of q/r: -1 more"])
+
+    def test_another_cycle_says_nothing_of_this_one(self):
+        text = FIRST + SECOND.replace("cycle 1,", "cycle 2,")
+        self.assertEqual(self.told(text)[0], "E023 of no object: 1 more")
+        self.assertNotEqual(self.told(text, 2), [])
+
+    def test_what_was_said_once_more_counts_once(self):
+        again = SECOND.replace("runs 1 to 2", "runs 1 to 3")
+        self.assertEqual(self.told(FIRST + SECOND + again), [])
+        cut = SECOND[:SECOND.index("\tv1/content/c")]
+        self.assertEqual(self.told(FIRST + cut + again), [])
+        # (other runs, and another part, have findings of their own)
+        for other in (again.replace("runs 1 to 3", "run 3"), again.replace("part 2", "part 3")):
+            self.assertNotEqual(self.told(FIRST + SECOND + other), [])
+
+    def test_groups_in_one_line(self):
+        """Of an object they count findings of any code, and else those of one."""
+        brief = ("Object q/r: v1/content/a: missing (E092), and 4 more\n"
+                 "Object q: v2/content/a: missing (E092), and 1 more\n"
+                 "What to do first about a code: ocfl-scrub codes\n")
+        text = FIRST + SECOND[:SECOND.index("Object q/r:")] + brief
+        self.assertEqual(self.told(text), [])
+        for old, new in [("and 4 more", "and 3 more"), (", and 4 more", ""), (", and 1 more", ""),
+                         ("and 1 more", "and 2 more"), ("(E092), and 1", "(E072), and 1")]:
+            self.assertNotEqual(self.told(text.replace(old, new)), [], new)
+        for line in brief.splitlines(True)[:2]:
+            self.assertNotEqual(self.told(text.replace(line, "")), [], line)
+        outside = text.replace("Elsewhere, E073:\n\tp", "Elsewhere: p")
+        self.assertEqual(self.told(outside), [])
+        self.assertEqual(self.told(outside.replace("root (E073)", "root (E073), and 1 more")),
+                         ["E073 of no object: -1 more"])
+
+    def test_what_is_left_to_the_report(self):
+        line = "\tx y: not in the inventory (E023)\n"
+        left = SECOND.replace(line, "").replace(
+            "4 findings of", "1 not shown here: ocfl-scrub-reports findings '/r'\n4 findings of")
+        self.assertEqual(self.told(FIRST + left), [])
+        self.assertNotEqual(self.told(FIRST.replace("\tp:", "") + left), [])
+
+
+if __name__ == "__main__":
+    unittest.main()

@@ -9,9 +9,11 @@ import shutil
 import sys
 
 # What the gate uses of the command. Some kits also have `Kept`, which keeps proofs for later runs.
-USED = ("Crate.ci", "checked", "edited", "in_lanes", "main", "must_fail", "need", "processors",
-        "unread", "rtlib.ALLOW_C", "rtlib.RATTLE", "rtlib.STALE", "rtlib.crates_below",
-        "rtlib.guarded")
+USED = ("Crate.below", "Crate.build_rlib", "Crate.ci", "Crate.count", "Crate.words", "checked",
+        "edited", "in_lanes", "main", "must_fail", "need", "processors", "unread", "rtlib.ALLOW_C",
+        "rtlib.RATTLE", "rtlib.STALE", "rtlib.crates_below", "rtlib.guarded")
+# And of each crate that it knows.
+USED_OF_CRATE = ("cuts_libraries", "deps", "folder", "name", "of_kit", "out", "rlib")
 
 
 def load():
@@ -31,9 +33,12 @@ def crates_of(rt, top):
     return {crate.name: crate for crate in rt.rtlib.crates_below(top)}
 
 
-def missing(rt):
-    """The names that the gate uses and this command lacks."""
-    return [name for name in USED if not has(rt, name)]
+def missing(rt, top):
+    """The names that the gate uses and this command lacks, or a crate of this repository in it."""
+    lacking = [name for name in USED if not has(rt, name)]
+    crate = None if lacking else next(iter(crates_of(rt, top).values()))
+    return lacking + ["a crate's " + name for name in USED_OF_CRATE
+                      if crate and not hasattr(crate, name)]
 
 
 def has(rt, name):

@@ -5,7 +5,7 @@ import os
 import re
 
 from gate.commands import fail
-from gate.pages import crate_table, definitions
+from gate.pages import crate_table, definitions, layers
 from gate.repository import TESTS, TOP, crates, folder_of
 
 # The names in a cell of a table, without the modules before them.
@@ -20,13 +20,16 @@ NIGHTS = [("ocfl_night", "nights", "night"), ("ocfl_night", "laws", None)]
 # Crates of which no contract is named.
 WITHOUT_CONTRACTS = (TESTS, "ocfl_scrub_cli", "ocfl_files", "ocfl_closing", "ocfl_terminal",
                      "ocfl_journal", "ocfl_tasks")
+# What stands in backquotes, and a file of a crate, whose name stands before it on the line.
+QUOTED = re.compile(r"`([^`]+)`")
+SOURCE = re.compile(r"(?:(\w+)/)?((?:src|specs|proofs)/[\w/]+\.(?:rt|antt))")
 # A name of several words, as functions, types and definitions have.
 CITED = re.compile(r"`(?:\w+::)*([A-Za-z]\w*(?:[a-z][A-Z]|_)\w+)`")
 
 
 def looked_at():
     """Says which lists differ from the tree, as one check."""
-    faults = [*of_crates(), *of_definitions(), *of_names()]
+    faults = [*of_crates(), *of_definitions(), *of_names(), *of_recipes()]
     for fault in faults:
         fail(fault)
     return int(not faults), len(faults)
@@ -48,7 +51,8 @@ def of_crates():
     named = re.findall(r"`(\w+\.py)`", " ".join(row[1] for row in rows("docs/TRIED.md", "Trials")))
     page = "docs/ASSURANCE.md"
     trust = text_of(page).split("**Trusted**")[1].split(":")[1].split(".")[0]
-    return (crate_table.faults()
+    shown = {name: line for name, line in crates().items() if name != TESTS}
+    return (crate_table.faults() + list(layers.faults(text_of(layers.PAGE), shown))
             + differing("trial", "docs/TRIED.md", named, trials - {"common.py"})
             + differing("library", page, NAMED.findall(trust), stands_on - set(crates())))
 
@@ -127,8 +131,28 @@ def of_names():
         os.path.join(TOP, "crates", "*", kind, "**", "*.*"), recursive=True)]
     known = {word for file in ["crates.txt", *files] for word in re.findall(r"\w+", text_of(file))}
     return ["%s: %s names it, and no source has it" % (name, page)
-            for page in ("README.md", "docs/ASSURANCE.md", "docs/MAP.md")
+            for page in ("README.md", "docs/ASSURANCE.md", "docs/MAP.md", "docs/NIGHTS.md")
             for name in sorted(set(CITED.findall(text_of(page))) - known)]
+
+
+def of_recipes():
+    """The files of crates that recipes name, and that are not there."""
+    page = "docs/RECIPES.md"
+    return ["%s: %s names it, and there is no such file" % (path, page)
+            for line in text_of(page).split("\n") for path in sources_in(line)
+            if not os.path.exists(os.path.join(TOP, path))]
+
+
+def sources_in(line):
+    """The files of crates that a line names, below the repository."""
+    found, crate = [], ""
+    for name in QUOTED.findall(line):
+        first, source = name.split("/")[0], SOURCE.fullmatch(name)
+        crate = first if "ocfl_" + first in crates() else crate
+        # (a new crate has a name of its own)
+        if source and (source[1] or crate):
+            found.append("crates/ocfl_%s/%s" % (source[1] or crate, source[2]))
+    return found
 
 
 def rows(page, title):

@@ -1,5 +1,6 @@
 """What the rules of nights cite, in `docs/RULES.md`: each definition is in the file that is named
-with it, each clause is one of the contract that is named, and each law is there."""
+with it, each clause is one of the contract that is named, and each law is there. So are those that
+the page on what is proved of nights cites."""
 from __future__ import annotations
 
 import re
@@ -10,22 +11,25 @@ from gate.pages import definitions
 from gate.pages.lists import text_of
 
 PAGE, TITLE, CRATE, FUNCTION = "docs/RULES.md", "Nights", "ocfl_night", "night"
+PROVED = "docs/NIGHTS.md"
 # A file of definitions with names of them: `Steps`: `IsLost`, `IsChanged`.
 FILES = re.compile(r"`([A-Z]\w*)`: ((?:`\w+`(?:, )?)+)")
 # Names of a file that is named after them: `night_text` in `Night` of `ocfl_telling`.
 OTHERS = re.compile(r"((?:`\w+`(?:, )?)+) in `([A-Z]\w*)` of `(ocfl_\w+)`")
 # Clauses, after the function whose they are, if that is another one: `leave_out`, clause `named`.
 CLAUSES = re.compile(r"(?:`(\w+)`, )?\bclauses? ((?:`\w+`(?:, )?)+)")
-# A law, and its crate if that is another one.
-LAWS = re.compile(r"\blaw `(\w+)`(?: of `(ocfl_\w+)`)?")
+# Laws, each with its crate if that is another one.
+LAWS = re.compile(r"\blaws? ((?:`\w+`(?: of `ocfl_\w+`)?(?:, (?=`))?)+)")
+LAW = re.compile(r"`(\w+)`(?: of `(ocfl_\w+)`)?")
 NAMED = re.compile(r"`(\w+)`")
 
 
 def looked_at() -> tuple[int, int]:
     """Says what is cited and is not there, as one check."""
-    faults = list(lost(section(text_of(PAGE))))
+    faults = ["%s: %s" % (PAGE, it) for it in lost(section(text_of(PAGE)))]
+    faults += ["%s: %s" % (PROVED, it) for it in lost(text_of(PROVED), False)]
     for fault in faults:
-        fail("%s: %s" % (PAGE, fault))
+        fail(fault)
     return int(not faults), len(faults)
 
 
@@ -34,7 +38,7 @@ def section(page: str) -> str:
     return re.split(r"(?m)^## ", page.split("\n## %s\n" % TITLE)[1])[0]
 
 
-def lost(text: str) -> Iterator[str]:
+def lost(text: str, has_definitions: bool = True) -> Iterator[str]:
     """What a text cites and is not there; that it cites nothing is a fault too."""
     named = [(CRATE, file, name) for file, names in FILES.findall(text)
              for name in NAMED.findall(names)]
@@ -48,10 +52,10 @@ def lost(text: str) -> Iterator[str]:
     for function, clause in clauses:
         if clause not in clauses_of(function):
             yield "the contract of %s has no clause %s" % (function, clause)
-    for law, crate in LAWS.findall(text):
+    for law, crate in (law for laws in LAWS.findall(text) for law in LAW.findall(laws)):
         if (crate or CRATE) not in (it for it, _ in definitions.sources().get(law, ())):
             yield "there is no law %s of %s" % (law, crate or CRATE)
-    if not named or not clauses:
+    if has_definitions and not named or not clauses:
         yield "it cites no definition, or no clause"
 
 

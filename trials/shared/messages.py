@@ -3,7 +3,7 @@ place as reports write them, and the word at the end of a cycle."""
 import os
 import re
 from collections import Counter
-from typing import Iterable, NamedTuple, Optional
+from typing import Iterable, Mapping, NamedTuple, Optional
 
 TOP = os.path.dirname(os.path.dirname(os.path.dirname(os.path.realpath(__file__))))
 # The words at the end of a cycle in which nothing is new or gone.
@@ -151,16 +151,25 @@ def miscounted(nights: Iterable[Said], findings: Iterable[str]) -> list[str]:
         said.update(night.groups)
         left += sum(night.left)
     there = Counter(group_of(finding, said) for finding in findings)
-    wrong = {group: there[group] - said[group] for group in {*there, *said}
-             if there[group] != said[group]}
-    for of_object in {place for place, code in wrong if not code}:
-        of_codes = {code: more for (place, code), more in wrong.items() if place == of_object}
-        if of_codes.pop("") == -sum(of_codes.values()) and min(of_codes.values(), default=0) >= 0:
-            wrong = {group: more for group, more in wrong.items() if group[0] != of_object}
-    if left and min(wrong.values(), default=0) >= 0 and sum(wrong.values()) == left:
+    more = {group: there[group] - said[group] for group in {*there, *said}
+            if there[group] != said[group]}
+    too_many = {group: number for group, number in more.items()
+                if number + others_in(group, more) < 0}
+    if not too_many and sum(more.values()) == left:
         return []
-    return ["%s of %s: %d more" % (code, place or "no object", more)
-            for (place, code), more in sorted(wrong.items())] + ["left: %d" % left] * bool(left)
+    return ["%s of %s: %d more" % (code, place or "no object", number) for (place, code), number
+            in sorted((too_many or more).items())] + ["left: %d" % left] * bool(left)
+
+
+def others_in(group: Group, more: Mapping[Group, int]) -> int:
+    """How many findings of other groups may have been counted with this one: those of the same
+    object, if it stands for any code, and those of objects in which a night began, which it does
+    not name."""
+    place, code = group
+    if place and code:
+        return 0
+    return sum(max(number, 0) for (of_object, of_code), number in more.items()
+               if of_object and (of_object == place if place else of_code == code))
 
 
 def group_of(finding: str, groups: Iterable[Group]) -> Group:

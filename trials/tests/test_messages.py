@@ -92,6 +92,16 @@ class Counted(unittest.TestCase):
         self.assertEqual(self.told(outside.replace("root (E073)", "root (E073), and 1 more")),
                          ["E073 of no object: -1 more"])
 
+    def test_a_night_that_begins_within_an_object_does_not_name_it(self):
+        lines = SECOND.splitlines(True)
+        later = "".join(["In part 2:\n1 finding tonight in /srv/ocfl, cycle 1, run 3:\n",
+                         "Elsewhere, E092:\n", lines[5].replace("v1", "q/r/v1")])
+        earlier = SECOND.replace(lines[5], "")
+        self.assertEqual(self.told(FIRST + earlier + later), [])
+        self.assertEqual(self.told(FIRST + earlier), ["E092 of q/r: 1 more"])
+        self.assertNotEqual(self.told(FIRST + SECOND + later), [])
+        self.assertNotEqual(self.told(FIRST + earlier + later.replace("E092", "E073")), [])
+
     def test_what_is_left_to_the_report(self):
         line = "\tx y: not in the inventory (E023)\n"
         left = SECOND.replace(line, "").replace(

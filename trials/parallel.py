@@ -25,6 +25,8 @@ Tried, and what comes of it:
 - A part that is killed at each renaming of its night: it is given out again until its cycle is
   closed, and the cycle is joined; before, a part killed while it closed its cycle was never given
   out again.
+- `end` while a part makes the file of its note: the next message has what the part says, and what a
+  part left that was killed there is removed. Before, what it said was in no message.
 - SIGTERM, SIGINT, SIGHUP: the part under way ends and is named; the next night goes on.
 - Words that are wrong, also `--hours 0`: status 2, and nothing is written. A folder and a root that
   begin with `-`: as others.
@@ -274,6 +276,54 @@ def untold_closing(folder):
         if is_cut:
             return
     check("a part was killed there", False, True)
+
+
+def traced_part(nights, call, what):
+    """The words of part 2, of which strace does this at its first call of these names."""
+    return ["strace", "--quiet=all", "-o", nights.state + ".calls", "-e", "trace=" + call, "-e",
+            "inject=%s:%s:when=1" % (call, what), NIGHTS + "/parallel/part", "--state",
+            nights.state, "--part", "2", nights.root]
+
+
+def end_before(folder, call):
+    """Nights of a root in which all is damaged, and what `end` says while part 2 waits before a call
+    by which it makes its note. Where `end` took longer than that, other nights wait longer."""
+    for seconds in (2, 10, 50):
+        there = "%s/%s-%d" % (folder, call[:6], seconds)
+        os.mkdir(there)
+        nights, numbers = begun(there, ["o%02d" % number for number in range(9)])
+        nights.make([number for number in numbers if number != "2"])
+        part = subprocess.Popen(traced_part(nights, call, "delay_enter=%ds" % seconds),
+                                env={**os.environ, "OCFL_SCRUB": PROGRAM})
+        while part.poll() is None and not glob.glob(nights.path("said/000002-*")):
+            time.sleep(0.01)
+        said = nights.end()[1]
+        is_before = "DELAYED" not in read(nights.state + ".calls")
+        check("the part", part.wait(), 1)
+        if is_before:
+            return nights, said
+    raise TimeoutError("no `end` came before " + call)
+
+
+def end_of_beginning(folder):
+    """An `end` that comes while a part makes the file of its note loses nothing that the part says
+    then, and has no word on that file, also if the part was killed there."""
+    for call in ("flock", "rename,renameat,renameat2"):
+        nights, said = end_before(folder, call)
+        check("no word: before " + call, "not a note" in said, False)
+        later = lines_in_message(nights.end()[1])
+        check("the part says it later: before " + call, bool(later), True)
+        check("nothing is lost: before " + call, lines_in_message(said) | later,
+              findings(audit(nights.root)))
+        check("nothing is left: before " + call, os.listdir(nights.path("said")), [])
+        there = "%s/killed-%s" % (folder, call[:6])
+        os.mkdir(there)
+        nights, numbers = begun(there)
+        nights.make([number for number in numbers if number != "2"])
+        check("killed before " + call, ran(traced_part(nights, call, "signal=KILL"))[0], -9)
+        status, said, _ = nights.end()
+        check("no word on it: before " + call, (status, "in part 2: " in said, len(
+            said.splitlines()), os.listdir(nights.path("said"))), (3, True, 1, []))
 
 
 def held_join(folder):
@@ -530,8 +580,8 @@ def dashes(folder):
 
 
 PARTS = [cycles, one_message, by_schedulers, unread, unjoined, missed_end, untold_closing,
-         held_join, other_roots, no_beginning, other_parts, closed_output, ends, signals,
-         cut_closing, two_at_once, room, seals, by_a_service, usage, dashes]
+         end_of_beginning, held_join, other_roots, no_beginning, other_parts, closed_output, ends,
+         signals, cut_closing, two_at_once, room, seals, by_a_service, usage, dashes]
 
 
 def check_all(folder):

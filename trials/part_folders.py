@@ -292,7 +292,8 @@ def links(folder):
     nights.make(numbers)
     secret = folder + "/secret"
     write(secret, "secret\n")
-    for name in ["parts", "log", "given", "said/000001-9.9", "lock.parts", "reports"]:
+    notes = ["said/000001-9.9", "said/000001-9.9.new"]
+    for name in ["parts", "log", "given", *notes, "lock.parts", "reports"]:
         kept = nights.path(name) + ".kept"
         there = os.path.lexists(nights.path(name))
         if there:
@@ -301,7 +302,7 @@ def links(folder):
         for call in ["begin", "end"]:
             status, out, said = nights.by_hand(call)
             check("%s with a link as %s" % (call, name), (status, "secret\n" in out + said),
-                  (3, False) if call == "end" or name != "said/000001-9.9" else (0, False))
+                  (3, False) if call == "end" or name not in notes else (0, False))
         check("as it was: " + name, read(secret), "secret\n")
         os.remove(nights.path(name))
         if there:

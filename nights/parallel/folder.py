@@ -9,6 +9,9 @@ HERE = os.path.dirname(os.path.realpath(__file__))
 sys.path.insert(0, os.path.dirname(HERE))
 from ocfl_scrub_reports.shared import Failed, refuse_links, sync_folder
 
+# What the name of a note ends with until it is held.
+UNNAMED = ".new"
+
 
 def hold_numbers() -> None:
     """Opens the numbers 0 to 2 where they are closed, so that no file gets the number of an output,
@@ -121,8 +124,19 @@ def opened(path: str, flags: int = os.O_EXCL, lock: int = fcntl.LOCK_EX) -> int:
 
 
 def note(state: str, number: int) -> int:
-    """A new file for what a part says, or for 0 what is said of all of them."""
+    """A new file for what a part says, or for 0 what is said of all of them. It gets the name of a
+    note once it is held, so that `end` takes none into which something is still to be written."""
     import time
-    file = opened("%s/said/%06d-%d.%d" % (state, number, time.time_ns(), os.getpid()))
-    sync_folder(state + "/said")
-    return file
+    while True:
+        path = "%s/said/%06d-%d.%d" % (state, number, time.time_ns(), os.getpid())
+        file = opened(path + UNNAMED)
+        if os.path.lexists(path):
+            raise Failed(path + " is there already")
+        try:
+            os.rename(path + UNNAMED, path)
+        except FileNotFoundError:
+            # It was not held yet when `end` came, which took it for one of a part that was killed.
+            os.close(file)
+            continue
+        sync_folder(state + "/said")
+        return file

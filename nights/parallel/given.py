@@ -97,7 +97,8 @@ def begin(words: list[str]) -> Begun:
 def leave_if_unsaid(state: str, begun: Begun) -> bool:
     """Leaves why a night was not begun, unless `begin` did. Gives whether that is left now."""
     try:
-        texts = [Path(it).read_bytes() for it in glob.glob(glob.escape(state) + "/said/000000-*")]
+        paths = glob.glob(glob.escape(state) + "/said/000000-*[0-9]")
+        texts = [Path(it).read_bytes() for it in paths]
         if not any(os.fsencode(begun.why) in it for it in texts):
             leave(state, "The night was not begun: " + begun.why)
     except OSError:

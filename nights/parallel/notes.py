@@ -4,8 +4,9 @@ from __future__ import annotations
 import fcntl
 import os
 import re
+from typing import BinaryIO
 
-from folder import part
+from folder import UNNAMED, part
 from given import ranges
 
 NOTE = re.compile("([0-9]{6,})-[0-9]+[.][0-9]+")
@@ -22,32 +23,61 @@ def escaped(path: str) -> bytes:
     return re.sub(rb"[^ -$&-~]", lambda it: b"%%%02X" % ord(it[0]), os.fsencode(path))
 
 
+def held(path: str) -> BinaryIO | None:
+    """Opens a file, which is held until it is closed. None if somebody else holds it, or if it has
+    no longer this name. No link is followed."""
+    try:
+        file = open(os.open(path, os.O_RDWR | os.O_NOFOLLOW), "rb")
+    except FileNotFoundError:
+        return None
+    try:
+        fcntl.flock(file, fcntl.LOCK_EX | fcntl.LOCK_NB)
+    except BlockingIOError:
+        file.close()
+        return None
+    return file
+
+
 class Notes:
     """The files of DIR/said, but for those into which a night still writes."""
 
     def __init__(self, state: str) -> None:
         self.state = state
-        self.paths: list[str] = []
+        # How long each note was when it was read.
+        self.lengths: dict[str, int] = {}
         # The numbers of the parts that said a text, which names the folder of none.
         self.texts: dict[bytes, list[int]] = {}
         # What somebody else put there.
         self.strange: list[str] = []
         folder = state + "/said"
         for name in sorted(os.listdir(folder) if os.path.isdir(folder) else []):
-            named = NOTE.fullmatch(name)
-            if named:
-                self.take(folder + "/" + name, int(named[1]))
-            else:
+            named = NOTE.fullmatch(name.removesuffix(UNNAMED))
+            if not named:
                 self.strange.append(folder + "/" + name)
+            elif name.endswith(UNNAMED):
+                self.drop(folder + "/" + name)
+            else:
+                self.take(folder + "/" + name, int(named[1]))
+
+    def drop(self, path: str) -> None:
+        """Removes what a part left that was killed before its note had a name. Nobody writes into
+        such a file, so one with a text is somebody else's."""
+        file = held(path)
+        if file is None:
+            return
+        with file:
+            if os.fstat(file.fileno()).st_size == 0 and os.path.lexists(path):
+                os.remove(path)
+            elif os.path.lexists(path):
+                self.strange.append(path)
 
     def take(self, path: str, number: int) -> None:
-        with open(os.open(path, os.O_RDWR | os.O_NOFOLLOW), "rb") as file:
-            try:
-                fcntl.flock(file, fcntl.LOCK_EX | fcntl.LOCK_NB)
-            except BlockingIOError:
-                return
+        file = held(path)
+        if file is None:
+            return
+        with file:
             lines = file.read().splitlines(True)
-        self.paths.append(path)
+        self.lengths[path] = sum(map(len, lines))
         own = os.fsencode("%s/%s" % (self.state, part(number)))
         text = b"".join(self.without(own, it) for it in lines)
         if text:
@@ -78,5 +108,12 @@ class Notes:
         return b"".join(said)
 
     def remove(self) -> None:
-        for path in self.paths:
-            os.remove(path)
+        """Removes the notes that were read. One that somebody holds or that has grown since stays:
+        the next message has it as a whole."""
+        for path, length in self.lengths.items():
+            file = held(path)
+            if file is None:
+                continue
+            with file:
+                if os.fstat(file.fileno()).st_size == length:
+                    os.remove(path)

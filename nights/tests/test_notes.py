@@ -1,5 +1,6 @@
 """Tests what is said of the parts of a storage root, and what `tell` sends."""
 import contextlib
+import fcntl
 import io
 import os
 import subprocess
@@ -16,6 +17,7 @@ import dividing
 import given
 import joining
 import notes
+from folder import note
 from ocfl_scrub_reports import tell
 from ocfl_scrub_reports.shared import Failed
 
@@ -105,6 +107,93 @@ class Said(State):
         self.assertEqual(found.numbers(), {1})
         found.remove()
         self.assertEqual(len(os.listdir(self.state + "/said")), 3)
+
+
+class Noted(State):
+    """`end` at each moment of a part that makes its note, and after it."""
+
+    def said(self):
+        """What is in the message of `end`, and the names that are left then."""
+        found = notes.Notes(self.state)
+        found.remove()
+        return os.fsdecode(found.text()), os.listdir(self.state + "/said")
+
+    def noted(self, call):
+        """The message of an `end` that comes before this call of a part, which then says a finding,
+        and that of the next one."""
+        real, said = getattr(sys.modules[call.split(".")[0]], call.split(".")[1]), []
+
+        def after_an_end(*given):
+            if not said:
+                said.append("under way")
+                said[:] = self.said()[:1]
+            return real(*given)
+
+        with mock.patch(call, after_an_end):
+            file = note(self.state, 1)
+            os.write(file, FINDING.encode())
+        os.close(file)
+        return [*said, self.said()]
+
+    def test_a_note_that_is_not_held_yet(self):
+        self.assertEqual(self.noted("fcntl.flock"), ["", ("In part 1:\n" + FINDING, [])])
+
+    def test_a_note_without_its_name(self):
+        self.assertEqual(self.noted("os.rename"), ["", ("In part 1:\n" + FINDING, [])])
+
+    def test_one_into_which_a_night_still_writes(self):
+        file = note(self.state, 1)
+        os.write(file, FINDING.encode())
+        said, left = self.said()
+        self.assertEqual((said, len(left)), ("", 1))
+        os.close(file)
+        self.assertEqual(self.said(), ("In part 1:\n" + FINDING, []))
+
+    def test_a_part_that_was_killed_before_its_note_had_a_name(self):
+        self.put("said/000001-1.1.new", "")
+        self.assertEqual(self.said(), ("", []))
+
+    def test_such_a_file_with_a_text_is_of_somebody_else(self):
+        self.put("said/000001-1.1.new", "x")
+        said, left = self.said()
+        self.assertIn("said/000001-1.1.new is not a note of a part", said)
+        self.assertEqual(left, ["000001-1.1.new"])
+
+    def test_one_that_grew_after_it_was_read(self):
+        """A part whose lock was lost writes on."""
+        self.put("said/000001-1.1", "first\n")
+        found = notes.Notes(self.state)
+        self.put("said/000001-1.1", "first\n" + FINDING)
+        found.remove()
+        self.assertEqual(self.said(), ("In part 1:\nfirst\n" + FINDING, []))
+
+    def test_one_that_is_held_after_it_was_read(self):
+        self.put("said/000001-1.1", FINDING)
+        found = notes.Notes(self.state)
+        with open(self.state + "/said/000001-1.1", "rb") as file:
+            fcntl.flock(file, fcntl.LOCK_EX)
+            found.remove()
+        self.assertEqual(os.listdir(self.state + "/said"), ["000001-1.1"])
+
+    def test_one_that_somebody_removed(self):
+        self.put("said/000001-1.1", FINDING)
+        found = notes.Notes(self.state)
+        os.remove(self.state + "/said/000001-1.1")
+        found.remove()
+
+    def test_links_are_not_followed(self):
+        self.put("secret", "")
+        for name in ("000001-1.1", "000001-1.1.new"):
+            os.symlink(self.state + "/secret", self.state + "/said/" + name)
+            self.assertRaises(OSError, notes.Notes, self.state)
+            os.remove(self.state + "/said/" + name)
+        self.assertTrue(os.path.exists(self.state + "/secret"))
+
+    def test_no_note_takes_the_name_of_another(self):
+        with mock.patch("time.time_ns", lambda: 1):
+            self.put("said/000001-1.%d" % os.getpid(), FINDING)
+            self.assertRaises(Failed, note, self.state, 1)
+        self.assertIn(FINDING, self.said()[0])
 
 
 class Joined(State):

@@ -21,7 +21,8 @@ import runs
 DIGITS, PARTS = 5, 40
 # How many bytes one link of a checkpoint's chain of digests has.
 PIECE = 4 << 20
-LINE = b"ok\ta/%016d/v1/content/a-file-with-a-name-of-usual-length\t1000\n"
+# Its places come before those of the small root.
+LINE = b"ok\t!/%016d/v1/content/a-file-with-a-name-of-usual-length\t1000\n"
 
 
 def row(name, own, against, other, wanted):
@@ -98,23 +99,37 @@ def put_report(state, lines):
         file.write(text + "sha256 %s\n" % hashlib.sha256(text.encode()).hexdigest())
 
 
-def long_reports(folder, lines):
-    """Opening and closing a night whose report has so many lines."""
-    root, state = runs.make_root(folder + "/small", 1), folder + "/long"
+def begun(root, state, lines):
+    """Begins a cycle, and gives it a report of so many lines."""
     subprocess.run(night_of(root, state, "--budget 1 --slice 1"), shell=True,
                    stdout=subprocess.DEVNULL, check=False)
     put_report(state, lines)
+
+
+def closing_after(root, state, lines, sums):
+    """Closing a report that is compared with one as long, to the sums of both."""
+    begun(root, state, lines)
+    took = measure.cpu_of(night_of(root, state))
+    if not os.path.exists(state + "/reports/gone-000002"):
+        sys.exit("the second cycle was not compared")
+    row("closing one of %d lines after another" % lines, took, "`sha256sum` of both", 2 * sums, 1.5)
+
+
+def long_reports(folder, lines):
+    """Opening and closing a night whose report has so many lines."""
+    root, state = runs.make_root(folder + "/small", 1), folder + "/long"
+    begun(root, state, lines)
     opening = min(wall_of(night_of(root, state, "--end 1")) for _ in range(5))
-    sums = min(wall_of("sha256sum %s/report" % state) for _ in range(2))
+    sums = min(measure.cpu_of("sha256sum %s/report" % state) for _ in range(2))
     peak = measure.peak_of(night_of(root, state, "--end 1"))
-    began = time.monotonic()
-    closing = measure.peak_of(night_of(root, state))
-    took = time.monotonic() - began
+    peaks = []
+    took = measure.cpu_while(lambda: peaks.append(measure.peak_of(night_of(root, state))))
     if not os.path.exists(state + "/reports/cycle-000001"):
         sys.exit("the cycle was not closed as whole")
     row("closing a report of %d lines" % lines, took, "`sha256sum`", sums, 2)
+    closing_after(root, state, lines, sums)
     return ("Opening it takes %.3f s (at most 0.2 wanted). The peaks of memory are %.1f MiB and "
-            "%.1f (20 wanted)." % (opening, peak, closing))
+            "%.1f (20 wanted)." % (opening, peak, *peaks))
 
 
 def main():

@@ -237,7 +237,7 @@ def missed_end(folder):
     # Nights of parts that begin in one second cannot be told apart by the log.
     time.sleep(1.1)
     status, out, said = nights.night()
-    check("the next night", (status, "Nothing ended the last night" in out, said), (3, True, ""))
+    check("the next night", (status, "end did not end the last night" in out, said), (3, True, ""))
     check("both are joined", (nights.has("reports/cycle-000002"), nights.has(
         "reports/cycle-000003")), (second, audit(nights.root)))
     check("what is gone", (nights.has("reports/gone-000002") or "").splitlines(),

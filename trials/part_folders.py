@@ -60,7 +60,8 @@ def nobody_ended(folder):
     nights.make(numbers[:2])
     nights.make(nights.given())
     status, out, _ = nights.end()
-    check("it is said", (status, "Nothing ended" in out, " in parts 3-4: " in out), (3, True, True))
+    check("it is said", (status, "parallel/end did not end" in out, " in parts 3-4: " in out),
+          (3, True, True))
     check("and the finding", lines_in_message(out), findings(audit(nights.root)))
 
 

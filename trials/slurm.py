@@ -248,7 +248,7 @@ def without_slurm(folder):
     names = os.listdir(nights.path("slurm"))
     check("what is older than sixty nights is gone", [len(names), "parts-10.1" in names,
                                                       "end-9.out" in names], [122, False, False])
-    check("refused", (status, "Slurm did not take all jobs" in said, nights.level()), (3, True, 2))
+    check("refused", (status, "Slurm refused a job" in said, nights.level()), (3, True, 2))
     check("the parts are told", " in parts 1-1300: " in out, True)
     for words in [["--hours", "x"], ["--budget", "4x"], ["--at-once", "x"]]:
         new = Together(folder + "/new", root)

@@ -103,7 +103,7 @@ def statements(folder):
 def a_seal_that_lingers(folder):
     """What the seal's command leaves running holds neither the night nor its lock."""
     nights = made(folder)
-    seal = 'sleep 60 > /dev/null 2>&1 & echo $! > %s/pid; rev "$1" > "$1.rev"' % folder
+    seal = 'sleep 600 > /dev/null 2>&1 & echo $! > %s/pid; rev "$1" > "$1.rev"' % folder
     check("sealed", nights.night("--seal", seal), (0, "", ""))
     check("the next night", nights.part(), (0, "", ""))
     os.kill(int(read(folder + "/pid")), signal.SIGKILL)

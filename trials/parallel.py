@@ -153,14 +153,16 @@ def by_schedulers(folder):
 
 
 def cost_of_start(nights):
-    """What `part` takes of a processor before the program is there, in milliseconds."""
-    before = resource.getrusage(resource.RUSAGE_CHILDREN)
+    """What `part` takes of a processor before the program is there, in milliseconds. What else the
+    machine does can make a start dearer and none cheaper, so the cheapest of many counts."""
+    costs = []
     for _ in range(20):
+        before = resource.getrusage(resource.RUSAGE_CHILDREN)
         nights.by_hand("part", "--part", "1", OCFL_SCRUB="/bin/true")
-    after = resource.getrusage(resource.RUSAGE_CHILDREN)
-    spent = after.ru_utime + after.ru_stime - before.ru_utime - before.ru_stime
-    print("%.1f ms of a processor before the program" % (50 * spent))
-    return 50 * spent
+        after = resource.getrusage(resource.RUSAGE_CHILDREN)
+        costs.append(1000 * (after.ru_utime + after.ru_stime - before.ru_utime - before.ru_stime))
+    print("%.1f ms of a processor before the program" % min(costs))
+    return min(costs)
 
 
 def unread(folder):
@@ -453,7 +455,8 @@ def ends(folder):
     check("over before it begins", nights.night("--end", "5"), (0, "", ""))
     check("each part has its rows", rows_of_parts(nights), [["began", "night"]] * 4)
     check("by hours", nights.night("--hours", "0.0001", "--budget", "1")[0], 0)
-    for zone, until in [("UTC", in_an_hour(time.gmtime)), ("Europe/Berlin", "02:30")]:
+    for zone in ("UTC", "Europe/Berlin"):
+        until = ran(["date", "-d", "1 hour", "+%H:%M"], TZ=zone)[1].strip()
         check("until, in " + zone, nights.night("--until", until, TZ=zone)[0], 0)
     nights.is_audit("a cycle")
 
@@ -467,7 +470,7 @@ def signals(folder):
         with open(nights.root + "/o08/v1/content/a", "r+b") as large:
             large.truncate(1 << 36)
         night = nights.start(jobs=4, parts=4)
-        until = time.monotonic() + 30
+        until = time.monotonic() + 120
         while len([number for number in range(1, 5) if nights.rows(number)[-1:] and nights.rows(
                 number)[-1]["row"] == "night"]) < 3 and time.monotonic() < until:
             time.sleep(0.02)

@@ -161,7 +161,7 @@ def killed_controller(site):
     site.mark("held", "5")
     site.submit()
     site.wait_for("5")
-    time.sleep(8)
+    site.slurm.wait_for_save(site.numbers("part")[0] + "_1")
     site.slurm.kill_controller()
     site.slurm.start_controller()
     site.unmark("held", "5")

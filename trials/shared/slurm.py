@@ -146,6 +146,22 @@ class Slurm:
         self.start("slurmctld", ["-D", "-f", self.folder + "/slurm.conf"])
         self.wait(lambda: "is UP" in self.output_of(["scontrol", "ping"]), "slurmctld")
 
+    def wait_for_save(self, job):
+        """Waits until the controller has saved what it knows of a job by now. What it has not saved
+        when it is killed it forgets, and then it may start a job that runs once more, which takes
+        the node out of service."""
+        mark = "saved-%d" % time.monotonic_ns()
+        self.output_of(["scontrol", "update", "JobId=" + job, "Comment=" + mark])
+        self.wait(lambda: mark in self.saved(), "the saved state of job " + job)
+
+    def saved(self):
+        """The state of jobs that the controller saved last, or nothing while it exchanges it."""
+        try:
+            with open(self.folder + "/state/job_state", "rb") as file:
+                return file.read().decode(errors="replace")
+        except FileNotFoundError:
+            return ""
+
     def kill_controller(self):
         self.daemons["slurmctld"].kill()
         self.daemons["slurmctld"].wait()

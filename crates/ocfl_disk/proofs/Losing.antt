@@ -1,7 +1,8 @@
 -- The disk that loses the most that the calls allow keeps the laws of a disk.
-use Rattle.std.proofs.Common.{◌≡◌, ◌≢◌, ◌⊎◌, inl, inr, ⊎_elim, ℕ, ◌+◌, ◌≤◌, Bool, true, false, eqb, ◌&&◌, ◌||◌, ◌==◌, not, List, [], ◌∷◌, ◌++◌, Option, Some, None, refl, sym, ◌∙◌, subst, ap, arith}
+use Rattle.std.proofs.Common.{◌≡◌, ◌≢◌, ◌⊎◌, inl, inr, ⊎_elim, ℕ, ◌+◌, ◌≤◌, Bool, true, false, ◌==◌, not, List, [], ◌∷◌, ◌++◌, Option, Some, None, refl, sym, ◌∙◌, subst, ap, arith}
 use Rattle.std.specs.Prelude.{IsTrue, if◌then◌else◌}
-use Rattle.std.proofs.lemmas.Bool.Decides.{eqb_tells}
+use Rattle.std.proofs.lemmas.Bool.{and_from, and_parts, eq-eqb, eqb-true, ne_eqb, or_cases, or_left, or_right}
+use Rattle.std.proofs.lemmas.Option.{none-some}
 use Rattle.ocfl_state.specs.Content.{Bytes}
 use Rattle.ocfl_disk.specs.Names.{ClosedName, Names, Stored, IsNoClosed, IsApart, IsNameless, close_over, closed_names}
 use Rattle.ocfl_disk.specs.PowerCut.{DiskState, Change, Same, After, Passes, MayTear, MayMake, MayDrop, MayPutOver, MayCloseOver, AreSynced, IsDisk}
@@ -24,61 +25,21 @@ only_here : (m : ℕ) (P Q : Type 0) → ((m + 1 ≤ m) × P) ⊎ Q → Q
 only_here m P Q (inl before) = absurd (omega (arith, before.0))
 only_here m P Q (inr here) = here
 
-both_true : (a b : Bool) → (a && b) ≡ true → (a ≡ true) × (b ≡ true)
-both_true true b is = (refl, is)
-both_true false b is = absurd cc
+-- one file has these bytes, and each other what it had
+pub other_bytes : (file : ℕ) (bytes : Bytes) (s : Stored) (other : ℕ) → other ≢ file → (with_bytes file bytes s).bytes other ≡ s.bytes other
+other_bytes file bytes s other apart = ap (λ (b : Bool). if b then bytes else s.bytes other) (ne_eqb other file apart)
 
-and_true : (a b : Bool) → a ≡ true → b ≡ true → (a && b) ≡ true
-and_true true b a_is b_is = b_is
-and_true false b a_is b_is = absurd cc
-
-or_left : (a b : Bool) → a ≡ true → (a || b) ≡ true
-or_left true b is = refl
-or_left false b is = absurd cc
-
-or_right : (a b : Bool) → b ≡ true → (a || b) ≡ true
-or_right true b is = refl
-or_right false b is = is
-
-either_true : (a b : Bool) → (a || b) ≡ true → (a ≡ true) ⊎ (b ≡ true)
-either_true true b is = inl refl
-either_true false b is = inr is
-
-same_number : (n m : ℕ) → (n == m) ≡ true → n ≡ m
-same_number n m is = by (eqb_tells n m)
-  where
-    by : ((eqb n m ≡ true) × (n ≡ m)) ⊎ ((eqb n m ≡ false) × (n ≢ m)) → n ≡ m
-    by (inl same) = same.1
-    by (inr differs) = let other = differs.0 in absurd cc
-
-is_itself : (n : ℕ) → (n == n) ≡ true
-is_itself n = by (eqb_tells n n)
-  where
-    by : ((eqb n n ≡ true) × (n ≡ n)) ⊎ ((eqb n n ≡ false) × (n ≢ n)) → (n == n) ≡ true
-    by (inl same) = same.0
-    by (inr differs) = absurd (differs.1 refl)
-
-is_other : (n m : ℕ) → n ≢ m → (n == m) ≡ false
-is_other n m apart = by (eqb_tells n m)
-  where
-    by : ((eqb n m ≡ true) × (n ≡ m)) ⊎ ((eqb n m ≡ false) × (n ≢ m)) → (n == m) ≡ false
-    by (inl same) = absurd (apart same.1)
-    by (inr differs) = differs.0
-
-other_bytes : (file : ℕ) (bytes : Bytes) (s : Stored) (other : ℕ) → other ≢ file → (with_bytes file bytes s).bytes other ≡ s.bytes other
-other_bytes file bytes s other apart = ap (λ (b : Bool). if b then bytes else s.bytes other) (is_other other file apart)
-
-own_bytes : (file : ℕ) (bytes : Bytes) (s : Stored) → (with_bytes file bytes s).bytes file ≡ bytes
-own_bytes file bytes s = ap (λ (b : Bool). if b then bytes else s.bytes file) (is_itself file)
+pub own_bytes : (file : ℕ) (bytes : Bytes) (s : Stored) → (with_bytes file bytes s).bytes file ≡ bytes
+own_bytes file bytes s = ap (λ (b : Bool). if b then bytes else s.bytes file) (eq-eqb file file refl)
 
 stays_synced : (file : ℕ) (d : DiskState) (other : ℕ) → other ≢ file → IsTrue (d.is_synced other) → IsTrue (unsynced file d other)
-stays_synced file d other apart synced = and_true (d.is_synced other) (not (other == file)) synced (ap not (is_other other file apart))
+stays_synced file d other apart synced = and_from (d.is_synced other) (not (other == file)) synced (ap not (ne_eqb other file apart))
 
 was_synced : (file : ℕ) (d : DiskState) (other : ℕ) → IsTrue (unsynced file d other) → (other ≢ file) × IsTrue (d.is_synced other)
-was_synced file d other is = (λ same. differs (ap (λ (n : ℕ). n == file) same ∙ is_itself file), both.0)
+was_synced file d other is = (λ same. differs (ap (λ (n : ℕ). n == file) same ∙ eq-eqb file file refl), both.0)
   where
     both : (d.is_synced other ≡ true) × (not (other == file) ≡ true)
-    both = both_true (d.is_synced other) (not (other == file)) is
+    both = and_parts (d.is_synced other) (not (other == file)) is
 
     differs : (other == file) ≡ true → ⊥
     differs same = by (other == file) same both.1
@@ -91,12 +52,9 @@ some_of : ℕ → Option ℕ → ℕ
 some_of other (Some n) = n
 some_of other None = other
 
-number_of : (n m : ℕ) → Some n ≡ Some m → n ≡ m
+pub number_of : (n m : ℕ) → Some n ≡ Some m → n ≡ m
 unfolding some_of
 number_of n m is = ap (some_of n) is
-
-none_not_some : (n : ℕ) → None ≡ Some n → ⊥
-none_not_some n is = cc
 
 closed_synced : (d e : DiskState) (file : ℕ) (names : List ClosedName) → ((other : ℕ) → other ≢ file → IsTrue (d.is_synced other) → IsTrue (e.is_synced other))
     → IsNoClosed file names → AreSynced d names → AreSynced e names
@@ -114,6 +72,10 @@ more_synced d name (n ∷ names) synced last = (synced.0, more_synced d name nam
 more_apart : (file : ℕ) (name : ClosedName) (names : List ClosedName) → IsNoClosed file names → name.file ≢ file → IsNoClosed file (names ++ name ∷ [])
 more_apart file name [] apart last = (last, tt)
 more_apart file name (n ∷ names) apart last = (apart.0, more_apart file name names apart.1 last)
+
+pub not_closed : (cycle : ℕ) (whole : Bool) (file : ℕ) (name : Option ℕ) (names : List ClosedName) → name ≢ Some file → IsNoClosed file names → IsNoClosed file (closed_names cycle whole name names)
+not_closed cycle whole file None names differs apart = apart
+not_closed cycle whole file (Some n) names differs apart = more_apart file (record { cycle = cycle; whole = whole; file = n }) names apart (λ same. differs (ap Some same))
 
 writes : (d : DiskState) → IsDisk d → (file n most : ℕ) (bytes : Bytes) → IsOwn file d → MayTear file n most d.seen (with_bytes file bytes d.seen)
     → Writes file n most d (after_write file bytes n most d) × IsDisk (after_write file bytes n most d)
@@ -230,7 +192,7 @@ drops d disk = (
     checkpoint = disk.checkpoint;
     closed = all_synced d (after_drop d) d.seen.names.closed (λ file synced. synced) disk.closed;
     report = λ file c is left. apart_of file c left.0 left.2 (disk.report file left.0 is left.1);
-    beside = λ file c is left. absurd (none_not_some file is);
+    beside = λ file c is left. absurd (none-some file is);
   },
 )
   where
@@ -258,7 +220,7 @@ puts d disk ready = (
     checkpoint = ready;
     closed = all_synced d (after_put d) d.seen.names.closed (λ file synced. synced) disk.closed;
     report = λ file c is left. apart_of file c left.0 left.2 (disk.report file left.0 is left.1) (λ same. (disk.beside file d.seen same disk.stays).1 is);
-    beside = λ file c is left. absurd (none_not_some file is);
+    beside = λ file c is left. absurd (none-some file is);
   },
 )
   where
@@ -286,7 +248,7 @@ closes d disk cycle whole ready = (
     names = λ c folder reports left. absurd cc;
     checkpoint = disk.checkpoint;
     closed = all_synced d (after_close cycle whole d) (close_over cycle whole d.seen).names.closed (λ file synced. synced) (closed_of_it d.seen.names.report ready);
-    report = λ file c is left. absurd (none_not_some file is);
+    report = λ file c is left. absurd (none-some file is);
     beside = λ file c is left. apart_of file c left.0 left.2 (disk.beside file left.0 is left.1);
   },
 )
@@ -299,14 +261,10 @@ closes d disk cycle whole ready = (
     closed_of_it None synced = disk.closed
     closed_of_it (Some file) synced = more_synced d (record { cycle = cycle; whole = whole; file = file }) d.seen.names.closed disk.closed (synced file refl)
 
-    not_closed : (file : ℕ) (name : Option ℕ) (names : List ClosedName) → name ≢ Some file → IsNoClosed file names → IsNoClosed file (closed_names cycle whole name names)
-    not_closed file None names differs apart = apart
-    not_closed file (Some n) names differs apart = more_apart file (record { cycle = cycle; whole = whole; file = n }) names apart (λ same. differs (ap Some same))
-
     apart_of : (file : ℕ) (c e : Stored) → MayCloseOver cycle whole d.seen.names e c → IsApart file e.names × (e.names.report ≢ Some file) → IsApart file c.names × (c.names.report ≢ Some file)
     apart_of file c e (inl is) own = subst (λ (s : Stored). IsApart file s.names × (s.names.report ≢ Some file)) (sym is) own
     apart_of file c e (inr is) own = subst (λ (s : Stored). IsApart file s.names × (s.names.report ≢ Some file)) (sym is.1)
-        (record { checkpoint = own.0.checkpoint; closed = not_closed file e.names.report e.names.closed own.1 own.0.closed }, none_not_some file)
+        (record { checkpoint = own.0.checkpoint; closed = not_closed cycle whole file e.names.report e.names.closed own.1 own.0.closed }, none-some file)
 
 syncs : (d : DiskState) → IsDisk d → (file : ℕ) → Calm d (after_sync file d) × IsTrue ((after_sync file d).is_synced file) × IsDisk (after_sync file d)
 syncs d disk file = (
@@ -315,12 +273,12 @@ syncs d disk file = (
     seen = refl;
     synced = λ other synced. or_left (d.is_synced other) (other == file) synced;
   },
-  or_right (d.is_synced file) (file == file) (is_itself file),
+  or_right (d.is_synced file) (file == file) (eq-eqb file file refl),
   record {
     stays = (disk.stays, refl);
     counts_now = λ t c le left. inr left;
     only_now = λ c left. only_here d.moment (d.left_since (d.moment + 1) c) (d.may_leave c × (c.bytes file ≡ d.seen.bytes file)) left;
-    bytes = λ other c synced left. ⊎_elim (λ was. disk.bytes other c was left.0) (λ same. own c other (same_number other file same) left.1) (either_true (d.is_synced other) (other == file) synced);
+    bytes = λ other c synced left. ⊎_elim (λ was. disk.bytes other c was left.0) (λ same. own c other (eqb-true other file same) left.1) (or_cases (d.is_synced other) (other == file) synced);
     names = λ c folder reports left. disk.names c folder reports left.0;
     checkpoint = λ other is. or_left (d.is_synced other) (other == file) (disk.checkpoint other is);
     closed = all_synced d (after_sync file d) d.seen.names.closed (λ other synced. or_left (d.is_synced other) (other == file) synced) disk.closed;
@@ -373,8 +331,8 @@ begins = record {
   names = λ c top reports left. ap (λ (s : Stored). s.names) left;
   checkpoint = λ file is. refl;
   closed = tt;
-  report = λ file c is left. absurd (none_not_some file is);
-  beside = λ file c is left. absurd (none_not_some file is);
+  report = λ file c is left. absurd (none-some file is);
+  beside = λ file c is left. absurd (none-some file is);
 }
 
 after_one : (d : DiskState) → Loses d → (call : DiskCall) → IsAllowed call d → IsDisk (after_call call d)

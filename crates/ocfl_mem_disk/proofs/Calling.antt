@@ -1,5 +1,6 @@
 -- What each call of the disk in memory does, by what the disk that loses most does.
-use Rattle.std.proofs.Common.{◌≡◌, ◌⊎◌, inl, ℕ, ◌≤◌, Bool, true, false, ◌||◌, List, [], ◌∷◌, ◌++◌, length, take, Option, Some, None, refl, sym, ◌∙◌, subst, ap, arith}
+use Rattle.std.proofs.Common.{◌≡◌, ◌⊎◌, inl, ℕ, ◌≤◌, Bool, true, false, List, [], ◌∷◌, ◌++◌, length, take, Option, Some, None, refl, sym, ◌∙◌, subst, ap, arith}
+use Rattle.std.proofs.{Math.Bool.{or-true}, lemmas.Bool.{or_left}}
 use Rattle.std.specs.Prelude.{IsTrue, Vec, Result, Ok, Err, OnOk, OnErr, MatchResult}
 use Rattle.std.specs.Option.{is_some}
 use Rattle.std.specs.declared.alloc.Global.{Global}
@@ -10,14 +11,11 @@ use Rattle.ocfl_disk.specs.Disk.{Calm, Writes, Makes, Drops, PutsOver, ClosesOve
 use Rattle.ocfl_disk.specs.Losing.{DiskCall, after_calls, Loses, IsOwn}
 use Rattle.ocfl_disk.specs.declared.state_file.StateFile.{StateFile}
 use Rattle.ocfl_disk.specs.declared.state_file.StateFile.TheVariants.{Folder, Above, Checkpoint, NewCheckpoint, Report, Reports, Whole, Incomplete, Kept, Lock, Stop, Log, ScriptsCursor, ScriptsLog}
-use Rattle.ocfl_disk.proofs.Losing.{loses_at}
+use Rattle.ocfl_disk.proofs.Losing.{loses_at, own_bytes}
 use Rattle.ocfl_mem_disk.specs.Log.{Shown, stuff_of, disk_at, disk_of, calls_of, shown_of, is_free}
 use Rattle.ocfl_mem_disk.specs.declared.mem_call.MemCall.{MemCall}
 use Rattle.ocfl_mem_disk.specs.declared.mem_call.MemCall.TheVariants.{Append, Cut, MakeNew, MakeReport, Remove, Put, Close, Sync, SyncFolder, SyncReports}
-use Rattle.ocfl_mem_disk.specs.Showing.{shows, noted, is_owned, is_ready_of, append_tears, cut_tears, own_bytes}
-
-abbrev with_faults : DiskState → ℕ → DiskState
-with_faults d n = record d { faults = n }
+use Rattle.ocfl_mem_disk.specs.Showing.{shows, noted, is_owned, is_ready_of, append_tears, cut_tears, with_faults}
 
 passes_at : (change : Change) (d e : DiskState) (n m : ℕ) → n ≤ m → Passes change d e → Passes change (with_faults d n) (with_faults e m)
 passes_at change d e n m le passes = record { later = passes.later; now = passes.now; meanwhile = passes.meanwhile; keeps = passes.keeps; faults = le }
@@ -166,20 +164,12 @@ pub record Brings (folder : StateFile) (old new : DiskState) : Type 0 where
   pub names : IsTrue (new.has_names folder)
   pub checkpoint : folder ≡ Folder → (c : Stored) → new.may_leave c → c.names.checkpoint ≡ old.seen.names.checkpoint
 
-or_left : (a b : Bool) → a ≡ true → (a || b) ≡ true
-or_left true b is = refl
-or_left false b is = absurd cc
-
-or_true : (a : Bool) → (a || true) ≡ true
-or_true true = refl
-or_true false = refl
-
 pub folder_at : (log log' : List MemCall) (n m : ℕ) → log' ≡ log ++ SyncFolder ∷ [] → n ≤ m → Brings Folder (disk_of log n) (disk_of log' m)
 folder_at log log' n m is le = subst (λ (calls : List DiskCall). Brings Folder (disk_of log n) (disk_at calls m)) (sym (ap calls_of is ∙ noted log SyncFolder refl))
     (record {
       calm = calm_with (after_calls (calls_of log)) _ n m le ((loses_of log).syncs_folder Folder).0;
       others = λ other has. or_left ((after_calls (calls_of log)).has_names other) _ has;
-      names = or_true ((after_calls (calls_of log)).has_names Folder);
+      names = or-true ((after_calls (calls_of log)).has_names Folder);
       checkpoint = λ same c left. left.checkpoint refl;
     })
 
@@ -188,7 +178,7 @@ reports_at log log' n m is le = subst (λ (calls : List DiskCall). Brings Report
     (record {
       calm = calm_with (after_calls (calls_of log)) _ n m le ((loses_of log).syncs_folder Reports).0;
       others = λ other has. or_left ((after_calls (calls_of log)).has_names other) _ has;
-      names = or_true ((after_calls (calls_of log)).has_names Reports);
+      names = or-true ((after_calls (calls_of log)).has_names Reports);
       checkpoint = λ same. absurd cc;
     })
 

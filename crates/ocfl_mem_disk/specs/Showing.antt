@@ -1,96 +1,27 @@
 -- What the disk in memory shows is what the disk that loses most shows.
-use Rattle.std.proofs.Common.{◌≡◌, ◌≢◌, ◌⊎◌, inl, inr, ⊎_elim, ℕ, zero, suc, ◌≤◌, ◌<◌, max, Bool, true, false, eqb, ◌&&◌, ◌||◌, ◌==◌, not, List, [], ◌∷◌, ◌++◌, length, take, set, Option, Some, None, refl, sym, ◌∙◌, subst, ap, arith, append_assoc, length-append}
-use Rattle.std.specs.Prelude.{IsTrue, get_or, if◌then◌else◌}
-use Rattle.std.proofs.lemmas.Bool.Decides.{eqb_tells}
-use Rattle.std.proofs.lemmas.List.{get_or-set_same, get_or-set_other, get_or_append_left, length-set, length-take}
+use Rattle.std.proofs.Common.{◌≡◌, ◌≢◌, ◌⊎◌, inl, inr, ⊎_elim, ℕ, zero, suc, ◌≤◌, ◌<◌, max, Bool, true, false, ◌&&◌, ◌||◌, ◌==◌, not, List, [], ◌∷◌, ◌++◌, length, take, set, Option, Some, None, refl, sym, ◌∙◌, subst, ap, arith, append_assoc, length-append}
+use Rattle.std.specs.Prelude.{IsTrue, get_or}
+use Rattle.std.proofs.Math.Bool.{and-false, and-true, or-false, or-true}
+use Rattle.std.proofs.lemmas.{Bool.{cases_eq, cases_lt, eq-eqb, eqb-true, ne_eqb, or_cases}, Option.{none-some}}
+use Rattle.std.proofs.lemmas.List.{get_or-set_same, get_or-set_other, get_or_append_left, get_or_past, length-set, length-take}
 use Rattle.std.proofs.Math.{Seq.{get_or-append_seam}, Nat.{eq-or-lt_of_le}}
 use Rattle.ocfl_state.specs.{Content.{Bytes}, Crash.{Begins}}
-use Rattle.ocfl_disk.specs.Names.{ClosedName, Names, Stored, IsNoClosed, IsNameless, with_named, closed_names}
+use Rattle.ocfl_disk.specs.Names.{ClosedName, Names, Stored, IsNameless, with_named, closed_names}
 use Rattle.ocfl_disk.specs.PowerCut.{DiskState, MayTear, MayDrop, MayPutOver, MayCloseOver, AreSynced, IsDisk}
 use Rattle.ocfl_disk.specs.Losing.{DiskCall, after_calls, with_bytes, unsynced, IsOwn, write}
 use Rattle.ocfl_disk.specs.declared.state_file.StateFile.{StateFile}
 use Rattle.ocfl_disk.specs.declared.state_file.StateFile.TheVariants.{NewCheckpoint, Report}
-use Rattle.ocfl_disk.proofs.Losing.{is_disk}
+use Rattle.ocfl_disk.proofs.Losing.{is_disk, not_closed, number_of, other_bytes, own_bytes}
 use Rattle.ocfl_mem_disk.specs.Log.{Stuff, Shown, blank, stuff_of, is_name_of, is_own, is_free, is_ready, may_make, with_stuff, with_empty, shown_after, call_of, shown_if, calls_if, shown_next, nothing, shown_from, calls_from, shown_of, calls_of, disk_of, IsShown}
 use Rattle.ocfl_mem_disk.specs.declared.mem_call.MemCall.{MemCall}
 use Rattle.ocfl_mem_disk.specs.declared.mem_call.MemCall.TheVariants.{Append, Cut, MakeNew, MakeReport, Remove, Put, Close, Sync, SyncFolder, SyncReports}
 
-either_true : (a b : Bool) → (a || b) ≡ true → (a ≡ true) ⊎ (b ≡ true)
-either_true true b is = inl refl
-either_true false b is = inr is
-
-same_number : (n m : ℕ) → (n == m) ≡ true → n ≡ m
-same_number n m is = by (eqb_tells n m)
-  where
-    by : ((eqb n m ≡ true) × (n ≡ m)) ⊎ ((eqb n m ≡ false) × (n ≢ m)) → n ≡ m
-    by (inl same) = same.1
-    by (inr differs) = let other = differs.0 in absurd cc
-
-is_itself : (n : ℕ) → (n == n) ≡ true
-is_itself n = by (eqb_tells n n)
-  where
-    by : ((eqb n n ≡ true) × (n ≡ n)) ⊎ ((eqb n n ≡ false) × (n ≢ n)) → (n == n) ≡ true
-    by (inl same) = same.0
-    by (inr differs) = absurd (differs.1 refl)
-
-is_other : (n m : ℕ) → n ≢ m → (n == m) ≡ false
-is_other n m apart = by (eqb_tells n m)
-  where
-    by : ((eqb n m ≡ true) × (n ≡ m)) ⊎ ((eqb n m ≡ false) × (n ≢ m)) → (n == m) ≡ false
-    by (inl same) = absurd (apart same.1)
-    by (inr differs) = differs.0
-
-other_bytes : (file : ℕ) (bytes : Bytes) (s : Stored) (other : ℕ) → other ≢ file → (with_bytes file bytes s).bytes other ≡ s.bytes other
-other_bytes file bytes s other apart = ap (λ (b : Bool). if b then bytes else s.bytes other) (is_other other file apart)
-
-pub own_bytes : (file : ℕ) (bytes : Bytes) (s : Stored) → (with_bytes file bytes s).bytes file ≡ bytes
-own_bytes file bytes s = ap (λ (b : Bool). if b then bytes else s.bytes file) (is_itself file)
-
-none_not_some : (n : ℕ) → None ≡ Some n → ⊥
-none_not_some n is = cc
-
-some_of : ℕ → Option ℕ → ℕ
-some_of other (Some n) = n
-some_of other None = other
-
-number_of : (n m : ℕ) → Some n ≡ Some m → n ≡ m
-unfolding some_of
-number_of n m is = ap (some_of n) is
-
-at_most_or_more : (n m : ℕ) → (n ≤ m) ⊎ (m < n)
-at_most_or_more zero m = inl (omega arith)
-at_most_or_more (suc n) zero = inr (omega arith)
-at_most_or_more (suc n) (suc m) = ⊎_elim (λ le. inl (omega (arith, le))) (λ lt. inr (omega (arith, lt))) (at_most_or_more n m)
-
-same_or_other : (n m : ℕ) → (n ≡ m) ⊎ (n ≢ m)
-same_or_other n m = by (eqb_tells n m)
-  where
-    by : ((eqb n m ≡ true) × (n ≡ m)) ⊎ ((eqb n m ≡ false) × (n ≢ m)) → (n ≡ m) ⊎ (n ≢ m)
-    by (inl same) = inl same.1
-    by (inr differs) = inr differs.1
-
-and_false : (a : Bool) → (a && false) ≡ false
-and_false true = refl
-and_false false = refl
-
-and_all : (a : Bool) → (a && true) ≡ a
-and_all true = refl
-and_all false = refl
-
-or_none : (a : Bool) → (a || false) ≡ a
-or_none true = refl
-or_none false = refl
-
-or_all : (a : Bool) → (a || true) ≡ true
-or_all true = refl
-or_all false = refl
-
 named_by : (file : ℕ) (name : Option ℕ) → is_name_of file name ≡ true → name ≡ Some file
 named_by file None is = absurd cc
-named_by file (Some other) is = ap Some (same_number other file is)
+named_by file (Some other) is = ap Some (eqb-true other file is)
 
 names_it : (file : ℕ) (name : Option ℕ) → name ≡ Some file → is_name_of file name ≡ true
-names_it file name is = ap (is_name_of file) is ∙ is_itself file
+names_it file name is = ap (is_name_of file) is ∙ eq-eqb file file refl
 
 free_is_none : (name : Option ℕ) → is_free name ≡ true → name ≡ None
 free_is_none None is = refl
@@ -104,18 +35,18 @@ own_of : (file : ℕ) (s : Shown) (calls : List DiskCall) → IsShown s calls �
 own_of file s calls is own = ⊎_elim
     (λ report. inl (ap (λ (n : Names). n.report) is.names ∙ named_by file s.names.report report))
     (λ beside. inr (ap (λ (n : Names). n.beside) is.names ∙ named_by file s.names.beside beside))
-    (either_true (is_name_of file s.names.report) (is_name_of file s.names.beside) own)
+    (or_cases (is_name_of file s.names.report) (is_name_of file s.names.beside) own)
 
 pub is_owned : (file : ℕ) (s : Shown) (calls : List DiskCall) → IsShown s calls → IsOwn file (after_calls calls) → is_own file s ≡ true
 is_owned file s calls is (inl report) = ap (λ (b : Bool). b || is_name_of file s.names.beside) (names_it file s.names.report (sym (ap (λ (n : Names). n.report) is.names) ∙ report))
-is_owned file s calls is (inr beside) = ap (λ (b : Bool). is_name_of file s.names.report || b) (names_it file s.names.beside (sym (ap (λ (n : Names). n.beside) is.names) ∙ beside)) ∙ or_all (is_name_of file s.names.report)
+is_owned file s calls is (inr beside) = ap (λ (b : Bool). is_name_of file s.names.report || b) (names_it file s.names.beside (sym (ap (λ (n : Names). n.beside) is.names) ∙ beside)) ∙ or-true (is_name_of file s.names.report)
 
 own_is_there : (file : ℕ) (s : Shown) (calls : List DiskCall) → IsShown s calls → IsOwn file (after_calls calls) → file < length s.files
-own_is_there file s calls is own = by (at_most_or_more (length s.files) file)
+own_is_there file s calls is own = by (cases_lt file (length s.files))
   where
-    by : (length s.files ≤ file) ⊎ (file < length s.files) → file < length s.files
-    by (inr lt) = lt
-    by (inl le) = absurd (⊎_elim (is.new file le (after_calls calls).seen (is_disk calls is.allowed).stays).report (is.new file le (after_calls calls).seen (is_disk calls is.allowed).stays).beside own)
+    by : (file < length s.files) ⊎ (length s.files ≤ file) → file < length s.files
+    by (inl lt) = lt
+    by (inr le) = absurd (⊎_elim (is.new file le (after_calls calls).seen (is_disk calls is.allowed).stays).report (is.new file le (after_calls calls).seen (is_disk calls is.allowed).stays).beside own)
 
 -- one file has other bytes
 set_at : (file : ℕ) (x : Stuff) (s : Shown) (other : ℕ) → file < length s.files → other ≡ file → get_or (set s.files file x) other blank ≡ x
@@ -126,8 +57,8 @@ wrote : (file : ℕ) (bytes : Bytes) (n most : ℕ) (s : Shown) (calls : List Di
 wrote file bytes n most s calls is own tears = record {
   allowed = (is.allowed, (own, tears));
   names = is.names;
-  bytes = λ other. bytes_at other (same_or_other other file);
-  synced = λ other. synced_at other (same_or_other other file);
+  bytes = λ other. bytes_at other (cases_eq other file);
+  synced = λ other. synced_at other (cases_eq other file);
   new = λ other le c left. subst (IsNameless other) (sym left.2.names) (is.new other (subst (λ (k : ℕ). k ≤ other) (length-set s.files file now) le) left.0 left.1);
 }
   where
@@ -142,8 +73,8 @@ wrote file bytes n most s calls is own tears = record {
     bytes_at other (inr differs) = other_bytes file bytes (after_calls calls).seen other differs ∙ is.bytes other ∙ sym (ap (λ (x : Stuff). x.bytes) (get_or-set_other s.files file other now blank differs))
 
     synced_at : (other : ℕ) → (other ≡ file) ⊎ (other ≢ file) → unsynced file (after_calls calls) other ≡ (stuff_of other (with_stuff file bytes false s)).synced
-    synced_at other (inl same) = ap (λ (b : Bool). (after_calls calls).is_synced other && not b) (subst (λ (k : ℕ). (k == file) ≡ true) (sym same) (is_itself file)) ∙ and_false ((after_calls calls).is_synced other) ∙ sym (ap (λ (x : Stuff). x.synced) (set_at file now s other lt same))
-    synced_at other (inr differs) = ap (λ (b : Bool). (after_calls calls).is_synced other && not b) (is_other other file differs) ∙ and_all ((after_calls calls).is_synced other) ∙ is.synced other ∙ sym (ap (λ (x : Stuff). x.synced) (get_or-set_other s.files file other now blank differs))
+    synced_at other (inl same) = ap (λ (b : Bool). (after_calls calls).is_synced other && not b) (subst (λ (k : ℕ). (k == file) ≡ true) (sym same) (eq-eqb file file refl)) ∙ and-false ((after_calls calls).is_synced other) ∙ sym (ap (λ (x : Stuff). x.synced) (set_at file now s other lt same))
+    synced_at other (inr differs) = ap (λ (b : Bool). (after_calls calls).is_synced other && not b) (ne_eqb other file differs) ∙ and-true ((after_calls calls).is_synced other) ∙ is.synced other ∙ sym (ap (λ (x : Stuff). x.synced) (get_or-set_other s.files file other now blank differs))
 
 -- bytes that are appended, and a cut, tear no more than they may
 pub append_tears : (file : ℕ) (bytes : Bytes) (s : Stored) → MayTear file (length (s.bytes file)) (length (s.bytes file ++ bytes)) s (with_bytes file (s.bytes file ++ bytes) s)
@@ -169,22 +100,17 @@ cut_tears file most s = record {
 
 -- a file that was made is at the end
 made_at : (s : Shown) (names : Names) (other : ℕ) → other ≢ length s.files → stuff_of other (with_empty names s) ≡ stuff_of other s
-made_at s names other differs = by (at_most_or_more (length s.files) other)
+made_at s names other differs = by (cases_lt other (length s.files))
   where
     last : Stuff
     last = record { bytes = []; synced = false }
 
-    past : (xs : List Stuff) (n : ℕ) → length xs ≤ n → get_or xs n blank ≡ blank
-    past [] n le = refl
-    past (x ∷ xs) zero le = absurd (omega (arith, le))
-    past (x ∷ xs) (suc n) le = past xs n (omega (arith, le))
-
     longer : length s.files ≤ other → length (s.files ++ last ∷ []) ≤ other
     longer le = ⊎_elim (λ same. absurd (differs (sym same))) (λ lt. omega (arith, length-append s.files (last ∷ []), lt)) (eq-or-lt_of_le le)
 
-    by : (length s.files ≤ other) ⊎ (other < length s.files) → stuff_of other (with_empty names s) ≡ stuff_of other s
-    by (inl le) = past (s.files ++ last ∷ []) other (longer le) ∙ sym (past s.files other le)
-    by (inr lt) = get_or_append_left s.files (last ∷ []) blank other lt
+    by : (other < length s.files) ⊎ (length s.files ≤ other) → stuff_of other (with_empty names s) ≡ stuff_of other s
+    by (inr le) = get_or_past (s.files ++ last ∷ []) other blank (longer le) ∙ sym (get_or_past s.files other blank le)
+    by (inl lt) = get_or_append_left s.files (last ∷ []) blank other lt
 
 made_last : (s : Shown) (names : Names) (other : ℕ) → other ≡ length s.files → stuff_of other (with_empty names s) ≡ record { bytes = []; synced = false }
 made_last s names other same = subst (λ (k : ℕ). stuff_of k (with_empty names s) ≡ record { bytes = []; synced = false }) (sym same) (get_or-append_seam s.files (record { bytes = []; synced = false }) [] blank)
@@ -193,15 +119,15 @@ made_last s names other same = subst (λ (k : ℕ). stuff_of k (with_empty names
 made : (s : Shown) (d : DiskState) (names : Names) → ((other : ℕ) → d.seen.bytes other ≡ (stuff_of other s).bytes) → ((other : ℕ) → d.is_synced other ≡ (stuff_of other s).synced)
     → ((other : ℕ) → (with_bytes (length s.files) [] d.seen).bytes other ≡ (stuff_of other (with_empty names s)).bytes)
     × ((other : ℕ) → unsynced (length s.files) d other ≡ (stuff_of other (with_empty names s)).synced)
-made s d names bytes synced = (λ other. bytes_at other (same_or_other other (length s.files)), λ other. synced_at other (same_or_other other (length s.files)))
+made s d names bytes synced = (λ other. bytes_at other (cases_eq other (length s.files)), λ other. synced_at other (cases_eq other (length s.files)))
   where
     bytes_at : (other : ℕ) → (other ≡ length s.files) ⊎ (other ≢ length s.files) → (with_bytes (length s.files) [] d.seen).bytes other ≡ (stuff_of other (with_empty names s)).bytes
     bytes_at other (inl same) = subst (λ (k : ℕ). (with_bytes (length s.files) [] d.seen).bytes k ≡ []) (sym same) (own_bytes (length s.files) [] d.seen) ∙ sym (ap (λ (x : Stuff). x.bytes) (made_last s names other same))
     bytes_at other (inr differs) = other_bytes (length s.files) [] d.seen other differs ∙ bytes other ∙ sym (ap (λ (x : Stuff). x.bytes) (made_at s names other differs))
 
     synced_at : (other : ℕ) → (other ≡ length s.files) ⊎ (other ≢ length s.files) → unsynced (length s.files) d other ≡ (stuff_of other (with_empty names s)).synced
-    synced_at other (inl same) = ap (λ (b : Bool). d.is_synced other && not b) (subst (λ (k : ℕ). (k == length s.files) ≡ true) (sym same) (is_itself (length s.files))) ∙ and_false (d.is_synced other) ∙ sym (ap (λ (x : Stuff). x.synced) (made_last s names other same))
-    synced_at other (inr differs) = ap (λ (b : Bool). d.is_synced other && not b) (is_other other (length s.files) differs) ∙ and_all (d.is_synced other) ∙ synced other ∙ sym (ap (λ (x : Stuff). x.synced) (made_at s names other differs))
+    synced_at other (inl same) = ap (λ (b : Bool). d.is_synced other && not b) (subst (λ (k : ℕ). (k == length s.files) ≡ true) (sym same) (eq-eqb (length s.files) (length s.files) refl)) ∙ and-false (d.is_synced other) ∙ sym (ap (λ (x : Stuff). x.synced) (made_last s names other same))
+    synced_at other (inr differs) = ap (λ (b : Bool). d.is_synced other && not b) (ne_eqb other (length s.files) differs) ∙ and-true (d.is_synced other) ∙ synced other ∙ sym (ap (λ (x : Stuff). x.synced) (made_at s names other differs))
 
 more_files : (s : Shown) (names : Names) (other : ℕ) → length (with_empty names s).files ≤ other → (length s.files ≤ other) × (other ≢ length s.files)
 more_files s names other le = (omega (arith, length-append s.files ((record { bytes = []; synced = false }) ∷ []), le), λ same. omega (arith, length-append s.files ((record { bytes = []; synced = false }) ∷ []), le, same))
@@ -217,31 +143,23 @@ second : {A B : Type 0} (e c : Names) → (c ≡ e) ⊎ (A × B) → (c ≡ e) �
 second e c (inl same) = inl same
 second e c (inr is) = inr is.1
 
-not_closed : (file : ℕ) (name : ClosedName) (names : List ClosedName) → name.file ≢ file → IsNoClosed file names → IsNoClosed file (names ++ name ∷ [])
-not_closed file name [] differs apart = (differs, tt)
-not_closed file name (n ∷ names) differs apart = (apart.0, not_closed file name names differs apart.1)
-
-still_not_closed : (cycle : ℕ) (whole : Bool) (file : ℕ) (name : Option ℕ) (names : List ClosedName) → name ≢ Some file → IsNoClosed file names → IsNoClosed file (closed_names cycle whole name names)
-still_not_closed cycle whole file None names differs apart = apart
-still_not_closed cycle whole file (Some n) names differs apart = not_closed file (record { cycle = cycle; whole = whole; file = n }) names (λ same. differs (ap Some same)) apart
-
 dropped : (other : ℕ) (e c : Stored) → MayDrop e c → IsNameless other e.names → IsNameless other c.names
 dropped other e c (inl is) apart = subst (λ (s : Stored). IsNameless other s.names) (sym is) apart
 dropped other e c (inr is) apart = subst (λ (s : Stored). IsNameless other s.names) (sym is)
-    (record { apart = record { checkpoint = apart.apart.checkpoint; closed = apart.apart.closed }; beside = none_not_some other; report = apart.report })
+    (record { apart = record { checkpoint = apart.apart.checkpoint; closed = apart.apart.closed }; beside = none-some other; report = apart.report })
 
 put_over_it : (shown : Names) (other : ℕ) (e c : Stored) → MayPutOver shown e c → IsNameless other e.names → IsNameless other c.names
 put_over_it shown other e c (inl is) apart = subst (λ (s : Stored). IsNameless other s.names) (sym is) apart
 put_over_it shown other e c (inr is) apart = subst (λ (s : Stored). IsNameless other s.names) (sym is.1)
-    (record { apart = record { checkpoint = apart.beside; closed = apart.apart.closed }; beside = none_not_some other; report = apart.report })
+    (record { apart = record { checkpoint = apart.beside; closed = apart.apart.closed }; beside = none-some other; report = apart.report })
 
 closed_over_it : (cycle : ℕ) (whole : Bool) (shown : Names) (other : ℕ) (e c : Stored) → MayCloseOver cycle whole shown e c → IsNameless other e.names → IsNameless other c.names
 closed_over_it cycle whole shown other e c (inl is) apart = subst (λ (s : Stored). IsNameless other s.names) (sym is) apart
 closed_over_it cycle whole shown other e c (inr is) apart = subst (λ (s : Stored). IsNameless other s.names) (sym is.1)
-    (record { apart = record { checkpoint = apart.apart.checkpoint; closed = still_not_closed cycle whole other e.names.report e.names.closed apart.report apart.apart.closed }; beside = apart.beside; report = none_not_some other })
+    (record { apart = record { checkpoint = apart.apart.checkpoint; closed = not_closed cycle whole other e.names.report e.names.closed apart.report apart.apart.closed }; beside = apart.beside; report = none-some other })
 
 ready_of : (name : Option ℕ) (s : Shown) (calls : List DiskCall) → IsShown s calls → is_ready name s ≡ true → (file : ℕ) → name ≡ Some file → IsTrue ((after_calls calls).is_synced file)
-ready_of None s calls is ready file same = absurd (none_not_some file same)
+ready_of None s calls is ready file same = absurd (none-some file same)
 ready_of (Some n) s calls is ready file same = subst (λ (k : ℕ). (after_calls calls).is_synced k ≡ true) (number_of n file same) (is.synced n ∙ ready)
 
 pub is_ready_of : (name : Option ℕ) (s : Shown) (calls : List DiskCall) → IsShown s calls → ((file : ℕ) → name ≡ Some file → IsTrue ((after_calls calls).is_synced file)) → is_ready name s ≡ true
@@ -292,31 +210,26 @@ made_call (Close cycle whole) s calls is may = record {
 made_call (Sync file) s calls is may = record {
   allowed = (is.allowed, tt);
   names = is.names;
-  bytes = λ other. is.bytes other ∙ sync_bytes other (same_or_other other file);
-  synced = λ other. sync_synced other (same_or_other other file);
+  bytes = λ other. is.bytes other ∙ sync_bytes other (cases_eq other file);
+  synced = λ other. sync_synced other (cases_eq other file);
   new = λ other le c left. is.new other (subst (λ (k : ℕ). k ≤ other) (length-set s.files file now) le) c left.0;
 }
   where
     now : Stuff
     now = record { bytes = (stuff_of file s).bytes; synced = true }
 
-    past : (xs : List Stuff) (n : ℕ) → length xs ≤ n → get_or xs n blank ≡ blank
-    past [] n le = refl
-    past (x ∷ xs) zero le = absurd (omega (arith, le))
-    past (x ∷ xs) (suc n) le = past xs n (omega (arith, le))
-
-    own : (length s.files ≤ file) ⊎ (file < length s.files) → stuff_of file (with_stuff file now.bytes true s) ≡ now
-    own (inr lt) = get_or-set_same s.files file now blank lt
-    own (inl le) = past (set s.files file now) file (subst (λ (k : ℕ). k ≤ file) (sym (length-set s.files file now)) le) ∙ ap (λ (b : Bytes). stuff b true) (sym (ap (λ (x : Stuff). x.bytes) (past s.files file le)))
+    own : (file < length s.files) ⊎ (length s.files ≤ file) → stuff_of file (with_stuff file now.bytes true s) ≡ now
+    own (inl lt) = get_or-set_same s.files file now blank lt
+    own (inr le) = get_or_past (set s.files file now) file blank (subst (λ (k : ℕ). k ≤ file) (sym (length-set s.files file now)) le) ∙ ap (λ (b : Bytes). stuff b true) (sym (ap (λ (x : Stuff). x.bytes) (get_or_past s.files file blank le)))
 
     sync_bytes : (other : ℕ) → (other ≡ file) ⊎ (other ≢ file) → (stuff_of other s).bytes ≡ (stuff_of other (with_stuff file now.bytes true s)).bytes
-    sync_bytes other (inl same) = ap (λ (k : ℕ). (stuff_of k s).bytes) same ∙ sym (ap (λ (x : Stuff). x.bytes) (ap (λ (k : ℕ). stuff_of k (with_stuff file now.bytes true s)) same ∙ own (at_most_or_more (length s.files) file)))
+    sync_bytes other (inl same) = ap (λ (k : ℕ). (stuff_of k s).bytes) same ∙ sym (ap (λ (x : Stuff). x.bytes) (ap (λ (k : ℕ). stuff_of k (with_stuff file now.bytes true s)) same ∙ own (cases_lt file (length s.files))))
     sync_bytes other (inr differs) = sym (ap (λ (x : Stuff). x.bytes) (get_or-set_other s.files file other now blank differs))
 
     sync_synced : (other : ℕ) → (other ≡ file) ⊎ (other ≢ file) → ((after_calls calls).is_synced other || (other == file)) ≡ (stuff_of other (with_stuff file now.bytes true s)).synced
-    sync_synced other (inl same) = ap (λ (b : Bool). (after_calls calls).is_synced other || b) (subst (λ (k : ℕ). (k == file) ≡ true) (sym same) (is_itself file)) ∙ or_all ((after_calls calls).is_synced other)
-        ∙ sym (ap (λ (x : Stuff). x.synced) (ap (λ (k : ℕ). stuff_of k (with_stuff file now.bytes true s)) same ∙ own (at_most_or_more (length s.files) file)))
-    sync_synced other (inr differs) = ap (λ (b : Bool). (after_calls calls).is_synced other || b) (is_other other file differs) ∙ or_none ((after_calls calls).is_synced other) ∙ is.synced other
+    sync_synced other (inl same) = ap (λ (b : Bool). (after_calls calls).is_synced other || b) (subst (λ (k : ℕ). (k == file) ≡ true) (sym same) (eq-eqb file file refl)) ∙ or-true ((after_calls calls).is_synced other)
+        ∙ sym (ap (λ (x : Stuff). x.synced) (ap (λ (k : ℕ). stuff_of k (with_stuff file now.bytes true s)) same ∙ own (cases_lt file (length s.files))))
+    sync_synced other (inr differs) = ap (λ (b : Bool). (after_calls calls).is_synced other || b) (ne_eqb other file differs) ∙ or-false ((after_calls calls).is_synced other) ∙ is.synced other
         ∙ sym (ap (λ (x : Stuff). x.synced) (get_or-set_other s.files file other now blank differs))
 made_call SyncFolder s calls is may = record { allowed = (is.allowed, tt); names = is.names; bytes = is.bytes; synced = is.synced; new = λ other le c left. is.new other le c left.before }
 made_call SyncReports s calls is may = record { allowed = (is.allowed, tt); names = is.names; bytes = is.bytes; synced = is.synced; new = λ other le c left. is.new other le c left.before }
@@ -336,7 +249,7 @@ begin = record {
   bytes = λ file. refl;
   synced = λ file. refl;
   new = λ file le c left. subst (λ (s : Stored). IsNameless file s.names) (sym left)
-      (record { apart = record { checkpoint = none_not_some file; closed = tt }; beside = none_not_some file; report = none_not_some file });
+      (record { apart = record { checkpoint = none-some file; closed = tt }; beside = none-some file; report = none-some file });
 }
 
 -- after any log
@@ -351,7 +264,7 @@ calls_last (c ∷ log) call s calls = calls_last log call (shown_next c s) (call
 pub noted : (log : List MemCall) (call : MemCall) → may_make call (shown_of log) ≡ true → calls_of (log ++ call ∷ []) ≡ call_of call (shown_of log) (after_calls (calls_of log)) ∷ calls_of log
 noted log call may = calls_last log call nothing [] ∙ ap (λ (b : Bool). calls_if b call (shown_of log) (calls_of log)) may
 
-abbrev with_faults : DiskState → ℕ → DiskState
+abbrev pub with_faults : DiskState → ℕ → DiskState
 with_faults d n = record d { faults = n }
 
 synced_at : (d : DiskState) (n : ℕ) (names : List ClosedName) → AreSynced d names → AreSynced (with_faults d n) names

@@ -1,6 +1,6 @@
 //! A disk in memory, as a state folder's calls see it.
 ghost use Rattle.std.specs.Prelude.{◌≡◌, ◌<◌, ◌≤◌, ◌+◌, ◌++◌, ◌∷◌, [], true, IsTrue};
-ghost use Rattle.std.specs.Prelude.{IfOk, IfErr, OnOk, OnErr, Some, length, take, not};
+ghost use Rattle.std.specs.Prelude.{IfOk, IfErr, OnOk, OnErr, None, Some, length, take, not};
 ghost use Rattle.std.specs.Prelude.{if◌then◌else◌};
 ghost use Rattle.std.specs.IoError.{error_kind};
 ghost use Rattle.ocfl_state.specs.Calls.{IsReadOf};
@@ -45,6 +45,7 @@ impl MemDisk {
     pub fn new(alloc: Global) -> MemDisk
         ensures log { result.log.items ≡ [] }
         ensures faults { result.faults ≡ 0 }
+        ensures call { result.call ≡ None }
     {
         MemDisk {
             alloc,

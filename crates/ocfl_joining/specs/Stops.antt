@@ -1,5 +1,5 @@
 -- Why reports were not joined.
-use Rattle.std.specs.Prelude.{◌≡◌, ◌≢◌, List, [], Bool, true, false, ⊤}
+use Rattle.std.specs.Prelude.{◌≡◌, ◌≢◌, ◌+◌, ◌≤◌, List, [], length, Bool, true, false, ⊤}
 use Rattle.ocfl_tree.specs.Place.{Place}
 use Rattle.ocfl_joining.specs.{Joined.{IsRight}, Reports.{Seen}}
 use Rattle.ocfl_joining.specs.declared.copying.PartStop.TheVariants as part_stop
@@ -32,3 +32,10 @@ IsChangedRightly separators s (Missing found) = ⊤
 IsChangedRightly separators s (Part part why) = why ≡ part_stop.Changed → IsRight separators s part → ⊥
 IsChangedRightly separators s (Output why) = ⊤
 IsChangedRightly separators s Memory = ⊤
+
+-- the part that it names is one of those that the separators make, by its number, from 1
+abbrev pub IsOfPart : List Place → JoinStop → Type 0
+IsOfPart separators (Missing found) = ⊤
+IsOfPart separators (Part part why) = (1 ≤ part) × (part ≤ length separators + 1)
+IsOfPart separators (Output why) = ⊤
+IsOfPart separators Memory = ⊤

@@ -5,8 +5,8 @@ ghost use Rattle.std.specs.Prelude.{IfOk, IfErr, OnOk, OnErr};
 ghost use Rattle.ocfl_tree.specs.Place.{Place as ModelPlace};
 ghost use Rattle.ocfl_joining.specs.{Joined.{IsJoined, MayJoin}, Reports.{Seen, begun, with_put}};
 ghost use Rattle.ocfl_joining.specs.Missing.{are_right, hindering_of, left_of, missing_of};
-ghost use Rattle.ocfl_joining.specs.Stops.{IsChangedRightly, IsMissingRightly, is_missing};
-ghost use Rattle.ocfl_joining.specs.Stops.{is_output};
+ghost use Rattle.ocfl_joining.specs.Stops.{IsChangedRightly, IsMissingRightly, IsOfPart};
+ghost use Rattle.ocfl_joining.specs.Stops.{is_missing, is_output};
 ghost use Rattle.ocfl_joining.specs.declared.joining.JoinStop.TheVariants.{Memory};
 ghost use Rattle.ocfl_joining.specs.Internal.Copying.{AreAllCopied};
 
@@ -68,6 +68,7 @@ fn copy_all<R: PartReports>(
         (IsChangedRightly separators.now (R.seen reports.old)) }
     ensures named { IfErr result (λ stop. is_missing stop ≡ false) }
     ensures inside { IfErr result (λ stop. is_output stop ≡ false) }
+    ensures part { IfErr result (IsOfPart separators.now) }
 {
     let Some(count) = separators.len().checked_add(1) else {
         return Err(JoinStop::Memory);
@@ -106,6 +107,7 @@ pub fn join<R: PartReports>(
     ensures missing { IfErr result (λ stop. IsMissingRightly
         (hindering_of separators.now root.now cycle parts.now) stop) }
     ensures unread { IfErr result (λ stop. is_missing stop ≡ true → reports.new ≡ reports.old) }
+    ensures part { IfErr result (IsOfPart separators.now) }
 
     // Of reports that are told.
     ensures joined { IsTrue R.told → IfOk result (λ joined.
@@ -152,6 +154,7 @@ fn make_joined<R: PartReports>(
     ensures may { IsTrue R.told → OnErr result
         (MayJoin separators.now whole (R.seen reports.old) (R.seen reports.new)) }
     ensures named { IfErr result (λ stop. is_missing stop ≡ false) }
+    ensures part { IfErr result (IsOfPart separators.now) }
 {
     if let Err(stop) = begin(reports) {
         return Err(stop);
@@ -167,6 +170,7 @@ fn begin<R: PartReports>(reports: &mut R) -> Result<(), JoinStop>
     ensures named { IfErr result (λ stop. is_missing stop ≡ false) }
     ensures other { (separators : List ModelPlace) (s : Seen)
         → IfErr result (IsChangedRightly separators s) }
+    ensures part { (separators : List ModelPlace) → IfErr result (IsOfPart separators) }
 {
     match reports.begin() {
         Ok(()) => Ok(()),
@@ -184,6 +188,7 @@ fn put<R: PartReports>(whole: bool, reports: &mut R) -> Result<(), JoinStop>
     ensures named { IfErr result (λ stop. is_missing stop ≡ false) }
     ensures other { (separators : List ModelPlace) (s : Seen)
         → IfErr result (IsChangedRightly separators s) }
+    ensures part { (separators : List ModelPlace) → IfErr result (IsOfPart separators) }
 {
     match reports.put(whole) {
         Ok(()) => Ok(()),

@@ -15,7 +15,7 @@
 //! - What `join` puts is the bytes of all of them in their order, each once. Each is as it was closed,
 //!   as far as that was kept, and has the lines of a report, in order, all in its part.
 //! - Each is opened once, and read and checked while it is copied. Nothing is put before all of them
-//!   were, and an error puts nothing but the joined report.
+//!   were, and an error puts nothing but the joined report. A part that it names is one of them.
 //! - It is put as one that is whole exactly if each report is, and else what was left out is given.
 //!
 //! If the report of each part is what the audit has there, what is joined is the audit

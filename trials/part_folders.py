@@ -17,8 +17,8 @@ Tried, and what comes of it. Each row was seen to fail on scripts that lacked it
 - Separators that are gone, broken, out of order or cut short: named, status 3; never written
   again.
 - A division that is killed at each fourth of its calls: it is made again as a whole.
-- A root that is not mounted: `begin` refuses it once, and what all parts say is there once; no
-  first night.
+- A root that is not mounted: `begin` refuses it once, and what all parts say is there once, with
+  status 3; no first night.
 - A full standard output; a full disk of the state: status 3, and the next `end` says all of it.
   It mounts for that; where it cannot, it says so.
 - Links in the place of each file that is read or written; root in the folder of another user;
@@ -211,7 +211,7 @@ def begin_refused(folder):
         nights.by_hand("part", "--part", number)
     status, out, _ = nights.end()
     check("what all say is there once", (status, out.count("is its file system mounted?"),
-                                         "In parts 1-4:" in out), (1, 1, True))
+                                         "In parts 1-4:" in out), (3, 1, True))
     other = Together(folder + "/other", nights.root)
     status, out, said = other.by_hand("begin", "--create", "--parts", "4")
     check("no first night", (status, os.path.exists(other.path("parts"))), (3, False))

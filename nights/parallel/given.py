@@ -111,6 +111,15 @@ def size_of_log(state: str, number: int) -> int:
     return os.path.getsize(path) if os.path.exists(path) else 0
 
 
+def last_status(state: str, number: int) -> int:
+    """The status of the last night that a part has ended, or 3 if it has ended none. It is at least
+    1, since the part said something."""
+    path = "%s/%s/log" % (state, part(number))
+    rows = Path(path).read_bytes().splitlines(True) if os.path.exists(path) else []
+    ended = [int(it[1]) for it in map(NIGHT.fullmatch, rows) if it]
+    return max(1, ended[-1]) if ended else 3
+
+
 class Given:
     """The parts that were given out, when, in which cycle, and how long their logs were then."""
 

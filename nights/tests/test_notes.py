@@ -291,6 +291,19 @@ class Joined(State):
         self.assertEqual(joining.Parts(self.state).unjoined(), [1, 3])
 
 
+class Late(State):
+    """Parts of an earlier night, of which `end` has what they said."""
+
+    def test_the_status_of_the_last_night(self):
+        row = '{"findings":0,"night":%d,"row":"night","runs":1,"status":%d,"time":9}\n'
+        for rows, status in [([], 3), ([0], 1), ([1], 1), ([3, 0], 1), ([0, 3], 3), ([1, 4], 4)]:
+            self.put("part-000002/log", "".join(row % it for it in enumerate(rows)))
+            self.assertEqual(given.last_status(self.state, 2), status, rows)
+
+    def test_a_part_without_a_folder(self):
+        self.assertEqual(given.last_status(self.state, 9), 3)
+
+
 class Divided(State):
     def refused(self, parts):
         try:

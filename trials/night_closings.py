@@ -21,6 +21,7 @@ Tried, and what comes of it:
 - The only report of before compressed or taken away: status 3, nothing is called gone, and no list
   is put; once it is back, what is gone is said. An older one is there: what is gone since that is
   said, with what is not known.
+- A closing that fails while two further cycles are closed and said: once it can be said, it is.
 - Cycles that left a place out, one after the other: each is compared with the one before, outside
   of what one of the two left out; what was there is compared once it can be read. A night that is
   killed then: the place is named, and counted.
@@ -512,6 +513,20 @@ def no_report_there(folder: str) -> None:
               {"cycle": 2, "compared": 1, "objects": 1, "unlooked": 2})
 
 
+def fails_for_long(folder: str) -> None:
+    """A cycle's list cannot be made, and two further ones are closed and said before it can."""
+    nights = made(folder)
+    os.mkdir(nights.path("reports/gone-000002.new"))
+    remove_object(nights)
+    for cycle in (2, 3, 4):
+        status, out, _ = nights.night()
+        check("cycle %d" % cycle, (status, OF_F in out), (3, False))
+    check("which are said", [nights.has("reports/gone-%06d" % it) for it in (2, 3, 4)],
+          [None, "", ""])
+    os.rmdir(nights.path("reports/gone-000002.new"))
+    check_said_later("it can be", nights, "", True)
+
+
 # Cycles with a place left out
 
 def leave_out(nights: Nights, place: str = "m") -> str:
@@ -752,10 +767,10 @@ def unsaid_before_a_cycle(folder: str) -> None:
 
 
 PARTS = [nothing_is_gone, every, gone, new_and_repaired, no_line_twice, many_new, many,
-         objects_first, known_findings, many_known, each_finding_once, odd_names_gone, expected, lists_that_fail,
-         disturbed_nights, after_an_incomplete_one,
-         lost_lines_before, no_report_before, not_compared_for_long, older_report,
-         no_report_there, place_left_out, left_out_at_first, killed_once_left_out, why_unread,
+         objects_first, known_findings, many_known, each_finding_once, odd_names_gone, expected,
+         lists_that_fail, disturbed_nights, after_an_incomplete_one, lost_lines_before,
+         no_report_before, not_compared_for_long, older_report, no_report_there, fails_for_long,
+         place_left_out, left_out_at_first, killed_once_left_out, why_unread,
          no_object_any_more, back_later, each_repair, changed_once_closed]
 
 

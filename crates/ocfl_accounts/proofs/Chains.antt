@@ -1,14 +1,14 @@
 -- What closings say over several calls.
-use Rattle.std.proofs.Common.{◌≡◌, ◌⊎◌, inl, inr, ⊎_elim, ℕ, ◌+◌, ◌≤◌, ◌<◌, List, [], ◌∷◌, ◌++◌, map, length, Bool, true, false, Option, Some, None, max, refl, sym, ap, subst, ◌∙◌, arith}
+use Rattle.std.proofs.Common.{◌≡◌, ◌⊎◌, inl, inr, ⊎_elim, ℕ, zero, suc, ◌+◌, ◌≤◌, ◌<◌, List, [], ◌∷◌, ◌++◌, map, length, Bool, true, false, Option, Some, None, max, refl, sym, ap, subst, ◌∙◌, arith}
 use Rattle.std.proofs.{Math.Nat.{eq-or-lt_of_le}, lemmas.Bool.{eqb-true, false≢true}}
-use Rattle.std.specs.{Prelude.{◌==◌, ◌||◌, cond}, List.{list_any}}
+use Rattle.std.specs.{Prelude.{◌==◌, ◌||◌, ◌&&◌, cond, not}, List.{list_any}}
 use Rattle.ocfl_tree.specs.{Ascending.{IsAmong}, Place.{Text}}
 use Rattle.ocfl_compare.specs.declared.change.ChangeAt.{ChangeAt}
 use Rattle.ocfl_accounts.specs.{Kept.{Kept, Account, with_account}, Crash.{Outcomes, Passes, After}, Said.{Said, Grows}}
 use Rattle.ocfl_accounts.specs.Telling.{Stand, Outcome, IsAccountSaid, IsSettled, MayAccount, account_of, IsOutcomeFor, AreOutcomes, AreSaid, greatest_from}
 use Rattle.ocfl_accounts.specs.{Rounds.{Told, AreTold, MayAccounts, account_told}, Calls.{Call, AreCalls, left_by, IsSaidIn, WasSaid, IsDoneIn}}
 use Rattle.ocfl_accounts.specs.{declared.{closings.ClosingStop.{ClosingStop}, pair.Pair.{Pair}}}
-use Rattle.ocfl_accounts.specs.Pairs.{waits}
+use Rattle.ocfl_accounts.specs.{Cycle.{is_there}, Pairs.{waits}, Unsaid.{NoneUnsaid, is_unsaid, oldest}}
 use Rattle.ocfl_accounts.proofs.{Outputs.{grows_none, grows_on}, Rounds.{said_before}}
 
 -- it was among the accounts of one of these outcomes
@@ -73,6 +73,11 @@ module _ {F : Type 0} (seen : F → Kept) (may_leave : F → Outcomes) (moment :
       by (inl was) = inl (subst (λ d. IsAmong d.accounts a) was.1.0 was.1.1)
       by (inr said) = inr said
 
+upto_or_below : (n m : ℕ) → (n ≤ m) ⊎ (m < n)
+upto_or_below zero m = inl (omega arith)
+upto_or_below (suc n) zero = inr (omega arith)
+upto_or_below (suc n) (suc m) = ⊎_elim (λ l. inl (omega (arith, l))) (λ l. inr (omega (arith, l))) (upto_or_below n m)
+
 greatest_least : (s : ℕ) (os : List Outcome) → s ≤ greatest_from s os
 greatest_least s [] = omega arith
 greatest_least s (o ∷ os) = let more = greatest_least (max s o.status) os in omega (arith, more)
@@ -81,28 +86,26 @@ greatest_least s (o ∷ os) = let more = greatest_least (max s o.status) os in o
 abbrev KeptAfter : Kept → ℕ → Kept → Type 0
 KeptAfter k cycle after = (after ≡ k) ⊎ ((changes : List ChangeAt) × (after ≡ with_account (account_of cycle changes) k))
 
-among_others : {A : Type 0} (test : A → Bool) (xs : List A) (a : A) → test a ≡ false → list_any test (xs ++ a ∷ []) ≡ true → list_any test xs ≡ true
-among_others test [] a none is = absurd (false≢true (sym (ap (λ b. b || false) none) ∙ is))
-among_others test (x ∷ xs) a none is = by (test x) is (λ f. among_others test xs a none f)
-  where
-    by : (b : Bool) → (b || list_any test (xs ++ a ∷ [])) ≡ true → (list_any test (xs ++ a ∷ []) ≡ true → list_any test xs ≡ true) → (b || list_any test xs) ≡ true
-    by true f g = refl
-    by false f g = g f
+-- one more of which a test does not hold
+any_same : {A : Type 0} (test : A → Bool) (xs : List A) (a : A) → test a ≡ false → list_any test (xs ++ a ∷ []) ≡ list_any test xs
+any_same test [] a none = ap (λ b. b || false) none
+any_same test (x ∷ xs) a none = ap (λ b. test x || b) (any_same test xs a none)
 
-differ : (n m : ℕ) → n < m → (n == m) ≡ false
-differ n m less = by (n == m) refl
+differ : (n m : ℕ) → (n ≡ m → ⊥) → (n == m) ≡ false
+differ n m other = by (n == m) refl
   where
     by : (b : Bool) → (n == m) ≡ b → (n == m) ≡ false
-    by true e = let same = eqb-true n m e in absurd (omega (arith, less, same))
+    by true e = absurd (other (eqb-true n m e))
     by false e = e
 
+-- the account of one cycle says nothing of another one
+unsaid_same : (k after : Kept) (first cycle : ℕ) → (first ≡ cycle → ⊥) → KeptAfter k first after → is_unsaid after cycle ≡ is_unsaid k cycle
+unsaid_same k after first cycle other (inl e) = ap (λ d. is_unsaid d cycle) e
+unsaid_same k after first cycle other (inr put) =
+    ap (λ d. is_unsaid d cycle) put.1 ∙ ap (λ b. not b && is_there (k.sights cycle)) (any_same (λ a. a.cycle == cycle) k.accounts (account_of first put.0) (differ first cycle other))
+
 settled_before : (k after : Kept) (first cycle : ℕ) → first < cycle → KeptAfter k first after → IsSettled after cycle → IsSettled k cycle
-settled_before k after first cycle later (inl e) settled = subst (λ d. IsSettled d cycle) e settled
-settled_before k after first cycle later (inr put) settled = by (subst (λ d. IsSettled d cycle) put.1 settled)
-  where
-    by : IsSettled (with_account (account_of first put.0) k) cycle → IsSettled k cycle
-    by (inl there) = inl (among_others (λ a. a.cycle == cycle) k.accounts (account_of first put.0) (differ first cycle later) there)
-    by (inr away) = inr away
+settled_before k after first cycle later kept settled = sym (unsaid_same k after first cycle (λ e. omega (arith, e, later)) kept) ∙ settled
 
 module _ (text : Pair → List ChangeAt → Text) (news : ChangeAt → Bool) where
   outcome_grows : (stop : Option ClosingStop) (before after : Stand) (cycle status : ℕ) → IsOutcomeFor stop before cycle text news after status → Grows before.said after.said
@@ -114,11 +117,21 @@ module _ (text : Pair → List ChangeAt → Text) (news : ChangeAt → Bool) whe
   outcomes_grow before after cycle [] h = subst (λ d. Grows before.said d.said) (sym h) (grows_none before.said)
   outcomes_grow before after cycle (o ∷ os) h = grows_on before.said o.after.said after.said (outcome_grows o.stop before o.after cycle o.status h.0) (outcomes_grow o.after after (cycle + 1) os h.1)
 
-  done_first : (stop : Option ClosingStop) (before next after : Stand) (cycle status : ℕ) → IsOutcomeFor stop before cycle text news next status → status < 3 → Grows next.said after.said → IsDoneIn before text after cycle
-  done_first None before next after cycle status (inl alone) low grew = inl alone.settled
-  done_first None before next after cycle status (inr told) low grew =
-      inr (record { pair = told.pair; changes = told.changes; before = before.said; after = next.said; grew = grows_none before.said; said = told.said; then = grew })
-  done_first (Some why) before next after cycle status h low grew = let three = h.1.1.0 in absurd (omega (arith, three, low))
+  -- a cycle was done, or it is unsaid still, since it failed
+  first_done : (stop : Option ClosingStop) (before next after : Stand) (cycle status : ℕ) → IsOutcomeFor stop before cycle text news next status → Grows next.said after.said
+      → is_unsaid after.kept cycle ≡ is_unsaid next.kept cycle → IsDoneIn before text after cycle ⊎ ((is_unsaid after.kept cycle ≡ true) × (status ≡ 3))
+  first_done None before next after cycle status (inl alone) grew same = inl (inl alone.settled)
+  first_done None before next after cycle status (inr told) grew same =
+      inl (inr (record { pair = told.pair; changes = told.changes; before = before.said; after = next.said; grew = grows_none before.said; said = told.said; then = grew }))
+  first_done (Some why) before next after cycle status h grew same = by h.0
+    where
+      of : next.kept ≡ before.kept → (b : Bool) → is_unsaid before.kept cycle ≡ b → IsDoneIn before text after cycle ⊎ ((is_unsaid after.kept cycle ≡ true) × (status ≡ 3))
+      of e true unsaid = inr (same ∙ ap (λ d. is_unsaid d cycle) e ∙ unsaid, h.1.1.0)
+      of e false settled = inl (inl settled)
+
+      by : MayAccount before.kept cycle text before.said next.said before.kept next.kept → IsDoneIn before text after cycle ⊎ ((is_unsaid after.kept cycle ≡ true) × (status ≡ 3))
+      by (inl e) = of e (is_unsaid before.kept cycle) refl
+      by (inr put) = inl (inr (record { pair = put.0; changes = put.1.0; before = before.said; after = next.said; grew = grows_none before.said; said = put.1.1.0; then = grew }))
 
   -- an outcome adds the account of its cycle at most
   kept_after : (stop : Option ClosingStop) (before after : Stand) (cycle status : ℕ) → IsOutcomeFor stop before cycle text news after status → KeptAfter before.kept cycle after.kept
@@ -143,19 +156,60 @@ module _ (text : Pair → List ChangeAt → Text) (news : ChangeAt → Bool) whe
       of (inl e) said = subst (λ k. IsAccountSaid k cycle text h.before h.after h.pair h.changes) e said
       of (inr put) said = said_before before.kept text (account_of first put.0 ∷ []) cycle h.before h.after h.pair h.changes (subst (λ k. IsAccountSaid k cycle text h.before h.after h.pair h.changes) put.1 said)
 
-  all_done : (os : List Outcome) (before after : Stand) (first cycle s : ℕ) → AreOutcomes before first text news os after → greatest_from s os < 3 → first ≤ cycle → cycle < first + length os → IsDoneIn before text after cycle
-  all_done [] before after first cycle s h low from below = absurd (omega (arith, from, below))
-  all_done (o ∷ os) before after first cycle s h low from below = by (eq-or-lt_of_le from) (λ later. all_done os o.after after (first + 1) cycle (max s o.status) h.1 low (omega (arith, later)) (omega (arith, below)))
-    where
-      least : max s o.status < 3
-      least = let most = greatest_least (max s o.status) os in omega (arith, most, low)
+  -- later outcomes say nothing of an earlier cycle
+  later_same : (before after : Stand) (n cycle : ℕ) (os : List Outcome) → AreOutcomes before n text news os after → cycle < n → is_unsaid after.kept cycle ≡ is_unsaid before.kept cycle
+  later_same before after n cycle [] h earlier = ap (λ d. is_unsaid d.kept cycle) h
+  later_same before after n cycle (o ∷ os) h earlier =
+      later_same o.after after (n + 1) cycle os h.1 (omega (arith, earlier))
+      ∙ unsaid_same before.kept o.after.kept n cycle (λ e. omega (arith, e, earlier)) (kept_after o.stop before o.after n o.status h.0)
 
-      by : (first ≡ cycle) ⊎ (first < cycle) → (first < cycle → IsDoneIn o.after text after cycle) → IsDoneIn before text after cycle
-      by (inl e) rest = subst (IsDoneIn before text after) e (done_first o.stop before o.after after first o.status h.0 (omega (arith, least)) (outcomes_grow o.after after (first + 1) os h.1))
-      by (inr later) rest = done_later before o.after after first cycle later (kept_after o.stop before o.after first o.status h.0) (outcome_grows o.stop before o.after first o.status h.0) (rest later)
+  -- a cycle was done, or it is unsaid still, and the status says so
+  abbrev DoneOrLeft : Stand → Stand → ℕ → ℕ → Type 0
+  DoneOrLeft before after cycle status = IsDoneIn before text after cycle ⊎ ((is_unsaid after.kept cycle ≡ true) × (3 ≤ status))
+
+  all_done : (os : List Outcome) (before after : Stand) (first cycle s : ℕ) → AreOutcomes before first text news os after → first ≤ cycle → cycle < first + length os → DoneOrLeft before after cycle (greatest_from s os)
+  all_done [] before after first cycle s h from below = absurd (omega (arith, from, below))
+  all_done (o ∷ os) before after first cycle s h from below = by (eq-or-lt_of_le from) (λ later. all_done os o.after after (first + 1) cycle (max s o.status) h.1 (omega (arith, later)) (omega (arith, below)))
+    where
+      here : IsDoneIn before text after first ⊎ ((is_unsaid after.kept first ≡ true) × (o.status ≡ 3)) → DoneOrLeft before after first (greatest_from (max s o.status) os)
+      here (inl done) = inl done
+      here (inr left) = inr (left.0, (let three = left.1 in let most = greatest_least (max s o.status) os in omega (arith, three, most)))
+
+      on : first < cycle → DoneOrLeft o.after after cycle (greatest_from (max s o.status) os) → DoneOrLeft before after cycle (greatest_from (max s o.status) os)
+      on later (inl done) = inl (done_later before o.after after first cycle later (kept_after o.stop before o.after first o.status h.0) (outcome_grows o.stop before o.after first o.status h.0) done)
+      on later (inr left) = inr left
+
+      by : (first ≡ cycle) ⊎ (first < cycle) → (first < cycle → DoneOrLeft o.after after cycle (greatest_from (max s o.status) os)) → DoneOrLeft before after cycle (greatest_from (max s o.status) os)
+      by (inl e) rest =
+          subst (λ c. DoneOrLeft before after c (greatest_from (max s o.status) os)) e
+          (here (first_done o.stop before o.after after first o.status h.0 (outcomes_grow o.after after (first + 1) os h.1) (later_same o.after after (first + 1) first os h.1 (omega arith))))
+      by (inr later) rest = on later (rest later)
+
+  each_done_or_left : (before after : Stand) (first end status : ℕ) → AreSaid before first end text news after status → (cycle : ℕ) → first ≤ cycle → cycle < end → DoneOrLeft before after cycle status
+  each_done_or_left before after first end status h cycle from below =
+      let all = h.all in
+      subst (DoneOrLeft before after cycle) (sym h.greatest) (all_done h.outcomes before after first cycle 0 h.are from (omega (arith, all, from, below)))
 
   pub each_done : (before after : Stand) (first end status : ℕ) → AreSaid before first end text news after status → status < 3 → (cycle : ℕ) → first ≤ cycle → cycle < end → IsDoneIn before text after cycle
-  each_done before after first end status h low cycle from below =
-      let all = h.all in
-      let greatest = h.greatest in
-      all_done h.outcomes before after first cycle 0 h.are (omega (arith, greatest, low)) from (omega (arith, all, from, below))
+  each_done before after first end status h low cycle from below = by (each_done_or_left before after first end status h cycle from below)
+    where
+      by : DoneOrLeft before after cycle status → IsDoneIn before text after cycle
+      by (inl done) = done
+      by (inr left) = let three = left.1 in absurd (omega (arith, three, low))
+
+  -- a search found the first of them, and another one finds what was not said
+  pub done_or_found : (before after : Stand) (first end status cycle : ℕ) → NoneUnsaid before.kept (oldest cycle) first → AreSaid before first end text news after status
+      → (next later : ℕ) → NoneUnsaid after.kept (oldest later) next → (c : ℕ) → oldest cycle ≤ c → oldest later ≤ c → c < end → IsDoneIn before text after c ⊎ ((next ≤ c) × (3 ≤ status))
+  done_or_found before after first end status cycle none h next later found c reach still below = by (upto_or_below first c)
+    where
+      again : is_unsaid after.kept c ≡ true → (next ≤ c) ⊎ (c < next) → next ≤ c
+      again unsaid (inl le) = le
+      again unsaid (inr less) = absurd (false≢true (sym (found c still less) ∙ unsaid))
+
+      of : DoneOrLeft before after c status → IsDoneIn before text after c ⊎ ((next ≤ c) × (3 ≤ status))
+      of (inl done) = inl done
+      of (inr left) = inr (again left.0 (upto_or_below next c), left.1)
+
+      by : (first ≤ c) ⊎ (c < first) → IsDoneIn before text after c ⊎ ((next ≤ c) × (3 ≤ status))
+      by (inl from) = of (each_done_or_left before after first end status h c from below)
+      by (inr less) = inl (inl (none c reach less))

@@ -1,17 +1,18 @@
--- One more cycle that was not said.
-use Rattle.std.proofs.Common.{◌≡◌, ◌⊎◌, inl, inr, ℕ, ◌-◌, ◌<◌, true, sym, ap, ◌∙◌, arith}
+-- One more cycle that was not left unsaid.
+use Rattle.std.proofs.Common.{◌≡◌, ◌⊎◌, inl, inr, ℕ, ◌+◌, ◌<◌, ◌≤◌, false, ap, ◌∙◌, arith}
 use Rattle.std.proofs.Math.Nat.{eq-or-lt_of_le}
-use Rattle.ocfl_accounts.specs.{Kept.{Kept}, Unsaid.{AreUnsaid, is_unsaid}}
+use Rattle.ocfl_accounts.specs.{Kept.{Kept}, Unsaid.{NoneUnsaid, is_unsaid}}
 
-pub none_unsaid : (k : Kept) (cycle : ℕ) → AreUnsaid k cycle cycle
-none_unsaid k cycle = record { within = omega arith; each = λ c from below. absurd (omega (arith, from, below)) }
+pub none_unsaid : (k : Kept) (low : ℕ) → NoneUnsaid k low low
+none_unsaid k low = λ c from below. absurd (omega (arith, from, below))
 
-pub one_more : (k : Kept) (first next cycle : ℕ) → next ≡ first - 1 → 1 < first → is_unsaid k next ≡ true → AreUnsaid k first cycle → AreUnsaid k next cycle
-one_more k first next cycle e more unsaid h = record {
-  within = let w = h.within in omega (arith, w, e);
-  each = λ c from below. by c below (eq-or-lt_of_le from);
-}
+pub one_more : (k : Kept) (low n : ℕ) → is_unsaid k n ≡ false → NoneUnsaid k low n → NoneUnsaid k low (n + 1)
+one_more k low n said h = λ c from below. let upto : c ≤ n = omega (arith, below) in by c from (eq-or-lt_of_le upto)
   where
-    by : (c : ℕ) → c < cycle → (next ≡ c) ⊎ (next < c) → is_unsaid k c ≡ true
-    by c below (inl same) = ap (is_unsaid k) (sym same) ∙ unsaid
-    by c below (inr later) = h.each c (omega (arith, later, e, more)) below
+    by : (c : ℕ) → low ≤ c → (c ≡ n) ⊎ (c < n) → is_unsaid k c ≡ false
+    by c from (inl same) = ap (is_unsaid k) same ∙ said
+    by c from (inr earlier) = h c from earlier
+
+-- each of those that were looked at was said
+pub all_said : (k : Kept) (low n high : ℕ) → (n ≤ high) ⊎ (n ≡ low) → high ≤ n → NoneUnsaid k low n → NoneUnsaid k low high
+all_said k low n high bound over h = λ c from below. h c from (omega (arith, below, over))

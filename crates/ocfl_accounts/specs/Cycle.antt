@@ -15,6 +15,10 @@ pub data Sight : Type 0 where
   there : Cycle → Sight
   away : Bool → Sight
 
+abbrev pub is_there : Sight → Bool
+is_there (there c) = true
+is_there (away lost) = false
+
 -- its report lost nothing and, if only a whole one will do, left nothing out
 abbrev pub is_fit_cycle : Bool → Cycle → Bool
 is_fit_cycle whole c = not c.lost && (c.whole || not whole)

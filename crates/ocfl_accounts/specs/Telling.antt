@@ -1,16 +1,16 @@
 -- What it is to say what a closed cycle found.
-use Rattle.std.specs.Prelude.{◌≡◌, ◌⊎◌, ℕ, ◌+◌, ◌-◌, max, List, [], ◌∷◌, length, Bool, true, false, if◌then◌else◌, Option, None, Some}
+use Rattle.std.specs.Prelude.{◌≡◌, ◌⊎◌, ℕ, ◌+◌, ◌-◌, max, List, [], ◌∷◌, length, Bool, false, if◌then◌else◌, Option, None, Some}
 use Rattle.std.specs.List.{list_any}
 use Rattle.ocfl_tree.specs.Place.{Text}
 use Rattle.ocfl_compare.specs.declared.change.ChangeAt.{ChangeAt}
-use Rattle.ocfl_accounts.specs.Cycle.{there, away}
+use Rattle.ocfl_accounts.specs.{Cycle.{there}, Unsaid.{is_unsaid}}
 use Rattle.ocfl_accounts.specs.Kept.{Kept, Account, has_account, with_account}
 use Rattle.ocfl_accounts.specs.{Crash.{Step}, Said.{Said, HasSaid, Grows}, Pairs.{IsPair, waits, status_of}, Changes.{AreChanges}}
 use Rattle.ocfl_accounts.specs.{Causes.{IsReason}, declared.{closings.ClosingStop.{ClosingStop}, pair.Pair.{Pair}}}
 
 -- there is nothing to say of a cycle: its account is there, or its report is not
 abbrev pub IsSettled : Kept → ℕ → Type 0
-IsSettled k cycle = (has_account k cycle ≡ true) ⊎ ((lost : Bool) × (k.sights cycle ≡ away lost))
+IsSettled k cycle = is_unsaid k cycle ≡ false
 
 -- the account of the cycle is that of the comparison with the right reports, and its text was said
 pub record IsAccountSaid (k : Kept) (cycle : ℕ) (text : Pair → List ChangeAt → Text) (old new : Said) (pair : Pair) (changes : List ChangeAt) : Type 0 where

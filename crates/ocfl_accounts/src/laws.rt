@@ -3,7 +3,7 @@ ghost use Rattle.std.specs.Prelude.{◌≡◌, ◌⊎◌, ◌<◌, ◌≤◌, �
 ghost use Rattle.ocfl_tree.specs.Ascending.{IsAmong};
 ghost use Rattle.ocfl_accounts.specs.Kept.{Account, Kept};
 ghost use Rattle.ocfl_accounts.specs.Calls.{AreCalls, Call, IsDoneIn, WasSaid, left_by};
-ghost use Rattle.ocfl_accounts.specs.Telling.{AreSaid, Stand};
+ghost use Rattle.ocfl_accounts.specs.{Telling.{AreSaid, Stand}, Unsaid.{NoneUnsaid, oldest}};
 
 use crate::closings::Closings;
 
@@ -25,4 +25,16 @@ pub fn a_status_below_3_says_that_all_is_said<C: Closings>()
     ensures { (before after : Stand) (first end status : ℕ)
         → AreSaid before first end C.text C.news after status → status < 3
         → (cycle : ℕ) → first ≤ cycle → cycle < end → IsDoneIn before C.text after cycle }
+{}
+
+/// After a search for the first of 1,000 cycles that was not said, also one that failed, and a call
+/// that says the cycles from that one on: each of them was said in the call, or had its account
+/// before, or no report; or the status is 3 at least, and the next search finds it, or one below it.
+pub fn each_cycle_is_said_or_found_again<C: Closings>()
+    ensures { (before after : Stand) (first end status cycle : ℕ)
+        → NoneUnsaid before.kept (oldest cycle) first
+        → AreSaid before first end C.text C.news after status
+        → (next later : ℕ) → NoneUnsaid after.kept (oldest later) next
+        → (c : ℕ) → oldest cycle ≤ c → oldest later ≤ c → c < end
+        → IsDoneIn before C.text after c ⊎ ((next ≤ c) × (3 ≤ status)) }
 {}

@@ -14,10 +14,11 @@
 //!   were, or with that one, once its text was said (`say_cycle`); over several cycles with those of
 //!   some of them, in order (`say_cycles`).
 //! - Whatever calls there were, each ended or crashed at any moment: each account that is there was
-//!   there at first, or had its text said in one of them; and a call whose status is not 3 has said each
-//!   of its cycles that has a report and had no account (`laws`).
-//! - Of those before a cycle, one after the other, `find_unsaid` finds the first that was not said, of
-//!   1,000.
+//!   there at first, or had its text said in one of them; a call whose status is not 3 has said each of
+//!   its cycles that has a report and had no account; and what it has not said the next search finds
+//!   (`laws`).
+//! - Of the 1,000 cycles before one `find_unsaid` finds the first that was not said, though later ones
+//!   were.
 //! - That closed reports failed is answered only if a call of them did, and that the output failed only
 //!   if it did.
 //! - Its status is 3 if the report is not whole or a report is not there with which it is to be

@@ -1,7 +1,8 @@
 //! Which closed cycles were not said.
-ghost use Rattle.std.specs.Prelude.{◌≡◌, IsTrue, IfOk, OnOk};
+ghost use Rattle.std.specs.Prelude.{◌≡◌, ◌≤◌, IsTrue, IfOk, OnOk};
 ghost use Rattle.ocfl_accounts.specs.{Causes.{HasCause}, Crash.{Passes, Same}, Sights.{sight_of}};
-ghost use Rattle.ocfl_accounts.specs.Unsaid.{AreUnsaid, IsFirst, is_there as is_there_by, is_unsaid as is_unsaid_by};
+ghost use Rattle.ocfl_accounts.specs.Cycle.{is_there as is_there_by};
+ghost use Rattle.ocfl_accounts.specs.Unsaid.{IsFound, NoneUnsaid, is_unsaid as is_unsaid_by, oldest};
 
 use crate::closed::Look;
 use crate::closings::{ClosingStop, Closings};
@@ -9,26 +10,39 @@ use crate::closings::{ClosingStop, Closings};
 /// How many cycles back at most one is looked for that was not said.
 const MOST_UNSAID: u64 = 1_000;
 
-/// Takes a number of a cycle down to the first of those before it, one after the other, whose report
-/// is there and that were not said, of 1,000. Of those that it came to before an error, all are so.
-#[tactic(auto, using(crate::proofs::Causes::cause_on, crate::proofs::Passing::nothing_passes, crate::proofs::Passing::two_same, crate::proofs::UnsaidCycles::none_unsaid, crate::proofs::UnsaidCycles::one_more))]
+/// Takes a number of a cycle down to the first of the 1,000 before it whose report is there and that
+/// was not said, or leaves it as it is if there is none. If a call fails, it is the cycle that was
+/// looked at then: none before it is unsaid.
+#[tactic(auto, using(crate::proofs::Causes::cause_on, crate::proofs::Passing::nothing_passes, crate::proofs::Passing::two_same, crate::proofs::UnsaidCycles::none_unsaid, crate::proofs::UnsaidCycles::one_more, crate::proofs::UnsaidCycles::all_said))]
 pub fn find_unsaid<C: Closings>(closings: &mut C, first: &mut u64) -> Result<(), ClosingStop>
-    ensures are { IsTrue C.told → AreUnsaid (C.seen closings.old) first.new first.old }
-    ensures first { IsTrue C.told
-        → OnOk result (IsFirst (C.seen closings.old) first.new first.old) }
+    ensures below { IsTrue C.told
+        → NoneUnsaid (C.seen closings.old) (oldest first.old) first.new }
+    ensures within { first.new ≤ first.old }
+    ensures found { IsTrue C.told
+        → OnOk result (IsFound (C.seen closings.old) first.new first.old) }
     ensures seen { IsTrue C.told → C.seen closings.new ≡ C.seen closings.old }
     ensures crash { IsTrue C.told
         → Passes C.may_leave C.moment C.left_since Same closings.old closings.new }
     ensures cause { IsTrue C.told
         → HasCause (C.faults closings.old) (C.faults closings.new) result }
 {
-    for _ in 0..MOST_UNSAID {
-        if *first < 2 || !is_unsaid(closings, *first - 1)? {
+    let end = *first;
+    let from = oldest_of(end);
+    for cycle in from..end {
+        *first = cycle;
+        if is_unsaid(closings, cycle)? {
             return Ok(());
         }
-        *first -= 1;
     }
+    *first = end;
     Ok(())
+}
+
+/// The first cycle that is looked at.
+fn oldest_of(cycle: u64) -> u64
+    ensures { result ≡ oldest cycle }
+{
+    cycle.saturating_sub(MOST_UNSAID).max(1)
 }
 
 /// Whether the report of a cycle is there, and its account is not.

@@ -358,9 +358,9 @@ impl<'a, R> Closings<'a, '_, R, SystemDisk<&'a R>>
 where
     R: Files<File = File> + AllocGlobal + Clock + Eprint,
 {
-    /// Says what the cycles found whose closings were not said: the last one before the night, and
-    /// those before it, one after the other, and the one that the night closed. Says why a closing
-    /// was not said. Gives the greatest status. Each number is 0 if there is no such cycle.
+    /// Says what the cycles found whose closings were not said, from the first on of the 1,000 before
+    /// the last one before the night, to the one that the night closed. Says why a closing was not
+    /// said. Gives the greatest status. Each number is 0 if there is no such cycle.
     pub fn tell<W: Write>(&mut self, before: u64, closed: u64, out: &mut W) -> u8 {
         let told = Told {
             names: self.names,
@@ -379,6 +379,7 @@ where
             failure: None,
         };
         let mut first = before;
+        // A cycle that could not be looked at is the first: then it is said, or why it is not.
         let _ = find_unsaid(&mut telling, &mut first);
         let end = before.max(closed).saturating_add(1);
         let alloc = self.rt.alloc();

@@ -193,16 +193,15 @@ fn those_before_a_cycle_that_were_not_said_are_found(rt: HostRuntime) -> Result<
         Kept::Whole,
     ];
     let mut cycles = cycles_of(alloc, kept)?;
-    // The report of cycle 3 is not there.
     for (cycle, wanted) in [
         (0, 0),
         (1, 1),
         (2, 1),
-        (3, 1),
-        (4, 4),
-        (5, 4),
-        (6, 4),
-        (9, 9),
+        (4, 1),
+        (9, 1),
+        (1_001, 1),
+        (1_005, 5),
+        (1_006, 1_006),
     ] {
         let mut first = cycle;
         assert_eq!(rt; find_unsaid(&mut cycles, &mut first), Ok(()));
@@ -214,14 +213,72 @@ fn those_before_a_cycle_that_were_not_said_are_found(rt: HostRuntime) -> Result<
     let mut first = 3;
     assert_eq!(rt; find_unsaid(&mut cycles, &mut first), Ok(()));
     assert_eq!(rt; first, 2);
-    // A failure ends it where it stands.
-    cycles.fail_call(3, false);
+    // The report of cycle 3 is not there.
+    assert_eq!(rt; say_cycle(alloc, &mut cycles, 2, &mut out), Ok(1));
+    for (cycle, wanted) in [(3, 3), (4, 4), (9, 4)] {
+        let mut first = cycle;
+        assert_eq!(rt; find_unsaid(&mut cycles, &mut first), Ok(()));
+        assert_eq!(rt; first, wanted, "{cycle}");
+    }
+    // A failure ends it at the cycle that it looked at: two accounts, and of cycle 3 no report.
+    cycles.fail_call(4, false);
     let mut first = 6;
     assert_eq!(rt;
         find_unsaid(&mut cycles, &mut first),
         Err(ClosingStop::Failed)
     );
-    assert_eq!(rt; first, 5);
+    assert_eq!(rt; first, 3);
+    Ok(())
+}
+
+/// What a night says that closed a cycle, after this one.
+fn say_night(alloc: Global, cycles: &mut MemClosings, before: u64, out: &mut MemOutput) -> u8 {
+    let mut first = before;
+    let _ = find_unsaid(cycles, &mut first);
+    say_cycles(alloc, cycles, first, before + 2, out)
+}
+
+#[test]
+fn a_closing_that_failed_is_said_later(rt: HostRuntime) -> Result<(), Fail> {
+    let alloc = rt.alloc();
+    let mut cycles = cycles_of(alloc, [Kept::Whole; 7].as_slice())?;
+    let mut out = MemOutput::new(alloc);
+    assert_eq!(rt; say_cycles(alloc, &mut cycles, 1, 4, &mut out), 1);
+    // Cycle 4 fails in three nights, of which two close and say others.
+    for before in [3, 4, 5] {
+        out.fail_call(1, 0);
+        assert_eq!(rt;
+            say_night(alloc, &mut cycles, before, &mut out),
+            3,
+            "{before}"
+        );
+    }
+    assert_eq!(rt;
+        put_in(alloc, &cycles)?.as_slice(),
+        [1, 2, 3, 5, 6].as_slice()
+    );
+    assert_eq!(rt; say_night(alloc, &mut cycles, 6, &mut out), 1);
+    assert_eq!(rt;
+        put_in(alloc, &cycles)?.as_slice(),
+        [1, 2, 3, 5, 6, 4, 7].as_slice()
+    );
+    assert_eq!(rt; &out.text()[10..], [4, 1, 7, 1].as_slice());
+    Ok(())
+}
+
+#[test]
+fn a_search_that_fails_costs_no_closing(rt: HostRuntime) -> Result<(), Fail> {
+    let alloc = rt.alloc();
+    for number in 1..=CALLS {
+        let mut cycles = cycles_of(alloc, [Kept::Whole; 3].as_slice())?;
+        let mut out = MemOutput::new(alloc);
+        assert_eq!(rt; say_cycle(alloc, &mut cycles, 2, &mut out), Ok(1));
+        cycles.fail_call(number, false);
+        let _ = say_night(alloc, &mut cycles, 3, &mut out);
+        cycles.fail_none();
+        let _ = say_night(alloc, &mut cycles, 4, &mut out);
+        assert_eq!(rt; cycles.accounts().len(), 3, "{number}");
+    }
     Ok(())
 }
 

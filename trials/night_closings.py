@@ -22,6 +22,7 @@ Tried, and what comes of it:
   is put; once it is back, what is gone is said. An older one is there: what is gone since that is
   said, with what is not known.
 - A closing that fails while two further cycles are closed and said: once it can be said, it is.
+- Cycles of which none was whole, the oldest report of them compressed: nothing is not known.
 - Cycles that left a place out, one after the other: each is compared with the one before, outside
   of what one of the two left out; what was there is compared once it can be read. A night that is
   killed then: the place is named, and counted.
@@ -586,6 +587,22 @@ def left_out_at_first(folder: str) -> None:
     check("no more", nights.night(), (0, "", ""))
 
 
+def never_whole(folder: str) -> None:
+    """Each cycle left out another place: the compressed report of the first was no whole one."""
+    root = common.make_root(folder + "/root", {place: FILES for place in PLACES})
+    nights = Nights(folder + "/state", root)
+    for place in "klm":
+        path = leave_out(nights, place)
+        if place == "m":
+            compressed = nights.path("reports/incomplete-000001.gz")
+            os.rename(compressed[:-3], compressed)
+            remove_object(nights)
+        status, out, _ = nights.first() if place == "k" else nights.night()
+        shutil.rmtree(os.fsencode(path))
+    check("all is known", (status, nights.closed()[-1], "is not in" in out, OF_F in out),
+          (3, "incomplete-000003", False, True))
+
+
 def killed_once_left_out(folder: str) -> None:
     """A night was killed once it had left a place out: the next ones name the place, and its
     closing counts it."""
@@ -770,7 +787,7 @@ PARTS = [nothing_is_gone, every, gone, new_and_repaired, no_line_twice, many_new
          objects_first, known_findings, many_known, each_finding_once, odd_names_gone, expected,
          lists_that_fail, disturbed_nights, after_an_incomplete_one, lost_lines_before,
          no_report_before, not_compared_for_long, older_report, no_report_there, fails_for_long,
-         place_left_out, left_out_at_first, killed_once_left_out, why_unread,
+         place_left_out, left_out_at_first, never_whole, killed_once_left_out, why_unread,
          no_object_any_more, back_later, each_repair, changed_once_closed]
 
 

@@ -10,27 +10,31 @@ pub record Cycle : Type 0 where
   pub lost : Bool
   pub left : List Place
 
--- what is there of a closed cycle: its report; or no report, and whether lines of it were lost
+-- what is there of a closed cycle: its report; or no report, and of that whether it was whole, and
+-- whether lines of it were lost, as far as is known
 pub data Sight : Type 0 where
   there : Cycle → Sight
-  away : Bool → Sight
+  away : Bool → Bool → Sight
 
 abbrev pub is_there : Sight → Bool
 is_there (there c) = true
-is_there (away lost) = false
+is_there (away whole lost) = false
 
--- its report lost nothing and, if only a whole one will do, left nothing out
+-- a report lost nothing and, if only a whole one will do, is whole
+abbrev pub fits : Bool → Bool → Bool → Bool
+fits only_whole whole lost = not lost && (whole || not only_whole)
+
 abbrev pub is_fit_cycle : Bool → Cycle → Bool
-is_fit_cycle whole c = not c.lost && (c.whole || not whole)
+is_fit_cycle only_whole c = fits only_whole c.whole c.lost
 
 abbrev pub is_fit : Bool → Sight → Bool
-is_fit whole (there c) = is_fit_cycle whole c
-is_fit whole (away lost) = false
+is_fit only_whole (there c) = is_fit_cycle only_whole c
+is_fit only_whole (away whole lost) = false
 
 -- it could be compared with if its report were there
-abbrev pub is_missing : Sight → Bool
-is_missing (there c) = false
-is_missing (away lost) = not lost
+abbrev pub is_missing : Bool → Sight → Bool
+is_missing only_whole (there c) = false
+is_missing only_whole (away whole lost) = fits only_whole whole lost
 
 -- a report is looked for in the 999 cycles before one
 abbrev pub lowest : ℕ → ℕ
@@ -54,9 +58,9 @@ abbrev pub number_or : ℕ → Option Cycle → ℕ
 number_or low None = low
 number_or low (Some c) = c.cycle
 
--- the last cycle before one that is fit to be compared with, and the last one between the two whose
--- report is missing
+-- the last cycle before one that is fit to be compared with, and the last one between the two that
+-- would be if its report were there
 pub record IsEarlier (sights : ℕ → Sight) (whole : Bool) (cycle : ℕ) (found : Option Cycle) (missing : Option ℕ) : Type 0 where
   pub last : IsLastOf sights (is_fit whole) (lowest cycle) cycle (number_of found)
   pub is : IsThere sights found
-  pub lacks : IsLastOf sights is_missing (number_or (lowest cycle) found) cycle missing
+  pub lacks : IsLastOf sights (is_missing whole) (number_or (lowest cycle) found) cycle missing

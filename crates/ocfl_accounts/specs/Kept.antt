@@ -1,5 +1,5 @@
 -- What is kept of closed cycles.
-use Rattle.std.specs.Prelude.{ℕ, ◌==◌, List, [], ◌∷◌, ◌++◌, Bool, false, Option, None}
+use Rattle.std.specs.Prelude.{ℕ, ◌==◌, List, [], ◌∷◌, ◌++◌, Bool, true, false, Option, None}
 use Rattle.std.specs.List.{list_any}
 use Rattle.ocfl_tree.specs.Place.{Text, Place}
 use Rattle.ocfl_compare.specs.declared.change.ChangeAt.{ChangeAt}
@@ -29,4 +29,4 @@ with_account a k = with_accounts (a ∷ []) k
 
 -- of a folder of which nothing is known
 abbrev pub nothing_kept : Kept
-nothing_kept = record { sights = λ _. away false; reports = λ _. []; listed = None; accounts = [] }
+nothing_kept = record { sights = λ _. away true false; reports = λ _. []; listed = None; accounts = [] }

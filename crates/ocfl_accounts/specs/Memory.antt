@@ -17,11 +17,11 @@ abbrev pub held_of : List Held → ℕ → Option Held
 held_of held cycle = find (λ h. h.closed.cycle == cycle) held
 
 abbrev pub sight_held : Cycle → Option Text → Sight
-sight_held c None = away c.lost
+sight_held c None = away c.whole c.lost
 sight_held c (Some bytes) = there c
 
 abbrev pub sight_in : Option Held → Sight
-sight_in None = away false
+sight_in None = away true false
 sight_in (Some h) = sight_held h.closed h.report
 
 abbrev pub bytes_or_none : Option Text → Text

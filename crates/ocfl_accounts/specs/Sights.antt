@@ -6,11 +6,11 @@ use Rattle.ocfl_accounts.specs.declared.closed.Look.TheVariants.{There, Away}
 
 abbrev pub sight_of : Look → Sight
 sight_of (There c) = there c
-sight_of (Away lost) = away lost
+sight_of (Away whole lost) = away whole lost
 
 abbrev pub IsOf : ℕ → Look → Type 0
 IsOf cycle (There c) = c.cycle ≡ cycle
-IsOf cycle (Away lost) = ⊤
+IsOf cycle (Away whole lost) = ⊤
 
 -- a look shows what is there, which is of this cycle
 abbrev pub IsSight : ℕ → Sight → Look → Type 0

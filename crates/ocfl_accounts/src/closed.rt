@@ -1,6 +1,6 @@
 //! Closed cycles.
 ghost use Rattle.std.specs.Prelude.{◌≡◌};
-ghost use Rattle.ocfl_accounts.specs.Cycle.{is_fit_cycle};
+ghost use Rattle.ocfl_accounts.specs.Cycle.{fits as fits_by, is_fit_cycle};
 
 use ocfl_tree::Place;
 use std::marker::Model;
@@ -84,13 +84,19 @@ impl ClosedCycle {
         self.left.as_slice()
     }
 
-    /// Whether a cycle can be compared with it: its report lost nothing and, with `is_whole`, left
-    /// nothing out.
-    pub(crate) fn is_fit(&self, is_whole: bool) -> bool
-        ensures { result ≡ is_fit_cycle is_whole self.now }
+    /// Whether a cycle can be compared with it, with `only_whole` with a whole one alone.
+    pub(crate) fn is_fit(&self, only_whole: bool) -> bool
+        ensures { result ≡ is_fit_cycle only_whole self.now }
     {
-        !self.lost && (self.whole || !is_whole)
+        fits(only_whole, self.whole, self.lost)
     }
+}
+
+/// Whether a cycle can be compared with a report: that lost nothing and, with `only_whole`, is whole.
+pub(crate) fn fits(only_whole: bool, whole: bool, lost: bool) -> bool
+    ensures { result ≡ fits_by only_whole whole lost }
+{
+    !lost && (whole || !only_whole)
 }
 
 /// What is there of a closed cycle.
@@ -100,7 +106,9 @@ pub enum Look {
     There(ClosedCycle),
     /// No report.
     Away {
-        /// Whether lines of it were lost before it was closed.
+        /// Whether it was whole. It counts as whole where that is not known.
+        whole: bool,
+        /// Whether lines of it were lost before it was closed, as far as that is known.
         lost: bool,
     },
 }

@@ -1,9 +1,9 @@
 //! What a closed cycle can be compared with.
 ghost use Rattle.std.specs.Prelude.{◌≡◌, IsTrue, IfOk, if◌then◌else◌, Some, None};
 ghost use Rattle.ocfl_accounts.specs.{Causes.{HasCause}, Crash.{Passes, Same}};
-ghost use Rattle.ocfl_accounts.specs.{Cycle.{IsEarlier, is_missing, lowest}, Sights.{sight_of}, Search.{fit_of, missing_with}};
+ghost use Rattle.ocfl_accounts.specs.{Cycle.{IsEarlier, is_missing as is_missing_by, lowest}, Sights.{sight_of}, Search.{fit_of, missing_with}};
 
-use crate::closed::{ClosedCycle, Look};
+use crate::closed::{ClosedCycle, Look, fits};
 use crate::closings::{ClosingStop, Closings};
 
 /// How many cycles back a report is looked for at most, and one more.
@@ -14,7 +14,7 @@ const MOST_BACK: u64 = 1_000;
 pub struct Earlier {
     /// The last cycle before it whose report is there and lost nothing.
     pub found: Option<ClosedCycle>,
-    /// The last cycle between that one and this one whose report is not there.
+    /// The last cycle between that one and this one whose report is not there, and would be found.
     pub missing: Option<u64>,
 }
 
@@ -40,7 +40,7 @@ pub fn find_earlier<C: Closings>(
     while next > low {
         next -= 1;
         let look = closings.look(next)?;
-        missing = with_missing(missing, next, &look);
+        missing = with_missing(is_whole, missing, next, &look);
         if let Some(found) = take_fit(look, is_whole) {
             return Ok(Earlier {
                 found: Some(found),
@@ -62,12 +62,23 @@ fn lowest_of(cycle: u64) -> u64
 }
 
 /// The last cycle whose report is missing, if this one comes before those that were looked at.
-fn with_missing(missing: Option<u64>, cycle: u64, look: &Look) -> Option<u64>
-    ensures { result ≡ missing_with missing cycle (sight_of look.now) }
+fn with_missing(is_whole: bool, missing: Option<u64>, cycle: u64, look: &Look) -> Option<u64>
+    ensures { result ≡ missing_with is_whole missing cycle (sight_of look.now) }
+{
+    if missing.is_none() && is_missing(is_whole, look) {
+        Some(cycle)
+    } else {
+        missing
+    }
+}
+
+/// Whether a report is not there, and could be compared with if it were.
+fn is_missing(is_whole: bool, look: &Look) -> bool
+    ensures { result ≡ is_missing_by is_whole (sight_of look.now) }
 {
     match look {
-        Look::Away { lost: false } => missing.or(Some(cycle)),
-        _ => missing,
+        Look::There(_) => false,
+        Look::Away { whole, lost } => fits(is_whole, *whole, *lost),
     }
 }
 
@@ -83,6 +94,6 @@ fn take_fit(look: Look, is_whole: bool) -> Option<ClosedCycle>
                 None
             }
         }
-        Look::Away { lost: _ } => None,
+        Look::Away { .. } => None,
     }
 }

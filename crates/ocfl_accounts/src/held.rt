@@ -92,6 +92,7 @@ fn look_at(alloc: Global, one: &MemCycle) -> Result<Look, AllocError>
 {
     if one.report.is_none() {
         return Ok(Look::Away {
+            whole: one.closed.is_whole(),
             lost: one.closed.is_lost(),
         });
     }
@@ -105,7 +106,10 @@ pub(crate) fn look_in(alloc: Global, cycles: &[MemCycle], cycle: u64) -> Result<
 {
     match cycle_in(cycles, cycle) {
         Some(one) => look_at(alloc, one),
-        None => Ok(Look::Away { lost: false }),
+        None => Ok(Look::Away {
+            whole: true,
+            lost: false,
+        }),
     }
 }
 

@@ -8,7 +8,7 @@
 //! - A cycle is compared with the last one before it whose report is there and lost nothing
 //!   (`find_earlier`), outside of what either left out, and in what the one before alone left out
 //!   with the last whole one (`find_pair`). A report that is not there is named if it is later than
-//!   the one that was found.
+//!   the one that was found, and would be found if it were there.
 //! - What a cycle found is said once: only if its account is not there, and its account, which is that
 //!   of the comparison, is put only after its text was committed. A crash leaves the accounts as they
 //!   were, or with that one, once its text was said (`say_cycle`); over several cycles with those of

@@ -17,13 +17,13 @@ pub struct Pair {
     pub closed: ClosedCycle,
     /// The last cycle before it that lost nothing, unless this one lost lines.
     pub before: Option<ClosedCycle>,
-    /// The last cycle between the two whose report is not there.
+    /// The last cycle between the two whose report is not there, and which lost nothing.
     pub missing: Option<u64>,
     /// The places that the one before alone left out.
     pub again: Vec<Place>,
     /// The last whole cycle before that, for these places.
     pub whole: Option<ClosedCycle>,
-    /// The last cycle between those whose report is not there.
+    /// The last cycle between those whose report is not there, and which was whole.
     pub whole_missing: Option<u64>,
 }
 

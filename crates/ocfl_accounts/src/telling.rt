@@ -42,7 +42,7 @@ pub fn say_cycle<C: Closings, S: Say>(
     }
     match closings.look(cycle)? {
         Look::There(now) => say_closed(alloc, closings, now, out),
-        Look::Away { lost: _ } => Ok(0),
+        Look::Away { .. } => Ok(0),
     }
 }
 

@@ -1,6 +1,7 @@
 //! What is known of closed cycles.
 
-use crate::kept::{is_as_closed, open_report, read_kept};
+use crate::kept::{is_as_closed, is_packed_incomplete, open_report, read_kept};
+use crate::room::Room;
 use crate::state_dir::Folder;
 use ocfl_accounts::{ClosedCycle, Look};
 use ocfl_files::failing::Failure;
@@ -121,30 +122,34 @@ fn closed_by<F: Folder>(
     Ok(ClosedCycle::new(cycle, whole, lost, left))
 }
 
-/// Whether the checkpoint with which a cycle was closed says that lines of its report were lost.
-fn is_known_lost<F: Folder>(
-    alloc: Global,
-    folder: &mut F,
-    state: &str,
-    cycle: u64,
-) -> Result<bool, Failure> {
-    match read_kept(alloc, folder, state, cycle)? {
-        Some(Some(checkpoint)) => Ok(!checkpoint.whole),
-        _ => Ok(false),
+/// Whether a report that is not there was whole, and whether lines of it were lost, by the checkpoint
+/// with which it was closed, and by the name of its compressed file. Where nothing says so it counts
+/// as a whole one; one that was closed as incomplete, though its checkpoint had all of it, lost lines.
+fn away_by(kept: &Option<Option<Checkpoint>>, is_incomplete: bool) -> Look {
+    let (had_all, lost) = match kept {
+        Some(Some(checkpoint)) => (
+            checkpoint.whole && checkpoint.left.is_empty(),
+            !checkpoint.whole,
+        ),
+        _ => (true, false),
+    };
+    Look::Away {
+        whole: had_all && !is_incomplete,
+        lost: lost || (had_all && is_incomplete),
     }
 }
 
 /// What is there of a closed cycle.
-pub(crate) fn look_at<F: Folder>(
-    alloc: Global,
+pub(crate) fn look_at<R: Room, F: Folder>(
+    rt: &R,
     folder: &mut F,
     state: &str,
     cycle: u64,
 ) -> Result<Look, Failure> {
-    match open_report(alloc, folder, state, cycle)? {
-        Some(report) => Ok(Look::There(closed_by(alloc, folder, state, cycle, report.whole)?)),
-        None => Ok(Look::Away {
-            lost: is_known_lost(alloc, folder, state, cycle)?,
-        }),
+    let alloc = rt.global();
+    if let Some(report) = open_report(alloc, folder, state, cycle)? {
+        return Ok(Look::There(closed_by(alloc, folder, state, cycle, report.whole)?));
     }
+    let kept = read_kept(alloc, folder, state, cycle)?;
+    Ok(away_by(&kept, is_packed_incomplete(rt, state, cycle)?))
 }

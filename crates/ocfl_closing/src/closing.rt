@@ -329,7 +329,7 @@ impl<R: Room + Clock + Eprint, F: Folder> ocfl_accounts::Closings for Telling<'_
     }
 
     fn look(&mut self, cycle: u64) -> Result<Look, ClosingStop> {
-        let look = look_at(self.rt.global(), self.folder, self.told.state, cycle);
+        let look = look_at(self.rt, self.folder, self.told.state, cycle);
         self.keep(look)
     }
 

@@ -147,6 +147,16 @@ pub(crate) fn is_told<R: Room>(rt: &R, state: &str, cycle: u64) -> Result<bool, 
     Ok(rt.has(list.as_str()))
 }
 
+/// Whether the compressed report of a cycle that was closed as incomplete is there.
+pub(crate) fn is_packed_incomplete<R: Room>(
+    rt: &R,
+    state: &str,
+    cycle: u64,
+) -> Result<bool, AllocError> {
+    let path = format!(in rt.global(); "{state}/{}.gz", StateFile::Incomplete(cycle))?;
+    Ok(rt.has(path.as_str()))
+}
+
 /// Whether the closed report of a cycle, read to its end with this mark, is as it was when it was
 /// closed. One without a kept checkpoint counts so.
 pub(crate) fn is_marked_as_closed<F: Folder>(

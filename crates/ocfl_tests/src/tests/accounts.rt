@@ -9,8 +9,8 @@ use ocfl_tree::Place;
 use std::alloc::Global;
 use std::test::Fail;
 
-/// What is there of a cycle: a whole report, one that lost lines, one that left a place out, none,
-/// or none of a report that lost lines.
+/// What is there of a cycle: a whole report, one that lost lines, one that left a place out; or none,
+/// of a whole report, of one that lost lines, or of one that left a place out.
 #[derive(Clone, Copy, PartialEq, Eq)]
 enum Kept {
     Whole,
@@ -18,11 +18,16 @@ enum Kept {
     Left(&'static str),
     Away,
     AwayLost,
+    AwayLeft,
 }
 
 impl Kept {
     fn is_there(&self) -> bool {
-        !matches!(self, Kept::Away | Kept::AwayLost)
+        matches!(self, Kept::Whole | Kept::Lost | Kept::Left(_))
+    }
+
+    fn is_whole(&self) -> bool {
+        matches!(self, Kept::Whole | Kept::Away)
     }
 }
 
@@ -34,7 +39,7 @@ fn cycle_of(alloc: Global, cycle: u64, kept: Kept, lines: &str) -> Result<MemCyc
     }
     let is_lost = matches!(kept, Kept::Lost | Kept::AwayLost);
     Ok(MemCycle {
-        closed: ClosedCycle::new(cycle, kept == Kept::Whole, is_lost, left),
+        closed: ClosedCycle::new(cycle, kept.is_whole(), is_lost, left),
         report: if kept.is_there() {
             Some(Vec::from_slice(alloc, lines.as_bytes())?)
         } else {
@@ -65,11 +70,17 @@ fn put_in(alloc: Global, closings: &MemClosings) -> Result<Vec<u64>, Fail> {
 
 /// The cycles that one is compared with: the last one that lost nothing, and the last one whole; and
 /// the last one that is missing before each.
-const EARLIER: [(&[Kept], u64, [Option<u64>; 4]); 7] = [
+const EARLIER: [(&[Kept], u64, [Option<u64>; 4]); 9] = [
     (&[], 1, [None, None, None, None]),
     (&[Kept::Whole], 2, [Some(1), None, Some(1), None]),
     (&[Kept::Away], 2, [None, Some(1), None, Some(1)]),
     (&[Kept::AwayLost], 2, [None, None, None, None]),
+    (&[Kept::AwayLeft], 2, [None, Some(1), None, None]),
+    (
+        &[Kept::Away, Kept::AwayLeft, Kept::Left("p")],
+        4,
+        [Some(3), None, None, Some(1)],
+    ),
     (
         &[Kept::Whole, Kept::Left("p"), Kept::Lost],
         4,
@@ -135,6 +146,21 @@ fn places_left_out_before_are_compared_with_the_last_whole_report(
     let lost = ClosedCycle::new(4, false, true, Vec::new(alloc));
     let pair = find_pair(alloc, &mut cycles, lost)?;
     assert_eq!(rt; (pair.before.is_none(), pair.waits()), (true, false));
+    Ok(())
+}
+
+#[test]
+fn no_whole_report_is_missed_if_none_was_whole(rt: HostRuntime) -> Result<(), Fail> {
+    let alloc = rt.alloc();
+    for (oldest, is_missed) in [(Kept::AwayLeft, false), (Kept::Away, true)] {
+        let mut cycles = cycles_of(alloc, &[oldest, Kept::Left("q")])?;
+        let now = ClosedCycle::new(3, true, false, Vec::new(alloc));
+        let pair = find_pair(alloc, &mut cycles, now)?;
+        assert_eq!(rt; pair.before.as_ref().map(|before| before.cycle()), Some(2));
+        assert_eq!(rt; pair.again.as_slice(), [place_of(alloc, "q")?].as_slice());
+        assert_eq!(rt; pair.lacks(), is_missed);
+        assert_eq!(rt; status_of(&pair, false), if is_missed { 3 } else { 0 });
+    }
     Ok(())
 }
 

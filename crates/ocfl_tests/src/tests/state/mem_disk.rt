@@ -1,6 +1,6 @@
 //! A state folder on a disk in memory: what its calls do, and what it holds after each that fails.
 use crate::tests::common::Runtime;
-use ocfl_disk::FsState;
+use ocfl_disk::{Disk, FsState, Reason, StateFile};
 use ocfl_mem_disk::MemDisk;
 use ocfl_state::{FolderTrouble, StateFolder};
 use std::alloc::Global;
@@ -92,5 +92,73 @@ fn each_call_of_a_night_fails(rt: HostRuntime) -> Result<(), Fail> {
         }
     }
     assert!(rt; failed > 30 && failed < MANY - 1);
+    Ok(())
+}
+
+/// What a call names that failed.
+fn named<T: Drop>(answer: Result<T, Reason>) -> Option<StateFile> {
+    match answer {
+        Ok(_) => None,
+        Err(reason) => Some(reason.file),
+    }
+}
+
+/// What each of six calls names, if it fails, on a disk that allows them all.
+fn answers(disk: &mut MemDisk) -> [Option<StateFile>; 6] {
+    [
+        named(disk.has_reports()),
+        named(disk.has_closed(1, true)),
+        named(disk.open(StateFile::Report)),
+        named(disk.remove_new()),
+        named(disk.rename_kept(2)),
+        named(disk.sync_folder(StateFile::Folder)),
+    ]
+}
+
+/// What these calls name if they fail.
+const NAMED: [StateFile; 6] = [
+    StateFile::Reports,
+    StateFile::Reports,
+    StateFile::Report,
+    StateFile::NewCheckpoint,
+    StateFile::Kept(2),
+    StateFile::Folder,
+];
+
+// Fails if another call fails than the planned one, or one more, or if it names another file.
+#[test]
+fn the_planned_call_of_a_disk_fails_alone(rt: HostRuntime) -> Result<(), Fail> {
+    for number in 1..=7 {
+        let mut disk = MemDisk::new(rt.alloc());
+        disk.fail_call(number);
+        for (index, name) in answers(&mut disk).iter().enumerate() {
+            let fails = index as u64 + 1 == number;
+            let wanted = if fails { Some(NAMED[index]) } else { None };
+            assert_eq!(rt; *name, wanted, "{number}, {index}");
+        }
+    }
+    Ok(())
+}
+
+// Fails if the next checkpoint keeps its name when it is removed or kept, if what is there is made
+// again, and if a report has no name, or two.
+#[test]
+fn names_are_made_and_lost_on_a_disk_in_memory(rt: HostRuntime) -> Result<(), Fail> {
+    let mut disk = MemDisk::new(rt.alloc());
+    let next = StateFile::NewCheckpoint;
+    assert_eq!(rt; named(disk.create(next)), None);
+    assert_eq!(rt; named(disk.create(next)), Some(next));
+    assert_eq!(rt; named(disk.remove_new()), None);
+    assert_eq!(rt; named(disk.create(next)), None);
+    assert_eq!(rt; named(disk.rename_kept(1)), None);
+    assert_eq!(rt; named(disk.create(next)), None);
+    assert_eq!(rt; named(disk.create_reports()), Some(StateFile::Reports));
+    match disk.create(StateFile::Report) {
+        Ok(report) => match disk.count_names(&report) {
+            Ok(count) => assert_eq!(rt; count, 1),
+            Err(_) => assert!(rt; false),
+        },
+        Err(_) => assert!(rt; false),
+    }
     Ok(())
 }

@@ -1,7 +1,9 @@
 //! What is said of a closed cycle.
 use crate::tests::common::store::place_of;
 use crate::tests::telling::line_of;
+use ocfl_report::Line;
 use ocfl_telling::{Closing, Counts, Finding, Gone, GoneKind, Gravest, SHOWN, Tally, closing_text};
+use ocfl_tree::Place;
 use std::alloc::Global;
 use std::test::Fail;
 
@@ -66,17 +68,31 @@ expected\tr%25
 object\ts
 ";
 
-#[test]
-fn closings_say_what_changed(rt: HostRuntime) -> Result<(), Fail> {
-    let alloc = rt.alloc();
+/// What changed in a cycle: of each kind as much as is shown.
+#[derive(Drop)]
+struct Changed {
+    new: Gravest,
+    repaired: Vec<Line>,
+    back: Vec<Place>,
+    gone: Vec<Gone>,
+}
+
+/// One more of what is gone.
+fn add_gone(alloc: Global, gone: &mut Vec<Gone>, kind: GoneKind, path: &str) -> Result<(), Fail> {
+    let place = place_of(alloc, path)?;
+    gone.push(Gone { kind, place })?;
+    Ok(())
+}
+
+/// Two new findings, one that is repaired, an object that is back, and four places that are gone.
+fn make_changes(alloc: Global) -> Result<Changed, Fail> {
     let mut new = Gravest::new(alloc);
-    assert!(rt; closing_text(alloc, &quiet(&new))?.is_empty());
     new.add(finding_of(alloc, "E072\ta\t-\n")?)?;
     new.add(finding_of(alloc, "E092\tb\tx\n")?)?;
-    let mut back = Vec::new(alloc);
-    back.push(place_of(alloc, "s")?)?;
     let mut repaired = Vec::new(alloc);
     repaired.push(line_of(alloc, "E072\tb\t-\n")?)?;
+    let mut back = Vec::new(alloc);
+    back.push(place_of(alloc, "s")?)?;
     let mut gone = Vec::new(alloc);
     for (kind, path) in [
         (GoneKind::Object, "o"),
@@ -84,36 +100,61 @@ fn closings_say_what_changed(rt: HostRuntime) -> Result<(), Fail> {
         (GoneKind::File, "q/v1/content/Brief an M\u{fc}ller.pdf"),
         (GoneKind::Expected, "r%"),
     ] {
-        let place = place_of(alloc, path)?;
-        gone.push(Gone { kind, place })?;
+        add_gone(alloc, &mut gone, kind, path)?;
     }
+    Ok(Changed {
+        new,
+        repaired,
+        back,
+        gone,
+    })
+}
+
+/// The closing of a whole report with these changes, of which all but the new ones are shown.
+fn closing_of<'a>(changed: &'a Changed) -> Closing<'a> {
+    Closing {
+        counts: Some(COUNTS),
+        repaired: changed.repaired.as_slice(),
+        repaired_count: 1,
+        back: changed.back.as_slice(),
+        back_count: 1,
+        gone: changed.gone.as_slice(),
+        gone_count: 4,
+        ..quiet(&changed.new)
+    }
+}
+
+#[test]
+fn closings_of_nothing_are_empty(rt: HostRuntime) -> Result<(), Fail> {
+    let none = Gravest::new(rt.alloc());
+    assert!(rt; closing_text(rt.alloc(), &quiet(&none))?.is_empty());
+    Ok(())
+}
+
+#[test]
+fn closings_say_what_changed(rt: HostRuntime) -> Result<(), Fail> {
+    let alloc = rt.alloc();
+    let changed = make_changes(alloc)?;
+    let text = String::from_utf8(closing_text(alloc, &closing_of(&changed))?)?;
+    assert_eq!(rt; text.as_str(), WHOLE);
+    Ok(())
+}
+
+#[test]
+fn closings_of_incomplete_reports_say_where_the_rest_is(rt: HostRuntime) -> Result<(), Fail> {
+    let alloc = rt.alloc();
+    let changed = make_changes(alloc)?;
     let closing = Closing {
         whole: false,
-        counts: Some(COUNTS),
         appeared_count: 25,
         said: 3,
-        repaired: repaired.as_slice(),
         repaired_count: 22,
-        back: back.as_slice(),
         back_count: 2,
-        gone: gone.as_slice(),
-        gone_count: 4,
         unlooked: 5,
-        ..quiet(&new)
+        ..closing_of(&changed)
     };
     let text = String::from_utf8(closing_text(alloc, &closing)?)?;
     assert_eq!(rt; text.as_str(), CLOSED);
-    let closing = Closing {
-        whole: true,
-        appeared_count: 0,
-        said: 0,
-        repaired_count: 1,
-        back_count: 1,
-        unlooked: 0,
-        ..closing
-    };
-    let text = String::from_utf8(closing_text(alloc, &closing)?)?;
-    assert_eq!(rt; text.as_str(), WHOLE);
     Ok(())
 }
 
@@ -128,9 +169,8 @@ fn closings_show_what_is_gone_while_there_is_room(rt: HostRuntime) -> Result<(),
     for (count, shown, more) in GONE {
         let mut gone = Vec::new(alloc);
         for number in 0..count.min(SHOWN) {
-            let place = place_of(alloc, format!(in alloc; "o{number:03}")?.as_str())?;
-            let kind = GoneKind::Object;
-            gone.push(Gone { kind, place })?;
+            let path = format!(in alloc; "o{number:03}")?;
+            add_gone(alloc, &mut gone, GoneKind::Object, path.as_str())?;
         }
         let closing = Closing {
             gone: gone.as_slice(),

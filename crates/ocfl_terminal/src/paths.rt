@@ -4,16 +4,20 @@ use ocfl_report::{DisplayPlace, TextStop, read_place};
 use ocfl_tree::Place;
 use std::alloc::{AllocError, Global};
 
-/// The text of a path as reports write it. A word that reads so stays as it is; another is the path
-/// by its names; one that is the path of no place stays as it is.
-pub(crate) fn report_text(alloc: Global, word: String) -> Result<String, AllocError> {
+/// Makes a word the text of a path as reports write it. A word that reads so stays as it is; another
+/// is the path by its names; one that is the path of no place stays as it is.
+pub(crate) fn write_as_reports(alloc: Global, word: &mut String) -> Result<(), AllocError> {
     match read_place(alloc, word.as_bytes()) {
-        Ok(_) => Ok(word),
+        Ok(_) => Ok(()),
         Err(TextStop::Memory) => Err(AllocError),
-        Err(TextStop::Bad) => match Place::from_path(word.clone()?) {
-            Some(place) if place.depth() > 0 => format!(in alloc; "{}", DisplayPlace(&place)),
-            _ => Ok(word),
-        },
+        Err(TextStop::Bad) => {
+            if let Some(place) = Place::from_path(word.clone()?) {
+                if place.depth() > 0 {
+                    *word = format!(in alloc; "{}", DisplayPlace(&place))?;
+                }
+            }
+            Ok(())
+        }
     }
 }
 

@@ -1,106 +1,89 @@
 //! Paths from `/` on. The process goes into the storage root, where other paths would lead
 //! elsewhere. Paths of items as reports write them.
 
-use crate::paths::report_text;
+use crate::paths::write_as_reports;
 use ocfl_deed::Deed;
 use ocfl_line::{Asked, Chosen, NightAsked, Split, Task};
 use std::alloc::Global;
 use std::rt::Env;
 use std::{env, io};
 
-/// The same path from `/` on. An empty one leads nowhere, and stays so.
-fn whole<R: Env + AllocGlobal>(rt: &R, path: String) -> io::Result<String> {
-    if path.is_empty() || path.as_str().starts_with('/') {
-        return Ok(path);
-    }
-    let here = env::current_dir(rt)?;
-    let here = here.as_path().as_str();
+/// A path in a folder, from `/` on.
+fn path_in(alloc: Global, here: &str, path: &str) -> io::Result<String> {
     // A folder outside of what the process takes for `/` has a path that begins otherwise.
     if !here.starts_with('/') {
         return Err(io::Error::from(io::ErrorKind::NotFound));
     }
     let here = here.trim_end_matches('/');
-    Ok(format!(in rt.alloc(); "{here}/{path}")?)
+    Ok(format!(in alloc; "{here}/{path}")?)
+}
+
+/// A path in the current folder, from `/` on.
+fn path_here<R: Env + AllocGlobal>(rt: &R, path: &str) -> io::Result<String> {
+    let here = env::current_dir(rt)?;
+    path_in(rt.alloc(), here.as_path().as_str(), path)
+}
+
+/// Makes a path the same from `/` on. An empty one leads nowhere, and stays so.
+fn make_whole<R: Env + AllocGlobal>(rt: &R, path: &mut String) -> io::Result<()> {
+    if !path.is_empty() && !path.as_str().starts_with('/') {
+        *path = path_here(rt, path.as_str())?;
+    }
+    Ok(())
 }
 
 /// The same, if there is a path.
-fn whole_if_any<R>(rt: &R, path: Option<String>) -> io::Result<Option<String>>
+fn make_whole_if_any<R>(rt: &R, path: &mut Option<String>) -> io::Result<()>
 where
     R: Env + AllocGlobal,
 {
     match path {
-        Some(path) => Ok(Some(whole(rt, path)?)),
-        None => Ok(None),
+        Some(path) => make_whole(rt, path),
+        None => Ok(()),
     }
 }
 
 /// The same of what is chosen.
-fn whole_chosen<R: Env + AllocGlobal>(rt: &R, chosen: Chosen) -> io::Result<Chosen> {
+fn make_chosen_whole<R: Env + AllocGlobal>(rt: &R, chosen: &mut Chosen) -> io::Result<()> {
     match chosen {
-        Chosen::Part { parts, number } => Ok(Chosen::Part {
-            parts: whole(rt, parts)?,
-            number,
-        }),
-        Chosen::Branch(path) => Ok(Chosen::Branch(report_text(rt.alloc(), path)?)),
-        Chosen::All => Ok(Chosen::All),
-    }
-}
-
-/// A deed with its path as reports write it.
-fn with_report_path(alloc: Global, deed: Deed) -> io::Result<Deed> {
-    match deed {
-        Deed::Check(path) => Ok(Deed::Check(report_text(alloc, path)?)),
-        other => Ok(other),
+        Chosen::Part { parts, .. } => make_whole(rt, parts),
+        Chosen::Branch(path) => Ok(write_as_reports(rt.alloc(), path)?),
+        Chosen::All => Ok(()),
     }
 }
 
 /// The same of a task.
-fn whole_task<R: Env + AllocGlobal>(rt: &R, task: Task) -> io::Result<Task> {
+fn make_task_whole<R: Env + AllocGlobal>(rt: &R, task: &mut Task) -> io::Result<()> {
     if let Deed::Show = &task.deed {
-        return Ok(task);
+        return Ok(());
     }
-    Ok(Task {
-        chosen: whole_chosen(rt, task.chosen)?,
-        root: whole_if_any(rt, task.root)?,
-        file: whole_if_any(rt, task.file)?,
-        deed: with_report_path(rt.alloc(), task.deed)?,
-        quiet: task.quiet,
-    })
-}
-
-/// The same of a split.
-fn whole_split<R: Env + AllocGlobal>(rt: &R, split: Split) -> io::Result<Split> {
-    match split {
-        Split::Listing { count, root } => Ok(Split::Listing {
-            count,
-            root: whole(rt, root)?,
-        }),
-        other => Ok(other),
+    make_chosen_whole(rt, &mut task.chosen)?;
+    make_whole_if_any(rt, &mut task.root)?;
+    make_whole_if_any(rt, &mut task.file)?;
+    if let Deed::Check(path) = &mut task.deed {
+        write_as_reports(rt.alloc(), path)?;
     }
+    Ok(())
 }
 
 /// The same of a night.
-fn whole_night<R: Env + AllocGlobal>(rt: &R, night: NightAsked) -> io::Result<NightAsked> {
-    Ok(NightAsked {
-        state: whole(rt, night.state)?,
-        root: whole(rt, night.root)?,
-        bounds: night.bounds,
-        chosen: whole_chosen(rt, night.chosen)?,
-        known: whole_if_any(rt, night.known)?,
-        expected: whole_if_any(rt, night.expected)?,
-        create: night.create,
-        force_root: night.force_root,
-        stop_at_faults: night.stop_at_faults,
-    })
+fn make_night_whole<R: Env + AllocGlobal>(rt: &R, night: &mut NightAsked) -> io::Result<()> {
+    make_whole(rt, &mut night.state)?;
+    make_whole(rt, &mut night.root)?;
+    make_chosen_whole(rt, &mut night.chosen)?;
+    make_whole_if_any(rt, &mut night.known)?;
+    make_whole_if_any(rt, &mut night.expected)
 }
 
-/// What is asked for, with all its paths from `/` on if a storage root is read for it.
-pub(crate) fn whole_asked<R: Env + AllocGlobal>(rt: &R, asked: Asked) -> io::Result<Asked> {
+/// Makes all paths of what is asked for the same from `/` on, if a storage root is read for it.
+pub(crate) fn make_asked_whole<R>(rt: &R, asked: &mut Asked) -> io::Result<()>
+where
+    R: Env + AllocGlobal,
+{
     match asked {
-        Asked::Task(task) => Ok(Asked::Task(whole_task(rt, task)?)),
-        Asked::Split(split) => Ok(Asked::Split(whole_split(rt, split)?)),
-        Asked::Night(night) => Ok(Asked::Night(whole_night(rt, night)?)),
-        Asked::Join(join) => Ok(Asked::Join(join)),
-        Asked::Codes { json } => Ok(Asked::Codes { json }),
+        Asked::Task(task) => make_task_whole(rt, task),
+        Asked::Split(Split::Listing { root, .. }) => make_whole(rt, root),
+        Asked::Night(night) => make_night_whole(rt, night),
+        Asked::Split(Split::Report { .. }) | Asked::Join(_) | Asked::Codes { .. } => Ok(()),
     }
 }

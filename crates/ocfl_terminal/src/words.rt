@@ -1,7 +1,7 @@
 //! The words of the command line, and what they ask for.
 
 use crate::version::print_build;
-use crate::whole::whole_asked;
+use crate::whole::make_asked_whole;
 use clap::error::ErrorKind;
 use ocfl_files::saying::{STOPPED, USAGE, say, say_out_of_memory};
 use ocfl_line::{Asked, CommandStop, asked};
@@ -72,9 +72,18 @@ where
     R: Files + Env + AllocGlobal + Print + Eprint,
 {
     match asked(rt.alloc(), words) {
-        Ok(asked) => whole_asked(rt, asked).map_err(|error| say_no_path(rt, &error)),
+        Ok(asked) => with_whole_paths(rt, asked),
         Err(CommandStop::Usage(error)) => Err(print_usage(rt, &error)),
         Err(CommandStop::Memory) => Err(say_out_of_memory(rt)),
+    }
+}
+
+/// The same with paths from `/` on. Otherwise says why there are none, and fails with the status.
+fn with_whole_paths<R: Env + AllocGlobal + Eprint>(rt: &R, asked: Asked) -> Result<Asked, u8> {
+    let mut asked = asked;
+    match make_asked_whole(rt, &mut asked) {
+        Ok(()) => Ok(asked),
+        Err(error) => Err(say_no_path(rt, &error)),
     }
 }
 

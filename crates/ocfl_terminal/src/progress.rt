@@ -7,7 +7,7 @@ use ocfl_folder::{FsTree, System};
 use ocfl_inventory::{Level, is_declaration_name};
 use ocfl_report::DisplayPlace;
 use ocfl_tree::{Entry, Kind, Place, Tree, Trouble};
-use std::alloc::AllocError;
+use std::alloc::{AllocError, Global};
 use std::cell::Cell;
 use std::io::{self, IsTerminal, Write};
 use std::rt::Files;
@@ -66,6 +66,73 @@ fn percent(part: u128, whole: Option<u128>) -> Option<u128> {
     Some(part.saturating_mul(100).checked_div(whole?)?.min(999))
 }
 
+/// How much of a cycle was read, in hundredths of the last one, and the minutes left if they are
+/// known.
+fn share_text(alloc: Global, share: u128, minutes: Option<u128>) -> Result<String, AllocError> {
+    match minutes {
+        Some(minutes) => format!(in alloc; "{share} % of the last cycle, {minutes} min left, "),
+        None => format!(in alloc; "{share} % of the last cycle, "),
+    }
+}
+
+/// What was read, and where.
+fn line_of(
+    alloc: Global,
+    files: u64,
+    mebibytes: u64,
+    share: &str,
+    place: &Place,
+) -> Result<String, AllocError> {
+    let mut line = format!(in alloc; "{files} files, {mebibytes} MiB, {share}at ")?;
+    let place = format!(in alloc; "{}", DisplayPlace(place))?;
+    let room = WIDTH.saturating_sub(line.len()).min(TAIL);
+    line.push_str(tail(place.as_str(), room))?;
+    Ok(line)
+}
+
+/// What progress asks of the system: what shows it needs no more of it than this.
+pub(crate) trait Sight {
+    /// Where memory comes from.
+    fn global(&self) -> Global;
+
+    /// The time, if the clock can be read.
+    fn now(&self) -> Option<Instant>;
+
+    /// How many seconds have passed since then, if the clock can be read.
+    fn seconds_since(&self, began: Instant) -> Option<u64>;
+
+    /// Shows a line in place of the one before.
+    fn show_line(&self, line: &str);
+
+    /// Why a call failed, in words, if there is memory for them.
+    fn words_on(&self, error: io::Error) -> Option<String>;
+}
+
+impl<R: Files + AllocGlobal + Clock + Eprint> Sight for R {
+    fn global(&self) -> Global {
+        self.alloc()
+    }
+
+    fn now(&self) -> Option<Instant> {
+        Instant::now(self).ok()
+    }
+
+    fn seconds_since(&self, began: Instant) -> Option<u64> {
+        match began.elapsed(self) {
+            Ok(passed) => Some(passed.as_secs()),
+            Err(_) => None,
+        }
+    }
+
+    fn show_line(&self, line: &str) {
+        let _ = eprint!(self; "\r{line:<79}");
+    }
+
+    fn words_on(&self, error: io::Error) -> Option<String> {
+        why_failed(self, error).ok()
+    }
+}
+
 /// A store that knows why its last call failed that did.
 pub trait Reasoned {
     fn reason_of_last(&self) -> Option<io::Error>;
@@ -119,7 +186,7 @@ impl<R, T> Drop for Watched<'_, R, T> {
     }
 }
 
-impl<'a, R: Files + AllocGlobal + Clock + Eprint, T: Reasoned> Watched<'a, R, T> {
+impl<'a, R: Sight, T: Reasoned> Watched<'a, R, T> {
     pub fn over(
         rt: &'a R,
         store: &'a mut T,
@@ -133,12 +200,12 @@ impl<'a, R: Files + AllocGlobal + Clock + Eprint, T: Reasoned> Watched<'a, R, T>
             is_shown,
             reasons,
             last_cost,
-            began: Instant::now(rt).ok(),
+            began: rt.now(),
             files: 0,
             bytes: 0,
             is_content: false,
             work: 0,
-            place: Place::root(rt.alloc()),
+            place: Place::root(rt.global()),
             object: None,
         }
     }
@@ -160,8 +227,8 @@ impl<'a, R: Files + AllocGlobal + Clock + Eprint, T: Reasoned> Watched<'a, R, T>
             return;
         }
         if let Some(error) = self.store.reason_of_last() {
-            let words = why_failed(self.rt, error).ok();
-            keep_reason(self.rt.alloc(), self.reasons, &self.place, words);
+            let words = self.rt.words_on(error);
+            keep_reason(self.rt.global(), self.reasons, &self.place, words);
         }
     }
 
@@ -178,32 +245,27 @@ impl<'a, R: Files + AllocGlobal + Clock + Eprint, T: Reasoned> Watched<'a, R, T>
     /// Shows what was read, and where. If memory is refused, what was shown before stays.
     fn show(&self) {
         if let Ok(line) = self.line() {
-            let _ = eprint!(self.rt; "\r{line:<79}");
+            self.rt.show_line(line.as_str());
         }
     }
 
     fn line(&self) -> Result<String, AllocError> {
-        let alloc = self.rt.alloc();
-        let (files, mebibytes) = (self.files, self.bytes >> 20);
         let share = self.share()?;
-        let done = format!(in alloc; "{files} files, {mebibytes} MiB, {share}at ")?;
-        let place = format!(in alloc; "{}", DisplayPlace(&self.place))?;
-        let place = tail(place.as_str(), WIDTH.saturating_sub(done.len()).min(TAIL));
-        format!(in alloc; "{done}{place}")
+        line_of(
+            self.rt.global(),
+            self.files,
+            self.bytes >> 20,
+            share.as_str(),
+            &self.place,
+        )
     }
 
     /// How far the run is, by the cost of the last cycle if that is known, and the time left.
     fn share(&self) -> Result<String, AllocError> {
-        let alloc = self.rt.alloc();
         let cost = u128::from(self.bytes) + u128::from(self.files);
-        let Some(share) = percent(cost, self.last_cost) else {
-            return Ok(String::new(alloc));
-        };
-        match self.minutes_left(share) {
-            Some(minutes) => {
-                format!(in alloc; "{share} % of the last cycle, {minutes} min left, ")
-            }
-            None => format!(in alloc; "{share} % of the last cycle, "),
+        match percent(cost, self.last_cost) {
+            Some(share) => share_text(self.rt.global(), share, self.minutes_left(share)),
+            None => Ok(String::new(self.rt.global())),
         }
     }
 
@@ -213,12 +275,13 @@ impl<'a, R: Files + AllocGlobal + Clock + Eprint, T: Reasoned> Watched<'a, R, T>
         if share >= 100 {
             return None;
         }
-        let began = self.began?;
-        let seconds = u128::from(began.elapsed(self.rt).ok()?.as_secs());
+        let seconds = u128::from(self.rt.seconds_since(self.began?)?);
         let left = seconds.saturating_mul(100 - share).checked_div(share)?;
         Some(left / 60 + 1)
     }
+}
 
+impl<R, T> Watched<'_, R, T> {
     /// Keeps the place of an object that was listed. The storage root and what is below an object
     /// are none.
     fn note_listing(&mut self, place: &Place, entries: &[Entry])
@@ -254,7 +317,7 @@ impl<'a, R: Files + AllocGlobal + Clock + Eprint, T: Reasoned> Watched<'a, R, T>
 }
 
 /// Does what the inner store does, with the same contract.
-impl<R: Files + AllocGlobal + Clock + Eprint, T: Tree + Reasoned> Tree for Watched<'_, R, T> {
+impl<R: Sight, T: Tree + Reasoned> Tree for Watched<'_, R, T> {
     ghost told = { T.told };
 
     ghost state = { λ watched. T.state watched.store.now };

@@ -27,8 +27,9 @@ fn cursor_of<F: Read>(alloc: Global, reader: &mut F, scope: &Scope) -> Option<Cu
     }
 }
 
-/// What a cursor's cycle cost, if it has ended.
-fn cost_of(cursor: &Cursor) -> Option<u128> {
+/// What a cursor's cycle cost, if there is a cursor and it has ended.
+fn cost_of(cursor: Option<Cursor>) -> Option<u128> {
+    let cursor = cursor?;
     match cursor.state() {
         State::Ended => Some(cursor.spent()),
         State::Start | State::After(_) => None,
@@ -42,14 +43,21 @@ where
     R: Files + AllocGlobal,
 {
     // A pipe cannot be read again by the run.
-    if !fs::metadata(rt, task.file.as_ref()?.as_str())
-        .ok()?
-        .is_file()
-    {
-        return None;
+    match fs::metadata(rt, task.file.as_ref()?.as_str()) {
+        Ok(found) if found.is_file() => stored_cost(rt, task, scope),
+        _ => None,
     }
-    let mut reader = open_cursor(rt, task).ok()??;
-    cost_of(&cursor_of(rt.alloc(), &mut reader, scope)?)
+}
+
+/// The same by the cursor's file, which can be read again.
+fn stored_cost<R>(rt: &R, task: &Task, scope: &Scope) -> Option<u128>
+where
+    R: Files + AllocGlobal,
+{
+    match open_cursor(rt, task) {
+        Ok(Some(mut reader)) => cost_of(cursor_of(rt.alloc(), &mut reader, scope)),
+        _ => None,
+    }
 }
 
 /// Refuses a cursor's file in the storage root: says so and gives the status.

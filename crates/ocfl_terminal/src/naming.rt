@@ -34,7 +34,14 @@ fn find_foreign<R>(rt: &R) -> Option<String>
 where
     R: Files + AllocGlobal,
 {
-    let mut folder = rt.open_dir(".").ok()?;
+    match rt.open_dir(".") {
+        Ok(mut folder) => foreign_in(rt.alloc(), &mut folder),
+        Err(_) => None,
+    }
+}
+
+/// The first name that is not UTF-8 of those that a reader gives, each with NUL behind it.
+fn foreign_in<F: Read>(alloc: Global, folder: &mut F) -> Option<String> {
     let mut names = [0; NAMES_LEN];
     for _ in 0..MOST_READS {
         let count = folder.read(&mut names).ok()?;
@@ -42,7 +49,7 @@ where
             return None;
         }
         if let Some(name) = foreign_among(&names[..count.min(names.len())]) {
-            return escaped(rt.alloc(), name).ok();
+            return escaped(alloc, name).ok();
         }
     }
     None

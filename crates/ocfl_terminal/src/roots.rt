@@ -25,20 +25,22 @@ pub fn find_root<R>(rt: &R, root: &str, state: &str) -> Result<Root, Failure>
 where
     R: Files + AllocGlobal,
 {
-    let alloc = rt.alloc();
-    let path = match fs::canonicalize(rt, root) {
-        Ok(path) => path,
-        Err(error) => return Err(unresolved(alloc, root, state, &error)?),
-    };
-    let text = path.as_path().as_str();
-    match Place::from_path(String::from_str(alloc, text.strip_prefix('/').unwrap_or(text))?) {
+    match fs::canonicalize(rt, root) {
+        Ok(path) => root_at(rt.alloc(), path.as_path().as_str()),
+        Err(error) => Err(Failure::made(unresolved(rt.alloc(), root, state, &error))),
+    }
+}
+
+/// The storage root with a path from `/` on, as the system resolved it.
+fn root_at(alloc: Global, path: &str) -> Result<Root, Failure> {
+    match Place::from_path(String::from_str(alloc, path.strip_prefix('/').unwrap_or(path))?) {
         Some(place) => Ok(Root {
-            path: String::from_str(alloc, text)?,
+            path: String::from_str(alloc, path)?,
             place,
         }),
         None => Err(Failure::usage(format!(in alloc;
             "{} is no path of names in UTF-8\n",
-            Shown(text)
+            Shown(path)
         )?)),
     }
 }

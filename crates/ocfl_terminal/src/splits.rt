@@ -95,7 +95,10 @@ fn split_by_report<R>(rt: &R, budget: u64, file: &str) -> Result<Separators, Not
 where
     R: Files + AllocGlobal,
 {
-    let opened = File::open(rt, file).map_err(|error| unread(SplitStop::Read, Some(error)))?;
+    let opened = match File::open(rt, file) {
+        Ok(opened) => opened,
+        Err(error) => return Err(unread(SplitStop::Read, Some(error))),
+    };
     let Ok(mut report) = BufReader::new(rt.alloc(), Heard::new(opened)) else {
         return Err(NotSplit::Report(SplitStop::Memory));
     };
@@ -139,8 +142,11 @@ pub fn split_root<R>(rt: &R, asked: &Split) -> u8
 where
     R: Files + Env + AllocGlobal + Print + Eprint,
 {
-    let made = make_separators(rt, asked);
-    match made.and_then(|separators| write_separators(rt, &separators)) {
+    let written = match make_separators(rt, asked) {
+        Ok(separators) => write_separators(rt, &separators),
+        Err(stop) => Err(stop),
+    };
+    match written {
         Ok(()) => 0,
         Err(stop) => say_unsplit(rt, &stop),
     }

@@ -1,7 +1,7 @@
 //! The standard streams.
 
 use ocfl_files::failing::Failure;
-use ocfl_files::making::file_failure;
+use ocfl_files::making::failed_file;
 use std::fs::File;
 use std::rt::Files;
 
@@ -12,7 +12,7 @@ pub fn take_streams<R: Files + AllocGlobal>(rt: &R) -> Result<Vec<R::File>, Fail
     for _ in 0..3 {
         match File::open(rt, "/") {
             Ok(file) => taken.push(file)?,
-            Err(error) => return Err(file_failure(rt.alloc(), "/", &error)?),
+            Err(error) => return Err(failed_file(rt.alloc(), "/", &error)),
         }
     }
     Ok(taken)

@@ -44,16 +44,26 @@ where
     R: Files + Env + AllocGlobal,
 {
     let is_set = !matches!(env::var(rt, "TZ"), Err(VarError::NotPresent));
-    let system = match SystemTimeZone::read(rt) {
-        Ok(system) => system,
+    match SystemTimeZone::read(rt) {
+        Ok(system) => next_in(&system, database_for(rt, is_set), now, hour, minute),
         // Without the file the zone is UTC (localtime(5)).
         Err(Error::Io(ErrorKind::NotFound)) if !is_set => {
-            return Ok(next_time(&TimeZone::UTC, now, hour, minute));
+            Ok(next_time(&TimeZone::UTC, now, hour, minute))
         }
-        Err(error) => return Err(error),
-    };
-    let database = database_for(rt, is_set)?;
-    let zone = system.time_zone(&database)?;
+        Err(error) => Err(error),
+    }
+}
+
+/// The same in the system's zone, unless the zones by their names could not be read.
+fn next_in(
+    system: &SystemTimeZone,
+    zones: Result<TimeZoneDatabase, Error>,
+    now: u64,
+    hour: u8,
+    minute: u8,
+) -> Result<Option<u64>, Error> {
+    let zones = zones?;
+    let zone = system.time_zone(&zones)?;
     Ok(next_time(&zone, now, hour, minute))
 }
 

@@ -133,18 +133,43 @@ where
     R: Files<File = File> + AllocGlobal + Clock,
 {
     let lost = Rc::new(rt.alloc(), Cell::new(None))?;
+    let journal = journal_of(rt, given, &lost)?;
+    let Seen {
+        now,
+        reading,
+        reasons,
+    } = seen_of(rt.alloc(), given, begun.standing)?;
     let observer = Notes {
         rt,
-        now: Rc::new(rt.alloc(), Cell::new(begun.standing))?,
-        journal: journal_of(rt, given, &lost)?,
-        reading: Some(reading_of(rt.alloc(), given)?),
-        reasons: Rc::new(rt.alloc(), Cell::new(Reasons::new(rt.alloc())))?,
+        now,
+        journal,
+        reading: Some(reading),
+        reasons,
         left: Vec::new(rt.alloc()),
     };
     Ok(Noting {
         folder: Observed { folder, observer },
         begun,
         lost,
+    })
+}
+
+/// What is noted of a night that has not begun.
+#[derive(Drop)]
+struct Seen {
+    now: Rc<Cell<Standing>>,
+    reading: Reading,
+    reasons: Rc<Cell<Reasons>>,
+}
+
+/// The same of one that begins where the nights stand so.
+fn seen_of(alloc: Global, given: &Given<'_>, standing: Standing) -> Result<Seen, AllocError> {
+    let now = Rc::new(alloc, Cell::new(standing))?;
+    let reasons = Rc::new(alloc, Cell::new(Reasons::new(alloc)))?;
+    Ok(Seen {
+        reading: reading_of(alloc, given)?,
+        now,
+        reasons,
     })
 }
 
@@ -157,6 +182,23 @@ where
     let mut folder = open_state(rt, names.state, names.root, given.asked.create)?;
     let begun = read_begun(rt.alloc(), &mut folder);
     noting_over(rt, given, folder.into_state(), begun)
+}
+
+/// What makes the messages of a night.
+fn speaker_of<'n>(
+    alloc: Global,
+    given: &'n Given<'_>,
+    reasons: &Rc<Cell<Reasons>>,
+    now: &Rc<Cell<Standing>>,
+) -> Result<Speaker<'n>, AllocError> {
+    let kept = Kept::new(alloc)?;
+    let (reasons, now) = (reasons.clone()?, now.clone()?);
+    let out = kept.shared()?;
+    Ok(Speaker {
+        teller: Teller::new(alloc, given.names(), &given.known, reasons, now, out),
+        kept,
+        findings: 0,
+    })
 }
 
 impl<'a, R: Files<File = File> + AllocGlobal + Clock> Noting<'a, R, SystemDisk<&'a R>> {
@@ -187,28 +229,17 @@ impl<'a, R: Files<File = File> + AllocGlobal + Clock> Noting<'a, R, SystemDisk<&
         Ok(StopFile { rt, path })
     }
 
-    /// What makes the messages of the night.
-    fn speaker<'n>(&self, given: &'n Given<'_>) -> Result<Speaker<'n>, AllocError> {
-        let notes = &self.folder.observer;
-        let alloc = notes.rt.alloc();
-        let (kept, reasons) = (Kept::new(alloc)?, notes.reasons.clone()?);
-        let (out, now) = (kept.shared()?, notes.now.clone()?);
-        Ok(Speaker {
-            teller: Teller::new(alloc, given.names(), &given.known, reasons, now, out),
-            kept,
-            findings: 0,
-        })
-    }
-
     /// What stands beside the folder in the night.
     pub fn beside<'n>(&self, given: &'n Given<'_>) -> Result<Beside<'a, 'n, R>, Failure> {
-        let speaker = self.speaker(given)?;
+        let notes = &self.folder.observer;
+        let reasons = notes.reasons.clone()?;
         let stop = self.stop(given)?;
+        let journal = journal_of(notes.rt, given, &self.lost)?;
         Ok(Beside {
+            speaker: speaker_of(notes.rt.alloc(), given, &notes.reasons, &notes.now)?,
             stop,
-            journal: journal_of(self.folder.observer.rt, given, &self.lost)?,
-            speaker,
-            reasons: self.folder.observer.reasons.clone()?,
+            journal,
+            reasons,
         })
     }
 

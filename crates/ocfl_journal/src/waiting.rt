@@ -7,9 +7,9 @@ use ocfl_closing::stand::Standing;
 use ocfl_disk::StateFile;
 use ocfl_files::failing::say_text;
 use std::alloc::{AllocError, Global};
-use std::fs;
 use std::rt::Files;
 use std::time::SystemTime;
+use std::{fs, io};
 
 /// A day, in seconds.
 const DAY: u64 = 86_400;
@@ -30,12 +30,18 @@ fn written_at<R>(rt: &R, state: &str, file: StateFile) -> Option<u64>
 where
     R: Files + AllocGlobal,
 {
-    let path = format!(in rt.alloc(); "{state}/{file}").ok()?;
-    let found = fs::symlink_metadata(rt, path.as_str()).ok()?;
-    let since = found
-        .modified()
-        .ok()?
-        .duration_since(SystemTime::UNIX_EPOCH);
+    let Ok(path) = format!(in rt.alloc(); "{state}/{file}") else {
+        return None;
+    };
+    match fs::symlink_metadata(rt, path.as_str()) {
+        Ok(found) => seconds_of(found.modified()),
+        Err(_) => None,
+    }
+}
+
+/// A time in seconds since the epoch, if it is known and not before that.
+fn seconds_of(time: io::Result<SystemTime>) -> Option<u64> {
+    let since = time.ok()?.duration_since(SystemTime::UNIX_EPOCH);
     Some(since.ok()?.as_secs())
 }
 
@@ -78,11 +84,15 @@ where
 
 /// A time as RFC 3339 has it; in seconds since the epoch if no calendar has it.
 fn time_text(alloc: Global, seconds: u64) -> Result<String, AllocError> {
-    let known = i64::try_from(seconds).ok();
-    match known.and_then(|second| Timestamp::from_second(second).ok()) {
+    match calendar_time(seconds) {
         Some(time) => format!(in alloc; "{time}"),
         None => format!(in alloc; "{seconds}"),
     }
+}
+
+/// A time that the calendar has.
+fn calendar_time(seconds: u64) -> Option<Timestamp> {
+    Timestamp::from_second(i64::try_from(seconds).ok()?).ok()
 }
 
 /// What is said of a night that begins no new cycle.

@@ -118,7 +118,7 @@ pub(crate) fn without(
     let mut others = others.iter();
     let mut next = others.next();
     for place in places {
-        if next.is_some_and(|other| *other == place) {
+        if next == Some(&place) {
             next = others.next();
         } else {
             rest.push(place)?;

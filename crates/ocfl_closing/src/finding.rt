@@ -53,7 +53,7 @@ impl Findings {
     /// The lines of those that are kept, in the order of places.
     pub(crate) fn into_lines(self, alloc: Global) -> Result<Vec<Line>, AllocError> {
         let mut lines = lines_of(alloc, &self.gravest)?;
-        lines.sort_by(|line: &Line, next: &Line| line.place.cmp(&next.place))?;
+        sort_lines(&mut lines)?;
         Ok(lines)
     }
 }
@@ -95,9 +95,19 @@ fn line_of(alloc: Global, text: &[u8]) -> io::Result<Option<Line>> {
     }
 }
 
-/// Whether the lines say the same of the same place.
-fn is_same(line: &Line, other: &Line) -> bool {
-    line.code == other.code && line.place == other.place && line.detail == other.detail
+/// Puts lines into the order of places.
+pub(crate) fn sort_lines(lines: &mut Vec<Line>) -> Result<(), AllocError> {
+    lines.sort_by(|line: &Line, next: &Line| line.place.cmp(&next.place))
+}
+
+/// Whether one of the lines says the same of the same place.
+fn have_same(lines: &[Line], line: &Line) -> bool {
+    for one in lines {
+        if one.code == line.code && one.place == line.place && one.detail == line.detail {
+            return true;
+        }
+    }
+    false
 }
 
 /// A search for the findings that are named.
@@ -143,7 +153,7 @@ impl Search<'_> {
             found.known = found.known.saturating_add(1);
             return Ok(());
         }
-        if self.said.iter().any(|said| is_same(said, &finding.line)) {
+        if have_same(self.said, &finding.line) {
             found.said = found.said.saturating_add(1);
             return Ok(());
         }

@@ -1,6 +1,6 @@
 //! The closed reports of parts in their state folders, and the joined one that is made of them.
 
-use crate::kept::ClosedIn;
+use crate::kept::{ClosedIn, report_path};
 use crate::part_facts::{Facts, is_emptied, part_path};
 use crate::room::Room;
 use ocfl_disk::{OpenReport, StateFile};
@@ -13,27 +13,13 @@ use std::alloc::{AllocError, Global};
 use std::fs::File;
 use std::io::{self, BufRead, BufReader, BufWriter, ErrorKind, Read, Write};
 
-/// The path of the joined report of a cycle, whole or not.
-pub(crate) fn joined_path(
-    alloc: Global,
-    state: &str,
-    cycle: u64,
-    whole: bool,
-) -> Result<String, AllocError> {
-    if whole {
-        format!(in alloc; "{state}/{}", StateFile::Whole(cycle))
-    } else {
-        format!(in alloc; "{state}/{}", StateFile::Incomplete(cycle))
-    }
-}
-
 /// Which joined report of a cycle is there: a whole one, one that is not whole, or none.
 pub(crate) fn find_joined<R>(rt: &R, state: &str, cycle: u64) -> Result<Option<bool>, AllocError>
 where
     R: Room,
 {
     for whole in [true, false] {
-        if rt.has(joined_path(rt.global(), state, cycle, whole)?.as_str()) {
+        if rt.has(report_path(rt.global(), state, cycle, whole)?.as_str()) {
             return Ok(Some(whole));
         }
     }
@@ -167,7 +153,7 @@ impl<'a, R: Room> JoinedFolder<'a, R> {
 
     /// The path of the joined report that is made, or was made before.
     fn path(&self, whole: bool) -> Result<String, AllocError> {
-        joined_path(self.rt.global(), self.state, self.cycle, whole)
+        report_path(self.rt.global(), self.state, self.cycle, whole)
     }
 
     /// The path of the file in which it is made.

@@ -1,8 +1,8 @@
 //! Joining the closed reports of all parts of a storage root, of one cycle.
 
 use crate::closed::MOST_BACK;
-use crate::joined::{JoinedFolder, find_joined, joined_path};
-use crate::kept::is_told;
+use crate::joined::{JoinedFolder, find_joined};
+use crate::kept::{is_told, report_path};
 use crate::part_facts::{Facts, closed_parts, last_of_all, part_path, read_all};
 use crate::room::Room;
 use ocfl_files::failing::{Failure, say_failure};
@@ -119,7 +119,7 @@ fn say_incomplete<R: Room + Eprint>(
             say_left(rt, index.saturating_add(1), part);
         }
     }
-    let path = joined_path(rt.global(), state, cycle, false)?;
+    let path = report_path(rt.global(), state, cycle, false)?;
     let path = Shown(path.as_str());
     let _ = eprintln!(rt;
         "ocfl-scrub: the joined report of cycle {cycle} lacks what these parts left out: {path}"
@@ -150,7 +150,7 @@ struct AllParts<'a> {
 /// Whether the joined report of a cycle is there, whole or not, or was compressed.
 fn is_joined<R: Room>(rt: &R, state: &str, cycle: u64) -> Result<bool, AllocError> {
     for whole in [true, false] {
-        let path = joined_path(rt.global(), state, cycle, whole)?;
+        let path = report_path(rt.global(), state, cycle, whole)?;
         let packed = format!(in rt.global(); "{path}.gz")?;
         if rt.has(path.as_str()) || rt.has(packed.as_str()) {
             return Ok(true);

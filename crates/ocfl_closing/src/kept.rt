@@ -116,7 +116,7 @@ pub(crate) fn read_checkpoint<F: Folder>(
     }
 }
 
-/// The path of the closed report of a cycle.
+/// The path of the report of a cycle, closed or joined.
 pub(crate) fn report_path(
     alloc: Global,
     state: &str,

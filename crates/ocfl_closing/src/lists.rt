@@ -67,7 +67,7 @@ impl Listed {
         let mut count: u64 = 0;
         let mut last: Option<&Place> = None;
         for place in &self.places {
-            if !last.is_some_and(|last| last == place) {
+            if last != Some(place) {
                 count = count.saturating_add(1);
             }
             last = Some(place);

@@ -1,6 +1,7 @@
 //! What changed from one report to the next, as the changes come.
 ghost use Rattle.std.specs.Prelude.{⊤};
 
+use crate::finding::sort_lines;
 use ocfl_compare::{Change, GoneList, TakeChange, TakeStop};
 use ocfl_report::{Code, Line};
 use ocfl_telling::{Gone, GoneKind, Known, SHOWN};
@@ -128,8 +129,7 @@ impl Changes {
         self.repaired_count = self.repaired_count.saturating_add(other.repaired_count);
         self.unlooked = self.unlooked.saturating_add(other.unlooked);
         self.appeared.append(&mut other.appeared)?;
-        self.appeared
-            .sort_by(|line: &Line, next: &Line| line.place.cmp(&next.place))?;
+        sort_lines(&mut self.appeared)?;
         self.objects.join(&mut other.objects)?;
         self.files.join(&mut other.files)?;
         self.expected.join(&mut other.expected)
@@ -191,7 +191,7 @@ impl<'k, 'p> Rows<'k, 'p> {
     /// Whether the changes of a place count.
     fn counts(&self, place: &Place) -> bool {
         match self.within {
-            Some(within) => within.iter().any(|branch| place.starts_with(branch)),
+            Some(within) => is_within(place, within),
             None => true,
         }
     }
@@ -251,6 +251,16 @@ impl TakeChange for Rows<'_, '_> {
     ghost nothing = { λ _. tt };
 
     ghost joined = { λ _ _ _ _ _ _ _. tt };
+}
+
+/// Whether a place is one of these or below one.
+fn is_within(place: &Place, branches: &[Place]) -> bool {
+    for branch in branches {
+        if place.starts_with(branch) {
+            return true;
+        }
+    }
+    false
 }
 
 /// The line of a code at a place, without its detail.

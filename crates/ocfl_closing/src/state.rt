@@ -56,8 +56,10 @@ fn open_lock<R>(rt: &R, path: &str) -> io::Result<File>
 where
     R: Files<File = File>,
 {
-    if fs::symlink_metadata(rt, path).is_ok_and(|found| !found.is_file()) {
-        return Err(io::Error::new(ErrorKind::InvalidInput, "not a regular file"));
+    if let Ok(found) = fs::symlink_metadata(rt, path) {
+        if !found.is_file() {
+            return Err(io::Error::new(ErrorKind::InvalidInput, "not a regular file"));
+        }
     }
     let mut options = OpenOptions::new();
     options.read(true);
@@ -148,8 +150,9 @@ fn failed(alloc: Global, state: &str, reason: Reason) -> Result<Failure, AllocEr
     if reason.trouble() == FolderTrouble::Memory {
         return Err(AllocError);
     }
-    let why = reason_text(alloc, state, reason)?;
-    Ok(Failure::stopped(format!(in alloc; "{why}. Nothing was run.\n")?))
+    let mut why = reason_text(alloc, state, reason)?;
+    why.push_str(". Nothing was run.\n")?;
+    Ok(Failure::stopped(why))
 }
 
 /// That a call on the folder failed in a night.
@@ -158,11 +161,12 @@ pub fn folder_failure(
     state: &str,
     reason: Option<Reason>,
 ) -> Result<Failure, AllocError> {
-    let Some(reason) = reason else {
-        return Ok(Failure::stopped(format!(in alloc; "{} failed\n", Shown(state))?));
-    };
-    let why = reason_text(alloc, state, reason)?;
-    Ok(Failure::stopped(format!(in alloc; "{why}\n")?))
+    let mut why = match reason {
+        Some(reason) => reason_text(alloc, state, reason),
+        None => format!(in alloc; "{} failed", Shown(state)),
+    }?;
+    why.push('\n')?;
+    Ok(Failure::stopped(why))
 }
 
 /// That the last call on the folder failed, or that there was no memory to say so.

@@ -39,9 +39,9 @@ Tried, and what comes of it:
   written by the group.
 - Copies beside the reports; a killed night and then one that is refused; a file `stop`: they
   stay; the report is as whole as it was; no further run begins.
-- Objects, roots and state folders whose names have backslashes, line feeds, controls or quotes,
-  begin with `-`, or sort before `.`: the report is the audit, and what is said has no byte of a
-  name that a terminal takes as its own.
+- Objects, roots and state folders whose names have backslashes, line feeds, controls, marks of
+  direction or quotes, begin with `-`, or sort before `.`: the report is the audit, and what is said
+  has nothing of a name that a terminal takes as its own.
 - Folders with such names that cannot be listed: status 3, they are named as left out, with the
   name that is not UTF-8, all else is in a report that is incomplete; the next cycle is the audit,
   and other parts go on. Of parts: `night_parts.py`.
@@ -580,15 +580,18 @@ def odd_folders(folder: str) -> None:
 
 
 def controls(text: str) -> list[str]:
-    """The control characters of a text but its line feeds."""
-    return re.findall(r"[\x00-\x09\x0b-\x1f\x7f-\x9f]", text.replace("\t", ""))
+    """The control characters of a text but its line feeds, its marks of direction (Unicode's
+    `Bidi_Control`), and what else ends a line or a paragraph."""
+    return re.findall("[\x00-\x09\x0b-\x1f\x7f-\x9f\u061c\u200e\u200f\u2028-\u202e\u2066-\u2069]",
+                      text.replace("\t", ""))
 
 
 # Names in the root
 
 NAMES = ["-", "-rf", "+b", "(c)", " lead", "#hash", "$(touch x)", "`id`", "*", "b\\cx", "b\\nx",
          "b\\tx", "b\\0x", "n\nl", "t\tb", "z\\033[2J\\nAll is well: 0 findings.\\c", "\033[31m",
-         "..hidden", ".hidden", "%41", "a|b", "a&<b>]]>", "cycle-000001", "\u0085", "x" * 255]
+         "..hidden", ".hidden", "%41", "a|b", "a&<b>]]>", "cycle-000001", "\u0085", "x" * 255,
+         "photo \u202egpj.exe", "\u200fr", "\u2066i\u2069", "l\u2028f"]
 
 
 def odd_names(folder: str) -> None:

@@ -21,8 +21,10 @@ Tried, and what comes of it. Each row was seen to fail on scripts that lacked it
 - Names with line feeds, control bytes and backslashes: they make no header, no line and no
   control byte.
 - The command in a message, pasted into a shell, for names with quotes, `$(..)`, spaces,
-  percent signs, control bytes and letters outside ASCII: it looks at that file and runs nothing
-  else.
+  percent signs, control bytes, marks of direction and letters outside ASCII: it looks at that file
+  and runs nothing else.
+- Names with marks of direction, or with what ends a line or a paragraph: no message has any of
+  them. Before, such a mark turned the rest of its line around.
 """
 import os
 import re
@@ -407,7 +409,10 @@ def limits(folder):
 # Names that mean something to a shell, or that reports escape.
 NAMES = ["a;b$(touch ran).txt", "it's `touch ran`.txt", "it's & 'it'", "Brief an M\u00fcller.pdf",
          "interview 3.wav", "#hash&amp;.txt", "100% fertig.txt", "a%25b", "line\nfeed\ttab",
-         "\033[2J\u009b", "*?", "a\\nb", "!x"]
+         "\033[2J\u009b", "*?", "a\\nb", "!x", "photo \u202egpj.exe", "\u2067a\u2069 \u200fb\u061c",
+         "a\u2028b\u2029"]
+# Marks of direction (Unicode's `Bidi_Control`), and what ends a line or a paragraph.
+TURNING = re.compile("[\u061c\u200e\u200f\u2028-\u202e\u2066-\u2069]")
 
 
 def pasted(folder):
@@ -422,6 +427,7 @@ def pasted(folder):
         write(root + "/o/v1/content/" + name, "x")
         out = ran([PROGRAM, "night", "--create", "--state", "%s/state-%d" % (folder, number),
                    "--", root])[1]
+        check("nothing turns a line around: %r" % name, TURNING.findall(out), [])
         command = out.partition("\tTo look again: ")[2].partition("\n")[0]
         status, found, said = ran(["sh", "-c", command], cwd=folder, PATH=path)
         wrong = [line for line in ran([PROGRAM, "audit", "--", root])[1].splitlines(True)

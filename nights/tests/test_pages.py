@@ -7,7 +7,7 @@ import re
 from html.parser import HTMLParser
 
 from nights.tests.test_night_states import NOW, Asked, Program, at, night_of
-from ocfl_scrub_reports import markup, page, units
+from ocfl_scrub_reports import expected, markup, page, repair, units
 from ocfl_scrub_reports.statement import ADDED, FORM
 
 # Names as reports write them, and as a page shows them: what is not seen, or changes the order of
@@ -18,6 +18,9 @@ NAMES = [(b"a b", "a b"), (b"%C3%BC", "\xfc"), (b"<script>alert(1)<!--", "<scrip
          (b"%E2%80%8B", "[%E2%80%8B]"), (b"%FF%C3", "[%FF][%C3]"), (b"%251B", "%1B"),
          (b"%D7%90", "\u05d0"), (b"]]>-->", "]]>-->"), (b" a  ", " a[%20][%20]"),
          (b"%2520", "%20")]
+# What the program writes as bytes in a message: marks of direction (Unicode's `Bidi_Control`), and
+# what ends a line or a paragraph.
+TURNING = "\u061c\u200e\u200f\u2028\u2029\u202a\u202b\u202c\u202d\u202e\u2066\u2067\u2068\u2069"
 ROOT = "/srv/<b>%22%E2%80%AE"
 DAMAGED = hashlib.sha512(b"1").hexdigest(), hashlib.sha512(b"2").hexdigest()
 FIRST = (b"ok\t.\t-\nok\to\t-\nok\to/v1/content/a\t3\nok\to/v1/content/b\t1200\n"
@@ -73,6 +76,15 @@ class Texts(Asked):
     def test_ids(self):
         """An id of JSON can have halves of characters."""
         self.assertEqual(Read(markup.text("\ud800\udcff<")).text, "[%ED%A0%80][%FF]<")
+
+    def test_what_turns_a_line_around(self):
+        for it in TURNING:
+            data = it.encode()
+            percents = "".join("%%%02X" % byte for byte in data)
+            self.assertEqual((Read(markup.text("a" + it)).text, expected.shown("a" + it)),
+                             ("a[%s]" % percents, "a" + percents))
+            self.assertEqual(repair.word(b"a" + data),
+                             b"$'a%s'" % b"".join(b"\\x%02x" % byte for byte in data))
 
     def test_sizes(self):
         for count, shown in [(0, "0 bytes"), (1, "1 byte"), (999, "999 bytes"), (1000, "1 kB"),

@@ -14,5 +14,6 @@ pub mod Groups
 pub mod Tallies
 pub mod Sizes
 pub mod Quotes
+pub mod Controls
 pub mod LineCounts
 pub mod ClosingLines

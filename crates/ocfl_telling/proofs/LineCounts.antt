@@ -6,15 +6,16 @@ use Rattle.std.specs.{Prelude.{IfSome, Option, Some, None, ◌&&◌, nat_lt}, Li
 use Rattle.ocfl_tree.specs.{Name.{IsName, IsPlace}, Path.{slashed}, Place.{Text, Place}}
 use Rattle.ocfl_report.specs.{Text.{code_text, escape, place_text}, declared.code.Code.{Code}}
 use Rattle.ocfl_report.specs.declared.code.Code.TheVariants.{Clean, E001, E003, E007, E015, E017, E018, E023, E024, E025, E033, E036, E041, E058, E060, E061, E063, E069, E072, E073, E076, E080, E092, E093, E096, E097, E099, E100, E101, S01, S02, S03, S04, S05, S06, S07, S08}
-use Rattle.ocfl_report.proofs.{Bytes.{utf8_bytes}, CodeTexts.{code_text_printable}, Escapes.{escape_printable}, LineTexts.{no_line_feed}, Numbers.{decimal_no_line_feed}, PlaceTexts.{place_text_printable}}
+use Rattle.ocfl_report.proofs.{Bytes.{utf8_bytes}, CodeTexts.{code_text_printable}, Escapes.{escape_printable}, LineTexts.{no_line_feed}, Numbers.{decimal_no_line_feed}, PlaceTexts.{place_text_printable}, ReadPaths.{path_utf8}}
 use Rattle.ocfl_codes.specs.Meaning.{meaning_of}
-use Rattle.ocfl_telling.specs.{Command.{is_plain, over_text, path_text}, Finding.{Finding, IsPlaced}, Quoted.{has_control, has_control_after, quoted, quoted_byte}}
+use Rattle.ocfl_telling.specs.{Command.{is_plain, over_text, path_text}, Finding.{Finding, IsPlaced}, Quoted.{has_control, quoted, quoted_byte}}
 use Rattle.ocfl_telling.specs.Grouped.{below_text, brief_head, brief_text, count_with, fit_text, group_text, groups_text, inner_text, is_with, lead_with, leads_after, leads_of, led_by, line_count, others_text, shown_group, shown_leads}
 use Rattle.ocfl_codes.specs.declared.weight.Weight.{Weight}
 use Rattle.ocfl_codes.specs.declared.weight.Weight.TheVariants.{Bytes, Object, Record, Position}
 use Rattle.ocfl_telling.specs.{Gravest.{by_weight, gravest, is_of_weight, most_kept, of_weight}, Many.{many_text, word_text}, declared.night.Night.{Night}}
 use Rattle.ocfl_telling.specs.Night.{IsNamed, findings_command, head_text, hint_text, more_text, most_lines, night_text, room_of_groups, runs_text, whose_text}
 use Rattle.ocfl_telling.specs.Wording.{at_space, coded_text, has_digests, is_missing, path_part, words_text}
+use Rattle.ocfl_telling.proofs.Controls.{no_line_feeds, plain_has_none}
 
 -- ---- texts without a line feed
 
@@ -33,24 +34,14 @@ place_flat p h = none (place_text p) (no_line_feed (place_text p) (place_text_pr
 code_flat : (c : Code) → line_count (code_text c) ≡ 0
 code_flat c = none (code_text c) (no_line_feed (code_text c) (code_text_printable c))
 
-no_control : (before : ℕ) (t : Text) → has_control_after before t ≡ false → line_count t ≡ 0
-no_control before [] e = refl
-no_control before (b ∷ t) e =
-    let other : (b == 10) ≡ false = grind (arith, nat_tests, e) in
-    let rest : has_control_after b t ≡ false = grind (arith, nat_tests, e) in
-    rw other (no_control b t rest)
-
-plain_flat : (t : Text) → is_plain t ≡ true → line_count t ≡ 0
-plain_flat [] e = refl
-plain_flat (b ∷ t) e =
-    let fine : has_control (b ∷ t) ≡ false = grind (arith, nat_tests, e) in
-    no_control 0 (b ∷ t) fine
+plain_flat : (t : Text) → IsUtf8 t → is_plain t ≡ true → line_count t ≡ 0
+plain_flat t u e = none t (no_line_feeds t u (plain_has_none t e))
 
 pub path_flat : (p : Place) → IsPlace p → line_count (path_text p) ≡ 0
 path_flat p h = by (is_plain (slashed p)) refl
   where
     by : (b : Bool) → is_plain (slashed p) ≡ b → line_count (cond b (slashed p) (place_text p)) ≡ 0
-    by true e = plain_flat (slashed p) e
+    by true e = plain_flat (slashed p) (path_utf8 p h) e
     by false e = place_flat p h
 
 meaning_flat : (c : Code) → line_count (meaning_of c) ≡ 0
@@ -190,18 +181,18 @@ escape_flat t h = none (escape t) (no_line_feed (escape t) (escape_printable t (
 pub digits_flat : (n : ℕ) → n < 2 ^ 64 → line_count (decimal n) ≡ 0
 digits_flat n l = none (decimal n) (decimal_no_line_feed n (omega (arith, l)))
 
-quotes_flat : (before : ℕ) (t : Text) → has_control_after before t ≡ false → line_count (flat_map quoted_byte t) ≡ 0
-quotes_flat before [] e = refl
-quotes_flat before (b ∷ t) e =
-    let other : (b == 10) ≡ false = grind (arith, nat_tests, e) in
-    let rest : has_control_after b t ≡ false = grind (arith, nat_tests, e) in
+quotes_flat : (t : Text) → All (λ b. b ≢ 10) t → line_count (flat_map quoted_byte t) ≡ 0
+quotes_flat [] h = refl
+quotes_flat (b ∷ t) h =
+    let other : (b == 10) ≡ false = grind (arith, nat_tests, All-head (λ c. c ≢ 10) b t h) in
+    let rest = All-tail (λ c. c ≢ 10) b t h in
     let one : line_count (b ∷ []) ≡ 0 = rw other refl in
     let first : line_count (quoted_byte b) ≡ 0 = elim (b == 39) as (λ q. line_count (cond q (39 ∷ 92 ∷ 39 ∷ 39 ∷ []) (b ∷ [])) ≡ 0) [ true ↦ refl | false ↦ one ] in
-    both (quoted_byte b) (flat_map quoted_byte t) ∙ omega (arith, first, quotes_flat b t rest)
+    both (quoted_byte b) (flat_map quoted_byte t) ∙ omega (arith, first, quotes_flat t rest)
 
-quoted_flat : (t : Text) → has_control t ≡ false → line_count (quoted t) ≡ 0
-quoted_flat t e =
-    let inner : line_count (flat_map quoted_byte t ++ 39 ∷ []) ≡ 0 = both (flat_map quoted_byte t) (39 ∷ []) ∙ omega (arith, quotes_flat 0 t e) in
+quoted_flat : (t : Text) → IsUtf8 t → has_control t ≡ false → line_count (quoted t) ≡ 0
+quoted_flat t u e =
+    let inner : line_count (flat_map quoted_byte t ++ 39 ∷ []) ≡ 0 = both (flat_map quoted_byte t) (39 ∷ []) ∙ omega (arith, quotes_flat t (no_line_feeds t u e)) in
     rw e inner
 
 pub over_flat : (command file : Text) → line_count command ≡ 0 → IsUtf8 file → line_count (over_text command file) ≡ 0
@@ -209,7 +200,7 @@ over_flat command file plain h = by (has_control file) refl
   where
     by : (b : Bool) → has_control file ≡ b → line_count (cond b (escape file) ((command ++ codes " ") ++ quoted file)) ≡ 0
     by true e = escape_flat file h
-    by false e = both (command ++ codes " ") (quoted file) ∙ omega (arith, both command (codes " "), plain, quoted_flat file e)
+    by false e = both (command ++ codes " ") (quoted file) ∙ omega (arith, both command (codes " "), plain, quoted_flat file h e)
 
 pub more_short : (command file : Text) (n : ℕ) → line_count command ≡ 0 → IsUtf8 file → n < 2 ^ 64 → line_count (more_text command file n) ≤ 1
 more_short command file n plain h l =

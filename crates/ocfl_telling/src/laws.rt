@@ -1,9 +1,10 @@
 //! The laws of findings by weight and in groups, and of lists of known findings.
-ghost use Rattle.std.specs.Prelude.{◌≡◌, ◌^◌, ◌<◌, ◌≤◌, ℕ, All, List, length};
-ghost use Rattle.ocfl_tree.specs.Place.{Text};
+ghost use Rattle.std.specs.{Prelude.{◌≡◌, ◌^◌, ◌<◌, ◌≤◌, ℕ, All, List, false, length}, Str.{IsUtf8}};
+ghost use Rattle.ocfl_tree.specs.{Name.{IsPlace}, Place.{Text, Place as ModelPlace}};
 ghost use Rattle.ocfl_report.specs.Line.{Line as ModelLine};
 ghost use Rattle.std.specs.List.Sorted.{IsPermutation};
 ghost use Rattle.ocfl_telling.specs.{Finding.{Finding as ModelFinding, IsPlaced}, Known.{is_known}};
+ghost use Rattle.ocfl_telling.specs.{Command.{path_text}, Quoted.{has_control, quoted}};
 ghost use Rattle.ocfl_telling.specs.Grouped.{groups_text, line_count};
 ghost use Rattle.ocfl_telling.specs.{Gravest.{findings, by_weight}, declared.night.Night.{Night}};
 ghost use Rattle.ocfl_telling.specs.{Night.{IsNamed, most_lines, night_text}, declared.closing.Closing.{Closing}};
@@ -21,6 +22,18 @@ pub fn all_findings_are_ordered()
 pub fn order_of_entries_does_not_matter()
     ensures { (es fs : List ModelEntry) (l : ModelLine) → IsPermutation es fs
         → is_known es l ≡ is_known fs l }
+{}
+
+/// No path in a message has a character that is obeyed and not shown, whatever its names have.
+#[tactic(auto, using(crate::proofs::Controls::path_has_none))]
+pub fn paths_are_shown()
+    ensures { (p : ModelPlace) → IsPlace p → has_control (path_text p) ≡ false }
+{}
+
+/// No word of a command that is pasted has one, whatever text it is of.
+#[tactic(auto, using(crate::proofs::Controls::word_has_none))]
+pub fn words_of_commands_are_shown()
+    ensures { (text : Text) → IsUtf8 text → has_control (quoted text) ≡ false }
 {}
 
 /// Groups of findings have no more lines than there is room for, whatever the names in their places.

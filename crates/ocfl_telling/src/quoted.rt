@@ -1,16 +1,17 @@
 //! A text as a word of a command line that is pasted.
 ghost use Rattle.std.specs.Prelude.{◌≡◌, Some, flat_map};
 ghost use Rattle.ocfl_report.specs.Text.{escape};
-ghost use Rattle.ocfl_telling.specs.Quoted.{has_control as has_control_in, has_control_after, is_control as is_control_after, quoted, quoted_byte};
+ghost use Rattle.ocfl_telling.specs.Quoted.{has_control as has_control_in, is_control as is_control_character, is_direction as is_direction_mark, quoted, quoted_byte};
 
 use crate::shown::ESCAPED;
 use percent_encoding::percent_encode;
 use std::fmt;
 
 /// A text whose `Display` is one word of a command line for a POSIX shell: it stands in single
-/// quotes, with `'\''` for each quote in it. A text that has a control character is escaped first,
-/// as in reports. So nothing of it ends the word or the line, runs a command or moves the cursor of
-/// a terminal.
+/// quotes, with `'\''` for each quote in it. A text that has a control character, a mark of
+/// direction (`Bidi_Control` of Unicode 15.0), U+2028 or U+2029 is escaped first, as in reports. So
+/// nothing of it ends the word or the line, runs a command, moves the cursor of a terminal or turns
+/// the line around.
 #[derive(Clone, Copy)]
 pub struct Quoted<'a>(pub &'a str);
 
@@ -57,23 +58,28 @@ impl fmt::Display for EscapedWithin<'_> {
     }
 }
 
-/// Whether a text has a control character: of ASCII, or U+0080 to U+009F.
+/// Whether a text has a character that is obeyed and not shown.
 pub(crate) fn has_control(text: &str) -> bool
     ensures { result ≡ has_control_in text.now }
 {
-    let mut before = 0;
-    for byte in text.as_bytes() {
-        if is_control(before, *byte) {
-            return true;
-        }
-        before = *byte;
-    }
-    false
+    text.chars().any(|c| is_control(c))
 }
 
-/// Whether a control character ends with this byte.
-fn is_control(before: u8, byte: u8) -> bool
-    ensures { result ≡ is_control_after before byte }
+/// Whether a terminal or a viewer obeys this character in place of showing it: a control code, a
+/// mark of direction, or the end of a line or of a paragraph.
+fn is_control(c: char) -> bool
+    ensures { result ≡ is_control_character c }
 {
-    byte < 32 || byte == 127 || before == 194 && byte < 160
+    c.is_control() || is_direction(c) || matches!(c, '\u{2028}' | '\u{2029}')
+}
+
+/// Whether it is a mark of direction, which can turn around what stands before and behind it.
+fn is_direction(c: char) -> bool
+    ensures { result ≡ is_direction_mark c }
+{
+    match c {
+        '\u{61c}' | '\u{200e}' | '\u{200f}' => true,
+        '\u{202a}'..='\u{202e}' | '\u{2066}'..='\u{2069}' => true,
+        _ => false,
+    }
 }

@@ -107,7 +107,7 @@ fn findings_of_an_object_come_together(rt: HostRuntime) -> Result<(), Fail> {
 }
 
 /// A storage root, the path of a place in reports, and the words of the command to look at it.
-const COMMANDS: [(&str, &str, &str); 9] = [
+const COMMANDS: [(&str, &str, &str); 10] = [
     ("/srv/ocfl", "a/f.txt", "'/srv/ocfl' 'a/f.txt'"),
     ("/srv/ocfl", ".", "'/srv/ocfl' '.'"),
     (
@@ -129,6 +129,11 @@ const COMMANDS: [(&str, &str, &str); 9] = [
     ("/srv/ocfl", "a%25b", "'/srv/ocfl' 'a%25b'"),
     ("/srv/ocfl", "a%0A'b", "'/srv/ocfl' 'a%0A'\\''b'"),
     ("/srv/ocfl", "a%C2%9B2J", "'/srv/ocfl' 'a%C2%9B2J'"),
+    (
+        "/srv/ocfl",
+        "photo %E2%80%AEgpj.exe",
+        "'/srv/ocfl' 'photo %E2%80%AEgpj.exe'",
+    ),
     ("/srv/ocfl", "-r/f", "-- '/srv/ocfl' '-r/f'"),
 ];
 
@@ -151,13 +156,15 @@ fn nights_show_a_command_to_paste(rt: HostRuntime) -> Result<(), Fail> {
 }
 
 /// A text, and as a word of a command line.
-const QUOTED: [(&str, &str); 6] = [
+const QUOTED: [(&str, &str); 8] = [
     ("", "''"),
     ("a b", "'a b'"),
     ("'", "''\\'''"),
     ("$(ran)`ran`;\\", "'$(ran)`ran`;\\'"),
     ("100% \u{fc}", "'100% \u{fc}'"),
     ("\u{fc}%\u{1b}[2J'", "'%C3%BC%25%1B[2J'\\'''"),
+    ("\u{fc}'\u{202e}'", "'%C3%BC'\\''%E2%80%AE'\\'''"),
+    ("\u{fc}\u{200d}\u{2060}", "'\u{fc}\u{200d}\u{2060}'"),
 ];
 
 #[test]
@@ -165,6 +172,50 @@ fn texts_are_quoted(rt: HostRuntime) -> Result<(), Fail> {
     for (text, word) in QUOTED {
         let quoted = format!(in rt.alloc(); "{}", Quoted(text))?;
         assert_eq!(rt; quoted.as_str(), word, "{text}");
+    }
+    Ok(())
+}
+
+/// Marks of direction (`Bidi_Control` of Unicode 15.0), and what ends a line or a paragraph.
+const TURNING: [(&str, &str); 14] = [
+    ("\u{61c}", "%D8%9C"),
+    ("\u{200e}", "%E2%80%8E"),
+    ("\u{200f}", "%E2%80%8F"),
+    ("\u{2028}", "%E2%80%A8"),
+    ("\u{2029}", "%E2%80%A9"),
+    ("\u{202a}", "%E2%80%AA"),
+    ("\u{202b}", "%E2%80%AB"),
+    ("\u{202c}", "%E2%80%AC"),
+    ("\u{202d}", "%E2%80%AD"),
+    ("\u{202e}", "%E2%80%AE"),
+    ("\u{2066}", "%E2%81%A6"),
+    ("\u{2067}", "%E2%81%A7"),
+    ("\u{2068}", "%E2%81%A8"),
+    ("\u{2069}", "%E2%81%A9"),
+];
+
+#[test]
+fn no_name_turns_a_line_around(rt: HostRuntime) -> Result<(), Fail> {
+    let alloc = rt.alloc();
+    let known = Known::new(alloc);
+    for (mark, bytes) in TURNING {
+        let report = format!(in alloc; "E092\ta{bytes}b/f\tmd5 missing\n")?;
+        let found = found_in(alloc, &known, report.as_str(), 1000)?;
+        let text = String::from_utf8(night_text(alloc, &NIGHT, &found)?)?;
+        let wanted = format!(in alloc; "\ta{bytes}b/f: missing (E092)\n")?;
+        assert!(rt; text.as_str().contains(wanted.as_str()), "{bytes}");
+        assert!(rt; !text.as_str().contains(mark), "{bytes}");
+        let root = format!(in alloc; "/srv/{mark}")?;
+        let night = Night {
+            root: root.as_str(),
+            ..NIGHT
+        };
+        let text = String::from_utf8(night_text(alloc, &night, &found)?)?;
+        assert!(rt; !text.as_str().contains(mark), "{bytes} in the root");
+        assert!(rt;
+            !text.as_str().contains("To look again"),
+            "{bytes} in the root"
+        );
     }
     Ok(())
 }

@@ -3,13 +3,16 @@ use Rattle.std.proofs.Common.{◌≡◌, ◌≢◌, ◌⊎◌, ⊎_elim, inl, in
 use Rattle.std.proofs.lemmas.List.{append-nil}
 use Rattle.std.specs.Prelude.{IfOk}
 use Rattle.ocfl_tree.specs.{Place.{Text, Place, place_cmp}, Ascending.{IsAmong, IsAscending}, StorageRoot.{StorageRoot}, Store.{Store}}
+use Rattle.ocfl_audit.specs.Parts.{Part}
 use Rattle.ocfl_cursor.specs.{Cursor.{Cursor, State, ended}, declared.limits.Limits.{Limits}}
+use Rattle.ocfl_scrub.specs.{Keeping.{met_at, met_in}, declared.kept.KeptWalk.{KeptWalk}}
 use Rattle.ocfl_scrub.specs.{Joining.{is_taken}, Running.{begun, begun_in}, declared.running.RunEnd.{RunEnd}}
 use Rattle.ocfl_scrub.specs.declared.running.RunStatus.{RunStatus}
 use Rattle.ocfl_scrub.specs.declared.running.RunStatus.TheVariants as status
 use Rattle.ocfl_state.specs.{Checkpoint.{Checkpoint}, Content.{Content}, Crash.{LeavesOnly, Outcomes, Passes, Step}}
 use Rattle.ocfl_state.specs.declared.checkpoint_parts.{Phase.TheVariants.{Open, Closing}, ReportMark.{ReportMark}}
-use Rattle.ocfl_night.specs.Again.{AreFew, AreLegs, GoesOn, HasDone, IsLittleAgain, IsOpened, Leg, heard_in, made_by, took_by}
+use Rattle.ocfl_night.specs.Again.{AreFew, AreLegs, GoesOn, HasDone, IsLittleAgain, IsMetAfter, IsOpened, Leg, heard_in, made_by, took_by}
+use Rattle.ocfl_night.specs.Asking.{AskedFrom, GaveAll, IsMetBy, MayAskFrom, declaring}
 use Rattle.ocfl_night.specs.{Clock.{Event, Asked, Read, Heard}, Done.{Done}, Runs.{IsAllowed, Run, StopsOpen, Turn, after_end, after_made, events_of, turn_of}}
 use Rattle.ocfl_night.specs.Ending.{IsAway, IsMadeBy, IsNextBy, IsSlice, IsUnkept, KeepsTo, cycle_in, cycle_of, place_or_pause, slice_end}
 use Rattle.ocfl_night.specs.{Looks.{Counts, Rounds}, Promises.{IfThere}, Reading.{AreBeyond, AreTaken, ReadsBeyond, StaysTaken, content_since, reached, reached_in}}
@@ -22,8 +25,8 @@ use Rattle.ocfl_night.specs.declared.slicing.SliceEnd.TheVariants as slice
 use Rattle.ocfl_tree.proofs.Stores.{among_either}
 use Rattle.ocfl_audit.proofs.BelowLaws.{ascends_append}
 use Rattle.ocfl_scrub.proofs.Lists.{ascends_left}
-use Rattle.ocfl_night.proofs.{Beginnings.{cycle_next}, Foreigners.{at_once}, Looks.{counts_none, counts_on}, Moments.{OnlyNow, joined_moments, leaves, leaves_weaker, left_after, unmoved}}
-use Rattle.ocfl_night.proofs.{Reading.{content_both, content_first_alone, content_none, reached_next, taken_below}, Runs.{stops_open}, Sound.{closing_of}}
+use Rattle.ocfl_night.proofs.{Beginnings.{cycle_next}, Foreigners.{at_once}, Moments.{OnlyNow, joined_moments, leaves, leaves_weaker, left_after, unmoved}}
+use Rattle.ocfl_night.proofs.{Reading.{content_first_alone, content_none, reached_next, taken_below}, Runs.{stops_open}, Sound.{closing_of}}
 
 -- ---- checkpoints that go on from one another
 
@@ -166,19 +169,21 @@ unheard_paused plan d (pause.Stopped why) is = absurd is
 unheard_paused plan d pause.RootChanged is = absurd is
 
 -- runs after which the night went on, up to a checkpoint
-pub record SoLittle {F : Type 0} (root : StorageRoot) (seen : F → Content) (moment : F → ℕ) (left_since : F → ℕ → Outcomes) (cycle : ℕ) (old now : List Event) (s t : Store) (folder : F) (k : Checkpoint) : Type 0 where
+pub record SoLittle {F : Type 0} (root : StorageRoot) (part : Part) (seen : F → Content) (moment : F → ℕ) (left_since : F → ℕ → Outcomes) (cycle : ℕ) (old now : List Event) (s t : Store) (folder : F) (k : Checkpoint) (met : Option Place) : Type 0 where
   pub legs : List (Leg F)
-  pub are : AreLegs root seen moment left_since cycle s legs t folder
+  pub are : AreLegs root part seen moment left_since cycle s legs t folder
   pub up : IsAscending place_cmp (took_by legs)
   pub taken : AreTaken (reached k) (took_by legs)
+  pub walk : IsMetAfter legs met
   pub events : List Event
   pub are_new : now ≡ old ++ events
   pub heard : heard_in events ≡ made_by legs
 
-pub little_none : {F : Type 0} (root : StorageRoot) (seen : F → Content) (moment : F → ℕ) (left_since : F → ℕ → Outcomes) (cycle : ℕ) (events : List Event) (s : Store) (folder : F) (k : Checkpoint) → SoLittle root seen moment left_since cycle events events s s folder k
-little_none root seen moment left_since cycle events s folder k = record {
+pub little_none : {F : Type 0} (root : StorageRoot) (part : Part) (seen : F → Content) (moment : F → ℕ) (left_since : F → ℕ → Outcomes) (cycle : ℕ) (events : List Event) (s : Store) (folder : F) (k : Checkpoint) (kept : KeptWalk) → kept.met ≡ None → SoLittle root part seen moment left_since cycle events events s s folder k (met_at kept)
+little_none root part seen moment left_since cycle events s folder k kept none = record {
   legs = [];
-  are = (counts_none s, content_none root s);
+  are = refl;
+  walk = ap met_in none;
   up = tt;
   taken = record { each = λ p i. absurd i };
   events = [];
@@ -186,17 +191,22 @@ little_none root seen moment left_since cycle events s folder k = record {
   heard = refl;
 }
 
-module _ {F : Type 0} {root : StorageRoot} {seen : F → Content} {moment : F → ℕ} {left_since : F → ℕ → Outcomes} {cycle : ℕ} {old now : List Event} {s u : Store} {f : F} {k : Checkpoint} (so : SoLittle root seen moment left_since cycle old now s u f k) (same : cycle_of k ≡ cycle) where
+module _ {F : Type 0} {root : StorageRoot} {part : Part} {seen : F → Content} {moment : F → ℕ} {left_since : F → ℕ → Outcomes} {cycle : ℕ} {old now : List Event} {s u : Store} {f : F} {k : Checkpoint} {met : Option Place} (so : SoLittle root part seen moment left_since cycle old now s u f k met) (same : cycle_of k ≡ cycle) where
   done_now : HasDone cycle (took_by so.legs) k
   done_now = inr (sym same, so.taken)
 
   -- no further run is begun
-  pub little_now : {may_leave : F → Outcomes} {rounds : Rounds} {t : Text} {new : List Event} → OnlyNow may_leave moment left_since → IsReady seen may_leave rounds t k f → IsUnheard now new → IsLittleAgain root seen moment left_since cycle old new s u f
+  pub little_now : {may_leave : F → Outcomes} {rounds : Rounds} {t : Text} {new : List Event} → OnlyNow may_leave moment left_since → IsReady seen may_leave rounds t k f → IsUnheard now new → IsLittleAgain root part seen moment left_since cycle old new s u f
   little_now only_now ready more = record {
     legs = so.legs;
     before = u;
     left = f;
     are = so.are;
+    from = k;
+    at = ready.at;
+    met = met;
+    walk = so.walk;
+    asked = inl refl;
     once = subst (IsAscending place_cmp) (sym (ap (λ (ps : List Place). took_by so.legs ++ ps) (content_none root u) ∙ append-nil (took_by so.legs))) so.up;
     crash = unmoved only_now (ready_there (HasDone cycle (took_by so.legs)) done_now ready);
     events = so.events ++ more.more;
@@ -206,7 +216,7 @@ module _ {F : Type 0} {root : StorageRoot} {seen : F → Content} {moment : F �
     one = omega arith;
   }
 
-  module _ (v : Store) (g : F) (beyond : AreBeyond (reached k) (content_since root u v)) (once : IsAscending place_cmp (content_since root u v)) (crash : LeavesOnly moment left_since f g (λ c. IfThere c (GoesOn k))) where
+  module _ (v : Store) (g : F) (beyond : AreBeyond (reached k) (content_since root u v)) (once : IsAscending place_cmp (content_since root u v)) (crash : LeavesOnly moment left_since f g (λ c. IfThere c (GoesOn k))) (there : IsAt k (seen f)) where
     all_once : IsAscending place_cmp (took_by so.legs ++ content_since root u v)
     all_once = ascends_append place_cmp (took_by so.legs) (content_since root u v) so.up once (λ p q i j. taken_below (reached k) p q (so.taken.each p i) (beyond.each q j))
 
@@ -214,12 +224,17 @@ module _ {F : Type 0} {root : StorageRoot} {seen : F → Content} {moment : F �
     still_done = leaves_weaker (λ c there l at. done_more cycle (took_by so.legs) k l done_now (there l at)) crash
 
     -- one that nothing was heard of
-    pub little_begun : {new : List Event} → IsUnheard now new → IsLittleAgain root seen moment left_since cycle old new s v g
-    little_begun more = record {
+    pub little_begun : {new : List Event} → IsUnheard now new → MayAskFrom root part (declaring root) met k u v → IsLittleAgain root part seen moment left_since cycle old new s v g
+    little_begun more ask = record {
       legs = so.legs;
       before = u;
       left = f;
       are = so.are;
+      from = k;
+      at = there;
+      met = met;
+      walk = so.walk;
+      asked = ask;
       once = all_once;
       crash = still_done;
       events = so.events ++ more.more;
@@ -229,7 +244,7 @@ module _ {F : Type 0} {root : StorageRoot} {seen : F → Content} {moment : F �
       one = omega arith;
     }
 
-    module _ (run : Run) {new : List Event} (is : new ≡ now ++ events_of run) where
+    module _ (run : Run) {new : List Event} (is : new ≡ now ++ events_of run) (ask : AskedFrom root part (declaring root) met k (GaveAll k run.made) u v) where
       heard_then : heard_in (so.events ++ events_of run) ≡ made_by so.legs ++ run.made ∷ []
       heard_then = heard_append so.events (events_of run) ∙ ap (λ (l : List Made). l ++ run.made ∷ []) so.heard
 
@@ -237,12 +252,17 @@ module _ {F : Type 0} {root : StorageRoot} {seen : F → Content} {moment : F �
       events_then = is ∙ ap (λ (l : List Event). l ++ events_of run) so.are_new ∙ append_assoc old so.events (events_of run)
 
       -- the last one
-      pub little_last : IsLittleAgain root seen moment left_since cycle old new s v g
+      pub little_last : IsLittleAgain root part seen moment left_since cycle old new s v g
       little_last = record {
         legs = so.legs;
         before = u;
         left = f;
         are = so.are;
+        from = k;
+        at = there;
+        met = met;
+        walk = so.walk;
+        asked = ask;
         once = all_once;
         crash = still_done;
         events = so.events ++ events_of run;
@@ -253,15 +273,16 @@ module _ {F : Type 0} {root : StorageRoot} {seen : F → Content} {moment : F �
       }
 
       -- one after which the night goes on
-      pub little_more : {m : Checkpoint} → IsOpened (reached run.made.checkpoint) run.made.end (content_since root u v) → StaysTaken (reached k) (reached run.made.checkpoint) → reached run.made.checkpoint ≡ reached m
-          → ((why : Pause) → place_or_pause run.made.end ≢ Err (Some why)) → IsAt m (seen g) → m.cursor ≡ run.made.checkpoint.cursor → SoLittle root seen moment left_since cycle old new s v g m
-      little_more {m} opened stays there goes_on at cursor =
+      pub little_more : {m : Checkpoint} {next : Option Place} → IsOpened (reached run.made.checkpoint) run.made.end (content_since root u v) → StaysTaken (reached k) (reached run.made.checkpoint) → reached run.made.checkpoint ≡ reached m
+          → ((why : Pause) → place_or_pause run.made.end ≢ Err (Some why)) → IsAt m (seen g) → m.cursor ≡ run.made.checkpoint.cursor → IsMetBy run.made.end next → SoLittle root part seen moment left_since cycle old new s v g m next
+      little_more {m} opened stays came goes_on at cursor walk =
           record {
-            legs = record { made = run.made; took = opened.took; begun = opened.begun; before = u; after = v; old = f; new = g } ∷ so.legs;
-            are = (refl, refl, record { goes_on = goes_on; opened = opened.are; few = opened.few; once = all_once; crash = still_done; led = record { checkpoint = m; at = at; cursor = cursor } }, so.are);
+            legs = record { from = k; met = met; made = run.made; took = opened.took; begun = opened.begun; before = u; after = v; old = f; new = g } ∷ so.legs;
+            are = (refl, refl, so.walk, record { goes_on = goes_on; at = there; asked = ask; opened = opened.are; few = opened.few; once = all_once; crash = still_done; led = record { checkpoint = m; at = at; cursor = cursor } }, so.are);
             up = ascends_left place_cmp (took_by so.legs ++ opened.took) opened.begun
                 (subst (IsAscending place_cmp) (ap (λ (ps : List Place). took_by so.legs ++ ps) opened.are ∙ sym (append_assoc (took_by so.legs) opened.took opened.begun)) all_once);
-            taken = record { each = λ p i. subst (λ (x : State). is_taken x p ≡ true) there (by p (among_either (took_by so.legs) opened.took p i)) };
+            walk = walk;
+            taken = record { each = λ p i. subst (λ (x : State). is_taken x p ≡ true) came (by p (among_either (took_by so.legs) opened.took p i)) };
             events = so.events ++ events_of run;
             are_new = events_then;
             heard = heard_then;
@@ -293,37 +314,23 @@ same_cursor strict d e {made = made} next going is led = ap (λ (x : Turn). x.ch
     by (Ok p) = done_cursor p made.checkpoint (remedy_at strict d p)
     by (Err why) = refl
 
--- ---- what comes after the runs, and before them
+-- ---- what comes after the runs
 
 -- from the checkpoint that is there another one is put
-pub little_on : {F : Type 0} {root : StorageRoot} {seen : F → Content} {moment : F → ℕ} {left_since : F → ℕ → Outcomes} {cycle : ℕ} {old new : List Event} {s t : Store} {g h : F} {c : Content} {k : Checkpoint} (so : IsLittleAgain root seen moment left_since cycle old new s t g) → IsAt k c → (moment so.left ≤ moment g → left_since g (moment so.left) c)
-    → LeavesOnly moment left_since g h (λ d. IfThere d (GoesOn k)) → IsLittleAgain root seen moment left_since cycle old new s t h
+pub little_on : {F : Type 0} {root : StorageRoot} {part : Part} {seen : F → Content} {moment : F → ℕ} {left_since : F → ℕ → Outcomes} {cycle : ℕ} {old new : List Event} {s t : Store} {g h : F} {c : Content} {k : Checkpoint} (so : IsLittleAgain root part seen moment left_since cycle old new s t g) → IsAt k c → (moment so.left ≤ moment g → left_since g (moment so.left) c)
+    → LeavesOnly moment left_since g h (λ d. IfThere d (GoesOn k)) → IsLittleAgain root part seen moment left_since cycle old new s t h
 little_on {cycle = cycle} {c = c} {k} so at left crash = record {
   legs = so.legs;
   before = so.before;
   left = so.left;
   are = so.are;
+  from = so.from;
+  at = so.at;
+  met = so.met;
+  walk = so.walk;
+  asked = so.asked;
   once = so.once;
   crash = joined_moments so.crash (leaves_weaker (λ d there l then_at. done_more cycle (took_by so.legs) k l (so.crash.each c (left so.crash.later) k at) (there l then_at)) crash);
-  events = so.events;
-  are_new = so.are_new;
-  last = so.last;
-  heard = so.heard;
-  one = so.one;
-}
-
-legs_since : {F : Type 0} (root : StorageRoot) (seen : F → Content) (moment : F → ℕ) (left_since : F → ℕ → Outcomes) (cycle : ℕ) {r s : Store} → Counts r s → content_since root r s ≡ [] → (legs : List (Leg F)) (t : Store) (g : F) → AreLegs root seen moment left_since cycle s legs t g → AreLegs root seen moment left_since cycle r legs t g
-legs_since root seen moment left_since cycle {s = s} counts none [] t g are = (counts_on counts are.0, content_both root counts are.0 ∙ ap (λ (ps : List Place). ps ++ content_since root s t) none ∙ are.1)
-legs_since root seen moment left_since cycle counts none (l ∷ legs) t g are = (are.0, are.1, are.2, legs_since root seen moment left_since cycle counts none legs l.before l.old are.3)
-
-pub little_since : {F : Type 0} {root : StorageRoot} {seen : F → Content} {moment : F → ℕ} {left_since : F → ℕ → Outcomes} {cycle : ℕ} {old new : List Event} {r s t : Store} {g : F} → Counts r s → content_since root r s ≡ [] → IsLittleAgain root seen moment left_since cycle old new s t g → IsLittleAgain root seen moment left_since cycle old new r t g
-little_since {root = root} {seen} {moment} {left_since} {cycle} counts none so = record {
-  legs = so.legs;
-  before = so.before;
-  left = so.left;
-  are = legs_since root seen moment left_since cycle counts none so.legs so.before so.left so.are;
-  once = so.once;
-  crash = so.crash;
   events = so.events;
   are_new = so.are_new;
   last = so.last;

@@ -27,4 +27,5 @@ pub mod Lasting
 pub mod RunsRead
 pub mod Reading
 pub mod Halting
+pub mod Asking
 pub mod Again

@@ -1,10 +1,12 @@
 -- What of a night may be opened again after a crash: what one run opened, and of each run that stopped
--- one file.
-use Rattle.std.specs.Prelude.{◌≡◌, ◌≢◌, ◌⊎◌, ℕ, ◌<◌, ◌≤◌, List, [], ◌∷◌, ◌++◌, Bool, Err, Some, length, ⊤}
+-- one file; and what its store was asked for besides.
+use Rattle.std.specs.Prelude.{◌≡◌, ◌≢◌, ◌⊎◌, ℕ, ◌<◌, ◌≤◌, List, [], ◌∷◌, ◌++◌, Bool, Err, Option, None, Some, length, ⊤}
 use Rattle.ocfl_tree.specs.{Place.{Place, place_cmp}, Ascending.{IsAscending}, StorageRoot.{StorageRoot}, Store.{Store}}
+use Rattle.ocfl_audit.specs.Parts.{Part}
 use Rattle.ocfl_cursor.specs.Cursor.{State}
 use Rattle.ocfl_state.specs.{Checkpoint.{Checkpoint}, Content.{Content}, Crash.{LeavesOnly, Outcomes}}
-use Rattle.ocfl_night.specs.{Beginning.{BeginsAt}, Clock.{Event, Asked, Read, Heard}, Ending.{cycle_of, place_or_pause}, Looks.{Counts}, Promises.{IfReady, IfThere}}
+use Rattle.ocfl_night.specs.Asking.{AskedFrom, AskedLast, GaveAll, HasLooked, IsMetBy, declaring}
+use Rattle.ocfl_night.specs.{Beginning.{BeginsAt}, Clock.{Event, Asked, Read, Heard}, Ending.{cycle_of, place_or_pause}, Promises.{IfReady, IfThere}}
 use Rattle.ocfl_night.specs.{Reading.{AreTaken, StaysTaken, content_since, reached}, Sound.{IsAt}}
 use Rattle.ocfl_night.specs.declared.{plan.Pause.{Pause}, slicing.Made.{Made}, slicing.SliceEnd.{SliceEnd}}
 use Rattle.ocfl_night.specs.declared.slicing.SliceEnd.TheVariants as slice
@@ -42,9 +44,12 @@ pub record IsOpened (to : State) (end : SliceEnd) (ps : List Place) : Type 0 whe
 
 -- ---- a night, run by run
 
--- A run after which the night went on: what it made, the content files that it took and those that it
--- had begun with, and the store and the folder before it and before the next run.
+-- A run after which the night went on: the checkpoint from which it was made, where the walk had met an
+-- item with which it went on, what it made, the content files that it took and those that it had begun
+-- with, and the store and the folder before it and before the next run.
 pub record Leg (F : Type 0) : Type 0 where
+  pub from : Checkpoint
+  pub met : Option Place
   pub made : Made
   pub took : List Place
   pub begun : List Place
@@ -69,23 +74,33 @@ pub record LedTo (made : Made) (c : Content) : Type 0 where
   pub at : IsAt checkpoint c
   pub cursor : checkpoint.cursor ≡ made.checkpoint.cursor
 
--- It opened what it took and had begun with, each once, in order, and none of it had been taken before.
--- Whenever a crash comes in it, the checkpoint that is left has taken all that was taken before it; and
--- where the leg ends, the checkpoint is there to which the run led.
-pub record IsLeg {F : Type 0} (root : StorageRoot) (seen : F → Content) (moment : F → ℕ) (left_since : F → ℕ → Outcomes) (cycle : ℕ) (taken : List Place) (l : Leg F) : Type 0 where
+-- It was made from the checkpoint that was there. Its store was asked for what such a run asks for, and
+-- then no file was opened but those that declare the root, and nothing was listed. It opened what it took
+-- and had begun with, each once, in order, and none of it had been taken before. Whenever a crash comes in
+-- it, the checkpoint that is left has taken all that was taken before it; and where the leg ends, the
+-- checkpoint is there to which the run led.
+pub record IsLeg {F : Type 0} (root : StorageRoot) (part : Part) (seen : F → Content) (moment : F → ℕ) (left_since : F → ℕ → Outcomes) (cycle : ℕ) (taken : List Place) (l : Leg F) : Type 0 where
   pub goes_on : (why : Pause) → place_or_pause l.made.end ≢ Err (Some why)
+  pub at : IsAt l.from (seen l.old)
+  pub asked : AskedFrom root part (declaring root) l.met l.from (GaveAll l.from l.made) l.before l.after
   pub opened : content_since root l.before l.after ≡ l.took ++ l.begun
   pub few : AreFew l.made.end l.begun
   pub once : IsAscending place_cmp (taken ++ content_since root l.before l.after)
   pub crash : LeavesOnly moment left_since l.old l.new (λ c. IfThere c (HasDone cycle taken))
   pub led : LedTo l.made (seen l.new)
 
--- The last one first: each began with the store and the folder that the one before it left. Before the
--- first one no content file was opened.
-abbrev pub AreLegs : {F : Type 0} → StorageRoot → (F → Content) → (F → ℕ) → (F → ℕ → Outcomes) → ℕ → Store → List (Leg F) → Store → F → Type 0
-AreLegs root seen moment left_since cycle began [] now folder = Counts began now × (content_since root began now ≡ [])
-AreLegs root seen moment left_since cycle began (l ∷ earlier) now folder =
-    (l.after ≡ now) × (l.new ≡ folder) × IsLeg root seen moment left_since cycle (took_by earlier) l × AreLegs root seen moment left_since cycle began earlier l.before l.old
+-- the walk with which a run goes on is that of the run before it, if its limits ended that one; else it
+-- begins one, and so does the first
+abbrev pub IsMetAfter : {F : Type 0} → List (Leg F) → Option Place → Type 0
+IsMetAfter [] met = met ≡ None
+IsMetAfter (l ∷ earlier) met = IsMetBy l.made.end met
+
+-- The last one first: each began with the store and the folder that the one before it left, so nothing
+-- is done to them between two.
+abbrev pub AreLegs : {F : Type 0} → StorageRoot → Part → (F → Content) → (F → ℕ) → (F → ℕ → Outcomes) → ℕ → Store → List (Leg F) → Store → F → Type 0
+AreLegs root part seen moment left_since cycle began [] now folder = now ≡ began
+AreLegs root part seen moment left_since cycle began (l ∷ earlier) now folder =
+    (l.after ≡ now) × (l.new ≡ folder) × IsMetAfter earlier l.met × IsLeg root part seen moment left_since cycle (took_by earlier) l × AreLegs root part seen moment left_since cycle began earlier l.before l.old
 
 -- what a clock heard
 abbrev pub heard_in : List Event → List Made
@@ -94,14 +109,19 @@ heard_in (Asked stops ∷ events) = heard_in events
 heard_in (Read now ∷ events) = heard_in events
 heard_in (Heard made ∷ events) = made ∷ heard_in events
 
--- From the store s on a night was runs after which it went on, and then at most one more. What that one
--- opened is all that may be opened again, but for what those had begun with: each file was opened once,
--- in order, and whenever a crash comes, the checkpoint that is left has taken what those took.
-pub record IsLittleAgain {F : Type 0} (root : StorageRoot) (seen : F → Content) (moment : F → ℕ) (left_since : F → ℕ → Outcomes) (cycle : ℕ) (old new : List Event) (s t : Store) (folder : F) : Type 0 where
+-- From the store s on a night was runs after which it went on, and then at most one more, and nothing
+-- else was asked of the store. What that one opened is all that may be opened again, but for what those
+-- had begun with: each file was opened once, in order, and whenever a crash comes, the checkpoint that is
+-- left has taken what those took.
+pub record IsLittleAgain {F : Type 0} (root : StorageRoot) (part : Part) (seen : F → Content) (moment : F → ℕ) (left_since : F → ℕ → Outcomes) (cycle : ℕ) (old new : List Event) (s t : Store) (folder : F) : Type 0 where
   pub legs : List (Leg F)
   pub before : Store
   pub left : F
-  pub are : AreLegs root seen moment left_since cycle s legs before left
+  pub are : AreLegs root part seen moment left_since cycle s legs before left
+  pub from : Checkpoint
+  pub at : IsAt from (seen left)
+  pub met : Option Place
+  pub walk : IsMetAfter legs met
   pub once : IsAscending place_cmp (took_by legs ++ content_since root before t)
   pub crash : LeavesOnly moment left_since left folder (λ c. IfThere c (HasDone cycle (took_by legs)))
   pub events : List Event
@@ -109,9 +129,12 @@ pub record IsLittleAgain {F : Type 0} (root : StorageRoot) (seen : F → Content
   pub last : List Made
   pub heard : heard_in events ≡ made_by legs ++ last
   pub one : length last ≤ 1
+  pub asked : AskedLast root part (declaring root) met from last before t
 
--- from where a night begins
-pub record IsLittleSince {F : Type 0} (create : Bool) (root : StorageRoot) (seen : F → Content) (moment : F → ℕ) (left_since : F → ℕ → Outcomes) (c : Content) (old new : List Event) (s t : Store) (folder : F) : Type 0 where
+-- from where a night begins, once it has looked at the root
+pub record IsLittleSince {F : Type 0} (create : Bool) (root : StorageRoot) (part : Part) (seen : F → Content) (moment : F → ℕ) (left_since : F → ℕ → Outcomes) (c : Content) (old new : List Event) (s t : Store) (folder : F) : Type 0 where
   pub start : Checkpoint
   pub begins : BeginsAt create c start
-  pub little : IsLittleAgain root seen moment left_since (cycle_of start) old new s t folder
+  pub there : Store
+  pub looked : HasLooked root s there
+  pub little : IsLittleAgain root part seen moment left_since (cycle_of start) old new there t folder

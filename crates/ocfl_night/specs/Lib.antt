@@ -19,4 +19,5 @@ pub mod Refusing
 pub mod Stopping
 pub mod Reading
 pub mod Halting
+pub mod Asking
 pub mod Again

@@ -135,15 +135,15 @@ pub fn nothing_is_read_twice()
 /// same cycle. Of what the runs before it had taken, that night opens nothing. So what it opens
 /// again is what this one run had opened, and those that stopped had begun with.
 pub fn what_is_opened_again_is_one_runs<S: StateFolder>()
-    ensures in_it { (root : StorageRoot) (cycle : ℕ) (taken : List Place) (leg : Leg S)
-        → IsLeg root S.seen S.moment S.left_since cycle taken leg
+    ensures in_it { (root : StorageRoot) (part : Part) (cycle : ℕ) (taken : List Place)
+        (leg : Leg S) → IsLeg root part S.seen S.moment S.left_since cycle taken leg
         → (c : Content) → S.left_since leg.new (S.moment leg.old) c
         → (k : Checkpoint) → IsAt k c → k.phase ≡ Open → cycle_of k ≡ cycle
         → (opened : List Place) → ReadsBeyond c opened
         → (p : Place) → IsAmong taken p → IsAmong opened p → ⊥ }
-    ensures in_the_last { (root : StorageRoot) (cycle : ℕ) (old new : List Event) (s t : Store)
-        (folder : S)
-        (night : IsLittleAgain root S.seen S.moment S.left_since cycle old new s t folder)
+    ensures in_the_last { (root : StorageRoot) (part : Part) (cycle : ℕ) (old new : List Event)
+        (s t : Store) (folder : S) (night : IsLittleAgain root part S.seen S.moment S.left_since
+        cycle old new s t folder)
         → (c : Content) → S.left_since folder (S.moment night.left) c
         → (k : Checkpoint) → IsAt k c → k.phase ≡ Open → cycle_of k ≡ cycle
         → (opened : List Place) → ReadsBeyond c opened

@@ -1,8 +1,8 @@
 //! A night.
-ghost use Rattle.std.specs.Prelude.{◌≡◌, ◌≢◌, ◌⊎◌, ◌↔◌, ◌≤◌, [], IfOk, IfSome, IsErr, All, IsOk, IsSome, IsTrue, List, Err, Ok, OnErr, OnOk, Some, false, true, length, ℕ};
+ghost use Rattle.std.specs.Prelude.{◌≡◌, ◌≢◌, ◌⊎◌, ◌↔◌, ◌≤◌, ◌∷◌, [], IfOk, IfSome, IsErr, All, IsOk, IsSome, IsTrue, List, Err, Ok, OnErr, OnOk, Some, false, true, length, ℕ};
 ghost use Rattle.ocfl_audit.specs.Parts.{Part as ModelPart};
 ghost use Rattle.ocfl_tree.specs.{Place.{Text}, StorageRoot.{StorageRoot}, Store.{IfTold}};
-ghost use Rattle.ocfl_scrub.specs.Starting.{part_of};
+ghost use Rattle.ocfl_scrub.specs.{Keeping.{met_at}, Starting.{part_of}};
 ghost use Rattle.ocfl_state.specs.{Content.{Closed}, Crash.{LeavesOnly}};
 ghost use Rattle.ocfl_state.specs.declared.checkpoint_parts.Phase.TheVariants.{Open};
 ghost use Rattle.ocfl_night.specs.Leaving.{LeadsOn, MayHaveLeftAt, MayLeave, StillMayLeave, branch_at, done_by, has_end, remedy_at, with_remedy};
@@ -16,6 +16,7 @@ ghost use Rattle.ocfl_night.specs.Reading.{AreBeyond, AreDeclarations, EndsInOrd
 ghost use Rattle.ocfl_night.specs.Sound.{IsAllSaid, IsAt, IsHeard, IsHeardSince, IsKept, IsOneMore, IsReady, IsReadySince, IsSound};
 ghost use Rattle.ocfl_night.specs.{Beginning.{BeginsAt, StandsAt}, Clock.{is_before}, Done.{done_of}};
 ghost use Rattle.ocfl_night.specs.Again.{IsLittleAgain, IsLittleSince, OnlyGoesOn};
+ghost use Rattle.ocfl_night.specs.Asking.{HasLooked, IsDeclaredBy, IsMetBy, LooksOnly, declaring};
 ghost use Rattle.ocfl_night.specs.Halting.{AreFailed};
 ghost use Rattle.ocfl_night.specs.Runs.{AreMade, EndsBy, IsAllowed, IsEndedBy, IsNight, MayHaveLeft, StopsOpen, after_made, turn_of};
 ghost use Rattle.ocfl_night.specs.Ending.{cycle_ended, cycle_of, ended_by, halt_after, halt_of, place_or_pause, unbegun_by};
@@ -218,6 +219,7 @@ fn go_on_after<S: StateFolder>(
     ensures walk { (part : ModelPart) (root : StorageRoot)
         → IsWalkAt root part made.checkpoint kept.old
         → IfOk result (λ next. IsWalkAt root part next.0 kept.new) }
+    ensures met { IsMetBy made.end (met_at kept.old) → IsMetBy made.end (met_at kept.new) }
     ensures left { StillMayLeave plan.now.stop_at_faults tally.old tally.new }
     ensures turn { StopsOpen made → IfOk result (λ next. turn_of (done_of tally.new) next
         ≡ after_made plan.now.stop_at_faults (done_of tally.old) made) }
@@ -279,9 +281,9 @@ fn runs<S: StateFolder, T: Tree, C: Clock>(
         (halt_after (cycle_ended next.0.phase next.0.cursor.cycle) next.1)
         (content_since root (T.state tree.old) (T.state tree.new)))) }
     ensures again { IsTrue C.told → IsTrue S.told → AreDeclarations identity.now
-        → OverShort T.told (T.state tree.old) (λ root.
+        → OverShort T.told (T.state tree.old) (λ root. IsDeclaredBy root identity.now →
         IfReadyIn S.seen S.may_leave (of_any (part_of part.now)) start folder.old (λ _.
-        IsLittleAgain root S.seen S.moment S.left_since (cycle_of start)
+        IsLittleAgain root (part_of part.now) S.seen S.moment S.left_since (cycle_of start)
         (C.events clock.old) (C.events clock.new)
         (T.state tree.old) (T.state tree.new) folder.new)) }
     ensures closed { IsTrue S.told → OnOk result (SameClosed S.seen folder.old folder.new) }
@@ -406,9 +408,9 @@ fn make_runs<S: StateFolder, T: Tree, C: Clock, O: Output>(
         → IsReadTo (T.state tree.old) (T.state tree.new) (reached checkpoint) end
         (S.seen folder.new) (content_since root (T.state tree.old) (T.state tree.new))))) }
     ensures again { IsTrue C.told → IsTrue S.told → AreDeclarations identity.now
-        → OverShort T.told (T.state tree.old) (λ root.
+        → OverShort T.told (T.state tree.old) (λ root. IsDeclaredBy root identity.now →
         IfReadyIn S.seen S.may_leave (of_any (part_of part.now)) checkpoint folder.old (λ _.
-        IsLittleAgain root S.seen S.moment S.left_since (cycle_of checkpoint)
+        IsLittleAgain root (part_of part.now) S.seen S.moment S.left_since (cycle_of checkpoint)
         (C.events clock.old) (C.events clock.new)
         (T.state tree.old) (T.state tree.new) folder.new)) }
     ensures grew { Grows (O.said out.old) (O.said out.new) }
@@ -479,6 +481,10 @@ fn set_out<S: StateFolder, T: Tree, O: Output>(
         Counts (T.state tree.old) (T.state tree.new)) }
     ensures content { OverShort T.told (T.state tree.old) (λ root.
         content_since root (T.state tree.old) (T.state tree.new) ≡ []) }
+    ensures looks { OverShort T.told (T.state tree.old) (λ root.
+        LooksOnly (declaring root) ([] ∷ []) (T.state tree.old) (T.state tree.new)) }
+    ensures declared { IfTold T.told (T.state tree.old) (λ root.
+        IfOk result (λ begun. IsDeclaredBy root begun.identity)) }
     ensures declares { IfTold T.told (T.state tree.old) (λ root.
         IfOk result (λ begun. AreDeclarations begun.identity)) }
     ensures heard { IsTrue S.told → (rounds : Rounds)
@@ -575,11 +581,16 @@ pub fn night<S: StateFolder, T: Tree, C: Clock, O: Output>(
     // However it ends, it opens each content file at most once, but for one of each run that stopped.
     // Whenever a crash comes, the checkpoint that is left has taken what the runs before had taken:
     // what is opened again after it is what one run had opened, and those that stopped had begun with.
+    //
+    // Its store is asked for what its runs ask for, one after the other. Each goes on with the walk
+    // of the one before it, if its limits ended that one. Between two, before the first and after
+    // the last no file is opened but those that declare the root, and nothing is listed but, when
+    // the night begins, the top folder.
     ensures again { IsTrue C.told → IsTrue S.told → OverShort T.told (T.state tree.old) (λ root.
         IsKept S.may_leave (of_any (part_at site.now.ends)) folder.old
-        → (content_since root (T.state tree.old) (T.state tree.new) ≡ [])
-        ⊎ IsLittleSince plan.now.create root S.seen S.moment S.left_since (S.seen folder.old)
-        (C.events clock.old) (C.events clock.new)
+        → HasLooked root (T.state tree.old) (T.state tree.new)
+        ⊎ IsLittleSince plan.now.create root (part_at site.now.ends) S.seen S.moment S.left_since
+        (S.seen folder.old) (C.events clock.old) (C.events clock.new)
         (T.state tree.old) (T.state tree.new) folder.new) }
 
     // Unless it is refused or something is troubled, all of the report is said, also what earlier

@@ -1,8 +1,8 @@
 //! A slice: one run, whose lines are appended, come to the disk, and then count.
-ghost use Rattle.std.specs.Prelude.{◌≡◌, ◌≢◌, ◌⊎◌, ◌++◌, IfErr, IfNone, IfOk, IsTrue, OnOk, length, true};
+ghost use Rattle.std.specs.Prelude.{◌≡◌, ◌≢◌, ◌⊎◌, ◌++◌, IfErr, IfNone, IfOk, IsTrue, OnErr, OnOk, length, true, ⊤};
 ghost use Rattle.ocfl_tree.specs.{Ascending.{IsAscending}, Place.{Text, place_cmp}, StorageRoot.{StorageRoot}, Store.{IfTold}};
 ghost use Rattle.ocfl_item.specs.Judging.{HasShortFiles};
-ghost use Rattle.ocfl_scrub.specs.{Keeping.{IsReady as IsWalkReady}, Running.{IsWorn, begun, place_in}};
+ghost use Rattle.ocfl_scrub.specs.{Keeping.{IsReady as IsWalkReady, met_at}, Running.{IsWorn, begun, place_in}};
 ghost use Rattle.ocfl_scrub.specs.Starting.{part_of};
 ghost use Rattle.ocfl_scrub.specs.declared.running.RunStatus.TheVariants as run;
 ghost use Rattle.ocfl_scrub.specs.declared.stop.ReportStop.TheVariants.{Output};
@@ -10,6 +10,7 @@ ghost use Rattle.ocfl_state.specs.{Content.{with_report}, Crash.{LeavesOnly, May
 ghost use Rattle.ocfl_state.specs.Pieces.{summary_of};
 ghost use Rattle.ocfl_state.specs.declared.checkpoint_parts.ReportMark.{ReportMark as ModelMark};
 ghost use Rattle.ocfl_state.specs.declared.checkpoint_parts.Phase.TheVariants.{Closing, Open};
+ghost use Rattle.ocfl_night.specs.Asking.{AskedFrom, GaveAll, IsMetBy, IsRunAndLook, IsUntroubled, MayAskFrom, OrTroubled};
 ghost use Rattle.ocfl_night.specs.Chain.{part_after};
 ghost use Rattle.ocfl_night.specs.Looks.{Counts, IsOneOf, Look, Rounds, WithLook, look_between};
 ghost use Rattle.ocfl_night.specs.Halting.{FailedMore, stopped_at, unread_at};
@@ -83,6 +84,16 @@ fn make_run<T: Tree>(
     ensures once { AreDeclarations identity.now → IfTold T.told (T.state tree.old) (λ root.
         HasShortFiles root → IsWalkReady root (part_of part.now) (place_in cursor.state) kept.old
         → IsAscending place_cmp (content_since root (T.state tree.old) (T.state tree.new))) }
+    ensures asks { IfTold T.told (T.state tree.old) (λ root. HasShortFiles root
+        → IsWalkReady root (part_of part.now) (place_in cursor.state) kept.old
+        → IfOk result (λ r. IsRunAndLook root (part_of part.now) identity.now.declarations.items
+        (met_at kept.old) cursor (λ ran. ran ≡ r.0) (T.state tree.old) (T.state tree.new))) }
+    ensures unmade { IfTold T.told (T.state tree.old) (λ root. HasShortFiles root
+        → IsWalkReady root (part_of part.now) (place_in cursor.state) kept.old
+        → IfErr result (λ why. OrTroubled why (T.state tree.new ≡ T.state tree.old)
+        (IsRunAndLook root (part_of part.now) identity.now.declarations.items
+        (met_at kept.old) cursor (λ ran. ⊤) (T.state tree.old) (T.state tree.new)))) }
+    ensures met { IfOk result (λ r. IsMetBy (slice_end r.0.end) (met_at kept.new)) }
     ensures failed { IfTold T.told (T.state tree.old) (λ root. HasShortFiles root
         → IsWalkReady root (part_of part.now) (place_in cursor.state) kept.old
         → IfOk result (λ r. FailedMore (T.state tree.old) (T.state tree.new)
@@ -217,6 +228,7 @@ fn after_run(mut checkpoint: Checkpoint, ran: RunEnd, report: ReportMark) -> Mad
 fn unkept(checkpoint: Checkpoint, why: NotKept) -> Result<Made, Stop>
     ensures unkept { IfOk result (IsUnkept checkpoint) }
     ensures at { IfOk result (λ made. stopped_at made.end ≡ unread_at why) }
+    ensures untroubled { IfOk result (λ _. IsUntroubled why) }
     ensures stop { IfErr result (λ stop. why ≡ Troubled stop) }
 {
     match why {
@@ -336,7 +348,21 @@ pub fn slice<S: StateFolder, T: Tree>(
         OnlyGoesOn S.seen S.may_leave S.moment S.left_since checkpoint
         folder.old folder.new) }
 
-    // The next slice may go on with the walk that is kept.
+    // Its store is asked for what the run asks for, with the walk that is kept. Then nothing is
+    // listed, and no file is opened but those that declare the root. If it makes nothing, maybe no
+    // run is made.
+    ensures asks { IfWalkAt T.told (T.state tree.old) (part_of part.now) checkpoint kept.old
+        (λ root. IfOk result (λ made. AskedFrom root (part_of part.now)
+        identity.now.declarations.items (met_at kept.old) checkpoint (GaveAll checkpoint made)
+        (T.state tree.old) (T.state tree.new))) }
+    ensures asks_no_more { IfWalkAt T.told (T.state tree.old) (part_of part.now) checkpoint
+        kept.old (λ root. OnErr result (MayAskFrom root (part_of part.now)
+        identity.now.declarations.items (met_at kept.old) checkpoint
+        (T.state tree.old) (T.state tree.new))) }
+
+    // The next slice may go on with the walk that is kept. It is kept exactly if the limits ended
+    // the run.
+    ensures met { IfOk result (λ made. IsMetBy made.end (met_at kept.new)) }
     ensures walk { IfWalkAt T.told (T.state tree.old) (part_of part.now) checkpoint kept.old
         (λ root. IfOk result (λ made. IsWalkAt root (part_of part.now) made.checkpoint kept.new)) }
 

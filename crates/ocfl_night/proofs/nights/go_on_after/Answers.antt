@@ -3,6 +3,7 @@ use Rattle.ocfl_night.specs.Done.{done_of}
 use Rattle.ocfl_night.proofs.{Moments.{unmoved}, Runs.{left_by_place}, Sound.{ready_sound}}
 use Rattle.ocfl_night.specs.Again.{GoesOn}
 use Rattle.ocfl_night.proofs.Again.{goes_self, ready_there}
+use Rattle.ocfl_night.proofs.Asking.{met_stopped}
 use Rattle.ocfl_night.proofs.nights.go_on_after.Goals as goal
 
 pub returns-in-Err-clause-any_moment : goal.returns-in-Err-clause-any_moment
@@ -21,3 +22,6 @@ returns-in-Ok-clause-ready g c = λ told rounds next t r. c.pass_by.ensures.read
 
 pub returns-in-Err-clause-crash : goal.returns-in-Err-clause-crash
 returns-in-Err-clause-crash g c = λ told rounds t r. unmoved (g.met.S.StateFolder.only_now told) (ready_there (GoesOn c.args.made.checkpoint) (goes_self c.args.made.checkpoint) r)
+
+pub returns-in-Ok-clause-met : goal.returns-in-Ok-clause-met
+returns-in-Ok-clause-met g c = λ met. met_stopped c.args.made.end c.in-Ok.place c.forget.new.self (sym c.place_or_pause.ensures ∙ c.in-Ok.is) c.forget.ensures

@@ -140,30 +140,30 @@ returns-clause-read g c = λ told declares tells root over short t r order.
     read_to c.in_ok-last.last c.in_ok-said.said c.in_ok-ended.ended c.in_ok-last.pause c.in_ok-said.ensures.all c.in_ok-ended.ensures.ended c.halt_after.ensures.is stands (c.in_ok-last.ensures.read declares tells root over short) order
 
 pub returns-in_err-last-clause-again : goal.returns-in_err-last-clause-again
-returns-in_err-last-clause-again g c = λ told folder_told declares tells root over short t r. c.runs.ensures.again told folder_told declares tells root over short t r
+returns-in_err-last-clause-again g c = λ told folder_told declares tells root over short named t r. c.runs.ensures.again told folder_told declares tells root over short named t r
 
 pub returns-in_err-said-clause-again : goal.returns-in_err-said-clause-again
-returns-in_err-said-clause-again g c = λ told folder_told declares tells root over short t r.
+returns-in_err-said-clause-again g c = λ told folder_told declares tells root over short named t r.
     let rounds = of_any (part_of c.args.part.now) in
     let ready = c.in_ok-last.ensures.ready folder_told tells root over short None tt t r in
-    let so = c.runs.ensures.again told folder_told declares tells root over short t r in
+    let so = c.runs.ensures.again told folder_told declares tells root over short named t r in
     let spoke = little_on so ready.at (λ le. g.met.S.StateFolder.counts_now folder_told c.runs.new.folder (g.S.StateFolder.moment so.left) _ le (g.met.S.StateFolder.stays folder_told c.runs.new.folder)) (c.speak.ensures.crash folder_told rounds t ready) in
     spoke
 
 pub returns-in_err-ended-clause-again : goal.returns-in_err-ended-clause-again
-returns-in_err-ended-clause-again g c = λ told folder_told declares tells root over short t r.
+returns-in_err-ended-clause-again g c = λ told folder_told declares tells root over short named t r.
     let rounds = of_any (part_of c.args.part.now) in
     let ready = c.in_ok-last.ensures.ready folder_told tells root over short None tt t r in
-    let so = c.runs.ensures.again told folder_told declares tells root over short t r in
+    let so = c.runs.ensures.again told folder_told declares tells root over short named t r in
     let spoke = little_on so ready.at (λ le. g.met.S.StateFolder.counts_now folder_told c.runs.new.folder (g.S.StateFolder.moment so.left) _ le (g.met.S.StateFolder.stays folder_told c.runs.new.folder)) (c.speak.ensures.crash folder_told rounds t ready) in
     let said = c.in_ok-said.ensures.ready folder_told rounds t ready in
     little_on spoke said.ready.at (λ le. g.met.S.StateFolder.counts_now folder_told c.speak.new.folder (g.S.StateFolder.moment spoke.left) _ le (g.met.S.StateFolder.stays folder_told c.speak.new.folder)) (c.finish.ensures.crash folder_told rounds (t ++ said.more) said.ready)
 
 pub returns-clause-again : goal.returns-clause-again
-returns-clause-again g c = λ told folder_told declares tells root over short t r.
+returns-clause-again g c = λ told folder_told declares tells root over short named t r.
     let rounds = of_any (part_of c.args.part.now) in
     let ready = c.in_ok-last.ensures.ready folder_told tells root over short None tt t r in
-    let so = c.runs.ensures.again told folder_told declares tells root over short t r in
+    let so = c.runs.ensures.again told folder_told declares tells root over short named t r in
     let spoke = little_on so ready.at (λ le. g.met.S.StateFolder.counts_now folder_told c.runs.new.folder (g.S.StateFolder.moment so.left) _ le (g.met.S.StateFolder.stays folder_told c.runs.new.folder)) (c.speak.ensures.crash folder_told rounds t ready) in
     let said = c.in_ok-said.ensures.ready folder_told rounds t ready in
     little_on spoke said.ready.at (λ le. g.met.S.StateFolder.counts_now folder_told c.speak.new.folder (g.S.StateFolder.moment spoke.left) _ le (g.met.S.StateFolder.stays folder_told c.speak.new.folder)) (c.finish.ensures.crash folder_told rounds (t ++ said.more) said.ready)

@@ -4,17 +4,17 @@ use Rattle.ocfl_tree.specs.{Place.{Place, Text}, StorageRoot.{StorageRoot}}
 use Rattle.ocfl_item.specs.Judging.{HasShortFiles}
 use Rattle.ocfl_audit.specs.Parts.{Part}
 use Rattle.ocfl_state.specs.Content.{Closed, Content}
-use Rattle.ocfl_night.specs.{Done.{Done, done_of}, Leaving.{has_end}, Nights.{IsSafeNight}, Site.{part_at}}
+use Rattle.ocfl_night.specs.{Again.{IsLittleAgain}, Done.{Done, done_of}, Leaving.{has_end}, Nights.{IsSafeNight}, Site.{part_at}}
 use Rattle.ocfl_night.specs.Looks.{Counts, Known, Rounds, look_between, of_any}
 use Rattle.ocfl_scrub.specs.Starting.{part_of}
-use Rattle.ocfl_night.specs.{Beginning.{Position, StandsAt}, Output.{HasFailed}, Ending.{ended_by}, Sound.{IsAt, IsKept, IsOneMore, IsReady}, Steps.{IsNotBegun}}
+use Rattle.ocfl_night.specs.{Beginning.{Position, StandsAt}, Output.{HasFailed}, Ending.{cycle_of, ended_by}, Sound.{IsAt, IsKept, IsOneMore, IsReady}, Steps.{IsNotBegun}}
 use Rattle.ocfl_night.specs.declared.nights.Begun.{Begun}
 use Rattle.ocfl_night.specs.Stopping.{ForNight, ForRuns, IsGiven, IsUnlooked, TellsKept, course}
 use Rattle.ocfl_night.proofs.Beginnings.{one_more_since, refused_still, shut_since, still_on}
 use Rattle.ocfl_night.proofs.{Moments.{leaves_weaker}, Runs.{left_so, made_from, made_so}}
 use Rattle.ocfl_night.proofs.Looks.{counts_on, last_of}
 use Rattle.ocfl_night.proofs.Heard.{heard_through, on_ok, ready_since, since_sound, told_since}
-use Rattle.ocfl_night.proofs.{Again.{little_since}, Halting.{counts_failed, failed_first}}
+use Rattle.ocfl_night.proofs.Halting.{counts_failed, failed_first}
 use Rattle.ocfl_night.proofs.Newest.{newest}
 use Rattle.ocfl_night.proofs.Reasons.{ended_troubled, failed_since, night_reason, opened_reason, stopped_reason, unbegun_reason, unbegun_troubled}
 use Rattle.ocfl_night.specs.{Reading.{IsReadTo, content_since, reached}, declared.plan.Halt.{Halt}}
@@ -117,11 +117,13 @@ returns g c =
       none_left = λ strict. subst (λ (v : Vec Place Global). v.items ≡ []) (sym c.account-2.ensures.left) (left.none strict);
       ends = subst (λ (v : Vec Place Global). All (λ b. IsTrue (has_end b)) v.items) (sym c.account-2.ensures.left) left.ends;
       again = λ told folder_told tells root over short kept.
-          let mine = runs.ensures.again told folder_told (c.in-Ok.ensures.declares tells root over) tells root (c.set_out.ensures.root tells ∙ over) short _ (ready_since same (c.in-Ok.ensures.ready folder_told part kept)) in
+          let mine = runs.ensures.again told folder_told (c.in-Ok.ensures.declares tells root over) tells root (c.set_out.ensures.root tells ∙ over) short (c.in-Ok.ensures.declared tells root over) _ (ready_since same (c.in-Ok.ensures.ready folder_told part kept)) in
           inr (record {
             start = c.in-Ok.begun.checkpoint;
             begins = c.in-Ok.ensures.begins folder_told;
-            little = little_since (set_out_counts g at tells root over short) (c.set_out.ensures.content tells root over short) mine;
+            there = g.T.Tree.state c.set_out.new.tree;
+            looked = record { counts = set_out_counts g at tells root over short; content = c.set_out.ensures.content tells root over short; only = c.set_out.ensures.looks tells root over short };
+            little = subst (λ (p : Part). IsLittleAgain root p s g.S.StateFolder.moment g.S.StateFolder.left_since (cycle_of c.in-Ok.begun.checkpoint) (g.C.Clock.events c.args.clock.now) (g.C.Clock.events runs.new.clock) (g.T.Tree.state c.set_out.new.tree) (g.T.Tree.state runs.new.tree) runs.new.folder) c.in-Ok.ensures.part mine;
           });
       failed = λ told tells root over short. failed_first (set_out_counts g at tells root over short) (runs.ensures.failed told tells root (c.set_out.ensures.root tells ∙ over) short);
       told = λ told. inl (record {
@@ -175,7 +177,8 @@ returns-in-Err g c =
       few = subst (λ (v : Vec Place Global). length v.items ≤ 16) (sym c.account.ensures.left) left.few;
       none_left = λ strict. subst (λ (v : Vec Place Global). v.items ≡ []) (sym c.account.ensures.left) (left.none strict);
       ends = subst (λ (v : Vec Place Global). All (λ b. IsTrue (has_end b)) v.items) (sym c.account.ensures.left) left.ends;
-      again = λ told folder_told tells root over short kept. inl (c.set_out.ensures.content tells root over short);
+      again = λ told folder_told tells root over short kept.
+          inl (record { counts = c.set_out.ensures.counts tells root over short; content = c.set_out.ensures.content tells root over short; only = c.set_out.ensures.looks tells root over short });
       failed = λ told tells root over short. counts_failed (c.set_out.ensures.counts tells root over short);
       told = λ told. inr (record {
         not_begun = subst IsNotBegun (sym c.account.ensures.end) c.unbegun.ensures.not_begun;

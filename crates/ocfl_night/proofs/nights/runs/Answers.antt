@@ -3,7 +3,7 @@ use Rattle.std.proofs.lemmas.{List.{append-nil}, Result.{err_from_is_err_and}}
 use Rattle.std.specs.Prelude.{IsTrue}
 use Rattle.ocfl_tree.specs.{Place.{Text}, StorageRoot.{StorageRoot}}
 use Rattle.ocfl_item.specs.Judging.{HasShortFiles}
-use Rattle.ocfl_scrub.specs.Starting.{part_of}
+use Rattle.ocfl_scrub.specs.{Keeping.{met_at}, Starting.{part_of}}
 use Rattle.ocfl_night.specs.{Clock.{Event, Asked, Read, Heard}, Done.{Done, counted, done_of, with_made}, Leaving.{LeadsOn, MayLeave}}
 use Rattle.ocfl_state.specs.declared.checkpoint_parts.Phase.TheVariants.{Open}
 use Rattle.ocfl_night.specs.Runs.{Run, IsRunOf, MayBeginAt, MayHaveLeft, StopsOpen, after_it, after_made, events_of, in_it, turn_of}
@@ -22,6 +22,8 @@ use Rattle.ocfl_tree.specs.{Ascending.{IsAscending}, Place.{place_cmp}}
 use Rattle.ocfl_state.specs.Crash.{LeavesOnly}
 use Rattle.ocfl_night.specs.{Again.{GoesOn, IsOpened}, Ending.{cycle_of}, Halting.{AreFailed}, Promises.{IfThere}}
 use Rattle.ocfl_night.proofs.{Again.{goes_more, goes_on_by, little_begun, little_last, little_more, little_none, little_now, same_cursor, unheard_begun, unheard_none, unheard_paused}, Beginnings.{made_in}}
+use Rattle.ocfl_night.specs.Asking.{AskedFrom, GaveAll, IsDeclaredBy, declaring}
+use Rattle.ocfl_night.proofs.Asking.{asked_named, err_holds, may_named}
 use Rattle.ocfl_night.proofs.Halting.{begun_failed_so, none_failed, paused_failed_so, run_failed_so}
 use Rattle.ocfl_night.proofs.nights.runs.Given as given
 use Rattle.ocfl_night.proofs.nights.runs.Goals.{After-go_on_after}
@@ -116,6 +118,13 @@ module _ (g : given.Over) (c : After-go_on_after g) (tells : IsTrue g.T.Tree.tol
       (c.slice.ensures.crash told declares tells root (inv.root tells root over short) short (inv.walk tells root over short) part t (inv.ready told tells root over short None tt t r))
       (leaves_weaker (λ d there l at. goes_more c.loop-run.checkpoint c.in_ok-made.made.checkpoint l next (there l at)) (c.go_on_after.ensures.crash told part t (made_ready g c tells root over short None tt told t r)))
 
+-- and what its store was asked for
+slice_asked : (g : given.Over) (c : After-go_on_after g) (tells : IsTrue g.T.Tree.told) (root : StorageRoot) → (g.T.Tree.state c.args.tree.now).tree ≡ root → HasShortFiles root → IsDeclaredBy root c.args.identity.now
+    → AskedFrom root (part_of c.args.part.now) (declaring root) (met_at c.loop-run.kept) c.loop-run.checkpoint (GaveAll c.loop-run.checkpoint c.in_ok-made.made) (g.T.Tree.state c.loop-run.tree) (g.T.Tree.state c.slice.new.tree)
+slice_asked g c tells root over short named =
+    let inv = c.loop-run.invariant in
+    asked_named root (part_of c.args.part.now) (met_at c.loop-run.kept) c.loop-run.checkpoint named (c.in_ok-made.ensures.asks tells root (inv.root tells root over short) short (inv.walk tells root over short))
+
 -- the store failed where runs stopped
 
 failed_then : (g : given.Over) (c : After-go_on_after g) (told : IsTrue g.C.Clock.told) (tells : IsTrue g.T.Tree.told) (root : StorageRoot) → (g.T.Tree.state c.args.tree.now).tree ≡ root → HasShortFiles root
@@ -134,7 +143,7 @@ loop-run-init g c = record {
   cycle = refl;
   told = λ told. none_yet;
   failed = λ told tells root over short. none_failed;
-  again = λ told tells_folder declares tells root over short t r. little_none root g.S.StateFolder.seen g.S.StateFolder.moment g.S.StateFolder.left_since (cycle_of c.args.start) (g.C.Clock.events c.args.clock.now) (g.T.Tree.state c.args.tree.now) c.args.folder.now c.args.start;
+  again = λ told tells_folder declares tells root over short named t r. little_none root (part_of c.args.part.now) g.S.StateFolder.seen g.S.StateFolder.moment g.S.StateFolder.left_since (cycle_of c.args.start) (g.C.Clock.events c.args.clock.now) (g.T.Tree.state c.args.tree.now) c.args.folder.now c.args.start c.none-kept.result c.none-kept.ensures;
   faults = λ told. omega arith;
   at = λ told at. at;
   counted = none_counted c.args.start c.args.tally.now.runs;
@@ -231,14 +240,15 @@ loop-run-preserved g c =
       cycle = next_in c.args.plan.now.stop_at_faults (done_of c.count.new.self) (done_of c.go_on_after.new.tally) (c.in_ok-next.next, c.in_ok-next.pause) (search rules) c.in_ok-made.ensures.slice c.in_ok-next.ensures.turn ∙ inv.cycle;
       told = λ told. run_more (run g at told) (inv.told told) (heard g at told) (is_run g at told) (led_by c.args.plan.now (done_of c.loop-run.tally) c.in-Ok.allowed.1 (may g at told).goes_on c.in_ok-made.ensures.slice c.begin.ensures.done c.count.ensures.done c.in_ok-next.ensures.turn ∙ ap (λ (o : Option Pause). turn_of (done_of c.go_on_after.new.tally) (c.in_ok-next.next, o)) c.in_default.is);
       failed = λ told tells root over short. failed_then g at told tells root over short;
-      again = λ told folder_told declares tells root over short t r.
-          little_more (inv.again told folder_told declares tells root over short t r) inv.cycle (g.T.Tree.state c.slice.new.tree) c.go_on_after.new.folder
-          (slice_beyond g at tells root over short declares) (slice_once g at tells root over short declares) (slice_crash g at tells root over short declares folder_told t r)
-          (run g at told) (heard g at told) (slice_took g at tells root over short declares) (made_read g at tells root over short declares).stays
+      again = λ told folder_told declares tells root over short named t r.
+          little_more (inv.again told folder_told declares tells root over short named t r) inv.cycle (g.T.Tree.state c.slice.new.tree) c.go_on_after.new.folder
+          (slice_beyond g at tells root over short declares) (slice_once g at tells root over short declares) (slice_crash g at tells root over short declares folder_told t r) (inv.at folder_told r.at)
+          (run g at told) (heard g at told) (slice_asked g at tells root over short named) (slice_took g at tells root over short declares) (made_read g at tells root over short declares).stays
           (next_reached c.args.plan.now.stop_at_faults (done_of c.count.new.self) (done_of c.go_on_after.new.tally) (c.in_ok-next.next, c.in_ok-next.pause) (search rules) c.in_ok-made.ensures.slice c.in_ok-next.ensures.turn)
           (goes_on_by c.args.plan.now.stop_at_faults (done_of c.count.new.self) (done_of c.go_on_after.new.tally) (c.in_ok-next.next, c.in_ok-next.pause) (search rules) c.in_ok-made.ensures.slice c.in_ok-next.ensures.turn c.in_default.is)
           (c.in_ok-next.ensures.at folder_told (c.in_ok-made.ensures.at folder_told (inv.at folder_told r.at)))
-          (same_cursor c.args.plan.now.stop_at_faults (done_of c.count.new.self) (done_of c.go_on_after.new.tally) (c.in_ok-next.next, c.in_ok-next.pause) (search rules) c.in_ok-made.ensures.slice c.in_ok-next.ensures.turn);
+          (same_cursor c.args.plan.now.stop_at_faults (done_of c.count.new.self) (done_of c.go_on_after.new.tally) (c.in_ok-next.next, c.in_ok-next.pause) (search rules) c.in_ok-made.ensures.slice c.in_ok-next.ensures.turn)
+          (c.go_on_after.ensures.met c.in_ok-made.ensures.met);
       left = λ may. c.go_on_after.ensures.left (subst (MayLeave c.args.plan.now.stop_at_faults) (sym (ap (λ (x : Done). x.left) c.count.ensures.done ∙ ap (λ (x : Done). x.left) c.begin.ensures.done)) (inv.left may));
       root = λ tells root over short. c.slice.ensures.root tells root (inv.root tells root over short) short (inv.walk tells root over short);
       walk = λ tells root over short. c.in_ok-next.ensures.walk (part_of c.args.part.now) root (c.in_ok-made.ensures.walk tells root (inv.root tells root over short) short (inv.walk tells root over short));
@@ -383,41 +393,44 @@ pub returns-in-Some-clause-failed : goal.returns-in-Some-clause-failed
 returns-in-Some-clause-failed g c = λ told tells root over short. failed_then g (goal.at.returns-in-Some-clause-failed g c).After-go_on_after told tells root over short
 
 pub returns-then-ne-clause-again : goal.returns-then-ne-clause-again
-returns-then-ne-clause-again g c = λ told folder_told declares tells root over short t r.
+returns-then-ne-clause-again g c = λ told folder_told declares tells root over short named t r.
     let inv = c.loop-run.invariant in
-    little_now (inv.again told folder_told declares tells root over short t r) inv.cycle (g.met.S.StateFolder.only_now folder_told) (inv.ready folder_told tells root over short None tt t r) unheard_none
+    little_now (inv.again told folder_told declares tells root over short named t r) inv.cycle (g.met.S.StateFolder.only_now folder_told) (inv.ready folder_told tells root over short None tt t r) unheard_none
 
 pub returns-in-Err-clause-again : goal.returns-in-Err-clause-again
-returns-in-Err-clause-again g c = λ told folder_told declares tells root over short t r.
+returns-in-Err-clause-again g c = λ told folder_told declares tells root over short named t r.
     let inv = c.loop-run.invariant in
-    little_now (inv.again told folder_told declares tells root over short t r) inv.cycle (g.met.S.StateFolder.only_now folder_told) (inv.ready folder_told tells root over short None tt t r)
+    little_now (inv.again told folder_told declares tells root over short named t r) inv.cycle (g.met.S.StateFolder.only_now folder_told) (inv.ready folder_told tells root over short None tt t r)
     (unheard_paused c.args.plan.now (done_of c.loop-run.tally) c.in-Err.pause (c.in-Err.ensures told))
 
 pub returns-clause-again : goal.returns-clause-again
-returns-clause-again g c = λ told folder_told declares tells root over short t r.
+returns-clause-again g c = λ told folder_told declares tells root over short named t r.
     let inv = c.loop-run.invariant in
-    little_now (inv.again told folder_told declares tells root over short t r) inv.cycle (g.met.S.StateFolder.only_now folder_told) (inv.ready folder_told tells root over short None tt t r) unheard_none
+    little_now (inv.again told folder_told declares tells root over short named t r) inv.cycle (g.met.S.StateFolder.only_now folder_told) (inv.ready folder_told tells root over short None tt t r) unheard_none
 
 pub returns-in_err-made-clause-again : goal.returns-in_err-made-clause-again
-returns-in_err-made-clause-again g c = λ told folder_told declares tells root over short t r.
+returns-in_err-made-clause-again g c = λ told folder_told declares tells root over short named t r.
     let inv = c.loop-run.invariant in
     let there = inv.root tells root over short in
     let walk = inv.walk tells root over short in
-    little_begun (inv.again told folder_told declares tells root over short t r) inv.cycle (g.T.Tree.state c.slice.new.tree) c.slice.new.folder
+    little_begun (inv.again told folder_told declares tells root over short named t r) inv.cycle (g.T.Tree.state c.slice.new.tree) c.slice.new.folder
     (c.slice.ensures.beyond declares tells root there short walk) (c.slice.ensures.once declares tells root there short walk)
-    (c.slice.ensures.crash folder_told declares tells root there short walk (of_any (part_of c.args.part.now)) t (inv.ready folder_told tells root over short None tt t r))
+    (c.slice.ensures.crash folder_told declares tells root there short walk (of_any (part_of c.args.part.now)) t (inv.ready folder_told tells root over short None tt t r)) (inv.at folder_told r.at)
     (unheard_begun c.in-Ok.allowed.1 (c.in-Ok.ensures told).0)
+    (may_named root (part_of c.args.part.now) (met_at c.loop-run.kept) c.loop-run.checkpoint named (err_holds c.slice.result _ c.in_err-made.was (c.slice.ensures.asks_no_more tells root there short walk)))
 
 pub returns-in_err-next-clause-again : goal.returns-in_err-next-clause-again
-returns-in_err-next-clause-again g c = λ told folder_told declares tells root over short t r.
+returns-in_err-next-clause-again g c = λ told folder_told declares tells root over short named t r.
     let at = (goal.at.returns-in_err-next-clause-again g c).After-go_on_after in
     let inv = c.loop-run.invariant in
-    little_last (inv.again told folder_told declares tells root over short t r) inv.cycle (g.T.Tree.state c.slice.new.tree) c.go_on_after.new.folder
-    (slice_beyond g at tells root over short declares) (slice_once g at tells root over short declares) (slice_crash g at tells root over short declares folder_told t r) (run g at told) (heard g at told)
+    little_last (inv.again told folder_told declares tells root over short named t r) inv.cycle (g.T.Tree.state c.slice.new.tree) c.go_on_after.new.folder
+    (slice_beyond g at tells root over short declares) (slice_once g at tells root over short declares) (slice_crash g at tells root over short declares folder_told t r) (inv.at folder_told r.at) (run g at told) (heard g at told)
+    (slice_asked g at tells root over short named)
 
 pub returns-in-Some-clause-again : goal.returns-in-Some-clause-again
-returns-in-Some-clause-again g c = λ told folder_told declares tells root over short t r.
+returns-in-Some-clause-again g c = λ told folder_told declares tells root over short named t r.
     let at = (goal.at.returns-in-Some-clause-again g c).After-go_on_after in
     let inv = c.loop-run.invariant in
-    little_last (inv.again told folder_told declares tells root over short t r) inv.cycle (g.T.Tree.state c.slice.new.tree) c.go_on_after.new.folder
-    (slice_beyond g at tells root over short declares) (slice_once g at tells root over short declares) (slice_crash g at tells root over short declares folder_told t r) (run g at told) (heard g at told)
+    little_last (inv.again told folder_told declares tells root over short named t r) inv.cycle (g.T.Tree.state c.slice.new.tree) c.go_on_after.new.folder
+    (slice_beyond g at tells root over short declares) (slice_once g at tells root over short declares) (slice_crash g at tells root over short declares folder_told t r) (inv.at folder_told r.at) (run g at told) (heard g at told)
+    (slice_asked g at tells root over short named)

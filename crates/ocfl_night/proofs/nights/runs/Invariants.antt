@@ -2,11 +2,11 @@ use Rattle.std.proofs.Common.{◌≡◌, ◌≤◌}
 use Rattle.ocfl_tree.specs.{Place.{Text}, Store.{IfTold}}
 use Rattle.ocfl_item.specs.Judging.{HasShortFiles}
 use Rattle.std.specs.Prelude.{IsTrue}
-use Rattle.ocfl_scrub.specs.Starting.{part_of}
+use Rattle.ocfl_scrub.specs.{Keeping.{met_at}, Starting.{part_of}}
 use Rattle.ocfl_state.specs.Crash.{LeavesOnly}
 use Rattle.ocfl_night.specs.{Done.{done_of}, Ending.{cycle_of}, Leaving.{LeadsOn, MayLeave}, Looks.{Counts, WithLook, look_between, of_any}}
 use Rattle.ocfl_night.specs.{Sound.{IsAt, IsReady, IsSoundAt}, Steps.{IsWalkAt}}
-use Rattle.ocfl_night.specs.Halting.{AreFailed}
+use Rattle.ocfl_night.specs.{Asking.{IsDeclaredBy}, Halting.{AreFailed}}
 use Rattle.ocfl_night.specs.Reading.{AreDeclarations, content_since, reached}
 use Rattle.ocfl_night.proofs.{Again.{SoLittle}, Reading.{SoRead}, Reasons.{IsCounted}, Runs.{SoFar}}
 use Rattle.ocfl_night.proofs.nights.runs.Given as goal
@@ -27,7 +27,7 @@ invariant-loop-run g l =
       cycle : cycle_of l.checkpoint ≡ cycle_of l.fn.start;
       told : IsTrue g.C.Clock.told → SoFar l.fn.plan (g.C.Clock.events l.fn.clock) (g.C.Clock.events l.clock) (done_of l.fn.tally) l.fn.start (done_of l.tally) l.checkpoint;
       failed : IsTrue g.C.Clock.told → IfTold g.T.Tree.told before (λ root. HasShortFiles root → AreFailed (g.C.Clock.events l.fn.clock) (g.C.Clock.events l.clock) before now);
-      again : IsTrue g.C.Clock.told → IsTrue g.S.StateFolder.told → AreDeclarations l.fn.identity → IfTold g.T.Tree.told before (λ root. HasShortFiles root → (t : Text) → IsReady seen may_leave (of_any part) t l.fn.start l.fn.folder → SoLittle root seen g.S.StateFolder.moment g.S.StateFolder.left_since (cycle_of l.fn.start) (g.C.Clock.events l.fn.clock) (g.C.Clock.events l.clock) before now l.folder l.checkpoint);
+      again : IsTrue g.C.Clock.told → IsTrue g.S.StateFolder.told → AreDeclarations l.fn.identity → IfTold g.T.Tree.told before (λ root. HasShortFiles root → IsDeclaredBy root l.fn.identity → (t : Text) → IsReady seen may_leave (of_any part) t l.fn.start l.fn.folder → SoLittle root part seen g.S.StateFolder.moment g.S.StateFolder.left_since (cycle_of l.fn.start) (g.C.Clock.events l.fn.clock) (g.C.Clock.events l.clock) before now l.folder l.checkpoint (met_at l.kept));
       faults : IsTrue g.S.StateFolder.told → g.S.StateFolder.faults l.fn.folder ≤ g.S.StateFolder.faults l.folder;
       at : IsTrue g.S.StateFolder.told → IsAt l.fn.start (seen l.fn.folder) → IsAt l.checkpoint (seen l.folder);
       counted : IsCounted l.fn.start l.checkpoint l.tally.runs;

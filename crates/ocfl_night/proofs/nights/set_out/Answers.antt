@@ -1,10 +1,12 @@
-use Rattle.std.proofs.{Common.{◌∙◌, [], ap, Err}, lemmas.Result.{err_from_is_err_and}}
+use Rattle.std.proofs.{Common.{◌∙◌, ◌∷◌, [], List, ap, Err, refl, subst}, lemmas.Result.{err_from_is_err_and}}
 use Rattle.ocfl_night.specs.Refusing.{in_folder}
 use Rattle.ocfl_night.proofs.{Looks.{counts_did, counts_none, counts_unidentified}, Moments.{untouched}, Foreigners.{barred_by, no_root_by}}
 use Rattle.ocfl_night.proofs.Heard.{begun_heard, grows_none, is_err}
-use Rattle.ocfl_tree.specs.Listing.{entries_in}
+use Rattle.ocfl_tree.specs.{Listing.{entries_in}, Place.{Text}}
 use Rattle.ocfl_identity.specs.Identity.{declarations_among}
 use Rattle.ocfl_night.proofs.Reading.{are_declarations, content_did, content_none, content_unidentified, counted_names}
+use Rattle.ocfl_night.proofs.Asking.{looks_all, looks_none, looks_unidentified}
+use Rattle.ocfl_night.specs.Asking.{LooksOnly}
 use Rattle.ocfl_night.proofs.nights.set_out.Goals as goal
 
 pub returns-in_err-part-clause-heard : goal.returns-in_err-part-clause-heard
@@ -83,3 +85,21 @@ returns-clause-content g c = λ tells root over short.
 
 pub returns-clause-declares : goal.returns-clause-declares
 returns-clause-declares g c = λ tells root over. are_declarations root _ (c.in_ok-identity.ensures.told tells root over)
+
+pub returns-in_err-part-clause-looks : goal.returns-in_err-part-clause-looks
+returns-in_err-part-clause-looks g c = λ tells root over short. looks_none _ _ (g.T.Tree.state c.args.tree.now) _ refl
+
+pub returns-in_err-identity-clause-looks : goal.returns-in_err-identity-clause-looks
+returns-in_err-identity-clause-looks g c = λ tells root over short.
+    looks_unidentified root (declarations_among (entries_in root [])) _ short (λ is. c.look_at_root.ensures.unopened tells (c.in_err-identity.was ∙ ap Err is)) (c.in_err-identity.ensures.unread tells root over) (c.in_err-identity.ensures.refused tells root over)
+
+pub returns-in_err-checkpoint-clause-looks : goal.returns-in_err-checkpoint-clause-looks
+returns-in_err-checkpoint-clause-looks g c = λ tells root over short.
+    subst (λ (ns : List Text). LooksOnly ns ([] ∷ []) (g.T.Tree.state c.args.tree.now) (g.T.Tree.state c.look_at_root.new.store)) (c.in_ok-identity.ensures.told tells root over).declarations (looks_all root _ (c.in_ok-identity.ensures.opened tells root over))
+
+pub returns-clause-looks : goal.returns-clause-looks
+returns-clause-looks g c = λ tells root over short.
+    subst (λ (ns : List Text). LooksOnly ns ([] ∷ []) (g.T.Tree.state c.args.tree.now) (g.T.Tree.state c.look_at_root.new.store)) (c.in_ok-identity.ensures.told tells root over).declarations (looks_all root _ (c.in_ok-identity.ensures.opened tells root over))
+
+pub returns-clause-declared : goal.returns-clause-declared
+returns-clause-declared g c = λ tells root over. (c.in_ok-identity.ensures.told tells root over).declarations

@@ -1,4 +1,4 @@
-use Rattle.std.proofs.Common.{◌∙◌, ap, refl, sym, subst}
+use Rattle.std.proofs.Common.{◌≡◌, ◌∙◌, [], ap, refl, sym, subst}
 use Rattle.std.proofs.lemmas.Result.{err_from_is_err_and}
 use Rattle.ocfl_tree.specs.StorageRoot.{StorageRoot}
 use Rattle.ocfl_scrub.specs.{Keeping.{met_at}, Starting.{part_of}, Running.{limits_of}}
@@ -8,6 +8,7 @@ use Rattle.ocfl_night.proofs.Reading.{beyond_by, beyond_either, content_first_al
 use Rattle.ocfl_night.specs.{Ending.{slice_end}, Halting.{stopped_at}}
 use Rattle.ocfl_night.proofs.Halting.{failed_later, unread_sooner}
 use Rattle.ocfl_night.proofs.Again.{opened_then, up_either, up_then}
+use Rattle.ocfl_night.proofs.Asking.{asked_either, asked_so, looks_none, met_by}
 use Rattle.ocfl_night.proofs.slicing.make_run.Goals as goal
 
 pub returns-clause-run : goal.returns-clause-run
@@ -135,3 +136,21 @@ returns-clause-once g c = λ declares tells root over short ready.
     let after = c.look_again.ensures.counts tells root there short in
     let none = c.look_again.ensures.content declares tells root there short in
     up_then root counts after none (run_ascends root _ _ c.new-lines.result.items c.run_on-ran.new.out.items (part_of c.args.part.now) c.args.cursor (limits_of c.args.limits) c.run_on-ran.result (met_at c.args.kept.now) runs)
+
+pub returns-clause-asks : goal.returns-clause-asks
+returns-clause-asks g c = λ tells root over short ready.
+    record { limits = limits_of c.args.limits; old = c.new-lines.result.items; new = c.run_on-ran.new.out.items; ran = c.run_on-ran.result; end = g.T.Tree.state c.run_on-ran.new.store; run = c.run_on-ran.ensures.told tells root over short c.in_default.ensures.made ready; look = c.look_again.ensures.only tells root (c.run_on-ran.ensures.root tells root over short ready) short; gave = refl }
+
+pub returns-in-Some-clause-unmade : goal.returns-in-Some-clause-unmade
+returns-in-Some-clause-unmade g c = λ tells root over short ready.
+    asked_either c.run_on-ran.result.end
+    (λ made. record { limits = limits_of c.args.limits; old = c.new-lines.result.items; new = c.run_on-ran.new.out.items; ran = c.run_on-ran.result; end = g.T.Tree.state c.run_on-ran.new.store; run = c.run_on-ran.ensures.told tells root over short made ready; look = looks_none c.args.identity.now.declarations.items [] (g.T.Tree.state c.run_on-ran.new.store) _ refl; gave = tt })
+    (λ worn. ap g.T.Tree.state (c.run_on-ran.ensures.any_store.worn_silent worn).0)
+
+pub returns-in_err-look_again-clause-unmade : goal.returns-in_err-look_again-clause-unmade
+returns-in_err-look_again-clause-unmade g c = λ tells root over short ready.
+    asked_so (g.T.Tree.state c.look_again.new.tree ≡ g.T.Tree.state c.args.tree.now) c.from_residual.result
+    (record { limits = limits_of c.args.limits; old = c.new-lines.result.items; new = c.run_on-ran.new.out.items; ran = c.run_on-ran.result; end = g.T.Tree.state c.run_on-ran.new.store; run = c.run_on-ran.ensures.told tells root over short c.in_default.ensures.made ready; look = c.look_again.ensures.only tells root (c.run_on-ran.ensures.root tells root over short ready) short; gave = tt })
+
+pub returns-clause-met : goal.returns-clause-met
+returns-clause-met g c = met_by c.run_on-ran.result.end c.run_on-ran.new.kept c.in_default.ensures.made c.in_default.ensures.whole c.run_on-ran.ensures.spent c.run_on-ran.ensures.unspent

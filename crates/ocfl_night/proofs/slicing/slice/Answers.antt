@@ -1,6 +1,6 @@
 use Rattle.std.proofs.Common.{◌≡◌, ◌∙◌, ⊎_elim, ap, refl, rules, subst, sym}
 use Rattle.ocfl_tree.specs.StorageRoot.{StorageRoot}
-use Rattle.ocfl_scrub.specs.{Keeping.{IsReady}, Running.{place_in}, Starting.{part_of}}
+use Rattle.ocfl_scrub.specs.{Keeping.{IsReady, met_at}, Running.{place_in}, Starting.{part_of}}
 use Rattle.ocfl_state.specs.Checkpoint.{Checkpoint}
 use Rattle.ocfl_night.specs.{Chain.{part_after}, Looks.{look_between}, Steps.{IsWalkAt}}
 use Rattle.ocfl_night.proofs.{Extending.{run_at}, KeptWalks.{walk_from, walk_made}}
@@ -13,6 +13,7 @@ use Rattle.ocfl_night.specs.Halting.{unread_at}
 use Rattle.ocfl_night.proofs.Halting.{kept_failed, unkept_failed}
 use Rattle.ocfl_night.specs.Again.{GoesOn}
 use Rattle.ocfl_night.proofs.Again.{goes_next, goes_self, kept_opened, ready_there, unkept_opened, up_none}
+use Rattle.ocfl_night.proofs.Asking.{asked_from, kept_asked, kept_no_more, met_kept, met_unkept, nothing_asked, unkept_asked, unkept_no_more, unmade_from}
 use Rattle.ocfl_night.proofs.slicing.slice.Goals as goal
 
 -- the run is made of what comes after the branches that were left out
@@ -136,3 +137,41 @@ returns-clause-crash g c = λ told declares tells root over short walk rounds t 
     let k = c.args.checkpoint in
     let read = c.in-Ok.ensures.read declares tells root over short (goes_on g (goal.at.returns-clause-crash g c).In_ok-rest root walk) in
     leaves_weaker (λ d there l at. ⊎_elim (λ same. subst (GoesOn k) (sym same) (goes_self k)) (λ next. goes_next (search rules) c.in_ok-cursor.ensures c.in-Ok.ensures.keeps read.stays next) (there l at)) (c.keep.ensures.crash told rounds t r)
+
+-- what the run asked for, of which nothing is kept
+pub returns-in-Err-clause-asks : goal.returns-in-Err-clause-asks
+returns-in-Err-clause-asks g c = λ tells root over short walk.
+    let at = (goal.at.returns-in-Err-clause-asks g c).In_ok-rest in
+    let k = c.args.checkpoint in
+    unkept_asked root (part_of c.args.part.now) c.args.identity.now.declarations.items (met_at c.args.kept.now) k (g.T.Tree.state c.args.tree.now) (g.T.Tree.state c.make_run.new.tree) c.in-Err.why c.unkept.result (unmade_from root (part_of c.args.part.now) c.args.identity.now.declarations.items (met_at c.args.kept.now) k (g.T.Tree.state c.args.tree.now) (g.T.Tree.state c.make_run.new.tree) (part_of at.in_ok-rest.rest) at.in_ok-cursor.cursor c.in-Err.why (rest_is g at) at.in_ok-cursor.ensures (c.in-Err.ensures.unmade tells root over short (goes_on g at root walk))) c.unkept.ensures.untroubled c.unkept.ensures.unkept
+
+pub returns-in-Err-clause-asks_no_more : goal.returns-in-Err-clause-asks_no_more
+returns-in-Err-clause-asks_no_more g c = λ tells root over short walk.
+    let at = (goal.at.returns-in-Err-clause-asks_no_more g c).In_ok-rest in
+    let k = c.args.checkpoint in
+    unkept_no_more root (part_of c.args.part.now) c.args.identity.now.declarations.items (met_at c.args.kept.now) k (g.T.Tree.state c.args.tree.now) (g.T.Tree.state c.make_run.new.tree) c.in-Err.why c.unkept.result (unmade_from root (part_of c.args.part.now) c.args.identity.now.declarations.items (met_at c.args.kept.now) k (g.T.Tree.state c.args.tree.now) (g.T.Tree.state c.make_run.new.tree) (part_of at.in_ok-rest.rest) at.in_ok-cursor.cursor c.in-Err.why (rest_is g at) at.in_ok-cursor.ensures (c.in-Err.ensures.unmade tells root over short (goes_on g at root walk)))
+
+-- or all
+pub returns-clause-asks : goal.returns-clause-asks
+returns-clause-asks g c = λ tells root over short walk.
+    let at = (goal.at.returns-clause-asks g c).In_ok-rest in
+    let k = c.args.checkpoint in
+    kept_asked root (part_of c.args.part.now) c.args.identity.now.declarations.items (met_at c.args.kept.now) k c.in-Ok.made.0 c.keep.result (asked_from root (part_of c.args.part.now) c.args.identity.now.declarations.items (met_at c.args.kept.now) k (part_of at.in_ok-rest.rest) at.in_ok-cursor.cursor (rest_is g at) at.in_ok-cursor.ensures (c.in-Ok.ensures.asks tells root over short (goes_on g at root walk))) c.keep.ensures.made
+
+pub returns-clause-asks_no_more : goal.returns-clause-asks_no_more
+returns-clause-asks_no_more g c = λ tells root over short walk.
+    let at = (goal.at.returns-clause-asks_no_more g c).In_ok-rest in
+    let k = c.args.checkpoint in
+    kept_no_more root (part_of c.args.part.now) c.args.identity.now.declarations.items (met_at c.args.kept.now) k c.keep.result (asked_from root (part_of c.args.part.now) c.args.identity.now.declarations.items (met_at c.args.kept.now) k (part_of at.in_ok-rest.rest) at.in_ok-cursor.cursor (rest_is g at) at.in_ok-cursor.ensures (c.in-Ok.ensures.asks tells root over short (goes_on g at root walk)))
+
+pub returns-in_err-cursor-clause-asks_no_more : goal.returns-in_err-cursor-clause-asks_no_more
+returns-in_err-cursor-clause-asks_no_more g c = λ tells root over short walk. nothing_asked root (part_of c.args.part.now) c.args.identity.now.declarations.items (met_at c.args.kept.now) c.args.checkpoint c.from_residual.result refl
+
+pub returns-in_err-rest-clause-asks_no_more : goal.returns-in_err-rest-clause-asks_no_more
+returns-in_err-rest-clause-asks_no_more g c = λ tells root over short walk. nothing_asked root (part_of c.args.part.now) c.args.identity.now.declarations.items (met_at c.args.kept.now) c.args.checkpoint c.from_residual-in_err-rest.result refl
+
+pub returns-in-Err-clause-met : goal.returns-in-Err-clause-met
+returns-in-Err-clause-met g c = met_unkept c.forget.new.self c.args.checkpoint c.unkept.result c.forget.ensures c.unkept.ensures.unkept
+
+pub returns-clause-met : goal.returns-clause-met
+returns-clause-met g c = met_kept _ c.in-Ok.made.0 c.keep.result c.in-Ok.ensures.met c.keep.ensures.made

@@ -169,7 +169,7 @@ where
         listener: RunLog { journal, began },
     };
     let mut out = Telling::over(Words { speaker }, output_on(rt, shown_on));
-    let (end, why) = night_in(
+    let ended = night_in(
         rt,
         planned,
         &mut noting.folder,
@@ -177,12 +177,12 @@ where
         &mut out,
         &reasons,
         shown,
-    )?;
-    Ok(Runs {
-        end,
-        why,
-        told: noting.told_by(out.into_message().speaker),
-    })
+    );
+    let told = noting.told_by(out.into_message().speaker);
+    match ended {
+        Ok((end, why)) => Ok(Runs { end, why, told }),
+        Err(failure) => Err(failure),
+    }
 }
 
 /// Standard output, from which progress is removed if both go to one terminal.

@@ -126,12 +126,12 @@ fn each_option_reaches_the_plan(rt: HostRuntime) -> Result<(), Fail> {
     Ok(())
 }
 
-/// A clock that goes on by a second each time it is read, and counts what it is asked and hears.
+/// A clock that goes on by a second each time it is read, and by a minute with each run that it
+/// hears of. It stops the night after so many questions.
 #[derive(Drop)]
 struct Ticking {
     time: u64,
     questions: u64,
-    runs: u64,
     stops_after: u64,
 }
 
@@ -151,7 +151,7 @@ impl Clock for Ticking {
     }
 
     fn hears(&mut self, _made: &Made) {
-        self.runs = self.runs.saturating_add(1);
+        self.time = self.time.saturating_add(60);
     }
 }
 
@@ -185,7 +185,6 @@ fn watch(alloc: Global, asked: &NightAsked, stops_after: u64) -> Watch {
     let clock = Ticking {
         time: 10,
         questions: 0,
-        runs: 0,
         stops_after,
     };
     Hearing {
@@ -250,12 +249,10 @@ fn a_night_ends_once_its_budget_is_spent(rt: HostRuntime) -> Result<(), Fail> {
         assert_eq!(rt; clock.listener.costs.as_slice(), costs, "{row}");
         assert_eq!(rt; clock.listener.kept, costs.len() as u64, "{row}");
         assert_eq!(rt; clock.clock.spent(), costs.iter().sum::<u64>(), "{row}");
-        assert!(rt;
-            clock.listener.statuses.iter().all(|status| *status == 0),
-            "{row}"
-        );
+        let statuses = clock.listener.statuses.as_slice();
+        assert_eq!(rt; statuses, &[0, 0, 0][..costs.len()], "{row}");
         let times = clock.listener.times.as_slice();
-        assert_eq!(rt; times, &[11, 12, 13][..times.len()], "{row}");
+        assert_eq!(rt; times, &[11, 72, 133][..costs.len()], "{row}");
     }
     Ok(())
 }
@@ -293,7 +290,7 @@ impl Message for Bracketed {
     }
 }
 
-fn bracketed(alloc: Global) -> Bracketed {
+fn nothing_given(alloc: Global) -> Bracketed {
     Bracketed {
         given: Vec::new(alloc),
         said: 0,
@@ -304,7 +301,7 @@ fn bracketed(alloc: Global) -> Bracketed {
 #[test]
 fn a_message_is_said_at_each_commit(rt: HostRuntime) -> Result<(), Fail> {
     let mut said = Vec::new(rt.alloc());
-    let mut out = Telling::over(bracketed(rt.alloc()), &mut said);
+    let mut out = Telling::over(nothing_given(rt.alloc()), &mut said);
     for text in [&b"one"[..], &b" two"[..]] {
         assert!(rt; out.give(text).is_ok());
     }
@@ -321,7 +318,7 @@ fn a_message_is_said_at_each_commit(rt: HostRuntime) -> Result<(), Fail> {
 #[test]
 fn what_an_output_did_not_take_is_not_said(rt: HostRuntime) -> Result<(), Fail> {
     let mut narrow = Narrow::new(rt.alloc(), 4);
-    let mut out = Telling::over(bracketed(rt.alloc()), &mut narrow);
+    let mut out = Telling::over(nothing_given(rt.alloc()), &mut narrow);
     assert!(rt; out.give(b"one two").is_ok());
     assert!(rt; out.commit().is_err());
     let message = out.into_message();
@@ -338,7 +335,7 @@ fn a_night_tells_its_whole_report(rt: HostRuntime) -> Result<(), Fail> {
     asked.create = true;
     let mut clock = watch(alloc, &asked, 9);
     let mut said = Vec::new(alloc);
-    let mut out = Telling::over(bracketed(alloc), &mut said);
+    let mut out = Telling::over(nothing_given(alloc), &mut said);
     let end = night_by(alloc, &asked, &mut clock, &mut out)?;
     assert!(rt; matches!(end.end, Halt::CycleEnded(1)));
     let message = out.into_message();
@@ -365,83 +362,57 @@ fn ended(alloc: Global, end: Halt, lost: bool, left: &[&str]) -> Result<NightEnd
     })
 }
 
-// Fails if a branch that is left out, a broken line, or a closed cycle counts nothing.
+// Fails if a broken line, a lost report, or a branch that is left out counts nothing.
 #[test]
-fn a_night_ends_with_its_gravest_status(rt: HostRuntime) -> Result<(), Fail> {
+fn a_night_that_lacks_something_ends_with_3(rt: HostRuntime) -> Result<(), Fail> {
+    for (row, broken, lost, left, status) in [
+        ("nothing", 0, false, &[][..], 0),
+        ("a broken line", 1, false, &[][..], 3),
+        ("a lost report", 0, true, &[][..], 3),
+        ("a branch", 0, false, &["a"][..], 3),
+    ] {
+        let end = ended(rt.alloc(), Halt::Asked, lost, left)?;
+        assert_eq!(rt; night_status(&end, broken, 0, 0), status, "{row}");
+        assert_eq!(rt; night_status(&end, broken, 1, 1), status.max(1), "{row}");
+    }
+    Ok(())
+}
+
+// Fails if findings or closed cycles count nothing.
+#[test]
+fn a_night_ends_with_the_gravest_of_what_it_said(rt: HostRuntime) -> Result<(), Fail> {
+    let end = ended(rt.alloc(), Halt::CycleEnded(4), false, &[])?;
+    for (row, findings, told, status) in [
+        ("nothing", 0, 0, 0),
+        ("findings", 2, 0, 1),
+        ("news of a cycle", 0, 1, 1),
+        ("a cycle left out", 1, 3, 3),
+    ] {
+        assert_eq!(rt; night_status(&end, 0, findings, told), status, "{row}");
+    }
+    Ok(())
+}
+
+// Fails if a night that stopped ends as one that ended as it may.
+#[test]
+fn a_night_ends_with_the_status_of_its_end(rt: HostRuntime) -> Result<(), Fail> {
     let alloc = rt.alloc();
     let rows = [
-        ("well", ended(alloc, Halt::TimeUp, false, &[])?, 0, 0, 0, 0),
+        ("at its end", ended(alloc, Halt::TimeUp, false, &[])?, 0),
+        ("with its files", ended(alloc, Halt::Spent, false, &[])?, 0),
         (
-            "with findings",
-            ended(alloc, Halt::Spent, false, &[])?,
-            0,
-            2,
-            0,
-            1,
-        ),
-        (
-            "with a broken line",
-            ended(alloc, Halt::Asked, false, &[])?,
-            1,
-            0,
-            0,
-            3,
-        ),
-        (
-            "with a lost report",
-            ended(alloc, Halt::Asked, true, &[])?,
-            0,
-            1,
-            1,
-            3,
-        ),
-        (
-            "with a branch",
-            ended(alloc, Halt::TimeUp, false, &["a"])?,
-            0,
-            0,
-            0,
-            3,
-        ),
-        (
-            "with news of a cycle",
-            ended(alloc, Halt::CycleEnded(4), false, &[])?,
-            0,
-            0,
-            1,
-            1,
-        ),
-        (
-            "with a cycle left out",
-            ended(alloc, Halt::CycleEnded(4), false, &[])?,
-            0,
-            1,
-            3,
-            3,
-        ),
-        (
-            "on another root",
+            "over another root",
             ended(alloc, Halt::RootChanged, false, &[])?,
-            0,
-            0,
-            0,
             3,
         ),
         (
             "refused",
             ended(alloc, Halt::Refused(Refusal::NoRoot), false, &[])?,
-            0,
-            0,
-            0,
             3,
         ),
     ];
-    for (row, end, broken, findings, told, status) in &rows {
-        assert_eq!(rt;
-            night_status(end, *broken, *findings, *told),
-            *status,
-            "{row}"
-        );
+    for (row, end, status) in &rows {
+        assert_eq!(rt; night_status(end, 0, 0, 0), *status, "{row}");
     }
     Ok(())
 }

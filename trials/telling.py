@@ -25,6 +25,8 @@ Tried, and what comes of it. Each row was seen to fail on scripts that lacked it
   and runs nothing else.
 - Names with marks of direction, or with what ends a line or a paragraph: no message has any of
   them. Before, such a mark turned the rest of its line around.
+- Nights that begin in the middle of an object: their messages name it. Before, such findings stood
+  under `Elsewhere`.
 """
 import os
 import re
@@ -436,9 +438,26 @@ def pasted(folder):
     check("and nothing else ran", os.path.exists(folder + "/ran"), False)
 
 
+def within_an_object(folder):
+    """A night that begins in the middle of an object names it."""
+    names = ["v1/content/%d" % number for number in range(5)]
+    root = common.make_root(folder + "/root", {it: {name: b"abc" for name in names}
+                                               for it in ["a/o", "a/p"]})
+    for name in names:
+        write("%s/a/o/%s" % (root, name), "x")
+    said = ""
+    for _ in range(20):
+        said += ran([PROGRAM, "night", "--create", "--files", "1", "--state", folder + "/state",
+                     "--", root])[1]
+        if os.path.exists(folder + "/state/reports/cycle-000001"):
+            break
+    check("each night names the object", re.findall("(?m)^(?:Object|Elsewhere).*", said),
+          ["Object a/o:"] * len(names))
+
+
 PARTS = [one_session, no_room, by_cron, closed_output, limits, by_hand, once, of_this_night,
          a_word_of_a_good_night, under_way, links, as_the_user, not_sent, sent, no_text, not_begun,
-         names, pasted, of_a_user]
+         names, pasted, within_an_object, of_a_user]
 
 
 def check_all(folder):

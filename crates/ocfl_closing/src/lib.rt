@@ -7,6 +7,7 @@ mod closed;
 pub mod closing;
 mod comparing;
 pub mod finding;
+pub mod heads;
 mod joined;
 pub mod joining;
 pub mod kept;

@@ -182,12 +182,13 @@ pub fn words_of(alloc: Global, reason: Option<Reason>) -> Result<Option<String>,
     }
 }
 
-/// Where nights begin: where those before stand, and which places they left out of the cycle that is
-/// open.
+/// Where nights begin: where those before stand, which places they left out of the cycle that is
+/// open, and how many bytes of the report they said.
 #[derive(Drop)]
 pub struct Begun {
     pub standing: Standing,
     pub left: Vec<Place>,
+    pub told: u64,
 }
 
 impl Begun {
@@ -196,6 +197,7 @@ impl Begun {
         Begun {
             standing: Standing::first(),
             left: Vec::new(alloc),
+            told: 0,
         }
     }
 
@@ -204,6 +206,7 @@ impl Begun {
         Begun {
             standing: Standing::of(checkpoint),
             left: places_of(alloc, &checkpoint.left).unwrap_or(Vec::new(alloc)),
+            told: checkpoint.told,
         }
     }
 }

@@ -5,7 +5,7 @@ use crate::stand::Standing;
 use ocfl_disk::StateFile;
 use ocfl_files::reasons::{Reasons, take_reasons};
 use ocfl_report::{Code, Line, TextStop, read_line, write_all_of};
-use ocfl_telling::{Finding, Found, Gravest, Known, Night, find_shown, night_text};
+use ocfl_telling::{Finding, Found, Gravest, Heads, Known, Night, find_shown, night_text};
 use std::alloc::{AllocError, Global};
 use std::cell::Cell;
 use std::io::{self, ErrorKind, Write};
@@ -75,13 +75,15 @@ impl<W: Drop> Drop for Teller<'_, W> {
 }
 
 impl<'n, W: Write + Drop> Teller<'n, W> {
-    /// What it says is of the runs after where the nights stand now.
+    /// What it says is of the runs after where the nights stand now, whose first line may be in the
+    /// object of `heads`.
     pub fn new(
         alloc: Global,
         names: Names<'n>,
         known: &'n Known,
         reasons: Rc<Cell<Reasons>>,
         now: Rc<Cell<Standing>>,
+        heads: Heads,
         out: W,
     ) -> Teller<'n, W> {
         Teller {
@@ -91,7 +93,7 @@ impl<'n, W: Write + Drop> Teller<'n, W> {
             reasons,
             said_to: now.get(),
             now,
-            found: Some(Found::new(alloc)),
+            found: Some(Found::new(alloc, heads)),
             rest: Vec::new(alloc),
             findings: 0,
             broken: 0,
@@ -167,8 +169,8 @@ impl<'n, W: Write + Drop> Teller<'n, W> {
         Ok(())
     }
 
-    /// Takes what was found, which is said then.
-    fn take_found(&mut self) -> Result<Gravest, TextStop> {
+    /// Takes what was found, which is said then, and the object whose head came last.
+    fn take_found(&mut self) -> Result<(Gravest, Heads), TextStop> {
         if !self.rest.is_empty() {
             self.broken = self.broken.saturating_add(1);
             self.rest.clear();
@@ -195,15 +197,16 @@ impl<'n, W: Write + Drop> Teller<'n, W> {
         self.out.flush()
     }
 
-    /// Says what was found, and notes that it was said.
-    fn tell(&mut self, gravest: &mut Gravest) -> io::Result<()> {
+    /// Says what was found, and notes that it was said. What comes next may be in the object of
+    /// `heads`.
+    fn tell(&mut self, gravest: &mut Gravest, heads: Heads) -> io::Result<()> {
         let now = self.now.get();
         let shown = find_shown(self.alloc, gravest);
         self.say(now, gravest)?;
         let count = u64::try_from(gravest.count()).unwrap_or(u64::MAX);
         self.findings = self.findings.saturating_add(count);
         self.said_to = now;
-        self.found = Some(Found::new(self.alloc));
+        self.found = Some(Found::new(self.alloc, heads));
         let _ = self.keep_said(shown);
         Ok(())
     }
@@ -222,7 +225,7 @@ impl<W: Write + Drop> Write for Teller<'_, W> {
 
     fn flush(&mut self) -> io::Result<()> {
         match self.take_found() {
-            Ok(mut gravest) => self.tell(&mut gravest),
+            Ok((mut gravest, heads)) => self.tell(&mut gravest, heads),
             Err(stop) => Err(error_of(stop)),
         }
     }

@@ -4,6 +4,7 @@ use crate::clock::StopFile;
 use crate::given::Given;
 use crate::logging::{Journal, Reading};
 use crate::speaking::{Kept, Speaker};
+use ocfl_closing::heads::heads_before;
 use ocfl_closing::stand::Standing;
 use ocfl_closing::state::{Begun, open_state, read_begun};
 use ocfl_closing::state_dir::StateDir;
@@ -13,6 +14,7 @@ use ocfl_files::failing::Failure;
 use ocfl_files::reasons::{Reason, Reasons, last_reason};
 use ocfl_report::Line;
 use ocfl_state::{Checkpoint, Observed, Observer, decode_checkpoint};
+use ocfl_telling::Heads;
 use std::alloc::{AllocError, Global};
 use std::cell::Cell;
 use std::fs::File;
@@ -184,10 +186,11 @@ where
     noting_over(rt, given, folder.into_state(), begun)
 }
 
-/// What makes the messages of a night.
+/// What makes the messages of a night, whose first line may be in the object of `heads`.
 fn speaker_of<'n>(
     alloc: Global,
     given: &'n Given<'_>,
+    heads: Heads,
     reasons: &Rc<Cell<Reasons>>,
     now: &Rc<Cell<Standing>>,
 ) -> Result<Speaker<'n>, AllocError> {
@@ -195,7 +198,7 @@ fn speaker_of<'n>(
     let (reasons, now) = (reasons.clone()?, now.clone()?);
     let out = kept.shared()?;
     Ok(Speaker {
-        teller: Teller::new(alloc, given.names(), &given.known, reasons, now, out),
+        teller: Teller::new(alloc, given.names(), &given.known, reasons, now, heads, out),
         kept,
         findings: 0,
     })
@@ -230,13 +233,15 @@ impl<'a, R: Files<File = File> + AllocGlobal + Clock> Noting<'a, R, SystemDisk<&
     }
 
     /// What stands beside the folder in the night.
-    pub fn beside<'n>(&self, given: &'n Given<'_>) -> Result<Beside<'a, 'n, R>, Failure> {
-        let notes = &self.folder.observer;
-        let reasons = notes.reasons.clone()?;
+    pub fn beside<'n>(&mut self, given: &'n Given<'_>) -> Result<Beside<'a, 'n, R>, Failure> {
+        let rt = self.folder.observer.rt;
+        let reasons = self.folder.observer.reasons.clone()?;
         let stop = self.stop(given)?;
-        let journal = journal_of(notes.rt, given, &self.lost)?;
+        let journal = journal_of(rt, given, &self.lost)?;
+        let heads = heads_before(rt.alloc(), &mut self.folder.folder, self.begun.told);
+        let notes = &self.folder.observer;
         Ok(Beside {
-            speaker: speaker_of(notes.rt.alloc(), given, &notes.reasons, &notes.now)?,
+            speaker: speaker_of(rt.alloc(), given, heads, &notes.reasons, &notes.now)?,
             stop,
             journal,
             reasons,

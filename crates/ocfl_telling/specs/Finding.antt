@@ -30,13 +30,10 @@ object_at (Some o) p = if begins o p then Some o else None
 abbrev pub found_in : Option Place → Line → Finding
 found_in head l = record { line = l; object = object_at head l.place }
 
+-- lines that come behind a head, each in the object whose head came last
 abbrev pub placed_after : Option Place → List Line → List Finding
 placed_after head [] = []
 placed_after head (l ∷ ls) = found_in (head_with head l) l ∷ placed_after (head_with head l) ls
-
--- the lines, each in the object whose head came last
-abbrev pub placed : List Line → List Finding
-placed ls = placed_after None ls
 
 -- of places that a store can have
 pub record IsPlaced (f : Finding) : Type 0 where

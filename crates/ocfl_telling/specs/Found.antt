@@ -1,27 +1,38 @@
 -- The findings among the bytes of a report that come piece by piece.
-use Rattle.std.specs.Prelude.{◌≡◌, ◌≢◌, List, [], ◌∷◌, ◌++◌, All, None}
-use Rattle.ocfl_tree.specs.Place.{Text}
+use Rattle.std.specs.Prelude.{◌≡◌, ◌≢◌, List, [], ◌∷◌, ◌++◌, All, None, Option}
+use Rattle.ocfl_tree.specs.Place.{Place, Text}
 use Rattle.ocfl_report.specs.{Line.{Line}, Text.{IsLine, IsLineText, lines_text}}
-use Rattle.ocfl_telling.specs.{Finding.{head_after, placed}, Gravest.{IsOf}, Known.{unknown}}
-use Rattle.ocfl_telling.specs.declared.gravest.Gravest.{Gravest}
+use Rattle.ocfl_telling.specs.{Finding.{head_after, placed_after}, Gravest.{IsOf}, Known.{unknown}}
+use Rattle.ocfl_telling.specs.declared.{finding.Heads.{Heads}, gravest.Gravest.{Gravest}}
 use Rattle.ocfl_telling.specs.{declared.found.Found.{Found}, declared.known.KnownEntry.{KnownEntry}}
 
--- after these bytes: their whole lines are taken but for those that are known, and what follows the
--- last line feed is kept
-pub record IsAfter (known : List KnownEntry) (f : Found) (b : Text) : Type 0 where
+-- after these bytes, before which the object with this head came: their whole lines are taken but for
+-- those that are known, and what follows the last line feed is kept
+pub record IsAfter (known : List KnownEntry) (head : Option Place) (f : Found) (b : Text) : Type 0 where
   pub lines : List Line
   pub are : All IsLine lines
   pub is : b ≡ lines_text lines ++ f.rest.items
   pub unended : All (λ c. c ≢ 10) f.rest.items
-  pub heads : f.heads.last ≡ head_after None lines
-  pub gravest : IsOf f.gravest (unknown known (placed lines))
+  pub heads : f.heads.last ≡ head_after head lines
+  pub gravest : IsOf f.gravest (unknown known (placed_after head lines))
 
--- the bytes are the text of these lines, and the findings are kept of them that are not known
-pub record AreAll (known : List KnownEntry) (g : Gravest) (b : Text) : Type 0 where
+-- the bytes are the text of these lines, the findings are kept of them that are not known, and the
+-- object whose head came last
+pub record AreAll (known : List KnownEntry) (head : Option Place) (g : Gravest) (behind : Heads) (b : Text) : Type 0 where
   pub lines : List Line
   pub are : All IsLine lines
   pub is : b ≡ lines_text lines
-  pub gravest : IsOf g (unknown known (placed lines))
+  pub gravest : IsOf g (unknown known (placed_after head lines))
+  pub heads : behind.last ≡ head_after head lines
+
+-- the object whose head is the last one among the whole lines of these bytes
+pub record IsHeadIn (behind : Heads) (b : Text) : Type 0 where
+  pub lines : List Line
+  pub rest : Text
+  pub are : All IsLine lines
+  pub is : b ≡ lines_text lines ++ rest
+  pub unended : All (λ c. c ≢ 10) rest
+  pub heads : behind.last ≡ head_after None lines
 
 -- after some lines of a report, the bytes go on with a line that is none of a report
 pub record HasBadLine (b : Text) : Type 0 where

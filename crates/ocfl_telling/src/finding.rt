@@ -13,8 +13,8 @@ use std::alloc::AllocError;
 pub struct Finding {
     /// The line.
     pub line: Line,
-    /// The object. `None` if it is not known: no line of an object's head came before, or that of
-    /// another object did.
+    /// The object. `None` if it is not known: no line of an object's head is known to come before, or
+    /// that of another object did.
     pub object: Option<Place>,
 }
 

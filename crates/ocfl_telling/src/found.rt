@@ -22,18 +22,18 @@ pub struct Found {
 }
 
 impl Found {
-    ghost use Rattle.std.specs.Prelude.{◌≡◌, ◌≢◌, List, ℕ, [], ◌∷◌, ◌++◌, All, IfOk, OnErr, OnOk};
-    ghost use Rattle.ocfl_tree.specs.Place.{Text as ModelText};
+    ghost use Rattle.std.specs.Prelude.{◌≡◌, ◌≢◌, List, ℕ, [], ◌∷◌, ◌++◌, All, Option, IfOk, OnErr, OnOk};
+    ghost use Rattle.ocfl_tree.specs.Place.{Place as ModelPlace, Text as ModelText};
     ghost use Rattle.ocfl_telling.specs.Found.{IsAfter, AreAll, HasBadLine};
     ghost use Rattle.ocfl_telling.specs.declared.known.KnownEntry.{KnownEntry as ModelEntry};
 
-    /// Nothing, of no bytes.
-    pub fn new(alloc: Global) -> Found
-        ensures { (known : List ModelEntry) → IsAfter known result [] }
+    /// Nothing, of no bytes, before which these heads came.
+    pub fn new(alloc: Global, before: Heads) -> Found
+        ensures { (known : List ModelEntry) → IsAfter known before.last result [] }
     {
         Found {
             gravest: Gravest::new(alloc),
-            heads: Heads::new(),
+            heads: before,
             rest: Vec::new(alloc),
         }
     }
@@ -42,11 +42,11 @@ impl Found {
     /// It holds one line, and at most 200 findings of each weight. To be called with one list each
     /// time. [`TextStop::Bad`] if one of their lines is not a line of a report.
     pub fn take(self, alloc: Global, known: &Known, bytes: &[u8]) -> Result<Found, TextStop>
-        ensures ok { IfOk result (λ found. (b : ModelText)
-            → IsAfter known.now self b
-            → IsAfter known.now found (b ++ bytes.now)) }
-        ensures bad { result ≡ Err TextStop.Bad → (b : ModelText)
-            → IsAfter known.now self b → HasBadLine (b ++ bytes.now) }
+        ensures ok { IfOk result (λ found. (head : Option ModelPlace) (b : ModelText)
+            → IsAfter known.now head self b
+            → IsAfter known.now head found (b ++ bytes.now)) }
+        ensures bad { result ≡ Err TextStop.Bad → (head : Option ModelPlace) (b : ModelText)
+            → IsAfter known.now head self b → HasBadLine (b ++ bytes.now) }
     {
         let mut found = self;
         let mut left = bytes;
@@ -61,11 +61,12 @@ impl Found {
     /// Takes the end of a line, up to its line feed.
     fn take_end(&mut self, alloc: Global, known: &Known, part: &[u8]) -> Result<(), TextStop>
         requires { All (λ c. c ≢ 10) part.now }
-        ensures ok { OnOk result ((b : ModelText)
-            → IsAfter known.now self.old b
-            → IsAfter known.now self.new (b ++ (part.now ++ 10 ∷ []))) }
-        ensures bad { result ≡ Err TextStop.Bad → (b after : ModelText)
-            → IsAfter known.now self.old b
+        ensures ok { OnOk result ((head : Option ModelPlace) (b : ModelText)
+            → IsAfter known.now head self.old b
+            → IsAfter known.now head self.new (b ++ (part.now ++ 10 ∷ []))) }
+        ensures bad { result ≡ Err TextStop.Bad → (head : Option ModelPlace)
+            (b after : ModelText)
+            → IsAfter known.now head self.old b
             → HasBadLine (b ++ (part.now ++ 10 ∷ []) ++ after) }
     {
         put_end(part, &mut self.rest)?;
@@ -76,17 +77,45 @@ impl Found {
         Ok(())
     }
 
-    /// The findings of all the bytes. [`TextStop::Bad`] if the last line has no line feed.
-    pub fn end(self) -> Result<Gravest, TextStop>
-        ensures ok { IfOk result (λ g. (known : List ModelEntry) (b : ModelText)
-            → IsAfter known self b → AreAll known g b) }
+    /// The findings of all the bytes, and the object whose head came last. [`TextStop::Bad`] if the
+    /// last line has no line feed.
+    pub fn end(self) -> Result<(Gravest, Heads), TextStop>
+        ensures ok { IfOk result (λ all. (known : List ModelEntry) (head : Option ModelPlace)
+            (b : ModelText)
+            → IsAfter known head self b → AreAll known head all.0 all.1 b) }
         ensures bad { OnErr result (self.rest.items ≢ []) }
         ensures memory { result ≢ Err TextStop.Memory }
     {
         if !self.rest.is_empty() {
             return Err(TextStop::Bad);
         }
-        Ok(self.gravest)
+        let Found {
+            gravest,
+            heads,
+            rest: _rest,
+        } = self;
+        Ok((gravest, heads))
+    }
+}
+
+impl Heads {
+    ghost use Rattle.std.specs.Prelude.{IfOk};
+    ghost use Rattle.ocfl_telling.specs.Found.{HasBadLine, IsHeadIn};
+
+    /// The object whose head is the last one in these bytes of a report, which begin with a line:
+    /// the one that the next line may be in. What follows the last line feed is passed over.
+    /// [`TextStop::Bad`] if one of their lines is not a line of a report.
+    pub fn within(alloc: Global, bytes: &[u8]) -> Result<Heads, TextStop>
+        ensures ok { IfOk result (λ heads. IsHeadIn heads bytes.now) }
+        ensures bad { result ≡ Err TextStop.Bad → HasBadLine bytes.now }
+    {
+        let known = Known::new(alloc);
+        let Found {
+            gravest: _gravest,
+            heads,
+            rest: _rest,
+        } = Found::new(alloc, Heads::new()).take(alloc, &known, bytes)?;
+        Ok(heads)
     }
 }
 

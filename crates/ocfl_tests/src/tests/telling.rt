@@ -5,9 +5,9 @@ use crate::tests::common::Runtime;
 use crate::tests::common::store::place_of;
 use ocfl_report::{Line, TextStop, read_line};
 use ocfl_telling::{
-    BeganRow, Closing, ClosingRow, Found, Gravest, Known, KnownEntry, KnownStop, LeftRow, LogRow,
-    Night, NightRow, Quoted, Reach, RefusalMessage, RefusalRow, SliceRow, Stands, StopMessage,
-    find_shown, log_line, night_text, read_known, refusal_text, stop_text,
+    BeganRow, Closing, ClosingRow, Found, Gravest, Heads, Known, KnownEntry, KnownStop, LeftRow,
+    LogRow, Night, NightRow, Quoted, Reach, RefusalMessage, RefusalRow, SliceRow, Stands,
+    StopMessage, find_shown, log_line, night_text, read_known, refusal_text, stop_text,
 };
 use ocfl_tree::Place;
 use std::alloc::Global;
@@ -15,14 +15,15 @@ use std::test::Fail;
 
 /// What is found in a report that comes in pieces of `piece` bytes.
 fn found_in(alloc: Global, known: &Known, report: &str, piece: usize) -> Result<Gravest, TextStop> {
-    let mut found = Found::new(alloc);
+    let mut found = Found::new(alloc, Heads::new());
     let mut rest = report.as_bytes();
     for _ in 0..report.len() {
         let count = piece.min(rest.len());
         found = found.take(alloc, known, &rest[..count])?;
         rest = &rest[count..];
     }
-    found.end()
+    let (gravest, _) = found.end()?;
+    Ok(gravest)
 }
 
 const NIGHT: Night<'static> = Night {
@@ -103,6 +104,50 @@ fn findings_of_an_object_come_together(rt: HostRuntime) -> Result<(), Fail> {
         let text = String::from_utf8(night_text(alloc, &night, &found)?)?;
         assert_eq!(rt; text.as_str(), BY_OBJECT, "{piece}");
     }
+    Ok(())
+}
+
+/// The lines of a report before those of a night that begins in the middle of an object, and these.
+const BEFORE: &str = "ok\t.\t-\nok\ta\t-\nok\ta/v1/content/f\t3\nok\tb\t-\nok\tb/v1/content/f\t3\n";
+
+const WITHIN: &str = "E092\tb/v1/content/g\tmd5 missing\nE092\tc/v1/content/f\tmd5 missing\n";
+
+const WITHIN_MESSAGE: &str = "2 findings tonight in /srv/%C3%A9%0A, cycle 2, runs 3 to 4:
+Object b:
+\tv1/content/g: missing (E092)
+\tTo do: restore the file from a copy with the expected digest
+Elsewhere, E092:
+\tc/v1/content/f: missing (E092)
+\tTo do: restore the file from a copy with the expected digest
+What to do first about a code: ocfl-scrub codes
+";
+
+#[test]
+fn nights_go_on_within_an_object(rt: HostRuntime) -> Result<(), Fail> {
+    let alloc = rt.alloc();
+    let known = Known::new(alloc);
+    // What follows the last line feed is no line yet.
+    let before = format!(in alloc; "{BEFORE}ok\tc\t")?;
+    let heads = Heads::within(alloc, before.as_str().as_bytes())?;
+    let found = Found::new(alloc, heads).take(alloc, &known, WITHIN.as_bytes())?;
+    let (gravest, heads) = found.end()?;
+    let text = String::from_utf8(night_text(alloc, &NIGHT, &gravest)?)?;
+    assert_eq!(rt; text.as_str(), WITHIN_MESSAGE);
+    // What comes then goes on there too.
+    let found = Found::new(alloc, heads).take(alloc, &known, WITHIN.as_bytes())?;
+    let (gravest, _) = found.end()?;
+    let text = String::from_utf8(night_text(alloc, &NIGHT, &gravest)?)?;
+    assert_eq!(rt; text.as_str(), WITHIN_MESSAGE);
+    Ok(())
+}
+
+#[test]
+fn no_head_is_found_before_bad_lines(rt: HostRuntime) -> Result<(), Fail> {
+    let stop = match Heads::within(rt.alloc(), b"ok\tb\t-\nno line\n") {
+        Ok(_) => None,
+        Err(stop) => Some(stop),
+    };
+    assert_eq!(rt; stop, Some(TextStop::Bad));
     Ok(())
 }
 

@@ -1,5 +1,5 @@
-use Rattle.std.proofs.Common.{◌≡◌, ◌++◌, length}
-use Rattle.ocfl_tree.specs.Place.{Text}
+use Rattle.std.proofs.Common.{◌≡◌, ◌++◌, Option, length}
+use Rattle.ocfl_tree.specs.Place.{Place, Text}
 use Rattle.ocfl_telling.specs.Found.{IsAfter}
 use Rattle.ocfl_telling.proofs.found.Found.take.Given as goal
 
@@ -7,7 +7,7 @@ abbrev pub invariant-loop-part : goal.invariant-loop-part
 invariant-loop-part l = record {
   done : Text;
   cut : l.bytes ≡ done ++ l.left;
-  after : (b : Text) → IsAfter l.known l.fn.self b → IsAfter l.known l.found (b ++ done);
+  after : (head : Option Place) (b : Text) → IsAfter l.known head l.fn.self b → IsAfter l.known head l.found (b ++ done);
 }
 
 abbrev pub decreases-loop-part : goal.decreases-loop-part

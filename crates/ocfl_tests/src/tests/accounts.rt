@@ -208,9 +208,8 @@ fn closings_are_said_in_order(rt: HostRuntime) -> Result<(), Fail> {
     Ok(())
 }
 
-#[test]
-fn those_before_a_cycle_that_were_not_said_are_found(rt: HostRuntime) -> Result<(), Fail> {
-    let alloc = rt.alloc();
+/// Five cycles, of which the third has no report.
+fn five_cycles(alloc: Global) -> Result<MemClosings, Fail> {
     let kept: &[Kept] = &[
         Kept::Whole,
         Kept::Whole,
@@ -218,7 +217,19 @@ fn those_before_a_cycle_that_were_not_said_are_found(rt: HostRuntime) -> Result<
         Kept::Whole,
         Kept::Whole,
     ];
-    let mut cycles = cycles_of(alloc, kept)?;
+    cycles_of(alloc, kept)
+}
+
+/// What is found of those before a cycle.
+fn first_before(cycles: &mut MemClosings, cycle: u64) -> Result<u64, ClosingStop> {
+    let mut first = cycle;
+    find_unsaid(cycles, &mut first)?;
+    Ok(first)
+}
+
+#[test]
+fn those_before_a_cycle_that_were_not_said_are_found(rt: HostRuntime) -> Result<(), Fail> {
+    let mut cycles = five_cycles(rt.alloc())?;
     for (cycle, wanted) in [
         (0, 0),
         (1, 1),
@@ -229,22 +240,21 @@ fn those_before_a_cycle_that_were_not_said_are_found(rt: HostRuntime) -> Result<
         (1_005, 5),
         (1_006, 1_006),
     ] {
-        let mut first = cycle;
-        assert_eq!(rt; find_unsaid(&mut cycles, &mut first), Ok(()));
-        assert_eq!(rt; first, wanted, "{cycle}");
+        assert_eq!(rt; first_before(&mut cycles, cycle), Ok(wanted), "{cycle}");
     }
-    // That of cycle 1 was said.
+    Ok(())
+}
+
+#[test]
+fn what_was_said_or_is_not_there_is_passed_over(rt: HostRuntime) -> Result<(), Fail> {
+    let alloc = rt.alloc();
+    let mut cycles = five_cycles(alloc)?;
     let mut out = MemOutput::new(alloc);
     assert_eq!(rt; say_cycle(alloc, &mut cycles, 1, &mut out), Ok(0));
-    let mut first = 3;
-    assert_eq!(rt; find_unsaid(&mut cycles, &mut first), Ok(()));
-    assert_eq!(rt; first, 2);
-    // The report of cycle 3 is not there.
+    assert_eq!(rt; first_before(&mut cycles, 3), Ok(2));
     assert_eq!(rt; say_cycle(alloc, &mut cycles, 2, &mut out), Ok(1));
     for (cycle, wanted) in [(3, 3), (4, 4), (9, 4)] {
-        let mut first = cycle;
-        assert_eq!(rt; find_unsaid(&mut cycles, &mut first), Ok(()));
-        assert_eq!(rt; first, wanted, "{cycle}");
+        assert_eq!(rt; first_before(&mut cycles, cycle), Ok(wanted), "{cycle}");
     }
     // A failure ends it at the cycle that it looked at: two accounts, and of cycle 3 no report.
     cycles.fail_call(4, false);

@@ -10,6 +10,7 @@ import os
 import random
 import shutil
 import subprocess
+import time
 
 import common
 from common import PROGRAM, TOP, check
@@ -110,7 +111,11 @@ class Together:
                 str(parts), "--state", self.state, *more, self.root]
 
     def night(self, *more, jobs=4, parts=4, **environment):
-        return ran(self.words(*more, jobs=jobs, parts=parts), **environment)
+        """A night of all parts. The next one begins in another second, by which logs name it: what
+        is gone in two nights of one second is not known."""
+        done = ran(self.words(*more, jobs=jobs, parts=parts), **environment)
+        time.sleep(1.01 - time.time() % 1)
+        return done
 
     def start(self, *more, program=PROGRAM, **how):
         return subprocess.Popen(self.words(*more, **how), stdin=subprocess.DEVNULL,

@@ -1,8 +1,9 @@
 //! The program's subcommands and arguments, as `clap` takes them.
-ghost use Rattle.std.specs.Prelude.{◌≡◌, IfOk};
+ghost use Rattle.std.specs.Prelude.{◌≡◌, IfOk, false};
 ghost use Rattle.clap.specs.Words.{Rule};
 ghost use Rattle.ocfl_line.specs.Line.{IsArg, IsCommand, bare_app, line_app, rule_for};
-ghost use Rattle.ocfl_line.specs.Internal.Shapes.{app_for, range_parser, shape_rule, value_rule, with_subcommands};
+ghost use Rattle.ocfl_line.specs.Internal.Shapes.{app_for, number_rule, range_parser, shape_rule, value_rule, with_subcommands};
+ghost use Rattle.ocfl_line.specs.declared.command.Range.TheVariants.{Count};
 
 use crate::command::Argument::{
     Budget, Count, Cursor, End, Every, Files, Flag, Hours, Named, Needed, Optional, Part, Parts,
@@ -139,7 +140,7 @@ on";
 /// The value of an argument.
 #[derive(Clone, Copy)]
 enum Taken<'a> {
-    /// There is none: the argument is a flag.
+    /// It takes no value: it is a flag.
     Nothing,
     /// A text, which help calls this.
     Words(&'a str),
@@ -169,6 +170,26 @@ enum Range {
 #[derive(Clone, Copy)]
 struct Shape<'a>(&'a str, &'a str, Option<&'a str>, bool, Taken<'a>);
 
+/// How `clap` takes a number in a range, which is an option of its own name.
+fn numbered<'a>(name: &'a str, help: &'a str, value: &'a str, range: Range) -> Shape<'a>
+    ensures { shape_rule result ≡ number_rule name.now name.now false range }
+{
+    Shape(name, help, Some(name), false, Number(value, range))
+}
+
+/// How `clap` takes how many there are at most.
+fn counted<'a>(id: &'a str, help: &'a str, name: &'a str, is_required: bool) -> Shape<'a>
+    ensures { shape_rule result ≡ number_rule id.now name.now is_required Count }
+{
+    Shape(
+        id,
+        help,
+        Some(name),
+        is_required,
+        Number("COUNT", Range::Count),
+    )
+}
+
 /// How `clap` takes an argument.
 fn shape_of<'a>(argument: Argument<'a>) -> Shape<'a>
     ensures { shape_rule result ≡ rule_for argument.entry }
@@ -189,44 +210,14 @@ fn shape_of<'a>(argument: Argument<'a>) -> Shape<'a>
             false,
             WordsOr("N", MAX_FILES),
         ),
-        Runs => Shape(
-            "runs",
-            RUNS,
-            Some("runs"),
-            true,
-            Number("COUNT", Range::Count),
-        ),
+        Runs => counted("runs", RUNS, "runs", true),
         Quiet => Shape("quiet", QUIET, Some("quiet"), false, Nothing),
         Parts => Shape("parts", PARTS, Some("parts"), false, Words("FILE")),
-        Part => Shape("part", PART, Some("part"), false, Number("K", Range::Part)),
-        Count => Shape(
-            "count",
-            COUNT,
-            Some("parts"),
-            false,
-            Number("COUNT", Range::Count),
-        ),
-        Hours => Shape(
-            "hours",
-            HOURS,
-            Some("hours"),
-            false,
-            Number("H", Range::Hours),
-        ),
-        End => Shape(
-            "end",
-            END,
-            Some("end"),
-            false,
-            Number("SECONDS", Range::Any),
-        ),
-        Every => Shape(
-            "every",
-            EVERY,
-            Some("every"),
-            false,
-            Number("DAYS", Range::Days),
-        ),
+        Part => numbered("part", PART, "K", Range::Part),
+        Count => counted("count", COUNT, "parts", false),
+        Hours => numbered("hours", HOURS, "H", Range::Hours),
+        End => numbered("end", END, "SECONDS", Range::Any),
+        Every => numbered("every", EVERY, "DAYS", Range::Days),
     }
 }
 

@@ -1,6 +1,6 @@
 -- How `clap` takes the arguments and the subcommands, from what the program says of each.
-use Rattle.std.specs.Prelude.{List, [], ◌∷◌, Some, map, option_map}
-use Rattle.clap.specs.Words.{App, Rule, new_rule, with_subcommand}
+use Rattle.std.specs.Prelude.{Bool, List, [], ◌∷◌, Some, map, option_map}
+use Rattle.clap.specs.Words.{App, Rule, Text, new_rule, with_subcommand}
 use Rattle.clap.specs.declared.builder.action.ArgAction.TheVariants.{SetTrue}
 use Rattle.clap.specs.declared.builder.value_parser.ValueParser.{ValueParser}
 use Rattle.clap.specs.declared.builder.value_parser.ValueParser.TheVariants as vp
@@ -24,6 +24,11 @@ value_rule Nothing r = record r { action = Some SetTrue }
 value_rule (Words name) r = record r { value_names = 1 }
 value_rule (WordsOr name text) r = record r { value_names = 1; defaults = text.now ∷ [] }
 value_rule (Number name range) r = record r { value_names = 1; parser = Some (range_parser range) }
+
+-- the rule of an option that takes a number in a range
+abbrev pub number_rule : Text → Text → Bool → Range → Rule
+number_rule id name required range =
+    record (new_rule id) { long = Some name; required = required; value_names = 1; parser = Some (range_parser range) }
 
 -- the rule of an argument
 abbrev pub shape_rule : Shape → Rule

@@ -2,10 +2,10 @@
 
 use crate::closed::CycleMade;
 use crate::finding::Findings;
-use crate::kept::{list_path, new_list_path, report_path};
 use crate::rows::Changes;
-use crate::telling::Names;
 use ocfl_accounts::Pair;
+use ocfl_kept::kept::{list_path, new_list_path, report_path};
+use ocfl_kept::names::Names;
 use ocfl_report::Line;
 use ocfl_telling::{Closing, Counts, Gone, Shown, closing_text};
 use ocfl_tree::Place;

@@ -1,16 +1,13 @@
 //! What is known of closed cycles.
 
-use crate::kept::{is_as_closed, is_packed_incomplete, open_report, read_kept};
-use crate::room::Room;
-use crate::state_dir::Folder;
 use ocfl_accounts::{ClosedCycle, Look};
 use ocfl_files::failing::Failure;
-use ocfl_state::{Checkpoint, Left};
+use ocfl_kept::kept::{is_as_closed, is_packed_incomplete, open_report, places_of, read_kept};
+use ocfl_kept::room::Room;
+use ocfl_kept::state_dir::Folder;
+use ocfl_state::Checkpoint;
 use ocfl_tree::Place;
 use std::alloc::{AllocError, Global};
-
-/// How many cycles back a report is looked for at most.
-pub(crate) const MOST_BACK: u64 = 1_000;
 
 /// What the runs of a closed cycle made.
 #[derive(Clone, Copy)]
@@ -59,15 +56,6 @@ pub(crate) fn find_made<F: Folder>(
         Some(Some(checkpoint)) => Ok(CycleMade::by(&checkpoint)),
         _ => Ok(CycleMade::unknown()),
     }
-}
-
-/// The places of branches that were left out.
-pub(crate) fn places_of(alloc: Global, left: &[Left]) -> Result<Vec<Place>, AllocError> {
-    let mut places = Vec::new(alloc);
-    for branch in left {
-        places.push(branch.place.try_clone()?)?;
-    }
-    Ok(places)
 }
 
 /// The same places, and others.

@@ -9,40 +9,23 @@ use crate::account::{Account, Paths, compared, compared_whole, paths_of, text_of
 use crate::back::gone_before;
 use crate::closed::{find_made, look_at};
 use crate::comparing::{end_changes, find_changes, find_new, find_returned, find_unlisted};
-use crate::kept::is_told;
-use crate::lists::read_expected;
-use crate::room::Room;
 use crate::rows::Rows;
-use crate::state::failed_folder;
-use crate::state_dir::{Folder, StateDir};
-use crate::telling::Names;
 use ocfl_accounts::{ClosingStop, Found, Look, NotSaid, Pair, Say, find_unsaid, say_cycles};
-use ocfl_disk::{Disk, SystemDisk};
 use ocfl_files::failing::{Failure, say_failure};
 use ocfl_files::timing::seconds_now;
+use ocfl_kept::kept::is_told;
+use ocfl_kept::names::Names;
+use ocfl_kept::room::Room;
+use ocfl_kept::state::failed_folder;
+use ocfl_kept::state_dir::Folder;
+use ocfl_lists::read_expected;
 use ocfl_report::{Line, write_all_of};
 use ocfl_telling::{ClosingRow, Known, LogRow, log_line};
 use ocfl_tree::Place;
 use std::alloc::{AllocError, Global};
 use std::fs::File;
 use std::io::Write;
-use std::rt::Files;
 use std::time::Clock;
-
-/// With what closings are told.
-#[derive(Drop)]
-pub struct Closings<'a, 'n, R: Files<File = File> + AllocGlobal, D: Disk + Drop> {
-    pub rt: &'a R,
-    pub folder: StateDir<D>,
-    pub names: Names<'n>,
-    pub known: &'n Known,
-    /// The file of the objects that must be there.
-    pub expected: Option<&'n str>,
-    /// When the night began.
-    pub night: u64,
-    /// The lines that its messages have.
-    pub said: &'n [Line],
-}
 
 /// An output over a writer, which commits by flushing it.
 #[derive(Drop)]
@@ -104,16 +87,21 @@ fn closing_line(
     log_line(alloc, &LogRow::Closing(row))
 }
 
-/// What the closings of a state folder are told with.
+/// With what the closings of a state folder are told.
 #[derive(Clone, Copy)]
-struct Told<'n> {
-    names: Names<'n>,
-    /// The path of the state folder.
-    state: &'n str,
-    known: &'n Known,
-    expected: Option<&'n str>,
-    night: u64,
-    said: &'n [Line],
+pub struct Told<'n> {
+    pub names: Names<'n>,
+    pub known: &'n Known,
+    /// The file of the objects that must be there.
+    pub expected: Option<&'n str>,
+    /// When the night began.
+    pub night: u64,
+    /// The lines that its messages have.
+    pub said: &'n [Line],
+    /// The cycle that was closed last before the night; 0 if none was.
+    pub before: u64,
+    /// The cycle that the night closed; 0 if it closed none.
+    pub closed: u64,
 }
 
 impl Told<'_> {
@@ -129,8 +117,9 @@ impl Told<'_> {
         let Some(file) = self.expected else {
             return Ok(());
         };
-        let listed = read_expected(rt, file)?;
-        find_unlisted(rt.global(), folder, self.state, pair, listed, rows, account)
+        let alloc = rt.global();
+        let listed = read_expected(alloc, file, rt.open_file(file))?;
+        find_unlisted(alloc, folder, self.names.state, pair, listed, rows, account)
     }
 
     /// Finds what changed, and writes the list of what is gone.
@@ -143,7 +132,7 @@ impl Told<'_> {
         rows: &mut Rows<'_, 'p>,
         account: &mut Account,
     ) -> Result<(), Failure> {
-        let (alloc, state) = (rt.global(), self.state);
+        let (alloc, state) = (rt.global(), self.names.state);
         let mut again = find_changes(alloc, folder, state, pair, rows, account)?;
         self.look_for_expected(rt, folder, pair, rows, account)?;
         end_changes(alloc, folder, state, pair, path, rows, &mut again, account)
@@ -159,8 +148,8 @@ impl Told<'_> {
         if pair.before.is_none() {
             return Ok(Vec::new(rt.global()));
         }
-        let mut gone = gone_before(rt, self.state, pair.closed.cycle())?;
-        find_returned(rt.global(), folder, self.state, pair, &mut gone)
+        let mut gone = gone_before(rt, self.names.state, pair.closed.cycle())?;
+        find_returned(rt.global(), folder, self.names.state, pair, &mut gone)
     }
 
     /// Finds all that is said of a closed cycle whose report lost no lines.
@@ -173,7 +162,7 @@ impl Told<'_> {
         list: File,
         account: &mut Account,
     ) -> Result<(), Failure> {
-        let (alloc, state, cycle) = (rt.global(), self.state, pair.closed.cycle());
+        let (alloc, state, cycle) = (rt.global(), self.names.state, pair.closed.cycle());
         let mut rows = Rows::new(alloc, self.known, list);
         self.write_list(rt, folder, pair, path, &mut rows, account)?;
         find_new(alloc, folder, state, cycle, self.known, self.said, account)?;
@@ -192,8 +181,8 @@ impl Told<'_> {
     ) -> Result<Account, Failure> {
         let list = rt.make_file(path)?;
         let alloc = rt.global();
-        let why = why_not(alloc, self.state, pair)?;
-        let made = find_made(alloc, folder, self.state, pair.closed.cycle())?;
+        let why = why_not(alloc, self.names.state, pair)?;
+        let made = find_made(alloc, folder, self.names.state, pair.closed.cycle())?;
         let mut account = Account::new(alloc, why, made);
         if !pair.closed.is_lost() {
             self.fill_account(rt, folder, pair, path, list, &mut account)?;
@@ -214,7 +203,7 @@ impl Told<'_> {
         let line = closing_line(alloc, seconds_now(rt), self.night, pair, paths, account)?;
         match folder.add_to_log(line.as_bytes()) {
             Ok(()) => Ok(()),
-            Err(_) => Err(failed_folder(alloc, folder, self.state)),
+            Err(_) => Err(failed_folder(alloc, folder, self.names.state)),
         }
     }
 }
@@ -231,8 +220,6 @@ struct Telling<'t, 'n, R, F> {
     rt: &'t R,
     folder: &'t mut F,
     told: Told<'n>,
-    /// The cycle that this night closed; 0 if it closed none.
-    closed: u64,
     /// What was found last.
     pending: Option<Pending>,
     /// Why the last call failed that did.
@@ -246,7 +233,6 @@ impl<R, F> Drop for Telling<'_, '_, R, F> {
             rt: _rt,
             folder: _folder,
             told: _told,
-            closed: _closed,
             pending: _pending,
             failure: _failure,
         } = self;
@@ -268,7 +254,7 @@ impl<R: Room + Clock, F: Folder> Telling<'_, '_, R, F> {
     /// Finds what is said of a closed cycle, with the list of what is gone beside its place.
     fn find_pending(&mut self, pair: &Pair) -> Result<Found, Failure> {
         let alloc = self.rt.global();
-        let paths = paths_of(alloc, self.told.state, pair)?;
+        let paths = paths_of(alloc, self.told.names.state, pair)?;
         let path = paths.new_list.as_str();
         let account = self.told.find_account(self.rt, self.folder, pair, path)?;
         let found = Found {
@@ -296,7 +282,7 @@ impl<R: Room + Clock, F: Folder> Telling<'_, '_, R, F> {
             return Ok(());
         };
         self.rt.remove_file(paths.new_list.as_str());
-        if pair.closed.cycle() != self.closed {
+        if pair.closed.cycle() != self.told.closed {
             return Ok(());
         }
         self.told
@@ -322,14 +308,14 @@ impl<R: Room + Clock + Eprint, F: Folder> ocfl_accounts::Closings for Telling<'_
     ghost only_now = { λ told closings k left. absurd (false≢true told) };
 
     fn has_account(&mut self, cycle: u64) -> Result<bool, ClosingStop> {
-        match is_told(self.rt, self.told.state, cycle) {
+        match is_told(self.rt, self.told.names.state, cycle) {
             Ok(is) => Ok(is),
             Err(_) => Err(ClosingStop::Memory),
         }
     }
 
     fn look(&mut self, cycle: u64) -> Result<Look, ClosingStop> {
-        let look = look_at(self.rt, self.folder, self.told.state, cycle);
+        let look = look_at(self.rt, self.folder, self.told.names.state, cycle);
         self.keep(look)
     }
 
@@ -354,41 +340,31 @@ impl<R: Room + Clock + Eprint, F: Folder> ocfl_accounts::Closings for Telling<'_
     }
 }
 
-impl<'a, R> Closings<'a, '_, R, SystemDisk<&'a R>>
+/// Says what the cycles found whose closings were not said, from the first on of the 1,000 before
+/// the last one before the night, to the one that the night closed. Says why a closing was not said.
+/// Gives the greatest status.
+pub fn tell_closings<R, F, W>(rt: &R, folder: &mut F, told: Told<'_>, out: &mut W) -> u8
 where
-    R: Files<File = File> + AllocGlobal + Clock + Eprint,
+    R: Room + Clock + Eprint,
+    F: Folder,
+    W: Write,
 {
-    /// Says what the cycles found whose closings were not said, from the first on of the 1,000 before
-    /// the last one before the night, to the one that the night closed. Says why a closing was not
-    /// said. Gives the greatest status. Each number is 0 if there is no such cycle.
-    pub fn tell<W: Write>(&mut self, before: u64, closed: u64, out: &mut W) -> u8 {
-        let told = Told {
-            names: self.names,
-            state: self.names.state,
-            known: self.known,
-            expected: self.expected,
-            night: self.night,
-            said: self.said,
-        };
-        let mut telling = Telling {
-            rt: self.rt,
-            folder: &mut self.folder,
-            told,
-            closed,
-            pending: None,
-            failure: None,
-        };
-        let mut first = before;
-        // A cycle that could not be looked at is the first: then it is said, or why it is not.
-        let _ = find_unsaid(&mut telling, &mut first);
-        let end = before.max(closed).saturating_add(1);
-        let alloc = self.rt.alloc();
-        say_cycles(
-            alloc,
-            &mut telling,
-            first.max(1),
-            end,
-            &mut Speaking { out },
-        )
-    }
+    let mut telling = Telling {
+        rt,
+        folder,
+        told,
+        pending: None,
+        failure: None,
+    };
+    let mut first = told.before;
+    // A cycle that could not be looked at is the first: then it is said, or why it is not.
+    let _ = find_unsaid(&mut telling, &mut first);
+    let end = told.before.max(told.closed).saturating_add(1);
+    say_cycles(
+        rt.global(),
+        &mut telling,
+        first.max(1),
+        end,
+        &mut Speaking { out },
+    )
 }

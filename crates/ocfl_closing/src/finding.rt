@@ -1,7 +1,7 @@
 //! The whole lines of findings that are named in a closing.
 
 use crate::reading::{TakeLine, take_lines};
-use crate::telling::{CLEAN, error_of};
+use ocfl_kept::lines::{CLEAN, error_of, put_lines};
 use ocfl_report::{Code, Line, TextStop, read_line};
 use ocfl_telling::{Finding, Gravest, Heads, Known, Tally};
 use std::alloc::{AllocError, Global};
@@ -66,18 +66,6 @@ pub(crate) fn lines_of(alloc: Global, gravest: &Gravest) -> Result<Vec<Line>, Al
     put_lines(&gravest.records.first, &mut lines)?;
     put_lines(&gravest.positions.first, &mut lines)?;
     Ok(lines)
-}
-
-/// Appends the lines of findings.
-pub(crate) fn put_lines(findings: &[Finding], lines: &mut Vec<Line>) -> Result<(), AllocError> {
-    for finding in findings {
-        let Finding {
-            line,
-            object: _object,
-        } = finding.try_clone()?;
-        lines.push(line)?;
-    }
-    Ok(())
 }
 
 /// Whether a line is the one that is named: of that place, and of that code if one is named.

@@ -1,4 +1,4 @@
-//! What is said of closed reports, and joining them.
+//! What is said of closed reports.
 #![tactic(auto)]
 
 mod account;
@@ -6,18 +6,7 @@ mod back;
 mod closed;
 pub mod closing;
 mod comparing;
-pub mod finding;
-pub mod heads;
-mod joined;
-pub mod joining;
-pub mod kept;
-pub mod lists;
+mod finding;
 mod marking;
-mod part_facts;
-pub mod reading;
-mod room;
-pub mod rows;
-pub mod stand;
-pub mod state;
-pub mod state_dir;
-pub mod telling;
+mod reading;
+mod rows;

@@ -1,23 +1,21 @@
-//! The end of a night: what is said of it, the closings that are told, and its lines in the log.
+//! The end of a night: what is said of it, and its lines in the log.
 
-use crate::given::{Given, program_digest, text_of};
+use crate::begun::is_of_root;
+use crate::given::{Given, program_digest};
 use crate::logging::{Account, log_night};
 use crate::noting::{OnDisk, Told};
-use ocfl_closing::closing::Closings;
-use ocfl_closing::state::is_of_root;
-use ocfl_closing::state_dir::StateDir;
 use ocfl_disk::{Disk, Reason, SystemDisk};
 use ocfl_files::failing::{Failure, say_failure, say_text};
 use ocfl_files::reasons::Reason as Why;
 use ocfl_files::saying::STOPPED;
 use ocfl_files::timing::seconds_now;
+use ocfl_kept::state_dir::StateDir;
 use ocfl_line::NightAsked;
 use ocfl_report::DisplayPlace;
 use ocfl_telling::{NightRow, Shown};
 use ocfl_tree::Place;
 use std::alloc::{AllocError, Global};
 use std::fs::File;
-use std::io;
 use std::rt::Files;
 use std::time::Clock;
 
@@ -41,10 +39,10 @@ pub struct Ended<'e> {
 
 /// The state folder of a night that has ended.
 #[derive(Drop)]
-pub struct Closed<D: Disk + Drop> {
-    folder: StateDir<D>,
-    /// The status of what was told of closed cycles; 0 if nothing was.
-    pub told: u8,
+pub struct EndedFolder<D: Disk + Drop> {
+    pub folder: StateDir<D>,
+    /// The cycle that was closed last before the night; 0 if none was.
+    pub before: u64,
     /// Why a line of a run was not logged.
     lost: Option<Reason>,
 }
@@ -137,53 +135,31 @@ pub fn status_told<R: Eprint>(rt: &R, told: Result<u8, Failure>) -> u8 {
     }
 }
 
-/// Says how a night ended, and what the cycles found that were closed.
+/// Says how a night ended, and gives its state folder.
 pub fn end_night<'a, R>(
     rt: &'a R,
-    given: &Given<'_>,
+    state: &str,
     noting: OnDisk<'a, R>,
     ended: Ended<'_>,
-) -> Result<Closed<SystemDisk<&'a R>>, AllocError>
+) -> Result<EndedFolder<SystemDisk<&'a R>>, AllocError>
 where
-    R: Files<File = File> + AllocGlobal + Clock + Print + Eprint,
+    R: Files<File = File> + AllocGlobal + Clock + Eprint,
 {
-    let names = given.names();
-    say_ending(rt, names.state, ended, &noting.begun.left, noting.left())?;
+    say_ending(rt, state, ended, &noting.begun.left, noting.left())?;
     let before = noting.begun.standing.last_closed();
     let lost = noting.lost();
-    let mut closings = Closings {
-        rt,
+    Ok(EndedFolder {
         folder: noting.into_folder(),
-        names,
-        known: &given.known,
-        expected: text_of(&given.asked.expected),
-        night: given.began,
-        said: &ended.told.said,
-    };
-    let told = match ended.closed {
-        Some(closed) => closings.tell(before, closed, &mut io::writer(rt)),
-        None => 0,
-    };
-    Ok(Closed {
-        folder: folder_of(closings),
-        told,
+        before,
         lost,
     })
-}
-
-/// The folder.
-fn folder_of<'a, R: Files<File = File> + AllocGlobal>(
-    closings: Closings<'a, '_, R, SystemDisk<&'a R>>,
-) -> StateDir<SystemDisk<&'a R>> {
-    let Closings { folder, .. } = closings;
-    folder
 }
 
 /// Appends to the log how a night ended whose status is this, and gives it; 3 at least if the log
 /// could not be written.
 pub fn log_ended<'a, R>(
     rt: &'a R,
-    closed: Closed<SystemDisk<&'a R>>,
+    folder: EndedFolder<SystemDisk<&'a R>>,
     given: &Given<'_>,
     ended: Ended<'_>,
     status: u8,
@@ -194,11 +170,11 @@ where
     if !ended.is_logged {
         return status;
     }
-    let Closed {
+    let EndedFolder {
         mut folder,
-        told: _told,
+        before: _before,
         lost,
-    } = closed;
+    } = folder;
     let time = seconds_now(rt);
     let row = NightRow {
         time,

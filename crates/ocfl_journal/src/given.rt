@@ -2,11 +2,11 @@
 
 use crate::apart::refuse_overlap;
 use crate::ends::find_shown;
-use ocfl_closing::lists::{find_known, refuse_unfit};
-use ocfl_closing::telling::Names;
 use ocfl_cursor::PartEnds;
 use ocfl_files::failing::Failure;
+use ocfl_kept::names::Names;
 use ocfl_line::NightAsked;
+use ocfl_lists::{find_known, refuse_unfit};
 use ocfl_telling::Known;
 use ocfl_terminal::roots::{Root, find_ends, find_root, part_number};
 use ocfl_terminal::version::running_digest;
@@ -54,7 +54,7 @@ pub struct Found<'a> {
 }
 
 /// The text, if there is one.
-pub(crate) fn text_of(text: &Option<String>) -> Option<&str> {
+pub fn text_of(text: &Option<String>) -> Option<&str> {
     match text {
         Some(text) => Some(text.as_str()),
         None => None,

@@ -1,12 +1,12 @@
 //! The lines that a night appends to the log of its folder.
 
-use ocfl_closing::stand::Standing;
-use ocfl_closing::state::folder_failure;
-use ocfl_closing::state_dir::StateDir;
 use ocfl_cursor::State;
 use ocfl_disk::{FsLog, Reason, SystemDisk};
 use ocfl_files::failing::{Failure, say_failure};
 use ocfl_files::timing::seconds_now;
+use ocfl_kept::stand::Standing;
+use ocfl_kept::state::folder_failure;
+use ocfl_kept::state_dir::StateDir;
 use ocfl_state::{Checkpoint, Left};
 use ocfl_telling::{BeganRow, LeftRow, LogRow, NightRow, RefusalRow, SliceRow, Stands, log_line};
 use std::alloc::{AllocError, Global};

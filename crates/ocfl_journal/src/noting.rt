@@ -1,17 +1,18 @@
 //! A state folder whose checkpoints are noted as they are put.
 
+use crate::begun::{Begun, read_begun};
 use crate::clock::StopFile;
 use crate::given::Given;
+use crate::heads::heads_before;
 use crate::logging::{Journal, Reading};
 use crate::speaking::{Kept, Speaker};
-use ocfl_closing::heads::heads_before;
-use ocfl_closing::stand::Standing;
-use ocfl_closing::state::{Begun, open_state, read_begun};
-use ocfl_closing::state_dir::StateDir;
-use ocfl_closing::telling::Teller;
+use crate::telling::Teller;
 use ocfl_disk::{Disk, FsState, Reason as StateReason, StateFile, SystemDisk};
 use ocfl_files::failing::Failure;
 use ocfl_files::reasons::{Reason, Reasons, last_reason};
+use ocfl_kept::stand::Standing;
+use ocfl_kept::state::open_state;
+use ocfl_kept::state_dir::StateDir;
 use ocfl_report::Line;
 use ocfl_state::{Checkpoint, Observed, Observer, decode_checkpoint};
 use ocfl_telling::Heads;

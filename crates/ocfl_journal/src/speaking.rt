@@ -1,7 +1,7 @@
 //! The messages of a night: the bytes of its report come in, and the text about what was found goes
 //! out, which is said once an output has it.
 
-use ocfl_closing::telling::Teller;
+use crate::telling::Teller;
 use ocfl_report::Line;
 use std::alloc::{AllocError, Global};
 use std::cell::Cell;

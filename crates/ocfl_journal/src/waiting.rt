@@ -3,9 +3,9 @@
 use crate::given::Given;
 use jiff::Timestamp;
 use ocfl_clock::must_wait;
-use ocfl_closing::stand::Standing;
 use ocfl_disk::StateFile;
 use ocfl_files::failing::say_text;
+use ocfl_kept::stand::Standing;
 use std::alloc::{AllocError, Global};
 use std::rt::Files;
 use std::time::SystemTime;

@@ -5,8 +5,8 @@
 mod nights;
 
 use nights::make_night;
-use ocfl_closing::joining::join_parts;
 use ocfl_line::Asked;
+use ocfl_part_folders::joining::join_parts;
 use ocfl_tasks::{do_task, show_codes};
 use ocfl_terminal::progress::{Terminals, find_terminals};
 use ocfl_terminal::splits::split_root;

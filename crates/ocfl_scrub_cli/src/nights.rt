@@ -6,16 +6,18 @@ mod speaking;
 use crate::nights::clock::{RunLog, System};
 use crate::nights::ending::{Runs, said_of};
 use crate::nights::speaking::Words;
-use ocfl_closing::stand::Standing;
+use ocfl_closing::closing::{Told, tell_closings};
 use ocfl_digest::Block;
+use ocfl_disk::SystemDisk;
 use ocfl_files::failing::Failure;
 use ocfl_files::reasons::{Reasons, words_on};
 use ocfl_files::timing::seconds_now;
 use ocfl_folder::FsTree;
-use ocfl_journal::ending::{end_night, log_ended, log_unbegun, status_told};
-use ocfl_journal::given::{Found, Given, find_given};
+use ocfl_journal::ending::{Ended, EndedFolder, end_night, log_ended, log_unbegun, status_told};
+use ocfl_journal::given::{Found, Given, find_given, text_of};
 use ocfl_journal::noting::{Beside, OnDisk, open_noting};
 use ocfl_journal::waiting::{find_wait, say_wait};
+use ocfl_kept::stand::Standing;
 use ocfl_line::NightAsked;
 use ocfl_night::{NightEnd, Output, Plan, Site, night};
 use ocfl_plan::{Budgeted, Hearing, Telling, plan_of};
@@ -215,6 +217,32 @@ where
     Ok((runs, said))
 }
 
+/// Says what the cycles found that were closed, and gives the status; 0 after a night that was
+/// refused.
+fn tell_closed<'a, R>(
+    rt: &R,
+    given: &Given<'_>,
+    folder: &mut EndedFolder<SystemDisk<&'a R>>,
+    ended: Ended<'_>,
+) -> u8
+where
+    R: Files<File = File> + AllocGlobal + Clock + Print + Eprint,
+{
+    let Some(closed) = ended.closed else {
+        return 0;
+    };
+    let told = Told {
+        names: given.names(),
+        known: &given.known,
+        expected: text_of(&given.asked.expected),
+        night: given.began,
+        said: &ended.told.said,
+        before: folder.before,
+        closed,
+    };
+    tell_closings(rt, &mut folder.folder, told, &mut io::writer(rt))
+}
+
 /// Makes a night, and gives its status.
 fn make_found<R>(rt: &R, found: Found<'_>, shown_on: Terminals) -> Result<u8, Failure>
 where
@@ -230,9 +258,10 @@ where
     };
     let (runs, said) = run_night(rt, &planned, &mut noting, shown_on)?;
     let ended = runs.ended(&said);
-    let closed = end_night(rt, &planned.given, noting, ended)?;
-    let status = runs.status(closed.told);
-    Ok(log_ended(rt, closed, &planned.given, ended, status))
+    let given = &planned.given;
+    let mut folder = end_night(rt, given.asked.state.as_str(), noting, ended)?;
+    let status = runs.status(tell_closed(rt, given, &mut folder, ended));
+    Ok(log_ended(rt, folder, given, ended, status))
 }
 
 /// The same of a night that is asked for.

@@ -1,12 +1,13 @@
 //! What is said of how a night ends.
 
-use ocfl_closing::state::words_of;
-use ocfl_closing::telling::Names;
 use ocfl_cursor::Refused;
 use ocfl_disk::Reason;
 use ocfl_item::Fault;
 use ocfl_journal::ending::Ended;
+use ocfl_journal::given::text_of;
 use ocfl_journal::noting::Told;
+use ocfl_kept::names::Names;
+use ocfl_kept::state::words_of;
 use ocfl_night::{Halt, NightEnd, Refusal, Stop};
 use ocfl_plan::{closed_by, is_logged, night_status};
 use ocfl_state::FolderTrouble;
@@ -32,14 +33,6 @@ impl Drop for Runs {
             why: _why,
             told: _told,
         } = self;
-    }
-}
-
-/// The text, if there is one.
-fn text_of(text: &Option<String>) -> Option<&str> {
-    match text {
-        Some(text) => Some(text.as_str()),
-        None => None,
     }
 }
 

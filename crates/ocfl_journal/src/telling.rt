@@ -1,9 +1,10 @@
 //! The output of a night: the bytes of its report come in, and what was found goes out.
 
-use crate::finding::put_lines;
-use crate::stand::Standing;
 use ocfl_disk::StateFile;
 use ocfl_files::reasons::{Reasons, take_reasons};
+use ocfl_kept::lines::{CLEAN, error_of, put_lines};
+use ocfl_kept::names::Names;
+use ocfl_kept::stand::Standing;
 use ocfl_report::{Code, Line, TextStop, read_line, write_all_of};
 use ocfl_telling::{Finding, Found, Gravest, Heads, Known, Night, find_shown, night_text};
 use std::alloc::{AllocError, Global};
@@ -11,21 +12,7 @@ use std::cell::Cell;
 use std::io::{self, ErrorKind, Write};
 use std::rc::Rc;
 
-/// How what a night speaks of is called.
-#[derive(Clone, Copy)]
-pub struct Names<'a> {
-    /// The path of the storage root.
-    pub root: &'a str,
-    /// The number of the part, if only a part is read.
-    pub part: Option<u64>,
-    /// The path of the state folder.
-    pub state: &'a str,
-}
-
-/// How the lines of a report begin that find nothing.
-pub const CLEAN: &[u8] = b"ok\t";
-
-/// How such a line ends that is of an object, or of the storage root.
+/// How a line that finds nothing ends that is of an object, or of the storage root.
 const HEAD: &[u8] = b"\t-\n";
 
 /// An output that takes the bytes of a report, and says at each flush what was found in them since
@@ -33,7 +20,7 @@ const HEAD: &[u8] = b"\t-\n";
 ///
 /// A flush fails if not all of it went out. Lines that are no report lines are left out and
 /// counted. After a failure nothing more is taken.
-pub struct Teller<'n, W: Drop> {
+pub(crate) struct Teller<'n, W: Drop> {
     alloc: Global,
     names: Names<'n>,
     known: &'n Known,
@@ -77,7 +64,7 @@ impl<W: Drop> Drop for Teller<'_, W> {
 impl<'n, W: Write + Drop> Teller<'n, W> {
     /// What it says is of the runs after where the nights stand now, whose first line may be in the
     /// object of `heads`.
-    pub fn new(
+    pub(crate) fn new(
         alloc: Global,
         names: Names<'n>,
         known: &'n Known,
@@ -103,17 +90,17 @@ impl<'n, W: Write + Drop> Teller<'n, W> {
     }
 
     /// How many findings were said.
-    pub fn findings(&self) -> u64 {
+    pub(crate) fn findings(&self) -> u64 {
         self.findings
     }
 
     /// How many lines were no report lines.
-    pub fn broken(&self) -> u64 {
+    pub(crate) fn broken(&self) -> u64 {
         self.broken
     }
 
     /// The lines that were said: of each message those of the groups that it shows.
-    pub fn into_said(self) -> Vec<Line> {
+    pub(crate) fn into_said(self) -> Vec<Line> {
         let Teller {
             alloc: _alloc,
             names: _names,
@@ -242,14 +229,6 @@ fn is_line(alloc: Global, text: &[u8]) -> Result<bool, TextStop> {
         Ok(_) => Ok(true),
         Err(TextStop::Bad) => Ok(false),
         Err(TextStop::Memory) => Err(TextStop::Memory),
-    }
-}
-
-/// The error of a reader of reports.
-pub fn error_of(stop: TextStop) -> io::Error {
-    match stop {
-        TextStop::Bad => io::Error::from(ErrorKind::InvalidData),
-        TextStop::Memory => io::Error::from(ErrorKind::OutOfMemory),
     }
 }
 

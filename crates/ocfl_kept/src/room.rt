@@ -11,7 +11,7 @@ use std::io;
 use std::rt::Files;
 
 /// A system with files, and with state folders of parts by their paths.
-pub(crate) trait Room {
+pub trait Room {
     /// Where memory comes from.
     fn global(&self) -> Global;
 

@@ -1,13 +1,12 @@
 //! Joining the closed reports of all parts of a storage root, of one cycle.
 
-use crate::closed::MOST_BACK;
 use crate::joined::{JoinedFolder, find_joined};
-use crate::kept::{is_told, report_path};
 use crate::part_facts::{Facts, closed_parts, last_of_all, part_path, read_all};
-use crate::room::Room;
 use ocfl_files::failing::{Failure, say_failure};
 use ocfl_files::saying::STOPPED;
 use ocfl_joining::{ClosedPart, JoinStop, MissingPart, PartFault, find_most_names, join};
+use ocfl_kept::kept::{MOST_BACK, is_told, report_path};
+use ocfl_kept::room::Room;
 use ocfl_line::JoinAsked;
 use ocfl_parts::{PartsStop, Separators, read_parts};
 use ocfl_report::DisplayPlace;

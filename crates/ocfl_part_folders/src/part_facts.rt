@@ -1,12 +1,11 @@
 //! What the state folders of parts say of their nights.
 
-use crate::closed::places_of;
-use crate::kept::{ClosedIn, is_told};
-use crate::room::Room;
-use crate::stand::Standing;
 use ocfl_cursor::{PartEnds, Refused};
 use ocfl_files::failing::Failure;
 use ocfl_joining::ClosedPart;
+use ocfl_kept::kept::{ClosedIn, is_told, places_of};
+use ocfl_kept::room::Room;
+use ocfl_kept::stand::Standing;
 use ocfl_state::{Checkpoint, RootIdentity, decode_checkpoint};
 use ocfl_telling::Shown;
 use ocfl_tree::Place;

@@ -1,14 +1,13 @@
-//! The lists that a night is given: of known findings, and of the objects that must be there.
+//! The list of the objects that must be there.
 
-use crate::room::Room;
+use crate::refusing::refused;
 use ocfl_compare::{ListStop, read_list};
 use ocfl_files::failing::Failure;
 use ocfl_files::heard::HeardReader;
 use ocfl_report::{InputStop, read_next_line};
-use ocfl_telling::{Known, KnownStop, Shown, read_known};
+use ocfl_telling::Shown;
 use ocfl_tree::Place;
 use std::alloc::{AllocError, Global};
-use std::fmt::Display;
 use std::fs::File;
 use std::io::{self, BufRead, Read};
 use std::rt::Files;
@@ -16,54 +15,17 @@ use std::rt::Files;
 /// How many lines a list of objects may have.
 const MOST_LINES: u64 = 10_000_000;
 
-/// The known findings that an opened file lists.
-fn known_in<F: Read>(alloc: Global, file: &str, opened: &mut F) -> Result<Known, Failure> {
-    match read_known(alloc, opened) {
-        Ok(known) => Ok(known),
-        Err(KnownStop::Memory) => Err(Failure::from(AllocError)),
-        Err(stop) => Err(unread(alloc, file, &stop)),
-    }
-}
-
-/// The known findings that a file lists, and none without a file.
-pub fn find_known<R>(rt: &R, file: Option<&str>) -> Result<Known, Failure>
-where
-    R: Files + AllocGlobal,
-{
-    let alloc = rt.alloc();
-    let Some(file) = file else {
-        return Ok(Known::new(alloc));
-    };
-    match File::open(rt, file) {
-        Ok(mut opened) => known_in(alloc, file, &mut opened),
-        Err(error) => Err(unread(alloc, file, &error)),
-    }
-}
-
-/// Why a list was not read.
-fn unread<D: Display>(alloc: Global, file: &str, stop: &D) -> Failure {
-    refused(format!(in alloc; "{}: {stop}\n", Shown(file)))
-}
-
-/// A list that cannot be used, or that there was no memory to say so.
-fn refused(text: Result<String, AllocError>) -> Failure {
-    match text {
-        Ok(text) => Failure::usage(text),
-        Err(error) => Failure::from(error),
-    }
-}
-
 /// The objects that must be there.
 #[derive(Drop)]
-pub(crate) struct Listed {
-    pub(crate) places: Vec<Place>,
+pub struct Listed {
+    pub places: Vec<Place>,
     /// The SHA-256 of the list's bytes, in hexadecimal digits.
-    pub(crate) digits: String,
+    pub digits: String,
 }
 
 impl Listed {
     /// How many objects the list has, once it is sorted: one that is there twice counts once.
-    pub(crate) fn count(&self) -> u64 {
+    pub fn count(&self) -> u64 {
         let mut count: u64 = 0;
         let mut last: Option<&Place> = None;
         for place in &self.places {
@@ -188,10 +150,13 @@ where
     }
 }
 
-/// The objects that a file lists.
-pub(crate) fn read_expected<R: Room>(rt: &R, file: &str) -> Result<Listed, Failure> {
-    let alloc = rt.global();
-    match reader_of(alloc, file, rt.open_file(file)) {
+/// The objects that a file lists, if it could be opened.
+pub fn read_expected(
+    alloc: Global,
+    file: &str,
+    opened: io::Result<File>,
+) -> Result<Listed, Failure> {
+    match reader_of(alloc, file, opened) {
         Ok(list) => listed_in(alloc, file, list),
         Err(why) => Err(unlisted(alloc, why)),
     }

@@ -38,7 +38,7 @@ fn last_head(alloc: Global, bytes: &[u8], is_start: bool) -> Result<Heads, TextS
 
 /// The object whose head came last before an offset of the report. None if none came within the
 /// 64 KiB before it, or if they cannot be read.
-pub fn heads_before<F: StateFolder>(alloc: Global, folder: &mut F, end: u64) -> Heads {
+pub(crate) fn heads_before<F: StateFolder>(alloc: Global, folder: &mut F, end: u64) -> Heads {
     if end == 0 {
         return Heads::new();
     }

@@ -7,9 +7,13 @@ use ocfl_cursor::Refused;
 use ocfl_disk::{OpenReport, StateFile};
 use ocfl_files::failing::Failure;
 use ocfl_files::making::failed_file;
-use ocfl_state::{Checkpoint, ReportDigests, ReportMark, decode_checkpoint};
+use ocfl_state::{Checkpoint, Left, ReportDigests, ReportMark, decode_checkpoint};
+use ocfl_tree::Place;
 use std::alloc::{AllocError, Global};
 use std::io::{self, Read};
+
+/// How many cycles back a report is looked for at most.
+pub const MOST_BACK: u64 = 1_000;
 
 /// How many bytes of a report are read at once.
 const READ_LEN: usize = 16_384;
@@ -35,7 +39,7 @@ fn mark_of<R: Read>(reader: &mut R) -> io::Result<ReportMark> {
 }
 
 /// Opens the closed report of a cycle.
-pub(crate) fn open_report<F: Folder>(
+pub fn open_report<F: Folder>(
     alloc: Global,
     folder: &mut F,
     state: &str,
@@ -58,7 +62,7 @@ fn checkpoint_of(alloc: Global, bytes: &[u8]) -> Result<Option<Checkpoint>, Allo
 
 /// The checkpoint with which the report of a cycle was closed. `None` where it was not kept, and
 /// `Some(None)` where what was kept is no checkpoint any more.
-pub(crate) fn read_kept<F: Folder>(
+pub fn read_kept<F: Folder>(
     alloc: Global,
     folder: &mut F,
     state: &str,
@@ -73,13 +77,13 @@ pub(crate) fn read_kept<F: Folder>(
 
 /// A closed report, and what was kept of its closing.
 #[derive(Drop)]
-pub(crate) struct ClosedIn {
-    pub(crate) report: OpenReport,
+pub struct ClosedIn {
+    pub report: OpenReport,
     /// How many bytes the report has.
-    pub(crate) bytes: u64,
+    pub bytes: u64,
     /// The checkpoint with which it was closed. `None` where it was not kept, and `Some(None)` where
     /// what was kept is no checkpoint any more.
-    pub(crate) kept: Option<Option<Checkpoint>>,
+    pub kept: Option<Option<Checkpoint>>,
 }
 
 /// Opens the closed report of a cycle, if it is there, with what was kept of its closing.
@@ -117,7 +121,7 @@ pub(crate) fn read_checkpoint<F: Folder>(
 }
 
 /// The path of the report of a cycle, closed or joined.
-pub(crate) fn report_path(
+pub fn report_path(
     alloc: Global,
     state: &str,
     cycle: u64,
@@ -131,35 +135,31 @@ pub(crate) fn report_path(
 }
 
 /// The path of the list of what is gone at the end of a cycle.
-pub(crate) fn list_path(alloc: Global, state: &str, cycle: u64) -> Result<String, AllocError> {
+pub fn list_path(alloc: Global, state: &str, cycle: u64) -> Result<String, AllocError> {
     format!(in alloc; "{state}/{}/gone-{cycle:06}", StateFile::Reports)
 }
 
 /// The path of that list while it is written.
-pub(crate) fn new_list_path(alloc: Global, state: &str, cycle: u64) -> Result<String, AllocError> {
+pub fn new_list_path(alloc: Global, state: &str, cycle: u64) -> Result<String, AllocError> {
     format!(in alloc; "{state}/{}/gone-{cycle:06}.new", StateFile::Reports)
 }
 
 /// Whether the nights over a folder have said what a closed cycle found: the list of what is gone
 /// is put once that was said.
-pub(crate) fn is_told<R: Room>(rt: &R, state: &str, cycle: u64) -> Result<bool, AllocError> {
+pub fn is_told<R: Room>(rt: &R, state: &str, cycle: u64) -> Result<bool, AllocError> {
     let list = list_path(rt.global(), state, cycle)?;
     Ok(rt.has(list.as_str()))
 }
 
 /// Whether the compressed report of a cycle that was closed as incomplete is there.
-pub(crate) fn is_packed_incomplete<R: Room>(
-    rt: &R,
-    state: &str,
-    cycle: u64,
-) -> Result<bool, AllocError> {
+pub fn is_packed_incomplete<R: Room>(rt: &R, state: &str, cycle: u64) -> Result<bool, AllocError> {
     let path = format!(in rt.global(); "{state}/{}.gz", StateFile::Incomplete(cycle))?;
     Ok(rt.has(path.as_str()))
 }
 
 /// Whether the closed report of a cycle, read to its end with this mark, is as it was when it was
 /// closed. One without a kept checkpoint counts so.
-pub(crate) fn is_marked_as_closed<F: Folder>(
+pub fn is_marked_as_closed<F: Folder>(
     alloc: Global,
     folder: &mut F,
     state: &str,
@@ -211,4 +211,13 @@ pub fn is_as_closed<F: Folder>(
         Some(None) => Ok(false),
         None => Ok(true),
     }
+}
+
+/// The places of branches that were left out.
+pub fn places_of(alloc: Global, left: &[Left]) -> Result<Vec<Place>, AllocError> {
+    let mut places = Vec::new(alloc);
+    for branch in left {
+        places.push(branch.place.try_clone()?)?;
+    }
+    Ok(places)
 }

@@ -1,0 +1,33 @@
+//! The list of known findings.
+
+use crate::refusing::unread;
+use ocfl_files::failing::Failure;
+use ocfl_telling::{Known, KnownStop, read_known};
+use std::alloc::{AllocError, Global};
+use std::fs::File;
+use std::io::Read;
+use std::rt::Files;
+
+/// The known findings that an opened file lists.
+fn known_in<F: Read>(alloc: Global, file: &str, opened: &mut F) -> Result<Known, Failure> {
+    match read_known(alloc, opened) {
+        Ok(known) => Ok(known),
+        Err(KnownStop::Memory) => Err(Failure::from(AllocError)),
+        Err(stop) => Err(unread(alloc, file, &stop)),
+    }
+}
+
+/// The known findings that a file lists, and none without a file.
+pub fn find_known<R>(rt: &R, file: Option<&str>) -> Result<Known, Failure>
+where
+    R: Files + AllocGlobal,
+{
+    let alloc = rt.alloc();
+    let Some(file) = file else {
+        return Ok(Known::new(alloc));
+    };
+    match File::open(rt, file) {
+        Ok(mut opened) => known_in(alloc, file, &mut opened),
+        Err(error) => Err(unread(alloc, file, &error)),
+    }
+}

@@ -1,15 +1,13 @@
 //! Where nights begin: what the checkpoint of their state folder says.
 
-use ocfl_disk::SystemDisk;
 use ocfl_files::files::{folder_of, path_of};
 use ocfl_files::making::is_there;
 use ocfl_kept::kept::places_of;
 use ocfl_kept::stand::Standing;
-use ocfl_kept::state_dir::{Folder, StateDir};
+use ocfl_kept::state_dir::Folder;
 use ocfl_state::{Checkpoint, decode_checkpoint};
 use ocfl_tree::Place;
 use std::alloc::Global;
-use std::fs::File;
 use std::rt::Files;
 
 /// Where nights begin: where those before stand, which places they left out of the cycle that is
@@ -44,7 +42,7 @@ impl Begun {
 /// Where the nights over a folder stand. Of a checkpoint that cannot be read the night itself says
 /// why.
 pub(crate) fn read_begun<F: Folder>(alloc: Global, folder: &mut F) -> Begun {
-    match folder.checkpoint() {
+    match folder.stored() {
         Ok(Some(bytes)) => match decode_checkpoint(alloc, &bytes) {
             Ok(checkpoint) => Begun::of(alloc, &checkpoint),
             Err(_) => Begun::first(alloc),
@@ -55,7 +53,7 @@ pub(crate) fn read_begun<F: Folder>(alloc: Global, folder: &mut F) -> Begun {
 
 /// The path of the storage root that the nights of a folder read, by its checkpoint.
 fn own_root<F: Folder>(alloc: Global, folder: &mut F) -> Option<Place> {
-    let bytes = folder.checkpoint().ok()??;
+    let bytes = folder.stored().ok()??;
     Some(decode_checkpoint(alloc, &bytes).ok()?.into_path())
 }
 
@@ -87,13 +85,10 @@ fn is_last_of(folder: &str, name: &str, root: &Place) -> bool {
 
 /// Whether the nights of a folder read the storage root with this path, as far as can be told: a
 /// link that leads nowhere may lead to it.
-pub(crate) fn is_of_root<'a, R>(
-    rt: &R,
-    folder: &mut StateDir<SystemDisk<&'a R>>,
-    path: &str,
-) -> bool
+pub(crate) fn is_of_root<R, F>(rt: &R, folder: &mut F, path: &str) -> bool
 where
-    R: Files<File = File> + AllocGlobal,
+    R: Files + AllocGlobal,
+    F: Folder,
 {
     match own_root(rt.alloc(), folder) {
         Some(root) => leads_to(rt, path, &root),

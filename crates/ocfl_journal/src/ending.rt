@@ -2,16 +2,17 @@
 
 use crate::begun::is_of_root;
 use crate::given::{Given, program_digest};
-use crate::logging::{Account, log_night};
-use crate::noting::{OnDisk, Told};
-use ocfl_disk::{Disk, Reason, SystemDisk};
+use crate::logging::{Account, NightLog, log_night};
+use crate::noting::{Noting, Told};
+use ocfl_disk::{FsState, Reason};
 use ocfl_files::failing::{Failure, say_failure, say_text};
 use ocfl_files::reasons::Reason as Why;
 use ocfl_files::saying::STOPPED;
 use ocfl_files::timing::seconds_now;
-use ocfl_kept::state_dir::StateDir;
+use ocfl_kept::state_dir::Folder;
 use ocfl_line::NightAsked;
 use ocfl_report::DisplayPlace;
+use ocfl_state::StateFolder;
 use ocfl_telling::{NightRow, Shown};
 use ocfl_tree::Place;
 use std::alloc::{AllocError, Global};
@@ -39,8 +40,8 @@ pub struct Ended<'e> {
 
 /// The state folder of a night that has ended.
 #[derive(Drop)]
-pub struct EndedFolder<D: Disk + Drop> {
-    pub folder: StateDir<D>,
+pub struct EndedFolder<F: Drop> {
+    pub folder: F,
     /// The cycle that was closed last before the night; 0 if none was.
     pub before: u64,
     /// Why a line of a run was not logged.
@@ -79,50 +80,44 @@ fn lost_text(alloc: Global, state: &str, broken: u64) -> Result<String, AllocErr
 }
 
 /// Says which branches an earlier night left out.
-fn say_left_earlier<R>(rt: &R, earlier: &[Place]) -> Result<(), AllocError>
-where
-    R: AllocGlobal + Eprint,
-{
+fn say_left_earlier<R: Eprint>(rt: &R, alloc: Global, earlier: &[Place]) -> Result<(), AllocError> {
     for branch in earlier {
-        say_text(rt, left_earlier_text(rt.alloc(), branch)?.as_str());
+        say_text(rt, left_earlier_text(alloc, branch)?.as_str());
     }
     Ok(())
 }
 
 /// Says which branches were left out, and why.
-fn say_left<R>(rt: &R, branches: &[Place], left: &[Why]) -> Result<(), AllocError>
-where
-    R: AllocGlobal + Eprint,
-{
+fn say_left<R: Eprint>(
+    rt: &R,
+    alloc: Global,
+    branches: &[Place],
+    left: &[Why],
+) -> Result<(), AllocError> {
     for branch in branches {
-        say_text(rt, left_text(rt.alloc(), branch, left)?.as_str());
+        say_text(rt, left_text(alloc, branch, left)?.as_str());
     }
     Ok(())
 }
 
 /// Says how a night ended.
-fn say_ending<R>(
+fn say_ending<R: Eprint>(
     rt: &R,
+    alloc: Global,
     state: &str,
     ended: Ended<'_>,
     earlier: &[Place],
     left: &[Why],
-) -> Result<(), AllocError>
-where
-    R: AllocGlobal + Eprint,
-{
+) -> Result<(), AllocError> {
     if let Some(said) = ended.said {
         say_text(rt, said);
     }
     if ended.closed.is_some() {
-        say_left_earlier(rt, earlier)?;
+        say_left_earlier(rt, alloc, earlier)?;
     }
-    say_left(rt, ended.left, left)?;
+    say_left(rt, alloc, ended.left, left)?;
     if ended.is_lost {
-        say_text(
-            rt,
-            lost_text(rt.alloc(), state, ended.told.broken)?.as_str(),
-        );
+        say_text(rt, lost_text(alloc, state, ended.told.broken)?.as_str());
     }
     Ok(())
 }
@@ -136,16 +131,19 @@ pub fn status_told<R: Eprint>(rt: &R, told: Result<u8, Failure>) -> u8 {
 }
 
 /// Says how a night ended, and gives its state folder.
-pub fn end_night<'a, R>(
-    rt: &'a R,
+pub fn end_night<R, F, L>(
+    rt: &R,
+    alloc: Global,
     state: &str,
-    noting: OnDisk<'a, R>,
+    noting: Noting<F, L>,
     ended: Ended<'_>,
-) -> Result<EndedFolder<SystemDisk<&'a R>>, AllocError>
+) -> Result<EndedFolder<F>, AllocError>
 where
-    R: Files<File = File> + AllocGlobal + Clock + Eprint,
+    R: Eprint,
+    F: Folder + StateFolder + Drop,
+    L: NightLog + Drop,
 {
-    say_ending(rt, state, ended, &noting.begun.left, noting.left())?;
+    say_ending(rt, alloc, state, ended, &noting.begun.left, noting.left())?;
     let before = noting.begun.standing.last_closed();
     let lost = noting.lost();
     Ok(EndedFolder {
@@ -156,75 +154,51 @@ where
 }
 
 /// Appends to the log how a night ended whose status is this, and gives it; 3 at least if the log
-/// could not be written.
-pub fn log_ended<'a, R>(
-    rt: &'a R,
-    folder: EndedFolder<SystemDisk<&'a R>>,
+/// could not be written. `now` is the time, in seconds since the epoch.
+pub fn log_ended<R: Eprint, F: Folder + Drop>(
+    rt: &R,
+    alloc: Global,
+    folder: &mut EndedFolder<F>,
     given: &Given<'_>,
     ended: Ended<'_>,
     status: u8,
-) -> u8
-where
-    R: Files<File = File> + AllocGlobal + Clock + Eprint,
-{
+    now: u64,
+) -> u8 {
     if !ended.is_logged {
         return status;
     }
-    let EndedFolder {
-        mut folder,
-        before: _before,
-        lost,
-    } = folder;
-    let time = seconds_now(rt);
     let row = NightRow {
-        time,
+        time: now,
         night: given.began,
         status,
         runs: ended.runs,
         cost: ended.told.cost,
-        seconds: time.saturating_sub(given.began),
+        seconds: now.saturating_sub(given.began),
         findings: ended.told.findings,
         left: u64::try_from(ended.left.len()).unwrap_or(u64::MAX),
         program: given.program.as_str(),
     };
-    log_night(
-        rt,
-        &mut folder,
-        given.asked.state.as_str(),
-        Account {
-            row,
-            said: ended.said,
-        },
-        lost,
-    )
+    let account = Account {
+        row,
+        said: ended.said,
+    };
+    let state = given.asked.state.as_str();
+    log_night(rt, alloc, &mut folder.folder, state, account, folder.lost)
 }
 
-/// Appends to the log a night that failed before its folder was opened.
-fn log_failed<'a, R>(
-    rt: &R,
-    folder: &mut StateDir<SystemDisk<&'a R>>,
-    state: &str,
-    began: u64,
-    said: &str,
-)
-where
-    R: Files<File = File> + AllocGlobal + Clock + Eprint,
-{
-    let program = program_digest(rt);
-    let time = seconds_now(rt);
-    let row = NightRow {
-        time,
+/// The row of a night that failed before its folder was opened.
+fn failed_row(began: u64, now: u64, program: &str) -> NightRow<'_> {
+    NightRow {
+        time: now,
         night: began,
         status: STOPPED,
         runs: 0,
         cost: 0,
-        seconds: time.saturating_sub(began),
+        seconds: now.saturating_sub(began),
         findings: 0,
         left: 0,
-        program: program.as_str(),
-    };
-    let said = Some(said);
-    log_night(rt, folder, state, Account { row, said }, None);
+        program,
+    }
 }
 
 /// Logs a night that failed before its folder was opened, if nights over this root were made in
@@ -240,9 +214,14 @@ where
         return;
     }
     let state = asked.state.as_str();
-    if let Ok(mut folder) = StateDir::open(rt, state, false) {
+    if let Ok(mut folder) = FsState::open(rt, state, false) {
         if is_of_root(rt, &mut folder, asked.root.as_str()) {
-            log_failed(rt, &mut folder, state, began, said.as_str());
+            let program = program_digest(rt);
+            let account = Account {
+                row: failed_row(began, seconds_now(rt), program.as_str()),
+                said: Some(said.as_str()),
+            };
+            log_night(rt, rt.alloc(), &mut folder, state, account, None);
         }
     }
 }

@@ -15,4 +15,4 @@ pub mod speaking;
 mod telling;
 pub mod waiting;
 
-pub use logging::{Journal, RunMade};
+pub use logging::{Journal, NightLog, RunMade, SystemLog};

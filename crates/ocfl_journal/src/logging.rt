@@ -1,27 +1,69 @@
 //! The lines that a night appends to the log of its folder.
 
 use ocfl_cursor::State;
-use ocfl_disk::{FsLog, Reason, SystemDisk};
+use ocfl_disk::{FsLog, Reason};
 use ocfl_files::failing::{Failure, say_failure};
 use ocfl_files::timing::seconds_now;
 use ocfl_kept::stand::Standing;
-use ocfl_kept::state::folder_failure;
-use ocfl_kept::state_dir::StateDir;
+use ocfl_kept::state::{failed_folder, folder_failure};
+use ocfl_kept::state_dir::Folder;
 use ocfl_state::{Checkpoint, Left};
 use ocfl_telling::{BeganRow, LeftRow, LogRow, NightRow, RefusalRow, SliceRow, Stands, log_line};
 use std::alloc::{AllocError, Global};
 use std::cell::Cell;
 use std::fs::File;
-use std::io;
 use std::rc::Rc;
 use std::rt::Files;
 use std::time::Clock;
 
-/// The lines that are appended while a night is under way: one once it has begun, one for each run,
-/// and one for each place that is left out.
-pub struct Journal<'a, R: Files<File = File> + AllocGlobal> {
+/// Where the lines of a night's log go, and the clock that says when they went: what logs a night
+/// needs no more of the system than this.
+pub trait NightLog {
+    /// Where memory comes from.
+    fn global(&self) -> Global;
+
+    /// The time, in seconds since the epoch.
+    fn now(&self) -> u64;
+
+    /// Appends a line, whole or not at all.
+    fn append(&self, line: &[u8]) -> Result<(), Reason>;
+}
+
+/// The log of a state folder, by the system's clock.
+#[derive(Drop)]
+pub struct SystemLog<'a, R: Files<File = File> + AllocGlobal> {
     rt: &'a R,
     log: FsLog<&'a R>,
+}
+
+impl<'a, R: Files<File = File> + AllocGlobal> SystemLog<'a, R> {
+    /// That of the folder at a path. Nothing is opened yet.
+    pub fn at(rt: &'a R, state: &str) -> Result<SystemLog<'a, R>, AllocError> {
+        match FsLog::at(rt, state) {
+            Ok(log) => Ok(SystemLog { rt, log }),
+            Err(_) => Err(AllocError),
+        }
+    }
+}
+
+impl<R: Files<File = File> + AllocGlobal + Clock> NightLog for SystemLog<'_, R> {
+    fn global(&self) -> Global {
+        self.rt.alloc()
+    }
+
+    fn now(&self) -> u64 {
+        seconds_now(self.rt)
+    }
+
+    fn append(&self, line: &[u8]) -> Result<(), Reason> {
+        self.log.append(line)
+    }
+}
+
+/// The lines that are appended while a night is under way: one once it has begun, one for each run,
+/// and one for each place that is left out.
+pub struct Journal<L: Drop> {
+    log: L,
     /// When the night began, in seconds since the epoch.
     night: u64,
     /// Why the last line that was not written was not.
@@ -29,10 +71,9 @@ pub struct Journal<'a, R: Files<File = File> + AllocGlobal> {
 }
 
 /// Written by hand, so that to let it go is one call wherever that happens.
-impl<R: Files<File = File> + AllocGlobal> Drop for Journal<'_, R> {
+impl<L: Drop> Drop for Journal<L> {
     fn drop(self) {
         let Journal {
-            rt: _rt,
             log: _log,
             night: _night,
             lost: _lost,
@@ -129,20 +170,10 @@ fn run_text(
     log_line(alloc, &LogRow::Slice(row))
 }
 
-impl<'a, R: Files<File = File> + AllocGlobal + Clock> Journal<'a, R> {
+impl<L: NightLog + Drop> Journal<L> {
     /// That of a night that began then.
-    pub(crate) fn at(
-        rt: &'a R,
-        state: &str,
-        night: u64,
-        lost: Rc<Cell<Option<Reason>>>,
-    ) -> io::Result<Journal<'a, R>> {
-        Ok(Journal {
-            rt,
-            log: FsLog::at(rt, state)?,
-            night,
-            lost,
-        })
+    pub(crate) fn of(log: L, night: u64, lost: Rc<Cell<Option<Reason>>>) -> Journal<L> {
+        Journal { log, night, lost }
     }
 
     /// Appends a line, or keeps why it could not be. One for which there is no memory is left out.
@@ -156,21 +187,21 @@ impl<'a, R: Files<File = File> + AllocGlobal + Clock> Journal<'a, R> {
 
     /// Appends the line of a night that has taken up this checkpoint.
     pub(crate) fn began(&self, checkpoint: &Checkpoint, reading: &Reading) {
-        let time = seconds_now(self.rt);
-        self.append(began_text(self.rt.alloc(), time, self.night, checkpoint, reading));
+        let (alloc, time) = (self.log.global(), self.log.now());
+        self.append(began_text(alloc, time, self.night, checkpoint, reading));
     }
 
     /// Appends the line of a run that is kept and began then, in seconds since the epoch.
     pub fn run(&self, made: RunMade<'_>, began: u64) {
-        let now = seconds_now(self.rt);
-        self.append(run_text(self.rt.alloc(), made, self.night, began, now));
+        let (alloc, now) = (self.log.global(), self.log.now());
+        self.append(run_text(alloc, made, self.night, began, now));
     }
 
     /// Appends the line of a place that a checkpoint names as left out, and why it was; that is
     /// empty if it is not known.
     pub(crate) fn left(&self, cycle: u64, left: &Left, why: &str) {
-        let time = seconds_now(self.rt);
-        self.append(left_text(self.rt.alloc(), time, self.night, cycle, left, why));
+        let (alloc, time) = (self.log.global(), self.log.now());
+        self.append(left_text(alloc, time, self.night, cycle, left, why));
     }
 }
 
@@ -219,33 +250,27 @@ fn lines_of(alloc: Global, account: Account<'_>) -> Result<String, AllocError> {
 }
 
 /// Appends them to the log.
-fn append<'a, R>(
+fn append<F: Folder>(
     alloc: Global,
-    folder: &mut StateDir<SystemDisk<&'a R>>,
+    folder: &mut F,
     state: &str,
     account: Account<'_>,
-) -> Result<(), Failure>
-where
-    R: Files<File = File> + AllocGlobal,
-{
+) -> Result<(), Failure> {
     let lines = lines_of(alloc, account)?;
-    match folder.append_log(lines.as_bytes()) {
+    match folder.add_to_log(lines.as_bytes()) {
         Ok(()) => Ok(()),
-        Err(_) => Err(folder_failure(alloc, state, folder.reason())?),
+        Err(_) => Err(failed_folder(alloc, folder, state)),
     }
 }
 
 /// Appends the lines on a night to the log. `lost` is why a line before them was not written.
-fn append_all<'a, R>(
+fn append_all<F: Folder>(
     alloc: Global,
-    folder: &mut StateDir<SystemDisk<&'a R>>,
+    folder: &mut F,
     state: &str,
     account: Account<'_>,
     lost: Option<Reason>,
-) -> Result<(), Failure>
-where
-    R: Files<File = File> + AllocGlobal,
-{
+) -> Result<(), Failure> {
     append(alloc, folder, state, account)?;
     match lost {
         Some(_) => Err(folder_failure(alloc, state, lost)?),
@@ -255,18 +280,15 @@ where
 
 /// Appends the lines on a night to the log, and gives its status. A log that cannot be written, or
 /// could not be while the night was under way, is said, and makes the status 3 at least.
-pub(crate) fn log_night<'a, R, F>(
+pub(crate) fn log_night<R: Eprint, F: Folder>(
     rt: &R,
-    folder: &mut StateDir<SystemDisk<&'a F>>,
+    alloc: Global,
+    folder: &mut F,
     state: &str,
     account: Account<'_>,
     lost: Option<Reason>,
-) -> u8
-where
-    R: AllocGlobal + Eprint,
-    F: Files<File = File> + AllocGlobal,
-{
-    match append_all(rt.alloc(), folder, state, account, lost) {
+) -> u8 {
+    match append_all(alloc, folder, state, account, lost) {
         Ok(()) => account.row.status,
         Err(failure) => account.row.status.max(say_failure(rt, &failure)),
     }

@@ -4,17 +4,17 @@ use crate::begun::{Begun, read_begun};
 use crate::clock::StopFile;
 use crate::given::Given;
 use crate::heads::heads_before;
-use crate::logging::{Journal, Reading};
+use crate::logging::{Journal, NightLog, Reading, SystemLog};
 use crate::speaking::{Kept, Speaker};
 use crate::telling::Teller;
-use ocfl_disk::{Disk, FsState, Reason as StateReason, StateFile, SystemDisk};
+use ocfl_disk::{Reason as StateReason, StateFile};
 use ocfl_files::failing::Failure;
 use ocfl_files::reasons::{Reason, Reasons, last_reason};
 use ocfl_kept::stand::Standing;
 use ocfl_kept::state::open_state;
-use ocfl_kept::state_dir::StateDir;
+use ocfl_kept::state_dir::{Folder, StateDir};
 use ocfl_report::Line;
-use ocfl_state::{Checkpoint, Observed, Observer, decode_checkpoint};
+use ocfl_state::{Checkpoint, Observed, Observer, StateFolder, decode_checkpoint};
 use ocfl_telling::Heads;
 use std::alloc::{AllocError, Global};
 use std::cell::Cell;
@@ -25,10 +25,10 @@ use std::time::Clock;
 
 /// Where the nights stand by the checkpoint that was put last. What is said of a night, and its
 /// clock, go by that. That the night has begun is logged, and each place that is left out.
-pub struct Notes<'a, R: Files<File = File> + AllocGlobal> {
-    rt: &'a R,
+pub struct Notes<L: Drop> {
+    alloc: Global,
     now: Rc<Cell<Standing>>,
-    journal: Journal<'a, R>,
+    journal: Journal<L>,
     /// What the night reads. `None` once it has begun.
     reading: Option<Reading>,
     /// Why places of the storage root could not be read.
@@ -38,10 +38,10 @@ pub struct Notes<'a, R: Files<File = File> + AllocGlobal> {
 }
 
 /// Written by hand, so that to let it go is one call wherever that happens.
-impl<R: Files<File = File> + AllocGlobal> Drop for Notes<'_, R> {
+impl<L: Drop> Drop for Notes<L> {
     fn drop(self) {
         let Notes {
-            rt: _rt,
+            alloc: _alloc,
             now: _now,
             journal: _journal,
             reading: _reading,
@@ -53,9 +53,9 @@ impl<R: Files<File = File> + AllocGlobal> Drop for Notes<'_, R> {
 
 /// A state folder, and what is noted of its checkpoints.
 #[derive(Drop)]
-pub struct Noting<'a, R: Files<File = File> + AllocGlobal, D: Disk + Drop> {
+pub struct Noting<F: Drop, L: Drop> {
     /// The folder. A night over it notes each checkpoint that it puts.
-    pub folder: Observed<FsState<D>, Notes<'a, R>>,
+    pub folder: Observed<F, Notes<L>>,
     /// Where the night began.
     pub(crate) begun: Begun,
     /// Why the last line of the log that was not written was not.
@@ -63,14 +63,13 @@ pub struct Noting<'a, R: Files<File = File> + AllocGlobal, D: Disk + Drop> {
 }
 
 /// One over the state folder of the file system.
-pub type OnDisk<'a, R> = Noting<'a, R, SystemDisk<&'a R>>;
+pub type OnDisk<'a, R> = Noting<StateDir<'a, R>, SystemLog<'a, R>>;
 
 /// What stands beside the state folder in a night.
 #[derive(Drop)]
-pub struct Beside<'a, 'n, R: Files<File = File> + AllocGlobal> {
-    pub stop: StopFile<'a, R>,
+pub struct Beside<'n, L: Drop> {
     /// What logs the runs.
-    pub journal: Journal<'a, R>,
+    pub journal: Journal<L>,
     /// What makes the messages.
     pub speaker: Speaker<'n>,
     /// Why places of the storage root could not be read.
@@ -100,21 +99,6 @@ impl Drop for Told {
     }
 }
 
-/// What logs the runs of a night. It keeps in `lost` why a line was not written.
-fn journal_of<'a, R>(
-    rt: &'a R,
-    given: &Given<'_>,
-    lost: &Rc<Cell<Option<StateReason>>>,
-) -> Result<Journal<'a, R>, Failure>
-where
-    R: Files<File = File> + AllocGlobal + Clock,
-{
-    match Journal::at(rt, given.asked.state.as_str(), given.began, lost.clone()?) {
-        Ok(journal) => Ok(journal),
-        Err(_) => Err(Failure::from(AllocError)),
-    }
-}
-
 /// What a night reads, and by which program.
 fn reading_of(alloc: Global, given: &Given<'_>) -> Result<Reading, AllocError> {
     let names = given.names();
@@ -125,54 +109,41 @@ fn reading_of(alloc: Global, given: &Given<'_>) -> Result<Reading, AllocError> {
     })
 }
 
-/// Notes on a folder that is open.
-fn noting_over<'a, R>(
-    rt: &'a R,
+/// Notes on the checkpoints of a night that has not begun, where the nights stand so.
+fn notes_of<L: NightLog + Drop>(
     given: &Given<'_>,
-    folder: FsState<SystemDisk<&'a R>>,
-    begun: Begun,
-) -> Result<OnDisk<'a, R>, Failure>
-where
-    R: Files<File = File> + AllocGlobal + Clock,
-{
-    let lost = Rc::new(rt.alloc(), Cell::new(None))?;
-    let journal = journal_of(rt, given, &lost)?;
-    let Seen {
-        now,
-        reading,
-        reasons,
-    } = seen_of(rt.alloc(), given, begun.standing)?;
-    let observer = Notes {
-        rt,
+    standing: Standing,
+    journal: Journal<L>,
+    alloc: Global,
+) -> Result<Notes<L>, AllocError> {
+    let now = Rc::new(alloc, Cell::new(standing))?;
+    let reasons = Rc::new(alloc, Cell::new(Reasons::new(alloc)))?;
+    Ok(Notes {
+        alloc,
         now,
         journal,
-        reading: Some(reading),
+        reading: Some(reading_of(alloc, given)?),
         reasons,
-        left: Vec::new(rt.alloc()),
-    };
+        left: Vec::new(alloc),
+    })
+}
+
+/// Notes on a folder that is open, which are logged so.
+fn noting_over<F: Folder + Drop, L: NightLog + Drop>(
+    alloc: Global,
+    given: &Given<'_>,
+    folder: F,
+    log: L,
+) -> Result<Noting<F, L>, AllocError> {
+    let mut folder = folder;
+    let begun = read_begun(alloc, &mut folder);
+    let lost = Rc::new(alloc, Cell::new(None))?;
+    let journal = Journal::of(log, given.began, lost.clone()?);
+    let observer = notes_of(given, begun.standing, journal, alloc)?;
     Ok(Noting {
         folder: Observed { folder, observer },
         begun,
         lost,
-    })
-}
-
-/// What is noted of a night that has not begun.
-#[derive(Drop)]
-struct Seen {
-    now: Rc<Cell<Standing>>,
-    reading: Reading,
-    reasons: Rc<Cell<Reasons>>,
-}
-
-/// The same of one that begins where the nights stand so.
-fn seen_of(alloc: Global, given: &Given<'_>, standing: Standing) -> Result<Seen, AllocError> {
-    let now = Rc::new(alloc, Cell::new(standing))?;
-    let reasons = Rc::new(alloc, Cell::new(Reasons::new(alloc)))?;
-    Ok(Seen {
-        reading: reading_of(alloc, given)?,
-        now,
-        reasons,
     })
 }
 
@@ -182,9 +153,18 @@ where
     R: Files<File = File> + AllocGlobal + Clock,
 {
     let names = given.names();
-    let mut folder = open_state(rt, names.state, names.root, given.asked.create)?;
-    let begun = read_begun(rt.alloc(), &mut folder);
-    noting_over(rt, given, folder.into_state(), begun)
+    let folder = open_state(rt, names.state, names.root, given.asked.create)?;
+    let log = SystemLog::at(rt, names.state)?;
+    Ok(noting_over(rt.alloc(), given, folder, log)?)
+}
+
+/// The clock of a night, and the file that asks it to stop.
+pub fn stop_file<'a, R>(rt: &'a R, given: &Given<'_>) -> Result<StopFile<'a, R>, AllocError>
+where
+    R: Files + AllocGlobal,
+{
+    let path = format!(in rt.alloc(); "{}/{}", given.asked.state, StateFile::Stop)?;
+    Ok(StopFile { rt, path })
 }
 
 /// What makes the messages of a night, whose first line may be in the object of `heads`.
@@ -205,7 +185,7 @@ fn speaker_of<'n>(
     })
 }
 
-impl<'a, R: Files<File = File> + AllocGlobal + Clock> Noting<'a, R, SystemDisk<&'a R>> {
+impl<F: Folder + StateFolder + Drop, L: NightLog + Drop> Noting<F, L> {
     /// Where the night began.
     pub fn began(&self) -> Standing {
         self.begun.standing
@@ -213,7 +193,7 @@ impl<'a, R: Files<File = File> + AllocGlobal + Clock> Noting<'a, R, SystemDisk<&
 
     /// Why the last call on the folder failed that did.
     pub fn reason(&self) -> Option<StateReason> {
-        self.folder.folder.reason()
+        self.folder.folder.last_reason()
     }
 
     /// The places that were left out since the night began, and why.
@@ -226,36 +206,28 @@ impl<'a, R: Files<File = File> + AllocGlobal + Clock> Noting<'a, R, SystemDisk<&
         self.lost.get()
     }
 
-    /// The clock of the night, and the file that asks it to stop.
-    fn stop(&self, given: &Given<'_>) -> Result<StopFile<'a, R>, AllocError> {
-        let rt = self.folder.observer.rt;
-        let path = format!(in rt.alloc(); "{}/{}", given.asked.state, StateFile::Stop)?;
-        Ok(StopFile { rt, path })
-    }
-
-    /// What stands beside the folder in the night.
-    pub fn beside<'n>(&mut self, given: &'n Given<'_>) -> Result<Beside<'a, 'n, R>, Failure> {
-        let rt = self.folder.observer.rt;
-        let reasons = self.folder.observer.reasons.clone()?;
-        let stop = self.stop(given)?;
-        let journal = journal_of(rt, given, &self.lost)?;
-        let heads = heads_before(rt.alloc(), &mut self.folder.folder, self.begun.told);
+    /// What stands beside the folder in the night, whose runs are logged so.
+    pub fn beside<'n>(
+        &mut self,
+        given: &'n Given<'_>,
+        log: L,
+    ) -> Result<Beside<'n, L>, AllocError> {
+        let alloc = self.folder.observer.alloc;
+        let heads = heads_before(alloc, &mut self.folder.folder, self.begun.told);
         let notes = &self.folder.observer;
+        let reasons = notes.reasons.clone()?;
         Ok(Beside {
-            speaker: speaker_of(rt.alloc(), given, heads, &notes.reasons, &notes.now)?,
-            stop,
-            journal,
+            speaker: speaker_of(alloc, given, heads, &notes.reasons, &notes.now)?,
+            journal: Journal::of(log, given.began, self.lost.clone()?),
             reasons,
         })
     }
 
     /// What the night spent, and what was said of its runs.
     pub fn told_by(&self, speaker: Speaker<'_>) -> Told {
+        let now = self.folder.observer.now.get();
         Told {
-            cost: self
-                .begun
-                .standing
-                .spent_until(self.folder.observer.now.get()),
+            cost: self.begun.standing.spent_until(now),
             findings: speaker.findings,
             broken: speaker.teller.broken(),
             said: speaker.into_said(),
@@ -263,7 +235,7 @@ impl<'a, R: Files<File = File> + AllocGlobal + Clock> Noting<'a, R, SystemDisk<&
     }
 
     /// The folder.
-    pub(crate) fn into_folder(self) -> StateDir<SystemDisk<&'a R>> {
+    pub(crate) fn into_folder(self) -> F {
         let Noting {
             folder,
             begun: _begun,
@@ -273,11 +245,11 @@ impl<'a, R: Files<File = File> + AllocGlobal + Clock> Noting<'a, R, SystemDisk<&
             folder,
             observer: _observer,
         } = folder;
-        StateDir { folder }
+        folder
     }
 }
 
-impl<R: Files<File = File> + AllocGlobal + Clock> Notes<'_, R> {
+impl<L: NightLog + Drop> Notes<L> {
     /// Logs that the night has begun. The first checkpoint that it puts is the one that it took up.
     fn log_began(&mut self, checkpoint: &Checkpoint) {
         if let Some(reading) = self.reading.take() {
@@ -291,7 +263,7 @@ impl<R: Files<File = File> + AllocGlobal + Clock> Notes<'_, R> {
             return;
         };
         let cycle = checkpoint.cursor.cycle();
-        let Some(words) = last_reason(self.rt.alloc(), &self.reasons) else {
+        let Some(words) = last_reason(self.alloc, &self.reasons) else {
             self.journal.left(cycle, left, "");
             return;
         };
@@ -302,10 +274,10 @@ impl<R: Files<File = File> + AllocGlobal + Clock> Notes<'_, R> {
     }
 }
 
-impl<R: Files<File = File> + AllocGlobal + Clock> Observer for Notes<'_, R> {
+impl<L: NightLog + Drop> Observer for Notes<L> {
     /// Notes a checkpoint. One for which there is no memory is not noted.
     fn note(&mut self, bytes: &[u8]) {
-        if let Ok(checkpoint) = decode_checkpoint(self.rt.alloc(), bytes) {
+        if let Ok(checkpoint) = decode_checkpoint(self.alloc, bytes) {
             self.log_began(&checkpoint);
             let before = self.now.get();
             let now = Standing::of(&checkpoint).noted_after(before);

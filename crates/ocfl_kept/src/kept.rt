@@ -45,7 +45,7 @@ pub fn open_report<F: Folder>(
     state: &str,
     cycle: u64,
 ) -> Result<Option<OpenReport>, Failure> {
-    match folder.open_closed(cycle) {
+    match folder.closed_report(cycle) {
         Ok(found) => Ok(found),
         Err(_) => Err(failed_folder(alloc, folder, state)),
     }
@@ -68,7 +68,7 @@ pub fn read_kept<F: Folder>(
     state: &str,
     cycle: u64,
 ) -> Result<Option<Option<Checkpoint>>, Failure> {
-    match folder.kept_checkpoint(cycle) {
+    match folder.stored_at_closing(cycle) {
         Ok(Some(bytes)) => Ok(Some(checkpoint_of(alloc, &bytes)?)),
         Ok(None) => Ok(None),
         Err(_) => Err(failed_folder(alloc, folder, state)),
@@ -114,7 +114,7 @@ pub(crate) fn read_checkpoint<F: Folder>(
     folder: &mut F,
     state: &str,
 ) -> Result<Option<Vec<u8>>, Failure> {
-    match folder.checkpoint() {
+    match folder.stored() {
         Ok(bytes) => Ok(bytes),
         Err(_) => Err(failed_folder(alloc, folder, state)),
     }

@@ -1,7 +1,7 @@
 //! Opening the state folder of a night.
 
 use crate::state_dir::{Folder, StateDir};
-use ocfl_disk::{Reason, StateFile, StateStop, SystemDisk};
+use ocfl_disk::{FsState, Reason, StateFile, StateStop};
 use ocfl_files::failing::Failure;
 use ocfl_files::making::{FILE_MODE, failed_file, is_there};
 use ocfl_state::FolderTrouble;
@@ -34,14 +34,14 @@ pub fn open_state<'a, R>(
     state: &str,
     root: &str,
     create: bool,
-) -> Result<StateDir<SystemDisk<&'a R>>, Failure>
+) -> Result<StateDir<'a, R>, Failure>
 where
     R: Files<File = File> + AllocGlobal,
 {
     if create {
         refuse_parts(rt, state)?;
     }
-    match StateDir::open(rt, state, create) {
+    match FsState::open(rt, state, create) {
         Ok(folder) => Ok(folder),
         Err(stop) => Err(Failure::made(unopened(rt.alloc(), state, root, stop))),
     }

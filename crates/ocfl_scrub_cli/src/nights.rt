@@ -8,21 +8,22 @@ use crate::nights::ending::{Runs, said_of};
 use crate::nights::speaking::Words;
 use ocfl_closing::closing::{Told, tell_closings};
 use ocfl_digest::Block;
-use ocfl_disk::SystemDisk;
 use ocfl_files::failing::Failure;
 use ocfl_files::reasons::{Reasons, words_on};
 use ocfl_files::timing::seconds_now;
 use ocfl_folder::FsTree;
+use ocfl_journal::SystemLog;
 use ocfl_journal::ending::{Ended, EndedFolder, end_night, log_ended, log_unbegun, status_told};
 use ocfl_journal::given::{Found, Given, find_given, text_of};
-use ocfl_journal::noting::{Beside, OnDisk, open_noting};
+use ocfl_journal::noting::{Beside, OnDisk, open_noting, stop_file};
 use ocfl_journal::waiting::{find_wait, say_wait};
 use ocfl_kept::stand::Standing;
+use ocfl_kept::state_dir::Folder;
 use ocfl_line::NightAsked;
 use ocfl_night::{NightEnd, Output, Plan, Site, night};
 use ocfl_plan::{Budgeted, Hearing, Telling, plan_of};
 use ocfl_state::StateFolder;
-use ocfl_terminal::progress::{Clearing, Reasoned, Terminals, Watched, clear};
+use ocfl_terminal::progress::{Clearing, Reasoned, Sight, Terminals, Watched, clear};
 use ocfl_terminal::streams::take_streams;
 use ocfl_tree::Tree;
 use std::alloc::{AllocError, Global};
@@ -85,55 +86,29 @@ fn night_over<R, S, T, C, O>(
     folder: &mut S,
     tree: &mut T,
     clock: &mut C,
-    block: &mut Block,
     out: &mut O,
     reasons: &Cell<Reasons>,
     shown: Shown,
-) -> NightEnd
+) -> Result<NightEnd, AllocError>
 where
-    R: Files + AllocGlobal + Clock + Eprint,
+    R: Sight,
     S: StateFolder,
     T: Tree + Reasoned,
     C: ocfl_night::Clock,
     O: Output,
 {
+    let mut block = Block::new(rt.global())?;
     let mut tree = Watched::over(rt, tree, shown.is_shown, reasons, shown.last_cost);
-    night(
-        rt.alloc(),
+    Ok(night(
+        rt.global(),
         folder,
         &mut tree,
         &planned.site,
         &planned.plan,
         clock,
-        block,
+        &mut block,
         out,
-    )
-}
-
-/// Makes a night over the storage root, and gives why the last call over it failed that did.
-fn night_in<R, S, C, O>(
-    rt: &R,
-    planned: &Planned<'_>,
-    folder: &mut S,
-    clock: &mut C,
-    out: &mut O,
-    reasons: &Cell<Reasons>,
-    shown: Shown,
-) -> Result<(NightEnd, Option<String>), Failure>
-where
-    R: Files + Env + AllocGlobal + Clock + Eprint,
-    S: StateFolder,
-    C: ocfl_night::Clock,
-    O: Output,
-{
-    let mut block = Block::new(rt.alloc())?;
-    let Ok(mut tree) = FsTree::entering(rt, planned.given.root.as_str()) else {
-        return Err(Failure::from(AllocError));
-    };
-    let end = night_over(
-        rt, planned, folder, &mut tree, clock, &mut block, out, reasons, shown,
-    );
-    Ok((end, why_of(rt.alloc(), reasons, tree.reason())))
+    ))
 }
 
 /// The words on the last call over the storage root that failed. None if there is no memory for
@@ -151,40 +126,42 @@ fn make_runs<'a, R>(
     planned: &Planned<'_>,
     noting: &mut OnDisk<'a, R>,
     shown_on: Terminals,
-) -> Result<Runs, Failure>
+) -> Result<Runs, AllocError>
 where
     R: Files<File = File> + Env + AllocGlobal + Clock + Print + Eprint,
 {
+    let given = &planned.given;
+    let log = SystemLog::at(rt, given.asked.state.as_str())?;
+    let Beside {
+        journal,
+        speaker,
+        reasons,
+    } = noting.beside(given, log)?;
+    let began = given.began;
+    let mut clock = Hearing {
+        clock: Budgeted::of(
+            given.asked,
+            System {
+                stop: stop_file(rt, given)?,
+            },
+        ),
+        listener: RunLog { journal, began },
+    };
+    let mut out = Telling::over(Words { speaker }, output_on(rt, shown_on));
+    let mut tree = FsTree::entering(rt, given.root.as_str())?;
     let shown = Shown {
         is_shown: shown_on.error,
         last_cost: last_cost(noting.began()),
     };
-    let Beside {
-        stop,
-        journal,
-        speaker,
-        reasons,
-    } = noting.beside(&planned.given)?;
-    let began = planned.given.began;
-    let mut clock = Hearing {
-        clock: Budgeted::of(planned.given.asked, System { stop }),
-        listener: RunLog { journal, began },
-    };
-    let mut out = Telling::over(Words { speaker }, output_on(rt, shown_on));
-    let ended = night_in(
-        rt,
-        planned,
-        &mut noting.folder,
-        &mut clock,
-        &mut out,
-        &reasons,
-        shown,
-    );
-    let told = noting.told_by(out.into_message().speaker);
-    match ended {
-        Ok((end, why)) => Ok(Runs { end, why, told }),
-        Err(failure) => Err(failure),
-    }
+    let folder = &mut noting.folder;
+    let end = night_over(
+        rt, planned, folder, &mut tree, &mut clock, &mut out, &reasons, shown,
+    )?;
+    Ok(Runs {
+        end,
+        why: why_of(rt.alloc(), &reasons, tree.reason()),
+        told: noting.told_by(out.into_message().speaker),
+    })
 }
 
 /// Standard output, from which progress is removed if both go to one terminal.
@@ -219,14 +196,10 @@ where
 
 /// Says what the cycles found that were closed, and gives the status; 0 after a night that was
 /// refused.
-fn tell_closed<'a, R>(
-    rt: &R,
-    given: &Given<'_>,
-    folder: &mut EndedFolder<SystemDisk<&'a R>>,
-    ended: Ended<'_>,
-) -> u8
+fn tell_closed<R, F>(rt: &R, given: &Given<'_>, folder: &mut EndedFolder<F>, ended: Ended<'_>) -> u8
 where
     R: Files<File = File> + AllocGlobal + Clock + Print + Eprint,
+    F: Folder + Drop,
 {
     let Some(closed) = ended.closed else {
         return 0;
@@ -257,11 +230,12 @@ where
         plan,
     };
     let (runs, said) = run_night(rt, &planned, &mut noting, shown_on)?;
+    let (alloc, given) = (rt.alloc(), &planned.given);
     let ended = runs.ended(&said);
-    let given = &planned.given;
-    let mut folder = end_night(rt, given.asked.state.as_str(), noting, ended)?;
+    let mut folder = end_night(rt, alloc, given.asked.state.as_str(), noting, ended)?;
     let status = runs.status(tell_closed(rt, given, &mut folder, ended));
-    Ok(log_ended(rt, folder, given, ended, status))
+    let now = seconds_now(rt);
+    Ok(log_ended(rt, alloc, &mut folder, given, ended, status, now))
 }
 
 /// The same of a night that is asked for.

@@ -91,7 +91,7 @@ fn line_of(
 }
 
 /// What progress asks of the system: what shows it needs no more of it than this.
-pub(crate) trait Sight {
+pub trait Sight {
     /// Where memory comes from.
     fn global(&self) -> Global;
 

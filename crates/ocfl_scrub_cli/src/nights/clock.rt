@@ -2,10 +2,9 @@
 ghost use Rattle.std.specs.Prelude.{[], false};
 
 use ocfl_journal::clock::StopFile;
-use ocfl_journal::{Journal, RunMade};
+use ocfl_journal::{Journal, NightLog, RunMade};
 use ocfl_night::Made;
 use ocfl_plan::{Listener, is_kept, run_status};
-use std::fs::File;
 use std::rt::Files;
 use std::time::Clock;
 
@@ -34,13 +33,13 @@ impl<R: Files + Clock> ocfl_night::Clock for System<'_, R> {
 
 /// The log of the runs of a night.
 #[derive(Drop)]
-pub(crate) struct RunLog<'a, R: Files<File = File> + AllocGlobal> {
-    pub(crate) journal: Journal<'a, R>,
+pub(crate) struct RunLog<L: Drop> {
+    pub(crate) journal: Journal<L>,
     /// The time that the clock showed last: when the run under way began.
     pub(crate) began: u64,
 }
 
-impl<R: Files<File = File> + AllocGlobal + Clock> Listener for RunLog<'_, R> {
+impl<L: NightLog + Drop> Listener for RunLog<L> {
     fn note_time(&mut self, now: u64) {
         self.began = now;
     }

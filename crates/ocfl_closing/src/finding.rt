@@ -3,7 +3,7 @@
 use crate::reading::{TakeLine, take_lines};
 use ocfl_kept::lines::{CLEAN, error_of, put_lines};
 use ocfl_report::{Code, Line, TextStop, read_line};
-use ocfl_telling::{Finding, Gravest, Heads, Known, Tally};
+use ocfl_telling::{Finding, Gathering, Gravest, Heads, Known, Tally};
 use std::alloc::{AllocError, Global};
 use std::io::{self, BufRead};
 
@@ -103,7 +103,7 @@ struct Search<'a> {
     named: &'a [Line],
     known: &'a Known,
     said: &'a [Line],
-    heads: Heads,
+    gathering: Gathering,
     found: Findings,
 }
 
@@ -114,46 +114,48 @@ impl Drop for Search<'_> {
             named: _named,
             known: _known,
             said: _said,
-            heads: _heads,
+            gathering: _gathering,
             found: _found,
         } = self;
     }
 }
 
 impl Search<'_> {
-    /// What was found.
+    /// What was found in all lines of the report.
     fn into_found(self) -> Findings {
         let Search {
             named: _named,
             known: _known,
             said: _said,
-            heads: _heads,
-            found,
+            gathering,
+            mut found,
         } = self;
+        let (gravest, _) = gathering.end(true);
+        found.gravest = gravest;
         found
     }
 
-    /// Takes one that is named.
-    fn take_named(&mut self, finding: Finding) -> Result<(), AllocError> {
+    /// Counts one that is named. Whether it is to be told.
+    fn count_named(&mut self, line: &Line) -> bool {
         let found = &mut self.found;
         found.matched = found.matched.saturating_add(1);
-        if self.known.names(&finding.line) {
+        if self.known.names(line) {
             found.known = found.known.saturating_add(1);
-            return Ok(());
+            return false;
         }
-        if have_same(self.said, &finding.line) {
+        if have_same(self.said, line) {
             found.said = found.said.saturating_add(1);
-            return Ok(());
+            return false;
         }
-        found.gravest.add(finding)
+        true
     }
 
-    /// Takes a finding.
-    fn take_finding(&mut self, finding: Finding) -> Result<(), AllocError> {
+    /// Counts a finding. Whether it is to be told.
+    fn count_finding(&mut self, line: &Line) -> bool {
         self.found.count = self.found.count.saturating_add(1);
         match self.named.get(self.found.matched) {
-            Some(next) if is_named(next, &finding.line) => self.take_named(finding),
-            _ => Ok(()),
+            Some(next) if is_named(next, line) => self.count_named(line),
+            _ => false,
         }
     }
 }
@@ -164,10 +166,8 @@ impl TakeLine for Search<'_> {
             return Ok(true);
         };
         self.found.tally.add(&line)?;
-        let finding = self.heads.take(line)?;
-        if finding.line.is_finding() {
-            self.take_finding(finding)?;
-        }
+        let is_told = line.is_finding() && self.count_finding(&line);
+        self.gathering.take(line, is_told)?;
         Ok(true)
     }
 }
@@ -185,7 +185,7 @@ pub fn find_lines<'a, B: BufRead>(
         named,
         known,
         said,
-        heads: Heads::new(),
+        gathering: Gathering::new(alloc, Heads::new()),
         found: Findings::new(alloc),
     };
     take_lines(alloc, report, &mut search)?;

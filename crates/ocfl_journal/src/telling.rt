@@ -2,7 +2,7 @@
 
 use ocfl_disk::StateFile;
 use ocfl_files::reasons::{Reasons, take_reasons};
-use ocfl_kept::lines::{CLEAN, error_of, put_lines};
+use ocfl_kept::lines::{error_of, put_lines};
 use ocfl_kept::names::Names;
 use ocfl_kept::stand::Standing;
 use ocfl_report::{Code, Line, TextStop, read_line, write_all_of};
@@ -11,9 +11,6 @@ use std::alloc::{AllocError, Global};
 use std::cell::Cell;
 use std::io::{self, ErrorKind, Write};
 use std::rc::Rc;
-
-/// How a line that finds nothing ends that is of an object, or of the storage root.
-const HEAD: &[u8] = b"\t-\n";
 
 /// An output that takes the bytes of a report, and says at each flush what was found in them since
 /// the one before, without what is known.
@@ -123,23 +120,20 @@ impl<'n, W: Write + Drop> Teller<'n, W> {
         put_lines(&shown?, &mut self.said)
     }
 
-    /// Takes a line that is a report's, with its line feed.
-    fn keep_line(&mut self) -> Result<(), TextStop> {
-        let Some(found) = self.found.take() else {
-            return Err(TextStop::Bad);
-        };
-        self.found = Some(found.take(self.alloc, self.known, self.rest.as_slice())?);
-        Ok(())
+    /// Takes a line that is a report's.
+    fn keep_line(&mut self, line: Line) -> Result<(), TextStop> {
+        match &mut self.found {
+            Some(found) => Ok(found.take_line(self.known, line)?),
+            None => Err(TextStop::Bad),
+        }
     }
 
     /// Takes a line, with its line feed.
     fn end_line(&mut self) -> Result<(), TextStop> {
-        if is_told(self.rest.as_slice()) {
-            if is_line(self.alloc, self.rest.as_slice())? {
-                self.keep_line()?;
-            } else {
-                self.broken = self.broken.saturating_add(1);
-            }
+        match read_line(self.alloc, self.rest.as_slice()) {
+            Ok(line) => self.keep_line(line)?,
+            Err(TextStop::Bad) => self.broken = self.broken.saturating_add(1),
+            Err(TextStop::Memory) => return Err(TextStop::Memory),
         }
         self.rest.clear();
         Ok(())
@@ -156,6 +150,11 @@ impl<'n, W: Write + Drop> Teller<'n, W> {
         Ok(())
     }
 
+    /// Whether no more lines come of any object: a part may end within one.
+    fn is_over(&self) -> bool {
+        self.names.part.is_none() && self.now.get().has_ended
+    }
+
     /// Takes what was found, which is said then, and the object whose head came last.
     fn take_found(&mut self) -> Result<(Gravest, Heads), TextStop> {
         if !self.rest.is_empty() {
@@ -163,7 +162,7 @@ impl<'n, W: Write + Drop> Teller<'n, W> {
             self.rest.clear();
         }
         match self.found.take() {
-            Some(found) => found.end(),
+            Some(found) => found.end(self.is_over()),
             None => Err(TextStop::Bad),
         }
     }
@@ -215,20 +214,6 @@ impl<W: Write + Drop> Write for Teller<'_, W> {
             Ok((mut gravest, heads)) => self.tell(&mut gravest, heads),
             Err(stop) => Err(error_of(stop)),
         }
-    }
-}
-
-/// Whether a message needs a line: what finds nothing only says which object comes.
-fn is_told(text: &[u8]) -> bool {
-    !text.starts_with(CLEAN) || text.ends_with(HEAD)
-}
-
-/// Whether a text is a line of a report, with its line feed.
-fn is_line(alloc: Global, text: &[u8]) -> Result<bool, TextStop> {
-    match read_line(alloc, text) {
-        Ok(_) => Ok(true),
-        Err(TextStop::Bad) => Ok(false),
-        Err(TextStop::Memory) => Err(TextStop::Memory),
     }
 }
 

@@ -22,6 +22,7 @@ pub fn put_lines(findings: &[Finding], lines: &mut Vec<Line>) -> Result<(), Allo
         let Finding {
             line,
             object: _object,
+            files: _files,
         } = finding.try_clone()?;
         lines.push(line)?;
     }

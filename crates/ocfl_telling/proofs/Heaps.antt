@@ -1,7 +1,7 @@
 -- How the first findings of each weight grow by one.
 use Rattle.std.proofs.Common.{◌≡◌, ◌+◌, ◌^◌, ◌<◌, List, [], ◌∷◌, ◌++◌, Bool, true, false, length, refl, ap, sym, subst, ◌∙◌, arith}
 use Rattle.std.proofs.{lemmas.List.{append-nil}, lemmas.List.Elements.{filter-append}}
-use Rattle.std.specs.{Prelude.{Some}, List.{filter}}
+use Rattle.std.specs.{Prelude.{None, Some}, List.{filter}}
 use Rattle.ocfl_codes.specs.Weight.{weight_of, is_weight}
 use Rattle.ocfl_telling.specs.{Finding.{Finding}, Gravest.{IsFirst, IsOf, by_weight, is_of_weight, of_weight}}
 use Rattle.ocfl_codes.specs.declared.weight.Weight.{Weight}
@@ -68,6 +68,15 @@ positions_more g k ls l e f h = record {
   objects = stays g.objects Object ls l (ap (is_weight Object) e) h.objects;
   records = stays g.records Record ls l (ap (is_weight Record) e) h.records;
   positions = grows k Position ls l (ap (is_weight Position) e) f;
+}
+
+-- a line that is no finding
+pub none_more : (g : Gravest) (ls : List Finding) (l : Finding) → weight_of l.line.code ≡ None → IsOf g ls → IsOf g (ls ++ l ∷ [])
+none_more g ls l e h = record {
+  bytes = stays g.bytes Bytes ls l (ap (is_weight Bytes) e) h.bytes;
+  objects = stays g.objects Object ls l (ap (is_weight Object) e) h.objects;
+  records = stays g.records Record ls l (ap (is_weight Record) e) h.records;
+  positions = stays g.positions Position ls l (ap (is_weight Position) e) h.positions;
 }
 
 -- all of them together

@@ -2,6 +2,8 @@ pub mod Taking
 pub mod Weights
 pub mod Heaps
 pub mod Pieces
+pub mod Gathered
+pub mod Filling
 pub mod Made
 pub mod ShownLines
 pub mod Closings

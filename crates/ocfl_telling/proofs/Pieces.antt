@@ -6,32 +6,50 @@ use Rattle.std.specs.Prelude.{All, Option}
 use Rattle.ocfl_tree.specs.Place.{Place, Text}
 use Rattle.ocfl_report.specs.{Line.{Line}, Text.{IsLine, IsLineText, line_text, lines_text}}
 use Rattle.ocfl_report.proofs.LineTexts.{IsLine-from_text}
-use Rattle.ocfl_telling.specs.{Finding.{Finding, found_in, head_with, placed_after}, Gravest.{IsOf}, Known.{unknown}}
-use Rattle.ocfl_telling.proofs.Placing.{head_more, placed_more}
+use Rattle.ocfl_telling.specs.{Finding.{Finding, Section, ended_after, ended_with, first_section, section_after, section_with}, Gathering.{IsGathered}, Known.{is_unknown}}
+use Rattle.ocfl_telling.proofs.Placing.{ended_on, section_on}
 use Rattle.ocfl_telling.specs.{Found.{HasBadLine, IsAfter}, declared.found.Found.{Found}}
 use Rattle.ocfl_telling.specs.declared.known.KnownEntry.{KnownEntry}
 
 lines_more : (ls : List Line) (l : Line) → lines_text (ls ++ l ∷ []) ≡ lines_text ls ++ line_text l
 lines_more ls l = flat_map-append line_text ls (l ∷ []) ∙ ap (λ t. lines_text ls ++ t) (append-nil (line_text l))
 
+-- the bytes go on with the text of a line that was taken
+line_after : (es : List KnownEntry) (head : Option Place) (old new : Found) (b after : Text) (l : Line) (h : IsAfter es head old b) → IsLine l → after ≡ lines_text h.lines ++ line_text l
+    → new.rest.items ≡ []
+    → ((fs : List Finding) (s : Section) → IsGathered (is_unknown es) old.gathering fs s → IsGathered (is_unknown es) new.gathering (fs ++ ended_with s l) (section_with s l))
+    → IsAfter es head new after
+line_after es head old new b after l h one is empty takes =
+    let first = first_section head in
+    let taken = takes (ended_after first h.lines) (section_after first h.lines) h.gathered in
+    let with_it : IsGathered (is_unknown es) new.gathering (ended_after first h.lines ++ ended_with (section_after first h.lines) l) (section_after first (h.lines ++ l ∷ [])) =
+    subst (IsGathered (is_unknown es) new.gathering (ended_after first h.lines ++ ended_with (section_after first h.lines) l)) (sym (section_on first h.lines l)) taken in
+    record {
+      lines = h.lines ++ l ∷ [];
+      are = All-append IsLine h.lines (l ∷ []) h.are (All-cons IsLine l [] one (All-nil IsLine));
+      is = is ∙ sym (lines_more h.lines l) ∙ sym (append-nil (lines_text (h.lines ++ l ∷ []))) ∙ ap (λ t. lines_text (h.lines ++ l ∷ []) ++ t) (sym empty);
+      unended = subst (All (λ c. c ≢ 10)) (sym empty) (All-nil (λ c. c ≢ 10));
+      gathered = subst (λ fs. IsGathered (is_unknown es) new.gathering fs (section_after first (h.lines ++ l ∷ []))) (sym (ended_on first h.lines l)) with_it;
+    }
+
 -- the end of a line: what was kept, and this with its line feed, are the text of the line
 pub line_taken : (es : List KnownEntry) (head : Option Place) (old new : Found) (b part : Text) (l : Line) → IsAfter es head old b → new.rest.items ≡ []
     → IsLineText ((old.rest.items ++ part) ++ 10 ∷ []) l
-    → (f : Finding) → f ≡ found_in (head_with old.heads.last l) l → new.heads.last ≡ head_with old.heads.last l
-    → ((fs : List Finding) → IsOf old.gravest (unknown es fs) → IsOf new.gravest (unknown es (fs ++ f ∷ [])))
+    → ((fs : List Finding) (s : Section) → IsGathered (is_unknown es) old.gathering fs s → IsGathered (is_unknown es) new.gathering (fs ++ ended_with s l) (section_with s l))
     → IsAfter es head new (b ++ (part ++ 10 ∷ []))
-line_taken es head old new b part l h empty text f found last adds =
+line_taken es head old new b part l h empty text takes =
     let rest = old.rest.items in
     let joined : rest ++ (part ++ 10 ∷ []) ≡ line_text l = sym (append_assoc rest part (10 ∷ [])) ∙ text.is in
-    record {
-      lines = h.lines ++ l ∷ [];
-      are = All-append IsLine h.lines (l ∷ []) h.are (All-cons IsLine l [] (IsLine-from_text _ l text) (All-nil IsLine));
-      is = ap (λ t. t ++ (part ++ 10 ∷ [])) h.is ∙ append_assoc (lines_text h.lines) rest (part ++ 10 ∷ []) ∙ ap (λ t. lines_text h.lines ++ t) joined
-          ∙ sym (lines_more h.lines l) ∙ sym (append-nil (lines_text (h.lines ++ l ∷ []))) ∙ ap (λ t. lines_text (h.lines ++ l ∷ []) ++ t) (sym empty);
-      unended = subst (All (λ c. c ≢ 10)) (sym empty) (All-nil (λ c. c ≢ 10));
-      heads = last ∙ ap (λ o. head_with o l) h.heads ∙ sym (head_more head h.lines l);
-      gravest = subst (λ fs. IsOf new.gravest (unknown es fs)) (sym (placed_more head h.lines l f old.heads.last h.heads found)) (adds (placed_after head h.lines) h.gravest);
-    }
+    let is = ap (λ t. t ++ (part ++ 10 ∷ [])) h.is ∙ append_assoc (lines_text h.lines) rest (part ++ 10 ∷ []) ∙ ap (λ t. lines_text h.lines ++ t) joined in
+    line_after es head old new b (b ++ (part ++ 10 ∷ [])) l h (IsLine-from_text _ l text) is empty takes
+
+-- a whole line, where none was cut before it
+pub whole_taken : (es : List KnownEntry) (head : Option Place) (old new : Found) (b : Text) (l : Line) → IsAfter es head old b → IsLine l → old.rest.items ≡ [] → new.rest.items ≡ []
+    → ((fs : List Finding) (s : Section) → IsGathered (is_unknown es) old.gathering fs s → IsGathered (is_unknown es) new.gathering (fs ++ ended_with s l) (section_with s l))
+    → IsAfter es head new (b ++ line_text l)
+whole_taken es head old new b l h one none empty takes =
+    let before : b ≡ lines_text h.lines = h.is ∙ ap (λ t. lines_text h.lines ++ t) none ∙ append-nil (lines_text h.lines) in
+    line_after es head old new b (b ++ line_text l) l h one (ap (λ t. t ++ line_text l) before) empty takes
 
 -- or they are the text of none
 pub line_refused : (es : List KnownEntry) (head : Option Place) (old : Found) (b part after : Text) → IsAfter es head old b → All (λ c. c ≢ 10) part
@@ -52,14 +70,13 @@ line_refused es head old b part after h one refused =
 
 -- what has no line feed is kept
 pub rest_kept : (es : List KnownEntry) (head : Option Place) (old new : Found) (b more : Text) → IsAfter es head old b → All (λ c. c ≢ 10) more → new.rest.items ≡ old.rest.items ++ more
-    → new.gravest ≡ old.gravest → new.heads ≡ old.heads → IsAfter es head new (b ++ more)
-rest_kept es head old new b more h unended e same heads = record {
+    → new.gathering ≡ old.gathering → IsAfter es head new (b ++ more)
+rest_kept es head old new b more h unended e same = record {
   lines = h.lines;
   are = h.are;
   is = ap (λ t. t ++ more) h.is ∙ append_assoc (lines_text h.lines) old.rest.items more ∙ ap (λ t. lines_text h.lines ++ t) (sym e);
   unended = subst (All (λ c. c ≢ 10)) (sym e) (All-append (λ c. c ≢ 10) old.rest.items more h.unended unended);
-  heads = ap (λ x. x.last) heads ∙ h.heads;
-  gravest = subst (λ g. IsOf g (unknown es (placed_after head h.lines))) (sym same) h.gravest;
+  gathered = subst (λ g. IsGathered (is_unknown es) g (ended_after (first_section head) h.lines) (section_after (first_section head) h.lines)) (sym same) h.gathered;
 }
 
 -- ---- pieces

@@ -1,11 +1,11 @@
 -- Places and files that are counted as their lines come.
-use Rattle.std.proofs.Common.{◌≡◌, ℕ, ◌+◌, List, [], ◌∷◌, ◌++◌, Bool, true, false, Option, Some, None, map, length, refl, ap, sym, ◌∙◌, length-append, arith}
-use Rattle.std.proofs.{lemmas.Bool.{false≢true}, lemmas.List.{map-append}}
-use Rattle.std.specs.{Prelude.{if◌then◌else◌}, List.{filter}}
-use Rattle.ocfl_tree.specs.Place.{Place}
+use Rattle.std.proofs.Common.{◌≡◌, ℕ, ◌+◌, ◌^◌, List, [], ◌∷◌, ◌++◌, Bool, true, false, cond, Option, Some, None, map, length, decimal, refl, ap, sym, subst, ◌∙◌, length-append, arith}
+use Rattle.std.proofs.{lemmas.Bool.{false≢true, ltb-true}, lemmas.List.{map-append}}
+use Rattle.std.specs.{Prelude.{◌&&◌, nat_lt, if◌then◌else◌}, List.{filter}, Str.Parse.{digits_value}}
+use Rattle.ocfl_tree.specs.Place.{Place, text_eq}
 use Rattle.ocfl_tree.proofs.Places.{place_eq-Decides}
 use Rattle.ocfl_report.specs.Line.{Line}
-use Rattle.ocfl_telling.specs.Tally.{IsCount, IsPlaces, bytes_in, changes_after, is_last, is_right, last_after, places_of, right_in, right_size}
+use Rattle.ocfl_telling.specs.Tally.{IsCount, IsPlaces, bytes_in, changes_after, is_last, is_right, kept_count, last_after, places_of, right_in, right_size, size_of}
 use Rattle.ocfl_telling.specs.declared.tally.Places.{Places}
 use Rattle.ocfl_telling.proofs.Heaps.{filter_more, filter_same}
 
@@ -27,7 +27,7 @@ last_more : (last : Option Place) (ps : List Place) (p : Place) → last_after l
 last_more last [] p = refl
 last_more last (q ∷ ps) p = last_more (Some q) ps p
 
-is_it : (o : Option Place) (p : Place) → is_last o p ≡ true → o ≡ Some p
+pub is_it : (o : Option Place) (p : Place) → is_last o p ≡ true → o ≡ Some p
 is_it None p e = absurd (false≢true e)
 is_it (Some q) p e = ap Some ((place_eq-Decides q p).0 e)
 
@@ -37,7 +37,7 @@ stays k ps p e h =
     let same : changes_after None (ps ++ p ∷ []) ≡ changes_after None ps = changes_more None ps p ∙ ap (λ o. changes_after None ps + new_one (is_last o p)) (sym h.last)
     ∙ ap (λ b. changes_after None ps + new_one b) e ∙ omega arith in
     record {
-      count = λ l. h.count (omega (arith, l, same)) ∙ sym same;
+      count = subst (IsCount k.count) (sym same) h.count;
       last = is_it k.last p e ∙ sym (last_more None ps p);
     }
 
@@ -48,7 +48,7 @@ grows k new ps p e at more h =
     let one : changes_after None (ps ++ p ∷ []) ≡ changes_after None ps + 1 = changes_more None ps p ∙ ap (λ o. changes_after None ps + new_one (is_last o p)) (sym h.last)
     ∙ ap (λ b. changes_after None ps + new_one b) e in
     record {
-      count = λ l. more (changes_after None ps) h.count (omega (arith, l, one)) ∙ sym one;
+      count = subst (IsCount new.count) (sym one) (more (changes_after None ps) h.count);
       last = at ∙ sym (last_more None ps p);
     }
 
@@ -64,3 +64,23 @@ right_more ls l false e = ap length (filter_same is_right ls l (sym e)) ∙ omeg
 pub bytes_more : (ls : List Line) (l : Line) → bytes_in (ls ++ l ∷ []) ≡ bytes_in ls + right_size l
 bytes_more [] l = omega arith
 bytes_more (m ∷ ls) l = ap (λ n. right_size m + n) (bytes_more ls l) ∙ omega arith
+
+-- numbers that fit are kept as they are
+pub kept_one : (b : Bool) → kept_count (if b then 1 else 0) ≡ (if b then 1 else 0)
+kept_one true = refl
+kept_one false = refl
+
+pub kept_size : (l : Line) → kept_count (right_size l) ≡ right_size l
+kept_size l = by (is_right l)
+  where
+    value : ℕ
+    value = digits_value 10 l.detail
+
+    sized : (a b : Bool) → nat_lt value (2 ^ 62) ≡ b → kept_count (cond (a && b) value 0) ≡ cond (a && b) value 0
+    sized true true e = let k = ltb-true value (2 ^ 62) e in omega (arith, k)
+    sized true false e = refl
+    sized false b e = refl
+
+    by : (r : Bool) → kept_count (cond r (size_of l.detail) 0) ≡ cond r (size_of l.detail) 0
+    by true = sized (text_eq l.detail (decimal value)) (nat_lt value (2 ^ 62)) refl
+    by false = refl

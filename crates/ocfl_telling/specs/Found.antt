@@ -1,8 +1,9 @@
 -- The findings among the bytes of a report that come piece by piece.
-use Rattle.std.specs.Prelude.{◌≡◌, ◌≢◌, List, [], ◌∷◌, ◌++◌, All, None, Option}
+use Rattle.std.specs.Prelude.{◌≡◌, ◌≢◌, List, [], ◌∷◌, ◌++◌, All, Bool, None, Option}
 use Rattle.ocfl_tree.specs.Place.{Place, Text}
 use Rattle.ocfl_report.specs.{Line.{Line}, Text.{IsLine, IsLineText, lines_text}}
-use Rattle.ocfl_telling.specs.{Finding.{head_after, placed_after}, Gravest.{IsOf}, Known.{unknown}}
+use Rattle.ocfl_telling.specs.{Finding.{ended_after, first_section, head_after, placed_after, section_after}, Gathering.{IsGathered}}
+use Rattle.ocfl_telling.specs.{Gravest.{IsOf}, Known.{is_unknown, unknown}}
 use Rattle.ocfl_telling.specs.declared.{finding.Heads.{Heads}, gravest.Gravest.{Gravest}}
 use Rattle.ocfl_telling.specs.{declared.found.Found.{Found}, declared.known.KnownEntry.{KnownEntry}}
 
@@ -13,16 +14,15 @@ pub record IsAfter (known : List KnownEntry) (head : Option Place) (f : Found) (
   pub are : All IsLine lines
   pub is : b ≡ lines_text lines ++ f.rest.items
   pub unended : All (λ c. c ≢ 10) f.rest.items
-  pub heads : f.heads.last ≡ head_after head lines
-  pub gravest : IsOf f.gravest (unknown known (placed_after head lines))
+  pub gathered : IsGathered (is_unknown known) f.gathering (ended_after (first_section head) lines) (section_after (first_section head) lines)
 
 -- the bytes are the text of these lines, the findings are kept of them that are not known, and the
--- object whose head came last
-pub record AreAll (known : List KnownEntry) (head : Option Place) (g : Gravest) (behind : Heads) (b : Text) : Type 0 where
+-- object whose head came last; the report may be over with them
+pub record AreAll (known : List KnownEntry) (is_over : Bool) (head : Option Place) (g : Gravest) (behind : Heads) (b : Text) : Type 0 where
   pub lines : List Line
   pub are : All IsLine lines
   pub is : b ≡ lines_text lines
-  pub gravest : IsOf g (unknown known (placed_after head lines))
+  pub gravest : IsOf g (unknown known (placed_after is_over head lines))
   pub heads : behind.last ≡ head_after head lines
 
 -- the object whose head is the last one among the whole lines of these bytes

@@ -4,7 +4,8 @@ use Rattle.std.specs.List.{filter, list_any}
 use Rattle.ocfl_tree.specs.Place.{Text, Place, place_eq, text_eq}
 use Rattle.ocfl_report.specs.{Text.{code_text}, declared.code.Code.{Code}}
 use Rattle.ocfl_codes.specs.Meaning.{first_step_of, meaning_of}
-use Rattle.ocfl_telling.specs.{Command.{again_text, path_text}, Finding.{Finding}, Known.{code_eq}, Wording.{coded_text, path_part, said_text}}
+use Rattle.ocfl_telling.specs.{Command.{again_text, path_text}, Finding.{Finding}, Known.{code_eq}, Many.{many_text}, Wording.{coded_text, path_part, said_text}}
+use Rattle.ocfl_telling.specs.declared.finding.FileCounts.{FileCounts}
 
 -- how many findings of an object are shown that have the same code
 abbrev pub most_alike : ℕ
@@ -57,9 +58,21 @@ shown_text n fs f =
 abbrev pub member_text : Finding → List Finding → List Finding → Finding → Text
 member_text first fs seen f = if is_with first f then shown_text (count_like f seen) fs f else []
 
-abbrev pub head_text : Option Place → Code → Text
-head_text (Some o) c = codes "Object " ++ path_text o ++ codes ":\n"
-head_text None c = codes "Elsewhere, " ++ code_text c ++ codes ":\n"
+-- whether these are all files of an object
+abbrev pub extent_text : Bool → Text
+extent_text is_whole = if is_whole then codes " right" else codes " right of those read tonight"
+
+abbrev pub some_files_text : FileCounts → Text
+some_files_text c = codes ", " ++ decimal c.right ++ codes " of " ++ many_text c.files (codes "file") (codes "files") ++ extent_text c.is_whole
+
+-- how many files of an object are right; nothing if none was counted
+abbrev pub files_text : Option FileCounts → Text
+files_text None = []
+files_text (Some c) = if c.files == 0 then [] else some_files_text c
+
+abbrev pub head_text : Option Place → Option FileCounts → Code → Text
+head_text (Some o) files c = codes "Object " ++ path_text o ++ files_text files ++ codes ":\n"
+head_text None files c = codes "Elsewhere, " ++ code_text c ++ codes ":\n"
 
 -- ---- groups
 
@@ -75,7 +88,7 @@ step_text before f = if list_any (is_same_step f) before then [] else codes "\tT
 -- and how to look at it again
 abbrev pub group_text : Text → List Finding → List Finding → Finding → Text
 group_text root fs before f =
-    head_text f.object f.line.code ++ each_text (member_text f fs) [] fs ++ step_text before f ++ again_text root f.line.place
+    head_text f.object f.files f.line.code ++ each_text (member_text f fs) [] fs ++ step_text before f ++ again_text root f.line.place
 
 abbrev pub count_with : Finding → List Finding → ℕ
 count_with f fs = length (filter (is_with f) fs)

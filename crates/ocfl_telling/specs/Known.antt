@@ -32,6 +32,9 @@ entry_cmp e f = place_cmp e.line.place f.line.place
 abbrev pub names_at : Spot → Line → KnownEntry → Bool
 names_at p l e = place_eq e.line.place p && names l e
 
+abbrev pub is_unknown : List KnownEntry → Line → Bool
+is_unknown es l = not (is_known es l)
+
 -- the findings that a list leaves
 abbrev pub unknown : List KnownEntry → List Finding → List Finding
-unknown es fs = filter (λ f. not (is_known es f.line)) fs
+unknown es fs = filter (λ f. is_unknown es f.line) fs

@@ -2,6 +2,7 @@ pub mod Finding
 pub mod Gravest
 pub mod Known
 pub mod List
+pub mod Gathering
 pub mod Found
 pub mod Quoted
 pub mod Command

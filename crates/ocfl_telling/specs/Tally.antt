@@ -1,14 +1,17 @@
 -- What the lines of a report count.
-use Rattle.std.specs.Prelude.{◌≡◌, ℕ, ◌+◌, ◌^◌, ◌<◌, ◌&&◌, nat_lt, List, [], ◌∷◌, Bool, false, not, Option, Some, None, map, length, decimal, if◌then◌else◌}
+use Rattle.std.specs.Prelude.{◌≡◌, ℕ, ◌+◌, ◌-◌, ◌^◌, ◌&&◌, min, nat_lt, List, [], ◌∷◌, Bool, false, not, Option, Some, None, map, length, decimal, if◌then◌else◌}
 use Rattle.std.specs.{List.{filter}, Str.Parse.{digits_value}}
 use Rattle.ocfl_tree.specs.Place.{Text, Place, place_eq, text_eq}
 use Rattle.ocfl_report.specs.Line.{Line, is_finding_code}
 use Rattle.ocfl_codes.specs.Kinds.{tells_file, tells_object}
 use Rattle.ocfl_telling.specs.{declared.tally.Places.{Places}, declared.tally.Tally.{Tally}}
 
--- a number below 2^64 is this one
+-- what is kept of a number: of one that does not fit into 64 bits, the greatest that does
+abbrev pub kept_count : ℕ → ℕ
+kept_count m = min m (2 ^ 64 - 1)
+
 abbrev pub IsCount : ℕ → ℕ → Type 0
-IsCount n m = m < 2 ^ 64 → n ≡ m
+IsCount n m = n ≡ kept_count m
 
 abbrev pub is_last : Option Place → Place → Bool
 is_last None p = false

@@ -1,12 +1,24 @@
 //! A finding with the object that it is in.
-ghost use Rattle.std.specs.Prelude.{◌≡◌, Some, IfOk, OnOk};
+ghost use Rattle.std.specs.Prelude.{◌≡◌, Some, IfOk, OnOk, not};
 ghost use Rattle.ocfl_report.specs.Line.{line_of};
-ghost use Rattle.ocfl_telling.specs.Finding.{finding_of, found_in, head_with, object_at};
+ghost use Rattle.ocfl_telling.specs.Finding.{filled, finding_of, found_in, head_with, is_other as is_other_head, is_within, object_at};
 
+use crate::tally::is_last;
 use ocfl_codes::is_of_object;
 use ocfl_report::Line;
 use ocfl_tree::Place;
 use std::alloc::AllocError;
+
+/// How many files of an object are right.
+#[derive(Clone, Copy, Debug, PartialEq, Eq)]
+pub struct FileCounts {
+    /// How many are right.
+    pub right: u64,
+    /// How many there are.
+    pub files: u64,
+    /// Whether these are all that it has, and not only those whose lines came.
+    pub is_whole: bool,
+}
 
 /// A line of a report, and the object that it is in.
 #[derive(Debug, Drop)]
@@ -16,6 +28,8 @@ pub struct Finding {
     /// The object. `None` if it is not known: no line of an object's head is known to come before, or
     /// that of another object did.
     pub object: Option<Place>,
+    /// How many files of the object are right. `None` as long as its lines come.
+    pub files: Option<FileCounts>,
 }
 
 impl Finding {
@@ -27,7 +41,17 @@ impl Finding {
         Ok(Finding {
             line: line_copy(&self.line)?,
             object,
+            files: self.files,
         })
+    }
+
+    /// Takes how many files of its object are right, unless it has that.
+    pub(crate) fn fill(&mut self, files: FileCounts)
+        ensures { finding_of self.new ≡ filled files (finding_of self.old) }
+    {
+        if self.files.is_none() {
+            self.files = Some(files);
+        }
     }
 }
 
@@ -69,26 +93,33 @@ impl Heads {
         Heads { last: None }
     }
 
-    /// Takes the next line, and gives it with the object that it is in. It is not used again if
-    /// memory runs out.
-    pub fn take(&mut self, line: Line) -> Result<Finding, AllocError>
-        ensures found { IfOk result (λ f. finding_of f
-            ≡ found_in (head_with self.old.last (line_of line)) (line_of line)) }
-        ensures head { OnOk result (self.new.last ≡ head_with self.old.last (line_of line)) }
+    /// Whether a line is one of another object's head.
+    pub(crate) fn is_other(&self, line: &Line) -> bool
+        ensures { result ≡ is_other_head self.now.last (line_of line.now) }
     {
-        self.note(&line)?;
-        let object = object_of(&self.last, &line.place)?;
-        Ok(Finding { line, object })
+        is_of_object(line) && !is_last(&self.last, &line.place)
     }
 
-    /// Notes the object of a line, if that is one of a head.
-    fn note(&mut self, line: &Line) -> Result<(), AllocError>
-        ensures { OnOk result (self.new.last ≡ head_with self.old.last (line_of line.now)) }
+    /// Whether a place is that of the object, or below it.
+    pub(crate) fn are_above(&self, place: &Place) -> bool
+        ensures { result ≡ is_within self.now.last place.now }
     {
-        if is_of_object(line) {
-            self.last = Some(line.place.try_clone()?);
+        match &self.last {
+            Some(object) => place.starts_with(object),
+            None => false,
         }
-        Ok(())
+    }
+
+    /// The line with the object that it is in, as it came.
+    pub(crate) fn place(&self, line: Line) -> Result<Finding, AllocError>
+        ensures { IfOk result (λ f. finding_of f ≡ found_in self.now.last (line_of line)) }
+    {
+        let object = object_of(&self.last, &line.place)?;
+        Ok(Finding {
+            line,
+            object,
+            files: None,
+        })
     }
 }
 

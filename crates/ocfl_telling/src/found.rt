@@ -1,30 +1,29 @@
 //! The findings among the bytes of a report, which come piece by piece.
 
-ghost use Rattle.std.specs.Prelude.{◌≡◌, List, ◌∷◌, ◌++◌, [], OnOk};
-ghost use Rattle.ocfl_telling.specs.Finding.{Finding as ModelFinding, finding_of};
-ghost use Rattle.ocfl_telling.specs.{Gravest.{IsOf}, Known.{unknown}};
+ghost use Rattle.std.specs.Prelude.{◌≡◌, ◌∷◌, ◌++◌, [], OnOk};
 
-use crate::finding::{Finding, Heads};
+use crate::finding::Heads;
+use crate::gathering::Gathering;
 use crate::gravest::Gravest;
 use crate::known::Known;
-use ocfl_report::{TextStop, read_line, split_once};
+use ocfl_report::{Line, TextStop, read_line, split_once};
 use std::alloc::{AllocError, Global};
 
 /// What was found in the bytes of a report so far.
 #[derive(Drop)]
 pub struct Found {
     /// The findings among the lines.
-    pub gravest: Gravest,
-    /// The object whose head came last.
-    pub heads: Heads,
+    gathering: Gathering,
     /// What comes after the last line feed.
-    pub rest: Vec<u8>,
+    rest: Vec<u8>,
 }
 
 impl Found {
     ghost use Rattle.std.specs.Prelude.{◌≡◌, ◌≢◌, List, ℕ, [], ◌∷◌, ◌++◌, All, Option, IfOk, OnErr, OnOk};
     ghost use Rattle.ocfl_tree.specs.Place.{Place as ModelPlace, Text as ModelText};
-    ghost use Rattle.ocfl_telling.specs.Found.{IsAfter, AreAll, HasBadLine};
+    ghost use Rattle.ocfl_report.specs.{Line.{line_of}, Text.{IsLine, line_text}};
+    ghost use Rattle.ocfl_telling.specs.Finding.{Finding as ModelFinding, Section, ended_with, section_with};
+    ghost use Rattle.ocfl_telling.specs.{Found.{IsAfter, AreAll, HasBadLine}, Gathering.{IsGathered}, Known.{is_unknown}};
     ghost use Rattle.ocfl_telling.specs.declared.known.KnownEntry.{KnownEntry as ModelEntry};
 
     /// Nothing, of no bytes, before which these heads came.
@@ -32,8 +31,7 @@ impl Found {
         ensures { (known : List ModelEntry) → IsAfter known before.last result [] }
     {
         Found {
-            gravest: Gravest::new(alloc),
-            heads: before,
+            gathering: Gathering::new(alloc, before),
             rest: Vec::new(alloc),
         }
     }
@@ -71,18 +69,42 @@ impl Found {
     {
         put_end(part, &mut self.rest)?;
         let line = read_line(alloc, self.rest.as_slice())?;
-        let finding = self.heads.take(line)?;
-        add_unknown(&mut self.gravest, known, finding)?;
+        self.gather(known, line)?;
         self.rest.clear();
         Ok(())
     }
 
-    /// The findings of all the bytes, and the object whose head came last. [`TextStop::Bad`] if the
-    /// last line has no line feed.
-    pub fn end(self) -> Result<(Gravest, Heads), TextStop>
+    /// Gathers a line, unless it is known.
+    fn gather(&mut self, known: &Known, line: Line) -> Result<(), AllocError>
+        ensures gathered { OnOk result ((fs : List ModelFinding) (s : Section)
+            → IsGathered (is_unknown known.now) self.old.gathering fs s
+            → IsGathered (is_unknown known.now) self.new.gathering
+            (fs ++ ended_with s (line_of line)) (section_with s (line_of line))) }
+        ensures rest { self.new.rest ≡ self.old.rest }
+    {
+        let is_told = !known.names(&line);
+        self.gathering.take(line, is_told)
+    }
+
+    /// Takes a line, which was read from the next bytes, where no line was cut before it. It leaves
+    /// out what is known, as [`Found::take`] does. It is not used again if memory runs out.
+    pub fn take_line(&mut self, known: &Known, line: Line) -> Result<(), AllocError>
+        ensures taken { OnOk result ((head : Option ModelPlace) (b : ModelText)
+            → IsLine (line_of line) → self.old.rest.items ≡ []
+            → IsAfter known.now head self.old b
+            → IsAfter known.now head self.new (b ++ line_text (line_of line))) }
+        ensures rest { self.new.rest ≡ self.old.rest }
+    {
+        self.gather(known, line)
+    }
+
+    /// The findings of all the bytes, each with how many files of its object are right, and the
+    /// object whose head came last, which has no more lines if the report is over.
+    /// [`TextStop::Bad`] if the last line has no line feed.
+    pub fn end(self, is_over: bool) -> Result<(Gravest, Heads), TextStop>
         ensures ok { IfOk result (λ all. (known : List ModelEntry) (head : Option ModelPlace)
             (b : ModelText)
-            → IsAfter known head self b → AreAll known head all.0 all.1 b) }
+            → IsAfter known head self b → AreAll known is_over head all.0 all.1 b) }
         ensures bad { OnErr result (self.rest.items ≢ []) }
         ensures memory { result ≢ Err TextStop.Memory }
     {
@@ -90,11 +112,10 @@ impl Found {
             return Err(TextStop::Bad);
         }
         let Found {
-            gravest,
-            heads,
+            gathering,
             rest: _rest,
         } = self;
-        Ok((gravest, heads))
+        Ok(gathering.end(is_over))
     }
 }
 
@@ -111,24 +132,12 @@ impl Heads {
     {
         let known = Known::new(alloc);
         let Found {
-            gravest: _gravest,
-            heads,
+            gathering,
             rest: _rest,
         } = Found::new(alloc, Heads::new()).take(alloc, &known, bytes)?;
+        let (_, heads) = gathering.end(false);
         Ok(heads)
     }
-}
-
-/// Takes a finding, unless it is known.
-fn add_unknown(gravest: &mut Gravest, known: &Known, finding: Finding) -> Result<(), AllocError>
-    ensures { OnOk result ((fs : List ModelFinding)
-        → IsOf gravest.old (unknown known.now fs)
-        → IsOf gravest.new (unknown known.now (fs ++ finding_of finding ∷ []))) }
-{
-    if known.names(&finding.line) {
-        return Ok(());
-    }
-    gravest.add(finding)
 }
 
 /// Appends the end of a line, and its line feed.

@@ -1,9 +1,9 @@
 //! The most serious findings among those that are taken one after the other.
 ghost use Rattle.std.specs.Prelude.{◌≡◌, ◌-◌, ◌^◌, ◌<◌, List, [], ◌∷◌, ◌++◌, length, map, take, IfOk, OnOk, OnErr};
-ghost use Rattle.ocfl_telling.specs.Finding.{Finding as ModelFinding, finding_of};
+ghost use Rattle.ocfl_telling.specs.Finding.{Finding as ModelFinding, filled, finding_of};
 ghost use Rattle.ocfl_telling.specs.Gravest.{most_kept};
 
-use crate::finding::Finding;
+use crate::finding::{FileCounts, Finding};
 use ocfl_codes::{Weight, weigh};
 use std::alloc::{AllocError, Global};
 
@@ -42,6 +42,24 @@ impl Kept {
         keep(&mut self.first, finding)?;
         self.count = self.count.saturating_add(1);
         Ok(())
+    }
+
+    /// Gives each of those that have none how many files of its object are right.
+    fn fill(&mut self, files: FileCounts)
+        ensures { (fs : List ModelFinding) → IsFirst self.old fs
+            → IsFirst self.new (map (filled files) fs) }
+    {
+        fill_all(&mut self.first, files);
+    }
+}
+
+/// Gives each of those that have none how many files of its object are right.
+fn fill_all(findings: &mut Vec<Finding>, files: FileCounts)
+    ensures { map finding_of findings.new.items
+        ≡ map (filled files) (map finding_of findings.old.items) }
+{
+    for index in 0..findings.len() {
+        findings[index].fill(files);
     }
 }
 
@@ -113,6 +131,17 @@ impl Gravest {
             Some(Weight::Record) => self.records.add(finding),
             Some(Weight::Position) => self.positions.add(finding),
         }
+    }
+
+    /// Gives each of those that have none how many files of its object are right.
+    pub(crate) fn fill(&mut self, files: FileCounts)
+        ensures { (fs : List ModelFinding) → IsOf self.old fs
+            → IsOf self.new (map (filled files) fs) }
+    {
+        self.bytes.fill(files);
+        self.objects.fill(files);
+        self.records.fill(files);
+        self.positions.fill(files);
     }
 
     /// The most serious of them, up to 200.

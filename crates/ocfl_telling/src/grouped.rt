@@ -2,13 +2,16 @@
 ghost use Rattle.std.specs.Prelude.{◌≡◌, ◌-◌, ◌++◌, ◌∷◌, [], Some, None, IfOk, OnOk, codes, decimal, map, string_bytes};
 ghost use Rattle.std.specs.List.{list_any};
 ghost use Rattle.ocfl_codes.specs.Meaning.{first_step_of};
+ghost use Rattle.ocfl_report.specs.Text.{code_text};
+ghost use Rattle.ocfl_telling.specs.Command.{path_text};
 ghost use Rattle.ocfl_telling.specs.Finding.{finding_of};
-ghost use Rattle.ocfl_telling.specs.Grouped.{below_text, brief_head, brief_text, count_like as count_alike, count_with as count_of_one, each_text, finding_text, fit_text, folded_text, group_text, head_text, inner_text, is_like as are_alike, is_same as are_same, is_same_step as are_same_step, is_with as are_of_one, lead_with, leads_of as first_ones, led_by, line_count, member_text, others_text, shown_group as text_of_group, shown_leads as ones_shown, shown_text, step_text};
+ghost use Rattle.ocfl_telling.specs.Grouped.{below_text, brief_head, brief_text, count_like as count_alike, count_with as count_of_one, each_text, extent_text, files_text, finding_text, fit_text, folded_text, group_text, head_text, inner_text, is_like as are_alike, is_same as are_same, is_same_step as are_same_step, is_with as are_of_one, lead_with, leads_of as first_ones, led_by, line_count, member_text, others_text, shown_group as text_of_group, shown_leads as ones_shown, shown_text, some_files_text, step_text};
 
 use crate::appending::put_made;
 use crate::command::{again, path_of};
-use crate::finding::Finding;
+use crate::finding::{FileCounts, Finding};
 use crate::known::{is_code, is_place};
+use crate::many::many;
 use crate::wording::{put_path_part, put_said, put_words};
 use ocfl_codes::{first_step, meaning};
 use ocfl_report::Code;
@@ -154,25 +157,67 @@ fn put_members(
     Ok(())
 }
 
+/// Whether these are all files of an object.
+fn extent(is_whole: bool) -> &'static str
+    ensures { result.now ≡ extent_text is_whole }
+{
+    if is_whole {
+        " right"
+    } else {
+        " right of those read tonight"
+    }
+}
+
+fn some_files(alloc: Global, counts: FileCounts) -> Result<String, AllocError>
+    ensures { IfOk result (λ text. string_bytes text ≡ some_files_text counts) }
+{
+    let files = many(alloc, counts.files, "file", "files")?;
+    let right = counts.right;
+    let extent = extent(counts.is_whole);
+    format!(in alloc; ", {right} of {files}{extent}")
+}
+
+/// How many files of an object are right; nothing if none was counted.
+fn files_of(alloc: Global, files: Option<FileCounts>) -> Result<String, AllocError>
+    ensures { IfOk result (λ text. string_bytes text ≡ files_text files) }
+{
+    match files {
+        Some(counts) if counts.files != 0 => some_files(alloc, counts),
+        _ => Ok(String::new(alloc)),
+    }
+}
+
 /// The line before the findings of a group.
-fn head(alloc: Global, object: &Option<Place>, code: Code) -> Result<String, AllocError>
-    ensures { IfOk result (λ text. string_bytes text ≡ head_text object.now code) }
+fn head(
+    alloc: Global,
+    object: &Option<Place>,
+    files: Option<FileCounts>,
+    code: Code,
+) -> Result<String, AllocError>
+    ensures { IfOk result (λ text. string_bytes text ≡ head_text object.now files code) }
 {
     match object {
-        Some(object) => object_head(alloc, object, code),
+        Some(object) => object_head(alloc, object, files),
         None => other_head(alloc, code),
     }
 }
 
-fn object_head(alloc: Global, object: &Place, code: Code) -> Result<String, AllocError>
-    ensures { IfOk result (λ text. string_bytes text ≡ head_text (Some object.now) code) }
+fn object_head(
+    alloc: Global,
+    object: &Place,
+    files: Option<FileCounts>,
+) -> Result<String, AllocError>
+    ensures { IfOk result (λ text. string_bytes text
+        ≡ codes "Object " ++ path_text object.now ++ files_text files ++ codes ":\n") }
 {
     let path = path_of(alloc, object)?;
-    format!(in alloc; "Object {path}:\n")
+    let files = files_of(alloc, files)?;
+    format!(in alloc; "Object {path}{files}:\n")
 }
 
 fn other_head(alloc: Global, code: Code) -> Result<String, AllocError>
-    ensures { IfOk result (λ text. string_bytes text ≡ head_text None code) }
+    ensures { IfOk result (λ text. string_bytes text
+        ≡ codes "Elsewhere, " ++ code_text code ++ codes ":\n") }
 {
     let code = code.text();
     format!(in alloc; "Elsewhere, {code}:\n")
@@ -229,7 +274,8 @@ fn put_group(
     ensures { OnOk result (text.new.items ≡ text.old.items ++ group_text root.now
         (map finding_of all.now) (map finding_of before.now) (finding_of finding.now)) }
 {
-    put_made(head(alloc, &finding.object, finding.line.code), text)?;
+    let (files, code) = (finding.files, finding.line.code);
+    put_made(head(alloc, &finding.object, files, code), text)?;
     put_members(alloc, finding, all, text)?;
     put_step(alloc, before, finding, text)?;
     put_made(again(alloc, root, &finding.line.place), text)

@@ -11,6 +11,7 @@ mod closing;
 mod command;
 mod finding;
 mod found;
+mod gathering;
 mod gravest;
 mod grouped;
 mod known;
@@ -27,8 +28,9 @@ mod tally;
 mod wording;
 
 pub use closing::{Closing, Gone, GoneKind, SHOWN, closing_text};
-pub use finding::{Finding, Heads};
+pub use finding::{FileCounts, Finding, Heads};
 pub use found::Found;
+pub use gathering::Gathering;
 pub use gravest::{Gravest, Kept};
 pub use known::{Known, KnownEntry, Reach};
 pub use list::{KnownStop, read_known};

@@ -60,7 +60,7 @@ impl Places {
 }
 
 /// Whether the last place is this one.
-fn is_last(last: &Option<Place>, place: &Place) -> bool
+pub(crate) fn is_last(last: &Option<Place>, place: &Place) -> bool
     ensures { result ≡ is_last_place last.now place.now }
 {
     match last {

@@ -1,5 +1,6 @@
 //! What a night says and logs.
 mod closing;
+mod files;
 mod rows;
 
 use crate::tests::common::store::place_of;
@@ -20,7 +21,7 @@ fn found_in(alloc: Global, known: &Known, report: &str, piece: usize) -> Result<
         found = found.take(alloc, known, &rest[..count])?;
         rest = &rest[count..];
     }
-    let (gravest, _) = found.end()?;
+    let (gravest, _) = found.end(true)?;
     Ok(gravest)
 }
 
@@ -70,19 +71,19 @@ E023\to-/v1/content/d\t-\nE023\to-/v1/content/e\t-\nE023\to-/v1/content/f\t-\n\
 E101\tp\ta%0Ab\nok\tp/v1/content/a\t5\n";
 
 const BY_OBJECT: &str = "9 findings tonight in /srv, cycle 2, run 4:
-Object o:
+Object o, 0 of 2 files right:
 \tv1/content/b%25: bytes have changed (E092), expected sha256 0123456789ab.., found 0123456789ab
 \tv1/content/a: not in the inventory (E023)
 \tTo do: restore the file from a copy with the expected digest
 \tTo look again: ocfl-scrub check '/srv' 'o/v1/content/b%25'
-Object o-:
+Object o-, 0 of 6 files right:
 \tv1/content/a: missing (E092)
 \tv1/content/b: not in the inventory (E023)
 \tv1/content/c: not in the inventory (E023)
 \tv1/content/d: not in the inventory (E023)
 \tand 2 more: not in the inventory (E023)
 \tTo look again: ocfl-scrub check '/srv' 'o-/v1/content/a'
-Object p:
+Object p, 1 of 1 file right:
 \tits manifest has a path twice, or one below a file (E101): a%0Ab
 \tTo do: validate the object, and tell whoever wrote its inventory
 \tTo look again: ocfl-scrub check '/srv' 'p'
@@ -111,7 +112,7 @@ const BEFORE: &str = "ok\t.\t-\nok\ta\t-\nok\ta/v1/content/f\t3\nok\tb\t-\nok\tb
 const WITHIN: &str = "E092\tb/v1/content/g\tmd5 missing\nE092\tc/v1/content/f\tmd5 missing\n";
 
 const WITHIN_MESSAGE: &str = "2 findings tonight in /srv/%C3%A9%0A, cycle 2, runs 3 to 4:
-Object b:
+Object b, 0 of 1 file right of those read tonight:
 \tv1/content/g: missing (E092)
 \tTo do: restore the file from a copy with the expected digest
 Elsewhere, E092:
@@ -127,12 +128,12 @@ fn nights_go_on_within_an_object(rt: HostRuntime) -> Result<(), Fail> {
     let before = format!(in alloc; "{BEFORE}ok\tc\t")?;
     let heads = Heads::within(alloc, before.as_str().as_bytes())?;
     let found = Found::new(alloc, heads).take(alloc, &known, WITHIN.as_bytes())?;
-    let (gravest, heads) = found.end()?;
+    let (gravest, heads) = found.end(true)?;
     let text = String::from_utf8(night_text(alloc, &NIGHT, &gravest)?)?;
     assert_eq!(rt; text.as_str(), WITHIN_MESSAGE);
     // What comes then goes on there too.
     let found = Found::new(alloc, heads).take(alloc, &known, WITHIN.as_bytes())?;
-    let (gravest, _) = found.end()?;
+    let (gravest, _) = found.end(true)?;
     let text = String::from_utf8(night_text(alloc, &NIGHT, &gravest)?)?;
     assert_eq!(rt; text.as_str(), WITHIN_MESSAGE);
     Ok(())

@@ -10,7 +10,11 @@ use std::test::Fail;
 /// A finding in no object that is known.
 fn finding_of(alloc: Global, text: &str) -> Result<Finding, Fail> {
     let line = line_of(alloc, text)?;
-    Ok(Finding { line, object: None })
+    Ok(Finding {
+        line,
+        object: None,
+        files: None,
+    })
 }
 
 /// A closing of which there is nothing to say, with these findings that were not said.

@@ -29,4 +29,4 @@ returns-clause-ok c = λ head b h.
     let inv = c.loop-part.invariant in
     subst (IsAfter c.args.known.now head _) (rest_joined b inv.done c.args.bytes.now c.loop-part.left.now inv.cut)
     (rest_kept c.args.known.now head c.loop-part.found _ (b ++ inv.done) c.loop-part.left.now (inv.after head b h) (c.in_default.ensures.missing refl)
-    c.in_ok-extend_from_slice.ensures.items refl refl)
+    c.in_ok-extend_from_slice.ensures.items refl)

@@ -1,6 +1,5 @@
 use Rattle.std.proofs.{Common.{◌≡◌, [], ◌∷◌, ◌++◌, sym, subst, ◌∙◌}, lemmas.Result.{err_from_is_err_and}}
 use Rattle.ocfl_report.specs.{Line.{line_of}, Text.{IsLineText}}
-use Rattle.ocfl_telling.specs.Finding.{finding_of}
 use Rattle.ocfl_telling.proofs.Pieces.{line_refused, line_taken}
 use Rattle.ocfl_telling.proofs.found.Found.take_end.Goals as goal
 
@@ -15,5 +14,5 @@ pub returns-clause-ok : goal.returns-clause-ok
 returns-clause-ok c = λ head b h.
     let same : c.as_slice.result.now ≡ (c.args.self.now.rest.items ++ c.args.part.now) ++ 10 ∷ [] = c.as_slice.ensures.value ∙ c.in_ok-put_end.ensures in
     line_taken c.args.known.now head c.args.self.now _ b c.args.part.now (line_of c.in_ok-line.line) h c.clear.ensures.items
-    (subst (λ x. IsLineText x (line_of c.in_ok-line.line)) same c.in_ok-line.ensures.ok) (finding_of c.in_ok-finding.finding)
-    c.in_ok-finding.ensures.found c.in_ok-finding.ensures.head c.in_ok-add_unknown.ensures
+    (subst (λ x. IsLineText x (line_of c.in_ok-line.line)) same c.in_ok-line.ensures.ok)
+    c.in_ok-gather.ensures.gathered

@@ -19,11 +19,11 @@ pub struct Found {
 }
 
 impl Found {
-    ghost use Rattle.std.specs.Prelude.{◌≡◌, ◌≢◌, List, ℕ, [], ◌∷◌, ◌++◌, All, Option, IfOk, OnErr, OnOk};
+    ghost use Rattle.std.specs.Prelude.{◌≡◌, ◌≢◌, List, [], ◌∷◌, ◌++◌, All, Option, IfOk, OnErr, OnOk, length};
     ghost use Rattle.ocfl_tree.specs.Place.{Place as ModelPlace, Text as ModelText};
-    ghost use Rattle.ocfl_report.specs.{Line.{line_of}, Text.{IsLine, line_text}};
+    ghost use Rattle.ocfl_report.specs.{Line.{Line as ModelLine, line_of}, Text.{IsLine, line_text, lines_text}};
     ghost use Rattle.ocfl_telling.specs.Finding.{Finding as ModelFinding, Section, ended_with, section_with};
-    ghost use Rattle.ocfl_telling.specs.{Found.{IsAfter, AreAll, HasBadLine}, Gathering.{IsGathered}, Known.{is_unknown}};
+    ghost use Rattle.ocfl_telling.specs.{Found.{IsAfter, AreAll, HasBadLine}, Gathering.{AreRightIn, IsGathered}, Known.{is_unknown}, Tally.{IsCount}};
     ghost use Rattle.ocfl_telling.specs.declared.known.KnownEntry.{KnownEntry as ModelEntry};
 
     /// Nothing, of no bytes, before which these heads came.
@@ -96,6 +96,20 @@ impl Found {
         ensures rest { self.new.rest ≡ self.old.rest }
     {
         self.gather(known, line)
+    }
+
+    /// Takes so many lines of files that are right, of the object whose head came last, where no
+    /// line was cut before them. It is the same as taking them one by one, and needs no memory.
+    pub fn take_right(&mut self, count: u64)
+        ensures taken { (known : List ModelEntry) (head : Option ModelPlace) (b : ModelText)
+            (ls : List ModelLine) → IsCount count (length ls) → All IsLine ls
+            → AreRightIn self.old.gathering.heads.last ls → self.old.rest.items ≡ []
+            → IsAfter known head self.old b
+            → IsAfter known head self.new (b ++ lines_text ls) }
+        ensures heads { self.new.gathering.heads ≡ self.old.gathering.heads }
+        ensures rest { self.new.rest ≡ self.old.rest }
+    {
+        self.gathering.take_right(count);
     }
 
     /// The findings of all the bytes, each with how many files of its object are right, and the

@@ -1,32 +1,46 @@
 //! The findings of a report by objects, as its lines come.
-ghost use Rattle.std.specs.Prelude.{◌≡◌, ◌++◌, ◌∷◌, [], Bool, List, OnOk, map};
+ghost use Rattle.std.specs.Prelude.{◌≡◌, ◌++◌, ◌∷◌, [], Bool, List, OnOk, length, map};
 ghost use Rattle.ocfl_report.specs.Line.{Line as ModelLine, line_of};
 ghost use Rattle.ocfl_telling.specs.Finding.{Finding as ModelFinding, Section, counted, counts_in, ended_with, first_section, found_in, lines_within, section_at, section_with};
-ghost use Rattle.ocfl_telling.specs.{Gathering.{told}, Gravest.{IsOf}, Tally.{IsTally}};
+ghost use Rattle.ocfl_telling.specs.{Gathering.{told}, Gravest.{IsOf}, Tally.{IsCount, IsPlaces, is_wrong as is_wrong_line, places_of, right_in}};
 
 use crate::finding::{FileCounts, Heads};
 use crate::gravest::Gravest;
-use crate::tally::Tally;
+use crate::tally::{Places, add_count, is_right, is_wrong, one_if};
 use ocfl_codes::weigh;
 use ocfl_report::Line;
 use std::alloc::{AllocError, Global};
 
 /// The findings among the lines of a report, each with its object and how many files of that are
 /// right, which is known once all lines of the object came.
-#[derive(Drop)]
 pub struct Gathering {
     /// The findings.
     pub(crate) found: Gravest,
-    /// What the lines count of the object that came last.
-    pub(crate) tally: Tally,
+    /// How many files of the object that came last are right.
+    pub(crate) right: u64,
+    /// The others.
+    pub(crate) wrong: Places,
     /// Whether its first line was among them.
     pub(crate) is_begun: bool,
     /// That object.
     pub(crate) heads: Heads,
 }
 
+/// Written by hand, so that to let it go is one call wherever that happens.
+impl Drop for Gathering {
+    fn drop(self) {
+        let Gathering {
+            found: _found,
+            right: _right,
+            wrong: _wrong,
+            is_begun: _is_begun,
+            heads: _heads,
+        } = self;
+    }
+}
+
 impl Gathering {
-    ghost use Rattle.ocfl_telling.specs.Gathering.{IsGathered};
+    ghost use Rattle.ocfl_telling.specs.Gathering.{AreRightIn, IsGathered, section_on};
 
     /// Nothing, of no lines, before which these heads came.
     pub fn new(alloc: Global, before: Heads) -> Gathering
@@ -35,7 +49,8 @@ impl Gathering {
     {
         Gathering {
             found: Gravest::new(alloc),
-            tally: Tally::new(),
+            right: 0,
+            wrong: Places::new(),
             is_begun: false,
             heads: before,
         }
@@ -50,7 +65,7 @@ impl Gathering {
             (section_with s (line_of line))) }
     {
         self.begin(&line)?;
-        count(&mut self.tally, &self.heads, &line)?;
+        count(&mut self.right, &mut self.wrong, &self.heads, &line)?;
         keep_told(&mut self.found, &self.heads, line, is_told)
     }
 
@@ -65,10 +80,23 @@ impl Gathering {
             return Ok(());
         }
         self.fill(true);
-        self.tally = Tally::new();
+        self.right = 0;
+        self.wrong = Places::new();
         self.is_begun = true;
         self.heads.last = Some(line.place.try_clone()?);
         Ok(())
+    }
+
+    /// Takes so many lines of files that are right, in the object whose head came last. It is the
+    /// same as taking them one by one, and needs no memory.
+    pub fn take_right(&mut self, count: u64)
+        ensures taken { (tells : ModelLine → Bool) (fs : List ModelFinding) (s : Section)
+            (ls : List ModelLine) → IsCount count (length ls)
+            → AreRightIn s.head ls
+            → IsGathered tells self.old fs s → IsGathered tells self.new fs (section_on s ls) }
+        ensures heads { self.new.heads ≡ self.old.heads }
+    {
+        self.right = add_count(self.right, count);
     }
 
     /// How many files of the object are right.
@@ -76,10 +104,9 @@ impl Gathering {
         ensures { (tells : ModelLine → Bool) (fs : List ModelFinding) (s : Section)
             → IsGathered tells self.now fs s → result ≡ counts_in is_over s }
     {
-        let counts = self.tally.counts();
         FileCounts {
-            right: counts.right,
-            files: counts.files,
+            right: self.right,
+            files: add_count(self.right, self.wrong.count),
             is_whole: is_over && self.is_begun,
         }
     }
@@ -105,25 +132,40 @@ impl Gathering {
     {
         let mut gathering = self;
         gathering.fill(is_over);
+        gathering.into_parts()
+    }
+
+    /// The findings, and the object whose head came last.
+    fn into_parts(self) -> (Gravest, Heads)
+        ensures found { result.0 ≡ self.found }
+        ensures heads { result.1 ≡ self.heads }
+    {
         let Gathering {
             found,
-            tally: _tally,
+            right: _right,
+            wrong: _wrong,
             is_begun: _is_begun,
             heads,
-        } = gathering;
+        } = self;
         (found, heads)
     }
 }
 
-/// Counts a line, if it is in the object of these heads.
-fn count(tally: &mut Tally, heads: &Heads, line: &Line) -> Result<(), AllocError>
-    ensures { OnOk result ((ls : List ModelLine)
-        → IsTally tally.old (lines_within heads.now.last ls)
-        → IsTally tally.new (lines_within heads.now.last (ls ++ line_of line.now ∷ []))) }
+/// Counts the file of a line, if it is in the object of these heads.
+fn count(right: &mut u64, wrong: &mut Places, heads: &Heads, line: &Line) -> Result<(), AllocError>
+    ensures right { OnOk result ((ls : List ModelLine)
+        → IsCount right.old (right_in (lines_within heads.now.last ls))
+        → IsCount right.new (right_in (lines_within heads.now.last (ls ++ line_of line.now ∷ [])))) }
+    ensures wrong { OnOk result ((ls : List ModelLine)
+        → IsPlaces wrong.old (places_of is_wrong_line (lines_within heads.now.last ls))
+        → IsPlaces wrong.new (places_of is_wrong_line
+        (lines_within heads.now.last (ls ++ line_of line.now ∷ [])))) }
 {
-    if heads.are_above(&line.place) {
-        return tally.add(line);
+    if !heads.are_above(&line.place) {
+        return Ok(());
     }
+    wrong.add_if(is_wrong(line), &line.place)?;
+    *right = add_count(*right, one_if(is_right(line)));
     Ok(())
 }
 

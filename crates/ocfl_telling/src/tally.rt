@@ -17,7 +17,7 @@ const SIZE_LIMIT: u128 = 1 << 62;
 /// How many places come one after the other, of which each may come several times in a row.
 #[derive(Debug, Drop)]
 pub struct Places {
-    count: u64,
+    pub(crate) count: u64,
     last: Option<Place>,
 }
 
@@ -25,7 +25,7 @@ impl Places {
     ghost use Rattle.ocfl_telling.specs.Tally.{IsPlaces};
 
     /// None.
-    fn new() -> Places
+    pub(crate) fn new() -> Places
         ensures { IsPlaces result [] }
     {
         Places {
@@ -48,7 +48,7 @@ impl Places {
     }
 
     /// Takes one more place, if it counts.
-    fn add_if(&mut self, counts: bool, place: &Place) -> Result<(), AllocError>
+    pub(crate) fn add_if(&mut self, counts: bool, place: &Place) -> Result<(), AllocError>
         ensures { OnOk result ((ps : List ModelPlace) → IsPlaces self.old ps
             → IsPlaces self.new (if counts then ps ++ place.now ∷ [] else ps)) }
     {
@@ -154,28 +154,28 @@ impl Tally {
 }
 
 /// The sum of two numbers, while it fits.
-fn add_count(count: u64, more: u64) -> u64
+pub(crate) fn add_count(count: u64, more: u64) -> u64
     ensures { (m k : ℕ) → IsCount count m → IsCount more k → IsCount result (m + k) }
 {
     count.saturating_add(more)
 }
 
 /// One, if something counts.
-fn one_if(counts: bool) -> u64
+pub(crate) fn one_if(counts: bool) -> u64
     ensures { result ≡ (if counts then 1 else 0) }
 {
     if counts { 1 } else { 0 }
 }
 
 /// Whether it is the line of a content file that is right.
-fn is_right(line: &Line) -> bool
+pub(crate) fn is_right(line: &Line) -> bool
     ensures { result ≡ is_right_line (line_of line.now) }
 {
     is_of_file(line) && !line.is_finding()
 }
 
 /// Whether it is a finding of a content file.
-fn is_wrong(line: &Line) -> bool
+pub(crate) fn is_wrong(line: &Line) -> bool
     ensures { result ≡ is_wrong_line (line_of line.now) }
 {
     is_of_file(line) && line.is_finding()

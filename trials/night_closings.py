@@ -125,7 +125,7 @@ def gone(folder: str) -> None:
     check("gone", (status, out.endswith(OF_F + UNLOOKED % 2), out.count("\n"), note),
           (1, True, 5, ""))
     check("the word at the end", out.splitlines()[:2], [
-        "Cycle 2 ended: 14 of 14 files right, 7 objects, 21 bytes.",
+        "Cycle 2 ended: 14 of 14 files right, 7 objects, 21 bytes, 1 run.",
         "Nothing new, 1 object or file gone since cycle 1."])
     check("the list", nights.has("reports/gone-000002"), OF_F)
     check("it is said once", nights.night(), (0, "", ""))

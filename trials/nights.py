@@ -53,7 +53,7 @@ def plain_nights(folder):
     last = ran(nights.words(), OCFL_SCRUB=PROGRAM)
     check("the cycle's report", nights.whole(1), "".join(ITEMS))
     check("the word at its end", (last[0], last[2]), (0, ""))
-    check("what it says", last[1], "Cycle 1 ended: 3 of 3 files right, 1 object, 6 bytes.\n"
+    check("what it says", last[1], "Cycle 1 ended: 3 of 3 files right, 1 object, 6 bytes, 2 runs.\n"
           "Nothing to compare with.\n")
     check("what lies there", sorted(os.listdir(nights.state)),
           ["checkpoint", "lock", "log", "reports"])

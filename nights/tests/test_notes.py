@@ -374,7 +374,7 @@ class Told(State):
                                        "archive: findings repaired"),
                                       ("2 objects are back in cycle 3:\nobject\to1\n", "0",
                                        "archive: objects are back"),
-                                      ("Cycle 3 ended: 9 of 9 files right, 1 object, 9 bytes.\n"
+                                      ("Cycle 3 ended: 9 of 9 files right, 1 object, 9 bytes, 2 runs.\n"
                                        "Nothing new, nothing gone since cycle 2.\n", "0",
                                        "cycle 3 of archive: all right"),
                                       ("Cycle 3 ended: 8 of 9 files right, 1 object, 9 bytes.\n"

@@ -167,6 +167,7 @@ pub(crate) fn text_of(
             cycle: pair.closed.cycle(),
             before: compared(pair),
             counts: account.counts(pair, names.part),
+            runs: account.made.runs,
             whole: pair.closed.is_whole(),
             report: paths.report.as_str(),
             earlier: paths.earlier.as_str(),

@@ -9,7 +9,7 @@ use Rattle.ocfl_report.specs.declared.line.Line.{Line as MadeLine}
 use Rattle.ocfl_report.proofs.{Bytes.{IsByte}, Escapes.{escape_printable}, LineTexts.{no_line_feed}}
 use Rattle.ocfl_codes.specs.Kinds.{is_dash}
 use Rattle.ocfl_telling.specs.{Command.{path_text}, Finding.{Finding, IsPlaced}, Gravest.{by_weight, gravest, most_kept}}
-use Rattle.ocfl_telling.specs.Closing.{AreCounts, IsMade, above_text, alone_text, back_head, back_line, back_lines, back_room, back_text, behind_new, changed_command, changed_text, closing_text, counted_text, counts_text, ended_text, gone_head, gone_line, gone_lines, gone_room, gone_text, kind_text, lead_text, list_command, most_lines, most_of, new_head, new_lines, new_room, new_text, not_shown, not_whole_text, one_unless, repaired_head, repaired_line, repaired_lines, repaired_room, repaired_text, room_of_sections, section_lines, section_text, since_text, some_gone_text, some_new_text, some_unlooked_text, summary_text, two_unless, uncompared_text, unlooked_text, why_lines, word_lines}
+use Rattle.ocfl_telling.specs.Closing.{AreCounts, IsMade, above_text, alone_text, back_head, back_line, back_lines, back_room, back_text, behind_new, changed_command, changed_text, closing_text, counted_text, counts_text, ended_text, gone_head, gone_line, gone_lines, gone_room, gone_text, kind_text, lead_text, list_command, most_lines, most_of, new_head, new_lines, new_room, new_text, not_shown, not_whole_text, one_unless, repaired_head, repaired_line, repaired_lines, repaired_room, repaired_text, room_of_sections, run_count_text, section_lines, section_text, since_text, some_gone_text, some_new_text, some_unlooked_text, summary_text, two_unless, uncompared_text, unlooked_text, why_lines, word_lines}
 use Rattle.ocfl_telling.specs.{Grouped.{groups_text, led_by, line_count, shown_leads}, Many.{are_text, many_text, scaled_text, size_text}, Night.{findings_command, more_text}}
 use Rattle.ocfl_telling.specs.Wording.{at_space, both_text, coded_text, cut_text, detail_text, digests_text, has_digests, most_digits, named_text, other_text, path_part}
 use Rattle.ocfl_telling.specs.{declared.closing.Closing.{Closing}, declared.closing.Gone.{Gone}, declared.closing.GoneKind.{GoneKind}, declared.tally.Counts.{Counts}}
@@ -185,6 +185,12 @@ counts_flat k h =
       size_flat k.bytes h.bytes,
     )
 
+run_count_flat : (n : ℕ) → n < 2 ^ 64 → line_count (run_count_text n) ≡ 0
+run_count_flat n l =
+    let R = many_text n (codes "run") (codes "runs") in
+    let some : line_count (codes ", " ++ R) ≡ 0 = both (codes ", ") R ∙ omega (arith, many_flat n (codes "run") (codes "runs") l refl refl) in
+    elim (n == 0) as (λ q. line_count (cond q [] (codes ", " ++ R)) ≡ 0) [ true ↦ refl | false ↦ some ]
+
 some_new_flat : (n : ℕ) → n < 2 ^ 64 → line_count (some_new_text n) ≡ 0
 some_new_flat n l = elim (n == 0) as (λ q. line_count (cond q (codes "Nothing new") (many_text n (codes "new finding") (codes "new findings"))) ≡ 0) [
   | true ↦ refl
@@ -216,8 +222,10 @@ changed_flat c h = elim (c.before == 0) as (λ q. line_count (cond q (alone_text
 
 summary_two : (c : Closing) (k : Counts) → IsMade c → AreCounts k → line_count (summary_text c k) ≡ 2
 summary_two c k h a =
-    let A = counts_text k ++ codes ".\n" in
-    both (A ++ changed_text c) (codes ".\n") ∙ omega (arith, both A (changed_text c), both (counts_text k) (codes ".\n"), counts_flat k a, changed_flat c h)
+    let C = counts_text k ++ run_count_text c.runs in
+    let A = C ++ codes ".\n" in
+    both (A ++ changed_text c) (codes ".\n")
+    ∙ omega (arith, both A (changed_text c), both C (codes ".\n"), both (counts_text k) (run_count_text c.runs), counts_flat k a, run_count_flat c.runs h.runs, changed_flat c h)
 
 not_whole_one : (c : Closing) → IsMade c → line_count (not_whole_text c.cycle c.report.now) ≡ 1
 not_whole_one c h =

@@ -20,6 +20,13 @@ abbrev pub counts_text : Counts → Text
 counts_text k = decimal k.right ++ codes " of " ++ many_text k.files (codes "file") (codes "files") ++ codes " right, "
     ++ many_text k.objects (codes "object") (codes "objects") ++ codes ", " ++ size_text k.bytes
 
+abbrev pub some_run_count_text : ℕ → Text
+some_run_count_text n = codes ", " ++ many_text n (codes "run") (codes "runs")
+
+-- how many runs a cycle had; 0 is not known
+abbrev pub run_count_text : ℕ → Text
+run_count_text n = if n == 0 then [] else some_run_count_text n
+
 abbrev pub some_new_text : ℕ → Text
 some_new_text n = if n == 0 then codes "Nothing new" else many_text n (codes "new finding") (codes "new findings")
 
@@ -39,7 +46,7 @@ abbrev pub changed_text : Closing → Text
 changed_text c = if c.before == 0 then alone_text c.uncompared.now else since_text c.appeared_count c.gone_count c.before
 
 abbrev pub summary_text : Closing → Counts → Text
-summary_text c k = counts_text k ++ codes ".\n" ++ changed_text c ++ codes ".\n"
+summary_text c k = counts_text k ++ run_count_text c.runs ++ codes ".\n" ++ changed_text c ++ codes ".\n"
 
 -- an incomplete report is named, and what it counts is in it
 abbrev pub lead_text : Closing → Text
@@ -238,6 +245,7 @@ pub record IsMade (c : Closing) : Type 0 where
   pub cycle : IsU64 c.cycle
   pub before : IsU64 c.before
   pub counts : IfSome c.counts AreCounts
+  pub runs : IsU64 c.runs
   pub appeared : IsU64 c.appeared_count
   pub said : IsU64 c.said
   pub unlooked : IsU64 c.unlooked

@@ -3,7 +3,7 @@
 ghost use Rattle.std.specs.Prelude.{◌≡◌, ◌≢◌, ◌-◌, ◌++◌, ◌^◌, ◌<◌, List, [], Some, codes, decimal, length, map, take, IfOk, OnOk, string_bytes};
 ghost use Rattle.ocfl_report.specs.Line.{line_of};
 ghost use Rattle.ocfl_telling.specs.{Finding.{Finding as ModelFinding, finding_of}, Gravest.{IsOf, by_weight}};
-ghost use Rattle.ocfl_telling.specs.Closing.{closing_text as text_of_closing, above_text, alone_text, back_head, back_line, back_lines, back_text, changed_text, counted_text, counts_text, ended_text, gone_lines, gone_line, not_shown, lead_text, new_head, repaired_head, gone_head, gone_text, kind_text, new_text, repaired_line, repaired_lines, repaired_text, not_known_text, not_whole_text, since_text, some_above_text, some_gone_text, some_new_text, some_unlooked_text, summary_text, uncompared_text, unlooked_text, unsaid_text};
+ghost use Rattle.ocfl_telling.specs.Closing.{closing_text as text_of_closing, above_text, alone_text, back_head, back_line, back_lines, back_text, changed_text, counted_text, counts_text, ended_text, gone_lines, gone_line, not_shown, lead_text, new_head, repaired_head, gone_head, gone_text, kind_text, new_text, repaired_line, repaired_lines, repaired_text, not_known_text, not_whole_text, run_count_text, since_text, some_above_text, some_gone_text, some_new_text, some_run_count_text, some_unlooked_text, summary_text, uncompared_text, unlooked_text, unsaid_text};
 ghost use Rattle.ocfl_telling.specs.Closing.{back_room as room_of_back, behind_gone as left_behind_gone, behind_new as left_behind_new, changed_command as command_of_changes, gone_room as room_of_gone, list_command as command_of_list, most_of, new_lines as lines_of_new, new_room as room_of_new, repaired_room as room_of_repaired, room_of_sections as all_room, section_lines as lines_of_section, two_unless as two_lines_unless};
 ghost use Rattle.ocfl_telling.specs.Night.{more_text};
 
@@ -63,6 +63,8 @@ pub struct Closing<'a> {
     pub uncompared: &'a str,
     /// What the report counts, if that is to be said.
     pub counts: Option<Counts>,
+    /// How many runs the cycle had; 0 if that is not known.
+    pub runs: u64,
     /// Whether the cycle's report is whole.
     pub whole: bool,
     /// The path of the cycle's report.
@@ -111,6 +113,23 @@ fn counted(alloc: Global, counts: Counts) -> Result<String, AllocError>
     let bytes = size(alloc, counts.bytes)?;
     let right = counts.right;
     format!(in alloc; "{right} of {files} right, {objects}, {bytes}")
+}
+
+/// How many runs a cycle had; nothing if that is not known.
+fn had(alloc: Global, runs: u64) -> Result<String, AllocError>
+    ensures { IfOk result (λ text. string_bytes text ≡ run_count_text runs) }
+{
+    if runs == 0 {
+        return Ok(String::new(alloc));
+    }
+    had_some(alloc, runs)
+}
+
+fn had_some(alloc: Global, runs: u64) -> Result<String, AllocError>
+    ensures { IfOk result (λ text. string_bytes text ≡ some_run_count_text runs) }
+{
+    let runs = many(alloc, runs, "run", "runs")?;
+    format!(in alloc; ", {runs}")
 }
 
 /// How much is new.
@@ -177,8 +196,9 @@ fn summary(alloc: Global, closing: &Closing<'_>, counts: Counts) -> Result<Strin
     ensures { IfOk result (λ text. string_bytes text ≡ summary_text closing.now counts) }
 {
     let counted = counted(alloc, counts)?;
+    let runs = had(alloc, closing.runs)?;
     let changed = changed(alloc, closing)?;
-    format!(in alloc; "{counted}.\n{changed}.\n")
+    format!(in alloc; "{counted}{runs}.\n{changed}.\n")
 }
 
 /// The line that it is in.
@@ -711,9 +731,9 @@ fn put_changes(alloc: Global, closing: &Closing<'_>, text: &mut Vec<u8>) -> Resu
 }
 
 /// What is said of a closed cycle, in at most 13 lines. First the word at its end, if what the
-/// report counts is known: how many files are right of how many, how many objects and bytes; then
-/// how much is new and gone since the cycle that it was compared with; or that its report is
-/// incomplete. Then that nothing was compared, if so, and why; then what is gone, how many files are
+/// report counts is known: how many files are right of how many, how many objects and bytes, and, if
+/// that is known, in how many runs; then how much is new and gone since the cycle that it was
+/// compared with; or that its report is incomplete. Then that nothing was compared, if so, and why; then what is gone, how many files are
 /// not looked at any more, and what is new, repaired and back. Of each of these there is a line with
 /// their number, and the first of them while there is room, what comes first in that order before
 /// the rest; then how many more there are, and the command that lists them. Of what is new the most

@@ -22,6 +22,7 @@ fn quiet<'a>(appeared: &'a Gravest) -> Closing<'a> {
     Closing {
         root: "/srv",
         counts: None,
+        runs: 0,
         cycle: 3,
         before: 2,
         uncompared: "",
@@ -44,7 +45,7 @@ fn quiet<'a>(appeared: &'a Gravest) -> Closing<'a> {
 
 /// In 13 lines, which is all that there are.
 const CLOSED: &str = "Cycle 3 ended, but its report is incomplete: reports/cycle-000003
-In it: 926 of 930 files right, 160 objects, 51.2 MB.
+In it: 926 of 930 files right, 160 objects, 51.2 MB, 12 runs.
 25 new findings, 4 objects and files gone since cycle 2.
 4 objects and files are gone or missing in cycle 3:
 object\to
@@ -150,6 +151,7 @@ fn closings_of_incomplete_reports_say_where_the_rest_is(rt: HostRuntime) -> Resu
     let changed = make_changes(alloc)?;
     let closing = Closing {
         whole: false,
+        runs: 12,
         appeared_count: 25,
         said: 3,
         repaired_count: 22,
@@ -199,27 +201,34 @@ const COUNTS: Counts = Counts {
     bytes: 51_299_999,
 };
 
-/// The cycle before, why nothing was compared, and what is said at the end of the cycle.
-const ENDED: [(u64, &str, &str); 3] = [
-    (2, "", "Nothing new, nothing gone since cycle 2"),
-    (0, "", "Nothing to compare with"),
-    (0, "lines were lost", "Not compared"),
+/// The runs of a cycle, the cycle before, why nothing was compared, and what is said at its end.
+const ENDED: [(u64, u64, &str, &str); 4] = [
+    (0, 2, "", ".\nNothing new, nothing gone since cycle 2"),
+    (
+        1,
+        2,
+        "",
+        ", 1 run.\nNothing new, nothing gone since cycle 2",
+    ),
+    (12, 0, "", ", 12 runs.\nNothing to compare with"),
+    (2, 0, "lines were lost", ", 2 runs.\nNot compared"),
 ];
 
 #[test]
 fn closings_say_that_all_is_well(rt: HostRuntime) -> Result<(), Fail> {
     let alloc = rt.alloc();
     let none = Gravest::new(alloc);
-    for (before, uncompared, wanted) in ENDED {
+    for (runs, before, uncompared, wanted) in ENDED {
         let closing = Closing {
             counts: Some(COUNTS),
+            runs,
             before,
             uncompared,
             ..quiet(&none)
         };
         let text = String::from_utf8(closing_text(alloc, &closing)?)?;
         let wanted = format!(in alloc;
-            "Cycle 3 ended: 926 of 930 files right, 160 objects, 51.2 MB.\n{wanted}.\n"
+            "Cycle 3 ended: 926 of 930 files right, 160 objects, 51.2 MB{wanted}.\n"
         )?;
         assert!(rt; text.as_str().starts_with(wanted.as_str()), "{uncompared}");
     }

@@ -22,6 +22,10 @@ BRIEF = re.compile(
 NIGHT = re.compile(r"\d+ findings? tonight in .*, cycle (\d+), runs? (\d+)(?: to (\d+))?:")
 PARTS = re.compile(r"In parts? (.*):")
 FOLDED = re.compile(r"\tand (\d+) more: ([^:\t]+) \(([ES]\d+)\)")
+# A file that is missing and one that is in no inventory, which are one but for their spelling: that
+# of the first is shown. So are more of them counted together.
+RESPELT = re.compile(
+    r"\t(?:and (\d+) more|(.*)): here under another spelling of its name \(E092, E023\)")
 ELSEWHERE = re.compile(r"Elsewhere, [ES]\d+:")
 LEFT = re.compile(r"(\d+) not shown here: .*")
 # Findings that a message shows or counts together: those of an object, or of none, with one code.
@@ -59,7 +63,10 @@ def findings_in(text: str) -> list[str]:
         if not line.startswith("\t"):
             of_object = escaped(head[1]) if head else ""
         made, brief = FINDING.fullmatch(line), BRIEF.fullmatch(line)
-        if made and made[2] in (MEANINGS[made[3]], "missing") and not line.startswith("\tand "):
+        respelt = RESPELT.fullmatch(line)
+        if respelt and not respelt[1]:
+            found.append("E092\t%s" % place_in(of_object, respelt[2]))
+        elif made and made[2] in (MEANINGS[made[3]], "missing") and not line.startswith("\tand "):
             found.append("%s\t%s" % (made[3], place_in(of_object, made[1])))
         elif brief:
             found.append("%s\t%s" % (brief[4], place_in(escaped(brief[1] or ""), brief[2])))
@@ -136,6 +143,9 @@ def group_in_brief(brief: "re.Match[str]") -> Counter[Group]:
 def group_in(of_object: str, line: str) -> Counter[Group]:
     """What a line below the head of a group says: one finding, or how many more there are."""
     folded, shown = FOLDED.fullmatch(line), FINDING.fullmatch(line)
+    respelt = RESPELT.fullmatch(line)
+    if respelt:
+        return Counter({(of_object, code): int(respelt[1] or 1) for code in ("E092", "E023")})
     if folded and folded[2] == MEANINGS[folded[3]]:
         return Counter({(of_object, folded[3]): int(folded[1])})
     is_one = shown and shown[2] in (MEANINGS[shown[3]], "missing")

@@ -9,7 +9,7 @@ use Rattle.ocfl_report.specs.declared.code.Code.TheVariants.{Clean, E001, E003, 
 use Rattle.ocfl_report.proofs.{Bytes.{utf8_bytes}, CodeTexts.{code_text_printable}, Escapes.{escape_printable}, LineTexts.{no_line_feed}, Numbers.{decimal_no_line_feed}, PlaceTexts.{place_text_printable}, ReadPaths.{path_utf8}}
 use Rattle.ocfl_codes.specs.Meaning.{meaning_of}
 use Rattle.ocfl_telling.specs.{Command.{is_plain, over_text, path_text}, Finding.{Finding, IsPlaced}, Quoted.{has_control, quoted, quoted_byte}}
-use Rattle.ocfl_telling.specs.Grouped.{below_text, brief_head, brief_text, count_with, fit_text, group_text, groups_text, inner_text, is_with, lead_with, leads_after, leads_of, led_by, line_count, others_text, shown_group, shown_leads}
+use Rattle.ocfl_telling.specs.Grouped.{Sorted, below_text, brief_body, brief_finding, brief_head, brief_respelt, brief_text, count_with, first_with, fit_text, group_text, groups_text, inner_text, is_alone, is_with, lead_with, leads_after, leads_of, led_by, line_count, one_if, others_text, picked, respelt_words, shown_group, shown_leads, sorted}
 use Rattle.ocfl_codes.specs.declared.weight.Weight.{Weight}
 use Rattle.ocfl_codes.specs.declared.weight.Weight.TheVariants.{Bytes, Object, Record, Position}
 use Rattle.ocfl_telling.specs.{Gravest.{by_weight, gravest, is_of_weight, most_kept, of_weight}, Many.{many_text, word_text}, declared.night.Night.{Night}}
@@ -123,43 +123,60 @@ fewer : (f : Finding) (fs : List Finding) → count_with f fs ≤ length fs
 fewer f [] = omega arith
 fewer f (g ∷ fs) = elim (is_with f g) as (λ b. length (cond b (g ∷ filter (is_with f) fs) (filter (is_with f) fs)) ≤ length (g ∷ fs)) [ true ↦ omega (arith, fewer f fs) | false ↦ omega (arith, fewer f fs) ]
 
-brief_one : (fs : List Finding) (f : Finding) → length fs < 2 ^ 64 → IsPlaced f → line_count (brief_text fs f) ≡ 1
-brief_one fs f l h =
-    let H = brief_head f.object in
+finding_flat : (n : ℕ) (f : Finding) → n < 2 ^ 64 → IsPlaced f → line_count (brief_finding n f) ≡ 0
+finding_flat n f l h =
     let P = path_part (below_text f.object f.line.place) in
     let C = coded_text f.line.code f.line.detail in
-    let O = others_text (count_with f fs - 1) in
-    both (((H ++ P) ++ C) ++ O) (codes "\n")
-    ∙ omega (
-      arith,
-      both ((H ++ P) ++ C) O,
-      both (H ++ P) C,
-      both H P,
-      head_flat f h,
-      part_flat (below_text f.object f.line.place) (below_flat f.object f.line.place h.place),
-      coded_flat f.line.code f.line.detail,
-      others_flat (count_with f fs - 1) (omega (arith, l, fewer f fs)),
-    )
+    both (P ++ C) (others_text (n - 1))
+    ∙ omega (arith, both P C, part_flat (below_text f.object f.line.place) (below_flat f.object f.line.place h.place), coded_flat f.line.code f.line.detail, others_flat (n - 1) (omega (arith, l)))
 
-shown_fits : (root : Text) (fs before : List Finding) (f : Finding) (room behind : ℕ) → length fs < 2 ^ 64 → IsPlaced f → behind + 1 ≤ room
-    → line_count (shown_group root fs room behind before f) ≤ room - behind
-shown_fits root fs before f room behind l h some = by (nat_le (line_count W) (room - behind)) refl
+respelt_flat : (n : ℕ) (f : Finding) → n < 2 ^ 64 → IsPlaced f → line_count (brief_respelt n f) ≡ 0
+respelt_flat n f l h =
+    let P = path_part (below_text f.object f.line.place) in
+    both (P ++ respelt_words) (others_text (n - 2))
+    ∙ omega (arith, both P respelt_words, part_flat (below_text f.object f.line.place) (below_flat f.object f.line.place h.place), others_flat (n - 2) (omega (arith, l)))
+
+first_placed : (f : Finding) (fs : List Finding) → All IsPlaced fs → IfSome (first_with f fs) IsPlaced
+first_placed f [] h = tt
+first_placed f (g ∷ gs) h = elim (is_with f g) as (λ b. IfSome (cond b (Some g) (first_with f gs)) IsPlaced) [
+  | true ↦ All-head IsPlaced g gs h
+  | false ↦ first_placed f gs (All-tail IsPlaced g gs h)
+]
+
+body_flat : (n : ℕ) (f : Finding) (o : Option Finding) → n < 2 ^ 64 → IsPlaced f → IfSome o IsPlaced → line_count (brief_body n f o) ≡ 0
+body_flat n f None l h k = respelt_flat n f l h
+body_flat n f (Some g) l h k = finding_flat n g l k
+
+-- few findings, and places that a store can have
+record IsSorted (s : Sorted) : Type 0 where
+  pub few : length s.all < 2 ^ 64
+  pub placed : All IsPlaced s.alone
+
+brief_one : (s : Sorted) (f : Finding) → IsSorted s → IsPlaced f → line_count (brief_text s f) ≡ 1
+brief_one s f l h =
+    let B = brief_body (count_with f s.all) f (first_with f s.alone) in
+    both (brief_head f.object ++ B) (codes "\n")
+    ∙ omega (arith, both (brief_head f.object) B, head_flat f h, body_flat (count_with f s.all) f (first_with f s.alone) (omega (arith, l.few, fewer f s.all)) h (first_placed f s.alone l.placed))
+
+shown_fits : (root : Text) (s : Sorted) (before : List Finding) (f : Finding) (room behind : ℕ) → IsSorted s → IsPlaced f → behind + 1 ≤ room
+    → line_count (shown_group root s room behind before f) ≤ room - behind
+shown_fits root s before f room behind l h some = by (nat_le (line_count W) (room - behind)) refl
   where
     W : Text
-    W = group_text root fs before f
+    W = group_text root s before f
 
-    by : (b : Bool) → nat_le (line_count W) (room - behind) ≡ b → line_count (cond b W (brief_text fs f)) ≤ room - behind
+    by : (b : Bool) → nat_le (line_count W) (room - behind) ≡ b → line_count (cond b W (brief_text s f)) ≤ room - behind
     by true e = leb-true _ _ e
-    by false e = omega (arith, brief_one fs f l h, some)
+    by false e = omega (arith, brief_one s f l h, some)
 
-fit_fits : (root : Text) (fs before leads : List Finding) (room : ℕ) → length fs < 2 ^ 64 → All IsPlaced leads → length leads ≤ room
-    → line_count (fit_text root fs room before leads) ≤ room
-fit_fits root fs before [] room l h few = omega arith
-fit_fits root fs before (f ∷ rest) room l h few =
-    let S = shown_group root fs room (length rest) before f in
-    let now = shown_fits root fs before f room (length rest) l (All-head IsPlaced f rest h) (omega (arith, few)) in
-    let then = fit_fits root fs (before ++ f ∷ []) rest (room - line_count S) l (All-tail IsPlaced f rest h) (omega (arith, now, few)) in
-    omega (arith, both S (fit_text root fs (room - line_count S) (before ++ f ∷ []) rest), now, then, few)
+fit_fits : (root : Text) (s : Sorted) (before leads : List Finding) (room : ℕ) → IsSorted s → All IsPlaced leads → length leads ≤ room
+    → line_count (fit_text root s room before leads) ≤ room
+fit_fits root s before [] room l h few = omega arith
+fit_fits root s before (f ∷ rest) room l h few =
+    let S = shown_group root s room (length rest) before f in
+    let now = shown_fits root s before f room (length rest) l (All-head IsPlaced f rest h) (omega (arith, few)) in
+    let then = fit_fits root s (before ++ f ∷ []) rest (room - line_count S) l (All-tail IsPlaced f rest h) (omega (arith, now, few)) in
+    omega (arith, both S (fit_text root s (room - line_count S) (before ++ f ∷ []) rest), now, then, few)
 
 leads_placed : (leads fs : List Finding) → All IsPlaced leads → All IsPlaced fs → All IsPlaced (leads_after leads fs)
 leads_placed leads [] h k = h
@@ -169,9 +186,17 @@ leads_placed leads (f ∷ fs) h k = leads_placed (lead_with leads f) fs (by (lis
     by true = h
     by false = All-append IsPlaced leads (f ∷ []) h (All-cons IsPlaced f [] (All-head IsPlaced f fs k) (All-nil IsPlaced))
 
+picked_placed : (is : List Finding → Finding → Bool) (seen fs : List Finding) → All IsPlaced fs → All IsPlaced (picked is seen fs)
+picked_placed is seen [] h = h
+picked_placed is seen (f ∷ fs) h = All-append IsPlaced (one_if (is seen f) f) (picked is (seen ++ f ∷ []) fs) (by (is seen f)) (picked_placed is (seen ++ f ∷ []) fs (All-tail IsPlaced f fs h))
+  where
+    by : (b : Bool) → All IsPlaced (one_if b f)
+    by true = All-cons IsPlaced f [] (All-head IsPlaced f fs h) (All-nil IsPlaced)
+    by false = All-nil IsPlaced
+
 pub groups_fit : (root : Text) (fs : List Finding) (room : ℕ) → length fs < 2 ^ 64 → All IsPlaced fs → line_count (groups_text root room fs) ≤ room
 groups_fit root fs room l h =
-    fit_fits root fs [] (take room (leads_of fs)) room l (All-take IsPlaced room (leads_of fs) (leads_placed [] fs (All-nil IsPlaced) h)) (omega (arith, length-take room (leads_of fs)))
+    fit_fits root (sorted fs) [] (take room (leads_of fs)) room (record { few = l; placed = picked_placed (is_alone fs) [] fs h }) (All-take IsPlaced room (leads_of fs) (leads_placed [] fs (All-nil IsPlaced) h)) (omega (arith, length-take room (leads_of fs)))
 
 -- ---- the message of a night
 

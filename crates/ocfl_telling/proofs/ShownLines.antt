@@ -2,15 +2,15 @@
 use Rattle.std.proofs.Common.{◌≡◌, ◌≢◌, ℕ, ◌-◌, ◌==◌, false, List, [], ◌++◌, length, ap, ap₂, ◌∙◌, append_assoc, arith}
 use Rattle.std.proofs.lemmas.Bool.Decides.{nat_tests}
 use Rattle.ocfl_tree.specs.Place.{Text}
-use Rattle.ocfl_telling.specs.{Finding.{Finding}, Gravest.{by_weight, gravest}, Grouped.{fit_text, led_by, shown_leads}}
+use Rattle.ocfl_telling.specs.{Finding.{Finding}, Gravest.{by_weight, gravest}, Grouped.{fit_text, led_by, shown_leads, sorted}}
 use Rattle.ocfl_telling.specs.{Night.{findings_command, findings_text, more_text, night_text, some_text}, declared.night.Night.{Night}}
 
 -- the groups, and how many more there are
 pub some_whole : (root report : Text) (room count : ℕ) (fs leads : List Finding) (t0 t1 t2 : Text) → leads ≡ shown_leads room fs
-    → t1 ≡ t0 ++ fit_text root fs room [] leads → t2 ≡ t1 ++ more_text findings_command report (count - length (led_by leads fs))
+    → t1 ≡ t0 ++ fit_text root (sorted fs) room [] leads → t2 ≡ t1 ++ more_text findings_command report (count - length (led_by leads fs))
     → t2 ≡ t0 ++ some_text root room report count fs
 some_whole root report room count fs leads t0 t1 t2 e h1 h2 =
-    let F : List Finding → Text = λ ls. fit_text root fs room [] ls in
+    let F : List Finding → Text = λ ls. fit_text root (sorted fs) room [] ls in
     let M : List Finding → Text = λ ls. more_text findings_command report (count - length (led_by ls fs)) in
     h2 ∙ ap (λ t. t ++ M leads) h1 ∙ append_assoc t0 (F leads) (M leads) ∙ ap (λ ls. t0 ++ (F ls ++ M ls)) e
 

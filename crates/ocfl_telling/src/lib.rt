@@ -22,6 +22,7 @@ mod many;
 mod night;
 mod quoted;
 mod refusal;
+mod respelt;
 mod shown;
 mod stop;
 mod tally;

@@ -14,7 +14,7 @@ use std::alloc::{AllocError, Global};
 const DIGITS: usize = 12;
 
 /// What comes before the first space, and what follows it.
-fn split(text: &[u8]) -> Option<(&[u8], &[u8])>
+pub(crate) fn split(text: &[u8]) -> Option<(&[u8], &[u8])>
     ensures { option_map (λ p. (p.0.now, p.1.now)) result ≡ at_space text.now }
 {
     split_once(text, b' ')
@@ -28,7 +28,7 @@ fn has_digests(code: Code) -> bool
 }
 
 /// Whether the parts of a detail are an algorithm and `missing`.
-fn is_missing(parts: Option<(&[u8], &[u8])>) -> bool
+pub(crate) fn is_missing(parts: Option<(&[u8], &[u8])>) -> bool
     ensures { result ≡ is_missing_part (option_map (λ p. (p.0.now, p.1.now)) parts.entry) }
 {
     match parts {

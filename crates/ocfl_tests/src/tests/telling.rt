@@ -1,6 +1,7 @@
 //! What a night says and logs.
 mod closing;
 mod files;
+mod respelt;
 mod rows;
 
 use crate::tests::common::store::place_of;

@@ -3,11 +3,12 @@ from __future__ import annotations
 
 import os
 import re
+import subprocess
 import time
 from pathlib import Path
 
 from folder import part
-from given import closed, count_parts, leave, ranges, run
+from given import closed, count_parts, leave, ranges
 from ocfl_scrub_reports.shared import find_program, put
 from ocfl_scrub_reports.state import cycle_name, find, numbered_in, open_state
 
@@ -109,28 +110,35 @@ class Parts:
                     max(seen[it] for it in few), ranges(few)))
 
 
-def call_join(state: str) -> tuple[int, str]:
-    """Has the program join what can be joined. Another call, or the last moments of a night, are
-    waited for."""
+def run(words: list[str]) -> tuple[int, str, bytes]:
+    """The status of a command, what it says, and what it writes."""
+    done = subprocess.run(words, capture_output=True, check=False)
+    return done.returncode, os.fsdecode(done.stderr).strip(), done.stdout
+
+
+def call_join(state: str) -> tuple[str, bytes]:
+    """Has the program join what can be joined. Gives what keeps something from it, and the word at
+    the end of each cycle. Another call, or the last moments of a night, are waited for."""
     until = time.monotonic() + PATIENCE
     words = [find_program(), "join", "--parts", state + "/parts", "--state", state]
-    status, text = run(words)
+    status, text, word = run(words)
     while status == HELD and time.monotonic() < until:
         time.sleep(0.5)
-        status, text = run(words)
-    return status, text
+        status, text, word = run(words)
+    return text, word
 
 
-def join(state: str, cycle: int) -> str:
-    """Joins each cycle that all parts have closed and that is not joined, the oldest first. Says
-    what keeps one from it, and of the cycle that was given out also what its parts say."""
+def join(state: str, cycle: int) -> tuple[str, bytes]:
+    """Joins each cycle that all parts have closed and that is not joined, the oldest first. Gives
+    what keeps one from it, of the cycle that was given out also what its parts say, and the word
+    at the end of each that it joined."""
     parts = Parts(state)
     cycles = parts.unjoined()
     parts.leave_skipped(cycles[-1:])
     for it in cycles:
         parts.list_gone(it)
     alike = [it for it in cycles if parts.can_join(it)]
-    status, text = call_join(state) if alike else (0, "")
+    text, word = call_join(state) if alike else ("", b"")
     failed = [it for it in alike if not parts.is_joined(it)]
     lacking = [it for it in alike if parts.is_incomplete(it)]
     said = [text] if alike == cycles and not lacking else []
@@ -140,7 +148,7 @@ def join(state: str, cycle: int) -> str:
     said += [parts.incomplete(it) for it in lacking]
     if cycle in cycles:
         said.append(parts.other_roots(cycle))
-    return "\n".join(filter(None, said))
+    return "\n".join(filter(None, said)), word
 
 
 def make_room(state: str) -> None:

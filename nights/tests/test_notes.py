@@ -212,13 +212,14 @@ class Joined(State):
                 if parts.can_join(it):
                     kind = "incomplete" if parts.lacking(it) else "cycle"
                     self.put("reports/%s-%06d" % (kind, it), "")
-            return status, "" if status == 0 else "why"
+            return (status, "", b"word") if status == 0 else (status, "why", b"")
 
         parts = joining.Parts(self.state)
         with mock.patch.object(joining, "run", run), mock.patch.object(
                 joining, "find_program", lambda: "program"), mock.patch.object(
                     joining, "PATIENCE", 0.1), mock.patch.object(joining.time, "sleep"):
-            return joining.join(self.state, cycle)
+            said, self.word = joining.join(self.state, cycle)
+        return said
 
     def left(self):
         """What was left to be said of all parts."""

@@ -6,11 +6,11 @@ from collections import Counter
 from typing import Iterable, Mapping, NamedTuple, Optional
 
 TOP = os.path.dirname(os.path.dirname(os.path.dirname(os.path.realpath(__file__))))
-# The words at the end of a cycle in which nothing is new or gone.
+# The words at the end of a cycle in which nothing is new or gone, and those on a joined report.
 QUIET = re.compile(
     r"(?m)^Cycle \d+ ended: \d+ of \d+ files? right, \d+ objects?, [0-9.]+ (?:bytes?|[kMGT]B)"
     r"(?:, \d+ runs?)?\.\n"
-    r"(?:Nothing new, nothing gone since cycle \d+|Nothing to compare with)\.\n")
+    r"(?:(?:Nothing new, nothing gone since cycle \d+|Nothing to compare with)\.\n)?")
 OBJECT = re.compile(r"Object (.*):")
 # A finding: its path, unless it is the object's own, its words, its code and its detail.
 FINDING = re.compile(r"\t(?:(.*): )?([^:\t]+) \(([ES]\d+)\)(.*)")

@@ -14,7 +14,7 @@ import time
 
 import common
 from common import PROGRAM, TOP, check
-from shared.messages import findings_in, key
+from shared.messages import findings_in, key, without_end
 from shared.nights import NIGHTS, REPORTS, ran, read, write
 
 # A name that is not UTF-8 keeps a directory from being listed, for root too.
@@ -111,11 +111,12 @@ class Together:
                 str(parts), "--state", self.state, *more, self.root]
 
     def night(self, *more, jobs=4, parts=4, **environment):
-        """A night of all parts. The next one begins in another second, by which logs name it: what
+        """A night of all parts, and what it says, without the word at the end of a cycle in which
+        nothing is new or gone. The next one begins in another second, by which logs name it: what
         is gone in two nights of one second is not known."""
-        done = ran(self.words(*more, jobs=jobs, parts=parts), **environment)
+        status, out, said = ran(self.words(*more, jobs=jobs, parts=parts), **environment)
         time.sleep(1.01 - time.time() % 1)
-        return done
+        return status, without_end(out), said
 
     def start(self, *more, program=PROGRAM, **how):
         return subprocess.Popen(self.words(*more, **how), stdin=subprocess.DEVNULL,
@@ -141,7 +142,8 @@ class Together:
                   True)
 
     def end(self, *words):
-        return self.by_hand("end", *words)
+        status, out, said = self.by_hand("end", *words)
+        return status, without_end(out), said
 
     def level(self):
         """What `status` ends with, whatever the findings and the age."""

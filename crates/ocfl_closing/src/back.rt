@@ -1,9 +1,9 @@
 //! Objects that earlier closings call gone, of which some may be back.
 ghost use Rattle.std.specs.Prelude.{⊤};
 
-use crate::reading::{TakeLine, take_lines};
 use ocfl_compare::{Change, TakeChange, TakeStop};
 use ocfl_kept::kept::{MOST_BACK, list_path};
+use ocfl_kept::reading::{TakeLine, take_lines};
 use ocfl_kept::room::Room;
 use ocfl_report::{TextStop, read_place, split_once};
 use ocfl_tree::Place;

@@ -1,8 +1,8 @@
 //! The whole lines of findings that are named in a closing.
 
-use crate::reading::{TakeLine, take_lines};
-use ocfl_kept::lines::{CLEAN, error_of, put_lines};
-use ocfl_report::{Code, Line, TextStop, read_line};
+use ocfl_kept::lines::{line_of, put_lines};
+use ocfl_kept::reading::{TakeLine, take_lines};
+use ocfl_report::{Code, Line};
 use ocfl_telling::{Finding, Gathering, Gravest, Heads, Known, Tally};
 use std::alloc::{AllocError, Global};
 use std::io::{self, BufRead};
@@ -72,15 +72,6 @@ pub(crate) fn lines_of(alloc: Global, gravest: &Gravest) -> Result<Vec<Line>, Al
 fn is_named(named: &Line, line: &Line) -> bool {
     let is_code = named.code == Code::Clean || named.code == line.code;
     is_code && named.place == line.place
-}
-
-/// A line of a report. `None` if it begins as one that finds nothing, and is not one.
-fn line_of(alloc: Global, text: &[u8]) -> io::Result<Option<Line>> {
-    match read_line(alloc, text) {
-        Ok(line) => Ok(Some(line)),
-        Err(TextStop::Bad) if text.starts_with(CLEAN) => Ok(None),
-        Err(stop) => Err(error_of(stop)),
-    }
 }
 
 /// Puts lines into the order of places.

@@ -8,5 +8,4 @@ pub mod closing;
 mod comparing;
 mod finding;
 mod marking;
-mod reading;
 mod rows;

@@ -5,6 +5,7 @@
 pub mod kept;
 pub mod lines;
 pub mod names;
+pub mod reading;
 pub mod room;
 pub mod stand;
 pub mod state;

@@ -51,6 +51,10 @@ pub(crate) struct JoinedFolder<'a, R: Room> {
     made: Option<bool>,
     report: Option<BufReader<File>>,
     out: Out,
+    /// How many runs the parts had whose reports were opened; 0 if that is not known of all.
+    runs: u64,
+    /// Whether it is not known of one.
+    lacks_runs: bool,
     /// Why the last call failed that did.
     failure: Option<Failure>,
 }
@@ -66,6 +70,8 @@ impl<'a, R: Room> Drop for JoinedFolder<'a, R> {
             made: _made,
             report: _report,
             out: _out,
+            runs: _runs,
+            lacks_runs: _lacks_runs,
             failure: _failure,
         } = self;
     }
@@ -130,7 +136,24 @@ impl<'a, R: Room> JoinedFolder<'a, R> {
             made,
             report: None,
             out: Out::Nowhere,
+            runs: 0,
+            lacks_runs: false,
             failure: None,
+        }
+    }
+
+    /// How many runs the parts had; 0 if that is not known of all.
+    pub(crate) fn runs(&self) -> u64 {
+        if self.lacks_runs { 0 } else { self.runs }
+    }
+
+    /// Counts the runs of a part.
+    fn add_runs(&mut self, kept: &Option<Option<Checkpoint>>) {
+        match kept {
+            Some(Some(checkpoint)) => {
+                self.runs = self.runs.saturating_add(checkpoint.cursor.runs());
+            }
+            _ => self.lacks_runs = true,
         }
     }
 
@@ -199,12 +222,13 @@ impl<'a, R: Room> JoinedFolder<'a, R> {
         }
     }
 
-    fn open_part(&self, number: usize) -> Result<OpenPart, Failure> {
+    fn open_part(&mut self, number: usize) -> Result<OpenPart, Failure> {
         let ClosedIn {
             report,
             bytes,
             kept,
         } = self.find_report(number)?;
+        self.add_runs(&kept);
         let mark = if self.is_lost(number, bytes) {
             KeptMark::Damaged
         } else {

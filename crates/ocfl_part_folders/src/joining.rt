@@ -3,17 +3,21 @@
 use crate::joined::{JoinedFolder, find_joined};
 use crate::part_facts::{Facts, closed_parts, last_of_all, part_path, read_all};
 use ocfl_files::failing::{Failure, say_failure};
+use ocfl_files::making::failed_file;
 use ocfl_files::saying::STOPPED;
 use ocfl_joining::{ClosedPart, JoinStop, MissingPart, PartFault, find_most_names, join};
 use ocfl_kept::kept::{MOST_BACK, is_told, report_path};
+use ocfl_kept::lines::line_of;
+use ocfl_kept::reading::{TakeLine, take_lines};
 use ocfl_kept::room::Room;
 use ocfl_line::JoinAsked;
 use ocfl_parts::{PartsStop, Separators, read_parts};
-use ocfl_report::DisplayPlace;
+use ocfl_report::{DisplayPlace, write_all_of};
 use ocfl_scope::ScopeStop;
-use ocfl_telling::Shown;
+use ocfl_telling::{Counts, Joined, Shown, Tally, joined_text};
 use std::alloc::{AllocError, Global};
 use std::fs::File;
+use std::io::{self, BufReader, ErrorKind};
 use std::rt::Files;
 
 /// What is said of separators that were not read.
@@ -126,6 +130,68 @@ fn say_incomplete<R: Room + Eprint>(
     Ok(STOPPED)
 }
 
+/// Counts the lines of a report.
+#[derive(Drop)]
+struct Counting {
+    tally: Tally,
+}
+
+impl TakeLine for Counting {
+    fn take_line(&mut self, alloc: Global, text: &[u8]) -> io::Result<bool> {
+        if let Some(line) = line_of(alloc, text)? {
+            self.tally.add(&line)?;
+        }
+        Ok(true)
+    }
+}
+
+/// What a report counts.
+fn counts_in<R: Room>(rt: &R, path: &str) -> Result<Counts, Failure> {
+    let alloc = rt.global();
+    match find_counts(rt, path) {
+        Ok(counts) => Ok(counts),
+        Err(error) => Err(failed_file(alloc, path, &error)),
+    }
+}
+
+/// The same, or why it was not read.
+fn find_counts<R: Room>(rt: &R, path: &str) -> io::Result<Counts> {
+    let alloc = rt.global();
+    let mut report = match BufReader::new(alloc, rt.open_file(path)?) {
+        Ok(report) => report,
+        Err(_) => return Err(io::Error::from(ErrorKind::OutOfMemory)),
+    };
+    let mut counting = Counting {
+        tally: Tally::new(),
+    };
+    take_lines(alloc, &mut report, &mut counting)?;
+    Ok(counting.tally.counts())
+}
+
+/// Says the word at the end of a cycle of all parts, of a report that was joined.
+fn say_joined<R: Room + Print>(
+    rt: &R,
+    state: &str,
+    cycle: u64,
+    whole: bool,
+    runs: u64,
+) -> Result<(), Failure> {
+    let alloc = rt.global();
+    let path = report_path(alloc, state, cycle, whole)?;
+    let joined = Joined {
+        cycle,
+        whole,
+        report: path.as_str(),
+        counts: counts_in(rt, path.as_str())?,
+        runs,
+    };
+    let text = joined_text(alloc, &joined)?;
+    match write_all_of(&mut io::writer(rt), text.as_bytes()) {
+        Ok(()) => Ok(()),
+        Err(_) => Err(Failure::saying(String::from_str(alloc, "output failed\n"))),
+    }
+}
+
 /// Why reports were not joined, but for parts that are missing.
 fn stopped(alloc: Global, stop: JoinStop, failure: Option<Failure>) -> Failure {
     match (stop, failure) {
@@ -189,7 +255,7 @@ impl AllParts<'_> {
         names: bool,
     ) -> Result<u8, Failure>
     where
-        R: Room + Eprint,
+        R: Room + Print + Eprint,
     {
         let alloc = rt.global();
         let made = match cycle {
@@ -199,8 +265,12 @@ impl AllParts<'_> {
         let mut reports = JoinedFolder::new(rt, self.state, cycle, self.facts, made);
         let root = root_of(parts);
         match join(alloc, self.separators, root, cycle, parts, &mut reports) {
-            Ok(joined) if joined.whole => Ok(0),
-            Ok(_) => say_incomplete(rt, self.state, cycle, parts),
+            Ok(joined) => {
+                if made.is_none() {
+                    say_joined(rt, self.state, cycle, joined.whole, reports.runs())?;
+                }
+                self.status_by(rt, cycle, parts, joined.whole)
+            }
             Err(JoinStop::Missing(missing)) if names && made.is_none() => {
                 Ok(say_missing(rt, cycle, parts, &missing))
             }
@@ -209,10 +279,27 @@ impl AllParts<'_> {
         }
     }
 
+    /// The status of a joined report; what it lacks is said.
+    fn status_by<R>(
+        &self,
+        rt: &R,
+        cycle: u64,
+        parts: &[Option<ClosedPart>],
+        whole: bool,
+    ) -> Result<u8, Failure>
+    where
+        R: Room + Print + Eprint,
+    {
+        if whole {
+            return Ok(0);
+        }
+        say_incomplete(rt, self.state, cycle, parts)
+    }
+
     /// Joins the reports of a cycle, and gives the status.
     fn join_cycle<R>(&self, rt: &R, cycle: u64) -> Result<u8, Failure>
     where
-        R: Room + Eprint,
+        R: Room + Print + Eprint,
     {
         let parts = closed_parts(rt, self.state, self.facts, cycle)?;
         self.join_parts(rt, cycle, &parts, true)
@@ -222,7 +309,7 @@ impl AllParts<'_> {
     /// report, or saw far fewer names, never can be joined, and was named when it was the last.
     fn join_earlier<R>(&self, rt: &R, cycle: u64) -> Result<u8, Failure>
     where
-        R: Room + Eprint,
+        R: Room + Print + Eprint,
     {
         if is_joined(rt, self.state, cycle)? || !self.has_all(rt, cycle)? {
             return Ok(0);
@@ -243,7 +330,7 @@ fn status_of<R: Eprint>(rt: &R, joined: Result<u8, Failure>) -> u8 {
 /// Joins each cycle up to this one that is not joined, the oldest first, and gives the status.
 fn join_up_to<R>(rt: &R, all: &AllParts<'_>, last: u64) -> Result<u8, Failure>
 where
-    R: Room + Eprint,
+    R: Room + Print + Eprint,
 {
     let mut status = 0;
     for cycle in last.saturating_sub(MOST_BACK).max(1)..last {
@@ -255,7 +342,7 @@ where
 /// Joins each cycle that all parts have closed and that is not joined, and gives the status.
 fn join_all<R>(rt: &R, asked: &JoinAsked) -> Result<u8, Failure>
 where
-    R: Room + Eprint,
+    R: Room + Print + Eprint,
 {
     let separators = read_separators(rt, asked.parts.as_str())?;
     let state = asked.state.as_str();
@@ -273,7 +360,7 @@ where
 /// gives the exit status. Each part whose report of the last of these cannot be joined is named.
 pub fn join_parts<R>(rt: &R, asked: &JoinAsked) -> u8
 where
-    R: Files<File = File> + AllocGlobal + Eprint,
+    R: Files<File = File> + AllocGlobal + Print + Eprint,
 {
     status_of(rt, join_all(rt, asked))
 }

@@ -8,7 +8,7 @@ use Rattle.ocfl_telling.specs.{Many.{are_text, many_text, size_text}, Night.{mor
 use Rattle.ocfl_telling.specs.declared.tally.Counts.{Counts}
 use Rattle.ocfl_telling.specs.declared.closing.GoneKind.{GoneKind}
 use Rattle.ocfl_telling.specs.declared.closing.GoneKind.TheVariants.{Object, Undeclared, File, Expected}
-use Rattle.ocfl_telling.specs.{declared.closing.Gone.{Gone}, declared.closing.Closing.{Closing}}
+use Rattle.ocfl_telling.specs.{declared.closing.Gone.{Gone}, declared.closing.Closing.{Closing}, declared.joined.Joined.{Joined}}
 
 abbrev pub not_whole_text : ℕ → Text → Text
 not_whole_text cycle report = codes "Cycle " ++ decimal cycle ++ codes " ended, but its report is incomplete: " ++ escape report ++ codes "\n"
@@ -48,14 +48,22 @@ changed_text c = if c.before == 0 then alone_text c.uncompared.now else since_te
 abbrev pub summary_text : Closing → Counts → Text
 summary_text c k = counts_text k ++ run_count_text c.runs ++ codes ".\n" ++ changed_text c ++ codes ".\n"
 
--- an incomplete report is named, and what it counts is in it
+-- of a cycle with this number, whole or not: an incomplete report is named, and what it counts is
+-- in it
+abbrev pub lead_of : ℕ → Bool → Text → Text
+lead_of cycle whole report = if whole then codes "Cycle " ++ decimal cycle ++ codes " ended: " else not_whole_text cycle report ++ codes "In it: "
+
 abbrev pub lead_text : Closing → Text
-lead_text c = if c.whole then codes "Cycle " ++ decimal c.cycle ++ codes " ended: " else not_whole_text c.cycle c.report.now ++ codes "In it: "
+lead_text c = lead_of c.cycle c.whole c.report.now
 
 -- the word at the end of a cycle; if nothing is counted, only that its report is incomplete
 abbrev pub counted_text : Closing → Option Counts → Text
 counted_text c None = if c.whole then [] else not_whole_text c.cycle c.report.now
 counted_text c (Some k) = lead_text c ++ summary_text c k
+
+-- the same of a joined report, without what changed: that of each part was said when it was closed
+abbrev pub joined_text : Joined → Text
+joined_text j = lead_of j.cycle j.whole j.report.now ++ counts_text j.counts ++ run_count_text j.runs ++ codes ".\n"
 
 abbrev pub ended_text : Closing → Text
 ended_text c = counted_text c c.counts

@@ -3,7 +3,7 @@
 ghost use Rattle.std.specs.Prelude.{◌≡◌, ◌≢◌, ◌-◌, ◌++◌, ◌^◌, ◌<◌, List, [], Some, codes, decimal, length, map, take, IfOk, OnOk, string_bytes};
 ghost use Rattle.ocfl_report.specs.Line.{line_of};
 ghost use Rattle.ocfl_telling.specs.{Finding.{Finding as ModelFinding, finding_of}, Gravest.{IsOf, by_weight}};
-ghost use Rattle.ocfl_telling.specs.Closing.{closing_text as text_of_closing, above_text, alone_text, back_head, back_line, back_lines, back_text, changed_text, counted_text, counts_text, ended_text, gone_lines, gone_line, not_shown, lead_text, new_head, repaired_head, gone_head, gone_text, kind_text, new_text, repaired_line, repaired_lines, repaired_text, not_known_text, not_whole_text, run_count_text, since_text, some_above_text, some_gone_text, some_new_text, some_run_count_text, some_unlooked_text, summary_text, uncompared_text, unlooked_text, unsaid_text};
+ghost use Rattle.ocfl_telling.specs.Closing.{closing_text as text_of_closing, above_text, alone_text, back_head, back_line, back_lines, back_text, changed_text, counted_text, counts_text, ended_text, gone_lines, gone_line, not_shown, new_head, repaired_head, gone_head, gone_text, kind_text, lead_of, new_text, repaired_line, repaired_lines, repaired_text, not_known_text, not_whole_text, run_count_text, since_text, some_above_text, some_gone_text, some_new_text, some_run_count_text, some_unlooked_text, summary_text, uncompared_text, unlooked_text, unsaid_text};
 ghost use Rattle.ocfl_telling.specs.Closing.{back_room as room_of_back, behind_gone as left_behind_gone, behind_new as left_behind_new, changed_command as command_of_changes, gone_room as room_of_gone, list_command as command_of_list, most_of, new_lines as lines_of_new, new_room as room_of_new, repaired_room as room_of_repaired, room_of_sections as all_room, section_lines as lines_of_section, two_unless as two_lines_unless};
 ghost use Rattle.ocfl_telling.specs.Night.{more_text};
 
@@ -105,7 +105,7 @@ fn not_whole(alloc: Global, cycle: u64, report: &str) -> Result<String, AllocErr
 }
 
 /// What a report counts.
-fn counted(alloc: Global, counts: Counts) -> Result<String, AllocError>
+pub(crate) fn counted(alloc: Global, counts: Counts) -> Result<String, AllocError>
     ensures { IfOk result (λ text. string_bytes text ≡ counts_text counts) }
 {
     let files = many(alloc, counts.files, "file", "files")?;
@@ -116,7 +116,7 @@ fn counted(alloc: Global, counts: Counts) -> Result<String, AllocError>
 }
 
 /// How many runs a cycle had; nothing if that is not known.
-fn had(alloc: Global, runs: u64) -> Result<String, AllocError>
+pub(crate) fn had(alloc: Global, runs: u64) -> Result<String, AllocError>
     ensures { IfOk result (λ text. string_bytes text ≡ run_count_text runs) }
 {
     if runs == 0 {
@@ -202,13 +202,18 @@ fn summary(alloc: Global, closing: &Closing<'_>, counts: Counts) -> Result<Strin
 }
 
 /// The line that it is in.
-fn lead(alloc: Global, closing: &Closing<'_>) -> Result<String, AllocError>
-    ensures { IfOk result (λ text. string_bytes text ≡ lead_text closing.now) }
+pub(crate) fn lead(
+    alloc: Global,
+    cycle: u64,
+    whole: bool,
+    report: &str,
+) -> Result<String, AllocError>
+    ensures { IfOk result (λ text. string_bytes text ≡ lead_of cycle whole report.now) }
 {
-    if closing.whole {
-        return whole_lead(alloc, closing.cycle);
+    if whole {
+        return whole_lead(alloc, cycle);
     }
-    let said = not_whole(alloc, closing.cycle, closing.report)?;
+    let said = not_whole(alloc, cycle, report)?;
     format!(in alloc; "{said}In it: ")
 }
 
@@ -233,7 +238,7 @@ fn ended(alloc: Global, closing: &Closing<'_>, counts: Option<Counts>) -> Result
 fn ended_with(alloc: Global, closing: &Closing<'_>, counts: Counts) -> Result<String, AllocError>
     ensures { IfOk result (λ text. string_bytes text ≡ counted_text closing.now (Some counts)) }
 {
-    let lead = lead(alloc, closing)?;
+    let lead = lead(alloc, closing.cycle, closing.whole, closing.report)?;
     let summary = summary(alloc, closing, counts)?;
     format!(in alloc; "{lead}{summary}")
 }

@@ -14,6 +14,7 @@ mod found;
 mod gathering;
 mod gravest;
 mod grouped;
+mod joined;
 mod known;
 pub mod laws;
 mod list;
@@ -33,6 +34,7 @@ pub use finding::{FileCounts, Finding, Heads};
 pub use found::Found;
 pub use gathering::Gathering;
 pub use gravest::{Gravest, Kept};
+pub use joined::{Joined, joined_text};
 pub use known::{Known, KnownEntry, Reach};
 pub use list::{KnownStop, read_known};
 pub use log::{

@@ -2,7 +2,10 @@
 use crate::tests::common::store::place_of;
 use crate::tests::telling::line_of;
 use ocfl_report::Line;
-use ocfl_telling::{Closing, Counts, Finding, Gone, GoneKind, Gravest, SHOWN, Tally, closing_text};
+use ocfl_telling::{
+    Closing, Counts, Finding, Gone, GoneKind, Gravest, Joined, SHOWN, Tally, closing_text,
+    joined_text,
+};
 use ocfl_tree::Place;
 use std::alloc::Global;
 use std::test::Fail;
@@ -231,6 +234,42 @@ fn closings_say_that_all_is_well(rt: HostRuntime) -> Result<(), Fail> {
             "Cycle 3 ended: 926 of 930 files right, 160 objects, 51.2 MB{wanted}.\n"
         )?;
         assert!(rt; text.as_str().starts_with(wanted.as_str()), "{uncompared}");
+    }
+    Ok(())
+}
+
+/// Whether a joined report is whole, the runs of its parts, and the word on it.
+const JOINED: [(bool, u64, &str); 3] = [
+    (
+        true,
+        0,
+        "Cycle 3 ended: 926 of 930 files right, 160 objects, 51.2 MB.\n",
+    ),
+    (
+        true,
+        1,
+        "Cycle 3 ended: 926 of 930 files right, 160 objects, 51.2 MB, 1 run.\n",
+    ),
+    (
+        false,
+        12,
+        "Cycle 3 ended, but its report is incomplete: reports/cycle-000003\n\
+         In it: 926 of 930 files right, 160 objects, 51.2 MB, 12 runs.\n",
+    ),
+];
+
+#[test]
+fn joined_reports_have_a_word(rt: HostRuntime) -> Result<(), Fail> {
+    for (whole, runs, wanted) in JOINED {
+        let joined = Joined {
+            cycle: 3,
+            whole,
+            report: "reports/cycle-000003",
+            counts: COUNTS,
+            runs,
+        };
+        let text = joined_text(rt.alloc(), &joined)?;
+        assert_eq!(rt; text.as_str(), wanted, "{runs}");
     }
     Ok(())
 }

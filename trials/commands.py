@@ -318,8 +318,6 @@ def usages(root):
         ("a night with two ends", night + ["--hours", "1", "--until", "06:00"]),
         ("a night of slices of nothing", night + ["--slice", "0"]),
         ("a night of half a part", night + ["--part", "1"]),
-        ("objects expected of a part",
-         night + ["--parts", "p", "--part", "1", "--expected", "e"]),
         ("a night of a branch", night + ["--under", "o"]),
         ("a join without its parts", ["join", "--state", "s"]),
         ("a join without a folder", ["join", "--parts", "p"]),

@@ -20,6 +20,9 @@ Tried, and what comes of it:
 - A part that is killed between the closing of its cycle and its list of what is gone: nothing is
   joined before that list is there. Before, the list of all lacked it for ever.
 - `begin` that is killed, or has no room: status 3, and why. Before: status 0, without a word.
+- A cycle ends with one word for all parts; before, with none.
+- A list of expected objects: each that is missing is named once, and the statement counts them;
+  before, the list was refused.
 - Other parts than the folder has: status 2. Closed outputs: no file has the message, and the next
   `end` says it. A part that saw a root of far fewer names: it is named.
 - A part that is killed at each renaming of its night: it is given out again until its cycle is
@@ -130,6 +133,37 @@ def one_message(folder):
     check("what is repaired", (status, out.count("repaired") > 0), (0, True))
     nights.is_audit("the second cycle", 2)
     check("a night without a word", nights.night(), (0, "", ""))
+
+
+def words_at_ends(folder):
+    """A cycle of all parts ends with one word."""
+    nights = Together(folder + "/state", small_root(folder))
+    status, out, said = ran(nights.words("--slice", "10", parts=4))
+    check("the word at its end", (status, re.sub(r"\d+ runs", "N runs", out), said), (
+        0, "Cycle 1 ended: 18 of 18 files right, 9 objects, 36 bytes, N runs.\n", ""))
+    write(nights.root + "/o03/v1/content/b", "e")
+    status, out, _ = nights.night()
+    check("behind what the parts say", (status, out.splitlines()[-1].startswith(
+        "Cycle 2 ended: 17 of 18 files right, 9 objects, 36 bytes, ")), (1, True))
+    status, out, _ = nights.by_hand("end")
+    check("it is said once", (status, out), (0, ""))
+
+
+def expected(folder):
+    """Objects of a list that no part has are missing, each in the part in which it would be."""
+    nights = Together(folder + "/state", small_root(folder))
+    file = folder + "/expected"
+    write(file, "".join("o%02d\n" % number for number in range(9)) + "lost\no04x\nz/1\n")
+    status, out, said = nights.night("--expected", file)
+    check("missing", (status, said, sorted(it for it in out.splitlines() if "expected\t" in it)),
+          (1, "", ["expected\tlost", "expected\to04x", "expected\tz/1"]))
+    facts = nights.has("reports/statement-000001").splitlines()
+    check("its statement", [it for it in facts if it.startswith("Expected")],
+          ["Expected objects listed: 12", "Expected objects missing: 3"])
+    check("the list is named", "List of expected objects, SHA-256: " + common.digest(
+        common.read(file)) in facts, True)
+    write(file, "".join("o%02d\n" % number for number in range(9)))
+    check("none is missing", nights.night("--expected", file), (0, "", ""))
 
 
 def by_schedulers(folder):
@@ -582,8 +616,8 @@ def dashes(folder):
     check("an end", ran([NIGHTS + "/parallel/end", "--state=-state"], cwd=folder)[0], 0)
 
 
-PARTS = [cycles, one_message, by_schedulers, unread, unjoined, missed_end, untold_closing,
-         end_of_beginning, held_join, other_roots, no_beginning, other_parts, closed_output, ends,
+PARTS = [cycles, one_message, words_at_ends, expected, by_schedulers, unread, unjoined, missed_end,
+         untold_closing, end_of_beginning, held_join, other_roots, no_beginning, other_parts, closed_output, ends,
          signals, cut_closing, two_at_once, room, seals, by_a_service, usage, dashes]
 
 

@@ -434,7 +434,7 @@ class Joining:
             entry.closing, is_logged=True, left=sum(it.left for it in closings.values()),
             gone=sum(it.gone for it in closings.values()),
             **{name: sum_if_all(getattr(it, name) for it in closings.values()) for name in SUMS},
-            **of_all_parts(closings, entry.cycle)))
+            **list_of_all(closings), **of_all_parts(closings, entry.cycle)))
 
 
 def later(known: Entry | None, entry: Entry) -> Entry:
@@ -455,6 +455,15 @@ def sum_if_all(counts: Iterable[int | None]) -> int | None:
             return None
         total += count
     return total
+
+
+def list_of_all(closings: dict[int, Closing]) -> dict[str, Any]:
+    """The list of expected objects that all parts searched, of which each counts its own; none if
+    one of them searched no list, or another one."""
+    lists = {it.list for it in closings.values()}
+    if len(lists) != 1:
+        return {}
+    return {"list": lists.pop(), "listed": sum(it.listed for it in closings.values())}
 
 
 def of_all_parts(closings: dict[int, Closing], cycle: int) -> dict[str, Any]:

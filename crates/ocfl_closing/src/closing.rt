@@ -13,12 +13,12 @@ use crate::rows::Rows;
 use ocfl_accounts::{ClosingStop, Found, Look, NotSaid, Pair, Say, find_unsaid, say_cycles};
 use ocfl_files::failing::{Failure, say_failure};
 use ocfl_files::timing::seconds_now;
-use ocfl_kept::kept::is_told;
+use ocfl_kept::kept::{is_told, read_ends};
 use ocfl_kept::names::Names;
 use ocfl_kept::room::Room;
 use ocfl_kept::state::failed_folder;
 use ocfl_kept::state_dir::Folder;
-use ocfl_lists::read_expected;
+use ocfl_lists::{Listed, read_expected};
 use ocfl_report::{Line, write_all_of};
 use ocfl_telling::{ClosingRow, Known, LogRow, log_line};
 use ocfl_tree::Place;
@@ -87,6 +87,20 @@ fn closing_line(
     log_line(alloc, &LogRow::Closing(row))
 }
 
+/// Those of the objects that must be there that are in the part of a state folder: all of them, if
+/// it is of a whole storage root.
+fn of_part<F: Folder>(
+    alloc: Global,
+    folder: &mut F,
+    state: &str,
+    listed: Listed,
+) -> Result<Listed, Failure> {
+    match read_ends(alloc, folder, state)? {
+        Some(ends) => Ok(listed.within(alloc, &ends)?),
+        None => Ok(listed),
+    }
+}
+
 /// With what the closings of a state folder are told.
 #[derive(Clone, Copy)]
 pub struct Told<'n> {
@@ -119,6 +133,7 @@ impl Told<'_> {
         };
         let alloc = rt.global();
         let listed = read_expected(alloc, file, rt.open_file(file))?;
+        let listed = of_part(alloc, folder, self.names.state, listed)?;
         find_unlisted(alloc, folder, self.names.state, pair, listed, rows, account)
     }
 

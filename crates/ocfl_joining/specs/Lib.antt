@@ -3,5 +3,6 @@ pub mod Reports
 pub mod Joined
 pub mod Stops
 pub mod Memory
+pub mod Within
 -- What private functions say: a reader of the public contracts needs none of it.
 pub mod Internal

@@ -9,6 +9,7 @@
 //!   that saw far fewer names in the root than another one, or is not whole.
 //! - `join` joins them if nothing but that keeps it from it; else it names each part that does, and
 //!   opens no report.
+//! - `find_within` gives the places of a list that are in a part.
 //!
 //! And if the reports are as the trait [`PartReports`] says:
 //!
@@ -29,6 +30,7 @@ mod memory;
 mod missing;
 mod part;
 mod reports;
+mod within;
 
 pub use copying::PartStop;
 pub use joining::{JoinStop, Joined, join};
@@ -36,3 +38,4 @@ pub use memory::{MemoryJoined, MemoryReport, MemoryReports};
 pub use missing::{find_missing, find_most_names};
 pub use part::{ClosedPart, MissingPart, PartFault};
 pub use reports::{KeptMark, PartReports, ReportTrouble};
+pub use within::find_within;

@@ -3,11 +3,12 @@
 use crate::room::Room;
 use crate::state::failed_folder;
 use crate::state_dir::Folder;
-use ocfl_cursor::Refused;
+use ocfl_cursor::{PartEnds, Refused};
 use ocfl_disk::{OpenReport, StateFile};
 use ocfl_files::failing::Failure;
 use ocfl_files::making::failed_file;
 use ocfl_state::{Checkpoint, Left, ReportDigests, ReportMark, decode_checkpoint};
+use ocfl_telling::Shown;
 use ocfl_tree::Place;
 use std::alloc::{AllocError, Global};
 use std::io::{self, Read};
@@ -118,6 +119,46 @@ pub(crate) fn read_checkpoint<F: Folder>(
         Ok(bytes) => Ok(bytes),
         Err(_) => Err(failed_folder(alloc, folder, state)),
     }
+}
+
+/// The ends of the part that a state folder is of, by its checkpoint. `None` if it is of a whole
+/// storage root.
+pub fn read_ends<F: Folder>(
+    alloc: Global,
+    folder: &mut F,
+    state: &str,
+) -> Result<Option<PartEnds>, Failure> {
+    let Some(bytes) = read_checkpoint(alloc, folder, state)? else {
+        return Err(no_checkpoint(alloc, state));
+    };
+    match checkpoint_of(alloc, &bytes)? {
+        Some(checkpoint) => Ok(ends_of(&checkpoint)?),
+        None => Err(no_checkpoint(alloc, state)),
+    }
+}
+
+/// The place of an end, if there is one.
+pub fn place_of(end: &Option<Place>) -> Result<Option<Place>, AllocError> {
+    match end {
+        Some(place) => Ok(Some(place.try_clone()?)),
+        None => Ok(None),
+    }
+}
+
+/// The ends of the part that a checkpoint is of.
+fn ends_of(checkpoint: &Checkpoint) -> Result<Option<PartEnds>, AllocError> {
+    match &checkpoint.part {
+        Some(ends) => Ok(Some(PartEnds {
+            from: place_of(&ends.from)?,
+            below: place_of(&ends.below)?,
+        })),
+        None => Ok(None),
+    }
+}
+
+/// That the checkpoint of a state folder cannot be read.
+fn no_checkpoint(alloc: Global, state: &str) -> Failure {
+    Failure::saying(format!(in alloc; "{}: its checkpoint cannot be read\n", Shown(state)))
 }
 
 /// The path of the report of a cycle, closed or joined.

@@ -125,10 +125,6 @@ pub record HasBounds (rows : List Row) (bounds : NightBounds) : Type 0 where
   pub until : IsUntil rows bounds.until
   pub every : MayHaveCount (codes "every") most_days rows bounds.every
 
--- objects are expected of a part
-abbrev pub ExpectsOfPart : List Row → Type 0
-ExpectsOfPart rows = (IsLeftOut (codes "expected") rows → ⊥) × (IsLeftOut (codes "parts") rows → ⊥)
-
 -- a night, with the folders and the files that it is made with
 pub record IsNight (rows : List Row) (n : NightAsked) : Type 0 where
   pub state : HasText (codes "state") rows n.state
@@ -137,7 +133,6 @@ pub record IsNight (rows : List Row) (n : NightAsked) : Type 0 where
   pub chosen : IsChosen rows n.chosen
   pub known : option_map string_bytes n.known ≡ first_of (codes "known") rows
   pub expected : option_map string_bytes n.expected ≡ first_of (codes "expected") rows
-  pub of_all : ExpectsOfPart rows → ⊥
   pub create : IsTrue n.create ↔ IsGiven (codes "create") rows
   pub force_root : IsTrue n.force_root ↔ IsGiven (codes "force-root") rows
   pub stop_at_faults : IsTrue n.stop_at_faults ↔ IsGiven (codes "stop-at-faults") rows

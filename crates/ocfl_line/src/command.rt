@@ -121,8 +121,8 @@ that is open goes on";
 
 const KNOWN: &str = "A file of known findings, which messages leave out: report lines, one a line";
 
-const EXPECTED: &str = "A file of the objects that must be there, one path a line; it cannot be \
-used with a part";
+const EXPECTED: &str = "A file of the objects that must be there, one path a line; of a part those \
+that are in it count";
 
 const CREATE: &str = "Begins the first cycle if the state folder has no checkpoint";
 

@@ -21,8 +21,6 @@ enum Complaint<'a> {
     Both,
     /// The words are not those of one way to split.
     Split,
-    /// Objects are expected of a part.
-    Expected,
     /// A night has more than one end.
     Ends,
     /// The value of `--until` is no time of day.
@@ -50,11 +48,6 @@ impl Complaint<'_> {
                 alloc,
                 "'split' takes either '--parts <COUNT>' and '<ROOT>', \
                  or '--budget <N>' and '--report <FILE>'",
-            ),
-            Complaint::Expected => String::from_str(
-                alloc,
-                "'--expected <FILE>' cannot be used with '--parts <FILE>': it lists the objects \
-                 of a whole storage root",
             ),
             Complaint::Ends => String::from_str(
                 alloc,
@@ -121,9 +114,6 @@ fn find_complaint<'a>(name: &str, inner: &ArgMatches<'a>) -> Complaint<'a> {
     }
     if has_file != has_number {
         return Complaint::Unpaired;
-    }
-    if has_file && !is_left_out(inner, "expected") {
-        return Complaint::Expected;
     }
     find_value(inner)
 }

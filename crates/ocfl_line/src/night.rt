@@ -50,7 +50,8 @@ pub struct NightAsked {
     pub chosen: Chosen,
     /// The file of findings that are known, if it is given.
     pub known: Option<String>,
-    /// The file of the objects that must be there, if it is given; never with a part.
+    /// The file of the objects that must be there, if it is given: of a part those that are in it
+    /// count.
     pub expected: Option<String>,
     /// Whether a state folder without a checkpoint is begun in.
     pub create: bool,

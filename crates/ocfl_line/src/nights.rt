@@ -1,15 +1,15 @@
 //! What the arguments that `clap` found ask for of nights.
-ghost use Rattle.std.specs.Prelude.{◌↔◌, String, IfOk, IfSome, IsNone, IsTrue};
+ghost use Rattle.std.specs.Prelude.{String, IfOk, IfSome, IsNone};
 ghost use Rattle.std.specs.declared.alloc.Global.{Global};
 ghost use Rattle.clap.specs.Words.{found_of, rows_of};
-ghost use Rattle.ocfl_line.specs.Asks.{ExpectsOfPart, HasBounds, HasText, IsChosen, IsJoin, IsNight, IsRead, MayHaveSize};
+ghost use Rattle.ocfl_line.specs.Asks.{HasBounds, HasText, IsChosen, IsJoin, IsNight, IsRead, MayHaveSize};
 
 use crate::budget::read_amount;
 use crate::choosing::chosen_by;
 use crate::ending::until_of;
 use crate::night::{JoinAsked, NightAsked, NightBounds};
 use crate::task::Chosen;
-use crate::values::{copied, count_if_any, each_of, is_given, is_left_out, text_of};
+use crate::values::{copied, count_if_any, each_of, is_given, text_of};
 use clap::ArgMatches;
 use ocfl_cursor::Budget;
 use std::alloc::{AllocError, Global};
@@ -52,13 +52,6 @@ fn bounds_of(inner: &ArgMatches<'_>) -> Option<NightBounds>
     })
 }
 
-/// Whether objects are expected of a part.
-fn expects_of_part(inner: &ArgMatches<'_>) -> bool
-    ensures { IsTrue result ↔ ExpectsOfPart (rows_of (found_of inner.now)) }
-{
-    !is_left_out(inner, "expected") && !is_left_out(inner, "parts")
-}
-
 /// The texts of two arguments, or `None` if one of them is left out.
 fn both_of(
     alloc: Global,
@@ -89,9 +82,6 @@ pub(crate) fn night_by(
 ) -> Result<Option<NightAsked>, AllocError>
     ensures { IfOk result (IsRead (IsNight (rows_of (found_of inner.now)))) }
 {
-    if expects_of_part(inner) {
-        return Ok(None);
-    }
     let Some(bounds) = bounds_of(inner) else {
         return Ok(None);
     };
@@ -108,7 +98,6 @@ fn night_of(
     bounds: NightBounds,
     chosen: Chosen,
 ) -> Result<Option<NightAsked>, AllocError>
-    requires of_all { ExpectsOfPart (rows_of (found_of inner.now)) → ⊥ }
     requires bounds { HasBounds (rows_of (found_of inner.now)) bounds }
     requires chosen { IsChosen (rows_of (found_of inner.now)) chosen }
     ensures { IfOk result (IsRead (IsNight (rows_of (found_of inner.now)))) }

@@ -2,8 +2,10 @@
 
 use crate::refusing::refused;
 use ocfl_compare::{ListStop, read_list};
+use ocfl_cursor::PartEnds;
 use ocfl_files::failing::Failure;
 use ocfl_files::heard::HeardReader;
+use ocfl_joining::find_within;
 use ocfl_report::{InputStop, read_next_line};
 use ocfl_telling::Shown;
 use ocfl_tree::Place;
@@ -35,6 +37,13 @@ impl Listed {
             last = Some(place);
         }
         count
+    }
+
+    /// Those that are in the part with these ends.
+    pub fn within(self, alloc: Global, ends: &PartEnds) -> Result<Listed, AllocError> {
+        let Listed { places, digits } = self;
+        let places = find_within(alloc, &ends.from, &ends.below, &places)?;
+        Ok(Listed { places, digits })
     }
 }
 

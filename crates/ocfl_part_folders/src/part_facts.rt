@@ -3,7 +3,7 @@
 use ocfl_cursor::{PartEnds, Refused};
 use ocfl_files::failing::Failure;
 use ocfl_joining::ClosedPart;
-use ocfl_kept::kept::{ClosedIn, is_told, places_of};
+use ocfl_kept::kept::{ClosedIn, is_told, place_of, places_of};
 use ocfl_kept::room::Room;
 use ocfl_kept::stand::Standing;
 use ocfl_state::{Checkpoint, RootIdentity, decode_checkpoint};
@@ -47,14 +47,6 @@ fn root_text(alloc: Global, identity: &RootIdentity) -> Result<Vec<u8>, AllocErr
     root.push(b'\n')?;
     root.extend_from_slice(&identity.declared)?;
     Ok(root)
-}
-
-/// The place of an end, if there is one.
-fn place_of(end: &Option<Place>) -> Result<Option<Place>, AllocError> {
-    match end {
-        Some(place) => Ok(Some(place.try_clone()?)),
-        None => Ok(None),
-    }
 }
 
 /// What a checkpoint says of its part. A whole root has no ends.

@@ -2,7 +2,7 @@
 use crate::tests::common::store::place_of;
 use ocfl_joining::{
     ClosedPart, JoinStop, Joined, KeptMark, MemoryReport, MemoryReports, MissingPart, PartFault,
-    PartReports, PartStop, ReportTrouble, find_missing, find_most_names, join,
+    PartReports, PartStop, ReportTrouble, find_missing, find_most_names, find_within, join,
 };
 use ocfl_parts::{Separators, read_parts};
 use ocfl_state::ReportMark;
@@ -312,6 +312,36 @@ fn nothing_is_put_if_a_call_fails(rt: HostRuntime) -> Result<(), Fail> {
         assert_eq!(rt; made.is_ok(), left == calls, "{left}");
         let count = if left == calls { 1 } else { 0 };
         assert_eq!(rt; failing.reports.joined().len(), count, "{left}");
+    }
+    Ok(())
+}
+
+/// The ends of a part, and which of `LISTED` are in it.
+const WITHIN: [(Option<&str>, Option<&str>, &[&str]); 4] = [
+    (None, None, &["d", "b/c", "a", "b", "b-", "c/x", "d"]),
+    (None, Some("b"), &["a"]),
+    (Some("b"), Some("d"), &["b/c", "b", "b-", "c/x"]),
+    (Some("d"), None, &["d", "d"]),
+];
+
+const LISTED: &[&str] = &["d", "b/c", "a", "b", "b-", "c/x", "d"];
+
+fn places(alloc: Global, paths: &[&str]) -> Result<Vec<Place>, Fail> {
+    let mut places = Vec::new(alloc);
+    for path in paths {
+        places.push(place_of(alloc, path)?)?;
+    }
+    Ok(places)
+}
+
+#[test]
+fn each_place_is_in_one_part(rt: HostRuntime) -> Result<(), Fail> {
+    let alloc = rt.alloc();
+    let listed = places(alloc, LISTED)?;
+    for (from, below, wanted) in WITHIN {
+        let (from, below) = (end(alloc, from)?, end(alloc, below)?);
+        let found = find_within(alloc, &from, &below, &listed)?;
+        assert_eq!(rt; found, places(alloc, wanted)?);
     }
     Ok(())
 }

@@ -72,10 +72,14 @@ fn reads_a_night(rt: HostRuntime) -> Result<(), Fail> {
 #[test]
 fn reads_a_night_of_a_part(rt: HostRuntime) -> Result<(), Fail> {
     let alloc = rt.alloc();
-    let night = read_night(alloc, "night --state S --part 7 --parts F --known K R")?;
+    let night = read_night(
+        alloc,
+        "night --state S --part 7 --parts F --known K --expected E R",
+    )?;
     let parts = String::from_str(alloc, "F")?;
     assert_eq!(rt; night.chosen, Chosen::Part { parts, number: 7 });
     assert_eq!(rt; night.known.as_deref(), Some("K"));
+    assert_eq!(rt; night.expected.as_deref(), Some("E"));
     Ok(())
 }
 
@@ -279,11 +283,6 @@ const COMPLAINTS: &[(&str, &str)] = &[
     (
         "--part 1",
         "'--parts <FILE>' and '--part <K>' must be used together",
-    ),
-    (
-        "--parts F --part 1 --expected E",
-        "'--expected <FILE>' cannot be used with '--parts <FILE>': it lists the objects of a whole \
-         storage root",
     ),
 ];
 

@@ -238,18 +238,18 @@ fn more_respelt(alloc: Global, count: usize) -> Result<String, AllocError>
 /// those.
 fn put_some_respelt(
     alloc: Global,
-    before: usize,
+    seen: usize,
     all: &[Finding],
     finding: &Finding,
     text: &mut Vec<u8>,
 ) -> Result<(), AllocError>
     ensures { OnOk result (text.new.items ≡ text.old.items
-        ++ some_respelt_text before (map finding_of all.now) (finding_of finding.now)) }
+        ++ some_respelt_text seen (map finding_of all.now) (finding_of finding.now)) }
 {
-    if before < ALIKE {
+    if seen < ALIKE {
         return put_respelt(alloc, finding, text);
     }
-    if before == ALIKE {
+    if seen == ALIKE {
         let count = count_with(finding, all).saturating_sub(ALIKE);
         return put_made(more_respelt(alloc, count), text);
     }
@@ -426,13 +426,8 @@ fn put_group(
     put_made(head(alloc, &finding.object, files, code), text)?;
     put_members(alloc, finding, sorted.alone, text)?;
     put_respelt_members(alloc, finding, sorted.respelt, text)?;
-    put_step(
-        alloc,
-        sorted.alone,
-        before,
-        first_with(finding, sorted.alone),
-        text,
-    )?;
+    let first = first_with(finding, sorted.alone);
+    put_step(alloc, sorted.alone, before, first, text)?;
     put_made(again(alloc, root, &finding.line.place), text)
 }
 

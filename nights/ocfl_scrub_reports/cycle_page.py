@@ -30,7 +30,6 @@ GONE = [("Objects gone", "object", "gone"), ("Objects no longer declared", "obje
 NOT_BACK = ["Objects gone and not back", "Objects no longer declared, and not back",
             "Files gone and not back"]
 OTHER_FORM = ": the name of a missing file in another form of Unicode"
-GRAVE = "bytes are not those that were taken in, or could not be read"
 
 
 class Found(NamedTuple):
@@ -169,8 +168,10 @@ class Page:
         right, objects = self.number("Files found right") or 0, self.number("Objects") or 0
         grave = self.findings.count.get(b"1", 0)
         if self.findings.all:
-            more = "; %s: %s" % (said_by(grave, self.findings.all), GRAVE) if grave else ""
+            more = ", %s damaged or unreadable" % "{:,}".format(grave) if grave else ""
             yield many(self.findings.all, "finding") + more
+        elif not objects and not right and self.is_whole:
+            yield "Nothing was found, and nothing was there to read: the report has no object"
         else:
             yield "Nothing was found%s: %s of %s %s read to the end, and %s right" % (
                 "" if self.is_whole else " where it looked", many(right, "content file"),
@@ -275,12 +276,15 @@ class Page:
                 "<h3>Object at %s</h3>\n" % place(path))
         missing = {in_one_form(it.line.path) for it in found
                    if it.line.detail.endswith(b" missing")}
-        return head + table("", ("place", "what", "code", "detail", "since the cycle before"), [
+        return head + table("", ("place", "what", "code", "detail", self.head_of_changes()), [
             (place_within(it.line.path, path), self.words.meaning(it.line.code, it.line.detail)
              + OTHER_FORM * (it.line.code == b"E023" and in_one_form(it.line.path) in missing),
              it.line.code.decode(), detail(it.line.code, it.line.detail),
              now.get(it.line.code + b"\t" + it.line.path, NOT_KNOWN)) for it in found],
             "findings")
+
+    def head_of_changes(self) -> str:
+        return "since cycle %s" % self.said["Compared with cycle"] if self.earlier else "before"
 
     def compared_with_before(self) -> dict[bytes, str]:
         """Of each shown finding, by its code and place, what the report before had there."""
@@ -432,11 +436,6 @@ class Page:
             self.about_reading(), self.about_whole(), self.about_findings(), self.about_losses(),
             self.about_repaired(), self.about_unlooked(), self.about_statement()])
         markup.write("Cycle %d of %s" % (self.cycle, self.said.get("Storage root", "")), body)
-
-
-def said_by(grave: int, count: int) -> str:
-    return "it says" if count == 1 else "one of them says" if grave == 1 else (
-        "%s of them say" % "{:,}".format(grave))
 
 
 def not_known(why: str) -> str:

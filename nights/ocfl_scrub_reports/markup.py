@@ -14,7 +14,8 @@ from .status import WORDS
 STYLE = """
 :root { color-scheme: light dark; --bar: #36c; --line: #8888; --good: #187a50; --warn: #8a5a00;
   --bad: #b3261e; }
-body { font: 1rem/1.5 system-ui, sans-serif; max-width: 70rem; margin: 2rem auto; padding: 0 1rem; }
+body { font: 1rem/1.5 system-ui, sans-serif; max-width: 70rem; margin: 2rem auto; padding: 0 1rem;
+  overflow-wrap: anywhere; }
 table { border-collapse: collapse; margin: 1rem 0; max-width: 100%; }
 caption, h2, h3 { text-align: left; font-weight: 600; }
 h3 { margin-bottom: 0; } h3 + p { margin-top: 0; }
@@ -22,13 +23,13 @@ th, td { border-bottom: 1px solid var(--line); padding: .2rem .8rem .2rem 0; tex
   vertical-align: top; overflow-wrap: break-word; }
 caption { white-space: nowrap; } bdi { overflow-wrap: anywhere; }
 tbody th { font-weight: normal; }
-td.number { text-align: right; } td.number, td.time { white-space: nowrap; }
-.place, pre { white-space: pre-wrap; } pre { overflow-wrap: anywhere; }
+.number { text-align: right; } td.number, .time, .name { white-space: nowrap; }
+.place, pre { white-space: pre-wrap; }
 table .place { display: inline-block; max-width: 32rem; }
 .findings { table-layout: fixed; width: 100%; } .findings .place { max-width: 100%; }
 .findings thead th:nth-child(1) { width: 31%; } .findings thead th:nth-child(2) { width: 17%; }
 .findings thead th:nth-child(3) { width: 3.2rem; }
-.findings thead th:nth-child(5) { width: 5.5rem; }
+.findings thead th:nth-child(5) { width: 7.5rem; }
 .byte { border: 1px solid; border-radius: .2em; padding: 0 .1em; margin: 0 .1em; font-size: .8em;
   font-family: monospace; }
 svg { width: 100%; height: auto; max-width: 45rem; display: block; }
@@ -36,18 +37,24 @@ svg rect { fill: var(--bar); } svg .done { fill: var(--good); } svg .open { fill
 svg .bad { fill: var(--bad); }
 svg text { fill: currentColor; font-size: 9px; } svg line { stroke: var(--line); }
 .verdict { font-size: 1.2rem; }
-.level { padding: .1rem .6rem; border-radius: .3rem; border: 2px dotted #fff; color: #fff;
-  background: #666; font-weight: 600; }
-.level.ok { border: 2px solid var(--good); background: var(--good); }
-.level.warning { border: 2px dashed #fff; background: var(--warn); }
-.level.critical { border: 4px double #fff; background: var(--bad); }
+.level { --of: #666; padding: .1rem .6rem; border-radius: .3rem; border: 2px solid var(--of);
+  color: #fff; background: var(--of); font-weight: 600; }
+.level.ok { --of: var(--good); } .level.warning { --of: var(--warn); }
+.level.critical { --of: var(--bad); }
 @media (prefers-color-scheme: dark) { :root { --bar: #8ad; } svg .done { fill: #5c9; }
   svg .bad { fill: #f88; } }
+@media screen and (max-width: 45rem) {
+  table { display: block; overflow-x: auto; } caption { display: block; white-space: normal; }
+  .findings thead { display: none; }
+  .findings, .findings tbody, .findings tr, .findings tbody th, .findings td { display: block; }
+  .findings tbody th, .findings tbody td { border: 0; padding: 0; }
+  .findings tr { border-bottom: 1px solid var(--line); padding: .3rem 0; }
+}
 @media print {
   :root { color-scheme: light; --bar: #36c; }
   @page { margin: 15mm; }
   body { max-width: none; margin: 0; padding: 0; font-size: 10pt; }
-  .level[class] { color: #000; background: none; border-color: #000; }
+  .level[class] { color: var(--of); background: none; }
   h2, h3, caption { break-after: avoid; } h3 + p { break-after: avoid; }
   tr, svg { break-inside: avoid; } article { break-before: page; }
   thead { display: table-header-group; }
@@ -58,6 +65,8 @@ POLICY = ('<meta http-equiv="Content-Security-Policy" content="default-src \'non
           'style-src \'unsafe-inline\'">\n')
 # A time as logs and statements have it.
 TIME = re.compile("[0-9]{4}-[0-9]{2}-[0-9]{2}T[0-9:]{8}Z")
+# The name of a file that belongs to a cycle.
+NAME = re.compile("[a-z]{1,16}-[0-9]{6,12}([.][a-z]{1,8})?")
 # How many digits of a digest are shown.
 DIGITS = 12
 
@@ -132,10 +141,14 @@ def listed(values: Iterable[object]) -> str:
 
 def table(caption: str, heads: Sequence[str], rows: Iterable[Sequence[object]],
           kind: str = "") -> str:
-    """A table. One of findings, as `kind` says, has columns of the same widths as others."""
-    head = "".join('<th scope="col">%s</th>' % text(name) for name in heads)
-    body = "".join('<tr><th scope="row">%s</th>%s</tr>\n' % (
-        text(first), "".join(map(cell, others))) for first, *others in rows)
+    """A table. One of findings, as `kind` says, has columns of the same widths as others. The head
+    of a column of numbers stands above their last digits."""
+    rows = list(rows)
+    head = "".join('<th scope="col"%s>%s</th>' % (
+        ' class="number"' if any(isinstance(row[at], int) for row in rows if at) else "",
+        text(name)) for at, name in enumerate(heads))
+    body = "".join('<tr><th scope="row"%s>%s</th>%s</tr>\n' % (
+        kind_of(first), text(first), "".join(map(cell, others))) for first, *others in rows)
     return ("<table%s>%s\n<thead><tr>%s</tr></thead>\n<tbody>%s</tbody></table>\n" % (
         ' class="%s"' % kind if kind else "",
         "<caption>%s</caption>" % text(caption) if caption else "", head, body))
@@ -144,8 +157,14 @@ def table(caption: str, heads: Sequence[str], rows: Iterable[Sequence[object]],
 def cell(value: object) -> str:
     if isinstance(value, int):
         return '<td class="number">{:,}</td>'.format(value)
-    kind = ' class="time"' if TIME.fullmatch(str(value)) else ""
-    return "<td%s>%s</td>" % (kind, text(value))
+    return "<td%s>%s</td>" % (kind_of(value), text(value))
+
+
+def kind_of(value: object) -> str:
+    """The attribute of a cell that is not broken into lines: a time, or the name of a file of the
+    state folder."""
+    kind = "time" if TIME.fullmatch(str(value)) else "name" if NAME.fullmatch(str(value)) else ""
+    return kind and ' class="%s"' % kind
 
 
 def section(name: str, *content: str) -> str:

@@ -3,6 +3,7 @@ runs no script."""
 from __future__ import annotations
 
 import math
+import os
 from dataclasses import dataclass
 from typing import Iterable, Sequence
 
@@ -21,6 +22,8 @@ from .weights import Weights
 SHOWN = 200
 # What the words of a list of what is gone stand for.
 LOST = {b"undeclared": "object, no longer declared", b"expected": "expected object, missing"}
+# What CHANGES count.
+HEADS_OF_CHANGES = ("new", "with another detail", "no longer there", "not looked at again")
 # What the status of a night means.
 RESULTS = {"0": ", no finding", "1": ", findings", "cut": ""}
 NIGHTS = 60
@@ -107,11 +110,13 @@ def strip(done: Sequence[bool]) -> str:
 
 def about_cycle(state: State, standing: Standing) -> str:
     log = standing.log
+    if not log.night:
+        return ""
     facts: list[tuple[str, str]] = [("cycle", "none" if log.cycle is None else str(log.cycle)),
              ("files read", "{:,}".format(log.files)),
              ("bytes read", size(log.spent - log.files)),
              ("nights so far" if log.is_open else "nights", str(log.count_nights())),
-             ("the last night began", log.night or "never"),
+             ("the last night began", log.night),
              ("status of the last night", log.status + RESULTS.get(log.status, "")
               + (", under way" if log.is_under_way else ""))]
     if log.is_open:
@@ -132,7 +137,7 @@ def about_progress(standing: Standing) -> list[tuple[str, str]]:
         facts.append(("place reached, in the order of names", place(files.bytes_of(log.place))))
     if standing.done is None:
         return facts + [("how much is left", standing.why_not_reckoned())]
-    facts.append(("done, by the cost of the cycle before", "%d %%" % standing.done))
+    facts.append(("done, by what the cycle before read", "%d %%" % standing.done))
     read = log.closing.read_bytes
     facts.append(("how much is left", "%d %%%s" % (100 - standing.done, "" if read is None else (
         ", about %s" % size(max(0, read - (log.spent - log.files)))))))
@@ -148,14 +153,16 @@ def about_nights(nights: list[tuple[str, Night]], is_under_way: bool) -> str:
              size(it.bytes / it.seconds) + "/s" if it.seconds else "",
              it.status + RESULTS.get(it.status, ", failed" if it.has_failed() else ""))
             for began, it in reversed(nights)]
-    has_failed = any(it.has_failed() for _, it in nights)
-    return section("Nights", bars("How much each night read", [
+    plots = [bars("How much each night read", [
         (began, it.bytes, it.has_failed()) for began, it in nights], SIZES),
         bars("How long each night read", [(began, it.seconds, it.has_failed())
-                                          for began, it in nights], SPANS),
-        markup.paragraph("A night with an x above its bar was cut, or failed.")
+                                          for began, it in nights], SPANS)]
+    has_failed = any(plots) and any(it.has_failed() for _, it in nights)
+    return section(
+        "Nights", *plots, markup.paragraph("A night with an x above its bar was cut, or failed.")
         if has_failed else "",
-        table("The last nights", ("began", "read", "in", "speed", "status"), rows))
+        table("The last nights", ("began", "read", "in", "speed", "status"), rows)
+        if rows else "")
 
 
 def about_findings(standing: Standing) -> str:
@@ -190,9 +197,8 @@ def about_changes(state: State) -> str:
         return ""
     facts = of_changes(questions.findings_in(closed[1]), closed[1], Before(closed[0]))
     return section("Since the cycle before", table(
-        "Findings of the last two closed reports", [it.partition(" findings")[0] or it
-                                                    for it in CHANGES],
-        [[facts[name] for name in CHANGES]]))
+        "Findings of %s beside those of %s" % tuple(map(os.path.basename, reversed(closed))),
+        HEADS_OF_CHANGES, [[facts[name] for name in CHANGES]]))
 
 
 def about_cycles(state: State, standing: Standing) -> str:
@@ -208,12 +214,12 @@ def about_cycles(state: State, standing: Standing) -> str:
                              "gone", "back", "statement"), rows) if rows else "")
 
 
-def of_statement(state: State, cycle: int) -> tuple[str, str]:
+def of_statement(state: State, cycle: int) -> tuple[int | str, str]:
     """How many files and bytes a cycle found right, by its statement."""
     path = state.find("statement", cycle)
     said = Statement.read(path) if path else Statement()
     count, sizes = (said.get(name, "") for name in ("Files found right", "Bytes found right"))
-    return ("{:,}".format(int(count)) if count.isdecimal() else NOT_KNOWN,
+    return (int(count) if count.isdecimal() else NOT_KNOWN,
             size(int(sizes)) if sizes.isdecimal() else NOT_KNOWN)
 
 

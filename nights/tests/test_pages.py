@@ -154,7 +154,7 @@ class Cycles(Asked):
         self.cycle(2, SECOND, LOST, unlooked=1, back=0, repaired=1)
         shown = self.page(2)
         self.has(
-            shown, "CRITICAL", "6 findings; 2 of them say: bytes are not", "1 object is gone.",
+            shown, "CRITICAL", "6 findings, 2 damaged or unreadable.", "1 object is gone.",
             "1 object is no longer declared.", "objects|2|", "content files|5|",
             "files found right|2|", "bytes found right|1.21 kB (1,205 bytes)|",
             "Yes: the report has every line", "bytes have changed|E092|1|", "missing|E092|1|",
@@ -163,7 +163,7 @@ class Cycles(Asked):
             "40b244112641..|new|", "v1/content/d|missing|E092|expected a digest of md5|new|",
             "Object at q\n", "inventory.json|a file outside of any object|E072||new|",
             "Object at r\n", "the object itself|its inventory's sidecar cannot be used|E061|"
-            "sha512|new|", "v1/content/a|not in the inventory|E023||new|",
+            "sha512|new|", "v1/content/a|not in the inventory|E023||new|", "detail|since cycle 1|",
             "Outside of any object\n", "z|an empty folder where an object should be|E073||new|",
             "Gone since cycle 1", "object|p|", "object, no longer declared|q|",
             "1 file is no longer looked at", "1 finding is repaired.",
@@ -213,6 +213,11 @@ class Cycles(Asked):
         self.has(self.page(3), "OK\n", "Nothing was found: 1 content file of 1 object was read to "
                  "the end, and is right.\nNothing is gone since cycle 2.\n",
                  "Nothing: no line of the report is a finding.")
+
+    def test_no_object(self):
+        self.cycle(2, b"ok\t.\t-\n")
+        self.has(self.page(2), "Nothing was found, and nothing was there to read: the report has "
+                 "no object.\n")
 
     def test_what_is_not_good(self):
         """Nothing was found, and yet not all is well."""
@@ -364,6 +369,20 @@ class Cycles(Asked):
 
 
 class Nights(Asked):
+    def test_no_night(self):
+        made = Program(self.at("state"))
+        status, out, _ = self.ask("page", *NOW, made.path)
+        self.assertEqual((status, re.sub("\n+", "\n", Read(out).text).split("\n")[4:]), (
+            0, ["UNKNOWN", "no night has run", "What is open", "0 open findings",
+                "What is gone is not known: no cycle is closed", ""]))
+
+    def test_a_night_without_a_bar(self):
+        made = Program(self.at("state"))
+        made.refuse(1)
+        out = Read(self.ask("page", *NOW, made.path)[1]).text
+        self.assertIn("2026-03-01T22:00:00Z|0 bytes|0 s||3, failed|", out)
+        self.assertNotIn("an x above its bar", out)
+
     def test_hostile_names(self):
         made = Program(self.at("state"), root=ROOT)
         report = b"".join(b"E072\t%s\t-\n" % name for name, _ in sorted(NAMES))

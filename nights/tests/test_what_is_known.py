@@ -516,7 +516,7 @@ class New(Told):
         said = self.said(2)
         self.check(said, Former_findings="0", Findings_no_longer_looked_at="1")
         out = re.sub("<[^>]*>", " ", self.ask("page", *NOW, self.made.path)[1])
-        self.assertRegex(out, r"no longer looked at\s+0\s+0\s+0\s+1\s")
+        self.assertRegex(out, r"not looked at again\s+0\s+0\s+0\s+1\s")
 
     def test_two_details_of_one_place(self):
         one = b"ok\t.\t-\nok\to\t-\nE093\to/a\tmd5 x y\nE093\to/a\tsha1 x y\n"

@@ -428,21 +428,6 @@ def losses(folder):
           ["Objects gone and not back: 0"])
 
 
-def in_a_browser(file, folder):
-    """What a browser makes of a page, if there is one here: no element of a name, and a picture."""
-    if not shutil.which("chromium"):
-        print("standing.py: skipped: the page in a browser: there is no chromium")
-        return
-    picture = folder + "/picture.png"
-    call = ["chromium", "--headless", "--no-sandbox", "--disable-gpu", "--user-data-dir=" + folder
-            + "/profile", "--window-size=1000,2000"]
-    out = ran([*call, "--dump-dom", "file://" + file])[1]
-    check("in a browser", ["CRITICAL" in out, "&lt;b&gt;&amp;amp;&lt;script&gt;" in out,
-                           "<script" in out, out.count("<rect")], [True, True, False, 12])
-    ran([*call, "--screenshot=" + picture, "file://" + file])
-    check("a picture of it", common.read(picture)[:4], b"\x89PNG")
-
-
 def page(folder):
     """A page for a browser has what the status has, whatever the names are, and nothing from
     elsewhere."""
@@ -464,7 +449,6 @@ def page(folder):
     check("no script, nothing from elsewhere", re.findall("<script|src=|href=|url\\(|https?:", out),
           [])
     check("a plot of each night", len(list(root.iter("rect"))), 12)
-    in_a_browser(write(folder + "/index.html", out), folder)
     check("no folder", ran([REPORTS, "page", folder + "/none"])[0:2], (3, ""))
     empty = State(folder + "/empty")
     check("no night", ran([REPORTS, "page", empty.path])[0], 0)

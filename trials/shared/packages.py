@@ -4,7 +4,8 @@ import shutil
 import subprocess
 
 # Debian's packages, by the tool that is looked for.
-PACKAGES = {"strace": ["strace"], "parallel": ["parallel"], "slurmctld": ["slurm-wlm", "munge"]}
+PACKAGES = {"strace": ["strace"], "parallel": ["parallel"], "slurmctld": ["slurm-wlm", "munge"],
+            "chromium": ["chromium"], "pdftotext": ["poppler-utils"]}
 WAIT = ["-o", "DPkg::Lock::Timeout=300"]
 
 

@@ -133,8 +133,9 @@ class State:
         write(self.path + "/reports/gone-%06d" % cycle, gone)
         self.row(row="closing", time=seconds(at or began), night=seconds(began), cycle=cycle,
                  report=self.path + "/" + name, whole=whole, findings=0, repaired=0,
-                 gone=gone.count("\n"), left=0, **{
-                     "new": 0, "compared": cycle - 1 if whole else 0, "why": "", "list": "", "listed": 0,
+                 gone=gone.count("\n"), **{
+                     "left": 0, "new": 0, "compared": cycle - 1 if whole else 0, "why": "",
+                     "list": "", "listed": 0,
                      "objects": gone.count("object\t"), "files": gone.count("file\t"),
                      "expected": gone.count("expected\t"), "unlooked": 0, "back": 0, **said})
 

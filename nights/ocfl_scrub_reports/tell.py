@@ -3,27 +3,23 @@ from __future__ import annotations
 
 import glob
 import os
-import re
 import signal
 import subprocess
 import sys
 from dataclasses import dataclass
-from typing import Mapping, Sequence
+from typing import Mapping, NamedTuple, Sequence
 
 from . import files
-from .state import is_held
-from .statement import plain
+from .log import Closing
+from .shared import Failed
+from .state import State, is_held, open_state
+from .statement import Statement, plain
 
 WORDS = {"0": "{}: a message about the nights", "1": "findings in {}",
          "75": "{}: another night still runs"}
 NO_TEXT = ("It left no text in its folder, or the text was sent already. If it could not write "
            "there,\n%s.\n")
 NO_ROOM = "What it said could not be written into %s: is there room for it?\nElse %s.\n"
-# What a night says that found nothing bad, and its words.
-GOOD = [(re.compile(b" repaired"), "{}: findings repaired"),
-        (re.compile(rb"(?m)^[0-9]+ object\S* \S+ back in cycle "), "{}: objects are back")]
-# The word at the end of a cycle.
-ENDED = re.compile(rb"(?m)^Cycle ([0-9]+) ended: ([0-9]+) of ([0-9]+) files? right, ")
 # How many seconds a mail may take. What hangs must not keep the messages of later nights.
 PATIENCE = 300
 
@@ -89,7 +85,7 @@ class Night:
         stopped = "{}: the night stopped with status " + self.status
         words = WORDS.get(self.status, stopped)
         if self.status == "0" and not self.has_unsent:
-            words = good_words(self.said(), len(self.folders)) or words
+            words = good_words([closed_last(it.path) for it in self.folders]) or words
         return words.replace("{}", self.shown)
 
     def said(self) -> bytes:
@@ -129,20 +125,58 @@ class Night:
             it.forget()
 
 
-def good_words(said: bytes, folders: int) -> str:
-    """What came of a night that found nothing bad: of several cycles that ended, that of the last
-    one. Empty if it is not known."""
-    for found, words in GOOD:
-        if found.search(said):
-            return words
-    ended = ENDED.findall(said)
-    if not ended:
-        return ""
-    if folders > 1:
-        return "{}: cycles ended"
-    cycle, right, files = (it.decode() for it in ended[-1])
-    result = "all right" if right == files else "%s of %s files right, nothing new" % (right, files)
-    return "cycle %s of {}: %s" % (cycle, result)
+class Ended(NamedTuple):
+    """A cycle that the last night closed, what the log says of that, and its statement, which is
+    empty if there is none."""
+    cycle: int
+    closing: Closing
+    said: Statement
+
+    def words(self) -> str:
+        """What came of the cycle."""
+        right, count = (self.said.get(it, "") for it in ("Files found right", "Content files"))
+        if not right.isdecimal() or not count.isdecimal():
+            return "cycle %d of {} has ended" % self.cycle
+        is_new = self.closing.new or self.closing.gone
+        result = "all right" if right == count and not is_new else "%s of %s files right%s" % (
+            right, count, "" if is_new else ", nothing new")
+        return "cycle %d of {}: %s" % (self.cycle, result)
+
+
+def closed_last(folder: str) -> list[Ended]:
+    """The cycles that the last night of a folder closed, by the log: the words of a message may
+    change. None if nobody can say it."""
+    try:
+        state = open_state(folder)
+        state.refuse_links()
+        night, ended = "", {}
+        for entry in state.entries(True):
+            if entry.kind == "told":
+                night = entry.night
+            elif entry.closing and entry.closing.is_logged:
+                ended[entry.cycle] = entry
+        return [Ended(cycle, it.closing or Closing(), said_of(state, cycle))
+                for cycle, it in sorted(ended.items()) if it.night == night]
+    except (Failed, OSError, ValueError):
+        return []
+
+
+def said_of(state: State, cycle: int) -> Statement:
+    path = state.find("statement", cycle)
+    return Statement.read(path) if path else Statement()
+
+
+def good_words(closed: Sequence[Sequence[Ended]]) -> str:
+    """What came of a night that found nothing bad, over one folder or several: of several cycles
+    that ended, that of the last one. Empty if it is not known."""
+    ended = [it for every in closed for it in every]
+    if any(it.closing.repaired for it in ended):
+        return "{}: findings repaired"
+    if any(it.closing.back for it in ended):
+        return "{}: objects are back"
+    if len(closed) > 1:
+        return "{}: cycles ended" if ended else ""
+    return ended[-1].words() if ended else ""
 
 
 def has_text(path: str) -> bool:

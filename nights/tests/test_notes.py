@@ -369,26 +369,3 @@ class Told(State):
             status, said = self.told(EXIT_STATUS="1", MAIL="her@example.org")
         self.assertEqual((status, "could not be sent" in said, FINDING in said), (3, True, True))
         self.assertTrue(os.path.exists(self.state + "/tonight.x"))
-
-    def test_subjects(self):
-        for text, status, subject in [("1 finding of cycle 1 is repaired in cycle 2:\n", "0",
-                                       "archive: findings repaired"),
-                                      ("2 objects are back in cycle 3:\nobject\to1\n", "0",
-                                       "archive: objects are back"),
-                                      ("Cycle 3 ended: 9 of 9 files right, 1 object, 9 bytes, 2 runs.\n"
-                                       "Nothing new, nothing gone since cycle 2.\n", "0",
-                                       "cycle 3 of archive: all right"),
-                                      ("Cycle 3 ended: 8 of 9 files right, 1 object, 9 bytes.\n"
-                                       "Nothing new, nothing gone since cycle 2.\n", "0",
-                                       "cycle 3 of archive: 8 of 9 files right, nothing new"),
-                                      ("Cycle 2 ended: 0 of 0 files right, 1 object, 0 bytes.\n"
-                                       "Nothing to compare with.\nCycle 13 ended: 1 of 1 file "
-                                       "right, 1 object, 9 bytes.\n", "0",
-                                       "cycle 13 of archive: all right"),
-                                      ("object\to are back in cycle 3\n", "0",
-                                       "archive: a message about the nights"),
-                                      ("x\n", "0", "archive: a message about the nights"),
-                                      ("x\n", "1", "findings in archive")]:
-            self.put("tonight.x", text)
-            self.assertEqual(self.told(EXIT_STATUS=status)[1].splitlines()[0],
-                             "ocfl-scrub: " + subject)

@@ -11,13 +11,16 @@ QUIET = re.compile(
     r"(?m)^Cycle \d+ ended: \d+ of \d+ files? right, \d+ objects?, [0-9.]+ (?:bytes?|[kMGT]B)"
     r"(?:, \d+ runs?)?\.\n"
     r"(?:(?:Nothing new, nothing gone since cycle \d+|Nothing to compare with)\.\n)?")
-OBJECT = re.compile(r"Object (.*):")
+# How many files of an object are right, in whatever words.
+RIGHT = r"(?:, \d+ of \d+ [^,:/]*)?"
+OBJECT = re.compile(r"Object (.*?)" + RIGHT + ":")
 # A finding: its path, unless it is the object's own, its words, its code and its detail.
 FINDING = re.compile(r"\t(?:(.*): )?([^:\t]+) \(([ES]\d+)\)(.*)")
 # An object in one line: its path, its first finding, and how many more it has, of any code. So are
 # findings in none, of one code.
 BRIEF = re.compile(
-    r"(?:Object (.*?)|Elsewhere): (?:(.*): )?([^:\t]+) \(([ES]\d+)\)(?:, and (\d+) more)?")
+    r"(?:Object (.*?)" + RIGHT
+    + r"|Elsewhere): (?:(.*): )?([^:\t]+) \(([ES]\d+)\)(?:, and (\d+) more)?")
 # The line before what a night found, the parts that said it, and what is counted and not shown.
 NIGHT = re.compile(r"\d+ findings? tonight in .*, cycle (\d+), runs? (\d+)(?: to (\d+))?:")
 PARTS = re.compile(r"In parts? (.*):")

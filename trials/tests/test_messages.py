@@ -55,6 +55,16 @@ class Counted(unittest.TestCase):
             if line.startswith("\t") and "To do" not in line:
                 self.assertNotEqual(self.told((FIRST + SECOND).replace(line, "")), [], line)
 
+    def test_heads_with_counts(self):
+        """How many files of an object are right, in whatever words, is none of its name."""
+        for count in (", 2 of 4 files right", ", 0 of 1 file right of those read tonight"):
+            text = (FIRST + SECOND).replace("Object o:", "Object o%s:" % count)
+            text = text.replace("Object q/r:", "Object q/r%s:" % count)
+            self.assertEqual(self.told(text), [])
+            self.assertEqual(messages.findings_in(text), messages.findings_in(FIRST + SECOND))
+            self.assertEqual(messages.findings_in("Object a, 1 of 2 x/b%s: v1/c: missing (E092)"
+                                                  % count), ["E092\ta, 1 of 2 x/b/v1/c"])
+
     def test_a_group_is_no_more_than_its_number(self):
         self.assertEqual(self.told(FIRST + SECOND.replace("and 2 more", "and 1 more")),
                          ["E092 of q/r: 1 more"])

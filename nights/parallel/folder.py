@@ -123,12 +123,13 @@ def opened(path: str, flags: int = os.O_EXCL, lock: int = fcntl.LOCK_EX) -> int:
     return file
 
 
-def note(state: str, number: int) -> int:
-    """A new file for what a part says, or for 0 what is said of all of them. It gets the name of a
-    note once it is held, so that `end` takes none into which something is still to be written."""
+def note(state: str, number: int, end: str = "") -> int:
+    """A new file for what a part says, or for 0 what is said of all of them, whose name has this
+    end. It gets the name of a note once it is held, so that `end` takes none into which something
+    is still to be written."""
     import time
     while True:
-        path = "%s/said/%06d-%d.%d" % (state, number, time.time_ns(), os.getpid())
+        path = "%s/said/%06d-%d.%d%s" % (state, number, time.time_ns(), os.getpid(), end)
         file = opened(path + UNNAMED)
         if os.path.lexists(path):
             raise Failed(path + " is there already")

@@ -27,6 +27,12 @@ def run(words: list[str]) -> tuple[int, str]:
     return done.returncode, os.fsdecode(done.stdout).strip()
 
 
+def run_apart(words: list[str]) -> tuple[int, str, str]:
+    """The status of a command, what it writes to its standard output, and to standard error."""
+    done = subprocess.run(words, capture_output=True, check=False)
+    return done.returncode, os.fsdecode(done.stdout).strip(), os.fsdecode(done.stderr).strip()
+
+
 def ranges(numbers: Iterable[int]) -> str:
     """Numbers of parts as a text: `parts 1-3, 7`."""
     runs: list[list[int]] = []
@@ -67,9 +73,9 @@ def log(state: str, night: int, row: str, **more: object) -> None:
     os.close(file)
 
 
-def leave(state: str, text: str) -> None:
-    """Leaves a text about all parts: `end` says it, with status 3."""
-    file = note(state, 0)
+def leave(state: str, text: str, status: int = 3) -> None:
+    """Leaves a text about all parts: `end` says it, with this status."""
+    file = note(state, 0, "-%d" % status if status < 3 else "")
     os.write(file, os.fsencode(text + "\n"))
     os.close(file)
 

@@ -3,12 +3,12 @@ from __future__ import annotations
 
 import os
 import re
-import subprocess
 import time
 from pathlib import Path
+from typing import NamedTuple
 
 from folder import part
-from given import closed, count_parts, leave, ranges
+from given import closed, count_parts, leave, ranges, run_apart
 from ocfl_scrub_reports.shared import find_program, put
 from ocfl_scrub_reports.state import cycle_name, find, numbered_in, open_state
 
@@ -110,45 +110,44 @@ class Parts:
                     max(seen[it] for it in few), ranges(few)))
 
 
-def run(words: list[str]) -> tuple[int, str, bytes]:
-    """The status of a command, what it says, and what it writes."""
-    done = subprocess.run(words, capture_output=True, check=False)
-    return done.returncode, os.fsdecode(done.stderr).strip(), done.stdout
-
-
-def call_join(state: str) -> tuple[str, bytes]:
-    """Has the program join what can be joined. Gives what keeps something from it, and the word at
-    the end of each cycle. Another call, or the last moments of a night, are waited for."""
+def call_join(state: str) -> tuple[int, str, str]:
+    """Has the program join what can be joined: its status, its words on what it joined, and those
+    on what kept it from it. Another call, or the last moments of a night, are waited for."""
     until = time.monotonic() + PATIENCE
     words = [find_program(), "join", "--parts", state + "/parts", "--state", state]
-    status, text, word = run(words)
-    while status == HELD and time.monotonic() < until:
+    made = run_apart(words)
+    while made[0] == HELD and time.monotonic() < until:
         time.sleep(0.5)
-        status, text, word = run(words)
-    return text, word
+        made = run_apart(words)
+    return made
 
 
-def join(state: str, cycle: int) -> tuple[str, bytes]:
-    """Joins each cycle that all parts have closed and that is not joined, the oldest first. Gives
-    what keeps one from it, of the cycle that was given out also what its parts say, and the word
-    at the end of each that it joined."""
+class Joined(NamedTuple):
+    """What is said of cycles that were to be joined, and the status of that."""
+    text: str = ""
+    status: int = 0
+
+
+def join(state: str, cycle: int) -> Joined:
+    """Joins each cycle that all parts have closed and that is not joined, the oldest first. Says
+    what the program says of them and what keeps one from it, and of the cycle that was given out
+    also what its parts say. Its status is 3 if something failed or was left out."""
     parts = Parts(state)
     cycles = parts.unjoined()
     parts.leave_skipped(cycles[-1:])
     for it in cycles:
         parts.list_gone(it)
     alike = [it for it in cycles if parts.can_join(it)]
-    text, word = call_join(state) if alike else ("", b"")
+    status, word, trouble = call_join(state) if alike else (0, "", "")
     failed = [it for it in alike if not parts.is_joined(it)]
-    lacking = [it for it in alike if parts.is_incomplete(it)]
-    said = [text] if alike == cycles and not lacking else []
+    lacking = [parts.incomplete(it) for it in alike if parts.is_incomplete(it)]
+    bad = [trouble] if alike == cycles and not lacking else []
     if failed:
-        said = ["The reports of cycle %s are not joined:\n%s" % (
-            ", ".join(map(str, failed)), text)]
-    said += [parts.incomplete(it) for it in lacking]
-    if cycle in cycles:
-        said.append(parts.other_roots(cycle))
-    return "\n".join(filter(None, said)), word
+        bad = ["The reports of cycle %s are not joined:\n%s" % (
+            ", ".join(map(str, failed)), trouble)]
+    bad += [*lacking, parts.other_roots(cycle) if cycle in cycles else ""]
+    is_bad = any(bad) or alike == cycles and status > 1
+    return Joined("\n".join(filter(None, [word, *bad])), 3 if is_bad else min(status, 1))
 
 
 def make_room(state: str) -> None:

@@ -9,7 +9,8 @@ from typing import BinaryIO
 from folder import UNNAMED, part
 from given import ranges
 
-NOTE = re.compile("([0-9]{6,})-[0-9]+[.][0-9]+")
+# A note of a part, or of all of them as 0, which may have the status of what it says in its name.
+NOTE = re.compile("([0-9]{6,})-[0-9]+[.][0-9]+(?:-([0-3]))?")
 # The words by which a night names its part, and those of lines that stay as they are: they name a
 # place of the root, or have a command over a file, which is quoted for a shell.
 OF_PART = re.compile(rb"^([0-9]+ finding\S* tonight in )part [0-9]+ of ")
@@ -49,6 +50,8 @@ class Notes:
         self.texts: dict[bytes, list[int]] = {}
         # What somebody else put there.
         self.strange: list[str] = []
+        # The status of what was said of all parts: 3, unless the names of the notes say less.
+        self.status = 0
         folder = state + "/said"
         for name in sorted(os.listdir(folder) if os.path.isdir(folder) else []):
             named = NOTE.fullmatch(name.removesuffix(UNNAMED))
@@ -58,6 +61,8 @@ class Notes:
                 self.drop(folder + "/" + name)
             else:
                 self.take(folder + "/" + name, int(named[1]))
+                if int(named[1]) == 0 and folder + "/" + name in self.lengths:
+                    self.status = max(self.status, int(named[2] or 3))
 
     def drop(self, path: str) -> None:
         """Removes what a part left that was killed before its note had a name. Nobody writes into

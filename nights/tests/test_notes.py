@@ -203,23 +203,27 @@ class Joined(State):
         self.put("reports/.keep", "")
         self.called = 0
 
-    def join(self, cycle=0, statuses=(0,)):
-        """What `join` says, where the program joins all that it can and ends so."""
+    def join(self, cycle=0, statuses=(0,), word=""):
+        """What `join` says, where the program joins all that it can, says so and ends so."""
+        made = self.joined(cycle, statuses, word)
+        self.assertEqual(made.status, 3 if made.text else 0)
+        return made.text
+
+    def joined(self, cycle=0, statuses=(0,), word=""):
         def run(words):
             status = statuses[min(self.called, len(statuses) - 1)]
             self.called += 1
-            for it in parts.unjoined() if status == 0 else ():
+            for it in parts.unjoined() if status < 2 else ():
                 if parts.can_join(it):
                     kind = "incomplete" if parts.lacking(it) else "cycle"
                     self.put("reports/%s-%06d" % (kind, it), "")
-            return (status, "", b"word") if status == 0 else (status, "why", b"")
+            return status, word, "why" if status > 1 else ""
 
         parts = joining.Parts(self.state)
-        with mock.patch.object(joining, "run", run), mock.patch.object(
+        with mock.patch.object(joining, "run_apart", run), mock.patch.object(
                 joining, "find_program", lambda: "program"), mock.patch.object(
                     joining, "PATIENCE", 0.1), mock.patch.object(joining.time, "sleep"):
-            said, self.word = joining.join(self.state, cycle)
-        return said
+            return joining.join(self.state, cycle)
 
     def left(self):
         """What was left to be said of all parts."""
@@ -265,6 +269,35 @@ class Joined(State):
         for number in (1, 2):
             self.close(number, 2)
         self.assertEqual((self.join(2), self.called), ("", 2))
+
+    def test_what_the_program_says_of_a_cycle(self):
+        """It is no failure, whatever its words are, and the status is the program's."""
+        word = "Cycle 1 ended: 9 of 9 files right."
+        for number in (1, 2):
+            self.close(number, 1)
+        self.assertEqual(self.joined(1, word=word), (word, 0))
+        for number in (1, 2):
+            self.close(number, 2)
+        self.assertEqual(self.joined(2, [1], word), (word, 1))
+        self.close(1, 3)
+        self.close(2, 3, is_whole=False)
+        made = self.joined(3, [0], word)
+        self.assertEqual((made.text.startswith(word + "\nThe joined report of cycle 3 is incom"),
+                          made.status), (True, 3))
+
+    def test_what_was_said_of_all_parts_has_a_status(self):
+        """That of its note, which is 3 if the note does not say it."""
+        self.assertEqual(notes.Notes(self.state).status, 0)
+        given.leave(self.state, "all is well", 0)
+        self.assertEqual(notes.Notes(self.state).status, 0)
+        given.leave(self.state, "one is missing", 1)
+        self.assertEqual(notes.Notes(self.state).status, 1)
+        given.leave(self.state, "it failed")
+        made = notes.Notes(self.state)
+        self.assertEqual((made.status, made.strange, made.text()), (
+            3, [], b"all is well\none is missing\nit failed\n"))
+        made.remove()
+        self.assertEqual(os.listdir(self.state + "/said"), [])
 
     def test_one_that_failed_is_said_with_its_reason(self):
         for number in (1, 2):

@@ -246,8 +246,8 @@ class Page:
     # What was found
 
     def about_findings(self) -> str:
-        rows = [(meaning, code, count) for (code, meaning), count in sorted(
-            self.findings.of_meaning.items())]
+        rows = [(meaning, code, count, self.words.steps.get(code.encode(), ""))
+                for (code, meaning), count in sorted(self.findings.of_meaning.items())]
         if not self.findings.all:
             return section("What was found", paragraph("Nothing: no line of the report is a "
                                                        "finding."))
@@ -255,7 +255,8 @@ class Page:
         now = self.compared_with_before()
         has_ids = is_root(self.root)
         return section(
-            "What was found", table("By code", ("what", "code", "lines"), rows),
+            "What was found", table("By code", (
+                "what", "code", "lines", "what to do first"), rows),
             paragraph("Below are the %d most serious; %s in %s." % (
                 len(self.findings.shown), "{:,} more are".format(left), os.path.basename(
                     self.report))) if left else "",

@@ -20,6 +20,8 @@ class Weights:
         self.of_objects: set[bytes] = set()
         self.of_files: set[bytes] = set()
         self.words: dict[bytes, str] = {}
+        # What to do first, by the code.
+        self.steps: dict[bytes, str] = {}
         for line in files.lines(path):
             columns = line.split(b"\t")
             if len(columns) in (3, 4, 5) and not line.startswith(b"#"):
@@ -29,6 +31,7 @@ class Weights:
                 if columns[2] == b"file":
                     self.of_files.add(columns[0])
                 self.words.update((columns[0], it.decode()) for it in columns[3:4])
+                self.steps.update((columns[0], it.decode()) for it in columns[4:])
 
     def weight(self, line: bytes) -> bytes:
         """The weight of a finding. A code that the table lacks is grave until it has one."""

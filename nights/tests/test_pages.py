@@ -157,7 +157,8 @@ class Cycles(Asked):
             shown, "CRITICAL", "6 findings, 2 damaged or unreadable.", "1 object is gone.",
             "1 object is no longer declared.", "objects|2|", "content files|5|",
             "files found right|2|", "bytes found right|1.21 kB (1,205 bytes)|",
-            "Yes: the report has every line", "bytes have changed|E092|1|", "missing|E092|1|",
+            "Yes: the report has every line", "bytes have changed|E092|1|restore the file",
+            "missing|E092|1|restore the file from a copy with the expected digest|",
             "Object urn:<i>[%0A]\no\n",
             "v1/content/a|bytes have changed|E092|expected sha512 4dff4ea340f0.., found "
             "40b244112641..|new|", "v1/content/d|missing|E092|expected a digest of md5|new|",

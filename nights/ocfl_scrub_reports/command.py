@@ -23,9 +23,9 @@ PROGRAM = "ocfl-scrub-reports"
 LIMITS = [("--age", "26,50", "hours since the last night began"),
           ("--findings", "1,-", "open findings that are not known"),
           ("--damaged", "1,1", "those of damaged or unreadable files (weight 1)"),
-          ("--lost", "1,1", "objects that are gone and not back"),
-          ("--gone", "1,-", "these, files that are gone and not back, objects that are no longer "
-                            "declared, and expected objects that are missing"),
+          ("--lost", "1,1", "objects that are gone or no longer declared, and not back"),
+          ("--gone", "1,-", "these, files that are gone and not back, and expected objects that "
+                            "are missing"),
           ("--cycle-age", "-,-", "days since the last whole cycle ended")]
 KNOWN = ("a file of known findings and losses: lines of reports or of lists of what is gone, or "
          "their first two columns, where a path with / after it stands for all below")

@@ -156,7 +156,8 @@ class Page:
 
     def level(self) -> int:
         """0 if all is well, 2 if bytes or objects are lost, and else 1."""
-        if self.findings.count.get(b"1") or self.number("Objects gone") or self.number(NOT_BACK[0]):
+        lost_objects = [name for name, kind, _ in GONE if kind == "object"] + NOT_BACK[:2]
+        if self.findings.count.get(b"1") or any(map(self.number, lost_objects)):
             return 2
         losses = [name for name, _, _ in GONE] + NOT_BACK
         is_unknown = self.number("Objects gone") is None and self.cycle > 1

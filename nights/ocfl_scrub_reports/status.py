@@ -162,6 +162,10 @@ class Findings:
     lost: Counter[str]
     listed: IO[bytes]
 
+    def lost_objects(self) -> int:
+        """Objects that are gone, or no longer declared."""
+        return self.lost["object"] + self.lost["undeclared"]
+
 
 def findings_of(state: State, known: Known, weights: Weights, searched: int) -> Findings:
     """What is open now; of expected objects, those that the cycle lacked that searched for them
@@ -275,8 +279,9 @@ class Standing:
         return ": left out " + ", ".join(left[:3] + more) if left else ""
 
     def judge_losses(self) -> None:
-        """Lost objects are more serious than lost files."""
-        level = max(self.reached("lost", self.found.lost["object"]),
+        """Lost objects are more serious than lost files, and so are those of which no file is
+        looked at any more."""
+        level = max(self.reached("lost", self.found.lost_objects()),
                     self.reached("gone", self.gone))
         if level:
             self.add(level, self.lost_things())
@@ -372,7 +377,7 @@ class Standing:
             return ""
         # Monitors take U for a value that is not known.
         gone = "U" if self.unknown and not self.gone else self.gone
-        lost = "U" if self.unknown and not self.gone else self.found.lost["object"]
+        lost = "U" if self.unknown and not self.gone else self.found.lost_objects()
         found = [("age", "%ds" % self.age, 3600), ("findings", self.open, 1),
                  ("damaged", self.found.damaged, 1), ("gone", gone, 1), ("lost", lost, 1)]
         text = " |" + "".join(" %s=%s;%s;0" % (name, value, ";".join(

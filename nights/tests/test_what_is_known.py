@@ -330,6 +330,11 @@ class Lost(Told):
         self.made.put("reports/gone-000002", b"object\tp\n")
         self.assertEqual(self.status(*quiet)[0], 2)
         self.assertEqual(self.status(*quiet, "--lost", "1,2")[0], 1)
+        self.made.put("reports/gone-000002", b"undeclared\tp\n")
+        self.assertEqual(self.status(*quiet)[0], 2)
+        self.made.put("reports/gone-000002", b"object\ta\nundeclared\tp\n")
+        self.assertEqual(self.status(*quiet, "--lost", "1,3")[0], 1)
+        self.assertIn(" lost=2;1;3;0", self.status(*quiet, "--lost", "1,3")[1])
 
     def test_words(self):
         self.cycle(1, ONE)

@@ -13,7 +13,7 @@ from given import ranges
 NOTE = re.compile("([0-9]{6,})-[0-9]+[.][0-9]+(?:-([0-3]))?")
 # The words by which a night names its part, and those of lines that stay as they are: they name a
 # place of the root, or have a command over a file, which is quoted for a shell.
-OF_PART = re.compile(rb"^([0-9]+ finding\S* tonight in )part [0-9]+ of ")
+OF_PART = re.compile(rb"^([^/'\t]* in )part [0-9]+ of ")
 STAYS = re.compile(rb"\t|^Object |^Elsewhere: |left out: |stopped at | not shown here: ")
 # Stands for the folder of a part: no text has this byte.
 OWN = b"\0"

@@ -79,6 +79,14 @@ class Said(State):
         text = "What is gone: %s/part-000001/reports/gone-000002\n" % self.state
         self.assertEqual(self.said(text), "In part 1:\n" + text)
 
+    def test_the_number_of_a_part_is_not_said_twice(self):
+        """Whatever the words are that come before it; a name is none of them."""
+        for words in ("2 findings tonight in ", "A night of parts in "):
+            said = [words + "part %d of /srv/ocfl: x\n" % number for number in (1, 2)]
+            self.assertEqual(self.said(*said), "In parts 1-2:\n" + words + "/srv/ocfl: x\n")
+        said = ["/a in part %d of b is damaged\n" % number for number in (1, 2)]
+        self.assertEqual(self.said(*said), "In part 1:\n%sIn part 2:\n%s" % tuple(said))
+
     def test_places_are_told_as_they_are(self):
         """They may have the name of a part's folder, or of all of them."""
         for first, second in [

@@ -37,7 +37,7 @@ ONE, TWO = (digest(it, "sha512") for it in (b"1", b"2"))
 # The elements of a page, whatever its names are.
 ELEMENTS = {"html", "head", "meta", "title", "style", "body", "main", "section", "h1", "h2", "h3",
             "p", "ul", "li", "table", "caption", "thead", "tbody", "tr", "th", "td", "span", "bdi",
-            "wbr", "pre", "svg", "rect", "line", "text"}
+            "wbr", "pre", "svg", "rect", "line", "text", "article", "a"}
 NOW = ["--now", "2026-08-01T05:00:00Z"]
 # What a browser says of a page by its title: by how much it is wider than its window.
 WIDER = ("<script>document.title = document.documentElement.scrollWidth"
@@ -175,9 +175,22 @@ def nothing_yet(folder):
                         if it not in looked_at("cycle", folder, cycle).text], [])
 
 
+def several(folder):
+    """A page of several roots, one of which nobody can say anything of."""
+    states = [State(folder + "/" + name, "/srv/" + name) for name in ("<b>", "b")]
+    for state in states:
+        state.night("2026-07-31T22:00:00Z", 1, 4, closes={"lines": [line("ok", ".")]})
+    status, page, said = ask("page", *NOW, *(it.path for it in states), folder + "/none")
+    check("one page", (status, said), (0, ""))
+    text = looked_at("page", folder, page).text
+    check("of each", [it for it in ["/srv/<b>|OK|0|", "/srv/b|OK|0|", "/none|UNKNOWN|not known|"]
+                      if it not in text], [])
+    check("each from a new sheet on", printed(folder, page).count("\f") > 2, True)
+
+
 def check_all(folder):
     os.environ.pop("DISPLAY", None)
-    tried_apart([hostile, history, nothing_yet], folder)
+    tried_apart([hostile, history, nothing_yet, several], folder)
 
 
 common.run_trial(check_all, needs=["chromium", "pdftotext"])

@@ -30,6 +30,7 @@ table .place { display: inline-block; max-width: 32rem; }
 .findings thead th:nth-child(1) { width: 31%; } .findings thead th:nth-child(2) { width: 17%; }
 .findings thead th:nth-child(3) { width: 3.2rem; }
 .findings thead th:nth-child(5) { width: 7.5rem; }
+.findings.open thead th:nth-child(1) { width: 45%; }
 .byte { border: 1px solid; border-radius: .2em; padding: 0 .1em; margin: 0 .1em; font-size: .8em;
   font-family: monospace; }
 svg { width: 100%; height: auto; max-width: 45rem; display: block; }

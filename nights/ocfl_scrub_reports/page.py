@@ -184,7 +184,7 @@ def about_findings(standing: Standing) -> str:
     return section(
         "What is open",
         "" if standing.are_said else "<p>%s</p>\n" % text(standing.findings_text()),
-        table("Open findings", ("place", "what", "code", "detail"), rows, "findings")
+        table("Open findings", ("place", "what", "code", "detail"), rows, "findings open")
         if rows else "",
         table("Gone and not back", ("what", "place"), gone) if gone else "",
         unknown if standing.unknown else "", more)

@@ -21,9 +21,10 @@ from .state import State
 from .statement import plain
 from .weights import Known
 
-# Findings that the right bytes repair: of content files, and of inventories.
+# Findings that the right bytes repair: of content files, of inventories, and of their sidecars.
 OF_CONTENT = (b"E092", b"E093", b"S08")
 OF_INVENTORIES = (b"E060", b"E063")
+OF_SIDECARS = (b"E058", b"E061")
 # The algorithms of sidecars, and the one that Python calls otherwise.
 SIDECARS = ("sha512", "sha256")
 PYTHON_NAMES = {"sha512/256": "sha512_256"}
@@ -52,6 +53,11 @@ class Wanted:
     # Places of this root that should have them.
     others: list[bytes] = field(default_factory=list)
     is_inventory: bool = False
+    # Of a sidecar the digest is that of the inventory beside it, which it must name.
+    is_sidecar: bool = False
+
+    def is_content(self) -> bool:
+        return not self.is_inventory and not self.is_sidecar
 
     def expect(self, algorithm: str, digest: str) -> None:
         """Takes the first digest that is one: an inventory can name any text."""
@@ -103,7 +109,7 @@ class Open:
 
     def take(self, place: bytes, findings: list[bytes]) -> None:
         codes = {line.partition(b"\t")[0] for line in findings}
-        if not codes.isdisjoint((*OF_CONTENT, *OF_INVENTORIES)):
+        if not codes.isdisjoint((*OF_CONTENT, *OF_INVENTORIES, *OF_SIDECARS)):
             self.wanted.append(Wanted(place, findings))
         else:
             self.others.update(code.decode() for code in codes)
@@ -144,6 +150,9 @@ def expect_of(wanted: Wanted, root: str) -> None:
         wanted.object = wanted.object or wanted.place
         wanted.place, wanted.is_inventory = wanted.object + b"/" + INVENTORY, True
         expect_of_inventory(wanted, root, of_code.get(b"E060", b""))
+    elif not of_code.keys().isdisjoint(OF_SIDECARS):
+        wanted.object = wanted.object or wanted.place
+        expect_of_sidecar(wanted, root)
     elif is_of_fixity_alone(of_code):
         wanted.why = "it is what the manifest says; what the fixity block says is wrong"
     else:
@@ -179,6 +188,20 @@ def expect_of_inventory(wanted: Wanted, root: str, detail: bytes) -> None:
         wanted.expect(name, sidecar_of(root, wanted.object, name) or "")
 
 
+def expect_of_sidecar(wanted: Wanted, root: str) -> None:
+    """What a sidecar must name is the digest of the inventory beside it."""
+    wanted.is_sidecar = True
+    algorithm = (inventory_of(root, wanted.object) or {}).get("digestAlgorithm")
+    inventory = wanted.object + b"/" + INVENTORY
+    digest = digest_at(root, inventory, algorithm) if algorithm in SIDECARS else None
+    if digest is None:
+        wanted.why = "its inventory cannot be read, or names no algorithm of sidecars"
+        return
+    wanted.place = inventory + b"." + algorithm.encode()
+    wanted.why = "no sidecar names the digest of its inventory, which may be the damaged one"
+    wanted.expect(algorithm, digest)
+
+
 def sidecar_of(root: str, folder: bytes, algorithm: str) -> str | None:
     """The digest in a sidecar of an inventory, if there is one that can be read."""
     try:
@@ -210,7 +233,7 @@ def blocks_of(inventory: dict[str, Any]) -> Iterator[tuple[str, str, list[Any]]]
 
 def put_sizes(state: State, wanted: list[Wanted]) -> None:
     """The sizes of content files that an earlier report found right."""
-    sought = {it.place: it for it in wanted if not it.is_inventory}
+    sought = {it.place: it for it in wanted if it.is_content()}
     for closed in reversed(state.closed()[-REPORTS:]):
         if not sought:
             return
@@ -225,7 +248,7 @@ def put_others(state: State, root: str, wanted: list[Wanted]) -> None:
     names the wanted digest. Where a size is not known, the inventory of every object is read."""
     sought: dict[tuple[str, str], list[Wanted]] = {}
     for it in wanted:
-        if it.digest and not it.is_inventory:
+        if it.digest and it.is_content():
             sought.setdefault((it.algorithm, it.digest), []).append(it)
     known = [it.size for every in sought.values() for it in every]
     sizes = None if None in known else {it for it in known if it is not None}
@@ -251,16 +274,26 @@ def paths_of(inventory: dict[str, Any], digests: Container[tuple[str, str]]
     return made
 
 
-def has_digest(root: str, place: bytes, wanted: Wanted) -> bool | None:
-    """Whether a file has the wanted digest; None if no file is there that can be read."""
-    digest = hashlib.new(PYTHON_NAMES.get(wanted.algorithm, wanted.algorithm))
+def digest_at(root: str, place: bytes, algorithm: str) -> str | None:
+    """The digest of a file; None if no file is there that can be read."""
+    digest = hashlib.new(PYTHON_NAMES.get(algorithm, algorithm))
     try:
         with open_file(root, place) as file:
             while data := file.read(files.BLOCK):
                 digest.update(data)
     except OSError:
         return None
-    return digest.hexdigest() == wanted.digest
+    return digest.hexdigest()
+
+
+def has_digest(root: str, place: bytes, wanted: Wanted) -> bool | None:
+    """Whether a file has the wanted digest, or for a sidecar names it; None if no file is there
+    that can be read."""
+    if wanted.is_sidecar:
+        named = sidecar_of(root, os.path.dirname(place), wanted.algorithm)
+        return None if named is None else named == wanted.digest
+    digest = digest_at(root, place, wanted.algorithm)
+    return None if digest is None else digest == wanted.digest
 
 
 def newest_version(root: str, place: bytes) -> tuple[bytes, Wanted] | None:
@@ -298,16 +331,18 @@ class Repairs:
             put(b"# " + line)
         if wanted.digest:
             size = "" if wanted.size is None else ", " + many(wanted.size, "byte")
-            note("expected: %s %s%s" % (wanted.algorithm, wanted.digest, size))
+            note("expected: %s%s %s%s" % ("that the sidecar names " * wanted.is_sidecar,
+                                          wanted.algorithm, wanted.digest, size))
         if wanted.digest and has_digest(self.root, wanted.place, wanted):
-            note("it has that digest now")
+            note("it names that digest now" if wanted.is_sidecar else "it has that digest now")
         else:
             self.say_source(wanted)
         put(b"")
 
     def say_source(self, wanted: Wanted) -> None:
-        source, place = next(iter([*self.in_copy(wanted), *self.of_newest(wanted),
-                                   *self.elsewhere(wanted)]), (b"", wanted.place))
+        newest = self.sidecar_of_newest(wanted) if wanted.is_sidecar else self.of_newest(wanted)
+        source, place = next(iter([*self.in_copy(wanted), *newest, *self.elsewhere(wanted)]),
+                             (b"", wanted.place))
         if source and self.can_be_put(place):
             put(copying(source, path_of(self.root, place)))
             return
@@ -351,6 +386,17 @@ class Repairs:
             return [(path_of(self.root, inventory.place + end), wanted.place + end)]
         note("but not the expected one")
         return []
+
+    def sidecar_of_newest(self, wanted: Wanted) -> list[tuple[bytes, bytes]]:
+        """That of the newest version, if its inventory is that of the object."""
+        newest = newest_version(self.root, wanted.object) if wanted.digest else None
+        if newest is None:
+            return []
+        place = newest[0] + wanted.place[len(wanted.object):]
+        is_right = has_digest(self.root, place, wanted)
+        note("the newest version: %s %s" % (place.decode(), "names that digest" if is_right
+                                            else "names another digest, or is not there"))
+        return [(path_of(self.root, place), wanted.place)] if is_right else []
 
     def can_be_put(self, place: bytes) -> bool:
         """Whether a file can be copied to a place: through a link it would go elsewhere."""

@@ -224,6 +224,43 @@ class Repairs(Asked):
         self.assertEqual(self.read("o/inventory.json.sha512"),
                          b"%s inventory.json\n" % sum_of(data).encode())
 
+    def test_a_sidecar_that_is_missing(self):
+        """One that names the digest of the inventory is taken from the newest version, or from the
+        copy."""
+        right, name = self.read("o/inventory.json.sha512"), "o/inventory.json.sha512"
+        expected = "# expected: that the sidecar names sha512 " + sum_of(self.read("o/inventory.json"))
+        for found, data in (("E058\to\t-", None), ("E061\to\tsha512", b"nothing\n")):
+            os.remove(os.path.join(self.root, name))
+            if data is not None:
+                self.write(name, data)
+            self.finds(found)
+            status, lines = self.repair()
+            self.assertEqual((status, lines[1:4]), (0, [
+                expected, "# the newest version: o/v2/inventory.json.sha512 names that digest",
+                "cp -p -- %s/o/v2/inventory.json.sha512 %s/%s" % (self.root, self.root, name)]))
+            self.assertEqual(self.run_commands(lines), 1)
+            self.assertEqual(self.read(name), right)
+        self.assertIn("# it names that digest now", self.repair()[1])
+        os.remove(os.path.join(self.root, name))
+        os.remove(self.root + "/o/v2/inventory.json.sha512")
+        self.assertEqual(self.repair()[0], 1)
+        status, lines = self.repair("--copy", self.copy)
+        self.assertEqual((status, self.run_commands(lines), self.read(name)), (0, 1, right))
+
+    def test_a_sidecar_of_an_inventory_that_is_damaged(self):
+        """Nothing says that this inventory is right, so no sidecar is made for it."""
+        os.remove(self.root + "/o/inventory.json.sha512")
+        self.write("o/inventory.json", self.read("o/inventory.json") + b" ")
+        self.finds("E058\to\t-")
+        status, lines = self.repair("--copy", self.copy)
+        self.assertEqual((status, self.run_commands(lines)), (1, 0))
+        self.assertIn("# in the copy: it has another digest", lines)
+        self.assertIn("# the newest version: o/v2/inventory.json.sha512 names another digest, or is "
+                      "not there", lines)
+        self.write("o/inventory.json", b"{")
+        self.assertIn("# its inventory cannot be read, or names no algorithm of sidecars",
+                      self.repair()[1])
+
     def test_a_version_that_is_wrong(self):
         """Nothing is taken from a version whose inventory is not what its sidecar says, or that is
         about another version."""

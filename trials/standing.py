@@ -130,7 +130,7 @@ def troubled(folder):
 
     after("an object is gone", closes("object\tp\n"), 2, ": 1 object is gone; ")
     after("files are gone", closes("file\to/x\nfile\to/y\n"), 1, ": 2 files are gone; ")
-    after("an object is no longer declared", closes("undeclared\tp\n"), 1,
+    after("an object is no longer declared", closes("undeclared\tp\n"), 2,
           ": 1 object is no longer declared; ")
     after("an expected object", closes("expected\tx\nexpected\ty\n", **EXPECTED), 1,
           ": 2 expected objects are missing; ")

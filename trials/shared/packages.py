@@ -5,7 +5,7 @@ import subprocess
 
 # Debian's packages, by the tool that is looked for.
 PACKAGES = {"strace": ["strace"], "parallel": ["parallel"], "slurmctld": ["slurm-wlm", "munge"],
-            "chromium": ["chromium"], "pdftotext": ["poppler-utils"]}
+            "chromium": ["chromium", "fonts-dejavu-core"], "pdftotext": ["poppler-utils"]}
 WAIT = ["-o", "DPkg::Lock::Timeout=300"]
 
 

@@ -185,7 +185,7 @@ def pages(folder):
     rows = ["v1/content/%s|bytes have changed|E092|expected sha256 %s.., found %s..|new|" % (
         name, digest(b"abc")[:12], digest(b"abd")[:12]) for _, name in NAMES]
     sealed = digest(common.read(nights.path("reports/statement-000003")))
-    pieces = ["CRITICAL", "9 findings, 8 damaged or unreadable.", "1 object is gone.", "object|b/p|",
+    pieces = ["CRITICAL", "9 findings, 8 damaged or unreadable files.", "1 object is gone.", "object|b/p|",
               "Object at a/o", "statement-000003.copy|%s|" % sealed, *rows]
     check("a page of damage", (status, said, [it for it in pieces if it not in shown(page)]),
           (0, "", []))

@@ -53,7 +53,7 @@ def statuses(folder):
     state = standing(folder)
     calm = "/srv/ocfl: %slast night 2026-03-09T22:00:00Z, status 0; cycle 2 is open, 30 of 100 " \
         "done, 5 nights left; last whole cycle 1 on 2026-03-04; %swhat is gone is not known yet"
-    found = "4 open findings, 1 damaged or unreadable (E007 1, E023 1, E072 1, S08 1)"
+    found = "4 open findings, 1 damaged or unreadable file (E007 1, E023 1, E072 1, S08 1)"
     figures = ["age=25200s;93600;180000;0", "findings=4;1;;0", "damaged=1;1;1;0", "gone=U;1;;0",
                "lost=U;1;1;0", "progress=30%;;;0;100"]
     check("standing", status(state), (
@@ -443,7 +443,7 @@ def page(folder):
     texts = "".join(root.itertext())
     check("what it shows", [text in texts for text in [
         "CRITICAL",
-        "5 open findings, 2 damaged or unreadable (E007 1, E023 1, E072 1, E092 1, S08 1)",
+        "5 open findings, 2 damaged or unreadable files (E007 1, E023 1, E072 1, E092 1, S08 1)",
         "<b>&amp;<script>alert(1)</script>", "<i>", "30 %", "2026-03-09T22:00:00Z"]],
           [True] * 6)
     check("no script, nothing from elsewhere", re.findall("<script|src=|href=|url\\(|https?:", out),

@@ -22,7 +22,7 @@ if TYPE_CHECKING:
 PROGRAM = "ocfl-scrub-reports"
 LIMITS = [("--age", "26,50", "hours since the last night began"),
           ("--findings", "1,-", "open findings that are not known"),
-          ("--damaged", "1,1", "those of damaged or unreadable files (weight 1)"),
+          ("--damaged", "1,1", "damaged or unreadable files among them (weight 1)"),
           ("--lost", "1,1", "objects that are gone or no longer declared, and not back"),
           ("--gone", "1,-", "these, files that are gone and not back, and expected objects that "
                             "are missing"),

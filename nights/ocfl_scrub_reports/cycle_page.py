@@ -47,6 +47,8 @@ class Findings:
                  digests: Digests) -> None:
         self.of_weight: dict[bytes, list[Found]] = {}
         self.count: Counter[bytes] = Counter()
+        # How many files are damaged or unreadable, each of which can have several findings.
+        self.grave_files, self.last_grave = 0, b""
         # How many there are of each code and meaning.
         self.of_meaning: Counter[tuple[str, str]] = Counter()
         words = Weights()
@@ -65,6 +67,9 @@ class Findings:
 
     def add(self, found: Found) -> None:
         self.count[found.weight] += 1
+        if found.weight == b"1":
+            self.grave_files += found.line.path != self.last_grave
+            self.last_grave = found.line.path
         held = self.of_weight.setdefault(found.weight, [])
         if len(held) < SHOWN:
             held.append(found)
@@ -167,9 +172,9 @@ class Page:
     def reasons(self) -> Iterator[str]:
         """What came of the cycle, a sentence each."""
         right, objects = self.number("Files found right") or 0, self.number("Objects") or 0
-        grave = self.findings.count.get(b"1", 0)
+        grave = self.findings.grave_files
         if self.findings.all:
-            more = ", %s damaged or unreadable" % "{:,}".format(grave) if grave else ""
+            more = ", " + many(grave, "damaged or unreadable file") if grave else ""
             yield many(self.findings.all, "finding") + more
         elif not objects and not right and self.is_whole:
             yield "Nothing was found, and nothing was there to read: the report has no object"

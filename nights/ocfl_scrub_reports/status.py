@@ -156,6 +156,7 @@ class Log:
 class Findings:
     """What is open. `listed` has it as lines, those that are known left out."""
     count: Counter[str]
+    # How many files are damaged or unreadable, each of which can have several findings.
     damaged: int
     known: int
     # Of the lines of the lists, by their words.
@@ -173,12 +174,16 @@ def findings_of(state: State, known: Known, weights: Weights, searched: int) -> 
     found = Findings(Counter(), 0, 0, Counter(), files.spool())
 
     def unknown_ones() -> Iterator[tuple[bytes, bytes]]:
+        last = b""
         for line in standing.open_findings(state):
             if known.has(line):
                 found.known += 1
                 continue
             weight = weights.weight(line)
-            found.damaged += weight == b"1"
+            if weight == b"1":
+                place = line.split(b"\t")[1]
+                found.damaged += place != last
+                last = place
             found.count[line.partition(b"\t")[0].decode()] += 1
             yield weight, line
 
@@ -317,7 +322,7 @@ class Standing:
         codes = ", ".join("%s %d" % (code, found.count[code]) for code in sorted(found.count))
         return "%s%s%s%s" % (
             many(self.open, "open finding"),
-            ", %d damaged or unreadable" % found.damaged if found.damaged else "",
+            ", " + many(found.damaged, "damaged or unreadable file") if found.damaged else "",
             " (%s)" % codes if codes else "", ", %d known" % found.known if found.known else "")
 
     def lost_things(self) -> str:
@@ -498,7 +503,7 @@ FIGURES: list[tuple[str, str, Callable[[Standing], float | None]]] = [
     ("expected_objects_missing", "Expected objects that are missing.",
      lambda it: it.found.lost["expected"] if it.log.searched else None),
     ("known_findings", "Open findings that are known.", lambda it: it.found.known),
-    ("damaged", "Open findings of damaged or unreadable files that are not known.",
+    ("damaged", "Files that are damaged or unreadable by open findings that are not known.",
      lambda it: it.found.damaged),
     ("open_findings", "Open findings that are not known.", lambda it: it.open)]
 

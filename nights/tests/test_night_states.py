@@ -768,7 +768,7 @@ class Joined(Asked):
     def test_joined(self):
         self.nights(1, 1)
         self.parts[0].put("report", ONE)
-        self.assertIn("1 damaged or unreadable", self.ask("status", *NOW, self.at("state"))[1])
+        self.assertIn("1 damaged or unreadable file (", self.ask("status", *NOW, self.at("state"))[1])
         self.put(ONE, "state/reports/cycle-000001")
         self.assertEqual(self.ask("statement", self.at("state"), 1), (0, "", ""))
         file = self.at("state/reports/statement-000001")

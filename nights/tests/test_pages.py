@@ -154,7 +154,7 @@ class Cycles(Asked):
         self.cycle(2, SECOND, LOST, unlooked=1, back=0, repaired=1)
         shown = self.page(2)
         self.has(
-            shown, "CRITICAL", "6 findings, 2 damaged or unreadable.", "1 object is gone.",
+            shown, "CRITICAL", "6 findings, 2 damaged or unreadable files.", "1 object is gone.",
             "1 object is no longer declared.", "objects|2|", "content files|5|",
             "files found right|2|", "bytes found right|1.21 kB (1,205 bytes)|",
             "Yes: the report has every line", "bytes have changed|E092|1|restore the file",
@@ -214,6 +214,12 @@ class Cycles(Asked):
         self.has(self.page(3), "OK\n", "Nothing was found: 1 content file of 1 object was read to "
                  "the end, and is right.\nNothing is gone since cycle 2.\n",
                  "Nothing: no line of the report is a finding.")
+
+    def test_a_file_with_two_findings(self):
+        """It is one damaged file."""
+        self.cycle(2, b"ok\t.\t-\nok\to\t-\nE092\to/a\tsha512 0 1\nE093\to/a\tmd5 0 1\n"
+                   b"S08\to/b\t-\n")
+        self.has(self.page(2), "3 findings, 2 damaged or unreadable files.")
 
     def test_no_object(self):
         self.cycle(2, b"ok\t.\t-\n")

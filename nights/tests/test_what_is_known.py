@@ -336,6 +336,15 @@ class Lost(Told):
         self.assertEqual(self.status(*quiet, "--lost", "1,3")[0], 1)
         self.assertIn(" lost=2;1;3;0", self.status(*quiet, "--lost", "1,3")[1])
 
+    def test_a_file_with_two_findings(self):
+        """It is one damaged file."""
+        self.cycle(1, ONE)
+        both = b"E092\to/a\tsha512 x y\nE093\to/a\tmd5 x y\n"
+        self.cycle(2, ONE.replace(b"E092\to/a\tsha512 x y\n", both) + b"S08\tq/a\t-\n", new=2)
+        self.assertIn("4 open findings, 2 damaged or unreadable files (E072 1, E092 1, E093 1, S08 "
+                      "1)", self.status()[1])
+        self.assertIn(" damaged=2;", self.status()[1])
+
     def test_words(self):
         self.cycle(1, ONE)
         for gone, expected in [(b"object\tp\n", "1 object is gone;"),

@@ -322,7 +322,9 @@ def losses_of(state: State, cycle: Cycle, known: Known) -> tuple[dict[str, str],
             listed.append(line + b"\n")
         else:
             lost[line.partition(b"\t")[0]] += 1
-    is_known = not cycle.comparisons.why_unknown(cycle.number)
+    has_lists = all(state.find("gone", number) for number, it in cycle.comparisons.closings.items()
+                    if it.gone and number <= cycle.number)
+    is_known = has_lists and not cycle.comparisons.why_unknown(cycle.number)
     facts = {name: at_least(lost[kind], is_known) for kind, name in NOT_BACK.items()}
     return {**facts, **of_known(b"".join(listed))}, b"".join(listed)
 

@@ -336,6 +336,22 @@ class Lost(Told):
         self.assertEqual(self.status(*quiet, "--lost", "1,3")[0], 1)
         self.assertIn(" lost=2;1;3;0", self.status(*quiet, "--lost", "1,3")[1])
 
+    def test_a_list_that_is_not_there(self):
+        """The log says that something is gone, and nobody knows what: also later, and in the list
+        of what is not back."""
+        self.cycle(1, ONE)
+        self.cycle(2, TWO, b"object\tp\nobject\ts\n")
+        os.remove(self.made.path + "/reports/gone-000002")
+        self.made.keep_checkpoint(1, ONE)
+        said = self.said(2)
+        self.check(said, Objects_gone="not known", Objects_gone_and_not_back="not known",
+                   Files_gone_and_not_back="not known")
+        self.cycle(3, TWO, b"object\tt\n")
+        self.check(self.said(3), Objects_gone="1", Objects_gone_and_not_back="at least 1")
+        self.made.put("reports/gone-000002", b"object\tp\nobject\ts\n")
+        os.remove(self.path_of(3))
+        self.check(self.said(3), Objects_gone_and_not_back="3", Files_gone_and_not_back="0")
+
     def test_a_file_with_two_findings(self):
         """It is one damaged file."""
         self.cycle(1, ONE)

@@ -137,7 +137,7 @@ class Ended(NamedTuple):
         right, count = (self.said.get(it, "") for it in ("Files found right", "Content files"))
         if not right.isdecimal() or not count.isdecimal():
             return "cycle %d of {} has ended" % self.cycle
-        is_new = self.closing.new or self.closing.gone
+        is_new = self.closing.new or self.closing.gone or not self.closing.is_whole
         result = "all right" if right == count and not is_new else "%s of %s files right%s" % (
             right, count, "" if is_new else ", nothing new")
         return "cycle %d of {}: %s" % (self.cycle, result)

@@ -46,6 +46,10 @@ class Subjects(Asked):
         self.cycle(2, gone=b"file\to/c\n")
         self.assertEqual(self.subject(), "cycle 2 of archive: 2 of 2 files right")
 
+    def test_a_report_that_is_not_whole(self):
+        self.cycle(1, whole=False)
+        self.assertEqual(self.subject(), "cycle 1 of archive: 2 of 2 files right")
+
     def test_what_is_good_news(self):
         self.cycle(1, BAD, compared=0)
         self.cycle(2, repaired=1)

@@ -334,8 +334,10 @@ COMMANDS: list[tuple[str, Does, str, str, Iterable[Callable[[Parser], object]], 
      [argument("--copy", metavar="DIR",
                help="a copy of the storage root, whose files at the same places are looked at"),
       WITHOUT_KNOWN, STATE],
-     "For each damaged file the digest and the size that were expected, which files have them, and "
-     "the command that copies one, for bash. Ends with 1 if of some no right file was found."),
+     "For each damaged file, inventory and sidecar the digest and the size that were expected, "
+     "which files have them, and the command that copies one, for bash; and for each object that "
+     "lost its declaration the command that writes it. Ends with 1 if of some no right file was "
+     "found."),
     ("expected", do_expected, "writes the list that `ocfl-scrub night --expected` takes",
      "--ids ids ~/audit > expected",
      [argument("--ids", metavar="FILE", required=True, help="the OCFL ids, one on each line"),

@@ -31,6 +31,8 @@ PYTHON_NAMES = {"sha512/256": "sha512_256"}
 ALGORITHMS = {"md5", "sha1", "sha256", "sha512", "sha512/256"}
 DIGEST = re.compile("[0-9A-Fa-f]+")
 VERSION = re.compile(rb"v([0-9]+)")
+# The version of OCFL that the type of an inventory names.
+TYPE = re.compile(r"https://ocfl\.io/(1\.[01])/spec/#inventory")
 SIDECAR = re.compile(rb"([0-9A-Fa-f]+)[ \t]+inventory\.json[ \t\r\n]*")
 # So many closed reports are searched for the size of a file, and so many files are named that have
 # its digest.
@@ -101,9 +103,11 @@ def copying(source: bytes, to: bytes) -> bytes:
 
 @dataclass
 class Open:
-    """What open findings want: files, and how many findings of each code no copy repairs. Of files
+    """What open findings want: files, the declarations of objects, each with how many files are
+    outside of any object without it, and how many findings of each code no copy repairs. Of files
     that no inventory names the places, by their names in one form of Unicode."""
     wanted: list[Wanted] = field(default_factory=list)
+    undeclared: dict[bytes, int] = field(default_factory=dict)
     others: Counter[str] = field(default_factory=Counter)
     strays: dict[str, bytes] = field(default_factory=dict)
 
@@ -111,10 +115,26 @@ class Open:
         codes = {line.partition(b"\t")[0] for line in findings}
         if not codes.isdisjoint((*OF_CONTENT, *OF_INVENTORIES, *OF_SIDECARS)):
             self.wanted.append(Wanted(place, findings))
+        elif codes == {b"E072"} and self.is_undeclared(place):
+            self.undeclared[self.last_undeclared()] += 1
         else:
             self.others.update(code.decode() for code in codes)
         if b"E023" in codes:
             self.strays[in_one_form(place)] = place
+
+    def is_undeclared(self, place: bytes) -> bool:
+        """Whether a file outside of any object is one of a folder that has an inventory, and is no
+        version of another one. Its inventory comes before its versions."""
+        above, _, name = place.rpartition(b"/")
+        if self.undeclared and report.is_within(place, self.last_undeclared()):
+            return True
+        if name != INVENTORY or not above or VERSION.fullmatch(above.rpartition(b"/")[2]):
+            return False
+        self.undeclared[above] = 0
+        return True
+
+    def last_undeclared(self) -> bytes:
+        return next(reversed(self.undeclared))
 
 
 def open_in(state: State, leave_out: Known) -> Open:
@@ -398,6 +418,28 @@ class Repairs:
                                             else "names another digest, or is not there"))
         return [(path_of(self.root, place), wanted.place)] if is_right else []
 
+    def declare(self, place: bytes, count: int) -> None:
+        """Writes how an object is declared again whose files are outside of any object now."""
+        put(b"# E072\t" + place)
+        note("%s of an object whose declaration is missing" % many(count, "file"))
+        try:
+            names = os.listdir(path_of(self.root, place))
+        except OSError:
+            names = []
+        kind = (inventory_of(self.root, place) or {}).get("type")
+        version = TYPE.fullmatch(kind) if isinstance(kind, str) else None
+        if any(it.startswith(b"0=") for it in names):
+            note("there is a declaration now")
+        elif not version or not self.can_be_put(place + b"/0"):
+            self.lacking += 1
+            note("its inventory cannot be read, or names no version of OCFL that is known")
+        else:
+            note("its inventory says: OCFL " + version[1])
+            name = "ocfl_object_" + version[1]
+            put(b"printf '%s\\n' > %s" % (name.encode(), word(os.path.join(
+                path_of(self.root, place), b"0=" + name.encode()))))
+        put(b"")
+
     def can_be_put(self, place: bytes) -> bool:
         """Whether a file can be copied to a place: through a link it would go elsewhere."""
         *above, last = names_of(place)
@@ -440,9 +482,11 @@ def show(state: State, copy: str | None, known: str | None) -> int:
     sys.stdout.flush()
     for it in found.wanted:
         repairs.say(it)
+    for place, count in found.undeclared.items():
+        repairs.declare(place, count)
     if found.others:
         note("no copy repairs %s: %s" % (many(sum(found.others.values()), "finding"), ", ".join(
             "%s %d" % it for it in sorted(found.others.items()))))
-    if found.wanted:
+    if found.wanted or found.undeclared:
         note(many_are(repairs.lacking, "file") + " without a right one")
     return int(repairs.lacking > 0)

@@ -101,6 +101,7 @@ class Repairs(Asked):
             if path.startswith(place + "/"):
                 manifest.setdefault(sum_of(data).upper(), []).append(path[2:])
         data = json.dumps({"digestAlgorithm": "sha512", "head": head, "manifest": manifest,
+                           "type": "https://ocfl.io/1.1/spec/#inventory",
                            "fixity": {"md5": {sum_of(b"", "md5"): ["v9/content/gone"]}}}).encode()
         self.write(folder + "/inventory.json", data)
         self.write(folder + "/inventory.json.sha512", b"%s inventory.json\n"
@@ -260,6 +261,35 @@ class Repairs(Asked):
         self.write("o/inventory.json", b"{")
         self.assertIn("# its inventory cannot be read, or names no algorithm of sidecars",
                       self.repair()[1])
+
+    def test_a_declaration(self):
+        """All files of an object without one are one line."""
+        lost = ["o/inventory.json", "o/inventory.json.sha512", *(
+            "o/" + it for it in ("v1/content/a", "v2/content/b", "v2/inventory.json"))]
+        self.finds(*("E072\t%s\t-" % it for it in [*lost, "z/x"]))
+        path = self.root + "/o/0=ocfl_object_1.1"
+        status, lines = self.repair()
+        self.assertEqual((status, lines), (0, [
+            "# E072\to", "# 5 files of an object whose declaration is missing",
+            "# its inventory says: OCFL 1.1", "printf 'ocfl_object_1.1\\n' > " + path, "",
+            "# no copy repairs 1 finding: E072 1", "# 0 files are without a right one"]))
+        self.assertEqual(self.run_commands(lines), 1)
+        self.assertEqual(self.read("o/0=ocfl_object_1.1"), b"ocfl_object_1.1\n")
+        self.assertIn("# there is a declaration now", self.repair()[1])
+        os.remove(path)
+        for data in (b"{", b'{"type": "https://ocfl.io/2.0/spec/#inventory"}', b'{"type": 1}'):
+            self.write("o/inventory.json", data)
+            status, lines = self.repair()
+            self.assertEqual((status, self.run_commands(lines)), (1, 0))
+        self.finds("E072\to/v2/inventory.json\t-")
+        self.assertEqual(self.repair(), (0, ["# no copy repairs 1 finding: E072 1"]))
+
+    def test_a_declaration_behind_a_link(self):
+        os.rename(self.root + "/o", self.root + "/other")
+        os.symlink("other", self.root + "/o")
+        self.finds("E072\to/inventory.json\t-")
+        status, lines = self.repair()
+        self.assertEqual((status, self.run_commands(lines)), (1, 0))
 
     def test_a_version_that_is_wrong(self):
         """Nothing is taken from a version whose inventory is not what its sidecar says, or that is

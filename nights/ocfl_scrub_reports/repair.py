@@ -52,8 +52,10 @@ class Wanted:
     size: int | None = None
     # Why nobody knows what its bytes must be, or why no copy helps.
     why: str = ""
-    # Places of this root that should have them.
+    # Places of this root that should have them, and the one of them that is but another spelling
+    # of this place, in no inventory.
     others: list[bytes] = field(default_factory=list)
+    respelt: bytes = b""
     is_inventory: bool = False
     # Of a sidecar the digest is that of the inventory beside it, which it must name.
     is_sidecar: bool = False
@@ -144,7 +146,8 @@ def open_in(state: State, leave_out: Known) -> Open:
         made.take(place, list(lines))
     for it in made.wanted:
         stray = made.strays.get(in_one_form(it.place), it.place)
-        it.others += [stray] if stray != it.place else []
+        if stray != it.place:
+            it.others, it.respelt = [stray], stray
     return made
 
 
@@ -343,7 +346,8 @@ class Repairs:
 
     def __init__(self, root: str, copy: str | None) -> None:
         self.root, self.copy = root, copy
-        self.lacking = 0
+        # How many files have no right one, and how many only have to be renamed.
+        self.lacking = self.respelt = 0
 
     def say(self, wanted: Wanted) -> None:
         """Writes what is known of one file, and the command that copies it."""
@@ -360,6 +364,8 @@ class Repairs:
         put(b"")
 
     def say_source(self, wanted: Wanted) -> None:
+        if wanted.respelt and self.say_spelling(wanted):
+            return
         newest = self.sidecar_of_newest(wanted) if wanted.is_sidecar else self.of_newest(wanted)
         source, place = next(iter([*self.in_copy(wanted), *newest, *self.elsewhere(wanted)]),
                              (b"", wanted.place))
@@ -369,6 +375,18 @@ class Repairs:
         self.lacking += 1
         note("what lies there, or on the way there, is no file or folder: remove it first"
              if source else wanted.why or "no right file was found")
+
+    def say_spelling(self, wanted: Wanted) -> bool:
+        """Writes the command that renames a file that has the right bytes under another spelling of
+        its name. Gives whether there is one."""
+        if not (wanted.digest and has_digest(self.root, wanted.respelt, wanted)
+                and self.can_be_put(wanted.place)):
+            return False
+        note("it is there under another spelling of its name (E023), in another form of Unicode")
+        put(b"mv -n -- %s %s" % (word(path_of(self.root, wanted.respelt)),
+                                 word(path_of(self.root, wanted.place))))
+        self.respelt += 1
+        return True
 
     # Each of these gives the files that are right, with the place that they are for.
 
@@ -484,6 +502,7 @@ def show(state: State, copy: str | None, known: str | None) -> int:
         repairs.say(it)
     for place, count in found.undeclared.items():
         repairs.declare(place, count)
+    found.others = +(found.others - Counter(E023=repairs.respelt))
     if found.others:
         note("no copy repairs %s: %s" % (many(sum(found.others.values()), "finding"), ", ".join(
             "%s %d" % it for it in sorted(found.others.items()))))

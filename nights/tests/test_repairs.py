@@ -198,7 +198,21 @@ class Repairs(Asked):
         self.finds("E092\t%s\tsha512 missing" % escaped(names[0]),
                    "E023\t%s\t-" % escaped(names[1]))
         status, lines = self.repair()
+        self.assertEqual(self.repair("--copy", self.copy)[1], lines)
         self.assertEqual((status, self.run_commands(lines), self.read(names[0])), (0, 1, b""))
+        self.assertEqual(os.path.exists(os.path.join(self.root, names[1])), False)
+        self.assertNotIn("no copy repairs", "".join(lines))
+
+    def test_another_form_of_unicode_and_other_bytes(self):
+        """A file that is not the missing one is not taken for it, and stays."""
+        names = ["o/v2/content/%s\x1b'.txt" % it for it in ("Mu\u0308", "M\xfc")]
+        os.remove(os.path.join(self.root, names[0]))
+        self.write(names[1], b"x")
+        self.finds("E092\t%s\tsha512 missing" % escaped(names[0]),
+                   "E023\t%s\t-" % escaped(names[1]))
+        status, lines = self.repair("--copy", self.copy)
+        self.assertEqual((status, self.run_commands(lines), self.read(names[0])), (0, 1, b""))
+        self.assertEqual(self.read(names[1]), b"x")
         self.assertIn("# no copy repairs 1 finding: E023 1", lines)
 
     def test_an_inventory(self):

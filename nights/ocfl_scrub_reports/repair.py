@@ -477,6 +477,18 @@ def note(text: str) -> None:
     put(b"# " + plain("Place left out 1", text).encode())
 
 
+def say_rest(others: Counter[str], losses: Iterable[bytes]) -> None:
+    """Counts by their codes the findings that no copy repairs, and what is gone."""
+    if others:
+        note("no copy repairs %s: %s" % (many(sum(others.values()), "finding"), ", ".join(
+            "%s %d" % it for it in sorted(others.items()))))
+    gone = Counter(line.partition(b"\t")[0].decode() for line in losses)
+    for kind in ("object", "file"):
+        if gone[kind]:
+            note("%s gone: bring back from a copy what nobody removed on purpose; status --list "
+                 "has the list" % many_are(gone[kind], kind))
+
+
 def show(state: State, copy: str | None, known: str | None) -> int:
     """Writes what would repair each open finding. Gives 1 if of some no right file was found, and
     else 0. Fails if the storage root, or the copy, is not there."""
@@ -488,7 +500,8 @@ def show(state: State, copy: str | None, known: str | None) -> int:
         raise Failed(copy + " is not a folder")
     if not is_root(root):
         raise Failed("there is no storage root at %s: is it mounted?" % root)
-    found = open_in(state, Known(known))
+    leave_out = Known(known)
+    found = open_in(state, leave_out)
     reports = [path for group in standing.groups_of(state) for path in group.reports]
     objects = objects_of(reports, [it.place for it in found.wanted])
     for it in found.wanted:
@@ -502,10 +515,8 @@ def show(state: State, copy: str | None, known: str | None) -> int:
         repairs.say(it)
     for place, count in found.undeclared.items():
         repairs.declare(place, count)
-    found.others = +(found.others - Counter(E023=repairs.respelt))
-    if found.others:
-        note("no copy repairs %s: %s" % (many(sum(found.others.values()), "finding"), ", ".join(
-            "%s %d" % it for it in sorted(found.others.items()))))
+    say_rest(found.others - Counter(E023=repairs.respelt), (
+        line for line in standing.losses(state) if not leave_out.has(line)))
     if found.wanted or found.undeclared:
         note(many_are(repairs.lacking, "file") + " without a right one")
     return int(repairs.lacking > 0)

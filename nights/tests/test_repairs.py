@@ -305,6 +305,14 @@ class Repairs(Asked):
         status, lines = self.repair()
         self.assertEqual((status, self.run_commands(lines)), (1, 0))
 
+    def test_what_is_gone(self):
+        self.close(2, self.right[:-2])
+        self.made.put("reports/gone-000002", b"object\tp\n")
+        self.assertEqual(self.repair(), (0, [
+            "# 1 object is gone: bring back from a copy what nobody removed on purpose; status "
+            "--list has the list"]))
+        self.assertEqual(self.repair("--known", self.put(b"object\tp\n", "known")), (0, []))
+
     def test_a_version_that_is_wrong(self):
         """Nothing is taken from a version whose inventory is not what its sidecar says, or that is
         about another version."""

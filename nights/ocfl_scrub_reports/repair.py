@@ -339,6 +339,15 @@ def newest_version(root: str, place: bytes) -> tuple[bytes, Wanted] | None:
     return (version, made) if has_digest(root, made.place, made) else None
 
 
+def is_declared(root: str | None, place: bytes) -> bool:
+    """Whether a folder has a declaration."""
+    try:
+        names = os.listdir(path_of(root or "", place))
+    except OSError:
+        return False
+    return any(it.startswith(b"0=") for it in names)
+
+
 # What is written
 
 class Repairs:
@@ -440,13 +449,9 @@ class Repairs:
         """Writes how an object is declared again whose files are outside of any object now."""
         put(b"# E072\t" + place)
         note("%s of an object whose declaration is missing" % many(count, "file"))
-        try:
-            names = os.listdir(path_of(self.root, place))
-        except OSError:
-            names = []
         kind = (inventory_of(self.root, place) or {}).get("type")
         version = TYPE.fullmatch(kind) if isinstance(kind, str) else None
-        if any(it.startswith(b"0=") for it in names):
+        if is_declared(self.root, place):
             note("there is a declaration now")
         elif not version or not self.can_be_put(place + b"/0"):
             self.lacking += 1
@@ -456,6 +461,23 @@ class Repairs:
             name = "ocfl_object_" + version[1]
             put(b"printf '%s\\n' > %s" % (name.encode(), word(os.path.join(
                 path_of(self.root, place), b"0=" + name.encode()))))
+        put(b"")
+
+    def bring_back(self, place: bytes) -> None:
+        """Writes how an object that is gone comes back from the copy. No digest says what it must
+        be, so it is audited there first."""
+        to = path_of(self.root, place)
+        put(b"# object\t" + place)
+        if not is_way_to(self.copy or "", names_of(place)) or not is_declared(self.copy, place):
+            note("in the copy: no object is there")
+        elif os.path.isdir(to) and os.listdir(to):
+            note("there is something in its place")
+        elif is_way_to(self.root, names_of(place)):
+            note("in the copy: an object, which nothing has audited; this does, and copies it")
+            copy = files.bytes_of(self.copy or "")
+            put(b"ocfl-scrub audit --under=%s -- %s > /dev/null && mkdir -p -- %s && cp -aT -- %s "
+                b"%s" % tuple(map(word, (place, copy, os.path.dirname(to), path_of(
+                    self.copy or "", place), to))))
         put(b"")
 
     def can_be_put(self, place: bytes) -> bool:
@@ -515,8 +537,12 @@ def show(state: State, copy: str | None, known: str | None) -> int:
         repairs.say(it)
     for place, count in found.undeclared.items():
         repairs.declare(place, count)
-    say_rest(found.others - Counter(E023=repairs.respelt), (
-        line for line in standing.losses(state) if not leave_out.has(line)))
+    losses = [line for line in standing.losses(state) if not leave_out.has(line)]
+    for line in losses if copy is not None else ():
+        kind, _, place = line.partition(b"\t")
+        if kind == b"object":
+            repairs.bring_back(place)
+    say_rest(found.others - Counter(E023=repairs.respelt), losses)
     if found.wanted or found.undeclared:
         note(many_are(repairs.lacking, "file") + " without a right one")
     return int(repairs.lacking > 0)

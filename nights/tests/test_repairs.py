@@ -313,6 +313,33 @@ class Repairs(Asked):
             "--list has the list"]))
         self.assertEqual(self.repair("--known", self.put(b"object\tp\n", "known")), (0, []))
 
+    def test_what_comes_back_from_the_copy(self):
+        """It is audited there first, and nothing in its place is changed."""
+        self.close(2, self.right[:-2])
+        self.made.put("reports/gone-000002", b"object\tp\n")
+        shutil.move(self.root + "/p", self.root + "/kept")
+        lines = self.repair("--copy", self.copy)[1]
+        self.assertEqual(lines[:2], ["# object\tp", "# in the copy: no object is there"])
+        self.write("p/0=ocfl_object_1.1", b"ocfl_object_1.1\n", self.copy)
+        for is_empty in (False, True):
+            if is_empty:
+                os.mkdir(self.root + "/p")
+            lines = self.repair("--copy", self.copy)[1]
+            self.assertEqual(lines[2], "ocfl-scrub audit --under=p -- '%s' > /dev/null && mkdir -p "
+                             "-- %s && cp -aT -- '%s/p' %s/p" % (
+                                 self.copy, self.root, self.copy, self.root))
+            for status, is_back in ((1, False), (0, True)):
+                done = subprocess.run(["bash", "-c", "ocfl-scrub() { return %d; }\n%s" % (
+                    status, lines[2])], check=False)
+                self.assertEqual((done.returncode, os.path.exists(
+                    self.root + "/p/v1/content/c")), (status, is_back))
+            self.assertIn("# there is something in its place",
+                          self.repair("--copy", self.copy)[1])
+            shutil.rmtree(self.root + "/p")
+        os.rename(self.copy + "/p", self.copy + "/q")
+        os.symlink("q", self.copy + "/p")
+        self.assertIn("# in the copy: no object is there", self.repair("--copy", self.copy)[1])
+
     def test_a_version_that_is_wrong(self):
         """Nothing is taken from a version whose inventory is not what its sidecar says, or that is
         about another version."""

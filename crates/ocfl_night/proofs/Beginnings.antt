@@ -1,5 +1,5 @@
 -- Where nights begin, and which cycle they end.
-use Rattle.std.proofs.Common.{◌≡◌, ◌≢◌, ◌∙◌, ◌++◌, ◌∷◌, [], inl, inr, ℕ, List, Bool, true, false, Option, Some, None, Result, Ok, Err, ap, arith, length, refl, subst, sym}
+use Rattle.std.proofs.Common.{◌≡◌, ◌≢◌, ◌≤◌, ◌∙◌, ◌++◌, ◌∷◌, [], inl, inr, ℕ, List, Bool, true, false, Option, Some, None, Result, Ok, Err, ap, arith, length, refl, subst, sym}
 use Rattle.std.proofs.lemmas.List.{nil_from_length}
 use Rattle.std.specs.Prelude.{◌⊎◌, IfOk, IsOk, IsTrue, OnOk}
 use Rattle.ocfl_tree.specs.Place.{Text, Place}
@@ -14,13 +14,14 @@ use Rattle.ocfl_night.specs.{Chain.{HasClosed}, Done.{Done}, Leaving.{done_by, r
 use Rattle.ocfl_night.specs.Ending.{IsSlice, KeepsTo, cycle_ended, cycle_in, cycle_of, ended_by, halt_after, place_or_pause, unbegun_by}
 use Rattle.ocfl_night.specs.Runs.{StopsOpen, Turn, after_end, after_made, turn_of}
 use Rattle.ocfl_night.specs.Sound.{IsAt, IsOneMore, IsShut, Stands}
-use Rattle.ocfl_night.specs.Steps.{IsNext, fitted}
-use Rattle.ocfl_night.specs.declared.{opening.Opened.{Opened}, refusal.NotOpened.{NotOpened}, refusal.Refusal.{Refusal}, stop.Stop.{Stop}}
+use Rattle.ocfl_identity.specs.declared.identity.Identity.{Identity}
+use Rattle.ocfl_night.specs.{Site.{with_root}, Steps.{IsNext, IsTakenUp, fitted}, Stopping.{IsFirst, IsToOpen}}
+use Rattle.ocfl_night.specs.declared.{opening.Opened.{Opened}, refusal.NotOpened.{NotOpened}, refusal.Refusal.{Refusal}, site.Site.{Site}, stop.Stop.{Stop}}
 use Rattle.ocfl_night.specs.declared.refusal.NotOpened.TheVariants as unopened
 use Rattle.ocfl_night.specs.declared.{plan.Halt.{Halt}, plan.Pause.{Pause}, slicing.Made.{Made}, tally.Remedy.{Remedy}}
 use Rattle.ocfl_night.specs.declared.plan.Halt.TheVariants as halt
 use Rattle.ocfl_night.specs.declared.tally.Remedy.TheVariants as remedy
-use Rattle.ocfl_night.proofs.{Chains.{cycle_after, not_there}, Foreigners.{at_once}, Runs.{stops_open}}
+use Rattle.ocfl_night.proofs.{Chains.{cycle_after, not_there}, Foreigners.{at_once, first_own}, Runs.{stops_open}}
 
 -- ---- where a night begins
 
@@ -38,6 +39,24 @@ begun_first c shown (Err why) may none report closed empty unclosed at = tt
 pub fitted_stays : (there : Option ReportMark) (k : Checkpoint) → position (fitted there k) ≡ position k
 fitted_stays None k = refl
 fitted_stays (Some mark) k = refl
+
+pub taken_stays : (id : Identity) {k l : Checkpoint} → IsTakenUp id k l → position l ≡ position k
+taken_stays id {k = k} (there, is) = ap position is ∙ fitted_stays there k
+
+-- it tells no more than its report has if that does not
+pub taken_within : (id : Identity) {k l : Checkpoint} → k.told ≤ k.report.bytes → IsTakenUp id k l → l.told ≤ l.report.bytes
+taken_within id {k} {l} within (there, is) = by there is
+  where
+    by : (o : Option ReportMark) → l ≡ with_root id (fitted o k) → l.told ≤ l.report.bytes
+    by None is = subst (λ (x : Checkpoint). x.told ≤ x.report.bytes) (sym is) within
+    by (Some mark) is = subst (λ (x : Checkpoint). x.told ≤ x.report.bytes) (sym is) (omega arith)
+
+-- the first one, in a folder that shows this
+pub first_to_open : {Told : Type 0} {site : Site} {id : Identity} {create : Bool} {c d : Content} {k : Checkpoint} → (Told → c.checkpoint ≡ None) → create ≡ true → (Told → d ≡ c) → IsFirst Told site id d k → IsToOpen Told site id create c k
+first_to_open {site = site} {id} {d = d} {k} none may same f = record {
+  own = first_own site id f.is;
+  begins = λ told. begins_first (none told) may (ap (λ (x : Content). length x.report) (sym (same told)) ∙ f.empty told) (ap (λ (x : Content). is_closed x.closed 1) (sym (same told)) ∙ f.unclosed told) (ap position f.is);
+}
 
 -- at a checkpoint that stands there too
 pub begins_so : {create : Bool} {c : Content} {start next : Checkpoint} → position next ≡ position start → BeginsAt create c start → BeginsAt create c next

@@ -1,13 +1,17 @@
 -- Whose a checkpoint is.
-use Rattle.std.proofs.Common.{◌≡◌, ◌≢◌, [], inl, inr, Bool, false, Err, Result, Some, sym, ◌∙◌, ap, subst, arith}
+use Rattle.std.proofs.Common.{◌≡◌, ◌≢◌, [], inl, inr, Bool, false, Err, Option, None, Result, Some, refl, sym, ◌∙◌, ap, subst, arith}
 use Rattle.ocfl_tree.specs.{Listing.{entries_in}, Place.{Text}, StorageRoot.{StorageRoot}, Store.{Store, IfTold}}
 use Rattle.ocfl_identity.specs.Identity.{IsIdentityOf, declarations_among, declared_by}
 use Rattle.ocfl_identity.specs.declared.identity.{Identity.{Identity}, NoIdentity.{NoIdentity}}
 use Rattle.ocfl_identity.specs.declared.identity.NoIdentity.TheVariants as none
 use Rattle.ocfl_state.specs.{Checkpoint.{Checkpoint, IsCheckpointText}, Content.{Content}}
 use Rattle.ocfl_state.proofs.CheckpointTexts.{text_determines}
-use Rattle.ocfl_night.specs.Site.{IsForeign, IsOther, IsOtherThan, IsOwn, IsSameRoot}
-use Rattle.ocfl_night.specs.{Ending.{unopened_by}, Older.{IfOlder}, Refusing.{IfForeign, IsBarred, IsRefused, another, no_root, older, other_root, undeclared}}
+use Rattle.ocfl_state.specs.declared.checkpoint_parts.{ReportMark.{ReportMark}, RootIdentity.{RootIdentity}}
+use Rattle.ocfl_cursor.specs.declared.limits.Limits.{Limits}
+use Rattle.ocfl_scrub.specs.declared.running.RunEnd.{RunEnd}
+use Rattle.ocfl_night.specs.Site.{IsAlike, IsForeign, IsOfSite, IsOfStore, IsOther, IsOtherThan, IsOwn, IsSameRoot, first_checkpoint, with_root}
+use Rattle.ocfl_night.specs.{Steps.{IsTakenUp, fitted}, declared.slicing.Made.{Made}}
+use Rattle.ocfl_night.specs.{Ending.{IsNextBy, IsSlice, unopened_by}, Older.{IfOlder}, Refusing.{IfForeign, IsBarred, IsRefused, another, no_root, older, other_root, undeclared}}
 use Rattle.ocfl_night.specs.declared.refusal.{NotOpened.TheVariants.{Refused}, Refusal.{Refusal}}
 use Rattle.ocfl_night.specs.{Sound.{IsAt}, declared.plan.Plan.{Plan}, declared.site.Site.{Site}}
 
@@ -29,6 +33,58 @@ not_foreign own same (inr other) = not_other (same other.0) other.1
 
 pub own_at : {site : Site} {id : Identity} {force : Bool} {c : Content} {k found : Checkpoint} → IsAt found c → IsAt k c → IsOwn site found → (force ≡ false → IsSameRoot id found) → IsForeign site id force k → ⊥
 own_at {site} {id} {force} a b own same foreign = not_foreign own same (subst (λ (x : Checkpoint). IsForeign site id force x) (sym (at_once a b)) foreign)
+
+-- ---- whether two are alike
+
+pub alike_self : (k : Checkpoint) → IsAlike k k
+alike_self k = record { root = refl; names = refl; part = refl }
+
+pub alike_on : {j k l : Checkpoint} → IsAlike j k → IsAlike k l → IsAlike j l
+alike_on a b = record { root = b.root ∙ a.root; names = b.names ∙ a.names; part = b.part ∙ a.part }
+
+-- what is made of one that is alike
+pub alike_as : (k : Checkpoint) {l m : Checkpoint} → l ≡ m → IsAlike k m → IsAlike k l
+alike_as k same alike = subst (IsAlike k) (sym same) alike
+
+-- one after a run, and after a slice
+pub next_alike : {k l : Checkpoint} {ran : RunEnd} → IsNextBy k ran l → IsAlike k l
+next_alike {k} n = alike_as k n.1.rest_is (record { root = refl; names = refl; part = refl })
+
+pub made_alike : {k : Checkpoint} {limits : Limits} {made : Made} → IsSlice k limits made → IsAlike k made.checkpoint
+made_alike {k} (inl un) = alike_as k un.checkpoint (alike_self k)
+made_alike (inr r) = next_alike r.1.2
+
+-- one like that of a site
+pub of_site : {site : Site} {id : Identity} {k l : Checkpoint} → IsAlike k l → IsOfSite site id k → IsOfSite site id l
+of_site same of = record {
+  own = record { path = ap (λ (r : RootIdentity). r.path) same.root ∙ of.own.path; part = same.part ∙ of.own.part };
+  declared = ap (λ (r : RootIdentity). r.declared) same.root ∙ of.declared;
+}
+
+pub of_store : {told : Bool} {s : Store} {site : Site} {k l : Checkpoint} → IsAlike k l → IsOfStore told s site k → IsOfStore told s site l
+of_store same of = record {
+  own = record { path = ap (λ (r : RootIdentity). r.path) same.root ∙ of.own.path; part = same.part ∙ of.own.part };
+  declared = λ tells root over. of.declared tells root over ∙ ap (λ (r : RootIdentity). Some r.declared) (sym same.root);
+}
+
+-- of a site with the identity of the root of a store
+pub site_of : {told : Bool} {s : Store} {site : Site} {id : Identity} {k : Checkpoint} → IfTold told s (λ root. IsIdentityOf root id) → IsOfSite site id k → IsOfStore told s site k
+site_of is of = record {
+  own = of.own;
+  declared = λ tells root over. let at = is tells root over in ap (declared_by root) (sym at.declarations) ∙ at.declared ∙ ap Some (sym of.declared);
+}
+
+-- what is taken up of one
+pub taken_own : {site : Site} {id : Identity} {k l : Checkpoint} → IsOwn site k → IsTakenUp id k l → IsOfSite site id l
+taken_own {site} {id} {k} {l} own (there, is) = by there is
+  where
+    by : (o : Option ReportMark) → l ≡ with_root id (fitted o k) → IsOfSite site id l
+    by None is = record { own = record { path = ap (λ (x : Checkpoint). x.root.path) is ∙ own.path; part = ap (λ (x : Checkpoint). x.part) is ∙ own.part }; declared = ap (λ (x : Checkpoint). x.root.declared) is }
+    by (Some mark) is = record { own = record { path = ap (λ (x : Checkpoint). x.root.path) is ∙ own.path; part = ap (λ (x : Checkpoint). x.part) is ∙ own.part }; declared = ap (λ (x : Checkpoint). x.root.declared) is }
+
+-- the first one
+pub first_own : (site : Site) (id : Identity) {k : Checkpoint} → k ≡ first_checkpoint site id → IsOfSite site id k
+first_own site id is = subst (IsOfSite site id) (sym is) (record { own = record { path = refl; part = refl }; declared = refl })
 
 -- of a storage root, by its identity
 pub other_by : (root : StorageRoot) (id : Identity) (k : Checkpoint) → IsIdentityOf root id → IsOtherThan root k → IsOther id k

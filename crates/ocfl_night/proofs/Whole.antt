@@ -10,13 +10,13 @@ use Rattle.ocfl_state.specs.{Crash.{Outcomes}, Pieces.{summary_of}, declared.che
 use Rattle.ocfl_state.specs.declared.checkpoint_parts.{Phase.{Phase}, Phase.TheVariants.{Open, Closing}}
 use Rattle.ocfl_identity.specs.declared.identity.Identity.{Identity}
 use Rattle.ocfl_night.specs.{Done.{Done, with_begun, with_made}, Ending.{IsSlice, cycle_ended, place_or_pause}, Leaving.{LeadsOn, remedy_at}, Looks.{Rounds}}
-use Rattle.ocfl_night.specs.{Promises.{HasCome, IsUncut}, Site.{with_root}, Sound.{IsAt, IsReady}}
+use Rattle.ocfl_night.specs.{Promises.{HasCome, IsUncut}, Site.{IsAlike, with_root}, Sound.{IsAt, IsReady}}
 use Rattle.ocfl_night.specs.Steps.{IsComplete, IsFinished, IsOpened, closes_whole, fitted, left_at, what_is_left, with_all_told}
 use Rattle.ocfl_night.specs.Runs.{Run, Turn, after_end, remedied, turn, turn_of}
 use Rattle.ocfl_night.specs.declared.{opening.Opened.{Opened}, plan.Pause.{Pause}, plan.Plan.{Plan}, slicing.Made.{Made}}
 use Rattle.ocfl_night.specs.declared.tally.Remedy.{Remedy}
 use Rattle.ocfl_night.specs.declared.tally.Remedy.TheVariants as remedy
-use Rattle.ocfl_night.proofs.{Compared.{ready_to_close}, Foreigners.{at_once}}
+use Rattle.ocfl_night.proofs.{Compared.{ready_to_close}, Foreigners.{alike_on, alike_self, at_once, made_alike}}
 
 -- ---- what is closed
 
@@ -55,10 +55,11 @@ module _ {F : Type 0} {seen : F → Content} {may_leave : F → Outcomes} {round
 -- ---- what a night leaves out meanwhile
 
 pub none_grown : {k : Checkpoint} {had : List Place} → LeadsOn k had k had
-none_grown {k} {had} = record { whole = refl; more = []; left = sym (append-nil k.left); named = sym (append-nil had) }
+none_grown {k} {had} = record { alike = alike_self k; whole = refl; more = []; left = sym (append-nil k.left); named = sym (append-nil had) }
 
 pub grown_on : {k l m : Checkpoint} {a b c : List Place} → LeadsOn k a l b → LeadsOn l b m c → LeadsOn k a m c
 grown_on {k} {l} {m} {a} {b} {c} p q = record {
+  alike = alike_on p.alike q.alike;
   whole = q.whole ∙ p.whole;
   more = p.more ++ q.more;
   left = q.left ∙ ap (λ (x : List Left). x ++ q.more) p.left ∙ append_assoc k.left p.more q.more;
@@ -66,9 +67,9 @@ grown_on {k} {l} {m} {a} {b} {c} p q = record {
 }
 
 by_remedy : (p : Place) (d : Done) (k : Checkpoint) (r : Remedy) → LeadsOn k d.left (remedied d k p r).checkpoint (remedied d k p r).done.left
-by_remedy p d k remedy.TryAgain = record { whole = refl; more = []; left = sym (append-nil k.left); named = refl }
-by_remedy p d k (remedy.LeaveOut branch) = record { whole = refl; more = left_at branch k ∷ []; left = refl; named = refl }
-by_remedy p d k remedy.Halt = record { whole = refl; more = []; left = sym (append-nil k.left); named = refl }
+by_remedy p d k remedy.TryAgain = record { alike = alike_self k; whole = refl; more = []; left = sym (append-nil k.left); named = refl }
+by_remedy p d k (remedy.LeaveOut branch) = record { alike = record { root = refl; names = refl; part = refl }; whole = refl; more = left_at branch k ∷ []; left = refl; named = refl }
+by_remedy p d k remedy.Halt = record { alike = alike_self k; whole = refl; more = []; left = sym (append-nil k.left); named = refl }
 
 after_grown : (strict : Bool) (d : Done) (k : Checkpoint) (at : Result Place (Option Pause)) → LeadsOn k d.left (after_end strict d k at).checkpoint (after_end strict d k at).done.left
 after_grown strict d k (Ok p) = by_remedy p d k (remedy_at strict d p)
@@ -79,14 +80,14 @@ slice_keeps : {k : Checkpoint} {limits : Limits} {made : Made} → IsSlice k lim
 slice_keeps (inl un) = (ap (λ (x : Checkpoint). x.whole) un.checkpoint, ap (λ (x : Checkpoint). x.left) un.checkpoint)
 slice_keeps (inr r) = (ap (λ (x : Checkpoint). x.whole) r.1.2.1.rest_is, ap (λ (x : Checkpoint). x.left) r.1.2.1.rest_is)
 
-same_grown : {k l m : Checkpoint} {a b : List Place} → l.whole ≡ k.whole → l.left ≡ k.left → LeadsOn l a m b → LeadsOn k a m b
-same_grown {k} one two h = record { whole = h.whole ∙ one; more = h.more; left = h.left ∙ ap (λ (x : List Left). x ++ h.more) two; named = h.named }
+same_grown : {k l m : Checkpoint} {a b : List Place} → IsAlike k l → l.whole ≡ k.whole → l.left ≡ k.left → LeadsOn l a m b → LeadsOn k a m b
+same_grown {k} alike one two h = record { alike = alike_on alike h.alike; whole = h.whole ∙ one; more = h.more; left = h.left ∙ ap (λ (x : List Left). x ++ h.more) two; named = h.named }
 
 -- one run more
 pub run_grown : (plan : Plan) (d : Done) {e : Done} {k l : Checkpoint} {pause : Option Pause} {limits : Limits} (r : Run) → IsSlice k limits r.made → turn plan d r ≡ turn_of e (l, pause) → LeadsOn k d.left l e.left
 run_grown plan d {e} {k} {l} {pause} r made led =
     let kept = slice_keeps made in
-    same_grown kept.0 kept.1 (subst (λ (x : Turn). LeadsOn r.made.checkpoint d.left x.checkpoint x.done.left) led (after_grown plan.stop_at_faults (with_made r.made (with_begun r.now d)) r.made.checkpoint (place_or_pause r.made.end)))
+    same_grown (made_alike made) kept.0 kept.1 (subst (λ (x : Turn). LeadsOn r.made.checkpoint d.left x.checkpoint x.done.left) led (after_grown plan.stop_at_faults (with_made r.made (with_begun r.now d)) r.made.checkpoint (place_or_pause r.made.end)))
 
 -- ---- whether a checkpoint says that all is there
 

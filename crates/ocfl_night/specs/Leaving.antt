@@ -7,7 +7,7 @@ use Rattle.ocfl_inventory.specs.declared.declaration.Level.TheVariants.{Object}
 use Rattle.ocfl_audit.specs.{Trail.{is_root_meta}, Zone.{inventory_name}}
 use Rattle.ocfl_item.specs.declared.fault.Fault.TheVariants as fault
 use Rattle.ocfl_state.specs.{Checkpoint.{Checkpoint}, declared.checkpoint_parts.Left.{Left}}
-use Rattle.ocfl_night.specs.{Chain.{past}, Done.{Done, counted}, Steps.{with_left}, declared.plan.Pause.{Pause}}
+use Rattle.ocfl_night.specs.{Chain.{past}, Done.{Done, counted}, Site.{IsAlike}, Steps.{with_left}, declared.plan.Pause.{Pause}}
 use Rattle.ocfl_night.specs.declared.tally.Remedy.{Remedy}
 use Rattle.ocfl_night.specs.declared.tally.Remedy.TheVariants.{TryAgain, LeaveOut, Halt}
 use Rattle.ocfl_night.specs.declared.tally.Tally.{Tally}
@@ -85,8 +85,10 @@ done_by k p (LeaveOut branch) = (with_left branch k, None)
 done_by k p Halt = (k, Some (pause.Stopped (fault.Store p)))
 
 -- A night that had left out these branches leads from a checkpoint to another one, and has left out
--- these then: the checkpoint names what was left out meanwhile, and is as whole as it was.
+-- these then: the checkpoint names what was left out meanwhile, is of the same root and part, and as
+-- whole as it was.
 pub record LeadsOn (k : Checkpoint) (had : List Place) (l : Checkpoint) (has : List Place) : Type 0 where
+  pub alike : IsAlike k l
   pub whole : l.whole ≡ k.whole
   pub more : List Left
   pub left : l.left ≡ k.left ++ more

@@ -8,7 +8,7 @@ use Rattle.ocfl_state.specs.{Checkpoint.{Checkpoint}, Pieces.{summary_of}}
 use Rattle.ocfl_state.specs.declared.checkpoint_parts.ReportMark.{ReportMark}
 use Rattle.ocfl_state.specs.declared.checkpoint_parts.TopNames.{TopNames}
 use Rattle.ocfl_state.specs.declared.checkpoint_parts.Phase.TheVariants.{Open}
-use Rattle.ocfl_tree.specs.{Listing.{entries_in}, StorageRoot.{StorageRoot}}
+use Rattle.ocfl_tree.specs.{Listing.{entries_in}, StorageRoot.{StorageRoot}, Store.{Store, IfTold}}
 use Rattle.ocfl_identity.specs.Identity.{declared_by, declarations_among}
 use Rattle.ocfl_identity.specs.declared.identity.Identity.{Identity}
 use Rattle.ocfl_night.specs.declared.site.Site.{Site}
@@ -59,6 +59,26 @@ pub record IsOwn (site : Site) (k : Checkpoint) : Type 0 where
   pub path : k.root.path ≡ site.path
   pub part : k.part ≡ site.ends
 
+-- of this declaration too
+pub record IsOfSite (site : Site) (id : Identity) (k : Checkpoint) : Type 0 where
+  pub own : IsOwn site k
+  pub declared : k.root.declared ≡ id.declared
+
+-- the root of a store has the declaration that it has
+abbrev pub IsDeclaredIn : StorageRoot → Checkpoint → Type 0
+IsDeclaredIn root k = declared_by root (declarations_among (entries_in root [])) ≡ Some k.root.declared
+
+-- of this path and part, and of the root of a store, if that tells
+pub record IsOfStore (told : Bool) (s : Store) (site : Site) (k : Checkpoint) : Type 0 where
+  pub own : IsOwn site k
+  pub declared : IfTold told s (λ root. IsDeclaredIn root k)
+
+-- two are of the same root and part, with the same names
+pub record IsAlike (k l : Checkpoint) : Type 0 where
+  pub root : l.root ≡ k.root
+  pub names : l.names ≡ k.names
+  pub part : l.part ≡ k.part
+
 -- of another root or part
 abbrev pub IsAnothers : Site → Checkpoint → Type 0
 IsAnothers site k = (k.root.path ≢ site.path) ⊎ (k.part ≢ site.ends)
@@ -82,7 +102,7 @@ IsForeign site id force k = IsAnothers site k ⊎ ((force ≡ false) × IsOther 
 
 -- the same of a storage root
 abbrev pub IsOtherThan : StorageRoot → Checkpoint → Type 0
-IsOtherThan root k = (declared_by root (declarations_among (entries_in root [])) ≢ Some k.root.declared)
+IsOtherThan root k = (IsDeclaredIn root k → ⊥)
     ⊎ (length (entries_in root []) + length (entries_in root []) < k.names.count)
 
 -- the files that declared the root are there and are the same

@@ -57,6 +57,10 @@ abbrev pub fitted : Option ReportMark → Checkpoint → Checkpoint
 fitted None k = k
 fitted (Some there) k = shortened there k
 
+-- what is taken up of it: the same, with what the root has now
+abbrev pub IsTakenUp : Identity → Checkpoint → Checkpoint → Type 0
+IsTakenUp id k next = (there : Option ReportMark) × (next ≡ with_root id (fitted there k))
+
 -- ---- whether a report is as a checkpoint says
 
 -- it begins with a text that has this mark

@@ -3,29 +3,28 @@ use Rattle.std.specs.Prelude.{◌≡◌, ◌≢◌, ◌⊎◌, ℕ, ◌+◌, ◌
 use Rattle.ocfl_tree.specs.{Listing.{entries_in}, Place.{Place, Text}, Store.{Store, IfTold}}
 use Rattle.ocfl_item.specs.Judging.{HasShortFiles}
 use Rattle.ocfl_identity.specs.Identity.{IsUnread, declarations_among}
-use Rattle.ocfl_scrub.specs.Running.{IsWorn}
-use Rattle.ocfl_state.specs.{Calls.{HasLong, IsLong}, Checkpoint.{Checkpoint, IsCheckpointText}, Content.{Content}}
+use Rattle.ocfl_identity.specs.declared.identity.Identity.{Identity}
+use Rattle.ocfl_cursor.specs.declared.limits.Limits.{Limits}
+use Rattle.ocfl_scrub.specs.{Running.{IsWorn}, declared.running.RunEnd.{RunEnd}}
+use Rattle.ocfl_state.specs.{Calls.{HasLong, IsLong}, Checkpoint.{Checkpoint, IsCheckpointText}, Content.{Content, is_closed}}
 use Rattle.ocfl_state.specs.{Crash.{Outcomes}, Pieces.{summary_of}, declared.checkpoint_parts.Left.{Left}}
 use Rattle.ocfl_state.specs.declared.checkpoint_parts.ReportMark.{ReportMark}
 use Rattle.ocfl_state.specs.declared.folder.FolderTrouble.TheVariants.{Failed, Full, Taken, Memory}
-use Rattle.ocfl_night.specs.{Beginning.{BeginsAt}, Ending.{cycle_of}, Leaving.{has_end}, Looks.{Rounds}, Output.{HasFailed, Said}, Sound.{IsKept}}
-use Rattle.ocfl_night.specs.declared.{looking.NotKept.{NotKept}, refusal.NotOpened.{NotOpened}, stop.Stop.{Stop}}
+use Rattle.ocfl_night.specs.{Beginning.{BeginsAt}, Ending.{IsNextBy, KeepsTo, cycle_of, place_or_pause}, Leaving.{branch_at, has_end}}
+use Rattle.ocfl_night.specs.{Looks.{Rounds}, Output.{HasFailed, Said}, Site.{IsAlike, IsOfSite, first_checkpoint}, Sound.{IsKept}, Steps.{begun_anew, with_all_told, with_left}}
+use Rattle.ocfl_night.specs.declared.{looking.NotKept.{NotKept}, refusal.NotOpened.{NotOpened}, site.Site.{Site}, slicing.Made.{Made}, stop.Stop.{Stop}}
 use Rattle.ocfl_night.specs.declared.looking.NotKept.TheVariants as unkept
 use Rattle.ocfl_night.specs.declared.refusal.NotOpened.TheVariants as unopened
 use Rattle.ocfl_night.specs.declared.stop.Stop.TheVariants.{Folder, TooLong, Unread, Worn, Endless, Unsaid, Overtold, Short, Output}
 
 -- ---- of any step
 
--- the text of a checkpoint is longer than a folder takes
-pub record IsTooLong (text : Text) : Type 0 where
+-- the text is that of one of these checkpoints, and longer than a folder takes
+pub record IsTooLong (OneOf : Checkpoint → Type 0) (text : Text) : Type 0 where
   pub checkpoint : Checkpoint
+  pub one : OneOf checkpoint
   pub is : IsCheckpointText text checkpoint
   pub long : IsLong text
-
--- of the text that was too long, if one was
-abbrev pub IfTooLong : (Text → Type 0) → Stop → Type 0
-IfTooLong Holds (TooLong text) = Holds text.items
-IfTooLong Holds why = ⊤
 
 -- The reason of a stop, in a step before which the folder had failed so often, and so often after it.
 -- It says that the folder failed only if it did, or in one more case; that it is full, only if it
@@ -36,7 +35,6 @@ IsReason Told Other old new (Folder Failed) = Told → (old < new) ⊎ Other Tol
 IsReason Told Other old new (Folder Full) = Told → old < new
 IsReason Told Other old new (Folder Taken) = Told → ⊥
 IsReason Told Other old new (Folder Memory) = ⊤
-IsReason Told Other old new (TooLong text) = IsTooLong text.items
 IsReason Told Other old new why = Other Told why
 
 -- a step stops for its reason; if it does not, the folder has not failed less often
@@ -68,24 +66,43 @@ IsTextStop k Overtold = k.report.bytes < k.told
 IsTextStop k (Folder Memory) = ⊤
 IsTextStop k why = ⊥
 
--- a checkpoint is not put: it tells more than its report has
-abbrev pub ForPut : Checkpoint → Type 0 → Stop → Type 0
-ForPut k Told Overtold = k.report.bytes < k.told
-ForPut k Told why = ⊥
+-- one of these checkpoints is not put: it tells more than its report has, or its text is too long
+abbrev pub ForPut : (Checkpoint → Type 0) → Type 0 → Stop → Type 0
+ForPut OneOf Told Overtold = (k : Checkpoint) × (OneOf k × (k.report.bytes < k.told))
+ForPut OneOf Told (TooLong text) = IsTooLong OneOf text.items
+ForPut OneOf Told why = ⊥
 
 -- a checkpoint is not read: what is there is too long
 abbrev pub ForLook : Content → Type 0 → Stop → Type 0
 ForLook c Told (Folder why) = HasLong c.checkpoint
 ForLook c Told why = ⊥
 
--- a night is not opened
-abbrev pub ForOpen : Content → Type 0 → Stop → Type 0
-ForOpen c Told Overtold = Told → ⊥
-ForOpen c Told why = ForLook c Told why
+-- the first checkpoint of nights in a folder, with no report open or closed
+pub record IsFirst (Told : Type 0) (site : Site) (id : Identity) (c : Content) (k : Checkpoint) : Type 0 where
+  pub is : k ≡ first_checkpoint site id
+  pub empty : Told → length c.report ≡ 0
+  pub unclosed : Told → is_closed c.closed 1 ≡ false
 
--- a report is not closed: not all of it was said
+-- it is not put: its text is too long
+abbrev pub ForFirst : Site → Identity → Content → Type 0 → Stop → Type 0
+ForFirst site id c Told (TooLong text) = IsTooLong (IsFirst Told site id c) text.items
+ForFirst site id c Told why = ⊥
+
+-- the checkpoint with which a night is to begin in a folder of this content
+pub record IsToOpen (Told : Type 0) (site : Site) (id : Identity) (create : Bool) (c : Content) (k : Checkpoint) : Type 0 where
+  pub own : IsOfSite site id k
+  pub begins : Told → BeginsAt create c k
+
+-- a night is not opened, with one of these checkpoints
+abbrev pub ForOpen : (Checkpoint → Type 0) → Content → Type 0 → Stop → Type 0
+ForOpen OneOf c Told Overtold = Told → ⊥
+ForOpen OneOf c Told (TooLong text) = IsTooLong OneOf text.items
+ForOpen OneOf c Told why = ForLook c Told why
+
+-- a report is not closed: not all of it was said, or the checkpoint of the next cycle is too long
 abbrev pub ForClose : Checkpoint → Type 0 → Stop → Type 0
 ForClose k Told Unsaid = k.told ≢ k.report.bytes
+ForClose k Told (TooLong text) = IsTooLong (λ next. next ≡ begun_anew k) text.items
 ForClose k Told why = ⊥
 
 -- the bytes of a report up to an offset are not said: it ends before that, or the output has failed
@@ -99,6 +116,7 @@ abbrev pub ForSpeak : Checkpoint → Content → Said → Said → Type 0 → St
 ForSpeak k c old new Told Overtold = k.report.bytes < k.told
 ForSpeak k c old new Told Short = Told → (k.told < k.report.bytes) × (length c.report < k.report.bytes)
 ForSpeak k c old new Told Output = HasFailed old.failures new.failures
+ForSpeak k c old new Told (TooLong text) = IsTooLong (λ next. next ≡ with_all_told k) text.items
 ForSpeak k c old new Told why = ⊥
 
 -- no place comes after all that the last of some branches has
@@ -127,17 +145,26 @@ ForExtend mark c Told (Folder why) = mark ≢ summary_of c.report
 ForExtend mark c Told why = ⊥
 
 -- the lines of a run are not kept: the report is not as the checkpoint says, or that tells more than
--- its report has
-abbrev pub ForKeep : Checkpoint → Content → Type 0 → Stop → Type 0
-ForKeep k c Told (Folder why) = k.report ≢ summary_of c.report
-ForKeep k c Told Overtold = Told → k.report ≡ summary_of c.report → k.report.bytes < k.told
-ForKeep k c Told why = ⊥
+-- its report has, or one of these checkpoints after the run is too long
+abbrev pub ForKeep : (Checkpoint → Type 0) → Checkpoint → Content → Type 0 → Stop → Type 0
+ForKeep OneOf k c Told (Folder why) = k.report ≢ summary_of c.report
+ForKeep OneOf k c Told Overtold = Told → k.report ≡ summary_of c.report → k.report.bytes < k.told
+ForKeep OneOf k c Told (TooLong text) = IsTooLong OneOf text.items
+ForKeep OneOf k c Told why = ⊥
+
+-- the checkpoint after a run within these limits
+abbrev pub IsRunBy : Checkpoint → Limits → Checkpoint → Type 0
+IsRunBy k limits next = (ran : RunEnd) × (KeepsTo k.cursor limits ran × IsNextBy k ran next)
 
 -- a slice is not made: for one of these, or the run cannot be counted, or be made past what was left out
-abbrev pub ForSlice : Checkpoint → Content → Type 0 → Stop → Type 0
-ForSlice k c Told Worn = IsWorn k.cursor
-ForSlice k c Told Endless = IsEndless k.left
-ForSlice k c Told why = ForKeep k c Told why
+abbrev pub ForSlice : Limits → Checkpoint → Content → Type 0 → Stop → Type 0
+ForSlice limits k c Told Worn = IsWorn k.cursor
+ForSlice limits k c Told Endless = IsEndless k.left
+ForSlice limits k c Told why = ForKeep (IsRunBy k limits) k c Told why
+
+-- that which leaves out the branch of the place at which a slice stopped
+abbrev pub IsPassedBy : Made → Checkpoint → Type 0
+IsPassedBy made next = (p : Place) × ((place_or_pause made.end ≡ Ok p) × (next ≡ with_left (branch_at p) made.checkpoint))
 
 -- ---- of a night
 
@@ -157,6 +184,12 @@ TellsKept tells may_leave folder = IsTrue tells × ((rounds : Rounds) × IsKept 
 abbrev pub IsWornAfter : Checkpoint → ℕ → Type 0
 IsWornAfter start runs = (cycle_of start ≡ 2 ^ 64) ⊎ (2 ^ 64 ≤ start.cursor.runs + runs + 1)
 
+-- a checkpoint is put by a night from this one: it is of the same root and part, with the same names,
+-- and of the same cycle or the next one
+pub record IsPutFrom (start k : Checkpoint) : Type 0 where
+  pub alike : IsAlike start k
+  pub cycle : (cycle_of k ≡ cycle_of start) ⊎ (cycle_of k ≡ cycle_of start + 1)
+
 -- no run is made any more by a night from this checkpoint that has begun so many runs, or what runs
 -- wrote is not said: the output has failed, if that may be
 abbrev pub ForRuns : Type 0 → Checkpoint → ℕ → Type 0 → Stop → Type 0
@@ -165,6 +198,7 @@ ForRuns Silenced start runs Told Endless = IsEndless start.left
 ForRuns Silenced start runs Told Overtold = Told → ⊥
 ForRuns Silenced start runs Told Short = Told → ⊥
 ForRuns Silenced start runs Told Output = Silenced
+ForRuns Silenced start runs Told (TooLong text) = IsTooLong (IsPutFrom start) text.items
 ForRuns Silenced start runs Told why = ⊥
 
 -- what a night began with, how many runs it began, and its output before it and now
@@ -186,14 +220,19 @@ FromStart n Holds = (start : Checkpoint) × (BeginsAt n.create n.content start �
 abbrev pub IsUnlooked : Bool → Store → Store → Place → Type 0
 IsUnlooked told s t p = IfTold told s (λ root. IsUnread root s t (declarations_among (entries_in root [])) ([] ∷ []) p)
 
--- A night is troubled: what is there as a checkpoint is too long, the root could not be looked at, a
--- run could not be counted or made, or the output has failed.
-abbrev pub ForNight : (Place → Type 0) → Course → Type 0 → Stop → Type 0
-ForNight IsUnreadAt n Told (Folder why) = HasLong n.content.checkpoint
-ForNight IsUnreadAt n Told (Unread p) = IsUnreadAt p
-ForNight IsUnreadAt n Told Worn = Told → FromStart n (λ start. IsWornAfter start n.runs)
-ForNight IsUnreadAt n Told Endless = Told → FromStart n (λ start. IsEndless start.left)
-ForNight IsUnreadAt n Told Overtold = Told → ⊥
-ForNight IsUnreadAt n Told Short = Told → ⊥
-ForNight IsUnreadAt n Told Output = HasFailed n.old.failures n.new.failures
-ForNight IsUnreadAt n Told why = ⊥
+-- the checkpoint is one that such a night puts, of which this holds
+abbrev pub IsPutIn : (Checkpoint → Type 0) → Course → Type 0 → Checkpoint → Type 0
+IsPutIn IsOf n Told k = IsOf k × (Told → FromStart n (λ start. IsPutFrom start k))
+
+-- A night is troubled: what is there as a checkpoint is too long, or one that it puts; the root could
+-- not be looked at; a run could not be counted or made; or the output has failed.
+abbrev pub ForNight : (Place → Type 0) → (Checkpoint → Type 0) → Course → Type 0 → Stop → Type 0
+ForNight IsUnreadAt IsOf n Told (Folder why) = HasLong n.content.checkpoint
+ForNight IsUnreadAt IsOf n Told (TooLong text) = IsTooLong (IsPutIn IsOf n Told) text.items
+ForNight IsUnreadAt IsOf n Told (Unread p) = IsUnreadAt p
+ForNight IsUnreadAt IsOf n Told Worn = Told → FromStart n (λ start. IsWornAfter start n.runs)
+ForNight IsUnreadAt IsOf n Told Endless = Told → FromStart n (λ start. IsEndless start.left)
+ForNight IsUnreadAt IsOf n Told Overtold = Told → ⊥
+ForNight IsUnreadAt IsOf n Told Short = Told → ⊥
+ForNight IsUnreadAt IsOf n Told Output = HasFailed n.old.failures n.new.failures
+ForNight IsUnreadAt IsOf n Told why = ⊥

@@ -5,7 +5,7 @@ ghost use Rattle.ocfl_state.specs.CheckpointRefusal.{RefusedRightly};
 ghost use Rattle.ocfl_state.specs.{Checkpoint.{IsCheckpointText}, Crash.{Same, Only, Passes}};
 ghost use Rattle.ocfl_night.specs.Older.{IsNumber, open_cycle};
 ghost use Rattle.ocfl_night.specs.{Refusing.{HasUnread, IfRefused, IsUnread}, Site.{no_report}, Sound.{IsAt}};
-ghost use Rattle.ocfl_night.specs.Stopping.{ForLook, ForPut, IfTooLong, IsReadStop, IsTextStop, OpensFor, StopsFor};
+ghost use Rattle.ocfl_night.specs.Stopping.{ForLook, ForPut, IsReadStop, IsTextStop, OpensFor, StopsFor};
 ghost use Rattle.ocfl_night.specs.declared.refusal.Refusal.{Refusal as ModelRefusal};
 ghost use Rattle.ocfl_night.specs.Steps.{IsCheckpointPut, MayCheckpoint, begun_anew, closes_whole, with_all_told};
 
@@ -181,10 +181,9 @@ pub fn put_checkpoint<S: StateFolder>(
         → Only (S.seen folder.new) (S.may_leave folder.new)) }
     ensures crash { IsTrue S.told → Passes S.may_leave S.moment S.left_since
         (MayCheckpoint checkpoint.now) folder.old folder.new }
-    ensures stop { StopsFor (IsTrue S.told) (ForPut checkpoint.now)
+    ensures stop { StopsFor (IsTrue S.told) (ForPut (λ k. k ≡ checkpoint.now))
         (S.faults folder.old) (S.faults folder.new) result }
     ensures at { IsTrue S.told → OnOk result (IsAt checkpoint.now (S.seen folder.new)) }
-    ensures long { IfErr result (IfTooLong (λ text. IsCheckpointText text checkpoint.now)) }
 {
     let text = text_of(alloc, checkpoint)?;
     if text.len() > MOST_CHECKPOINT {

@@ -184,7 +184,7 @@ pub fn leave_out<S: StateFolder>(
     ensures crash { IsTrue S.told → OnlyGoesOn S.seen S.may_leave S.moment S.left_since checkpoint
         folder.old folder.new }
     ensures at { IsTrue S.told → IfOk result (λ next. IsAt next (S.seen folder.new)) }
-    ensures stop { StopsFor (IsTrue S.told) (ForPut checkpoint)
+    ensures stop { StopsFor (IsTrue S.told) (ForPut (λ next. next ≡ with_left branch checkpoint))
         (S.faults folder.old) (S.faults folder.new) result }
 {
     let next = with_left(checkpoint, branch)?;

@@ -11,7 +11,7 @@ ghost use Rattle.ocfl_night.specs.Promises.{HasCome, HasLost, IfLost, IfReadyIn,
 ghost use Rattle.ocfl_night.specs.Older.{IfOlder};
 ghost use Rattle.ocfl_night.specs.declared.refusal.Refusal.TheVariants.{Older};
 ghost use Rattle.ocfl_night.specs.Refusing.{IfForeign, IfRefused, IsBarred, IsFolderRefused, IsRefused, IsTurnedAway, OnRefused};
-ghost use Rattle.ocfl_night.specs.{Site.{part_at}, Steps.{IsNotBegun, IsUntouched, IsWalkAt, closes_whole}};
+ghost use Rattle.ocfl_night.specs.{Site.{IsOfSite, IsOfStore, part_at}, Steps.{IsNotBegun, IsUntouched, IsWalkAt, closes_whole, with_left}};
 ghost use Rattle.ocfl_night.specs.Reading.{AreBeyond, AreDeclarations, EndsInOrder, HaveRead, IsRead, IsReadTo, ReadsBeyond, content_since, reached};
 ghost use Rattle.ocfl_night.specs.Sound.{IsAllSaid, IsAt, IsHeard, IsHeardSince, IsKept, IsOneMore, IsReady, IsReadySince, IsSound};
 ghost use Rattle.ocfl_night.specs.{Beginning.{BeginsAt, StandsAt}, Clock.{is_before}, Done.{done_of}};
@@ -21,7 +21,7 @@ ghost use Rattle.ocfl_night.specs.Halting.{AreFailed};
 ghost use Rattle.ocfl_night.specs.Runs.{AreMade, EndsBy, IsAllowed, IsEndedBy, IsNight, MayHaveLeft, StopsOpen, after_made, turn_of};
 ghost use Rattle.ocfl_night.specs.Ending.{cycle_ended, cycle_of, ended_by, halt_after, halt_of, place_or_pause, unbegun_by};
 ghost use Rattle.ocfl_night.specs.{Pace.{budget_at, files_at}, Nights.{IsSafeNight}};
-ghost use Rattle.ocfl_night.specs.Stopping.{ForNight, ForPut, ForRuns, IsGiven, IsReason, IsUnlooked, OpensFor, StopsFor, TellsKept, course};
+ghost use Rattle.ocfl_night.specs.Stopping.{ForNight, ForPut, ForRuns, IsGiven, IsPassedBy, IsReason, IsUnlooked, OpensFor, StopsFor, TellsKept, course};
 ghost use Rattle.ocfl_night.specs.declared.stop.Stop.{Stop as ModelStop};
 ghost use Rattle.ocfl_night.specs.declared.refusal.NotOpened.TheVariants.{Refused};
 ghost use Rattle.ocfl_night.specs.declared.refusal.Refusal.{Refusal as ModelRefusal};
@@ -180,7 +180,8 @@ fn pass_by<S: StateFolder>(
     ensures left { StillMayLeave plan.now.stop_at_faults tally.old tally.new }
     ensures at { IsTrue S.told → IsAt checkpoint (S.seen folder.old)
         → IfOk result (λ next. IsAt next.0 (S.seen folder.new)) }
-    ensures stop { StopsFor (IsTrue S.told) (ForPut checkpoint)
+    ensures stop { StopsFor (IsTrue S.told)
+        (ForPut (λ next. next ≡ with_left (branch_at place) checkpoint))
         (S.faults folder.old) (S.faults folder.new) result }
 {
     if phase_of(&checkpoint) != Phase::Open {
@@ -227,7 +228,7 @@ fn go_on_after<S: StateFolder>(
         (done_of tally.new)) }
     ensures at { IsTrue S.told → IsAt made.checkpoint (S.seen folder.old)
         → IfOk result (λ next. IsAt next.0 (S.seen folder.new)) }
-    ensures stop { StopsFor (IsTrue S.told) (ForPut made.checkpoint)
+    ensures stop { StopsFor (IsTrue S.told) (ForPut (IsPassedBy made))
         (S.faults folder.old) (S.faults folder.new) result }
 {
     let Made {
@@ -364,9 +365,10 @@ fn catch_up<S: StateFolder, O: Output>(
     ensures all { IfOk result (λ k. k.told ≡ k.report.bytes) }
     ensures begins { IsTrue S.told
         → IfOk result (BeginsAt plan.now.create (S.seen folder.old)) }
+    ensures own { IfOk result (IsOfSite site.now identity.now) }
     ensures at { IsTrue S.told → IfOk result (λ k. IsAt k (S.seen folder.new)) }
     ensures stop { OpensFor (TellsKept S.told S.may_leave folder.old)
-        (ForNight (λ _. ⊥)
+        (ForNight (λ _. ⊥) (IsOfSite site.now identity.now)
         (course plan.now.create (S.seen folder.old) 0 (O.said out.old) (O.said out.new)))
         (S.faults folder.old) (S.faults folder.new) result }
 {
@@ -510,10 +512,13 @@ fn set_out<S: StateFolder, T: Tree, O: Output>(
         → IsTurnedAway result S.seen S.may_leave S.moment S.left_since folder.old folder.new }
     ensures begins { IsTrue S.told → IfOk result (λ begun.
         BeginsAt plan.now.create (S.seen folder.old) begun.checkpoint) }
+    ensures own { IfOk result (λ begun.
+        IsOfStore T.told (T.state tree.old) site.now begun.checkpoint) }
     ensures at { IsTrue S.told
         → IfOk result (λ begun. IsAt begun.checkpoint (S.seen folder.new)) }
     ensures stop { OpensFor (TellsKept S.told S.may_leave folder.old)
         (ForNight (IsUnlooked T.told (T.state tree.old) (T.state tree.new))
+        (IsOfStore T.told (T.state tree.old) site.now)
         (course plan.now.create (S.seen folder.old) 0 (O.said out.old) (O.said out.new)))
         (S.faults folder.old) (S.faults folder.new) result }
 {
@@ -647,13 +652,15 @@ pub fn night<S: StateFolder, T: Tree, C: Clock, O: Output>(
         → (IsTrue d.whole ↔ IsAllThere (S.seen folder.old) result)) }
 
     // If something is troubled, that is for a reason. It says that the folder failed only if it did,
-    // or if what is there as a checkpoint is too long; that the output failed, only if it did; and
-    // never that a report was closed already, that not all of one was said, or that checkpoint and
-    // report do not fit each other.
+    // or if what is there as a checkpoint is too long. It says that a checkpoint is too long only of
+    // one that it was to put: of this root and part, and of the cycle with which it began or the next
+    // one. It says that the output failed only if it did, and never that a report was closed already,
+    // that not all of one was said, or that checkpoint and report do not fit each other.
     ensures troubled { (why : ModelStop) → result.end ≡ halt.Troubled why → IsReason
         (IsGiven S.told T.told (T.state tree.old)
         (IsKept S.may_leave (of_any (part_at site.now.ends)) folder.old))
         (ForNight (IsUnlooked T.told (T.state tree.old) (T.state tree.new))
+        (IsOfStore T.told (T.state tree.old) site.now)
         (course plan.now.create (S.seen folder.old) result.runs (O.said out.old) (O.said out.new)))
         (S.faults folder.old) (S.faults folder.new) why }
 

@@ -9,8 +9,8 @@ ghost use Rattle.ocfl_night.specs.{Looks.{Rounds}, Promises.{HasLost, IfLost, If
 ghost use Rattle.ocfl_night.specs.Older.{IfOlder, IsOlder};
 ghost use Rattle.ocfl_night.specs.Refusing.{HasReport, IfForeign, IfRefused, IsFolderRefused, IsOutdated, IsTurnedAway, IsUnbegun, OnRefused};
 ghost use Rattle.ocfl_night.specs.Sound.{IsAt, IsFound, IsFoundReady, IsKept, IsNew, IsReady, IsSettled, IsSoundAt};
-ghost use Rattle.ocfl_night.specs.Steps.{IsLost, IsOpened, KeepsFront, closes_whole, first_opened, fitted, settled, shortened, what_is_left};
-ghost use Rattle.ocfl_night.specs.Stopping.{ForNoOther, ForOpen, ForPut, OpensFor, StopsFor};
+ghost use Rattle.ocfl_night.specs.Steps.{IsLost, IsOpened, IsTakenUp, KeepsFront, closes_whole, first_opened, fitted, settled, shortened, what_is_left};
+ghost use Rattle.ocfl_night.specs.{Site.{IsOfSite}, Stopping.{ForFirst, ForNoOther, ForOpen, ForPut, IsToOpen, OpensFor, StopsFor}};
 
 use crate::checkpoint::{bytes_of, cycle_of, look, phase_of, put_checkpoint, report_of};
 use crate::older::refuse_older;
@@ -96,7 +96,7 @@ fn begin<S: StateFolder>(
     ensures rightly { IsTrue S.told → IfRefused result (IsUnbegun true (S.seen folder.old)) }
     ensures at { IsTrue S.told
         → IfOk result (λ opened. IsAt opened.checkpoint (S.seen folder.new)) }
-    ensures stop { OpensFor (IsTrue S.told) ForNoOther
+    ensures stop { OpensFor (IsTrue S.told) (ForFirst site.now identity.now (S.seen folder.old))
         (S.faults folder.old) (S.faults folder.new) result }
 {
     if !is_new(folder)? {
@@ -225,10 +225,11 @@ fn resume<S: StateFolder>(
     ensures closed { IsTrue S.told → OnOk result (SameClosed S.seen folder.old folder.new) }
     ensures opened { IsTrue S.told
         → IfOk result (IsOpened identity.now checkpoint (S.seen folder.old)) }
-    ensures stays { IfOk result (λ opened. position opened.checkpoint ≡ position checkpoint) }
+    ensures taken { IfOk result (λ opened.
+        IsTakenUp identity.now checkpoint opened.checkpoint) }
     ensures at { IsTrue S.told
         → IfOk result (λ opened. IsAt opened.checkpoint (S.seen folder.new)) }
-    ensures stop { StopsFor (IsTrue S.told) (ForPut checkpoint)
+    ensures stop { StopsFor (IsTrue S.told) (ForPut (IsTakenUp identity.now checkpoint))
         (S.faults folder.old) (S.faults folder.new) result }
 {
     let there = take_up(folder, &checkpoint)?;
@@ -265,10 +266,11 @@ fn go_on<S: StateFolder>(
     ensures older { IsTrue S.told → (cycle : ℕ) → cycle < 2 ^ 64
         → IsOlder checkpoint (S.seen folder.old) cycle
         → IsTurnedAway result S.seen S.may_leave S.moment S.left_since folder.old folder.new }
-    ensures stays { IfOk result (λ opened. position opened.checkpoint ≡ position checkpoint) }
+    ensures taken { IfOk result (λ opened.
+        IsTakenUp identity.now checkpoint opened.checkpoint) }
     ensures at { IsTrue S.told
         → IfOk result (λ opened. IsAt opened.checkpoint (S.seen folder.new)) }
-    ensures stop { OpensFor (IsTrue S.told) (ForPut checkpoint)
+    ensures stop { OpensFor (IsTrue S.told) (ForPut (IsTakenUp identity.now checkpoint))
         (S.faults folder.old) (S.faults folder.new) result }
 {
     refuse_older(folder, &checkpoint)?;
@@ -326,8 +328,12 @@ pub fn open<S: StateFolder>(
         (IsTurnedAway result S.seen S.may_leave S.moment S.left_since folder.old folder.new) }
     ensures at { IsTrue S.told
         → IfOk result (λ opened. IsAt opened.checkpoint (S.seen folder.new)) }
-    // If something is troubled, the folder failed, or what is there as a checkpoint is too long.
-    ensures stop { OpensFor (IsTrue S.told) (ForOpen (S.seen folder.old))
+    // It is of this root and part.
+    ensures own { IfOk result (λ opened. IsOfSite site.now identity.now opened.checkpoint) }
+    // If something is troubled, the folder failed, or what is there as a checkpoint is too long, or
+    // the one with which it was to begin.
+    ensures stop { OpensFor (IsTrue S.told) (ForOpen (IsToOpen (IsTrue S.told) site.now
+        identity.now plan.now.create (S.seen folder.old)) (S.seen folder.old))
         (S.faults folder.old) (S.faults folder.new) result }
 {
     let Some(found) = look(alloc, folder)? else {

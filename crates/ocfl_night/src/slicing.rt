@@ -280,8 +280,8 @@ fn keep<S: StateFolder>(
         LeavesOnly S.moment S.left_since folder.old folder.new (λ c. IfThere c (λ k.
         (k ≡ checkpoint) ⊎ IsNextBy checkpoint ran k))) }
     ensures at { IsTrue S.told → IfOk result (λ made. IsAt made.checkpoint (S.seen folder.new)) }
-    ensures stop { StopsFor (IsTrue S.told) (ForKeep checkpoint (S.seen folder.old))
-        (S.faults folder.old) (S.faults folder.new) result }
+    ensures stop { StopsFor (IsTrue S.told) (ForKeep (IsNextBy checkpoint ran) checkpoint
+        (S.seen folder.old)) (S.faults folder.old) (S.faults folder.new) result }
 {
     let mark = report_of(&checkpoint);
     let report = extend(folder, &mark, lines)?;
@@ -383,7 +383,7 @@ pub fn slice<S: StateFolder, T: Tree>(
         ⊎ IsStill identity.now (T.state tree.new).tree }
     ensures at { IsTrue S.told → IsAt checkpoint (S.seen folder.old)
         → IfOk result (λ made. IsAt made.checkpoint (S.seen folder.new)) }
-    ensures stop { StopsFor (IsTrue S.told) (ForSlice checkpoint (S.seen folder.old))
+    ensures stop { StopsFor (IsTrue S.told) (ForSlice limits checkpoint (S.seen folder.old))
         (S.faults folder.old) (S.faults folder.new) result }
 {
     let cursor = cursor_of(&checkpoint)?;

@@ -1,4 +1,7 @@
-use Rattle.std.proofs.Common.{⊎_elim, ◌∙◌, ap, length, subst, sym}
+use Rattle.std.proofs.{Common.{⊎_elim, ◌≡◌, ◌∙◌, ap, arith, length, subst, sym}, lemmas.Result.{err_from_is_err_and}}
+use Rattle.std.specs.Prelude.{IsTrue}
+use Rattle.ocfl_night.specs.Stopping.{ForClose}
+use Rattle.ocfl_night.proofs.Reasons.{put_by, stops_at, too_long}
 use Rattle.ocfl_state.specs.{Checkpoint.{Checkpoint}, Content.{Content}}
 use Rattle.ocfl_night.specs.Steps.{IsCheckpointPut}
 use Rattle.ocfl_night.proofs.Moments.{leaves, unmoved}
@@ -62,3 +65,15 @@ pub returns-clause-crash : goal.returns-clause-crash
 returns-clause-crash g c = λ told rounds t r.
     let k = c.args.checkpoint in
     both_there (g.met.S.StateFolder.only_now told) (GoesOn k) (ready_there (GoesOn k) (goes_self k) r) (λ d e either. ⊎_elim (λ same. ap (λ (x : Content). x.checkpoint) same) (λ moved. ap (λ (x : Content). x.checkpoint) moved.1) either) (c.move_as.ensures.crash told (ready_to_close c.requires r)) (goes_anew c.requires r.stands c.begun_anew-next.ensures) (c.put_checkpoint.ensures.crash told)
+
+pub returns-in_err-put_checkpoint-clause-stop : goal.returns-in_err-put_checkpoint-clause-stop
+returns-in_err-put_checkpoint-clause-stop g c =
+    let r = c.from_residual-in_err-put_checkpoint.result in
+    let p = err_from_is_err_and r c.from_residual-in_err-put_checkpoint.ensures.1 in
+    let why = c.in_err-put_checkpoint.field-0.0 in
+    let told = IsTrue g.S.StateFolder.told in
+    let is = c.begun_anew-next.ensures in
+    stops_at told (ForClose c.args.checkpoint) _ _ r why (cc (p.1, p.2))
+    (put_by told (ForClose c.args.checkpoint) c.begun_anew-next.result _ (g.S.StateFolder.faults c.move_as.new.folder) _ why c.in_ok-move_as.ensures.stop
+    (λ over. let none : c.begun_anew-next.result.told ≡ 0 = ap (λ (x : Checkpoint). x.told) is in omega (arith, over))
+    (λ text long. too_long (λ l same. same ∙ is) long) c.in_err-put_checkpoint.ensures.stop)

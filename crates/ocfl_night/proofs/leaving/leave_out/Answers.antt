@@ -1,4 +1,7 @@
-use Rattle.std.proofs.Common.{ap}
+use Rattle.std.proofs.{Common.{◌≡◌, ◌∙◌, ap, arith}, lemmas.Result.{err_from_is_err_and}}
+use Rattle.std.specs.Prelude.{IsTrue}
+use Rattle.ocfl_night.specs.{Steps.{with_left}, Stopping.{ForPut}}
+use Rattle.ocfl_night.proofs.Reasons.{put_wider, stops_at}
 use Rattle.ocfl_state.specs.{Checkpoint.{Checkpoint}, Content.{Content}}
 use Rattle.ocfl_night.proofs.Moments.{unmoved}
 use Rattle.ocfl_night.proofs.Sound.{left_stands, put_moments, put_on, ready_sound}
@@ -37,3 +40,12 @@ pub returns-clause-crash : goal.returns-clause-crash
 returns-clause-crash g c = λ told rounds t r.
     let k = c.args.checkpoint in
     puts_there (g.met.S.StateFolder.only_now told) (GoesOn k) (ready_there (GoesOn k) (goes_self k) r) (goes_left _ k c.in_ok-next.ensures) (c.put_checkpoint.ensures.crash told)
+
+pub returns-in_err-put_checkpoint-clause-stop : goal.returns-in_err-put_checkpoint-clause-stop
+returns-in_err-put_checkpoint-clause-stop g c =
+    let r = c.from_residual-in_err-put_checkpoint.result in
+    let p = err_from_is_err_and r c.from_residual-in_err-put_checkpoint.ensures.1 in
+    let why = c.in_err-put_checkpoint.field-0.0 in
+    let told = IsTrue g.S.StateFolder.told in
+    stops_at told (ForPut (λ (k : Checkpoint). k ≡ with_left c.args.branch c.args.checkpoint)) _ _ r why (cc (p.1, p.2))
+    (put_wider told _ (g.S.StateFolder.faults c.args.folder.now) _ why (λ it. omega arith) (λ l same. same ∙ c.in_ok-next.ensures) c.in_err-put_checkpoint.ensures.stop)

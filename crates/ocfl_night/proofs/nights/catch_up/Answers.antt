@@ -1,13 +1,14 @@
-use Rattle.std.proofs.{Common.{◌∙◌, ap, sym}, lemmas.Result.{err_from_is_err_and}}
+use Rattle.std.proofs.{Common.{◌∙◌, ap, refl, sym}, lemmas.Result.{err_from_is_err_and}}
 use Rattle.std.specs.Prelude.{IsTrue}
 use Rattle.ocfl_state.specs.Checkpoint.{Checkpoint}
 use Rattle.ocfl_night.specs.Beginning.{position}
-use Rattle.ocfl_night.specs.Stopping.{ForNight, TellsKept, course}
+use Rattle.ocfl_night.specs.{Site.{IsOfSite}, Stopping.{ForNight, ForOpen, IsToOpen, TellsKept, course}}
+use Rattle.ocfl_night.specs.declared.opening.Opened.{Opened}
 use Rattle.ocfl_night.proofs.Beginnings.{begins_so}
 use Rattle.ocfl_night.proofs.Moments.{joined_moments, leaves_weaker}
 use Rattle.ocfl_night.proofs.Heard.{found_heard, grows_none, is_err, since_found}
 use Rattle.ocfl_night.proofs.Whole.{told_whole}
-use Rattle.ocfl_night.proofs.Reasons.{caught_reason, opens_at}
+use Rattle.ocfl_night.proofs.{Foreigners.{of_site}, Reasons.{caught_reason, opening_reason, opens_at, opens_so, put_first, put_self}}
 use Rattle.ocfl_night.proofs.nights.catch_up.Goals as goal
 
 pub returns-in_err-opened-clause-heard : goal.returns-in_err-opened-clause-heard
@@ -74,6 +75,22 @@ returns-clause-begins g c = λ told. begins_so (ap position c.in_ok-speak.ensure
 pub returns-in_err-opened-clause-grew : goal.returns-in_err-opened-clause-grew
 returns-in_err-opened-clause-grew g c = grows_none _
 
+pub returns-clause-own : goal.returns-clause-own
+returns-clause-own g c = of_site (put_self c.in_ok-opened.opened.checkpoint c.in_ok-speak.ensures.all).alike c.in_ok-opened.ensures.own
+
+pub returns-in_err-opened-clause-stop : goal.returns-in_err-opened-clause-stop
+returns-in_err-opened-clause-stop g c =
+    let r = c.from_residual.result in
+    let p = err_from_is_err_and r c.from_residual.ensures.1 in
+    let told = IsTrue g.S.StateFolder.told in
+    let here = g.S.StateFolder.seen c.args.folder.now in
+    let kept = TellsKept g.S.StateFolder.told g.S.StateFolder.may_leave c.args.folder.now in
+    let now = course c.args.plan.now.create here 0 (g.O.Output.said c.args.out.now) (g.O.Output.said c.args.out.now) in
+    let of = IsOfSite c.args.site.now c.args.identity.now in
+    let to_open = IsToOpen told c.args.site.now c.args.identity.now c.args.plan.now.create here in
+    opens_so told kept (ForOpen to_open here) (ForNight (λ _. ⊥) of now) _ (g.S.StateFolder.faults c.args.folder.now) _ Opened r c.in_err-opened.field-0.0 (cc (p.1, p.2))
+    (λ why. opening_reason told kept (λ _. ⊥) of to_open now _ _ why (λ l put. (put.own, λ given. (l, (put.begins given.0, put_first l)))) (λ given. given.0)) c.in_err-opened.ensures.stop
+
 pub returns-in_err-speak-clause-stop : goal.returns-in_err-speak-clause-stop
 returns-in_err-speak-clause-stop g c =
     let r = c.from_residual-in_err-speak.result in
@@ -81,6 +98,8 @@ returns-in_err-speak-clause-stop g c =
     let why = c.in_err-speak.field-0.0 in
     let now = course c.args.plan.now.create (g.S.StateFolder.seen c.args.folder.now) 0 (g.O.Output.said c.args.out.now) (g.O.Output.said c.speak.new.out) in
     let kept = TellsKept g.S.StateFolder.told g.S.StateFolder.may_leave c.args.folder.now in
-    opens_at kept (ForNight (λ _. ⊥) now) _ _ r why (cc (p.1, p.2))
-    (caught_reason (IsTrue g.S.StateFolder.told) kept (λ _. ⊥) now c.in_ok-opened.opened.checkpoint (g.S.StateFolder.seen c.open.new.folder) (g.O.Output.said c.args.out.now) (g.O.Output.said c.speak.new.out) _ (g.S.StateFolder.faults c.open.new.folder) _ why
+    let of = IsOfSite c.args.site.now c.args.identity.now in
+    opens_at kept (ForNight (λ _. ⊥) of now) _ _ r why (cc (p.1, p.2))
+    (caught_reason (IsTrue g.S.StateFolder.told) kept (λ _. ⊥) of now c.in_ok-opened.opened.checkpoint (g.S.StateFolder.seen c.open.new.folder) (g.O.Output.said c.args.out.now) (g.O.Output.said c.speak.new.out) _ (g.S.StateFolder.faults c.open.new.folder) _ why
+    (of_site (put_self c.in_ok-opened.opened.checkpoint refl).alike c.in_ok-opened.ensures.own) (λ given. c.in_ok-opened.ensures.begins given.0)
     (λ given. given.0) (λ given. c.in_ok-opened.ensures.stop given.0) (λ given. (given.1.0, (_, (c.in_ok-opened.ensures.ready given.0 given.1.0 given.1.1).ready.stands))) (λ failed. failed) c.in_err-speak.ensures.stop)

@@ -1,4 +1,8 @@
-use Rattle.std.proofs.{Common.{◌∙◌, sym}, lemmas.Result.{on_err_weaker}}
+use Rattle.std.proofs.{Common.{◌≡◌, ◌∙◌, arith, sym}, lemmas.Result.{on_err_weaker}}
+use Rattle.std.specs.Prelude.{IsTrue}
+use Rattle.ocfl_state.specs.Checkpoint.{Checkpoint}
+use Rattle.ocfl_night.specs.{Leaving.{branch_at}, Steps.{with_left}, Stopping.{ForPut, IsPassedBy}}
+use Rattle.ocfl_night.proofs.Reasons.{put_wider, stops_over}
 use Rattle.ocfl_night.specs.Done.{done_of}
 use Rattle.ocfl_night.proofs.{Moments.{unmoved}, Runs.{left_by_place}, Sound.{ready_sound}}
 use Rattle.ocfl_night.specs.Again.{GoesOn}
@@ -25,3 +29,10 @@ returns-in-Err-clause-crash g c = λ told rounds t r. unmoved (g.met.S.StateFold
 
 pub returns-in-Ok-clause-met : goal.returns-in-Ok-clause-met
 returns-in-Ok-clause-met g c = λ met. met_stopped c.args.made.end c.in-Ok.place c.forget.new.self (sym c.place_or_pause.ensures ∙ c.in-Ok.is) c.forget.ensures
+
+pub returns-in-Ok-clause-stop : goal.returns-in-Ok-clause-stop
+returns-in-Ok-clause-stop g c =
+    let told = IsTrue g.S.StateFolder.told in
+    let next = ForPut (λ (k : Checkpoint). k ≡ with_left (branch_at c.in-Ok.place) c.args.made.checkpoint) in
+    stops_over next (ForPut (IsPassedBy c.args.made)) _ (g.S.StateFolder.faults c.args.folder.now) _ c.pass_by.result (λ it. it) (λ (it : told). omega arith)
+    (λ why. put_wider told {Two = IsPassedBy c.args.made} _ (g.S.StateFolder.faults c.args.folder.now) _ why (λ it. omega arith) (λ l same. (c.in-Ok.place, (sym c.place_or_pause.ensures ∙ c.in-Ok.is, same)))) c.pass_by.ensures.stop

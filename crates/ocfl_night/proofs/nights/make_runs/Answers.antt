@@ -1,4 +1,4 @@
-use Rattle.std.proofs.Common.{◌∙◌, ◌++◌, ◌∷◌, [], ℕ, List, Option, None, ap, refl, sym, subst}
+use Rattle.std.proofs.Common.{◌∙◌, ◌++◌, ◌∷◌, [], ℕ, List, Option, None, ap, arith, refl, sym, subst}
 use Rattle.std.specs.Prelude.{◌≡◌, IfSome, IsTrue}
 use Rattle.std.proofs.lemmas.Result.{err_from_is_err_and}
 use Rattle.ocfl_scrub.specs.Starting.{part_of}
@@ -10,7 +10,7 @@ use Rattle.ocfl_night.proofs.Beginnings.{ended_in, none_ended, one_more_since, s
 use Rattle.ocfl_night.proofs.Runs.{halted_so, made_so, troubled_after, troubled_in}
 use Rattle.ocfl_night.proofs.{Moments.{joined_moments}, Heard.{grows_none, said_on, silent}}
 use Rattle.ocfl_night.proofs.Whole.{closing_by, come_whole, grown_whole, told_whole}
-use Rattle.ocfl_night.proofs.Reasons.{speak_reason, stops_at}
+use Rattle.ocfl_night.proofs.Reasons.{close_reason, put_closed, put_on, put_self, speak_reason, stops_at}
 use Rattle.ocfl_night.proofs.Reading.{read_to}
 use Rattle.ocfl_night.proofs.Again.{little_on}
 use Rattle.ocfl_night.proofs.nights.make_runs.Goals as goal
@@ -116,9 +116,25 @@ returns-in_err-said-clause-stop g c = λ may.
     let silenced = HasFailed (g.O.Output.said c.args.out.now).failures (g.O.Output.said c.speak.new.out).failures in
     stops_at given (ForRuns silenced c.args.checkpoint c.runs.new.tally.runs) _ _ r why (cc (p.1, p.2))
     (speak_reason (IsTrue g.S.StateFolder.told) given silenced c.args.checkpoint c.in_ok-last.last (g.S.StateFolder.seen c.runs.new.folder) (g.O.Output.said c.args.out.now) (g.O.Output.said c.speak.new.out) c.runs.new.tally.runs _ (g.S.StateFolder.faults c.runs.new.folder) _ why
-    (λ at. at.folder) (λ at. c.in_ok-last.ensures.stop may at)
+    (put_on c.in_ok-last.ensures.leads.alike c.in_ok-last.ensures.cycle (put_self c.in_ok-last.last refl)) (λ at. at.folder) (λ at. c.in_ok-last.ensures.stop may at)
     (λ at. (of_any (part_of c.args.part.now), (at.holds.0, (c.in_ok-last.ensures.ready at.folder at.store _ refl at.short None tt at.holds.0 at.holds.1).stands)))
     (λ failed. failed) c.in_err-said.ensures.stop)
+
+pub returns-in_err-ended-clause-stop : goal.returns-in_err-ended-clause-stop
+returns-in_err-ended-clause-stop g c = λ may.
+    let r = c.from_residual-in_err-ended.result in
+    let p = err_from_is_err_and r c.from_residual-in_err-ended.ensures.1 in
+    let why = c.in_err-ended.field-0.0 in
+    let there = (t : Text) × IsReady g.S.StateFolder.seen g.S.StateFolder.may_leave (of_any (part_of c.args.part.now)) t c.args.checkpoint c.args.folder.now in
+    let given = IsGiven g.S.StateFolder.told g.T.Tree.told (g.T.Tree.state c.args.tree.now) there in
+    let silenced = HasFailed (g.O.Output.said c.args.out.now).failures (g.O.Output.said c.speak.new.out).failures in
+    let all = c.in_ok-said.ensures.all in
+    stops_at given (ForRuns silenced c.args.checkpoint c.runs.new.tally.runs) _ _ r why (cc (p.1, p.2))
+    (close_reason (IsTrue g.S.StateFolder.told) given silenced c.args.checkpoint c.in_ok-said.said c.runs.new.tally.runs _ (g.S.StateFolder.faults c.speak.new.folder) _ why
+    (ap (λ (x : Checkpoint). x.told) all ∙ sym (ap (λ (x : Checkpoint). x.report.bytes) all))
+    (λ l is. put_on c.in_ok-last.ensures.leads.alike c.in_ok-last.ensures.cycle (put_closed c.in_ok-last.last all is))
+    (λ at. at.folder) (λ at. let a = c.in_ok-last.ensures.stop may at in let b = c.in_ok-said.ensures.stop at.folder in omega arith)
+    c.in_err-ended.ensures.stop)
 
 pub returns-in_err-last-clause-beyond : goal.returns-in_err-last-clause-beyond
 returns-in_err-last-clause-beyond g c = λ declares tells root over short. c.runs.ensures.beyond declares tells root over short

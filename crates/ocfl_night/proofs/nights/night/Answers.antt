@@ -4,7 +4,7 @@ use Rattle.ocfl_tree.specs.{Place.{Place, Text}, StorageRoot.{StorageRoot}}
 use Rattle.ocfl_item.specs.Judging.{HasShortFiles}
 use Rattle.ocfl_audit.specs.Parts.{Part}
 use Rattle.ocfl_state.specs.Content.{Closed, Content}
-use Rattle.ocfl_night.specs.{Again.{IsLittleAgain}, Done.{Done, done_of}, Leaving.{has_end}, Nights.{IsSafeNight}, Site.{part_at}}
+use Rattle.ocfl_night.specs.{Again.{IsLittleAgain}, Done.{Done, done_of}, Leaving.{has_end}, Nights.{IsSafeNight}, Site.{IsOfStore, part_at}}
 use Rattle.ocfl_night.specs.Looks.{Counts, Known, Rounds, look_between, of_any}
 use Rattle.ocfl_scrub.specs.Starting.{part_of}
 use Rattle.ocfl_night.specs.{Beginning.{Position, StandsAt}, Output.{HasFailed}, Ending.{cycle_of, ended_by}, Sound.{IsAt, IsKept, IsOneMore, IsReady}, Steps.{IsNotBegun}}
@@ -15,7 +15,7 @@ use Rattle.ocfl_night.proofs.{Moments.{leaves_weaker}, Runs.{left_so, made_from,
 use Rattle.ocfl_night.proofs.Looks.{counts_on, last_of}
 use Rattle.ocfl_night.proofs.Heard.{heard_through, on_ok, ready_since, since_sound, told_since}
 use Rattle.ocfl_night.proofs.Halting.{counts_failed, failed_first}
-use Rattle.ocfl_night.proofs.Newest.{newest}
+use Rattle.ocfl_night.proofs.{Foreigners.{of_store}, Newest.{newest}}
 use Rattle.ocfl_night.proofs.Reasons.{ended_troubled, failed_since, night_reason, opened_reason, stopped_reason, unbegun_reason, unbegun_troubled}
 use Rattle.ocfl_night.specs.{Reading.{IsReadTo, content_since, reached}, declared.plan.Halt.{Halt}}
 use Rattle.ocfl_night.proofs.Reading.{in_order, night_beyond, night_read, none_beyond, unbegun_order}
@@ -102,7 +102,8 @@ returns g c =
           let ready = IsGiven g.S.StateFolder.told g.T.Tree.told (g.T.Tree.state c.set_out.new.tree) there in
           let kept = IsGiven g.S.StateFolder.told g.T.Tree.told (g.T.Tree.state c.args.tree.now) (IsKept g.S.StateFolder.may_leave part c.args.folder.now) in
           let silenced = HasFailed (g.O.Output.said c.set_out.new.out).failures (g.O.Output.said runs.new.out).failures in
-          night_reason ready kept silenced (IsUnlooked g.T.Tree.told (g.T.Tree.state c.args.tree.now) (g.T.Tree.state runs.new.tree)) (course c.args.plan.now.create (s c.args.folder.now) c.account-2.result.runs (g.O.Output.said c.args.out.now) (g.O.Output.said runs.new.out)) c.in-Ok.begun.checkpoint runs.new.tally.runs _ (g.S.StateFolder.faults c.set_out.new.folder) _ why
+          night_reason ready kept silenced (IsUnlooked g.T.Tree.told (g.T.Tree.state c.args.tree.now) (g.T.Tree.state runs.new.tree)) (IsOfStore g.T.Tree.told (g.T.Tree.state c.args.tree.now) c.args.site.now) (course c.args.plan.now.create (s c.args.folder.now) c.account-2.result.runs (g.O.Output.said c.args.out.now) (g.O.Output.said runs.new.out)) c.in-Ok.begun.checkpoint runs.new.tally.runs _ (g.S.StateFolder.faults c.set_out.new.folder) _ why
+          (λ l alike. of_store alike c.in-Ok.ensures.own)
           (λ at. record {
             folder = at.folder;
             store = at.store;
@@ -171,9 +172,10 @@ returns-in-Err g c =
           let given = IsGiven g.S.StateFolder.told g.T.Tree.told (g.T.Tree.state c.args.tree.now) (IsKept g.S.StateFolder.may_leave (of_any part) c.args.folder.now) in
           let kept = TellsKept g.S.StateFolder.told g.S.StateFolder.may_leave c.args.folder.now in
           let now = course c.args.plan.now.create (g.S.StateFolder.seen c.args.folder.now) 0 (g.O.Output.said c.args.out.now) (g.O.Output.said c.set_out.new.out) in
-          unbegun_reason kept given unlooked c.args.plan.now.create (g.S.StateFolder.seen c.args.folder.now) 0 c.account.result.runs (g.O.Output.said c.args.out.now) (g.O.Output.said c.set_out.new.out) _ _ why
+          let store = IsOfStore g.T.Tree.told (g.T.Tree.state c.args.tree.now) c.args.site.now in
+          unbegun_reason kept given unlooked store c.args.plan.now.create (g.S.StateFolder.seen c.args.folder.now) 0 c.account.result.runs (g.O.Output.said c.args.out.now) (g.O.Output.said c.set_out.new.out) _ _ why
           (λ at. (at.folder, (of_any part, at.holds))) (sym none)
-          (opened_reason kept (ForNight unlooked now) _ _ Begun c.in-Err.why why troubled c.in-Err.ensures.stop);
+          (opened_reason kept (ForNight unlooked store now) _ _ Begun c.in-Err.why why troubled c.in-Err.ensures.stop);
       few = subst (λ (v : Vec Place Global). length v.items ≤ 16) (sym c.account.ensures.left) left.few;
       none_left = λ strict. subst (λ (v : Vec Place Global). v.items ≡ []) (sym c.account.ensures.left) (left.none strict);
       ends = subst (λ (v : Vec Place Global). All (λ b. IsTrue (has_end b)) v.items) (sym c.account.ensures.left) left.ends;

@@ -1,4 +1,10 @@
-use Rattle.std.proofs.Common.{◌∙◌, ◌++◌, ap, inl, inr, subst, sym}
+use Rattle.std.proofs.lemmas.Result.{err_from_is_err_and}
+use Rattle.std.specs.Prelude.{IsTrue}
+use Rattle.ocfl_tree.specs.Place.{Place}
+use Rattle.ocfl_state.specs.Checkpoint.{Checkpoint}
+use Rattle.ocfl_night.specs.{Leaving.{branch_at}, Steps.{with_left}, Stopping.{ForPut}}
+use Rattle.ocfl_night.proofs.Reasons.{put_wider, stops_at}
+use Rattle.std.proofs.Common.{◌≡◌, ◌∙◌, ◌++◌, ap, arith, inl, inr, subst, sym}
 use Rattle.ocfl_night.specs.{Done.{Done, done_of}, Leaving.{done_by, left_by}, Promises.{IsBranchNext}, declared.tally.Remedy.{Remedy}}
 use Rattle.ocfl_night.proofs.{Branches.{left_branch}, Heard.{on_err}, Moments.{unmoved}, Sound.{ready_sound}}
 use Rattle.ocfl_night.specs.Again.{GoesOn}
@@ -56,3 +62,13 @@ returns-in-TryAgain-clause-crash g c = λ told rounds t r. unmoved (g.met.S.Stat
 
 pub returns-in-Halt-clause-crash : goal.returns-in-Halt-clause-crash
 returns-in-Halt-clause-crash g c = λ told rounds t r. unmoved (g.met.S.StateFolder.only_now told) (ready_there (GoesOn c.args.checkpoint) (goes_self c.args.checkpoint) r)
+
+pub returns-in_err-next-in-LeaveOut-clause-stop : goal.returns-in_err-next-in-LeaveOut-clause-stop
+returns-in_err-next-in-LeaveOut-clause-stop g c =
+    let r = c.from_residual-in_err-next-in-LeaveOut.result in
+    let p = err_from_is_err_and r c.from_residual-in_err-next-in-LeaveOut.ensures.1 in
+    let why = c.in_err-next-in-LeaveOut.field-0.0 in
+    let told = IsTrue g.S.StateFolder.told in
+    let here = left_branch c.args.plan.now.stop_at_faults (done_of c.args.tally.now) c.args.place c.in-LeaveOut.branch (sym c.in_ok-remedy.ensures.is ∙ c.in-LeaveOut.is) in
+    stops_at told (ForPut (λ (k : Checkpoint). k ≡ with_left (branch_at c.args.place) c.args.checkpoint)) _ _ r why (cc (p.1, p.2))
+    (put_wider told _ (g.S.StateFolder.faults c.args.folder.now) _ why (λ it. omega arith) (λ l same. same ∙ ap (λ (b : Place). with_left b c.args.checkpoint) (sym here)) c.in_err-next-in-LeaveOut.ensures.stop)

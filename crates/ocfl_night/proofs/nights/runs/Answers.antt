@@ -9,7 +9,7 @@ use Rattle.ocfl_state.specs.declared.checkpoint_parts.Phase.TheVariants.{Open}
 use Rattle.ocfl_night.specs.Runs.{Run, IsRunOf, MayBeginAt, MayHaveLeft, StopsOpen, after_it, after_made, events_of, in_it, turn_of}
 use Rattle.ocfl_night.specs.declared.plan.Pause.{Pause}
 use Rattle.ocfl_night.specs.Looks.{Counts, IsOneOf, Known, look_between, of_any}
-use Rattle.ocfl_night.specs.Stopping.{ForRuns, IsGiven}
+use Rattle.ocfl_night.specs.Stopping.{ForRuns, IsGiven, IsPassedBy}
 use Rattle.ocfl_night.specs.{Promises.{IsSafeIn, StopsNext}, Sound.{IsReady}}
 use Rattle.ocfl_night.proofs.{Beginnings.{next_in}, KeptWalks.{walk_none}, Runs.{and_then, failed_so, led_by, none_yet, paused, paused_before, run_more}}
 use Rattle.ocfl_night.proofs.Looks.{counts_none, counts_on, first_of, last_of, root_of}
@@ -27,7 +27,7 @@ use Rattle.ocfl_night.proofs.Asking.{asked_named, err_holds, may_named}
 use Rattle.ocfl_night.proofs.Halting.{begun_failed_so, none_failed, paused_failed_so, run_failed_so}
 use Rattle.ocfl_night.proofs.nights.runs.Given as given
 use Rattle.ocfl_night.proofs.nights.runs.Goals.{After-go_on_after}
-use Rattle.ocfl_night.proofs.Reasons.{counted_on, endless_before, none_counted, put_reason, slice_reason, stops_at, told_within, worn_after, worn_out}
+use Rattle.ocfl_night.proofs.Reasons.{counted_on, endless_before, none_counted, passed_within, put_on, put_passed, put_reason, put_run, slice_reason, stops_at, told_within, worn_after, worn_out}
 use Rattle.ocfl_night.proofs.nights.runs.Goals as goal
 
 -- what was looked at before a slice that was made, and in it
@@ -308,7 +308,8 @@ returns-in_err-made-clause-stop g c = λ may.
     let there = (t : Text) × IsReady g.S.StateFolder.seen g.S.StateFolder.may_leave (of_any (part_of c.args.part.now)) t c.args.start c.args.folder.now in
     let given = IsGiven g.S.StateFolder.told g.T.Tree.told (g.T.Tree.state c.args.tree.now) there in
     stops_at given (ForRuns ⊥ c.args.start c.begin.new.self.runs) _ _ c.from_residual.result why (cc (p.1, p.2))
-    (slice_reason (IsTrue g.S.StateFolder.told) given ⊥ c.args.start c.loop-run.checkpoint (g.S.StateFolder.seen c.loop-run.folder) c.begin.new.self.runs _ (g.S.StateFolder.faults c.loop-run.folder) _ why
+    (slice_reason (IsTrue g.S.StateFolder.told) given ⊥ c.in-Ok.allowed.0 c.args.start c.loop-run.checkpoint (g.S.StateFolder.seen c.loop-run.folder) c.begin.new.self.runs _ (g.S.StateFolder.faults c.loop-run.folder) _ why
+    (λ l run. put_on inv.leads.alike inv.cycle (put_run going run))
     (λ at. at.folder) (λ at. inv.faults at.folder)
     (λ at. ready_mark going (inv.ready at.folder at.store _ refl at.short None tt at.holds.0 at.holds.1))
     (λ at. told_within (inv.ready at.folder at.store _ refl at.short None tt at.holds.0 at.holds.1).stands)
@@ -322,13 +323,16 @@ returns-in_err-next-clause-stop g c = λ may.
     let p = err_from_is_err_and r c.from_residual-in_err-next.ensures.1 in
     let why = c.in_err-next.field-0.0 in
     let at = (goal.at.returns-in_err-next-clause-stop g c).After-go_on_after in
+    let inv = c.loop-run.invariant in
+    let going : c.loop-run.checkpoint.phase ≡ Open = search rules in
     let there = (t : Text) × IsReady g.S.StateFolder.seen g.S.StateFolder.may_leave (of_any (part_of c.args.part.now)) t c.args.start c.args.folder.now in
     let given = IsGiven g.S.StateFolder.told g.T.Tree.told (g.T.Tree.state c.args.tree.now) there in
     stops_at given (ForRuns ⊥ c.args.start c.go_on_after.new.tally.runs) _ _ r why (cc (p.1, p.2))
-    (put_reason (IsTrue g.S.StateFolder.told) given ⊥ c.args.start c.in_ok-made.made.checkpoint c.go_on_after.new.tally.runs _ (g.S.StateFolder.faults c.slice.new.folder) _ why
+    (put_reason (IsTrue g.S.StateFolder.told) given ⊥ (IsPassedBy c.in_ok-made.made) c.args.start c.go_on_after.new.tally.runs _ (g.S.StateFolder.faults c.slice.new.folder) _ why
+    (λ l passed. put_on inv.leads.alike inv.cycle (put_passed going c.in_ok-made.ensures.slice passed))
     (λ x. x.folder)
     (λ x. let a = c.loop-run.invariant.faults x.folder in let b = c.in_ok-made.ensures.stop x.folder in omega arith)
-    (λ x. told_within (made_ready g at x.store _ refl x.short None tt x.folder x.holds.0 x.holds.1).stands)
+    (λ x l passed. passed_within c.in_ok-made.made (told_within (made_ready g at x.store _ refl x.short None tt x.folder x.holds.0 x.holds.1).stands) passed)
     c.in_err-next.ensures.stop)
 
 pub returns-clause-stop : goal.returns-clause-stop

@@ -7,6 +7,9 @@ use Rattle.ocfl_identity.specs.Identity.{declarations_among}
 use Rattle.ocfl_night.proofs.Reading.{are_declarations, content_did, content_none, content_unidentified, counted_names}
 use Rattle.ocfl_night.proofs.Asking.{looks_all, looks_none, looks_unidentified}
 use Rattle.ocfl_night.specs.Asking.{LooksOnly}
+use Rattle.ocfl_state.specs.Checkpoint.{Checkpoint}
+use Rattle.ocfl_night.specs.{Site.{IsOfSite, IsOfStore}, Stopping.{ForNight, IsUnlooked, TellsKept, course}}
+use Rattle.ocfl_night.proofs.{Foreigners.{site_of}, Reasons.{opens_so, set_out_reason}}
 use Rattle.ocfl_night.proofs.nights.set_out.Goals as goal
 
 pub returns-in_err-part-clause-heard : goal.returns-in_err-part-clause-heard
@@ -103,3 +106,19 @@ returns-clause-looks g c = λ tells root over short.
 
 pub returns-clause-declared : goal.returns-clause-declared
 returns-clause-declared g c = λ tells root over. (c.in_ok-identity.ensures.told tells root over).declarations
+
+pub returns-clause-own : goal.returns-clause-own
+returns-clause-own g c = site_of c.in_ok-identity.ensures.told c.in_ok-checkpoint.ensures.own
+
+pub returns-in_err-checkpoint-clause-stop : goal.returns-in_err-checkpoint-clause-stop
+returns-in_err-checkpoint-clause-stop g c =
+    let r = c.from_residual-in_err-checkpoint.result in
+    let p = err_from_is_err_and r c.from_residual-in_err-checkpoint.ensures.1 in
+    let s = g.T.Tree.state c.args.tree.now in
+    let kept = TellsKept g.S.StateFolder.told g.S.StateFolder.may_leave c.args.folder.now in
+    let now = course c.args.plan.now.create (g.S.StateFolder.seen c.args.folder.now) 0 (g.O.Output.said c.args.out.now) (g.O.Output.said c.catch_up.new.out) in
+    let unlooked = IsUnlooked g.T.Tree.told s (g.T.Tree.state c.look_at_root.new.store) in
+    let site = IsOfSite c.args.site.now c.in_ok-identity.identity in
+    let store = IsOfStore g.T.Tree.told s c.args.site.now in
+    opens_so kept kept (ForNight (λ _. ⊥) site now) (ForNight unlooked store now) _ (g.S.StateFolder.faults c.args.folder.now) _ Checkpoint r c.in_err-checkpoint.field-0.0 (cc (p.1, p.2))
+    (λ why. set_out_reason kept unlooked site store now _ _ why (λ l of. site_of c.in_ok-identity.ensures.told of)) c.in_err-checkpoint.ensures.stop

@@ -1,4 +1,8 @@
-use Rattle.std.proofs.Common.{◌≡◌, ◌∙◌, [], ap, length, refl, subst, sym, true}
+use Rattle.std.proofs.Common.{◌≡◌, ◌∙◌, [], ap, arith, length, refl, rules, subst, sym, true}
+use Rattle.std.proofs.lemmas.Result.{err_from_is_err_and}
+use Rattle.std.specs.Prelude.{IsTrue}
+use Rattle.ocfl_night.specs.Stopping.{ForFirst}
+use Rattle.ocfl_night.proofs.Reasons.{opens_at, put_by, too_long}
 use Rattle.ocfl_state.specs.{Checkpoint.{Checkpoint}, Content.{Content}}
 use Rattle.ocfl_night.specs.{Beginning.{position}, Refusing.{IsUnbegun}, Sound.{IsNew}, declared.refusal.Refusal.TheVariants.{HasReports}}
 use Rattle.ocfl_night.proofs.{Moments.{unmoved}, Sound.{first_stands, mark_moments, put_ready}}
@@ -37,3 +41,17 @@ pub returns-then-not-branch-clause-rightly : goal.returns-then-not-branch-clause
 returns-then-not-branch-clause-rightly g c = λ told why is.
     let same : HasReports ≡ why = cc is in
     subst (IsUnbegun true (g.S.StateFolder.seen c.args.folder.now)) same (refl, c.in_ok-is_new.ensures.reports told c.if-not-branch.true)
+
+pub returns-in_err-put_checkpoint-clause-stop : goal.returns-in_err-put_checkpoint-clause-stop
+returns-in_err-put_checkpoint-clause-stop g c =
+    let r = c.from_residual-in_err-put_checkpoint.result in
+    let p = err_from_is_err_and r c.from_residual-in_err-put_checkpoint.ensures.1 in
+    let why = c.in_err-put_checkpoint.field-0.0 in
+    let told = IsTrue g.S.StateFolder.told in
+    let here = ForFirst c.args.site.now c.args.identity.now (g.S.StateFolder.seen c.args.folder.now) in
+    let is = c.in_ok-checkpoint.ensures in
+    opens_at told here _ _ r why (cc (p.1, p.2))
+    (put_by told here c.in_ok-checkpoint.checkpoint _ (g.S.StateFolder.faults c.is_new.new.folder) _ why c.in_ok-is_new.ensures.stop
+    (λ over. let none : c.in_ok-checkpoint.checkpoint.told ≡ 0 = ap (λ (x : Checkpoint). x.told) is in omega (arith, over))
+    (λ text long. too_long (λ l same. record { is = same ∙ is; empty = λ tells. search rules; unclosed = λ tells. search rules }) long)
+    c.in_err-put_checkpoint.ensures.stop)

@@ -1,9 +1,11 @@
 use Rattle.std.specs.Prelude.{IfOk, IsTrue}
-use Rattle.std.proofs.{Common.{◌≡◌, ◌∙◌, [], ap, refl, rules, sym, subst}, lemmas.Result.{IfOk-weaker, on_ok_weaker}}
+use Rattle.std.proofs.{Common.{◌≡◌, ◌≤◌, ◌∙◌, [], ap, refl, rules, sym, subst}, lemmas.Result.{IfOk-weaker, on_ok_weaker}}
 use Rattle.ocfl_state.specs.{Checkpoint.{Checkpoint}, Content.{Content}}
-use Rattle.ocfl_night.specs.{Beginning.{further, position}, Older.{IsOlder}, Refusing.{IsDisowned, IsOutdated, not_own, outdated}, Sound.{IsAt, IsNew}, Steps.{IsOpened}}
-use Rattle.ocfl_night.proofs.{Beginnings.{begun_first}, Foreigners.{at_once, own_at}, Moments.{same_twice, unchanged}, Heard.{is_err, kept_found}}
+use Rattle.ocfl_night.specs.{Beginning.{further, position}, Older.{IsOlder}, Refusing.{IsDisowned, IsOutdated, not_own, outdated}, Sound.{IsAt, IsNew}, Steps.{IsOpened, IsTakenUp}, Stopping.{ForFirst, ForOpen, ForPut, IsToOpen}}
+use Rattle.ocfl_night.proofs.{Beginnings.{begun_first, first_to_open, taken_stays, taken_within}, Foreigners.{at_once, first_own, own_at, taken_own}, Moments.{same_twice, unchanged}, Heard.{is_err, kept_found}}
 use Rattle.ocfl_night.proofs.TakingUp.{found_on, found_ready, none_found, same_found, settled_there, shown_new, some_found, taken_moments, told_none}
+use Rattle.ocfl_night.specs.{Site.{IsOwn}, declared.opening.Opened.{Opened}}
+use Rattle.ocfl_night.proofs.Reasons.{first_reason, open_reason, opens_over}
 use Rattle.ocfl_night.proofs.{Lost.{first_not, lost_opened, opened_as}, Whole.{first_whole, opened_whole}}
 use Rattle.ocfl_night.proofs.opening.open.Given as given
 use Rattle.ocfl_night.proofs.opening.open.Goals.{After-go_on}
@@ -142,4 +144,35 @@ returns-in_default-clause-begins g c = λ told.
 
 pub returns-in-Ok-clause-begins : goal.returns-in-Ok-clause-begins
 returns-in-Ok-clause-begins g c = λ told.
-    IfOk-weaker c.go_on.result _ _ (λ o at. further c.in-Some.found (some_found (c.in_ok-found.ensures.value told) c.in-Some.is) (at ∙ ap position c.in-Ok.ensures.same)) c.go_on.ensures.stays
+    IfOk-weaker c.go_on.result _ _ (λ o up. further c.in-Some.found (some_found (c.in_ok-found.ensures.value told) c.in-Some.is) (taken_stays c.args.identity.now up ∙ ap position c.in-Ok.ensures.same)) c.go_on.ensures.taken
+
+pub returns-in_default-clause-own : goal.returns-in_default-clause-own
+returns-in_default-clause-own g c = IfOk-weaker c.begin.result _ _ (λ o h. first_own c.args.site.now c.args.identity.now (ap (λ (x : Opened). x.checkpoint) h)) c.begin.ensures.first
+
+-- it is of the site
+owned : (g : given.Over) (c : After-go_on g) → IsOwn c.args.site.now c.in-Ok.checkpoint
+owned g c = subst (IsOwn c.args.site.now) (sym c.in-Ok.ensures.same) c.in-Ok.ensures.own
+
+pub returns-in-Ok-clause-own : goal.returns-in-Ok-clause-own
+returns-in-Ok-clause-own g c = IfOk-weaker c.go_on.result _ _ (λ o up. taken_own (owned g (goal.at.returns-in-Ok-clause-own g c).After-go_on) up) c.go_on.ensures.taken
+
+pub returns-in_default-clause-stop : goal.returns-in_default-clause-stop
+returns-in_default-clause-stop g c =
+    let told = IsTrue g.S.StateFolder.told in
+    let here = g.S.StateFolder.seen c.args.folder.now in
+    let to_open = IsToOpen told c.args.site.now c.args.identity.now c.args.plan.now.create here in
+    opens_over (ForFirst c.args.site.now c.args.identity.now (g.S.StateFolder.seen c.look.new.folder)) (ForOpen to_open here) _ (g.S.StateFolder.faults c.look.new.folder) _ c.begin.result (λ it. it) c.in_ok-found.ensures.stop
+    (λ why. first_reason told {Two = to_open} c.args.site.now c.args.identity.now here (g.S.StateFolder.seen c.look.new.folder) _ (g.S.StateFolder.faults c.look.new.folder) _ why c.in_ok-found.ensures.stop
+    (λ l f. first_to_open {create = c.args.plan.now.create} (λ it. none_found here (c.in_ok-found.ensures.value it) c.in_default.is) (search rules) c.look.ensures.seen f)) c.begin.ensures.stop
+
+pub returns-in-Ok-clause-stop : goal.returns-in-Ok-clause-stop
+returns-in-Ok-clause-stop g c =
+    let told = IsTrue g.S.StateFolder.told in
+    let here = g.S.StateFolder.seen c.args.folder.now in
+    let at = (goal.at.returns-in-Ok-clause-stop g c).After-go_on in
+    let found = λ (it : told). some_found (c.in_ok-found.ensures.value it) c.in-Some.is in
+    let to_open = IsToOpen told c.args.site.now c.args.identity.now c.args.plan.now.create here in
+    opens_over (ForPut (IsTakenUp c.args.identity.now c.in-Ok.checkpoint)) (ForOpen to_open here) _ (g.S.StateFolder.faults c.look.new.folder) _ c.go_on.result (λ it. it) c.in_ok-found.ensures.stop
+    (λ why. open_reason told {Two = to_open} here _ (g.S.StateFolder.faults c.look.new.folder) _ why c.in_ok-found.ensures.stop
+    (λ l up. record { own = taken_own (owned g at) up; begins = λ it. further c.in-Some.found (found it) (taken_stays c.args.identity.now up ∙ ap position c.in-Ok.ensures.same) })
+    (λ it l up. taken_within c.args.identity.now (subst (λ (x : Checkpoint). x.told ≤ x.report.bytes) (sym c.in-Ok.ensures.same) (found it).text.keeps.told) up)) c.go_on.ensures.stop

@@ -1,7 +1,9 @@
 use Rattle.std.proofs.Common.{◌∙◌, ap}
 use Rattle.ocfl_state.specs.{Checkpoint.{Checkpoint}, Content.{Content}}
-use Rattle.ocfl_night.specs.{Beginning.{position}, Site.{with_root}}
-use Rattle.ocfl_night.proofs.{Beginnings.{fitted_stays}, Lost.{fitted_as, lost_as}, Moments.{joined_moments}, Sound.{put_moments, put_on, renamed}, TakingUp.{taken_as}}
+use Rattle.std.proofs.lemmas.Result.{err_from_is_err_and}
+use Rattle.std.specs.Prelude.{IsTrue}
+use Rattle.ocfl_night.specs.{Site.{with_root}, Steps.{IsTakenUp}, Stopping.{ForPut}}
+use Rattle.ocfl_night.proofs.{Lost.{fitted_as, lost_as}, Moments.{joined_moments}, Reasons.{put_wider, stops_at}, Sound.{put_moments, put_on, renamed}, TakingUp.{taken_as}}
 use Rattle.ocfl_night.proofs.opening.resume.Goals as goal
 
 pub returns-in_err-put_checkpoint-clause-any_moment : goal.returns-in_err-put_checkpoint-clause-any_moment
@@ -33,5 +35,15 @@ returns-clause-opened g c = λ told.
       checkpoint = c.with_root-next.ensures ∙ ap (with_root c.args.identity.now) (c.fitted-opened.ensures.checkpoint ∙ fits);
     }
 
-pub returns-clause-stays : goal.returns-clause-stays
-returns-clause-stays g c = ap position c.with_root-next.ensures ∙ ap position c.fitted-opened.ensures.checkpoint ∙ fitted_stays c.in_ok-there.there c.args.checkpoint
+pub returns-clause-taken : goal.returns-clause-taken
+returns-clause-taken g c = (c.in_ok-there.there, c.with_root-next.ensures ∙ ap (with_root c.args.identity.now) c.fitted-opened.ensures.checkpoint)
+
+pub returns-in_err-put_checkpoint-clause-stop : goal.returns-in_err-put_checkpoint-clause-stop
+returns-in_err-put_checkpoint-clause-stop g c =
+    let r = c.from_residual-in_err-put_checkpoint.result in
+    let p = err_from_is_err_and r c.from_residual-in_err-put_checkpoint.ensures.1 in
+    let why = c.in_err-put_checkpoint.field-0.0 in
+    let id = c.args.identity.now in
+    stops_at (IsTrue g.S.StateFolder.told) (ForPut (IsTakenUp id c.args.checkpoint)) _ _ r why (cc (p.1, p.2))
+    (put_wider (IsTrue g.S.StateFolder.told) _ (g.S.StateFolder.faults c.take_up.new.folder) _ why c.in_ok-there.ensures.stop
+    (λ l same. (c.in_ok-there.there, same ∙ c.with_root-next.ensures ∙ ap (with_root id) c.fitted-opened.ensures.checkpoint)) c.in_err-put_checkpoint.ensures.stop)

@@ -1,4 +1,7 @@
-use Rattle.std.proofs.Common.{◌≡◌, ℕ, ap}
+use Rattle.std.proofs.{Common.{◌≡◌, ◌∙◌, ℕ, ap, arith, sym}, lemmas.Result.{err_from_is_err_and}}
+use Rattle.std.specs.Prelude.{IsTrue}
+use Rattle.ocfl_night.specs.Stopping.{ForSpeak}
+use Rattle.ocfl_night.proofs.Reasons.{put_by, stops_at, too_long}
 use Rattle.ocfl_state.specs.{Checkpoint.{Checkpoint}, Content.{Content}}
 use Rattle.ocfl_night.proofs.{Moments.{only_same, unchanged, unmoved}, Sound.{said_by, ready_sound}}
 use Rattle.ocfl_night.proofs.Heard.{grows_none, heard_put, put_heard, same_ready, silent}
@@ -67,3 +70,16 @@ pub returns-clause-crash : goal.returns-clause-crash
 returns-clause-crash g c = λ told rounds t r.
     let k = c.args.checkpoint in
     both_there (g.met.S.StateFolder.only_now told) (GoesOn k) (ready_there (GoesOn k) (goes_self k) r) (λ d e same. ap (λ (x : Content). x.checkpoint) same) (c.say_rest.ensures.crash told) (goes_told k c.with_all_told-next.ensures) (c.put_checkpoint.ensures.crash told)
+
+pub returns-in_err-put_checkpoint-clause-stop : goal.returns-in_err-put_checkpoint-clause-stop
+returns-in_err-put_checkpoint-clause-stop g c =
+    let r = c.from_residual-in_err-put_checkpoint.result in
+    let p = err_from_is_err_and r c.from_residual-in_err-put_checkpoint.ensures.1 in
+    let why = c.in_err-put_checkpoint.field-0.0 in
+    let told = IsTrue g.S.StateFolder.told in
+    let is = c.with_all_told-next.ensures in
+    let here = ForSpeak c.args.checkpoint (g.S.StateFolder.seen c.args.folder.now) (g.O.Output.said c.args.out.now) (g.O.Output.said c.say_rest.new.out) in
+    stops_at told here _ _ r why (cc (p.1, p.2))
+    (put_by told here c.with_all_told-next.result _ (g.S.StateFolder.faults c.say_rest.new.folder) _ why c.in_ok-say_rest.ensures.stop
+    (λ over. let all : c.with_all_told-next.result.told ≡ c.with_all_told-next.result.report.bytes = ap (λ (x : Checkpoint). x.told) is ∙ sym (ap (λ (x : Checkpoint). x.report.bytes) is) in absurd (omega (arith, over)))
+    (λ text long. too_long (λ l same. same ∙ is) long) c.in_err-put_checkpoint.ensures.stop)

@@ -38,8 +38,9 @@ returns-in_err-put_checkpoint-clause-stop g c =
     let p = err_from_is_err_and r c.from_residual-in_err-put_checkpoint.ensures.1 in
     let why = c.in_err-put_checkpoint.field-0.0 in
     let over = λ (told : IsTrue g.S.StateFolder.told). keep_over c.args.checkpoint c.after_run-made.result.checkpoint c.args.ran c.report_of-mark.result c.in_ok-report.report (g.S.StateFolder.seen c.args.folder.now) (g.S.StateFolder.seen c.extend.new.folder) c.args.lines.now c.after_run-made.ensures.next c.report_of-mark.ensures (c.in_ok-report.ensures.grown told) (c.in_ok-report.ensures.mark told) in
-    stops_at (IsTrue g.S.StateFolder.told) (ForKeep c.args.checkpoint (g.S.StateFolder.seen c.args.folder.now)) _ _ r why (cc (p.1, p.2))
-    (keep_reason (IsTrue g.S.StateFolder.told) c.args.checkpoint c.after_run-made.result.checkpoint (g.S.StateFolder.seen c.args.folder.now) _ (g.S.StateFolder.faults c.extend.new.folder) _ why c.in_ok-report.ensures.stop over c.in_err-put_checkpoint.ensures.stop)
+    let next = IsNextBy c.args.checkpoint c.args.ran in
+    stops_at (IsTrue g.S.StateFolder.told) (ForKeep next c.args.checkpoint (g.S.StateFolder.seen c.args.folder.now)) _ _ r why (cc (p.1, p.2))
+    (keep_reason (IsTrue g.S.StateFolder.told) next c.args.checkpoint c.after_run-made.result.checkpoint (g.S.StateFolder.seen c.args.folder.now) _ (g.S.StateFolder.faults c.extend.new.folder) _ why (_, c.after_run-made.ensures.next) c.in_ok-report.ensures.stop over c.in_err-put_checkpoint.ensures.stop)
 
 pub returns-in_err-report-clause-crash : goal.returns-in_err-report-clause-crash
 returns-in_err-report-clause-crash g c = λ told rounds t r.

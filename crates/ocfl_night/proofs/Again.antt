@@ -10,6 +10,7 @@ use Rattle.ocfl_scrub.specs.{Joining.{is_taken}, Running.{begun, begun_in}, decl
 use Rattle.ocfl_scrub.specs.declared.running.RunStatus.{RunStatus}
 use Rattle.ocfl_scrub.specs.declared.running.RunStatus.TheVariants as status
 use Rattle.ocfl_state.specs.{Checkpoint.{Checkpoint}, Content.{Content}, Crash.{LeavesOnly, Outcomes, Passes, Step}}
+use Rattle.ocfl_state.specs.declared.folder.StateFolder as state
 use Rattle.ocfl_state.specs.declared.checkpoint_parts.{Phase.TheVariants.{Open, Closing}, ReportMark.{ReportMark}}
 use Rattle.ocfl_night.specs.Again.{AreFew, AreLegs, GoesOn, HasDone, IsLittleAgain, IsMetAfter, IsOpened, Leg, heard_in, made_by, took_by}
 use Rattle.ocfl_night.specs.Asking.{AskedFrom, GaveAll, IsMetBy, MayAskFrom, declaring}
@@ -75,8 +76,8 @@ goes_next {k} {next} {c} {limits} {ran} going same keeps stays is =
 
 -- ---- the checkpoint that a crash leaves
 
-module _ {F : Type 0} {seen : F → Content} {may_leave : F → Outcomes} {rounds : Rounds} {t : Text} {k : Checkpoint} {f : F} where
-  pub ready_there : (P : Checkpoint → Type 0) → P k → IsReady seen may_leave rounds t k f → (c : Content) → may_leave f c → IfThere c P
+module _ {F : Type 0} {S : state.Ghosts F} {rounds : Rounds} {t : Text} {k : Checkpoint} {f : F} where
+  pub ready_there : (P : Checkpoint → Type 0) → P k → IsReady S rounds t k f → (c : Content) → S.may_leave f c → IfThere c P
   ready_there P holds r c left l at = subst P (at_once (subst (IsAt k) (sym (r.only c left)) r.at) at) holds
 
 module _ {F : Type 0} (may_leave : F → Outcomes) (f : F) (P : Checkpoint → Type 0) (here : (c : Content) → may_leave f c → IfThere c P) where
@@ -169,9 +170,9 @@ unheard_paused plan d (pause.Stopped why) is = absurd is
 unheard_paused plan d pause.RootChanged is = absurd is
 
 -- runs after which the night went on, up to a checkpoint
-pub record SoLittle {F : Type 0} (root : StorageRoot) (part : Part) (seen : F → Content) (moment : F → ℕ) (left_since : F → ℕ → Outcomes) (cycle : ℕ) (old now : List Event) (s t : Store) (folder : F) (k : Checkpoint) (met : Option Place) : Type 0 where
+pub record SoLittle {F : Type 0} (root : StorageRoot) (part : Part) (S : state.Ghosts F) (cycle : ℕ) (old now : List Event) (s t : Store) (folder : F) (k : Checkpoint) (met : Option Place) : Type 0 where
   pub legs : List (Leg F)
-  pub are : AreLegs root part seen moment left_since cycle s legs t folder
+  pub are : AreLegs root part S cycle s legs t folder
   pub up : IsAscending place_cmp (took_by legs)
   pub taken : AreTaken (reached k) (took_by legs)
   pub walk : IsMetAfter legs met
@@ -179,8 +180,8 @@ pub record SoLittle {F : Type 0} (root : StorageRoot) (part : Part) (seen : F �
   pub are_new : now ≡ old ++ events
   pub heard : heard_in events ≡ made_by legs
 
-pub little_none : {F : Type 0} (root : StorageRoot) (part : Part) (seen : F → Content) (moment : F → ℕ) (left_since : F → ℕ → Outcomes) (cycle : ℕ) (events : List Event) (s : Store) (folder : F) (k : Checkpoint) (kept : KeptWalk) → kept.met ≡ None → SoLittle root part seen moment left_since cycle events events s s folder k (met_at kept)
-little_none root part seen moment left_since cycle events s folder k kept none = record {
+pub little_none : {F : Type 0} (root : StorageRoot) (part : Part) (S : state.Ghosts F) (cycle : ℕ) (events : List Event) (s : Store) (folder : F) (k : Checkpoint) (kept : KeptWalk) → kept.met ≡ None → SoLittle root part S cycle events events s s folder k (met_at kept)
+little_none root part S cycle events s folder k kept none = record {
   legs = [];
   are = refl;
   walk = ap met_in none;
@@ -191,12 +192,12 @@ little_none root part seen moment left_since cycle events s folder k kept none =
   heard = refl;
 }
 
-module _ {F : Type 0} {root : StorageRoot} {part : Part} {seen : F → Content} {moment : F → ℕ} {left_since : F → ℕ → Outcomes} {cycle : ℕ} {old now : List Event} {s u : Store} {f : F} {k : Checkpoint} {met : Option Place} (so : SoLittle root part seen moment left_since cycle old now s u f k met) (same : cycle_of k ≡ cycle) where
+module _ {F : Type 0} {root : StorageRoot} {part : Part} {S : state.Ghosts F} {cycle : ℕ} {old now : List Event} {s u : Store} {f : F} {k : Checkpoint} {met : Option Place} (so : SoLittle root part S cycle old now s u f k met) (same : cycle_of k ≡ cycle) where
   done_now : HasDone cycle (took_by so.legs) k
   done_now = inr (sym same, so.taken)
 
   -- no further run is begun
-  pub little_now : {may_leave : F → Outcomes} {rounds : Rounds} {t : Text} {new : List Event} → OnlyNow may_leave moment left_since → IsReady seen may_leave rounds t k f → IsUnheard now new → IsLittleAgain root part seen moment left_since cycle old new s u f
+  pub little_now : {rounds : Rounds} {t : Text} {new : List Event} → OnlyNow S.may_leave S.moment S.left_since → IsReady S rounds t k f → IsUnheard now new → IsLittleAgain root part S cycle old new s u f
   little_now only_now ready more = record {
     legs = so.legs;
     before = u;
@@ -216,15 +217,15 @@ module _ {F : Type 0} {root : StorageRoot} {part : Part} {seen : F → Content} 
     one = omega arith;
   }
 
-  module _ (v : Store) (g : F) (beyond : AreBeyond (reached k) (content_since root u v)) (once : IsAscending place_cmp (content_since root u v)) (crash : LeavesOnly moment left_since f g (λ c. IfThere c (GoesOn k))) (there : IsAt k (seen f)) where
+  module _ (v : Store) (g : F) (beyond : AreBeyond (reached k) (content_since root u v)) (once : IsAscending place_cmp (content_since root u v)) (crash : LeavesOnly S.moment S.left_since f g (λ c. IfThere c (GoesOn k))) (there : IsAt k (S.seen f)) where
     all_once : IsAscending place_cmp (took_by so.legs ++ content_since root u v)
     all_once = ascends_append place_cmp (took_by so.legs) (content_since root u v) so.up once (λ p q i j. taken_below (reached k) p q (so.taken.each p i) (beyond.each q j))
 
-    still_done : LeavesOnly moment left_since f g (λ c. IfThere c (HasDone cycle (took_by so.legs)))
+    still_done : LeavesOnly S.moment S.left_since f g (λ c. IfThere c (HasDone cycle (took_by so.legs)))
     still_done = leaves_weaker (λ c there l at. done_more cycle (took_by so.legs) k l done_now (there l at)) crash
 
     -- one that nothing was heard of
-    pub little_begun : {new : List Event} → IsUnheard now new → MayAskFrom root part (declaring root) met k u v → IsLittleAgain root part seen moment left_since cycle old new s v g
+    pub little_begun : {new : List Event} → IsUnheard now new → MayAskFrom root part (declaring root) met k u v → IsLittleAgain root part S cycle old new s v g
     little_begun more ask = record {
       legs = so.legs;
       before = u;
@@ -252,7 +253,7 @@ module _ {F : Type 0} {root : StorageRoot} {part : Part} {seen : F → Content} 
       events_then = is ∙ ap (λ (l : List Event). l ++ events_of run) so.are_new ∙ append_assoc old so.events (events_of run)
 
       -- the last one
-      pub little_last : IsLittleAgain root part seen moment left_since cycle old new s v g
+      pub little_last : IsLittleAgain root part S cycle old new s v g
       little_last = record {
         legs = so.legs;
         before = u;
@@ -274,7 +275,7 @@ module _ {F : Type 0} {root : StorageRoot} {part : Part} {seen : F → Content} 
 
       -- one after which the night goes on
       pub little_more : {m : Checkpoint} {next : Option Place} → IsOpened (reached run.made.checkpoint) run.made.end (content_since root u v) → StaysTaken (reached k) (reached run.made.checkpoint) → reached run.made.checkpoint ≡ reached m
-          → ((why : Pause) → place_or_pause run.made.end ≢ Err (Some why)) → IsAt m (seen g) → m.cursor ≡ run.made.checkpoint.cursor → IsMetBy run.made.end next → SoLittle root part seen moment left_since cycle old new s v g m next
+          → ((why : Pause) → place_or_pause run.made.end ≢ Err (Some why)) → IsAt m (S.seen g) → m.cursor ≡ run.made.checkpoint.cursor → IsMetBy run.made.end next → SoLittle root part S cycle old new s v g m next
       little_more {m} opened stays came goes_on at cursor walk =
           record {
             legs = record { from = k; met = met; made = run.made; took = opened.took; begun = opened.begun; before = u; after = v; old = f; new = g } ∷ so.legs;
@@ -317,8 +318,8 @@ same_cursor strict d e {made = made} next going is led = ap (λ (x : Turn). x.ch
 -- ---- what comes after the runs
 
 -- from the checkpoint that is there another one is put
-pub little_on : {F : Type 0} {root : StorageRoot} {part : Part} {seen : F → Content} {moment : F → ℕ} {left_since : F → ℕ → Outcomes} {cycle : ℕ} {old new : List Event} {s t : Store} {g h : F} {c : Content} {k : Checkpoint} (so : IsLittleAgain root part seen moment left_since cycle old new s t g) → IsAt k c → (moment so.left ≤ moment g → left_since g (moment so.left) c)
-    → LeavesOnly moment left_since g h (λ d. IfThere d (GoesOn k)) → IsLittleAgain root part seen moment left_since cycle old new s t h
+pub little_on : {F : Type 0} {root : StorageRoot} {part : Part} {S : state.Ghosts F} {cycle : ℕ} {old new : List Event} {s t : Store} {g h : F} {c : Content} {k : Checkpoint} (so : IsLittleAgain root part S cycle old new s t g) → IsAt k c → (S.moment so.left ≤ S.moment g → S.left_since g (S.moment so.left) c)
+    → LeavesOnly S.moment S.left_since g h (λ d. IfThere d (GoesOn k)) → IsLittleAgain root part S cycle old new s t h
 little_on {cycle = cycle} {c = c} {k} so at left crash = record {
   legs = so.legs;
   before = so.before;

@@ -1,5 +1,5 @@
 -- What holds of any nights.
-use Rattle.std.proofs.Common.{◌≡◌, inl, inr, ⊎_elim, ℕ, ◌+◌, List, [], ◌∷◌, ◌++◌, take, length, Option, Some, None, MatchOption, refl, sym, ◌∙◌, ap, subst, arith, Bool, true, false, not, ◌&&◌, filter}
+use Rattle.std.proofs.Common.{◌≡◌, ◌≢◌, inl, inr, ⊎_elim, ℕ, ◌+◌, List, [], ◌∷◌, ◌++◌, take, length, Option, Some, None, MatchOption, refl, sym, ◌∙◌, ap, subst, arith, Bool, true, false, not, ◌&&◌, filter}
 use Rattle.ocfl_audit.proofs.{PartLaws.{filter_twice}, Lists.{filter_same}}
 use Rattle.std.specs.{Prelude.{map}, List.{AllByRecursion}}
 use Rattle.ocfl_tree.specs.{Place.{Place, Text}, Ascending.{IsAmong}, StorageRoot.{StorageRoot}}
@@ -10,8 +10,9 @@ use Rattle.ocfl_audit.specs.{Audit.{Unread, audit}, Parts.{Part, within}, Trail.
 use Rattle.ocfl_cursor.specs.Cursor.{Cursor, ended}
 use Rattle.ocfl_scrub.specs.{Running.{begun, place_in}, Joining.{PartRun, Ran, AreOneCycle, cursor_after, is_taken, reports_of, unread_by, unread_together}}
 use Rattle.ocfl_state.specs.{Checkpoint.{Checkpoint}, Content.{Content, Closed, empty}}
+use Rattle.ocfl_state.specs.declared.folder.StateFolder as state
 use Rattle.ocfl_state.specs.{Crash.{Begins, Outcomes}, Pieces.{summary_of}, declared.checkpoint_parts.Left.{Left}}
-use Rattle.ocfl_night.specs.Chain.{AreNext, AreNextIn, NoneBefore, past_branch, RootRun, around, look_of, AreLooked, joined, EndAt, IsClosedAs, IsPartialReport, IsWholeReport, AreClosed, AreLeft, HasClosed}
+use Rattle.ocfl_night.specs.Chain.{AreNext, AreNextIn, NoneBefore, past_branch, RootRun, around, look_of, AreLooked, joined, EndAt, IsClosedAs, IsReportOf, AreClosed, AreLeft, HasClosed}
 use Rattle.ocfl_night.specs.Looks.{Counts, IsOneOf, IsWithin, Known, Look, MayBeGone, Rounds, look_between, of_any, opened_since}
 use Rattle.ocfl_night.specs.Sound.{closed_text, Stands, IsNew, IsMarked, IsSoundAt, IsSound, AreSound, IsAt, IsKept}
 use Rattle.ocfl_night.specs.Nights.{Night, AreNights, AreOver, AtAnyMoment, AreWhole, HaveReadAll, IsAround, IsAuditBut, IsTaken, IsTidied, AllTaken, known_of, rounds_of}
@@ -122,37 +123,37 @@ module _ {F : Type 0} where
 
 -- ---- any nights
 
-module _ {F : Type 0} (may_leave : F → Outcomes) (moment : F → ℕ) (left_since : F → ℕ → Outcomes) (part : Part) where
+module _ {F : Type 0} (S : state.Ghosts F) (part : Part) where
   module _ (known : Option Known) where
     abbrev rounds : Rounds
     rounds = record { part = part; known = known }
 
-    pub all_sound : (outcomes : Outcomes) (nights : List (Night F)) → AreIn known nights → AreSound rounds outcomes → AreNights may_leave moment left_since part outcomes nights
-        → AtAnyMoment moment left_since (IsSound rounds) nights
+    pub all_sound : (outcomes : Outcomes) (nights : List (Night F)) → AreIn known nights → AreSound rounds outcomes → AreNights S part outcomes nights
+        → AtAnyMoment S (IsSound rounds) nights
     all_sound outcomes [] given sound are = tt
     all_sound outcomes (n ∷ nights) given sound are =
-        let kept : AreSound rounds (may_leave n.began) = λ c left. let x = are.0 c left in let was = sound x.0 x.1 in (was.0, tidied_sound rounds was.0 given.0.1 x.0 c x.2 was.1) in
+        let kept : AreSound rounds (S.may_leave n.began) = λ c left. let x = are.0 c left in let was = sound x.0 x.1 in (was.0, tidied_sound rounds was.0 given.0.1 x.0 c x.2 was.1) in
         let all = are.1 known given.0.0 kept in
-        let each : (c : Content) → left_since n.ended (moment n.began) c → IsSound rounds c = λ c left. since_sound (all.each c left) in
-        (each, all_sound (left_since n.ended (moment n.began)) nights given.1 each are.2)
+        let each : (c : Content) → S.left_since n.ended (S.moment n.began) c → IsSound rounds c = λ c left. since_sound (all.each c left) in
+        (each, all_sound (S.left_since n.ended (S.moment n.began)) nights given.1 each are.2)
 
   pub all_taken : (outcomes : Outcomes) (earlier nights : List (Night F)) → ((c : Content) → outcomes c → (t : Text) × (IsSoundAt (of_any part) t c × IsTaken earlier t))
-      → AreNights may_leave moment left_since part outcomes nights → AllTaken moment left_since (of_any part) earlier nights
+      → AreNights S part outcomes nights → AllTaken S (of_any part) earlier nights
   all_taken outcomes earlier [] taken are = tt
   all_taken outcomes earlier (n ∷ nights) taken are =
-      let kept : IsKept may_leave (of_any part) n.began = λ c left. let x = are.0 c left in let was = taken x.0 x.1 in (was.0, tidied_sound (of_any part) was.0 (λ cycle is. tt) x.0 c x.2 was.1.0) in
+      let kept : IsKept S (of_any part) n.began = λ c left. let x = are.0 c left in let was = taken x.0 x.1 in (was.0, tidied_sound (of_any part) was.0 (λ cycle is. tt) x.0 c x.2 was.1.0) in
       let all = are.1 None tt kept in
-      let now : (c : Content) → left_since n.ended (moment n.began) c → (t : Text) × (IsSoundAt (of_any part) t c × IsTaken (n ∷ earlier) t) = λ c left.
+      let now : (c : Content) → S.left_since n.ended (S.moment n.began) c → (t : Text) × (IsSoundAt (of_any part) t c × IsTaken (n ∷ earlier) t) = λ c left.
       let h = all.each c left in
       let x = are.0 h.from h.was in
       let was = taken x.0 x.1 in
       (was.0 ++ h.heard.more, (h.heard.sound, (was.0, (h.heard.more, (refl, (h.heard.took, was.1.1)))))) in
-      (now, all_taken (left_since n.ended (moment n.began)) (n ∷ earlier) nights now are.2)
+      (now, all_taken (S.left_since n.ended (S.moment n.began)) (n ∷ earlier) nights now are.2)
 
 -- what holds of the contents holds at any moment
-pub at_any : {F : Type 0} (moment : F → ℕ) (left_since : F → ℕ → Outcomes) {P Q : Content → Type 0} (nights : List (Night F)) → ((c : Content) → P c → Q c) → AtAnyMoment moment left_since P nights → AtAnyMoment moment left_since Q nights
-at_any moment left_since [] more all = tt
-at_any moment left_since (n ∷ nights) more all = ((λ c left. more c (all.0 c left)), at_any moment left_since nights more all.1)
+pub at_any : {F : Type 0} (S : state.Ghosts F) {P Q : Content → Type 0} (nights : List (Night F)) → ((c : Content) → P c → Q c) → AtAnyMoment S P nights → AtAnyMoment S Q nights
+at_any S [] more all = tt
+at_any S (n ∷ nights) more all = ((λ c left. more c (all.0 c left)), at_any S nights more all.1)
 
 -- ---- of one storage root
 
@@ -236,38 +237,38 @@ module _ {F : Type 0} (root : StorageRoot) (nights : List (Night F)) (over : Are
       subst (λ (u : Unread). IsAmong u e) all could.1.1
 
   module _ (join : (root : StorageRoot) (part : Part) (c : Cursor) (runs : List PartRun) → place_in c.state ≡ None → AreOneCycle root part c runs → (cursor_after c runs).state ≡ ended → reports_of runs ≡ text (within part (audit root (unread_together root runs)))) (part : Part) where
-    module _ (d : Closed) (w : IsWholeReport (rounds_of part nights) d) where
-      one_root : AllByRecursion (λ r. r.root ≡ root) w.runs
-      one_root = over_one root known looks_over w.runs w.looked
+    module _ (d : Closed) (w : IsReportOf (rounds_of part nights) [] d) where
+      one_root : AllByRecursion (λ r. r.root ≡ root) w.led.runs
+      one_root = over_one root known looks_over w.led.runs w.led.looked
 
-      audited : d.report ≡ text (within part (audit root (unread_together root (map (λ r. r.run) w.runs))))
+      audited : d.report ≡ text (within part (audit root (unread_together root (map (λ r. r.run) w.led.runs))))
       audited =
-          let one = one_cycle root part w.first w.last w.runs one_root w.chain in
-          w.report ∙ joined_reports w.runs ∙ join root part w.first (map (λ r. r.run) w.runs) w.starts one.0 one.1
+          let one = one_cycle root part w.led.first w.last w.led.runs one_root w.led.chain in
+          w.report ∙ joined_reports w.led.runs ∙ join root part w.led.first (map (λ r. r.run) w.led.runs) w.led.starts one.0 one.1
 
       pub is_audit_but : IsAuditBut root part known.looks d.report
       is_audit_but = record {
-        unread = unread_together root (map (λ r. r.run) w.runs);
+        unread = unread_together root (map (λ r. r.run) w.led.runs);
         is = audited;
-        each = unread_each root known w.runs one_root w.looked;
+        each = unread_each root known w.led.runs one_root w.led.looked;
       }
 
       pub is_audit : HaveReadAll nights → d.report ≡ text (within part (audit root []))
       is_audit read =
-          audited ∙ ap (λ (u : Unread). text (within part (audit root u))) (none_among (unread_together root (map (λ r. r.run) w.runs)) (λ e is. read_none read e (unread_each root known w.runs one_root w.looked e is)))
+          audited ∙ ap (λ (u : Unread). text (within part (audit root u))) (none_among (unread_together root (map (λ r. r.run) w.led.runs)) (λ e is. read_none read e (unread_each root known w.led.runs one_root w.led.looked e is)))
 
     -- ---- around what was left out
 
     -- a closed report that is not called whole
-    pub is_around : HaveReadAll nights → (d : Closed) → IsPartialReport (rounds_of part nights) d → IsAround root part d.report
-    is_around read d w = record {
-      left = w.left;
-      some = w.some;
-      next = next_over root known looks_over part w.left w.next;
+    pub is_around : HaveReadAll nights → (d : Closed) → (left : List Left) × ((left ≢ []) × IsReportOf (rounds_of part nights) left d) → IsAround root part d.report
+    is_around read d (left, (some, w)) = record {
+      left = left;
+      some = some;
+      next = next_over root known looks_over part left w.led.next;
       is =
           w.report
-          ∙ wrote_around root part w.first w.last w.runs w.left w.chain (over_one root known looks_over w.runs w.looked) (read_runs w.runs (over_one root known looks_over w.runs w.looked) w.looked)
-          ∙ ap (λ (from : Option Place). text (around part from w.left (audit root []))) w.starts;
+          ∙ wrote_around root part w.led.first w.last w.led.runs left w.led.chain (over_one root known looks_over w.led.runs w.led.looked) (read_runs w.led.runs (over_one root known looks_over w.led.runs w.led.looked) w.led.looked)
+          ∙ ap (λ (from : Option Place). text (around part from left (audit root []))) w.led.starts;
     }
       where
         read_run : (r : RootRun) → r.root ≡ root → IsOneOf (Some known) (look_of r) → unread_of root r.run.opened ≡ []

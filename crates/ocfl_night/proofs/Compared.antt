@@ -5,6 +5,7 @@ use Rattle.ocfl_tree.specs.Place.{Text}
 use Rattle.ocfl_night.specs.Looks.{Rounds}
 use Rattle.ocfl_state.specs.{Checkpoint.{Checkpoint}, Content.{Content, is_closed}}
 use Rattle.ocfl_state.specs.{Crash.{Outcomes, Same, Passes}, Pieces.{summary_of}}
+use Rattle.ocfl_state.specs.declared.folder.StateFolder as state
 use Rattle.ocfl_state.specs.declared.checkpoint_parts.{Phase.TheVariants.{Closing}, ReportMark.{ReportMark}}
 use Rattle.ocfl_night.specs.Sound.{IsClosing, IsMoved, IsReady, IsSoundAt}
 use Rattle.ocfl_night.specs.Steps.{closes_whole, IsMoveDone, MayMoveAt}
@@ -66,17 +67,17 @@ module _ {F : Type 0} {may_leave : F → Outcomes} {moment : F → ℕ} {left_si
       same_first (λ d c same. inl same) p (may_move_as k answer shown either fits moves)
 
 -- a checkpoint of a cycle that has ended has the mark of its report, or that is closed
-module _ {F : Type 0} {seen : F → Content} {may_leave : F → Outcomes} {rounds : Rounds} {t : Text} {k : Checkpoint} {f : F} where
-  pub ready_to_close : k.phase ≡ Closing → IsReady seen may_leave rounds t k f → IsTrue (is_closed (seen f).closed k.cursor.cycle) ⊎ (k.report ≡ summary_of (seen f).report)
+module _ {F : Type 0} {S : state.Ghosts F} {rounds : Rounds} {t : Text} {k : Checkpoint} {f : F} where
+  pub ready_to_close : k.phase ≡ Closing → IsReady S rounds t k f → IsTrue (is_closed (S.seen f).closed k.cursor.cycle) ⊎ (k.report ≡ summary_of (S.seen f).report)
   ready_to_close is r = by (closing_of is r.stands)
     where
-      by : IsClosing rounds t k (seen f) ⊎ IsMoved rounds t k (seen f) → IsTrue (is_closed (seen f).closed k.cursor.cycle) ⊎ (k.report ≡ summary_of (seen f).report)
+      by : IsClosing rounds t k (S.seen f) ⊎ IsMoved rounds t k (S.seen f) → IsTrue (is_closed (S.seen f).closed k.cursor.cycle) ⊎ (k.report ≡ summary_of (S.seen f).report)
       by (inl w) = inr w.report
       by (inr w) = inl (shut_closing w)
 
-  module _ (is : k.phase ≡ Closing) (told : k.told ≡ k.report.bytes) (r : IsReady seen may_leave rounds t k f) where
-    pub move_sound : (d c : Content) → may_leave f d → MayMoveAt k.cursor.cycle (closes_whole k) (seen f) d c → IsSoundAt rounds t c
+  module _ (is : k.phase ≡ Closing) (told : k.told ≡ k.report.bytes) (r : IsReady S rounds t k f) where
+    pub move_sound : (d c : Content) → S.may_leave f d → MayMoveAt k.cursor.cycle (closes_whole k) (S.seen f) d c → IsSoundAt rounds t c
     move_sound d c left may = sound_holds (move_holds is told (ready_holds r d left) (r.only d left) may)
 
-    pub is_moved : {c : Content} → (IsTrue (is_closed (seen f).closed k.cursor.cycle) ⊎ (k.report ≡ summary_of (seen f).report) → IsMoveDone k.cursor.cycle (closes_whole k) (seen f) c) → IsMoved rounds t k c
+    pub is_moved : {c : Content} → (IsTrue (is_closed (S.seen f).closed k.cursor.cycle) ⊎ (k.report ≡ summary_of (S.seen f).report) → IsMoveDone k.cursor.cycle (closes_whole k) (S.seen f) c) → IsMoved rounds t k c
     is_moved done = move_done is told r.stands (done (ready_to_close is r))

@@ -5,6 +5,7 @@ use Rattle.std.specs.{Result.{IsErr, IsErrAnd, IsOk, OnErr, OnOk}, Io.KnownBytes
 use Rattle.ocfl_tree.specs.Place.{Text}
 use Rattle.ocfl_night.specs.{Looks.{Rounds}, Output.{Grew, Grows, HasCommitted, HasTaken, Said}}
 use Rattle.ocfl_state.specs.{Checkpoint.{Checkpoint}, Content.{Content}}
+use Rattle.ocfl_state.specs.declared.folder.StateFolder as state
 use Rattle.ocfl_state.specs.Crash.{Outcomes, Only, Same, Passes, LeavesOnly}
 use Rattle.ocfl_night.specs.Sound.{Stands, IsSoundAt, IsSound, AreSound, IsReady, IsHeard, IsHeardReady, IsFound, IsFoundReady, IsHeardSince, IsReadySince}
 use Rattle.ocfl_night.specs.Steps.{MayCheckpoint, IsCheckpointPut, unsaid}
@@ -85,10 +86,10 @@ module _ {rounds : Rounds} {t : Text} {s0 s1 s2 : Said} {c : Content} where
     took = taken_on a h.more s0 s1 s2 given all grew.committed h.took;
   }
 
-pub same_ready : {F : Type 0} {seen : F → Content} {may_leave : F → Outcomes} {rounds : Rounds} {t : Text} {s : Said} {k : Checkpoint} {f : F} → IsReady seen may_leave rounds t k f → IsHeardReady seen may_leave rounds t s s k f
-same_ready {seen = seen} {may_leave} {rounds} {t} {s} {k} {f} r = record {
+pub same_ready : {F : Type 0} {S : state.Ghosts F} {rounds : Rounds} {t : Text} {s : Said} {k : Checkpoint} {f : F} → IsReady S rounds t k f → IsHeardReady S rounds t s s k f
+same_ready {S = S} {rounds} {t} {s} {k} {f} r = record {
   more = [];
-  ready = subst (λ (x : Text). IsReady seen may_leave rounds x k f) (sym (append-nil t)) r;
+  ready = subst (λ (x : Text). IsReady S rounds x k f) (sym (append-nil t)) r;
   given = Appends-nil s.given;
   all = λ some. absurd (some refl);
 }
@@ -98,30 +99,30 @@ pub silent : {F : Type 0} {moment : F → ℕ} {left_since : F → ℕ → Outco
 silent p = leaves_weaker (λ c is. not_more is) p
 
 -- something was said, and then no more
-pub said_on : {F : Type 0} {seen : F → Content} {may_leave : F → Outcomes} {moment : F → ℕ} {left_since : F → ℕ → Outcomes} {rounds : Rounds} {t : Text} {s0 s1 : Said} {k : Checkpoint} {f g h : F} (said : IsHeardReady seen may_leave rounds t s0 s1 k g)
-    → LeavesOnly moment left_since f g (IsHeard rounds t s0 s1) → LeavesOnly moment left_since g h (IsSoundAt rounds (t ++ said.more)) → LeavesOnly moment left_since f h (IsHeard rounds t s0 s1)
+pub said_on : {F : Type 0} {S : state.Ghosts F} {rounds : Rounds} {t : Text} {s0 s1 : Said} {k : Checkpoint} {f g h : F} (said : IsHeardReady S rounds t s0 s1 k g)
+    → LeavesOnly S.moment S.left_since f g (IsHeard rounds t s0 s1) → LeavesOnly S.moment S.left_since g h (IsSoundAt rounds (t ++ said.more)) → LeavesOnly S.moment S.left_since f h (IsHeard rounds t s0 s1)
 said_on said p q = joined_moments p (leaves_weaker (λ c is. all_more said.more is said.given said.all) q)
 
 -- all that a checkpoint did not say yet is said
-module _ {F : Type 0} {seen : F → Content} {may_leave : F → Outcomes} {moment : F → ℕ} {left_since : F → ℕ → Outcomes} {rounds : Rounds} {t : Text} {k next : Checkpoint} {s0 s1 : Said} {f g h : F}
-    (r : IsReady seen may_leave rounds t k f) (gave : HasCommitted (unsaid k (seen f)) s0 s1) (p : Passes may_leave moment left_since Same f g) (same : seen g ≡ seen f)
-    (stands : Stands rounds (t ++ unsaid k (seen f)) next (seen f)) where
+module _ {F : Type 0} {S : state.Ghosts F} {rounds : Rounds} {t : Text} {k next : Checkpoint} {s0 s1 : Said} {f g h : F}
+    (r : IsReady S rounds t k f) (gave : HasCommitted (unsaid k (S.seen f)) s0 s1) (p : Passes S.may_leave S.moment S.left_since Same f g) (same : S.seen g ≡ S.seen f)
+    (stands : Stands rounds (t ++ unsaid k (S.seen f)) next (S.seen f)) where
   -- a checkpoint is put, and says so
-  pub heard_put : OnlyNow may_leave moment left_since → Passes may_leave moment left_since (MayCheckpoint next) g h → LeavesOnly moment left_since f h (IsHeard rounds t s0 s1)
+  pub heard_put : OnlyNow S.may_leave S.moment S.left_since → Passes S.may_leave S.moment S.left_since (MayCheckpoint next) g h → LeavesOnly S.moment S.left_since f h (IsHeard rounds t s0 s1)
   heard_put only_now q =
       let there = ready_on r same p in
       joined_moments
       (silent (unchanged only_now (ready_sound r) p))
       (leaves only_now (λ c n. not_more (ready_sound there c n)) (λ d c n mark. put d c (there.only d n) (not_more (ready_sound there d n)) mark) q)
     where
-      put : (d c : Content) → d ≡ seen g → IsHeard rounds t s0 s1 d → MayCheckpoint next d c → IsHeard rounds t s0 s1 c
+      put : (d c : Content) → d ≡ S.seen g → IsHeard rounds t s0 s1 d → MayCheckpoint next d c → IsHeard rounds t s0 s1 c
       put d c at old (inl is) = subst (IsHeard rounds t s0 s1) (sym is) old
-      put d c at old (inr (bytes, (text, is))) = all_more (unsaid k (seen f)) (sound_holds (marked_put (subst (Stands rounds (t ++ unsaid k (seen f)) next) (sym (at ∙ same)) stands) (record { bytes = bytes; text = text; put = is }))) gave.gave (λ some. gave.all)
+      put d c at old (inr (bytes, (text, is))) = all_more (unsaid k (S.seen f)) (sound_holds (marked_put (subst (Stands rounds (t ++ unsaid k (S.seen f)) next) (sym (at ∙ same)) stands) (record { bytes = bytes; text = text; put = is }))) gave.gave (λ some. gave.all)
 
-  pub put_heard : IsCheckpointPut next (seen g) (seen h) → next.report.bytes ≡ k.report.bytes → next.phase ≡ k.phase → Only (seen h) (may_leave h) → IsHeardReady seen may_leave rounds t s0 s1 next h
+  pub put_heard : IsCheckpointPut next (S.seen g) (S.seen h) → next.report.bytes ≡ k.report.bytes → next.phase ≡ k.phase → Only (S.seen h) (S.may_leave h) → IsHeardReady S rounds t s0 s1 next h
   put_heard put bytes phase only = record {
-    more = unsaid k (seen f);
-    ready = put_on (ready_on r same p) (subst (Stands rounds (t ++ unsaid k (seen f)) next) (sym same) stands) put bytes phase only;
+    more = unsaid k (S.seen f);
+    ready = put_on (ready_on r same p) (subst (Stands rounds (t ++ unsaid k (S.seen f)) next) (sym same) stands) put bytes phase only;
     given = gave.gave;
     all = λ some. gave.all;
   }
@@ -138,21 +139,21 @@ module _ {rounds : Rounds} {outcomes : Outcomes} {kept : AreSound rounds outcome
   pub since_sound : IsHeardSince rounds outcomes kept s0 s1 c → IsSound rounds c
   since_sound h = ((kept h.from h.was).0 ++ h.heard.more, h.heard.sound)
 
-  module _ {F : Type 0} {seen : F → Content} {may_leave : F → Outcomes} {k : Checkpoint} {f : F} where
-    pub since_found : (r : IsFoundReady seen may_leave rounds outcomes kept k f) → IsHeard rounds (kept r.from r.was).0 s0 s1 c → IsHeardSince rounds outcomes kept s0 s1 c
+  module _ {F : Type 0} {S : state.Ghosts F} {k : Checkpoint} {f : F} where
+    pub since_found : (r : IsFoundReady S rounds outcomes kept k f) → IsHeard rounds (kept r.from r.was).0 s0 s1 c → IsHeardSince rounds outcomes kept s0 s1 c
     since_found r h = record { from = r.from; was = r.was; heard = h }
 
-    pub since_ready : {s2 : Said} (r : IsReadySince seen may_leave rounds outcomes kept s0 s1 k f) → Grows s1 s2 → IsHeard rounds ((kept r.from r.was).0 ++ r.heard.more) s1 s2 c → IsHeardSince rounds outcomes kept s0 s2 c
+    pub since_ready : {s2 : Said} (r : IsReadySince S rounds outcomes kept s0 s1 k f) → Grows s1 s2 → IsHeard rounds ((kept r.from r.was).0 ++ r.heard.more) s1 s2 c → IsHeardSince rounds outcomes kept s0 s2 c
     since_ready r grew h = record { from = r.from; was = r.was; heard = heard_on r.heard.more r.heard.given r.heard.all grew h }
 
 -- of a part that is known by two names
-module _ {F : Type 0} {seen : F → Content} {may_leave : F → Outcomes} {outcomes : Outcomes} {s0 s1 : Said} {k : Checkpoint} {a : F} {rounds given : Rounds} {kept : AreSound rounds outcomes} (same : given ≡ rounds) (r : IsReadySince seen may_leave rounds outcomes kept s0 s1 k a) where
+module _ {F : Type 0} {S : state.Ghosts F} {outcomes : Outcomes} {s0 s1 : Said} {k : Checkpoint} {a : F} {rounds given : Rounds} {kept : AreSound rounds outcomes} (same : given ≡ rounds) (r : IsReadySince S rounds outcomes kept s0 s1 k a) where
   -- all that was told
   abbrev pub told_since : Text
   told_since = (kept r.from r.was).0 ++ r.heard.more
 
-  pub ready_since : IsReady seen may_leave given told_since k a
-  ready_since = subst (λ (p : Rounds). IsReady seen may_leave p told_since k a) (sym same) r.heard.ready
+  pub ready_since : IsReady S given told_since k a
+  ready_since = subst (λ (p : Rounds). IsReady S p told_since k a) (sym same) r.heard.ready
 
   pub heard_through : {moment : F → ℕ} {left_since : F → ℕ → Outcomes} {s2 : Said} {f b : F} → LeavesOnly moment left_since f a (IsHeardSince rounds outcomes kept s0 s1) → Grows s1 s2
       → LeavesOnly moment left_since a b (IsHeard given told_since s1 s2) → LeavesOnly moment left_since f b (IsHeardSince rounds outcomes kept s0 s2)

@@ -1,6 +1,7 @@
 -- How calls of a state folder go on from one another.
 use Rattle.std.proofs.Common.{◌≡◌, inl, inr, ⊎_elim, ℕ, refl, sym, ◌∙◌, subst, arith}
 use Rattle.ocfl_state.specs.Content.{Content}
+use Rattle.ocfl_state.specs.declared.folder.StateFolder as state
 use Rattle.ocfl_state.specs.Crash.{Outcomes, Only, Step, Same, MayTear, After, Passes, LeavesOnly}
 use Rattle.ocfl_night.specs.Steps.{IsUntouched, KeepsFront}
 
@@ -12,9 +13,6 @@ module _ {F : Type 0} {may_leave : F → Outcomes} {moment : F → ℕ} {left_si
   -- no call
   pub stayed : {f : F} → Passes may_leave moment left_since Same f f
   stayed = record { later = omega arith; now = λ c n. (c, n, refl); meanwhile = λ t c le left. inl left; keeps = λ t c le left. left }
-
-  pub untouched : {seen : F → Content} {f : F} → IsUntouched seen may_leave moment left_since f f
-  untouched = record { same = refl; crash = stayed }
 
   -- a call does no more than another might
   pub weaker : {step more : Step} {f g : F} → ((d c : Content) → step d c → more d c) → Passes may_leave moment left_since step f g → Passes may_leave moment left_since more f g
@@ -55,6 +53,9 @@ module _ {F : Type 0} {may_leave : F → Outcomes} {moment : F → ℕ} {left_si
   -- what a crash leaves after a call has P
   pub left_after : {step : Step} {P : Outcomes} {f g : F} → ((d c : Content) → may_leave f d → step d c → P c) → Passes may_leave moment left_since step f g → (c : Content) → may_leave g c → P c
   left_after after p c left = let from = p.now c left in after from.0 c from.1 from.2
+
+pub untouched : {F : Type 0} {S : state.Ghosts F} {f : F} → IsUntouched S f f
+untouched = record { same = refl; crash = stayed }
 
 module _ {F : Type 0} {moment : F → ℕ} {left_since : F → ℕ → Outcomes} where
   -- nothing is called, or one run of calls after another

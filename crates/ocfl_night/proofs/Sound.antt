@@ -16,10 +16,11 @@ use Rattle.ocfl_state.specs.declared.checkpoint_parts.Left.{Left}
 use Rattle.ocfl_state.specs.declared.checkpoint_parts.ReportMark.{ReportMark}
 use Rattle.ocfl_state.specs.declared.checkpoint_parts.RootIdentity.{RootIdentity}
 use Rattle.ocfl_state.specs.declared.checkpoint_parts.TopNames.{TopNames}
+use Rattle.ocfl_state.specs.declared.folder.StateFolder as state
 use Rattle.ocfl_state.proofs.CheckpointTexts.{text_determines}
-use Rattle.ocfl_night.specs.Chain.{AreNextIn, RootRun, joined, look_of, part_after, Led, LedToEnd, IsPartialReport, IsWholeReport, HasClosed}
+use Rattle.ocfl_night.specs.Chain.{AreNextIn, RootRun, joined, look_of, part_after, LeadTo, EndAt, LedBy, LedToEnd, HasRuns, IsReportOf, HasClosed}
 use Rattle.ocfl_night.specs.Looks.{IfGiven, IsOneOf, IsWithin, Look, Rounds}
-use Rattle.ocfl_night.specs.Sound.{closed_text, HasRuns, IsOpen, IsClosing, IsMoved, Stands, IsNew, IsMarked, IsSoundAt, IsAt, IsSettled, IsReady, IsOneMore, IsShut}
+use Rattle.ocfl_night.specs.Sound.{closed_text, IsOpen, IsClosing, IsMoved, Stands, IsNew, IsMarked, IsSoundAt, IsAt, IsSettled, IsReady, IsOneMore, IsShut}
 use Rattle.ocfl_night.specs.{Site.{first_checkpoint}, declared.site.Site.{Site}}
 use Rattle.ocfl_identity.specs.declared.identity.Identity.{Identity}
 use Rattle.ocfl_night.specs.Promises.{IsBranchNext}
@@ -158,12 +159,12 @@ module _ {rounds : Rounds} {t : Text} {k next : Checkpoint} {look : Look} {ran :
   lossless : IfGiven rounds.known (next.whole ≡ true)
   lossless = given_on rounds.known (λ sure. ap (λ (x : Checkpoint). x.whole) n.rest_is ∙ sure) o.lossless
 
-  led_by : (Leads : Part → Cursor → List RootRun → List Left → Cursor → Type 0) {last : Cursor} → last ≡ next.cursor → Leads rounds.part o.led.first (o.led.runs ++ r ∷ []) k.left last → HasRuns Leads rounds next.left next.cursor
-  led_by Leads {last} is chain = record {
+  led_by : (Last : Part → Cursor → List RootRun → Cursor → Type 0) {last : Cursor} → last ≡ next.cursor → LedBy Last rounds.part o.led.first (o.led.runs ++ r ∷ []) k.left last → HasRuns Last rounds next.left next.cursor
+  led_by Last {last} is chain = record {
     first = o.led.first;
     runs = o.led.runs ++ r ∷ [];
     starts = o.led.starts;
-    chain = subst (Leads rounds.part o.led.first (o.led.runs ++ r ∷ []) next.left) is (subst (λ (left : List Left). Leads rounds.part o.led.first (o.led.runs ++ r ∷ []) left last) (sym (ap (λ (x : Checkpoint). x.left) n.rest_is)) chain);
+    chain = subst (LedBy Last rounds.part o.led.first (o.led.runs ++ r ∷ []) next.left) is (subst (λ (left : List Left). LedBy Last rounds.part o.led.first (o.led.runs ++ r ∷ []) left last) (sym (ap (λ (x : Checkpoint). x.left) n.rest_is)) chain);
     next = subst (AreNextIn rounds.known rounds.part) (sym (ap (λ (x : Checkpoint). x.left) n.rest_is)) o.led.next;
     looked = looked_on rounds.known o.led.runs r o.led.looked (one_of_on rounds.known within one);
   }
@@ -176,7 +177,7 @@ module _ {rounds : Rounds} {t : Text} {k next : Checkpoint} {look : Look} {ran :
   goes not_ended =
       let open_now : IsOpen rounds t next c = record {
         phase = n.goes_on (λ is. not_ended (ap (λ (x : RunEnd). x.end) e.ran_is ∙ is));
-        led = led_by Led (ap (λ (x : RunEnd). x.cursor) e.ran_is ∙ sym n.cursor_is) (led_on rounds.part o.led.first k.cursor o.led.runs k.left r o.led.chain e.made not_ended);
+        led = led_by LeadTo (ap (λ (x : RunEnd). x.cursor) e.ran_is ∙ sym n.cursor_is) (led_on rounds.part o.led.first k.cursor o.led.runs k.left r o.led.chain e.made not_ended);
         text = c.report;
         report = n.report_is;
         begins = ([], sym (append-nil c.report));
@@ -196,7 +197,7 @@ module _ {rounds : Rounds} {t : Text} {k next : Checkpoint} {look : Look} {ran :
       let phase : next.phase ≡ Closing = n.ended (sym (ap (λ (x : RunEnd). x.end) e.ran_is) ∙ is) in
       let closing_now : IsClosing rounds t next c = record {
         phase = phase;
-        led = led_by LedToEnd cursor (led_to_end rounds.part o.led.first k.cursor o.led.runs k.left r o.led.chain e.made is);
+        led = led_by EndAt cursor (led_to_end rounds.part o.led.first k.cursor o.led.runs k.left r o.led.chain e.made is);
         ends = ap (λ (x : Cursor). x.state) (sym cursor) ∙ at.0;
         report = n.report_is;
         is_whole = whole;
@@ -218,59 +219,59 @@ module _ {rounds : Rounds} {t : Text} {k next : Checkpoint} {look : Look} {ran :
 
 -- ---- a folder at a checkpoint
 
-module _ {F : Type 0} {seen : F → Content} {may_leave : F → Outcomes} {rounds : Rounds} {t : Text} {k : Checkpoint} {f : F} where
-  pub settled_holds : IsSettled seen may_leave rounds t k f → (c : Content) → may_leave f c → Holds rounds t k c
+module _ {F : Type 0} {S : state.Ghosts F} {rounds : Rounds} {t : Text} {k : Checkpoint} {f : F} where
+  pub settled_holds : IsSettled S rounds t k f → (c : Content) → S.may_leave f c → Holds rounds t k c
   settled_holds r c left = subst (Holds rounds t k) (sym (r.only c left)) (record { at = r.at; stands = r.stands })
 
-  pub settled_sound : IsSettled seen may_leave rounds t k f → (c : Content) → may_leave f c → IsSoundAt rounds t c
+  pub settled_sound : IsSettled S rounds t k f → (c : Content) → S.may_leave f c → IsSoundAt rounds t c
   settled_sound r c left = sound_holds (settled_holds r c left)
 
-  settled : IsReady seen may_leave rounds t k f → IsSettled seen may_leave rounds t k f
+  settled : IsReady S rounds t k f → IsSettled S rounds t k f
   settled r = record { at = r.at; stands = r.stands; only = r.only }
 
-  pub ready_holds : IsReady seen may_leave rounds t k f → (c : Content) → may_leave f c → Holds rounds t k c
+  pub ready_holds : IsReady S rounds t k f → (c : Content) → S.may_leave f c → Holds rounds t k c
   ready_holds r c left = settled_holds (settled r) c left
 
-  pub ready_sound : IsReady seen may_leave rounds t k f → (c : Content) → may_leave f c → IsSoundAt rounds t c
+  pub ready_sound : IsReady S rounds t k f → (c : Content) → S.may_leave f c → IsSoundAt rounds t c
   ready_sound r c left = settled_sound (settled r) c left
 
   -- a call changed nothing
-  pub ready_on : {moment : F → ℕ} {left_since : F → ℕ → Outcomes} {g : F} → IsReady seen may_leave rounds t k f → seen g ≡ seen f → Passes may_leave moment left_since Same f g → IsReady seen may_leave rounds t k g
+  pub ready_on : {g : F} → IsReady S rounds t k f → S.seen g ≡ S.seen f → Passes S.may_leave S.moment S.left_since Same f g → IsReady S rounds t k g
   ready_on r same p = record {
     at = subst (IsAt k) (sym same) r.at;
     stands = subst (Stands rounds t k) (sym same) r.stands;
     exact = λ is. ap (λ (x : Content). length x.report) same ∙ r.exact is;
-    only = only_same seen p same r.only;
+    only = only_same S.seen p same r.only;
   }
 
   -- a checkpoint was put
-  pub put_ready : {d : Content} → IsCheckpointPut k d (seen f) → Stands rounds t k d → (k.phase ≡ Open → length d.report ≡ k.report.bytes) → Only (seen f) (may_leave f) → IsReady seen may_leave rounds t k f
+  pub put_ready : {d : Content} → IsCheckpointPut k d (S.seen f) → Stands rounds t k d → (k.phase ≡ Open → length d.report ≡ k.report.bytes) → Only (S.seen f) (S.may_leave f) → IsReady S rounds t k f
   put_ready put stands exact only =
       let holds = marked_put stands put in
       record { at = holds.at; stands = holds.stands; exact = λ is. ap (λ (x : Content). length x.report) put.put ∙ exact is; only = only }
 
   -- what is torn is after the checkpoint's bytes
-  pub torn_sound : {n : ℕ} → k.phase ≡ Open → k.report.bytes ≤ n → IsSettled seen may_leave rounds t k f → (d c : Content) → may_leave f d → KeepsFront n d c → IsSoundAt rounds t c
+  pub torn_sound : {n : ℕ} → k.phase ≡ Open → k.report.bytes ≤ n → IsSettled S rounds t k f → (d c : Content) → S.may_leave f d → KeepsFront n d c → IsSoundAt rounds t c
   torn_sound is le r d c left keeps = sound_holds (torn is le (settled_holds r d left) keeps)
 
-  pub run_sound : k.phase ≡ Open → IsReady seen may_leave rounds t k f → (d c : Content) → may_leave f d → KeepsFront (length (seen f).report) d c → IsSoundAt rounds t c
+  pub run_sound : k.phase ≡ Open → IsReady S rounds t k f → (d c : Content) → S.may_leave f d → KeepsFront (length (S.seen f).report) d c → IsSoundAt rounds t c
   run_sound is r d c left keeps = torn_sound is (omega (arith, r.exact is)) (settled r) d c left keeps
 
   -- the checkpoint has the mark of the whole report
-  pub ready_mark : k.phase ≡ Open → IsReady seen may_leave rounds t k f → k.report ≡ summary_of (seen f).report
+  pub ready_mark : k.phase ≡ Open → IsReady S rounds t k f → k.report ≡ summary_of (S.seen f).report
   ready_mark is r =
       let o = open_of is r.stands in
       o.report ∙ ap summary_of (sym (exact_text o (r.exact is)))
 
-  pub after_extended : {next : Checkpoint} {look : Look} {ran : RunEnd} {lines : Text} {c : Content} {mark report : ReportMark} → k.phase ≡ Open → IsReady seen may_leave rounds t k f
-      → IsOneOf rounds.known look → IsRun (part_after rounds.part k.left) k.cursor look lines ran → c ≡ with_report ((seen f).report ++ lines) (seen f)
-      → mark ≡ k.report → (mark ≡ summary_of (seen f).report → report ≡ summary_of c.report) → IsNext k ran report next → After_run rounds t next c
+  pub after_extended : {next : Checkpoint} {look : Look} {ran : RunEnd} {lines : Text} {c : Content} {mark report : ReportMark} → k.phase ≡ Open → IsReady S rounds t k f
+      → IsOneOf rounds.known look → IsRun (part_after rounds.part k.left) k.cursor look lines ran → c ≡ with_report ((S.seen f).report ++ lines) (S.seen f)
+      → mark ≡ k.report → (mark ≡ summary_of (S.seen f).report → report ≡ summary_of c.report) → IsNext k ran report next → After_run rounds t next c
   after_extended {next} {ran = ran} is r one run grown marked keeps n =
       after_run (open_of is r.stands) (r.exact is) one run grown (subst (λ (m : ReportMark). IsNext k ran m next) (keeps (marked ∙ ready_mark is r)) n)
 
 -- a checkpoint was put after another one
-pub put_on : {F : Type 0} {seen : F → Content} {may_leave : F → Outcomes} {rounds : Rounds} {t u : Text} {k next : Checkpoint} {f h : F} → IsReady seen may_leave rounds t k f → Stands rounds u next (seen f) → IsCheckpointPut next (seen f) (seen h)
-    → next.report.bytes ≡ k.report.bytes → next.phase ≡ k.phase → Only (seen h) (may_leave h) → IsReady seen may_leave rounds u next h
+pub put_on : {F : Type 0} {S : state.Ghosts F} {rounds : Rounds} {t u : Text} {k next : Checkpoint} {f h : F} → IsReady S rounds t k f → Stands rounds u next (S.seen f) → IsCheckpointPut next (S.seen f) (S.seen h)
+    → next.report.bytes ≡ k.report.bytes → next.phase ≡ k.phase → Only (S.seen h) (S.may_leave h) → IsReady S rounds u next h
 put_on r stands put bytes phase only = put_ready put stands (λ is. r.exact (sym phase ∙ is) ∙ sym bytes) only
 
 module _ {F : Type 0} {may_leave : F → Outcomes} {moment : F → ℕ} {left_since : F → ℕ → Outcomes} (only_now : OnlyNow may_leave moment left_since) {rounds : Rounds} {t : Text} {k : Checkpoint} {shown : Content} {g h : F} where
@@ -284,8 +285,8 @@ module _ {F : Type 0} {may_leave : F → Outcomes} {moment : F → ℕ} {left_si
   mark_after here after p only stands q = joined_moments (leaves only_now here after p) (mark_moments (left_after after p) only stands q)
 
 -- a checkpoint is put after another one
-pub put_moments : {F : Type 0} {seen : F → Content} {may_leave : F → Outcomes} {moment : F → ℕ} {left_since : F → ℕ → Outcomes} {rounds : Rounds} {t : Text} {k next : Checkpoint} {f h : F} → OnlyNow may_leave moment left_since
-    → IsReady seen may_leave rounds t k f → Stands rounds t next (seen f) → Passes may_leave moment left_since (MayCheckpoint next) f h → LeavesOnly moment left_since f h (IsSoundAt rounds t)
+pub put_moments : {F : Type 0} {S : state.Ghosts F} {rounds : Rounds} {t : Text} {k next : Checkpoint} {f h : F} → OnlyNow S.may_leave S.moment S.left_since
+    → IsReady S rounds t k f → Stands rounds t next (S.seen f) → Passes S.may_leave S.moment S.left_since (MayCheckpoint next) f h → LeavesOnly S.moment S.left_since f h (IsSoundAt rounds t)
 put_moments only_now r stands p = mark_moments only_now (ready_sound r) r.only stands p
 
 -- ---- opening
@@ -339,32 +340,25 @@ module _ {rounds : Rounds} {t : Text} {k : Checkpoint} {d : Content} where
   pub not_shut : IsClosing rounds t k d → is_closed d.closed k.cursor.cycle ≡ false
   not_shut w = not_there w.earlier (omega arith)
 
-  whole_report : IsClosing rounds t k d → (k.whole ≡ true) × (k.left ≡ []) → IsWholeReport rounds (record { cycle = k.cursor.cycle; whole = closes_whole k; report = d.report })
+  whole_report : IsClosing rounds t k d → (k.whole ≡ true) × (k.left ≡ []) → IsReportOf rounds [] (record { cycle = k.cursor.cycle; whole = closes_whole k; report = d.report })
   whole_report w both = record {
-    first = w.led.first;
-    runs = w.led.runs;
     last = k.cursor;
-    starts = w.led.starts;
-    chain = subst (λ (l : List Left). LedToEnd rounds.part w.led.first w.led.runs l k.cursor) both.1 w.led.chain;
-    looked = w.led.looked;
+    led = record {
+      first = w.led.first;
+      runs = w.led.runs;
+      starts = w.led.starts;
+      chain = subst (λ (l : List Left). LedToEnd rounds.part w.led.first w.led.runs l k.cursor) both.1 w.led.chain;
+      next = tt;
+      looked = w.led.looked;
+    };
     cycle = refl;
     report = w.is_whole both.0;
   }
 
-  partial_report : IsClosing rounds t k d → k.whole ≡ true → closes_whole k ≡ false → IsPartialReport rounds (record { cycle = k.cursor.cycle; whole = closes_whole k; report = d.report })
-  partial_report w sure incomplete = record {
-    first = w.led.first;
-    runs = w.led.runs;
-    left = k.left;
-    last = k.cursor;
-    starts = w.led.starts;
-    some = λ none. both_ways (sym (ap (λ (b : Bool). b && is_empty k.left) sure ∙ ap (λ (l : List Left). true && is_empty l) none) ∙ incomplete);
-    chain = w.led.chain;
-    next = w.led.next;
-    looked = w.led.looked;
-    cycle = refl;
-    report = w.is_whole sure;
-  }
+  partial_report : IsClosing rounds t k d → k.whole ≡ true → closes_whole k ≡ false → (left : List Left) × ((left ≢ []) × IsReportOf rounds left (record { cycle = k.cursor.cycle; whole = closes_whole k; report = d.report }))
+  partial_report w sure incomplete =
+      let some : k.left ≢ [] = λ none. both_ways (sym (ap (λ (b : Bool). b && is_empty k.left) sure ∙ ap (λ (l : List Left). true && is_empty l) none) ∙ incomplete) in
+      (k.left, (some, record { last = k.cursor; led = w.led; cycle = refl; report = w.is_whole sure }))
 
   module _ {c : Content} (is : k.phase ≡ Closing) (told : k.told ≡ k.report.bytes) where
     after_move : IsClosing rounds t k d → c ≡ moved k.cursor.cycle (closes_whole k) d → IsMoved rounds t k c
@@ -436,8 +430,8 @@ module _ {rounds : Rounds} {t : Text} {k : Checkpoint} {c : Content} (some : k.t
       inr (inl (record { phase = w.phase; led = w.led; ends = w.ends; report = w.report; is_whole = w.is_whole; lossless = w.lossless; told = omega arith; told_is = told_is; earlier = w.earlier }))
   said_stands (inr (inr w)) = absurd (some w.told)
 
-pub said_by : {F : Type 0} {seen : F → Content} {may_leave : F → Outcomes} {rounds : Rounds} {t : Text} {k next : Checkpoint} {f : F} → next ≡ with_all_told k → (k.told ≡ k.report.bytes → ⊥) → IsReady seen may_leave rounds t k f → Stands rounds (t ++ unsaid k (seen f)) next (seen f)
-said_by {seen = seen} {rounds = rounds} {t} {k} {f = f} is some r = subst (λ (x : Checkpoint). Stands rounds (t ++ unsaid k (seen f)) x (seen f)) (sym is) (said_stands some r.exact r.stands)
+pub said_by : {F : Type 0} {S : state.Ghosts F} {rounds : Rounds} {t : Text} {k next : Checkpoint} {f : F} → next ≡ with_all_told k → (k.told ≡ k.report.bytes → ⊥) → IsReady S rounds t k f → Stands rounds (t ++ unsaid k (S.seen f)) next (S.seen f)
+said_by {S = S} {rounds = rounds} {t} {k} {f = f} is some r = subst (λ (x : Checkpoint). Stands rounds (t ++ unsaid k (S.seen f)) x (S.seen f)) (sym is) (said_stands some r.exact r.stands)
 
 -- ---- a report is closed
 

@@ -5,8 +5,9 @@ use Rattle.ocfl_night.specs.Looks.{Rounds}
 use Rattle.ocfl_state.specs.{Checkpoint.{Checkpoint}, Content.{Content, with_report}}
 use Rattle.ocfl_state.specs.Crash.{Outcomes, Only, Same, Passes, LeavesOnly}
 use Rattle.ocfl_state.specs.declared.checkpoint_parts.ReportMark.{ReportMark}
+use Rattle.ocfl_state.specs.declared.folder.StateFolder as state
 use Rattle.ocfl_state.specs.declared.checkpoint_parts.Phase.TheVariants.{Open, Closing}
-use Rattle.ocfl_night.specs.Sound.{Stands, IsNew, IsSoundAt, IsSound, AreSound, IsKept, IsAt, IsSettled, IsReady, IsFound, IsFoundReady}
+use Rattle.ocfl_night.specs.Sound.{Stands, IsNew, IsSoundAt, IsSound, AreSound, IsAt, IsSettled, IsReady, IsFound, IsFoundReady}
 use Rattle.ocfl_night.specs.Steps.{fitted}
 use Rattle.ocfl_night.proofs.Moments.{OnlyNow, only_same, unchanged, leaves_weaker, joined_moments}
 use Rattle.ocfl_night.proofs.Heard.{kept_found}
@@ -26,13 +27,13 @@ begun_moments rounds only_now only none new p same then =
 
 -- ---- what is taken up
 
-module _ {F : Type 0} {seen : F → Content} {may_leave : F → Outcomes} {rounds : Rounds} {t : Text} {k : Checkpoint} {f g : F} where
-  pub cut_ready : k.phase ≡ Open → IsSettled seen may_leave rounds t k f → seen g ≡ with_report (take k.report.bytes (seen f).report) (seen f) → Only (seen g) (may_leave g) → IsReady seen may_leave rounds t k g
+module _ {F : Type 0} {S : state.Ghosts F} {rounds : Rounds} {t : Text} {k : Checkpoint} {f g : F} where
+  pub cut_ready : k.phase ≡ Open → IsSettled S rounds t k f → S.seen g ≡ with_report (take k.report.bytes (S.seen f).report) (S.seen f) → Only (S.seen g) (S.may_leave g) → IsReady S rounds t k g
   cut_ready is r cut only =
       let now = cut_open is (record { at = r.at; stands = r.stands }) cut in
       record { at = now.0.at; stands = now.0.stands; exact = λ phase. now.1; only = only }
 
-  pub settled_on : k.phase ≡ Closing → IsSettled seen may_leave rounds t k f → seen g ≡ seen f → Only (seen g) (may_leave g) → IsReady seen may_leave rounds t k g
+  pub settled_on : k.phase ≡ Closing → IsSettled S rounds t k f → S.seen g ≡ S.seen f → Only (S.seen g) (S.may_leave g) → IsReady S rounds t k g
   settled_on is r same only = record {
     at = subst (IsAt k) (sym same) r.at;
     stands = subst (Stands rounds t k) (sym same) r.stands;
@@ -41,32 +42,32 @@ module _ {F : Type 0} {seen : F → Content} {may_leave : F → Outcomes} {round
   }
 
 -- a call changed nothing
-pub settled_still : {F : Type 0} {seen : F → Content} {may_leave : F → Outcomes} {moment : F → ℕ} {left_since : F → ℕ → Outcomes} {rounds : Rounds} {t : Text} {k : Checkpoint} {f g : F} → IsSettled seen may_leave rounds t k f → seen g ≡ seen f → Passes may_leave moment left_since Same f g → IsSettled seen may_leave rounds t k g
-settled_still {seen = seen} {rounds = rounds} {t} {k} r same p = record {
+pub settled_still : {F : Type 0} {S : state.Ghosts F} {rounds : Rounds} {t : Text} {k : Checkpoint} {f g : F} → IsSettled S rounds t k f → S.seen g ≡ S.seen f → Passes S.may_leave S.moment S.left_since Same f g → IsSettled S rounds t k g
+settled_still {S = S} {rounds = rounds} {t} {k} r same p = record {
   at = subst (IsAt k) (sym same) r.at;
   stands = subst (Stands rounds t k) (sym same) r.stands;
-  only = only_same seen p same r.only;
+  only = only_same S.seen p same r.only;
 }
 
 -- what is opened, if the report is as its checkpoint says
-pub taken_as : {F : Type 0} {seen : F → Content} {may_leave : F → Outcomes} {rounds : Rounds} {t : Text} {k opened : Checkpoint} {there : Option ReportMark} {f : F} → opened ≡ fitted there k → (there ≡ None) × IsReady seen may_leave rounds t k f → IsReady seen may_leave rounds t opened f
-taken_as {seen = seen} {may_leave} {rounds} {t} {k = k} {f = f} is up = subst (λ (x : Checkpoint). IsReady seen may_leave rounds t x f) (sym (is ∙ ap (λ (o : Option ReportMark). fitted o k) up.0)) up.1
+pub taken_as : {F : Type 0} {S : state.Ghosts F} {rounds : Rounds} {t : Text} {k opened : Checkpoint} {there : Option ReportMark} {f : F} → opened ≡ fitted there k → (there ≡ None) × IsReady S rounds t k f → IsReady S rounds t opened f
+taken_as {S = S} {rounds} {t} {k = k} {f = f} is up = subst (λ (x : Checkpoint). IsReady S rounds t x f) (sym (is ∙ ap (λ (o : Option ReportMark). fitted o k) up.0)) up.1
 
 -- ---- opening
 
 -- this checkpoint is there
-pub settled_there : {F : Type 0} {seen : F → Content} {may_leave : F → Outcomes} {rounds : Rounds} {t : Text} {k : Checkpoint} {l : F} {d : Content} → IsSoundAt rounds t d → IsAt k d → seen l ≡ d → Only (seen l) (may_leave l) → IsSettled seen may_leave rounds t k l
+pub settled_there : {F : Type 0} {S : state.Ghosts F} {rounds : Rounds} {t : Text} {k : Checkpoint} {l : F} {d : Content} → IsSoundAt rounds t d → IsAt k d → S.seen l ≡ d → Only (S.seen l) (S.may_leave l) → IsSettled S rounds t k l
 settled_there {rounds = rounds} {t} {k} sound at same only =
     let h = holds_sound sound at in
     record { at = subst (IsAt k) (sym same) h.at; stands = subst (Stands rounds t k) (sym same) h.stands; only = only }
 
 -- with the text that was told there
-pub found_ready : {F : Type 0} {seen : F → Content} {may_leave : F → Outcomes} {rounds : Rounds} {outcomes : Outcomes} {next : Checkpoint} {h : F} {t : Text} (kept : AreSound rounds outcomes) (d : Content) (was : outcomes d) → (kept d was).0 ≡ t → IsReady seen may_leave rounds t next h
-    → IsFoundReady seen may_leave rounds outcomes kept next h
-found_ready {seen = seen} {may_leave} {rounds} {next = next} {h} kept d was same ready =
-    record { from = d; was = was; ready = subst (λ (t : Text). IsReady seen may_leave rounds t next h) (sym same) ready }
+pub found_ready : {F : Type 0} {S : state.Ghosts F} {rounds : Rounds} {outcomes : Outcomes} {next : Checkpoint} {h : F} {t : Text} (kept : AreSound rounds outcomes) (d : Content) (was : outcomes d) → (kept d was).0 ≡ t → IsReady S rounds t next h
+    → IsFoundReady S rounds outcomes kept next h
+found_ready {S = S} {rounds} {next = next} {h} kept d was same ready =
+    record { from = d; was = was; ready = subst (λ (t : Text). IsReady S rounds t next h) (sym same) ready }
 
-module _ {F : Type 0} {may_leave : F → Outcomes} {moment : F → ℕ} {left_since : F → ℕ → Outcomes} {rounds : Rounds} {f l h : F} {d : Content} (only_now : OnlyNow may_leave moment left_since) (was : may_leave f d) (kept : IsKept may_leave rounds f) (p : Passes may_leave moment left_since Same f l) where
+module _ {F : Type 0} {may_leave : F → Outcomes} {moment : F → ℕ} {left_since : F → ℕ → Outcomes} {rounds : Rounds} {f l h : F} {d : Content} (only_now : OnlyNow may_leave moment left_since) (was : may_leave f d) (kept : AreSound rounds (may_leave f)) (p : Passes may_leave moment left_since Same f l) where
   -- what is called after a look
   pub found_on : {t : Text} → (kept d was).0 ≡ t → LeavesOnly moment left_since l h (IsSoundAt rounds t) → LeavesOnly moment left_since f h (IsFound rounds (may_leave f) kept)
   found_on {t} same q =
@@ -74,7 +75,7 @@ module _ {F : Type 0} {may_leave : F → Outcomes} {moment : F → ℕ} {left_si
       (unchanged only_now (λ c n. kept_found kept n) p)
       (leaves_weaker (λ c now. record { from = d; was = was; now = subst (λ (u : Text). IsSoundAt rounds u c) (sym same) now }) q)
 
-  pub taken_moments : {seen : F → Content} {k : Checkpoint} → IsAt k d → seen l ≡ d → Only (seen l) (may_leave l) → ((t : Text) → IsSettled seen may_leave rounds t k l → LeavesOnly moment left_since l h (IsSoundAt rounds t)) → LeavesOnly moment left_since f h (IsFound rounds (may_leave f) kept)
+  pub taken_moments : {S : state.Ghosts F} {k : Checkpoint} → IsAt k d → S.seen l ≡ d → Only (S.seen l) (S.may_leave l) → ((t : Text) → IsSettled S rounds t k l → LeavesOnly moment left_since l h (IsSoundAt rounds t)) → LeavesOnly moment left_since f h (IsFound rounds (may_leave f) kept)
   taken_moments at same only then = let sound = kept d was in found_on refl (then sound.0 (settled_there sound.1 at same only))
 
 -- no checkpoint is there

@@ -6,7 +6,8 @@ use Rattle.ocfl_tree.specs.Place.{Place, Text}
 use Rattle.ocfl_audit.specs.Lines.{is_empty}
 use Rattle.ocfl_cursor.specs.declared.limits.Limits.{Limits}
 use Rattle.ocfl_state.specs.{Checkpoint.{Checkpoint}, Content.{Closed, Content, is_closed, moved}}
-use Rattle.ocfl_state.specs.{Crash.{Outcomes}, Pieces.{summary_of}, declared.checkpoint_parts.Left.{Left}}
+use Rattle.ocfl_state.specs.{Pieces.{summary_of}, declared.checkpoint_parts.Left.{Left}}
+use Rattle.ocfl_state.specs.declared.folder.StateFolder as state
 use Rattle.ocfl_state.specs.declared.checkpoint_parts.{Phase.{Phase}, Phase.TheVariants.{Open, Closing}}
 use Rattle.ocfl_identity.specs.declared.identity.Identity.{Identity}
 use Rattle.ocfl_night.specs.{Done.{Done, with_begun, with_made}, Ending.{IsSlice, cycle_ended, place_or_pause}, Leaving.{LeadsOn, remedy_at}, Looks.{Rounds}}
@@ -33,21 +34,21 @@ still_open : {P : Type 0} (shut : Bool) → IsTrue shut ⊎ P → shut ≡ false
 still_open shut (inl it) open_still = absurd (cc (it, open_still))
 still_open shut (inr fits) open_still = fits
 
-module _ {F : Type 0} {seen : F → Content} {may_leave : F → Outcomes} {rounds : Rounds} {t : Text} {k : Checkpoint} {f : F} {new : Content} where
+module _ {F : Type 0} {S : state.Ghosts F} {rounds : Rounds} {t : Text} {k : Checkpoint} {f : F} {new : Content} where
   -- a report that has come to the closed ones is called whole exactly if the checkpoint says so
-  pub come_whole : k.phase ≡ Closing → IsReady seen may_leave rounds t k f → IsFinished k (seen f) new → (d : Closed) → HasCome d (seen f) new → (IsTrue d.whole ↔ IsTrue (closes_whole k))
+  pub come_whole : k.phase ≡ Closing → IsReady S rounds t k f → IsFinished k (S.seen f) new → (d : Closed) → HasCome d (S.seen f) new → (IsTrue d.whole ↔ IsTrue (closes_whole k))
   come_whole ends r h d come = by h.closed.moved
     where
       same : new.closed ≡ h.between.closed
       same = ap (λ (x : Content). x.closed) h.next.put
 
-      by : (IsTrue (is_closed (seen f).closed k.cursor.cycle) × (h.between ≡ seen f)) ⊎ ((is_closed (seen f).closed k.cursor.cycle ≡ false) × (h.between ≡ moved k.cursor.cycle h.closed.whole (seen f))) → (IsTrue d.whole ↔ IsTrue (closes_whole k))
-      by (inl was) = absurd (not_longer (seen f).closed d (sym (same ∙ ap (λ (x : Content). x.closed) was.1) ∙ come))
+      by : (IsTrue (is_closed (S.seen f).closed k.cursor.cycle) × (h.between ≡ S.seen f)) ⊎ ((is_closed (S.seen f).closed k.cursor.cycle ≡ false) × (h.between ≡ moved k.cursor.cycle h.closed.whole (S.seen f))) → (IsTrue d.whole ↔ IsTrue (closes_whole k))
+      by (inl was) = absurd (not_longer (S.seen f).closed d (sym (same ∙ ap (λ (x : Content). x.closed) was.1) ∙ come))
       by (inr now) =
-          let added : Closed = record { cycle = k.cursor.cycle; whole = h.closed.whole; report = (seen f).report } in
-          let is : d ≡ added = one_of d added (append_cancel_left (seen f).closed (d ∷ []) (added ∷ []) (sym come ∙ same ∙ ap (λ (x : Content). x.closed) now.1)) in
+          let added : Closed = record { cycle = k.cursor.cycle; whole = h.closed.whole; report = (S.seen f).report } in
+          let is : d ≡ added = one_of d added (append_cancel_left (S.seen f).closed (d ∷ []) (added ∷ []) (sym come ∙ same ∙ ap (λ (x : Content). x.closed) now.1)) in
           let whole : d.whole ≡ h.closed.whole = ap (λ (x : Closed). x.whole) is in
-          let fits : k.report ≡ summary_of (seen f).report = still_open (is_closed (seen f).closed k.cursor.cycle) (ready_to_close ends r) now.0 in (
+          let fits : k.report ≡ summary_of (S.seen f).report = still_open (is_closed (S.seen f).closed k.cursor.cycle) (ready_to_close ends r) now.0 in (
             (λ it. (h.closed.exactly.0 (sym whole ∙ it)).whole),
             (λ it. whole ∙ h.closed.exactly.1 (record { whole = it; report = fits })),
           )

@@ -4,7 +4,8 @@ use Rattle.std.specs.Prelude.{◌≡◌, ◌≢◌, ◌⊎◌, ℕ, ◌<◌, ◌
 use Rattle.ocfl_tree.specs.{Place.{Place, place_cmp}, Ascending.{IsAscending}, StorageRoot.{StorageRoot}, Store.{Store}}
 use Rattle.ocfl_audit.specs.Parts.{Part}
 use Rattle.ocfl_cursor.specs.Cursor.{State}
-use Rattle.ocfl_state.specs.{Checkpoint.{Checkpoint}, Content.{Content}, Crash.{LeavesOnly, Outcomes}}
+use Rattle.ocfl_state.specs.declared.folder.StateFolder as state
+use Rattle.ocfl_state.specs.{Checkpoint.{Checkpoint}, Content.{Content}, Crash.{LeavesOnly}}
 use Rattle.ocfl_night.specs.Asking.{AskedFrom, AskedLast, GaveAll, HasLooked, IsMetBy, declaring}
 use Rattle.ocfl_night.specs.{Beginning.{BeginsAt}, Clock.{Event, Asked, Read, Heard}, Ending.{cycle_of, place_or_pause}, Promises.{IfReady, IfThere}}
 use Rattle.ocfl_night.specs.{Reading.{AreTaken, StaysTaken, content_since, reached}, Sound.{IsAt}}
@@ -18,8 +19,8 @@ abbrev pub GoesOn : Checkpoint → Checkpoint → Type 0
 GoesOn k l = (cycle_of k < cycle_of l) ⊎ ((cycle_of k ≡ cycle_of l) × StaysTaken (reached k) (reached l))
 
 -- in a folder that is ready at a checkpoint, whenever a crash comes, the one that is left goes on from it
-abbrev pub OnlyGoesOn : {F : Type 0} → (F → Content) → (F → Outcomes) → (F → ℕ) → (F → ℕ → Outcomes) → Checkpoint → F → F → Type 0
-OnlyGoesOn seen may_leave moment left_since k old new = IfReady seen may_leave k old (λ rounds t. LeavesOnly moment left_since old new (λ c. IfThere c (GoesOn k)))
+abbrev pub OnlyGoesOn : {F : Type 0} → state.Ghosts F → Checkpoint → F → F → Type 0
+OnlyGoesOn S k old new = IfReady S k old (λ rounds t. LeavesOnly S.moment S.left_since old new (λ c. IfThere c (GoesOn k)))
 
 -- it is of a later cycle than this one, or has taken these places of it
 abbrev pub HasDone : ℕ → List Place → Checkpoint → Type 0
@@ -79,15 +80,15 @@ pub record LedTo (made : Made) (c : Content) : Type 0 where
 -- and had begun with, each once, in order, and none of it had been taken before. Whenever a crash comes in
 -- it, the checkpoint that is left has taken all that was taken before it; and where the leg ends, the
 -- checkpoint is there to which the run led.
-pub record IsLeg {F : Type 0} (root : StorageRoot) (part : Part) (seen : F → Content) (moment : F → ℕ) (left_since : F → ℕ → Outcomes) (cycle : ℕ) (taken : List Place) (l : Leg F) : Type 0 where
+pub record IsLeg {F : Type 0} (root : StorageRoot) (part : Part) (S : state.Ghosts F) (cycle : ℕ) (taken : List Place) (l : Leg F) : Type 0 where
   pub goes_on : (why : Pause) → place_or_pause l.made.end ≢ Err (Some why)
-  pub at : IsAt l.from (seen l.old)
+  pub at : IsAt l.from (S.seen l.old)
   pub asked : AskedFrom root part (declaring root) l.met l.from (GaveAll l.from l.made) l.before l.after
   pub opened : content_since root l.before l.after ≡ l.took ++ l.begun
   pub few : AreFew l.made.end l.begun
   pub once : IsAscending place_cmp (taken ++ content_since root l.before l.after)
-  pub crash : LeavesOnly moment left_since l.old l.new (λ c. IfThere c (HasDone cycle taken))
-  pub led : LedTo l.made (seen l.new)
+  pub crash : LeavesOnly S.moment S.left_since l.old l.new (λ c. IfThere c (HasDone cycle taken))
+  pub led : LedTo l.made (S.seen l.new)
 
 -- the walk with which a run goes on is that of the run before it, if its limits ended that one; else it
 -- begins one, and so does the first
@@ -97,10 +98,10 @@ IsMetAfter (l ∷ earlier) met = IsMetBy l.made.end met
 
 -- The last one first: each began with the store and the folder that the one before it left, so nothing
 -- is done to them between two.
-abbrev pub AreLegs : {F : Type 0} → StorageRoot → Part → (F → Content) → (F → ℕ) → (F → ℕ → Outcomes) → ℕ → Store → List (Leg F) → Store → F → Type 0
-AreLegs root part seen moment left_since cycle began [] now folder = now ≡ began
-AreLegs root part seen moment left_since cycle began (l ∷ earlier) now folder =
-    (l.after ≡ now) × (l.new ≡ folder) × IsMetAfter earlier l.met × IsLeg root part seen moment left_since cycle (took_by earlier) l × AreLegs root part seen moment left_since cycle began earlier l.before l.old
+abbrev pub AreLegs : {F : Type 0} → StorageRoot → Part → state.Ghosts F → ℕ → Store → List (Leg F) → Store → F → Type 0
+AreLegs root part S cycle began [] now folder = now ≡ began
+AreLegs root part S cycle began (l ∷ earlier) now folder =
+    (l.after ≡ now) × (l.new ≡ folder) × IsMetAfter earlier l.met × IsLeg root part S cycle (took_by earlier) l × AreLegs root part S cycle began earlier l.before l.old
 
 -- what a clock heard
 abbrev pub heard_in : List Event → List Made
@@ -113,17 +114,17 @@ heard_in (Heard made ∷ events) = made ∷ heard_in events
 -- else was asked of the store. What that one opened is all that may be opened again, but for what those
 -- had begun with: each file was opened once, in order, and whenever a crash comes, the checkpoint that is
 -- left has taken what those took.
-pub record IsLittleAgain {F : Type 0} (root : StorageRoot) (part : Part) (seen : F → Content) (moment : F → ℕ) (left_since : F → ℕ → Outcomes) (cycle : ℕ) (old new : List Event) (s t : Store) (folder : F) : Type 0 where
+pub record IsLittleAgain {F : Type 0} (root : StorageRoot) (part : Part) (S : state.Ghosts F) (cycle : ℕ) (old new : List Event) (s t : Store) (folder : F) : Type 0 where
   pub legs : List (Leg F)
   pub before : Store
   pub left : F
-  pub are : AreLegs root part seen moment left_since cycle s legs before left
+  pub are : AreLegs root part S cycle s legs before left
   pub from : Checkpoint
-  pub at : IsAt from (seen left)
+  pub at : IsAt from (S.seen left)
   pub met : Option Place
   pub walk : IsMetAfter legs met
   pub once : IsAscending place_cmp (took_by legs ++ content_since root before t)
-  pub crash : LeavesOnly moment left_since left folder (λ c. IfThere c (HasDone cycle (took_by legs)))
+  pub crash : LeavesOnly S.moment S.left_since left folder (λ c. IfThere c (HasDone cycle (took_by legs)))
   pub events : List Event
   pub are_new : new ≡ old ++ events
   pub last : List Made
@@ -132,9 +133,9 @@ pub record IsLittleAgain {F : Type 0} (root : StorageRoot) (part : Part) (seen :
   pub asked : AskedLast root part (declaring root) met from last before t
 
 -- from where a night begins, once it has looked at the root
-pub record IsLittleSince {F : Type 0} (create : Bool) (root : StorageRoot) (part : Part) (seen : F → Content) (moment : F → ℕ) (left_since : F → ℕ → Outcomes) (c : Content) (old new : List Event) (s t : Store) (folder : F) : Type 0 where
+pub record IsLittleSince {F : Type 0} (create : Bool) (root : StorageRoot) (part : Part) (S : state.Ghosts F) (c : Content) (old new : List Event) (s t : Store) (folder : F) : Type 0 where
   pub start : Checkpoint
   pub begins : BeginsAt create c start
   pub there : Store
   pub looked : HasLooked root s there
-  pub little : IsLittleAgain root part seen moment left_since (cycle_of start) old new there t folder
+  pub little : IsLittleAgain root part S (cycle_of start) old new there t folder

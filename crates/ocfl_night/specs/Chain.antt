@@ -109,36 +109,27 @@ around part from (l ∷ left) items = up_to l.after (after (within part items) f
 
 -- ---- closed reports
 
--- a closed report is what a whole chain of its cycle wrote
-pub record IsWholeReport (rounds : Rounds) (d : Closed) : Type 0 where
+-- a chain of a cycle's runs from its start to a cursor, around the branches that were left out
+pub record HasRuns (Last : Part → Cursor → List RootRun → Cursor → Type 0) (rounds : Rounds) (left : List Left) (last : Cursor) : Type 0 where
   pub first : Cursor
   pub runs : List RootRun
-  pub last : Cursor
   pub starts : place_in first.state ≡ None
-  pub chain : EndAt rounds.part first runs last
-  pub looked : AreLooked rounds.known runs
-  pub cycle : d.cycle ≡ last.cycle
-  pub report : d.report ≡ joined runs
-
--- a closed report is what the runs of its cycle wrote around the branches that were left out
-pub record IsPartialReport (rounds : Rounds) (d : Closed) : Type 0 where
-  pub first : Cursor
-  pub runs : List RootRun
-  pub left : List Left
-  pub last : Cursor
-  pub starts : place_in first.state ≡ None
-  pub some : left ≢ []
-  pub chain : LedToEnd rounds.part first runs left last
+  pub chain : LedBy Last rounds.part first runs left last
   pub next : AreNextIn rounds.known rounds.part left
   pub looked : AreLooked rounds.known runs
+
+-- a closed report is what the runs of its cycle wrote around these branches, which were left out
+pub record IsReportOf (rounds : Rounds) (left : List Left) (d : Closed) : Type 0 where
+  pub last : Cursor
+  pub led : HasRuns EndAt rounds left last
   pub cycle : d.cycle ≡ last.cycle
-  pub report : d.report ≡ joined runs
+  pub report : d.report ≡ joined led.runs
 
 -- one that is called whole is what a whole chain wrote, and any other one, unless something was lost,
--- what was written around branches that were left out
+-- what was written around branches that were left out, at least one
 pub record IsClosedAs (rounds : Rounds) (d : Closed) : Type 0 where
-  pub whole : d.whole ≡ true → IsWholeReport rounds d
-  pub partial : IfGiven rounds.known (d.whole ≡ false → IsPartialReport rounds d)
+  pub whole : d.whole ≡ true → IsReportOf rounds [] d
+  pub partial : IfGiven rounds.known (d.whole ≡ false → (left : List Left) × ((left ≢ []) × IsReportOf rounds left d))
 
 -- the closed reports of the cycles from one on, each once, up to the one before the next
 abbrev pub AreClosed : Rounds → ℕ → List Closed → ℕ → Type 0

@@ -1,5 +1,5 @@
 -- What calls looked at: which storage root, and which content files they could not read.
-use Rattle.std.specs.Prelude.{◌≡◌, ◌&&◌, ℕ, ◌+◌, ◌≤◌, List, ◌++◌, Option, Some, None, drop, filter, length, ⊤}
+use Rattle.std.specs.Prelude.{◌≡◌, ◌&&◌, ℕ, ◌+◌, ◌≤◌, List, ◌++◌, Option, None, IfSome, drop, filter, length}
 use Rattle.ocfl_tree.specs.{Place.{Place, place_eq}, Ascending.{IsAmong}, StorageRoot.{StorageRoot}}
 use Rattle.ocfl_tree.specs.{Store.{Store, failed_openings}, declared.store.Opening.{Opening}}
 use Rattle.ocfl_audit.specs.{Audit.{Unread}, Parts.{Part}, Trail.{unread_of}}
@@ -55,23 +55,19 @@ pub record Known : Type 0 where
 
 -- within one of these looks, if any are known
 abbrev pub IsOneOf : Option Known → Look → Type 0
-IsOneOf None l = ⊤
-IsOneOf (Some known) l = (large : Look) × (IsAmong known.looks large × IsWithin l large)
+IsOneOf known l = IfSome known (λ k. (large : Look) × (IsAmong k.looks large × IsWithin l large))
 
 -- the storage root of one of these looks, if any are known
 abbrev pub IsRootOf : Option Known → StorageRoot → Type 0
-IsRootOf None root = ⊤
-IsRootOf (Some known) root = (l : Look) × (IsAmong known.looks l × (l.root ≡ root))
+IsRootOf known root = IfSome known (λ k. (l : Look) × (IsAmong k.looks l × (l.root ≡ root)))
 
 -- the closed report of a cycle may have been taken away
 abbrev pub MayBeGone : Option Known → ℕ → Type 0
-MayBeGone None cycle = ⊤
-MayBeGone (Some known) cycle = IsAmong known.gone cycle
+MayBeGone known cycle = IfSome known (λ k. IsAmong k.gone cycle)
 
 -- this holds if something is known
 abbrev pub IfGiven : Option Known → Type 0 → Type 0
-IfGiven None Holds = ⊤
-IfGiven (Some known) Holds = Holds
+IfGiven known Holds = IfSome known (λ k. Holds)
 
 -- A part, and what is known of the nights. If anything is, no report of theirs was ever found to be
 -- another one than its checkpoint says.

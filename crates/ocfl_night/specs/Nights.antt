@@ -6,15 +6,16 @@ use Rattle.ocfl_report.specs.Text.{text}
 use Rattle.ocfl_audit.specs.{Audit.{Unread, audit}, Parts.{Part, within}}
 use Rattle.ocfl_state.specs.{Content.{Content, Closed, is_closed}, Crash.{Outcomes, Follows, LeavesOnly}}
 use Rattle.ocfl_state.specs.Checkpoint.{Checkpoint}
+use Rattle.ocfl_state.specs.declared.folder.StateFolder as state
 use Rattle.ocfl_state.specs.declared.checkpoint_parts.{Left.{Left}, Phase.TheVariants.{Closing}}
 use Rattle.ocfl_night.specs.{Chain.{AreNext, AreLeft, HasClosed, around}, Looks.{Known, Look, Rounds, WithLook}, Output.{HasTaken, Said}, Sound.{IsAt, IsSoundAt, IsKept, IsHeardSince}}
 
 -- What a night promises: if each crash before it leaves a sound content, so does each since then, and
 -- more than was told is told only if the output has committed it. That holds whatever looks the runs are
 -- within, if that of this night is within one of them.
-abbrev pub IsSafeNight : {F : Type 0} → (F → Outcomes) → (F → ℕ) → (F → ℕ → Outcomes) → Part → Look → F → F → Said → Said → Type 0
-IsSafeNight may_leave moment left_since part look began ended old new =
-    WithLook part look (λ rounds. (kept : IsKept may_leave rounds began) → LeavesOnly moment left_since began ended (IsHeardSince rounds (may_leave began) kept old new))
+abbrev pub IsSafeNight : {F : Type 0} → state.Ghosts F → Part → Look → F → F → Said → Said → Type 0
+IsSafeNight S part look began ended old new =
+    WithLook part look (λ rounds. (kept : IsKept S rounds began) → LeavesOnly S.moment S.left_since began ended (IsHeardSince rounds (S.may_leave began) kept old new))
 
 -- A night: of which cycles closed reports may have been taken away before it, the folder when it began
 -- and when it was last seen, what its store was looked at for, and what its output had been given and
@@ -38,17 +39,17 @@ pub record IsTidied (gone : List ℕ) (old new : Content) : Type 0 where
 -- Nights over a part. The first begins on one of these outcomes, and each other one on what a crash of
 -- the one before it, at any moment, may have left, or on its end; but closed reports may have been
 -- taken away meanwhile.
-abbrev pub AreNights : {F : Type 0} → (F → Outcomes) → (F → ℕ) → (F → ℕ → Outcomes) → Part → Outcomes → List (Night F) → Type 0
-AreNights may_leave moment left_since part outcomes [] = ⊤
-AreNights may_leave moment left_since part outcomes (n ∷ nights) =
-    Follows (IsTidied n.gone) outcomes (may_leave n.began)
-    × IsSafeNight may_leave moment left_since part n.look n.began n.ended n.before n.said
-    × AreNights may_leave moment left_since part (left_since n.ended (moment n.began)) nights
+abbrev pub AreNights : {F : Type 0} → state.Ghosts F → Part → Outcomes → List (Night F) → Type 0
+AreNights S part outcomes [] = ⊤
+AreNights S part outcomes (n ∷ nights) =
+    Follows (IsTidied n.gone) outcomes (S.may_leave n.began)
+    × IsSafeNight S part n.look n.began n.ended n.before n.said
+    × AreNights S part (S.left_since n.ended (S.moment n.began)) nights
 
 -- whatever a crash at any moment of each night may have left
-abbrev pub AtAnyMoment : {F : Type 0} → (F → ℕ) → (F → ℕ → Outcomes) → (Content → Type 0) → List (Night F) → Type 0
-AtAnyMoment moment left_since Holds [] = ⊤
-AtAnyMoment moment left_since Holds (n ∷ nights) = ((c : Content) → left_since n.ended (moment n.began) c → Holds c) × AtAnyMoment moment left_since Holds nights
+abbrev pub AtAnyMoment : {F : Type 0} → state.Ghosts F → (Content → Type 0) → List (Night F) → Type 0
+AtAnyMoment S Holds [] = ⊤
+AtAnyMoment S Holds (n ∷ nights) = ((c : Content) → S.left_since n.ended (S.moment n.began) c → Holds c) × AtAnyMoment S Holds nights
 
 -- The closed reports are those of the first cycles, each once, but for those that were taken away, and
 -- each that is called whole is what a whole chain of runs wrote.
@@ -101,7 +102,7 @@ IsTaken [] told = told ≡ []
 IsTaken (n ∷ earlier) told = (t : Text) × ((more : Text) × ((told ≡ t ++ more) × ((more ≢ [] → HasTaken more n.before n.said) × IsTaken earlier t)))
 
 -- at any moment of each night, what was told was committed by its output and those before it
-abbrev pub AllTaken : {F : Type 0} → (F → ℕ) → (F → ℕ → Outcomes) → Rounds → List (Night F) → List (Night F) → Type 0
-AllTaken moment left_since rounds earlier [] = ⊤
-AllTaken moment left_since rounds earlier (n ∷ nights) =
-    ((c : Content) → left_since n.ended (moment n.began) c → (t : Text) × (IsSoundAt rounds t c × IsTaken (n ∷ earlier) t)) × AllTaken moment left_since rounds (n ∷ earlier) nights
+abbrev pub AllTaken : {F : Type 0} → state.Ghosts F → Rounds → List (Night F) → List (Night F) → Type 0
+AllTaken S rounds earlier [] = ⊤
+AllTaken S rounds earlier (n ∷ nights) =
+    ((c : Content) → S.left_since n.ended (S.moment n.began) c → (t : Text) × (IsSoundAt rounds t c × IsTaken (n ∷ earlier) t)) × AllTaken S rounds (n ∷ earlier) nights

@@ -1,10 +1,11 @@
 -- What the steps of a night promise of a state folder, and when.
-use Rattle.std.specs.Prelude.{◌≡◌, ℕ, [], ◌∷◌, ◌++◌, Bool, IsTrue, Ok, false}
+use Rattle.std.specs.Prelude.{◌≡◌, [], ◌∷◌, ◌++◌, Bool, IsTrue, Ok, false}
 use Rattle.ocfl_tree.specs.{Place.{Place, Text}, StorageRoot.{StorageRoot}, Store.{Store, IfTold}}
 use Rattle.ocfl_audit.specs.Parts.{Part}
 use Rattle.ocfl_item.specs.Judging.{HasShortFiles}
 use Rattle.ocfl_scrub.specs.{Running.{place_in}, declared.kept.KeptWalk.{KeptWalk}}
-use Rattle.ocfl_state.specs.{Checkpoint.{Checkpoint}, Content.{Closed, Content}, Crash.{Outcomes, LeavesOnly}}
+use Rattle.ocfl_state.specs.declared.folder.StateFolder as state
+use Rattle.ocfl_state.specs.{Checkpoint.{Checkpoint}, Content.{Closed, Content}, Crash.{LeavesOnly}}
 use Rattle.ocfl_night.specs.{Chain.{NoneBefore, part_after}, Ending.{place_or_pause}, Leaving.{branch_at}, Looks.{IsRootOf, Rounds}}
 use Rattle.ocfl_night.specs.{Sound.{IsAt, IsSoundAt, IsReady}, Steps.{IsLost, IsWalkAt, closes_whole}, declared.plan.NightEnd.{NightEnd}}
 use Rattle.ocfl_night.specs.declared.slicing.Made.{Made}
@@ -24,12 +25,12 @@ abbrev pub IfWalkAt : Bool → Store → Part → Checkpoint → KeptWalk → (S
 IfWalkAt told s part k kept Holds = IfTold told s (λ root. HasShortFiles root → IsWalkAt root part k kept → Holds root)
 
 -- in a folder that is ready at a checkpoint, whatever text was told
-abbrev pub IfReadyIn : {F : Type 0} → (F → Content) → (F → Outcomes) → Rounds → Checkpoint → F → (Text → Type 0) → Type 0
-IfReadyIn seen may_leave rounds k folder Holds = (t : Text) → IsReady seen may_leave rounds t k folder → Holds t
+abbrev pub IfReadyIn : {F : Type 0} → state.Ghosts F → Rounds → Checkpoint → F → (Text → Type 0) → Type 0
+IfReadyIn S rounds k folder Holds = (t : Text) → IsReady S rounds t k folder → Holds t
 
 -- the same of any rounds
-abbrev pub IfReady : {F : Type 0} → (F → Content) → (F → Outcomes) → Checkpoint → F → (Rounds → Text → Type 0) → Type 0
-IfReady seen may_leave k folder Holds = (rounds : Rounds) → IfReadyIn seen may_leave rounds k folder (Holds rounds)
+abbrev pub IfReady : {F : Type 0} → state.Ghosts F → Checkpoint → F → (Rounds → Text → Type 0) → Type 0
+IfReady S k folder Holds = (rounds : Rounds) → IfReadyIn S rounds k folder (Holds rounds)
 
 -- over a storage root of the looks, no item that is left at a checkpoint is before a branch
 abbrev pub IsBranchNext : Rounds → Checkpoint → Place → Type 0
@@ -71,13 +72,13 @@ IfLost c Holds = (k : Checkpoint) → IsAt k c → IsLost k c → Holds
 -- ---- what
 
 -- in a folder that is ready, a crash at any moment leaves what is sound
-abbrev pub IsSafeIn : {F : Type 0} → (F → Content) → (F → Outcomes) → (F → ℕ) → (F → ℕ → Outcomes) → Rounds → Checkpoint → F → F → Type 0
-IsSafeIn seen may_leave moment left_since rounds k old new = IfReadyIn seen may_leave rounds k old (λ t. LeavesOnly moment left_since old new (IsSoundAt rounds t))
+abbrev pub IsSafeIn : {F : Type 0} → state.Ghosts F → Rounds → Checkpoint → F → F → Type 0
+IsSafeIn S rounds k old new = IfReadyIn S rounds k old (λ t. LeavesOnly S.moment S.left_since old new (IsSoundAt rounds t))
 
 -- the same of any rounds
-abbrev pub IsSafe : {F : Type 0} → (F → Content) → (F → Outcomes) → (F → ℕ) → (F → ℕ → Outcomes) → Checkpoint → F → F → Type 0
-IsSafe seen may_leave moment left_since k old new = (rounds : Rounds) → IsSafeIn seen may_leave moment left_since rounds k old new
+abbrev pub IsSafe : {F : Type 0} → state.Ghosts F → Checkpoint → F → F → Type 0
+IsSafe S k old new = (rounds : Rounds) → IsSafeIn S rounds k old new
 
 -- the closed reports are those of before
-abbrev pub SameClosed : {F : Type 0} → (F → Content) → F → F → Type 0
-SameClosed seen old new = (seen new).closed ≡ (seen old).closed
+abbrev pub SameClosed : {F : Type 0} → state.Ghosts F → F → F → Type 0
+SameClosed S old new = (S.seen new).closed ≡ (S.seen old).closed

@@ -5,7 +5,8 @@ use Rattle.ocfl_identity.specs.Identity.{IsIdentityOf, declarations_among}
 use Rattle.ocfl_identity.specs.declared.identity.Identity.{Identity}
 use Rattle.ocfl_cursor.specs.declared.refused.Refused.TheVariants as refused
 use Rattle.ocfl_state.specs.{Checkpoint.{Checkpoint}, CheckpointRefusal.{RefusedRightly}}
-use Rattle.ocfl_state.specs.{Content.{Content, is_closed}, Crash.{Outcomes}}
+use Rattle.ocfl_state.specs.declared.folder.StateFolder as state
+use Rattle.ocfl_state.specs.{Content.{Content, is_closed}}
 use Rattle.ocfl_night.specs.Older.{IsOlder}
 use Rattle.ocfl_night.specs.{Site.{AreMostGone, IsAnothers, IsForeign, IsOtherThan, IsOwn}, Sound.{IsAt}, Steps.{IsUntouched}}
 use Rattle.ocfl_night.specs.{declared.plan.Plan.{Plan}, declared.site.Site.{Site}}
@@ -21,8 +22,8 @@ abbrev pub OnRefused : {A : Type 0} → Result A NotOpened → Type 0 → Type 0
 OnRefused result Holds = (why : Refusal) → result ≡ Err (Refused why) → Holds
 
 -- no night is begun, and the folder stays as it was, whenever a crash comes
-abbrev pub IsTurnedAway : {A F : Type 0} → Result A NotOpened → (F → Content) → (F → Outcomes) → (F → ℕ) → (F → ℕ → Outcomes) → F → F → Type 0
-IsTurnedAway result seen may_leave moment left_since old new = IsErr result × IsUntouched seen may_leave moment left_since old new
+abbrev pub IsTurnedAway : {A F : Type 0} → Result A NotOpened → state.Ghosts F → F → F → Type 0
+IsTurnedAway result S old new = IsErr result × IsUntouched S old new
 
 -- the open report has bytes, or that of the first cycle is closed
 abbrev pub HasReport : Content → Type 0

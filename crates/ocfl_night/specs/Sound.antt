@@ -1,34 +1,25 @@
 -- What nights keep true of a state folder's bytes, at every moment.
-use Rattle.std.specs.Prelude.{◌≡◌, ◌≢◌, ◌⊎◌, ℕ, ◌+◌, ◌≤◌, List, [], ◌∷◌, ◌++◌, length, take, true, IsTrue, Some, None, MatchOption, flat_map}
+use Rattle.std.specs.Prelude.{◌≡◌, ◌≢◌, ◌⊎◌, ℕ, ◌+◌, ◌≤◌, List, [], ◌∷◌, ◌++◌, length, take, true, IsTrue, Some, MatchOption, flat_map}
 use Rattle.std.specs.Io.KnownBytes.{Appends}
 use Rattle.ocfl_tree.specs.Place.{Text}
-use Rattle.ocfl_audit.specs.Parts.{Part}
-use Rattle.ocfl_cursor.specs.Cursor.{Cursor, ended}
-use Rattle.ocfl_scrub.specs.Running.{place_in, begun}
+use Rattle.ocfl_cursor.specs.Cursor.{ended}
+use Rattle.ocfl_scrub.specs.Running.{begun}
 use Rattle.ocfl_state.specs.{Checkpoint.{Checkpoint, IsCheckpointText}, Content.{Content, Closed, is_closed}}
 use Rattle.ocfl_state.specs.{Crash.{Outcomes, Begins, Only}, Pieces.{summary_of}}
-use Rattle.ocfl_state.specs.declared.checkpoint_parts.{Left.{Left}, Phase.TheVariants.{Open, Closing}}
-use Rattle.ocfl_night.specs.{Looks.{IfGiven, Rounds}, Output.{HasTaken, Said}, Chain.{AreNextIn, RootRun, joined, AreLooked, Led, LedToEnd, HasClosed}}
+use Rattle.ocfl_state.specs.declared.folder.StateFolder as state
+use Rattle.ocfl_state.specs.declared.checkpoint_parts.{Phase.TheVariants.{Open, Closing}}
+use Rattle.ocfl_night.specs.{Looks.{IfGiven, Rounds}, Output.{HasTaken, Said}, Chain.{EndAt, HasClosed, HasRuns, LeadTo, joined}}
 
 -- the closed reports, joined
 abbrev pub closed_text : List Closed → Text
 closed_text closed = flat_map (λ d. d.report) closed
-
--- a chain of a cycle's runs from its start to a cursor, around the branches that were left out
-pub record HasRuns (Leads : Part → Cursor → List RootRun → List Left → Cursor → Type 0) (rounds : Rounds) (left : List Left) (last : Cursor) : Type 0 where
-  pub first : Cursor
-  pub runs : List RootRun
-  pub starts : place_in first.state ≡ None
-  pub chain : Leads rounds.part first runs left last
-  pub next : AreNextIn rounds.known rounds.part left
-  pub looked : AreLooked rounds.known runs
 
 -- The cycle goes on: its runs lead to the checkpoint's cursor. The report begins with the text of
 -- which the checkpoint has the length, the lines and the digests, and if nothing was lost that is
 -- what the runs wrote. Of all the reports t was told.
 pub record IsOpen (rounds : Rounds) (t : Text) (k : Checkpoint) (c : Content) : Type 0 where
   pub phase : k.phase ≡ Open
-  pub led : HasRuns Led rounds k.left k.cursor
+  pub led : HasRuns LeadTo rounds k.left k.cursor
   pub text : Text
   pub report : k.report ≡ summary_of text
   pub begins : Begins text c.report
@@ -41,7 +32,7 @@ pub record IsOpen (rounds : Rounds) (t : Text) (k : Checkpoint) (c : Content) : 
 -- the cycle has ended, and its report is to be closed
 pub record IsClosing (rounds : Rounds) (t : Text) (k : Checkpoint) (c : Content) : Type 0 where
   pub phase : k.phase ≡ Closing
-  pub led : HasRuns LedToEnd rounds k.left k.cursor
+  pub led : HasRuns EndAt rounds k.left k.cursor
   pub ends : k.cursor.state ≡ ended
   pub report : k.report ≡ summary_of c.report
   pub is_whole : k.whole ≡ true → c.report ≡ joined led.runs
@@ -87,8 +78,8 @@ abbrev pub AreSound : Rounds → Outcomes → Type 0
 AreSound rounds outcomes = (c : Content) → outcomes c → IsSound rounds c
 
 -- a crash now leaves a sound content
-abbrev pub IsKept : {F : Type 0} → (F → Outcomes) → Rounds → F → Type 0
-IsKept may_leave rounds folder = AreSound rounds (may_leave folder)
+abbrev pub IsKept : {F : Type 0} → state.Ghosts F → Rounds → F → Type 0
+IsKept S rounds folder = AreSound rounds (S.may_leave folder)
 
 -- the checkpoint is this one
 pub record IsAt (k : Checkpoint) (c : Content) : Type 0 where
@@ -97,17 +88,17 @@ pub record IsAt (k : Checkpoint) (c : Content) : Type 0 where
   pub text : IsCheckpointText bytes k
 
 -- the folder is at this checkpoint, and all that is read is on the disk
-pub record IsSettled {F : Type 0} (seen : F → Content) (may_leave : F → Outcomes) (rounds : Rounds) (t : Text) (k : Checkpoint) (folder : F) : Type 0 where
-  pub at : IsAt k (seen folder)
-  pub stands : Stands rounds t k (seen folder)
-  pub only : Only (seen folder) (may_leave folder)
+pub record IsSettled {F : Type 0} (S : state.Ghosts F) (rounds : Rounds) (t : Text) (k : Checkpoint) (folder : F) : Type 0 where
+  pub at : IsAt k (S.seen folder)
+  pub stands : Stands rounds t k (S.seen folder)
+  pub only : Only (S.seen folder) (S.may_leave folder)
 
 -- the same, and the report of a cycle that goes on has no more than the checkpoint says
-pub record IsReady {F : Type 0} (seen : F → Content) (may_leave : F → Outcomes) (rounds : Rounds) (t : Text) (k : Checkpoint) (folder : F) : Type 0 where
-  pub at : IsAt k (seen folder)
-  pub stands : Stands rounds t k (seen folder)
-  pub exact : k.phase ≡ Open → length (seen folder).report ≡ k.report.bytes
-  pub only : Only (seen folder) (may_leave folder)
+pub record IsReady {F : Type 0} (S : state.Ghosts F) (rounds : Rounds) (t : Text) (k : Checkpoint) (folder : F) : Type 0 where
+  pub at : IsAt k (S.seen folder)
+  pub stands : Stands rounds t k (S.seen folder)
+  pub exact : k.phase ≡ Open → length (S.seen folder).report ≡ k.report.bytes
+  pub only : Only (S.seen folder) (S.may_leave folder)
 
 -- all of its report is said
 pub record IsAllSaid (c : Content) : Type 0 where
@@ -125,9 +116,9 @@ pub record IsHeard (rounds : Rounds) (t : Text) (old new : Said) (c : Content) :
 
 -- a folder is ready, with t and more told: the more was given to an output since then, and if there is
 -- more, it has committed that
-pub record IsHeardReady {F : Type 0} (seen : F → Content) (may_leave : F → Outcomes) (rounds : Rounds) (t : Text) (old new : Said) (k : Checkpoint) (folder : F) : Type 0 where
+pub record IsHeardReady {F : Type 0} (S : state.Ghosts F) (rounds : Rounds) (t : Text) (old new : Said) (k : Checkpoint) (folder : F) : Type 0 where
   pub more : Text
-  pub ready : IsReady seen may_leave rounds (t ++ more) k folder
+  pub ready : IsReady S rounds (t ++ more) k folder
   pub given : Appends old.given new.given more
   pub all : more ≢ [] → new.committed ≡ new.given
 
@@ -138,10 +129,10 @@ pub record IsFound (rounds : Rounds) (outcomes : Outcomes) (sound : AreSound rou
   pub now : IsSoundAt rounds (sound from was).0 c
 
 -- a folder is ready, with what one of them told
-pub record IsFoundReady {F : Type 0} (seen : F → Content) (may_leave : F → Outcomes) (rounds : Rounds) (outcomes : Outcomes) (sound : AreSound rounds outcomes) (k : Checkpoint) (folder : F) : Type 0 where
+pub record IsFoundReady {F : Type 0} (S : state.Ghosts F) (rounds : Rounds) (outcomes : Outcomes) (sound : AreSound rounds outcomes) (k : Checkpoint) (folder : F) : Type 0 where
   pub from : Content
   pub was : outcomes from
-  pub ready : IsReady seen may_leave rounds (sound from was).0 k folder
+  pub ready : IsReady S rounds (sound from was).0 k folder
 
 -- what one of them told is told still, and more than that only if an output took it
 pub record IsHeardSince (rounds : Rounds) (outcomes : Outcomes) (sound : AreSound rounds outcomes) (old new : Said) (c : Content) : Type 0 where
@@ -150,10 +141,10 @@ pub record IsHeardSince (rounds : Rounds) (outcomes : Outcomes) (sound : AreSoun
   pub heard : IsHeard rounds (sound from was).0 old new c
 
 -- a folder is ready, with what one of them told and what an output took since then
-pub record IsReadySince {F : Type 0} (seen : F → Content) (may_leave : F → Outcomes) (rounds : Rounds) (outcomes : Outcomes) (sound : AreSound rounds outcomes) (old new : Said) (k : Checkpoint) (folder : F) : Type 0 where
+pub record IsReadySince {F : Type 0} (S : state.Ghosts F) (rounds : Rounds) (outcomes : Outcomes) (sound : AreSound rounds outcomes) (old new : Said) (k : Checkpoint) (folder : F) : Type 0 where
   pub from : Content
   pub was : outcomes from
-  pub heard : IsHeardReady seen may_leave rounds (sound from was).0 old new k folder
+  pub heard : IsHeardReady S rounds (sound from was).0 old new k folder
 
 -- ---- the closed reports
 

@@ -9,9 +9,10 @@ use Rattle.ocfl_scrub.specs.declared.running.RunEnd.{RunEnd}
 use Rattle.ocfl_scrub.specs.declared.running.RunStatus.TheVariants as status
 use Rattle.ocfl_state.specs.Checkpoint.{Checkpoint, IsCheckpointText}
 use Rattle.ocfl_state.specs.Content.{Bytes, Content, with_checkpoint, with_report, moved, is_closed}
-use Rattle.ocfl_state.specs.Crash.{Outcomes, Step, Same, Begins, Passes}
+use Rattle.ocfl_state.specs.Crash.{Step, Same, Begins, Passes}
 use Rattle.ocfl_state.specs.{Pieces.{HasTail, summary_of}, declared.checkpoint_parts.Left.{Left}}
 use Rattle.ocfl_state.specs.declared.checkpoint_parts.ReportMark.{ReportMark}
+use Rattle.ocfl_state.specs.declared.folder.StateFolder as state
 use Rattle.ocfl_state.specs.declared.checkpoint_parts.{Phase.{Phase}, Phase.TheVariants.{Open, Closing}}
 use Rattle.ocfl_identity.specs.declared.identity.Identity.{Identity}
 use Rattle.ocfl_night.specs.{Chain.{part_after}, Looks.{Look, IsNoMore}, Site.{first_checkpoint, no_report, with_root}}
@@ -69,14 +70,11 @@ pub record BeginsAs (mark : ReportMark) (report : Bytes) : Type 0 where
   pub is : mark ≡ summary_of text
   pub begins : Begins text report
 
--- it is shorter than the checkpoint says, or has another tail: bytes of it were lost or changed
-abbrev pub IsChanged : Checkpoint → Content → Type 0
-IsChanged k c = HasTail k.report c.report → ⊥
-
--- the same of a report that is not closed yet
+-- it is not closed yet, and is shorter than the checkpoint says, or has another tail: bytes of it were
+-- lost or changed
 pub record IsLost (k : Checkpoint) (c : Content) : Type 0 where
   pub there : k.phase ≡ Closing → is_closed c.closed k.cursor.cycle ≡ false
-  pub changed : IsChanged k c
+  pub changed : HasTail k.report c.report → ⊥
 
 -- what there is of what a checkpoint speaks of
 abbrev pub what_is_left : Checkpoint → Content → ReportMark
@@ -161,9 +159,9 @@ abbrev pub IsWalkAt : StorageRoot → Part → Checkpoint → KeptWalk → Type 
 IsWalkAt root part k kept = IsWalkReady root (part_after part k.left) (place_in k.cursor.state) kept
 
 -- a folder stays as it was, whenever a crash comes
-pub record IsUntouched {F : Type 0} (seen : F → Content) (may_leave : F → Outcomes) (moment : F → ℕ) (left_since : F → ℕ → Outcomes) (old new : F) : Type 0 where
-  pub same : seen new ≡ seen old
-  pub crash : Passes may_leave moment left_since Same old new
+pub record IsUntouched {F : Type 0} (S : state.Ghosts F) (old new : F) : Type 0 where
+  pub same : S.seen new ≡ S.seen old
+  pub crash : Passes S.may_leave S.moment S.left_since Same old new
 
 -- a night was refused, or something failed
 abbrev pub IsNotBegun : Halt → Type 0

@@ -7,8 +7,9 @@ use Rattle.ocfl_identity.specs.declared.identity.Identity.{Identity}
 use Rattle.ocfl_cursor.specs.declared.limits.Limits.{Limits}
 use Rattle.ocfl_scrub.specs.{Running.{IsWorn}, declared.running.RunEnd.{RunEnd}}
 use Rattle.ocfl_state.specs.{Calls.{HasLong, IsLong}, Checkpoint.{Checkpoint, IsCheckpointText}, Content.{Content, is_closed}}
-use Rattle.ocfl_state.specs.{Crash.{Outcomes}, Pieces.{summary_of}, declared.checkpoint_parts.Left.{Left}}
+use Rattle.ocfl_state.specs.{Pieces.{summary_of}, declared.checkpoint_parts.Left.{Left}}
 use Rattle.ocfl_state.specs.declared.checkpoint_parts.ReportMark.{ReportMark}
+use Rattle.ocfl_state.specs.declared.folder.StateFolder as state
 use Rattle.ocfl_state.specs.declared.folder.FolderTrouble.TheVariants.{Failed, Full, Taken, Memory}
 use Rattle.ocfl_night.specs.{Beginning.{BeginsAt}, Ending.{IsNextBy, KeepsTo, cycle_of, place_or_pause}, Leaving.{branch_at, has_end}}
 use Rattle.ocfl_night.specs.{Looks.{Rounds}, Output.{HasFailed, Said}, Site.{IsAlike, IsOfSite, first_checkpoint}, Sound.{IsKept}, Steps.{begun_anew, with_all_told, with_left}}
@@ -176,8 +177,8 @@ pub record IsGiven (tells told : Bool) (s : Store) (Holds : Type 0) : Type 0 whe
   pub holds : Holds
 
 -- a folder tells, and a crash now leaves what is sound
-abbrev pub TellsKept : {F : Type 0} → Bool → (F → Outcomes) → F → Type 0
-TellsKept tells may_leave folder = IsTrue tells × ((rounds : Rounds) × IsKept may_leave rounds folder)
+abbrev pub TellsKept : {F : Type 0} → state.Ghosts F → F → Type 0
+TellsKept S folder = IsTrue S.told × ((rounds : Rounds) × IsKept S rounds folder)
 
 -- a run cannot be counted that is made by a night from this checkpoint, after so many runs: its cycle
 -- has no number, or the runs of its cycle have none

@@ -71,17 +71,15 @@ fn close<S: StateFolder>(
     checkpoint: Checkpoint,
 ) -> Result<Checkpoint, Stop>
     requires { checkpoint.phase ≡ Closing }
-    ensures any_moment { IsTrue S.told → IsSafe S.seen S.may_leave S.moment S.left_since
-        checkpoint folder.old folder.new }
-    ensures ready { IsTrue S.told → IfReady S.seen S.may_leave checkpoint folder.old
-        (λ rounds t. IfOk result (λ next. IsReady S.seen S.may_leave rounds t next folder.new)) }
-    ensures closed { IsTrue S.told → IfReady S.seen S.may_leave checkpoint folder.old
+    ensures any_moment { IsTrue S.told → IsSafe S.StateFolder checkpoint folder.old folder.new }
+    ensures ready { IsTrue S.told → IfReady S.StateFolder checkpoint folder.old
+        (λ rounds t. IfOk result (λ next. IsReady S.StateFolder rounds t next folder.new)) }
+    ensures closed { IsTrue S.told → IfReady S.StateFolder checkpoint folder.old
         (λ rounds _. OnOk result (IsOneMore rounds checkpoint.cursor.cycle
         (S.seen folder.old) (S.seen folder.new))) }
     ensures finished { IsTrue S.told → OnOk result
         (IsFinished checkpoint (S.seen folder.old) (S.seen folder.new)) }
-    ensures crash { IsTrue S.told → OnlyGoesOn S.seen S.may_leave S.moment S.left_since checkpoint
-        folder.old folder.new }
+    ensures crash { IsTrue S.told → OnlyGoesOn S.StateFolder checkpoint folder.old folder.new }
     ensures all { IfOk result (λ next. next.told ≡ next.report.bytes) }
     ensures stop { StopsFor (IsTrue S.told) (ForClose checkpoint)
         (S.faults folder.old) (S.faults folder.new) result }
@@ -101,25 +99,23 @@ pub fn finish<S: StateFolder>(
     folder: &mut S,
     checkpoint: Checkpoint,
 ) -> Result<Option<u64>, Stop>
-    ensures any_moment { IsTrue S.told → IsSafe S.seen S.may_leave S.moment S.left_since
-        checkpoint folder.old folder.new }
-    ensures closed { IsTrue S.told → IfReady S.seen S.may_leave checkpoint folder.old
+    ensures any_moment { IsTrue S.told → IsSafe S.StateFolder checkpoint folder.old folder.new }
+    ensures closed { IsTrue S.told → IfReady S.StateFolder checkpoint folder.old
         (λ rounds _. IfOk result (λ ended. IfSome ended (λ cycle. IsOneMore rounds cycle
         (S.seen folder.old) (S.seen folder.new)))) }
     ensures goes_on { IsTrue S.told → IfOk result (λ ended. ended ≡ None
-        → SameClosed S.seen folder.old folder.new) }
+        → SameClosed S.StateFolder folder.old folder.new) }
     // The checkpoint is left where it stands, or at the beginning of the next cycle.
     ensures stands { IsTrue S.told → IsAt checkpoint (S.seen folder.old)
         → OnOk result (StandsAt (S.seen folder.new) (goes_on_at checkpoint)) }
-    ensures said { IsTrue S.told → IfReady S.seen S.may_leave checkpoint folder.old
+    ensures said { IsTrue S.told → IfReady S.StateFolder checkpoint folder.old
         (λ _ _. checkpoint.told ≡ checkpoint.report.bytes
         → OnOk result (IsAllSaid (S.seen folder.new))) }
     // It is closed as whole exactly if nothing of it was lost, no branch was left out, and it is as
     // the checkpoint says. The next cycle begins as one of which nothing is lost or left out.
     ensures finished { IsTrue S.told → checkpoint.phase ≡ Closing → OnOk result
         (IsFinished checkpoint (S.seen folder.old) (S.seen folder.new)) }
-    ensures crash { IsTrue S.told → OnlyGoesOn S.seen S.may_leave S.moment S.left_since checkpoint
-        folder.old folder.new }
+    ensures crash { IsTrue S.told → OnlyGoesOn S.StateFolder checkpoint folder.old folder.new }
     ensures ended { IfOk result (λ ended. ended
         ≡ cycle_ended checkpoint.phase checkpoint.cursor.cycle) }
     ensures stop { StopsFor (IsTrue S.told) (ForClose checkpoint)

@@ -9,7 +9,7 @@ ghost use Rattle.ocfl_cursor.specs.Cursor.{Cursor};
 ghost use Rattle.ocfl_scrub.specs.{Joining.{unread_together}, Running.{place_in}};
 ghost use Rattle.ocfl_state.specs.{Checkpoint.{Checkpoint}, Content.{Closed, Content, empty}};
 ghost use Rattle.ocfl_state.specs.declared.checkpoint_parts.{Left.{Left}, Phase.TheVariants.{Open}};
-ghost use Rattle.ocfl_night.specs.Chain.{AreNext, IsInBranch, IsWholeReport, LedToEnd, RootRun, around, joined};
+ghost use Rattle.ocfl_night.specs.Chain.{AreNext, IsInBranch, IsReportOf, LedToEnd, RootRun, around, joined};
 ghost use Rattle.ocfl_night.specs.Runs.{AreMade, EndsBy, IsBegunNight, IsNight};
 ghost use Rattle.ocfl_night.specs.{Beginning.{position}, Clock.{BeginsInTime, Event}, Done.{nothing_done}};
 ghost use Rattle.ocfl_night.specs.declared.plan.{NightEnd.{NightEnd as ModelEnd}, Plan.{Plan as ModelPlan}};
@@ -39,11 +39,11 @@ use std::alloc::Global;
 /// while the checkpoint says that it is to be closed.
 pub fn nights_are_sound<S: StateFolder>()
     ensures sound { (part : Part) (nights : List (Night S))
-        → AreNights S.may_leave S.moment S.left_since part (λ c. c ≡ empty) nights
-        → AtAnyMoment S.moment S.left_since (IsSound (rounds_of part nights)) nights }
+        → AreNights S.StateFolder part (λ c. c ≡ empty) nights
+        → AtAnyMoment S.StateFolder (IsSound (rounds_of part nights)) nights }
     ensures whole { (part : Part) (nights : List (Night S))
-        → AreNights S.may_leave S.moment S.left_since part (λ c. c ≡ empty) nights
-        → AtAnyMoment S.moment S.left_since (λ c. AreWhole (rounds_of part nights) c.closed)
+        → AreNights S.StateFolder part (λ c. c ≡ empty) nights
+        → AtAnyMoment S.StateFolder (λ c. AreWhole (rounds_of part nights) c.closed)
         nights }
 {}
 
@@ -51,8 +51,8 @@ pub fn nights_are_sound<S: StateFolder>()
 /// committed.
 pub fn what_was_told_was_taken<S: StateFolder>()
     ensures { (part : Part) (nights : List (Night S))
-        → AreNights S.may_leave S.moment S.left_since part (λ c. c ≡ empty) nights
-        → AllTaken S.moment S.left_since (of_any part) [] nights }
+        → AreNights S.StateFolder part (λ c. c ≡ empty) nights
+        → AllTaken S.StateFolder (of_any part) [] nights }
 {}
 
 /// A report that is closed as whole, all of whose runs were over one storage root, is the audit of
@@ -60,12 +60,12 @@ pub fn what_was_told_was_taken<S: StateFolder>()
 /// took them. It is exactly the audit if all could be read.
 pub fn a_whole_report_is_the_audit()
     ensures unread { (root : StorageRoot) (rounds : Rounds) (d : Closed)
-        (w : IsWholeReport rounds d) → AllByRecursion (λ r. r.root ≡ root) w.runs
+        (w : IsReportOf rounds [] d) → AllByRecursion (λ r. r.root ≡ root) w.led.runs
         → d.report ≡ text (within rounds.part (audit root
-        (unread_together root (map (λ r. r.run) w.runs)))) }
+        (unread_together root (map (λ r. r.run) w.led.runs)))) }
     ensures exact { (root : StorageRoot) (rounds : Rounds) (d : Closed)
-        (w : IsWholeReport rounds d) → AllByRecursion (λ r. r.root ≡ root) w.runs
-        → unread_together root (map (λ r. r.run) w.runs) ≡ []
+        (w : IsReportOf rounds [] d) → AllByRecursion (λ r. r.root ≡ root) w.led.runs
+        → unread_together root (map (λ r. r.run) w.led.runs) ≡ []
         → d.report ≡ text (within rounds.part (audit root [])) }
 {
     runs_that_stop_join();
@@ -77,13 +77,13 @@ pub fn a_whole_report_is_the_audit()
 /// exactly the audit if the nights could read each content file that they opened.
 pub fn each_whole_report_is_the_audit<S: StateFolder>()
     ensures unread { (root : StorageRoot) (part : Part) (nights : List (Night S))
-        → AreNights S.may_leave S.moment S.left_since part (λ c. c ≡ empty) nights
-        → AreOver root nights → AtAnyMoment S.moment S.left_since (λ c. EachWhole
+        → AreNights S.StateFolder part (λ c. c ≡ empty) nights
+        → AreOver root nights → AtAnyMoment S.StateFolder (λ c. EachWhole
         (IsAuditBut root part (map (λ n. n.look) nights)) c.closed) nights }
     ensures exact { (root : StorageRoot) (part : Part) (nights : List (Night S))
-        → AreNights S.may_leave S.moment S.left_since part (λ c. c ≡ empty) nights
+        → AreNights S.StateFolder part (λ c. c ≡ empty) nights
         → AreOver root nights → HaveReadAll nights
-        → AtAnyMoment S.moment S.left_since (λ c. EachWhole
+        → AtAnyMoment S.StateFolder (λ c. EachWhole
         (λ report. report ≡ text (within part (audit root []))) c.closed) nights }
 {
     runs_that_stop_join();
@@ -94,8 +94,8 @@ pub fn each_whole_report_is_the_audit<S: StateFolder>()
 /// out, of which there is one at least. Nothing of it was lost.
 pub fn each_other_report_is_the_audit_around_what_was_left_out<S: StateFolder>()
     ensures { (root : StorageRoot) (part : Part) (nights : List (Night S))
-        → AreNights S.may_leave S.moment S.left_since part (λ c. c ≡ empty) nights
-        → AreOver root nights → HaveReadAll nights → AtAnyMoment S.moment S.left_since
+        → AreNights S.StateFolder part (λ c. c ≡ empty) nights
+        → AreOver root nights → HaveReadAll nights → AtAnyMoment S.StateFolder
         (λ c. EachOther (IsAround root part) c.closed) nights }
 {
     runs_that_stop_join();
@@ -136,13 +136,13 @@ pub fn nothing_is_read_twice()
 /// again is what this one run had opened, and those that stopped had begun with.
 pub fn what_is_opened_again_is_one_runs<S: StateFolder>()
     ensures in_it { (root : StorageRoot) (part : Part) (cycle : ℕ) (taken : List Place)
-        (leg : Leg S) → IsLeg root part S.seen S.moment S.left_since cycle taken leg
+        (leg : Leg S) → IsLeg root part S.StateFolder cycle taken leg
         → (c : Content) → S.left_since leg.new (S.moment leg.old) c
         → (k : Checkpoint) → IsAt k c → k.phase ≡ Open → cycle_of k ≡ cycle
         → (opened : List Place) → ReadsBeyond c opened
         → (p : Place) → IsAmong taken p → IsAmong opened p → ⊥ }
     ensures in_the_last { (root : StorageRoot) (part : Part) (cycle : ℕ) (old new : List Event)
-        (s t : Store) (folder : S) (night : IsLittleAgain root part S.seen S.moment S.left_since
+        (s t : Store) (folder : S) (night : IsLittleAgain root part S.StateFolder
         cycle old new s t folder)
         → (c : Content) → S.left_since folder (S.moment night.left) c
         → (k : Checkpoint) → IsAt k c → k.phase ≡ Open → cycle_of k ≡ cycle

@@ -175,14 +175,12 @@ pub fn leave_out<S: StateFolder>(
     requires { checkpoint.phase ≡ Open }
     ensures named { IfOk result (λ next. next ≡ with_left branch checkpoint) }
     ensures any_moment { IsTrue S.told → (rounds : Rounds) → IsBranchNext rounds checkpoint branch
-        → IsSafeIn S.seen S.may_leave S.moment S.left_since rounds checkpoint
-        folder.old folder.new }
+        → IsSafeIn S.StateFolder rounds checkpoint folder.old folder.new }
     ensures ready { IsTrue S.told → (rounds : Rounds) → IsBranchNext rounds checkpoint branch
-        → IfReadyIn S.seen S.may_leave rounds checkpoint folder.old
-        (λ t. IfOk result (λ next. IsReady S.seen S.may_leave rounds t next folder.new)) }
-    ensures closed { IsTrue S.told → OnOk result (SameClosed S.seen folder.old folder.new) }
-    ensures crash { IsTrue S.told → OnlyGoesOn S.seen S.may_leave S.moment S.left_since checkpoint
-        folder.old folder.new }
+        → IfReadyIn S.StateFolder rounds checkpoint folder.old
+        (λ t. IfOk result (λ next. IsReady S.StateFolder rounds t next folder.new)) }
+    ensures closed { IsTrue S.told → OnOk result (SameClosed S.StateFolder folder.old folder.new) }
+    ensures crash { IsTrue S.told → OnlyGoesOn S.StateFolder checkpoint folder.old folder.new }
     ensures at { IsTrue S.told → IfOk result (λ next. IsAt next (S.seen folder.new)) }
     ensures stop { StopsFor (IsTrue S.told) (ForPut (λ next. next ≡ with_left branch checkpoint))
         (S.faults folder.old) (S.faults folder.new) result }

@@ -57,10 +57,10 @@
 //!   at the root after it, and if nothing could be done about that: twice, unless it is to stop at
 //!   faults, 64 runs had stopped before, or the root could not be looked at.
 //! - A night that is troubled says why. It says that the folder failed or is full only if the folder
-//!   counted a failure in it, or if what is there as a checkpoint is too long; that the output
-//!   failed only if that counted a failure; and never that the folder holds a closed report already
-//!   or, in one that nights left, that checkpoint and report do not fit each other. What memory
-//!   refuses no count shows.
+//!   counted a failure in it, or if what is there as a checkpoint is too long; that a checkpoint is
+//!   too long, only of one that it was to put; that the output failed, only if that counted a
+//!   failure; and never that the folder holds a closed report already or, in one that nights left,
+//!   that checkpoint and report do not fit each other. What memory refuses no count shows.
 //! - All but the last holds of a state folder and a store that are as they tell, over a root with
 //!   no file of 2^62 bytes or more; what is said of another root or part needs no store that tells.
 //!   The last holds of a clock that tells what it answered and heard.

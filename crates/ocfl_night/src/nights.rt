@@ -158,16 +158,14 @@ fn pass_by<S: StateFolder>(
 ) -> Result<(Checkpoint, Option<Pause>), Stop>
     ensures any_moment { IsTrue S.told → (rounds : Rounds)
         → IsBranchNext rounds checkpoint (branch_at place)
-        → IsSafeIn S.seen S.may_leave S.moment S.left_since rounds checkpoint
-        folder.old folder.new }
+        → IsSafeIn S.StateFolder rounds checkpoint folder.old folder.new }
     ensures ready { IsTrue S.told → (rounds : Rounds)
         → IsBranchNext rounds checkpoint (branch_at place)
-        → IfReadyIn S.seen S.may_leave rounds checkpoint folder.old
-        (λ t. IfOk result (λ next. IsReady S.seen S.may_leave rounds t next.0 folder.new)) }
-    ensures closed { IsTrue S.told → OnOk result (SameClosed S.seen folder.old folder.new) }
+        → IfReadyIn S.StateFolder rounds checkpoint folder.old
+        (λ t. IfOk result (λ next. IsReady S.StateFolder rounds t next.0 folder.new)) }
+    ensures closed { IsTrue S.told → OnOk result (SameClosed S.StateFolder folder.old folder.new) }
     ensures runs { tally.new.runs ≡ tally.old.runs }
-    ensures crash { IsTrue S.told → OnlyGoesOn S.seen S.may_leave S.moment S.left_since checkpoint
-        folder.old folder.new }
+    ensures crash { IsTrue S.told → OnlyGoesOn S.StateFolder checkpoint folder.old folder.new }
 
     // What is done is what the place, the branches left out before and the plan call for.
     ensures done { checkpoint.phase ≡ Open → IfOk result (λ next. next
@@ -208,14 +206,13 @@ fn go_on_after<S: StateFolder>(
     tally: &mut Tally,
 ) -> Result<(Checkpoint, Option<Pause>), Stop>
     ensures any_moment { IsTrue S.told → (rounds : Rounds) → StopsNext rounds made
-        → IsSafeIn S.seen S.may_leave S.moment S.left_since rounds made.checkpoint
-        folder.old folder.new }
+        → IsSafeIn S.StateFolder rounds made.checkpoint folder.old folder.new }
     ensures ready { IsTrue S.told → (rounds : Rounds) → StopsNext rounds made
-        → IfReadyIn S.seen S.may_leave rounds made.checkpoint folder.old
-        (λ t. IfOk result (λ next. IsReady S.seen S.may_leave rounds t next.0 folder.new)) }
-    ensures closed { IsTrue S.told → OnOk result (SameClosed S.seen folder.old folder.new) }
+        → IfReadyIn S.StateFolder rounds made.checkpoint folder.old
+        (λ t. IfOk result (λ next. IsReady S.StateFolder rounds t next.0 folder.new)) }
+    ensures closed { IsTrue S.told → OnOk result (SameClosed S.StateFolder folder.old folder.new) }
     ensures runs { tally.new.runs ≡ tally.old.runs }
-    ensures crash { IsTrue S.told → OnlyGoesOn S.seen S.may_leave S.moment S.left_since
+    ensures crash { IsTrue S.told → OnlyGoesOn S.StateFolder
         made.checkpoint folder.old folder.new }
     ensures walk { (part : ModelPart) (root : StorageRoot)
         → IsWalkAt root part made.checkpoint kept.old
@@ -264,13 +261,12 @@ fn runs<S: StateFolder, T: Tree, C: Clock>(
     ensures any_moment { IsTrue S.told → OverShort T.told (T.state tree.old) (λ root.
         WithLook (part_of part.now)
         (look_between root (T.state tree.old) (T.state tree.new))
-        (λ rounds. IsSafeIn S.seen S.may_leave S.moment S.left_since rounds start
-        folder.old folder.new)) }
+        (λ rounds. IsSafeIn S.StateFolder rounds start folder.old folder.new)) }
     ensures ready { IsTrue S.told → OverShort T.told (T.state tree.old) (λ root.
         WithLook (part_of part.now)
         (look_between root (T.state tree.old) (T.state tree.new))
-        (λ rounds. IfReadyIn S.seen S.may_leave rounds start folder.old (λ t. IfOk result
-        (λ next. IsReady S.seen S.may_leave rounds t next.0 folder.new)))) }
+        (λ rounds. IfReadyIn S.StateFolder rounds start folder.old (λ t. IfOk result
+        (λ next. IsReady S.StateFolder rounds t next.0 folder.new)))) }
     ensures root { OverShort T.told (T.state tree.old) (λ root. (T.state tree.new).tree ≡ root) }
     ensures counts { OverShort T.told (T.state tree.old) (λ root.
         Counts (T.state tree.old) (T.state tree.new)) }
@@ -283,11 +279,11 @@ fn runs<S: StateFolder, T: Tree, C: Clock>(
         (content_since root (T.state tree.old) (T.state tree.new)))) }
     ensures again { IsTrue C.told → IsTrue S.told → AreDeclarations identity.now
         → OverShort T.told (T.state tree.old) (λ root. IsDeclaredBy root identity.now →
-        IfReadyIn S.seen S.may_leave (of_any (part_of part.now)) start folder.old (λ _.
-        IsLittleAgain root (part_of part.now) S.seen S.moment S.left_since (cycle_of start)
+        IfReadyIn S.StateFolder (of_any (part_of part.now)) start folder.old (λ _.
+        IsLittleAgain root (part_of part.now) S.StateFolder (cycle_of start)
         (C.events clock.old) (C.events clock.new)
         (T.state tree.old) (T.state tree.new) folder.new)) }
-    ensures closed { IsTrue S.told → OnOk result (SameClosed S.seen folder.old folder.new) }
+    ensures closed { IsTrue S.told → OnOk result (SameClosed S.StateFolder folder.old folder.new) }
     ensures told { IsTrue C.told → AreMade plan.now (C.events clock.old) (C.events clock.new)
         (done_of tally.old) start
         (λ d k last. IsEndedBy plan.now d k last (done_of tally.new) result) }
@@ -302,7 +298,7 @@ fn runs<S: StateFolder, T: Tree, C: Clock>(
         → IfOk result (λ next. IsAt next.0 (S.seen folder.new)) }
     ensures stop { MayLeave plan.now.stop_at_faults tally.old.left.items → StopsFor
         (IsGiven S.told T.told (T.state tree.old)
-        ((t : Text) × IsReady S.seen S.may_leave (of_any (part_of part.now)) t start folder.old))
+        ((t : Text) × IsReady S.StateFolder (of_any (part_of part.now)) t start folder.old))
         (ForRuns ⊥ start tally.new.runs) (S.faults folder.old) (S.faults folder.new) result }
 {
     let mut kept = KeptWalk::none();
@@ -341,22 +337,22 @@ fn catch_up<S: StateFolder, O: Output>(
     lost: &mut bool,
 ) -> Result<Checkpoint, NotOpened>
     ensures heard { IsTrue S.told → (rounds : Rounds)
-        → (kept : IsKept S.may_leave rounds folder.old)
+        → (kept : IsKept S.StateFolder rounds folder.old)
         → LeavesOnly S.moment S.left_since folder.old folder.new (IsHeardSince rounds
         (S.may_leave folder.old) kept (O.said out.old) (O.said out.new)) }
     ensures ready { IsTrue S.told → (rounds : Rounds)
-        → (kept : IsKept S.may_leave rounds folder.old)
-        → IfOk result (λ k. IsReadySince S.seen S.may_leave rounds (S.may_leave folder.old) kept
+        → (kept : IsKept S.StateFolder rounds folder.old)
+        → IfOk result (λ k. IsReadySince S.StateFolder rounds (S.may_leave folder.old) kept
         (O.said out.old) (O.said out.new) k folder.new) }
     ensures grew { Grows (O.said out.old) (O.said out.new) }
-    ensures closed { IsTrue S.told → OnOk result (SameClosed S.seen folder.old folder.new) }
+    ensures closed { IsTrue S.told → OnOk result (SameClosed S.StateFolder folder.old folder.new) }
     ensures refused { IsTrue S.told → OnRefused result (S.seen folder.new ≡ S.seen folder.old) }
     ensures rightly { IsTrue S.told → IfRefused result
         (IsFolderRefused site.now identity.now plan.now (S.seen folder.old)) }
     ensures foreign { IsTrue S.told → IfForeign site.now identity.now plan.now (S.seen folder.old)
-        (IsTurnedAway result S.seen S.may_leave S.moment S.left_since folder.old folder.new) }
+        (IsTurnedAway result S.StateFolder folder.old folder.new) }
     ensures older { IsTrue S.told → IfOlder (S.seen folder.old)
-        (IsTurnedAway result S.seen S.may_leave S.moment S.left_since folder.old folder.new) }
+        (IsTurnedAway result S.StateFolder folder.old folder.new) }
     ensures lost { IsTrue S.told → IfLost (S.seen folder.old) (OnOk result (IsTrue lost.new)) }
     ensures lost_only { IsTrue S.told → lost.old ≡ false → IsTrue lost.new
         → HasLost (S.seen folder.old) }
@@ -367,7 +363,7 @@ fn catch_up<S: StateFolder, O: Output>(
         → IfOk result (BeginsAt plan.now.create (S.seen folder.old)) }
     ensures own { IfOk result (IsOfSite site.now identity.now) }
     ensures at { IsTrue S.told → IfOk result (λ k. IsAt k (S.seen folder.new)) }
-    ensures stop { OpensFor (TellsKept S.told S.may_leave folder.old)
+    ensures stop { OpensFor (TellsKept S.StateFolder folder.old)
         (ForNight (λ _. ⊥) (IsOfSite site.now identity.now)
         (course plan.now.create (S.seen folder.old) 0 (O.said out.old) (O.said out.new)))
         (S.faults folder.old) (S.faults folder.new) result }
@@ -394,7 +390,7 @@ fn make_runs<S: StateFolder, T: Tree, C: Clock, O: Output>(
     ensures heard { IsTrue S.told → OverShort T.told (T.state tree.old) (λ root.
         WithLook (part_of part.now)
         (look_between root (T.state tree.old) (T.state tree.new))
-        (λ rounds. IfReadyIn S.seen S.may_leave rounds checkpoint folder.old
+        (λ rounds. IfReadyIn S.StateFolder rounds checkpoint folder.old
         (λ t. LeavesOnly S.moment S.left_since folder.old folder.new
         (IsHeard rounds t (O.said out.old) (O.said out.new))))) }
     ensures root { OverShort T.told (T.state tree.old) (λ root. (T.state tree.new).tree ≡ root) }
@@ -405,25 +401,26 @@ fn make_runs<S: StateFolder, T: Tree, C: Clock, O: Output>(
         (content_since root (T.state tree.old) (T.state tree.new))) }
     ensures read { IsTrue S.told → AreDeclarations identity.now
         → OverShort T.told (T.state tree.old) (λ root.
-        IfReadyIn S.seen S.may_leave (of_any (part_of part.now)) checkpoint folder.old
+        IfReadyIn S.StateFolder (of_any (part_of part.now)) checkpoint folder.old
         (λ _. IfOk result (λ end. EndsInOrder end
         → IsReadTo (T.state tree.old) (T.state tree.new) (reached checkpoint) end
         (S.seen folder.new) (content_since root (T.state tree.old) (T.state tree.new))))) }
     ensures again { IsTrue C.told → IsTrue S.told → AreDeclarations identity.now
         → OverShort T.told (T.state tree.old) (λ root. IsDeclaredBy root identity.now →
-        IfReadyIn S.seen S.may_leave (of_any (part_of part.now)) checkpoint folder.old (λ _.
-        IsLittleAgain root (part_of part.now) S.seen S.moment S.left_since (cycle_of checkpoint)
+        IfReadyIn S.StateFolder (of_any (part_of part.now)) checkpoint folder.old (λ _.
+        IsLittleAgain root (part_of part.now) S.StateFolder (cycle_of checkpoint)
         (C.events clock.old) (C.events clock.new)
         (T.state tree.old) (T.state tree.new) folder.new)) }
     ensures grew { Grows (O.said out.old) (O.said out.new) }
     ensures ended { IsTrue S.told → OverShort T.told (T.state tree.old) (λ root.
         WithLook (part_of part.now)
         (look_between root (T.state tree.old) (T.state tree.new))
-        (λ rounds. IfReadyIn S.seen S.may_leave rounds checkpoint folder.old
+        (λ rounds. IfReadyIn S.StateFolder rounds checkpoint folder.old
         (λ _. (cycle : ℕ) → result ≡ Ok (halt.CycleEnded cycle) → IsOneMore rounds cycle
         (S.seen folder.old) (S.seen folder.new)))) }
     ensures goes_on { IsTrue S.told → IfOk result (λ end.
-        ((cycle : ℕ) → end ≢ halt.CycleEnded cycle) → SameClosed S.seen folder.old folder.new) }
+        ((cycle : ℕ) → end ≢ halt.CycleEnded cycle)
+        → SameClosed S.StateFolder folder.old folder.new) }
     ensures told { IsTrue C.told → AreMade plan.now (C.events clock.old) (C.events clock.new)
         (done_of tally.old) checkpoint
         (EndsBy (λ p. IsTrue S.told → IsAt checkpoint (S.seen folder.old)
@@ -433,10 +430,10 @@ fn make_runs<S: StateFolder, T: Tree, C: Clock, O: Output>(
         (T.state tree.old) (T.state tree.new)) }
     ensures left { StillMayLeave plan.now.stop_at_faults tally.old tally.new }
     ensures said { IsTrue S.told → OnShort T.told (T.state tree.old)
-        (IfReadyIn S.seen S.may_leave (of_any (part_of part.now)) checkpoint folder.old
+        (IfReadyIn S.StateFolder (of_any (part_of part.now)) checkpoint folder.old
         (λ _. OnOk result (IsAllSaid (S.seen folder.new)))) }
     ensures whole { IsTrue S.told → OnShort T.told (T.state tree.old)
-        (IfReadyIn S.seen S.may_leave (of_any (part_of part.now)) checkpoint folder.old
+        (IfReadyIn S.StateFolder (of_any (part_of part.now)) checkpoint folder.old
         (λ _. (cycle : ℕ) → result ≡ Ok (halt.CycleEnded cycle) → (d : Closed)
         → HasCome d (S.seen folder.old) (S.seen folder.new) → (IsTrue d.whole
         ↔ (IsTrue (closes_whole checkpoint)
@@ -444,7 +441,7 @@ fn make_runs<S: StateFolder, T: Tree, C: Clock, O: Output>(
     ensures unrefused { (why : ModelRefusal) → result ≢ Ok (halt.Refused why) }
     ensures stop { MayLeave plan.now.stop_at_faults tally.old.left.items → StopsFor
         (IsGiven S.told T.told (T.state tree.old)
-        ((t : Text) × IsReady S.seen S.may_leave (of_any (part_of part.now)) t
+        ((t : Text) × IsReady S.StateFolder (of_any (part_of part.now)) t
         checkpoint folder.old))
         (ForRuns (HasFailed (O.said out.old).failures (O.said out.new).failures)
         checkpoint tally.new.runs) (S.faults folder.old) (S.faults folder.new) result }
@@ -490,15 +487,15 @@ fn set_out<S: StateFolder, T: Tree, O: Output>(
     ensures declares { IfTold T.told (T.state tree.old) (λ root.
         IfOk result (λ begun. AreDeclarations begun.identity)) }
     ensures heard { IsTrue S.told → (rounds : Rounds)
-        → (kept : IsKept S.may_leave rounds folder.old)
+        → (kept : IsKept S.StateFolder rounds folder.old)
         → LeavesOnly S.moment S.left_since folder.old folder.new (IsHeardSince rounds
         (S.may_leave folder.old) kept (O.said out.old) (O.said out.new)) }
     ensures ready { IsTrue S.told → (rounds : Rounds)
-        → (kept : IsKept S.may_leave rounds folder.old) → IfOk result (λ begun.
-        IsReadySince S.seen S.may_leave rounds (S.may_leave folder.old) kept
+        → (kept : IsKept S.StateFolder rounds folder.old) → IfOk result (λ begun.
+        IsReadySince S.StateFolder rounds (S.may_leave folder.old) kept
         (O.said out.old) (O.said out.new) begun.checkpoint folder.new) }
     ensures grew { Grows (O.said out.old) (O.said out.new) }
-    ensures closed { IsTrue S.told → OnOk result (SameClosed S.seen folder.old folder.new) }
+    ensures closed { IsTrue S.told → OnOk result (SameClosed S.StateFolder folder.old folder.new) }
     ensures refused { IsTrue S.told → OnRefused result (S.seen folder.new ≡ S.seen folder.old) }
     ensures rightly { IsTrue S.told → IfRefused result
         (IsRefused T.told (T.state tree.old) site.now plan.now (S.seen folder.old)) }
@@ -509,14 +506,14 @@ fn set_out<S: StateFolder, T: Tree, O: Output>(
         ↔ ((lost.new ≡ false) × IsUncut (S.seen folder.old))) }
     ensures barred { IsTrue S.told
         → IsBarred T.told (T.state tree.old) site.now plan.now (S.seen folder.old)
-        → IsTurnedAway result S.seen S.may_leave S.moment S.left_since folder.old folder.new }
+        → IsTurnedAway result S.StateFolder folder.old folder.new }
     ensures begins { IsTrue S.told → IfOk result (λ begun.
         BeginsAt plan.now.create (S.seen folder.old) begun.checkpoint) }
     ensures own { IfOk result (λ begun.
         IsOfStore T.told (T.state tree.old) site.now begun.checkpoint) }
     ensures at { IsTrue S.told
         → IfOk result (λ begun. IsAt begun.checkpoint (S.seen folder.new)) }
-    ensures stop { OpensFor (TellsKept S.told S.may_leave folder.old)
+    ensures stop { OpensFor (TellsKept S.StateFolder folder.old)
         (ForNight (IsUnlooked T.told (T.state tree.old) (T.state tree.new))
         (IsOfStore T.told (T.state tree.old) site.now)
         (course plan.now.create (S.seen folder.old) 0 (O.said out.old) (O.said out.new)))
@@ -552,18 +549,19 @@ pub fn night<S: StateFolder, T: Tree, C: Clock, O: Output>(
     ensures any_moment { IsTrue S.told → OverShort T.told (T.state tree.old) (λ root.
         WithLook (part_at site.now.ends)
         (look_between root (T.state tree.old) (T.state tree.new))
-        (λ rounds. IsKept S.may_leave rounds folder.old
+        (λ rounds. IsKept S.StateFolder rounds folder.old
         → LeavesOnly S.moment S.left_since folder.old folder.new (IsSound rounds))) }
     ensures kept { IsTrue S.told → OverShort T.told (T.state tree.old) (λ root.
         WithLook (part_at site.now.ends)
         (look_between root (T.state tree.old) (T.state tree.new))
-        (λ rounds. IsKept S.may_leave rounds folder.old → IsKept S.may_leave rounds folder.new)) }
+        (λ rounds. IsKept S.StateFolder rounds folder.old
+        → IsKept S.StateFolder rounds folder.new)) }
 
     // Nothing more is told, at any moment, than was told before and the output has committed since.
     // All of it was written by runs over this root, which could not read more than this night could
     // not, or by those of before.
     ensures heard { IsTrue S.told → OverShort T.told (T.state tree.old) (λ root.
-        IsSafeNight S.may_leave S.moment S.left_since (part_at site.now.ends)
+        IsSafeNight S.StateFolder (part_at site.now.ends)
         (look_between root (T.state tree.old) (T.state tree.new))
         folder.old folder.new (O.said out.old) (O.said out.new)) }
 
@@ -579,7 +577,7 @@ pub fn night<S: StateFolder, T: Tree, C: Clock, O: Output>(
     // If no run of it stops, and no call of the store fails, it opens each content file once, in
     // order, and the checkpoint to which it led has taken them.
     ensures read { IsTrue S.told → OverShort T.told (T.state tree.old) (λ root.
-        IsKept S.may_leave (of_any (part_at site.now.ends)) folder.old → EndsInOrder result.end
+        IsKept S.StateFolder (of_any (part_at site.now.ends)) folder.old → EndsInOrder result.end
         → IsRead (T.state tree.old) (T.state tree.new) result.end
         (S.seen folder.old) (S.seen folder.new) (content_since root (T.state tree.old) (T.state tree.new))) }
 
@@ -592,16 +590,16 @@ pub fn night<S: StateFolder, T: Tree, C: Clock, O: Output>(
     // the last no file is opened but those that declare the root, and nothing is listed but, when
     // the night begins, the top folder.
     ensures again { IsTrue C.told → IsTrue S.told → OverShort T.told (T.state tree.old) (λ root.
-        IsKept S.may_leave (of_any (part_at site.now.ends)) folder.old
+        IsKept S.StateFolder (of_any (part_at site.now.ends)) folder.old
         → HasLooked root (T.state tree.old) (T.state tree.new)
-        ⊎ IsLittleSince plan.now.create root (part_at site.now.ends) S.seen S.moment S.left_since
+        ⊎ IsLittleSince plan.now.create root (part_at site.now.ends) S.StateFolder
         (S.seen folder.old) (C.events clock.old) (C.events clock.new)
         (T.state tree.old) (T.state tree.new) folder.new) }
 
     // Unless it is refused or something is troubled, all of the report is said, also what earlier
     // nights left.
-    ensures said { IsTrue S.told → OnShort T.told (T.state tree.old)
-        (IsKept S.may_leave (of_any (part_at site.now.ends)) folder.old
+    ensures said { IsTrue S.told → OverShort T.told (T.state tree.old)
+        (λ _. IsKept S.StateFolder (of_any (part_at site.now.ends)) folder.old
         → ((why : ModelStop) → result.end ≢ halt.Troubled why)
         → ((why : ModelRefusal) → result.end ≢ halt.Refused why)
         → IsAllSaid (S.seen folder.new)) }
@@ -616,12 +614,11 @@ pub fn night<S: StateFolder, T: Tree, C: Clock, O: Output>(
     // reports, or over a root that is not as it was or declares nothing.
     ensures barred { IsTrue S.told
         → IsBarred T.told (T.state tree.old) site.now plan.now (S.seen folder.old)
-        → IsNotBegun result.end
-        × IsUntouched S.seen S.may_leave S.moment S.left_since folder.old folder.new }
+        → IsNotBegun result.end × IsUntouched S.StateFolder folder.old folder.new }
 
     // No folder that nights have left, ended or crashed at any moment, is called older than its
     // reports.
-    ensures newest { IsTrue S.told → (rounds : Rounds) → IsKept S.may_leave rounds folder.old
+    ensures newest { IsTrue S.told → (rounds : Rounds) → IsKept S.StateFolder rounds folder.old
         → (cycle : ℕ) → result.end ≢ halt.Refused (Older cycle) }
 
     // If bytes of the report were lost or changed, it says so, unless it is refused or something
@@ -636,29 +633,30 @@ pub fn night<S: StateFolder, T: Tree, C: Clock, O: Output>(
     ensures ended { IsTrue S.told → OverShort T.told (T.state tree.old) (λ root.
         WithLook (part_at site.now.ends)
         (look_between root (T.state tree.old) (T.state tree.new))
-        (λ rounds. IsKept S.may_leave rounds folder.old → (cycle : ℕ)
+        (λ rounds. IsKept S.StateFolder rounds folder.old → (cycle : ℕ)
         → result.end ≡ halt.CycleEnded cycle → IsOneMore rounds cycle
         (S.seen folder.old) (S.seen folder.new))) }
     ensures goes_on { IsTrue S.told → ((why : ModelStop) → result.end ≢ halt.Troubled why)
         → ((cycle : ℕ) → result.end ≢ halt.CycleEnded cycle)
-        → SameClosed S.seen folder.old folder.new }
+        → SameClosed S.StateFolder folder.old folder.new }
 
     // It is called whole exactly if nothing of it was lost, and no branch was left out, by this night
     // or before it.
-    ensures whole { IsTrue S.told → OnShort T.told (T.state tree.old)
-        (IsKept S.may_leave (of_any (part_at site.now.ends)) folder.old
+    ensures whole { IsTrue S.told → OverShort T.told (T.state tree.old)
+        (λ _. IsKept S.StateFolder (of_any (part_at site.now.ends)) folder.old
         → (cycle : ℕ) → result.end ≡ halt.CycleEnded cycle → (d : Closed)
         → HasCome d (S.seen folder.old) (S.seen folder.new)
         → (IsTrue d.whole ↔ IsAllThere (S.seen folder.old) result)) }
 
-    // If something is troubled, that is for a reason. It says that the folder failed only if it did,
-    // or if what is there as a checkpoint is too long. It says that a checkpoint is too long only of
-    // one that it was to put: of this root and part, and of the cycle with which it began or the next
-    // one. It says that the output failed only if it did, and never that a report was closed already,
-    // that not all of one was said, or that checkpoint and report do not fit each other.
+    // If something is troubled, that is for a reason. It says that the folder failed only if it
+    // did, or if what is there as a checkpoint is too long. It says that a checkpoint is too long
+    // only of one that it was to put: of this root and part, and of the cycle with which it began
+    // or the next one. It says that the output failed only if it did, and never that a report was
+    // closed already, that not all of one was said, or that checkpoint and report do not fit each
+    // other.
     ensures troubled { (why : ModelStop) → result.end ≡ halt.Troubled why → IsReason
         (IsGiven S.told T.told (T.state tree.old)
-        (IsKept S.may_leave (of_any (part_at site.now.ends)) folder.old))
+        (IsKept S.StateFolder (of_any (part_at site.now.ends)) folder.old))
         (ForNight (IsUnlooked T.told (T.state tree.old) (T.state tree.new))
         (IsOfStore T.told (T.state tree.old) site.now)
         (course plan.now.create (S.seen folder.old) result.runs (O.said out.old) (O.said out.new)))

@@ -88,9 +88,9 @@ fn begin<S: StateFolder>(
         → LeavesOnly S.moment S.left_since folder.old folder.new (IsSoundAt rounds []) }
     ensures ready { IsTrue S.told → (rounds : Rounds)
         → Only (S.seen folder.old) (S.may_leave folder.old) → IsNew [] (S.seen folder.old)
-        → IfOk result (λ opened. IsReady S.seen S.may_leave rounds []
+        → IfOk result (λ opened. IsReady S.StateFolder rounds []
         opened.checkpoint folder.new) }
-    ensures closed { IsTrue S.told → OnOk result (SameClosed S.seen folder.old folder.new) }
+    ensures closed { IsTrue S.told → OnOk result (SameClosed S.StateFolder folder.old folder.new) }
     ensures first { IfOk result (λ opened. opened ≡ first_opened site.now identity.now) }
     ensures refused { IsTrue S.told → OnRefused result (S.seen folder.new ≡ S.seen folder.old) }
     ensures rightly { IsTrue S.told → IfRefused result (IsUnbegun true (S.seen folder.old)) }
@@ -113,11 +113,11 @@ fn begin<S: StateFolder>(
 /// Whether the report of a cycle that has ended is still to be closed.
 fn is_to_close<S: StateFolder>(folder: &mut S, checkpoint: &Checkpoint) -> Result<bool, Stop>
     ensures any_moment { IsTrue S.told → (rounds : Rounds) (t : Text)
-        → IsSettled S.seen S.may_leave rounds t checkpoint.now folder.old
+        → IsSettled S.StateFolder rounds t checkpoint.now folder.old
         → LeavesOnly S.moment S.left_since folder.old folder.new (IsSoundAt rounds t) }
     ensures ready { IsTrue S.told → checkpoint.now.phase ≡ Closing → (rounds : Rounds) (t : Text)
-        → IsSettled S.seen S.may_leave rounds t checkpoint.now folder.old
-        → OnOk result (IsReady S.seen S.may_leave rounds t checkpoint.now folder.new) }
+        → IsSettled S.StateFolder rounds t checkpoint.now folder.old
+        → OnOk result (IsReady S.StateFolder rounds t checkpoint.now folder.new) }
     ensures value { IsTrue S.told → IfOk result (λ there. IsTrue there
         ↔ (is_closed (S.seen folder.old).closed checkpoint.now.cursor.cycle ≡ false)) }
     ensures seen { IsTrue S.told → S.seen folder.new ≡ S.seen folder.old }
@@ -131,11 +131,11 @@ fn is_to_close<S: StateFolder>(folder: &mut S, checkpoint: &Checkpoint) -> Resul
 /// closed.
 fn settle<S: StateFolder>(folder: &mut S, checkpoint: &Checkpoint) -> Result<bool, Stop>
     ensures any_moment { IsTrue S.told → (rounds : Rounds) (t : Text)
-        → IsSettled S.seen S.may_leave rounds t checkpoint.now folder.old
+        → IsSettled S.StateFolder rounds t checkpoint.now folder.old
         → LeavesOnly S.moment S.left_since folder.old folder.new (IsSoundAt rounds t) }
     ensures ready { IsTrue S.told → (rounds : Rounds) (t : Text)
-        → IsSettled S.seen S.may_leave rounds t checkpoint.now folder.old
-        → OnOk result (IsReady S.seen S.may_leave rounds t checkpoint.now folder.new) }
+        → IsSettled S.StateFolder rounds t checkpoint.now folder.old
+        → OnOk result (IsReady S.StateFolder rounds t checkpoint.now folder.new) }
     ensures there { IsTrue S.told → IfOk result (λ there. IsTrue there
         ↔ (checkpoint.now.phase ≡ Closing
         → is_closed (S.seen folder.old).closed checkpoint.now.cursor.cycle ≡ false)) }
@@ -160,17 +160,17 @@ fn take_up<S: StateFolder>(
     checkpoint: &Checkpoint,
 ) -> Result<Option<ReportMark>, Stop>
     ensures any_moment { IsTrue S.told → (rounds : Rounds) (t : Text)
-        → IsSettled S.seen S.may_leave rounds t checkpoint.now folder.old
+        → IsSettled S.StateFolder rounds t checkpoint.now folder.old
         → LeavesOnly S.moment S.left_since folder.old folder.new (IsSoundAt rounds t) }
     ensures ready { IsTrue S.told → (rounds : Rounds) (t : Text)
-        → IsSettled S.seen S.may_leave rounds t checkpoint.now folder.old
+        → IsSettled S.StateFolder rounds t checkpoint.now folder.old
         → IfOk result (λ lost. (lost ≡ None)
-        × IsReady S.seen S.may_leave rounds t checkpoint.now folder.new) }
+        × IsReady S.StateFolder rounds t checkpoint.now folder.new) }
     ensures lost { IsTrue S.told → IfOk result (λ lost. IsSome lost
         ↔ IsLost checkpoint.now (S.seen folder.old)) }
     ensures left { IsTrue S.told → IfOk result (λ lost. IfSome lost (λ there. there
         ≡ what_is_left checkpoint.now (S.seen folder.old))) }
-    ensures closed { IsTrue S.told → OnOk result (SameClosed S.seen folder.old folder.new) }
+    ensures closed { IsTrue S.told → OnOk result (SameClosed S.StateFolder folder.old folder.new) }
     ensures stop { StopsFor (IsTrue S.told) ForNoOther
         (S.faults folder.old) (S.faults folder.new) result }
 {
@@ -216,13 +216,13 @@ fn resume<S: StateFolder>(
     identity: &Identity,
 ) -> Result<Opened, Stop>
     ensures any_moment { IsTrue S.told → (rounds : Rounds) (t : Text)
-        → IsSettled S.seen S.may_leave rounds t checkpoint folder.old
+        → IsSettled S.StateFolder rounds t checkpoint folder.old
         → LeavesOnly S.moment S.left_since folder.old folder.new (IsSoundAt rounds t) }
     ensures ready { IsTrue S.told → (rounds : Rounds) (t : Text)
-        → IsSettled S.seen S.may_leave rounds t checkpoint folder.old
-        → IfOk result (λ opened. IsReady S.seen S.may_leave rounds t
+        → IsSettled S.StateFolder rounds t checkpoint folder.old
+        → IfOk result (λ opened. IsReady S.StateFolder rounds t
         opened.checkpoint folder.new) }
-    ensures closed { IsTrue S.told → OnOk result (SameClosed S.seen folder.old folder.new) }
+    ensures closed { IsTrue S.told → OnOk result (SameClosed S.StateFolder folder.old folder.new) }
     ensures opened { IsTrue S.told
         → IfOk result (IsOpened identity.now checkpoint (S.seen folder.old)) }
     ensures taken { IfOk result (λ opened.
@@ -251,13 +251,13 @@ fn go_on<S: StateFolder>(
     identity: &Identity,
 ) -> Result<Opened, NotOpened>
     ensures any_moment { IsTrue S.told → (rounds : Rounds) (t : Text)
-        → IsSettled S.seen S.may_leave rounds t checkpoint folder.old
+        → IsSettled S.StateFolder rounds t checkpoint folder.old
         → LeavesOnly S.moment S.left_since folder.old folder.new (IsSoundAt rounds t) }
     ensures ready { IsTrue S.told → (rounds : Rounds) (t : Text)
-        → IsSettled S.seen S.may_leave rounds t checkpoint folder.old
-        → IfOk result (λ opened. IsReady S.seen S.may_leave rounds t
+        → IsSettled S.StateFolder rounds t checkpoint folder.old
+        → IfOk result (λ opened. IsReady S.StateFolder rounds t
         opened.checkpoint folder.new) }
-    ensures closed { IsTrue S.told → OnOk result (SameClosed S.seen folder.old folder.new) }
+    ensures closed { IsTrue S.told → OnOk result (SameClosed S.StateFolder folder.old folder.new) }
     ensures opened { IsTrue S.told
         → IfOk result (IsOpened identity.now checkpoint (S.seen folder.old)) }
     ensures refused { IsTrue S.told → OnRefused result (S.seen folder.new ≡ S.seen folder.old) }
@@ -265,7 +265,7 @@ fn go_on<S: StateFolder>(
         → IfRefused result (IsOutdated checkpoint (S.seen folder.old)) }
     ensures older { IsTrue S.told → (cycle : ℕ) → cycle < 2 ^ 64
         → IsOlder checkpoint (S.seen folder.old) cycle
-        → IsTurnedAway result S.seen S.may_leave S.moment S.left_since folder.old folder.new }
+        → IsTurnedAway result S.StateFolder folder.old folder.new }
     ensures taken { IfOk result (λ opened.
         IsTakenUp identity.now checkpoint opened.checkpoint) }
     ensures at { IsTrue S.told
@@ -286,14 +286,14 @@ pub fn open<S: StateFolder>(
     plan: &Plan,
 ) -> Result<Opened, NotOpened>
     ensures any_moment { IsTrue S.told → (rounds : Rounds)
-        → (kept : IsKept S.may_leave rounds folder.old)
+        → (kept : IsKept S.StateFolder rounds folder.old)
         → LeavesOnly S.moment S.left_since folder.old folder.new
         (IsFound rounds (S.may_leave folder.old) kept) }
     ensures ready { IsTrue S.told → (rounds : Rounds)
-        → (kept : IsKept S.may_leave rounds folder.old)
-        → IfOk result (λ opened. IsFoundReady S.seen S.may_leave rounds
+        → (kept : IsKept S.StateFolder rounds folder.old)
+        → IfOk result (λ opened. IsFoundReady S.StateFolder rounds
         (S.may_leave folder.old) kept opened.checkpoint folder.new) }
-    ensures closed { IsTrue S.told → OnOk result (SameClosed S.seen folder.old folder.new) }
+    ensures closed { IsTrue S.told → OnOk result (SameClosed S.StateFolder folder.old folder.new) }
     // It begins where the checkpoint of the folder stands. In a folder without one it begins at the
     // first item, if it may, and if no report is there.
     ensures begins { IsTrue S.told → IfOk result (λ opened.
@@ -322,10 +322,10 @@ pub fn open<S: StateFolder>(
     // One of another root or part, or of a root that is not as it was, is not opened, and stays as
     // it was.
     ensures foreign { IsTrue S.told → IfForeign site.now identity.now plan.now (S.seen folder.old)
-        (IsTurnedAway result S.seen S.may_leave S.moment S.left_since folder.old folder.new) }
+        (IsTurnedAway result S.StateFolder folder.old folder.new) }
     // Nor is one whose reports show that its checkpoint is an older one.
     ensures older { IsTrue S.told → IfOlder (S.seen folder.old)
-        (IsTurnedAway result S.seen S.may_leave S.moment S.left_since folder.old folder.new) }
+        (IsTurnedAway result S.StateFolder folder.old folder.new) }
     ensures at { IsTrue S.told
         → IfOk result (λ opened. IsAt opened.checkpoint (S.seen folder.new)) }
     // It is of this root and part.

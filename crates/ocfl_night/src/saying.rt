@@ -101,17 +101,16 @@ pub fn speak<S: StateFolder, O: Output>(
     out: &mut O,
     checkpoint: Checkpoint,
 ) -> Result<Checkpoint, Stop>
-    ensures heard { IsTrue S.told → IfReady S.seen S.may_leave checkpoint folder.old
+    ensures heard { IsTrue S.told → IfReady S.StateFolder checkpoint folder.old
         (λ rounds t. LeavesOnly S.moment S.left_since folder.old folder.new
         (IsHeard rounds t (O.said out.old) (O.said out.new))) }
-    ensures ready { IsTrue S.told → IfReady S.seen S.may_leave checkpoint folder.old
-        (λ rounds t. IfOk result (λ next. IsHeardReady S.seen S.may_leave rounds t
+    ensures ready { IsTrue S.told → IfReady S.StateFolder checkpoint folder.old
+        (λ rounds t. IfOk result (λ next. IsHeardReady S.StateFolder rounds t
         (O.said out.old) (O.said out.new) next folder.new)) }
     ensures all { IfOk result (λ next. next ≡ with_all_told checkpoint) }
-    ensures crash { IsTrue S.told → OnlyGoesOn S.seen S.may_leave S.moment S.left_since checkpoint
-        folder.old folder.new }
+    ensures crash { IsTrue S.told → OnlyGoesOn S.StateFolder checkpoint folder.old folder.new }
     ensures grew { Grows (O.said out.old) (O.said out.new) }
-    ensures closed { IsTrue S.told → OnOk result (SameClosed S.seen folder.old folder.new) }
+    ensures closed { IsTrue S.told → OnOk result (SameClosed S.StateFolder folder.old folder.new) }
     ensures at { IsTrue S.told → IsAt checkpoint (S.seen folder.old)
         → IfOk result (λ next. IsAt next (S.seen folder.new)) }
     ensures stop { StopsFor (IsTrue S.told) (ForSpeak checkpoint (S.seen folder.old)

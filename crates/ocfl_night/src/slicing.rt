@@ -265,18 +265,18 @@ fn keep<S: StateFolder>(
     ensures any_moment { IsTrue S.told → (rounds : Rounds) (look : Look)
         → IsOneOf rounds.known look
         → IsRun (part_after rounds.part checkpoint.left) checkpoint.cursor look lines.now ran
-        → (t : Text) → IsReady S.seen S.may_leave rounds t checkpoint folder.old
+        → (t : Text) → IsReady S.StateFolder rounds t checkpoint folder.old
         → LeavesOnly S.moment S.left_since folder.old folder.new (IsSoundAt rounds t) }
     ensures ready { IsTrue S.told → (rounds : Rounds) (look : Look)
         → IsOneOf rounds.known look
         → IsRun (part_after rounds.part checkpoint.left) checkpoint.cursor look lines.now ran
-        → (t : Text) → IsReady S.seen S.may_leave rounds t checkpoint folder.old
-        → IfOk result (λ made. IsReady S.seen S.may_leave rounds t made.checkpoint folder.new) }
-    ensures closed { IsTrue S.told → OnOk result (SameClosed S.seen folder.old folder.new) }
+        → (t : Text) → IsReady S.StateFolder rounds t checkpoint folder.old
+        → IfOk result (λ made. IsReady S.StateFolder rounds t made.checkpoint folder.new) }
+    ensures closed { IsTrue S.told → OnOk result (SameClosed S.StateFolder folder.old folder.new) }
     ensures next { IfOk result (λ made. (report : ModelMark)
         × IsNext checkpoint ran report made.checkpoint) }
     ensures made { IfOk result (IsMadeBy ran) }
-    ensures crash { IsTrue S.told → IfReady S.seen S.may_leave checkpoint folder.old (λ _ _.
+    ensures crash { IsTrue S.told → IfReady S.StateFolder checkpoint folder.old (λ _ _.
         LeavesOnly S.moment S.left_since folder.old folder.new (λ c. IfThere c (λ k.
         (k ≡ checkpoint) ⊎ IsNextBy checkpoint ran k))) }
     ensures at { IsTrue S.told → IfOk result (λ made. IsAt made.checkpoint (S.seen folder.new)) }
@@ -311,14 +311,13 @@ pub fn slice<S: StateFolder, T: Tree>(
     ensures any_moment { IsTrue S.told → IfWalkAt T.told (T.state tree.old)
         (part_of part.now) checkpoint kept.old (λ root. WithLook (part_of part.now)
         (look_between root (T.state tree.old) (T.state tree.new))
-        (λ rounds. IsSafeIn S.seen S.may_leave S.moment S.left_since
-        rounds checkpoint folder.old folder.new)) }
+        (λ rounds. IsSafeIn S.StateFolder rounds checkpoint folder.old folder.new)) }
     ensures ready { IsTrue S.told → IfWalkAt T.told (T.state tree.old)
         (part_of part.now) checkpoint kept.old (λ root. WithLook (part_of part.now)
         (look_between root (T.state tree.old) (T.state tree.new))
-        (λ rounds. IfReadyIn S.seen S.may_leave rounds checkpoint folder.old (λ t. IfOk result
-        (λ made. IsReady S.seen S.may_leave rounds t made.checkpoint folder.new)))) }
-    ensures closed { IsTrue S.told → OnOk result (SameClosed S.seen folder.old folder.new) }
+        (λ rounds. IfReadyIn S.StateFolder rounds checkpoint folder.old (λ t. IfOk result
+        (λ made. IsReady S.StateFolder rounds t made.checkpoint folder.new)))) }
+    ensures closed { IsTrue S.told → OnOk result (SameClosed S.StateFolder folder.old folder.new) }
     ensures root { IfWalkAt T.told (T.state tree.old) (part_of part.now) checkpoint kept.old
         (λ root. (T.state tree.new).tree ≡ root) }
     ensures counts { IfWalkAt T.told (T.state tree.old) (part_of part.now) checkpoint kept.old
@@ -345,8 +344,7 @@ pub fn slice<S: StateFolder, T: Tree>(
         (content_since root (T.state tree.old) (T.state tree.new)))) }
     ensures crash { IsTrue S.told → AreDeclarations identity.now → IfWalkAt T.told
         (T.state tree.old) (part_of part.now) checkpoint kept.old (λ root.
-        OnlyGoesOn S.seen S.may_leave S.moment S.left_since checkpoint
-        folder.old folder.new) }
+        OnlyGoesOn S.StateFolder checkpoint folder.old folder.new) }
 
     // Its store is asked for what the run asks for, with the walk that is kept. Then nothing is
     // listed, and no file is opened but those that declare the root. If it makes nothing, maybe no

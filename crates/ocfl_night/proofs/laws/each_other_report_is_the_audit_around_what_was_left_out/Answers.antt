@@ -6,5 +6,5 @@ use Rattle.ocfl_night.proofs.laws.each_other_report_is_the_audit_around_what_was
 
 pub returns : goal.returns
 returns g c = λ root part nights are over read.
-    at_any g.S.StateFolder.moment g.S.StateFolder.left_since nights (λ x is d among other. is_around root nights over c.runs_that_stop_join.ensures.ended part read d ((closed_as (rounds_of part nights) x is d among).partial other))
-    (all_sound g.S.StateFolder.may_leave g.S.StateFolder.moment g.S.StateFolder.left_since part (Some (known_of nights)) (λ (x : Content). x ≡ empty) nights (are_in nights) (λ x is. ([], empty_sound (rounds_of part nights) x is)) are)
+    at_any g.S.StateFolder nights (λ x is d among other. is_around root nights over c.runs_that_stop_join.ensures.ended part read d ((closed_as (rounds_of part nights) x is d among).partial other))
+    (all_sound g.S.StateFolder part (Some (known_of nights)) (λ (x : Content). x ≡ empty) nights (are_in nights) (λ x is. ([], empty_sound (rounds_of part nights) x is)) are)

@@ -6,8 +6,8 @@ use Rattle.ocfl_night.proofs.laws.nights_are_sound.Goals as goal
 
 pub returns-clause-sound : goal.returns-clause-sound
 returns-clause-sound g c = λ part nights are.
-    all_sound g.S.StateFolder.may_leave g.S.StateFolder.moment g.S.StateFolder.left_since part (Some (known_of nights)) (λ (x : Content). x ≡ empty) nights (are_in nights) (λ x is. ([], empty_sound (rounds_of part nights) x is)) are
+    all_sound g.S.StateFolder part (Some (known_of nights)) (λ (x : Content). x ≡ empty) nights (are_in nights) (λ x is. ([], empty_sound (rounds_of part nights) x is)) are
 
 pub returns-clause-whole : goal.returns-clause-whole
 returns-clause-whole g c = λ part nights are.
-    at_any g.S.StateFolder.moment g.S.StateFolder.left_since nights (λ x sound. sound_whole (rounds_of part nights) x sound) (returns-clause-sound g c part nights are)
+    at_any g.S.StateFolder nights (λ x sound. sound_whole (rounds_of part nights) x sound) (returns-clause-sound g c part nights are)

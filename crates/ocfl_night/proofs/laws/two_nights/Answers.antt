@@ -31,7 +31,7 @@ returns-clause-whole g c = λ told root short tells over1 over2 fresh well1 well
 pub returns-clause-read : goal.returns-clause-read
 returns-clause-read g c = λ told root short tells over1 over2 fresh well1 well2 order1 other order2.
     let part = part_at c.args.site.now.ends in
-    let kept : IsKept g.S.StateFolder.may_leave (of_any part) c.args.folder.now = λ x l. ([], empty_sound (of_any part) x (fresh x l)) in
+    let kept : IsKept g.S.StateFolder (of_any part) c.args.folder.now = λ x l. ([], empty_sound (of_any part) x (fresh x l)) in
     let one = c.night-one.ensures in
     let two = c.night-two.ensures in
     two_read (one.read told tells root over1 short kept order1) (two.beyond told tells root over2 short)

@@ -6,4 +6,4 @@ use Rattle.ocfl_night.proofs.laws.what_was_told_was_taken.Goals as goal
 
 pub returns : goal.returns
 returns g c = λ part nights are.
-    all_taken g.S.StateFolder.may_leave g.S.StateFolder.moment g.S.StateFolder.left_since part (λ (x : Content). x ≡ empty) [] nights (λ x is. ([], (empty_sound (of_any part) x is, refl))) are
+    all_taken g.S.StateFolder part (λ (x : Content). x ≡ empty) [] nights (λ x is. ([], (empty_sound (of_any part) x is, refl))) are

@@ -14,11 +14,11 @@ returns-in_err-next-clause-any_moment g c = λ told rounds none t r. unmoved (g.
 
 pub returns-in_err-put_checkpoint-clause-any_moment : goal.returns-in_err-put_checkpoint-clause-any_moment
 returns-in_err-put_checkpoint-clause-any_moment g c = λ told rounds none t r.
-    put_moments (g.met.S.StateFolder.only_now told) r (left_stands _ c.in_ok-next.ensures c.requires none r.stands) (c.put_checkpoint.ensures.crash told)
+    put_moments {S = g.S.StateFolder} (g.met.S.StateFolder.only_now told) r (left_stands _ c.in_ok-next.ensures c.requires none r.stands) (c.put_checkpoint.ensures.crash told)
 
 pub returns-clause-any_moment : goal.returns-clause-any_moment
 returns-clause-any_moment g c = λ told rounds none t r.
-    put_moments (g.met.S.StateFolder.only_now told) r (left_stands _ c.in_ok-next.ensures c.requires none r.stands) (c.put_checkpoint.ensures.crash told)
+    put_moments {S = g.S.StateFolder} (g.met.S.StateFolder.only_now told) r (left_stands _ c.in_ok-next.ensures c.requires none r.stands) (c.put_checkpoint.ensures.crash told)
 
 pub returns-clause-ready : goal.returns-clause-ready
 returns-clause-ready g c = λ told rounds none t r.

@@ -84,7 +84,7 @@ returns-in_err-opened-clause-stop g c =
     let p = err_from_is_err_and r c.from_residual.ensures.1 in
     let told = IsTrue g.S.StateFolder.told in
     let here = g.S.StateFolder.seen c.args.folder.now in
-    let kept = TellsKept g.S.StateFolder.told g.S.StateFolder.may_leave c.args.folder.now in
+    let kept = TellsKept g.S.StateFolder c.args.folder.now in
     let now = course c.args.plan.now.create here 0 (g.O.Output.said c.args.out.now) (g.O.Output.said c.args.out.now) in
     let of = IsOfSite c.args.site.now c.args.identity.now in
     let to_open = IsToOpen told c.args.site.now c.args.identity.now c.args.plan.now.create here in
@@ -97,7 +97,7 @@ returns-in_err-speak-clause-stop g c =
     let p = err_from_is_err_and r c.from_residual-in_err-speak.ensures.1 in
     let why = c.in_err-speak.field-0.0 in
     let now = course c.args.plan.now.create (g.S.StateFolder.seen c.args.folder.now) 0 (g.O.Output.said c.args.out.now) (g.O.Output.said c.speak.new.out) in
-    let kept = TellsKept g.S.StateFolder.told g.S.StateFolder.may_leave c.args.folder.now in
+    let kept = TellsKept g.S.StateFolder c.args.folder.now in
     let of = IsOfSite c.args.site.now c.args.identity.now in
     opens_at kept (ForNight (λ _. ⊥) of now) _ _ r why (cc (p.1, p.2))
     (caught_reason (IsTrue g.S.StateFolder.told) kept (λ _. ⊥) of now c.in_ok-opened.opened.checkpoint (g.S.StateFolder.seen c.open.new.folder) (g.O.Output.said c.args.out.now) (g.O.Output.said c.speak.new.out) _ (g.S.StateFolder.faults c.open.new.folder) _ why

@@ -111,7 +111,7 @@ returns-in_err-said-clause-stop g c = λ may.
     let r = c.from_residual-in_err-said.result in
     let p = err_from_is_err_and r c.from_residual-in_err-said.ensures.1 in
     let why = c.in_err-said.field-0.0 in
-    let there = (t : Text) × IsReady g.S.StateFolder.seen g.S.StateFolder.may_leave (of_any (part_of c.args.part.now)) t c.args.checkpoint c.args.folder.now in
+    let there = (t : Text) × IsReady g.S.StateFolder (of_any (part_of c.args.part.now)) t c.args.checkpoint c.args.folder.now in
     let given = IsGiven g.S.StateFolder.told g.T.Tree.told (g.T.Tree.state c.args.tree.now) there in
     let silenced = HasFailed (g.O.Output.said c.args.out.now).failures (g.O.Output.said c.speak.new.out).failures in
     stops_at given (ForRuns silenced c.args.checkpoint c.runs.new.tally.runs) _ _ r why (cc (p.1, p.2))
@@ -125,7 +125,7 @@ returns-in_err-ended-clause-stop g c = λ may.
     let r = c.from_residual-in_err-ended.result in
     let p = err_from_is_err_and r c.from_residual-in_err-ended.ensures.1 in
     let why = c.in_err-ended.field-0.0 in
-    let there = (t : Text) × IsReady g.S.StateFolder.seen g.S.StateFolder.may_leave (of_any (part_of c.args.part.now)) t c.args.checkpoint c.args.folder.now in
+    let there = (t : Text) × IsReady g.S.StateFolder (of_any (part_of c.args.part.now)) t c.args.checkpoint c.args.folder.now in
     let given = IsGiven g.S.StateFolder.told g.T.Tree.told (g.T.Tree.state c.args.tree.now) there in
     let silenced = HasFailed (g.O.Output.said c.args.out.now).failures (g.O.Output.said c.speak.new.out).failures in
     let all = c.in_ok-said.ensures.all in

@@ -35,7 +35,7 @@ module _ (g : given.Over) (c : After-make_runs-through g) (tells : IsTrue g.T.Tr
   runs_count = c.make_runs-through.ensures.counts tells root (c.set_out.ensures.root tells ∙ over) short
 
   heard : IsTrue g.S.StateFolder.told
-      → IsSafeNight g.S.StateFolder.may_leave g.S.StateFolder.moment g.S.StateFolder.left_since (part_at c.args.site.now.ends) (look_between root (g.T.Tree.state c.args.tree.now) (g.T.Tree.state c.make_runs-through.new.tree)) c.args.folder.now c.make_runs-through.new.folder (g.O.Output.said c.args.out.now) (g.O.Output.said c.make_runs-through.new.out)
+      → IsSafeNight g.S.StateFolder (part_at c.args.site.now.ends) (look_between root (g.T.Tree.state c.args.tree.now) (g.T.Tree.state c.make_runs-through.new.tree)) c.args.folder.now c.make_runs-through.new.folder (g.O.Output.said c.args.out.now) (g.O.Output.said c.make_runs-through.new.out)
   heard told known one kept =
       let rounds : Rounds = record { part = part_at c.args.site.now.ends; known = known } in
       let same = ap (λ (p : Part). rounds_over p known) c.in-Ok.ensures.part in
@@ -98,9 +98,9 @@ returns g c =
       troubled = λ why is.
           let err = ended_troubled runs.result why (sym (c.account-2.ensures.end ∙ c.ended.ensures.is) ∙ is) runs.ensures.untroubled in
           let may = c.none-tally.ensures.left c.args.plan.now.stop_at_faults in
-          let there = (t : Text) × IsReady s g.S.StateFolder.may_leave (of_any (part_of c.in-Ok.begun.part)) t c.in-Ok.begun.checkpoint c.set_out.new.folder in
+          let there = (t : Text) × IsReady g.S.StateFolder (of_any (part_of c.in-Ok.begun.part)) t c.in-Ok.begun.checkpoint c.set_out.new.folder in
           let ready = IsGiven g.S.StateFolder.told g.T.Tree.told (g.T.Tree.state c.set_out.new.tree) there in
-          let kept = IsGiven g.S.StateFolder.told g.T.Tree.told (g.T.Tree.state c.args.tree.now) (IsKept g.S.StateFolder.may_leave part c.args.folder.now) in
+          let kept = IsGiven g.S.StateFolder.told g.T.Tree.told (g.T.Tree.state c.args.tree.now) (IsKept g.S.StateFolder part c.args.folder.now) in
           let silenced = HasFailed (g.O.Output.said c.set_out.new.out).failures (g.O.Output.said runs.new.out).failures in
           night_reason ready kept silenced (IsUnlooked g.T.Tree.told (g.T.Tree.state c.args.tree.now) (g.T.Tree.state runs.new.tree)) (IsOfStore g.T.Tree.told (g.T.Tree.state c.args.tree.now) c.args.site.now) (course c.args.plan.now.create (s c.args.folder.now) c.account-2.result.runs (g.O.Output.said c.args.out.now) (g.O.Output.said runs.new.out)) c.in-Ok.begun.checkpoint runs.new.tally.runs _ (g.S.StateFolder.faults c.set_out.new.folder) _ why
           (λ l alike. of_store alike c.in-Ok.ensures.own)
@@ -124,7 +124,7 @@ returns g c =
             begins = c.in-Ok.ensures.begins folder_told;
             there = g.T.Tree.state c.set_out.new.tree;
             looked = record { counts = set_out_counts g at tells root over short; content = c.set_out.ensures.content tells root over short; only = c.set_out.ensures.looks tells root over short };
-            little = subst (λ (p : Part). IsLittleAgain root p s g.S.StateFolder.moment g.S.StateFolder.left_since (cycle_of c.in-Ok.begun.checkpoint) (g.C.Clock.events c.args.clock.now) (g.C.Clock.events runs.new.clock) (g.T.Tree.state c.set_out.new.tree) (g.T.Tree.state runs.new.tree) runs.new.folder) c.in-Ok.ensures.part mine;
+            little = subst (λ (p : Part). IsLittleAgain root p g.S.StateFolder (cycle_of c.in-Ok.begun.checkpoint) (g.C.Clock.events c.args.clock.now) (g.C.Clock.events runs.new.clock) (g.T.Tree.state c.set_out.new.tree) (g.T.Tree.state runs.new.tree) runs.new.folder) c.in-Ok.ensures.part mine;
           });
       failed = λ told tells root over short. failed_first (set_out_counts g at tells root over short) (runs.ensures.failed told tells root (c.set_out.ensures.root tells ∙ over) short);
       told = λ told. inl (record {
@@ -169,8 +169,8 @@ returns-in-Err g c =
           let troubled = unbegun_troubled c.in-Err.why why (sym (c.account.ensures.end ∙ c.unbegun.ensures.is) ∙ is) in
           let none = c.account.ensures.runs ∙ ap (λ (d : Done). d.runs) c.none-tally.ensures.nothing in
           let unlooked = IsUnlooked g.T.Tree.told (g.T.Tree.state c.args.tree.now) (g.T.Tree.state c.set_out.new.tree) in
-          let given = IsGiven g.S.StateFolder.told g.T.Tree.told (g.T.Tree.state c.args.tree.now) (IsKept g.S.StateFolder.may_leave (of_any part) c.args.folder.now) in
-          let kept = TellsKept g.S.StateFolder.told g.S.StateFolder.may_leave c.args.folder.now in
+          let given = IsGiven g.S.StateFolder.told g.T.Tree.told (g.T.Tree.state c.args.tree.now) (IsKept g.S.StateFolder (of_any part) c.args.folder.now) in
+          let kept = TellsKept g.S.StateFolder c.args.folder.now in
           let now = course c.args.plan.now.create (g.S.StateFolder.seen c.args.folder.now) 0 (g.O.Output.said c.args.out.now) (g.O.Output.said c.set_out.new.out) in
           let store = IsOfStore g.T.Tree.told (g.T.Tree.state c.args.tree.now) c.args.site.now in
           unbegun_reason kept given unlooked store c.args.plan.now.create (g.S.StateFolder.seen c.args.folder.now) 0 c.account.result.runs (g.O.Output.said c.args.out.now) (g.O.Output.said c.set_out.new.out) _ _ why

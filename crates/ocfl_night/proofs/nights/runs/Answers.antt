@@ -56,8 +56,8 @@ module _ (g : given.Over) (c : After-go_on_after g) (tells : IsTrue g.T.Tree.tol
     one_in = last_of root known (c.loop-run.invariant.counts tells root over short) made_counts one
 
     made_ready : IsTrue g.S.StateFolder.told → (t : Text)
-        → IsReady g.S.StateFolder.seen g.S.StateFolder.may_leave (record { part = part_of c.args.part.now; known = known }) t c.args.start c.args.folder.now
-        → IsReady g.S.StateFolder.seen g.S.StateFolder.may_leave (record { part = part_of c.args.part.now; known = known }) t c.in_ok-made.made.checkpoint c.slice.new.folder
+        → IsReady g.S.StateFolder (record { part = part_of c.args.part.now; known = known }) t c.args.start c.args.folder.now
+        → IsReady g.S.StateFolder (record { part = part_of c.args.part.now; known = known }) t c.in_ok-made.made.checkpoint c.slice.new.folder
     made_ready told t r =
         let inv = c.loop-run.invariant in
         c.in_ok-made.ensures.ready told tells root (inv.root tells root over short) short (inv.walk tells root over short) known one_in t (inv.ready told tells root over short known one_before t r)
@@ -68,7 +68,7 @@ module _ (g : given.Over) (c : After-go_on_after g) (tells : IsTrue g.T.Tree.tol
         (root, (root_of known _ one_in, c.in_ok-made.ensures.stops tells root (inv.root tells root over short) short (inv.walk tells root over short) p is))
 
     -- after it, and what is done after it
-    moments : IsTrue g.S.StateFolder.told → IsSafeIn g.S.StateFolder.seen g.S.StateFolder.may_leave g.S.StateFolder.moment g.S.StateFolder.left_since (record { part = part_of c.args.part.now; known = known }) c.args.start c.args.folder.now c.go_on_after.new.folder
+    moments : IsTrue g.S.StateFolder.told → IsSafeIn g.S.StateFolder (record { part = part_of c.args.part.now; known = known }) c.args.start c.args.folder.now c.go_on_after.new.folder
     moments told t r =
         let inv = c.loop-run.invariant in
         joined_moments
@@ -107,7 +107,7 @@ module _ (g : given.Over) (c : After-go_on_after g) (tells : IsTrue g.T.Tree.tol
   slice_took : IsOpened (reached c.in_ok-made.made.checkpoint) c.in_ok-made.made.end (content_since root (g.T.Tree.state c.loop-run.tree) (g.T.Tree.state c.slice.new.tree))
   slice_took = c.in_ok-made.ensures.took declares tells root (c.loop-run.invariant.root tells root over short) short (c.loop-run.invariant.walk tells root over short)
 
-  slice_crash : IsTrue g.S.StateFolder.told → (t : Text) → IsReady g.S.StateFolder.seen g.S.StateFolder.may_leave (of_any (part_of c.args.part.now)) t c.args.start c.args.folder.now
+  slice_crash : IsTrue g.S.StateFolder.told → (t : Text) → IsReady g.S.StateFolder (of_any (part_of c.args.part.now)) t c.args.start c.args.folder.now
       → LeavesOnly g.S.StateFolder.moment g.S.StateFolder.left_since c.loop-run.folder c.go_on_after.new.folder (λ d. IfThere d (GoesOn c.loop-run.checkpoint))
   slice_crash told t r =
       let inv = c.loop-run.invariant in
@@ -143,7 +143,7 @@ loop-run-init g c = record {
   cycle = refl;
   told = λ told. none_yet;
   failed = λ told tells root over short. none_failed;
-  again = λ told tells_folder declares tells root over short named t r. little_none root (part_of c.args.part.now) g.S.StateFolder.seen g.S.StateFolder.moment g.S.StateFolder.left_since (cycle_of c.args.start) (g.C.Clock.events c.args.clock.now) (g.T.Tree.state c.args.tree.now) c.args.folder.now c.args.start c.none-kept.result c.none-kept.ensures;
+  again = λ told tells_folder declares tells root over short named t r. little_none root (part_of c.args.part.now) g.S.StateFolder (cycle_of c.args.start) (g.C.Clock.events c.args.clock.now) (g.T.Tree.state c.args.tree.now) c.args.folder.now c.args.start c.none-kept.result c.none-kept.ensures;
   faults = λ told. omega arith;
   at = λ told at. at;
   counted = none_counted c.args.start c.args.tally.now.runs;
@@ -305,7 +305,7 @@ returns-in_err-made-clause-stop g c = λ may.
     let inv = c.loop-run.invariant in
     let going : c.loop-run.checkpoint.phase ≡ Open = search rules in
     let begun : c.begin.new.self.runs ≡ counted c.loop-run.tally.runs 1 = ap (λ (d : Done). d.runs) c.begin.ensures.done in
-    let there = (t : Text) × IsReady g.S.StateFolder.seen g.S.StateFolder.may_leave (of_any (part_of c.args.part.now)) t c.args.start c.args.folder.now in
+    let there = (t : Text) × IsReady g.S.StateFolder (of_any (part_of c.args.part.now)) t c.args.start c.args.folder.now in
     let given = IsGiven g.S.StateFolder.told g.T.Tree.told (g.T.Tree.state c.args.tree.now) there in
     stops_at given (ForRuns ⊥ c.args.start c.begin.new.self.runs) _ _ c.from_residual.result why (cc (p.1, p.2))
     (slice_reason (IsTrue g.S.StateFolder.told) given ⊥ c.in-Ok.allowed.0 c.args.start c.loop-run.checkpoint (g.S.StateFolder.seen c.loop-run.folder) c.begin.new.self.runs _ (g.S.StateFolder.faults c.loop-run.folder) _ why
@@ -325,7 +325,7 @@ returns-in_err-next-clause-stop g c = λ may.
     let at = (goal.at.returns-in_err-next-clause-stop g c).After-go_on_after in
     let inv = c.loop-run.invariant in
     let going : c.loop-run.checkpoint.phase ≡ Open = search rules in
-    let there = (t : Text) × IsReady g.S.StateFolder.seen g.S.StateFolder.may_leave (of_any (part_of c.args.part.now)) t c.args.start c.args.folder.now in
+    let there = (t : Text) × IsReady g.S.StateFolder (of_any (part_of c.args.part.now)) t c.args.start c.args.folder.now in
     let given = IsGiven g.S.StateFolder.told g.T.Tree.told (g.T.Tree.state c.args.tree.now) there in
     stops_at given (ForRuns ⊥ c.args.start c.go_on_after.new.tally.runs) _ _ r why (cc (p.1, p.2))
     (put_reason (IsTrue g.S.StateFolder.told) given ⊥ (IsPassedBy c.in_ok-made.made) c.args.start c.go_on_after.new.tally.runs _ (g.S.StateFolder.faults c.slice.new.folder) _ why

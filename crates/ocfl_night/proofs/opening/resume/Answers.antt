@@ -9,12 +9,12 @@ use Rattle.ocfl_night.proofs.opening.resume.Goals as goal
 pub returns-in_err-put_checkpoint-clause-any_moment : goal.returns-in_err-put_checkpoint-clause-any_moment
 returns-in_err-put_checkpoint-clause-any_moment g c = λ told rounds t r.
     let ready = taken_as c.fitted-opened.ensures.checkpoint (c.in_ok-there.ensures.ready told rounds t r) in
-    joined_moments (c.take_up.ensures.any_moment told rounds t r) (put_moments (g.met.S.StateFolder.only_now told) ready (renamed c.with_root-next.ensures ready.stands) (c.put_checkpoint.ensures.crash told))
+    joined_moments (c.take_up.ensures.any_moment told rounds t r) (put_moments {S = g.S.StateFolder} (g.met.S.StateFolder.only_now told) ready (renamed c.with_root-next.ensures ready.stands) (c.put_checkpoint.ensures.crash told))
 
 pub returns-clause-any_moment : goal.returns-clause-any_moment
 returns-clause-any_moment g c = λ told rounds t r.
     let ready = taken_as c.fitted-opened.ensures.checkpoint (c.in_ok-there.ensures.ready told rounds t r) in
-    joined_moments (c.take_up.ensures.any_moment told rounds t r) (put_moments (g.met.S.StateFolder.only_now told) ready (renamed c.with_root-next.ensures ready.stands) (c.put_checkpoint.ensures.crash told))
+    joined_moments (c.take_up.ensures.any_moment told rounds t r) (put_moments {S = g.S.StateFolder} (g.met.S.StateFolder.only_now told) ready (renamed c.with_root-next.ensures ready.stands) (c.put_checkpoint.ensures.crash told))
 
 pub returns-clause-ready : goal.returns-clause-ready
 returns-clause-ready g c = λ told rounds t r.

@@ -1,16 +1,20 @@
 //! The output of a night: the bytes of its report come in, and what was found goes out.
 
+use ocfl_codes::is_of_object;
 use ocfl_disk::StateFile;
 use ocfl_files::reasons::{Reasons, take_reasons};
-use ocfl_kept::lines::{error_of, put_lines};
+use ocfl_kept::lines::{CLEAN, error_of, put_lines};
 use ocfl_kept::names::Names;
 use ocfl_kept::stand::Standing;
-use ocfl_report::{Code, Line, TextStop, read_line, write_all_of};
+use ocfl_report::{Code, Line, TextStop, read_line, split_once, write_all_of};
 use ocfl_telling::{Finding, Found, Gravest, Heads, Known, Night, find_shown, night_text};
 use std::alloc::{AllocError, Global};
 use std::cell::Cell;
 use std::io::{self, ErrorKind, Write};
 use std::rc::Rc;
+
+/// How a line that finds nothing ends that is of an object, or of the storage root.
+const HEAD: &[u8] = b"\t-\n";
 
 /// An output that takes the bytes of a report, and says at each flush what was found in them since
 /// the one before, without what is known.
@@ -30,6 +34,10 @@ pub(crate) struct Teller<'n, W: Drop> {
     found: Option<Found>,
     /// The beginning of a line.
     rest: Vec<u8>,
+    /// How lines begin of files that are right in the object whose head came last; empty if none
+    /// came. How many of them came that were not taken yet.
+    within: Vec<u8>,
+    right: u64,
     /// How many findings were said, and how many lines were left out.
     findings: u64,
     broken: u64,
@@ -50,6 +58,8 @@ impl<W: Drop> Drop for Teller<'_, W> {
             said_to: _said_to,
             found: _found,
             rest: _rest,
+            within: _within,
+            right: _right,
             findings: _findings,
             broken: _broken,
             said: _said,
@@ -79,6 +89,8 @@ impl<'n, W: Write + Drop> Teller<'n, W> {
             now,
             found: Some(Found::new(alloc, heads)),
             rest: Vec::new(alloc),
+            within: Vec::new(alloc),
+            right: 0,
             findings: 0,
             broken: 0,
             said: Vec::new(alloc),
@@ -107,6 +119,8 @@ impl<'n, W: Write + Drop> Teller<'n, W> {
             said_to: _said_to,
             found: _found,
             rest: _rest,
+            within: _within,
+            right: _right,
             findings: _findings,
             broken: _broken,
             said,
@@ -120,20 +134,64 @@ impl<'n, W: Write + Drop> Teller<'n, W> {
         put_lines(&shown?, &mut self.said)
     }
 
+    /// Notes how lines begin of files that are right in the object of this line.
+    fn note_object(&mut self) -> Result<(), AllocError> {
+        self.within.clear();
+        if let Some((_, fields)) = split_once(self.rest.as_slice(), b'\t') {
+            if let Some((path, _)) = split_once(fields, b'\t') {
+                self.within.extend_from_slice(CLEAN)?;
+                self.within.extend_from_slice(path)?;
+                self.within.push(b'/')?;
+            }
+        }
+        Ok(())
+    }
+
+    /// Whether a line is that of a file that is right, in the object whose head came last. Most are,
+    /// and to read each would cost much.
+    fn is_right(&self) -> bool {
+        let (text, within) = (self.rest.as_slice(), self.within.as_slice());
+        !within.is_empty() && text.starts_with(within) && !text.ends_with(HEAD)
+    }
+
+    /// Takes the lines of files that are right.
+    fn take_right(&mut self) {
+        if let Some(found) = &mut self.found {
+            found.take_right(self.right);
+        }
+        self.right = 0;
+    }
+
     /// Takes a line that is a report's.
     fn keep_line(&mut self, line: Line) -> Result<(), TextStop> {
+        if is_of_object(&line) {
+            self.note_object()?;
+        }
         match &mut self.found {
             Some(found) => Ok(found.take_line(self.known, line)?),
             None => Err(TextStop::Bad),
         }
     }
 
+    /// Reads a line, with its line feed, and takes it.
+    fn read(&mut self) -> Result<(), TextStop> {
+        self.take_right();
+        match read_line(self.alloc, self.rest.as_slice()) {
+            Ok(line) => self.keep_line(line),
+            Err(TextStop::Bad) => {
+                self.broken = self.broken.saturating_add(1);
+                Ok(())
+            }
+            Err(TextStop::Memory) => Err(TextStop::Memory),
+        }
+    }
+
     /// Takes a line, with its line feed.
     fn end_line(&mut self) -> Result<(), TextStop> {
-        match read_line(self.alloc, self.rest.as_slice()) {
-            Ok(line) => self.keep_line(line)?,
-            Err(TextStop::Bad) => self.broken = self.broken.saturating_add(1),
-            Err(TextStop::Memory) => return Err(TextStop::Memory),
+        if self.is_right() {
+            self.right = self.right.saturating_add(1);
+        } else {
+            self.read()?;
         }
         self.rest.clear();
         Ok(())
@@ -161,6 +219,7 @@ impl<'n, W: Write + Drop> Teller<'n, W> {
             self.broken = self.broken.saturating_add(1);
             self.rest.clear();
         }
+        self.take_right();
         match self.found.take() {
             Some(found) => found.end(self.is_over()),
             None => Err(TextStop::Bad),

@@ -6,7 +6,7 @@ use std::alloc::{AllocError, Global};
 use std::io::{self, ErrorKind};
 
 /// How the lines of a report begin that find nothing.
-const CLEAN: &[u8] = b"ok\t";
+pub const CLEAN: &[u8] = b"ok\t";
 
 /// The error of a reader of reports.
 pub fn error_of(stop: TextStop) -> io::Error {

@@ -4,8 +4,9 @@
 The root is as tools of the field write it (`shared/library.py`). After a night over it as it was
 made, 21 objects are damaged, each in another way, and the next night's message has to name each of
 them by its place, in at most 40 lines, none over 100 characters but for paths, and none twice.
-Three more damages are of kinds that a night does not look at: it says nothing of them. The last
-three checks were seen to fail on a program that showed twenty findings in three lines each.
+A name in another form of Unicode is one line. Three more damages are of kinds that a night does not
+look at: it says nothing of them. The last three checks were seen to fail on a program that showed
+twenty findings in three lines each.
 
 usage: damages.py
 """
@@ -54,6 +55,8 @@ def check_all(folder):
         check("%s is named" % damage.name, it.place in message, True)
     for damage, it in planted[len(DAMAGES):]:
         check("%s is not seen" % damage.name, it.place in message, False)
+    check("a name in another form of Unicode is one line",
+          message.count("here under another spelling of its name (E092, E023)"), 1)
     lines = message.splitlines()
     check("lines of the message", len(lines) <= 40, True)
     check("its longest line", longest(message, [it.folder for it in objects]

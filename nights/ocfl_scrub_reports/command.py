@@ -350,7 +350,7 @@ COMMANDS: list[tuple[str, Does, str, str, Iterable[Callable[[Parser], object]], 
      [argument("list", metavar="LIST", help="as `ocfl-scrub night --expected` takes it"),
       argument("report", metavar="REPORT", type=report_at,
                help="the closed report of a whole storage root, as that of all parts")],
-     "It does for the nights of parts what `--expected` does for one night. Ends with 1 if one is "
+     "It does over a closed report what `--expected` does when a cycle ends. Ends with 1 if one is "
      "missing."),
     ("tell", do_tell, "sends what a night said", "archive ~/audit",
      [argument("name", metavar="NAME"), *STATES],

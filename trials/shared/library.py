@@ -232,7 +232,7 @@ DAMAGES: list[Damage] = [
     Damage("a file that versions share", changed(0, lambda data: b"other\n"), "bytes have changed"),
     Damage("deleted", delete, "missing"),
     Damage("v1 lost", lose_version, "missing"),
-    Damage("a name in two code points", denormalize, "missing"),
+    Damage("a name in two code points", denormalize, "here under another spelling of its name"),
     Damage("inventory flipped", in_the_folder("inventory.json", flip), "(E0"),
     Damage("inventory cut", in_the_folder("inventory.json", lambda data: data[:-9]), "(E0"),
     Damage("sidecar gone", lose("inventory.json."), "(E058)"),
